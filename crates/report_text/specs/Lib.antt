@@ -1,0 +1,6 @@
+pub mod Legal
+pub mod MemorySink
+pub mod Page
+pub mod Ranks
+pub mod Report
+pub mod Sink
