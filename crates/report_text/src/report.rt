@@ -1,11 +1,9 @@
 // The whole report, written in one pass over the requests.
-ghost use Rattle.std.specs.Prelude.{◌≡◌, ◌<◌, ◌≤◌, ◌-◌, length, map, is_some, All, OnOk, OnErr};
-ghost use Rattle.std.specs.List.{flat_map, range_with_len};
+ghost use Rattle.std.specs.Prelude.{◌≡◌, ◌++◌, ◌<◌, ◌≤◌, length, map, is_some, All, OnOk, OnErr};
 ghost use Rattle.std.specs.List.Sorted.{IsNonDecreasingBy};
 ghost use Rattle.fault_count.specs.Rose.{Rose};
-ghost use Rattle.report_text.specs.Page.{Gathers};
-ghost use Rattle.report_text.specs.Report.{line_text, rows_of, report_text};
-ghost use Rattle.report_text.specs.Report.Line.{trace_line};
+ghost use Rattle.report_text.specs.Page.{Gathers, traces_text};
+ghost use Rattle.report_text.specs.Report.{rows_of, report_text};
 ghost use Rattle.report_text.specs.Sink.{Appends, ExtendsInPart};
 
 use crate::line::{line_of_answer, line_of_size, line_of_trace};
@@ -47,8 +45,9 @@ pub fn write_report<K: Sink>(
 
 // Prints the lines that begin the traces from `begun` up to `end`.
 fn print_traces<K: Sink>(begun: u32, end: u32, page: &mut Page, sink: &mut K) -> Result<(), Failed>
-    ensures ok { OnOk result (Gathers (K.held sink.old) page.old.bytes (flat_map line_text (map trace_line (range_with_len begun (end - begun)))) (K.held sink.new) page.new.bytes) }
-    ensures err { OnErr result (ExtendsInPart (K.held sink.old) page.old.bytes (K.held sink.new)) }
+    requires { begun ≤ end }
+    ensures ok { OnOk result (Gathers (K.held sink.old) page.old.bytes (traces_text begun end) (K.held sink.new) page.new.bytes) }
+    ensures err { OnErr result (ExtendsInPart (K.held sink.old) (page.old.bytes ++ traces_text begun end) (K.held sink.new)) }
     ensures later { K.faults sink.old ≤ K.faults sink.new }
     ensures cause { OnErr result (Rose (K.faults sink.old) (K.faults sink.new)) }
 {
