@@ -76,11 +76,11 @@ impl Sink for MemorySink {
         ensures plan { self.new ≡ record self.old { bytes = self.new.bytes; calls = next_call self.old; faults = self.new.faults } }
     {
         self.calls = self.calls.saturating_add(1);
-        if self.fails.contains(&self.calls) {
+        if is_planned(&self.fails, self.calls) {
             self.faults.raise();
             return Err(Failed);
         }
-        if self.empty.contains(&self.calls) {
+        if is_planned(&self.empty, self.calls) {
             self.faults.raise();
             return Ok(0);
         }
@@ -90,4 +90,11 @@ impl Sink for MemorySink {
         }
         Ok(bytes.len())
     }
+}
+
+// Whether a call is in a list of calls.
+fn is_planned(calls: &[u64], call: u64) -> bool
+    ensures { result ≡ is_planned calls.now call }
+{
+    calls.contains(&call)
 }
