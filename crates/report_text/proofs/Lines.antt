@@ -1,15 +1,15 @@
 -- The lines of a report that are left, when some traces were begun and some rows were printed.
-use Rattle.std.proofs.Common.{◌≡◌, ℕ, suc, zero, ◌+◌, ◌-◌, ◌<◌, ◌≤◌, ◌==◌, Bool, true, false, cond, List, [], ◌∷◌, ◌++◌, Option, length, drop, get_or, map, refl, sym, ap, ◌∙◌, arith, append_assoc, filter}
+use Rattle.std.proofs.Common.{◌≡◌, ℕ, suc, zero, ◌+◌, ◌-◌, ◌<◌, ◌≤◌, ◌==◌, Bool, false, cond, List, [], ◌∷◌, ◌++◌, Option, length, drop, get_or, map, refl, sym, ap, ◌∙◌, arith, append_assoc, filter}
 use Rattle.std.specs.List.{All, flat_map, range_with_len}
 use Rattle.std.specs.List.Sorted.{IsNonDecreasingBy}
 use Rattle.std.proofs.lemmas.Bool.{eq-eqb, ne_eqb}
 use Rattle.std.proofs.lemmas.Bool.Decides.{nat_tests}
 use Rattle.std.proofs.lemmas.List.{append-nil, map-append, drop_more, drop_all, get_or-drop, get_or_default, length-drop}
 use Rattle.std.proofs.lemmas.List.Concat.{flat_map-append}
-use Rattle.std.proofs.lemmas.List.Elements.{All-head, All-tail, All-cons, All-nil, All-weaker}
+use Rattle.std.proofs.lemmas.List.Elements.{All-head, All-tail, All-cons, All-nil}
 use Rattle.map_history.specs.declared.op.Entry.{Entry}
 use Rattle.map_history.specs.declared.op.Request.{Request}
-use Rattle.report_text.specs.Report.{Row, Line, answer_of, rows_of, lines_of_trace, report_lines, line_text, report_text}
+use Rattle.report_text.specs.Report.{Row, Line, answer_of, rows_of, lines_of_trace, line_text, report_text}
 use Rattle.report_text.specs.Report.Line.{trace_line, answer_line, final_line}
 use Rattle.report_text.specs.Page.{traces_text}
 
@@ -52,7 +52,7 @@ pub traces-append : (begun mid end : ℕ) → begun ≤ mid → mid ≤ end → 
 traces-append begun mid end low high =
     let from : begun + (mid - begun) ≡ mid = omega arith in
     let whole : range_with_len begun (end - begun) ≡ range_with_len begun (mid - begun) ++ range_with_len mid (end - mid) =
-      ap (range_with_len begun) (omega arith) ∙ range_with_len-append begun (mid - begun) (end - mid) ∙ ap (λ k. range_with_len begun (mid - begun) ++ range_with_len k (end - mid)) from in
+    ap (range_with_len begun) (omega arith) ∙ range_with_len-append begun (mid - begun) (end - mid) ∙ ap (λ k. range_with_len begun (mid - begun) ++ range_with_len k (end - mid)) from in
     sym (ap (λ l. flat_map line_text (map trace_line l)) whole
     ∙ ap (flat_map line_text) (map-append trace_line (range_with_len begun (mid - begun)) (range_with_len mid (end - mid)))
     ∙ flat_map-append line_text (map trace_line (range_with_len begun (mid - begun))) (map trace_line (range_with_len mid (end - mid))))
@@ -80,7 +80,7 @@ left-begin : (begun : ℕ) (rows : List Row) (traces size : ℕ) → begun < tra
 left-begin begun rows traces size more later =
     let line = λ (row : Row). answer_line row.answer in
     let none : All (λ (row : Row). ((row.request.trace + 1) == begun) ≡ false) rows =
-      λ k d lt. let low : begun ≤ (get_or rows k d).request.trace = later k d lt in ne_eqb _ begun (λ e. omega arith) in
+    λ k d lt. let low : begun ≤ (get_or rows k d).request.trace = later k d lt in ne_eqb _ begun (λ e. omega arith) in
     let first : filter (λ (row : Row). (row.request.trace + 1) == begun) rows ≡ [] = filter-none (λ (row : Row). (row.request.trace + 1) == begun) rows none in
     let same : filter (λ (row : Row). (row.request.trace + 1) == (begun + 1)) rows ≡ filter (λ (row : Row). row.request.trace == begun) rows = filter-same _ _ rows (λ row. next_test row.request.trace begun) in
     let rest = flat_map (lines_of_trace rows) (range_with_len (begun + 1) (traces - (begun + 1))) in

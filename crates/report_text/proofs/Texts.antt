@@ -1,5 +1,5 @@
 -- What a sink holds after several texts, and after texts that wait in a page.
-use Rattle.std.proofs.Common.{◌≡◌, ℕ, ◌+◌, ◌-◌, ◌^◌, ◌≤◌, min, List, [], ◌++◌, Option, None, Some, Result, Ok, Err, OnOk, OnErr, subst, refl, sym, ap, ◌∙◌, append_assoc, arith, length, take, drop}
+use Rattle.std.proofs.Common.{◌≡◌, ℕ, ◌-◌, ◌≤◌, List, [], ◌++◌, Option, None, Some, Result, Ok, Err, OnOk, OnErr, subst, refl, sym, ap, ◌∙◌, append_assoc, arith, length, take, drop}
 use Rattle.std.specs.Option.{option_map}
 use Rattle.std.proofs.lemmas.List.{append-nil, take_rest, take-append-drop}
 use Rattle.fault_count.specs.Rose.{Rose}
@@ -85,9 +85,9 @@ Underway-more before text held after page page_after bytes left all next u g = r
   sent = u.sent ++ g.sent;
   added = Extends-append before held after u.sent g.sent u.added g.added;
   whole =
-    append_assoc u.sent g.sent (page_after ++ left)
-    ∙ ap (λ l. u.sent ++ l) (sym (append_assoc g.sent page_after left) ∙ ap (λ l. l ++ left) g.whole ∙ append_assoc page bytes left ∙ ap (λ l. page ++ l) next)
-    ∙ u.whole;
+      append_assoc u.sent g.sent (page_after ++ left)
+      ∙ ap (λ l. u.sent ++ l) (sym (append_assoc g.sent page_after left) ∙ ap (λ l. l ++ left) g.whole ∙ append_assoc page bytes left ∙ ap (λ l. page ++ l) next)
+      ∙ u.whole;
 }
 
 -- some of what is left was written with no page between

@@ -1,5 +1,5 @@
 -- A legal report: its ranks are one order of the served requests, and a plain map that serves them in this order gives its replies.
-use Rattle.std.specs.Prelude.{◌≡◌, ℕ, ◌<◌, ◌≤◌, List, [], ◌∷◌, Option, None, Some, length, map, AllPairs, IsPermutation, IsSome, IsTrue}
+use Rattle.std.specs.Prelude.{◌≡◌, ℕ, ◌<◌, ◌≤◌, List, Option, length, map, AllPairs, IsPermutation, IsSome, IsTrue}
 use Rattle.std.specs.List.{enumerate_from, filter_map, range_with_len, zip}
 use Rattle.std.specs.Option.{option_map}
 use Rattle.std.specs.FinMap.{empty, len}

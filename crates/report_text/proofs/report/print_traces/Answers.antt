@@ -1,10 +1,7 @@
-use Rattle.std.proofs.Common.{◌≡◌, ◌≤◌, List, ℕ, arith, subst, ap, ◌++◌, ◌∙◌, sym, [], append_assoc}
-use Rattle.std.proofs.lemmas.List.{append-nil}
+use Rattle.std.proofs.Common.{◌≡◌, List, ℕ, arith, subst, ap, ◌++◌, ◌∙◌}
 use Rattle.std.proofs.lemmas.Result.{err_from_is_err_and}
 use Rattle.report_text.specs.Page.{Gathers, traces_text}
-use Rattle.report_text.specs.Report.{line_text}
-use Rattle.report_text.specs.Report.Line.{trace_line}
-use Rattle.report_text.proofs.Texts.{Gathers-nothing, Gathers-append, Underway-from, Underway-fails}
+use Rattle.report_text.proofs.Texts.{Gathers-append, Underway-from, Underway-fails}
 use Rattle.report_text.proofs.Lines.{traces-append, traces-more}
 use Rattle.report_text.proofs.report.print_traces.Goals as goal
 
@@ -18,9 +15,9 @@ returns-in_err-print_line-clause-err g c =
 pub loop-trace-preserved : goal.loop-trace-preserved
 loop-trace-preserved g c = record {
   gathers =
-    subst (λ (text : List ℕ). Gathers (g.K.Sink.held c.args.sink.now) c.args.page.now.bytes text (g.K.Sink.held c.print_line.new.sink) c.print_line.new.page.bytes)
-    (ap (λ l. traces_text c.args.begun c.loop-trace.trace ++ l) c.line_of_trace.ensures ∙ traces-more c.args.begun c.loop-trace.trace (omega arith))
-    (Gathers-append _ _ _ _ _ _ _ _ c.loop-trace.invariant.gathers c.in_ok-print_line.ensures.ok);
+      subst (λ (text : List ℕ). Gathers (g.K.Sink.held c.args.sink.now) c.args.page.now.bytes text (g.K.Sink.held c.print_line.new.sink) c.print_line.new.page.bytes)
+      (ap (λ l. traces_text c.args.begun c.loop-trace.trace ++ l) c.line_of_trace.ensures ∙ traces-more c.args.begun c.loop-trace.trace (omega arith))
+      (Gathers-append _ _ _ _ _ _ _ _ c.loop-trace.invariant.gathers c.in_ok-print_line.ensures.ok);
   later = omega (arith, c.loop-trace.invariant.later, c.in_ok-print_line.ensures.later);
 }
 

@@ -3,7 +3,7 @@ use Rattle.std.proofs.lemmas.List.{append-nil, length-map}
 use Rattle.std.proofs.lemmas.Result.{err_from_is_err_and}
 use Rattle.map_history.specs.declared.op.Op.TheVariants.{Get}
 use Rattle.map_history.specs.declared.op.Request.{Request}
-use Rattle.report_text.specs.Report.{rows_of, report_text}
+use Rattle.report_text.specs.Report.{rows_of}
 use Rattle.report_text.proofs.Texts.{Underway, Underway-start, Underway-more, Underway-fails, Underway-fails_more, Appends-end}
 use Rattle.report_text.proofs.Lines.{left_at, left-start, left_at-traces, left_at-next, left_at-row, left_at-end, later_traces}
 use Rattle.report_text.proofs.report.write_report.Goals as goal
