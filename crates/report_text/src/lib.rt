@@ -1,4 +1,4 @@
-//! The report of a run: which request was served in which place, what it was answered, and how many pairs are left.
+//! The report of a run: in which order its requests were served, what each was answered, and how many pairs are left.
 //!
 //! `order` ranks the served requests, `report` writes the report's bytes by `line` and `page`, `sink` says what
 //! bytes are written to, and `memory` is a sink that keeps them.
