@@ -63,11 +63,11 @@ module _ (request : ℕ) (start : PlainMemory) (s : Setting) (run : Run) where
 
   module _ (memory : PlainMemory) (trail : Agreement) (shows : Shows request start run memory trail None) where
     -- the memory has as many cells as at the start
-    same_length : length memory.cells ≡ length start.cells
+    pub same_length : length memory.cells ≡ length start.cells
     same_length = ap (λ (m : PlainMemory). length m.cells) shows.left ∙ length-first_values (length start.cells) run.cells
 
     -- a cell of the memory is the run's
-    cell_is : (p : ℕ) → p < length memory.cells → get_or memory.cells p 0 ≡ run.cells p
+    pub cell_is : (p : ℕ) → p < length memory.cells → get_or memory.cells p 0 ≡ run.cells p
     cell_is p within =
         ap (λ (m : PlainMemory). get_or m.cells p 0) shows.left ∙ get_or-first_values (length start.cells) run.cells p (let long = same_length in omega arith)
 

@@ -1,5 +1,11 @@
 pub mod ActLemmas
+pub mod ChoiceLemmas
 pub mod CostLemmas
 pub mod FillLemmas
+pub mod FitLemmas
 pub mod LineLemmas
+pub mod PlainLemmas
+pub mod RegisterLemmas
+pub mod RunLemmas
+pub mod SoundLemmas
 pub mod ValueLemmas
