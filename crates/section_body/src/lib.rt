@@ -9,7 +9,9 @@
 mod act;
 mod body;
 mod bucket;
+mod check;
 mod costs;
+mod fault;
 mod gate;
 mod line;
 mod memory;
