@@ -1,11 +1,11 @@
 -- The choices of a run in one go, step by step.
-use Rattle.std.proofs.Common.{◌≡◌, ℕ, zero, suc, ◌+◌, ◌<◌, ◌≤◌, List, [], ◌∷◌, ◌++◌, length, take, drop, refl, sym, ap, ◌∙◌, subst, arith, length-append, append_assoc, get_or}
+use Rattle.std.proofs.Common.{◌≡◌, ℕ, zero, suc, ◌+◌, List, [], ◌∷◌, ◌++◌, length, take, drop, refl, sym, ap, ◌∙◌, arith, length-append, append_assoc, get_or}
 use Rattle.std.specs.Prelude.{Bool, true, false, count_by, cond, slice_index, slice_index_or}
 use Rattle.std.proofs.lemmas.List.{get_or-append-add}
 use Rattle.std.proofs.lemmas.List.Sums.{sum_by-cons}
 use Rattle.section_body.specs.Line.{Registers, no_registers, registers_after, registers_through, registers_before}
 use Rattle.section_body.specs.Shape.{IsStep, is_take, is_make}
-use Rattle.section_body.specs.Plain.{Choice, no_choice, lock_choices, choices}
+use Rattle.section_body.specs.Plain.{no_choice, lock_choices, choices}
 use Rattle.section_body.specs.declared.step.Step.{Step}
 use Rattle.section_body.specs.declared.step.Step.TheVariants.{Load, Want, Fresh, Take, Make, Stamp, Store, Retire, Answer}
 use Rattle.section_body.proofs.LineLemmas.{split_at}

@@ -1,18 +1,18 @@
 -- What a step of a run in one go needs is there, and its setting suits it.
-use Rattle.std.proofs.Common.{◌≡◌, ◌≢◌, ℕ, zero, suc, ◌+◌, ◌-◌, ◌*◌, ◌^◌, ◌<◌, ◌≤◌, List, [], ◌∷◌, ◌++◌, length, take, drop, refl, sym, ap, ◌∙◌, subst, arith, length-append, length-drop, length-set, get_or, Some, None}
-use Rattle.std.specs.Prelude.{All, Bool, true, false, cond, count_by, slice_index, slice_index_or, ◌==◌, ◌&&◌, not, nat_lt}
+use Rattle.std.proofs.Common.{◌≡◌, ◌≢◌, ℕ, zero, suc, ◌+◌, ◌^◌, ◌<◌, ◌≤◌, List, [], ◌∷◌, ◌++◌, length, take, drop, refl, sym, ap, ◌∙◌, subst, arith, length-append, length-drop, length-set, None}
+use Rattle.std.specs.Prelude.{Bool, true, false, count_by, slice_index, slice_index_or, ◌==◌, ◌&&◌, not, nat_lt}
 use Rattle.std.proofs.lemmas.Bool.Decides.{nat_tests}
 use Rattle.std.proofs.lemmas.Option.{slice_get_within}
-use Rattle.section_body.specs.Word.{version_of, held_word, is_free, is_spent}
+use Rattle.section_body.specs.Word.{version_of, is_free, is_spent}
 use Rattle.section_body.specs.Trail.{Agreed as Agreement}
 use Rattle.section_body.specs.Memory.{PlainMemory, cell_of}
-use Rattle.section_body.specs.Line.{Registers, registers_before, log_words}
-use Rattle.section_body.specs.Run.{Setting, Run, is_takable}
+use Rattle.section_body.specs.Line.{registers_before, log_words}
+use Rattle.section_body.specs.Run.{Run}
 use Rattle.section_body.specs.Plain.{Choice, no_choice, lock_choices, choices, choice_at, PlacesFit, SlotsFit, LocksFit, HasRequest, HasRoom, VersionsFit}
-use Rattle.section_body.specs.Shape.{IsStep, IsShaped, SetBefore, LoadedBefore, FreshBefore, is_take, is_make, is_stamp, is_retire, used_values}
-use Rattle.section_body.specs.Act.{Shows, IsLogged, SlotFits, StoreFits, StepFits, GotSuits, BusySuits, LockSuits, SlotSuits, StepSuits}
+use Rattle.section_body.specs.Shape.{IsStep, IsShaped, SetBefore, LoadedBefore, is_take, is_make, is_stamp, is_retire}
+use Rattle.section_body.specs.Act.{Shows, IsLogged, SlotFits, StoreFits, StepFits, LockSuits, SlotSuits, StepSuits}
 use Rattle.section_body.specs.declared.value.Value.{Value}
-use Rattle.section_body.specs.declared.value.Value.TheVariants.{Const, Of, Made}
+use Rattle.section_body.specs.declared.value.Value.TheVariants.{Of}
 use Rattle.section_body.specs.declared.value.Init.{Init}
 use Rattle.section_body.specs.declared.step.Step.{Step}
 use Rattle.section_body.specs.declared.step.Step.TheVariants.{Load, Want, Fresh, Take, Make, Stamp, Store, Retire, Answer}
@@ -83,10 +83,10 @@ module _ (body : List Step) (start : PlainMemory) (taken : List Bool) (shaped : 
       there = subst (λ free. 0 < length free) (sym free_is) (let d = length-drop (length r.made) start.free in let t = slots.there in let m = made_here in omega arith);
       within = slot_within;
       room = λ cell low.
-        let place = cell_of start.fixed_cells (slice_index start.free (length r.made)) cell in
-        let below = slots.within (length r.made) cell (let m = made_here in omega arith) low in
-        subst (λ w. version_of w + 1 < 2 ^ 32) (sym (slot_word cell low))
-        (next_version (version_of (slice_index start.cells place)) start.version_max (versions place 0 below) (slots.unworn (length r.made) cell (let m = made_here in omega arith) low) small)
+          let place = cell_of start.fixed_cells (slice_index start.free (length r.made)) cell in
+          let below = slots.within (length r.made) cell (let m = made_here in omega arith) low in
+          subst (λ w. version_of w + 1 < 2 ^ 32) (sym (slot_word cell low))
+          (next_version (version_of (slice_index start.cells place)) start.version_max (versions place 0 below) (slots.unworn (length r.made) cell (let m = made_here in omega arith) low) small);
     }
 
     slot_suits : SlotSuits (setting body start taken shaped) memory (registers_before body n).count
@@ -95,7 +95,7 @@ module _ (body : List Step) (start : PlainMemory) (taken : List Bool) (shaped : 
         record {
           fixed_cells = sym fixed_is;
           slot = chosen ∙ sym slot_is;
-          first = λ cell low. ap (λ t. slice_index start.cells (cell_of start.fixed_cells t cell)) chosen ∙ sym (slot_word cell low)
+          first = λ cell low. ap (λ t. slice_index start.cells (cell_of start.fixed_cells t cell)) chosen ∙ sym (slot_word cell low);
         }
 
   store_fits : (reg : ℕ) (value : Value) → PlacesFit body start → IsStep body n (Store reg value) → StoreFits memory trail.words ((registers_before body n).place reg) ((registers_before body n).log reg)
@@ -113,7 +113,7 @@ module _ (body : List Step) (start : PlainMemory) (taken : List Bool) (shaped : 
       record {
         within = subst (λ p. p < length memory.cells) (sym now.0) (let p = places.loads before.by before.place reg before.loads in let l = same_cells in omega arith);
         logged = in_trail (Of reg) inside (shaped.used n (Store reg value) here 0 (Of reg) (omega arith));
-        room = λ _. subst (λ w. version_of w + 1 < 2 ^ 32) (sym word) (next_version (version_of read) start.version_max most other small)
+        room = λ _. subst (λ w. version_of w + 1 < 2 ^ 32) (sym word) (next_version (version_of read) start.version_max most other small);
       }
 
   -- a free word that isn't spent has a next version
@@ -148,7 +148,7 @@ module _ (body : List Step) (start : PlainMemory) (taken : List Bool) (shaped : 
           held = ap (λ (c : Choice). c.word) (got_choice 1 true is);
           descriptor = refl;
           takable = takable_word can.0 can.1;
-          going = ap (λ (c : Choice). c.refused) (first_choice ∙ got_choice 0 true is)
+          going = ap (λ (c : Choice). c.refused) (first_choice ∙ got_choice 0 true is);
         }
       where
         same_number : (k : ℕ) → (k == k) ≡ true
@@ -157,9 +157,9 @@ module _ (body : List Step) (start : PlainMemory) (taken : List Bool) (shaped : 
         takable_word : is_free word ≡ true → is_spent start.version_max word ≡ false → (word == word && (is_free word && not (is_spent start.version_max word))) ≡ true
         takable_word free unspent = ap (λ b. b && (is_free word && not (is_spent start.version_max word))) (same_number word) ∙ (ap (λ b. b && not (is_spent start.version_max word)) free ∙ ap not unspent)
     lock_suits locks within false is = record {
-        standing = ap (λ (c : Choice). c.word) (first_choice ∙ got_choice 0 false is) ∙ sym (cell_here place within ∙ unwritten body start taken shaped n (Take place word) here r sound place (omega arith));
-        refused = ap (λ (c : Choice). c.refused) (first_choice ∙ got_choice 0 false is)
-      }
+      standing = ap (λ (c : Choice). c.word) (first_choice ∙ got_choice 0 false is) ∙ sym (cell_here place within ∙ unwritten body start taken shaped n (Take place word) here r sound place (omega arith));
+      refused = ap (λ (c : Choice). c.refused) (first_choice ∙ got_choice 0 false is);
+    }
 
   -- the setting suits each step
   pub suits : (step : Step) → IsStep body n step → PlacesFit body start → SlotsFit body start → LocksFit body start taken → (got : Bool) → got ≡ (is_take step && slice_index_or taken (count_by is_take (take n body)) false) → StepSuits (setting body start taken shaped) memory got (registers_before body n).count step

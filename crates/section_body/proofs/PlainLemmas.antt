@@ -1,19 +1,19 @@
 -- A run in one go, from its first step to its end.
-use Rattle.std.proofs.Common.{◌≡◌, ◌≢◌, ℕ, zero, suc, ◌+◌, ◌^◌, ◌<◌, ◌≤◌, List, [], ◌∷◌, ◌++◌, length, take, drop, refl, sym, ap, ◌∙◌, subst, arith, get_or, set, Some, None, Option}
-use Rattle.std.specs.Prelude.{Bool, true, false, cond, count_by, slice_index, slice_index_or, ◌&&◌}
+use Rattle.std.proofs.Common.{◌≡◌, ℕ, suc, ◌≤◌, List, [], ◌∷◌, ◌++◌, length, take, drop, refl, sym, ap, ◌∙◌, subst, arith, Some, None}
+use Rattle.std.specs.Prelude.{Bool, false, count_by, slice_index}
 use Rattle.std.proofs.lemmas.List.{set-get_or}
 use Rattle.section_body.specs.Trail.{Agreed as Agreement}
 use Rattle.section_body.specs.Memory.{PlainMemory}
-use Rattle.section_body.specs.Line.{Registers, registers_before, registers_after, micros, line, line_from}
-use Rattle.section_body.specs.Run.{Setting, Run, ran}
+use Rattle.section_body.specs.Line.{registers_before, registers_after, micros, line, line_from}
+use Rattle.section_body.specs.Run.{Run, ran}
 use Rattle.section_body.specs.Plain.{plain_setting, unstarted, plain_run, memory_after, first_values, PlacesFit, VersionsFit}
-use Rattle.section_body.specs.Shape.{IsStep, IsShaped, is_take, is_answer}
+use Rattle.section_body.specs.Shape.{IsStep, IsShaped, is_answer}
 use Rattle.section_body.specs.Act.{Shows}
 use Rattle.section_body.specs.declared.outcome.Outcome.{Outcome}
 use Rattle.section_body.specs.declared.step.Step.{Step}
-use Rattle.section_body.proofs.LineLemmas.{line_next, line_split, take_all, read_step}
+use Rattle.section_body.proofs.LineLemmas.{line_next, line_split, take_all}
 use Rattle.section_body.proofs.RunLemmas.{ran-append, ran_over, changes}
-use Rattle.section_body.proofs.SoundLemmas.{Sound, sound_next, count_by_next, counted}
+use Rattle.section_body.proofs.SoundLemmas.{Sound, sound_next}
 use Rattle.section_body.proofs.ValueLemmas.{first_values-list}
 
 -- the run in one go before step n
@@ -29,11 +29,11 @@ module _ (body : List Step) (request : ℕ) (start : PlainMemory) (taken : List 
   pub shows_first : (trail : Agreement) → trail.words ≡ [] → trail.late ≡ false → Shows request start (run_before body request start taken 0) start trail None
   shows_first trail words late = record {
     left = ap (λ cs. record start { cells = cs }) (first_values-list start.cells)
-    ∙ (ap (λ rs. record (record start { cells = first_values (length start.cells) (slice_index start.cells) }) { retired = rs }) (append_nil start.retired)
-    ∙ (ap (λ ss. record (memory_after request start (unstarted request start)) { stamps = ss; replies = start.replies }) (sym (set-get_or start.stamps request 0))
-    ∙ ap (λ rs. record (memory_after request start (unstarted request start)) { replies = rs }) (sym (set-get_or start.replies request 0))));
+        ∙ (ap (λ rs. record (record start { cells = first_values (length start.cells) (slice_index start.cells) }) { retired = rs }) (append_nil start.retired)
+        ∙ (ap (λ ss. record (memory_after request start (unstarted request start)) { stamps = ss; replies = start.replies }) (sym (set-get_or start.stamps request 0))
+        ∙ ap (λ rs. record (memory_after request start (unstarted request start)) { replies = rs }) (sym (set-get_or start.replies request 0))));
     agreed = (λ i. record { words = words i; late = late i });
-    ended = refl
+    ended = refl;
   }
 
   module _ (n : ℕ) (step : Step) (here : IsStep body n step) where
@@ -72,7 +72,7 @@ module _ (body : List Step) (request : ℕ) (start : PlainMemory) (taken : List 
     clock = λ _. refl;
     loaded = λ i place reg low. absurd (omega arith);
     fresh = λ i reg low. absurd (omega arith);
-    untouched = λ early p apart. refl
+    untouched = λ early p apart. refl;
   }
 
   -- a run that went through all steps has answered

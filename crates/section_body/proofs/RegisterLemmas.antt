@@ -1,19 +1,18 @@
 -- Registers of a body that has the shape.
-use Rattle.std.proofs.Common.{◌≡◌, ◌≢◌, ℕ, zero, suc, ◌+◌, ◌*◌, ◌<◌, ◌≤◌, List, [], ◌∷◌, length, take, refl, sym, ap, ◌∙◌, subst, arith, Some, slice_get, ◌⊎◌, inl, inr, ⊎_elim}
-use Rattle.std.specs.Prelude.{All, Contains, cond, ◌==◌}
+use Rattle.std.proofs.Common.{◌≡◌, ◌≢◌, ℕ, zero, suc, ◌*◌, ◌<◌, ◌≤◌, List, [], ◌∷◌, length, take, refl, sym, ap, ◌∙◌, subst, arith, ⊎_elim}
+use Rattle.std.specs.Prelude.{Contains}
 use Rattle.std.proofs.lemmas.Bool.{cases_eq}
 use Rattle.std.proofs.lemmas.Bool.Decides.{nat_tests}
-use Rattle.std.proofs.lemmas.Option.{slice_get-get_or}
 use Rattle.section_body.specs.Update.{upd}
 use Rattle.section_body.specs.Line.{Registers, no_registers, registers_after, registers_before, log_words}
-use Rattle.section_body.specs.Shape.{IsStep, LoadedBefore, MadeBefore, SetBefore, IsShaped, set_registers, used_values}
+use Rattle.section_body.specs.Shape.{IsStep, SetBefore, IsShaped, set_registers}
 use Rattle.section_body.specs.Act.{IsLogged}
 use Rattle.section_body.specs.declared.value.Init.{Init}
 use Rattle.section_body.specs.declared.value.Value.{Value}
 use Rattle.section_body.specs.declared.value.Value.TheVariants.{Const, Of, Made}
 use Rattle.section_body.specs.declared.step.Step.{Step}
 use Rattle.section_body.specs.declared.step.Step.TheVariants.{Load, Want, Fresh, Take, Make, Stamp, Store, Retire, Answer}
-use Rattle.section_body.proofs.LineLemmas.{registers_before_next, count_after, log_words_le, count_through_le}
+use Rattle.section_body.proofs.LineLemmas.{registers_before_next, count_after, count_through_le}
 
 upd_other : (f : ℕ → ℕ) (k v i : ℕ) → i ≢ k → upd f k v i ≡ f i
 upd_other f k v i ne = grind (arith, nat_tests)
@@ -42,9 +41,9 @@ step_at (step ∷ steps) (suc n) within = step_at steps n (omega arith)
 -- the words committed never fall
 pub count_rises : (body : List Step) (i n : ℕ) → i ≤ n → n ≤ length body → (registers_before body i).count ≤ (registers_before body n).count
 count_rises body i n low high = ⊎_elim
-  (λ same. subst (λ k. (registers_before body i).count ≤ (registers_before body k).count) same (omega arith))
-  (λ ne. more n low high ne)
-  (cases_eq i n)
+    (λ same. subst (λ k. (registers_before body i).count ≤ (registers_before body k).count) same (omega arith))
+    (λ ne. more n low high ne)
+    (cases_eq i n)
   where
     more : (n : ℕ) → i ≤ n → n ≤ length body → (i ≡ n → ⊥) → (registers_before body i).count ≤ (registers_before body n).count
     more zero low high ne = absurd (ne (omega arith))
@@ -75,16 +74,16 @@ module _ (body : List Step) (shaped : IsShaped body) where
     set_stays : (n : ℕ) → b < n → n ≤ length body → ((registers_before body n).place reg ≡ (registers_after (registers_before body b) setter).place reg) × ((registers_before body n).log reg ≡ (registers_after (registers_before body b) setter).log reg)
     set_stays zero low high = absurd (omega arith)
     set_stays (suc m) low high = ⊎_elim
-      (λ same. subst (λ k. ((registers_before body (suc k)).place reg ≡ (registers_after (registers_before body b) setter).place reg) × ((registers_before body (suc k)).log reg ≡ (registers_after (registers_before body b) setter).log reg)) same
+        (λ same. subst (λ k. ((registers_before body (suc k)).place reg ≡ (registers_after (registers_before body b) setter).place reg) × ((registers_before body (suc k)).log reg ≡ (registers_after (registers_before body b) setter).log reg)) same
         (ap (λ (g : Registers). g.place reg) (registers_before_next body b setter here), ap (λ (g : Registers). g.log reg) (registers_before_next body b setter here)))
-      (λ other.
+        (λ other.
         let below : b < m = omega arith in
         let at = step_at body m (omega arith) in
         let next = registers_before_next body m at.0 at.1 in
         let kept = register_kept (registers_before body m) at.0 reg (shaped.set_once b m reg setter at.0 below here at.1 sets) in
         let before = set_stays m below (omega arith) in
         (ap (λ (g : Registers). g.place reg) next ∙ (kept.0 ∙ before.0), ap (λ (g : Registers). g.log reg) next ∙ (kept.1 ∙ before.1)))
-      (cases_eq b m)
+        (cases_eq b m)
 
   -- a register keeps the place from which it was loaded, and the place of its word
   pub loaded_register : (b place reg n : ℕ) → IsStep body b (Load place reg) → b < n → n ≤ length body → ((registers_before body n).place reg ≡ place) × ((registers_before body n).log reg ≡ (registers_before body b).count)

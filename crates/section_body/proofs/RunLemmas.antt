@@ -1,9 +1,9 @@
 -- What one step changes in a run that goes on.
 use Rattle.std.proofs.Common.{◌≡◌, ◌≢◌, ℕ, ◌+◌, List, [], ◌∷◌, ◌++◌, length, refl, sym, ap, ◌∙◌, subst, arith, length-append, append_assoc, Some, None, Option}
-use Rattle.std.specs.Prelude.{Bool, true, false, cond, ◌==◌, slice_index, slice_index_or}
+use Rattle.std.specs.Prelude.{true, false, cond, ◌==◌, slice_index, slice_index_or}
 use Rattle.std.proofs.lemmas.Bool.Decides.{nat_tests}
 use Rattle.section_body.specs.Update.{upd}
-use Rattle.section_body.specs.Word.{version_of, next_word, held_word}
+use Rattle.section_body.specs.Word.{version_of, next_word}
 use Rattle.section_body.specs.Memory.{cell_of}
 use Rattle.section_body.specs.Line.{Registers, source_of, micros, log_words}
 use Rattle.section_body.specs.Run.{Setting, Run, ran, unless_over, acted, leaves, source_value, exchanged}
@@ -93,7 +93,7 @@ module _ (s : Setting) (g : Registers) (run : Run) where
 
   -- behind the first check of a Take: either way the cells, the lists and the clock stay
   take_change : (place word : ℕ) (o : Option Outcome) → (ran s (record run { trail = run.trail ++ s.taken g.count ∷ []; outcome = o }) (NestedHold place word ∷ OutcomeLoad place (g.count + 1) ∷ OutcomeCommit place (g.count + 1) ∷ CheckHeld place (g.count + 1) word ∷ [])).outcome ≡ None
-    → Change s g (Take place word) (record run { outcome = None }) (ran s (record run { trail = run.trail ++ s.taken g.count ∷ []; outcome = o }) (NestedHold place word ∷ OutcomeLoad place (g.count + 1) ∷ OutcomeCommit place (g.count + 1) ∷ CheckHeld place (g.count + 1) word ∷ []))
+      → Change s g (Take place word) (record run { outcome = None }) (ran s (record run { trail = run.trail ++ s.taken g.count ∷ []; outcome = o }) (NestedHold place word ∷ OutcomeLoad place (g.count + 1) ∷ OutcomeCommit place (g.count + 1) ∷ CheckHeld place (g.count + 1) word ∷ []))
   take_change place word None none = record {
     extra = s.taken g.count ∷ s.taken (g.count + 1) ∷ [];
     trail = append_assoc run.trail (s.taken g.count ∷ []) (s.taken (g.count + 1) ∷ []);
@@ -104,7 +104,7 @@ module _ (s : Setting) (g : Registers) (run : Run) where
     unanswered = refl;
     cells = refl;
     passed = tt;
-    agreed = tt
+    agreed = tt;
   }
   take_change place word (Some out) none = absurd (over out none)
     where

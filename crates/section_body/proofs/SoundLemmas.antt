@@ -1,6 +1,6 @@
 -- What holds of a run in one go before each step, and what the step needs.
-use Rattle.std.proofs.Common.{◌≡◌, ◌≢◌, ℕ, zero, suc, ◌+◌, ◌-◌, ◌*◌, ◌^◌, ◌<◌, ◌≤◌, List, [], ◌∷◌, ◌++◌, length, take, drop, refl, sym, ap, ◌∙◌, subst, arith, length-append, length-drop, get_or, Some, None, Option, ◌⊎◌, inl, inr, ⊎_elim}
-use Rattle.std.specs.Prelude.{All, Bool, true, false, cond, count_by, slice_index, slice_index_or, ◌==◌}
+use Rattle.std.proofs.Common.{◌≡◌, ◌≢◌, ℕ, zero, suc, ◌+◌, ◌<◌, ◌≤◌, List, [], ◌∷◌, ◌++◌, length, take, drop, refl, sym, ap, ◌∙◌, subst, arith, length-append, Some, ⊎_elim}
+use Rattle.std.specs.Prelude.{Bool, true, false, cond, count_by, slice_index, slice_index_or}
 use Rattle.std.proofs.lemmas.Bool.{cases_eq}
 use Rattle.std.proofs.lemmas.Bool.Decides.{nat_tests}
 use Rattle.std.proofs.lemmas.List.{get_or_append_left}
@@ -8,20 +8,18 @@ use Rattle.std.proofs.Math.Seq.{get_or-append_seam}
 use Rattle.std.proofs.lemmas.List.Sums.{sum_by-append, sum_by-take-le}
 use Rattle.std.proofs.lemmas.Option.{slice_get_within}
 use Rattle.section_body.specs.Update.{upd}
-use Rattle.section_body.specs.Word.{version_of, next_word, held_word, is_free, is_spent}
+use Rattle.section_body.specs.Word.{version_of, next_word}
 use Rattle.section_body.specs.Memory.{PlainMemory, cell_of}
-use Rattle.section_body.specs.Line.{Registers, registers_after, registers_before, source_of, log_words, micros}
-use Rattle.section_body.specs.Run.{Setting, Run, ran, source_value, is_takable}
-use Rattle.section_body.specs.Plain.{Choice, no_choice, lock_choices, choices, choice_at, plain_setting, PlacesFit, SlotsFit, LocksFit, VersionsFit}
-use Rattle.section_body.specs.Shape.{IsStep, IsShaped, FreshBefore, phase, is_take, is_make, is_stamp, is_retire, is_answer, used_values}
-use Rattle.section_body.specs.Act.{IsLogged, SlotFits, StoreFits, StepFits, GotSuits, BusySuits, LockSuits, SlotSuits, StepSuits}
-use Rattle.section_body.specs.declared.value.Value.{Value}
-use Rattle.section_body.specs.declared.value.Value.TheVariants.{Const, Of, Made}
+use Rattle.section_body.specs.Line.{Registers, registers_before, source_of}
+use Rattle.section_body.specs.Run.{Setting, Run, source_value}
+use Rattle.section_body.specs.Plain.{Choice, no_choice, choices, choice_at, plain_setting, PlacesFit, SlotsFit, VersionsFit}
+use Rattle.section_body.specs.Shape.{IsStep, IsShaped, phase, is_take, is_make, is_stamp, is_retire, is_answer}
+use Rattle.section_body.specs.declared.value.Value.TheVariants.{Const, Of}
 use Rattle.section_body.specs.declared.value.Init.{Init}
 use Rattle.section_body.specs.declared.step.Step.{Step}
 use Rattle.section_body.specs.declared.step.Step.TheVariants.{Load, Want, Fresh, Take, Make, Stamp, Store, Retire, Answer}
 use Rattle.section_body.proofs.LineLemmas.{take_next, registers_before_next, count_after}
-use Rattle.section_body.proofs.RegisterLemmas.{loaded_register, logged, step_at, committed_below, count_rises}
+use Rattle.section_body.proofs.RegisterLemmas.{logged, step_at, committed_below, count_rises}
 use Rattle.section_body.proofs.RunLemmas.{Change, cells_after, FreshPassed, LoadAgreed}
 use Rattle.section_body.proofs.ChoiceLemmas.{choices_here}
 
@@ -160,8 +158,8 @@ module _ (body : List Step) (start : PlainMemory) (taken : List Bool) (shaped : 
         let counted_here = counted is_make body n step here (ap is_make is) in
         sound.untouched (λ i other before at. subst (λ s. phase other ≤ phase s) is (earlier i other before at)) _
         (λ i other before small same.
-          let apart = slots.different i (length r.made) before (let m = sound.made in omega arith) in
-          apart (cells_apart start.fixed_cells (slice_index start.free i) (slice_index start.free (length r.made)) other cell small low (sym same)))
+        let apart = slots.different i (length r.made) before (let m = sound.made in omega arith) in
+        apart (cells_apart start.fixed_cells (slice_index start.free i) (slice_index start.free (length r.made)) other cell small low (sym same)))
       where
         cells_apart : (f a b i j : ℕ) → i < 5 → j < 5 → cell_of f a i ≡ cell_of f b j → a ≡ b
         cells_apart f a b i j small low same = omega arith
@@ -185,19 +183,19 @@ module _ (body : List Step) (start : PlainMemory) (taken : List Bool) (shaped : 
       loaded_now place reg is =
           let agreed : change.extra ≡ r.cells place ∷ [] = subst (λ s. LoadAgreed s r change.extra) is change.agreed in
           let word : slice_index after.trail (registers_before body n).count ≡ slice_index start.cells place =
-            ap (λ t. slice_index t (registers_before body n).count) (change.trail ∙ ap (λ e. r.trail ++ e) agreed)
-            ∙ (ap (λ k. slice_index (r.trail ++ r.cells place ∷ []) k) (sym sound.count) ∙ (get_or-append_seam r.trail (r.cells place) [] 0 ∙ unwritten place (subst (λ s. phase s ≤ 1) (sym is) (omega arith)))) in
+          ap (λ t. slice_index t (registers_before body n).count) (change.trail ∙ ap (λ e. r.trail ++ e) agreed)
+          ∙ (ap (λ k. slice_index (r.trail ++ r.cells place ∷ []) k) (sym sound.count) ∙ (get_or-append_seam r.trail (r.cells place) [] 0 ∙ unwritten place (subst (λ s. phase s ≤ 1) (sym is) (omega arith)))) in
           subst (λ w. version_of w ≤ start.version_max) (sym word) (versions place 0 (places.loads n place reg (here ∙ ap (λ (s : Step). Some s) is)))
 
       loaded_next : (i place reg : ℕ) → i < suc n → IsStep body i (Load place reg) → version_of (slice_index after.trail (registers_before body i).count) ≤ start.version_max
       loaded_next i place reg low at = ⊎_elim
-        (λ same. subst (λ k. version_of (slice_index after.trail (registers_before body k).count) ≤ start.version_max) (sym same)
+          (λ same. subst (λ k. version_of (slice_index after.trail (registers_before body k).count) ≤ start.version_max) (sym same)
           (loaded_now place reg (one_step (sym here ∙ subst (λ k. IsStep body k (Load place reg)) same at))))
-        (λ other.
+          (λ other.
           let before : i < n = omega arith in
           let below = committed_below body shaped i n (Load place reg) at (omega arith) before (let w = within in omega arith) in
           subst (λ w. version_of w ≤ start.version_max) (sym (stays _ (let k = sound.count in omega arith))) (sound.loaded i place reg before at))
-        (cases_eq i n)
+          (cases_eq i n)
         where
           one_step : {a b : Step} → Some a ≡ Some b → a ≡ b
           one_step e = cc
@@ -210,7 +208,7 @@ module _ (body : List Step) (start : PlainMemory) (taken : List Bool) (shaped : 
           let same_word = stays ((registers_before body i).log reg) (let k = sound.count in omega arith) in
           subst (λ w. version_of w ≢ start.version_max) (sym same_word) (⊎_elim
           (λ same. subst (λ k. version_of (slice_index r.trail ((registers_before body k).log reg)) ≢ start.version_max) (sym same)
-            (subst (λ s. FreshPassed setting (registers_before body n) s r) (one_step (sym here ∙ subst (λ k. IsStep body k (Fresh reg)) same at)) change.passed))
+          (subst (λ s. FreshPassed setting (registers_before body n) s r) (one_step (sym here ∙ subst (λ k. IsStep body k (Fresh reg)) same at)) change.passed))
           (λ other. sound.fresh i reg (omega arith) at)
           (cases_eq i n))
         where
@@ -221,8 +219,8 @@ module _ (body : List Step) (start : PlainMemory) (taken : List Bool) (shaped : 
       untouched_next early p apart =
           ap (λ f. f p) change.cells
           ∙ (cells_kept setting (registers_before body n) step r p (early n step (omega arith) here)
-              (λ init into is cell small. subst (λ t. p ≢ cell_of start.fixed_cells t cell) (sym (choice_slot init into is))
-                (apart (length r.made) cell (let m = change.made in let one = counts_one (is_make step) (ap is_make is) in omega arith) small))
+          (λ init into is cell small. subst (λ t. p ≢ cell_of start.fixed_cells t cell) (sym (choice_slot init into is))
+          (apart (length r.made) cell (let m = change.made in let one = counts_one (is_make step) (ap is_make is) in omega arith) small))
           ∙ sound.untouched (λ i other low. early i other (omega arith)) p (λ i cell low. apart i cell (let m = change.made in omega arith)))
 
       pub sound_next : Sound (suc n) after
@@ -234,5 +232,5 @@ module _ (body : List Step) (start : PlainMemory) (taken : List Bool) (shaped : 
         clock = λ none. (let parts = counts_nothing (count_by is_stamp (take n body)) (is_stamp step) (sym (count_by_next is_stamp body n step here) ∙ none) in change.clock parts.1 ∙ sound.clock parts.0);
         loaded = loaded_next;
         fresh = fresh_next;
-        untouched = untouched_next
+        untouched = untouched_next;
       }

@@ -1,14 +1,13 @@
 -- One step of a run in one go: what it needs, and what it leaves.
-use Rattle.std.specs.Prelude.{◌≡◌, ℕ, zero, suc, ◌+◌, ◌^◌, ◌<◌, ◌≤◌, List, [], ◌∷◌, ◌++◌, Bool, true, false, not, length, slice_index, slice_set, All, Option}
+use Rattle.std.specs.Prelude.{◌≡◌, ℕ, zero, suc, ◌+◌, ◌^◌, ◌<◌, List, Bool, true, false, length, slice_index, slice_set, All, Option}
 use Rattle.section_body.specs.Word.{version_of, next_word, held_word}
 use Rattle.section_body.specs.Trail.{Agreed as Agreement}
 use Rattle.section_body.specs.Memory.{PlainMemory, cell_of}
-use Rattle.section_body.specs.Line.{Registers, log_words}
+use Rattle.section_body.specs.Line.{Registers}
 use Rattle.section_body.specs.Run.{Setting, Run, is_takable}
 use Rattle.section_body.specs.Plain.{memory_after}
 use Rattle.section_body.specs.declared.value.Value.{Value}
 use Rattle.section_body.specs.declared.value.Value.TheVariants.{Const, Of, Made}
-use Rattle.section_body.specs.declared.value.Init.{Init}
 use Rattle.section_body.specs.declared.step.Step.{Step}
 use Rattle.section_body.specs.declared.step.Step.TheVariants.{Load, Want, Fresh, Take, Make, Stamp, Store, Retire, Answer}
 use Rattle.section_body.specs.declared.outcome.Outcome.{Outcome}

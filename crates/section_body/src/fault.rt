@@ -59,7 +59,9 @@ fn any_makes(steps: &[Step], reg: u8) -> bool
 fn any_sets(steps: &[Step], reg: u8) -> bool
     ensures { result ≡ list_any (λ step. loads_into reg step || makes_into reg step) steps.now }
 {
-    steps.iter().any(|step| loads_into(step, reg) || makes_into(step, reg))
+    steps
+        .iter()
+        .any(|step| loads_into(step, reg) || makes_into(step, reg))
 }
 
 /// Whether one of these steps tests this register's version.

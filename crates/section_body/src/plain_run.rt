@@ -42,7 +42,13 @@ fn is_got(step: &Step, taken: &[bool], takes: usize) -> bool
 }
 
 /// Runs these steps as `plain` does; the memory's greatest version is handed in beside it.
-fn run_steps(steps: &[Step], request: u32, memory: &mut Memory, version_max: u32, taken: &[bool]) -> (Outcome, Trail)
+fn run_steps(
+    steps: &[Step],
+    request: u32,
+    memory: &mut Memory,
+    version_max: u32,
+    taken: &[bool],
+) -> (Outcome, Trail)
     requires shape { IsShaped steps.now }
     requires locks { LocksFit steps.now memory.old taken.now }
     requires slots { SlotsFit steps.now memory.old }

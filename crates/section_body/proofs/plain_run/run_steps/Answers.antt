@@ -1,8 +1,7 @@
-use Rattle.std.proofs.Common.{◌≡◌, ◌<◌, ◌^◌, ◌+◌, suc, None, length, refl, sym, ap, ◌∙◌, arith, subst}
+use Rattle.std.proofs.Common.{◌≡◌, ◌<◌, ◌^◌, ◌+◌, suc, None, refl, sym, ap, ◌∙◌, arith, subst}
 use mir.Val.{bool_byte}
 use Rattle.std.specs.Prelude.{ℕ, take, cond, Bool, true, ◌&&◌, false, slice_index_or, count_by}
 use Rattle.section_body.specs.Shape.{is_take}
-use Rattle.section_body.specs.Memory.{PlainMemory}
 use Rattle.section_body.specs.Line.{registers_before, micros}
 use Rattle.section_body.specs.Run.{Run, ran}
 use Rattle.section_body.specs.Plain.{plain_setting, memory_after}
@@ -22,7 +21,7 @@ pub loop-n-init : goal.loop-n-init
 loop-n-init c = record {
   shows = shows_first c.args.steps.now c.args.request c.args.memory.now c.args.taken.now c.new-trail.result c.new-trail.ensures.words c.new-trail.ensures.late;
   takes = refl;
-  sound = sound_first c.args.steps.now c.args.request c.args.memory.now c.args.taken.now
+  sound = sound_first c.args.steps.now c.args.request c.args.memory.now c.args.taken.now;
 }
 
 pub is_got-got-requires : goal.is_got-got-requires
@@ -105,10 +104,10 @@ loop-n-preserved c =
     let more : suc c.loop-n.n ≡ c.loop-n.n + 1 = omega arith in
     record {
       shows = subst (λ n. Shows c.args.request start (run_before steps c.args.request start c.args.taken.now n) c.act.new.memory c.act.new.trail None) more
-        (subst (λ r. Shows c.args.request start r c.act.new.memory c.act.new.trail None) (sym (run_next steps c.args.request start c.args.taken.now c.loop-n.n c.index-steps-n.result here)) none);
+          (subst (λ r. Shows c.args.request start r c.act.new.memory c.act.new.trail None) (sym (run_next steps c.args.request start c.args.taken.now c.loop-n.n c.index-steps-n.result here)) none);
       takes = takes_next c.loop-n.takes c.is_take.result (is_take c.index-steps-n.result) (count_by is_take (take c.loop-n.n steps)) _ c.loop-n.invariant.takes c.is_take.ensures (sym (count_by_next is_take steps c.loop-n.n c.index-steps-n.result here) ∙ ap (λ n. count_by is_take (take n steps)) more);
       sound = λ shaped. subst (λ n. Sound steps start c.args.taken.now shaped n (run_before steps c.args.request start c.args.taken.now n)) more
-        (sound_more steps c.args.request start c.args.taken.now c.loop-n.n c.index-steps-n.result here shaped c.requires.places c.requires.versions c.loop-n.memory c.act.new.memory c.loop-n.trail c.act.new.trail shows none (c.loop-n.invariant.sound shaped))
+          (sound_more steps c.args.request start c.args.taken.now c.loop-n.n c.index-steps-n.result here shaped c.requires.places c.requires.versions c.loop-n.memory c.act.new.memory c.loop-n.trail c.act.new.trail shows none (c.loop-n.invariant.sound shaped));
     }
 
 pub unreachable-requires : goal.unreachable-requires

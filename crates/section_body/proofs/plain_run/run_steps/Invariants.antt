@@ -10,5 +10,5 @@ abbrev pub invariant-loop-n : goal.invariant-loop-n
 invariant-loop-n l = record {
   shows : Shows l.request l.fn.memory (run_before l.steps l.request l.fn.memory l.taken l.n) l.memory l.trail None;
   takes : l.takes ≡ count_by is_take (take l.n l.steps);
-  sound : (shaped : IsShaped l.steps) → Sound l.steps l.fn.memory l.taken shaped l.n (run_before l.steps l.request l.fn.memory l.taken l.n)
+  sound : (shaped : IsShaped l.steps) → Sound l.steps l.fn.memory l.taken shaped l.n (run_before l.steps l.request l.fn.memory l.taken l.n);
 }
