@@ -22,6 +22,8 @@ mod plain_run;
 mod step;
 mod step_kind;
 mod steps;
+#[cfg(test)]
+mod tests;
 mod thunk;
 mod trail;
 mod value;
