@@ -50,10 +50,10 @@ abbrev pub fits_read : Thunk → Bool
 fits_read t = is_small (t.lock + 1)
 
 abbrev pub fits_insert : Thunk → Bool
-fits_insert t = is_small (t.lock + 2) && is_small (operand t 1) && is_small (operand t 2) && is_small (operand t 3)
+fits_insert t = is_small (t.lock + 2) && (is_small (operand t 1) && (is_small (operand t 2) && is_small (operand t 3)))
 
 abbrev pub fits_remove : Thunk → Bool
-fits_remove t = is_small (t.lock + 1) && is_small (operand t 1) && is_small (operand t 2) && is_small (operand t 3)
+fits_remove t = is_small (t.lock + 1) && (is_small (operand t 1) && (is_small (operand t 2) && is_small (operand t 3)))
 
 -- the body of a hash table's thunk; empty for another form, and where a place, slot, key, value or link doesn't fit
 abbrev pub bucket_steps : Thunk → List Step
