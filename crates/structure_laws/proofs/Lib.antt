@@ -1,0 +1,4 @@
+mod Changes
+mod Steps
+mod TrayGives
+mod TrayShape
