@@ -1,12 +1,11 @@
 -- The steps of the test structure's bodies, found by their kind.
-use Rattle.std.proofs.Common.{◌≡◌, ℕ, zero, suc, ◌+◌, ◌<◌, ◌≤◌, Bool, true, false, cond, refl, sym, ap, ◌∙◌, subst, inl, inr, arith, rules}
-use Rattle.std.specs.Prelude.{◌==◌, ◌&&◌, not, ◌-◌, ◌⊎◌, Option, Some, None, List, [], ◌∷◌, slice_get}
+use Rattle.std.proofs.Common.{◌≡◌, ℕ, ◌<◌, refl, inl, inr, arith}
+use Rattle.std.specs.Prelude.{◌-◌, ◌⊎◌, Some, slice_get}
 use Rattle.section_body.specs.Word.{value_of}
 use Rattle.section_body.specs.declared.value.Value.{Value}
-use Rattle.section_body.specs.declared.value.Value.TheVariants.{Const, Of, Made}
+use Rattle.section_body.specs.declared.value.Value.TheVariants.{Const, Made}
 use Rattle.section_body.specs.declared.value.Init.{Init}
-use Rattle.section_body.specs.declared.step.Step.{Step}
-use Rattle.section_body.specs.declared.step.Step.TheVariants.{Load, Want, Fresh, Take, Make, Stamp, Store, Retire, Answer}
+use Rattle.section_body.specs.declared.step.Step.TheVariants.{Load, Take, Make, Stamp, Store, Retire, Answer}
 use Rattle.structure_laws.specs.Tray.{Form, Number, Link, Unlink, Other, body_of, zeros}
 
 pub no_take : (f : Form) (word j l w : ℕ) → slice_get (body_of f word) j ≡ Some (Take l w) → ⊥
@@ -22,7 +21,7 @@ load_step Unlink word j p r h = (grind arith, grind arith, inr (inr (refl, grind
 load_step Other word j p r h = absurd (grind arith)
 
 pub store_step : (f : Form) (word j r : ℕ) (v : Value) → slice_get (body_of f word) j ≡ Some (Store r v)
-  → (r ≡ 0) × (((f ≡ Number) × (j ≡ 3) × (v ≡ Const (value_of word))) ⊎ ((f ≡ Link) × (j ≡ 5) × (v ≡ Made 1)) ⊎ ((f ≡ Unlink) × (j ≡ 4) × (v ≡ Const 0)))
+    → (r ≡ 0) × (((f ≡ Number) × (j ≡ 3) × (v ≡ Const (value_of word))) ⊎ ((f ≡ Link) × (j ≡ 5) × (v ≡ Made 1)) ⊎ ((f ≡ Unlink) × (j ≡ 4) × (v ≡ Const 0)))
 store_step Number word j r v h = (grind arith, inl (refl, grind arith, grind arith))
 store_step Link word j r v h = (grind arith, inr (inl (refl, grind arith, grind arith)))
 store_step Unlink word j r v h = (grind arith, inr (inr (refl, grind arith, grind arith)))

@@ -1,14 +1,13 @@
 -- The test structure's bodies have the shape of a body.
-use Rattle.std.proofs.Common.{◌≡◌, ◌≢◌, ℕ, zero, suc, ◌+◌, ◌<◌, ◌≤◌, Bool, true, false, cond, refl, sym, ap, ◌∙◌, subst, inl, inr, arith, rules}
+use Rattle.std.proofs.Common.{◌≡◌, ℕ, zero, suc, ◌<◌, refl, subst, arith}
 use Rattle.std.proofs.lemmas.List.Elements.{All-nil, All-cons}
-use Rattle.std.specs.Prelude.{◌==◌, ◌&&◌, not, ◌-◌, ◌⊎◌, Option, Some, None, List, [], ◌∷◌, slice_get, length, count_by, All, Contains}
+use Rattle.std.specs.Prelude.{◌-◌, Some, List, [], ◌∷◌, All}
 use Rattle.section_body.specs.Word.{value_of}
 use Rattle.section_body.specs.declared.value.Value.{Value}
 use Rattle.section_body.specs.declared.value.Value.TheVariants.{Const, Of, Made}
-use Rattle.section_body.specs.declared.value.Init.{Init}
 use Rattle.section_body.specs.declared.step.Step.{Step}
-use Rattle.section_body.specs.declared.step.Step.TheVariants.{Load, Want, Fresh, Take, Make, Stamp, Store, Retire, Answer}
-use Rattle.section_body.specs.Shape.{IsShaped, IsStep, SetBefore, LoadedBefore, MadeBefore, FreshBefore, phase, used_values, set_registers, store_place}
+use Rattle.section_body.specs.declared.step.Step.TheVariants.{Load, Want, Fresh, Make, Stamp, Store, Retire, Answer}
+use Rattle.section_body.specs.Shape.{IsShaped, IsStep, SetBefore, LoadedBefore, used_values}
 use Rattle.structure_laws.specs.Tray.{Form, Number, Link, Unlink, Other, body_of, zeros}
 
 some_inj : {A : Type 0} {x y : A} → Some x ≡ Some y → x ≡ y
@@ -29,8 +28,8 @@ two_used body i a b first second = All-cons (SetBefore body i) a (b ∷ []) firs
 
 zeros_used : (body : List Step) (i : ℕ) → All (SetBefore body i) (Const 0 ∷ Const 0 ∷ Const 0 ∷ Const 0 ∷ Const 0 ∷ [])
 zeros_used body i =
-  let p = SetBefore body i in
-  All-cons p (Const 0) (Const 0 ∷ Const 0 ∷ Const 0 ∷ Const 0 ∷ []) tt (All-cons p (Const 0) (Const 0 ∷ Const 0 ∷ Const 0 ∷ []) tt (All-cons p (Const 0) (Const 0 ∷ Const 0 ∷ []) tt (two_used body i (Const 0) (Const 0) tt tt)))
+    let p = SetBefore body i in
+    All-cons p (Const 0) (Const 0 ∷ Const 0 ∷ Const 0 ∷ Const 0 ∷ []) tt (All-cons p (Const 0) (Const 0 ∷ Const 0 ∷ Const 0 ∷ []) tt (All-cons p (Const 0) (Const 0 ∷ Const 0 ∷ []) tt (two_used body i (Const 0) (Const 0) tt tt)))
 
 -- register 0 holds the word that the first step loaded
 number_loaded : (word i : ℕ) → 0 < i → LoadedBefore (body_of Number word) i 0
@@ -79,59 +78,59 @@ other_used word (suc (suc i)) step h = absurd (cc)
 
 number_shaped : (word : ℕ) → IsShaped (body_of Number word)
 number_shaped word = record {
-    short = omega arith;
-    phases = λ i j earlier later lt a b. grind arith;
-    makes = omega arith;
-    stamps = refl;
-    answers = refl;
-    used = number_used word;
-    within = λ i step h. grind arith;
-    set_once = λ i j reg earlier later lt a b c d. grind arith;
-    fresh = λ i reg value h. record { by = 1; earlier = grind arith; tests = grind arith };
-    stored_once = λ i j a b v w lt x y e. grind arith;
-  }
+  short = omega arith;
+  phases = λ i j earlier later lt a b. grind arith;
+  makes = omega arith;
+  stamps = refl;
+  answers = refl;
+  used = number_used word;
+  within = λ i step h. grind arith;
+  set_once = λ i j reg earlier later lt a b c d. grind arith;
+  fresh = λ i reg value h. record { by = 1; earlier = grind arith; tests = grind arith };
+  stored_once = λ i j a b v w lt x y e. grind arith;
+}
 
 link_shaped : (word : ℕ) → IsShaped (body_of Link word)
 link_shaped word = record {
-    short = omega arith;
-    phases = λ i j earlier later lt a b. grind arith;
-    makes = omega arith;
-    stamps = refl;
-    answers = refl;
-    used = link_used word;
-    within = λ i step h. grind arith;
-    set_once = λ i j reg earlier later lt a b c d. grind arith;
-    fresh = λ i reg value h. record { by = 2; earlier = grind arith; tests = grind arith };
-    stored_once = λ i j a b v w lt x y e. grind arith;
-  }
+  short = omega arith;
+  phases = λ i j earlier later lt a b. grind arith;
+  makes = omega arith;
+  stamps = refl;
+  answers = refl;
+  used = link_used word;
+  within = λ i step h. grind arith;
+  set_once = λ i j reg earlier later lt a b c d. grind arith;
+  fresh = λ i reg value h. record { by = 2; earlier = grind arith; tests = grind arith };
+  stored_once = λ i j a b v w lt x y e. grind arith;
+}
 
 unlink_shaped : (word : ℕ) → IsShaped (body_of Unlink word)
 unlink_shaped word = record {
-    short = omega arith;
-    phases = λ i j earlier later lt a b. grind arith;
-    makes = omega arith;
-    stamps = refl;
-    answers = refl;
-    used = unlink_used word;
-    within = λ i step h. grind arith;
-    set_once = λ i j reg earlier later lt a b c d. grind arith;
-    fresh = λ i reg value h. record { by = 2; earlier = grind arith; tests = grind arith };
-    stored_once = λ i j a b v w lt x y e. grind arith;
-  }
+  short = omega arith;
+  phases = λ i j earlier later lt a b. grind arith;
+  makes = omega arith;
+  stamps = refl;
+  answers = refl;
+  used = unlink_used word;
+  within = λ i step h. grind arith;
+  set_once = λ i j reg earlier later lt a b c d. grind arith;
+  fresh = λ i reg value h. record { by = 2; earlier = grind arith; tests = grind arith };
+  stored_once = λ i j a b v w lt x y e. grind arith;
+}
 
 other_shaped : (word : ℕ) → IsShaped (body_of Other word)
 other_shaped word = record {
-    short = omega arith;
-    phases = λ i j earlier later lt a b. grind arith;
-    makes = omega arith;
-    stamps = refl;
-    answers = refl;
-    used = other_used word;
-    within = λ i step h. grind arith;
-    set_once = λ i j reg earlier later lt a b c d. grind arith;
-    fresh = λ i reg value h. absurd (grind arith);
-    stored_once = λ i j a b v w lt x y e. grind arith;
-  }
+  short = omega arith;
+  phases = λ i j earlier later lt a b. grind arith;
+  makes = omega arith;
+  stamps = refl;
+  answers = refl;
+  used = other_used word;
+  within = λ i step h. grind arith;
+  set_once = λ i j reg earlier later lt a b c d. grind arith;
+  fresh = λ i reg value h. absurd (grind arith);
+  stored_once = λ i j a b v w lt x y e. grind arith;
+}
 
 -- every body of the test structure is a body
 pub body_of_shaped : (f : Form) (word : ℕ) → IsShaped (body_of f word)

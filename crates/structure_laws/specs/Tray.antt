@@ -1,5 +1,5 @@
 -- The test structure: a lock, a number and a link.
-use Rattle.std.specs.Prelude.{◌≡◌, ℕ, suc, ◌+◌, ◌-◌, ◌*◌, ◌<◌, ◌≤◌, ◌==◌, ◌&&◌, not, cond, Bool, true, false, List, [], ◌∷◌, Some, slice_index}
+use Rattle.std.specs.Prelude.{◌≡◌, ℕ, suc, ◌-◌, ◌≤◌, ◌==◌, ◌&&◌, not, cond, Bool, false, List, [], ◌∷◌, Some, slice_index}
 use Rattle.std.specs.List.{list_any}
 use Rattle.section_body.specs.Word.{value_of}
 use Rattle.section_body.specs.declared.value.Value.TheVariants.{Const, Made}
@@ -53,7 +53,7 @@ pub record TrayKept (s : Scene) : Type 0 where
   pub linked : (t : ℕ) → value_of (s.cells 2) ≡ suc t → s.status t ≡ Live
   pub made : (d : ℕ) (x : Section) → s.section d ≡ Some x → form_of x.thunk ≡ Link → 4 ≤ x.at → x.at ≤ 5 → (t : ℕ) × (x.reg 1 ≡ suc t) × (s.status t ≡ Live)
   pub unlinked : (d : ℕ) (x : Section) → s.section d ≡ Some x → form_of x.thunk ≡ Unlink → x.at ≡ 5
-    → (s.status (value_of (operand_of x.thunk) - 1) ≡ Live) × (value_of (s.cells 2) ≡ 0)
+      → (s.status (value_of (operand_of x.thunk) - 1) ≡ Live) × (value_of (s.cells 2) ≡ 0)
 
 abbrev pub tray : Meaning
 tray = record {
