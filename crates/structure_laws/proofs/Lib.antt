@@ -1,5 +1,9 @@
+mod Bodies
 mod Changes
 mod Limits
+pub mod Moves
+mod Progress
+mod Readings
 mod Steps
 mod TrayGives
 mod TrayKeeps

@@ -3,10 +3,12 @@ use Rattle.std.specs.Prelude.{ℕ, suc, ◌<◌, ◌≤◌, ◌^◌, ◌≡◌, 
 use Rattle.std.specs.FinMap.{empty}
 use Rattle.table_words.specs.declared.layout.Layout.{Layout}
 use Rattle.table_words.specs.Limits.{IsWithinLimits}
-use Rattle.structure_laws.specs.Scene.{Cells, Free, Live, Scene}
+use Rattle.structure_laws.specs.Scene.{Cells, Section, Free, Live, Scene}
 use Rattle.structure_laws.specs.Meaning.{Meaning}
 use Rattle.structure_laws.specs.Cells.{IsFixed, first_word}
-use Rattle.structure_laws.specs.Shape.{ShapeLaw}
+use Rattle.structure_laws.specs.Sections.{Here}
+use Rattle.structure_laws.specs.Sound.{Sound}
+use Rattle.structure_laws.specs.Shape.{Shaped, ShapeLaw}
 use Rattle.structure_laws.specs.InTurn.{InTurn}
 use Rattle.structure_laws.specs.Keeps.{Keeps}
 use Rattle.structure_laws.specs.Gives.{GivesLaw}
@@ -43,3 +45,9 @@ module _ (m : Meaning) where
     -- a lock is no link
     pub unlinked_lock : (cells : Cells) (p : ℕ) → m.is_lock p ≡ true → m.is_link cells p ≡ false
     pub over : (layout : Layout) → IsWithinLimits layout → LawsOver layout
+
+  -- a scene as the core keeps it: it is sound, the structure keeps it, and each open section has a body of the shape
+  pub record IsLawful (layout : Layout) (s : Scene) : Type 0 where
+    pub sound : Sound m layout s
+    pub kept : m.kept layout s
+    pub shaped : (d : ℕ) (x : Section) → Here s d x → Shaped m layout x.readings x.thunk
