@@ -27,7 +27,7 @@ use Rattle.structure_laws.specs.Gives.{Gives}
 use Rattle.structure_laws.specs.Laws.{IsFirst, LawsOver, Laws, IsLawful}
 use Rattle.structure_laws.proofs.Changes.{upd_same, upd_other, upd_some, upd_none, version-next_word, value_small}
 use Rattle.structure_laws.proofs.Bodies.{apart_steps, same_step, no_exit_after}
-use Rattle.structure_laws.proofs.Progress.{stepped, Agrees, OpenSound, open_sound, cells_kept, section_done, section_put, opened_agrees, passed_agrees, set_agrees}
+use Rattle.structure_laws.proofs.Progress.{stepped, Agrees, OpenSound, open_sound, cells_kept, section_done, section_put, others_agree, opened_agrees, passed_agrees, set_agrees, store_agrees}
 use Rattle.structure_laws.proofs.Readings.{seen_risen, read_on, none_read, read_more, known_outside, known_target}
 
 live_free : (x : Status) → x ≡ Live → x ≢ Free
@@ -102,18 +102,206 @@ module _ (m : Meaning) (laws : Laws m) (layout : Layout) (limits : IsWithinLimit
       before : OpenSound m layout s.cells s.section
       before = open_sound m layout s lawful.sound
 
-  pub want : (d r w : ℕ) (x : Section) → Here s d x → IsStep m x x.at (Want r w) → x.reg r ≡ w → IsLawful m layout (passes s d x)
-  want d r w x here h equal = quiet d x (Want r w) here h (λ p q e. cc) (λ q v e. cc) (λ l u e. cc) (λ q u e. grind arith)
+  pub want_lawful : (d r w : ℕ) (x : Section) → Here s d x → IsStep m x x.at (Want r w) → x.reg r ≡ w → IsLawful m layout (passes s d x)
+  want_lawful d r w x here h equal = quiet d x (Want r w) here h (λ p q e. cc) (λ q v e. cc) (λ l u e. cc) (λ q u e. grind arith)
     (λ sound'. over.keeps.want s d r w x here h equal lawful.sound lawful.kept sound')
 
-  pub fresh : (d r : ℕ) (x : Section) → Here s d x → IsStep m x x.at (Fresh r) → version_of (x.reg r) ≢ layout.version_max → IsLawful m layout (passes s d x)
-  fresh d r x here h newer = quiet d x (Fresh r) here h (λ p q e. cc) (λ q v e. cc) (λ l u e. cc) (λ q u e. absurd (cc))
+  pub fresh_lawful : (d r : ℕ) (x : Section) → Here s d x → IsStep m x x.at (Fresh r) → version_of (x.reg r) ≢ layout.version_max → IsLawful m layout (passes s d x)
+  fresh_lawful d r x here h newer = quiet d x (Fresh r) here h (λ p q e. cc) (λ q v e. cc) (λ l u e. cc) (λ q u e. absurd (cc))
     (λ sound'. over.keeps.fresh s d r x here h newer lawful.sound lawful.kept sound')
 
-  pub stamp : (d : ℕ) (x : Section) → Here s d x → IsStep m x x.at Stamp → IsLawful m layout (passes s d x)
-  stamp d x here h = quiet d x Stamp here h (λ p q e. cc) (λ q v e. cc) (λ l u e. cc) (λ q u e. absurd (cc))
+  pub stamp_lawful : (d : ℕ) (x : Section) → Here s d x → IsStep m x x.at Stamp → IsLawful m layout (passes s d x)
+  stamp_lawful d x here h = quiet d x Stamp here h (λ p q e. cc) (λ q v e. cc) (λ l u e. cc) (λ q u e. absurd (cc))
     (λ sound'. over.keeps.stamp s d x here h lawful.sound lawful.kept sound')
 
-  pub answer : (d n : ℕ) (x : Section) → Here s d x → IsStep m x x.at (Answer n) → IsLawful m layout (passes s d x)
-  answer d n x here h = quiet d x (Answer n) here h (λ p q e. cc) (λ q v e. cc) (λ l u e. cc) (λ q u e. absurd (cc))
+  pub answer_lawful : (d n : ℕ) (x : Section) → Here s d x → IsStep m x x.at (Answer n) → IsLawful m layout (passes s d x)
+  answer_lawful d n x here h = quiet d x (Answer n) here h (λ p q e. cc) (λ q v e. cc) (λ l u e. cc) (λ q u e. absurd (cc))
     (λ sound'. over.keeps.answer s d n x here h lawful.sound lawful.kept sound')
+
+  pub load_lawful : (d p r : ℕ) (x : Section) → Here s d x → IsStep m x x.at (Load p r) → IsLawful m layout (sets s d x r (s.cells p))
+  load_lawful d p r x here h = step_lawful s.cells s.status d x (upd x.reg r (s.cells p)) here same_slots (same_reads d x (upd x.reg r (s.cells p)))
+    (put_step d x (upd x.reg r (s.cells p)) (Load p r) s.cells here h (λ l w e. cc) before
+      (set_agrees m layout s.cells x (Load p r) r (s.cells p) (lawful.shaped d x here) (before.agrees d x here) h refl (omega arith) (λ q v e. cc) (λ q w e. cc) (λ q u e. loaded q u e)))
+    (λ sound'. over.keeps.load s d p r x here h lawful.sound lawful.kept sound')
+    where
+      before : OpenSound m layout s.cells s.section
+      before = open_sound m layout s lawful.sound
+      loaded : (q u : ℕ) → Load p r ≡ Load q u → (u ≡ r) × (s.cells q ≡ s.cells p)
+      loaded q u e = (cc, ap s.cells (place_of q u e))
+        where
+          place_of : (q u : ℕ) → Load p r ≡ Load q u → q ≡ p
+          place_of q u e = cc
+
+  -- a slot of a hand becomes live
+  pub make_lawful : (d t r : ℕ) (x : Section) (init : Init) → Here s d x → IsStep m x x.at (Make init r) → IsPrepared m layout s x t init → IsLawful m layout (with_status (sets s d x r (suc t)) t Live)
+  make_lawful d t r x init here h prepared = step_lawful s.cells (upd s.status t Live) d x (upd x.reg r (suc t)) here
+    (record {
+      fixed = λ u low. live_too s.status t u (lawful.sound.fixed u low);
+      within = λ u used. dite (ℕ_discrete u t) (λ e. let within = prepared.within in omega arith) (λ ne. lawful.sound.within u (λ free. used (upd_other s.status t u Live ne ∙ free)));
+      retired = λ u y h. dite (ℕ_discrete u t) (λ e. absurd (live_retired y (sym (upd_same s.status t u Live e) ∙ h))) (λ ne. lawful.sound.retired u y (sym (upd_other s.status t u Live ne) ∙ h));
+    })
+    (λ readings read. read_on m s (stepped_scene s.cells (upd s.status t Live) d x (upd x.reg r (suc t))) readings read (λ p w seen. seen) (λ p outside link. link)
+      (λ u safe. ⊎_elim (λ live. inl (live_too s.status t u live))
+        (λ retired. inr (retired.0, upd_other s.status t u Live (λ e. free_retired retired.0 (sym prepared.in_hand ∙ ap s.status (sym e) ∙ retired.1)) ∙ retired.1, retired.2)) safe))
+    (put_step d x (upd x.reg r (suc t)) (Make init r) s.cells here h (λ l w e. cc) before
+      (set_agrees m layout s.cells x (Make init r) r (suc t) (lawful.shaped d x here) (before.agrees d x here) h refl (omega arith) (λ q v e. cc) (λ q w e. cc) (λ q u e. absurd (cc))))
+    (λ sound'. over.keeps.make s d t r x init here h prepared lawful.sound lawful.kept sound')
+    where
+      before : OpenSound m layout s.cells s.section
+      before = open_sound m layout s lawful.sound
+      live_too : (status : ℕ → Status) (t u : ℕ) → status u ≡ Live → upd status t Live u ≡ Live
+      live_too status t u live = dite (ℕ_discrete u t) (λ e. upd_same status t u Live e) (λ ne. upd_other status t u Live ne ∙ live)
+      live_retired : (y : ℕ) → Live ≡ Retired y → ⊥
+      live_retired y e = cc
+      free_retired : (y : ℕ) → Free ≡ Retired y → ⊥
+      free_retired y e = cc
+
+  -- a lock is taken
+  pub take_lawful : (d l w : ℕ) (x : Section) → Here s d x → IsStep m x x.at (Take l w) → Unheld m s l → IsLawful m layout (passes s d x)
+  take_lawful d l w x here h unheld = step_lawful s.cells s.status d x x.reg here same_slots (same_reads d x x.reg)
+    (section_put m layout s.cells s.cells s.section d (stepped x x.reg) before (lawful.sound.fits d x here) (lawful.sound.allowed d x here)
+      (λ e z ne there k holds holds'. ⊎_elim (λ held. lawful.sound.apart e d z x there here ne k holds' held) (λ taken. unheld e z there (subst (Holds m z) taken holds')) (held k holds))
+      (passed_agrees m s.cells x (Take l w) (before.agrees d x here) h (λ p r e. cc) (λ r v e. cc) (λ r u e. absurd (cc))) (λ e z ne there. before.agrees e z there))
+    (λ sound'. over.keeps.take s d l w x here h unheld lawful.sound lawful.kept sound')
+    where
+      before : OpenSound m layout s.cells s.section
+      before = open_sound m layout s lawful.sound
+      split : (j n : ℕ) → j < suc n → (j ≡ n) ⊎ (j < n)
+      split j n lt = search arith
+      lock_of : (k u l w : ℕ) → Take k u ≡ Take l w → k ≡ l
+      lock_of k u l w e = cc
+      held : (k : ℕ) → Holds m (stepped x x.reg) k → Holds m x k ⊎ (k ≡ l)
+      held k holds = ⊎_elim (λ outer. inl (inl outer)) (λ took. ⊎_elim (λ e. inr (lock_of k took.1 l w (same_step (m.body x.thunk) took.0 x.at (Take k took.1) (Take l w) took.3 h e)))
+        (λ lt. inl (inr (took.0, took.1, lt, took.3))) (split took.0 x.at took.2)) holds
+
+  value_in_small : (x : Section) (v : Value) → IsSmall v → value_in x.reg v < 2 ^ 32
+  value_in_small x (Const n) small = small
+  value_in_small x (Of r) small = value_small (x.reg r)
+  value_in_small x (Made r) small = value_small (x.reg r)
+
+  -- a cell gets its next word
+  pub store_lawful : (d j p r : ℕ) (x : Section) (v : Value) → Here s d x → IsStep m x x.at (Store r v) → j < x.at → IsStep m x j (Load p r) → s.cells p ≡ x.reg r
+    → IsLawful m layout (with_cell (passes s d x) p (next_word (x.reg r) (value_in x.reg v)))
+  store_lawful d j p r x v here h earlier load found = step_lawful (upd s.cells p word) s.status d x x.reg here same_slots
+    (λ readings read. read_on m s (stepped_scene (upd s.cells p word) s.status d x x.reg) readings read (λ q w seen. seen_risen s.cells p word q w rises seen)
+      (λ q outside link. sym (gives.steady_store d j p q r x v here h load) ∙ link) (λ t safe. safe))
+    (section_put m layout s.cells (upd s.cells p word) s.section d (stepped x x.reg) before (lawful.sound.fits d x here) (lawful.sound.allowed d x here)
+      (λ e z ne there l holds holds'. lawful.sound.apart e d z x there here ne l holds' (held_before x x.reg (Store r v) l h (λ k u e. cc) holds))
+      (store_agrees m layout s.cells x j p r v (lawful.shaped d x here) (before.agrees d x here) h load)
+      (λ e z ne there. others_agree m layout s.cells (upd s.cells p word) z (lawful.shaped e z there) (before.agrees e z there)
+        (λ i q u le load'. upd_other s.cells p q word (λ same. lawful.sound.apart e d z x there here ne (m.guard s.cells q) (gives.guarded e i q u z there le load')
+          (subst (λ q. Holds m x (m.guard s.cells q)) (sym same) (gives.guarded d j p r x here (omega arith) load))))))
+    (λ sound'. over.keeps.store s d j p r x v here h earlier load found lawful.sound lawful.kept sound')
+    where
+      word : ℕ
+      word = next_word (x.reg r) (value_in x.reg v)
+      before : OpenSound m layout s.cells s.section
+      before = open_sound m layout s lawful.sound
+      rises : version_of (s.cells p) < version_of (next_word (x.reg r) (value_in x.reg v))
+      rises = let same = ap version_of found in let next = version-next_word (x.reg r) (value_in x.reg v) (value_in_small x v ((lawful.shaped d x here).store_small x.at r v h)) in omega arith
+
+  -- a slot is retired, in an epoch that is at most one behind
+  pub retire_lawful : (d t y : ℕ) (x : Section) → Here s d x → IsStep m x x.at (Retire t) → y ≤ s.epoch → s.epoch ≤ y + 1
+    → ((q z i : ℕ) → i < 5 → s.status q ≡ Retired z → Links m s (cell_of m q i) t → z ≤ y) → IsLawful m layout (with_status (passes s d x) t (Retired y))
+  retire_lawful d t y x here h past recent links = step_lawful s.cells (upd s.status t (Retired y)) d x x.reg here
+    (record {
+      fixed = λ u low. upd_other s.status t u (Retired y) (λ e. let high = unfixed in omega arith) ∙ lawful.sound.fixed u low;
+      within = λ u used. dite (ℕ_discrete u t) (λ e. lawful.sound.within u (live_free (s.status u) (ap s.status e ∙ live))) (λ ne. lawful.sound.within u (λ free. used (upd_other s.status t u (Retired y) ne ∙ free)));
+      retired = λ u z h. dite (ℕ_discrete u t) (λ e. let same = retired_in (sym (upd_same s.status t u (Retired y) e) ∙ h) in omega arith) (λ ne. lawful.sound.retired u z (sym (upd_other s.status t u (Retired y) ne) ∙ h));
+    })
+    (λ readings read. read_on m s (stepped_scene s.cells (upd s.status t (Retired y)) d x x.reg) readings read (λ p w seen. seen) (λ p outside link. link)
+      (λ u safe. dite (ℕ_discrete u t) (λ e. inr (y, upd_same s.status t u (Retired y) e, recent))
+        (λ ne. ⊎_elim (λ live'. inl (upd_other s.status t u (Retired y) ne ∙ live')) (λ retired. inr (retired.0, upd_other s.status t u (Retired y) ne ∙ retired.1, retired.2)) safe)))
+    (put_step d x x.reg (Retire t) s.cells here h (λ k u e. cc) before (passed_agrees m s.cells x (Retire t) (before.agrees d x here) h (λ p r e. cc) (λ r v e. cc) (λ r w e. absurd (cc))))
+    (λ sound'. over.keeps.retire s d t y x here h past recent links lawful.sound lawful.kept sound')
+    where
+      before : OpenSound m layout s.cells s.section
+      before = open_sound m layout s lawful.sound
+      settled : Settled m x
+      settled j step le h' = no_exit_after (m.body x.thunk) (lawful.shaped d x here).shape x.at j (Retire t) step h h' (omega arith) le
+      live : s.status t ≡ Live
+      live = gives.retire_live d x.at t x here settled (omega arith) h
+      unfixed : m.fixed_slots ≤ t
+      unfixed = gives.retire_unfixed d x.at t x here settled (omega arith) h
+      retired_in : {z w : ℕ} → Retired z ≡ Retired w → z ≡ w
+      retired_in e = cc
+
+  -- a scene in which neither cells nor slots change
+  part_lawful : (reader : ℕ → Option Readings) (section : ℕ → Option Section)
+    → ((r : ℕ) (readings : Readings) → reader r ≡ Some readings → IsRead m s readings) → ((d : ℕ) (x : Section) → section d ≡ Some x → IsRead m s x.readings × Shaped m layout x.readings x.thunk)
+    → OpenSound m layout s.cells section
+    → (Sound m layout (record s { reader = reader; section = section }) → m.kept layout (record s { reader = reader; section = section }))
+    → IsLawful m layout (record s { reader = reader; section = section })
+  part_lawful reader section readers published sections kept = record { sound = sound; kept = kept sound; shaped = λ d x here. (published d x here).1 }
+    where
+      again : (readings : Readings) → IsRead m s readings → IsRead m (record s { reader = reader; section = section }) readings
+      again readings read = read_on m s (record s { reader = reader; section = section }) readings read (λ p w seen. seen) (λ p outside link. link) (λ t safe. safe)
+      sound : Sound m layout (record s { reader = reader; section = section })
+      sound = record {
+        fixed = lawful.sound.fixed; within = lawful.sound.within; retired = lawful.sound.retired;
+        readers = λ r readings h. again readings (readers r readings h);
+        published = λ d x here. again x.readings (published d x here).0;
+        fits = sections.fits; allowed = sections.allowed; apart = sections.apart;
+        loaded = λ d x here. (sections.agrees d x here).loaded;
+        stored = λ d x here. (sections.agrees d x here).stored;
+        wanted = λ d x here. (sections.agrees d x here).wanted;
+      }
+
+  reader_lawful : (r : ℕ) (new : Option Readings) → ((readings : Readings) → new ≡ Some readings → IsRead m s readings)
+    → (Sound m layout (with_reader s r new) → m.kept layout (with_reader s r new)) → IsLawful m layout (with_reader s r new)
+  reader_lawful r new reads kept = part_lawful (upd s.reader r new) s.section
+    (λ q readings h. dite (ℕ_discrete q r) (λ e. reads readings (sym (upd_same s.reader r q new e) ∙ h)) (λ ne. lawful.sound.readers q readings (sym (upd_other s.reader r q new ne) ∙ h)))
+    (λ d x here. (lawful.sound.published d x here, lawful.shaped d x here)) (open_sound m layout s lawful.sound) kept
+
+  -- a runner enters, loads a place, leaves
+  pub enters_lawful : (r : ℕ) → IsLawful m layout (with_reader s r (Some []))
+  enters_lawful r = reader_lawful r (Some []) (λ readings h. subst (IsRead m s) (some_inj h) (none_read m s)) (λ sound'. over.keeps.enters s r lawful.sound lawful.kept sound')
+    where
+      some_inj : {x y : Readings} → Some x ≡ Some y → x ≡ y
+      some_inj e = cc
+
+  pub leaves_lawful : (r : ℕ) → IsLawful m layout (with_reader s r None)
+  leaves_lawful r = reader_lawful r None (λ readings h. absurd (none_some readings h)) (λ sound'. over.keeps.leaves s r lawful.sound lawful.kept sound')
+    where
+      none_some : (x : Readings) → None ≡ Some x → ⊥
+      none_some x e = cc
+
+  pub reads_lawful : (r p : ℕ) (readings : Readings) → s.reader r ≡ Some readings → IsLoadable m readings p → IsLawful m layout (with_reading s r readings p)
+  reads_lawful r p readings reader loadable = reader_lawful r (Some (readings ++ (p, s.cells p) ∷ []))
+    (λ longer h. subst (IsRead m s) (some_inj h) (read_more m s readings p read outside target)) (λ sound'. over.keeps.reads s r p readings reader loadable lawful.sound lawful.kept sound')
+    where
+      some_inj : {x y : Readings} → Some x ≡ Some y → x ≡ y
+      some_inj e = cc
+      read : IsRead m s readings
+      read = lawful.sound.readers r readings reader
+      outside : IsOutside m s p
+      outside = ⊎_elim (known_outside m layout s lawful.sound gives readings (inl (r, reader)) read p) (λ lock. inr (inl lock)) loadable
+      true_false : {b : Bool} → b ≡ true → b ≡ false → ⊥
+      true_false e e' = cc
+      target : (t : ℕ) → Links m s p t → IsSafe s t
+      target t links = ⊎_elim (λ known. known_target m layout s lawful.sound gives readings (inl (r, reader)) read p t known links)
+        (λ lock. absurd (true_false links.0 (laws.unlinked_lock s.cells p lock))) loadable
+
+  -- a section is published
+  pub holds_lawful : (r d : ℕ) (readings : Readings) (op : Op) (thunk : Thunk) → s.reader r ≡ Some readings → Publishes m layout s readings op thunk → s.section d ≡ None
+    → IsLawful m layout (with_section s d (Some (opened op thunk readings)))
+  holds_lawful r d readings op thunk reader publishes none = part_lawful s.reader (upd s.section d (Some (opened op thunk readings))) lawful.sound.readers
+    (λ e y h. ⊎_elim (λ same. subst (λ y. IsRead m s y.readings × Shaped m layout y.readings y.thunk) same.1 (lawful.sound.readers r readings reader, shaped))
+      (λ other. (lawful.sound.published e y other.1, lawful.shaped e y other.1)) (upd_some s.section d e (opened op thunk readings) y h))
+    (section_put m layout s.cells s.cells s.section d (opened op thunk readings) before publishes.fits publishes.allowed
+      (λ e z ne there l holds holds'. publishes.unheld e z there (subst (Holds m z) (outer l holds) holds'))
+      (opened_agrees m s.cells op thunk readings) (λ e z ne there. before.agrees e z there))
+    (λ sound'. over.keeps.holds s r d readings op thunk reader publishes none lawful.sound lawful.kept sound')
+    where
+      before : OpenSound m layout s.cells s.section
+      before = open_sound m layout s lawful.sound
+      shaped : Shaped m layout readings thunk
+      shaped = over.shape s lawful.sound lawful.kept r readings op thunk reader publishes.allowed publishes.fits
+      outer : (l : ℕ) → Holds m (opened op thunk readings) l → l ≡ thunk.lock
+      outer l holds = ⊎_elim (λ e. e) (λ took. absurd (let low = took.2 in omega arith)) holds
+
+  -- a section is done
+  pub done_lawful : (d : ℕ) (x : Section) → Here s d x → (Settled m x → Ended m x) → IsLawful m layout (with_section s d None)
+  done_lawful d x here ended = part_lawful s.reader (upd s.section d None) lawful.sound.readers
+    (λ e y h. let there = (upd_none s.section d e y h).1 in (lawful.sound.published e y there, lawful.shaped e y there))
+    (section_done m layout s.cells s.section d (open_sound m layout s lawful.sound)) (λ sound'. over.keeps.done s d x here ended lawful.sound lawful.kept sound')
