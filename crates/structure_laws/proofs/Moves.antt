@@ -24,7 +24,7 @@ use Rattle.structure_laws.specs.Sound.{IsRead, Sound}
 use Rattle.structure_laws.specs.Shape.{Shaped}
 use Rattle.structure_laws.specs.Keeps.{Publishes, IsPrepared}
 use Rattle.structure_laws.specs.Gives.{Gives}
-use Rattle.structure_laws.specs.Laws.{IsFirst, LawsOver, Laws, IsLawful}
+use Rattle.structure_laws.specs.Laws.{IsFirst, LawsOver, Laws, IsLawful, IsRecent}
 use Rattle.structure_laws.proofs.Changes.{upd_same, upd_other, upd_some, upd_none, version-next_word, value_small}
 use Rattle.structure_laws.proofs.Bodies.{apart_steps, same_step, no_exit_after}
 use Rattle.structure_laws.proofs.Progress.{stepped, Agrees, OpenSound, open_sound, cells_kept, section_done, section_put, others_agree, opened_agrees, passed_agrees, set_agrees, store_agrees}
@@ -305,3 +305,153 @@ module _ (m : Meaning) (laws : Laws m) (layout : Layout) (limits : IsWithinLimit
   done_lawful d x here ended = part_lawful s.reader (upd s.section d None) lawful.sound.readers
     (λ e y h. let there = (upd_none s.section d e y h).1 in (lawful.sound.published e y there, lawful.shaped e y there))
     (section_done m layout s.cells s.section d (open_sound m layout s lawful.sound)) (λ sound'. over.keeps.done s d x here ended lawful.sound lawful.kept sound')
+
+  -- a cell that no open section loads gets a later version, and no link elsewhere is made or ended
+  cell_lawful : (p w : ℕ) → version_of (s.cells p) < version_of w → ((d : ℕ) (x : Section) → Here s d x → (j q r : ℕ) → IsStep m x j (Load q r) → q ≢ p)
+    → ((q : ℕ) → IsOutside m s q → m.is_link (upd s.cells p w) q ≡ true → m.is_link s.cells q ≡ true)
+    → (Sound m layout (with_cell s p w) → m.kept layout (with_cell s p w)) → IsLawful m layout (with_cell s p w)
+  cell_lawful p w rises other links kept = record { sound = sound; kept = kept sound; shaped = lawful.shaped }
+    where
+      sections : OpenSound m layout (upd s.cells p w) s.section
+      sections = cells_kept m layout s.cells (upd s.cells p w) s.section (open_sound m layout s lawful.sound) (λ d x here j q r load. upd_other s.cells p q w (other d x here j q r load))
+      again : (readings : Readings) → IsRead m s readings → IsRead m (with_cell s p w) readings
+      again readings read = read_on m s (with_cell s p w) readings read (λ q v seen. seen_risen s.cells p w q v rises seen) links (λ t safe. safe)
+      sound : Sound m layout (with_cell s p w)
+      sound = record {
+        fixed = lawful.sound.fixed; within = lawful.sound.within; retired = lawful.sound.retired;
+        readers = λ r readings h. again readings (lawful.sound.readers r readings h);
+        published = λ d x here. again x.readings (lawful.sound.published d x here);
+        fits = sections.fits; allowed = sections.allowed; apart = sections.apart;
+        loaded = λ d x here. (sections.agrees d x here).loaded;
+        stored = λ d x here. (sections.agrees d x here).stored;
+        wanted = λ d x here. (sections.agrees d x here).wanted;
+      }
+
+  true_false : (b : Bool) → b ≡ true → b ≡ false → ⊥
+  true_false b e e' = cc
+
+  -- a lock gets a later version
+  pub lock_lawful : (p w : ℕ) → m.is_lock p ≡ true → version_of (s.cells p) < version_of w → IsLawful m layout (with_cell s p w)
+  lock_lawful p w lock rises = cell_lawful p w rises
+    (λ d x here j q r load e. true_false (m.is_lock p) lock (ap m.is_lock (sym e) ∙ (lawful.shaped d x here).load_unlocked j q r load))
+    (λ q outside link. sym (gives.steady_lock p q w lock) ∙ link)
+    (λ sound'. over.keeps.lock s p w lock lawful.sound lawful.kept sound')
+
+  one_slot : (first t u i j p : ℕ) → i < 5 → j < 5 → p ≡ first + 5 * t + i → p ≡ first + 5 * u + j → t ≡ u
+  one_slot first t u i j p low low' e e' = omega arith
+
+  no_slot : (first t i p : ℕ) → p < first → p ≡ first + 5 * t + i → ⊥
+  no_slot first t i p low e = omega arith
+
+  -- a safe slot isn't free
+  safe_used : (t : ℕ) → IsSafe s t → s.status t ≡ Free → ⊥
+  safe_used t safe free = ⊎_elim (λ live. live_free (s.status t) live free) (λ retired. free_retired (s.status t) retired.0 free retired.1) safe
+    where
+      free_retired : (x : Status) (y : ℕ) → x ≡ Free → x ≡ Retired y → ⊥
+      free_retired x y e e' = cc
+
+  -- a cell of a slot in a hand gets a later version
+  pub hand_lawful : (t i w : ℕ) → s.status t ≡ Free → i < 5 → version_of (s.cells (cell_of m t i)) < version_of w → IsLawful m layout (with_cell s (cell_of m t i) w)
+  hand_lawful t i w free low rises = cell_lawful (cell_of m t i) w rises
+    (λ d x here j q r load e. ⊎_elim (λ fixed. no_slot m.fixed_cells t i q fixed e)
+      (⊎_elim (λ lock. true_false (m.is_lock q) lock ((lawful.shaped d x here).load_unlocked j q r load)) (λ slot. apart_slot q e slot))
+      (known_outside m layout s lawful.sound gives x.readings (inr (d, x, here, refl)) (lawful.sound.published d x here) q ((lawful.shaped d x here).load_known j q r load)))
+    (λ q outside link. ⊎_elim (λ fixed. steady q link (λ cell. no_slot m.fixed_cells t cell.0 q fixed cell.2))
+      (⊎_elim (λ lock. absurd (true_false (m.is_link (upd s.cells (cell_of m t i) w) q) link (laws.unlinked_lock (upd s.cells (cell_of m t i) w) q lock)))
+        (λ slot. steady q link (λ cell. safe_used slot.0 slot.2 (ap s.status (one_slot m.fixed_cells slot.0 t slot.1.0 cell.0 q slot.1.1 cell.1 slot.1.2 cell.2) ∙ free)))) outside)
+    (λ sound'. over.keeps.hand s t i w free low lawful.sound lawful.kept sound')
+    where
+      steady : (q : ℕ) → m.is_link (upd s.cells (cell_of m t i) w) q ≡ true → (IsCellOf m t q → ⊥) → m.is_link s.cells q ≡ true
+      steady q link other = sym (gives.steady_hand t i q w free low other) ∙ link
+      apart_slot : (q : ℕ) → q ≡ cell_of m t i → (u : ℕ) × IsCellOf m u q × IsSafe s u → ⊥
+      apart_slot q e slot = safe_used slot.0 slot.2 (ap s.status (one_slot m.fixed_cells slot.0 t slot.1.0 i q slot.1.1 low slot.1.2 e) ∙ free)
+
+  -- a scene in which only statuses and the epoch change
+  slots_lawful : (status : ℕ → Status) (epoch : ℕ) → ((t : ℕ) → t < m.fixed_slots → status t ≡ Live) → ((t : ℕ) → status t ≢ Free → t < slots m layout) → ((t y : ℕ) → status t ≡ Retired y → y ≤ epoch)
+    → ((readings : Readings) → IsReader s readings → IsRead m s readings → IsRead m (record s { status = status; epoch = epoch }) readings)
+    → (Sound m layout (record s { status = status; epoch = epoch }) → m.kept layout (record s { status = status; epoch = epoch })) → IsLawful m layout (record s { status = status; epoch = epoch })
+  slots_lawful status epoch fixed within retired again kept = record { sound = sound; kept = kept sound; shaped = lawful.shaped }
+    where
+      sound : Sound m layout (record s { status = status; epoch = epoch })
+      sound = record {
+        fixed = fixed; within = within; retired = retired;
+        readers = λ r readings h. again readings (inl (r, h)) (lawful.sound.readers r readings h);
+        published = λ d x here. again x.readings (inr (d, x, here, refl)) (lawful.sound.published d x here);
+        fits = lawful.sound.fits; allowed = lawful.sound.allowed; apart = lawful.sound.apart;
+        loaded = lawful.sound.loaded; stored = lawful.sound.stored; wanted = lawful.sound.wanted;
+      }
+
+  -- a slot leaves limbo two epochs after it was retired
+  pub collect_lawful : (t y : ℕ) → s.status t ≡ Retired y → y + 2 ≤ s.epoch → IsLawful m layout (with_status s t Free)
+  collect_lawful t y retired old = slots_lawful (upd s.status t Free) s.epoch
+    (λ u low. other u (λ e. live_retired (s.status u) y (lawful.sound.fixed u low) (ap s.status e ∙ retired)) ∙ lawful.sound.fixed u low)
+    (λ u used. dite (ℕ_discrete u t) (λ e. absurd (used (upd_same s.status t u Free e))) (λ ne. lawful.sound.within u (λ free. used (other u ne ∙ free))))
+    (λ u z h. dite (ℕ_discrete u t) (λ e. absurd (free_retired z (sym (upd_same s.status t u Free e) ∙ h))) (λ ne. lawful.sound.retired u z (sym (other u ne) ∙ h)))
+    (λ readings reader read. read_on m s (with_status s t Free) readings read (λ p w seen. seen) (λ p outside link. link)
+      (λ u safe. ⊎_elim (λ live. inl (other u (λ e. live_retired (s.status u) y live (ap s.status e ∙ retired)) ∙ live))
+        (λ late. inr (late.0, other u (λ e. let same = retired_in (sym retired ∙ ap s.status (sym e) ∙ late.1) in let recent = late.2 in omega arith) ∙ late.1, late.2)) safe))
+    (λ sound'. over.keeps.collect s t y retired old lawful.sound lawful.kept sound')
+    where
+      other : (u : ℕ) → u ≢ t → upd s.status t Free u ≡ s.status u
+      other u ne = upd_other s.status t u Free ne
+      live_retired : (x : Status) (y : ℕ) → x ≡ Live → x ≡ Retired y → ⊥
+      live_retired x y e e' = cc
+      free_retired : (y : ℕ) → Free ≡ Retired y → ⊥
+      free_retired y e = cc
+      retired_in : {z w : ℕ} → Retired z ≡ Retired w → z ≡ w
+      retired_in e = cc
+
+  -- the epoch rises, where what is read is recent
+  pub advance_lawful : ((readings : Readings) → IsReader s readings → IsRecent m s readings) → IsLawful m layout (record s { epoch = suc s.epoch })
+  advance_lawful recent = slots_lawful s.status (suc s.epoch) lawful.sound.fixed lawful.sound.within (λ t y h. let past = lawful.sound.retired t y h in omega arith)
+    again (λ sound'. over.keeps.advance s lawful.sound lawful.kept sound')
+    where
+      still : (t : ℕ) → IsSafe s t → ((y : ℕ) → s.status t ≡ Retired y → s.epoch ≤ y) → IsSafe (record s { epoch = suc s.epoch }) t
+      still t safe late = ⊎_elim inl (λ retired. inr (retired.0, retired.1, (let order = late retired.0 retired.1 in omega arith))) safe
+      locked : (b : Bool) → (b ≡ true) ⊎ (b ≡ false)
+      locked true = inl refl
+      locked false = inr refl
+      again : (readings : Readings) → IsReader s readings → IsRead m s readings → IsRead m (record s { epoch = suc s.epoch }) readings
+      again readings reader read = record {
+        seen = read.seen;
+        rising = read.rising;
+        outside = λ i p w h. ⊎_elim inl (⊎_elim (λ lock. inr (inl lock))
+          (λ slot. ⊎_elim (λ lock. inr (inl lock)) (λ no_lock. inr (inr (slot.0, slot.1, still slot.0 slot.2 (λ y. (recent readings reader).places i p w slot.0 y h no_lock slot.1)))) (locked (m.is_lock p)))) (read.outside i p w h);
+        safe = λ i p w t h link leads. still t (read.safe i p w t h link leads) (λ y. (recent readings reader).targets i p w t y h link leads);
+      }
+
+-- the first scene is lawful
+pub first_lawful : (m : Meaning) → Laws m → (layout : Layout) → IsWithinLimits layout → (s : Scene) → IsFirst m s → IsLawful m layout s
+first_lawful m laws layout limits s first = record {
+    sound = record {
+      fixed = λ t low. first.status t ∙ first_live t m.fixed_slots low;
+      within = λ t used. below t m.fixed_slots (slots m layout) (λ none. used (first.status t ∙ none)) (omega arith);
+      retired = λ t y h. absurd (first_unretired t m.fixed_slots y (sym (first.status t) ∙ h));
+      readers = λ r readings h. absurd (no_reader readings (sym (first.reader r) ∙ h));
+      published = λ d x here. absurd (no_section x (sym (first.section d) ∙ here));
+      fits = λ d x here. absurd (no_section x (sym (first.section d) ∙ here));
+      allowed = λ d x here. absurd (no_section x (sym (first.section d) ∙ here));
+      apart = λ d e x y here. absurd (no_section x (sym (first.section d) ∙ here));
+      loaded = λ d x here. absurd (no_section x (sym (first.section d) ∙ here));
+      stored = λ d x here. absurd (no_section x (sym (first.section d) ∙ here));
+      wanted = λ d x here. absurd (no_section x (sym (first.section d) ∙ here));
+    };
+    kept = (laws.over layout limits).begins s first;
+    shaped = λ d x here. absurd (no_section x (sym (first.section d) ∙ here));
+  }
+  where
+    first_live : (t n : ℕ) → t < n → cond (nat_lt t n) Live Free ≡ Live
+    first_live t n low = grind arith
+    below : (t n k : ℕ) → (cond (nat_lt t n) Live Free ≡ Free → ⊥) → n ≤ k → t < k
+    below t n k used le = ⊎_elim (λ lt. omega arith) (λ past. absurd (used (free_past t n past))) (split t n)
+      where
+        split : (t n : ℕ) → (t < n) ⊎ (n ≤ t)
+        split t n = search arith
+        free_past : (t n : ℕ) → n ≤ t → cond (nat_lt t n) Live Free ≡ Free
+        free_past t n le = grind arith
+    first_unretired : (t n y : ℕ) → cond (nat_lt t n) Live Free ≡ Retired y → ⊥
+    first_unretired t n y h = grind arith
+    no_reader : (readings : Readings) → None ≡ Some readings → ⊥
+    no_reader readings h = cc
+    no_section : (x : Section) → None ≡ Some x → ⊥
+    no_section x h = cc
