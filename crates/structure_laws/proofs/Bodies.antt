@@ -1,10 +1,9 @@
 -- What the shape of a body says of the steps before and after a place.
-use Rattle.std.proofs.Common.{◌≡◌, ◌≢◌, ℕ, zero, suc, ◌+◌, ◌<◌, ◌≤◌, Bool, true, false, refl, sym, ap, ◌∙◌, subst, inl, inr, ⊎_elim, arith, rules}
+use Rattle.std.proofs.Common.{◌≡◌, ◌≢◌, ℕ, ◌<◌, ◌≤◌, false, refl, sym, ap, ◌∙◌, subst, ⊎_elim, arith}
 use Rattle.std.proofs.lemmas.List.Elements.{All-head, Contains-push}
-use Rattle.std.specs.Prelude.{◌⊎◌, Option, Some, None, List, [], ◌∷◌, slice_get, All, Contains}
+use Rattle.std.specs.Prelude.{◌⊎◌, Some, List, [], ◌∷◌, slice_get, All, Contains}
 use Rattle.section_body.specs.declared.value.Value.{Value}
 use Rattle.section_body.specs.declared.value.Value.TheVariants.{Of}
-use Rattle.section_body.specs.declared.value.Init.{Init}
 use Rattle.section_body.specs.declared.step.Step.{Step}
 use Rattle.section_body.specs.declared.step.Step.TheVariants.{Load, Want, Fresh, Take, Make, Stamp, Store, Retire, Answer}
 use Rattle.section_body.specs.Shape.{IsShaped, IsStep, SetBefore, LoadedBefore, phase, set_registers, used_values}
@@ -29,11 +28,12 @@ module _ (body : List Step) (shaped : IsShaped body) where
   -- behind a step of a later phase no run can leave
   pub no_exit_after : (i j : ℕ) (a b : Step) → IsStep body i a → IsStep body j b → 2 ≤ phase a → i ≤ j → is_exit b ≡ false
   no_exit_after i j a b h h' low le = exit_phase b (⊎_elim
-    (λ lt. let order = shaped.phases i j a b lt h h' in omega arith)
-    (λ e. let same = ap phase (same_step body i j a b h h' e) in omega arith) (split i j le))
+      (λ lt. let order = shaped.phases i j a b lt h h' in omega arith)
+      (λ e. let same = ap phase (same_step body i j a b h h' e) in omega arith) (split i j le))
     where
       split : (i j : ℕ) → i ≤ j → (i < j) ⊎ (i ≡ j)
       split i j le = search arith
+
       exit_phase : (b : Step) → 2 ≤ phase b → is_exit b ≡ false
       exit_phase (Load place into) low = absurd (omega arith)
       exit_phase (Want reg word) low = absurd (omega arith)
@@ -56,7 +56,7 @@ module _ (body : List Step) (shaped : IsShaped body) where
   -- a register is loaded once
   pub one_load : (i j p q r : ℕ) → IsStep body i (Load p r) → IsStep body j (Load q r) → i ≡ j
   one_load i j p q r h h' = ⊎_elim (λ lt. absurd (fresh_register i j p r r (Load q r) h h' lt refl refl))
-    (⊎_elim (λ e. e) (λ lt. absurd (fresh_register j i q r r (Load p r) h' h lt refl refl))) (order i j)
+      (⊎_elim (λ e. e) (λ lt. absurd (fresh_register j i q r r (Load p r) h' h lt refl refl))) (order i j)
     where
       order : (i j : ℕ) → (i < j) ⊎ (i ≡ j) ⊎ (j < i)
       order i j = search arith
@@ -64,7 +64,7 @@ module _ (body : List Step) (shaped : IsShaped body) where
   -- the Load of a Store's register stands before the Store
   pub load_before : (i j p r : ℕ) (v : Value) → IsStep body i (Store r v) → IsStep body j (Load p r) → j < i
   load_before i j p r v store load =
-    let by = loaded_before i r (Store r v) (v ∷ []) store refl in
-    let same = one_load j by.by p by.place r load by.loads in
-    let earlier = by.earlier in
-    omega arith
+      let by = loaded_before i r (Store r v) (v ∷ []) store refl in
+      let same = one_load j by.by p by.place r load by.loads in
+      let earlier = by.earlier in
+      omega arith

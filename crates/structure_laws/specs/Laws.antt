@@ -1,15 +1,12 @@
 -- The laws of a structure.
-use Rattle.std.specs.Prelude.{ℕ, suc, ◌<◌, ◌≤◌, ◌^◌, ◌≡◌, true, false, nat_lt, cond, Some, None, slice_get}
+use Rattle.std.specs.Prelude.{ℕ, suc, ◌<◌, ◌≤◌, ◌^◌, ◌≡◌, true, false, nat_lt, cond, None}
 use Rattle.std.specs.FinMap.{empty}
-use Rattle.section_body.specs.Word.{value_of}
 use Rattle.table_words.specs.declared.layout.Layout.{Layout}
 use Rattle.table_words.specs.Limits.{IsWithinLimits}
-use Rattle.structure_laws.specs.Scene.{Cells, Readings, Section, Free, Live, Retired, Scene}
+use Rattle.structure_laws.specs.Scene.{Cells, Free, Live, Scene}
 use Rattle.structure_laws.specs.Meaning.{Meaning}
-use Rattle.structure_laws.specs.Cells.{IsCellOf, IsFixed, first_word}
-use Rattle.structure_laws.specs.Sections.{Here}
-use Rattle.structure_laws.specs.Sound.{Sound}
-use Rattle.structure_laws.specs.Shape.{Shaped, ShapeLaw}
+use Rattle.structure_laws.specs.Cells.{IsFixed, first_word}
+use Rattle.structure_laws.specs.Shape.{ShapeLaw}
 use Rattle.structure_laws.specs.InTurn.{InTurn}
 use Rattle.structure_laws.specs.Keeps.{Keeps}
 use Rattle.structure_laws.specs.Gives.{GivesLaw}
@@ -46,14 +43,3 @@ module _ (m : Meaning) where
     -- a lock is no link
     pub unlinked_lock : (cells : Cells) (p : ℕ) → m.is_lock p ≡ true → m.is_link cells p ≡ false
     pub over : (layout : Layout) → IsWithinLimits layout → LawsOver layout
-
-  -- a scene as the core keeps it: it is sound, the structure keeps it, and each open section has a body of the shape
-  pub record IsLawful (layout : Layout) (s : Scene) : Type 0 where
-    pub sound : Sound m layout s
-    pub kept : m.kept layout s
-    pub shaped : (d : ℕ) (x : Section) → Here s d x → Shaped m layout x.readings x.thunk
-
-  -- what readings lead to, and the slots whose cells they read, were retired in this epoch or are not retired
-  pub record IsRecent (s : Scene) (readings : Readings) : Type 0 where
-    pub targets : (i p w t y : ℕ) → slice_get readings i ≡ Some (p, w) → m.is_link s.cells p ≡ true → value_of w ≡ suc t → s.status t ≡ Retired y → s.epoch ≤ y
-    pub places : (i p w t y : ℕ) → slice_get readings i ≡ Some (p, w) → m.is_lock p ≡ false → IsCellOf m t p → s.status t ≡ Retired y → s.epoch ≤ y
