@@ -1,1 +1,3 @@
 pub mod Chain
+mod Fit
+mod Forms

@@ -69,6 +69,23 @@ pub record Bounds : Type 0 where
   pub links : ℕ
   pub version_max : ℕ
 
+-- the form of the thunk for a whole walk
+abbrev pub form_for : Op → Bool → ℕ
+form_for (Get key) found = 1
+form_for (Ins key value) true = 1
+form_for (Ins key value) false = 2
+form_for (Del key) true = 3
+form_for (Del key) false = 1
+
+-- its operands
+abbrev pub operands_for : Op → Walk → Bool → List ℕ
+operands_for (Get key) w true = w.edition ∷ (3 * 2 ^ 32 + w.value) ∷ 0 ∷ 0 ∷ 0 ∷ 0 ∷ 0 ∷ 0 ∷ []
+operands_for (Get key) w false = w.edition ∷ 5 * 2 ^ 32 ∷ 0 ∷ 0 ∷ 0 ∷ 0 ∷ 0 ∷ 0 ∷ []
+operands_for (Ins key value) w true = w.edition ∷ 2 * 2 ^ 32 ∷ 0 ∷ 0 ∷ 0 ∷ 0 ∷ 0 ∷ 0 ∷ []
+operands_for (Ins key value) w false = w.edition ∷ key ∷ value ∷ w.head ∷ 0 ∷ 0 ∷ 0 ∷ 0 ∷ []
+operands_for (Del key) w true = w.edition ∷ w.place ∷ w.slot ∷ w.next ∷ 0 ∷ 0 ∷ 0 ∷ 0 ∷ []
+operands_for (Del key) w false = w.edition ∷ 5 * 2 ^ 32 ∷ 0 ∷ 0 ∷ 0 ∷ 0 ∷ 0 ∷ 0 ∷ []
+
 module _ (buckets : ℕ) (bucket : ℕ → ℕ) where
   abbrev pub cell_at : ℕ → ℕ → ℕ
   cell_at slot cell = cell_of (3 * buckets) slot cell
@@ -108,23 +125,6 @@ module _ (buckets : ℕ) (bucket : ℕ → ℕ) where
   unfoldable pub walk : Bounds → Op → Walk → Readings → Walk
   walk b op w [] = w
   walk b op w (reading ∷ readings) = cond (is_wanted (wanted_at (bucket (key_of op)) w w.stage) reading.0) (walk b op (fed b op w w.stage reading.1) readings) w
-
-  -- the form of the thunk for a whole walk
-  abbrev pub form_for : Op → Bool → ℕ
-  form_for (Get key) found = 1
-  form_for (Ins key value) true = 1
-  form_for (Ins key value) false = 2
-  form_for (Del key) true = 3
-  form_for (Del key) false = 1
-
-  -- its operands
-  abbrev pub operands_for : Op → Walk → Bool → List ℕ
-  operands_for (Get key) w true = w.edition ∷ (3 * 2 ^ 32 + w.value) ∷ 0 ∷ 0 ∷ 0 ∷ 0 ∷ 0 ∷ 0 ∷ []
-  operands_for (Get key) w false = w.edition ∷ 5 * 2 ^ 32 ∷ 0 ∷ 0 ∷ 0 ∷ 0 ∷ 0 ∷ 0 ∷ []
-  operands_for (Ins key value) w true = w.edition ∷ 2 * 2 ^ 32 ∷ 0 ∷ 0 ∷ 0 ∷ 0 ∷ 0 ∷ 0 ∷ []
-  operands_for (Ins key value) w false = w.edition ∷ key ∷ value ∷ w.head ∷ 0 ∷ 0 ∷ 0 ∷ 0 ∷ []
-  operands_for (Del key) w true = w.edition ∷ w.place ∷ w.slot ∷ w.next ∷ 0 ∷ 0 ∷ 0 ∷ 0 ∷ []
-  operands_for (Del key) w false = w.edition ∷ 5 * 2 ^ 32 ∷ 0 ∷ 0 ∷ 0 ∷ 0 ∷ 0 ∷ 0 ∷ []
 
   -- the walk is whole and met no refusal, and the thunk is the one for it
   abbrev pub fits_walk : Op → Walk → Thunk → Bool
