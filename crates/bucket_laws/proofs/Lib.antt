@@ -1,3 +1,4 @@
 pub mod Chain
 mod Fit
 mod Forms
+mod Walks
