@@ -130,3 +130,18 @@ module _ (t : Thunk) where
 
   pub answer_step : (j n : ℕ) → slice_get (bucket_steps t) j ≡ Some (Answer n) → ((form_of t ≡ Read) × (n ≡ operand t 1)) ⊎ ((form_of t ≡ Insert) × (n ≡ 1 * 2 ^ 32)) ⊎ ((form_of t ≡ Remove) × (n ≡ 4 * 2 ^ 32))
   answer_step j n h = answer_in (form_of t) t j n (by_form j (Answer n) h)
+
+  pub read_stores : (j r : ℕ) (v : Value) → form_of t ≡ Read → slice_get (bucket_steps t) j ≡ Some (Store r v) → ⊥
+  read_stores j r v e h = read_store t j r v (sym (step_in t Read j e) ∙ h)
+
+  pub insert_stores : (j r : ℕ) (v : Value) → form_of t ≡ Insert → slice_get (bucket_steps t) j ≡ Some (Store r v) → ((j ≡ 7) × (r ≡ 1) × (v ≡ Made 2)) ⊎ ((j ≡ 8) × (r ≡ 0) × (v ≡ Const 0))
+  insert_stores j r v e h = insert_store t j r v (sym (step_in t Insert j e) ∙ h)
+
+  pub remove_stores : (j r : ℕ) (v : Value) → form_of t ≡ Remove → slice_get (bucket_steps t) j ≡ Some (Store r v) → ((j ≡ 6) × (r ≡ 1) × (v ≡ Const (operand t 3))) ⊎ ((j ≡ 7) × (r ≡ 0) × (v ≡ Const 0))
+  remove_stores j r v e h = remove_store t j r v (sym (step_in t Remove j e) ∙ h)
+
+  pub insert_loads : (j p r : ℕ) → form_of t ≡ Insert → slice_get (bucket_steps t) j ≡ Some (Load p r) → ((j ≡ 0) × (r ≡ 0) × (p ≡ t.lock + 1)) ⊎ ((j ≡ 3) × (r ≡ 1) × (p ≡ t.lock + 2))
+  insert_loads j p r e h = insert_load t j p r (sym (step_in t Insert j e) ∙ h)
+
+  pub remove_loads : (j p r : ℕ) → form_of t ≡ Remove → slice_get (bucket_steps t) j ≡ Some (Load p r) → ((j ≡ 0) × (r ≡ 0) × (p ≡ t.lock + 1)) ⊎ ((j ≡ 3) × (r ≡ 1) × (p ≡ operand t 1))
+  remove_loads j p r e h = remove_load t j p r (sym (step_in t Remove j e) ∙ h)

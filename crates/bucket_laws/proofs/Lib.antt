@@ -1,4 +1,5 @@
 pub mod Chain
 mod Fit
 mod Forms
+mod Sections
 mod Walks

@@ -37,6 +37,10 @@ body_of Insert t = insert_steps t
 body_of Remove t = remove_steps t
 body_of Empty t = []
 
+-- the section has changed its chain and not yet its edition
+abbrev pub IsPending : Section → ℕ → Type 0
+IsPending x i = (x.thunk.lock ≡ bucket_lock i) × (((form_of x.thunk ≡ Insert) × (x.at ≡ 8)) ⊎ ((form_of x.thunk ≡ Remove) × (x.at ≡ 7)))
+
 module _ (buckets : ℕ) (bucket : ℕ → ℕ) where
   -- the links of the chains
   abbrev pub is_link_place : ℕ → Bool
@@ -94,10 +98,6 @@ module _ (buckets : ℕ) (bucket : ℕ → ℕ) where
   Knows cells on rank op w AtLock = (w.head ≡ value_of (cells (bucket_head (bucket (key_of op))))) × (w.found ≡ true → IsFound cells on op w) × (w.found ≡ false → IsMissing cells on (key_of op))
   Knows cells on rank op w AtEnd = (w.head ≡ value_of (cells (bucket_head (bucket (key_of op))))) × (w.found ≡ true → IsFound cells on op w) × (w.found ≡ false → IsMissing cells on (key_of op))
   Knows cells on rank op w Refused = Unit {0}
-
-  -- the section has changed its chain and not yet its edition
-  abbrev pub IsPending : Section → ℕ → Type 0
-  IsPending x i = (x.thunk.lock ≡ bucket_lock i) × (((form_of x.thunk ≡ Insert) × (x.at ≡ 8)) ⊎ ((form_of x.thunk ≡ Remove) × (x.at ≡ 7)))
 
   -- as long as the bucket's edition is the one that the walk read, and no change is pending, the walk knows this
   abbrev pub IsWalked : Scene → (ℕ → Bool) → (ℕ → ℕ) → Op → Walk → Type 0
