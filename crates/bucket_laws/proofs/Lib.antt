@@ -1,6 +1,7 @@
 pub mod Chain
 mod Fit
 mod Forms
+mod Maps
 mod Places
 mod Sections
 mod TableGives

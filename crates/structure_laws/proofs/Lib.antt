@@ -1,11 +1,11 @@
-mod Bodies
-mod Changes
-mod Limits
+pub mod Bodies
+pub mod Changes
+pub mod Limits
 pub mod Moves
-mod Progress
-mod Readings
-mod Steps
-mod TrayGives
-mod TrayKeeps
+pub mod Progress
+pub mod Readings
+pub mod Steps
+pub mod TrayGives
+pub mod TrayKeeps
 pub mod TrayLaws
-mod TrayShape
+pub mod TrayShape
