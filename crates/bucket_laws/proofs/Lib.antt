@@ -5,4 +5,5 @@ mod Maps
 mod Places
 mod Sections
 mod TableGives
+mod TableTurn
 mod Walks
