@@ -1,4 +1,5 @@
 pub mod Chain
+mod Elsewhere
 mod Fit
 mod Forms
 mod Maps

@@ -38,7 +38,7 @@ none_some p h = cc
 true_false : {b : Bool} → b ≡ true → b ≡ false → ⊥
 true_false e e' = cc
 
-wanted_eq : (o : Option ℕ) (p : ℕ) → is_wanted o p ≡ true → o ≡ Some p
+pub wanted_eq : (o : Option ℕ) (p : ℕ) → is_wanted o p ≡ true → o ≡ Some p
 wanted_eq None p h = absurd (cc)
 wanted_eq (Some q) p h = ap Some (is_eq q p h)
 
