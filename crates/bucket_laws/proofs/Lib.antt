@@ -6,5 +6,6 @@ mod Maps
 mod Places
 mod Sections
 mod TableGives
+mod TableSteps
 mod TableTurn
 mod Walks
