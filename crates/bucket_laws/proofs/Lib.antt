@@ -7,5 +7,6 @@ mod Places
 mod Sections
 mod TableGives
 mod TableSteps
+mod TableStores
 mod TableTurn
 mod Walks

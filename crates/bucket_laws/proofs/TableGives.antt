@@ -62,7 +62,7 @@ module _ (buckets : ℕ) (bucket : ℕ → ℕ) (small : (key : ℕ) → bucket 
   next_leads q t live leads = ⊎_elim (λ on. (kept.chains.next_on q t on leads).0)
     (⊎_elim
       (λ made. new made.0 made.1 made.2 made.3 made.4 made.5 made.6)
-      (λ taken. (kept.taken taken.0 taken.1 taken.2 taken.3 taken.4 taken.5).next t (ap (λ q. value_of (s.cells (cell_at buckets bucket q 3))) taken.6 ∙ leads)))
+      (λ taken. ((kept.taken taken.0 taken.1 taken.2 taken.3 taken.4 taken.5).next t (ap (λ q. value_of (s.cells (cell_at buckets bucket q 3))) taken.6 ∙ leads)).0))
     (kept.live q live)
     where
       new : (d : ℕ) (x : Section) → s.section d ≡ Some x → form_of x.thunk ≡ Insert → 6 ≤ x.at → x.at ≤ 7 → x.reg 2 ≡ suc q → kept.on t ≡ true

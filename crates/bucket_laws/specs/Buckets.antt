@@ -120,12 +120,12 @@ module _ (buckets : ℕ) (bucket : ℕ → ℕ) where
     pub value : value_of (s.cells (cell_at buckets bucket slot 2)) ≡ operand x.thunk 2
     pub next : value_of (s.cells (cell_at buckets bucket slot 3)) ≡ operand x.thunk 3
 
-  -- the node that a section has taken out: live, in no chain, with the operation's key, and its link leads into a chain
+  -- the node that a section has taken out: live, in no chain, with the operation's key, and its link leads into the chain of its bucket
   pub record IsTaken (s : Scene) (on : ℕ → Bool) (x : Section) : Type 0 where
     pub live : s.status (operand x.thunk 2) ≡ Live
     pub out : on (operand x.thunk 2) ≡ false
     pub key : value_of (s.cells (cell_at buckets bucket (operand x.thunk 2) 1)) ≡ key_of x.op
-    pub next : (t : ℕ) → value_of (s.cells (cell_at buckets bucket (operand x.thunk 2) 3)) ≡ suc t → on t ≡ true
+    pub next : (t : ℕ) → value_of (s.cells (cell_at buckets bucket (operand x.thunk 2) 3)) ≡ suc t → IsNode s.cells on (bucket (key_of x.op)) t
 
   pub record BucketsKept (layout : Layout) (s : Scene) : Type 0 where
     pub on : ℕ → Bool

@@ -1,0 +1,131 @@
+-- The Stores of a hash table's section keep what the table keeps.
+use Rattle.std.proofs.Common.{◌≡◌, ◌≢◌, ℕ, zero, suc, ◌+◌, ◌*◌, ◌<◌, ◌≤◌, Bool, true, false, cond, refl, sym, ap, ◌∙◌, subst, inl, inr, ⊎_elim, arith, rules}
+use Rattle.std.proofs.Math.Path.{fun_ext}
+use Rattle.std.specs.Prelude.{◌==◌, ◌^◌, ◌⊎◌, nat_lt, Option, Some, None, List, [], ◌∷◌, slice_get}
+use mathlib.Core.Logic.{dite}
+use native.Mathlib.Decide.{ℕ_discrete}
+use Rattle.map_history.specs.declared.op.Op.{Op}
+use Rattle.map_history.specs.Keys.{key_of}
+use Rattle.section_body.specs.Update.{upd}
+use Rattle.section_body.specs.Word.{value_of, version_of, next_word}
+use Rattle.section_body.specs.Bucket.{bucket_lock, bucket_edition, bucket_head, operand, bucket_steps}
+use Rattle.section_body.specs.declared.value.Value.{Value}
+use Rattle.section_body.specs.declared.value.Value.TheVariants.{Const, Made}
+use Rattle.section_body.specs.declared.step.Step.{Step}
+use Rattle.section_body.specs.declared.step.Step.TheVariants.{Load, Store}
+use Rattle.table_words.specs.declared.layout.Layout.{Layout}
+use Rattle.table_words.specs.Limits.{IsWithinLimits}
+use Rattle.structure_laws.specs.Scene.{Cells, Readings, Section, Status, Free, Live, Retired, Scene, with_cell, passes}
+use Rattle.structure_laws.specs.Sections.{Here, IsStep, value_in}
+use Rattle.structure_laws.specs.Cells.{IsSeen}
+use Rattle.structure_laws.specs.Sound.{IsRead, Sound}
+use Rattle.structure_laws.proofs.Changes.{upd_same, upd_other, upd_some, value-next_word, version-next_word, value_small}
+use Rattle.structure_laws.proofs.Limits.{links_small, value-small}
+use Rattle.structure_laws.proofs.Progress.{stepped}
+use Rattle.bucket_laws.specs.Chain.{Nodes, Chains, with_head, with_next}
+use Rattle.bucket_laws.specs.Walk.{Stage, AtEdition, Walk, cell_at}
+use Rattle.bucket_laws.specs.Buckets.{Form, Read, Insert, Remove, Empty, form_of, nodes, IsNode, IsLinkOf, IsPending, IsWalked, walk_of, Knows, IsMade, IsTaken, BucketsKept, table}
+use Rattle.bucket_laws.proofs.Chain.{insert, remove_first, remove_next}
+use Rattle.bucket_laws.proofs.Elsewhere.{IsElsewhere, nowhere, knows_on, edition_seen}
+use Rattle.bucket_laws.proofs.Forms.{load_step, store_step, insert_loads, remove_loads}
+use Rattle.bucket_laws.proofs.Sections.{fit, one_bucket, insert_head, insert_missing, insert_remove, remove_target, IsTarget}
+use Rattle.bucket_laws.proofs.TableGives.{target_on}
+use Rattle.bucket_laws.proofs.TableSteps.{Owns, live_cases, owned_live, owned_out, owned_key, owned_once, suc_eq}
+use Rattle.bucket_laws.proofs.Walks.{bool_cases, head_is, is_first}
+
+some_inj : {A : Type 0} {x y : A} → Some x ≡ Some y → x ≡ y
+some_inj e = cc
+
+true_false : {b : Bool} → b ≡ true → b ≡ false → ⊥
+true_false e e' = cc
+
+live_retired : (x : Status) (y : ℕ) → x ≡ Live → x ≡ Retired y → ⊥
+live_retired x y e e' = cc
+
+module _ (buckets : ℕ) (bucket : ℕ → ℕ) (small : (key : ℕ) → bucket key < buckets) (layout : Layout) (limits : IsWithinLimits layout) (s : Scene) (sound : Sound (table buckets bucket) layout s) (kept : BucketsKept buckets bucket layout s)
+    (d : ℕ) (x : Section) (here : Here s d x) where
+  abbrev own : ℕ
+  own = bucket (key_of x.op)
+
+  -- the scene after a Store
+  abbrev stored_scene : Cells → Scene
+  stored_scene cells = record s { cells = cells; section = upd s.section d (Some (stepped x x.reg)) }
+
+  -- what a change of the section's own bucket has to show
+  pub record IsOwnChange (cells : Cells) (on : ℕ → Bool) (rank : ℕ → ℕ) : Type 0 where
+    pub chains : Chains bucket (nodes buckets bucket cells) on rank
+    pub on_live : (t : ℕ) → on t ≡ true → s.status t ≡ Live
+    pub elsewhere : (i : ℕ) → i ≢ own → IsElsewhere buckets bucket s.cells cells kept.on on kept.rank rank i
+    pub edition : (i : ℕ) → i ≢ own → cells (bucket_edition i) ≡ s.cells (bucket_edition i)
+    pub walks : (op : Op) (readings : Readings) → IsRead (table buckets bucket) s readings → bucket (key_of op) ≡ own → IsWalked buckets bucket (stored_scene cells) on rank op (walk_of buckets bucket layout op readings)
+    pub outside : (u k : ℕ) → kept.on u ≡ false → 1 ≤ k → k ≤ 3 → cells (cell_at buckets bucket u k) ≡ s.cells (cell_at buckets bucket u k)
+    pub out : (u : ℕ) → kept.on u ≡ false → (Owns x u → ⊥) → on u ≡ false
+    pub made : form_of x.thunk ≡ Insert → 6 ≤ suc x.at → suc x.at ≤ 7 → ⊥
+    pub linked : form_of x.thunk ≡ Remove → IsLinkOf buckets bucket cells on own (operand x.thunk 1)
+    pub taken : form_of x.thunk ≡ Remove → 7 ≤ suc x.at → suc x.at ≤ 8 → IsTaken buckets bucket (stored_scene cells) on (stepped x x.reg)
+    pub live : (t : ℕ) → kept.on t ≡ true → (on t ≡ true) ⊎ Owns (stepped x x.reg) t
+    pub owned : (t : ℕ) → Owns x t → (on t ≡ true) ⊎ Owns (stepped x x.reg) t
+
+  store_kept : (cells : Cells) (on : ℕ → Bool) (rank : ℕ → ℕ) → IsOwnChange cells on rank → BucketsKept buckets bucket layout (stored_scene cells)
+  store_kept cells on rank change = record {
+      on = on; rank = rank; chains = change.chains; on_live = change.on_live;
+      readers = λ r readings op h. walked op readings (sound.readers r readings h) (kept.readers r readings op h);
+      sections = λ e z h. ⊎_elim
+        (λ same. subst (λ z. IsWalked buckets bucket (stored_scene cells) on rank z.op (walk_of buckets bucket layout z.op z.readings)) same.1 (walked x.op x.readings (sound.published d x here) (kept.sections d x here)))
+        (λ other. walked z.op z.readings (sound.published e z other.1) (kept.sections e z other.1)) (upd_some s.section d e (stepped x x.reg) z h);
+      made = λ e z h form low high. ⊎_elim
+        (λ same. absurd (subst (λ z. form_of z.thunk ≡ Insert → 6 ≤ z.at → z.at ≤ 7 → ⊥) same.1 change.made form low high))
+        (λ other. let was = kept.made e z other.1 form low high in record {
+          slot = was.slot; link = was.link; live = was.live;
+          out = change.out was.slot was.out (λ owns. other.0 (owned_once buckets bucket layout s kept sound e d z x was.slot other.1 here (inl (form, low, high, was.link)) owns));
+          key = ap value_of (change.outside was.slot 1 was.out (omega arith) (omega arith)) ∙ was.key;
+          value = ap value_of (change.outside was.slot 2 was.out (omega arith) (omega arith)) ∙ was.value;
+          next = ap value_of (change.outside was.slot 3 was.out (omega arith) (omega arith)) ∙ was.next;
+        })
+        (upd_some s.section d e (stepped x x.reg) z h);
+      linked = λ e z h form low. ⊎_elim
+        (λ same. subst (λ z. form_of z.thunk ≡ Remove → IsLinkOf buckets bucket cells on (bucket (key_of z.op)) (operand z.thunk 1)) same.1 change.linked form)
+        (λ other. ⊎_elim inl (λ node. inr (node.0, apart_node e z other.0 other.1 node.0 node.1, node.2)) (kept.linked e z other.1 form low))
+        (upd_some s.section d e (stepped x x.reg) z h);
+      taken = λ e z h form low high. ⊎_elim
+        (λ same. subst (λ z. form_of z.thunk ≡ Remove → 7 ≤ z.at → z.at ≤ 8 → IsTaken buckets bucket (stored_scene cells) on z) same.1 change.taken form low high)
+        (λ other. let was = kept.taken e z other.1 form low high in record {
+          live = was.live;
+          out = change.out (operand z.thunk 2) was.out (λ owns. other.0 (owned_once buckets bucket layout s kept sound e d z x (operand z.thunk 2) other.1 here (inr (form, low, high, refl)) owns));
+          key = ap value_of (change.outside (operand z.thunk 2) 1 was.out (omega arith) (omega arith)) ∙ was.key;
+          next = λ t leads. apart_node e z other.0 other.1 t (was.next t (ap value_of (sym (change.outside (operand z.thunk 2) 3 was.out (omega arith) (omega arith))) ∙ leads));
+        })
+        (upd_some s.section d e (stepped x x.reg) z h);
+      live = λ t live. live_cases buckets bucket layout s kept t live (λ on_t. mine t (change.live t on_t)) (λ e z there owns. dite (ℕ_discrete e d)
+        (λ same. mine t (change.owned t (subst (λ z. Owns z t) (some_inj (sym there ∙ ap s.section same ∙ here)) owns)))
+        (λ ne. held t e z (upd_other s.section d e (Some (stepped x x.reg)) ne ∙ there) owns));
+      limbo = λ q y t retired recent leads. kept.limbo q y t retired recent (ap value_of (sym (change.outside q 3 (retired_out q y retired (kept.on q) refl) (omega arith) (omega arith))) ∙ leads);
+    }
+    where
+      retired_out : (q y : ℕ) → s.status q ≡ Retired y → (b : Bool) → kept.on q ≡ b → b ≡ false
+      retired_out q y retired true e = absurd (live_retired (s.status q) y (kept.on_live q e) retired)
+      retired_out q y retired false e = refl
+      apart : (e : ℕ) (z : Section) → e ≢ d → s.section e ≡ Some z → bucket (key_of z.op) ≢ own
+      apart e z ne there same = ne (one_bucket buckets bucket layout s sound kept e d z x there here same)
+      apart_node : (e : ℕ) (z : Section) → e ≢ d → s.section e ≡ Some z → (t : ℕ) → IsNode buckets bucket s.cells kept.on (bucket (key_of z.op)) t → IsNode buckets bucket cells on (bucket (key_of z.op)) t
+      apart_node e z ne there t node =
+        let same = change.elsewhere (bucket (key_of z.op)) (apart e z ne there) in
+        (same.stays t node, ap (λ word. bucket (value_of word)) (same.cell t 1 node (omega arith) (omega arith)) ∙ node.1)
+      walked : (op : Op) (readings : Readings) → IsRead (table buckets bucket) s readings → IsWalked buckets bucket s kept.on kept.rank op (walk_of buckets bucket layout op readings)
+        → IsWalked buckets bucket (stored_scene cells) on rank op (walk_of buckets bucket layout op readings)
+      walked op readings read before = dite (ℕ_discrete (bucket (key_of op)) own) (change.walks op readings read)
+        (λ ne. λ edition none. knows_on buckets bucket small s.cells cells kept.on on kept.rank rank kept.chains op (walk_of buckets bucket layout op readings) (change.elsewhere (bucket (key_of op)) ne) (walk_of buckets bucket layout op readings).stage
+          (before (sym (change.edition (bucket (key_of op)) ne) ∙ edition) (λ e z there pending. dite (ℕ_discrete e d)
+            (λ same. ne (lock_bucket (sym (subst (λ z. z.thunk.lock ≡ bucket_lock (bucket (key_of op))) (some_inj (sym there ∙ ap s.section same ∙ here)) pending.0) ∙ (fit buckets bucket layout s sound kept d x here).lock)))
+            (λ ne'. none e z (upd_other s.section d e (Some (stepped x x.reg)) ne' ∙ there) pending))))
+        where
+          lock_bucket : {i j : ℕ} → 3 * i ≡ 3 * j → i ≡ j
+          lock_bucket e = omega arith
+      held : (t e : ℕ) (z : Section) → upd s.section d (Some (stepped x x.reg)) e ≡ Some z → Owns z t → (on t ≡ true)
+        ⊎ ((e : ℕ) × (z : Section) × (upd s.section d (Some (stepped x x.reg)) e ≡ Some z) × (form_of z.thunk ≡ Insert) × (6 ≤ z.at) × (z.at ≤ 7) × (z.reg 2 ≡ suc t))
+        ⊎ ((e : ℕ) × (z : Section) × (upd s.section d (Some (stepped x x.reg)) e ≡ Some z) × (form_of z.thunk ≡ Remove) × (7 ≤ z.at) × (z.at ≤ 8) × (operand z.thunk 2 ≡ t))
+      held t e z h owns = ⊎_elim (λ new. inr (inl (e, z, h, new.0, new.1, new.2, new.3))) (λ old. inr (inr (e, z, h, old.0, old.1, old.2, old.3))) owns
+      mine : (t : ℕ) → (on t ≡ true) ⊎ Owns (stepped x x.reg) t → (on t ≡ true)
+        ⊎ ((e : ℕ) × (z : Section) × (upd s.section d (Some (stepped x x.reg)) e ≡ Some z) × (form_of z.thunk ≡ Insert) × (6 ≤ z.at) × (z.at ≤ 7) × (z.reg 2 ≡ suc t))
+        ⊎ ((e : ℕ) × (z : Section) × (upd s.section d (Some (stepped x x.reg)) e ≡ Some z) × (form_of z.thunk ≡ Remove) × (7 ≤ z.at) × (z.at ≤ 8) × (operand z.thunk 2 ≡ t))
+      mine t cases = ⊎_elim inl (λ owns. held t d (stepped x x.reg) (upd_same s.section d d (Some (stepped x x.reg)) refl) owns) cases
