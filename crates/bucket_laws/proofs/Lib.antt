@@ -3,6 +3,7 @@ mod Elsewhere
 mod Fit
 mod Forms
 mod Maps
+mod NodeChanges
 mod Places
 mod Sections
 mod TableGives

@@ -15,6 +15,7 @@ use Rattle.section_body.specs.declared.step.Step.{Step}
 use Rattle.section_body.specs.declared.step.Step.TheVariants.{Load, Store}
 use Rattle.table_words.specs.declared.layout.Layout.{Layout}
 use Rattle.table_words.specs.Limits.{IsWithinLimits}
+use Rattle.table_words.specs.Places.{slot_count}
 use Rattle.structure_laws.specs.Scene.{Cells, Readings, Section, Status, Free, Live, Retired, Scene, with_cell, passes}
 use Rattle.structure_laws.specs.Sections.{Here, IsStep, value_in}
 use Rattle.structure_laws.specs.Cells.{IsSeen}
@@ -28,6 +29,7 @@ use Rattle.bucket_laws.specs.Buckets.{Form, Read, Insert, Remove, Empty, form_of
 use Rattle.bucket_laws.proofs.Chain.{insert, remove_first, remove_next}
 use Rattle.bucket_laws.proofs.Elsewhere.{IsElsewhere, nowhere, knows_on, edition_seen}
 use Rattle.bucket_laws.proofs.Forms.{load_step, store_step, insert_loads, remove_loads}
+use Rattle.bucket_laws.proofs.NodeChanges.{head_changed, next_changed, none_changed}
 use Rattle.bucket_laws.proofs.Sections.{fit, one_bucket, insert_head, insert_missing, insert_remove, remove_target, IsTarget}
 use Rattle.bucket_laws.proofs.TableGives.{target_on}
 use Rattle.bucket_laws.proofs.TableSteps.{Owns, live_cases, owned_live, owned_out, owned_key, owned_once, suc_eq}
@@ -129,3 +131,102 @@ module _ (buckets : ℕ) (bucket : ℕ → ℕ) (small : (key : ℕ) → bucket 
         ⊎ ((e : ℕ) × (z : Section) × (upd s.section d (Some (stepped x x.reg)) e ≡ Some z) × (form_of z.thunk ≡ Insert) × (6 ≤ z.at) × (z.at ≤ 7) × (z.reg 2 ≡ suc t))
         ⊎ ((e : ℕ) × (z : Section) × (upd s.section d (Some (stepped x x.reg)) e ≡ Some z) × (form_of z.thunk ≡ Remove) × (7 ≤ z.at) × (z.at ≤ 8) × (operand z.thunk 2 ≡ t))
       mine t cases = ⊎_elim inl (λ owns. held t d (stepped x x.reg) (upd_same s.section d d (Some (stepped x x.reg)) refl) owns) cases
+
+  -- the section's change is pending, so no walk of its bucket knows anything
+  pending_walks : (cells : Cells) (on : ℕ → Bool) (rank : ℕ → ℕ) → ((form_of x.thunk ≡ Insert) × (suc x.at ≡ 8)) ⊎ ((form_of x.thunk ≡ Remove) × (suc x.at ≡ 7)) → (op : Op) (readings : Readings)
+    → IsRead (table buckets bucket) s readings → bucket (key_of op) ≡ own → IsWalked buckets bucket (stored_scene cells) on rank op (walk_of buckets bucket layout op readings)
+  pending_walks cells on rank pending op readings read same edition none =
+    absurd (none d (stepped x x.reg) (upd_same s.section d d (Some (stepped x x.reg)) refl) ((fit buckets bucket layout s sound kept d x here).lock ∙ ap bucket_lock (sym same), pending))
+
+  lock_is : x.thunk.lock ≡ 3 * own
+  lock_is = (fit buckets bucket layout s sound kept d x here).lock
+
+  -- a new node at the head
+  insert_change : (word : ℕ) → form_of x.thunk ≡ Insert → x.at ≡ 7 → value_of word ≡ value_of (x.reg 2)
+    → (on : ℕ → Bool) × (rank : ℕ → ℕ) × IsOwnChange (upd s.cells (bucket_head own) word) on rank
+  insert_change word form at stored =
+    let made = kept.made d x here form (omega arith) (omega arith) in
+    let t = made.slot in
+    let now = nodes buckets bucket s.cells in
+    let low = small (key_of x.op) in
+    let named = ((fit buckets bucket layout s sound kept d x here).insert form).1 in
+    let narrow = links_small layout 0 t limits (omega arith) (sound.within t (live_free (s.status t) made.live)) in
+    let value : value_of word ≡ suc t = stored ∙ ap value_of made.link ∙ value-small (suc t) narrow in
+    let key : now.key t ≡ key_of x.op = made.key ∙ named.3 ∙ ap key_of (sym named.2) in
+    let missing = insert_missing buckets bucket layout s sound kept d x here form (omega arith) (omega arith) in
+    let first : now.next t ≡ now.head own = made.next ∙ insert_head buckets bucket layout s sound kept d x here form (omega arith) (omega arith) ∙ sym (head_is buckets bucket small s.cells (key_of x.op)) in
+    let top = top_of (now.head own) refl in
+    (upd kept.on t true, upd kept.rank t top.0, record {
+      chains = subst (λ n. Chains bucket n (upd kept.on t true) (upd kept.rank t top.0)) (ap (with_head now own) (sym value) ∙ head_changed buckets bucket s.cells own word low)
+        (insert bucket now kept.on kept.rank kept.chains own t top.0 made.out (ap bucket key) first top.1 (λ u on e. missing u on (e ∙ key)));
+      on_live = λ u on. dite (ℕ_discrete u t) (λ e. ap s.status e ∙ made.live) (λ ne. kept.on_live u (sym (upd_other kept.on t u true ne) ∙ on));
+      elsewhere = λ i ne. record {
+        head = upd_other s.cells (bucket_head own) (bucket_head i) word (λ e. ne (omega arith));
+        stays = λ u node. dite (ℕ_discrete u t) (λ e. upd_same kept.on t u true e) (λ other. upd_other kept.on t u true other ∙ node.0);
+        ranks = λ u node. upd_other kept.rank t u top.0 (λ e. true_false node.0 (ap kept.on e ∙ made.out));
+        cell = λ u k node low high. upd_other s.cells (bucket_head own) (cell_at buckets bucket u k) word (λ e. omega arith);
+        back = λ u node.
+          let same : value_of (upd s.cells (bucket_head own) word (cell_at buckets bucket u 1)) ≡ value_of (s.cells (cell_at buckets bucket u 1)) = ap value_of (upd_other s.cells (bucket_head own) (cell_at buckets bucket u 1) word (λ e. omega arith)) in
+          (dite (ℕ_discrete u t) (λ e. absurd (ne (sym node.1 ∙ ap bucket same ∙ ap (λ u. bucket (now.key u)) e ∙ ap bucket key))) (λ other. sym (upd_other kept.on t u true other) ∙ node.0), ap bucket (sym same) ∙ node.1);
+      };
+      edition = λ i ne. upd_other s.cells (bucket_head own) (bucket_edition i) word (λ e. omega arith);
+      walks = pending_walks (upd s.cells (bucket_head own) word) (upd kept.on t true) (upd kept.rank t top.0) (inl (form, omega arith));
+      outside = λ u k out low high. upd_other s.cells (bucket_head own) (cell_at buckets bucket u k) word (λ e. omega arith);
+      out = λ u out free. upd_other kept.on t u true (λ e. free (inl (form, omega arith, omega arith, made.link ∙ ap suc (sym e)))) ∙ out;
+      made = λ f low high. omega arith;
+      linked = λ f. absurd (insert_remove (form_of x.thunk) form f);
+      taken = λ f low high. absurd (insert_remove (form_of x.thunk) form f);
+      live = λ u on. inl (dite (ℕ_discrete u t) (λ e. upd_same kept.on t u true e) (λ ne. upd_other kept.on t u true ne ∙ on));
+      owned = λ u owns. ⊎_elim (λ new. inl (upd_same kept.on t u true (suc_eq u t (sym new.3 ∙ made.link)))) (λ old. absurd (insert_remove (form_of x.thunk) form old.0)) owns;
+    })
+    where
+      live_free : (x : Status) → x ≡ Live → x ≢ Free
+      live_free x live free = cc
+      top_of : (link : ℕ) → (nodes buckets bucket s.cells).head own ≡ link → (top : ℕ) × ((u : ℕ) → kept.on u ≡ true → bucket ((nodes buckets bucket s.cells).key u) ≡ own → kept.rank u < top)
+      top_of zero e = (0, λ u on of. absurd (kept.chains.head_none own u e on of))
+      top_of (suc t) e = (suc (kept.rank t), λ u on of. let lower = kept.chains.head_top own t u e on of in omega arith)
+
+  -- the edition, once the chain has changed
+  edition_change : (word : ℕ) → ((form_of x.thunk ≡ Insert) × (x.at ≡ 8)) ⊎ ((form_of x.thunk ≡ Remove) × (x.at ≡ 7)) → version_of (s.cells (bucket_edition own)) < version_of word
+    → IsOwnChange (upd s.cells (bucket_edition own) word) kept.on kept.rank
+  edition_change word stage rises =
+    let low = small (key_of x.op) in
+    let same : (i : ℕ) → IsElsewhere buckets bucket s.cells (upd s.cells (bucket_edition own) word) kept.on kept.on kept.rank kept.rank i = λ i. record {
+      head = upd_other s.cells (bucket_edition own) (bucket_head i) word (λ e. omega arith);
+      stays = λ u node. node.0; ranks = λ u node. refl;
+      cell = λ u k node low high. upd_other s.cells (bucket_edition own) (cell_at buckets bucket u k) word (λ e. omega arith);
+      back = λ u node. (node.0, ap (λ word. bucket (value_of word)) (sym (upd_other s.cells (bucket_edition own) (cell_at buckets bucket u 1) word (λ e. omega arith))) ∙ node.1);
+    } in
+    let cell : (u k : ℕ) → upd s.cells (bucket_edition own) word (cell_at buckets bucket u k) ≡ s.cells (cell_at buckets bucket u k) = λ u k. upd_other s.cells (bucket_edition own) (cell_at buckets bucket u k) word (λ e. omega arith) in
+    record {
+      chains = subst (λ n. Chains bucket n kept.on kept.rank) (none_changed buckets bucket s.cells (bucket_edition own) word (λ j lower e. omega arith) (λ u k low high e. omega arith)) kept.chains;
+      on_live = kept.on_live;
+      elsewhere = λ i ne. same i;
+      edition = λ i ne. upd_other s.cells (bucket_edition own) (bucket_edition i) word (λ e. ne (omega arith));
+      walks = λ op readings read mine edition none. ⊎_elim
+        (λ first. subst (Knows buckets bucket (upd s.cells (bucket_edition own) word) kept.on kept.rank op (walk_of buckets bucket layout op readings)) (sym first) tt)
+        (λ later.
+          let seen = edition_seen buckets bucket small (record { links = slot_count layout 0 + 8; version_max = layout.version_max }) op readings later in
+          let stood = read.seen seen.0 (bucket_edition (bucket (key_of op))) (walk_of buckets bucket layout op readings).edition seen.1 in
+          let at = ap bucket_edition mine in
+          absurd (older (version_of (walk_of buckets bucket layout op readings).edition) (version_of (s.cells (bucket_edition own))) (version_of word)
+            (⊎_elim (λ less. inl (let same = ap (λ p. version_of (s.cells p)) at in omega arith)) (λ equal. inr (ap version_of equal ∙ ap (λ p. version_of (s.cells p)) at)) stood) rises
+            (ap version_of (sym (upd_same s.cells (bucket_edition own) (bucket_edition (bucket (key_of op))) word at) ∙ edition))))
+        (is_first buckets bucket small (walk_of buckets bucket layout op readings).stage);
+      outside = λ u k out low high. cell u k;
+      out = λ u out free. out;
+      made = λ f low high. ⊎_elim (λ insert. let at = insert.1 in omega arith) (λ remove. insert_remove (form_of x.thunk) f remove.0) stage;
+      linked = λ f. ⊎_elim (λ insert. absurd (insert_remove (form_of x.thunk) insert.0 f))
+        (λ remove. ⊎_elim inl (λ node. inr (node.0, (node.1.0, ap (λ word. bucket (value_of word)) (cell node.0 1) ∙ node.1.1), node.2)) (kept.linked d x here f (let at = remove.1 in omega arith))) stage;
+      taken = λ f low high. ⊎_elim (λ insert. absurd (insert_remove (form_of x.thunk) insert.0 f))
+        (λ remove. let was = kept.taken d x here f (let at = remove.1 in omega arith) (let at = remove.1 in omega arith) in record {
+          live = was.live; out = was.out; key = ap value_of (cell (operand x.thunk 2) 1) ∙ was.key;
+          next = λ t leads. let node = was.next t (ap value_of (sym (cell (operand x.thunk 2) 3)) ∙ leads) in (node.0, ap (λ word. bucket (value_of word)) (cell t 1) ∙ node.1);
+        }) stage;
+      live = λ t on. inl on;
+      owned = λ t owns. ⊎_elim (λ new. ⊎_elim (λ insert. absurd (let at = insert.1 in let early = new.2 in omega arith)) (λ remove. absurd (insert_remove (form_of x.thunk) new.0 remove.0)) stage)
+        (λ old. ⊎_elim (λ insert. absurd (insert_remove (form_of x.thunk) insert.0 old.0)) (λ remove. inr (inr (old.0, (let at = remove.1 in omega arith), (let at = remove.1 in omega arith), old.3))) stage) owns;
+    }
+    where
+      older : (w now next : ℕ) → (w < now) ⊎ (w ≡ now) → now < next → next ≡ w → ⊥
+      older w now next cases less same = ⊎_elim (λ lt. omega arith) (λ e. omega arith) cases
