@@ -7,6 +7,7 @@ mod NodeChanges
 mod Places
 mod Sections
 mod TableGives
+mod TableKeeps
 mod TableSteps
 mod TableStores
 mod TableTurn
