@@ -144,3 +144,125 @@ module _ (buckets : ℕ) (bucket : ℕ → ℕ) (small : (key : ℕ) → bucket 
       walked op w before edition free = before edition (λ e z there pending. free e z (stays e z there (λ same. ⊎_elim
         (λ insert. insert_open buckets bucket x (ap (λ z. form_of z.thunk) (sym same) ∙ insert.0) (let at = ap (λ z. z.at) same in let eight = insert.1 in omega arith) (let at = ap (λ z. z.at) same in let eight = insert.1 in omega arith) ended)
         (λ remove. remove_open buckets bucket x (ap (λ z. form_of z.thunk) (sym same) ∙ remove.0) (let at = ap (λ z. z.at) same in let seven = remove.1 in omega arith) (let at = ap (λ z. z.at) same in let seven = remove.1 in omega arith) ended) pending.1) ∙ there) pending)
+
+  live_free : (x : Status) → x ≡ Live → x ≢ Free
+  live_free x live free = cc
+
+  retired_free : (x : Status) (y : ℕ) → x ≡ Retired y → x ≢ Free
+  retired_free x y retired free = cc
+
+  -- a cell changes that is no edition, no head, and in no node but a free one
+  cell_kept : (p w : ℕ) → ((i : ℕ) → i < buckets → (bucket_edition i ≢ p) × (bucket_head i ≢ p)) → ((u k : ℕ) → s.status u ≢ Free → k < 5 → cell_at buckets bucket u k ≢ p) → BucketsKept buckets bucket layout (with_cell s p w)
+  cell_kept p w fixed cells =
+    let same : (u k : ℕ) → s.status u ≢ Free → k < 5 → upd s.cells p w (cell_at buckets bucket u k) ≡ s.cells (cell_at buckets bucket u k) = λ u k used low. upd_other s.cells p (cell_at buckets bucket u k) w (cells u k used low) in
+    let on_same : (u k : ℕ) → kept.on u ≡ true → k < 5 → upd s.cells p w (cell_at buckets bucket u k) ≡ s.cells (cell_at buckets bucket u k) = λ u k on low. same u k (live_free (s.status u) (kept.on_live u on)) low in
+    let head : (i : ℕ) → i < buckets → upd s.cells p w (bucket_head i) ≡ s.cells (bucket_head i) = λ i low. upd_other s.cells p (bucket_head i) w (fixed i low).1 in
+    let walked : (op : Op) (x : Walk) → IsWalked buckets bucket s kept.on kept.rank op x → IsWalked buckets bucket (with_cell s p w) kept.on kept.rank op x = λ op x before edition none.
+      (let elsewhere : IsElsewhere buckets bucket s.cells (upd s.cells p w) kept.on kept.on kept.rank kept.rank (bucket (key_of op)) = record {
+          head = head (bucket (key_of op)) (small (key_of op));
+          stays = λ u node. node.0; ranks = λ u node. refl;
+          cell = λ u k node low high. on_same u k node.0 (omega arith);
+          back = λ u node. (node.0, ap (λ word. bucket (value_of word)) (sym (on_same u 1 node.0 (omega arith))) ∙ node.1);
+        } in
+      knows_on buckets bucket small s.cells (upd s.cells p w) kept.on kept.on kept.rank kept.rank kept.chains op x elsewhere x.stage
+        (before (sym (upd_other s.cells p (bucket_edition (bucket (key_of op))) w (fixed (bucket (key_of op)) (small (key_of op))).0) ∙ edition) none)) in
+    record {
+      on = kept.on; rank = kept.rank; on_live = kept.on_live;
+      chains = chains_agree bucket (nodes buckets bucket s.cells) (nodes buckets bucket (upd s.cells p w)) kept.on kept.rank kept.chains
+        (λ i. clip_same i buckets (value_of (upd s.cells p w (bucket_head i))) (value_of (s.cells (bucket_head i))) (λ low. ap value_of (head i low)))
+        (λ u on. ap value_of (on_same u 1 on (omega arith))) (λ u on. ap value_of (on_same u 3 on (omega arith)));
+      readers = λ r readings op h. walked op (walk_of buckets bucket layout op readings) (kept.readers r readings op h);
+      sections = λ d x here. walked x.op (walk_of buckets bucket layout x.op x.readings) (kept.sections d x here);
+      made = λ d x here form low high. let was = kept.made d x here form low high in let used = live_free (s.status was.slot) was.live in record {
+        slot = was.slot; link = was.link; live = was.live; out = was.out;
+        key = ap value_of (same was.slot 1 used (omega arith)) ∙ was.key; value = ap value_of (same was.slot 2 used (omega arith)) ∙ was.value; next = ap value_of (same was.slot 3 used (omega arith)) ∙ was.next };
+      linked = λ d x here form low. ⊎_elim inl (λ node. inr (node.0, (node.1.0, ap (λ word. bucket (value_of word)) (on_same node.0 1 node.1.0 (omega arith)) ∙ node.1.1), node.2)) (kept.linked d x here form low);
+      taken = λ d x here form low high. let was = kept.taken d x here form low high in let used = live_free (s.status (operand x.thunk 2)) was.live in record {
+        live = was.live; out = was.out; key = ap value_of (same (operand x.thunk 2) 1 used (omega arith)) ∙ was.key;
+        next = λ t leads. let node = was.next t (ap value_of (sym (same (operand x.thunk 2) 3 used (omega arith))) ∙ leads) in (node.0, ap (λ word. bucket (value_of word)) (on_same t 1 node.0 (omega arith)) ∙ node.1) };
+      live = kept.live;
+      limbo = λ q y t retired recent leads. kept.limbo q y t retired recent (ap value_of (sym (same q 3 (retired_free (s.status q) y retired) (omega arith))) ∙ leads);
+    }
+    where
+      clip_same : (j n a b : ℕ) → (j < n → a ≡ b) → cond (nat_lt j n) a 0 ≡ cond (nat_lt j n) b 0
+      clip_same j n a b h = grind arith
+
+  -- a slot leaves limbo
+  collect_kept : (t y : ℕ) → s.status t ≡ Retired y → y + 2 ≤ s.epoch → BucketsKept buckets bucket layout (with_status s t Free)
+  collect_kept t y retired old =
+    let other : (u : ℕ) → u ≢ t → upd s.status t Free u ≡ s.status u = λ u ne. upd_other s.status t u Free ne in
+    let still : (u : ℕ) → s.status u ≡ Live → upd s.status t Free u ≡ Live = λ u live. other u (λ e. live_retired (s.status u) y live (ap s.status e ∙ retired)) ∙ live in
+    record {
+      on = kept.on; rank = kept.rank; chains = kept.chains; on_live = λ u on. still u (kept.on_live u on);
+      readers = kept.readers; sections = kept.sections; linked = kept.linked;
+      made = λ d x here form low high. let was = kept.made d x here form low high in record { slot = was.slot; link = was.link; live = still was.slot was.live; out = was.out; key = was.key; value = was.value; next = was.next };
+      taken = λ d x here form low high. let was = kept.taken d x here form low high in record { live = still (operand x.thunk 2) was.live; out = was.out; key = was.key; next = was.next };
+      live = λ u live. dite (ℕ_discrete u t) (λ e. absurd (free_live (sym (upd_same s.status t u Free e) ∙ live))) (λ ne. kept.live u (sym (other u ne) ∙ live));
+      limbo = λ q z u late recent leads. dite (ℕ_discrete q t) (λ e. absurd (free_retired z (sym (upd_same s.status t q Free e) ∙ late)))
+        (λ ne. ⊎_elim (λ live. inl (still u live))
+          (λ later. inr (later.0, other u (λ e. let same = retired_in (sym later.1 ∙ ap s.status e ∙ retired) in let order = later.2 in omega arith) ∙ later.1, later.2))
+          (kept.limbo q z u (sym (other q ne) ∙ late) recent leads));
+    }
+    where
+      live_retired : (x : Status) (y : ℕ) → x ≡ Live → x ≡ Retired y → ⊥
+      live_retired x y e e' = cc
+      free_live : Free ≡ Live → ⊥
+      free_live e = cc
+      free_retired : (z : ℕ) → Free ≡ Retired z → ⊥
+      free_retired z e = cc
+      retired_in : {z w : ℕ} → Retired z ≡ Retired w → z ≡ w
+      retired_in e = cc
+
+  advance_kept : BucketsKept buckets bucket layout (record s { epoch = suc s.epoch })
+  advance_kept = record {
+      on = kept.on; rank = kept.rank; chains = kept.chains; on_live = kept.on_live; readers = kept.readers; sections = kept.sections; linked = kept.linked; live = kept.live;
+      made = λ d x here form low high. let was = kept.made d x here form low high in record { slot = was.slot; link = was.link; live = was.live; out = was.out; key = was.key; value = was.value; next = was.next };
+      taken = λ d x here form low high. let was = kept.taken d x here form low high in record { live = was.live; out = was.out; key = was.key; next = was.next };
+      limbo = λ q y t retired recent leads. kept.limbo q y t retired (omega arith) leads;
+    }
+
+both_true : (a b : Bool) → (a && b) ≡ true → (a ≡ true) × (b ≡ true)
+both_true a b h = (grind arith, grind arith)
+
+lt_of : (a b : ℕ) → nat_lt a b ≡ true → a < b
+lt_of a b h = grind arith
+
+equal_of : (a b : ℕ) → (a == b) ≡ true → a ≡ b
+equal_of a b h = grind arith
+
+-- a lock is a place below the nodes, and the first of its bucket
+pub lock_at : (buckets p : ℕ) → (nat_lt p (3 * buckets) && (p % 3 == 0)) ≡ true → (p < 3 * buckets) × (p % 3 ≡ 0)
+lock_at buckets p lock = let both = both_true _ _ lock in (lt_of p (3 * buckets) both.0, equal_of (p % 3) 0 both.1)
+
+pub table_keeps : (buckets : ℕ) (bucket : ℕ → ℕ) → ((key : ℕ) → bucket key < buckets) → (layout : Layout) → IsWithinLimits layout → Keeps (table buckets bucket) layout
+table_keeps buckets bucket small layout limits = record {
+    enters = λ s r sound kept sound'. readers_kept buckets bucket small layout s kept r (Some []) (λ readings op e. subst (λ readings. IsWalked buckets bucket s kept.on kept.rank op (walk_of buckets bucket layout op readings)) (some_inj e) (start_walked buckets bucket small layout s kept op));
+    reads = λ s r p readings reader known sound kept sound'. readers_kept buckets bucket small layout s kept r (Some (readings ++ (p, s.cells p) ∷ []))
+      (λ longer op e. subst (λ readings. IsWalked buckets bucket s kept.on kept.rank op (walk_of buckets bucket layout op readings)) (some_inj e) (read_walked buckets bucket small layout s kept op readings p (kept.readers r readings op reader)));
+    leaves = λ s r sound kept sound'. readers_kept buckets bucket small layout s kept r None (λ readings op e. absurd (none_some e));
+    holds = λ s r d readings op thunk reader publishes none sound kept sound'. holds_kept buckets bucket small layout s kept r d readings op thunk reader none;
+    load = λ s d p r x here h sound kept sound'. load_kept buckets bucket small layout s sound kept d x here p r (s.cells p) h;
+    want = λ s d r w x here h equal sound kept sound'. quiet_kept buckets bucket small layout s sound kept d x here (Want r w) h (λ q v e. cc) (λ init q e. cc) (λ t e. cc);
+    fresh = λ s d r x here h newer sound kept sound'. quiet_kept buckets bucket small layout s sound kept d x here (Fresh r) h (λ q v e. cc) (λ init q e. cc) (λ t e. cc);
+    take = λ s d l w x here h unheld sound kept sound'. absurd (no_take x.thunk x.at l w h);
+    make = λ s d t r x init here h prepared sound kept sound'. make_kept buckets bucket small layout s sound kept d x here t r init h prepared;
+    stamp = λ s d x here h sound kept sound'. quiet_kept buckets bucket small layout s sound kept d x here Stamp h (λ q v e. cc) (λ init q e. cc) (λ t e. cc);
+    store = λ s d j p r x v here h earlier load found sound kept sound'. table_store buckets bucket small layout limits s sound kept d x here j p r v h load found;
+    retire = λ s d t y x here h past recent links sound kept sound'. retire_kept buckets bucket small layout s sound kept d x here t y h links;
+    answer = λ s d n x here h sound kept sound'. quiet_kept buckets bucket small layout s sound kept d x here (Answer n) h (λ q v e. cc) (λ init q e. cc) (λ t e. cc);
+    done = λ s d x here ended sound kept sound'. done_kept buckets bucket small layout s kept d x here ended;
+    lock = λ s p w lock sound kept sound'. let at = lock_at buckets p lock in cell_kept buckets bucket small layout s kept p w (λ i low. (λ e. edition_lock i p at.1 e, λ e. head_lock i p at.1 e)) (λ u k used low e. let below = at.0 in omega arith);
+    hand = λ s t i w free low sound kept sound'. cell_kept buckets bucket small layout s kept (3 * buckets + 5 * t + i) w (λ j lower. (λ e. omega arith, λ e. omega arith))
+      (λ u k used small' e. used (ap s.status (one_slot (3 * buckets) u t k i small' low e) ∙ free));
+    collect = λ s t y retired old sound kept sound'. collect_kept buckets bucket small layout s kept t y retired old;
+    advance = λ s sound kept sound'. advance_kept buckets bucket small layout s kept;
+  }
+  where
+    none_some : {x : Readings} → None ≡ Some x → ⊥
+    none_some e = cc
+    edition_lock : (i p : ℕ) → p % 3 ≡ 0 → 3 * i + 1 ≡ p → ⊥
+    edition_lock i p at e = omega arith
+    head_lock : (i p : ℕ) → p % 3 ≡ 0 → 3 * i + 2 ≡ p → ⊥
+    head_lock i p at e = omega arith
+    one_slot : (n u t k i : ℕ) → k < 5 → i < 5 → n + 5 * u + k ≡ n + 5 * t + i → u ≡ t
+    one_slot n u t k i low low' e = omega arith
