@@ -12,4 +12,5 @@ mod TableShape
 mod TableSteps
 mod TableStores
 mod TableTurn
+mod WalkFacts
 mod Walks
