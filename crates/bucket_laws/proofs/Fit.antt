@@ -71,14 +71,14 @@ first_operand (Ins key value) w false = refl
 first_operand (Del key) w true = refl
 first_operand (Del key) w false = refl
 
-insert_operands : (op : Op) (w : Walk) (found : Bool) → form_for op found ≡ 2 → (found ≡ false) × InsertFit op w (operands_for op w found)
+pub insert_operands : (op : Op) (w : Walk) (found : Bool) → form_for op found ≡ 2 → (found ≡ false) × InsertFit op w (operands_for op w found)
 insert_operands (Get key) w found h = absurd (omega arith)
 insert_operands (Ins key value) w true h = absurd (omega arith)
 insert_operands (Ins key value) w false h = (refl, (key, value, refl, refl, refl, refl))
 insert_operands (Del key) w true h = absurd (omega arith)
 insert_operands (Del key) w false h = absurd (omega arith)
 
-remove_operands : (op : Op) (w : Walk) (found : Bool) → form_for op found ≡ 3 → (found ≡ true) × RemoveFit op w (operands_for op w found)
+pub remove_operands : (op : Op) (w : Walk) (found : Bool) → form_for op found ≡ 3 → (found ≡ true) × RemoveFit op w (operands_for op w found)
 remove_operands (Get key) w found h = absurd (omega arith)
 remove_operands (Ins key value) w true h = absurd (omega arith)
 remove_operands (Ins key value) w false h = absurd (omega arith)

@@ -8,6 +8,7 @@ mod Places
 mod Sections
 mod TableGives
 mod TableKeeps
+pub mod TableLaws
 mod TableShape
 mod TableSteps
 mod TableStores

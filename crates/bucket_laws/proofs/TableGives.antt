@@ -45,7 +45,7 @@ retired_free : (x : Status) (y : ℕ) → x ≡ Retired y → x ≢ Free
 retired_free x y retired free = cc
 
 -- what readings reach, they reach by a word of a link
-reached : (is_link : ℕ → Bool) (readings : Readings) (t : ℕ) → list_any (λ reading. is_link reading.0 && (value_of reading.1 == suc t)) readings ≡ true
+pub reached : (is_link : ℕ → Bool) (readings : Readings) (t : ℕ) → list_any (λ reading. is_link reading.0 && (value_of reading.1 == suc t)) readings ≡ true
   → (i p w : ℕ) × (slice_get readings i ≡ Some (p, w)) × (is_link p ≡ true) × (value_of w ≡ suc t)
 reached is_link [] t h = absurd (cc)
 reached is_link (reading ∷ readings) t h = or_cases (is_link reading.0 && (value_of reading.1 == suc t)) (list_any (λ reading. is_link reading.0 && (value_of reading.1 == suc t)) readings) h

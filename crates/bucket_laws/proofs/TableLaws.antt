@@ -1,0 +1,276 @@
+-- The hash table meets the laws.
+use Rattle.std.proofs.Common.{◌≡◌, ◌≢◌, ℕ, zero, suc, ◌+◌, ◌*◌, ◌<◌, ◌≤◌, Bool, true, false, cond, refl, sym, ap, ◌∙◌, subst, inl, inr, ⊎_elim, arith, rules}
+use Rattle.std.proofs.lemmas.Grind.{common_steps}
+use Rattle.std.specs.Prelude.{◌==◌, ◌&&◌, ◌-◌, ◌/◌, ◌%◌, ◌^◌, ◌⊎◌, nat_lt, Option, Some, None, List, [], ◌∷◌, slice_get, slice_index, length}
+use Rattle.std.specs.FinMap.{get, empty, get-empty}
+use Rattle.map_history.specs.declared.op.Op.{Op}
+use Rattle.map_history.specs.declared.op.Op.TheVariants.{Get, Ins, Del}
+use Rattle.map_history.specs.Keys.{key_of}
+use Rattle.map_history.specs.Replay.{Pairs, map_after}
+use Rattle.section_body.specs.Update.{upd}
+use Rattle.section_body.specs.Word.{value_of}
+use Rattle.section_body.specs.Bucket.{bucket_index, bucket_lock, bucket_edition, bucket_head, operand, is_small, read_steps, insert_steps, remove_steps, bucket_steps}
+use Rattle.section_body.specs.Shape.{IsShaped}
+use Rattle.section_body.specs.declared.value.Value.{Value}
+use Rattle.section_body.specs.declared.value.Value.TheVariants.{Const, Made}
+use Rattle.section_body.specs.declared.value.Init.{Init}
+use Rattle.section_body.specs.declared.step.Step.TheVariants.{Load, Make, Store, Answer}
+use Rattle.section_body.specs.declared.thunk.Thunk.{Thunk}
+use Rattle.table_words.specs.declared.layout.Layout.{Layout}
+use Rattle.table_words.specs.Limits.{IsWithinLimits}
+use Rattle.table_words.specs.Places.{slot_count}
+use Rattle.structure_laws.specs.Scene.{Cells, Readings, Section, Status, Free, Live, Retired, Scene}
+use Rattle.structure_laws.specs.Sections.{IsAllowed, IsSmall}
+use Rattle.structure_laws.specs.Cells.{IsKnown, IsSafe, first_word}
+use Rattle.structure_laws.specs.Sound.{Sound}
+use Rattle.structure_laws.specs.Shape.{Shaped, ShapeLaw}
+use Rattle.structure_laws.specs.InTurn.{StandsFor, InTurn}
+use Rattle.structure_laws.specs.Laws.{IsFirst, Laws}
+use Rattle.structure_laws.proofs.Changes.{upd_other}
+use Rattle.bucket_laws.specs.Chain.{Nodes, Chains, Contents}
+use Rattle.bucket_laws.specs.Walk.{Stage, AtEdition, AtEnd, Walk, start, is_del, cell_at, walk, form_for, operands_for}
+use Rattle.bucket_laws.specs.Buckets.{Form, Read, Insert, Remove, Empty, form_of, body_of, nodes, is_link_place, walk_of, bounds, BucketsKept, BucketsStand, table, buckets_meaning}
+use Rattle.bucket_laws.proofs.Chain.{same_on}
+use Rattle.bucket_laws.proofs.Fit.{IsFit, fit_of, insert_operands, remove_operands}
+use Rattle.bucket_laws.proofs.Forms.{node_init, steps_of, no_take, load_step, store_step, make_step, answer_step, insert_stores, remove_stores, read_stores}
+use Rattle.bucket_laws.proofs.TableGives.{reached, table_gives}
+use Rattle.bucket_laws.proofs.TableKeeps.{chains_agree, lock_at, table_keeps}
+use Rattle.bucket_laws.proofs.TableShape.{read_shaped, insert_shaped, remove_shaped}
+use Rattle.bucket_laws.proofs.TableTurn.{table_answers, table_stores}
+use Rattle.bucket_laws.proofs.WalkFacts.{Gives, walk_facts}
+
+live_free : (x : Status) → x ≡ Live → x ≢ Free
+live_free x live free = cc
+
+retired_free : (x : Status) (y : ℕ) → x ≡ Retired y → x ≢ Free
+retired_free x y retired free = cc
+
+is_read : (a p b q c r : Bool) → a ≡ true → p ≡ true → cond a (cond p Read Empty) (cond b (cond q Insert Empty) (cond c (cond r Remove Empty) Empty)) ≡ Read
+is_read true true b q c r h h' = refl
+is_read true false b q c r h h' = absurd (cc)
+is_read false p b q c r h h' = absurd (cc)
+
+is_insert : (a p b q c r : Bool) → a ≡ false → b ≡ true → q ≡ true → cond a (cond p Read Empty) (cond b (cond q Insert Empty) (cond c (cond r Remove Empty) Empty)) ≡ Insert
+is_insert true p b q c r h h' h'' = absurd (cc)
+is_insert false p true true c r h h' h'' = refl
+is_insert false p true false c r h h' h'' = absurd (cc)
+is_insert false p false q c r h h' h'' = absurd (cc)
+
+is_remove : (a p b q c r : Bool) → a ≡ false → b ≡ false → c ≡ true → r ≡ true → cond a (cond p Read Empty) (cond b (cond q Insert Empty) (cond c (cond r Remove Empty) Empty)) ≡ Remove
+is_remove true p b q c r h h' h'' h3 = absurd (cc)
+is_remove false p true q c r h h' h'' h3 = absurd (cc)
+is_remove false p false q true true h h' h'' h3 = refl
+is_remove false p false q true false h h' h'' h3 = absurd (cc)
+is_remove false p false q false r h h' h'' h3 = absurd (cc)
+
+small_is : (n : ℕ) → n < 2 ^ 32 → is_small n ≡ true
+small_is n low = grind arith
+
+eq_true : (a b : ℕ) → a ≡ b → (a == b) ≡ true
+eq_true a b e = grind arith
+
+eq_false : (a b c : ℕ) → a ≡ b → b ≢ c → (a == c) ≡ false
+eq_false a b c e ne = grind arith
+
+four_true : (a b c d : Bool) → a ≡ true → b ≡ true → c ≡ true → d ≡ true → (a && b && c && d) ≡ true
+four_true a b c d h h' h'' h3 = grind arith
+
+no_lock_low : (i r n : ℕ) → 1 ≤ r → r ≤ 2 → (nat_lt (3 * i + r) n && ((3 * i + r) % 3 == 0)) ≡ false
+no_lock_low i r n low high = let rest : (3 * i + r) % 3 ≢ 0 = (λ e. omega arith) in grind arith
+
+no_lock_high : (p n : ℕ) → n ≤ p → (nat_lt p n && (p % 3 == 0)) ≡ false
+no_lock_high p n high = grind arith
+
+form_cases : (op : Op) (found : Bool) → (form_for op found ≡ 1) ⊎ (form_for op found ≡ 2) ⊎ (form_for op found ≡ 3)
+form_cases (Get key) found = inl refl
+form_cases (Ins key value) true = inl refl
+form_cases (Ins key value) false = inr (inl refl)
+form_cases (Del key) true = inr (inr refl)
+form_cases (Del key) false = inl refl
+
+-- the reply word of a thunk that changes nothing isn't 0
+reply_some : (op : Op) (w : Walk) (found : Bool) → form_for op found ≡ 1 → 0 < slice_index (operands_for op w found) 1
+reply_some (Get key) w true form = positive w.value
+  where
+    positive : (v : ℕ) → 0 < 3 * 2 ^ 32 + v
+    positive v = omega arith
+reply_some (Get key) w false form = omega arith
+reply_some (Ins key value) w true form = omega arith
+reply_some (Ins key value) w false form = absurd (omega arith)
+reply_some (Del key) w true form = absurd (omega arith)
+reply_some (Del key) w false form = omega arith
+
+module _ (buckets : ℕ) (bucket : ℕ → ℕ) (small : (key : ℕ) → bucket key < buckets) (few : 3 * buckets ≤ 12288) (layout : Layout) (limits : IsWithinLimits layout) (s : Scene) (sound : Sound (table buckets bucket) layout s)
+    (r : ℕ) (readings : Readings) (op : Op) (thunk : Thunk) (reader : s.reader r ≡ Some readings) (allowed : IsAllowed op) (fits : (table buckets bucket).fits layout op readings thunk ≡ true) where
+  abbrev own : ℕ
+  own = bucket (key_of op)
+
+  abbrev own_walk : Walk
+  own_walk = walk_of buckets bucket layout op readings
+
+  fit : IsFit buckets bucket op own_walk thunk
+  fit = fit_of buckets bucket op own_walk thunk fits
+
+  lock_is : thunk.lock ≡ 3 * own
+  lock_is = fit.lock
+
+  -- a slot that the readings give is a node slot
+  within : (t : ℕ) → Gives buckets bucket small readings t → t < slot_count layout 0
+  within t gives = let by = reached (is_link_place buckets bucket) readings t gives in
+    sound.within t (used ((sound.readers r readings reader).safe by.0 by.1 by.2 t by.3 by.4 by.5))
+    where
+      used : IsSafe s t → s.status t ≢ Free
+      used safe = ⊎_elim (λ live. live_free (s.status t) live) (λ retired. retired_free (s.status t) retired.0 retired.1) safe
+
+  -- the place of the walk's last link
+  link_place : (own_walk.place ≡ bucket_head own) ⊎ ((t : ℕ) × Gives buckets bucket small readings t × (own_walk.place ≡ cell_at buckets bucket t 3))
+  link_place = (walk_facts buckets bucket small (bounds buckets bucket layout) op readings).place (λ e. end_edition (sym fit.stage ∙ e))
+    where
+      end_edition : AtEnd ≡ AtEdition → ⊥
+      end_edition e = cc
+
+  place_small : own_walk.place < 2 ^ 32
+  place_small = ⊎_elim (λ head. let low = small (key_of op) in omega arith)
+    (λ node. let low = within node.0 node.1 in let at = node.2 in let nodes = limits.few_nodes in let runners = limits.few_runners in omega arith) link_place
+
+  lock_small : thunk.lock + 2 < 2 ^ 32
+  lock_small = let at = lock_is in let low = small (key_of op) in omega arith
+
+  number_at : (k : ℕ) → operand thunk k ≡ slice_index (operands_for op own_walk own_walk.found) k
+  number_at k = ap (λ numbers. slice_index numbers k) fit.operands
+
+  read_form : form_for op own_walk.found ≡ 1 → form_of thunk ≡ Read
+  read_form form = is_read (thunk.form == 1) (is_small (thunk.lock + 1)) (thunk.form == 2) (is_small (thunk.lock + 2) && is_small (operand thunk 1) && is_small (operand thunk 2) && is_small (operand thunk 3)) (thunk.form == 3)
+    (is_small (thunk.lock + 1) && is_small (operand thunk 1) && is_small (operand thunk 2) && is_small (operand thunk 3)) (eq_true thunk.form 1 (fit.form ∙ form)) (small_is (thunk.lock + 1) (let low = lock_small in omega arith))
+
+  insert_form : form_for op own_walk.found ≡ 2 → form_of thunk ≡ Insert
+  insert_form form =
+    let named = (insert_operands op own_walk own_walk.found form).1 in
+    let is_key : key_of op ≡ named.0 = ap key_of named.2 in
+    let key_low = allowed.keys (key_of op) (inl refl) in
+    let value_low = allowed.value named.0 named.1 named.2 in
+    let head_low = (walk_facts buckets bucket small (bounds buckets bucket layout) op readings).head_small in
+    is_insert _ _ _ _ _ _ (eq_false thunk.form 2 1 (fit.form ∙ form) (λ e. omega arith)) (eq_true thunk.form 2 (fit.form ∙ form))
+      (four_true _ _ _ _ (small_is (thunk.lock + 2) lock_small) (small_is (operand thunk 1) (let at = number_at 1 ∙ named.3 in omega arith)) (small_is (operand thunk 2) (let at = number_at 2 ∙ named.4 in omega arith))
+        (small_is (operand thunk 3) (let at = number_at 3 ∙ named.5 in omega arith)))
+
+  remove_form : form_for op own_walk.found ≡ 3 → form_of thunk ≡ Remove
+  remove_form form =
+    let named = (remove_operands op own_walk own_walk.found form).1 in
+    let facts = walk_facts buckets bucket small (bounds buckets bucket layout) op readings in
+    let slot_low = facts.slot_small in
+    let next_low = facts.next_small in
+    let place_low = place_small in
+    is_remove _ _ _ _ _ _ (eq_false thunk.form 3 1 (fit.form ∙ form) (λ e. omega arith)) (eq_false thunk.form 3 2 (fit.form ∙ form) (λ e. omega arith)) (eq_true thunk.form 3 (fit.form ∙ form))
+      (four_true _ _ _ _ (small_is (thunk.lock + 1) (let low = lock_small in omega arith)) (small_is (operand thunk 1) (let at = number_at 1 ∙ named.1 in omega arith)) (small_is (operand thunk 2) (let at = number_at 2 ∙ named.2 in omega arith))
+        (small_is (operand thunk 3) (let at = number_at 3 ∙ named.3 in omega arith)))
+
+  -- what a removal's link is
+  remove_link : form_of thunk ≡ Remove → (operand thunk 1 ≡ 3 * own + 2) ⊎ ((t : ℕ) × Gives buckets bucket small readings t × (operand thunk 1 ≡ 3 * buckets + 5 * t + 3))
+  remove_link form = let named = (fit.remove form).1 in ⊎_elim (λ head. inl (named.1 ∙ head)) (λ node. inr (node.0, node.1, named.1 ∙ node.2)) link_place
+
+  shaped : IsShaped (bucket_steps thunk)
+  shaped = subst IsShaped (sym (steps_of thunk)) (⊎_elim
+    (λ form. subst (λ f. IsShaped (body_of f thunk)) (sym (read_form form)) (read_shaped thunk))
+    (⊎_elim (λ form. subst (λ f. IsShaped (body_of f thunk)) (sym (insert_form form)) (insert_shaped thunk))
+      (λ form. subst (λ f. IsShaped (body_of f thunk)) (sym (remove_form form)) (remove_shaped thunk (apart (remove_form form))))) (form_cases op own_walk.found))
+    where
+      apart : form_of thunk ≡ Remove → operand thunk 1 ≢ thunk.lock + 1
+      apart form e = let at = lock_is in let low = small (key_of op) in ⊎_elim (λ head. omega arith) (λ node. let place = node.2 in omega arith) (remove_link form)
+
+  abbrev known : ℕ → Type 0
+  known = IsKnown (table buckets bucket) readings
+
+  low_known : (k : ℕ) → k ≤ 2 → known (thunk.lock + k)
+  low_known k high = inl (let at = lock_is in let low = small (key_of op) in omega arith)
+
+  lock_is_lock : (i : ℕ) → i < buckets → (nat_lt (3 * i) (3 * buckets) && (3 * i % 3 == 0)) ≡ true
+  lock_is_lock i low = let rest : 3 * i % 3 ≡ 0 = omega arith in let below : 3 * i < 3 * buckets = omega arith in grind arith
+
+  no_insert : form_of thunk ≡ Insert → form_of thunk ≡ Remove → ⊥
+  no_insert a b = cc
+
+  abbrev PlaceIs : ℕ → Type 0
+  PlaceIs p = ((k : ℕ) × (1 ≤ k) × (k ≤ 2) × (p ≡ 3 * own + k)) ⊎ ((t : ℕ) × Gives buckets bucket small readings t × (p ≡ 3 * buckets + 5 * t + 3))
+
+  load_place : (j p r : ℕ) → slice_get (bucket_steps thunk) j ≡ Some (Load p r) → PlaceIs p
+  load_place j p r h = let lock = lock_is in ⊎_elim (λ edition. inl (1, omega arith, omega arith, (let at = edition.2 in omega arith)))
+    (⊎_elim (λ insert. inl (2, omega arith, omega arith, (let at = insert.3 in omega arith)))
+      (λ remove. ⊎_elim (λ head. inl (2, omega arith, omega arith, remove.3 ∙ head)) (λ node. inr (node.0, node.1, remove.3 ∙ node.2)) (remove_link remove.0))) (load_step thunk j p r h)
+
+  store_small : (j r : ℕ) (v : Value) → slice_get (bucket_steps thunk) j ≡ Some (Store r v) → IsSmall v
+  store_small j r v h = ⊎_elim (λ a. subst IsSmall (sym a.3) tt) (⊎_elim (λ a. subst IsSmall (sym a.3) (omega arith))
+    (⊎_elim (λ a. subst IsSmall (sym a.3) (let named = (fit.remove a.0).1 in let low = (walk_facts buckets bucket small (bounds buckets bucket layout) op readings).next_small in let at = named.3 in omega arith))
+      (λ a. subst IsSmall (sym a.3) (omega arith)))) (store_step thunk j r v h)
+
+  pub table_shaped : Shaped (table buckets bucket) layout readings thunk
+  table_shaped = record {
+      shape = shaped;
+      outer_lock = ap (λ p. nat_lt p (3 * buckets) && (p % 3 == 0)) lock_is ∙ lock_is_lock own (small (key_of op));
+      outer_known = inl (let at = lock_is in let low = small (key_of op) in omega arith);
+      take_lock = λ j l w h. absurd (no_take thunk j l w h);
+      take_known = λ j l w h. absurd (no_take thunk j l w h);
+      take_inner = λ j l w h. absurd (no_take thunk j l w h);
+      take_once = λ i j l v w h h'. absurd (no_take thunk i l v h);
+      take_read = λ j l w h. absurd (no_take thunk j l w h);
+      take_free = λ j l w h. absurd (no_take thunk j l w h);
+      take_unspent = λ j l w h. absurd (no_take thunk j l w h);
+      load_unlocked = λ j p r h. ⊎_elim (λ low. ap (λ p. nat_lt p (3 * buckets) && (p % 3 == 0)) low.3 ∙ no_lock_low own low.0 (3 * buckets) low.1 low.2)
+        (λ node. no_lock_high p (3 * buckets) (let at = node.2 in omega arith)) (load_place j p r h);
+      load_known = λ j p r h. ⊎_elim (λ low. inl (let at = low.3 in let high = low.2 in let below = small (key_of op) in omega arith)) (λ node. inr (node.0, (3, omega arith, node.2), inr node.1)) (load_place j p r h);
+      load_once = λ i j p q r h h'. once (load_step thunk i p q h) (load_step thunk j p r h');
+      store_once = λ i j r v w h h'. stored (store_step thunk i r v h) (store_step thunk j r w h');
+      store_small = store_small;
+      make_whole = λ j r init h. ap (λ init. length init.cells) (make_step thunk j r init h).3;
+      make_small = λ j r i init v h at. init_small i v (make_step thunk j r init h).0 (sym (ap (λ init. slice_get init.cells i) (make_step thunk j r init h).3) ∙ at);
+      make_unlocked = λ j r i t init v h at lock. absurd (let below = (lock_at buckets (3 * buckets + 5 * t + i) lock).0 in omega arith);
+      answers = λ j n h. ⊎_elim (λ read. let at = read.1 ∙ number_at 1 in let some = reply_some op own_walk own_walk.found (read_back read.0) in omega arith) (⊎_elim (λ insert. let at = insert.1 in omega arith) (λ remove. let at = remove.1 in omega arith)) (answer_step thunk j n h);
+    }
+    where
+      read_back : form_of thunk ≡ Read → form_for op own_walk.found ≡ 1
+      read_back form = ⊎_elim (λ one. one) (⊎_elim (λ two. absurd (read_insert (sym form ∙ insert_form two))) (λ three. absurd (read_remove (sym form ∙ remove_form three)))) (form_cases op own_walk.found)
+        where
+          read_insert : Read ≡ Insert → ⊥
+          read_insert e = cc
+          read_remove : Read ≡ Remove → ⊥
+          read_remove e = cc
+      edition_link : {p : ℕ} → p ≡ thunk.lock + 1 → (operand thunk 1 ≡ 3 * own + 2) ⊎ ((t : ℕ) × Gives buckets bucket small readings t × (operand thunk 1 ≡ 3 * buckets + 5 * t + 3)) → p ≡ operand thunk 1 → ⊥
+      edition_link e link e' = let lock = lock_is in let low = small (key_of op) in ⊎_elim (λ head. omega arith) (λ node. let at = node.2 in omega arith) link
+      once : {i j p q r : ℕ} → ((i ≡ 0) × (q ≡ 0) × (p ≡ thunk.lock + 1)) ⊎ ((form_of thunk ≡ Insert) × (i ≡ 3) × (q ≡ 1) × (p ≡ thunk.lock + 2)) ⊎ ((form_of thunk ≡ Remove) × (i ≡ 3) × (q ≡ 1) × (p ≡ operand thunk 1))
+        → ((j ≡ 0) × (r ≡ 0) × (p ≡ thunk.lock + 1)) ⊎ ((form_of thunk ≡ Insert) × (j ≡ 3) × (r ≡ 1) × (p ≡ thunk.lock + 2)) ⊎ ((form_of thunk ≡ Remove) × (j ≡ 3) × (r ≡ 1) × (p ≡ operand thunk 1)) → i ≡ j
+      once a b = ⊎_elim
+        (λ first. ⊎_elim (λ first'. first.0 ∙ sym first'.0) (⊎_elim (λ insert. absurd (let x = first.2 in let y = insert.3 in omega arith)) (λ remove. absurd (edition_link first.2 (remove_link remove.0) remove.3))) b)
+        (⊎_elim
+          (λ insert. ⊎_elim (λ first'. absurd (let x = first'.2 in let y = insert.3 in omega arith)) (⊎_elim (λ insert'. insert.1 ∙ sym insert'.1) (λ remove. insert.1 ∙ sym remove.1)) b)
+          (λ remove. ⊎_elim (λ first'. absurd (edition_link first'.2 (remove_link remove.0) remove.3)) (⊎_elim (λ insert'. remove.1 ∙ sym insert'.1) (λ remove'. remove.1 ∙ sym remove'.1)) b)) a
+      stored : {i j r : ℕ} {v w : Value}
+        → ((form_of thunk ≡ Insert) × (i ≡ 7) × (r ≡ 1) × (v ≡ Made 2)) ⊎ ((form_of thunk ≡ Insert) × (i ≡ 8) × (r ≡ 0) × (v ≡ Const 0)) ⊎ ((form_of thunk ≡ Remove) × (i ≡ 6) × (r ≡ 1) × (v ≡ Const (operand thunk 3))) ⊎ ((form_of thunk ≡ Remove) × (i ≡ 7) × (r ≡ 0) × (v ≡ Const 0))
+        → ((form_of thunk ≡ Insert) × (j ≡ 7) × (r ≡ 1) × (w ≡ Made 2)) ⊎ ((form_of thunk ≡ Insert) × (j ≡ 8) × (r ≡ 0) × (w ≡ Const 0)) ⊎ ((form_of thunk ≡ Remove) × (j ≡ 6) × (r ≡ 1) × (w ≡ Const (operand thunk 3))) ⊎ ((form_of thunk ≡ Remove) × (j ≡ 7) × (r ≡ 0) × (w ≡ Const 0)) → i ≡ j
+      stored a b = ⊎_elim
+        (λ x. ⊎_elim (λ y. x.1 ∙ sym y.1) (⊎_elim (λ y. absurd (apart x.2 y.2)) (⊎_elim (λ y. absurd (no_insert x.0 y.0)) (λ y. absurd (no_insert x.0 y.0)))) b)
+        (⊎_elim
+          (λ x. ⊎_elim (λ y. absurd (apart y.2 x.2)) (⊎_elim (λ y. x.1 ∙ sym y.1) (⊎_elim (λ y. absurd (no_insert x.0 y.0)) (λ y. absurd (no_insert x.0 y.0)))) b)
+          (⊎_elim
+            (λ x. ⊎_elim (λ y. absurd (no_insert y.0 x.0)) (⊎_elim (λ y. absurd (no_insert y.0 x.0)) (⊎_elim (λ y. x.1 ∙ sym y.1) (λ y. absurd (apart x.2 y.2)))) b)
+            (λ x. ⊎_elim (λ y. absurd (no_insert y.0 x.0)) (⊎_elim (λ y. absurd (no_insert y.0 x.0)) (⊎_elim (λ y. absurd (apart y.2 x.2)) (λ y. x.1 ∙ sym y.1))) b))) a
+        where
+          apart : {r : ℕ} → r ≡ 1 → r ≡ 0 → ⊥
+          apart e e' = omega arith
+      init_small : (i : ℕ) (v : Value) → form_of thunk ≡ Insert → slice_get (node_init thunk).cells i ≡ Some v → IsSmall v
+      init_small i v form h =
+        let named = (fit.insert form).1 in
+        let is_key : key_of op ≡ named.0 = ap key_of named.2 in
+        let key_low : operand thunk 1 < 2 ^ 32 = (let low = allowed.keys (key_of op) (inl refl) in let at = named.3 in omega arith) in
+        let value_low : operand thunk 2 < 2 ^ 32 = (let low = allowed.value named.0 named.1 named.2 in let at = named.4 in omega arith) in
+        let head_low : operand thunk 3 < 2 ^ 32 = (let low = (walk_facts buckets bucket small (bounds buckets bucket layout) op readings).head_small in let at = named.5 in omega arith) in
+        cells i h key_low value_low head_low
+        where
+          some_inj : {x y : Value} → Some x ≡ Some y → x ≡ y
+          some_inj e = cc
+          cells : (i : ℕ) → slice_get (node_init thunk).cells i ≡ Some v → operand thunk 1 < 2 ^ 32 → operand thunk 2 < 2 ^ 32 → operand thunk 3 < 2 ^ 32 → IsSmall v
+          cells zero h a b c = subst IsSmall (some_inj h) (omega arith)
+          cells (suc zero) h a b c = subst IsSmall (some_inj h) a
+          cells (suc (suc zero)) h a b c = subst IsSmall (some_inj h) b
+          cells (suc (suc (suc zero))) h a b c = subst IsSmall (some_inj h) c
+          cells (suc (suc (suc (suc zero)))) h a b c = subst IsSmall (some_inj h) (omega arith)
+          cells (suc (suc (suc (suc (suc i))))) h a b c = absurd (cc)
