@@ -3,6 +3,7 @@ use Rattle.std.proofs.Common.{◌≡◌, ◌≢◌, ℕ, zero, suc, ◌+◌, ◌
 use Rattle.std.proofs.lemmas.Grind.{common_steps}
 use Rattle.std.specs.Prelude.{◌==◌, ◌&&◌, ◌-◌, ◌/◌, ◌%◌, ◌^◌, ◌⊎◌, nat_lt, Option, Some, None, List, [], ◌∷◌, slice_get, slice_index, length}
 use Rattle.std.specs.FinMap.{get, empty, get-empty}
+use Rattle.std.specs.Ordering.{nat_cmp}
 use Rattle.map_history.specs.declared.op.Op.{Op}
 use Rattle.map_history.specs.declared.op.Op.TheVariants.{Get, Ins, Del}
 use Rattle.map_history.specs.Keys.{key_of}
@@ -274,3 +275,184 @@ module _ (buckets : ℕ) (bucket : ℕ → ℕ) (small : (key : ℕ) → bucket 
           cells (suc (suc (suc zero))) h a b c = subst IsSmall (some_inj h) c
           cells (suc (suc (suc (suc zero)))) h a b c = subst IsSmall (some_inj h) (omega arith)
           cells (suc (suc (suc (suc (suc i))))) h a b c = absurd (cc)
+
+-- contents are those of any memory that agrees on the slots in the chains
+contents_agree : (n n' : Nodes) (on : ℕ → Bool) (lookup : ℕ → Option ℕ) → Contents n on lookup → ((u : ℕ) → on u ≡ true → n'.key u ≡ n.key u) → ((u : ℕ) → on u ≡ true → n'.value u ≡ n.value u) → Contents n' on lookup
+contents_agree n n' on lookup contents keys values = record {
+    pair = λ t on_t. ap lookup (keys t on_t) ∙ contents.pair t on_t ∙ ap Some (sym (values t on_t));
+    slot = λ key value h. let there = contents.slot key value h in (there.0, there.1, keys there.0 there.1 ∙ there.2);
+  }
+
+clip_same : (j n a b : ℕ) → (j < n → a ≡ b) → cond (nat_lt j n) a 0 ≡ cond (nat_lt j n) b 0
+clip_same j n a b h = grind arith
+
+module _ (buckets : ℕ) (bucket : ℕ → ℕ) (small : (key : ℕ) → bucket key < buckets) (layout : Layout) (limits : IsWithinLimits layout) where
+  -- a change of a cell that is no head and in no node of a chain
+  change_stands : (s : Scene) (pairs : Pairs) (p w : ℕ) (stands : BucketsStand buckets bucket s.cells pairs) → ((i : ℕ) → i < buckets → bucket_head i ≢ p) → ((u k : ℕ) → stands.on u ≡ true → 1 ≤ k → k ≤ 3 → cell_at buckets bucket u k ≢ p)
+    → BucketsStand buckets bucket (upd s.cells p w) pairs
+  change_stands s pairs p w stands heads cells =
+    let same : (u k : ℕ) → stands.on u ≡ true → 1 ≤ k → k ≤ 3 → value_of (upd s.cells p w (cell_at buckets bucket u k)) ≡ value_of (s.cells (cell_at buckets bucket u k)) = λ u k on low high. ap value_of (upd_other s.cells p (cell_at buckets bucket u k) w (cells u k on low high)) in
+    record {
+      on = stands.on; rank = stands.rank;
+      chains = chains_agree bucket (nodes buckets bucket s.cells) (nodes buckets bucket (upd s.cells p w)) stands.on stands.rank stands.chains
+        (λ i. clip_same i buckets (value_of (upd s.cells p w (bucket_head i))) (value_of (s.cells (bucket_head i))) (λ low. ap value_of (upd_other s.cells p (bucket_head i) w (heads i low))))
+        (λ u on. same u 1 on (omega arith) (omega arith)) (λ u on. same u 3 on (omega arith) (omega arith));
+      contents = contents_agree (nodes buckets bucket s.cells) (nodes buckets bucket (upd s.cells p w)) stands.on (get pairs) stands.contents (λ u on. same u 1 on (omega arith) (omega arith)) (λ u on. same u 2 on (omega arith) (omega arith));
+    }
+
+  table_in_turn : InTurn (table buckets bucket) layout
+  table_in_turn = record {
+      answers = λ s pairs d x before stamp map. table_answers buckets bucket small layout limits s pairs d x before stamp;
+      stores = λ s pairs d x before stamp. table_stores buckets bucket small layout limits s pairs d x before stamp;
+      lock = λ s pairs p w before lock. let at = lock_at buckets p lock in change_stands s pairs p w before.stands (λ i low e. head_lock i p at.1 e) (λ u k on low high e. let below = at.0 in omega arith);
+      hand = λ s pairs t i w before free low. change_stands s pairs (3 * buckets + 5 * t + i) w before.stands (λ j lower e. omega arith)
+        (λ u k on first last e. live_free (s.status u) (before.kept.on_live u (same_on bucket (nodes buckets bucket s.cells) before.stands.on before.kept.on before.stands.rank before.kept.rank before.stands.chains before.kept.chains u on))
+          (ap s.status (one_slot (3 * buckets) u t k i (omega arith) low e) ∙ free));
+    }
+    where
+      head_lock : (i p : ℕ) → p % 3 ≡ 0 → 3 * i + 2 ≡ p → ⊥
+      head_lock i p at e = omega arith
+      one_slot : (n u t k i : ℕ) → k < 5 → i < 5 → n + 5 * u + k ≡ n + 5 * t + i → u ≡ t
+      one_slot n u t k i low low' e = omega arith
+
+  -- in the first memory no slot stands in a chain
+  first_value : (s : Scene) → IsFirst (table buckets bucket) s → (p : ℕ) → value_of (s.cells p) ≡ 0
+  first_value s first p = ap value_of (first.cells p) ∙ zero_word (nat_lt p (3 * buckets + 5 * 0))
+    where
+      zero_word : (b : Bool) → value_of (2 ^ 32 * 1 + cond b 0 0) ≡ 0
+      zero_word true = refl
+      zero_word false = refl
+
+  first_chains : (s : Scene) → IsFirst (table buckets bucket) s → Chains bucket (nodes buckets bucket s.cells) (λ t. false) (λ t. 0)
+  first_chains s first = record {
+      head_on = λ i t h. absurd (zero_suc t (sym (head i) ∙ h));
+      head_top = λ i t u h on. absurd (false_true on); head_none = λ i u h on. absurd (false_true on); next_on = λ p t on. absurd (false_true on); next_top = λ p t u on. absurd (false_true on);
+      next_none = λ p u on. absurd (false_true on); rank_once = λ p t on. absurd (false_true on); key_once = λ p t on. absurd (false_true on);
+    }
+    where
+      false_true : false ≡ true → ⊥
+      false_true e = cc
+      zero_suc : (t : ℕ) → 0 ≡ suc t → ⊥
+      zero_suc t e = omega arith
+      head : (i : ℕ) → cond (nat_lt i buckets) (value_of (s.cells (bucket_head i))) 0 ≡ 0
+      head i = ap (λ v. cond (nat_lt i buckets) v 0) (first_value s first (bucket_head i)) ∙ either (nat_lt i buckets)
+        where
+          either : (b : Bool) → cond b 0 0 ≡ zero
+          either true = refl
+          either false = refl
+
+  first_kept : (s : Scene) → IsFirst (table buckets bucket) s → BucketsKept buckets bucket layout s
+  first_kept s first = record {
+      on = λ t. false; rank = λ t. 0; chains = first_chains s first; on_live = λ t on. absurd (false_true on);
+      readers = λ r readings op h. absurd (none_some (sym (first.reader r) ∙ h));
+      sections = λ d x h. absurd (none_section (sym (first.section d) ∙ h));
+      made = λ d x h. absurd (none_section (sym (first.section d) ∙ h)); linked = λ d x h. absurd (none_section (sym (first.section d) ∙ h)); taken = λ d x h. absurd (none_section (sym (first.section d) ∙ h));
+      live = λ t h. absurd (not_live t (sym (first.status t) ∙ h));
+      limbo = λ q y t h. absurd (not_retired q y (sym (first.status q) ∙ h));
+    }
+    where
+      false_true : false ≡ true → ⊥
+      false_true e = cc
+      none_some : {x : Readings} → None ≡ Some x → ⊥
+      none_some e = cc
+      none_section : {x : Section} → None ≡ Some x → ⊥
+      none_section e = cc
+      not_live : (t : ℕ) → cond (nat_lt t 0) Live Free ≡ Live → ⊥
+      not_live t h = grind arith
+      not_retired : (t y : ℕ) → cond (nat_lt t 0) Live Free ≡ Retired y → ⊥
+      not_retired t y h = grind arith
+
+  first_stands : (s : Scene) → IsFirst (table buckets bucket) s → BucketsStand buckets bucket s.cells empty
+  first_stands s first = record { on = λ t. false; rank = λ t. 0; chains = first_chains s first;
+      contents = record { pair = λ t on. absurd (false_true on); slot = λ key value h. absurd (none_some (sym (get-empty nat_cmp key) ∙ h)) } }
+    where
+      false_true : false ≡ true → ⊥
+      false_true e = cc
+      none_some : {v : ℕ} → None ≡ Some v → ⊥
+      none_some e = cc
+
+-- the hash table over any number of buckets, and any function of keys to buckets
+pub table_laws : (buckets : ℕ) (bucket : ℕ → ℕ) → ((key : ℕ) → bucket key < buckets) → 3 * buckets ≤ 12288 → Laws (table buckets bucket)
+table_laws buckets bucket small few = record {
+    first = record { few_cells = few; few_slots = omega arith; small = λ p fixed. omega arith; locks_free = λ p fixed lock. refl; links = λ p t fixed link h. absurd (omega arith) };
+    unlinked_lock = λ cells p lock. no_link p (lock_at buckets p lock);
+    over = λ layout limits. record {
+      begins = first_kept buckets bucket small layout limits;
+      empty = first_stands buckets bucket small layout limits;
+      shape = λ s sound kept r readings op thunk reader allowed fits. table_shaped buckets bucket small few layout limits s sound r readings op thunk reader allowed fits;
+      in_turn = table_in_turn buckets bucket small layout limits;
+      keeps = table_keeps buckets bucket small layout limits;
+      gives = λ s sound kept. table_gives buckets bucket small layout s sound kept;
+    };
+  }
+  where
+    no_link : (p : ℕ) → (p < 3 * buckets) × (p % 3 ≡ 0) → is_link_place buckets bucket p ≡ false
+    no_link p at = let low = at.0 in let rest = at.1 in grind arith
+
+-- each number up to 12 by itself
+each_bits : (P : ℕ → Type 0) → P 0 → P 1 → P 2 → P 3 → P 4 → P 5 → P 6 → P 7 → P 8 → P 9 → P 10 → P 11 → P 12 → (n : ℕ) → n ≤ 12 → P n
+each_bits P p0 p1 p2 p3 p4 p5 p6 p7 p8 p9 p10 p11 p12 zero low = p0
+each_bits P p0 p1 p2 p3 p4 p5 p6 p7 p8 p9 p10 p11 p12 (suc zero) low = p1
+each_bits P p0 p1 p2 p3 p4 p5 p6 p7 p8 p9 p10 p11 p12 (suc (suc zero)) low = p2
+each_bits P p0 p1 p2 p3 p4 p5 p6 p7 p8 p9 p10 p11 p12 (suc (suc (suc zero))) low = p3
+each_bits P p0 p1 p2 p3 p4 p5 p6 p7 p8 p9 p10 p11 p12 (suc (suc (suc (suc zero)))) low = p4
+each_bits P p0 p1 p2 p3 p4 p5 p6 p7 p8 p9 p10 p11 p12 (suc (suc (suc (suc (suc zero))))) low = p5
+each_bits P p0 p1 p2 p3 p4 p5 p6 p7 p8 p9 p10 p11 p12 (suc (suc (suc (suc (suc (suc zero)))))) low = p6
+each_bits P p0 p1 p2 p3 p4 p5 p6 p7 p8 p9 p10 p11 p12 (suc (suc (suc (suc (suc (suc (suc zero))))))) low = p7
+each_bits P p0 p1 p2 p3 p4 p5 p6 p7 p8 p9 p10 p11 p12 (suc (suc (suc (suc (suc (suc (suc (suc zero)))))))) low = p8
+each_bits P p0 p1 p2 p3 p4 p5 p6 p7 p8 p9 p10 p11 p12 (suc (suc (suc (suc (suc (suc (suc (suc (suc zero))))))))) low = p9
+each_bits P p0 p1 p2 p3 p4 p5 p6 p7 p8 p9 p10 p11 p12 (suc (suc (suc (suc (suc (suc (suc (suc (suc (suc zero)))))))))) low = p10
+each_bits P p0 p1 p2 p3 p4 p5 p6 p7 p8 p9 p10 p11 p12 (suc (suc (suc (suc (suc (suc (suc (suc (suc (suc (suc zero))))))))))) low = p11
+each_bits P p0 p1 p2 p3 p4 p5 p6 p7 p8 p9 p10 p11 p12 (suc (suc (suc (suc (suc (suc (suc (suc (suc (suc (suc (suc zero)))))))))))) low = p12
+each_bits P p0 p1 p2 p3 p4 p5 p6 p7 p8 p9 p10 p11 p12 (suc (suc (suc (suc (suc (suc (suc (suc (suc (suc (suc (suc (suc n))))))))))))) low = absurd (omega arith)
+
+remainder_small : (n : ℕ) → n % 2 ^ 32 < 2 ^ 32
+remainder_small n = omega arith
+
+quotient_1 : (n : ℕ) → n < 2 ^ 32 → n / 2 ^ (32 - 1) < 2 ^ 1
+quotient_1 n low = omega arith
+
+quotient_2 : (n : ℕ) → n < 2 ^ 32 → n / 2 ^ (32 - 2) < 2 ^ 2
+quotient_2 n low = omega arith
+
+quotient_3 : (n : ℕ) → n < 2 ^ 32 → n / 2 ^ (32 - 3) < 2 ^ 3
+quotient_3 n low = omega arith
+
+quotient_4 : (n : ℕ) → n < 2 ^ 32 → n / 2 ^ (32 - 4) < 2 ^ 4
+quotient_4 n low = omega arith
+
+quotient_5 : (n : ℕ) → n < 2 ^ 32 → n / 2 ^ (32 - 5) < 2 ^ 5
+quotient_5 n low = omega arith
+
+quotient_6 : (n : ℕ) → n < 2 ^ 32 → n / 2 ^ (32 - 6) < 2 ^ 6
+quotient_6 n low = omega arith
+
+quotient_7 : (n : ℕ) → n < 2 ^ 32 → n / 2 ^ (32 - 7) < 2 ^ 7
+quotient_7 n low = omega arith
+
+quotient_8 : (n : ℕ) → n < 2 ^ 32 → n / 2 ^ (32 - 8) < 2 ^ 8
+quotient_8 n low = omega arith
+
+quotient_9 : (n : ℕ) → n < 2 ^ 32 → n / 2 ^ (32 - 9) < 2 ^ 9
+quotient_9 n low = omega arith
+
+quotient_10 : (n : ℕ) → n < 2 ^ 32 → n / 2 ^ (32 - 10) < 2 ^ 10
+quotient_10 n low = omega arith
+
+quotient_11 : (n : ℕ) → n < 2 ^ 32 → n / 2 ^ (32 - 11) < 2 ^ 11
+quotient_11 n low = omega arith
+
+quotient_12 : (n : ℕ) → n < 2 ^ 32 → n / 2 ^ (32 - 12) < 2 ^ 12
+quotient_12 n low = omega arith
+
+-- the hash function leads to a bucket
+bucket_small : (bits key : ℕ) → bits ≤ 12 → bucket_index key bits < 2 ^ bits
+bucket_small bits key few = let low = remainder_small (key * 2654435769) in
+  each_bits (λ bits. bucket_index key bits < 2 ^ bits) (omega arith) (quotient_1 (key * 2654435769 % 2 ^ 32) low) (quotient_2 (key * 2654435769 % 2 ^ 32) low) (quotient_3 (key * 2654435769 % 2 ^ 32) low) (quotient_4 (key * 2654435769 % 2 ^ 32) low) (quotient_5 (key * 2654435769 % 2 ^ 32) low) (quotient_6 (key * 2654435769 % 2 ^ 32) low) (quotient_7 (key * 2654435769 % 2 ^ 32) low) (quotient_8 (key * 2654435769 % 2 ^ 32) low) (quotient_9 (key * 2654435769 % 2 ^ 32) low) (quotient_10 (key * 2654435769 % 2 ^ 32) low) (quotient_11 (key * 2654435769 % 2 ^ 32) low) (quotient_12 (key * 2654435769 % 2 ^ 32) low) bits few
+
+buckets_few : (bits : ℕ) → bits ≤ 12 → 3 * 2 ^ bits ≤ 12288
+buckets_few bits few = each_bits (λ bits. 3 * 2 ^ bits ≤ 12288) (omega arith) (omega arith) (omega arith) (omega arith) (omega arith) (omega arith) (omega arith) (omega arith) (omega arith) (omega arith) (omega arith) (omega arith) (omega arith) bits few
+
+-- the hash table with 2 ^ bits buckets meets the laws
+pub buckets_laws : (bits : ℕ) → bits ≤ 12 → Laws (buckets_meaning bits)
+buckets_laws bits few = table_laws (2 ^ bits) (λ key. bucket_index key bits) (λ key. bucket_small bits key few) (buckets_few bits few)
