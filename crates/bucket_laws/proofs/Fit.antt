@@ -33,7 +33,7 @@ same_list (x ∷ xs) (y ∷ ys) h = let both = both_true (x == y) (same_numbers 
 
 -- the number of each form
 form_number : (a p b q c r : Bool) (f : Form) → cond a (cond p Read Empty) (cond b (cond q Insert Empty) (cond c (cond r Remove Empty) Empty)) ≡ f
-  → ((f ≡ Insert) → (b ≡ true) × (q ≡ true)) × ((f ≡ Remove) → (c ≡ true) × (r ≡ true)) × ((f ≡ Read) → (a ≡ true) × (p ≡ true))
+    → ((f ≡ Insert) → (b ≡ true) × (q ≡ true)) × ((f ≡ Remove) → (c ≡ true) × (r ≡ true)) × ((f ≡ Read) → (a ≡ true) × (p ≡ true))
 form_number true true b q c r f h = (λ e. absurd (cc), λ e. absurd (cc), λ e. (refl, refl))
 form_number true false b q c r f h = (λ e. absurd (cc), λ e. absurd (cc), λ e. absurd (cc))
 form_number false p true true c r f h = (λ e. (refl, refl), λ e. absurd (cc), λ e. absurd (cc))
@@ -43,9 +43,9 @@ form_number false p false q true false f h = (λ e. absurd (cc), λ e. absurd (c
 form_number false p false q false r f h = (λ e. absurd (cc), λ e. absurd (cc), λ e. absurd (cc))
 
 numbers_of : (t : Thunk) (f : Form) → form_of t ≡ f → ((f ≡ Insert) → ((t.form == 2) ≡ true) × ((is_small (t.lock + 2) && is_small (operand t 1) && is_small (operand t 2) && is_small (operand t 3)) ≡ true))
-  × ((f ≡ Remove) → ((t.form == 3) ≡ true) × ((is_small (t.lock + 1) && is_small (operand t 1) && is_small (operand t 2) && is_small (operand t 3)) ≡ true)) × ((f ≡ Read) → ((t.form == 1) ≡ true) × (is_small (t.lock + 1) ≡ true))
+    × ((f ≡ Remove) → ((t.form == 3) ≡ true) × ((is_small (t.lock + 1) && is_small (operand t 1) && is_small (operand t 2) && is_small (operand t 3)) ≡ true)) × ((f ≡ Read) → ((t.form == 1) ≡ true) × (is_small (t.lock + 1) ≡ true))
 numbers_of t f h = form_number (t.form == 1) (is_small (t.lock + 1)) (t.form == 2) (is_small (t.lock + 2) && is_small (operand t 1) && is_small (operand t 2) && is_small (operand t 3)) (t.form == 3)
-  (is_small (t.lock + 1) && is_small (operand t 1) && is_small (operand t 2) && is_small (operand t 3)) f h
+    (is_small (t.lock + 1) && is_small (operand t 1) && is_small (operand t 2) && is_small (operand t 3)) f h
 
 pub insert_number : (t : Thunk) → form_of t ≡ Insert → t.form ≡ 2
 insert_number t h = equal_of t.form 2 ((numbers_of t Insert h).0 refl).0
@@ -98,18 +98,18 @@ module _ (buckets : ℕ) (bucket : ℕ → ℕ) where
 
   pub fit_of : (op : Op) (w : Walk) (t : Thunk) → fits_walk buckets bucket op w t ≡ true → IsFit op w t
   fit_of op w t h =
-    let a = both_true _ _ h in
-    let b = both_true _ _ a.1 in
-    let c = both_true _ _ b.1 in
-    let d = both_true _ _ c.1 in
-    let form : t.form ≡ form_for op w.found = equal_of _ _ b.0 in
-    let operands : t.operands ≡ operands_for op w w.found = same_list _ _ d.1 in
-    record {
-      stage = at_end w.stage a.0;
-      form = form;
-      lock = equal_of _ _ c.0;
-      operands = operands;
-      edition = ap (λ numbers. slice_index numbers 0) operands ∙ first_operand op w w.found;
-      insert = λ e. let fit = insert_operands op w w.found (sym form ∙ insert_number t e) in (fit.0, subst (InsertFit op w) (sym operands) fit.1);
-      remove = λ e. let fit = remove_operands op w w.found (sym form ∙ remove_number t e) in (fit.0, subst (RemoveFit op w) (sym operands) fit.1);
-    }
+      let a = both_true _ _ h in
+      let b = both_true _ _ a.1 in
+      let c = both_true _ _ b.1 in
+      let d = both_true _ _ c.1 in
+      let form : t.form ≡ form_for op w.found = equal_of _ _ b.0 in
+      let operands : t.operands ≡ operands_for op w w.found = same_list _ _ d.1 in
+      record {
+        stage = at_end w.stage a.0;
+        form = form;
+        lock = equal_of _ _ c.0;
+        operands = operands;
+        edition = ap (λ numbers. slice_index numbers 0) operands ∙ first_operand op w w.found;
+        insert = λ e. let fit = insert_operands op w w.found (sym form ∙ insert_number t e) in (fit.0, subst (InsertFit op w) (sym operands) fit.1);
+        remove = λ e. let fit = remove_operands op w w.found (sym form ∙ remove_number t e) in (fit.0, subst (RemoveFit op w) (sym operands) fit.1);
+      }

@@ -16,7 +16,7 @@ steps_of t = go (t.form == 1) (is_small (t.lock + 1)) (t.form == 2) (is_small (t
     (is_small (t.lock + 1) && is_small (operand t 1) && is_small (operand t 2) && is_small (operand t 3))
   where
     go : (a p b q c r : Bool) → cond a (cond p (read_steps t) []) (cond b (cond q (insert_steps t) []) (cond c (cond r (remove_steps t) []) []))
-      ≡ body_of (cond a (cond p Read Empty) (cond b (cond q Insert Empty) (cond c (cond r Remove Empty) Empty))) t
+        ≡ body_of (cond a (cond p Read Empty) (cond b (cond q Insert Empty) (cond c (cond r Remove Empty) Empty))) t
     go true true b q c r = refl
     go true false b q c r = refl
     go false p true true c r = refl
@@ -61,7 +61,7 @@ load_in Empty t j p r h = absurd (empty_step t j (Load p r) h)
 
 abbrev pub StoreCase : Form → Thunk → ℕ → ℕ → Value → Type 0
 StoreCase f t j r v = ((f ≡ Insert) × (j ≡ 7) × (r ≡ 1) × (v ≡ Made 2)) ⊎ ((f ≡ Insert) × (j ≡ 8) × (r ≡ 0) × (v ≡ Const 0))
-  ⊎ ((f ≡ Remove) × (j ≡ 6) × (r ≡ 1) × (v ≡ Const (operand t 3))) ⊎ ((f ≡ Remove) × (j ≡ 7) × (r ≡ 0) × (v ≡ Const 0))
+    ⊎ ((f ≡ Remove) × (j ≡ 6) × (r ≡ 1) × (v ≡ Const (operand t 3))) ⊎ ((f ≡ Remove) × (j ≡ 7) × (r ≡ 0) × (v ≡ Const 0))
 
 read_store : (t : Thunk) (j r : ℕ) (v : Value) → StepIs Read t j (Store r v) → ⊥
 read_store t j r v h = grind arith

@@ -38,7 +38,7 @@ absent_same lookup key q h = dite (ℕ_discrete q key) (λ e. upd_same lookup ke
 
 -- the reply word of a thunk that changes nothing
 pub read_reply : (pairs : Pairs) (op : Op) (w : Walk) (there : Bool) → form_for op there ≡ 1 → (there ≡ true → get pairs (key_of op) ≡ Some w.value) → (there ≡ false → get pairs (key_of op) ≡ None)
-  → slice_index (operands_for op w there) 1 ≡ word_of (reply_of pairs op)
+    → slice_index (operands_for op w there) 1 ≡ word_of (reply_of pairs op)
 read_reply pairs (Get key) w true form some none = ap (λ o. word_of (found o)) (sym (some refl))
 read_reply pairs (Get key) w false form some none = ap (λ o. word_of (found o)) (sym (none refl))
 read_reply pairs (Ins key value) w true form some none = ap (λ b. word_of (if b then Dup else New)) (sym (is_there pairs key w.value (some refl)))
@@ -61,7 +61,7 @@ remove_reply pairs (Del key) value del some = ap (λ b. word_of (if b then Gone 
 
 -- what is looked up after an operation
 pub read_map : (pairs : Pairs) (op : Op) (value : ℕ) (there : Bool) → form_for op there ≡ 1 → (there ≡ true → get pairs (key_of op) ≡ Some value) → (there ≡ false → get pairs (key_of op) ≡ None)
-  → (q : ℕ) → get pairs q ≡ get (map_after pairs op) q
+    → (q : ℕ) → get pairs q ≡ get (map_after pairs op) q
 read_map pairs (Get key) value there form some none q = refl
 read_map pairs (Ins key v) value true form some none q = ap (λ b. get (if b then pairs else insert pairs key v) q) (sym (is_there pairs key value (some refl)))
 read_map pairs (Ins key v) value false form some none q = absurd (omega arith)

@@ -42,27 +42,27 @@ module _ (buckets : ℕ) (bucket : ℕ → ℕ) (cells : Cells) where
   -- a head has changed
   pub head_changed : (i word : ℕ) → i < buckets → with_head now i (value_of word) ≡ nodes buckets bucket (upd cells (bucket_head i) word)
   head_changed i word low = nodes_same _ _ _ _ _ _ _ _
-    (fun_ext (λ j. clip_to j buckets (value_of (upd cells (bucket_head i) word (bucket_head j))) (upd now.head i (value_of word) j)
+      (fun_ext (λ j. clip_to j buckets (value_of (upd cells (bucket_head i) word (bucket_head j))) (upd now.head i (value_of word) j)
       (λ lower. dite (ℕ_discrete j i) (λ e. upd_same now.head i j (value_of word) e ∙ ap value_of (sym (upd_same cells (bucket_head i) (bucket_head j) word (ap bucket_head e))))
-        (λ ne. upd_other now.head i j (value_of word) ne ∙ clip_in j buckets (value_of (cells (bucket_head j))) lower ∙ other (bucket_head i) (bucket_head j) word (λ e. ne (omega arith))))
+      (λ ne. upd_other now.head i j (value_of word) ne ∙ clip_in j buckets (value_of (cells (bucket_head j))) lower ∙ other (bucket_head i) (bucket_head j) word (λ e. ne (omega arith))))
       (λ high. upd_other now.head i j (value_of word) (λ e. omega arith) ∙ clip_out j buckets (value_of (cells (bucket_head j))) high)))
-    (fun_ext (λ u. other (bucket_head i) (cell_at buckets bucket u 1) word (λ e. omega arith)))
-    (fun_ext (λ u. other (bucket_head i) (cell_at buckets bucket u 2) word (λ e. omega arith)))
-    (fun_ext (λ u. other (bucket_head i) (cell_at buckets bucket u 3) word (λ e. omega arith)))
+      (fun_ext (λ u. other (bucket_head i) (cell_at buckets bucket u 1) word (λ e. omega arith)))
+      (fun_ext (λ u. other (bucket_head i) (cell_at buckets bucket u 2) word (λ e. omega arith)))
+      (fun_ext (λ u. other (bucket_head i) (cell_at buckets bucket u 3) word (λ e. omega arith)))
 
   -- a node's link has changed
   pub next_changed : (t word : ℕ) → with_next now t (value_of word) ≡ nodes buckets bucket (upd cells (cell_at buckets bucket t 3) word)
   next_changed t word = nodes_same _ _ _ _ _ _ _ _
-    (fun_ext (λ j. clip_same j buckets (value_of (cells (bucket_head j))) (value_of (upd cells (cell_at buckets bucket t 3) word (bucket_head j))) (λ lower. other (cell_at buckets bucket t 3) (bucket_head j) word (λ e. omega arith))))
-    (fun_ext (λ u. other (cell_at buckets bucket t 3) (cell_at buckets bucket u 1) word (λ e. omega arith)))
-    (fun_ext (λ u. other (cell_at buckets bucket t 3) (cell_at buckets bucket u 2) word (λ e. omega arith)))
-    (fun_ext (λ u. dite (ℕ_discrete u t) (λ e. upd_same now.next t u (value_of word) e ∙ ap value_of (sym (upd_same cells (cell_at buckets bucket t 3) (cell_at buckets bucket u 3) word (ap (λ u. cell_at buckets bucket u 3) e))))
+      (fun_ext (λ j. clip_same j buckets (value_of (cells (bucket_head j))) (value_of (upd cells (cell_at buckets bucket t 3) word (bucket_head j))) (λ lower. other (cell_at buckets bucket t 3) (bucket_head j) word (λ e. omega arith))))
+      (fun_ext (λ u. other (cell_at buckets bucket t 3) (cell_at buckets bucket u 1) word (λ e. omega arith)))
+      (fun_ext (λ u. other (cell_at buckets bucket t 3) (cell_at buckets bucket u 2) word (λ e. omega arith)))
+      (fun_ext (λ u. dite (ℕ_discrete u t) (λ e. upd_same now.next t u (value_of word) e ∙ ap value_of (sym (upd_same cells (cell_at buckets bucket t 3) (cell_at buckets bucket u 3) word (ap (λ u. cell_at buckets bucket u 3) e))))
       (λ ne. upd_other now.next t u (value_of word) ne ∙ other (cell_at buckets bucket t 3) (cell_at buckets bucket u 3) word (λ e. ne (omega arith)))))
 
   -- a cell that is neither a head nor a key, value or link of a node has changed
   pub none_changed : (p word : ℕ) → ((j : ℕ) → j < buckets → bucket_head j ≢ p) → ((u k : ℕ) → 1 ≤ k → k ≤ 3 → cell_at buckets bucket u k ≢ p) → now ≡ nodes buckets bucket (upd cells p word)
   none_changed p word heads cell = nodes_same _ _ _ _ _ _ _ _
-    (fun_ext (λ j. clip_same j buckets (value_of (cells (bucket_head j))) (value_of (upd cells p word (bucket_head j))) (λ lower. other p (bucket_head j) word (heads j lower))))
-    (fun_ext (λ u. other p (cell_at buckets bucket u 1) word (cell u 1 (omega arith) (omega arith))))
-    (fun_ext (λ u. other p (cell_at buckets bucket u 2) word (cell u 2 (omega arith) (omega arith))))
-    (fun_ext (λ u. other p (cell_at buckets bucket u 3) word (cell u 3 (omega arith) (omega arith))))
+      (fun_ext (λ j. clip_same j buckets (value_of (cells (bucket_head j))) (value_of (upd cells p word (bucket_head j))) (λ lower. other p (bucket_head j) word (heads j lower))))
+      (fun_ext (λ u. other p (cell_at buckets bucket u 1) word (cell u 1 (omega arith) (omega arith))))
+      (fun_ext (λ u. other p (cell_at buckets bucket u 2) word (cell u 2 (omega arith) (omega arith))))
+      (fun_ext (λ u. other p (cell_at buckets bucket u 3) word (cell u 3 (omega arith) (omega arith))))

@@ -118,7 +118,7 @@ module _ (buckets : ℕ) (bucket : ℕ → ℕ) (small : (key : ℕ) → bucket 
   -- a slot that the readings give is a node slot
   within : (t : ℕ) → Gives buckets bucket small readings t → t < slot_count layout 0
   within t gives = let by = reached (is_link_place buckets bucket) readings t gives in
-    sound.within t (used ((sound.readers r readings reader).safe by.0 by.1 by.2 t by.3 by.4 by.5))
+      sound.within t (used ((sound.readers r readings reader).safe by.0 by.1 by.2 t by.3 by.4 by.5))
     where
       used : IsSafe s t → s.status t ≢ Free
       used safe = ⊎_elim (λ live. live_free (s.status t) live) (λ retired. retired_free (s.status t) retired.0 retired.1) safe
@@ -132,7 +132,7 @@ module _ (buckets : ℕ) (bucket : ℕ → ℕ) (small : (key : ℕ) → bucket 
 
   place_small : own_walk.place < 2 ^ 32
   place_small = ⊎_elim (λ head. let low = small (key_of op) in omega arith)
-    (λ node. let low = within node.0 node.1 in let at = node.2 in let nodes = limits.few_nodes in let runners = limits.few_runners in omega arith) link_place
+      (λ node. let low = within node.0 node.1 in let at = node.2 in let nodes = limits.few_nodes in let runners = limits.few_runners in omega arith) link_place
 
   lock_small : thunk.lock + 2 < 2 ^ 32
   lock_small = let at = lock_is in let low = small (key_of op) in omega arith
@@ -142,29 +142,29 @@ module _ (buckets : ℕ) (bucket : ℕ → ℕ) (small : (key : ℕ) → bucket 
 
   read_form : form_for op own_walk.found ≡ 1 → form_of thunk ≡ Read
   read_form form = is_read (thunk.form == 1) (is_small (thunk.lock + 1)) (thunk.form == 2) (is_small (thunk.lock + 2) && is_small (operand thunk 1) && is_small (operand thunk 2) && is_small (operand thunk 3)) (thunk.form == 3)
-    (is_small (thunk.lock + 1) && is_small (operand thunk 1) && is_small (operand thunk 2) && is_small (operand thunk 3)) (eq_true thunk.form 1 (fit.form ∙ form)) (small_is (thunk.lock + 1) (let low = lock_small in omega arith))
+      (is_small (thunk.lock + 1) && is_small (operand thunk 1) && is_small (operand thunk 2) && is_small (operand thunk 3)) (eq_true thunk.form 1 (fit.form ∙ form)) (small_is (thunk.lock + 1) (let low = lock_small in omega arith))
 
   insert_form : form_for op own_walk.found ≡ 2 → form_of thunk ≡ Insert
   insert_form form =
-    let named = (insert_operands op own_walk own_walk.found form).1 in
-    let is_key : key_of op ≡ named.0 = ap key_of named.2 in
-    let key_low = allowed.keys (key_of op) (inl refl) in
-    let value_low = allowed.value named.0 named.1 named.2 in
-    let head_low = (walk_facts buckets bucket small (bounds buckets bucket layout) op readings).head_small in
-    is_insert _ _ _ _ _ _ (eq_false thunk.form 2 1 (fit.form ∙ form) (λ e. omega arith)) (eq_true thunk.form 2 (fit.form ∙ form))
+      let named = (insert_operands op own_walk own_walk.found form).1 in
+      let is_key : key_of op ≡ named.0 = ap key_of named.2 in
+      let key_low = allowed.keys (key_of op) (inl refl) in
+      let value_low = allowed.value named.0 named.1 named.2 in
+      let head_low = (walk_facts buckets bucket small (bounds buckets bucket layout) op readings).head_small in
+      is_insert _ _ _ _ _ _ (eq_false thunk.form 2 1 (fit.form ∙ form) (λ e. omega arith)) (eq_true thunk.form 2 (fit.form ∙ form))
       (four_true _ _ _ _ (small_is (thunk.lock + 2) lock_small) (small_is (operand thunk 1) (let at = number_at 1 ∙ named.3 in omega arith)) (small_is (operand thunk 2) (let at = number_at 2 ∙ named.4 in omega arith))
-        (small_is (operand thunk 3) (let at = number_at 3 ∙ named.5 in omega arith)))
+      (small_is (operand thunk 3) (let at = number_at 3 ∙ named.5 in omega arith)))
 
   remove_form : form_for op own_walk.found ≡ 3 → form_of thunk ≡ Remove
   remove_form form =
-    let named = (remove_operands op own_walk own_walk.found form).1 in
-    let facts = walk_facts buckets bucket small (bounds buckets bucket layout) op readings in
-    let slot_low = facts.slot_small in
-    let next_low = facts.next_small in
-    let place_low = place_small in
-    is_remove _ _ _ _ _ _ (eq_false thunk.form 3 1 (fit.form ∙ form) (λ e. omega arith)) (eq_false thunk.form 3 2 (fit.form ∙ form) (λ e. omega arith)) (eq_true thunk.form 3 (fit.form ∙ form))
+      let named = (remove_operands op own_walk own_walk.found form).1 in
+      let facts = walk_facts buckets bucket small (bounds buckets bucket layout) op readings in
+      let slot_low = facts.slot_small in
+      let next_low = facts.next_small in
+      let place_low = place_small in
+      is_remove _ _ _ _ _ _ (eq_false thunk.form 3 1 (fit.form ∙ form) (λ e. omega arith)) (eq_false thunk.form 3 2 (fit.form ∙ form) (λ e. omega arith)) (eq_true thunk.form 3 (fit.form ∙ form))
       (four_true _ _ _ _ (small_is (thunk.lock + 1) (let low = lock_small in omega arith)) (small_is (operand thunk 1) (let at = number_at 1 ∙ named.1 in omega arith)) (small_is (operand thunk 2) (let at = number_at 2 ∙ named.2 in omega arith))
-        (small_is (operand thunk 3) (let at = number_at 3 ∙ named.3 in omega arith)))
+      (small_is (operand thunk 3) (let at = number_at 3 ∙ named.3 in omega arith)))
 
   -- what a removal's link is
   remove_link : form_of thunk ≡ Remove → (operand thunk 1 ≡ 3 * own + 2) ⊎ ((t : ℕ) × Gives buckets bucket small readings t × (operand thunk 1 ≡ 3 * buckets + 5 * t + 3))
@@ -172,8 +172,8 @@ module _ (buckets : ℕ) (bucket : ℕ → ℕ) (small : (key : ℕ) → bucket 
 
   shaped : IsShaped (bucket_steps thunk)
   shaped = subst IsShaped (sym (steps_of thunk)) (⊎_elim
-    (λ form. subst (λ f. IsShaped (body_of f thunk)) (sym (read_form form)) (read_shaped thunk))
-    (⊎_elim (λ form. subst (λ f. IsShaped (body_of f thunk)) (sym (insert_form form)) (insert_shaped thunk))
+      (λ form. subst (λ f. IsShaped (body_of f thunk)) (sym (read_form form)) (read_shaped thunk))
+      (⊎_elim (λ form. subst (λ f. IsShaped (body_of f thunk)) (sym (insert_form form)) (insert_shaped thunk))
       (λ form. subst (λ f. IsShaped (body_of f thunk)) (sym (remove_form form)) (remove_shaped thunk (apart (remove_form form))))) (form_cases op own_walk.found))
     where
       apart : form_of thunk ≡ Remove → operand thunk 1 ≢ thunk.lock + 1
@@ -196,78 +196,84 @@ module _ (buckets : ℕ) (bucket : ℕ → ℕ) (small : (key : ℕ) → bucket 
 
   load_place : (j p r : ℕ) → slice_get (bucket_steps thunk) j ≡ Some (Load p r) → PlaceIs p
   load_place j p r h = let lock = lock_is in ⊎_elim (λ edition. inl (1, omega arith, omega arith, (let at = edition.2 in omega arith)))
-    (⊎_elim (λ insert. inl (2, omega arith, omega arith, (let at = insert.3 in omega arith)))
+      (⊎_elim (λ insert. inl (2, omega arith, omega arith, (let at = insert.3 in omega arith)))
       (λ remove. ⊎_elim (λ head. inl (2, omega arith, omega arith, remove.3 ∙ head)) (λ node. inr (node.0, node.1, remove.3 ∙ node.2)) (remove_link remove.0))) (load_step thunk j p r h)
 
   store_small : (j r : ℕ) (v : Value) → slice_get (bucket_steps thunk) j ≡ Some (Store r v) → IsSmall v
   store_small j r v h = ⊎_elim (λ a. subst IsSmall (sym a.3) tt) (⊎_elim (λ a. subst IsSmall (sym a.3) (omega arith))
-    (⊎_elim (λ a. subst IsSmall (sym a.3) (let named = (fit.remove a.0).1 in let low = (walk_facts buckets bucket small (bounds buckets bucket layout) op readings).next_small in let at = named.3 in omega arith))
+      (⊎_elim (λ a. subst IsSmall (sym a.3) (let named = (fit.remove a.0).1 in let low = (walk_facts buckets bucket small (bounds buckets bucket layout) op readings).next_small in let at = named.3 in omega arith))
       (λ a. subst IsSmall (sym a.3) (omega arith)))) (store_step thunk j r v h)
 
   pub table_shaped : Shaped (table buckets bucket) layout readings thunk
   table_shaped = record {
-      shape = shaped;
-      outer_lock = ap (λ p. nat_lt p (3 * buckets) && (p % 3 == 0)) lock_is ∙ lock_is_lock own (small (key_of op));
-      outer_known = inl (let at = lock_is in let low = small (key_of op) in omega arith);
-      take_lock = λ j l w h. absurd (no_take thunk j l w h);
-      take_known = λ j l w h. absurd (no_take thunk j l w h);
-      take_inner = λ j l w h. absurd (no_take thunk j l w h);
-      take_once = λ i j l v w h h'. absurd (no_take thunk i l v h);
-      take_read = λ j l w h. absurd (no_take thunk j l w h);
-      take_free = λ j l w h. absurd (no_take thunk j l w h);
-      take_unspent = λ j l w h. absurd (no_take thunk j l w h);
-      load_unlocked = λ j p r h. ⊎_elim (λ low. ap (λ p. nat_lt p (3 * buckets) && (p % 3 == 0)) low.3 ∙ no_lock_low own low.0 (3 * buckets) low.1 low.2)
+    shape = shaped;
+    outer_lock = ap (λ p. nat_lt p (3 * buckets) && (p % 3 == 0)) lock_is ∙ lock_is_lock own (small (key_of op));
+    outer_known = inl (let at = lock_is in let low = small (key_of op) in omega arith);
+    take_lock = λ j l w h. absurd (no_take thunk j l w h);
+    take_known = λ j l w h. absurd (no_take thunk j l w h);
+    take_inner = λ j l w h. absurd (no_take thunk j l w h);
+    take_once = λ i j l v w h h'. absurd (no_take thunk i l v h);
+    take_read = λ j l w h. absurd (no_take thunk j l w h);
+    take_free = λ j l w h. absurd (no_take thunk j l w h);
+    take_unspent = λ j l w h. absurd (no_take thunk j l w h);
+    load_unlocked = λ j p r h. ⊎_elim (λ low. ap (λ p. nat_lt p (3 * buckets) && (p % 3 == 0)) low.3 ∙ no_lock_low own low.0 (3 * buckets) low.1 low.2)
         (λ node. no_lock_high p (3 * buckets) (let at = node.2 in omega arith)) (load_place j p r h);
-      load_known = λ j p r h. ⊎_elim (λ low. inl (let at = low.3 in let high = low.2 in let below = small (key_of op) in omega arith)) (λ node. inr (node.0, (3, omega arith, node.2), inr node.1)) (load_place j p r h);
-      load_once = λ i j p q r h h'. once (load_step thunk i p q h) (load_step thunk j p r h');
-      store_once = λ i j r v w h h'. stored (store_step thunk i r v h) (store_step thunk j r w h');
-      store_small = store_small;
-      make_whole = λ j r init h. ap (λ init. length init.cells) (make_step thunk j r init h).3;
-      make_small = λ j r i init v h at. init_small i v (make_step thunk j r init h).0 (sym (ap (λ init. slice_get init.cells i) (make_step thunk j r init h).3) ∙ at);
-      make_unlocked = λ j r i t init v h at lock. absurd (let below = (lock_at buckets (3 * buckets + 5 * t + i) lock).0 in omega arith);
-      answers = λ j n h. ⊎_elim (λ read. let at = read.1 ∙ number_at 1 in let some = reply_some op own_walk own_walk.found (read_back read.0) in omega arith) (⊎_elim (λ insert. let at = insert.1 in omega arith) (λ remove. let at = remove.1 in omega arith)) (answer_step thunk j n h);
-    }
+    load_known = λ j p r h. ⊎_elim (λ low. inl (let at = low.3 in let high = low.2 in let below = small (key_of op) in omega arith)) (λ node. inr (node.0, (3, omega arith, node.2), inr node.1)) (load_place j p r h);
+    load_once = λ i j p q r h h'. once (load_step thunk i p q h) (load_step thunk j p r h');
+    store_once = λ i j r v w h h'. stored (store_step thunk i r v h) (store_step thunk j r w h');
+    store_small = store_small;
+    make_whole = λ j r init h. ap (λ init. length init.cells) (make_step thunk j r init h).3;
+    make_small = λ j r i init v h at. init_small i v (make_step thunk j r init h).0 (sym (ap (λ init. slice_get init.cells i) (make_step thunk j r init h).3) ∙ at);
+    make_unlocked = λ j r i t init v h at lock. absurd (let below = (lock_at buckets (3 * buckets + 5 * t + i) lock).0 in omega arith);
+    answers = λ j n h. ⊎_elim (λ read. let at = read.1 ∙ number_at 1 in let some = reply_some op own_walk own_walk.found (read_back read.0) in omega arith) (⊎_elim (λ insert. let at = insert.1 in omega arith) (λ remove. let at = remove.1 in omega arith)) (answer_step thunk j n h);
+  }
     where
       read_back : form_of thunk ≡ Read → form_for op own_walk.found ≡ 1
       read_back form = ⊎_elim (λ one. one) (⊎_elim (λ two. absurd (read_insert (sym form ∙ insert_form two))) (λ three. absurd (read_remove (sym form ∙ remove_form three)))) (form_cases op own_walk.found)
         where
           read_insert : Read ≡ Insert → ⊥
           read_insert e = cc
+
           read_remove : Read ≡ Remove → ⊥
           read_remove e = cc
+
       edition_link : {p : ℕ} → p ≡ thunk.lock + 1 → (operand thunk 1 ≡ 3 * own + 2) ⊎ ((t : ℕ) × Gives buckets bucket small readings t × (operand thunk 1 ≡ 3 * buckets + 5 * t + 3)) → p ≡ operand thunk 1 → ⊥
       edition_link e link e' = let lock = lock_is in let low = small (key_of op) in ⊎_elim (λ head. omega arith) (λ node. let at = node.2 in omega arith) link
+
       once : {i j p q r : ℕ} → ((i ≡ 0) × (q ≡ 0) × (p ≡ thunk.lock + 1)) ⊎ ((form_of thunk ≡ Insert) × (i ≡ 3) × (q ≡ 1) × (p ≡ thunk.lock + 2)) ⊎ ((form_of thunk ≡ Remove) × (i ≡ 3) × (q ≡ 1) × (p ≡ operand thunk 1))
-        → ((j ≡ 0) × (r ≡ 0) × (p ≡ thunk.lock + 1)) ⊎ ((form_of thunk ≡ Insert) × (j ≡ 3) × (r ≡ 1) × (p ≡ thunk.lock + 2)) ⊎ ((form_of thunk ≡ Remove) × (j ≡ 3) × (r ≡ 1) × (p ≡ operand thunk 1)) → i ≡ j
+          → ((j ≡ 0) × (r ≡ 0) × (p ≡ thunk.lock + 1)) ⊎ ((form_of thunk ≡ Insert) × (j ≡ 3) × (r ≡ 1) × (p ≡ thunk.lock + 2)) ⊎ ((form_of thunk ≡ Remove) × (j ≡ 3) × (r ≡ 1) × (p ≡ operand thunk 1)) → i ≡ j
       once a b = ⊎_elim
-        (λ first. ⊎_elim (λ first'. first.0 ∙ sym first'.0) (⊎_elim (λ insert. absurd (let x = first.2 in let y = insert.3 in omega arith)) (λ remove. absurd (edition_link first.2 (remove_link remove.0) remove.3))) b)
-        (⊎_elim
+          (λ first. ⊎_elim (λ first'. first.0 ∙ sym first'.0) (⊎_elim (λ insert. absurd (let x = first.2 in let y = insert.3 in omega arith)) (λ remove. absurd (edition_link first.2 (remove_link remove.0) remove.3))) b)
+          (⊎_elim
           (λ insert. ⊎_elim (λ first'. absurd (let x = first'.2 in let y = insert.3 in omega arith)) (⊎_elim (λ insert'. insert.1 ∙ sym insert'.1) (λ remove. insert.1 ∙ sym remove.1)) b)
           (λ remove. ⊎_elim (λ first'. absurd (edition_link first'.2 (remove_link remove.0) remove.3)) (⊎_elim (λ insert'. remove.1 ∙ sym insert'.1) (λ remove'. remove.1 ∙ sym remove'.1)) b)) a
+
       stored : {i j r : ℕ} {v w : Value}
-        → ((form_of thunk ≡ Insert) × (i ≡ 7) × (r ≡ 1) × (v ≡ Made 2)) ⊎ ((form_of thunk ≡ Insert) × (i ≡ 8) × (r ≡ 0) × (v ≡ Const 0)) ⊎ ((form_of thunk ≡ Remove) × (i ≡ 6) × (r ≡ 1) × (v ≡ Const (operand thunk 3))) ⊎ ((form_of thunk ≡ Remove) × (i ≡ 7) × (r ≡ 0) × (v ≡ Const 0))
-        → ((form_of thunk ≡ Insert) × (j ≡ 7) × (r ≡ 1) × (w ≡ Made 2)) ⊎ ((form_of thunk ≡ Insert) × (j ≡ 8) × (r ≡ 0) × (w ≡ Const 0)) ⊎ ((form_of thunk ≡ Remove) × (j ≡ 6) × (r ≡ 1) × (w ≡ Const (operand thunk 3))) ⊎ ((form_of thunk ≡ Remove) × (j ≡ 7) × (r ≡ 0) × (w ≡ Const 0)) → i ≡ j
+          → ((form_of thunk ≡ Insert) × (i ≡ 7) × (r ≡ 1) × (v ≡ Made 2)) ⊎ ((form_of thunk ≡ Insert) × (i ≡ 8) × (r ≡ 0) × (v ≡ Const 0)) ⊎ ((form_of thunk ≡ Remove) × (i ≡ 6) × (r ≡ 1) × (v ≡ Const (operand thunk 3))) ⊎ ((form_of thunk ≡ Remove) × (i ≡ 7) × (r ≡ 0) × (v ≡ Const 0))
+          → ((form_of thunk ≡ Insert) × (j ≡ 7) × (r ≡ 1) × (w ≡ Made 2)) ⊎ ((form_of thunk ≡ Insert) × (j ≡ 8) × (r ≡ 0) × (w ≡ Const 0)) ⊎ ((form_of thunk ≡ Remove) × (j ≡ 6) × (r ≡ 1) × (w ≡ Const (operand thunk 3))) ⊎ ((form_of thunk ≡ Remove) × (j ≡ 7) × (r ≡ 0) × (w ≡ Const 0)) → i ≡ j
       stored a b = ⊎_elim
-        (λ x. ⊎_elim (λ y. x.1 ∙ sym y.1) (⊎_elim (λ y. absurd (apart x.2 y.2)) (⊎_elim (λ y. absurd (no_insert x.0 y.0)) (λ y. absurd (no_insert x.0 y.0)))) b)
-        (⊎_elim
+          (λ x. ⊎_elim (λ y. x.1 ∙ sym y.1) (⊎_elim (λ y. absurd (apart x.2 y.2)) (⊎_elim (λ y. absurd (no_insert x.0 y.0)) (λ y. absurd (no_insert x.0 y.0)))) b)
+          (⊎_elim
           (λ x. ⊎_elim (λ y. absurd (apart y.2 x.2)) (⊎_elim (λ y. x.1 ∙ sym y.1) (⊎_elim (λ y. absurd (no_insert x.0 y.0)) (λ y. absurd (no_insert x.0 y.0)))) b)
           (⊎_elim
-            (λ x. ⊎_elim (λ y. absurd (no_insert y.0 x.0)) (⊎_elim (λ y. absurd (no_insert y.0 x.0)) (⊎_elim (λ y. x.1 ∙ sym y.1) (λ y. absurd (apart x.2 y.2)))) b)
-            (λ x. ⊎_elim (λ y. absurd (no_insert y.0 x.0)) (⊎_elim (λ y. absurd (no_insert y.0 x.0)) (⊎_elim (λ y. absurd (apart y.2 x.2)) (λ y. x.1 ∙ sym y.1))) b))) a
+          (λ x. ⊎_elim (λ y. absurd (no_insert y.0 x.0)) (⊎_elim (λ y. absurd (no_insert y.0 x.0)) (⊎_elim (λ y. x.1 ∙ sym y.1) (λ y. absurd (apart x.2 y.2)))) b)
+          (λ x. ⊎_elim (λ y. absurd (no_insert y.0 x.0)) (⊎_elim (λ y. absurd (no_insert y.0 x.0)) (⊎_elim (λ y. absurd (apart y.2 x.2)) (λ y. x.1 ∙ sym y.1))) b))) a
         where
           apart : {r : ℕ} → r ≡ 1 → r ≡ 0 → ⊥
           apart e e' = omega arith
+
       init_small : (i : ℕ) (v : Value) → form_of thunk ≡ Insert → slice_get (node_init thunk).cells i ≡ Some v → IsSmall v
       init_small i v form h =
-        let named = (fit.insert form).1 in
-        let is_key : key_of op ≡ named.0 = ap key_of named.2 in
-        let key_low : operand thunk 1 < 2 ^ 32 = (let low = allowed.keys (key_of op) (inl refl) in let at = named.3 in omega arith) in
-        let value_low : operand thunk 2 < 2 ^ 32 = (let low = allowed.value named.0 named.1 named.2 in let at = named.4 in omega arith) in
-        let head_low : operand thunk 3 < 2 ^ 32 = (let low = (walk_facts buckets bucket small (bounds buckets bucket layout) op readings).head_small in let at = named.5 in omega arith) in
-        cells i h key_low value_low head_low
+          let named = (fit.insert form).1 in
+          let is_key : key_of op ≡ named.0 = ap key_of named.2 in
+          let key_low : operand thunk 1 < 2 ^ 32 = (let low = allowed.keys (key_of op) (inl refl) in let at = named.3 in omega arith) in
+          let value_low : operand thunk 2 < 2 ^ 32 = (let low = allowed.value named.0 named.1 named.2 in let at = named.4 in omega arith) in
+          let head_low : operand thunk 3 < 2 ^ 32 = (let low = (walk_facts buckets bucket small (bounds buckets bucket layout) op readings).head_small in let at = named.5 in omega arith) in
+          cells i h key_low value_low head_low
         where
           some_inj : {x y : Value} → Some x ≡ Some y → x ≡ y
           some_inj e = cc
+
           cells : (i : ℕ) → slice_get (node_init thunk).cells i ≡ Some v → operand thunk 1 < 2 ^ 32 → operand thunk 2 < 2 ^ 32 → operand thunk 3 < 2 ^ 32 → IsSmall v
           cells zero h a b c = subst IsSmall (some_inj h) (omega arith)
           cells (suc zero) h a b c = subst IsSmall (some_inj h) a
@@ -279,9 +285,9 @@ module _ (buckets : ℕ) (bucket : ℕ → ℕ) (small : (key : ℕ) → bucket 
 -- contents are those of any memory that agrees on the slots in the chains
 contents_agree : (n n' : Nodes) (on : ℕ → Bool) (lookup : ℕ → Option ℕ) → Contents n on lookup → ((u : ℕ) → on u ≡ true → n'.key u ≡ n.key u) → ((u : ℕ) → on u ≡ true → n'.value u ≡ n.value u) → Contents n' on lookup
 contents_agree n n' on lookup contents keys values = record {
-    pair = λ t on_t. ap lookup (keys t on_t) ∙ contents.pair t on_t ∙ ap Some (sym (values t on_t));
-    slot = λ key value h. let there = contents.slot key value h in (there.0, there.1, keys there.0 there.1 ∙ there.2);
-  }
+  pair = λ t on_t. ap lookup (keys t on_t) ∙ contents.pair t on_t ∙ ap Some (sym (values t on_t));
+  slot = λ key value h. let there = contents.slot key value h in (there.0, there.1, keys there.0 there.1 ∙ there.2);
+}
 
 clip_same : (j n a b : ℕ) → (j < n → a ≡ b) → cond (nat_lt j n) a 0 ≡ cond (nat_lt j n) b 0
 clip_same j n a b h = grind arith
@@ -289,29 +295,31 @@ clip_same j n a b h = grind arith
 module _ (buckets : ℕ) (bucket : ℕ → ℕ) (small : (key : ℕ) → bucket key < buckets) (layout : Layout) (limits : IsWithinLimits layout) where
   -- a change of a cell that is no head and in no node of a chain
   change_stands : (s : Scene) (pairs : Pairs) (p w : ℕ) (stands : BucketsStand buckets bucket s.cells pairs) → ((i : ℕ) → i < buckets → bucket_head i ≢ p) → ((u k : ℕ) → stands.on u ≡ true → 1 ≤ k → k ≤ 3 → cell_at buckets bucket u k ≢ p)
-    → BucketsStand buckets bucket (upd s.cells p w) pairs
+      → BucketsStand buckets bucket (upd s.cells p w) pairs
   change_stands s pairs p w stands heads cells =
-    let same : (u k : ℕ) → stands.on u ≡ true → 1 ≤ k → k ≤ 3 → value_of (upd s.cells p w (cell_at buckets bucket u k)) ≡ value_of (s.cells (cell_at buckets bucket u k)) = λ u k on low high. ap value_of (upd_other s.cells p (cell_at buckets bucket u k) w (cells u k on low high)) in
-    record {
-      on = stands.on; rank = stands.rank;
-      chains = chains_agree bucket (nodes buckets bucket s.cells) (nodes buckets bucket (upd s.cells p w)) stands.on stands.rank stands.chains
-        (λ i. clip_same i buckets (value_of (upd s.cells p w (bucket_head i))) (value_of (s.cells (bucket_head i))) (λ low. ap value_of (upd_other s.cells p (bucket_head i) w (heads i low))))
-        (λ u on. same u 1 on (omega arith) (omega arith)) (λ u on. same u 3 on (omega arith) (omega arith));
-      contents = contents_agree (nodes buckets bucket s.cells) (nodes buckets bucket (upd s.cells p w)) stands.on (get pairs) stands.contents (λ u on. same u 1 on (omega arith) (omega arith)) (λ u on. same u 2 on (omega arith) (omega arith));
-    }
+      let same : (u k : ℕ) → stands.on u ≡ true → 1 ≤ k → k ≤ 3 → value_of (upd s.cells p w (cell_at buckets bucket u k)) ≡ value_of (s.cells (cell_at buckets bucket u k)) = λ u k on low high. ap value_of (upd_other s.cells p (cell_at buckets bucket u k) w (cells u k on low high)) in
+      record {
+        on = stands.on;
+        rank = stands.rank;
+        chains = chains_agree bucket (nodes buckets bucket s.cells) (nodes buckets bucket (upd s.cells p w)) stands.on stands.rank stands.chains
+            (λ i. clip_same i buckets (value_of (upd s.cells p w (bucket_head i))) (value_of (s.cells (bucket_head i))) (λ low. ap value_of (upd_other s.cells p (bucket_head i) w (heads i low))))
+            (λ u on. same u 1 on (omega arith) (omega arith)) (λ u on. same u 3 on (omega arith) (omega arith));
+        contents = contents_agree (nodes buckets bucket s.cells) (nodes buckets bucket (upd s.cells p w)) stands.on (get pairs) stands.contents (λ u on. same u 1 on (omega arith) (omega arith)) (λ u on. same u 2 on (omega arith) (omega arith));
+      }
 
   table_in_turn : InTurn (table buckets bucket) layout
   table_in_turn = record {
-      answers = λ s pairs d x before stamp map. table_answers buckets bucket small layout limits s pairs d x before stamp;
-      stores = λ s pairs d x before stamp. table_stores buckets bucket small layout limits s pairs d x before stamp;
-      lock = λ s pairs p w before lock. let at = lock_at buckets p lock in change_stands s pairs p w before.stands (λ i low e. head_lock i p at.1 e) (λ u k on low high e. let below = at.0 in omega arith);
-      hand = λ s pairs t i w before free low. change_stands s pairs (3 * buckets + 5 * t + i) w before.stands (λ j lower e. omega arith)
+    answers = λ s pairs d x before stamp map. table_answers buckets bucket small layout limits s pairs d x before stamp;
+    stores = λ s pairs d x before stamp. table_stores buckets bucket small layout limits s pairs d x before stamp;
+    lock = λ s pairs p w before lock. let at = lock_at buckets p lock in change_stands s pairs p w before.stands (λ i low e. head_lock i p at.1 e) (λ u k on low high e. let below = at.0 in omega arith);
+    hand = λ s pairs t i w before free low. change_stands s pairs (3 * buckets + 5 * t + i) w before.stands (λ j lower e. omega arith)
         (λ u k on first last e. live_free (s.status u) (before.kept.on_live u (same_on bucket (nodes buckets bucket s.cells) before.stands.on before.kept.on before.stands.rank before.kept.rank before.stands.chains before.kept.chains u on))
-          (ap s.status (one_slot (3 * buckets) u t k i (omega arith) low e) ∙ free));
-    }
+        (ap s.status (one_slot (3 * buckets) u t k i (omega arith) low e) ∙ free));
+  }
     where
       head_lock : (i p : ℕ) → p % 3 ≡ 0 → 3 * i + 2 ≡ p → ⊥
       head_lock i p at e = omega arith
+
       one_slot : (n u t k i : ℕ) → k < 5 → i < 5 → n + 5 * u + k ≡ n + 5 * t + i → u ≡ t
       one_slot n u t k i low low' e = omega arith
 
@@ -325,15 +333,22 @@ module _ (buckets : ℕ) (bucket : ℕ → ℕ) (small : (key : ℕ) → bucket 
 
   first_chains : (s : Scene) → IsFirst (table buckets bucket) s → Chains bucket (nodes buckets bucket s.cells) (λ t. false) (λ t. 0)
   first_chains s first = record {
-      head_on = λ i t h. absurd (zero_suc t (sym (head i) ∙ h));
-      head_top = λ i t u h on. absurd (false_true on); head_none = λ i u h on. absurd (false_true on); next_on = λ p t on. absurd (false_true on); next_top = λ p t u on. absurd (false_true on);
-      next_none = λ p u on. absurd (false_true on); rank_once = λ p t on. absurd (false_true on); key_once = λ p t on. absurd (false_true on);
-    }
+    head_on = λ i t h. absurd (zero_suc t (sym (head i) ∙ h));
+    head_top = λ i t u h on. absurd (false_true on);
+    head_none = λ i u h on. absurd (false_true on);
+    next_on = λ p t on. absurd (false_true on);
+    next_top = λ p t u on. absurd (false_true on);
+    next_none = λ p u on. absurd (false_true on);
+    rank_once = λ p t on. absurd (false_true on);
+    key_once = λ p t on. absurd (false_true on);
+  }
     where
       false_true : false ≡ true → ⊥
       false_true e = cc
+
       zero_suc : (t : ℕ) → 0 ≡ suc t → ⊥
       zero_suc t e = omega arith
+
       head : (i : ℕ) → cond (nat_lt i buckets) (value_of (s.cells (bucket_head i))) 0 ≡ 0
       head i = ap (λ v. cond (nat_lt i buckets) v 0) (first_value s first (bucket_head i)) ∙ either (nat_lt i buckets)
         where
@@ -343,48 +358,62 @@ module _ (buckets : ℕ) (bucket : ℕ → ℕ) (small : (key : ℕ) → bucket 
 
   first_kept : (s : Scene) → IsFirst (table buckets bucket) s → BucketsKept buckets bucket layout s
   first_kept s first = record {
-      on = λ t. false; rank = λ t. 0; chains = first_chains s first; on_live = λ t on. absurd (false_true on);
-      readers = λ r readings op h. absurd (none_some (sym (first.reader r) ∙ h));
-      sections = λ d x h. absurd (none_section (sym (first.section d) ∙ h));
-      made = λ d x h. absurd (none_section (sym (first.section d) ∙ h)); linked = λ d x h. absurd (none_section (sym (first.section d) ∙ h)); taken = λ d x h. absurd (none_section (sym (first.section d) ∙ h));
-      live = λ t h. absurd (not_live t (sym (first.status t) ∙ h));
-      limbo = λ q y t h. absurd (not_retired q y (sym (first.status q) ∙ h));
-    }
+    on = λ t. false;
+    rank = λ t. 0;
+    chains = first_chains s first;
+    on_live = λ t on. absurd (false_true on);
+    readers = λ r readings op h. absurd (none_some (sym (first.reader r) ∙ h));
+    sections = λ d x h. absurd (none_section (sym (first.section d) ∙ h));
+    made = λ d x h. absurd (none_section (sym (first.section d) ∙ h));
+    linked = λ d x h. absurd (none_section (sym (first.section d) ∙ h));
+    taken = λ d x h. absurd (none_section (sym (first.section d) ∙ h));
+    live = λ t h. absurd (not_live t (sym (first.status t) ∙ h));
+    limbo = λ q y t h. absurd (not_retired q y (sym (first.status q) ∙ h));
+  }
     where
       false_true : false ≡ true → ⊥
       false_true e = cc
+
       none_some : {x : Readings} → None ≡ Some x → ⊥
       none_some e = cc
+
       none_section : {x : Section} → None ≡ Some x → ⊥
       none_section e = cc
+
       not_live : (t : ℕ) → cond (nat_lt t 0) Live Free ≡ Live → ⊥
       not_live t h = grind arith
+
       not_retired : (t y : ℕ) → cond (nat_lt t 0) Live Free ≡ Retired y → ⊥
       not_retired t y h = grind arith
 
   first_stands : (s : Scene) → IsFirst (table buckets bucket) s → BucketsStand buckets bucket s.cells empty
-  first_stands s first = record { on = λ t. false; rank = λ t. 0; chains = first_chains s first;
-      contents = record { pair = λ t on. absurd (false_true on); slot = λ key value h. absurd (none_some (sym (get-empty nat_cmp key) ∙ h)) } }
+  first_stands s first = record {
+    on = λ t. false;
+    rank = λ t. 0;
+    chains = first_chains s first;
+    contents = record { pair = λ t on. absurd (false_true on); slot = λ key value h. absurd (none_some (sym (get-empty nat_cmp key) ∙ h)) };
+  }
     where
       false_true : false ≡ true → ⊥
       false_true e = cc
+
       none_some : {v : ℕ} → None ≡ Some v → ⊥
       none_some e = cc
 
 -- the hash table over any number of buckets, and any function of keys to buckets
 pub table_laws : (buckets : ℕ) (bucket : ℕ → ℕ) → ((key : ℕ) → bucket key < buckets) → 3 * buckets ≤ 12288 → Laws (table buckets bucket)
 table_laws buckets bucket small few = record {
-    first = record { few_cells = few; few_slots = omega arith; small = λ p fixed. omega arith; locks_free = λ p fixed lock. refl; links = λ p t fixed link h. absurd (omega arith) };
-    unlinked_lock = λ cells p lock. no_link p (lock_at buckets p lock);
-    over = λ layout limits. record {
-      begins = first_kept buckets bucket small layout limits;
-      empty = first_stands buckets bucket small layout limits;
-      shape = λ s sound kept r readings op thunk reader allowed fits. table_shaped buckets bucket small few layout limits s sound r readings op thunk reader allowed fits;
-      in_turn = table_in_turn buckets bucket small layout limits;
-      keeps = table_keeps buckets bucket small layout limits;
-      gives = λ s sound kept. table_gives buckets bucket small layout s sound kept;
-    };
-  }
+  first = record { few_cells = few; few_slots = omega arith; small = λ p fixed. omega arith; locks_free = λ p fixed lock. refl; links = λ p t fixed link h. absurd (omega arith) };
+  unlinked_lock = λ cells p lock. no_link p (lock_at buckets p lock);
+  over = λ layout limits. record {
+    begins = first_kept buckets bucket small layout limits;
+    empty = first_stands buckets bucket small layout limits;
+    shape = λ s sound kept r readings op thunk reader allowed fits. table_shaped buckets bucket small few layout limits s sound r readings op thunk reader allowed fits;
+    in_turn = table_in_turn buckets bucket small layout limits;
+    keeps = table_keeps buckets bucket small layout limits;
+    gives = λ s sound kept. table_gives buckets bucket small layout s sound kept;
+  };
+}
   where
     no_link : (p : ℕ) → (p < 3 * buckets) × (p % 3 ≡ 0) → is_link_place buckets bucket p ≡ false
     no_link p at = let low = at.0 in let rest = at.1 in grind arith
@@ -448,7 +477,7 @@ quotient_12 n low = omega arith
 -- the hash function leads to a bucket
 bucket_small : (bits key : ℕ) → bits ≤ 12 → bucket_index key bits < 2 ^ bits
 bucket_small bits key few = let low = remainder_small (key * 2654435769) in
-  each_bits (λ bits. bucket_index key bits < 2 ^ bits) (omega arith) (quotient_1 (key * 2654435769 % 2 ^ 32) low) (quotient_2 (key * 2654435769 % 2 ^ 32) low) (quotient_3 (key * 2654435769 % 2 ^ 32) low) (quotient_4 (key * 2654435769 % 2 ^ 32) low) (quotient_5 (key * 2654435769 % 2 ^ 32) low) (quotient_6 (key * 2654435769 % 2 ^ 32) low) (quotient_7 (key * 2654435769 % 2 ^ 32) low) (quotient_8 (key * 2654435769 % 2 ^ 32) low) (quotient_9 (key * 2654435769 % 2 ^ 32) low) (quotient_10 (key * 2654435769 % 2 ^ 32) low) (quotient_11 (key * 2654435769 % 2 ^ 32) low) (quotient_12 (key * 2654435769 % 2 ^ 32) low) bits few
+    each_bits (λ bits. bucket_index key bits < 2 ^ bits) (omega arith) (quotient_1 (key * 2654435769 % 2 ^ 32) low) (quotient_2 (key * 2654435769 % 2 ^ 32) low) (quotient_3 (key * 2654435769 % 2 ^ 32) low) (quotient_4 (key * 2654435769 % 2 ^ 32) low) (quotient_5 (key * 2654435769 % 2 ^ 32) low) (quotient_6 (key * 2654435769 % 2 ^ 32) low) (quotient_7 (key * 2654435769 % 2 ^ 32) low) (quotient_8 (key * 2654435769 % 2 ^ 32) low) (quotient_9 (key * 2654435769 % 2 ^ 32) low) (quotient_10 (key * 2654435769 % 2 ^ 32) low) (quotient_11 (key * 2654435769 % 2 ^ 32) low) (quotient_12 (key * 2654435769 % 2 ^ 32) low) bits few
 
 buckets_few : (bits : ℕ) → bits ≤ 12 → 3 * 2 ^ bits ≤ 12288
 buckets_few bits few = each_bits (λ bits. 3 * 2 ^ bits ≤ 12288) (omega arith) (omega arith) (omega arith) (omega arith) (omega arith) (omega arith) (omega arith) (omega arith) (omega arith) (omega arith) (omega arith) (omega arith) (omega arith) bits few

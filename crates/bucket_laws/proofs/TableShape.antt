@@ -31,10 +31,10 @@ two_used body i a b first second = All-cons (SetBefore body i) a (b ∷ []) firs
 
 node_used : (body : List Step) (i : ℕ) (t : Thunk) → All (SetBefore body i) (node_init t).cells
 node_used body i t =
-  let p = SetBefore body i in
-  All-cons p (Const 0) (Const (operand t 1) ∷ Const (operand t 2) ∷ Const (operand t 3) ∷ Const 0 ∷ []) tt
+    let p = SetBefore body i in
+    All-cons p (Const 0) (Const (operand t 1) ∷ Const (operand t 2) ∷ Const (operand t 3) ∷ Const 0 ∷ []) tt
     (All-cons p (Const (operand t 1)) (Const (operand t 2) ∷ Const (operand t 3) ∷ Const 0 ∷ []) tt
-      (All-cons p (Const (operand t 2)) (Const (operand t 3) ∷ Const 0 ∷ []) tt (two_used body i (Const (operand t 3)) (Const 0) tt tt)))
+    (All-cons p (Const (operand t 2)) (Const (operand t 3) ∷ Const 0 ∷ []) tt (two_used body i (Const (operand t 3)) (Const 0) tt tt)))
 
 -- register 0 holds the edition's word
 read_edition : (t : Thunk) (i : ℕ) → 0 < i → LoadedBefore (read_steps t) i 0
@@ -89,23 +89,24 @@ remove_used t (suc (suc (suc (suc (suc (suc (suc (suc (suc (suc i)))))))))) step
 
 pub read_shaped : (t : Thunk) → IsShaped (read_steps t)
 read_shaped t = record {
-    short = omega arith;
-    phases = λ i j earlier later lt a b. grind arith;
-    makes = omega arith;
-    stamps = refl;
-    answers = refl;
-    used = read_used t;
-    within = λ i step h. grind arith;
-    set_once = λ i j reg earlier later lt a b c d. grind arith;
-    fresh = λ i reg value h. absurd (grind arith);
-    stored_once = λ i j a b v w lt x y e. grind arith;
-  }
+  short = omega arith;
+  phases = λ i j earlier later lt a b. grind arith;
+  makes = omega arith;
+  stamps = refl;
+  answers = refl;
+  used = read_used t;
+  within = λ i step h. grind arith;
+  set_once = λ i j reg earlier later lt a b c d. grind arith;
+  fresh = λ i reg value h. absurd (grind arith);
+  stored_once = λ i j a b v w lt x y e. grind arith;
+}
 
 insert_fresh : (t : Thunk) (i reg : ℕ) (value : Value) → IsStep (insert_steps t) i (Store reg value) → FreshBefore (insert_steps t) i reg
 insert_fresh t i reg value h = pick (places t i reg value h)
   where
     places : (t : Thunk) (i reg : ℕ) (value : Value) → IsStep (insert_steps t) i (Store reg value) → ((i ≡ 7) × (reg ≡ 1)) ⊎ ((i ≡ 8) × (reg ≡ 0))
     places t i reg value h = grind arith
+
     pick : ((i ≡ 7) × (reg ≡ 1)) ⊎ ((i ≡ 8) × (reg ≡ 0)) → FreshBefore (insert_steps t) i reg
     pick (inl a) = record { by = 4; earlier = (let at = a.0 in omega arith); tests = ap (λ r. Some (Fresh r)) (sym a.1) }
     pick (inr b) = record { by = 2; earlier = (let at = b.0 in omega arith); tests = ap (λ r. Some (Fresh r)) (sym b.1) }
@@ -127,23 +128,24 @@ insert_set_once i j reg lt a b = grind arith
 
 pub insert_shaped : (t : Thunk) → IsShaped (insert_steps t)
 insert_shaped t = record {
-    short = omega arith;
-    phases = λ i j earlier later lt a b. let first = insert_phase_at t i earlier a in let second = insert_phase_at t j later b in let rises = insert_phase_rises i j lt in omega arith;
-    makes = omega arith;
-    stamps = refl;
-    answers = refl;
-    used = insert_used t;
-    within = λ i step h. grind arith;
-    set_once = λ i j reg earlier later lt a b c d. insert_set_once i j reg lt (insert_setter t i reg earlier a c) (insert_setter t j reg later b d);
-    fresh = insert_fresh t;
-    stored_once = λ i j a b v w lt x y e. grind arith;
-  }
+  short = omega arith;
+  phases = λ i j earlier later lt a b. let first = insert_phase_at t i earlier a in let second = insert_phase_at t j later b in let rises = insert_phase_rises i j lt in omega arith;
+  makes = omega arith;
+  stamps = refl;
+  answers = refl;
+  used = insert_used t;
+  within = λ i step h. grind arith;
+  set_once = λ i j reg earlier later lt a b c d. insert_set_once i j reg lt (insert_setter t i reg earlier a c) (insert_setter t j reg later b d);
+  fresh = insert_fresh t;
+  stored_once = λ i j a b v w lt x y e. grind arith;
+}
 
 remove_fresh : (t : Thunk) (i reg : ℕ) (value : Value) → IsStep (remove_steps t) i (Store reg value) → FreshBefore (remove_steps t) i reg
 remove_fresh t i reg value h = pick (places t i reg value h)
   where
     places : (t : Thunk) (i reg : ℕ) (value : Value) → IsStep (remove_steps t) i (Store reg value) → ((i ≡ 6) × (reg ≡ 1)) ⊎ ((i ≡ 7) × (reg ≡ 0))
     places t i reg value h = grind arith
+
     pick : ((i ≡ 6) × (reg ≡ 1)) ⊎ ((i ≡ 7) × (reg ≡ 0)) → FreshBefore (remove_steps t) i reg
     pick (inl a) = record { by = 4; earlier = (let at = a.0 in omega arith); tests = ap (λ r. Some (Fresh r)) (sym a.1) }
     pick (inr b) = record { by = 2; earlier = (let at = b.0 in omega arith); tests = ap (λ r. Some (Fresh r)) (sym b.1) }
@@ -181,15 +183,14 @@ remove_set_once i j reg lt a b = grind arith
 
 pub remove_shaped : (t : Thunk) → operand t 1 ≢ t.lock + 1 → IsShaped (remove_steps t)
 remove_shaped t apart = record {
-    short = omega arith;
-    phases = λ i j earlier later lt a b. let first = remove_phase_at t i earlier a in let second = remove_phase_at t j later b in let rises = remove_phase_rises i j lt in omega arith;
-    makes = omega arith;
-    stamps = refl;
-    answers = refl;
-    used = remove_used t;
-    within = λ i step h. grind arith;
-    set_once = λ i j reg earlier later lt a b c d. remove_set_once i j reg lt (remove_setter t i reg earlier a c) (remove_setter t j reg later b d);
-    fresh = remove_fresh t;
-    stored_once = λ i j a b v w lt x y e. apart (remove_places t i j a b v w lt x y e);
-  }
-
+  short = omega arith;
+  phases = λ i j earlier later lt a b. let first = remove_phase_at t i earlier a in let second = remove_phase_at t j later b in let rises = remove_phase_rises i j lt in omega arith;
+  makes = omega arith;
+  stamps = refl;
+  answers = refl;
+  used = remove_used t;
+  within = λ i step h. grind arith;
+  set_once = λ i j reg earlier later lt a b c d. remove_set_once i j reg lt (remove_setter t i reg earlier a c) (remove_setter t j reg later b d);
+  fresh = remove_fresh t;
+  stored_once = λ i j a b v w lt x y e. apart (remove_places t i j a b v w lt x y e);
+}

@@ -78,7 +78,7 @@ module _ (buckets : ℕ) (bucket : ℕ → ℕ) where
   -- what the walk has read of the key's node stands there still
   abbrev pub IsFound : Cells → (ℕ → Bool) → Op → Walk → Type 0
   IsFound cells on op w = IsReached cells on (bucket (key_of op)) w × (value_of (cells (cell_at buckets bucket w.slot 1)) ≡ key_of op)
-    × (value_of (cells (cell_at buckets bucket w.slot 2)) ≡ w.value) × (is_del op ≡ true → value_of (cells (cell_at buckets bucket w.slot 3)) ≡ w.next)
+      × (value_of (cells (cell_at buckets bucket w.slot 2)) ≡ w.value) × (is_del op ≡ true → value_of (cells (cell_at buckets bucket w.slot 3)) ≡ w.next)
 
   -- no node has the key
   abbrev pub IsMissing : Cells → (ℕ → Bool) → ℕ → Type 0
@@ -88,13 +88,13 @@ module _ (buckets : ℕ) (bucket : ℕ → ℕ) where
   abbrev pub Knows : Cells → (ℕ → Bool) → (ℕ → ℕ) → Op → Walk → Stage → Type 0
   Knows cells on rank op w AtEdition = Unit {0}
   Knows cells on rank op w AtLink = let i = bucket (key_of op) in
-    IsLinkOf cells on i w.place × IsAhead cells on rank (key_of op) (value_of (cells w.place)) × (w.place ≢ bucket_head i → w.head ≡ value_of (cells (bucket_head i)))
+      IsLinkOf cells on i w.place × IsAhead cells on rank (key_of op) (value_of (cells w.place)) × (w.place ≢ bucket_head i → w.head ≡ value_of (cells (bucket_head i)))
   Knows cells on rank op w AtKey = let i = bucket (key_of op) in
-    IsReached cells on i w × IsAhead cells on rank (key_of op) (suc w.slot) × (w.head ≡ value_of (cells (bucket_head i)))
+      IsReached cells on i w × IsAhead cells on rank (key_of op) (suc w.slot) × (w.head ≡ value_of (cells (bucket_head i)))
   Knows cells on rank op w AtValue = let i = bucket (key_of op) in
-    IsReached cells on i w × (value_of (cells (cell_at buckets bucket w.slot 1)) ≡ key_of op) × (w.head ≡ value_of (cells (bucket_head i)))
+      IsReached cells on i w × (value_of (cells (cell_at buckets bucket w.slot 1)) ≡ key_of op) × (w.head ≡ value_of (cells (bucket_head i)))
   Knows cells on rank op w AtNext = let i = bucket (key_of op) in
-    IsReached cells on i w × (value_of (cells (cell_at buckets bucket w.slot 1)) ≡ key_of op) × (value_of (cells (cell_at buckets bucket w.slot 2)) ≡ w.value) × (w.head ≡ value_of (cells (bucket_head i)))
+      IsReached cells on i w × (value_of (cells (cell_at buckets bucket w.slot 1)) ≡ key_of op) × (value_of (cells (cell_at buckets bucket w.slot 2)) ≡ w.value) × (w.head ≡ value_of (cells (bucket_head i)))
   Knows cells on rank op w AtLock = (w.head ≡ value_of (cells (bucket_head (bucket (key_of op))))) × (w.found ≡ true → IsFound cells on op w) × (w.found ≡ false → IsMissing cells on (key_of op))
   Knows cells on rank op w AtEnd = (w.head ≡ value_of (cells (bucket_head (bucket (key_of op))))) × (w.found ≡ true → IsFound cells on op w) × (w.found ≡ false → IsMissing cells on (key_of op))
   Knows cells on rank op w Refused = Unit {0}
@@ -102,7 +102,7 @@ module _ (buckets : ℕ) (bucket : ℕ → ℕ) where
   -- as long as the bucket's edition is the one that the walk read, and no change is pending, the walk knows this
   abbrev pub IsWalked : Scene → (ℕ → Bool) → (ℕ → ℕ) → Op → Walk → Type 0
   IsWalked s on rank op w = let i = bucket (key_of op) in
-    s.cells (bucket_edition i) ≡ w.edition → ((d : ℕ) (x : Section) → s.section d ≡ Some x → IsPending x i → ⊥) → Knows s.cells on rank op w w.stage
+      s.cells (bucket_edition i) ≡ w.edition → ((d : ℕ) (x : Section) → s.section d ≡ Some x → IsPending x i → ⊥) → Knows s.cells on rank op w w.stage
 
   abbrev pub bounds : Layout → Bounds
   bounds layout = record { links = slot_count layout 0 + 8; version_max = layout.version_max }
@@ -139,8 +139,8 @@ module _ (buckets : ℕ) (bucket : ℕ → ℕ) where
     pub taken : (d : ℕ) (x : Section) → s.section d ≡ Some x → form_of x.thunk ≡ Remove → 7 ≤ x.at → x.at ≤ 8 → IsTaken s on x
     -- a live slot stands in a chain, or is a section's new node, or one that it has taken out
     pub live : (t : ℕ) → s.status t ≡ Live → (on t ≡ true)
-      ⊎ ((d : ℕ) × (x : Section) × (s.section d ≡ Some x) × (form_of x.thunk ≡ Insert) × (6 ≤ x.at) × (x.at ≤ 7) × (x.reg 2 ≡ suc t))
-      ⊎ ((d : ℕ) × (x : Section) × (s.section d ≡ Some x) × (form_of x.thunk ≡ Remove) × (7 ≤ x.at) × (x.at ≤ 8) × (operand x.thunk 2 ≡ t))
+        ⊎ ((d : ℕ) × (x : Section) × (s.section d ≡ Some x) × (form_of x.thunk ≡ Insert) × (6 ≤ x.at) × (x.at ≤ 7) × (x.reg 2 ≡ suc t))
+        ⊎ ((d : ℕ) × (x : Section) × (s.section d ≡ Some x) × (form_of x.thunk ≡ Remove) × (7 ≤ x.at) × (x.at ≤ 8) × (operand x.thunk 2 ≡ t))
     pub limbo : (q y t : ℕ) → s.status q ≡ Retired y → s.epoch ≤ y + 1 → value_of (s.cells (cell_at buckets bucket q 3)) ≡ suc t → (s.status t ≡ Live) ⊎ ((z : ℕ) × (s.status t ≡ Retired z) × (y ≤ z))
 
   -- the chains end, no slot stands twice, keys differ and belong to their bucket; and the pairs are the map's
