@@ -6,26 +6,39 @@
 //! bodies. `gate`, `step_kind` and `steps` are what a runner is stopped and counted by.
 #![tactic(auto)]
 
+mod act;
 mod body;
+mod bucket;
+mod check;
+mod costs;
+mod fault;
 mod gate;
+mod line;
 mod memory;
 mod micro;
 mod misshape;
 mod outcome;
+mod plain_run;
 mod step;
 mod step_kind;
 mod steps;
+#[cfg(test)]
+mod tests;
 mod thunk;
 mod trail;
 mod value;
 mod word;
 
 pub use body::Body;
+pub use bucket::{bucket_body, bucket_of};
+pub use costs::cost;
 pub use gate::{Gate, Pass};
+pub use line::micro_at;
 pub use memory::Memory;
 pub use micro::{Micro, Source};
 pub use misshape::Misshape;
 pub use outcome::{Outcome, Refused};
+pub use plain_run::plain;
 pub use step::Step;
 pub use step_kind::StepKind;
 pub use steps::Steps;

@@ -1,6 +1,6 @@
 //! Cell words: a value with the version at which it was written.
-ghost use Rattle.std.specs.Prelude.{◌≡◌};
-ghost use Rattle.section_body.specs.Word.{value_of, version_of, pack};
+ghost use Rattle.std.specs.Prelude.{◌≡◌, ◌+◌, ◌<◌, ◌^◌};
+ghost use Rattle.section_body.specs.Word.{value_of, version_of, pack, next_word};
 
 use std::marker::Model;
 
@@ -26,7 +26,9 @@ impl Model for Word {
 impl Word {
     /// The word with this value and this version.
     pub fn pack(value: u32, version: u32) -> Word
-        ensures { result ≡ pack value version }
+        ensures number { result ≡ pack value version }
+        ensures value { value_of result ≡ value }
+        ensures version { version_of result ≡ version }
     {
         Word {
             number: ((version as u64) << 32) | value as u64,
@@ -54,9 +56,18 @@ impl Word {
         (self.number >> 32) as u32
     }
 
+    /// The word that follows this one in its cell, with this value.
+    pub fn next(self, value: u32) -> Word
+        requires { version_of self + 1 < 2 ^ 32 }
+        ensures { result ≡ next_word self value }
+    {
+        Word::pack(value, self.version() + 1)
+    }
+
     /// The number that stands in memory for the word.
     pub fn bits(self) -> u64
-        ensures { result ≡ self }
+        ensures number { result ≡ self }
+        ensures parts { pack (value_of result) (version_of result) ≡ result }
     {
         self.number
     }
