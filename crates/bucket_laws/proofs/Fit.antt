@@ -1,10 +1,10 @@
 -- What a thunk that fits a walk has for operands.
-use Rattle.std.proofs.Common.{◌≡◌, ◌≢◌, ℕ, zero, suc, ◌+◌, ◌*◌, ◌<◌, ◌≤◌, Bool, true, false, cond, refl, sym, ap, ◌∙◌, subst, inl, inr, arith, rules}
-use Rattle.std.specs.Prelude.{◌==◌, ◌&&◌, ◌^◌, ◌⊎◌, Option, Some, None, List, [], ◌∷◌, slice_index}
+use Rattle.std.proofs.Common.{◌≡◌, ℕ, ◌+◌, Bool, true, false, cond, refl, sym, ap, ◌∙◌, subst, arith}
+use Rattle.std.specs.Prelude.{◌==◌, ◌&&◌, List, [], ◌∷◌, slice_index}
 use Rattle.map_history.specs.declared.op.Op.{Op}
 use Rattle.map_history.specs.declared.op.Op.TheVariants.{Get, Ins, Del}
 use Rattle.map_history.specs.Keys.{key_of}
-use Rattle.section_body.specs.Bucket.{bucket_lock, operand, is_small}
+use Rattle.section_body.specs.Bucket.{bucket_lock, operand, is_small, fits_insert, fits_remove}
 use Rattle.section_body.specs.declared.thunk.Thunk.{Thunk}
 use Rattle.bucket_laws.specs.Walk.{Stage, AtEdition, AtLink, AtKey, AtValue, AtNext, AtLock, AtEnd, Refused, Walk, is_del, is_end, same_numbers, form_for, operands_for, fits_walk}
 use Rattle.bucket_laws.specs.Buckets.{Form, Read, Insert, Remove, Empty, form_of}
@@ -42,10 +42,10 @@ form_number false p false q true true f h = (λ e. absurd (cc), λ e. (refl, ref
 form_number false p false q true false f h = (λ e. absurd (cc), λ e. absurd (cc), λ e. absurd (cc))
 form_number false p false q false r f h = (λ e. absurd (cc), λ e. absurd (cc), λ e. absurd (cc))
 
-numbers_of : (t : Thunk) (f : Form) → form_of t ≡ f → ((f ≡ Insert) → ((t.form == 2) ≡ true) × ((is_small (t.lock + 2) && is_small (operand t 1) && is_small (operand t 2) && is_small (operand t 3)) ≡ true))
-    × ((f ≡ Remove) → ((t.form == 3) ≡ true) × ((is_small (t.lock + 1) && is_small (operand t 1) && is_small (operand t 2) && is_small (operand t 3)) ≡ true)) × ((f ≡ Read) → ((t.form == 1) ≡ true) × (is_small (t.lock + 1) ≡ true))
-numbers_of t f h = form_number (t.form == 1) (is_small (t.lock + 1)) (t.form == 2) (is_small (t.lock + 2) && is_small (operand t 1) && is_small (operand t 2) && is_small (operand t 3)) (t.form == 3)
-    (is_small (t.lock + 1) && is_small (operand t 1) && is_small (operand t 2) && is_small (operand t 3)) f h
+numbers_of : (t : Thunk) (f : Form) → form_of t ≡ f → ((f ≡ Insert) → ((t.form == 2) ≡ true) × ((fits_insert t) ≡ true))
+    × ((f ≡ Remove) → ((t.form == 3) ≡ true) × ((fits_remove t) ≡ true)) × ((f ≡ Read) → ((t.form == 1) ≡ true) × (is_small (t.lock + 1) ≡ true))
+numbers_of t f h = form_number (t.form == 1) (is_small (t.lock + 1)) (t.form == 2) (fits_insert t) (t.form == 3)
+    (fits_remove t) f h
 
 pub insert_number : (t : Thunk) → form_of t ≡ Insert → t.form ≡ 2
 insert_number t h = equal_of t.form 2 ((numbers_of t Insert h).0 refl).0

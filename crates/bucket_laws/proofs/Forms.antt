@@ -1,19 +1,19 @@
 -- The steps of the hash table's bodies, found by their kind.
-use Rattle.std.proofs.Common.{◌≡◌, ◌≢◌, ℕ, zero, suc, ◌+◌, ◌<◌, ◌≤◌, Bool, true, false, cond, refl, sym, ap, ◌∙◌, subst, inl, inr, arith, rules}
-use Rattle.std.specs.Prelude.{◌==◌, ◌&&◌, ◌*◌, ◌^◌, ◌⊎◌, Option, Some, None, List, [], ◌∷◌, slice_get}
-use Rattle.section_body.specs.Bucket.{operand, is_small, read_steps, insert_steps, remove_steps, bucket_steps}
+use Rattle.std.proofs.Common.{◌≡◌, ℕ, ◌+◌, Bool, true, false, cond, refl, sym, ap, ◌∙◌, inl, inr, arith}
+use Rattle.std.specs.Prelude.{◌==◌, ◌*◌, ◌^◌, ◌⊎◌, Some, [], ◌∷◌, slice_get}
+use Rattle.section_body.specs.Bucket.{operand, is_small, fits_insert, fits_remove, read_steps, insert_steps, remove_steps, bucket_steps}
 use Rattle.section_body.specs.declared.value.Value.{Value}
-use Rattle.section_body.specs.declared.value.Value.TheVariants.{Const, Of, Made}
+use Rattle.section_body.specs.declared.value.Value.TheVariants.{Const, Made}
 use Rattle.section_body.specs.declared.value.Init.{Init}
 use Rattle.section_body.specs.declared.step.Step.{Step}
-use Rattle.section_body.specs.declared.step.Step.TheVariants.{Load, Want, Fresh, Take, Make, Stamp, Store, Retire, Answer}
+use Rattle.section_body.specs.declared.step.Step.TheVariants.{Load, Take, Make, Stamp, Store, Retire, Answer}
 use Rattle.section_body.specs.declared.thunk.Thunk.{Thunk}
 use Rattle.bucket_laws.specs.Buckets.{Form, Read, Insert, Remove, Empty, form_of, body_of}
 
 -- a body goes by its form
 pub steps_of : (t : Thunk) → bucket_steps t ≡ body_of (form_of t) t
-steps_of t = go (t.form == 1) (is_small (t.lock + 1)) (t.form == 2) (is_small (t.lock + 2) && is_small (operand t 1) && is_small (operand t 2) && is_small (operand t 3)) (t.form == 3)
-    (is_small (t.lock + 1) && is_small (operand t 1) && is_small (operand t 2) && is_small (operand t 3))
+steps_of t = go (t.form == 1) (is_small (t.lock + 1)) (t.form == 2) (fits_insert t) (t.form == 3)
+    (fits_remove t)
   where
     go : (a p b q c r : Bool) → cond a (cond p (read_steps t) []) (cond b (cond q (insert_steps t) []) (cond c (cond r (remove_steps t) []) []))
         ≡ body_of (cond a (cond p Read Empty) (cond b (cond q Insert Empty) (cond c (cond r Remove Empty) Empty))) t

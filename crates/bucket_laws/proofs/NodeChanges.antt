@@ -1,12 +1,12 @@
 -- Heads and nodes after one cell has changed.
-use Rattle.std.proofs.Common.{◌≡◌, ◌≢◌, ℕ, zero, suc, ◌+◌, ◌*◌, ◌<◌, ◌≤◌, Bool, true, false, cond, refl, sym, ap, ◌∙◌, subst, inl, inr, ⊎_elim, arith, rules}
+use Rattle.std.proofs.Common.{◌≡◌, ◌≢◌, ℕ, ◌<◌, ◌≤◌, cond, sym, ap, ◌∙◌, arith}
 use Rattle.std.proofs.Math.Path.{fun_ext}
-use Rattle.std.specs.Prelude.{◌==◌, ◌⊎◌, nat_lt}
+use Rattle.std.specs.Prelude.{nat_lt}
 use mathlib.Core.Logic.{dite}
 use native.Mathlib.Decide.{ℕ_discrete}
 use Rattle.section_body.specs.Update.{upd}
 use Rattle.section_body.specs.Word.{value_of}
-use Rattle.section_body.specs.Bucket.{bucket_edition, bucket_head}
+use Rattle.section_body.specs.Bucket.{bucket_head}
 use Rattle.structure_laws.specs.Scene.{Cells}
 use Rattle.structure_laws.proofs.Changes.{upd_same, upd_other}
 use Rattle.bucket_laws.specs.Chain.{Nodes, with_head, with_next}

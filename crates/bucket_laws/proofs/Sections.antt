@@ -1,22 +1,19 @@
 -- What holds of an open section of the hash table.
-use Rattle.std.proofs.Common.{◌≡◌, ◌≢◌, ℕ, zero, suc, ◌+◌, ◌*◌, ◌<◌, ◌≤◌, Bool, true, false, cond, refl, sym, ap, ◌∙◌, subst, inl, inr, ⊎_elim, arith, rules}
-use Rattle.std.specs.Prelude.{◌==◌, ◌&&◌, ◌-◌, ◌⊎◌, Option, Some, None, List, [], ◌∷◌, slice_get, slice_index}
+use Rattle.std.proofs.Common.{◌≡◌, ℕ, suc, ◌+◌, ◌≤◌, refl, sym, ap, ◌∙◌, subst, inl, ⊎_elim, arith}
+use Rattle.std.specs.Prelude.{Some, slice_get}
 use mathlib.Core.Logic.{dite}
 use native.Mathlib.Decide.{ℕ_discrete}
-use Rattle.map_history.specs.declared.op.Op.{Op}
 use Rattle.map_history.specs.Keys.{key_of}
 use Rattle.section_body.specs.Word.{value_of}
-use Rattle.section_body.specs.Bucket.{bucket_lock, bucket_edition, bucket_head, operand, bucket_steps}
+use Rattle.section_body.specs.Bucket.{bucket_lock, bucket_edition, bucket_head, operand}
 use Rattle.section_body.specs.declared.value.Value.{Value}
-use Rattle.section_body.specs.declared.step.Step.{Step}
 use Rattle.section_body.specs.declared.step.Step.TheVariants.{Load, Want, Store}
-use Rattle.section_body.specs.declared.thunk.Thunk.{Thunk}
 use Rattle.table_words.specs.declared.layout.Layout.{Layout}
 use Rattle.structure_laws.specs.Scene.{Section, Scene}
-use Rattle.structure_laws.specs.Sections.{Here, IsStep, Holds}
+use Rattle.structure_laws.specs.Sections.{Here, IsStep}
 use Rattle.structure_laws.specs.Sound.{Sound}
-use Rattle.bucket_laws.specs.Walk.{Stage, AtEnd, Walk, is_del, cell_at}
-use Rattle.bucket_laws.specs.Buckets.{Form, Read, Insert, Remove, Empty, form_of, body_of, IsFound, IsLinkOf, IsMissing, IsReached, Knows, IsPending, IsWalked, walk_of, BucketsKept, table}
+use Rattle.bucket_laws.specs.Walk.{AtEnd, Walk, cell_at}
+use Rattle.bucket_laws.specs.Buckets.{Form, Read, Insert, Remove, form_of, body_of, IsLinkOf, IsMissing, Knows, IsPending, walk_of, BucketsKept, table}
 use Rattle.bucket_laws.proofs.Forms.{step_in, read_stores, insert_stores, remove_stores}
 use Rattle.bucket_laws.proofs.Fit.{IsFit, fit_of}
 

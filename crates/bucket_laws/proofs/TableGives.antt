@@ -1,26 +1,24 @@
 -- The hash table gives the core what it relies on.
-use Rattle.std.proofs.Common.{◌≡◌, ◌≢◌, ℕ, zero, suc, ◌+◌, ◌*◌, ◌<◌, ◌≤◌, Bool, true, false, cond, refl, sym, ap, ◌∙◌, subst, inl, inr, ⊎_elim, arith, rules}
-use Rattle.std.specs.Prelude.{◌==◌, ◌&&◌, ◌||◌, ◌-◌, ◌/◌, ◌%◌, ◌⊎◌, nat_lt, Option, Some, None, List, [], ◌∷◌, slice_get}
+use Rattle.std.proofs.Common.{◌≡◌, ◌≢◌, ℕ, suc, ◌+◌, ◌*◌, ◌<◌, ◌≤◌, Bool, true, false, cond, refl, sym, ap, ◌∙◌, subst, inl, inr, ⊎_elim, arith}
+use Rattle.std.specs.Prelude.{◌==◌, ◌&&◌, ◌||◌, ◌⊎◌, Some, None, [], ◌∷◌, slice_get}
 use Rattle.std.specs.List.{list_any}
 use Rattle.map_history.specs.declared.op.Op.{Op}
-use Rattle.map_history.specs.Keys.{key_of, DependsOn, HaveNoCommonKey}
+use Rattle.map_history.specs.Keys.{key_of, DependsOn}
 use Rattle.section_body.specs.Word.{value_of}
-use Rattle.section_body.specs.Bucket.{bucket_lock, bucket_edition, bucket_head, operand}
+use Rattle.section_body.specs.Bucket.{bucket_lock, bucket_head, operand}
 use Rattle.section_body.specs.declared.value.Value.{Value}
-use Rattle.section_body.specs.declared.step.Step.{Step}
-use Rattle.section_body.specs.declared.step.Step.TheVariants.{Load, Want, Fresh, Store, Retire}
+use Rattle.section_body.specs.declared.step.Step.TheVariants.{Load, Fresh, Store}
 use Rattle.table_words.specs.declared.layout.Layout.{Layout}
 use Rattle.structure_laws.specs.Scene.{Readings, Section, Status, Free, Live, Retired, Scene}
-use Rattle.structure_laws.specs.Sections.{Here, IsStep, Holds, Settled, is_exit}
+use Rattle.structure_laws.specs.Sections.{Here, IsStep, Holds, Settled}
 use Rattle.structure_laws.specs.Cells.{InUse, Links, IsSafe}
 use Rattle.structure_laws.specs.Sound.{Sound}
-use Rattle.structure_laws.specs.Gives.{Gives, GivesLaw}
+use Rattle.structure_laws.specs.Gives.{Gives}
 use Rattle.bucket_laws.specs.Walk.{cell_at}
-use Rattle.bucket_laws.specs.Buckets.{Form, Read, Insert, Remove, Empty, form_of, nodes, is_link_place, IsLinkOf, IsMade, IsTaken, LinksWithin, BucketsKept, table}
-use Rattle.bucket_laws.proofs.Forms.{step_in, load_step, store_step, retire_step}
+use Rattle.bucket_laws.specs.Buckets.{Insert, Remove, form_of, is_link_place, BucketsKept, table}
+use Rattle.bucket_laws.proofs.Forms.{step_in, load_step, retire_step}
 use Rattle.bucket_laws.proofs.Sections.{fit, one_bucket, insert_head, remove_target}
-use Rattle.bucket_laws.proofs.Places.{lt_true, head_link, node_link, is_head_link, is_node_link, guard_low, guard_node}
-use Rattle.bucket_laws.proofs.Walks.{head_is}
+use Rattle.bucket_laws.proofs.Places.{lt_true, head_link, node_link, guard_low, guard_node}
 
 true_false : {b : Bool} → b ≡ true → b ≡ false → ⊥
 true_false e e' = cc

@@ -1,30 +1,28 @@
 -- The hash table keeps what it keeps, by every move.
-use Rattle.std.proofs.Common.{◌≡◌, ◌≢◌, ℕ, zero, suc, ◌+◌, ◌*◌, ◌<◌, ◌≤◌, Bool, true, false, cond, refl, sym, ap, ◌∙◌, subst, inl, inr, ⊎_elim, arith, rules}
-use Rattle.std.specs.Prelude.{◌==◌, ◌&&◌, ◌%◌, ◌⊎◌, nat_lt, Option, Some, None, List, [], ◌∷◌, ◌++◌, slice_get}
+use Rattle.std.proofs.Common.{◌≡◌, ◌≢◌, ℕ, suc, ◌+◌, ◌*◌, ◌<◌, ◌≤◌, Bool, true, false, cond, refl, sym, ap, ◌∙◌, subst, inl, inr, ⊎_elim, arith}
+use Rattle.std.specs.Prelude.{◌==◌, ◌&&◌, ◌%◌, ◌⊎◌, nat_lt, Option, Some, None, [], ◌∷◌, ◌++◌, slice_get}
 use mathlib.Core.Logic.{dite}
 use native.Mathlib.Decide.{ℕ_discrete}
 use Rattle.map_history.specs.declared.op.Op.{Op}
 use Rattle.map_history.specs.Keys.{key_of}
 use Rattle.section_body.specs.Update.{upd}
 use Rattle.section_body.specs.Word.{value_of}
-use Rattle.section_body.specs.Bucket.{bucket_lock, bucket_edition, bucket_head, operand, insert_steps, remove_steps, bucket_steps}
-use Rattle.section_body.specs.declared.value.Value.TheVariants.{Const, Made}
+use Rattle.section_body.specs.Bucket.{bucket_edition, bucket_head, operand, insert_steps, remove_steps}
 use Rattle.section_body.specs.declared.step.Step.{Step}
-use Rattle.section_body.specs.declared.step.Step.TheVariants.{Load, Want, Fresh, Take, Make, Stamp, Store, Retire, Answer}
+use Rattle.section_body.specs.declared.step.Step.TheVariants.{Want, Fresh, Stamp, Answer}
 use Rattle.section_body.specs.declared.thunk.Thunk.{Thunk}
 use Rattle.table_words.specs.declared.layout.Layout.{Layout}
 use Rattle.table_words.specs.Limits.{IsWithinLimits}
-use Rattle.structure_laws.specs.Scene.{Cells, Readings, Section, Status, Free, Live, Retired, Scene, with_cell, with_reader, with_section, with_status, with_reading, opened}
-use Rattle.structure_laws.specs.Sections.{Here, IsStep, Settled, Ended, is_exit}
-use Rattle.structure_laws.specs.Sound.{Sound}
+use Rattle.structure_laws.specs.Scene.{Readings, Section, Status, Free, Live, Retired, Scene, with_cell, with_reader, with_section, with_status, opened}
+use Rattle.structure_laws.specs.Sections.{Here, Settled, Ended, is_exit}
 use Rattle.structure_laws.specs.Keeps.{Keeps}
 use Rattle.structure_laws.proofs.Changes.{upd_same, upd_other, upd_some, upd_none}
 use Rattle.bucket_laws.specs.Chain.{Nodes, Chains}
-use Rattle.bucket_laws.specs.Walk.{Stage, AtEdition, Walk, start, cell_at, walk}
-use Rattle.bucket_laws.specs.Buckets.{Form, Read, Insert, Remove, Empty, form_of, body_of, nodes, IsNode, IsLinkOf, Knows, IsPending, IsWalked, walk_of, bounds, IsMade, IsTaken, BucketsKept, table}
+use Rattle.bucket_laws.specs.Walk.{Walk, start, cell_at, walk}
+use Rattle.bucket_laws.specs.Buckets.{Insert, Remove, form_of, nodes, Knows, IsWalked, walk_of, bounds, BucketsKept, table}
 use Rattle.bucket_laws.proofs.Elsewhere.{IsElsewhere, knows_on}
 use Rattle.bucket_laws.proofs.Forms.{step_in, no_take}
-use Rattle.bucket_laws.proofs.TableSteps.{Owns, live_cases, owned_live, quiet_kept, load_kept, make_kept, retire_kept}
+use Rattle.bucket_laws.proofs.TableSteps.{quiet_kept, load_kept, make_kept, retire_kept}
 use Rattle.bucket_laws.proofs.TableStores.{table_store}
 use Rattle.bucket_laws.proofs.Walks.{knows_fed, walk_push, is_first, edition_kept}
 

@@ -1,39 +1,37 @@
 -- The hash table meets the laws.
-use Rattle.std.proofs.Common.{◌≡◌, ◌≢◌, ℕ, zero, suc, ◌+◌, ◌*◌, ◌<◌, ◌≤◌, Bool, true, false, cond, refl, sym, ap, ◌∙◌, subst, inl, inr, ⊎_elim, arith, rules}
-use Rattle.std.proofs.lemmas.Grind.{common_steps}
-use Rattle.std.specs.Prelude.{◌==◌, ◌&&◌, ◌-◌, ◌/◌, ◌%◌, ◌^◌, ◌⊎◌, nat_lt, Option, Some, None, List, [], ◌∷◌, slice_get, slice_index, length}
+use Rattle.std.proofs.Common.{◌≡◌, ◌≢◌, ℕ, zero, suc, ◌+◌, ◌*◌, ◌<◌, ◌≤◌, Bool, true, false, cond, refl, sym, ap, ◌∙◌, subst, inl, inr, ⊎_elim, arith}
+use Rattle.std.specs.Prelude.{◌==◌, ◌&&◌, ◌-◌, ◌/◌, ◌%◌, ◌^◌, ◌⊎◌, nat_lt, Option, Some, None, slice_get, slice_index, length}
 use Rattle.std.specs.FinMap.{get, empty, get-empty}
 use Rattle.std.specs.Ordering.{nat_cmp}
 use Rattle.map_history.specs.declared.op.Op.{Op}
 use Rattle.map_history.specs.declared.op.Op.TheVariants.{Get, Ins, Del}
 use Rattle.map_history.specs.Keys.{key_of}
-use Rattle.map_history.specs.Replay.{Pairs, map_after}
+use Rattle.map_history.specs.Replay.{Pairs}
 use Rattle.section_body.specs.Update.{upd}
 use Rattle.section_body.specs.Word.{value_of}
-use Rattle.section_body.specs.Bucket.{bucket_index, bucket_lock, bucket_edition, bucket_head, operand, is_small, read_steps, insert_steps, remove_steps, bucket_steps}
+use Rattle.section_body.specs.Bucket.{bucket_index, bucket_head, operand, is_small, fits_insert, fits_remove, bucket_steps}
 use Rattle.section_body.specs.Shape.{IsShaped}
 use Rattle.section_body.specs.declared.value.Value.{Value}
 use Rattle.section_body.specs.declared.value.Value.TheVariants.{Const, Made}
-use Rattle.section_body.specs.declared.value.Init.{Init}
-use Rattle.section_body.specs.declared.step.Step.TheVariants.{Load, Make, Store, Answer}
+use Rattle.section_body.specs.declared.step.Step.TheVariants.{Load, Store}
 use Rattle.section_body.specs.declared.thunk.Thunk.{Thunk}
 use Rattle.table_words.specs.declared.layout.Layout.{Layout}
 use Rattle.table_words.specs.Limits.{IsWithinLimits}
 use Rattle.table_words.specs.Places.{slot_count}
-use Rattle.structure_laws.specs.Scene.{Cells, Readings, Section, Status, Free, Live, Retired, Scene}
+use Rattle.structure_laws.specs.Scene.{Readings, Section, Status, Free, Live, Retired, Scene}
 use Rattle.structure_laws.specs.Sections.{IsAllowed, IsSmall}
-use Rattle.structure_laws.specs.Cells.{IsKnown, IsSafe, first_word}
+use Rattle.structure_laws.specs.Cells.{IsKnown, IsSafe}
 use Rattle.structure_laws.specs.Sound.{Sound}
-use Rattle.structure_laws.specs.Shape.{Shaped, ShapeLaw}
-use Rattle.structure_laws.specs.InTurn.{StandsFor, InTurn}
+use Rattle.structure_laws.specs.Shape.{Shaped}
+use Rattle.structure_laws.specs.InTurn.{InTurn}
 use Rattle.structure_laws.specs.Laws.{IsFirst, Laws}
 use Rattle.structure_laws.proofs.Changes.{upd_other}
 use Rattle.bucket_laws.specs.Chain.{Nodes, Chains, Contents}
-use Rattle.bucket_laws.specs.Walk.{Stage, AtEdition, AtEnd, Walk, start, is_del, cell_at, walk, form_for, operands_for}
-use Rattle.bucket_laws.specs.Buckets.{Form, Read, Insert, Remove, Empty, form_of, body_of, nodes, is_link_place, walk_of, bounds, BucketsKept, BucketsStand, table, buckets_meaning}
+use Rattle.bucket_laws.specs.Walk.{AtEdition, AtEnd, Walk, cell_at, form_for, operands_for}
+use Rattle.bucket_laws.specs.Buckets.{Read, Insert, Remove, Empty, form_of, body_of, nodes, is_link_place, walk_of, bounds, BucketsKept, BucketsStand, table, buckets_meaning}
 use Rattle.bucket_laws.proofs.Chain.{same_on}
 use Rattle.bucket_laws.proofs.Fit.{IsFit, fit_of, insert_operands, remove_operands}
-use Rattle.bucket_laws.proofs.Forms.{node_init, steps_of, no_take, load_step, store_step, make_step, answer_step, insert_stores, remove_stores, read_stores}
+use Rattle.bucket_laws.proofs.Forms.{node_init, steps_of, no_take, load_step, store_step, make_step, answer_step}
 use Rattle.bucket_laws.proofs.TableGives.{reached, table_gives}
 use Rattle.bucket_laws.proofs.TableKeeps.{chains_agree, lock_at, table_keeps}
 use Rattle.bucket_laws.proofs.TableShape.{read_shaped, insert_shaped, remove_shaped}
@@ -73,7 +71,7 @@ eq_true a b e = grind arith
 eq_false : (a b c : ℕ) → a ≡ b → b ≢ c → (a == c) ≡ false
 eq_false a b c e ne = grind arith
 
-four_true : (a b c d : Bool) → a ≡ true → b ≡ true → c ≡ true → d ≡ true → (a && b && c && d) ≡ true
+four_true : (a b c d : Bool) → a ≡ true → b ≡ true → c ≡ true → d ≡ true → (a && (b && (c && d))) ≡ true
 four_true a b c d h h' h'' h3 = grind arith
 
 no_lock_low : (i r n : ℕ) → 1 ≤ r → r ≤ 2 → (nat_lt (3 * i + r) n && ((3 * i + r) % 3 == 0)) ≡ false
@@ -141,8 +139,8 @@ module _ (buckets : ℕ) (bucket : ℕ → ℕ) (small : (key : ℕ) → bucket 
   number_at k = ap (λ numbers. slice_index numbers k) fit.operands
 
   read_form : form_for op own_walk.found ≡ 1 → form_of thunk ≡ Read
-  read_form form = is_read (thunk.form == 1) (is_small (thunk.lock + 1)) (thunk.form == 2) (is_small (thunk.lock + 2) && is_small (operand thunk 1) && is_small (operand thunk 2) && is_small (operand thunk 3)) (thunk.form == 3)
-      (is_small (thunk.lock + 1) && is_small (operand thunk 1) && is_small (operand thunk 2) && is_small (operand thunk 3)) (eq_true thunk.form 1 (fit.form ∙ form)) (small_is (thunk.lock + 1) (let low = lock_small in omega arith))
+  read_form form = is_read (thunk.form == 1) (is_small (thunk.lock + 1)) (thunk.form == 2) (fits_insert thunk) (thunk.form == 3)
+      (fits_remove thunk) (eq_true thunk.form 1 (fit.form ∙ form)) (small_is (thunk.lock + 1) (let low = lock_small in omega arith))
 
   insert_form : form_for op own_walk.found ≡ 2 → form_of thunk ≡ Insert
   insert_form form =

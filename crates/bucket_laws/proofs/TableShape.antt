@@ -1,17 +1,15 @@
 -- The hash table's bodies have the shape of a body.
-use Rattle.std.proofs.Common.{◌≡◌, ◌≢◌, ℕ, zero, suc, ◌+◌, ◌*◌, ◌<◌, ◌≤◌, Bool, true, false, cond, refl, sym, ap, ◌∙◌, subst, inl, inr, arith, rules}
+use Rattle.std.proofs.Common.{◌≡◌, ◌≢◌, ℕ, zero, suc, ◌+◌, ◌*◌, ◌<◌, ◌≤◌, cond, refl, sym, ap, ◌∙◌, subst, inl, inr, arith}
 use Rattle.std.proofs.lemmas.List.Elements.{All-nil, All-cons}
-use Rattle.std.specs.Prelude.{◌==◌, ◌^◌, ◌⊎◌, Option, Some, None, List, [], ◌∷◌, slice_get, length, count_by, All, Contains, nat_lt}
-use Rattle.section_body.specs.Bucket.{operand, read_steps, insert_steps, remove_steps, bucket_steps}
+use Rattle.std.specs.Prelude.{◌==◌, ◌^◌, ◌⊎◌, Some, List, [], ◌∷◌, All, Contains, nat_lt}
+use Rattle.section_body.specs.Bucket.{operand, read_steps, insert_steps, remove_steps}
 use Rattle.section_body.specs.declared.value.Value.{Value}
 use Rattle.section_body.specs.declared.value.Value.TheVariants.{Const, Of, Made}
-use Rattle.section_body.specs.declared.value.Init.{Init}
 use Rattle.section_body.specs.declared.step.Step.{Step}
-use Rattle.section_body.specs.declared.step.Step.TheVariants.{Load, Want, Fresh, Take, Make, Stamp, Store, Retire, Answer}
+use Rattle.section_body.specs.declared.step.Step.TheVariants.{Load, Want, Fresh, Make, Stamp, Store, Retire, Answer}
 use Rattle.section_body.specs.declared.thunk.Thunk.{Thunk}
-use Rattle.section_body.specs.Shape.{IsShaped, IsStep, SetBefore, LoadedBefore, MadeBefore, FreshBefore, phase, used_values, set_registers, store_place}
-use Rattle.bucket_laws.specs.Buckets.{Form, Read, Insert, Remove, Empty, form_of, body_of}
-use Rattle.bucket_laws.proofs.Forms.{node_init, steps_of}
+use Rattle.section_body.specs.Shape.{IsShaped, IsStep, SetBefore, LoadedBefore, FreshBefore, phase, used_values, set_registers, store_place}
+use Rattle.bucket_laws.proofs.Forms.{node_init}
 
 some_inj : {A : Type 0} {x y : A} → Some x ≡ Some y → x ≡ y
 some_inj e = cc

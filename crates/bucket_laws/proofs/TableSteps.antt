@@ -1,20 +1,20 @@
 -- The steps of a hash table's section that change no cell keep what the table keeps.
-use Rattle.std.proofs.Common.{◌≡◌, ◌≢◌, ℕ, zero, suc, ◌+◌, ◌*◌, ◌<◌, ◌≤◌, Bool, true, false, cond, refl, sym, ap, ◌∙◌, subst, inl, inr, ⊎_elim, arith, rules}
-use Rattle.std.specs.Prelude.{◌==◌, ◌⊎◌, Option, Some, None, List, [], ◌∷◌, slice_get}
+use Rattle.std.proofs.Common.{◌≡◌, ◌≢◌, ℕ, suc, ◌+◌, ◌<◌, ◌≤◌, Bool, true, false, refl, sym, ap, ◌∙◌, subst, inl, inr, ⊎_elim, arith}
+use Rattle.std.specs.Prelude.{◌⊎◌, Some, slice_get}
 use mathlib.Core.Logic.{dite}
 use native.Mathlib.Decide.{ℕ_discrete}
 use Rattle.map_history.specs.declared.op.Op.{Op}
 use Rattle.map_history.specs.Keys.{key_of}
 use Rattle.section_body.specs.Update.{upd}
 use Rattle.section_body.specs.Word.{value_of}
-use Rattle.section_body.specs.Bucket.{bucket_lock, bucket_edition, bucket_head, operand, bucket_steps}
+use Rattle.section_body.specs.Bucket.{operand, bucket_steps}
 use Rattle.section_body.specs.declared.value.Value.{Value}
 use Rattle.section_body.specs.declared.value.Value.TheVariants.{Const, Made}
 use Rattle.section_body.specs.declared.value.Init.{Init}
 use Rattle.section_body.specs.declared.step.Step.{Step}
-use Rattle.section_body.specs.declared.step.Step.TheVariants.{Load, Want, Fresh, Take, Make, Stamp, Store, Retire, Answer}
+use Rattle.section_body.specs.declared.step.Step.TheVariants.{Load, Make, Store, Retire}
 use Rattle.table_words.specs.declared.layout.Layout.{Layout}
-use Rattle.structure_laws.specs.Scene.{Cells, Readings, Section, Status, Free, Live, Retired, Scene, with_status, passes, sets}
+use Rattle.structure_laws.specs.Scene.{Section, Status, Free, Live, Retired, Scene, with_status, passes, sets}
 use Rattle.structure_laws.specs.Sections.{Here, IsStep, value_in}
 use Rattle.structure_laws.specs.Cells.{Links}
 use Rattle.structure_laws.specs.Sound.{Sound}
@@ -22,12 +22,11 @@ use Rattle.structure_laws.specs.Keeps.{IsPrepared}
 use Rattle.structure_laws.proofs.Changes.{upd_same, upd_other, upd_some}
 use Rattle.structure_laws.proofs.Progress.{stepped}
 use Rattle.bucket_laws.specs.Walk.{Walk, cell_at}
-use Rattle.bucket_laws.specs.Buckets.{Form, Read, Insert, Remove, Empty, form_of, body_of, nodes, is_link_place, IsLinkOf, IsPending, IsWalked, walk_of, IsMade, IsTaken, BucketsKept, table}
-use Rattle.bucket_laws.proofs.Fit.{IsFit}
+use Rattle.bucket_laws.specs.Buckets.{Form, Insert, Remove, form_of, body_of, IsLinkOf, IsPending, IsWalked, walk_of, IsMade, IsTaken, BucketsKept, table}
 use Rattle.bucket_laws.proofs.Forms.{node_init, step_in, load_step, make_step, retire_step}
 use Rattle.bucket_laws.proofs.Places.{is_node_link}
-use Rattle.bucket_laws.proofs.Sections.{fit, one_bucket, insert_remove, remove_target, IsTarget}
-use Rattle.bucket_laws.proofs.TableGives.{next_leads, target_live, target_key}
+use Rattle.bucket_laws.proofs.Sections.{fit, one_bucket, insert_remove, remove_target}
+use Rattle.bucket_laws.proofs.TableGives.{next_leads}
 
 some_inj : {A : Type 0} {x y : A} → Some x ≡ Some y → x ≡ y
 some_inj e = cc

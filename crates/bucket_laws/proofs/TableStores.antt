@@ -1,39 +1,36 @@
 -- The Stores of a hash table's section keep what the table keeps.
-use Rattle.std.proofs.Common.{◌≡◌, ◌≢◌, ℕ, zero, suc, ◌+◌, ◌*◌, ◌<◌, ◌≤◌, Bool, true, false, cond, refl, sym, ap, ◌∙◌, subst, inl, inr, ⊎_elim, arith, rules}
-use Rattle.std.proofs.Math.Path.{fun_ext}
-use Rattle.std.specs.Prelude.{◌==◌, ◌^◌, ◌⊎◌, nat_lt, Option, Some, None, List, [], ◌∷◌, slice_get}
+use Rattle.std.proofs.Common.{◌≡◌, ◌≢◌, ℕ, zero, suc, ◌+◌, ◌*◌, ◌<◌, ◌≤◌, Bool, true, false, refl, sym, ap, ◌∙◌, subst, inl, inr, ⊎_elim, arith}
+use Rattle.std.specs.Prelude.{◌^◌, ◌⊎◌, Some}
 use mathlib.Core.Logic.{dite}
 use native.Mathlib.Decide.{ℕ_discrete}
 use Rattle.map_history.specs.declared.op.Op.{Op}
 use Rattle.map_history.specs.Keys.{key_of}
 use Rattle.section_body.specs.Update.{upd}
 use Rattle.section_body.specs.Word.{value_of, version_of, next_word}
-use Rattle.section_body.specs.Bucket.{bucket_lock, bucket_edition, bucket_head, operand, bucket_steps}
+use Rattle.section_body.specs.Bucket.{bucket_lock, bucket_edition, bucket_head, operand}
 use Rattle.section_body.specs.declared.value.Value.{Value}
 use Rattle.section_body.specs.declared.value.Value.TheVariants.{Const, Made}
-use Rattle.section_body.specs.declared.step.Step.{Step}
 use Rattle.section_body.specs.declared.step.Step.TheVariants.{Load, Store}
 use Rattle.table_words.specs.declared.layout.Layout.{Layout}
 use Rattle.table_words.specs.Limits.{IsWithinLimits}
 use Rattle.table_words.specs.Places.{slot_count}
 use Rattle.structure_laws.specs.Scene.{Cells, Readings, Section, Status, Free, Live, Retired, Scene, with_cell, passes}
 use Rattle.structure_laws.specs.Sections.{Here, IsStep, value_in}
-use Rattle.structure_laws.specs.Cells.{IsSeen}
 use Rattle.structure_laws.specs.Sound.{IsRead, Sound}
 use Rattle.structure_laws.proofs.Changes.{upd_same, upd_other, upd_some, value-next_word, version-next_word, value_small}
 use Rattle.structure_laws.proofs.Limits.{links_small, value-small}
 use Rattle.structure_laws.proofs.Progress.{stepped}
-use Rattle.bucket_laws.specs.Chain.{Nodes, Chains, with_head, with_next}
-use Rattle.bucket_laws.specs.Walk.{Stage, AtEdition, Walk, cell_at}
-use Rattle.bucket_laws.specs.Buckets.{Form, Read, Insert, Remove, Empty, form_of, nodes, IsNode, IsLinkOf, IsPending, IsWalked, walk_of, Knows, IsMade, IsTaken, BucketsKept, table}
+use Rattle.bucket_laws.specs.Chain.{Chains, with_head, with_next}
+use Rattle.bucket_laws.specs.Walk.{cell_at}
+use Rattle.bucket_laws.specs.Buckets.{Insert, Remove, form_of, nodes, IsNode, IsLinkOf, IsWalked, walk_of, Knows, IsTaken, BucketsKept, table}
 use Rattle.bucket_laws.proofs.Chain.{insert, remove_first, remove_next}
-use Rattle.bucket_laws.proofs.Elsewhere.{IsElsewhere, nowhere, knows_on, edition_seen}
-use Rattle.bucket_laws.proofs.Forms.{load_step, store_step, insert_loads, remove_loads}
+use Rattle.bucket_laws.proofs.Elsewhere.{IsElsewhere, knows_on, edition_seen}
+use Rattle.bucket_laws.proofs.Forms.{store_step, insert_loads, remove_loads}
 use Rattle.bucket_laws.proofs.NodeChanges.{head_changed, next_changed, none_changed}
 use Rattle.bucket_laws.proofs.Sections.{fit, one_bucket, insert_head, insert_missing, insert_remove, remove_target, IsTarget}
 use Rattle.bucket_laws.proofs.TableGives.{target_on}
-use Rattle.bucket_laws.proofs.TableSteps.{Owns, live_cases, owned_live, owned_out, owned_key, owned_once, suc_eq}
-use Rattle.bucket_laws.proofs.Walks.{bool_cases, head_is, is_first}
+use Rattle.bucket_laws.proofs.TableSteps.{Owns, live_cases, owned_once, suc_eq}
+use Rattle.bucket_laws.proofs.Walks.{head_is, is_first}
 
 some_inj : {A : Type 0} {x y : A} → Some x ≡ Some y → x ≡ y
 some_inj e = cc

@@ -1,37 +1,34 @@
 -- The hash table's sections, one after the other, do what the map does.
-use Rattle.std.proofs.Common.{◌≡◌, ◌≢◌, ℕ, zero, suc, ◌+◌, ◌*◌, ◌<◌, ◌≤◌, Bool, true, false, cond, refl, sym, ap, ◌∙◌, subst, inl, inr, ⊎_elim, arith, rules}
+use Rattle.std.proofs.Common.{◌≡◌, ◌≢◌, ℕ, zero, suc, ◌+◌, ◌*◌, ◌<◌, ◌≤◌, Bool, true, false, cond, refl, sym, ap, ◌∙◌, subst, ⊎_elim, arith}
 use Rattle.std.proofs.Math.Path.{fun_ext}
-use Rattle.std.specs.Prelude.{◌==◌, ◌&&◌, ◌-◌, ◌/◌, ◌%◌, ◌^◌, ◌⊎◌, nat_lt, Option, Some, None, List, [], ◌∷◌, slice_get, slice_index}
+use Rattle.std.specs.Prelude.{◌^◌, nat_lt, Option, Some, None, slice_index}
 use Rattle.std.specs.FinMap.{get}
 use mathlib.Core.Logic.{dite}
 use native.Mathlib.Decide.{ℕ_discrete}
-use Rattle.map_history.specs.declared.op.Op.{Op}
 use Rattle.map_history.specs.Keys.{key_of}
 use Rattle.map_history.specs.Replay.{Pairs, reply_of, map_after}
 use Rattle.map_history.specs.Words.{word_of}
 use Rattle.section_body.specs.Update.{upd}
-use Rattle.section_body.specs.Word.{value_of, next_word}
-use Rattle.section_body.specs.Bucket.{bucket_lock, bucket_edition, bucket_head, operand}
-use Rattle.section_body.specs.declared.value.Value.{Value}
+use Rattle.section_body.specs.Word.{value_of}
+use Rattle.section_body.specs.Bucket.{bucket_head, operand}
 use Rattle.section_body.specs.declared.value.Value.TheVariants.{Const, Made}
-use Rattle.section_body.specs.declared.step.Step.TheVariants.{Load, Stamp, Store, Answer}
+use Rattle.section_body.specs.declared.step.Step.TheVariants.{Answer}
 use Rattle.table_words.specs.declared.layout.Layout.{Layout}
 use Rattle.table_words.specs.Limits.{IsWithinLimits}
 use Rattle.structure_laws.specs.Scene.{Cells, Section, Status, Free, Live, Scene}
 use Rattle.structure_laws.specs.Sections.{Here, IsStep, value_in}
-use Rattle.structure_laws.specs.Sound.{Sound}
-use Rattle.structure_laws.specs.InTurn.{StandsFor, AtStamp, AfterStores, InTurn}
+use Rattle.structure_laws.specs.InTurn.{StandsFor, AtStamp, AfterStores}
 use Rattle.structure_laws.proofs.Changes.{upd_same, upd_other, value-next_word, value_small}
 use Rattle.structure_laws.proofs.Limits.{links_small, value-small}
 use Rattle.bucket_laws.specs.Chain.{Nodes, with_head, with_next, Chains, Contents}
-use Rattle.bucket_laws.specs.Walk.{Walk, is_del, cell_at}
-use Rattle.bucket_laws.specs.Buckets.{Form, Read, Insert, Remove, Empty, form_of, nodes, IsFound, IsMissing, IsReached, BucketsKept, BucketsStand, table}
+use Rattle.bucket_laws.specs.Walk.{Walk, cell_at}
+use Rattle.bucket_laws.specs.Buckets.{Read, Insert, Remove, form_of, nodes, IsFound, IsMissing, BucketsKept, BucketsStand, table}
 use Rattle.bucket_laws.proofs.Chain.{insert, remove_first, remove_next, insert_contents, remove_contents, same_on}
 use Rattle.bucket_laws.proofs.Fit.{read_number, insert_number}
-use Rattle.bucket_laws.proofs.Forms.{step_in, stamp_step, answer_step, read_stores, insert_loads, remove_loads, insert_stores, remove_stores, load_step, store_step}
+use Rattle.bucket_laws.proofs.Forms.{step_in, stamp_step, answer_step, read_stores, insert_loads, remove_loads}
 use Rattle.bucket_laws.proofs.Maps.{read_reply, insert_reply, remove_reply, read_map, insert_map, remove_map}
-use Rattle.bucket_laws.proofs.Sections.{fit, bucket_of, walk_at, read_knows, insert_knows, remove_knows, insert_head, insert_missing, IsTarget, remove_target, insert_remove, read_insert, read_remove}
-use Rattle.bucket_laws.proofs.TableGives.{head_leads, target_on}
+use Rattle.bucket_laws.proofs.Sections.{fit, walk_at, read_knows, remove_knows, insert_head, insert_missing, remove_target, insert_remove, read_insert, read_remove}
+use Rattle.bucket_laws.proofs.TableGives.{target_on}
 use Rattle.bucket_laws.proofs.Walks.{bool_cases, head_is, reached_on}
 
 abbrev nodes_from : (a b c e : ℕ → ℕ) → Nodes

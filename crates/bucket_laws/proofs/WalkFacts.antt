@@ -1,17 +1,17 @@
 -- What a walk of the hash table takes from its readings alone.
-use Rattle.std.proofs.Common.{◌≡◌, ◌≢◌, ℕ, zero, suc, ◌+◌, ◌*◌, ◌<◌, ◌≤◌, Bool, true, false, cond, refl, sym, ap, ◌∙◌, subst, inl, inr, ⊎_elim, arith, rules}
-use Rattle.std.specs.Prelude.{◌==◌, ◌&&◌, ◌||◌, not, ◌-◌, ◌^◌, ◌⊎◌, nat_le, Option, Some, None, List, [], ◌∷◌, slice_get}
+use Rattle.std.proofs.Common.{◌≡◌, ◌≢◌, ℕ, zero, suc, ◌<◌, Bool, true, false, cond, refl, sym, ap, ◌∙◌, inl, inr, ⊎_elim, arith}
+use Rattle.std.specs.Prelude.{◌==◌, ◌&&◌, ◌||◌, not, ◌-◌, ◌^◌, ◌⊎◌, nat_le, Option, Some, None, [], ◌∷◌, slice_get}
 use Rattle.std.specs.List.{list_any}
 use Rattle.map_history.specs.declared.op.Op.{Op}
 use Rattle.map_history.specs.Keys.{key_of}
 use Rattle.section_body.specs.Word.{value_of, is_free, is_spent}
-use Rattle.section_body.specs.Bucket.{bucket_edition, bucket_head}
+use Rattle.section_body.specs.Bucket.{bucket_head}
 use Rattle.structure_laws.specs.Scene.{Readings}
 use Rattle.structure_laws.proofs.Changes.{value_small}
-use Rattle.bucket_laws.specs.Walk.{Stage, AtEdition, AtLink, AtKey, AtValue, AtNext, AtLock, AtEnd, Refused, Walk, start, is_del, is_wanted, Bounds, cell_at, wanted_at, after_link, fed, walk}
+use Rattle.bucket_laws.specs.Walk.{Stage, AtEdition, AtLink, AtKey, AtValue, AtNext, AtLock, AtEnd, Refused, Walk, start, is_del, is_wanted, Bounds, cell_at, wanted_at, fed, walk}
 use Rattle.bucket_laws.specs.Buckets.{is_link_place}
 use Rattle.bucket_laws.proofs.Places.{is_head_link, is_node_link}
-use Rattle.bucket_laws.proofs.Walks.{bool_cases, wanted_eq}
+use Rattle.bucket_laws.proofs.Walks.{wanted_eq}
 
 some_eq : (a b : ℕ) → Some a ≡ Some b → a ≡ b
 some_eq a b e = cc

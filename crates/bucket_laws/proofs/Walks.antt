@@ -1,14 +1,14 @@
 -- What a load adds to a walk, and what one more reading does.
-use Rattle.std.proofs.Common.{◌≡◌, ◌≢◌, ℕ, zero, suc, ◌+◌, ◌*◌, ◌<◌, ◌≤◌, Bool, true, false, cond, refl, sym, ap, ◌∙◌, subst, inl, inr, ⊎_elim, arith, rules}
-use Rattle.std.specs.Prelude.{◌==◌, ◌&&◌, not, ◌-◌, ◌⊎◌, nat_lt, nat_le, Option, Some, None, List, [], ◌∷◌, ◌++◌, slice_get}
+use Rattle.std.proofs.Common.{◌≡◌, ◌≢◌, ℕ, zero, suc, ◌<◌, ◌≤◌, Bool, true, false, cond, refl, sym, ap, ◌∙◌, subst, inl, inr, ⊎_elim, arith}
+use Rattle.std.specs.Prelude.{◌==◌, ◌&&◌, not, ◌-◌, ◌⊎◌, nat_lt, nat_le, Option, Some, None, [], ◌∷◌, ◌++◌}
 use Rattle.map_history.specs.declared.op.Op.{Op}
 use Rattle.map_history.specs.Keys.{key_of}
 use Rattle.section_body.specs.Word.{value_of, is_free, is_spent}
-use Rattle.section_body.specs.Bucket.{bucket_lock, bucket_edition, bucket_head}
+use Rattle.section_body.specs.Bucket.{bucket_head}
 use Rattle.structure_laws.specs.Scene.{Cells, Readings}
-use Rattle.bucket_laws.specs.Chain.{Nodes, Chains}
-use Rattle.bucket_laws.specs.Walk.{Stage, AtEdition, AtLink, AtKey, AtValue, AtNext, AtLock, AtEnd, Refused, Walk, start, is_del, is_wanted, Bounds, cell_at, wanted_at, after_link, fed, walk}
-use Rattle.bucket_laws.specs.Buckets.{nodes, IsNode, IsLinkOf, IsAhead, IsReached, IsFound, IsMissing, Knows}
+use Rattle.bucket_laws.specs.Chain.{Chains}
+use Rattle.bucket_laws.specs.Walk.{Stage, AtEdition, AtLink, AtKey, AtValue, AtNext, AtLock, AtEnd, Refused, Walk, is_del, is_wanted, Bounds, cell_at, wanted_at, fed, walk}
+use Rattle.bucket_laws.specs.Buckets.{nodes, IsNode, IsAhead, IsReached, Knows}
 
 pub bool_cases : {A : Type 0} → (b : Bool) → (b ≡ true → A) → (b ≡ false → A) → A
 bool_cases true f g = f refl

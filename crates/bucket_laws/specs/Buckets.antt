@@ -1,19 +1,18 @@
 -- The hash table: its meaning, and what it keeps in every scene.
-use Rattle.std.specs.Prelude.{ℕ, suc, ◌+◌, ◌*◌, ◌-◌, ◌/◌, ◌%◌, ◌^◌, ◌<◌, ◌≤◌, ◌≡◌, ◌≢◌, ◌⊎◌, Bool, true, false, cond, ◌&&◌, ◌==◌, nat_lt, List, [], ◌∷◌, Option, Some, slice_get}
+use Rattle.std.specs.Prelude.{ℕ, suc, ◌+◌, ◌*◌, ◌-◌, ◌/◌, ◌%◌, ◌^◌, ◌<◌, ◌≤◌, ◌≡◌, ◌≢◌, ◌⊎◌, Bool, true, false, cond, ◌&&◌, ◌==◌, nat_lt, List, [], Some, slice_get}
 use Rattle.std.specs.List.{list_any}
 use Rattle.std.specs.FinMap.{get}
 use Rattle.map_history.specs.declared.op.Op.{Op}
 use Rattle.map_history.specs.Keys.{key_of}
 use Rattle.map_history.specs.Replay.{Pairs}
 use Rattle.section_body.specs.Word.{value_of}
-use Rattle.section_body.specs.Bucket.{bucket_index, bucket_lock, bucket_edition, bucket_head, operand, is_small, read_steps, insert_steps, remove_steps, bucket_steps}
+use Rattle.section_body.specs.Bucket.{bucket_index, bucket_lock, bucket_edition, bucket_head, operand, fits_read, fits_insert, fits_remove, read_steps, insert_steps, remove_steps, bucket_steps}
 use Rattle.section_body.specs.declared.step.Step.{Step}
 use Rattle.section_body.specs.declared.thunk.Thunk.{Thunk}
 use Rattle.table_words.specs.declared.layout.Layout.{Layout}
 use Rattle.table_words.specs.Places.{slot_count}
 use Rattle.structure_laws.specs.Scene.{Cells, Readings, Section, Live, Retired, Scene}
 use Rattle.structure_laws.specs.Meaning.{Meaning}
-use Rattle.structure_laws.specs.Sections.{IsAllowed}
 use Rattle.bucket_laws.specs.Chain.{Nodes, Chains, Contents}
 use Rattle.bucket_laws.specs.Walk.{Stage, AtEdition, AtLink, AtKey, AtValue, AtNext, AtLock, AtEnd, Refused, Walk, start, is_del, Bounds, cell_at, walk, fits_walk}
 
@@ -26,9 +25,9 @@ pub data Form : Type 0 where
 
 abbrev pub form_of : Thunk → Form
 form_of t =
-    cond (t.form == 1) (cond (is_small (t.lock + 1)) Read Empty)
-    (cond (t.form == 2) (cond (is_small (t.lock + 2) && is_small (operand t 1) && is_small (operand t 2) && is_small (operand t 3)) Insert Empty)
-    (cond (t.form == 3) (cond (is_small (t.lock + 1) && is_small (operand t 1) && is_small (operand t 2) && is_small (operand t 3)) Remove Empty)
+    cond (t.form == 1) (cond (fits_read t) Read Empty)
+    (cond (t.form == 2) (cond (fits_insert t) Insert Empty)
+    (cond (t.form == 3) (cond (fits_remove t) Remove Empty)
     Empty))
 
 abbrev pub body_of : Form → Thunk → List Step
