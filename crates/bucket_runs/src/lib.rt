@@ -2,5 +2,7 @@
 #![tactic(auto)]
 
 mod runs;
+#[cfg(test)]
+mod tests;
 
 pub use runs::bodies_do_the_operations;
