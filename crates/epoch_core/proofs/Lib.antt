@@ -1,0 +1,4 @@
+pub mod Entering
+pub mod Scanning
+pub mod NodeSlots
+pub mod Sections
