@@ -5,3 +5,5 @@ pub mod Sections
 pub mod Keeping
 pub mod Reusing
 pub mod Exactly
+pub mod Lasting
+pub mod Same

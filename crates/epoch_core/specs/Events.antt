@@ -89,20 +89,20 @@ module _ (c : Counts) where
   Enabled w (Exit r) = (is_entered (w.stage r) ≡ true) × ((w.retire r).loaded ≡ false)
   Enabled w (ScanEpoch r) = w.stage r ≡ Idle
   Enabled w (ScanOne r epoch next clear) = (w.stage r ≡ Scanning epoch next clear) × (next ≤ c.runners)
-    × (is_over c epoch next (clear && is_clear epoch (w.announced next)) ≡ false)
+      × (is_over c.runners epoch next (clear && is_clear epoch (w.announced next)) ≡ false)
   Enabled w (ScanLast r epoch next clear) = (w.stage r ≡ Scanning epoch next clear)
-    × (is_over c epoch next (clear && is_clear epoch (w.announced next)) ≡ true)
+      × (is_over c.runners epoch next (clear && is_clear epoch (w.announced next)) ≡ true)
   Enabled w (Advance r epoch next) = (w.stage r ≡ Scanning epoch next true) × (c.runners < next) × (epoch < last_epoch)
   Enabled w (Test r s worn) = w.location s ≡ Hand r
   Enabled w (TakeSlot r s) = (w.location s ≡ Free r) × (s < c.nodes)
   Enabled w (MakeCommit r d k s worn) = (w.holds r (slot_of d) ≡ true) × (w.role d k ≡ Makes) × (w.location s ≡ Hand r)
   Enabled w (RetireEpoch r d k s) = ((w.retire r).loaded ≡ false) × (w.holds r (slot_of d) ≡ true) × (w.role d k ≡ Retires s) × (s < c.nodes)
-    × (w.log d k ≡ 0 → w.location s ≡ Live)
-    × (w.log d k ≡ 0 → (r' : ℕ) → IsPending w r' → (w.retire r').slot ≡ s → ((w.retire r').descriptor ≡ d) × ((w.retire r').index ≡ k))
+      × (w.log d k ≡ 0 → w.location s ≡ Live)
+      × (w.log d k ≡ 0 → (r' : ℕ) → IsPending w r' → (w.retire r').slot ≡ s → ((w.retire r').descriptor ≡ d) × ((w.retire r').index ≡ k))
   Enabled w (RetireCommit r) = (w.retire r).loaded ≡ true
   Enabled w (WordCommit r d k word) = (w.holds r (slot_of d) ≡ true) × (w.role d k ≡ Agrees)
   Enabled w (StoreLog r d k word) = w.location (slot_of d) ≡ Free r
   Enabled w (Reach r s) = (is_entered (w.stage r) ≡ true) × IsKept (w.location s) (entry_of (w.stage r))
-    × ((r' : ℕ) → IsPending w r' → (w.retire r').slot ≡ s → entry_of (w.stage r) ≤ (w.retire r').epoch)
+      × ((r' : ℕ) → IsPending w r' → (w.retire r').slot ≡ s → entry_of (w.stage r) ≤ (w.retire r').epoch)
   Enabled w (Publish r d roles) = (is_entered (w.stage r) ≡ true) × (w.location (slot_of d) ≡ Free r) × ((k : ℕ) → w.log d k ≡ 0)
   Enabled w (RetireDescriptor r d) = (is_entered (w.stage r) ≡ true) × (w.location (slot_of d) ≡ Live)

@@ -57,6 +57,11 @@ agreed_slot word = cond (word == 0) [] ((word - 1) ∷ [])
 abbrev pub agreed_count : ℕ → ℕ
 agreed_count word = cond (word == 0) 0 1
 
+-- what was won stays won
+pub record Lasts (h h' : History) : Type 0 where
+  pub made : (n k : ℕ) → 1 ≤ length (h.made n k) → h'.made n k ≡ h.made n k
+  pub retired : (n k : ℕ) → 1 ≤ length (h.retired n k) → h'.retired n k ≡ h.retired n k
+
 module _ (c : Counts) where
   pub record IsExact (w : EpochState) (h : History) : Type 0 where
     -- no section has a number above that of the last publication, and no two descriptors have the same section
@@ -72,11 +77,6 @@ module _ (c : Counts) where
     -- no commit of any section's Make or Retire was won twice
     pub made_once : (n k : ℕ) → length (h.made n k) ≤ 1
     pub retired_once : (n k : ℕ) → length (h.retired n k) ≤ 1
-
-  -- what was won stays won
-  pub record Lasts (h h' : History) : Type 0 where
-    pub made : (n k : ℕ) → 1 ≤ length (h.made n k) → h'.made n k ≡ h.made n k
-    pub retired : (n k : ℕ) → 1 ≤ length (h.retired n k) → h'.retired n k ≡ h.retired n k
 
   -- the history after a list of events
   abbrev pub noted_all : EpochState → History → List Event → History

@@ -4,5 +4,7 @@ pub mod Moves
 pub mod Events
 pub mod Sound
 pub mod Schedules
+pub mod Frame
 pub mod Reuse
+pub mod Commits
 pub mod History

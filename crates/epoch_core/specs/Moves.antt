@@ -4,15 +4,15 @@ use Rattle.epoch_core.specs.declared.stage.Stage.{Stage}
 use Rattle.epoch_core.specs.declared.stage.Stage.TheVariants.{Scanning}
 use Rattle.epoch_core.specs.declared.location.Location.{Location}
 use Rattle.epoch_core.specs.declared.location.Location.TheVariants.{Fixed, Live, Hand, Free, Worn, Limbo}
-use Rattle.epoch_core.specs.State.{Counts, last_epoch}
+use Rattle.epoch_core.specs.State.{last_epoch}
 
 -- an announcement doesn't stand in the way of an advance from this epoch
 abbrev pub is_clear : ℕ → ℕ → Bool
 is_clear epoch found = found == 0 || found == epoch
 
--- after the announcement `next`, an advance from this epoch isn't tried
-abbrev pub is_over : Counts → ℕ → ℕ → Bool → Bool
-is_over c epoch next clear = next == c.runners && not (clear && nat_lt epoch last_epoch)
+-- the announcement `next` is the last one, the keeper's, and an advance from this epoch isn't tried
+abbrev pub is_over : ℕ → ℕ → ℕ → Bool → Bool
+is_over runners epoch next clear = next == runners && not (clear && nat_lt epoch last_epoch)
 
 -- the epoch after an exchange from `epoch` to the next
 abbrev pub advanced : ℕ → ℕ → ℕ
