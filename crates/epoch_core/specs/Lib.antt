@@ -6,5 +6,6 @@ pub mod Sound
 pub mod Schedules
 pub mod Frame
 pub mod Reuse
+pub mod Follows
 pub mod Commits
 pub mod History

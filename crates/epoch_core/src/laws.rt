@@ -6,7 +6,8 @@ ghost use Rattle.epoch_core.specs.Events.{Event, Enabled, after};
 ghost use Rattle.epoch_core.specs.Sound.{IsSound};
 ghost use Rattle.epoch_core.specs.Schedules.{IsFirst, first_state, AllEnabled, after_all};
 ghost use Rattle.epoch_core.specs.Frame.{IsSame};
-ghost use Rattle.epoch_core.specs.Reuse.{HeldAreSafe, LeavesLate};
+ghost use Rattle.epoch_core.specs.Reuse.{HeldAreSafe, LeavesLate, LeavesNothingOld};
+ghost use Rattle.epoch_core.specs.Follows.{MayFollow};
 ghost use Rattle.epoch_core.specs.Commits.{MakeGoesOn, RetireGoesOn};
 ghost use Rattle.epoch_core.specs.History.{History, no_history, noted, noted_all, IsExact, Lasts};
 
@@ -33,9 +34,16 @@ pub fn held_slots_are_safe()
         → AllEnabled c (first_state location) es → HeldAreSafe (after_all c (first_state location) es) }
 {}
 
-/// A retired slot leaves limbo only when two epochs have passed, nobody holds it, and whoever is entered came later.
+/// A retired slot leaves limbo only when two epochs have passed, nobody holds it, and whoever is entered came later. The end of
+/// a scan takes every such slot from the runner's own limbo.
 pub fn slots_leave_limbo_late()
-    ensures { (c : Counts) → LeavesLate c }
+    ensures late { (c : Counts) → LeavesLate c }
+    ensures all_old { (c : Counts) → LeavesNothingOld c }
+{}
+
+/// What has to be known of a link that an entered runner reads, for the runner to come to hold what the link names.
+pub fn links_may_be_followed()
+    ensures { (c : Counts) (w : EpochState) → IsSound c w → MayFollow c w }
 {}
 
 /// A Make goes on with the agreed slot, and its own slot comes back where its commit lost. A Retire moves its slot into one
