@@ -21,14 +21,14 @@ out_before location nodes s d x lt out = grind arith
 more_made : (made : ℕ → ℕ → List ℕ) (section : ℕ → ℕ) (log : ℕ → ℕ → ℕ) (makes : Bool) (d k s d' k' : ℕ) → (section d' ≡ section d → d' ≡ d)
     → (d' ≡ d → k' ≡ k → makes ≡ true) → made (section d') k' ≡ cond makes (agreed_slot (log d' k')) []
     → upd2 made (section d) k (with_won (log d k) s (made (section d) k)) (section d') k'
-        ≡ cond makes (agreed_slot (upd2 log d k (written_once (log d k) (suc s)) d' k')) []
+    ≡ cond makes (agreed_slot (upd2 log d k (written_once (log d k) (suc s)) d' k')) []
 more_made made section log makes d k s d' k' same role old = grind arith
 
 -- likewise for a Retire's commit
 more_retired : (retired : ℕ → ℕ → List ℕ) (section : ℕ → ℕ) (log : ℕ → ℕ → ℕ) (retires : Bool) (d k s y d' k' : ℕ) → (section d' ≡ section d → d' ≡ d)
     → (d' ≡ d → k' ≡ k → retires ≡ true) → length (retired (section d') k') ≡ cond retires (agreed_count (log d' k')) 0
     → length (upd2 retired (section d) k (with_won (log d k) y (retired (section d) k)) (section d') k')
-        ≡ cond retires (agreed_count (upd2 log d k (written_once (log d k) (suc s)) d' k')) 0
+    ≡ cond retires (agreed_count (upd2 log d k (written_once (log d k) (suc s)) d' k')) 0
 more_retired retired section log retires d k s y d' k' same role old = grind arith
 
 -- a commit of another kind changes nothing for a Make

@@ -7,3 +7,7 @@ pub mod Reusing
 pub mod Exactly
 pub mod Lasting
 pub mod Same
+pub mod Times
+pub mod Collecting
+pub mod Listing
+pub mod Starting

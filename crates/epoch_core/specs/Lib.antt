@@ -6,6 +6,8 @@ pub mod Sound
 pub mod Schedules
 pub mod Frame
 pub mod Reuse
+pub mod Lists
 pub mod Follows
 pub mod Commits
 pub mod History
+pub mod Starts

@@ -5,10 +5,12 @@ use Rattle.epoch_core.specs.declared.stage.Stage.TheVariants.{Idle, Loaded, Anno
 use Rattle.epoch_core.specs.declared.location.Location.{Location}
 use Rattle.epoch_core.specs.declared.location.Location.TheVariants.{Fixed, Live, Hand, Free, Worn, Limbo}
 
--- how many workers there are, which is the keeper's number too, and how many node slots; a descriptor's slot number comes after these
+-- how many workers there are, which is the keeper's number too, how many node slots, and how many descriptors, whose slot numbers come
+-- after those of the node slots
 pub record Counts : Type 0 where
   pub runners : ℕ
   pub nodes : ℕ
+  pub descriptors : ℕ
 
 -- what a section commits at one place of its log: a word that it loaded, the slot of a Make, or the slot that a Retire names
 pub data Role : Type 0 where

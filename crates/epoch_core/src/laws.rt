@@ -5,6 +5,8 @@ ghost use Rattle.epoch_core.specs.State.{Counts, EpochState};
 ghost use Rattle.epoch_core.specs.Events.{Event, Enabled, after};
 ghost use Rattle.epoch_core.specs.Sound.{IsSound};
 ghost use Rattle.epoch_core.specs.Schedules.{IsFirst, first_state, AllEnabled, after_all};
+ghost use Rattle.epoch_core.specs.Lists.{Lists, IsListed, listed_all};
+ghost use Rattle.epoch_core.specs.Starts.{Starts};
 ghost use Rattle.epoch_core.specs.Frame.{IsSame};
 ghost use Rattle.epoch_core.specs.Reuse.{HeldAreSafe, LeavesLate, LeavesNothingOld};
 ghost use Rattle.epoch_core.specs.Follows.{MayFollow};
@@ -20,6 +22,19 @@ pub fn events_keep_the_invariant()
 pub fn schedules_meet_the_invariant()
     ensures { (c : Counts) (location : ℕ → Location) (es : List Event) → IsFirst c location
         → AllEnabled c (first_state location) es → IsSound c (after_all c (first_state location) es) }
+{}
+
+/// After every list of enabled events each node slot and each descriptor stands exactly once in the list that its location names,
+/// and in no other list of any runner.
+pub fn slots_stand_in_one_list()
+    ensures { (c : Counts) (location : ℕ → Location) (l : ℕ → Lists) (es : List Event) → IsFirst c location
+        → IsListed c (first_state location) l → AllEnabled c (first_state location) es
+        → IsListed c (after_all c (first_state location) es) (listed_all c (first_state location) l es) }
+{}
+
+/// With every slot in the free lists of runner 0 the machine can start.
+pub fn the_machine_can_start()
+    ensures { (c : Counts) → Starts c }
 {}
 
 /// A state that differs in no field meets the invariant and keeps the history exact.
