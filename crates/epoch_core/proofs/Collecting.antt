@@ -1,13 +1,12 @@
 -- The lists after a collect.
-use Rattle.std.proofs.Common.{◌≡◌, ◌≢◌, ℕ, ◌+◌, ◌<◌, ◌≤◌, Bool, true, false, cond, List, [], ◌∷◌, ◌++◌, refl, arith}
-use Rattle.std.specs.Prelude.{◌==◌, ◌&&◌}
+use Rattle.std.proofs.Common.{◌≡◌, ◌≢◌, ℕ, ◌+◌, Bool, true, false, cond, List, refl, arith}
 use mathlib.Core.Logic.{dite}
 use native.Mathlib.Decide.{ℕ_discrete}
 use Rattle.epoch_core.specs.declared.location.Location.{Location}
 use Rattle.epoch_core.specs.declared.location.Location.TheVariants.{Fixed, Live, Hand, Free, Worn, Limbo}
 use Rattle.epoch_core.specs.Moves.{is_old, collected}
-use Rattle.epoch_core.specs.Lists.{Entry, times, times_retired, old_slots, young, in_hand, in_free, in_worn, in_limbo}
-use Rattle.epoch_core.proofs.Times.{times-append, times_retired-young, times-old_none, times-old_one}
+use Rattle.epoch_core.specs.Lists.{Entry, times, times_retired, old_slots, in_hand, in_free, in_worn, in_limbo}
+use Rattle.epoch_core.proofs.Times.{times-old_none, times-old_one}
 
 -- what leaves limbo of the node slots
 pub leaving : (r e s : ℕ) (p : Location) (limbo : List Entry) → ((y : ℕ) → times_retired s y limbo ≡ in_limbo r y p)

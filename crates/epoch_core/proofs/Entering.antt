@@ -1,7 +1,7 @@
 -- Each event keeps the invariant: entering and leaving.
-use Rattle.std.proofs.Common.{◌≡◌, ℕ, zero, suc, ◌+◌, ◌<◌, ◌≤◌, Bool, true, false, cond, arith, refl, sym, subst}
-use Rattle.epoch_core.specs.State.{Counts, Role, EpochState}
-use Rattle.epoch_core.specs.Events.{Event, EnterLoad, Announce, EnterAgain, Exit, after, Enabled}
+use Rattle.std.proofs.Common.{ℕ, arith}
+use Rattle.epoch_core.specs.State.{Counts, EpochState}
+use Rattle.epoch_core.specs.Events.{EnterLoad, Announce, EnterAgain, Exit, after, Enabled}
 use Rattle.epoch_core.specs.Sound.{IsSound}
 
 pub enter_load : (c : Counts) (w : EpochState) (r : ℕ) → Enabled c w (EnterLoad r) → IsSound c w → IsSound c (after c w (EnterLoad r))

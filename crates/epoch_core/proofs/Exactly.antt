@@ -1,12 +1,11 @@
 -- Each event keeps the history exact.
-use Rattle.std.proofs.Common.{◌≡◌, ℕ, zero, suc, ◌+◌, ◌<◌, ◌≤◌, Bool, true, false, List, [], ◌∷◌, length, refl, arith}
+use Rattle.std.proofs.Common.{◌≡◌, ℕ, suc, ◌+◌, ◌<◌, Bool, true, false, List, [], ◌∷◌, length, arith}
 use Rattle.epoch_core.specs.declared.location.Location.{Location}
-use Rattle.epoch_core.specs.declared.location.Location.TheVariants as locations
 use Rattle.epoch_core.specs.State.{Counts, Role, EpochState}
 use Rattle.epoch_core.specs.Events.{Event, EnterLoad, Announce, EnterAgain, Exit, ScanEpoch, ScanOne, ScanLast, Advance, Test, TakeSlot, MakeCommit, RetireEpoch, RetireCommit, WordCommit, StoreLog, Reach, Publish, RetireDescriptor, Enabled, after, slot_of}
 use Rattle.epoch_core.specs.Sound.{IsSound}
 use Rattle.epoch_core.specs.Schedules.{IsFirst, first_state, AllEnabled, after_all}
-use Rattle.epoch_core.specs.History.{History, no_history, noted, noted_all, IsExact, Lasts, is_out}
+use Rattle.epoch_core.specs.History.{History, no_history, noted, noted_all, IsExact, is_out}
 use Rattle.epoch_core.proofs.Keeping.{keeps}
 use Rattle.std.proofs.Common.{cond}
 use Rattle.epoch_core.specs.Update.{upd, upd2}

@@ -1,18 +1,18 @@
 -- The lists of each runner stay tied to where the slots are.
-use Rattle.std.proofs.Common.{◌≡◌, ◌≢◌, ℕ, zero, suc, ◌+◌, ◌<◌, ◌≤◌, Bool, true, false, cond, List, [], ◌∷◌, ◌++◌, refl, sym, ap, ◌∙◌, subst, arith}
-use Rattle.std.specs.Prelude.{◌==◌, nat_lt}
+use Rattle.std.proofs.Common.{◌≡◌, ◌≢◌, ℕ, ◌+◌, ◌<◌, Bool, true, false, List, [], ◌∷◌, ◌++◌, refl, sym, ap, ◌∙◌, subst, arith}
+use Rattle.std.specs.Prelude.{nat_lt}
 use Rattle.std.proofs.lemmas.Bool.Decides.{nat_tests}
 use mathlib.Core.Logic.{dite}
 use native.Mathlib.Decide.{ℕ_discrete}
 use Rattle.epoch_core.specs.declared.location.Location.{Location}
-use Rattle.epoch_core.specs.declared.location.Location.TheVariants.{Live, Hand, Free, Worn, Limbo}
+use Rattle.epoch_core.specs.declared.location.Location.TheVariants.{Live, Hand, Free, Limbo}
 use Rattle.epoch_core.specs.Update.{upd}
-use Rattle.epoch_core.specs.Moves.{is_old, collected, tested, made, retired}
-use Rattle.epoch_core.specs.State.{Counts, Role, EpochState}
+use Rattle.epoch_core.specs.Moves.{collected, tested, made, retired}
+use Rattle.epoch_core.specs.State.{Counts, EpochState}
 use Rattle.epoch_core.specs.Events.{Event, EnterLoad, Announce, EnterAgain, Exit, ScanEpoch, ScanOne, ScanLast, Advance, Test, TakeSlot, MakeCommit, RetireEpoch, RetireCommit, WordCommit, StoreLog, Reach, Publish, RetireDescriptor, Enabled, after, slot_of, after_collect}
 use Rattle.epoch_core.specs.Sound.{IsSound}
 use Rattle.epoch_core.specs.Schedules.{AllEnabled, after_all}
-use Rattle.epoch_core.specs.Lists.{Entry, Lists, IsListed, listed, listed_all, collect_lists, tested_lists, made_lists, retired_lists, without, old_slots, young, times, times_retired, in_hand, in_free, in_worn, in_limbo}
+use Rattle.epoch_core.specs.Lists.{Lists, IsListed, listed, listed_all, collect_lists, tested_lists, made_lists, retired_lists, without, old_slots, times, times_retired, in_hand, in_free, in_worn, in_limbo}
 use Rattle.epoch_core.proofs.Times.{times-append, times_retired-append, times-without, times_retired-young, times-old_none}
 use Rattle.epoch_core.proofs.Collecting.{leaving, leaving_free, free_kept, worn_kept, limbo_young, hand_of_others, free_of_others, limbo_of_others}
 use Rattle.epoch_core.proofs.Keeping.{keeps}

@@ -1,7 +1,7 @@
 -- Each event keeps the invariant: node slots.
-use Rattle.std.proofs.Common.{◌≡◌, ℕ, zero, suc, ◌+◌, ◌<◌, ◌≤◌, Bool, true, false, cond, arith, refl, sym, subst}
-use Rattle.epoch_core.specs.State.{Counts, Role, EpochState}
-use Rattle.epoch_core.specs.Events.{Event, Test, TakeSlot, MakeCommit, RetireEpoch, RetireCommit, after, Enabled}
+use Rattle.std.proofs.Common.{ℕ, Bool, arith}
+use Rattle.epoch_core.specs.State.{Counts, EpochState}
+use Rattle.epoch_core.specs.Events.{Test, TakeSlot, MakeCommit, RetireEpoch, RetireCommit, after, Enabled}
 use Rattle.epoch_core.specs.Sound.{IsSound}
 
 pub test : (c : Counts) (w : EpochState) (r : ℕ) (s : ℕ) (b : Bool) → Enabled c w (Test r s b) → IsSound c w → IsSound c (after c w (Test r s b))

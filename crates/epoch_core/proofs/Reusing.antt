@@ -1,9 +1,9 @@
 -- What the invariant says of slots that are held.
-use Rattle.std.proofs.Common.{◌≡◌, ◌≢◌, ℕ, ◌+◌, ◌<◌, ◌≤◌, Bool, true, false, arith}
+use Rattle.std.proofs.Common.{◌≡◌, ℕ, ◌+◌, ◌<◌, ◌≤◌, Bool, true, false, arith}
 use Rattle.epoch_core.specs.declared.location.Location.{Location}
 use Rattle.epoch_core.specs.declared.location.Location.TheVariants.{Fixed, Live, Hand, Free, Worn, Limbo}
-use Rattle.epoch_core.specs.State.{Counts, Role, EpochState, is_entered, entry_of, IsKept}
-use Rattle.epoch_core.specs.Events.{Event, EnterLoad, Announce, EnterAgain, Exit, ScanEpoch, ScanOne, ScanLast, Advance, Test, TakeSlot, MakeCommit, RetireEpoch, RetireCommit, WordCommit, StoreLog, Reach, Publish, RetireDescriptor, Enabled, after}
+use Rattle.epoch_core.specs.State.{Counts, EpochState, is_entered, entry_of, IsKept}
+use Rattle.epoch_core.specs.Events.{Event, EnterLoad, Announce, EnterAgain, Exit, ScanEpoch, ScanOne, ScanLast, Advance, Test, TakeSlot, MakeCommit, RetireEpoch, RetireCommit, WordCommit, StoreLog, Reach, Publish, RetireDescriptor, after}
 use Rattle.epoch_core.specs.Sound.{IsSound}
 use Rattle.epoch_core.specs.Reuse.{HeldAreSafe, MayLeave, LeavesLate, LeavesNothingOld}
 use Rattle.epoch_core.specs.Moves.{collected}

@@ -1,5 +1,5 @@
 -- A state that is the same everywhere meets the same facts.
-use Rattle.std.proofs.Common.{◌≡◌, ℕ, suc, ◌+◌, ◌<◌, ◌≤◌, Bool, true, false, arith}
+use Rattle.std.proofs.Common.{arith}
 use Rattle.epoch_core.specs.State.{Counts, EpochState}
 use Rattle.epoch_core.specs.Sound.{IsSound}
 use Rattle.epoch_core.specs.Frame.{IsSame}

@@ -1,7 +1,7 @@
 -- Each event keeps the invariant: scans and the advance.
-use Rattle.std.proofs.Common.{◌≡◌, ℕ, zero, suc, ◌+◌, ◌<◌, ◌≤◌, Bool, true, false, cond, arith, refl, sym, subst}
-use Rattle.epoch_core.specs.State.{Counts, Role, EpochState}
-use Rattle.epoch_core.specs.Events.{Event, ScanEpoch, ScanOne, ScanLast, Advance, after, Enabled}
+use Rattle.std.proofs.Common.{◌≡◌, ℕ, suc, ◌<◌, ◌≤◌, Bool, true, arith, refl}
+use Rattle.epoch_core.specs.State.{Counts, EpochState}
+use Rattle.epoch_core.specs.Events.{ScanEpoch, ScanOne, ScanLast, Advance, after, Enabled}
 use Rattle.epoch_core.specs.Sound.{IsSound}
 use Rattle.std.specs.Prelude.{◌&&◌}
 use Rattle.epoch_core.specs.declared.stage.Stage.{Stage}

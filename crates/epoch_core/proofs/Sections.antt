@@ -1,7 +1,7 @@
 -- Each event keeps the invariant: logs, holders and descriptors.
-use Rattle.std.proofs.Common.{◌≡◌, ℕ, zero, suc, ◌+◌, ◌<◌, ◌≤◌, Bool, true, false, cond, arith, refl, sym, subst}
+use Rattle.std.proofs.Common.{ℕ, arith}
 use Rattle.epoch_core.specs.State.{Counts, Role, EpochState}
-use Rattle.epoch_core.specs.Events.{Event, WordCommit, StoreLog, Reach, Publish, RetireDescriptor, after, Enabled}
+use Rattle.epoch_core.specs.Events.{WordCommit, StoreLog, Reach, Publish, RetireDescriptor, after, Enabled}
 use Rattle.epoch_core.specs.Sound.{IsSound}
 
 pub word_commit : (c : Counts) (w : EpochState) (r : ℕ) (d : ℕ) (k : ℕ) (v : ℕ) → Enabled c w (WordCommit r d k v) → IsSound c w → IsSound c (after c w (WordCommit r d k v))

@@ -1,11 +1,10 @@
 -- A first state with its lists.
-use Rattle.std.proofs.Common.{◌≡◌, ◌≢◌, ℕ, zero, suc, ◌+◌, ◌<◌, ◌≤◌, Bool, true, false, cond, List, [], ◌∷◌, arith}
+use Rattle.std.proofs.Common.{◌≡◌, ℕ, zero, suc, ◌<◌, ◌≤◌, arith}
 use mathlib.Core.Logic.{dite}
 use native.Mathlib.Decide.{ℕ_discrete}
 use Rattle.epoch_core.specs.State.{Counts}
-use Rattle.epoch_core.specs.Schedules.{IsFirst, first_state}
-use Rattle.epoch_core.specs.Lists.{Lists, IsListed, times, times_retired}
-use Rattle.epoch_core.specs.Starts.{below, all_free, all_listed, Starts}
+use Rattle.epoch_core.specs.Lists.{times}
+use Rattle.epoch_core.specs.Starts.{below, Starts}
 
 times-above : (s n : ℕ) → n ≤ s → times s (below n) ≡ 0
 times-above s zero le = grind arith

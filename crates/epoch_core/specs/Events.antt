@@ -1,11 +1,10 @@
 -- The events of epochs and slots, when each may come, and the state after it.
 use Rattle.std.specs.Prelude.{ℕ, suc, ◌+◌, ◌<◌, ◌≤◌, ◌≡◌, Bool, true, false, ◌&&◌, nat_lt}
-use Rattle.epoch_core.specs.declared.stage.Stage.{Stage}
 use Rattle.epoch_core.specs.declared.stage.Stage.TheVariants.{Idle, Loaded, Announced, Entered, Scanning}
 use Rattle.epoch_core.specs.declared.location.Location.{Location}
-use Rattle.epoch_core.specs.declared.location.Location.TheVariants.{Fixed, Live, Hand, Free, Worn, Limbo}
+use Rattle.epoch_core.specs.declared.location.Location.TheVariants.{Live, Hand, Free, Limbo}
 use Rattle.epoch_core.specs.Update.{upd, upd2, upd_row}
-use Rattle.epoch_core.specs.State.{Counts, Role, Agrees, Makes, Retires, Retiring, EpochState, last_epoch, is_entered, entry_of, IsPending, IsKept}
+use Rattle.epoch_core.specs.State.{Counts, Role, Agrees, Makes, Retires, EpochState, last_epoch, is_entered, entry_of, IsPending, IsKept}
 use Rattle.epoch_core.specs.Moves.{is_clear, is_over, advanced, tested, collected, written_once, made, retired}
 
 pub data Event : Type 0 where

@@ -1,10 +1,10 @@
 -- What was won by the commits of Makes and Retires, beside the state: each is won once.
-use Rattle.std.specs.Prelude.{ℕ, suc, ◌+◌, ◌-◌, ◌<◌, ◌≤◌, ◌≡◌, Bool, true, false, ◌==◌, cond, List, [], ◌∷◌, length}
+use Rattle.std.specs.Prelude.{ℕ, suc, ◌-◌, ◌<◌, ◌≤◌, ◌≡◌, Bool, true, false, ◌==◌, cond, List, [], ◌∷◌, length}
 use Rattle.epoch_core.specs.declared.location.Location.{Location}
 use Rattle.epoch_core.specs.declared.location.Location.TheVariants.{Fixed, Live, Hand, Free, Worn, Limbo}
 use Rattle.epoch_core.specs.Update.{upd, upd2}
 use Rattle.epoch_core.specs.State.{Counts, Role, Agrees, Makes, Retires, EpochState}
-use Rattle.epoch_core.specs.Events.{Event, MakeCommit, RetireCommit, Publish, Enabled, after, slot_of}
+use Rattle.epoch_core.specs.Events.{Event, MakeCommit, RetireCommit, Publish, after, slot_of}
 
 -- the sections are numbered from 1 in the order of their publications. `section` gives the number of the one that a descriptor had
 -- last, 0 for none. By section and place in its log: the slots that became live by a commit of its Make there that won, and the

@@ -1,7 +1,5 @@
 -- What becomes of a stage, a slot and a log word in one step.
 use Rattle.std.specs.Prelude.{ℕ, ◌+◌, Bool, true, false, not, ◌==◌, ◌&&◌, ◌||◌, nat_lt, nat_le, cond}
-use Rattle.epoch_core.specs.declared.stage.Stage.{Stage}
-use Rattle.epoch_core.specs.declared.stage.Stage.TheVariants.{Scanning}
 use Rattle.epoch_core.specs.declared.location.Location.{Location}
 use Rattle.epoch_core.specs.declared.location.Location.TheVariants.{Fixed, Live, Hand, Free, Worn, Limbo}
 use Rattle.epoch_core.specs.State.{last_epoch}

@@ -1,6 +1,6 @@
 -- No slot is given out again while somebody holds it.
 use Rattle.std.specs.Prelude.{ℕ, ◌+◌, ◌<◌, ◌≤◌, ◌≡◌, ◌≢◌, Bool, true}
-use Rattle.epoch_core.specs.declared.location.Location.TheVariants.{Live, Hand, Free, Worn, Limbo}
+use Rattle.epoch_core.specs.declared.location.Location.TheVariants.{Hand, Free, Worn, Limbo}
 use Rattle.epoch_core.specs.State.{Counts, EpochState, is_entered, entry_of}
 use Rattle.epoch_core.specs.Events.{Event, ScanLast, Advance, Enabled, after}
 use Rattle.epoch_core.specs.Sound.{IsSound}

@@ -3,7 +3,7 @@ use Rattle.std.specs.Prelude.{ℕ, ◌<◌, ◌≡◌, Bool, true, false, List, 
 use Rattle.epoch_core.specs.declared.stage.Stage.TheVariants.{Idle}
 use Rattle.epoch_core.specs.declared.location.Location.{Location}
 use Rattle.epoch_core.specs.declared.location.Location.TheVariants.{Fixed, Live, Hand, Free, Worn, Limbo}
-use Rattle.epoch_core.specs.State.{Counts, Role, Agrees, EpochState}
+use Rattle.epoch_core.specs.State.{Counts, Agrees, EpochState}
 use Rattle.epoch_core.specs.Events.{Event, Enabled, after}
 use Rattle.epoch_core.specs.Sound.{is_for_nodes}
 

@@ -1,9 +1,9 @@
 -- The invariant of epochs and slots.
 use Rattle.std.specs.Prelude.{ℕ, ◌+◌, ◌<◌, ◌≤◌, ◌≡◌, Bool, true, false}
-use Rattle.epoch_core.specs.declared.stage.Stage.TheVariants.{Loaded, Entered, Scanning}
+use Rattle.epoch_core.specs.declared.stage.Stage.TheVariants.{Loaded, Scanning}
 use Rattle.epoch_core.specs.declared.location.Location.{Location}
 use Rattle.epoch_core.specs.declared.location.Location.TheVariants.{Fixed, Live, Hand, Free, Worn, Limbo}
-use Rattle.epoch_core.specs.State.{Counts, Role, Retires, EpochState, last_epoch, is_entered, entry_of, is_announcing, IsPending, IsKept}
+use Rattle.epoch_core.specs.State.{Counts, Retires, EpochState, last_epoch, is_entered, entry_of, is_announcing, IsPending, IsKept}
 use Rattle.epoch_core.specs.Events.{slot_of}
 
 -- places for node slots alone
