@@ -11,3 +11,4 @@ pub mod Times
 pub mod Collecting
 pub mod Listing
 pub mod Starting
+pub mod Rounding

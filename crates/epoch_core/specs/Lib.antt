@@ -11,3 +11,4 @@ pub mod Follows
 pub mod Commits
 pub mod History
 pub mod Starts
+pub mod Round

@@ -7,6 +7,7 @@ ghost use Rattle.epoch_core.specs.Sound.{IsSound};
 ghost use Rattle.epoch_core.specs.Schedules.{IsFirst, first_state, AllEnabled, after_all};
 ghost use Rattle.epoch_core.specs.Lists.{Lists, IsListed, listed_all};
 ghost use Rattle.epoch_core.specs.Starts.{Starts};
+ghost use Rattle.epoch_core.specs.Round.{ComesRound};
 ghost use Rattle.epoch_core.specs.Frame.{IsSame};
 ghost use Rattle.epoch_core.specs.Reuse.{HeldAreSafe, LeavesLate, LeavesNothingOld};
 ghost use Rattle.epoch_core.specs.Follows.{MayFollow};
@@ -35,6 +36,12 @@ pub fn slots_stand_in_one_list()
 /// With every slot in the free lists of runner 0 the machine can start.
 pub fn the_machine_can_start()
     ensures { (c : Counts) → Starts c }
+{}
+
+/// An example in which every kind of step of a slot's life may come: a slot is made by one section, retired by the next, and free
+/// again two epochs later.
+pub fn a_slot_comes_round()
+    ensures { ComesRound }
 {}
 
 /// A state that differs in no field meets the invariant and keeps the history exact.
