@@ -1,5 +1,5 @@
 -- One slot's way round, as an example: made by one section, retired by the next, and free again two epochs later.
-use Rattle.std.specs.Prelude.{ℕ, ◌≡◌, ◌==◌, Bool, true, false, cond, List, [], ◌∷◌, ◌++◌}
+use Rattle.std.specs.Prelude.{ℕ, ◌≡◌, ◌==◌, true, false, cond, List, [], ◌∷◌, ◌++◌}
 use Rattle.epoch_core.specs.declared.location.Location.TheVariants.{Live, Free, Limbo}
 use Rattle.epoch_core.specs.State.{Counts, Role, Agrees, Makes, Retires, EpochState}
 use Rattle.epoch_core.specs.Events.{Event, EnterLoad, Announce, EnterAgain, Exit, ScanEpoch, ScanOne, Advance, Test, TakeSlot, MakeCommit, RetireEpoch, RetireCommit, Reach, Publish, RetireDescriptor}

@@ -10,7 +10,12 @@ mod location;
 mod scan;
 mod stage;
 
-pub use laws::{a_slot_comes_round, changes_elsewhere_keep_the_invariant, commits_are_won_once, events_keep_the_invariant, held_slots_are_safe, links_may_be_followed, lost_commits_give_back, schedules_meet_the_invariant, slots_leave_limbo_late, slots_stand_in_one_list, the_history_lasts, the_machine_can_start};
+pub use laws::{
+    a_slot_comes_round, changes_elsewhere_keep_the_invariant, commits_are_won_once,
+    events_keep_the_invariant, held_slots_are_safe, links_may_be_followed, lost_commits_give_back,
+    schedules_meet_the_invariant, slots_leave_limbo_late, slots_stand_in_one_list,
+    the_history_lasts, the_machine_can_start,
+};
 pub use location::{Location, is_old};
 pub use scan::{LAST_EPOCH, advanced, is_clear, is_over};
 pub use stage::Stage;
