@@ -55,8 +55,8 @@ Gathers-push before after page page_after bytes a = record {
 }
 
 -- bytes, and then more bytes
-pub Gathers-append : (before mid after : Option (List ℕ)) (page page_mid page_after first second : List ℕ) → Gathers before page first mid page_mid → Gathers mid page_mid second after page_after → Gathers before page (first ++ second) after page_after
-Gathers-append before mid after page page_mid page_after first second a b = record {
+pub Gathers-append : {before mid after : Option (List ℕ)} {page page_mid page_after first second : List ℕ} → Gathers before page first mid page_mid → Gathers mid page_mid second after page_after → Gathers before page (first ++ second) after page_after
+Gathers-append {before} {mid} {after} {page} {page_mid} {page_after} {first} {second} a b = record {
   sent = a.sent ++ b.sent;
   added = Extends-append before mid after a.sent b.sent a.added b.added;
   whole = append_assoc a.sent b.sent page_after ∙ ap (λ l. a.sent ++ l) b.whole ∙ sym (append_assoc a.sent page_mid second) ∙ ap (λ l. l ++ second) a.whole ∙ append_assoc page first second;
@@ -72,16 +72,16 @@ pub Underway-start : (before : Option (List ℕ)) (text page : List ℕ) → pag
 Underway-start before text page empty = record { sent = []; added = Extends-nothing before; whole = ap (λ p. p ++ text) empty }
 
 -- bytes were printed behind a page, and more are to follow
-pub Underway-from : (before held : Option (List ℕ)) (page bytes left all page_after : List ℕ) → bytes ++ left ≡ all → Gathers before page bytes held page_after → Underway before (page ++ all) held page_after left
-Underway-from before held page bytes left all page_after next g = record {
+pub Underway-from : {before held : Option (List ℕ)} {page bytes left all page_after : List ℕ} → bytes ++ left ≡ all → Gathers before page bytes held page_after → Underway before (page ++ all) held page_after left
+Underway-from {before} {held} {page} {bytes} {left} {all} {page_after} next g = record {
   sent = g.sent;
   added = g.added;
   whole = sym (append_assoc g.sent page_after left) ∙ ap (λ l. l ++ left) g.whole ∙ append_assoc page bytes left ∙ ap (λ l. page ++ l) next;
 }
 
 -- the next bytes of what is left were printed
-pub Underway-more : (before : Option (List ℕ)) (text : List ℕ) (held after : Option (List ℕ)) (page page_after bytes left all : List ℕ) → bytes ++ left ≡ all → Underway before text held page all → Gathers held page bytes after page_after → Underway before text after page_after left
-Underway-more before text held after page page_after bytes left all next u g = record {
+pub Underway-more : {before : Option (List ℕ)} {text : List ℕ} {held after : Option (List ℕ)} {page page_after bytes left all : List ℕ} → bytes ++ left ≡ all → Underway before text held page all → Gathers held page bytes after page_after → Underway before text after page_after left
+Underway-more {before} {text} {held} {after} {page} {page_after} {bytes} {left} {all} next u g = record {
   sent = u.sent ++ g.sent;
   added = Extends-append before held after u.sent g.sent u.added g.added;
   whole =
@@ -94,17 +94,17 @@ Underway-more before text held after page page_after bytes left all next u g = r
 pub Underway-write : (before : Option (List ℕ)) (text : List ℕ) (held after : Option (List ℕ)) (rest : List ℕ) (count : ℕ) → Underway before text held [] rest → Extends held (take count rest) after → Underway before text after [] (take (length rest - count) (drop count rest))
 Underway-write before text held after rest count u added =
     let next : take count rest ++ take (length rest - count) (drop count rest) ≡ rest = ap (λ l. take count rest ++ l) (take_rest rest count) ∙ take-append-drop count rest in
-    Underway-more before text held after [] [] (take count rest) (take (length rest - count) (drop count rest)) rest next u
+    Underway-more next u
     (record { sent = take count rest; added = added; whole = append-nil (take count rest) })
 
 -- a part of the page was sent, and nothing of what is left
-pub Underway-fails : (before : Option (List ℕ)) (text : List ℕ) (held after : Option (List ℕ)) (page left : List ℕ) → Underway before text held page left → ExtendsInPart held page after → ExtendsInPart before text after
-Underway-fails before text held after page left u part =
+pub Underway-fails : {before : Option (List ℕ)} {text : List ℕ} {held after : Option (List ℕ)} {page left : List ℕ} → Underway before text held page left → ExtendsInPart held page after → ExtendsInPart before text after
+Underway-fails {before} {text} {held} {after} {page} {left} u part =
     ExtendsInPart-behind before held after u.sent (page ++ left) text u.whole u.added (ExtendsInPart-within held after page left (page ++ left) refl part)
 
 -- a part of the page and of the next bytes was sent, and nothing of what is left
-pub Underway-fails_more : (before : Option (List ℕ)) (text : List ℕ) (held after : Option (List ℕ)) (page bytes left all : List ℕ) → bytes ++ left ≡ all → Underway before text held page all → ExtendsInPart held (page ++ bytes) after → ExtendsInPart before text after
-Underway-fails_more before text held after page bytes left all next u part =
+pub Underway-fails_more : {before : Option (List ℕ)} {text : List ℕ} {held after : Option (List ℕ)} {page all : List ℕ} (bytes left : List ℕ) → bytes ++ left ≡ all → Underway before text held page all → ExtendsInPart held (page ++ bytes) after → ExtendsInPart before text after
+Underway-fails_more {before} {text} {held} {after} {page} {all} bytes left next u part =
     ExtendsInPart-behind before held after u.sent (page ++ all) text u.whole u.added
     (ExtendsInPart-within held after (page ++ bytes) left (page ++ all) (append_assoc page bytes left ∙ ap (λ l. page ++ l) next) part)
 
@@ -117,7 +117,7 @@ Underway-end before text held after page u added =
 -- the last page is sent, or a part of it
 pub Appends-end : {T E : Type 0} (r : Result T E) (before : Option (List ℕ)) (text : List ℕ) (held after : Option (List ℕ)) (page left : List ℕ) → left ≡ [] → Underway before text held page left → OnOk r (Extends held page after) → OnErr r (ExtendsInPart held page after) → Appends r before text after
 Appends-end (Ok x) before text held after page left none u ok err = let P : List ℕ → Type 0 = λ l. Underway before text held page l in Underway-end before text held after page (subst P none u) ok
-Appends-end (Err e) before text held after page left none u ok err = Underway-fails before text held after page left u err
+Appends-end (Err e) before text held after page left none u ok err = Underway-fails u err
 
 -- a fault that is counted after a count that rose no less
 pub Rose-after : (before mid after : ℕ) → before ≤ mid → Rose mid after → Rose before after

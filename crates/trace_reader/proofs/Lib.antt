@@ -1,4 +1,5 @@
 pub mod Asked
+pub mod Exact
 pub mod Lines
 pub mod Moved
 pub mod Ordered

@@ -1,5 +1,5 @@
 -- What the reading of a text answers.
-use Rattle.std.specs.Prelude.{◌≡◌, ◌≤◌, ◌<◌, ℕ, Err, List, None, Ok, Option, Result, length, take}
+use Rattle.std.specs.Prelude.{◌≡◌, ◌≤◌, ◌<◌, ℕ, Err, List, None, Ok, Option, Result, length, take, ◌⊎◌, IsOk}
 use Rattle.trace_reader.specs.declared.traces.Traces.{Traces}
 use Rattle.trace_reader.specs.declared.traces.TraceError.{TraceError}
 use Rattle.trace_reader.specs.declared.traces.TraceError.TheVariants.{ReadFault, Memory, TooLarge, Malformed, TooManyTraces, TooManyRequests}
@@ -31,6 +31,11 @@ IsRefusal (TooManyRequests count) text = IsFirstRefusal text (TooManyRequests co
 abbrev pub Answers : Result Traces TraceError → List ℕ → Type 0
 Answers (Ok traces) text = AreTracesOf traces text
 Answers (Err error) text = IsRefusal error text
+
+-- a text in the grammar is answered Ok, and every other its first refusal, if memory isn't wanting
+pub record IsExact (answer : Result Traces TraceError) (text : List ℕ) : Type 0 where
+  pub accepted : IsAccepted text → IsOk answer ⊎ (answer ≡ Err Memory)
+  pub refused : (error : TraceError) → IsFirstRefusal text error → (answer ≡ Err error) ⊎ (answer ≡ Err Memory)
 
 -- what the end of a whole text may answer: no read can fail behind it
 abbrev pub IsAnswered : Result Traces TraceError → List ℕ → Type 0

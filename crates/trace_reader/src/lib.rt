@@ -12,6 +12,8 @@ mod read;
 mod reader;
 mod requests;
 mod source;
+#[cfg(test)]
+mod tests;
 mod traces;
 
 pub use limits::{MAX_BYTES, MAX_KEY, MAX_REQUESTS, MAX_TRACES};

@@ -1,7 +1,7 @@
 use Rattle.std.proofs.Common.{◌≤◌, ◌-◌, ℕ, List}
 use Rattle.trace_reader.specs.Source.{Moves}
 use Rattle.trace_reader.specs.Reader.{StandsAt}
-use Rattle.trace_reader.proofs.read.read_traces.Given as goal
+use Rattle.trace_reader.proofs.read.read_pieces.Given as goal
 
 abbrev pub invariant-loop-reader : goal.invariant-loop-reader
 invariant-loop-reader g l = record {

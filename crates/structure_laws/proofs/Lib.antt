@@ -1,0 +1,11 @@
+pub mod Bodies
+pub mod Changes
+pub mod Limits
+pub mod Moves
+pub mod Progress
+pub mod Readings
+pub mod Steps
+pub mod TrayGives
+pub mod TrayKeeps
+pub mod TrayLaws
+pub mod TrayShape

@@ -1,0 +1,85 @@
+-- Where each word stands.
+use Rattle.std.specs.Prelude.{ℕ, ◌+◌, ◌*◌, ◌<◌, ◌≤◌, Bool, true, ◌&&◌, nat_lt, nat_le}
+use Rattle.table_words.specs.declared.layout.Layout.{Layout}
+use Rattle.table_words.specs.declared.sizes.Sizes.{Sizes}
+use Rattle.table_words.specs.declared.spot.Spot.{Spot}
+use Rattle.table_words.specs.declared.spot.Spot.TheVariants.{Seat, Epoch, Clock, Announcement, Stamp, Reply, Cell, ThunkWord, DoneWord, LogWord}
+
+-- the number of all node slots: the fixed ones, the workers', the keeper's
+abbrev pub slot_count : Layout → ℕ → ℕ
+slot_count layout fixed_slots = fixed_slots + layout.nodes * layout.runners + (2 * layout.runners + 2)
+
+-- the number of all descriptors: the workers', and the keeper's, of which it has one for each worker
+abbrev pub descriptor_count : Layout → ℕ
+descriptor_count layout = layout.sections * layout.runners + layout.runners
+
+abbrev pub sizes_of : Layout → ℕ → ℕ → ℕ → Sizes
+sizes_of layout requests fixed_cells fixed_slots = record {
+  runners = layout.runners;
+  requests = requests;
+  cells = fixed_cells + 5 * slot_count layout fixed_slots;
+  descriptors = descriptor_count layout;
+}
+
+-- the words of one descriptor
+abbrev pub descriptor_words : ℕ
+descriptor_words = 77
+
+-- the thunk words come first, then the done word, then the log
+abbrev pub thunk_words : ℕ
+thunk_words = 12
+
+abbrev pub log_words : ℕ
+log_words = 64
+
+abbrev pub entries_at : Sizes → ℕ
+entries_at s = 4 + s.runners
+
+abbrev pub cells_at : Sizes → ℕ
+cells_at s = entries_at s + 2 * s.requests
+
+abbrev pub descriptor_at : Sizes → ℕ → ℕ
+descriptor_at s d = cells_at s + s.cells + 77 * d
+
+-- the number of words
+abbrev pub size : Sizes → ℕ
+size s = descriptor_at s s.descriptors
+
+-- where a word stands
+abbrev pub address : Sizes → Spot → ℕ
+address s Seat = 0
+address s Epoch = 1
+address s Clock = 2
+address s (Announcement r) = 3 + r
+address s (Stamp q) = entries_at s + 2 * q
+address s (Reply q) = entries_at s + 2 * q + 1
+address s (Cell p) = cells_at s + p
+address s (ThunkWord d j) = descriptor_at s d + j
+address s (DoneWord d) = descriptor_at s d + 12
+address s (LogWord d k) = descriptor_at s d + 13 + k
+
+-- the table has this word
+abbrev pub Fits : Sizes → Spot → Type 0
+Fits s Seat = Unit {0}
+Fits s Epoch = Unit {0}
+Fits s Clock = Unit {0}
+Fits s (Announcement r) = r ≤ s.runners
+Fits s (Stamp q) = q < s.requests
+Fits s (Reply q) = q < s.requests
+Fits s (Cell p) = p < s.cells
+Fits s (ThunkWord d j) = (d < s.descriptors) × (j < 12)
+Fits s (DoneWord d) = d < s.descriptors
+Fits s (LogWord d k) = (d < s.descriptors) × (k < 64)
+
+-- whether it has this word
+abbrev pub fits : Sizes → Spot → Bool
+fits s Seat = true
+fits s Epoch = true
+fits s Clock = true
+fits s (Announcement r) = nat_le r s.runners
+fits s (Stamp q) = nat_lt q s.requests
+fits s (Reply q) = nat_lt q s.requests
+fits s (Cell p) = nat_lt p s.cells
+fits s (ThunkWord d j) = nat_lt d s.descriptors && nat_lt j 12
+fits s (DoneWord d) = nat_lt d s.descriptors
+fits s (LogWord d k) = nat_lt d s.descriptors && nat_lt k 64

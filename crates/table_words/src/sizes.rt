@@ -1,0 +1,43 @@
+//! How many words of each kind a table has.
+ghost use Rattle.std.specs.Prelude.{◌≡◌, ◌<◌, ◌≤◌};
+ghost use Rattle.table_words.specs.Limits.{IsWithinLimits};
+ghost use Rattle.table_words.specs.Places.{sizes_of, size};
+
+use crate::layout::Layout;
+
+/// How many workers, requests, cells and descriptors a table has words for.
+#[derive(Clone, Copy, PartialEq, Eq, Debug)]
+pub struct Sizes {
+    pub runners: u32,
+    pub requests: u32,
+    pub cells: u32,
+    pub descriptors: u32,
+}
+
+impl Sizes {
+    /// The sizes of the table for this layout, this number of requests, and a structure with these many fixed cells and
+    /// fixed node slots.
+    pub fn of(layout: Layout, requests: u32, fixed_cells: u32, fixed_slots: u32) -> Self
+        requires limits { IsWithinLimits layout }
+        requires few_cells { fixed_cells ≤ 12288 }
+        requires few_slots { fixed_slots ≤ 3 }
+        ensures { result ≡ sizes_of layout requests fixed_cells fixed_slots }
+    {
+        let workers = layout.runners;
+        let slots = fixed_slots + layout.nodes * workers + (2 * workers + 2);
+        Sizes {
+            runners: workers,
+            requests,
+            cells: fixed_cells + 5 * slots,
+            descriptors: layout.sections * workers + workers,
+        }
+    }
+
+    /// The number of words.
+    pub fn words(self) -> usize
+        ensures { result ≡ size self }
+    {
+        let entries = 4 + self.runners as usize + 2 * self.requests as usize;
+        entries + self.cells as usize + 77 * self.descriptors as usize
+    }
+}

@@ -1,0 +1,87 @@
+//! A word of the table, by what it is.
+ghost use Rattle.std.specs.Prelude.{◌≡◌};
+ghost use Rattle.table_words.specs.Places.{address, Fits, fits};
+
+use crate::sizes::Sizes;
+
+/// A word of the table, by what it is.
+///
+/// Announcements are numbered by runner, the keeper last. A place counts cells alone, the fixed cells first and then
+/// five for each node slot. A descriptor has twelve thunk words, a done word and 64 log words.
+#[derive(Clone, Copy, PartialEq, Eq, Debug)]
+pub enum Spot {
+    /// The word that splitting and joining a seat load.
+    Seat,
+    Epoch,
+    Clock,
+    Announcement(u32),
+    Stamp(u32),
+    Reply(u32),
+    Cell(u32),
+    ThunkWord(u32, u32),
+    DoneWord(u32),
+    LogWord(u32, u32),
+}
+
+impl Spot {
+    /// Whether a table of these sizes has this word.
+    pub fn fits(self, sizes: Sizes) -> bool
+        ensures { result ≡ fits sizes self }
+    {
+        match self {
+            Spot::Seat | Spot::Epoch | Spot::Clock => true,
+            Spot::Announcement(runner) => runner <= sizes.runners,
+            Spot::Stamp(request) | Spot::Reply(request) => request < sizes.requests,
+            Spot::Cell(place) => place < sizes.cells,
+            Spot::ThunkWord(descriptor, word) => descriptor < sizes.descriptors && word < 12,
+            Spot::DoneWord(descriptor) => descriptor < sizes.descriptors,
+            Spot::LogWord(descriptor, word) => descriptor < sizes.descriptors && word < 64,
+        }
+    }
+
+    /// Where this word stands in a table of these sizes.
+    pub fn address(self, sizes: Sizes) -> usize
+        requires { Fits sizes self }
+        ensures { result ≡ address sizes self }
+    {
+        match self {
+            Spot::Seat => 0,
+            Spot::Epoch => 1,
+            Spot::Clock => 2,
+            Spot::Announcement(runner) => 3 + runner as usize,
+            Spot::Stamp(request) => sizes.entries_at() + 2 * request as usize,
+            Spot::Reply(request) => sizes.entries_at() + 2 * request as usize + 1,
+            Spot::Cell(place) => sizes.cells_at() + place as usize,
+            Spot::ThunkWord(descriptor, word) => sizes.descriptor_at(descriptor) + word as usize,
+            Spot::DoneWord(descriptor) => sizes.descriptor_at(descriptor) + 12,
+            Spot::LogWord(descriptor, word) => sizes.descriptor_at(descriptor) + 13 + word as usize,
+        }
+    }
+}
+
+impl Sizes {
+    ghost use Rattle.std.specs.Prelude.{◌≡◌, ◌<◌};
+    ghost use Rattle.table_words.specs.Places.{entries_at, cells_at, descriptor_at};
+
+    /// Where the stamp and reply words begin.
+    fn entries_at(self) -> usize
+        ensures { result ≡ entries_at self }
+    {
+        4 + self.runners as usize
+    }
+
+    /// Where the cells begin.
+    fn cells_at(self) -> usize
+        ensures { result ≡ cells_at self }
+    {
+        self.entries_at() + 2 * self.requests as usize
+    }
+
+    /// Where the words of this descriptor begin.
+    fn descriptor_at(self, descriptor: u32) -> usize
+        requires { descriptor < self.descriptors }
+        ensures { result ≡ descriptor_at self descriptor }
+    {
+        self.cells_at() + self.cells as usize + 77 * descriptor as usize
+    }
+}
