@@ -255,7 +255,7 @@ exact_store_log c w h r d k v ok sound old =
       retired_once = grind arith;
     }
 
-exact_reach : (c : Counts) (w : EpochState) (h : History) (r : ℕ) (s : ℕ) → Enabled c w (Reach r s) → IsSound c w → IsExact c w h → IsExact c (after c w (Reach r s)) (noted w h (Reach r s))
+exact_reach : (c : Counts) (w : EpochState) (h : History) (r : ℕ) (s : ℕ → Bool) → Enabled c w (Reach r s) → IsSound c w → IsExact c w h → IsExact c (after c w (Reach r s)) (noted w h (Reach r s))
 exact_reach c w h r s ok sound old =
     record {
       numbered = grind arith;

@@ -62,12 +62,14 @@ kept_earlier (Limbo r y) g z le k = omega arith
 pub may_follow : (c : Counts) (w : EpochState) → IsSound c w → MayFollow c w
 may_follow c w sound =
     record {
-      from_live = λ r t isin used none. (isin, in_use_kept (w.location t) _ used, λ r' pending e. absurd (none r' pending e));
+      from_live = λ r t isin used none. record { kept = in_use_kept (w.location t) _ used; retires = λ r' pending e. absurd (none r' pending e) };
       from_retired = λ r q p z t h at kept late.
-          let own = sound.held r q h in
-          let before : entry_of (w.stage r) ≤ z = grind arith in
-          (sound.holder r q h, kept_earlier (w.location t) (entry_of (w.stage r)) z before kept, λ r' pending e. let since = late r' pending e in omega arith);
-      descriptor = λ r d isin kept. (isin, kept, λ r' pending e. let node = sound.retire_node r' pending.0 in absurd (omega arith));
+          let own = sound.held r q h in let before : entry_of (w.stage r) ≤ z = grind arith in
+          record {
+            kept = kept_earlier (w.location t) (entry_of (w.stage r)) z before kept;
+            retires = λ r' pending e. let since = late r' pending e in omega arith;
+          };
+      descriptor = λ r d isin kept. record { kept = kept; retires = λ r' pending e. let node = sound.retire_node r' pending.0 in absurd (omega arith) };
     }
 
 pub leaves_late : (c : Counts) → LeavesLate c

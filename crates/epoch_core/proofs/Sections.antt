@@ -1,5 +1,5 @@
 -- Each event keeps the invariant: logs, holders and descriptors.
-use Rattle.std.proofs.Common.{ℕ, arith}
+use Rattle.std.proofs.Common.{ℕ, Bool, arith}
 use Rattle.epoch_core.specs.State.{Counts, Role, EpochState}
 use Rattle.epoch_core.specs.Events.{WordCommit, StoreLog, Reach, Publish, RetireDescriptor, after, Enabled}
 use Rattle.epoch_core.specs.Sound.{IsSound}
@@ -66,7 +66,7 @@ store_log c w r d k v ok old =
       retire_holders = grind arith;
     }
 
-pub reach : (c : Counts) (w : EpochState) (r : ℕ) (s : ℕ) → Enabled c w (Reach r s) → IsSound c w → IsSound c (after c w (Reach r s))
+pub reach : (c : Counts) (w : EpochState) (r : ℕ) (s : ℕ → Bool) → Enabled c w (Reach r s) → IsSound c w → IsSound c (after c w (Reach r s))
 reach c w r s ok old =
     record {
       some = grind arith;

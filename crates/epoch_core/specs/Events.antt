@@ -1,10 +1,10 @@
 -- The events of epochs and slots, when each may come, and the state after it.
-use Rattle.std.specs.Prelude.{ℕ, suc, ◌+◌, ◌<◌, ◌≤◌, ◌≡◌, Bool, true, false, ◌&&◌, nat_lt}
+use Rattle.std.specs.Prelude.{ℕ, suc, ◌+◌, ◌<◌, ◌≤◌, ◌≡◌, Bool, true, false, ◌&&◌, ◌||◌, nat_lt}
 use Rattle.epoch_core.specs.declared.stage.Stage.TheVariants.{Idle, Loaded, Announced, Entered, Scanning}
 use Rattle.epoch_core.specs.declared.location.Location.{Location}
 use Rattle.epoch_core.specs.declared.location.Location.TheVariants.{Live, Hand, Free, Limbo}
 use Rattle.epoch_core.specs.Update.{upd, upd2, upd_row}
-use Rattle.epoch_core.specs.State.{Counts, Role, Agrees, Makes, Retires, EpochState, last_epoch, is_entered, entry_of, IsPending, IsKept}
+use Rattle.epoch_core.specs.State.{Counts, Role, Agrees, Makes, Retires, EpochState, last_epoch, is_entered, IsPending, MayHold, no_retire}
 use Rattle.epoch_core.specs.Moves.{is_clear, is_over, advanced, tested, collected, written_once, made, retired}
 
 pub data Event : Type 0 where
@@ -28,8 +28,8 @@ pub data Event : Type 0 where
   -- any other commit, and a store into the log of an own free descriptor
   WordCommit : (r d index word : ℕ) → Event
   StoreLog : (r d index word : ℕ) → Event
-  -- a slot comes to be held
-  Reach : (r slot : ℕ) → Event
+  -- these slots come to be held
+  Reach : (r : ℕ) (slots : ℕ → Bool) → Event
   -- a section is published in an own free descriptor; a published descriptor is retired
   Publish : (r d : ℕ) (roles : ℕ → Role) → Event
   RetireDescriptor : (r d : ℕ) → Event
@@ -69,11 +69,11 @@ module _ (c : Counts) where
   after w (RetireCommit r) = let x = w.retire r in record w {
     location = upd w.location x.slot (retired (w.log x.descriptor x.index) r x.epoch (w.location x.slot));
     log = upd2 w.log x.descriptor x.index (written_once (w.log x.descriptor x.index) (suc x.slot));
-    retire = upd w.retire r (record x { loaded = false });
+    retire = upd w.retire r no_retire;
   }
   after w (WordCommit r d k word) = record w { log = upd2 w.log d k (written_once (w.log d k) word) }
   after w (StoreLog r d k word) = record w { log = upd2 w.log d k word }
-  after w (Reach r s) = record w { holds = upd2 w.holds r s true }
+  after w (Reach r slots) = record w { holds = upd_row w.holds r (λ s. w.holds r s || slots s) }
   after w (Publish r d roles) = record w {
     location = upd w.location (slot_of d) Live;
     holds = upd2 w.holds r (slot_of d) true;
@@ -101,7 +101,6 @@ module _ (c : Counts) where
   Enabled w (RetireCommit r) = (w.retire r).loaded ≡ true
   Enabled w (WordCommit r d k word) = (w.holds r (slot_of d) ≡ true) × (w.role d k ≡ Agrees)
   Enabled w (StoreLog r d k word) = w.location (slot_of d) ≡ Free r
-  Enabled w (Reach r s) = (is_entered (w.stage r) ≡ true) × IsKept (w.location s) (entry_of (w.stage r))
-      × ((r' : ℕ) → IsPending w r' → (w.retire r').slot ≡ s → entry_of (w.stage r) ≤ (w.retire r').epoch)
+  Enabled w (Reach r slots) = (is_entered (w.stage r) ≡ true) × ((s : ℕ) → slots s ≡ true → MayHold w r s)
   Enabled w (Publish r d roles) = (is_entered (w.stage r) ≡ true) × (w.location (slot_of d) ≡ Free r) × ((k : ℕ) → w.log d k ≡ 0)
   Enabled w (RetireDescriptor r d) = (is_entered (w.stage r) ≡ true) × (w.location (slot_of d) ≡ Live)

@@ -2,8 +2,8 @@
 use Rattle.std.specs.Prelude.{ℕ, ◌≤◌, ◌≡◌, Bool, true, false}
 use Rattle.epoch_core.specs.declared.location.Location.{Location}
 use Rattle.epoch_core.specs.declared.location.Location.TheVariants.{Fixed, Live, Hand, Free, Worn, Limbo}
-use Rattle.epoch_core.specs.State.{Counts, EpochState, is_entered, entry_of, IsPending, IsKept}
-use Rattle.epoch_core.specs.Events.{Enabled, Reach, slot_of}
+use Rattle.epoch_core.specs.State.{Counts, EpochState, is_entered, entry_of, IsPending, IsKept, MayHold}
+use Rattle.epoch_core.specs.Events.{slot_of}
 
 -- fixed or live
 abbrev pub is_in_use : Location → Bool
@@ -19,10 +19,10 @@ module _ (c : Counts) where
   pub record MayFollow (w : EpochState) : Type 0 where
     -- a link in a fixed cell or in a live slot: what it names is in use, and nobody has loaded an epoch for a Retire of it that isn't agreed
     pub from_live : (r t : ℕ) → is_entered (w.stage r) ≡ true → is_in_use (w.location t) ≡ true
-        → ((r' : ℕ) → IsPending w r' → (w.retire r').slot ≡ t → ⊥) → Enabled c w (Reach r t)
+        → ((r' : ℕ) → IsPending w r' → (w.retire r').slot ≡ t → ⊥) → MayHold w r t
     -- a link in a held slot that was retired in epoch `z`: what it names is in use or was retired no earlier, and so was each epoch that
     -- was loaded for a Retire of it that isn't agreed
     pub from_retired : (r q p z t : ℕ) → w.holds r q ≡ true → w.location q ≡ Limbo p z → IsKept (w.location t) z
-        → ((r' : ℕ) → IsPending w r' → (w.retire r').slot ≡ t → z ≤ (w.retire r').epoch) → Enabled c w (Reach r t)
+        → ((r' : ℕ) → IsPending w r' → (w.retire r').slot ≡ t → z ≤ (w.retire r').epoch) → MayHold w r t
     -- a descriptor: it is published, or was retired no earlier than the runner's epoch
-    pub descriptor : (r d : ℕ) → is_entered (w.stage r) ≡ true → IsKept (w.location (slot_of c d)) (entry_of (w.stage r)) → Enabled c w (Reach r (slot_of c d))
+    pub descriptor : (r d : ℕ) → is_entered (w.stage r) ≡ true → IsKept (w.location (slot_of c d)) (entry_of (w.stage r)) → MayHold w r (slot_of c d)

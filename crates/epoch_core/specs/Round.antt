@@ -21,7 +21,7 @@ making = EnterLoad 0 ∷ Announce 0 1 ∷ EnterAgain 0 ∷ Publish 0 0 (alone Ma
 
 -- its second section retires it, and the worker exits
 abbrev pub retiring : List Event
-retiring = Reach 0 0 ∷ Publish 0 1 (alone (Retires 0)) ∷ RetireEpoch 0 1 0 0 ∷ RetireCommit 0 ∷ RetireDescriptor 0 1 ∷ Exit 0 ∷ []
+retiring = Reach 0 (λ s. s == 0) ∷ Publish 0 1 (alone (Retires 0)) ∷ RetireEpoch 0 1 0 0 ∷ RetireCommit 0 ∷ RetireDescriptor 0 1 ∷ Exit 0 ∷ []
 
 -- it scans twice, and the slot is tested
 abbrev pub collecting : List Event

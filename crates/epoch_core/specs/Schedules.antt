@@ -3,7 +3,7 @@ use Rattle.std.specs.Prelude.{ℕ, ◌<◌, ◌≡◌, Bool, true, false, List, 
 use Rattle.epoch_core.specs.declared.stage.Stage.TheVariants.{Idle}
 use Rattle.epoch_core.specs.declared.location.Location.{Location}
 use Rattle.epoch_core.specs.declared.location.Location.TheVariants.{Fixed, Live, Hand, Free, Worn, Limbo}
-use Rattle.epoch_core.specs.State.{Counts, Agrees, EpochState}
+use Rattle.epoch_core.specs.State.{Counts, Agrees, no_retire, EpochState}
 use Rattle.epoch_core.specs.Events.{Event, Enabled, after}
 use Rattle.epoch_core.specs.Sound.{is_for_nodes}
 
@@ -25,7 +25,7 @@ first_state location = record {
   clear = λ r r'. false;
   location = location;
   holds = λ r s. false;
-  retire = λ r. record { loaded = false; descriptor = 0; index = 0; slot = 0; epoch = 0 };
+  retire = λ r. no_retire;
   role = λ d k. Agrees;
   log = λ d k. 0;
 }

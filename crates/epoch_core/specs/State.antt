@@ -26,6 +26,10 @@ pub record Retiring : Type 0 where
   pub slot : ℕ
   pub epoch : ℕ
 
+-- at no Retire, or at one for which no epoch is loaded
+abbrev pub no_retire : Retiring
+no_retire = record { loaded = false; descriptor = 0; index = 0; slot = 0; epoch = 0 }
+
 -- by runner: its announcement, its stage, which announcements it has found idle or of its epoch in its scan, what it holds, and
 -- its Retire; by slot: where it is; by descriptor and place in the log: what the section commits there, and the word that stands there
 pub record EpochState : Type 0 where
@@ -78,3 +82,9 @@ IsKept (Limbo r y) entry = entry ≤ y
 IsKept (Hand r) entry = ⊥
 IsKept (Free r) entry = ⊥
 IsKept (Worn r) entry = ⊥
+
+-- an entered runner may come to hold this slot: it may be held with the runner's entry, and each epoch that was loaded for a Retire of
+-- it of which nothing is agreed yet is no earlier than the entry
+pub record MayHold (w : EpochState) (r s : ℕ) : Type 0 where
+  pub kept : IsKept (w.location s) (entry_of (w.stage r))
+  pub retires : (r' : ℕ) → IsPending w r' → (w.retire r').slot ≡ s → entry_of (w.stage r) ≤ (w.retire r').epoch
