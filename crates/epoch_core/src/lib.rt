@@ -16,6 +16,6 @@ pub use laws::{
     schedules_meet_the_invariant, slots_leave_limbo_late, slots_stand_in_one_list,
     the_history_lasts, the_machine_can_start,
 };
-pub use location::{Location, is_old};
-pub use scan::{LAST_EPOCH, advanced, is_clear, is_over};
+pub use location::Location;
+pub use scan::{LAST_EPOCH, advanced, is_clear, is_old, is_over};
 pub use stage::Stage;

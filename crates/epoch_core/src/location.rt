@@ -1,6 +1,8 @@
 //! Where a slot is.
 ghost use Rattle.std.specs.Prelude.{◌≡◌};
 
+use crate::scan::is_old;
+
 /// Where a slot is: a node slot or a descriptor. A live descriptor is a published one.
 #[derive(Clone, Copy, Debug, PartialEq, Eq)]
 pub enum Location {
@@ -66,13 +68,4 @@ impl Location {
             self
         }
     }
-}
-
-ghost use Rattle.epoch_core.specs.Moves.{is_old};
-
-/// Whether a slot that was retired in this epoch may be used again, now that the other one is reached: two epochs have passed.
-pub fn is_old(retired: u64, epoch: u64) -> bool
-    ensures { result ≡ is_old retired epoch }
-{
-    epoch >= 2 && retired <= epoch - 2
 }

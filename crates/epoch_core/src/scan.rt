@@ -1,6 +1,6 @@
-//! The decisions of a scan of the announcements.
+//! The decisions of a scan of the announcements, and of the collect at its end.
 ghost use Rattle.std.specs.Prelude.{◌≡◌, ◌^◌, ◌<◌};
-ghost use Rattle.epoch_core.specs.Moves.{is_clear, is_over, advanced};
+ghost use Rattle.epoch_core.specs.Moves.{is_clear, is_over, is_old, advanced};
 
 /// From this epoch on no advance is tried.
 pub const LAST_EPOCH: u64 = 1 << 62;
@@ -26,4 +26,11 @@ pub fn advanced(found: u64, epoch: u64) -> u64
     ensures { result ≡ advanced found epoch }
 {
     if found == epoch { epoch + 1 } else { found }
+}
+
+/// Whether a slot that was retired in this epoch may be used again, now that the other one is reached: two epochs have passed.
+pub fn is_old(retired: u64, epoch: u64) -> bool
+    ensures { result ≡ is_old retired epoch }
+{
+    epoch >= 2 && retired <= epoch - 2
 }
