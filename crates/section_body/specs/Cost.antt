@@ -1,0 +1,25 @@
+-- How many atomic steps one run of a body makes that leaves at no exit.
+use Rattle.std.specs.Prelude.{ℕ, ◌+◌, List, count_by, sum_by}
+use Rattle.section_body.specs.Shape.{is_take}
+use Rattle.section_body.specs.declared.step.Step.{Step}
+use Rattle.section_body.specs.declared.step.Step.TheVariants.{Load, Want, Fresh, Take, Make, Stamp, Store, Retire, Answer}
+
+-- the loads with which a run opens: the thunk's twelve words and the done word
+abbrev pub opening_cost : ℕ
+opening_cost = 13
+
+-- the atomic steps of one step
+abbrev pub step_cost : Step → ℕ
+step_cost (Load place into) = 2
+step_cost (Want reg word) = 0
+step_cost (Fresh reg) = 0
+step_cost (Take place word) = 5
+step_cost (Make init into) = 11
+step_cost Stamp = 3
+step_cost (Store reg value) = 1
+step_cost (Retire slot) = 2
+step_cost (Answer reply) = 1
+
+-- the opening, the steps, and the end: the done word, each nested lock and the outer one
+abbrev pub cost_of : List Step → ℕ
+cost_of body = opening_cost + sum_by step_cost body + (1 + (count_by is_take body + 1))

@@ -1,0 +1,11 @@
+pub mod Bucket
+pub mod Cost
+pub mod Fault
+pub mod Line
+pub mod Memory
+pub mod Plain
+pub mod Run
+pub mod Shape
+pub mod Trail
+pub mod Update
+pub mod Word

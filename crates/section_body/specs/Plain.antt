@@ -1,0 +1,86 @@
+-- One run of a body in one go, over a memory of its own.
+use Rattle.std.specs.Prelude.{ℕ, zero, suc, List, [], ◌∷◌, ◌++◌, Bool, true, false, drop, length, slice_index, slice_index_or, slice_set, None}
+use Rattle.section_body.specs.Word.{held_word}
+use Rattle.section_body.specs.Memory.{PlainMemory, cell_of}
+use Rattle.section_body.specs.Line.{line}
+use Rattle.section_body.specs.Run.{Setting, Run, ran}
+use Rattle.section_body.specs.declared.step.Step.{Step}
+use Rattle.section_body.specs.declared.step.Step.TheVariants.{Load, Want, Fresh, Take, Make, Stamp, Store, Retire, Answer}
+
+-- what a run in one go is given for one place of its log: a Take's word and whether it is refused, or a Make's slot
+pub record Choice : Type 0 where
+  pub word : ℕ
+  pub refused : Bool
+  pub slot : ℕ
+
+-- at the place of a Load or a Retire
+abbrev pub no_choice : Choice
+no_choice = record { word = 0; refused = false; slot = 0 }
+
+-- a lock that is got gives its free word and the held one, by descriptor 0; one that isn't got gives the word that stands there
+abbrev pub lock_choices : Bool → ℕ → ℕ → List Choice
+lock_choices true standing free = record no_choice { word = free } ∷ record no_choice { word = held_word 0 free } ∷ []
+lock_choices false standing free = record { word = standing; refused = true; slot = 0 } ∷ no_choice ∷ []
+
+-- the choices of a run in one go over these cells: each Take is got as `taken` says in turn, and each Make gets the next free slot
+abbrev pub choices : List ℕ → List Step → List Bool → List ℕ → List Choice
+choices cells [] taken free = []
+choices cells (Load place into ∷ steps) taken free = no_choice ∷ choices cells steps taken free
+choices cells (Want reg word ∷ steps) taken free = choices cells steps taken free
+choices cells (Fresh reg ∷ steps) taken free = choices cells steps taken free
+choices cells (Take place word ∷ steps) taken free = lock_choices (slice_index_or taken 0 false) (slice_index cells place) word ++ choices cells steps (drop 1 taken) free
+choices cells (Make init into ∷ steps) taken free = record no_choice { slot = slice_index free 0 } ∷ choices cells steps taken (drop 1 free)
+choices cells (Stamp ∷ steps) taken free = choices cells steps taken free
+choices cells (Store reg value ∷ steps) taken free = choices cells steps taken free
+choices cells (Retire slot ∷ steps) taken free = no_choice ∷ choices cells steps taken free
+choices cells (Answer reply ∷ steps) taken free = choices cells steps taken free
+
+-- the choice at this place of the log
+abbrev pub choice_at : List Step → List Bool → PlainMemory → ℕ → Choice
+choice_at body taken memory log = slice_index_or (choices memory.cells body taken memory.free) log no_choice
+
+-- the setting of a run in one go
+abbrev pub plain_setting : List Step → List Bool → PlainMemory → Setting
+plain_setting body taken memory = record {
+  version_max = memory.version_max;
+  fixed_cells = memory.fixed_cells;
+  descriptor = 0;
+  taken = λ log. (choice_at body taken memory log).word;
+  refused = λ log. (choice_at body taken memory log).refused;
+  slot = λ log. (choice_at body taken memory log).slot;
+  first = λ log cell. slice_index memory.cells (cell_of memory.fixed_cells (choice_at body taken memory log).slot cell);
+  clock = memory.clock;
+}
+
+-- a run for this request that has done nothing yet
+abbrev pub unstarted : ℕ → PlainMemory → Run
+unstarted request memory = record {
+  cells = slice_index memory.cells;
+  clock = memory.clock;
+  stamp = slice_index memory.stamps request;
+  reply = slice_index memory.replies request;
+  trail = [];
+  made = [];
+  retired = [];
+  outcome = None;
+}
+
+-- one run of this body in one go for this request, where `taken` says of each Take in turn whether its lock is got
+abbrev pub plain_run : List Step → ℕ → PlainMemory → List Bool → Run
+plain_run body request memory taken = ran (plain_setting body taken memory) (unstarted request memory) (line body)
+
+-- the first n values of a function
+abbrev pub first_values : ℕ → (ℕ → ℕ) → List ℕ
+first_values zero f = []
+first_values (suc n) f = first_values n f ++ f n ∷ []
+
+-- the memory in which this run left its cells, its slots, its clock and its request's words
+abbrev pub memory_after : ℕ → PlainMemory → Run → PlainMemory
+memory_after request memory r = record memory {
+  cells = first_values (length memory.cells) r.cells;
+  free = drop (length r.made) memory.free;
+  retired = memory.retired ++ r.retired;
+  clock = r.clock;
+  stamps = slice_set memory.stamps request r.stamp;
+  replies = slice_set memory.replies request r.reply;
+}

@@ -1,0 +1,35 @@
+//! A section's body: its list of steps.
+ghost use Rattle.std.specs.Prelude.{◌≡◌, []};
+
+use crate::step::Step;
+use arrayvec::ArrayVec;
+use std::marker::Model;
+
+/// What a critical section does, as data. A body that runs has at most 32 steps.
+///
+/// Contracts see the list of its steps.
+#[derive(Debug, Drop)]
+pub struct Body {
+    /// The steps, in the order in which they run.
+    pub steps: ArrayVec<Step, 40>,
+}
+
+impl Model for Body {
+    ghost use Rattle.std.specs.Prelude.{List};
+    ghost use Rattle.section_body.specs.declared.step.Step.{Step as Action};
+
+    ghost Value = { List Action };
+
+    ghost view = { λ b. b.steps.items };
+}
+
+impl Body {
+    /// A body without steps, which has no shape and is never run.
+    pub fn empty() -> Body
+        ensures { result ≡ [] }
+    {
+        Body {
+            steps: ArrayVec::new(),
+        }
+    }
+}

@@ -1,0 +1,37 @@
+//! What the runners of a section agreed on.
+ghost use Rattle.std.specs.Prelude.{◌≡◌, [], false};
+
+use arrayvec::ArrayVec;
+use std::marker::Model;
+
+/// The agreed words of a section's log, in order.
+///
+/// Contracts see the list of the words and whether the run was late.
+#[derive(Debug, Drop)]
+pub struct Trail {
+    /// The agreed words, from the first on.
+    pub words: ArrayVec<u64, 64>,
+    /// Whether the run found its section done as it began.
+    pub late: bool,
+}
+
+impl Model for Trail {
+    ghost use Rattle.section_body.specs.Trail.{Agreed};
+
+    ghost Value = { Agreed };
+
+    ghost view = { λ t. record { words = t.words.items; late = t.late } };
+}
+
+impl Trail {
+    /// The trail of a run that has agreed on nothing yet, and isn't late.
+    pub fn new() -> Trail
+        ensures words { result.words ≡ [] }
+        ensures late { result.late ≡ false }
+    {
+        Trail {
+            words: ArrayVec::new(),
+            late: false,
+        }
+    }
+}
