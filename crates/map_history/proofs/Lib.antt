@@ -1,0 +1,4 @@
+pub mod ByKey
+pub mod Cells
+pub mod Commuting
+pub mod Entries

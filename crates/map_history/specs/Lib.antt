@@ -1,0 +1,4 @@
+pub mod History
+pub mod Keys
+pub mod Replay
+pub mod Words

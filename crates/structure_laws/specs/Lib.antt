@@ -1,0 +1,10 @@
+pub mod Scene
+pub mod Meaning
+pub mod Sections
+pub mod Cells
+pub mod Sound
+pub mod Shape
+pub mod InTurn
+pub mod Keeps
+pub mod Gives
+pub mod Laws
