@@ -1,0 +1,132 @@
+-- Which word the next event of a run meets, and how.
+use Rattle.std.specs.Prelude.{ℕ, ◌+◌, ◌-◌, ◌*◌, ◌/◌, List, Bool, true, false, ◌==◌, ◌&&◌, nat_lt, nat_le, cond, Option, Some, None, length, slice_index, if◌then◌else◌}
+use Rattle.section_body.specs.declared.thunk.Thunk.{Thunk}
+use Rattle.section_body.specs.declared.micro.Micro.{Micro}
+use Rattle.section_body.specs.declared.micro.Micro.TheVariants as micros
+use Rattle.section_body.specs.Word.{next_word, held_word}
+use Rattle.section_body.specs.Memory.{cell_of}
+use Rattle.section_body.specs.Run.{source_value}
+use Rattle.table_words.specs.declared.spot.Spot.{Spot}
+use Rattle.table_words.specs.declared.spot.Spot.TheVariants as spots
+use Rattle.table_words.specs.declared.access.Access.{Access}
+use Rattle.table_words.specs.declared.access.Access.TheVariants.{Loads, Stores, Exchanges, Raises}
+use Rattle.structure_laws.specs.Meaning.{Meaning}
+use Rattle.runner_steps.specs.State.{RunState, PartState, NodesState}
+use Rattle.runner_steps.specs.Sections.{thunk_of, is_open_run, next_of}
+use Rattle.runner_steps.specs.Outside.{Ask, when}
+
+-- the next thunk word
+abbrev pub open_more_ask : RunState → Ask
+open_more_ask q = when (nat_lt (length q.opened) 12) (spots.ThunkWord q.descriptor (length q.opened)) Loads
+
+-- the done word, after the thunk words
+abbrev pub load_done_ask : RunState → Ask
+load_done_ask q = when (length q.opened == 12) (spots.DoneWord q.descriptor) Loads
+
+-- one word is agreed on: this proposal, where the log word is still empty
+abbrev pub commit_to : RunState → ℕ → ℕ → Ask
+commit_to q log proposal = Some (spots.LogWord q.descriptor log, Exchanges 0 proposal)
+
+abbrev pub commit_ask : RunState → Micro → Ask
+commit_ask q (micros.Commit place log) = commit_to q log q.word
+commit_ask q (micros.NestedCommit place log) = commit_to q log q.word
+commit_ask q _ = None
+
+abbrev pub load_cell_ask : RunState → Micro → Ask
+load_cell_ask q (micros.LoadCell place log) = Some (spots.Cell place, Loads)
+load_cell_ask q _ = None
+
+abbrev pub exchange_cell_ask : RunState → Micro → Ask
+exchange_cell_ask q (micros.ExchangeCell place log value) = let old = slice_index q.trail log in Some (spots.Cell place, Exchanges old (next_word old (source_value q.trail value)))
+exchange_cell_ask q _ = None
+
+-- the last of a list
+abbrev pub last_of : List ℕ → Option ℕ
+last_of xs = if length xs == 0 then None else Some (slice_index xs (length xs - 1))
+
+-- the slot that a Make fills: the one in the own hand, or, at its first step, the last of the free list
+abbrev pub make_slot : Option ℕ → List ℕ → Option ℕ
+make_slot None free = last_of free
+make_slot (Some s) free = Some s
+
+abbrev pub is_slot : Option ℕ → ℕ → Bool
+is_slot None slot = false
+is_slot (Some s) slot = s == slot
+
+abbrev pub fill_load_ask : Meaning → ℕ → ℕ → List ℕ → RunState → Micro → Ask
+fill_load_ask m slot word free q (micros.PrivateLoad cell log) = when (is_slot (make_slot q.made free) slot && word == cell) (spots.Cell (cell_of m.fixed_cells slot word)) Loads
+fill_load_ask m slot word free q _ = None
+
+abbrev pub fill_store_ask : Meaning → ℕ → ℕ → ℕ → RunState → Micro → Ask
+fill_store_ask m slot word number q (micros.PrivateStore cell log value) = when (is_slot q.made slot && (word == cell && number == next_word q.word (source_value q.trail value))) (spots.Cell (cell_of m.fixed_cells slot word)) (Stores number)
+fill_store_ask m slot word number q _ = None
+
+abbrev pub make_commit_to : RunState → ℕ → Option ℕ → Ask
+make_commit_to q log None = None
+make_commit_to q log (Some s) = commit_to q log (s + 1)
+
+abbrev pub make_commit_ask : RunState → Micro → Ask
+make_commit_ask q (micros.MakeCommit log) = make_commit_to q log q.made
+make_commit_ask q _ = None
+
+abbrev pub retire_commit_ask : RunState → Micro → Ask
+retire_commit_ask q (micros.RetireCommit slot log) = commit_to q log (slot + 1)
+retire_commit_ask q _ = None
+
+abbrev pub epoch_for_retire_ask : RunState → Micro → Ask
+epoch_for_retire_ask q (micros.EpochForRetire slot log) = Some (spots.Epoch, Loads)
+epoch_for_retire_ask q _ = None
+
+abbrev pub clock_load_ask : RunState → Micro → Ask
+clock_load_ask q micros.ClockLoad = Some (spots.Clock, Loads)
+clock_load_ask q _ = None
+
+-- the stamp that follows a clock number
+abbrev pub stamp_after : ℕ → ℕ
+stamp_after clock = 2 * (clock + 1)
+
+abbrev pub stamp_exchange_ask : RunState → Micro → Ask
+stamp_exchange_ask q micros.StampExchange = let t = thunk_of q.opened in Some (spots.Stamp t.request, Exchanges 0 (stamp_after q.word))
+stamp_exchange_ask q _ = None
+
+abbrev pub clock_raise_ask : RunState → Micro → Ask
+clock_raise_ask q micros.ClockRaise = Some (spots.Clock, Raises (q.word / 2))
+clock_raise_ask q _ = None
+
+abbrev pub reply_exchange_ask : RunState → Micro → Ask
+reply_exchange_ask q (micros.ReplyExchange reply) = let t = thunk_of q.opened in Some (spots.Reply t.request, Exchanges 0 reply)
+reply_exchange_ask q _ = None
+
+abbrev pub nested_load_ask : RunState → Micro → Ask
+nested_load_ask q (micros.NestedLoad place log) = Some (spots.Cell place, Loads)
+nested_load_ask q _ = None
+
+abbrev pub nested_hold_ask : RunState → Micro → Ask
+nested_hold_ask q (micros.NestedHold place word) = Some (spots.Cell place, Exchanges word (held_word q.descriptor word))
+nested_hold_ask q _ = None
+
+abbrev pub outcome_load_ask : RunState → Micro → Ask
+outcome_load_ask q (micros.OutcomeLoad place log) = Some (spots.Cell place, Loads)
+outcome_load_ask q _ = None
+
+abbrev pub outcome_commit_ask : RunState → Micro → Ask
+outcome_commit_ask q (micros.OutcomeCommit place log) = commit_to q log q.word
+outcome_commit_ask q _ = None
+
+abbrev pub set_done_ask : RunState → Micro → Ask
+set_done_ask q micros.SetDone = Some (spots.DoneWord q.descriptor, Exchanges 0 1)
+set_done_ask q _ = None
+
+abbrev pub release_ask : RunState → Micro → Ask
+release_ask q (micros.Release place word) = let held = held_word q.descriptor word in Some (spots.Cell place, Exchanges held (next_word held 0))
+release_ask q _ = None
+
+-- what a step of the body or of the end asks, where it comes next
+abbrev pub run_ask : (RunState → Micro → Ask) → Meaning → Option RunState → Ask
+run_ask f m None = None
+run_ask f m (Some q) = if is_open_run q then f q (next_of m q) else None
+
+-- what a step of the opening asks
+abbrev pub opening_ask : (RunState → Ask) → Option RunState → Ask
+opening_ask f None = None
+opening_ask f (Some q) = f q
