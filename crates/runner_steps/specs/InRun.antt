@@ -1,11 +1,13 @@
 -- Which word the next event of a run meets, and how.
-use Rattle.std.specs.Prelude.{ℕ, ◌+◌, ◌-◌, ◌*◌, ◌/◌, List, Bool, true, false, ◌==◌, ◌&&◌, nat_lt, nat_le, cond, Option, Some, None, length, slice_index, if◌then◌else◌}
+use Rattle.std.specs.Prelude.{ℕ, ◌+◌, ◌-◌, ◌*◌, ◌/◌, ◌^◌, List, Bool, true, false, ◌==◌, ◌&&◌, nat_lt, nat_le, cond, Option, Some, None, length, slice_index, if◌then◌else◌}
 use Rattle.section_body.specs.declared.thunk.Thunk.{Thunk}
 use Rattle.section_body.specs.declared.micro.Micro.{Micro}
 use Rattle.section_body.specs.declared.micro.Micro.TheVariants as micros
-use Rattle.section_body.specs.Word.{next_word, held_word}
+use Rattle.section_body.specs.Word.{version_of, next_word, held_word}
 use Rattle.section_body.specs.Memory.{cell_of}
 use Rattle.section_body.specs.Run.{source_value}
+use Rattle.table_words.specs.declared.layout.Layout.{Layout}
+use Rattle.table_words.specs.Places.{descriptor_count}
 use Rattle.table_words.specs.declared.spot.Spot.{Spot}
 use Rattle.table_words.specs.declared.spot.Spot.TheVariants as spots
 use Rattle.table_words.specs.declared.access.Access.{Access}
@@ -36,9 +38,13 @@ abbrev pub load_cell_ask : RunState → Micro → Ask
 load_cell_ask q (micros.LoadCell place log) = Some (spots.Cell place, Loads)
 load_cell_ask q _ = None
 
-abbrev pub exchange_cell_ask : RunState → Micro → Ask
-exchange_cell_ask q (micros.ExchangeCell place log value) = let old = slice_index q.trail log in Some (spots.Cell place, Exchanges old (next_word old (source_value q.trail value)))
-exchange_cell_ask q _ = None
+-- the word's version is below the greatest, so that the cell can be changed once more
+abbrev pub can_raise : Layout → ℕ → Bool
+can_raise l word = nat_lt (version_of word) l.version_max
+
+abbrev pub exchange_cell_ask : Layout → RunState → Micro → Ask
+exchange_cell_ask l q (micros.ExchangeCell place log value) = let old = slice_index q.trail log in when (can_raise l old) (spots.Cell place) (Exchanges old (next_word old (source_value q.trail value)))
+exchange_cell_ask l q _ = None
 
 -- the last of a list
 abbrev pub last_of : List ℕ → Option ℕ
@@ -57,9 +63,9 @@ abbrev pub fill_load_ask : Meaning → ℕ → ℕ → List ℕ → RunState →
 fill_load_ask m slot word free q (micros.PrivateLoad cell log) = when (is_slot (make_slot q.made free) slot && word == cell) (spots.Cell (cell_of m.fixed_cells slot word)) Loads
 fill_load_ask m slot word free q _ = None
 
-abbrev pub fill_store_ask : Meaning → ℕ → ℕ → ℕ → RunState → Micro → Ask
-fill_store_ask m slot word number q (micros.PrivateStore cell log value) = when (is_slot q.made slot && (word == cell && number == next_word q.word (source_value q.trail value))) (spots.Cell (cell_of m.fixed_cells slot word)) (Stores number)
-fill_store_ask m slot word number q _ = None
+abbrev pub fill_store_ask : Meaning → Layout → ℕ → ℕ → ℕ → RunState → Micro → Ask
+fill_store_ask m l slot word number q (micros.PrivateStore cell log value) = when (is_slot q.made slot && (word == cell && (can_raise l q.word && number == next_word q.word (source_value q.trail value)))) (spots.Cell (cell_of m.fixed_cells slot word)) (Stores number)
+fill_store_ask m l slot word number q _ = None
 
 abbrev pub make_commit_to : RunState → ℕ → Option ℕ → Ask
 make_commit_to q log None = None
@@ -85,8 +91,12 @@ clock_load_ask q _ = None
 abbrev pub stamp_after : ℕ → ℕ
 stamp_after clock = 2 * (clock + 1)
 
+-- no stamp is made from this clock number on
+abbrev pub last_clock : ℕ
+last_clock = 2 ^ 62
+
 abbrev pub stamp_exchange_ask : RunState → Micro → Ask
-stamp_exchange_ask q micros.StampExchange = let t = thunk_of q.opened in Some (spots.Stamp t.request, Exchanges 0 (stamp_after q.word))
+stamp_exchange_ask q micros.StampExchange = let t = thunk_of q.opened in when (nat_lt q.word last_clock) (spots.Stamp t.request) (Exchanges 0 (stamp_after q.word))
 stamp_exchange_ask q _ = None
 
 abbrev pub clock_raise_ask : RunState → Micro → Ask
@@ -101,9 +111,13 @@ abbrev pub nested_load_ask : RunState → Micro → Ask
 nested_load_ask q (micros.NestedLoad place log) = Some (spots.Cell place, Loads)
 nested_load_ask q _ = None
 
-abbrev pub nested_hold_ask : RunState → Micro → Ask
-nested_hold_ask q (micros.NestedHold place word) = Some (spots.Cell place, Exchanges word (held_word q.descriptor word))
-nested_hold_ask q _ = None
+-- the descriptor is one of the table's, and the free word of the lock can be changed
+abbrev pub can_hold : Layout → ℕ → ℕ → Bool
+can_hold l descriptor word = nat_lt descriptor (descriptor_count l) && can_raise l word
+
+abbrev pub nested_hold_ask : Layout → RunState → Micro → Ask
+nested_hold_ask l q (micros.NestedHold place word) = when (can_hold l q.descriptor word) (spots.Cell place) (Exchanges word (held_word q.descriptor word))
+nested_hold_ask l q _ = None
 
 abbrev pub outcome_load_ask : RunState → Micro → Ask
 outcome_load_ask q (micros.OutcomeLoad place log) = Some (spots.Cell place, Loads)
@@ -117,9 +131,9 @@ abbrev pub set_done_ask : RunState → Micro → Ask
 set_done_ask q micros.SetDone = Some (spots.DoneWord q.descriptor, Exchanges 0 1)
 set_done_ask q _ = None
 
-abbrev pub release_ask : RunState → Micro → Ask
-release_ask q (micros.Release place word) = let held = held_word q.descriptor word in Some (spots.Cell place, Exchanges held (next_word held 0))
-release_ask q _ = None
+abbrev pub release_ask : Layout → RunState → Micro → Ask
+release_ask l q (micros.Release place word) = let held = held_word q.descriptor word in when (can_hold l q.descriptor word && can_raise l held) (spots.Cell place) (Exchanges held (next_word held 0))
+release_ask l q _ = None
 
 -- what a step of the body or of the end asks, where it comes next
 abbrev pub run_ask : (RunState → Micro → Ask) → Meaning → Option RunState → Ask

@@ -9,13 +9,14 @@ use Rattle.table_words.specs.declared.spot.Spot.{Spot}
 use Rattle.table_words.specs.declared.spot.Spot.TheVariants as spots
 use Rattle.table_words.specs.declared.access.Access.{Access}
 use Rattle.table_words.specs.declared.access.Access.TheVariants.{Loads, Stores, Exchanges, Raises}
-use Rattle.table_words.specs.Places.{slot_count}
+use Rattle.table_words.specs.Places.{slot_count, descriptor_count}
 use Rattle.structure_laws.specs.Meaning.{Meaning}
 use Rattle.runner_steps.specs.declared.stage.Stage.{Stage}
 use Rattle.runner_steps.specs.declared.stage.Stage.TheVariants as stages
 use Rattle.runner_steps.specs.declared.entries.Published.{Published}
+use Rattle.runner_steps.specs.declared.entries.Known.{Known}
 use Rattle.runner_steps.specs.State.{RunState, PartState, NodesState}
-use Rattle.runner_steps.specs.Tests.{has, is_walking, is_resting, is_outside, is_next, are_stored, ready_words, is_open, serves, is_readable}
+use Rattle.runner_steps.specs.Tests.{has, is_walking, is_resting, is_outside, is_next, is_prepared, is_open, serves, is_readable}
 
 -- a word and what the step does with it; None where the event isn't enabled
 abbrev pub Ask : Type 0
@@ -89,17 +90,20 @@ abbrev pub private_store_ask : Meaning → Layout → ℕ → ℕ → ℕ → Pa
 private_store_ask m l slot word number p = let slots = slot_count l m.fixed_slots in
     when (nat_le slots slot && (is_resting p.stage p.run && has p.descriptors.free (slot - slots))) (descriptor_spot (slot - slots) word) (Stores number)
 
--- the thunk may be published: it serves the worker's next request, its lock's word was read free, and no section is left to retire
+-- the thunk serves the worker's next request
+abbrev pub is_due : Meaning → Layout → List Request → ℕ → List Known → List (ℕ × ℕ) → Thunk → Bool
+is_due m l requests r known walk t = let request = slice_get requests t.request in is_next l r requests known request && serves m l walk t request
+
+-- the thunk may be published: its lock's word was read free, and no section is left to retire
 abbrev pub is_publishable : Meaning → Layout → List Request → ℕ → Thunk → PartState → Bool
-is_publishable m l requests r t p = let request = slice_get requests t.request in
-    is_walking p.stage p.run && (is_none p.published && (is_open l p.reads.cells t && (is_next l r requests p.records.known request && serves m l p.reads.walk t request)))
+is_publishable m l requests r t p = is_walking p.stage p.run && (is_none p.published && (is_open l p.reads.cells t && is_due m l requests r p.records.known p.reads.walk t))
 
 -- the own free descriptor's words were stored with this thunk
-abbrev pub is_ready : PartState → ℕ → Thunk → Bool
-is_ready p d t = has p.descriptors.free d && are_stored p.descriptors.stored d 0 (ready_words t)
+abbrev pub is_ready : Layout → PartState → ℕ → Thunk → Bool
+is_ready l p d t = nat_lt d (descriptor_count l) && (has p.descriptors.free d && is_prepared p.descriptors.stored d t)
 
 abbrev pub hold_ask : Meaning → Layout → List Request → ℕ → Thunk → ℕ → PartState → Ask
-hold_ask m l requests r t d p = when (is_ready p d t && is_publishable m l requests r t p) (spots.Cell t.lock) (Exchanges t.word (held_word d t.word))
+hold_ask m l requests r t d p = when (is_ready l p d t && is_publishable m l requests r t p) (spots.Cell t.lock) (Exchanges t.word (held_word d t.word))
 
 -- a run begins with the first thunk word of a descriptor that the runner holds
 abbrev pub open_ask : ℕ → PartState → Ask

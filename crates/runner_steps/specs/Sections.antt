@@ -2,7 +2,8 @@
 use Rattle.std.specs.Prelude.{ℕ, ◌+◌, ◌-◌, ◌%◌, ◌^◌, List, [], ◌∷◌, Bool, true, false, not, ◌==◌, ◌&&◌, nat_lt, cond, drop, take, length, slice_index, Option, None, Some}
 use Rattle.section_body.specs.declared.thunk.Thunk.{Thunk}
 use Rattle.section_body.specs.declared.micro.Micro.{Micro}
-use Rattle.section_body.specs.declared.micro.Micro.TheVariants.{ReplyExchange}
+use Rattle.section_body.specs.declared.step.Step.{Step}
+use Rattle.section_body.specs.declared.step.Step.TheVariants.{Answer}
 use Rattle.section_body.specs.declared.outcome.Outcome.{Outcome}
 use Rattle.section_body.specs.declared.outcome.Outcome.TheVariants.{Answered}
 use Rattle.section_body.specs.Line.{line, micro_at, next_micro, is_end}
@@ -18,7 +19,7 @@ thunk_of words = record {
   request = slice_index words 1 % 2 ^ 32;
   lock = slice_index words 2 % 2 ^ 32;
   word = slice_index words 3;
-  operands = take 8 (drop 4 words);
+  operands = slice_index words 4 ∷ slice_index words 5 ∷ slice_index words 6 ∷ slice_index words 7 ∷ slice_index words 8 ∷ slice_index words 9 ∷ slice_index words 10 ∷ slice_index words 11 ∷ [];
 }
 
 -- the thunk words and the done word have all been loaded
@@ -54,14 +55,11 @@ setting_of l descriptor = record {
 abbrev pub settles : Meaning → Layout → RunState → RunState
 settles m l q = record q { at = settled (setting_of l q.descriptor) q.trail (line_of m q) q.at }
 
--- the reply of the body's Answer
-abbrev pub reply_of : Micro → ℕ → ℕ
-reply_of (ReplyExchange reply) other = reply
-reply_of _ other = other
-
-abbrev pub reply_in : List Micro → ℕ
+-- the reply of a body's Answer
+abbrev pub reply_in : List Step → ℕ
 reply_in [] = 0
-reply_in (micro ∷ rest) = reply_of micro (reply_in rest)
+reply_in (Answer reply ∷ steps) = reply
+reply_in (step ∷ steps) = reply_in steps
 
 abbrev pub outcome_or : Option Outcome → ℕ → Outcome
 outcome_or None reply = Answered reply
@@ -69,4 +67,4 @@ outcome_or (Some outcome) reply = outcome
 
 -- how a run ends that rests here: it leaves at a check, or it went through
 abbrev pub outcome_of : Meaning → Layout → RunState → Outcome
-outcome_of m l q = outcome_or (leaves (setting_of l q.descriptor) q.trail (micro_at (line_of m q) q.at)) (reply_in (line_of m q))
+outcome_of m l q = outcome_or (leaves (setting_of l q.descriptor) q.trail (micro_at (line_of m q) q.at)) (reply_in (m.body (thunk_of q.opened)))

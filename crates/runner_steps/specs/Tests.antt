@@ -1,5 +1,5 @@
 -- What a runner can tell from what it keeps.
-use Rattle.std.specs.Prelude.{ℕ, ◌+◌, ◌-◌, ◌*◌, ◌/◌, ◌%◌, List, [], ◌∷◌, ◌++◌, Bool, true, false, not, ◌==◌, ◌&&◌, ◌||◌, nat_lt, nat_le, cond, Option, Some, None, slice_get, length, replicate, if◌then◌else◌}
+use Rattle.std.specs.Prelude.{ℕ, ◌+◌, ◌-◌, ◌*◌, ◌/◌, ◌%◌, List, [], ◌∷◌, ◌++◌, Bool, true, false, not, ◌==◌, ◌&&◌, ◌||◌, nat_lt, nat_le, cond, Option, Some, None, slice_get, slice_index, length, replicate, if◌then◌else◌}
 use Rattle.std.specs.List.{list_any, list_all}
 use Rattle.map_history.specs.declared.op.Request.{Request}
 use Rattle.section_body.specs.declared.thunk.Thunk.{Thunk}
@@ -70,11 +70,11 @@ are_stored stored descriptor word (x ∷ xs) = is_some_of (last_stored stored de
 
 -- the words of a thunk
 abbrev pub thunk_words : Thunk → List ℕ
-thunk_words t = t.form ∷ t.request ∷ t.lock ∷ t.word ∷ t.operands
+thunk_words t = let o = slice_index t.operands in t.form ∷ t.request ∷ t.lock ∷ t.word ∷ o 0 ∷ o 1 ∷ o 2 ∷ o 3 ∷ o 4 ∷ o 5 ∷ o 6 ∷ o 7 ∷ []
 
--- the words of a descriptor that is ready to be published with a thunk: the thunk, no done, an empty log
-abbrev pub ready_words : Thunk → List ℕ
-ready_words t = thunk_words t ++ replicate 65 0
+-- the descriptor's words were stored with this thunk, no done, and an empty log
+abbrev pub is_prepared : List Stored → ℕ → Thunk → Bool
+is_prepared stored descriptor t = are_stored stored descriptor 0 (thunk_words t) && are_stored stored descriptor 12 (replicate 65 0)
 
 -- the outer lock's word is free, isn't spent, and was read
 abbrev pub is_open : Layout → List (ℕ × ℕ) → Thunk → Bool

@@ -19,25 +19,15 @@ pub enum EventKind {
     LoadCell(Option<Place>),
     ExchangeCell,
     /// Descriptors are numbered after the node slots; `word` counts within the slot.
-    PrivateLoad {
-        slot: u32,
-        word: u32,
-    },
-    PrivateStore {
-        slot: u32,
-        word: u32,
-        number: u64,
-    },
+    PrivateLoad { slot: u32, word: u32 },
+    PrivateStore { slot: u32, word: u32, number: u64 },
     MakeCommit,
     RetireCommit,
     EpochForRetire,
     /// Carries the descriptor at the start of a run, and None for the later thunk words.
     LoadThunk(Option<u32>),
     LoadDone,
-    Hold {
-        thunk: Thunk,
-        descriptor: u32,
-    },
+    Hold { thunk: Thunk, descriptor: u32 },
     SetDone,
     Release,
     ClockLoad,
@@ -47,10 +37,7 @@ pub enum EventKind {
     /// Carries the worker.
     Join(u32),
     /// `reply` is true for the reply word.
-    LoadEntry {
-        request: u32,
-        reply: bool,
-    },
+    LoadEntry { request: u32, reply: bool },
     NestedLoad,
     NestedHold,
     OutcomeLoad,

@@ -4,12 +4,15 @@
 //! with `stage`, `run`, `lists` and `entries`.
 #![tactic(auto)]
 
+mod asks_outside;
 mod entries;
 mod event;
+mod knowledge;
 mod lists;
 mod part;
 mod run;
 mod stage;
+mod stores;
 mod structure;
 
 pub use entries::{Known, Left, Published, Retired, Stored, Tested};

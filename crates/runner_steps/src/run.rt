@@ -13,12 +13,12 @@ use std::marker::Model;
 pub struct Run {
     pub descriptor: u32,
     pub opened: Vec<u64>,
-    pub at: usize,
+    pub at: u32,
     pub word: u64,
     pub trail: Vec<u64>,
     pub made: Option<u32>,
     pub worn: bool,
-    pub ended: usize,
+    pub ended: u32,
 }
 
 impl Model for Run {
