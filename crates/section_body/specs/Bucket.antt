@@ -45,10 +45,20 @@ remove_steps t =
     Load (t.lock + 1) 0 ∷ Want 0 (operand t 0) ∷ Fresh 0 ∷ Load (operand t 1) 1 ∷ Fresh 1 ∷
     Stamp ∷ Store 1 (Const (operand t 3)) ∷ Store 0 (Const 0) ∷ Retire (operand t 2) ∷ Answer (4 * 2 ^ 32) ∷ []
 
+-- each place, slot, key, value and link of these forms fits
+abbrev pub fits_read : Thunk → Bool
+fits_read t = is_small (t.lock + 1)
+
+abbrev pub fits_insert : Thunk → Bool
+fits_insert t = is_small (t.lock + 2) && (is_small (operand t 1) && (is_small (operand t 2) && is_small (operand t 3)))
+
+abbrev pub fits_remove : Thunk → Bool
+fits_remove t = is_small (t.lock + 1) && (is_small (operand t 1) && (is_small (operand t 2) && is_small (operand t 3)))
+
 -- the body of a hash table's thunk; empty for another form, and where a place, slot, key, value or link doesn't fit
 abbrev pub bucket_steps : Thunk → List Step
 bucket_steps t =
-    cond (t.form == 1) (cond (is_small (t.lock + 1)) (read_steps t) [])
-    (cond (t.form == 2) (cond (is_small (t.lock + 2) && is_small (operand t 1) && is_small (operand t 2) && is_small (operand t 3)) (insert_steps t) [])
-    (cond (t.form == 3) (cond (is_small (t.lock + 1) && is_small (operand t 1) && is_small (operand t 2) && is_small (operand t 3)) (remove_steps t) [])
+    cond (t.form == 1) (cond (fits_read t) (read_steps t) [])
+    (cond (t.form == 2) (cond (fits_insert t) (insert_steps t) [])
+    (cond (t.form == 3) (cond (fits_remove t) (remove_steps t) [])
     []))

@@ -76,6 +76,18 @@ micros g (Store reg value) = ExchangeCell (g.place reg) (g.log reg) (source_of g
 micros g (Retire slot) = EpochForRetire slot g.count ∷ RetireCommit slot g.count ∷ []
 micros g (Answer reply) = ReplyExchange reply ∷ []
 
+-- how many atomic steps a step has
+abbrev pub micro_count : Step → ℕ
+micro_count (Load place into) = 2
+micro_count (Want reg word) = 1
+micro_count (Fresh reg) = 1
+micro_count (Take place word) = 7
+micro_count (Make init into) = 11
+micro_count Stamp = 3
+micro_count (Store reg value) = 1
+micro_count (Retire slot) = 2
+micro_count (Answer reply) = 1
+
 -- the atomic steps of these steps, one after the other
 abbrev pub line_from : Registers → List Step → List Micro
 line_from g [] = []

@@ -1,5 +1,5 @@
 //! A section's body: its list of steps.
-ghost use Rattle.std.specs.Prelude.{◌≡◌, []};
+ghost use Rattle.std.specs.Prelude.{◌≡◌, ◌≤◌, [], length};
 
 use crate::step::Step;
 use arrayvec::ArrayVec;
@@ -24,6 +24,16 @@ impl Model for Body {
 }
 
 impl Body {
+    /// The body with these steps.
+    pub fn from_slice(steps: &[Step]) -> Body
+        requires { length steps.now ≤ 40 }
+        ensures { result ≡ steps.now }
+    {
+        let mut list = ArrayVec::new();
+        let _ = list.try_extend_from_slice(steps);
+        Body { steps: list }
+    }
+
     /// A body without steps, which has no shape and is never run.
     pub fn empty() -> Body
         ensures { result ≡ [] }

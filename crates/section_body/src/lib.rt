@@ -7,7 +7,10 @@
 #![tactic(auto)]
 
 mod body;
+mod bucket;
+mod costs;
 mod gate;
+mod line;
 mod memory;
 mod micro;
 mod misshape;
@@ -21,7 +24,10 @@ mod value;
 mod word;
 
 pub use body::Body;
+pub use bucket::{bucket_body, bucket_of};
+pub use costs::cost;
 pub use gate::{Gate, Pass};
+pub use line::micro_at;
 pub use memory::Memory;
 pub use micro::{Micro, Source};
 pub use misshape::Misshape;

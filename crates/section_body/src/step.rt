@@ -1,4 +1,6 @@
 //! The steps that a section's body is made of.
+ghost use Rattle.std.specs.Prelude.{◌≡◌};
+ghost use Rattle.section_body.specs.Shape.{phase, is_take, is_make, is_stamp, is_answer};
 
 use crate::value::{Init, Value};
 use crate::word::{Place, Word};
@@ -25,4 +27,48 @@ pub enum Step {
     Retire { slot: u32 },
     /// Gives the request its reply word.
     Answer { reply: u64 },
+}
+
+impl Step {
+    /// The phase in which the step may stand, from 1 for the steps that may leave to 6 for `Answer`.
+    pub fn phase(&self) -> u32
+        ensures { result ≡ phase self.now }
+    {
+        match self {
+            Step::Load { .. } | Step::Want { .. } | Step::Fresh { .. } | Step::Take { .. } => 1,
+            Step::Make { .. } => 2,
+            Step::Stamp => 3,
+            Step::Store { .. } => 4,
+            Step::Retire { .. } => 5,
+            Step::Answer { .. } => 6,
+        }
+    }
+
+    /// Whether this is a `Take`.
+    pub fn is_take(&self) -> bool
+        ensures { result ≡ is_take self.now }
+    {
+        matches!(self, Step::Take { .. })
+    }
+
+    /// Whether this is a `Make`.
+    pub fn is_make(&self) -> bool
+        ensures { result ≡ is_make self.now }
+    {
+        matches!(self, Step::Make { .. })
+    }
+
+    /// Whether this is the `Stamp`.
+    pub fn is_stamp(&self) -> bool
+        ensures { result ≡ is_stamp self.now }
+    {
+        matches!(self, Step::Stamp)
+    }
+
+    /// Whether this is an `Answer`.
+    pub fn is_answer(&self) -> bool
+        ensures { result ≡ is_answer self.now }
+    {
+        matches!(self, Step::Answer { .. })
+    }
 }
