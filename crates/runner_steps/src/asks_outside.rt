@@ -4,11 +4,12 @@ ghost use Rattle.table_words.specs.Limits.{IsWithinLimits};
 ghost use Rattle.table_words.specs.Places.{slot_count, descriptor_count};
 ghost use Rattle.section_body.specs.Word.{held_word};
 ghost use Rattle.section_body.specs.Memory.{cell_of};
-ghost use Rattle.runner_steps.specs.Tests.{serves};
+ghost use Rattle.runner_steps.specs.Tests.{is_open, serves};
 ghost use Rattle.runner_steps.specs.Outside.{enter_load_ask, announce_ask, enter_again_ask, idle_ask, scan_one_ask, advance_ask, split_ask, join_ask, read_ask, entry_ask, descriptor_spot, private_load_ask, private_store_ask, is_due, is_publishable, is_ready, hold_ask, open_ask, is_over, retire_ask};
 
-use crate::entries::{Known, Published};
+use crate::entries::Published;
 use crate::knowledge::{has, is_next, is_open, is_outside, is_readable, is_resting, is_walking};
+use crate::lists::{Reads, Records};
 use crate::part::Part;
 use crate::stage::Stage;
 use crate::stores::is_prepared;
@@ -274,14 +275,14 @@ impl Part {
     {
         is_walking(self.stage, &self.run)
             && self.published.is_none()
-            && is_open(layout, &self.reads.cells, thunk)
+            && is_read_open(layout, &self.reads, thunk)
             && is_due(
                 structure,
                 layout,
                 requests,
                 runner,
-                &self.records.known,
-                &self.reads.walk,
+                &self.records,
+                &self.reads,
                 thunk,
             )
     }
@@ -338,20 +339,27 @@ fn serves<S: Structure>(
     }
 }
 
+/// Whether the thunk's lock was read free, with a version left to take and release it.
+fn is_read_open(layout: Layout, reads: &Reads, thunk: &Thunk) -> bool
+    ensures { result ≡ is_open layout reads.now.cells thunk.now }
+{
+    is_open(layout, &reads.cells, thunk)
+}
+
 /// Whether the thunk serves the worker's next request.
 fn is_due<S: Structure>(
     structure: &S,
     layout: Layout,
     requests: &[Request],
     runner: u32,
-    known: &[Known],
-    walk: &[(Place, Word)],
+    records: &Records,
+    reads: &Reads,
     thunk: &Thunk,
 ) -> bool
     requires { 1 ≤ layout.runners }
-    ensures { result ≡ is_due (S.meaning structure.now) layout requests.now runner known.now walk.now thunk.now }
+    ensures { result ≡ is_due (S.meaning structure.now) layout requests.now runner records.now.known reads.now.walk thunk.now }
 {
     let request = requests.get(thunk.request as usize).copied();
-    is_next(layout, runner, requests, known, request)
-        && serves(structure, layout, walk, thunk, request)
+    is_next(layout, runner, requests, &records.known, request)
+        && serves(structure, layout, &reads.walk, thunk, request)
 }

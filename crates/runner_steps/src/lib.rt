@@ -11,6 +11,7 @@ mod knowledge;
 mod lists;
 mod part;
 mod run;
+mod section;
 mod stage;
 mod stores;
 mod structure;

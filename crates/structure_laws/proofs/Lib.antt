@@ -1,0 +1,7 @@
+mod Changes
+mod Limits
+mod Steps
+mod TrayGives
+mod TrayKeeps
+pub mod TrayLaws
+mod TrayShape

@@ -8,3 +8,4 @@ pub mod InTurn
 pub mod Keeps
 pub mod Gives
 pub mod Laws
+pub mod Tray

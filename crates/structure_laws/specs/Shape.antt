@@ -8,6 +8,7 @@ use Rattle.section_body.specs.declared.value.Init.{Init}
 use Rattle.section_body.specs.declared.step.Step.{Step}
 use Rattle.section_body.specs.declared.step.Step.TheVariants.{Load, Take, Make, Store, Answer}
 use Rattle.section_body.specs.declared.thunk.Thunk.{Thunk}
+use Rattle.section_body.specs.Shape.{IsShaped}
 use Rattle.table_words.specs.declared.layout.Layout.{Layout}
 use Rattle.structure_laws.specs.Scene.{Readings, Scene}
 use Rattle.structure_laws.specs.Meaning.{Meaning}
@@ -21,6 +22,8 @@ module _ (m : Meaning) where
   HasStep thunk j step = slice_get (m.body thunk) j ≡ Some step
 
   pub record Shaped (layout : Layout) (readings : Readings) (thunk : Thunk) : Type 0 where
+    -- it is a body
+    pub shape : IsShaped (m.body thunk)
     -- the outer lock is a lock that the readings give
     pub outer_lock : m.is_lock thunk.lock ≡ true
     pub outer_known : IsKnown m readings thunk.lock
@@ -37,7 +40,8 @@ module _ (m : Meaning) where
     pub load_unlocked : (j p r : ℕ) → HasStep thunk j (Load p r) → m.is_lock p ≡ false
     pub load_known : (j p r : ℕ) → HasStep thunk j (Load p r) → IsKnown m readings p
     pub load_once : (i j p q r : ℕ) → HasStep thunk i (Load p q) → HasStep thunk j (Load p r) → i ≡ j
-    -- what is stored has 32 bits
+    -- no register is stored to twice, and what is stored has 32 bits
+    pub store_once : (i j r : ℕ) (v w : Value) → HasStep thunk i (Store r v) → HasStep thunk j (Store r w) → i ≡ j
     pub store_small : (j r : ℕ) (v : Value) → HasStep thunk j (Store r v) → IsSmall v
     -- a Make gives five such values, and 0 to each lock of its slot
     pub make_whole : (j r : ℕ) (init : Init) → HasStep thunk j (Make init r) → length init.cells ≡ 5
