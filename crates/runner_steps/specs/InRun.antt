@@ -134,13 +134,3 @@ set_done_ask q _ = None
 abbrev pub release_ask : Layout → RunState → Micro → Ask
 release_ask l q (micros.Release place word) = let held = held_word q.descriptor word in when (can_hold l q.descriptor word && can_raise l held) (spots.Cell place) (Exchanges held (next_word held 0))
 release_ask l q _ = None
-
--- what a step of the body or of the end asks, where it comes next
-abbrev pub run_ask : (RunState → Micro → Ask) → Meaning → Option RunState → Ask
-run_ask f m None = None
-run_ask f m (Some q) = if is_open_run q then f q (next_of m q) else None
-
--- what a step of the opening asks
-abbrev pub opening_ask : (RunState → Ask) → Option RunState → Ask
-opening_ask f None = None
-opening_ask f (Some q) = f q

@@ -2,6 +2,7 @@
 use Rattle.std.specs.Prelude.{ℕ, ◌+◌, ◌-◌, ◌%◌, ◌^◌, List, [], ◌∷◌, Bool, true, false, not, ◌==◌, ◌&&◌, nat_lt, cond, drop, take, length, slice_index, Option, None, Some}
 use Rattle.section_body.specs.declared.thunk.Thunk.{Thunk}
 use Rattle.section_body.specs.declared.micro.Micro.{Micro}
+use Rattle.section_body.specs.declared.micro.Micro.TheVariants.{CheckHeld}
 use Rattle.section_body.specs.declared.step.Step.{Step}
 use Rattle.section_body.specs.declared.step.Step.TheVariants.{Answer}
 use Rattle.section_body.specs.declared.outcome.Outcome.{Outcome}
@@ -54,6 +55,11 @@ setting_of l descriptor = record {
 -- the run behind the checks that pass
 abbrev pub settles : Meaning → Layout → RunState → RunState
 settles m l q = record q { at = settled (setting_of l q.descriptor) q.trail (line_of m q) q.at }
+
+-- the nested lock that this step found to be held, with the free word that it had before
+abbrev pub lock_of : Micro → Option (ℕ × ℕ)
+lock_of (CheckHeld place log word) = Some (place, word)
+lock_of _ = None
 
 -- the reply of a body's Answer
 abbrev pub reply_in : List Step → ℕ

@@ -4,6 +4,7 @@
 //! with `stage`, `run`, `lists` and `entries`.
 #![tactic(auto)]
 
+mod asks_inside;
 mod asks_outside;
 mod entries;
 mod event;

@@ -1,12 +1,12 @@
 //! A run's section, and what comes next in it.
-ghost use Rattle.std.specs.Prelude.{◌≡◌, ◌<◌, ◌≤◌, ◌%◌, ◌^◌, ◌==◌, length, slice_index};
+ghost use Rattle.std.specs.Prelude.{◌&&◌, ◌++◌, ◌∷◌, [], take, slice_index_or, is_none, ◌≡◌, ◌<◌, ◌≤◌, ◌%◌, ◌^◌, ◌==◌, length, slice_index};
 ghost use Rattle.section_body.specs.Word.{held_word};
 ghost use Rattle.section_body.specs.Line.{line, micro_at, is_check, is_end, is_event, ending, releases, next_micro};
 ghost use Rattle.section_body.specs.Run.{leaves, settled, refusal, is_takable, source_value};
-ghost use Rattle.section_body.specs.declared.micro.Micro.TheVariants.{End};
-ghost use Rattle.runner_steps.specs.Sections.{thunk_of, setting_of, reply_in, outcome_or};
+ghost use Rattle.section_body.specs.declared.micro.Micro.TheVariants.{End, Release};
+ghost use Rattle.runner_steps.specs.Sections.{thunk_of, setting_of, lock_of, reply_in, outcome_or};
 
-use section_body::{Body, Micro, Outcome, Place, Source, Step, Thunk, Word};
+use section_body::{Body, Micro, Outcome, Place, Source, Step, Thunk, Word, micro_at};
 use table_words::Layout;
 
 /// The thunk that these words hold.
@@ -73,8 +73,9 @@ fn is_held(descriptor: u32, free: Word, word: u64) -> bool
     ensures { result ≡ (word == held_word descriptor free) }
 {
     let read = Word::from_bits(word);
-    read.version() as u64 == free.version() as u64 + 1
-        && read.value() as u64 == descriptor as u64 + 1
+    let value = descriptor as u64 + 1;
+    let version = free.version() as u64 + 1 + (value >> 32);
+    read.version() as u64 == version && read.value() as u64 == value % (1 << 32)
 }
 
 /// How a run leaves at this check, by the words agreed so far; None where it goes on, and at a step that is no check.
@@ -124,8 +125,8 @@ pub fn leaves(layout: Layout, descriptor: u32, trail: &[u64], micro: Micro) -> O
 }
 
 /// Whether this is a check.
-fn is_check(micro: Micro) -> bool
-    ensures { result ≡ is_check micro }
+fn is_check(micro: &Micro) -> bool
+    ensures { result ≡ is_check micro.now }
 {
     matches!(
         micro,
@@ -136,18 +137,100 @@ fn is_check(micro: Micro) -> bool
     )
 }
 
+/// Whether the line is over here.
+pub fn is_end(micro: &Micro) -> bool
+    ensures { result ≡ is_end micro.now }
+{
+    matches!(micro, Micro::End)
+}
+
 /// Whether this is a step on the shared words.
-fn is_event(micro: Micro) -> bool
-    ensures { result ≡ is_event micro }
+fn is_event(micro: &Micro) -> bool
+    ensures { result ≡ is_event micro.now }
 {
     !is_check(micro) && !is_end(micro)
 }
 
-/// Whether the line is over here.
-pub fn is_end(micro: Micro) -> bool
-    ensures { result ≡ is_end micro }
+/// The most atomic steps that a line has.
+const LINE_LIMIT: u32 = 440;
+
+/// Whether the run goes on behind the step at this place without a step on the shared words.
+fn passes(layout: Layout, descriptor: u32, trail: &[u64], micro: &Micro) -> bool
+    requires { layout.version_max < 2 ^ 32 }
+    ensures { result ≡ (is_check micro.now && is_none (leaves (setting_of layout descriptor) trail.now micro.now)) }
 {
-    matches!(micro, Micro::End)
+    is_check(micro) && leaves(layout, descriptor, trail, *micro).is_none()
+}
+
+/// Where a run rests that came to this place of the line: behind the checks that pass.
+pub fn settled(body: &Body, layout: Layout, descriptor: u32, trail: &[u64], from: u32) -> u32
+    requires { layout.version_max < 2 ^ 32 }
+    ensures { result ≡ settled (setting_of layout descriptor) trail.now (line body.now) from }
+{
+    let _steps = body.steps.as_slice();
+    let mut at = from;
+    while at < LINE_LIMIT {
+        if !passes(layout, descriptor, trail, &micro_at(body, at)) {
+            return at;
+        }
+        at += 1;
+    }
+    at
+}
+
+/// The nested lock that this step found to be held, with the free word that it had before.
+fn lock_of(micro: Micro) -> Option<(Place, Word)>
+    ensures { result ≡ lock_of micro }
+{
+    match micro {
+        Micro::CheckHeld {
+            place,
+            log: _,
+            word,
+        } => Some((place, word)),
+        _ => None,
+    }
+}
+
+/// The release with this number of a run that came to this place of the line: of the nested locks in the order in which they were
+/// taken, and then of the outer one.
+fn release_at(body: &Body, at: u32, number: u32, lock: Place, word: Word) -> Micro
+    ensures { result ≡ slice_index_or (releases (take at (line body.now)) ++ Release lock word ∷ []) number End }
+{
+    let mut left = number;
+    for i in 0..at {
+        match lock_of(micro_at(body, i)) {
+            None => {}
+            Some(held) => {
+                if left == 0 {
+                    return Micro::Release {
+                        place: held.0,
+                        word: held.1,
+                    };
+                }
+                left -= 1;
+            }
+        }
+    }
+    if left == 0 {
+        Micro::Release { place: lock, word }
+    } else {
+        Micro::End
+    }
+}
+
+/// What a run does next on the shared words that stands at this place of the line and has made these many exchanges of its end.
+pub fn next_micro(body: &Body, at: u32, ended: u32, lock: Place, word: Word) -> Micro
+    ensures { result ≡ next_micro (line body.now) at ended lock word }
+{
+    let micro = micro_at(body, at);
+    if is_event(&micro) {
+        return micro;
+    }
+    if ended == 0 {
+        return Micro::SetDone;
+    }
+    release_at(body, at, ended - 1, lock, word)
 }
 
 /// The value that a store writes.
