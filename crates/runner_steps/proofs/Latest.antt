@@ -1,5 +1,5 @@
 -- The words stored last, one after the other.
-use Rattle.std.proofs.Common.{◌≡◌, ℕ, zero, suc, ◌+◌, ◌<◌, ◌≤◌, List, [], ◌∷◌, length, drop, get_or, Bool, true, false, refl, sym, ap, ◌∙◌, arith, Option, None}
+use Rattle.std.proofs.Common.{◌≡◌, ℕ, zero, suc, ◌+◌, ◌<◌, ◌≤◌, List, [], ◌∷◌, length, drop, get_or, Bool, true, false, refl, arith, None}
 use Rattle.std.specs.Prelude.{◌&&◌}
 use Rattle.runner_steps.specs.declared.entries.Stored.{Stored}
 use Rattle.runner_steps.specs.Tests.{last_stored, are_stored, is_some_of}

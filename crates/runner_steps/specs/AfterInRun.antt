@@ -1,17 +1,16 @@
 -- A runner's part after an event of a run, which found this word.
-use Rattle.std.specs.Prelude.{ℕ, ◌+◌, ◌*◌, List, [], ◌∷◌, ◌++◌, Bool, true, false, ◌==◌, ◌&&◌, ◌||◌, length, Option, Some, None, if◌then◌else◌}
-use Rattle.section_body.specs.declared.thunk.Thunk.{Thunk}
+use Rattle.std.specs.Prelude.{ℕ, ◌+◌, [], ◌∷◌, ◌++◌, Bool, true, false, ◌==◌, ◌||◌, nat_lt, Option, Some, None, if◌then◌else◌}
 use Rattle.section_body.specs.declared.micro.Micro.{Micro}
 use Rattle.section_body.specs.declared.micro.Micro.TheVariants as micros
-use Rattle.section_body.specs.Word.{version_of, held_word}
+use Rattle.section_body.specs.Word.{version_of}
 use Rattle.section_body.specs.Line.{is_end}
 use Rattle.section_body.specs.Run.{written_once}
 use Rattle.table_words.specs.declared.layout.Layout.{Layout}
 use Rattle.structure_laws.specs.Meaning.{Meaning}
 use Rattle.runner_steps.specs.declared.entries.Published.{Published}
-use Rattle.runner_steps.specs.State.{RunState, FinishedState, PartState, NodesState, RecordsState}
+use Rattle.runner_steps.specs.State.{RunState, FinishedState, PartState, NodesState}
 use Rattle.runner_steps.specs.Sections.{thunk_of, next_of, settles, outcome_of, is_late}
-use Rattle.runner_steps.specs.InRun.{stamp_after}
+use Rattle.runner_steps.specs.InRun.{stamp_after, last_clock}
 use Rattle.runner_steps.specs.Lists.{cell_read, lock_agreed, slot_taken, slot_made, slot_back, slot_retired, learned}
 
 -- the next place of the line, with this number to go by
@@ -26,8 +25,8 @@ abbrev pub with_run : PartState → RunState → PartState
 with_run p q = record p { run = Some q }
 
 -- the opening: one more word
-abbrev pub opened_more : Meaning → Layout → PartState → RunState → ℕ → PartState
-opened_more m l p q found = with_run p (settles m l (record q { opened = q.opened ++ found ∷ [] }))
+abbrev pub opened_more : PartState → RunState → ℕ → PartState
+opened_more p q found = with_run p (record q { opened = q.opened ++ found ∷ [] })
 
 -- a cell was loaded, to be committed
 abbrev pub cell_loaded : Meaning → Layout → ℕ → PartState → RunState → ℕ → PartState
@@ -72,7 +71,7 @@ retire_committed m l slot p q found = record p { run = Some (agrees m l q (writt
 -- the agreed stamp is what then stands there
 abbrev pub stamp_agreed : Meaning → Layout → PartState → RunState → ℕ → PartState
 stamp_agreed m l p q found = let stamp = written_once found (stamp_after q.word) in let t = thunk_of q.opened in
-    record p { run = Some (goes_on m l q stamp); records = learned p.records t.request false stamp }
+    if nat_lt q.word last_clock then record p { run = Some (goes_on m l q stamp); records = learned p.records t.request false stamp } else p
 
 abbrev pub clock_raised : Meaning → Layout → PartState → RunState → PartState
 clock_raised m l p q = with_run p (goes_on m l q q.word)
@@ -96,7 +95,7 @@ over_if (Some x) descriptor = Some (record x { over = x.over || x.descriptor == 
 -- what is kept of a run at its end
 abbrev pub finished_of : Meaning → Layout → RunState → FinishedState
 finished_of m l q = let t = thunk_of q.opened in
-    record { lock = t.lock; held = held_word q.descriptor t.word; outcome = outcome_of m l q; trail = q.trail; late = is_late q }
+    record { descriptor = q.descriptor; lock = t.lock; word = t.word; outcome = outcome_of m l q; trail = q.trail; late = is_late q }
 
 abbrev pub run_over : Meaning → Layout → PartState → RunState → PartState
 run_over m l p q = record p { run = None; published = over_if p.published q.descriptor; records = record (p.records) { finished = p.records.finished ++ finished_of m l q ∷ [] } }
@@ -133,8 +132,3 @@ retired_slot_of _ = 0
 abbrev pub reply_word_of : Micro → ℕ
 reply_word_of (micros.ReplyExchange reply) = reply
 reply_word_of _ = 0
-
--- in a run by this function of the run and of its next step, outside a run by the other part
-abbrev pub in_run : Meaning → (Micro → PartState → RunState → ℕ → PartState) → PartState → Option RunState → ℕ → PartState → PartState
-in_run m f p None found out = out
-in_run m f p (Some q) found out = f (next_of m q) p q found

@@ -1,5 +1,5 @@
 -- A runner's part after an event outside a run, which found this word.
-use Rattle.std.specs.Prelude.{ℕ, ◌+◌, ◌-◌, List, [], ◌∷◌, ◌++◌, Bool, true, false, not, ◌==◌, ◌&&◌, ◌||◌, nat_lt, nat_le, length, Option, Some, None, if◌then◌else◌}
+use Rattle.std.specs.Prelude.{ℕ, ◌+◌, ◌-◌, [], ◌∷◌, Bool, false, not, ◌==◌, ◌&&◌, ◌||◌, nat_lt, nat_le, length, Option, Some, None, if◌then◌else◌}
 use Rattle.section_body.specs.declared.thunk.Thunk.{Thunk}
 use Rattle.table_words.specs.declared.layout.Layout.{Layout}
 use Rattle.table_words.specs.Places.{slot_count}
@@ -7,7 +7,7 @@ use Rattle.structure_laws.specs.Meaning.{Meaning}
 use Rattle.runner_steps.specs.declared.stage.Stage.{Stage}
 use Rattle.runner_steps.specs.declared.stage.Stage.TheVariants as stages
 use Rattle.runner_steps.specs.declared.entries.Published.{Published}
-use Rattle.runner_steps.specs.State.{RunState, PartState, NodesState, DescriptorsState, ReadsState, RecordsState}
+use Rattle.runner_steps.specs.State.{RunState, PartState}
 use Rattle.runner_steps.specs.Outside.{last_epoch}
 use Rattle.runner_steps.specs.Lists.{nodes_collected, descriptors_collected, nodes_looked, descriptor_stored, descriptor_taken, descriptor_retired, no_reads, cell_read, holds_named, walked, section_published, learned}
 
@@ -33,15 +33,15 @@ scanned l p x next clear = if next == l.runners && not (clear && nat_lt x last_e
     else with_stage p (stages.Scanning x (next + 1) clear)
 
 abbrev pub scan_one_after : Layout → PartState → Stage → ℕ → PartState
-scan_one_after l p (stages.Scanning x next clear) found = scanned l p x next (clear && is_clear x found)
+scan_one_after l p (stages.Scanning x next clear) found = if nat_le next l.runners then scanned l p x next (clear && is_clear x found) else p
 scan_one_after l p _ found = p
 
 abbrev pub advance_after : PartState → Stage → PartState
-advance_after p (stages.Scanning x next clear) = collected p (x + 1)
+advance_after p (stages.Scanning x next clear) = if nat_lt x last_epoch then collected p (x + 1) else p
 advance_after p _ = p
 
-abbrev pub split_after : PartState → PartState
-split_after p = record p { records = record (p.records) { splits = p.records.splits + 1 } }
+abbrev pub split_after : Layout → PartState → PartState
+split_after l p = if nat_lt p.records.splits l.runners then record p { records = record (p.records) { splits = p.records.splits + 1 } } else p
 
 abbrev pub read_after : Meaning → ℕ → PartState → ℕ → PartState
 read_after m place p found = record p { reads = walked p.reads (m.is_lock place) place found }

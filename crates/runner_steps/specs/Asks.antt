@@ -1,5 +1,5 @@
 -- Which word an event meets, and how; none where it isn't enabled.
-use Rattle.std.specs.Prelude.{ℕ, List, Bool, true, false, ◌||◌, cond, Option, Some, None, length, if◌then◌else◌}
+use Rattle.std.specs.Prelude.{ℕ, List, Option, Some, None, length, if◌then◌else◌}
 use Rattle.map_history.specs.declared.op.Request.{Request}
 use Rattle.table_words.specs.declared.layout.Layout.{Layout}
 use Rattle.table_words.specs.declared.sizes.Sizes.{Sizes}
@@ -38,7 +38,7 @@ abbrev pub line_ask : Meaning → Layout → EventKind → List ℕ → RunState
 line_ask m l kinds.Commit free q micro = commit_ask q micro
 line_ask m l (kinds.LoadCell None) free q micro = load_cell_ask q micro
 line_ask m l kinds.ExchangeCell free q micro = exchange_cell_ask l q micro
-line_ask m l (kinds.PrivateLoad slot word) free q micro = fill_load_ask m slot word free q micro
+line_ask m l (kinds.PrivateLoad slot word) free q micro = fill_load_ask m l slot word free q micro
 line_ask m l (kinds.PrivateStore slot word number) free q micro = fill_store_ask m l slot word number q micro
 line_ask m l kinds.MakeCommit free q micro = make_commit_ask q micro
 line_ask m l kinds.RetireCommit free q micro = retire_commit_ask q micro

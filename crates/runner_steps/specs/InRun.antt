@@ -1,20 +1,17 @@
 -- Which word the next event of a run meets, and how.
-use Rattle.std.specs.Prelude.{ℕ, ◌+◌, ◌-◌, ◌*◌, ◌/◌, ◌^◌, List, Bool, true, false, ◌==◌, ◌&&◌, nat_lt, nat_le, cond, Option, Some, None, length, slice_index, if◌then◌else◌}
-use Rattle.section_body.specs.declared.thunk.Thunk.{Thunk}
+use Rattle.std.specs.Prelude.{ℕ, ◌+◌, ◌-◌, ◌*◌, ◌/◌, ◌^◌, List, Bool, false, ◌==◌, ◌&&◌, nat_lt, Option, Some, None, length, slice_index, if◌then◌else◌}
 use Rattle.section_body.specs.declared.micro.Micro.{Micro}
 use Rattle.section_body.specs.declared.micro.Micro.TheVariants as micros
 use Rattle.section_body.specs.Word.{version_of, next_word, held_word}
 use Rattle.section_body.specs.Memory.{cell_of}
 use Rattle.section_body.specs.Run.{source_value}
 use Rattle.table_words.specs.declared.layout.Layout.{Layout}
-use Rattle.table_words.specs.Places.{descriptor_count}
-use Rattle.table_words.specs.declared.spot.Spot.{Spot}
+use Rattle.table_words.specs.Places.{slot_count, descriptor_count}
 use Rattle.table_words.specs.declared.spot.Spot.TheVariants as spots
-use Rattle.table_words.specs.declared.access.Access.{Access}
 use Rattle.table_words.specs.declared.access.Access.TheVariants.{Loads, Stores, Exchanges, Raises}
 use Rattle.structure_laws.specs.Meaning.{Meaning}
-use Rattle.runner_steps.specs.State.{RunState, PartState, NodesState}
-use Rattle.runner_steps.specs.Sections.{thunk_of, is_open_run, next_of}
+use Rattle.runner_steps.specs.State.{RunState}
+use Rattle.runner_steps.specs.Sections.{thunk_of}
 use Rattle.runner_steps.specs.Outside.{Ask, when}
 
 -- the next thunk word
@@ -59,12 +56,16 @@ abbrev pub is_slot : Option ℕ → ℕ → Bool
 is_slot None slot = false
 is_slot (Some s) slot = s == slot
 
-abbrev pub fill_load_ask : Meaning → ℕ → ℕ → List ℕ → RunState → Micro → Ask
-fill_load_ask m slot word free q (micros.PrivateLoad cell log) = when (is_slot (make_slot q.made free) slot && word == cell) (spots.Cell (cell_of m.fixed_cells slot word)) Loads
-fill_load_ask m slot word free q _ = None
+-- the slot is one of the table's, and it has this cell
+abbrev pub is_cell : Meaning → Layout → ℕ → ℕ → Bool
+is_cell m l slot word = nat_lt slot (slot_count l m.fixed_slots) && nat_lt word 5
+
+abbrev pub fill_load_ask : Meaning → Layout → ℕ → ℕ → List ℕ → RunState → Micro → Ask
+fill_load_ask m l slot word free q (micros.PrivateLoad cell log) = when (is_cell m l slot word && (is_slot (make_slot q.made free) slot && word == cell)) (spots.Cell (cell_of m.fixed_cells slot word)) Loads
+fill_load_ask m l slot word free q _ = None
 
 abbrev pub fill_store_ask : Meaning → Layout → ℕ → ℕ → ℕ → RunState → Micro → Ask
-fill_store_ask m l slot word number q (micros.PrivateStore cell log value) = when (is_slot q.made slot && (word == cell && (can_raise l q.word && number == next_word q.word (source_value q.trail value)))) (spots.Cell (cell_of m.fixed_cells slot word)) (Stores number)
+fill_store_ask m l slot word number q (micros.PrivateStore cell log value) = when (is_cell m l slot word && (is_slot q.made slot && (word == cell && (can_raise l q.word && number == next_word q.word (source_value q.trail value))))) (spots.Cell (cell_of m.fixed_cells slot word)) (Stores number)
 fill_store_ask m l slot word number q _ = None
 
 abbrev pub make_commit_to : RunState → ℕ → Option ℕ → Ask

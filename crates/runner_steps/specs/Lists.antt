@@ -1,12 +1,10 @@
 -- How a runner's lists change.
-use Rattle.std.specs.Prelude.{ℕ, ◌+◌, ◌-◌, List, [], ◌∷◌, ◌++◌, Bool, true, false, not, ◌==◌, ◌&&◌, ◌||◌, nat_lt, nat_le, cond, map, Option, Some, None, if◌then◌else◌}
+use Rattle.std.specs.Prelude.{ℕ, ◌+◌, ◌-◌, List, [], ◌∷◌, ◌++◌, Bool, true, false, not, ◌==◌, ◌&&◌, ◌||◌, nat_lt, nat_le, map, if◌then◌else◌}
 use Rattle.std.specs.List.{filter}
 use Rattle.section_body.specs.Word.{value_of, version_of, is_free}
 use Rattle.table_words.specs.declared.layout.Layout.{Layout}
 use Rattle.runner_steps.specs.declared.entries.Retired.{Retired}
 use Rattle.runner_steps.specs.declared.entries.Tested.{Tested}
-use Rattle.runner_steps.specs.declared.entries.Stored.{Stored}
-use Rattle.runner_steps.specs.declared.entries.Known.{Known}
 use Rattle.runner_steps.specs.State.{NodesState, DescriptorsState, ReadsState, RecordsState}
 use Rattle.runner_steps.specs.Tests.{has}
 
@@ -54,10 +52,10 @@ slot_tested n x = if x.cells == 5 then slot_back n x.slot x.worn else record n {
 abbrev pub one_more : Layout → Tested → ℕ → Tested
 one_more l x word = record { slot = x.slot; cells = x.cells + 1; worn = x.worn || version_of word == l.version_max }
 
--- after a private load outside a run: only the next cell of a slot in the hand counts
+-- after a private load outside a run: only the next of the five cells of a slot in the hand counts
 abbrev pub nodes_looked : Layout → NodesState → ℕ → ℕ → ℕ → NodesState
 nodes_looked l n slot cell word = let x = test_of n.tests slot in
-    if has n.hand slot && cell == x.cells then slot_tested n (one_more l x word) else n
+    if has n.hand slot && (cell == x.cells && nat_lt cell 5) then slot_tested n (one_more l x word) else n
 
 -- a Make takes the last free slot into the hand
 abbrev pub slot_taken : NodesState → ℕ → NodesState

@@ -1,5 +1,5 @@
 -- Which word an event outside a run meets, and how.
-use Rattle.std.specs.Prelude.{ℕ, ◌+◌, ◌-◌, ◌^◌, List, Bool, true, false, not, ◌==◌, ◌&&◌, ◌||◌, nat_lt, nat_le, cond, Option, Some, None, slice_get, if◌then◌else◌, is_none}
+use Rattle.std.specs.Prelude.{ℕ, ◌+◌, ◌-◌, ◌^◌, List, Bool, true, false, not, ◌==◌, ◌&&◌, ◌||◌, nat_lt, nat_le, Option, Some, None, slice_get, if◌then◌else◌, is_none}
 use Rattle.map_history.specs.declared.op.Request.{Request}
 use Rattle.section_body.specs.declared.thunk.Thunk.{Thunk}
 use Rattle.section_body.specs.Word.{held_word}
@@ -8,14 +8,14 @@ use Rattle.table_words.specs.declared.layout.Layout.{Layout}
 use Rattle.table_words.specs.declared.spot.Spot.{Spot}
 use Rattle.table_words.specs.declared.spot.Spot.TheVariants as spots
 use Rattle.table_words.specs.declared.access.Access.{Access}
-use Rattle.table_words.specs.declared.access.Access.TheVariants.{Loads, Stores, Exchanges, Raises}
+use Rattle.table_words.specs.declared.access.Access.TheVariants.{Loads, Stores, Exchanges}
 use Rattle.table_words.specs.Places.{slot_count, descriptor_count}
 use Rattle.structure_laws.specs.Meaning.{Meaning}
 use Rattle.runner_steps.specs.declared.stage.Stage.{Stage}
 use Rattle.runner_steps.specs.declared.stage.Stage.TheVariants as stages
 use Rattle.runner_steps.specs.declared.entries.Published.{Published}
 use Rattle.runner_steps.specs.declared.entries.Known.{Known}
-use Rattle.runner_steps.specs.State.{RunState, PartState, NodesState}
+use Rattle.runner_steps.specs.State.{PartState}
 use Rattle.runner_steps.specs.Tests.{has, is_walking, is_resting, is_outside, is_next, is_prepared, is_open, serves, is_readable}
 
 -- a word and what the step does with it; None where the event isn't enabled

@@ -1,5 +1,5 @@
 -- A run's section, and what comes next in it.
-use Rattle.std.specs.Prelude.{ℕ, ◌+◌, ◌-◌, ◌%◌, ◌^◌, List, [], ◌∷◌, Bool, true, false, not, ◌==◌, ◌&&◌, nat_lt, cond, drop, take, length, slice_index, Option, None, Some}
+use Rattle.std.specs.Prelude.{ℕ, ◌%◌, ◌^◌, List, [], ◌∷◌, Bool, false, not, ◌==◌, ◌&&◌, nat_lt, length, slice_index, Option, None, Some}
 use Rattle.section_body.specs.declared.thunk.Thunk.{Thunk}
 use Rattle.section_body.specs.declared.micro.Micro.{Micro}
 use Rattle.section_body.specs.declared.micro.Micro.TheVariants.{CheckHeld}
@@ -7,7 +7,7 @@ use Rattle.section_body.specs.declared.step.Step.{Step}
 use Rattle.section_body.specs.declared.step.Step.TheVariants.{Answer}
 use Rattle.section_body.specs.declared.outcome.Outcome.{Outcome}
 use Rattle.section_body.specs.declared.outcome.Outcome.TheVariants.{Answered}
-use Rattle.section_body.specs.Line.{line, micro_at, next_micro, is_end}
+use Rattle.section_body.specs.Line.{line, micro_at, next_micro}
 use Rattle.section_body.specs.Run.{Setting, leaves, settled}
 use Rattle.table_words.specs.declared.layout.Layout.{Layout}
 use Rattle.structure_laws.specs.Meaning.{Meaning}
@@ -23,9 +23,13 @@ thunk_of words = record {
   operands = slice_index words 4 ∷ slice_index words 5 ∷ slice_index words 6 ∷ slice_index words 7 ∷ slice_index words 8 ∷ slice_index words 9 ∷ slice_index words 10 ∷ slice_index words 11 ∷ [];
 }
 
+-- no run comes to this place of its line, or makes as many exchanges at its end
+abbrev pub line_limit : ℕ
+line_limit = 440
+
 -- the thunk words and the done word have all been loaded
 abbrev pub is_open_run : RunState → Bool
-is_open_run q = length q.opened == 13
+is_open_run q = length q.opened == 13 && (nat_lt q.at line_limit && nat_lt q.ended line_limit)
 
 -- the run found its section done
 abbrev pub is_late : RunState → Bool

@@ -22,8 +22,9 @@ pub record RunState : Type 0 where
 
 -- a section that was run to its end
 pub record FinishedState : Type 0 where
+  pub descriptor : ℕ
   pub lock : ℕ
-  pub held : ℕ
+  pub word : ℕ
   pub outcome : Outcome
   pub trail : List ℕ
   pub late : Bool

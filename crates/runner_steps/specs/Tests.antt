@@ -1,5 +1,5 @@
 -- What a runner can tell from what it keeps.
-use Rattle.std.specs.Prelude.{ℕ, ◌+◌, ◌-◌, ◌*◌, ◌/◌, ◌%◌, List, [], ◌∷◌, ◌++◌, Bool, true, false, not, ◌==◌, ◌&&◌, ◌||◌, nat_lt, nat_le, cond, Option, Some, None, slice_get, slice_index, length, replicate, if◌then◌else◌}
+use Rattle.std.specs.Prelude.{ℕ, ◌+◌, ◌-◌, ◌/◌, ◌%◌, List, [], ◌∷◌, Bool, true, false, not, ◌==◌, ◌&&◌, ◌||◌, nat_lt, cond, Option, Some, None, slice_index, replicate}
 use Rattle.std.specs.List.{list_any, list_all}
 use Rattle.map_history.specs.declared.op.Request.{Request}
 use Rattle.section_body.specs.declared.thunk.Thunk.{Thunk}
@@ -10,7 +10,7 @@ use Rattle.runner_steps.specs.declared.stage.Stage.{Stage}
 use Rattle.runner_steps.specs.declared.stage.Stage.TheVariants as stages
 use Rattle.runner_steps.specs.declared.entries.Stored.{Stored}
 use Rattle.runner_steps.specs.declared.entries.Known.{Known}
-use Rattle.runner_steps.specs.State.{RunState, PartState}
+use Rattle.runner_steps.specs.State.{RunState}
 
 -- the list has this number
 abbrev pub has : List ℕ → ℕ → Bool

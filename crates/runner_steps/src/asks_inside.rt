@@ -1,17 +1,16 @@
 //! Which word the next event of a run meets, and how.
-ghost use Rattle.std.specs.Prelude.{◌≡◌, ◌≤◌, ◌<◌, ◌+◌, ◌^◌, length};
+ghost use Rattle.std.specs.Prelude.{◌≡◌, ◌≤◌, ◌<◌, ◌-◌, ◌^◌, ◌==◌, ◌&&◌, length};
 ghost use Rattle.table_words.specs.Limits.{IsWithinLimits};
-ghost use Rattle.section_body.specs.Memory.{cell_of};
-ghost use Rattle.section_body.specs.Word.{version_of, next_word, held_word};
+ghost use Rattle.section_body.specs.Run.{source_value};
+ghost use Rattle.section_body.specs.Word.{version_of, next_word};
 ghost use Rattle.runner_steps.specs.Sections.{is_open_run, next_of};
-ghost use Rattle.runner_steps.specs.State.{RunState};
-ghost use Rattle.runner_steps.specs.InRun.{open_more_ask, load_done_ask, commit_to, commit_ask, load_cell_ask, exchange_cell_ask, can_raise, last_of, make_slot, is_slot, fill_load_ask, fill_store_ask, make_commit_ask, retire_commit_ask, epoch_for_retire_ask, clock_load_ask, stamp_exchange_ask, clock_raise_ask, reply_exchange_ask, nested_load_ask, can_hold, nested_hold_ask, outcome_load_ask, outcome_commit_ask, set_done_ask, release_ask};
+ghost use Rattle.runner_steps.specs.InRun.{open_more_ask, load_done_ask, commit_to, commit_ask, load_cell_ask, exchange_cell_ask, can_raise, last_of, make_slot, is_slot, is_cell, fill_load_ask, fill_store_ask, make_commit_ask, retire_commit_ask, epoch_for_retire_ask, clock_load_ask, stamp_exchange_ask, clock_raise_ask, reply_exchange_ask, nested_load_ask, can_hold, nested_hold_ask, outcome_load_ask, outcome_commit_ask, set_done_ask, release_ask};
 
-use crate::asks_outside::descriptor_count;
+use crate::asks_outside::{cell_place, descriptor_count, slot_count};
 use crate::run::Run;
-use crate::section::{agreed, next_micro, source_value, thunk_of};
+use crate::section::{LINE_LIMIT, agreed, next_micro, source_value, thunk_of};
 use crate::structure::Structure;
-use section_body::{Micro, Place, Thunk, Word};
+use section_body::{Micro, Source, Word};
 use table_words::{Access, Layout, Spot};
 
 /// The clock number from which on no stamp is made.
@@ -70,12 +69,20 @@ fn can_hold(layout: Layout, descriptor: u32, word: u64) -> bool
     descriptor < descriptor_count(layout) && can_raise(layout, word)
 }
 
+/// Whether the slot is one of the table's, and has this cell.
+fn is_cell<S: Structure>(structure: &S, layout: Layout, slot: u32, word: u32) -> bool
+    requires { IsWithinLimits layout }
+    ensures { result ≡ is_cell (S.meaning structure.now) layout slot word }
+{
+    slot < slot_count(structure, layout) && word < 5
+}
+
 impl Run {
     /// The thunk words and the done word have all been loaded.
     pub fn is_open(&self) -> bool
         ensures { result ≡ is_open_run self.now }
     {
-        self.opened.len() == 13
+        self.opened.len() == 13 && self.at < LINE_LIMIT && self.ended < LINE_LIMIT
     }
 
     /// The step on a shared word that comes next.
@@ -150,19 +157,23 @@ impl Run {
     pub fn fill_load_ask<S: Structure>(
         &self,
         structure: &S,
+        layout: Layout,
         slot: u32,
         word: u32,
         free: &[u32],
         micro: &Micro,
     ) -> Option<(Spot, Access)>
-        requires few { 5 * slot + word < 2 ^ 31 }
-        ensures { result ≡ fill_load_ask (S.meaning structure.now) slot word free.now self.now micro.now }
+        requires { IsWithinLimits layout }
+        ensures { result ≡ fill_load_ask (S.meaning structure.now) layout slot word free.now self.now micro.now }
     {
         match micro {
             Micro::PrivateLoad { cell, log: _ } => {
-                if is_slot(make_slot(self.made, free), slot) && word == *cell {
+                if is_cell(structure, layout, slot, word)
+                    && is_slot(make_slot(self.made, free), slot)
+                    && word == *cell
+                {
                     Some((
-                        Spot::Cell(structure.fixed_cells() + 5 * slot + word),
+                        Spot::Cell(cell_place(structure, layout, slot, word)),
                         Access::Loads,
                     ))
                 } else {
@@ -171,6 +182,50 @@ impl Run {
             }
             _ => None,
         }
+    }
+
+    pub fn fill_store_ask<S: Structure>(
+        &self,
+        structure: &S,
+        layout: Layout,
+        slot: u32,
+        word: u32,
+        number: u64,
+        micro: &Micro,
+    ) -> Option<(Spot, Access)>
+        requires { IsWithinLimits layout }
+        ensures { result ≡ fill_store_ask (S.meaning structure.now) layout slot word number self.now micro.now }
+    {
+        match micro {
+            Micro::PrivateStore {
+                cell,
+                log: _,
+                value,
+            } => {
+                if is_cell(structure, layout, slot, word)
+                    && is_slot(self.made, slot)
+                    && word == *cell
+                    && self.is_next_word(layout, *value, number)
+                {
+                    Some((
+                        Spot::Cell(cell_place(structure, layout, slot, word)),
+                        Access::Stores(number),
+                    ))
+                } else {
+                    None
+                }
+            }
+            _ => None,
+        }
+    }
+
+    /// Whether this number is the word that follows the one loaded last, with this value.
+    fn is_next_word(&self, layout: Layout, value: Source, number: u64) -> bool
+        requires { layout.version_max < 2 ^ 32 }
+        ensures { result ≡ (can_raise layout self.now.word && number == next_word self.now.word (source_value self.now.trail value)) }
+    {
+        can_raise(layout, self.word)
+            && number == next_word(self.word, source_value(&self.trail, value))
     }
 
     pub fn make_commit_ask(&self, micro: &Micro) -> Option<(Spot, Access)>
@@ -295,49 +350,49 @@ impl Run {
             _ => None,
         }
     }
-}
 
-pub fn load_cell_ask(micro: &Micro) -> Option<(Spot, Access)>
-    ensures { (q : RunState) → result ≡ load_cell_ask q micro.now }
-{
-    match micro {
-        Micro::LoadCell { place, log: _ } => Some((Spot::Cell(*place), Access::Loads)),
-        _ => None,
+    pub fn load_cell_ask(&self, micro: &Micro) -> Option<(Spot, Access)>
+        ensures { result ≡ load_cell_ask self.now micro.now }
+    {
+        match micro {
+            Micro::LoadCell { place, log: _ } => Some((Spot::Cell(*place), Access::Loads)),
+            _ => None,
+        }
     }
-}
 
-pub fn epoch_for_retire_ask(micro: &Micro) -> Option<(Spot, Access)>
-    ensures { (q : RunState) → result ≡ epoch_for_retire_ask q micro.now }
-{
-    match micro {
-        Micro::EpochForRetire { .. } => Some((Spot::Epoch, Access::Loads)),
-        _ => None,
+    pub fn epoch_for_retire_ask(&self, micro: &Micro) -> Option<(Spot, Access)>
+        ensures { result ≡ epoch_for_retire_ask self.now micro.now }
+    {
+        match micro {
+            Micro::EpochForRetire { .. } => Some((Spot::Epoch, Access::Loads)),
+            _ => None,
+        }
     }
-}
 
-pub fn clock_load_ask(micro: &Micro) -> Option<(Spot, Access)>
-    ensures { (q : RunState) → result ≡ clock_load_ask q micro.now }
-{
-    match micro {
-        Micro::ClockLoad => Some((Spot::Clock, Access::Loads)),
-        _ => None,
+    pub fn clock_load_ask(&self, micro: &Micro) -> Option<(Spot, Access)>
+        ensures { result ≡ clock_load_ask self.now micro.now }
+    {
+        match micro {
+            Micro::ClockLoad => Some((Spot::Clock, Access::Loads)),
+            _ => None,
+        }
     }
-}
 
-pub fn nested_load_ask(micro: &Micro) -> Option<(Spot, Access)>
-    ensures { (q : RunState) → result ≡ nested_load_ask q micro.now }
-{
-    match micro {
-        Micro::NestedLoad { place, log: _ } => Some((Spot::Cell(*place), Access::Loads)),
-        _ => None,
+    pub fn nested_load_ask(&self, micro: &Micro) -> Option<(Spot, Access)>
+        ensures { result ≡ nested_load_ask self.now micro.now }
+    {
+        match micro {
+            Micro::NestedLoad { place, log: _ } => Some((Spot::Cell(*place), Access::Loads)),
+            _ => None,
+        }
     }
-}
 
-pub fn outcome_load_ask(micro: &Micro) -> Option<(Spot, Access)>
-    ensures { (q : RunState) → result ≡ outcome_load_ask q micro.now }
-{
-    match micro {
-        Micro::OutcomeLoad { place, log: _ } => Some((Spot::Cell(*place), Access::Loads)),
-        _ => None,
+    pub fn outcome_load_ask(&self, micro: &Micro) -> Option<(Spot, Access)>
+        ensures { result ≡ outcome_load_ask self.now micro.now }
+    {
+        match micro {
+            Micro::OutcomeLoad { place, log: _ } => Some((Spot::Cell(*place), Access::Loads)),
+            _ => None,
+        }
     }
 }

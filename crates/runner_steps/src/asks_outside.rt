@@ -108,8 +108,7 @@ pub fn descriptor_count(layout: Layout) -> u32
 
 /// The number of all node slots.
 pub fn slot_count<S: Structure>(structure: &S, layout: Layout) -> u32
-    requires limits { IsWithinLimits layout }
-    requires few_slots { (S.meaning structure.now).fixed_slots ≤ 3 }
+    requires { IsWithinLimits layout }
     ensures { result ≡ slot_count layout (S.meaning structure.now).fixed_slots }
 {
     structure.fixed_slots() + layout.nodes * layout.runners + (2 * layout.runners + 2)
@@ -198,9 +197,7 @@ impl Part {
         slot: u32,
         word: u32,
     ) -> Option<(Spot, Access)>
-        requires limits { IsWithinLimits layout }
-        requires few_cells { (S.meaning structure.now).fixed_cells ≤ 12288 }
-        requires few_slots { (S.meaning structure.now).fixed_slots ≤ 3 }
+        requires { IsWithinLimits layout }
         ensures { result ≡ private_load_ask (S.meaning structure.now) layout slot word self.now }
     {
         let slots = slot_count(structure, layout);
@@ -225,8 +222,7 @@ impl Part {
         word: u32,
         number: u64,
     ) -> Option<(Spot, Access)>
-        requires limits { IsWithinLimits layout }
-        requires few_slots { (S.meaning structure.now).fixed_slots ≤ 3 }
+        requires { IsWithinLimits layout }
         ensures { result ≡ private_store_ask (S.meaning structure.now) layout slot word number self.now }
     {
         let slots = slot_count(structure, layout);

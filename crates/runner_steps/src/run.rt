@@ -29,11 +29,13 @@ impl Model for Run {
     ghost view = { λ a. record { descriptor = a.descriptor; opened = a.opened.items; at = a.at; word = a.word; trail = a.trail.items; made = a.made; worn = a.worn; ended = a.ended } };
 }
 
-/// A section that the runner ran to its end: its name (the outer lock and its held word), how it ended, and its trail.
+/// A section that the runner ran to its end: its name (its descriptor, and the outer lock with the free word that it had
+/// before), how it ended, and its trail.
 #[derive(Drop)]
 pub struct Finished {
+    pub descriptor: u32,
     pub lock: Place,
-    pub held: Word,
+    pub word: Word,
     pub outcome: Outcome,
     pub trail: Vec<u64>,
     pub late: bool,
@@ -44,5 +46,5 @@ impl Model for Finished {
 
     ghost Value = { FinishedState };
 
-    ghost view = { λ a. record { lock = a.lock; held = a.held; outcome = a.outcome; trail = a.trail.items; late = a.late } };
+    ghost view = { λ a. record { descriptor = a.descriptor; lock = a.lock; word = a.word; outcome = a.outcome; trail = a.trail.items; late = a.late } };
 }

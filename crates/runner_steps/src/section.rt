@@ -151,8 +151,8 @@ fn is_event(micro: &Micro) -> bool
     !is_check(micro) && !is_end(micro)
 }
 
-/// The most atomic steps that a line has.
-const LINE_LIMIT: u32 = 440;
+/// The most atomic steps that a line has; no run comes to this place of its line.
+pub const LINE_LIMIT: u32 = 440;
 
 /// Whether the run goes on behind the step at this place without a step on the shared words.
 fn passes(layout: Layout, descriptor: u32, trail: &[u64], micro: &Micro) -> bool

@@ -1,4 +1,4 @@
-use Rattle.std.proofs.Common.{◌≡◌, ◌≤◌, ◌++◌, ◌∷◌, [], drop, take}
+use Rattle.std.proofs.Common.{◌≡◌, ◌++◌, ◌∷◌, [], drop, take}
 use Rattle.std.specs.Prelude.{slice_index_or}
 use Rattle.section_body.specs.Line.{line, releases}
 use Rattle.section_body.specs.declared.micro.Micro.TheVariants.{End, Release}

@@ -1,7 +1,7 @@
-use Rattle.std.proofs.Common.{◌≡◌, ℕ, ◌+◌, ◌≤◌, List, length, sym, ap, subst, ◌∙◌, arith, true, false}
+use Rattle.std.proofs.Common.{◌≤◌, List, length, sym, ap, subst, ◌∙◌, arith}
 use Rattle.std.specs.Prelude.{◌&&◌, is_none}
-use Rattle.section_body.specs.Line.{line, micro_at, is_check}
-use Rattle.section_body.specs.Run.{leaves, settled}
+use Rattle.section_body.specs.Line.{line, is_check}
+use Rattle.section_body.specs.Run.{leaves}
 use Rattle.section_body.specs.declared.micro.Micro.{Micro}
 use Rattle.section_body.specs.declared.step.Step.{Step}
 use Rattle.runner_steps.specs.Sections.{setting_of}

@@ -1,5 +1,5 @@
-use Rattle.std.proofs.Common.{◌≡◌, ℕ, ◌+◌, ◌≤◌, None, get_or, length, sym, ap, subst, ◌∙◌, arith, true, false}
-use Rattle.runner_steps.specs.Tests.{last_stored, are_stored, is_some_of}
+use Rattle.std.proofs.Common.{get_or, sym, ap, ◌∙◌, arith}
+use Rattle.runner_steps.specs.Tests.{is_some_of}
 use Rattle.runner_steps.proofs.Latest.{stored_next, stored_end, false_first, true_first}
 use Rattle.runner_steps.proofs.stores.are_stored.Goals as goal
 

@@ -1,0 +1,4 @@
+//! The pure machine.
+#![tactic(auto)]
+
+mod copies;
