@@ -1,4 +1,0 @@
-//! The pure machine.
-#![tactic(auto)]
-
-mod copies;
