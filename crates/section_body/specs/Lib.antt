@@ -1,3 +1,4 @@
+pub mod Act
 pub mod Bucket
 pub mod Cost
 pub mod Fault

@@ -1,5 +1,6 @@
 -- One run of a body in one go, over a memory of its own.
-use Rattle.std.specs.Prelude.{ℕ, zero, suc, List, [], ◌∷◌, ◌++◌, Bool, true, false, drop, length, slice_index, slice_index_or, slice_set, None}
+use Rattle.std.specs.Prelude.{ℕ, map, List, [], ◌∷◌, ◌++◌, Bool, true, false, drop, length, slice_index, slice_index_or, slice_set, None}
+use Rattle.std.specs.List.{range_with_len}
 use Rattle.section_body.specs.Word.{held_word}
 use Rattle.section_body.specs.Memory.{PlainMemory, cell_of}
 use Rattle.section_body.specs.Line.{line}
@@ -71,8 +72,7 @@ plain_run body request memory taken = ran (plain_setting body taken memory) (uns
 
 -- the first n values of a function
 abbrev pub first_values : ℕ → (ℕ → ℕ) → List ℕ
-first_values zero f = []
-first_values (suc n) f = first_values n f ++ f n ∷ []
+first_values n f = map f (range_with_len 0 n)
 
 -- the memory in which this run left its cells, its slots, its clock and its request's words
 abbrev pub memory_after : ℕ → PlainMemory → Run → PlainMemory

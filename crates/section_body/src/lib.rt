@@ -6,6 +6,7 @@
 //! bodies. `gate`, `step_kind` and `steps` are what a runner is stopped and counted by.
 #![tactic(auto)]
 
+mod act;
 mod body;
 mod bucket;
 mod costs;

@@ -61,7 +61,7 @@ fn register_after(step: &Step, reg: u8, register: Register, count: u32) -> Regis
 }
 
 /// A register before step `n`.
-fn register_at(steps: &[Step], n: usize, reg: u8) -> Register
+pub fn register_at(steps: &[Step], n: usize, reg: u8) -> Register
     requires few { length steps.now ≤ 40 }
     requires within { n ≤ length steps.now }
     ensures place { result.place ≡ (registers_before steps.now n).place reg }
@@ -78,7 +78,7 @@ fn register_at(steps: &[Step], n: usize, reg: u8) -> Register
 }
 
 /// A value before step `n`, with its register resolved.
-fn source(steps: &[Step], n: usize, value: Value) -> Source
+pub fn source(steps: &[Step], n: usize, value: Value) -> Source
     requires few { length steps.now ≤ 40 }
     requires within { n ≤ length steps.now }
     ensures { result ≡ source_of (registers_before steps.now n) value }

@@ -1,6 +1,7 @@
 //! What the runners of a section agreed on.
-ghost use Rattle.std.specs.Prelude.{◌≡◌, [], false};
+ghost use Rattle.std.specs.Prelude.{◌≡◌, ◌<◌, [], ◌∷◌, ◌++◌, false, length, slice_index};
 
+use crate::word::Word;
 use arrayvec::ArrayVec;
 use std::marker::Model;
 
@@ -33,5 +34,21 @@ impl Trail {
             words: ArrayVec::new(),
             late: false,
         }
+    }
+
+    /// The agreed word at this place of the log, as a cell's word.
+    pub fn word(&self, log: u32) -> Word
+        requires { log < length self.now.words }
+        ensures { result ≡ slice_index self.now.words log }
+    {
+        Word::from_bits(self.words.as_slice()[log as usize])
+    }
+
+    /// One more agreed word.
+    pub fn agree(&mut self, word: u64)
+        requires { length self.old.words < 64 }
+        ensures { self.new ≡ record self.old { words = self.old.words ++ word ∷ [] } }
+    {
+        self.words.push(word);
     }
 }

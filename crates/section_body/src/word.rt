@@ -1,6 +1,6 @@
 //! Cell words: a value with the version at which it was written.
-ghost use Rattle.std.specs.Prelude.{◌≡◌};
-ghost use Rattle.section_body.specs.Word.{value_of, version_of, pack};
+ghost use Rattle.std.specs.Prelude.{◌≡◌, ◌+◌, ◌<◌, ◌^◌};
+ghost use Rattle.section_body.specs.Word.{value_of, version_of, pack, next_word};
 
 use std::marker::Model;
 
@@ -52,6 +52,14 @@ impl Word {
         ensures { result ≡ version_of self }
     {
         (self.number >> 32) as u32
+    }
+
+    /// The word that follows this one in its cell, with this value.
+    pub fn next(self, value: u32) -> Word
+        requires { version_of self + 1 < 2 ^ 32 }
+        ensures { result ≡ next_word self value }
+    {
+        Word::pack(value, self.version() + 1)
     }
 
     /// The number that stands in memory for the word.

@@ -1,0 +1,11 @@
+use Rattle.std.proofs.Common.{◌≡◌, length}
+use Rattle.std.specs.Prelude.{map}
+use Rattle.section_body.specs.Line.{registers_before, source_of}
+use Rattle.section_body.specs.Run.{source_value}
+use Rattle.section_body.specs.Act.{filled}
+use Rattle.section_body.proofs.act.fill_slot.Given as goal
+
+abbrev pub invariant-loop-cell : goal.invariant-loop-cell
+invariant-loop-cell l =
+    let values = map (λ value. source_value l.trail.words (source_of (registers_before l.steps l.n) value)) l.init.cells in
+    l.memory ≡ record l.initial.memory { cells = filled l.initial.memory.fixed_cells l.slot values l.initial.memory.cells l.cell }
