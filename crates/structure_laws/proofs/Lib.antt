@@ -1,7 +1,11 @@
-mod Changes
-mod Limits
-mod Steps
-mod TrayGives
-mod TrayKeeps
+pub mod Bodies
+pub mod Changes
+pub mod Limits
+pub mod Moves
+pub mod Progress
+pub mod Readings
+pub mod Steps
+pub mod TrayGives
+pub mod TrayKeeps
 pub mod TrayLaws
-mod TrayShape
+pub mod TrayShape

@@ -200,7 +200,7 @@ tray_keeps layout limits = record {
   make = λ s d t r x init here h prepared sound kept sound'. make_kept layout limits s sound kept d x here t r init h;
   stamp = λ s d x here h sound kept sound'. quiet layout s d x Stamp sound kept here h (λ e. cc) (λ e. cc);
   store = λ s d j p r x v here h earlier load found sound kept sound'. store_kept layout limits s sound kept d x here j p r v h load;
-  retire = λ s d t y x here h past links sound kept sound'. retire_kept layout limits s sound kept d x here t y h;
+  retire = λ s d t y x here h past recent links sound kept sound'. retire_kept layout limits s sound kept d x here t y h;
   answer = λ s d n x here h sound kept sound'. quiet layout s d x (Answer n) sound kept here h (λ e. cc) (λ e. cc);
   done = λ s d x here ended sound kept sound'. done_kept s d kept;
   lock = λ s p w lock sound kept sound'. link_kept s p w kept (λ e. let first = equal_of p 0 lock in omega arith);

@@ -52,7 +52,7 @@ module _ (m : Meaning) where
     pub stamp : (s : Scene) (d : ℕ) (x : Section) → Here s d x → IsStep m x x.at Stamp → Onward layout s (passes s d x)
     pub store : (s : Scene) (d j p r : ℕ) (x : Section) (v : Value) → Here s d x → IsStep m x x.at (Store r v) → j < x.at → IsStep m x j (Load p r) → s.cells p ≡ x.reg r
         → Onward layout s (with_cell (passes s d x) p (next_word (x.reg r) (value_in x.reg v)))
-    pub retire : (s : Scene) (d t y : ℕ) (x : Section) → Here s d x → IsStep m x x.at (Retire t) → y ≤ s.epoch
+    pub retire : (s : Scene) (d t y : ℕ) (x : Section) → Here s d x → IsStep m x x.at (Retire t) → y ≤ s.epoch → s.epoch ≤ y + 1
         → ((q z i : ℕ) → i < 5 → s.status q ≡ Retired z → Links m s (cell_of m q i) t → z ≤ y) → Onward layout s (with_status (passes s d x) t (Retired y))
     pub answer : (s : Scene) (d n : ℕ) (x : Section) → Here s d x → IsStep m x x.at (Answer n) → Onward layout s (passes s d x)
     pub done : (s : Scene) (d : ℕ) (x : Section) → Here s d x → (Settled m x → Ended m x) → Onward layout s (with_section s d None)

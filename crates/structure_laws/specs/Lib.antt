@@ -8,4 +8,5 @@ pub mod InTurn
 pub mod Keeps
 pub mod Gives
 pub mod Laws
+pub mod Lawful
 pub mod Tray

@@ -1,12 +1,13 @@
 //! What a structure means to the machine, and the laws that it meets.
 //!
 //! The definitions stand in specs: `Scene` is what the laws speak of, `Meaning` what a structure chooses, `Sound`
-//! what the core supplies, and `Shape`, `InTurn`, `Keeps` and `Gives` are the four laws, joined in `Laws`. `Tray`
-//! is the test structure. `tray` has what it computes from readings, `laws` that it meets the laws.
+//! what the core supplies, and `Shape`, `InTurn`, `Keeps` and `Gives` are the four laws, joined in `Laws`; `Lawful`
+//! is the core's side. `Tray` is the test structure: `tray` has what it computes from readings, `laws` that it
+//! meets the laws.
 #![tactic(auto)]
 
 mod laws;
 mod tray;
 
-pub use laws::tray_meets_the_laws;
+pub use laws::{tray_meets_the_laws, tray_moves_are_lawful};
 pub use tray::tray_links;

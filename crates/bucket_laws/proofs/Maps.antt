@@ -1,0 +1,77 @@
+-- The map after an operation, as a look-up; and the reply, by what is looked up.
+use Rattle.std.proofs.Common.{◌≡◌, ◌≢◌, ℕ, zero, suc, ◌+◌, ◌*◌, ◌<◌, ◌≤◌, Bool, true, false, cond, refl, sym, ap, ◌∙◌, subst, inl, inr, ⊎_elim, arith, rules}
+use Rattle.std.proofs.lemmas.Grind.{common_steps}
+use Rattle.std.proofs.lemmas.Cmp.{nat_cmp_total}
+use Rattle.std.specs.Prelude.{◌==◌, ◌^◌, ◌⊎◌, Option, Some, None, if◌then◌else◌, is_some, slice_index}
+use Rattle.std.specs.Ordering.{nat_cmp, eq_by_cmp}
+use Rattle.std.specs.FinMap.{get, contains_key, insert, remove, get-insert, get-remove, gets}
+use mathlib.Core.Logic.{dite}
+use native.Mathlib.Decide.{ℕ_discrete}
+use Rattle.map_history.specs.declared.op.Op.{Op}
+use Rattle.map_history.specs.declared.op.Op.TheVariants.{Get, Ins, Del}
+use Rattle.map_history.specs.declared.reply.Reply.TheVariants.{New, Dup, Val, Gone, Absent}
+use Rattle.map_history.specs.Keys.{key_of}
+use Rattle.map_history.specs.Replay.{Pairs, found, reply_of, map_after}
+use Rattle.map_history.specs.Words.{word_of}
+use Rattle.section_body.specs.Update.{upd}
+use Rattle.section_body.specs.declared.thunk.Thunk.{Thunk}
+use Rattle.structure_laws.proofs.Changes.{upd_same, upd_other}
+use Rattle.bucket_laws.specs.Walk.{Walk, is_del, form_for, operands_for}
+
+same_keys : (q k : ℕ) → eq_by_cmp nat_cmp q k ≡ (q == k)
+same_keys q k = grind arith
+
+get_inserted : (pairs : Pairs) (key value q : ℕ) → get (insert pairs key value) q ≡ upd (get pairs) key (Some value) q
+get_inserted pairs key value q = get-insert nat_cmp_total pairs key value q ∙ ap (λ b. cond b (Some value) (get pairs q)) (same_keys q key)
+
+get_removed : (pairs : Pairs) (key q : ℕ) → get (remove pairs key) q ≡ upd (get pairs) key None q
+get_removed pairs key q = get-remove nat_cmp_total pairs key q ∙ ap (λ b. cond b None (get pairs q)) (same_keys q key)
+
+is_there : (pairs : Pairs) (key value : ℕ) → get pairs key ≡ Some value → contains_key pairs key ≡ true
+is_there pairs key value h = ap is_some h
+
+is_missing : (pairs : Pairs) (key : ℕ) → get pairs key ≡ None → contains_key pairs key ≡ false
+is_missing pairs key h = ap is_some h
+
+absent_same : (lookup : ℕ → Option ℕ) (key q : ℕ) → lookup key ≡ None → upd lookup key None q ≡ lookup q
+absent_same lookup key q h = dite (ℕ_discrete q key) (λ e. upd_same lookup key q None e ∙ sym h ∙ ap lookup (sym e)) (λ ne. upd_other lookup key q None ne)
+
+-- the reply word of a thunk that changes nothing
+pub read_reply : (pairs : Pairs) (op : Op) (w : Walk) (there : Bool) → form_for op there ≡ 1 → (there ≡ true → get pairs (key_of op) ≡ Some w.value) → (there ≡ false → get pairs (key_of op) ≡ None)
+  → slice_index (operands_for op w there) 1 ≡ word_of (reply_of pairs op)
+read_reply pairs (Get key) w true form some none = ap (λ o. word_of (found o)) (sym (some refl))
+read_reply pairs (Get key) w false form some none = ap (λ o. word_of (found o)) (sym (none refl))
+read_reply pairs (Ins key value) w true form some none = ap (λ b. word_of (if b then Dup else New)) (sym (is_there pairs key w.value (some refl)))
+read_reply pairs (Ins key value) w false form some none = absurd (omega arith)
+read_reply pairs (Del key) w true form some none = absurd (omega arith)
+read_reply pairs (Del key) w false form some none = ap (λ b. word_of (if b then Gone else Absent)) (sym (is_missing pairs key (none refl)))
+
+-- and of one that puts a key in, or takes it out
+pub insert_reply : (pairs : Pairs) (op : Op) (there : Bool) → form_for op there ≡ 2 → get pairs (key_of op) ≡ None → 1 * 2 ^ 32 ≡ word_of (reply_of pairs op)
+insert_reply pairs (Get key) there form none = absurd (omega arith)
+insert_reply pairs (Ins key value) true form none = absurd (omega arith)
+insert_reply pairs (Ins key value) false form none = ap (λ b. word_of (if b then Dup else New)) (sym (is_missing pairs key none))
+insert_reply pairs (Del key) true form none = absurd (omega arith)
+insert_reply pairs (Del key) false form none = absurd (omega arith)
+
+pub remove_reply : (pairs : Pairs) (op : Op) (value : ℕ) → is_del op ≡ true → get pairs (key_of op) ≡ Some value → 4 * 2 ^ 32 ≡ word_of (reply_of pairs op)
+remove_reply pairs (Get key) value del some = absurd (cc)
+remove_reply pairs (Ins key v) value del some = absurd (cc)
+remove_reply pairs (Del key) value del some = ap (λ b. word_of (if b then Gone else Absent)) (sym (is_there pairs key value some))
+
+-- what is looked up after an operation
+pub read_map : (pairs : Pairs) (op : Op) (value : ℕ) (there : Bool) → form_for op there ≡ 1 → (there ≡ true → get pairs (key_of op) ≡ Some value) → (there ≡ false → get pairs (key_of op) ≡ None)
+  → (q : ℕ) → get pairs q ≡ get (map_after pairs op) q
+read_map pairs (Get key) value there form some none q = refl
+read_map pairs (Ins key v) value true form some none q = ap (λ b. get (if b then pairs else insert pairs key v) q) (sym (is_there pairs key value (some refl)))
+read_map pairs (Ins key v) value false form some none q = absurd (omega arith)
+read_map pairs (Del key) value true form some none q = absurd (omega arith)
+read_map pairs (Del key) value false form some none q = sym (get_removed pairs key q ∙ absent_same (get pairs) key q (none refl))
+
+pub insert_map : (pairs : Pairs) (op : Op) (key value : ℕ) → op ≡ Ins key value → get pairs key ≡ None → (q : ℕ) → upd (get pairs) key (Some value) q ≡ get (map_after pairs op) q
+insert_map pairs op key value e none q = sym (ap (λ op. get (map_after pairs op) q) e ∙ ap (λ b. get (if b then pairs else insert pairs key value) q) (is_missing pairs key none) ∙ get_inserted pairs key value q)
+
+pub remove_map : (pairs : Pairs) (op : Op) → is_del op ≡ true → (q : ℕ) → upd (get pairs) (key_of op) None q ≡ get (map_after pairs op) q
+remove_map pairs (Get key) del q = absurd (cc)
+remove_map pairs (Ins key value) del q = absurd (cc)
+remove_map pairs (Del key) del q = sym (get_removed pairs key q)

@@ -1,0 +1,2 @@
+//! The hash table's meaning and laws.
+#![tactic(auto)]
