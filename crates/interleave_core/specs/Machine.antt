@@ -1,0 +1,21 @@
+-- What contracts see of a machine.
+use Rattle.std.specs.Prelude.{ℕ, ◌≤◌, List, length}
+use Rattle.map_history.specs.declared.op.Request.{Request}
+use Rattle.table_words.specs.declared.layout.Layout.{Layout}
+use Rattle.table_words.specs.Limits.{IsWithinLimits}
+use Rattle.table_words.specs.Places.{size}
+use Rattle.structure_laws.specs.Meaning.{Meaning}
+use Rattle.runner_steps.specs.Asks.{sizes_for}
+use Rattle.interleave_core.specs.World.{World}
+
+pub record MachineState (T : Type 0) : Type 0 where
+  pub structure : T
+  pub layout : Layout
+  pub requests : List Request
+  pub world : World
+
+-- the machine has all words and all parts
+pub record HasShape (m : Meaning) (l : Layout) (requests : List Request) (w : World) : Type 0 where
+  pub limits : IsWithinLimits l
+  pub few : length requests ≤ 131072
+  pub words : size (sizes_for m l requests) ≤ length w.words
