@@ -1,8 +1,16 @@
 //! The pure machine.
+//!
+//! `machine` has the machine with its steps, `after` what an event makes of a part, by `outside`, `inside` and `line`, and
+//! `tray` a structure for tests.
 #![tactic(auto)]
 
 mod after;
 mod copies;
 mod inside;
 mod line;
+mod machine;
 mod outside;
+mod tray;
+
+pub use machine::{Machine, StepError};
+pub use tray::Tray;
