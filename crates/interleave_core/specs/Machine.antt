@@ -1,5 +1,5 @@
 -- What contracts see of a machine.
-use Rattle.std.specs.Prelude.{ℕ, ◌≤◌, List, length}
+use Rattle.std.specs.Prelude.{◌≡◌, ℕ, ◌≤◌, List, length}
 use Rattle.map_history.specs.declared.op.Request.{Request}
 use Rattle.table_words.specs.declared.layout.Layout.{Layout}
 use Rattle.table_words.specs.Limits.{IsWithinLimits}
@@ -19,3 +19,9 @@ pub record HasShape (m : Meaning) (l : Layout) (requests : List Request) (w : Wo
   pub limits : IsWithinLimits l
   pub few : length requests ≤ 131072
   pub words : size (sizes_for m l requests) ≤ length w.words
+
+-- the structure, the layout and the requests are as before
+pub record IsSameTable {T : Type 0} (old new : MachineState T) : Type 0 where
+  pub structure : new.structure ≡ old.structure
+  pub layout : new.layout ≡ old.layout
+  pub requests : new.requests ≡ old.requests

@@ -24,22 +24,26 @@ pub record World : Type 0 where
 abbrev pub seat_of : Layout → ℕ → ℕ
 seat_of l r = if r == l.runners then 0 else suc r
 
--- one word and one part changed
-abbrev pub moved : Sizes → World → ℕ → PartState → Spot → Access → World
-moved s w seat p spot access = record {
-  words = slice_set w.words (address s spot) (written access (slice_index w.words (address s spot)));
-  parts = slice_set w.parts seat p;
-}
+-- the keeper's part after a join: it knows also what the worker knew
+abbrev pub knowing : PartState → Option PartState → PartState
+knowing keeper None = keeper
+knowing keeper (Some worker) = knows_also keeper worker
 
--- the parts after the keeper joined this worker: the keeper knows what the worker knew, and the worker makes no further step
-abbrev pub joined_with : List PartState → PartState → ℕ → Option PartState → List PartState
-joined_with parts keeper worker None = parts
-joined_with parts keeper worker (Some q) = slice_set (slice_set parts 0 (knows_also keeper q)) (suc worker) (leaves q)
+-- the stepping runner's part at the end of the event, where these parts stood before
+abbrev pub settled_part : EventKind → PartState → List PartState → PartState
+settled_part (kinds.Join worker) p parts = knowing p (slice_get parts (suc worker))
+settled_part _ p parts = p
 
--- a join changes two parts, and no other event does
-abbrev pub settled_parts : EventKind → List PartState → PartState → List PartState
-settled_parts (kinds.Join worker) parts p = joined_with parts p worker (slice_get parts (suc worker))
-settled_parts _ parts p = parts
+-- a worker that was joined makes no further step
+abbrev pub left_by : List PartState → ℕ → Option PartState → List PartState
+left_by parts seat None = parts
+left_by parts seat (Some q) = slice_set parts seat (leaves q)
+
+-- the parts after an event, with the stepping runner's part in its place; a join changes the worker's too, and no other event
+-- changes another part
+abbrev pub put_part : List PartState → EventKind → ℕ → PartState → List PartState
+put_part parts (kinds.Join worker) seat p = left_by (slice_set parts seat p) (suc worker) (slice_get (slice_set parts seat p) (suc worker))
+put_part parts _ seat p = slice_set parts seat p
 
 -- the state after an event that asks this of this part
 abbrev pub acted : Meaning → Layout → List Request → World → ℕ → EventKind → PartState → Ask → Option World
@@ -47,8 +51,10 @@ acted m l requests w r kind p None = None
 acted m l requests w r kind p (Some x) =
     let s = sizes_for m l requests in
     let p' = after m l r kind x.0 x.1 p (slice_index w.words (address s x.0)) in
-    let w' = moved s w (seat_of l r) p' x.0 x.1 in
-    Some (record { words = w'.words; parts = settled_parts kind w'.parts p' })
+    Some (record {
+      words = slice_set w.words (address s x.0) (written x.1 (slice_index w.words (address s x.0)));
+      parts = put_part w.parts kind (seat_of l r) (settled_part kind p' w.parts);
+    })
 
 abbrev pub acts : Meaning → Layout → List Request → World → ℕ → EventKind → Option PartState → Option World
 acts m l requests w r kind None = None

@@ -10,6 +10,8 @@ mod inside;
 mod line;
 mod machine;
 mod outside;
+#[cfg(test)]
+mod tests;
 mod tray;
 
 pub use machine::{Machine, StepError};
