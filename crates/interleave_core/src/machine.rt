@@ -6,8 +6,7 @@ ghost use Rattle.interleave_core.specs.World.{happens, seat_of, settled_part, pu
 ghost use Rattle.interleave_core.specs.Machine.{IsSameTable};
 ghost use Rattle.interleave_core.specs.declared.machine.StepError.TheVariants.{NotEnabled};
 
-use crate::after::after;
-use crate::copies::part_copy;
+use part_steps::{after, part_copy};
 use map_history::Request;
 use runner_steps::{
     Descriptors, Event, EventKind, Nodes, Part, Reads, Records, Stage, Structure, sizes_for,

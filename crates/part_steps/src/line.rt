@@ -1,7 +1,7 @@
 //! What a step of a run's line makes of the part.
 ghost use Rattle.std.specs.Prelude.{◌≡◌, ◌<◌, ◌+◌, ◌^◌, length, OnOk};
 ghost use Rattle.table_words.specs.Limits.{IsWithinLimits};
-ghost use Rattle.interleave_core.specs.Parts.{slot_decided};
+ghost use Rattle.part_steps.specs.Parts.{slot_decided};
 ghost use Rattle.runner_steps.specs.AfterInRun.{with_run, opened_more, cell_loaded, cell_exchanged, number_loaded, word_committed, lock_committed, fill_loaded, fill_stored, make_committed, retire_committed, stamp_agreed, clock_raised, reply_agreed, done_set, run_over, released_more, lock_released, commit_after};
 
 use crate::inside::{agreed_on, agrees, finished_of, goes_on, is_of_lock, over_if};
