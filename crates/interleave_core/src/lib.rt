@@ -1,13 +1,10 @@
-//! The pure machine.
+//! The test structure of the machine.
 //!
-//! `machine` has the machine with its steps, and `tray` a structure for tests.
+//! `tray` is a structure for tests, with its laws. The kinds of step, what they ask and what they make of a runner's part stand in
+//! `runner_steps` and `part_steps`.
 #![tactic(auto)]
 
-mod machine;
-#[cfg(test)]
-mod tests;
 mod tray;
 
-pub use machine::{Machine, StepError};
 pub use runner_steps::{Event, EventKind, Structure};
 pub use tray::Tray;
