@@ -1,7 +1,6 @@
 -- Inserting at a head, taking out behind a link, and two views of the chains of one memory.
-use Rattle.std.proofs.Common.{◌≡◌, ◌≢◌, ℕ, zero, suc, ◌+◌, ◌*◌, ◌<◌, ◌≤◌, Bool, true, false, cond, refl, sym, ap, ◌∙◌, subst, inl, inr, ⊎_elim, arith, rules}
-use Rattle.std.proofs.lemmas.Grind.{common_steps}
-use Rattle.std.specs.Prelude.{◌==◌, ◌&&◌, ◌⊎◌, Option, Some, None}
+use Rattle.std.proofs.Common.{◌≡◌, ◌≢◌, ℕ, zero, suc, ◌<◌, ◌≤◌, Bool, true, false, refl, sym, ap, ◌∙◌, subst, arith}
+use Rattle.std.specs.Prelude.{Option, Some, None}
 use mathlib.Core.Logic.{dite}
 use native.Mathlib.Decide.{ℕ_discrete}
 use Rattle.section_body.specs.Update.{upd}
@@ -9,102 +8,105 @@ use Rattle.bucket_laws.specs.Chain.{Nodes, with_head, with_next, IsBeside, Chain
 
 -- a slot in no chain links the first node of its bucket and becomes the head; its rank is above the bucket's
 pub insert : (bucket : ℕ → ℕ) (n : Nodes) (on : ℕ → Bool) (rank : ℕ → ℕ) (chains : Chains bucket n on rank) (i t top : ℕ)
-  → on t ≡ false → bucket (n.key t) ≡ i → n.next t ≡ n.head i → ((u : ℕ) → on u ≡ true → bucket (n.key u) ≡ i → rank u < top) → ((u : ℕ) → on u ≡ true → n.key u ≢ n.key t)
-  → Chains bucket (with_head n i (suc t)) (upd on t true) (upd rank t top)
+    → on t ≡ false → bucket (n.key t) ≡ i → n.next t ≡ n.head i → ((u : ℕ) → on u ≡ true → bucket (n.key u) ≡ i → rank u < top) → ((u : ℕ) → on u ≡ true → n.key u ≢ n.key t)
+    → Chains bucket (with_head n i (suc t)) (upd on t true) (upd rank t top)
 insert bucket n on rank chains i t top out beside first high new = record {
-    head_on = grind arith;
-    head_top = grind arith;
-    head_none = grind arith;
-    next_on = grind arith;
-    next_top = grind arith;
-    next_none = grind arith;
-    rank_once = grind arith;
-    key_once = grind arith;
-  }
+  head_on = grind arith;
+  head_top = grind arith;
+  head_none = grind arith;
+  next_on = grind arith;
+  next_top = grind arith;
+  next_none = grind arith;
+  rank_once = grind arith;
+  key_once = grind arith;
+}
 
 -- the slot behind the head of its bucket leaves the chain
 pub remove_first : (bucket : ℕ → ℕ) (n : Nodes) (on : ℕ → Bool) (rank : ℕ → ℕ) (chains : Chains bucket n on rank) (i t : ℕ)
-  → n.head i ≡ suc t → Chains bucket (with_head n i (n.next t)) (upd on t false) rank
+    → n.head i ≡ suc t → Chains bucket (with_head n i (n.next t)) (upd on t false) rank
 remove_first bucket n on rank chains i t link =
-  let here = chains.head_on i t link in
-  let top = chains.head_top i t in
-  let next_on = chains.next_on t in
-  let next_top = chains.next_top t in
-  let next_none = chains.next_none t in
-  let once = chains.rank_once t in
-  record {
-    head_on = λ j u h. grind arith;
-    head_top = λ j u v h on_v of_v. let below = top v link in let after = next_top u v here.0 in let same = once v here.0 in grind arith;
-    head_none = λ j u h on_u. let below = top u link in let last = next_none u here.0 in let same = once u here.0 in grind arith;
-    next_on = grind arith;
-    next_top = grind arith;
-    next_none = grind arith;
-    rank_once = grind arith;
-    key_once = grind arith;
-  }
+    let here = chains.head_on i t link in
+    let top = chains.head_top i t in
+    let next_on = chains.next_on t in
+    let next_top = chains.next_top t in
+    let next_none = chains.next_none t in
+    let once = chains.rank_once t in
+    record {
+      head_on = λ j u h. grind arith;
+      head_top = λ j u v h on_v of_v. let below = top v link in let after = next_top u v here.0 in let same = once v here.0 in grind arith;
+      head_none = λ j u h on_u. let below = top u link in let last = next_none u here.0 in let same = once u here.0 in grind arith;
+      next_on = grind arith;
+      next_top = grind arith;
+      next_none = grind arith;
+      rank_once = grind arith;
+      key_once = grind arith;
+    }
 
 -- the slot behind a node leaves the chain
 pub remove_next : (bucket : ℕ → ℕ) (n : Nodes) (on : ℕ → Bool) (rank : ℕ → ℕ) (chains : Chains bucket n on rank) (p t : ℕ)
-  → on p ≡ true → n.next p ≡ suc t → Chains bucket (with_next n p (n.next t)) (upd on t false) rank
+    → on p ≡ true → n.next p ≡ suc t → Chains bucket (with_next n p (n.next t)) (upd on t false) rank
 remove_next bucket n on rank chains p t on_p link =
-  let here = chains.next_on p t on_p link in
-  let top = chains.next_top p t in
-  let next_on = chains.next_on t in
-  let next_top = chains.next_top t in
-  let next_none = chains.next_none t in
-  let once = chains.rank_once t in
-  record {
-    head_on = λ j u h. grind arith;
-    head_top = grind arith;
-    head_none = grind arith;
-    next_on = λ s u on_s h. grind arith;
-    next_top = λ s u v on_s h on_v beside lower. let below = top v on_p link in let after = next_top u v here.0 in let same = once v here.0 in grind arith;
-    next_none = λ s u on_s h on_u beside. let below = top u on_p link in let last = next_none u here.0 in let same = once u here.0 in grind arith;
-    rank_once = grind arith;
-    key_once = grind arith;
-  }
+    let here = chains.next_on p t on_p link in
+    let top = chains.next_top p t in
+    let next_on = chains.next_on t in
+    let next_top = chains.next_top t in
+    let next_none = chains.next_none t in
+    let once = chains.rank_once t in
+    record {
+      head_on = λ j u h. grind arith;
+      head_top = grind arith;
+      head_none = grind arith;
+      next_on = λ s u on_s h. grind arith;
+      next_top = λ s u v on_s h on_v beside lower. let below = top v on_p link in let after = next_top u v here.0 in let same = once v here.0 in grind arith;
+      next_none = λ s u on_s h on_u beside. let below = top u on_p link in let last = next_none u here.0 in let same = once u here.0 in grind arith;
+      rank_once = grind arith;
+      key_once = grind arith;
+    }
 
 -- the contents after an insert
 pub insert_contents : (n : Nodes) (on : ℕ → Bool) (lookup : ℕ → Option ℕ) (contents : Contents n on lookup) (i t : ℕ) → on t ≡ false → lookup (n.key t) ≡ None
-  → Contents (with_head n i (suc t)) (upd on t true) (upd lookup (n.key t) (Some (n.value t)))
+    → Contents (with_head n i (suc t)) (upd on t true) (upd lookup (n.key t) (Some (n.value t)))
 insert_contents n on lookup contents i t out none = record {
-    pair = λ u on_u. grind arith;
-    slot = λ key value h. dite (ℕ_discrete key (n.key t)) (λ e. (t, grind arith, sym e))
+  pair = λ u on_u. grind arith;
+  slot = λ key value h. dite (ℕ_discrete key (n.key t)) (λ e. (t, grind arith, sym e))
       (λ ne. let there = contents.slot key value (sym (other lookup (n.key t) key (Some (n.value t)) ne) ∙ h) in (there.0, (let on_there = there.1 in grind arith), there.2));
-  }
+}
   where
     other : (f : ℕ → Option ℕ) (k x : ℕ) (v : Option ℕ) → x ≢ k → upd f k v x ≡ f x
     other f k x v ne = grind arith
 
 -- the contents after a slot has left its chain, whatever the links are then
 pub remove_contents : (n n' : Nodes) (on : ℕ → Bool) (lookup : ℕ → Option ℕ) (contents : Contents n on lookup) (t : ℕ) → n'.key ≡ n.key → n'.value ≡ n.value → on t ≡ true
-  → ((u : ℕ) → on u ≡ true → n.key u ≡ n.key t → u ≡ t) → Contents n' (upd on t false) (upd lookup (n.key t) None)
+    → ((u : ℕ) → on u ≡ true → n.key u ≡ n.key t → u ≡ t) → Contents n' (upd on t false) (upd lookup (n.key t) None)
 remove_contents n n' on lookup contents t keys values on_t once = record {
-    pair = λ u h. let still = stays on t u h in let ne : n.key u ≢ n.key t = λ e. still.1 (once u still.0 e) in
+  pair = λ u h. let still = stays on t u h in let ne : n.key u ≢ n.key t = λ e. still.1 (once u still.0 e) in
       subst (λ f. upd lookup (n.key t) None (f u) ≡ Some (n'.value u)) (sym keys)
-        (subst (λ g. upd lookup (n.key t) None (n.key u) ≡ Some (g u)) (sym values) (other lookup (n.key t) (n.key u) None ne ∙ contents.pair u still.0));
-    slot = λ key value h. let left = found lookup (n.key t) key value h in let there = contents.slot key value left.1 in
+      (subst (λ g. upd lookup (n.key t) None (n.key u) ≡ Some (g u)) (sym values) (other lookup (n.key t) (n.key u) None ne ∙ contents.pair u still.0));
+  slot = λ key value h. let left = found lookup (n.key t) key value h in let there = contents.slot key value left.1 in
       (there.0, keeps on t there.0 (λ e. left.0 (sym there.2 ∙ ap n.key e)) there.1, ap (λ f. f there.0) keys ∙ there.2);
-  }
+}
   where
     other : (f : ℕ → Option ℕ) (k x : ℕ) (v : Option ℕ) → x ≢ k → upd f k v x ≡ f x
     other f k x v ne = grind arith
+
     stays : (on : ℕ → Bool) (t u : ℕ) → upd on t false u ≡ true → (on u ≡ true) × (u ≢ t)
     stays on t u h = (grind arith, λ e. grind arith)
+
     keeps : (on : ℕ → Bool) (t u : ℕ) → u ≢ t → on u ≡ true → upd on t false u ≡ true
     keeps on t u ne h = grind arith
+
     found : (lookup : ℕ → Option ℕ) (k x v : ℕ) → upd lookup k None x ≡ Some v → (x ≢ k) × (lookup x ≡ Some v)
     found lookup k x v h = dite (ℕ_discrete x k) (λ e. absurd (grind arith)) (λ ne. (ne, sym (other lookup k x None ne) ∙ h))
 
 -- a slot at or below one that stands in both views stands in the second
 below : (bucket : ℕ → ℕ) (n : Nodes) (on on' : ℕ → Bool) (rank rank' : ℕ → ℕ) (chains : Chains bucket n on rank) (chains' : Chains bucket n on' rank') (u : ℕ) → on u ≡ true
-  → (bound t : ℕ) → rank t ≤ bound → on t ≡ true → on' t ≡ true → IsBeside bucket n t u → rank u ≤ rank t → on' u ≡ true
+    → (bound t : ℕ) → rank t ≤ bound → on t ≡ true → on' t ≡ true → IsBeside bucket n t u → rank u ≤ rank t → on' u ≡ true
 below bucket n on on' rank rank' chains chains' u on_u zero t le on_t on_t' beside lower = subst (λ z. on' z ≡ true) (chains.rank_once t u on_t on_u beside (omega arith)) on_t'
 below bucket n on on' rank rank' chains chains' u on_u (suc bound) t le on_t on_t' beside lower =
-  dite (ℕ_discrete (rank t) (rank u)) (λ e. subst (λ z. on' z ≡ true) (chains.rank_once t u on_t on_u beside e) on_t')
+    dite (ℕ_discrete (rank t) (rank u)) (λ e. subst (λ z. on' z ≡ true) (chains.rank_once t u on_t on_u beside e) on_t')
     (λ ne. link_cases (n.next t) (λ none. absurd (let last = chains.next_none t u on_t none on_u (sym beside) in omega arith))
-      (λ c link. let there = chains.next_on t c on_t link in let there' = chains'.next_on t c on_t' link in let lower' = chains.next_top t c u on_t link on_u (sym beside) (omega arith) in
-        below bucket n on on' rank rank' chains chains' u on_u bound c (let falls = there.2 in omega arith) there.0 there'.0 (there.1 ∙ beside) lower'))
+    (λ c link. let there = chains.next_on t c on_t link in let there' = chains'.next_on t c on_t' link in let lower' = chains.next_top t c u on_t link on_u (sym beside) (omega arith) in
+    below bucket n on on' rank rank' chains chains' u on_u bound c (let falls = there.2 in omega arith) there.0 there'.0 (there.1 ∙ beside) lower'))
   where
     link_cases : {A : Type 0} → (link : ℕ) → (link ≡ 0 → A) → ((c : ℕ) → link ≡ suc c → A) → A
     link_cases zero none some = none refl
@@ -117,4 +119,4 @@ same_on bucket n on on' rank rank' chains chains' u on_u = split (n.head (bucket
     split : (link : ℕ) → n.head (bucket (n.key u)) ≡ link → on' u ≡ true
     split zero none = absurd (chains.head_none (bucket (n.key u)) u none on_u refl)
     split (suc t) link = let there = chains.head_on _ t link in let there' = chains'.head_on _ t link in
-      below bucket n on on' rank rank' chains chains' u on_u (rank t) t (omega arith) there.0 there'.0 there.1 (chains.head_top _ t u link on_u refl)
+        below bucket n on on' rank rank' chains chains' u on_u (rank t) t (omega arith) there.0 there'.0 there.1 (chains.head_top _ t u link on_u refl)

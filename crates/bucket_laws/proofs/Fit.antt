@@ -1,10 +1,10 @@
 -- What a thunk that fits a walk has for operands.
-use Rattle.std.proofs.Common.{◌≡◌, ◌≢◌, ℕ, zero, suc, ◌+◌, ◌*◌, ◌<◌, ◌≤◌, Bool, true, false, cond, refl, sym, ap, ◌∙◌, subst, inl, inr, arith, rules}
-use Rattle.std.specs.Prelude.{◌==◌, ◌&&◌, ◌^◌, ◌⊎◌, Option, Some, None, List, [], ◌∷◌, slice_index}
+use Rattle.std.proofs.Common.{◌≡◌, ℕ, ◌+◌, Bool, true, false, cond, refl, sym, ap, ◌∙◌, subst, arith}
+use Rattle.std.specs.Prelude.{◌==◌, ◌&&◌, List, [], ◌∷◌, slice_index}
 use Rattle.map_history.specs.declared.op.Op.{Op}
 use Rattle.map_history.specs.declared.op.Op.TheVariants.{Get, Ins, Del}
 use Rattle.map_history.specs.Keys.{key_of}
-use Rattle.section_body.specs.Bucket.{bucket_lock, operand, is_small}
+use Rattle.section_body.specs.Bucket.{bucket_lock, operand, is_small, fits_insert, fits_remove}
 use Rattle.section_body.specs.declared.thunk.Thunk.{Thunk}
 use Rattle.bucket_laws.specs.Walk.{Stage, AtEdition, AtLink, AtKey, AtValue, AtNext, AtLock, AtEnd, Refused, Walk, is_del, is_end, same_numbers, form_for, operands_for, fits_walk}
 use Rattle.bucket_laws.specs.Buckets.{Form, Read, Insert, Remove, Empty, form_of}
@@ -33,7 +33,7 @@ same_list (x ∷ xs) (y ∷ ys) h = let both = both_true (x == y) (same_numbers 
 
 -- the number of each form
 form_number : (a p b q c r : Bool) (f : Form) → cond a (cond p Read Empty) (cond b (cond q Insert Empty) (cond c (cond r Remove Empty) Empty)) ≡ f
-  → ((f ≡ Insert) → (b ≡ true) × (q ≡ true)) × ((f ≡ Remove) → (c ≡ true) × (r ≡ true)) × ((f ≡ Read) → (a ≡ true) × (p ≡ true))
+    → ((f ≡ Insert) → (b ≡ true) × (q ≡ true)) × ((f ≡ Remove) → (c ≡ true) × (r ≡ true)) × ((f ≡ Read) → (a ≡ true) × (p ≡ true))
 form_number true true b q c r f h = (λ e. absurd (cc), λ e. absurd (cc), λ e. (refl, refl))
 form_number true false b q c r f h = (λ e. absurd (cc), λ e. absurd (cc), λ e. absurd (cc))
 form_number false p true true c r f h = (λ e. (refl, refl), λ e. absurd (cc), λ e. absurd (cc))
@@ -42,10 +42,10 @@ form_number false p false q true true f h = (λ e. absurd (cc), λ e. (refl, ref
 form_number false p false q true false f h = (λ e. absurd (cc), λ e. absurd (cc), λ e. absurd (cc))
 form_number false p false q false r f h = (λ e. absurd (cc), λ e. absurd (cc), λ e. absurd (cc))
 
-numbers_of : (t : Thunk) (f : Form) → form_of t ≡ f → ((f ≡ Insert) → ((t.form == 2) ≡ true) × ((is_small (t.lock + 2) && is_small (operand t 1) && is_small (operand t 2) && is_small (operand t 3)) ≡ true))
-  × ((f ≡ Remove) → ((t.form == 3) ≡ true) × ((is_small (t.lock + 1) && is_small (operand t 1) && is_small (operand t 2) && is_small (operand t 3)) ≡ true)) × ((f ≡ Read) → ((t.form == 1) ≡ true) × (is_small (t.lock + 1) ≡ true))
-numbers_of t f h = form_number (t.form == 1) (is_small (t.lock + 1)) (t.form == 2) (is_small (t.lock + 2) && is_small (operand t 1) && is_small (operand t 2) && is_small (operand t 3)) (t.form == 3)
-  (is_small (t.lock + 1) && is_small (operand t 1) && is_small (operand t 2) && is_small (operand t 3)) f h
+numbers_of : (t : Thunk) (f : Form) → form_of t ≡ f → ((f ≡ Insert) → ((t.form == 2) ≡ true) × ((fits_insert t) ≡ true))
+    × ((f ≡ Remove) → ((t.form == 3) ≡ true) × ((fits_remove t) ≡ true)) × ((f ≡ Read) → ((t.form == 1) ≡ true) × (is_small (t.lock + 1) ≡ true))
+numbers_of t f h = form_number (t.form == 1) (is_small (t.lock + 1)) (t.form == 2) (fits_insert t) (t.form == 3)
+    (fits_remove t) f h
 
 pub insert_number : (t : Thunk) → form_of t ≡ Insert → t.form ≡ 2
 insert_number t h = equal_of t.form 2 ((numbers_of t Insert h).0 refl).0
@@ -71,14 +71,14 @@ first_operand (Ins key value) w false = refl
 first_operand (Del key) w true = refl
 first_operand (Del key) w false = refl
 
-insert_operands : (op : Op) (w : Walk) (found : Bool) → form_for op found ≡ 2 → (found ≡ false) × InsertFit op w (operands_for op w found)
+pub insert_operands : (op : Op) (w : Walk) (found : Bool) → form_for op found ≡ 2 → (found ≡ false) × InsertFit op w (operands_for op w found)
 insert_operands (Get key) w found h = absurd (omega arith)
 insert_operands (Ins key value) w true h = absurd (omega arith)
 insert_operands (Ins key value) w false h = (refl, (key, value, refl, refl, refl, refl))
 insert_operands (Del key) w true h = absurd (omega arith)
 insert_operands (Del key) w false h = absurd (omega arith)
 
-remove_operands : (op : Op) (w : Walk) (found : Bool) → form_for op found ≡ 3 → (found ≡ true) × RemoveFit op w (operands_for op w found)
+pub remove_operands : (op : Op) (w : Walk) (found : Bool) → form_for op found ≡ 3 → (found ≡ true) × RemoveFit op w (operands_for op w found)
 remove_operands (Get key) w found h = absurd (omega arith)
 remove_operands (Ins key value) w true h = absurd (omega arith)
 remove_operands (Ins key value) w false h = absurd (omega arith)
@@ -98,18 +98,18 @@ module _ (buckets : ℕ) (bucket : ℕ → ℕ) where
 
   pub fit_of : (op : Op) (w : Walk) (t : Thunk) → fits_walk buckets bucket op w t ≡ true → IsFit op w t
   fit_of op w t h =
-    let a = both_true _ _ h in
-    let b = both_true _ _ a.1 in
-    let c = both_true _ _ b.1 in
-    let d = both_true _ _ c.1 in
-    let form : t.form ≡ form_for op w.found = equal_of _ _ b.0 in
-    let operands : t.operands ≡ operands_for op w w.found = same_list _ _ d.1 in
-    record {
-      stage = at_end w.stage a.0;
-      form = form;
-      lock = equal_of _ _ c.0;
-      operands = operands;
-      edition = ap (λ numbers. slice_index numbers 0) operands ∙ first_operand op w w.found;
-      insert = λ e. let fit = insert_operands op w w.found (sym form ∙ insert_number t e) in (fit.0, subst (InsertFit op w) (sym operands) fit.1);
-      remove = λ e. let fit = remove_operands op w w.found (sym form ∙ remove_number t e) in (fit.0, subst (RemoveFit op w) (sym operands) fit.1);
-    }
+      let a = both_true _ _ h in
+      let b = both_true _ _ a.1 in
+      let c = both_true _ _ b.1 in
+      let d = both_true _ _ c.1 in
+      let form : t.form ≡ form_for op w.found = equal_of _ _ b.0 in
+      let operands : t.operands ≡ operands_for op w w.found = same_list _ _ d.1 in
+      record {
+        stage = at_end w.stage a.0;
+        form = form;
+        lock = equal_of _ _ c.0;
+        operands = operands;
+        edition = ap (λ numbers. slice_index numbers 0) operands ∙ first_operand op w w.found;
+        insert = λ e. let fit = insert_operands op w w.found (sym form ∙ insert_number t e) in (fit.0, subst (InsertFit op w) (sym operands) fit.1);
+        remove = λ e. let fit = remove_operands op w w.found (sym form ∙ remove_number t e) in (fit.0, subst (RemoveFit op w) (sym operands) fit.1);
+      }

@@ -1,22 +1,22 @@
 -- The steps of the hash table's bodies, found by their kind.
-use Rattle.std.proofs.Common.{◌≡◌, ◌≢◌, ℕ, zero, suc, ◌+◌, ◌<◌, ◌≤◌, Bool, true, false, cond, refl, sym, ap, ◌∙◌, subst, inl, inr, arith, rules}
-use Rattle.std.specs.Prelude.{◌==◌, ◌&&◌, ◌*◌, ◌^◌, ◌⊎◌, Option, Some, None, List, [], ◌∷◌, slice_get}
-use Rattle.section_body.specs.Bucket.{operand, is_small, read_steps, insert_steps, remove_steps, bucket_steps}
+use Rattle.std.proofs.Common.{◌≡◌, ℕ, ◌+◌, Bool, true, false, cond, refl, sym, ap, ◌∙◌, inl, inr, arith}
+use Rattle.std.specs.Prelude.{◌==◌, ◌*◌, ◌^◌, ◌⊎◌, Some, [], ◌∷◌, slice_get}
+use Rattle.section_body.specs.Bucket.{operand, is_small, fits_insert, fits_remove, read_steps, insert_steps, remove_steps, bucket_steps}
 use Rattle.section_body.specs.declared.value.Value.{Value}
-use Rattle.section_body.specs.declared.value.Value.TheVariants.{Const, Of, Made}
+use Rattle.section_body.specs.declared.value.Value.TheVariants.{Const, Made}
 use Rattle.section_body.specs.declared.value.Init.{Init}
 use Rattle.section_body.specs.declared.step.Step.{Step}
-use Rattle.section_body.specs.declared.step.Step.TheVariants.{Load, Want, Fresh, Take, Make, Stamp, Store, Retire, Answer}
+use Rattle.section_body.specs.declared.step.Step.TheVariants.{Load, Take, Make, Stamp, Store, Retire, Answer}
 use Rattle.section_body.specs.declared.thunk.Thunk.{Thunk}
 use Rattle.bucket_laws.specs.Buckets.{Form, Read, Insert, Remove, Empty, form_of, body_of}
 
 -- a body goes by its form
 pub steps_of : (t : Thunk) → bucket_steps t ≡ body_of (form_of t) t
-steps_of t = go (t.form == 1) (is_small (t.lock + 1)) (t.form == 2) (is_small (t.lock + 2) && is_small (operand t 1) && is_small (operand t 2) && is_small (operand t 3)) (t.form == 3)
-    (is_small (t.lock + 1) && is_small (operand t 1) && is_small (operand t 2) && is_small (operand t 3))
+steps_of t = go (t.form == 1) (is_small (t.lock + 1)) (t.form == 2) (fits_insert t) (t.form == 3)
+    (fits_remove t)
   where
     go : (a p b q c r : Bool) → cond a (cond p (read_steps t) []) (cond b (cond q (insert_steps t) []) (cond c (cond r (remove_steps t) []) []))
-      ≡ body_of (cond a (cond p Read Empty) (cond b (cond q Insert Empty) (cond c (cond r Remove Empty) Empty))) t
+        ≡ body_of (cond a (cond p Read Empty) (cond b (cond q Insert Empty) (cond c (cond r Remove Empty) Empty))) t
     go true true b q c r = refl
     go true false b q c r = refl
     go false p true true c r = refl
@@ -61,7 +61,7 @@ load_in Empty t j p r h = absurd (empty_step t j (Load p r) h)
 
 abbrev pub StoreCase : Form → Thunk → ℕ → ℕ → Value → Type 0
 StoreCase f t j r v = ((f ≡ Insert) × (j ≡ 7) × (r ≡ 1) × (v ≡ Made 2)) ⊎ ((f ≡ Insert) × (j ≡ 8) × (r ≡ 0) × (v ≡ Const 0))
-  ⊎ ((f ≡ Remove) × (j ≡ 6) × (r ≡ 1) × (v ≡ Const (operand t 3))) ⊎ ((f ≡ Remove) × (j ≡ 7) × (r ≡ 0) × (v ≡ Const 0))
+    ⊎ ((f ≡ Remove) × (j ≡ 6) × (r ≡ 1) × (v ≡ Const (operand t 3))) ⊎ ((f ≡ Remove) × (j ≡ 7) × (r ≡ 0) × (v ≡ Const 0))
 
 read_store : (t : Thunk) (j r : ℕ) (v : Value) → StepIs Read t j (Store r v) → ⊥
 read_store t j r v h = grind arith

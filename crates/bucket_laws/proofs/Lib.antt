@@ -1,9 +1,17 @@
 pub mod Chain
-mod Fit
-mod Forms
-mod Maps
-mod Places
-mod Sections
-mod TableGives
-mod TableTurn
-mod Walks
+pub mod Elsewhere
+pub mod Fit
+pub mod Forms
+pub mod Maps
+pub mod NodeChanges
+pub mod Places
+pub mod Sections
+pub mod TableGives
+pub mod TableKeeps
+pub mod TableLaws
+pub mod TableShape
+pub mod TableSteps
+pub mod TableStores
+pub mod TableTurn
+pub mod WalkFacts
+pub mod Walks

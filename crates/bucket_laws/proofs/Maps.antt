@@ -1,20 +1,18 @@
 -- The map after an operation, as a look-up; and the reply, by what is looked up.
-use Rattle.std.proofs.Common.{◌≡◌, ◌≢◌, ℕ, zero, suc, ◌+◌, ◌*◌, ◌<◌, ◌≤◌, Bool, true, false, cond, refl, sym, ap, ◌∙◌, subst, inl, inr, ⊎_elim, arith, rules}
-use Rattle.std.proofs.lemmas.Grind.{common_steps}
+use Rattle.std.proofs.Common.{◌≡◌, ℕ, ◌*◌, Bool, true, false, cond, refl, sym, ap, ◌∙◌, arith}
 use Rattle.std.proofs.lemmas.Cmp.{nat_cmp_total}
-use Rattle.std.specs.Prelude.{◌==◌, ◌^◌, ◌⊎◌, Option, Some, None, if◌then◌else◌, is_some, slice_index}
+use Rattle.std.specs.Prelude.{◌==◌, ◌^◌, Option, Some, None, if◌then◌else◌, is_some, slice_index}
 use Rattle.std.specs.Ordering.{nat_cmp, eq_by_cmp}
-use Rattle.std.specs.FinMap.{get, contains_key, insert, remove, get-insert, get-remove, gets}
+use Rattle.std.specs.FinMap.{get, contains_key, insert, remove, get-insert, get-remove}
 use mathlib.Core.Logic.{dite}
 use native.Mathlib.Decide.{ℕ_discrete}
 use Rattle.map_history.specs.declared.op.Op.{Op}
 use Rattle.map_history.specs.declared.op.Op.TheVariants.{Get, Ins, Del}
-use Rattle.map_history.specs.declared.reply.Reply.TheVariants.{New, Dup, Val, Gone, Absent}
+use Rattle.map_history.specs.declared.reply.Reply.TheVariants.{New, Dup, Gone, Absent}
 use Rattle.map_history.specs.Keys.{key_of}
 use Rattle.map_history.specs.Replay.{Pairs, found, reply_of, map_after}
 use Rattle.map_history.specs.Words.{word_of}
 use Rattle.section_body.specs.Update.{upd}
-use Rattle.section_body.specs.declared.thunk.Thunk.{Thunk}
 use Rattle.structure_laws.proofs.Changes.{upd_same, upd_other}
 use Rattle.bucket_laws.specs.Walk.{Walk, is_del, form_for, operands_for}
 
@@ -38,7 +36,7 @@ absent_same lookup key q h = dite (ℕ_discrete q key) (λ e. upd_same lookup ke
 
 -- the reply word of a thunk that changes nothing
 pub read_reply : (pairs : Pairs) (op : Op) (w : Walk) (there : Bool) → form_for op there ≡ 1 → (there ≡ true → get pairs (key_of op) ≡ Some w.value) → (there ≡ false → get pairs (key_of op) ≡ None)
-  → slice_index (operands_for op w there) 1 ≡ word_of (reply_of pairs op)
+    → slice_index (operands_for op w there) 1 ≡ word_of (reply_of pairs op)
 read_reply pairs (Get key) w true form some none = ap (λ o. word_of (found o)) (sym (some refl))
 read_reply pairs (Get key) w false form some none = ap (λ o. word_of (found o)) (sym (none refl))
 read_reply pairs (Ins key value) w true form some none = ap (λ b. word_of (if b then Dup else New)) (sym (is_there pairs key w.value (some refl)))
@@ -61,7 +59,7 @@ remove_reply pairs (Del key) value del some = ap (λ b. word_of (if b then Gone 
 
 -- what is looked up after an operation
 pub read_map : (pairs : Pairs) (op : Op) (value : ℕ) (there : Bool) → form_for op there ≡ 1 → (there ≡ true → get pairs (key_of op) ≡ Some value) → (there ≡ false → get pairs (key_of op) ≡ None)
-  → (q : ℕ) → get pairs q ≡ get (map_after pairs op) q
+    → (q : ℕ) → get pairs q ≡ get (map_after pairs op) q
 read_map pairs (Get key) value there form some none q = refl
 read_map pairs (Ins key v) value true form some none q = ap (λ b. get (if b then pairs else insert pairs key v) q) (sym (is_there pairs key value (some refl)))
 read_map pairs (Ins key v) value false form some none q = absurd (omega arith)

@@ -1,6 +1,6 @@
 -- Places of buckets and of nodes.
-use Rattle.std.proofs.Common.{◌≡◌, ◌≢◌, ℕ, zero, suc, ◌+◌, ◌*◌, ◌<◌, ◌≤◌, Bool, true, false, cond, refl, sym, ap, ◌∙◌, subst, inl, inr, ⊎_elim, arith, rules}
-use Rattle.std.specs.Prelude.{◌==◌, ◌&&◌, ◌-◌, ◌/◌, ◌%◌, ◌⊎◌, nat_lt}
+use Rattle.std.proofs.Common.{◌≡◌, ◌≢◌, ℕ, ◌+◌, ◌*◌, ◌<◌, ◌≤◌, Bool, true, false, cond, sym, ap, ◌∙◌, arith}
+use Rattle.std.specs.Prelude.{◌==◌, ◌-◌, ◌/◌, ◌%◌, nat_lt}
 
 pub lt_true : (a b : ℕ) → a < b → nat_lt a b ≡ true
 lt_true a b h = grind arith
@@ -73,8 +73,8 @@ module _ (buckets : ℕ) where
 
   pub guard_low : (lock : ℕ → ℕ) (i r : ℕ) → i < buckets → r < 3 → guard_place lock (3 * i + r) ≡ 3 * i
   guard_low lock i r low small = ap (λ b. cond b (3 * i + r - (3 * i + r) % 3) (lock ((3 * i + r - 3 * buckets) / 5))) (lt_true (3 * i + r) (3 * buckets) (place_low i buckets r low small))
-    ∙ (let rest = third i r small in omega arith)
+      ∙ (let rest = third i r small in omega arith)
 
   pub guard_node : (lock : ℕ → ℕ) (t r : ℕ) → r < 5 → guard_place lock (3 * buckets + 5 * t + r) ≡ lock t
   guard_node lock t r small = ap (λ b. cond b (3 * buckets + 5 * t + r - (3 * buckets + 5 * t + r) % 3) (lock ((3 * buckets + 5 * t + r - 3 * buckets) / 5))) (lt_false (3 * buckets + 5 * t + r) (3 * buckets) (omega arith))
-    ∙ ap lock (slot_at (3 * buckets) t r small)
+      ∙ ap lock (slot_at (3 * buckets) t r small)

@@ -1,22 +1,19 @@
 -- What holds of an open section of the hash table.
-use Rattle.std.proofs.Common.{◌≡◌, ◌≢◌, ℕ, zero, suc, ◌+◌, ◌*◌, ◌<◌, ◌≤◌, Bool, true, false, cond, refl, sym, ap, ◌∙◌, subst, inl, inr, ⊎_elim, arith, rules}
-use Rattle.std.specs.Prelude.{◌==◌, ◌&&◌, ◌-◌, ◌⊎◌, Option, Some, None, List, [], ◌∷◌, slice_get, slice_index}
+use Rattle.std.proofs.Common.{◌≡◌, ℕ, suc, ◌+◌, ◌≤◌, refl, sym, ap, ◌∙◌, subst, inl, ⊎_elim, arith}
+use Rattle.std.specs.Prelude.{Some, slice_get}
 use mathlib.Core.Logic.{dite}
 use native.Mathlib.Decide.{ℕ_discrete}
-use Rattle.map_history.specs.declared.op.Op.{Op}
 use Rattle.map_history.specs.Keys.{key_of}
 use Rattle.section_body.specs.Word.{value_of}
-use Rattle.section_body.specs.Bucket.{bucket_lock, bucket_edition, bucket_head, operand, bucket_steps}
+use Rattle.section_body.specs.Bucket.{bucket_lock, bucket_edition, bucket_head, operand}
 use Rattle.section_body.specs.declared.value.Value.{Value}
-use Rattle.section_body.specs.declared.step.Step.{Step}
 use Rattle.section_body.specs.declared.step.Step.TheVariants.{Load, Want, Store}
-use Rattle.section_body.specs.declared.thunk.Thunk.{Thunk}
 use Rattle.table_words.specs.declared.layout.Layout.{Layout}
 use Rattle.structure_laws.specs.Scene.{Section, Scene}
-use Rattle.structure_laws.specs.Sections.{Here, IsStep, Holds}
+use Rattle.structure_laws.specs.Sections.{Here, IsStep}
 use Rattle.structure_laws.specs.Sound.{Sound}
-use Rattle.bucket_laws.specs.Walk.{Stage, AtEnd, Walk, is_del, cell_at}
-use Rattle.bucket_laws.specs.Buckets.{Form, Read, Insert, Remove, Empty, form_of, body_of, IsFound, IsLinkOf, IsMissing, IsReached, Knows, IsPending, IsWalked, walk_of, BucketsKept, table}
+use Rattle.bucket_laws.specs.Walk.{AtEnd, Walk, cell_at}
+use Rattle.bucket_laws.specs.Buckets.{Form, Read, Insert, Remove, form_of, body_of, IsLinkOf, IsMissing, Knows, IsPending, walk_of, BucketsKept, table}
 use Rattle.bucket_laws.proofs.Forms.{step_in, read_stores, insert_stores, remove_stores}
 use Rattle.bucket_laws.proofs.Fit.{IsFit, fit_of}
 
@@ -52,11 +49,11 @@ module _ (buckets : ℕ) (bucket : ℕ → ℕ) (layout : Layout) (s : Scene) (s
 
   -- the edition that the walk read stands until the section stores it
   pub edition_now : (d : ℕ) (x : Section) (f : Form) → Here s d x → form_of x.thunk ≡ f → slice_get (body_of f x.thunk) 0 ≡ Some (Load (x.thunk.lock + 1) 0) → slice_get (body_of f x.thunk) 1 ≡ Some (Want 0 (operand x.thunk 0))
-    → 2 ≤ x.at → ((i : ℕ) (v : Value) → IsStep (table buckets bucket) x i (Store 0 v) → x.at ≤ i) → s.cells (bucket_edition (bucket_of x)) ≡ (walk_at x).edition
+      → 2 ≤ x.at → ((i : ℕ) (v : Value) → IsStep (table buckets bucket) x i (Store 0 v) → x.at ≤ i) → s.cells (bucket_edition (bucket_of x)) ≡ (walk_at x).edition
   edition_now d x f here form load want past unstored =
-    let loaded = sound.loaded d x here 0 (x.thunk.lock + 1) 0 (omega arith) (step_in x.thunk f 0 form ∙ load) unstored in
-    let wanted = sound.wanted d x here 1 0 (operand x.thunk 0) (omega arith) (step_in x.thunk f 1 form ∙ want) in
-    ap s.cells (place (fit d x here).lock) ∙ loaded ∙ wanted ∙ (fit d x here).edition
+      let loaded = sound.loaded d x here 0 (x.thunk.lock + 1) 0 (omega arith) (step_in x.thunk f 0 form ∙ load) unstored in
+      let wanted = sound.wanted d x here 1 0 (operand x.thunk 0) (omega arith) (step_in x.thunk f 1 form ∙ want) in
+      ap s.cells (place (fit d x here).lock) ∙ loaded ∙ wanted ∙ (fit d x here).edition
     where
       place : x.thunk.lock ≡ bucket_lock (bucket_of x) → bucket_edition (bucket_of x) ≡ x.thunk.lock + 1
       place e = omega arith
@@ -64,28 +61,28 @@ module _ (buckets : ℕ) (bucket : ℕ → ℕ) (layout : Layout) (s : Scene) (s
   -- no change of the bucket is pending where the section's own isn't
   pub none_pending : (d : ℕ) (x : Section) → Here s d x → (IsPending x (bucket_of x) → ⊥) → (e : ℕ) (y : Section) → s.section e ≡ Some y → IsPending y (bucket_of x) → ⊥
   none_pending d x here own e y there pending =
-    let same = one_lock d e x y here there ((fit d x here).lock ∙ sym pending.0) in
-    own (subst (λ z. IsPending z (bucket_of x)) (some_inj (sym there ∙ ap s.section (sym same) ∙ here)) pending)
+      let same = one_lock d e x y here there ((fit d x here).lock ∙ sym pending.0) in
+      own (subst (λ z. IsPending z (bucket_of x)) (some_inj (sym there ∙ ap s.section (sym same) ∙ here)) pending)
 
   -- what the section's walk knows
   knows : (d : ℕ) (x : Section) → Here s d x → s.cells (bucket_edition (bucket_of x)) ≡ (walk_at x).edition → (IsPending x (bucket_of x) → ⊥)
-    → Knows buckets bucket s.cells kept.on kept.rank x.op (walk_at x) AtEnd
+      → Knows buckets bucket s.cells kept.on kept.rank x.op (walk_at x) AtEnd
   knows d x here edition own = subst (Knows buckets bucket s.cells kept.on kept.rank x.op (walk_at x)) (fit d x here).stage (kept.sections d x here edition (none_pending d x here own))
 
   pub read_knows : (d : ℕ) (x : Section) → Here s d x → form_of x.thunk ≡ Read → 2 ≤ x.at → Knows buckets bucket s.cells kept.on kept.rank x.op (walk_at x) AtEnd
   read_knows d x here form past = knows d x here
-    (edition_now d x Read here form refl refl past (λ i v store. absurd (read_stores x.thunk i 0 v form store)))
-    (λ pending. ⊎_elim (λ insert. read_insert (form_of x.thunk) form insert.0) (λ remove. read_remove (form_of x.thunk) form remove.0) pending.1)
+      (edition_now d x Read here form refl refl past (λ i v store. absurd (read_stores x.thunk i 0 v form store)))
+      (λ pending. ⊎_elim (λ insert. read_insert (form_of x.thunk) form insert.0) (λ remove. read_remove (form_of x.thunk) form remove.0) pending.1)
 
   pub insert_knows : (d : ℕ) (x : Section) → Here s d x → form_of x.thunk ≡ Insert → 2 ≤ x.at → x.at ≤ 7 → Knows buckets bucket s.cells kept.on kept.rank x.op (walk_at x) AtEnd
   insert_knows d x here form past early = knows d x here
-    (edition_now d x Insert here form refl refl past (λ i v store. ⊎_elim (λ head. absurd (let one = head.1 in omega arith)) (λ edition. let last = edition.0 in omega arith) (insert_stores x.thunk i 0 v form store)))
-    (λ pending. ⊎_elim (λ insert. let at = insert.1 in omega arith) (λ remove. insert_remove (form_of x.thunk) form remove.0) pending.1)
+      (edition_now d x Insert here form refl refl past (λ i v store. ⊎_elim (λ head. absurd (let one = head.1 in omega arith)) (λ edition. let last = edition.0 in omega arith) (insert_stores x.thunk i 0 v form store)))
+      (λ pending. ⊎_elim (λ insert. let at = insert.1 in omega arith) (λ remove. insert_remove (form_of x.thunk) form remove.0) pending.1)
 
   pub remove_knows : (d : ℕ) (x : Section) → Here s d x → form_of x.thunk ≡ Remove → 2 ≤ x.at → x.at ≤ 6 → Knows buckets bucket s.cells kept.on kept.rank x.op (walk_at x) AtEnd
   remove_knows d x here form past early = knows d x here
-    (edition_now d x Remove here form refl refl past (λ i v store. ⊎_elim (λ link. absurd (let one = link.1 in omega arith)) (λ edition. let last = edition.0 in omega arith) (remove_stores x.thunk i 0 v form store)))
-    (λ pending. ⊎_elim (λ insert. insert_remove (form_of x.thunk) insert.0 form) (λ remove. let at = remove.1 in omega arith) pending.1)
+      (edition_now d x Remove here form refl refl past (λ i v store. ⊎_elim (λ link. absurd (let one = link.1 in omega arith)) (λ edition. let last = edition.0 in omega arith) (remove_stores x.thunk i 0 v form store)))
+      (λ pending. ⊎_elim (λ insert. insert_remove (form_of x.thunk) insert.0 form) (λ remove. let at = remove.1 in omega arith) pending.1)
 
   -- the new node's link is the head's
   pub insert_head : (d : ℕ) (x : Section) → Here s d x → form_of x.thunk ≡ Insert → 2 ≤ x.at → x.at ≤ 7 → operand x.thunk 3 ≡ value_of (s.cells (bucket_head (bucket_of x)))
@@ -104,13 +101,13 @@ module _ (buckets : ℕ) (bucket : ℕ → ℕ) (layout : Layout) (s : Scene) (s
 
   pub remove_target : (d : ℕ) (x : Section) → Here s d x → form_of x.thunk ≡ Remove → 2 ≤ x.at → x.at ≤ 6 → IsTarget x
   remove_target d x here form past early =
-    let fits = (fit d x here).remove form in
-    let found = (remove_knows d x here form past early).1 fits.0 in
-    let place : operand x.thunk 1 ≡ (walk_at x).place = fits.1.1 in
-    let slot : operand x.thunk 2 ≡ (walk_at x).slot = fits.1.2 in
-    record {
-      link = subst (IsLinkOf buckets bucket s.cells kept.on (bucket_of x)) (sym place) found.0.0;
-      leads = ap (λ p. value_of (s.cells p)) place ∙ found.0.1 ∙ ap suc (sym slot);
-      key = ap (λ t. value_of (s.cells (cell_at buckets bucket t 1))) slot ∙ found.1;
-      next = ap (λ t. value_of (s.cells (cell_at buckets bucket t 3))) slot ∙ found.3 fits.1.0 ∙ sym fits.1.3;
-    }
+      let fits = (fit d x here).remove form in
+      let found = (remove_knows d x here form past early).1 fits.0 in
+      let place : operand x.thunk 1 ≡ (walk_at x).place = fits.1.1 in
+      let slot : operand x.thunk 2 ≡ (walk_at x).slot = fits.1.2 in
+      record {
+        link = subst (IsLinkOf buckets bucket s.cells kept.on (bucket_of x)) (sym place) found.0.0;
+        leads = ap (λ p. value_of (s.cells p)) place ∙ found.0.1 ∙ ap suc (sym slot);
+        key = ap (λ t. value_of (s.cells (cell_at buckets bucket t 1))) slot ∙ found.1;
+        next = ap (λ t. value_of (s.cells (cell_at buckets bucket t 3))) slot ∙ found.3 fits.1.0 ∙ sym fits.1.3;
+      }

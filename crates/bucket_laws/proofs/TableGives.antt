@@ -1,26 +1,24 @@
 -- The hash table gives the core what it relies on.
-use Rattle.std.proofs.Common.{◌≡◌, ◌≢◌, ℕ, zero, suc, ◌+◌, ◌*◌, ◌<◌, ◌≤◌, Bool, true, false, cond, refl, sym, ap, ◌∙◌, subst, inl, inr, ⊎_elim, arith, rules}
-use Rattle.std.specs.Prelude.{◌==◌, ◌&&◌, ◌||◌, ◌-◌, ◌/◌, ◌%◌, ◌⊎◌, nat_lt, Option, Some, None, List, [], ◌∷◌, slice_get}
+use Rattle.std.proofs.Common.{◌≡◌, ◌≢◌, ℕ, suc, ◌+◌, ◌*◌, ◌<◌, ◌≤◌, Bool, true, false, cond, refl, sym, ap, ◌∙◌, subst, inl, inr, ⊎_elim, arith}
+use Rattle.std.specs.Prelude.{◌==◌, ◌&&◌, ◌||◌, ◌⊎◌, Some, None, [], ◌∷◌, slice_get}
 use Rattle.std.specs.List.{list_any}
 use Rattle.map_history.specs.declared.op.Op.{Op}
-use Rattle.map_history.specs.Keys.{key_of, DependsOn, HaveNoCommonKey}
+use Rattle.map_history.specs.Keys.{key_of, DependsOn}
 use Rattle.section_body.specs.Word.{value_of}
-use Rattle.section_body.specs.Bucket.{bucket_lock, bucket_edition, bucket_head, operand}
+use Rattle.section_body.specs.Bucket.{bucket_lock, bucket_head, operand}
 use Rattle.section_body.specs.declared.value.Value.{Value}
-use Rattle.section_body.specs.declared.step.Step.{Step}
-use Rattle.section_body.specs.declared.step.Step.TheVariants.{Load, Want, Fresh, Store, Retire}
+use Rattle.section_body.specs.declared.step.Step.TheVariants.{Load, Fresh, Store}
 use Rattle.table_words.specs.declared.layout.Layout.{Layout}
 use Rattle.structure_laws.specs.Scene.{Readings, Section, Status, Free, Live, Retired, Scene}
-use Rattle.structure_laws.specs.Sections.{Here, IsStep, Holds, Settled, is_exit}
+use Rattle.structure_laws.specs.Sections.{Here, IsStep, Holds, Settled}
 use Rattle.structure_laws.specs.Cells.{InUse, Links, IsSafe}
 use Rattle.structure_laws.specs.Sound.{Sound}
-use Rattle.structure_laws.specs.Gives.{Gives, GivesLaw}
+use Rattle.structure_laws.specs.Gives.{Gives}
 use Rattle.bucket_laws.specs.Walk.{cell_at}
-use Rattle.bucket_laws.specs.Buckets.{Form, Read, Insert, Remove, Empty, form_of, nodes, is_link_place, IsLinkOf, IsMade, IsTaken, LinksWithin, BucketsKept, table}
-use Rattle.bucket_laws.proofs.Forms.{step_in, load_step, store_step, retire_step}
+use Rattle.bucket_laws.specs.Buckets.{Insert, Remove, form_of, is_link_place, BucketsKept, table}
+use Rattle.bucket_laws.proofs.Forms.{step_in, load_step, retire_step}
 use Rattle.bucket_laws.proofs.Sections.{fit, one_bucket, insert_head, remove_target}
-use Rattle.bucket_laws.proofs.Places.{lt_true, head_link, node_link, is_head_link, is_node_link, guard_low, guard_node}
-use Rattle.bucket_laws.proofs.Walks.{head_is}
+use Rattle.bucket_laws.proofs.Places.{lt_true, head_link, node_link, guard_low, guard_node}
 
 true_false : {b : Bool} → b ≡ true → b ≡ false → ⊥
 true_false e e' = cc
@@ -45,12 +43,12 @@ retired_free : (x : Status) (y : ℕ) → x ≡ Retired y → x ≢ Free
 retired_free x y retired free = cc
 
 -- what readings reach, they reach by a word of a link
-reached : (is_link : ℕ → Bool) (readings : Readings) (t : ℕ) → list_any (λ reading. is_link reading.0 && (value_of reading.1 == suc t)) readings ≡ true
-  → (i p w : ℕ) × (slice_get readings i ≡ Some (p, w)) × (is_link p ≡ true) × (value_of w ≡ suc t)
+pub reached : (is_link : ℕ → Bool) (readings : Readings) (t : ℕ) → list_any (λ reading. is_link reading.0 && (value_of reading.1 == suc t)) readings ≡ true
+    → (i p w : ℕ) × (slice_get readings i ≡ Some (p, w)) × (is_link p ≡ true) × (value_of w ≡ suc t)
 reached is_link [] t h = absurd (cc)
 reached is_link (reading ∷ readings) t h = or_cases (is_link reading.0 && (value_of reading.1 == suc t)) (list_any (λ reading. is_link reading.0 && (value_of reading.1 == suc t)) readings) h
-  (λ a. let both = both_true _ _ a in (0, reading.0, reading.1, refl, both.0, equal_of _ _ both.1))
-  (λ b. let later = reached is_link readings t b in (suc later.0, later.1, later.2, later.3, later.4, later.5))
+    (λ a. let both = both_true _ _ a in (0, reading.0, reading.1, refl, both.0, equal_of _ _ both.1))
+    (λ b. let later = reached is_link readings t b in (suc later.0, later.1, later.2, later.3, later.4, later.5))
 
 module _ (buckets : ℕ) (bucket : ℕ → ℕ) (small : (key : ℕ) → bucket key < buckets) (layout : Layout) (s : Scene) (sound : Sound (table buckets bucket) layout s) (kept : BucketsKept buckets bucket layout s) where
   -- a head leads into its chain
@@ -60,37 +58,37 @@ module _ (buckets : ℕ) (bucket : ℕ → ℕ) (small : (key : ℕ) → bucket 
   -- a live slot's link leads into a chain
   pub next_leads : (q t : ℕ) → s.status q ≡ Live → value_of (s.cells (cell_at buckets bucket q 3)) ≡ suc t → kept.on t ≡ true
   next_leads q t live leads = ⊎_elim (λ on. (kept.chains.next_on q t on leads).0)
-    (⊎_elim
+      (⊎_elim
       (λ made. new made.0 made.1 made.2 made.3 made.4 made.5 made.6)
-      (λ taken. (kept.taken taken.0 taken.1 taken.2 taken.3 taken.4 taken.5).next t (ap (λ q. value_of (s.cells (cell_at buckets bucket q 3))) taken.6 ∙ leads)))
-    (kept.live q live)
+      (λ taken. ((kept.taken taken.0 taken.1 taken.2 taken.3 taken.4 taken.5).next t (ap (λ q. value_of (s.cells (cell_at buckets bucket q 3))) taken.6 ∙ leads)).0))
+      (kept.live q live)
     where
       new : (d : ℕ) (x : Section) → s.section d ≡ Some x → form_of x.thunk ≡ Insert → 6 ≤ x.at → x.at ≤ 7 → x.reg 2 ≡ suc q → kept.on t ≡ true
       new d x here form low high reg =
-        let made = kept.made d x here form low high in
-        let same : made.slot ≡ q = suc_eq made.slot q (sym made.link ∙ reg) in
-        head_leads (bucket (key_of x.op)) t (small (key_of x.op))
+          let made = kept.made d x here form low high in
+          let same : made.slot ≡ q = suc_eq made.slot q (sym made.link ∙ reg) in
+          head_leads (bucket (key_of x.op)) t (small (key_of x.op))
           (sym (insert_head buckets bucket layout s sound kept d x here form (omega arith) high) ∙ sym made.next ∙ ap (λ q. value_of (s.cells (cell_at buckets bucket q 3))) same ∙ leads)
 
   -- so every link in use does
   pub used_leads : (p t : ℕ) → InUse (table buckets bucket) s p → Links (table buckets bucket) s p t → kept.on t ≡ true
   used_leads p t used links = ⊎_elim
-    (λ low. let head = head_link buckets p low links.0 in head_leads head.0 t head.1 (ap (λ p. value_of (s.cells p)) (sym head.2) ∙ links.1))
-    (λ slot.
+      (λ low. let head = head_link buckets p low links.0 in head_leads head.0 t head.1 (ap (λ p. value_of (s.cells p)) (sym head.2) ∙ links.1))
+      (λ slot.
       let cell : slot.1.0 ≡ 3 = node_link buckets slot.0 slot.1.0 slot.1.1 (ap (is_link_place buckets bucket) (sym slot.1.2) ∙ links.0) in
       next_leads slot.0 t slot.2 (ap (λ i. value_of (s.cells (cell_at buckets bucket slot.0 i))) (sym cell) ∙ ap (λ p. value_of (s.cells p)) (sym slot.1.2) ∙ links.1)) used
 
   -- a section that can't leave any more has tested its last register
   pub remove_settled : (x : Section) → form_of x.thunk ≡ Remove → Settled (table buckets bucket) x → 5 ≤ x.at
   remove_settled x form settled =
-    let passed : x.at ≤ 4 → ⊥ = λ low. true_false {b = true} refl (settled 4 (Fresh 1) low (step_in x.thunk Remove 4 form)) in
-    omega arith
+      let passed : x.at ≤ 4 → ⊥ = λ low. true_false {b = true} refl (settled 4 (Fresh 1) low (step_in x.thunk Remove 4 form)) in
+      omega arith
 
   -- the node behind the thunk's link stands in the chain
   pub target_on : (d : ℕ) (x : Section) → Here s d x → form_of x.thunk ≡ Remove → 2 ≤ x.at → x.at ≤ 6 → kept.on (operand x.thunk 2) ≡ true
   target_on d x here form low high =
-    let target = remove_target buckets bucket layout s sound kept d x here form low high in
-    ⊎_elim (λ head. head_leads (bucket (key_of x.op)) (operand x.thunk 2) (small (key_of x.op)) (ap (λ p. value_of (s.cells p)) (sym head) ∙ target.leads))
+      let target = remove_target buckets bucket layout s sound kept d x here form low high in
+      ⊎_elim (λ head. head_leads (bucket (key_of x.op)) (operand x.thunk 2) (small (key_of x.op)) (ap (λ p. value_of (s.cells p)) (sym head) ∙ target.leads))
       (λ node. (kept.chains.next_on node.0 (operand x.thunk 2) node.1.0 (ap (λ p. value_of (s.cells p)) (sym node.2) ∙ target.leads)).0) target.link
 
   -- as long as it is to be retired it is live and has the operation's key
@@ -112,48 +110,48 @@ module _ (buckets : ℕ) (bucket : ℕ → ℕ) (small : (key : ℕ) → bucket 
   -- the guard of a place is the section's outer lock
   guarded : (d j p r : ℕ) (x : Section) → Here s d x → j ≤ x.at → IsStep (table buckets bucket) x j (Load p r) → Holds (table buckets bucket) x ((table buckets bucket).guard s.cells p)
   guarded d j p r x here le load =
-    let lock = lock_of d x here in
-    let i = bucket (key_of x.op) in
-    let guard : ℕ → ℕ = λ t. bucket_lock (bucket (value_of (s.cells (cell_at buckets bucket t 1)))) in
-    let low : (rest : ℕ) → rest < 3 → p ≡ 3 * i + rest → Holds (table buckets bucket) x ((table buckets bucket).guard s.cells p) =
+      let lock = lock_of d x here in
+      let i = bucket (key_of x.op) in
+      let guard : ℕ → ℕ = λ t. bucket_lock (bucket (value_of (s.cells (cell_at buckets bucket t 1)))) in
+      let low : (rest : ℕ) → rest < 3 → p ≡ 3 * i + rest → Holds (table buckets bucket) x ((table buckets bucket).guard s.cells p) =
       λ rest third at. inl (ap ((table buckets bucket).guard s.cells) at ∙ guard_low buckets guard i rest (small (key_of x.op)) third ∙ sym lock) in
-    ⊎_elim (λ edition. low 1 (omega arith) (let at = edition.2 in omega arith))
+      ⊎_elim (λ edition. low 1 (omega arith) (let at = edition.2 in omega arith))
       (⊎_elim (λ insert. low 2 (omega arith) (let at = insert.3 in omega arith))
-        (λ remove. ⊎_elim (λ head. low 2 (omega arith) (remove.3 ∙ head))
-          (λ node. inl (ap ((table buckets bucket).guard s.cells) (remove.3 ∙ node.2) ∙ guard_node buckets guard node.0 3 (omega arith) ∙ ap bucket_lock node.1.1 ∙ sym lock))
-          (kept.linked d x here remove.0 (let third = remove.1 in omega arith))))
+      (λ remove. ⊎_elim (λ head. low 2 (omega arith) (remove.3 ∙ head))
+      (λ node. inl (ap ((table buckets bucket).guard s.cells) (remove.3 ∙ node.2) ∙ guard_node buckets guard node.0 3 (omega arith) ∙ ap bucket_lock node.1.1 ∙ sym lock))
+      (kept.linked d x here remove.0 (let third = remove.1 in omega arith))))
       (load_step x.thunk j p r load)
 
   -- what is still to be stored to is a fixed cell or a cell of a live slot
   store_used : (d i j p r : ℕ) (x : Section) (v : Value) → Here s d x → Settled (table buckets bucket) x → x.at ≤ i → IsStep (table buckets bucket) x i (Store r v) → IsStep (table buckets bucket) x j (Load p r) → InUse (table buckets bucket) s p
   store_used d i j p r x v here settled le store load =
-    let lock = lock_of d x here in
-    let low = small (key_of x.op) in
-    ⊎_elim (λ edition. inl (let at = edition.2 in omega arith))
+      let lock = lock_of d x here in
+      let low = small (key_of x.op) in
+      ⊎_elim (λ edition. inl (let at = edition.2 in omega arith))
       (⊎_elim (λ insert. inl (let at = insert.3 in omega arith))
-        (λ remove. ⊎_elim (λ head. inl (let at = remove.3 ∙ head in omega arith))
-          (λ node. inr (node.0, (3, omega arith, remove.3 ∙ node.2), kept.on_live node.0 node.1.0))
-          (kept.linked d x here remove.0 (let past = remove_settled x remove.0 settled in omega arith))))
+      (λ remove. ⊎_elim (λ head. inl (let at = remove.3 ∙ head in omega arith))
+      (λ node. inr (node.0, (3, omega arith, remove.3 ∙ node.2), kept.on_live node.0 node.1.0))
+      (kept.linked d x here remove.0 (let past = remove_settled x remove.0 settled in omega arith))))
       (load_step x.thunk j p r load)
 
   pub table_gives : Gives (table buckets bucket) layout s
   table_gives = record {
-      guarded = guarded;
-      walked = λ r readings op reader allowed i p w t h link leads. sound.within t (used t ((sound.readers r readings reader).safe i p w t h link leads));
-      reach = λ readings t reader h. reached (is_link_place buckets bucket) readings t h;
-      steady_store = λ d j p q r x v here store load. refl;
-      steady_lock = λ p q w lock. refl;
-      steady_hand = λ t i q w free low other. refl;
-      live = λ p t used links. kept.on_live t (used_leads p t used links);
-      limbo = λ q y t i retired recent low links.
+    guarded = guarded;
+    walked = λ r readings op reader allowed i p w t h link leads. sound.within t (used t ((sound.readers r readings reader).safe i p w t h link leads));
+    reach = λ readings t reader h. reached (is_link_place buckets bucket) readings t h;
+    steady_store = λ d j p q r x v here store load. refl;
+    steady_lock = λ p q w lock. refl;
+    steady_hand = λ t i q w free low other. refl;
+    live = λ p t used links. kept.on_live t (used_leads p t used links);
+    limbo = λ q y t i retired recent low links.
         let cell : i ≡ 3 = node_link buckets q i low links.0 in
         kept.limbo q y t retired recent (ap (λ i. value_of (s.cells (cell_at buckets bucket q i))) (sym cell) ∙ links.1);
-      retire_live = λ d j t x here settled le h.
+    retire_live = λ d j t x here settled le h.
         let step = retire_step x.thunk j t h in
         let past = remove_settled x step.0 settled in
         subst (λ t. s.status t ≡ Live) (sym step.2) (target_live d x here step.0 (omega arith) (let eight = step.1 in omega arith));
-      retire_unfixed = λ d j t x here settled le h. omega arith;
-      retire_once = λ d e i j t x y here there settled settled' le le' h h'.
+    retire_unfixed = λ d j t x here settled le h. omega arith;
+    retire_once = λ d e i j t x y here there settled settled' le le' h h'.
         let step = retire_step x.thunk i t h in
         let step' = retire_step y.thunk j t h' in
         let past = remove_settled x step.0 settled in
@@ -161,17 +159,18 @@ module _ (buckets : ℕ) (bucket : ℕ → ℕ) (small : (key : ℕ) → bucket 
         let key = target_key d x here step.0 (omega arith) (let eight = step.1 in omega arith) in
         let key' = target_key e y there step'.0 (omega arith) (let eight = step'.1 in omega arith) in
         (one_bucket buckets bucket layout s sound kept d e x y here there (ap bucket (sym key ∙ ap (λ t. value_of (s.cells (cell_at buckets bucket t 1))) (sym step.2 ∙ step'.2) ∙ key')), step.1 ∙ sym step'.1);
-      retire_unlinked = λ d t p x here h used links.
+    retire_unlinked = λ d t p x here h used links.
         let step = retire_step x.thunk x.at t h in
         let taken = kept.taken d x here step.0 (let eight = step.1 in omega arith) (let eight = step.1 in omega arith) in
         true_false (used_leads p t used links) (ap kept.on step.2 ∙ taken.out);
-      store_used = store_used;
-      one_key = λ map d e x y here there ne settled settled' unstored unstored' key depends depends'.
+    store_used = store_used;
+    one_key = λ map d e x y here there ne settled settled' unstored unstored' key depends depends'.
         ne (one_bucket buckets bucket layout s sound kept d e x y here there (ap bucket (key_is x.op key depends ∙ sym (key_is y.op key depends'))));
-    }
+  }
     where
       used : (t : ℕ) → IsSafe s t → s.status t ≢ Free
       used t safe = ⊎_elim (λ live. live_free (s.status t) live) (λ retired. retired_free (s.status t) retired.0 retired.1) safe
+
       key_is : (op : Op) (key : ℕ) → DependsOn op key → key_of op ≡ key
       key_is op key depends = ⊎_elim (λ e. e) (λ none. absurd (none_some key none)) depends
         where

@@ -1,19 +1,18 @@
 -- The hash table: its meaning, and what it keeps in every scene.
-use Rattle.std.specs.Prelude.{ℕ, suc, ◌+◌, ◌*◌, ◌-◌, ◌/◌, ◌%◌, ◌^◌, ◌<◌, ◌≤◌, ◌≡◌, ◌≢◌, ◌⊎◌, Bool, true, false, cond, ◌&&◌, ◌==◌, nat_lt, List, [], ◌∷◌, Option, Some, slice_get}
+use Rattle.std.specs.Prelude.{ℕ, suc, ◌+◌, ◌*◌, ◌-◌, ◌/◌, ◌%◌, ◌^◌, ◌<◌, ◌≤◌, ◌≡◌, ◌≢◌, ◌⊎◌, Bool, true, false, cond, ◌&&◌, ◌==◌, nat_lt, List, [], Some, slice_get}
 use Rattle.std.specs.List.{list_any}
 use Rattle.std.specs.FinMap.{get}
 use Rattle.map_history.specs.declared.op.Op.{Op}
 use Rattle.map_history.specs.Keys.{key_of}
 use Rattle.map_history.specs.Replay.{Pairs}
 use Rattle.section_body.specs.Word.{value_of}
-use Rattle.section_body.specs.Bucket.{bucket_index, bucket_lock, bucket_edition, bucket_head, operand, is_small, read_steps, insert_steps, remove_steps, bucket_steps}
+use Rattle.section_body.specs.Bucket.{bucket_index, bucket_lock, bucket_edition, bucket_head, operand, fits_read, fits_insert, fits_remove, read_steps, insert_steps, remove_steps, bucket_steps}
 use Rattle.section_body.specs.declared.step.Step.{Step}
 use Rattle.section_body.specs.declared.thunk.Thunk.{Thunk}
 use Rattle.table_words.specs.declared.layout.Layout.{Layout}
 use Rattle.table_words.specs.Places.{slot_count}
 use Rattle.structure_laws.specs.Scene.{Cells, Readings, Section, Live, Retired, Scene}
 use Rattle.structure_laws.specs.Meaning.{Meaning}
-use Rattle.structure_laws.specs.Sections.{IsAllowed}
 use Rattle.bucket_laws.specs.Chain.{Nodes, Chains, Contents}
 use Rattle.bucket_laws.specs.Walk.{Stage, AtEdition, AtLink, AtKey, AtValue, AtNext, AtLock, AtEnd, Refused, Walk, start, is_del, Bounds, cell_at, walk, fits_walk}
 
@@ -26,9 +25,9 @@ pub data Form : Type 0 where
 
 abbrev pub form_of : Thunk → Form
 form_of t =
-    cond (t.form == 1) (cond (is_small (t.lock + 1)) Read Empty)
-    (cond (t.form == 2) (cond (is_small (t.lock + 2) && is_small (operand t 1) && is_small (operand t 2) && is_small (operand t 3)) Insert Empty)
-    (cond (t.form == 3) (cond (is_small (t.lock + 1) && is_small (operand t 1) && is_small (operand t 2) && is_small (operand t 3)) Remove Empty)
+    cond (t.form == 1) (cond (fits_read t) Read Empty)
+    (cond (t.form == 2) (cond (fits_insert t) Insert Empty)
+    (cond (t.form == 3) (cond (fits_remove t) Remove Empty)
     Empty))
 
 abbrev pub body_of : Form → Thunk → List Step
@@ -78,7 +77,7 @@ module _ (buckets : ℕ) (bucket : ℕ → ℕ) where
   -- what the walk has read of the key's node stands there still
   abbrev pub IsFound : Cells → (ℕ → Bool) → Op → Walk → Type 0
   IsFound cells on op w = IsReached cells on (bucket (key_of op)) w × (value_of (cells (cell_at buckets bucket w.slot 1)) ≡ key_of op)
-    × (value_of (cells (cell_at buckets bucket w.slot 2)) ≡ w.value) × (is_del op ≡ true → value_of (cells (cell_at buckets bucket w.slot 3)) ≡ w.next)
+      × (value_of (cells (cell_at buckets bucket w.slot 2)) ≡ w.value) × (is_del op ≡ true → value_of (cells (cell_at buckets bucket w.slot 3)) ≡ w.next)
 
   -- no node has the key
   abbrev pub IsMissing : Cells → (ℕ → Bool) → ℕ → Type 0
@@ -88,13 +87,13 @@ module _ (buckets : ℕ) (bucket : ℕ → ℕ) where
   abbrev pub Knows : Cells → (ℕ → Bool) → (ℕ → ℕ) → Op → Walk → Stage → Type 0
   Knows cells on rank op w AtEdition = Unit {0}
   Knows cells on rank op w AtLink = let i = bucket (key_of op) in
-    IsLinkOf cells on i w.place × IsAhead cells on rank (key_of op) (value_of (cells w.place)) × (w.place ≢ bucket_head i → w.head ≡ value_of (cells (bucket_head i)))
+      IsLinkOf cells on i w.place × IsAhead cells on rank (key_of op) (value_of (cells w.place)) × (w.place ≢ bucket_head i → w.head ≡ value_of (cells (bucket_head i)))
   Knows cells on rank op w AtKey = let i = bucket (key_of op) in
-    IsReached cells on i w × IsAhead cells on rank (key_of op) (suc w.slot) × (w.head ≡ value_of (cells (bucket_head i)))
+      IsReached cells on i w × IsAhead cells on rank (key_of op) (suc w.slot) × (w.head ≡ value_of (cells (bucket_head i)))
   Knows cells on rank op w AtValue = let i = bucket (key_of op) in
-    IsReached cells on i w × (value_of (cells (cell_at buckets bucket w.slot 1)) ≡ key_of op) × (w.head ≡ value_of (cells (bucket_head i)))
+      IsReached cells on i w × (value_of (cells (cell_at buckets bucket w.slot 1)) ≡ key_of op) × (w.head ≡ value_of (cells (bucket_head i)))
   Knows cells on rank op w AtNext = let i = bucket (key_of op) in
-    IsReached cells on i w × (value_of (cells (cell_at buckets bucket w.slot 1)) ≡ key_of op) × (value_of (cells (cell_at buckets bucket w.slot 2)) ≡ w.value) × (w.head ≡ value_of (cells (bucket_head i)))
+      IsReached cells on i w × (value_of (cells (cell_at buckets bucket w.slot 1)) ≡ key_of op) × (value_of (cells (cell_at buckets bucket w.slot 2)) ≡ w.value) × (w.head ≡ value_of (cells (bucket_head i)))
   Knows cells on rank op w AtLock = (w.head ≡ value_of (cells (bucket_head (bucket (key_of op))))) × (w.found ≡ true → IsFound cells on op w) × (w.found ≡ false → IsMissing cells on (key_of op))
   Knows cells on rank op w AtEnd = (w.head ≡ value_of (cells (bucket_head (bucket (key_of op))))) × (w.found ≡ true → IsFound cells on op w) × (w.found ≡ false → IsMissing cells on (key_of op))
   Knows cells on rank op w Refused = Unit {0}
@@ -102,7 +101,7 @@ module _ (buckets : ℕ) (bucket : ℕ → ℕ) where
   -- as long as the bucket's edition is the one that the walk read, and no change is pending, the walk knows this
   abbrev pub IsWalked : Scene → (ℕ → Bool) → (ℕ → ℕ) → Op → Walk → Type 0
   IsWalked s on rank op w = let i = bucket (key_of op) in
-    s.cells (bucket_edition i) ≡ w.edition → ((d : ℕ) (x : Section) → s.section d ≡ Some x → IsPending x i → ⊥) → Knows s.cells on rank op w w.stage
+      s.cells (bucket_edition i) ≡ w.edition → ((d : ℕ) (x : Section) → s.section d ≡ Some x → IsPending x i → ⊥) → Knows s.cells on rank op w w.stage
 
   abbrev pub bounds : Layout → Bounds
   bounds layout = record { links = slot_count layout 0 + 8; version_max = layout.version_max }
@@ -120,12 +119,12 @@ module _ (buckets : ℕ) (bucket : ℕ → ℕ) where
     pub value : value_of (s.cells (cell_at buckets bucket slot 2)) ≡ operand x.thunk 2
     pub next : value_of (s.cells (cell_at buckets bucket slot 3)) ≡ operand x.thunk 3
 
-  -- the node that a section has taken out: live, in no chain, with the operation's key, and its link leads into a chain
+  -- the node that a section has taken out: live, in no chain, with the operation's key, and its link leads into the chain of its bucket
   pub record IsTaken (s : Scene) (on : ℕ → Bool) (x : Section) : Type 0 where
     pub live : s.status (operand x.thunk 2) ≡ Live
     pub out : on (operand x.thunk 2) ≡ false
     pub key : value_of (s.cells (cell_at buckets bucket (operand x.thunk 2) 1)) ≡ key_of x.op
-    pub next : (t : ℕ) → value_of (s.cells (cell_at buckets bucket (operand x.thunk 2) 3)) ≡ suc t → on t ≡ true
+    pub next : (t : ℕ) → value_of (s.cells (cell_at buckets bucket (operand x.thunk 2) 3)) ≡ suc t → IsNode s.cells on (bucket (key_of x.op)) t
 
   pub record BucketsKept (layout : Layout) (s : Scene) : Type 0 where
     pub on : ℕ → Bool
@@ -139,8 +138,8 @@ module _ (buckets : ℕ) (bucket : ℕ → ℕ) where
     pub taken : (d : ℕ) (x : Section) → s.section d ≡ Some x → form_of x.thunk ≡ Remove → 7 ≤ x.at → x.at ≤ 8 → IsTaken s on x
     -- a live slot stands in a chain, or is a section's new node, or one that it has taken out
     pub live : (t : ℕ) → s.status t ≡ Live → (on t ≡ true)
-      ⊎ ((d : ℕ) × (x : Section) × (s.section d ≡ Some x) × (form_of x.thunk ≡ Insert) × (6 ≤ x.at) × (x.at ≤ 7) × (x.reg 2 ≡ suc t))
-      ⊎ ((d : ℕ) × (x : Section) × (s.section d ≡ Some x) × (form_of x.thunk ≡ Remove) × (7 ≤ x.at) × (x.at ≤ 8) × (operand x.thunk 2 ≡ t))
+        ⊎ ((d : ℕ) × (x : Section) × (s.section d ≡ Some x) × (form_of x.thunk ≡ Insert) × (6 ≤ x.at) × (x.at ≤ 7) × (x.reg 2 ≡ suc t))
+        ⊎ ((d : ℕ) × (x : Section) × (s.section d ≡ Some x) × (form_of x.thunk ≡ Remove) × (7 ≤ x.at) × (x.at ≤ 8) × (operand x.thunk 2 ≡ t))
     pub limbo : (q y t : ℕ) → s.status q ≡ Retired y → s.epoch ≤ y + 1 → value_of (s.cells (cell_at buckets bucket q 3)) ≡ suc t → (s.status t ≡ Live) ⊎ ((z : ℕ) × (s.status t ≡ Retired z) × (y ≤ z))
 
   -- the chains end, no slot stands twice, keys differ and belong to their bucket; and the pairs are the map's

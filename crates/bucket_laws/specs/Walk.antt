@@ -1,5 +1,5 @@
 -- The walk of a key through its bucket, read off a list of readings, and the thunk that is the one for it.
-use Rattle.std.specs.Prelude.{ℕ, suc, ◌+◌, ◌*◌, ◌-◌, ◌^◌, ◌≡◌, Bool, true, false, cond, not, ◌&&◌, ◌==◌, nat_le, nat_lt, List, [], ◌∷◌, Option, None, Some}
+use Rattle.std.specs.Prelude.{ℕ, suc, ◌+◌, ◌*◌, ◌-◌, ◌^◌, Bool, true, false, cond, not, ◌&&◌, ◌==◌, nat_le, List, [], ◌∷◌, Option, None, Some}
 use Rattle.map_history.specs.declared.op.Op.{Op}
 use Rattle.map_history.specs.declared.op.Op.TheVariants.{Get, Ins, Del}
 use Rattle.map_history.specs.Keys.{key_of}
@@ -113,7 +113,8 @@ module _ (buckets : ℕ) (bucket : ℕ → ℕ) where
     links = suc w.links;
     head = cond (w.place == bucket_head (bucket (key_of op))) (value_of word) w.head;
     slot = value_of word - 1;
-    found = false }
+    found = false;
+  }
   fed b op w AtKey word = cond (value_of word == key_of op) (record w { stage = AtValue }) (record w { stage = AtLink; place = cell_at w.slot 3 })
   fed b op w AtValue word = record w { stage = cond (is_del op) AtNext AtLock; value = value_of word; found = true }
   fed b op w AtNext word = record w { stage = AtLock; next = value_of word; found = true }

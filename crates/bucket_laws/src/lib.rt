@@ -1,2 +1,9 @@
-//! The hash table's meaning and laws.
+//! The hash table's meaning, and that it meets the laws of a structure.
+//!
+//! The definitions stand in specs: `Chain` has the chains of the buckets, `Walk` the walk of a key and the thunk for
+//! it, `Buckets` the meaning and what the table keeps in every scene. `laws` says that the table meets the laws.
 #![tactic(auto)]
+
+mod laws;
+
+pub use laws::buckets_meet_the_laws;

@@ -1,4 +1,5 @@
 pub mod History
 pub mod Keys
 pub mod Replay
+pub mod Requests
 pub mod Words

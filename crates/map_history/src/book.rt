@@ -1,5 +1,5 @@
 // The map that answers one request after another.
-ghost use Rattle.std.specs.Prelude.{◌≡◌, ◌↔◌, false, IsTrue, IfOk, OnOk, OnErr, if◌then◌else◌};
+ghost use Rattle.std.specs.Prelude.{◌≡◌, ◌↔◌, ◌+◌, ◌≤◌, false, IsTrue, IfOk, OnOk, OnErr, if◌then◌else◌};
 ghost use Rattle.std.specs.FinMap as map;
 ghost use Rattle.map_history.specs.Replay.{found, reply_of, map_after, Grows};
 ghost use Rattle.map_history.specs.declared.reply.Reply.TheVariants.{New, Dup, Gone, Absent};
@@ -48,6 +48,7 @@ impl Book {
         ensures ok { OnOk result (self.new ≡ map_after self.old op) }
         ensures err { OnErr result (self.new ≡ self.old) }
         ensures cause { OnErr result (Grows self.old op) }
+        ensures few { OnOk result (map.len self.new ≤ map.len self.old + 1) }
     {
         match op {
             Op::Get(key) => Ok(self.get(key)),

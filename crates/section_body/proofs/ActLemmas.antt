@@ -1,26 +1,25 @@
 -- One step of a run in one go, arm by arm.
-use Rattle.std.proofs.Common.{◌≡◌, ℕ, zero, suc, ◌+◌, ◌*◌, ◌/◌, ◌<◌, ◌≤◌, List, [], ◌∷◌, ◌++◌, length, drop, refl, sym, ap, ◌∙◌, subst, arith, get_or, set, get_or-set_same, length-set, length-append, Some, None, Option}
-use Rattle.std.specs.Prelude.{Bool, true, false, cond, ◌==◌, ◌&&◌, not, max, map, slice_index}
+use Rattle.std.proofs.Common.{◌≡◌, ℕ, zero, suc, ◌+◌, ◌*◌, ◌/◌, ◌<◌, ◌≤◌, List, [], ◌∷◌, ◌++◌, length, drop, refl, sym, ap, ◌∙◌, subst, arith, get_or, set, get_or-set_same, length-append, Some, None, Option}
+use Rattle.std.specs.Prelude.{Bool, true, false, cond, ◌==◌, max, map, slice_index}
 use Rattle.std.proofs.Math.ListN.{get_or-map}
 use Rattle.std.proofs.lemmas.Bool.Decides.{nat_tests}
 use Rattle.std.proofs.Math.Seq.{get_or-append_seam}
 use Rattle.section_body.specs.Update.{upd}
-use Rattle.section_body.specs.Word.{next_word, held_word, is_free, is_spent}
+use Rattle.section_body.specs.Word.{next_word, held_word}
 use Rattle.section_body.specs.Trail.{Agreed as Agreement}
 use Rattle.section_body.specs.Memory.{PlainMemory, cell_of}
 use Rattle.section_body.specs.Line.{Registers, source_of, micros}
-use Rattle.section_body.specs.Run.{Setting, Run, ran, leaves, agrees, is_takable, refusal, source_value, exchanged, written_once}
+use Rattle.section_body.specs.Run.{Setting, Run, ran, is_takable, refusal, source_value, written_once}
 use Rattle.section_body.specs.Plain.{first_values, memory_after}
 use Rattle.section_body.specs.Act.{Shows, GotSuits, BusySuits, LockSuits, SlotSuits, filled}
 use Rattle.section_body.specs.declared.value.Value.{Value}
 use Rattle.section_body.specs.declared.value.Value.TheVariants.{Const}
 use Rattle.section_body.specs.declared.value.Init.{Init}
-use Rattle.section_body.specs.declared.step.Step.{Step}
 use Rattle.section_body.specs.declared.step.Step.TheVariants.{Load, Take, Make, Stamp, Store, Answer}
 use Rattle.section_body.specs.declared.outcome.Outcome.{Outcome}
 use Rattle.section_body.specs.declared.outcome.Outcome.TheVariants.{Answered, Busy}
 use Rattle.section_body.specs.declared.micro.Micro.{Micro}
-use Rattle.section_body.specs.declared.micro.Micro.TheVariants.{CheckFree, NestedHold, OutcomeLoad, OutcomeCommit, CheckHeld}
+use Rattle.section_body.specs.declared.micro.Micro.TheVariants.{NestedHold, OutcomeLoad, OutcomeCommit, CheckHeld}
 use Rattle.section_body.proofs.ValueLemmas.{length-first_values, get_or-first_values, set-first_values}
 
 -- a number equals itself, as a test
@@ -63,11 +62,11 @@ module _ (request : ℕ) (start : PlainMemory) (s : Setting) (run : Run) where
 
   module _ (memory : PlainMemory) (trail : Agreement) (shows : Shows request start run memory trail None) where
     -- the memory has as many cells as at the start
-    same_length : length memory.cells ≡ length start.cells
+    pub same_length : length memory.cells ≡ length start.cells
     same_length = ap (λ (m : PlainMemory). length m.cells) shows.left ∙ length-first_values (length start.cells) run.cells
 
     -- a cell of the memory is the run's
-    cell_is : (p : ℕ) → p < length memory.cells → get_or memory.cells p 0 ≡ run.cells p
+    pub cell_is : (p : ℕ) → p < length memory.cells → get_or memory.cells p 0 ≡ run.cells p
     cell_is p within =
         ap (λ (m : PlainMemory). get_or m.cells p 0) shows.left ∙ get_or-first_values (length start.cells) run.cells p (let long = same_length in omega arith)
 
@@ -81,7 +80,7 @@ module _ (request : ℕ) (start : PlainMemory) (s : Setting) (run : Run) where
         resume (micros g (Load place into)) memory after None shows.ended (record {
           left = shows.left;
           agreed = pushed after _ _ next (cell_is place within);
-          ended = refl
+          ended = refl;
         })
 
     -- the run's stamp and reply words stand in the memory
@@ -95,10 +94,10 @@ module _ (request : ℕ) (start : PlainMemory) (s : Setting) (run : Run) where
     answer_shows g reply after within next =
         resume (micros g (Answer reply)) after trail (Some (Answered reply)) shows.ended (record {
           left = next ∙ (ap (λ old. record memory { replies = set memory.replies request (written_once old reply) }) (reply_is within)
-          ∙ (ap (λ (m : PlainMemory). record m { replies = set m.replies request (written_once run.reply reply) }) shows.left
-          ∙ ap (λ rs. record (memory_after request start run) { replies = rs }) (set_again start.replies request run.reply (written_once run.reply reply))));
+              ∙ (ap (λ (m : PlainMemory). record m { replies = set m.replies request (written_once run.reply reply) }) shows.left
+              ∙ ap (λ rs. record (memory_after request start run) { replies = rs }) (set_again start.replies request run.reply (written_once run.reply reply))));
           agreed = shows.agreed;
-          ended = refl
+          ended = refl;
         })
 
     pub stamp_shows : (g : Registers) (after : PlainMemory) → request < length start.stamps → s.clock ≡ memory.clock → after ≡ (let stamp = written_once (get_or memory.stamps request 0) (2 * (memory.clock + 1)) in record memory { clock = max memory.clock (stamp / 2); stamps = set memory.stamps request stamp }) → Shows request start (ran s run (micros g Stamp)) after trail None
@@ -106,11 +105,11 @@ module _ (request : ℕ) (start : PlainMemory) (s : Setting) (run : Run) where
         let stamp = written_once run.stamp (2 * (s.clock + 1)) in
         resume (micros g Stamp) after trail None shows.ended (record {
           left = next ∙ (ap (λ old. let w = written_once old (2 * (memory.clock + 1)) in record memory { clock = max memory.clock (w / 2); stamps = set memory.stamps request w }) (stamp_is within)
-          ∙ (ap (λ c. let w = written_once run.stamp (2 * (c + 1)) in record memory { clock = max memory.clock (w / 2); stamps = set memory.stamps request w }) (sym clock)
-          ∙ (ap (λ (m : PlainMemory). record m { clock = max m.clock (stamp / 2); stamps = set m.stamps request stamp }) shows.left
-          ∙ ap (λ ss. record (memory_after request start run) { clock = max run.clock (stamp / 2); stamps = ss }) (set_again start.stamps request run.stamp stamp))));
+              ∙ (ap (λ c. let w = written_once run.stamp (2 * (c + 1)) in record memory { clock = max memory.clock (w / 2); stamps = set memory.stamps request w }) (sym clock)
+              ∙ (ap (λ (m : PlainMemory). record m { clock = max m.clock (stamp / 2); stamps = set m.stamps request stamp }) shows.left
+              ∙ ap (λ ss. record (memory_after request start run) { clock = max run.clock (stamp / 2); stamps = ss }) (set_again start.stamps request run.stamp stamp))));
           agreed = shows.agreed;
-          ended = refl
+          ended = refl;
         })
 
     pub store_shows : (g : Registers) (reg old number : ℕ) (value : Value) (after : PlainMemory) → g.place reg < length memory.cells → old ≡ get_or trail.words (g.log reg) 0 → number ≡ source_value trail.words (source_of g value) → after ≡ record memory { cells = set memory.cells (g.place reg) (cond (get_or memory.cells (g.place reg) 0 == old) (next_word old number) (get_or memory.cells (g.place reg) 0)) } → Shows request start (ran s run (micros g (Store reg value))) after trail None
@@ -122,12 +121,12 @@ module _ (request : ℕ) (start : PlainMemory) (s : Setting) (run : Run) where
         let number_is : number ≡ put = is_number ∙ ap (λ (t : Agreement). source_value t.words (source_of g value)) shows.agreed in
         resume (micros g (Store reg value)) after trail None shows.ended (record {
           left = next ∙ (ap (λ o. record memory { cells = set memory.cells place (cond (get_or memory.cells place 0 == o) (next_word o number) (get_or memory.cells place 0)) }) old_is
-          ∙ (ap (λ n. record memory { cells = set memory.cells place (cond (get_or memory.cells place 0 == read) (next_word read n) (get_or memory.cells place 0)) }) number_is
-          ∙ (ap (λ c. record memory { cells = set memory.cells place (cond (c == read) (next_word read put) c) }) (cell_is place within)
-          ∙ (ap (λ (m : PlainMemory). record m { cells = set m.cells place (cond (run.cells place == read) (next_word read put) (run.cells place)) }) shows.left
-          ∙ ap (λ cs. record (memory_after request start run) { cells = cs }) (set-first_values (length start.cells) run.cells place _)))));
+              ∙ (ap (λ n. record memory { cells = set memory.cells place (cond (get_or memory.cells place 0 == read) (next_word read n) (get_or memory.cells place 0)) }) number_is
+              ∙ (ap (λ c. record memory { cells = set memory.cells place (cond (c == read) (next_word read put) c) }) (cell_is place within)
+              ∙ (ap (λ (m : PlainMemory). record m { cells = set m.cells place (cond (run.cells place == read) (next_word read put) (run.cells place)) }) shows.left
+              ∙ ap (λ cs. record (memory_after request start run) { cells = cs }) (set-first_values (length start.cells) run.cells place _)))));
           agreed = shows.agreed;
-          ended = refl
+          ended = refl;
         })
 
     -- the same, where code has read the register's place and its place in the log
@@ -137,9 +136,9 @@ module _ (request : ℕ) (start : PlainMemory) (s : Setting) (run : Run) where
         (next ∙ ap (λ p. record memory { cells = set memory.cells p (cond (get_or memory.cells p 0 == old) (next_word old number) (get_or memory.cells p 0)) }) is_place)
 
     pub make_shows : (g : Registers) (init : Init) (into : ℕ) (left : PlainMemory) (after : Agreement) → SlotSuits s memory g.count
-      → left ≡ (let values = map (λ value. source_value trail.words (source_of g value)) init.cells in record memory { cells = filled memory.fixed_cells (get_or memory.free 0 0) values memory.cells 5; free = drop 1 memory.free })
-      → after ≡ record trail { words = trail.words ++ (get_or memory.free 0 0 + 1) ∷ [] }
-      → Shows request start (ran s run (micros g (Make init into))) left after None
+        → left ≡ (let values = map (λ value. source_value trail.words (source_of g value)) init.cells in record memory { cells = filled memory.fixed_cells (get_or memory.free 0 0) values memory.cells 5; free = drop 1 memory.free })
+        → after ≡ record trail { words = trail.words ++ (get_or memory.free 0 0 + 1) ∷ [] }
+        → Shows request start (ran s run (micros g (Make init into))) left after None
     make_shows g init into left after suits filled_is next =
         let number : Value → ℕ = λ value. source_value run.trail (source_of g value) in
         let numbers : ℕ → ℕ = λ k. number (get_or init.cells k (Const 0)) in
@@ -148,13 +147,13 @@ module _ (request : ℕ) (start : PlainMemory) (s : Setting) (run : Run) where
         let put = stored s.fixed_cells slot (s.first g.count) numbers run.cells in
         resume (micros g (Make init into)) left after None shows.ended (record {
           left = filled_is ∙ (ap (λ (t : Agreement). record memory { cells = filled memory.fixed_cells (get_or memory.free 0 0) (map (λ value. source_value t.words (source_of g value)) init.cells) memory.cells 5; free = drop 1 memory.free }) shows.agreed
-          ∙ (ap (λ cs. record memory { cells = cs; free = drop 1 memory.free }) (filled_values n memory.fixed_cells (get_or memory.free 0 0) (map number init.cells) memory.cells run.cells (s.first g.count) numbers (ap (λ (m : PlainMemory). m.cells) shows.left) suits.first (λ k below. get_or-map number init.cells k (Const 0)) 5 (omega arith))
-          ∙ (ap (λ f. record memory { cells = first_values n (stored f (get_or memory.free 0 0) (s.first g.count) numbers run.cells 5); free = drop 1 memory.free }) (sym suits.fixed_cells)
-          ∙ (ap (λ t. record memory { cells = first_values n (stored s.fixed_cells t (s.first g.count) numbers run.cells 5); free = drop 1 memory.free }) (sym suits.slot)
-          ∙ (ap (λ (m : PlainMemory). record m { cells = first_values n (put 5); free = drop 1 m.free }) shows.left
-          ∙ ap (λ free. record (memory_after request start run) { cells = first_values n (put 5); free = free }) (drop_one (length run.made) (length (run.made ++ slot ∷ [])) start.free (length-append run.made (slot ∷ []))))))));
+              ∙ (ap (λ cs. record memory { cells = cs; free = drop 1 memory.free }) (filled_values n memory.fixed_cells (get_or memory.free 0 0) (map number init.cells) memory.cells run.cells (s.first g.count) numbers (ap (λ (m : PlainMemory). m.cells) shows.left) suits.first (λ k below. get_or-map number init.cells k (Const 0)) 5 (omega arith))
+              ∙ (ap (λ f. record memory { cells = first_values n (stored f (get_or memory.free 0 0) (s.first g.count) numbers run.cells 5); free = drop 1 memory.free }) (sym suits.fixed_cells)
+              ∙ (ap (λ t. record memory { cells = first_values n (stored s.fixed_cells t (s.first g.count) numbers run.cells 5); free = drop 1 memory.free }) (sym suits.slot)
+              ∙ (ap (λ (m : PlainMemory). record m { cells = first_values n (put 5); free = drop 1 m.free }) shows.left
+              ∙ ap (λ free. record (memory_after request start run) { cells = first_values n (put 5); free = free }) (drop_one (length run.made) (length (run.made ++ slot ∷ [])) start.free (length-append run.made (slot ∷ []))))))));
           agreed = pushed after _ _ next (ap (λ t. t + 1) (sym suits.slot));
-          ended = refl
+          ended = refl;
         })
 
     -- the check behind a granted lock's first word passes
@@ -181,15 +180,15 @@ module _ (request : ℕ) (start : PlainMemory) (s : Setting) (run : Run) where
         let count2 : k + 1 ≡ length words = (let l = length-append run.trail (s.taken k ∷ []) in omega arith) in
         let read2 : get_or more (k + 1) 0 ≡ held_word s.descriptor word = ap (λ i. get_or more i 0) count2 ∙ (get_or-append_seam words (s.taken (k + 1)) [] 0 ∙ suits.held) in
         resume (micros g (Take place word)) memory after None shows.ended
-          (subst (λ o. Shows request start (ran s (record one { outcome = o }) (NestedHold place word ∷ OutcomeLoad place (k + 1) ∷ OutcomeCommit place (k + 1) ∷ CheckHeld place (k + 1) word ∷ [])) memory after None) (sym (free_passes place k word (get_or words k 0) suits.going suits.takable read))
-          (subst (λ o. Shows request start (record two { outcome = o }) memory after None) (sym (held_passes place word (get_or more (k + 1) 0) read2))
-          (record {
-            left = shows.left;
-            agreed = next ∙ (ap (λ (t : Agreement). record t { words = (t.words ++ word ∷ []) ++ held_word 0 word ∷ [] }) shows.agreed
-            ∙ (ap (λ w. record { words = (run.trail ++ w ∷ []) ++ held_word 0 word ∷ []; late = false }) (sym suits.free)
-            ∙ ap (λ w. record { words = words ++ w ∷ []; late = false }) (ap (λ d. held_word d word) (sym suits.descriptor) ∙ sym suits.held)));
-            ended = refl
-          })))
+        (subst (λ o. Shows request start (ran s (record one { outcome = o }) (NestedHold place word ∷ OutcomeLoad place (k + 1) ∷ OutcomeCommit place (k + 1) ∷ CheckHeld place (k + 1) word ∷ [])) memory after None) (sym (free_passes place k word (get_or words k 0) suits.going suits.takable read))
+        (subst (λ o. Shows request start (record two { outcome = o }) memory after None) (sym (held_passes place word (get_or more (k + 1) 0) read2))
+        (record {
+          left = shows.left;
+          agreed = next ∙ (ap (λ (t : Agreement). record t { words = (t.words ++ word ∷ []) ++ held_word 0 word ∷ [] }) shows.agreed
+              ∙ (ap (λ w. record { words = (run.trail ++ w ∷ []) ++ held_word 0 word ∷ []; late = false }) (sym suits.free)
+              ∙ ap (λ w. record { words = words ++ w ∷ []; late = false }) (ap (λ d. held_word d word) (sym suits.descriptor) ∙ sym suits.held)));
+          ended = refl;
+        })))
 
     pub busy_shows : (g : Registers) (place word : ℕ) (after : Agreement) → place < length memory.cells → g.count ≡ length trail.words → BusySuits s memory g.count place → after ≡ record trail { words = trail.words ++ get_or memory.cells place 0 ∷ [] } → Shows request start (ran s run (micros g (Take place word))) memory after (Some (Busy place (get_or memory.cells place 0)))
     busy_shows g place word after within long suits next =
@@ -200,17 +199,17 @@ module _ (request : ℕ) (start : PlainMemory) (s : Setting) (run : Run) where
         let read : get_or words k 0 ≡ get_or memory.cells place 0 = ap (λ i. get_or words i 0) count ∙ (get_or-append_seam run.trail (s.taken k) [] 0 ∙ suits.standing) in
         let busy : Option Outcome = Some (Busy place (get_or memory.cells place 0)) in
         resume (micros g (Take place word)) memory after busy shows.ended
-          (subst (λ o. Shows request start (ran s (record one { outcome = o }) (NestedHold place word ∷ OutcomeLoad place (k + 1) ∷ OutcomeCommit place (k + 1) ∷ CheckHeld place (k + 1) word ∷ [])) memory after busy) (sym (busy_leaves place k word (get_or words k 0) (get_or memory.cells place 0) suits.refused read))
-          (record {
-            left = shows.left;
-            agreed = pushed after _ _ next (sym suits.standing);
-            ended = refl
-          }))
+        (subst (λ o. Shows request start (ran s (record one { outcome = o }) (NestedHold place word ∷ OutcomeLoad place (k + 1) ∷ OutcomeCommit place (k + 1) ∷ CheckHeld place (k + 1) word ∷ [])) memory after busy) (sym (busy_leaves place k word (get_or words k 0) (get_or memory.cells place 0) suits.refused read))
+        (record {
+          left = shows.left;
+          agreed = pushed after _ _ next (sym suits.standing);
+          ended = refl;
+        }))
 
     pub take_shows : (g : Registers) (place word : ℕ) (got : Bool) (after : Agreement) (outcome : Option Outcome) → place < length memory.cells → g.count ≡ length trail.words → LockSuits s memory got g.count place word
-      → (got ≡ true → (outcome ≡ None) × (after ≡ record trail { words = (trail.words ++ word ∷ []) ++ held_word 0 word ∷ [] }))
-      → (got ≡ false → (outcome ≡ Some (Busy place (get_or memory.cells place 0))) × (after ≡ record trail { words = trail.words ++ get_or memory.cells place 0 ∷ [] }))
-      → Shows request start (ran s run (micros g (Take place word))) memory after outcome
+        → (got ≡ true → (outcome ≡ None) × (after ≡ record trail { words = (trail.words ++ word ∷ []) ++ held_word 0 word ∷ [] }))
+        → (got ≡ false → (outcome ≡ Some (Busy place (get_or memory.cells place 0))) × (after ≡ record trail { words = trail.words ++ get_or memory.cells place 0 ∷ [] }))
+        → Shows request start (ran s run (micros g (Take place word))) memory after outcome
     take_shows g place word true after outcome within long suits taken refused =
         let t = taken refl in
         subst (λ o. Shows request start (ran s run (micros g (Take place word))) memory after o) (sym t.0) (got_shows g place word after long suits t.1)

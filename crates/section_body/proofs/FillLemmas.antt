@@ -1,5 +1,5 @@
 -- Cells that a Make fills.
-use Rattle.std.proofs.Common.{◌≡◌, ◌≢◌, ℕ, zero, suc, ◌+◌, ◌*◌, ◌<◌, ◌≤◌, List, length, refl, sym, ap, ◌∙◌, arith, get_or, set, get_or-set_other, length-set}
+use Rattle.std.proofs.Common.{◌≡◌, ◌≢◌, ℕ, zero, suc, ◌+◌, ◌≤◌, List, length, refl, ap, ◌∙◌, arith, get_or, set, get_or-set_other, length-set}
 use Rattle.section_body.specs.Word.{next_word}
 use Rattle.section_body.specs.Memory.{PlainMemory, cell_of}
 use Rattle.section_body.specs.Act.{filled}

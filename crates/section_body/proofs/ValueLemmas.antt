@@ -1,6 +1,5 @@
 -- Cells as the first values of a function.
-use Rattle.std.proofs.Common.{◌≡◌, ◌≢◌, ℕ, zero, suc, ◌+◌, ◌<◌, ◌≤◌, List, length, refl, sym, ap, ◌∙◌, arith, get_or, set, get_or-set_other, get_or-set_same, length-set}
-use Rattle.std.specs.Prelude.{◌==◌, cond}
+use Rattle.std.proofs.Common.{◌≡◌, ℕ, ◌<◌, List, length, refl, ◌∙◌, arith, get_or, set, get_or-set_other, get_or-set_same, length-set}
 use Rattle.std.proofs.lemmas.Bool.Decides.{nat_tests}
 use Rattle.std.proofs.lemmas.List.FromFn.{get_or-map-range_with_len, length-map-range_with_len, fill_by_all}
 use Rattle.section_body.specs.Update.{upd}

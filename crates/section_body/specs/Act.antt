@@ -1,14 +1,13 @@
 -- One step of a run in one go: what it needs, and what it leaves.
-use Rattle.std.specs.Prelude.{◌≡◌, ℕ, zero, suc, ◌+◌, ◌^◌, ◌<◌, ◌≤◌, List, [], ◌∷◌, ◌++◌, Bool, true, false, not, length, slice_index, slice_set, All, Option}
+use Rattle.std.specs.Prelude.{◌≡◌, ℕ, zero, suc, ◌+◌, ◌^◌, ◌<◌, List, Bool, true, false, length, slice_index, slice_set, All, Option}
 use Rattle.section_body.specs.Word.{version_of, next_word, held_word}
 use Rattle.section_body.specs.Trail.{Agreed as Agreement}
 use Rattle.section_body.specs.Memory.{PlainMemory, cell_of}
-use Rattle.section_body.specs.Line.{Registers, log_words}
+use Rattle.section_body.specs.Line.{Registers}
 use Rattle.section_body.specs.Run.{Setting, Run, is_takable}
 use Rattle.section_body.specs.Plain.{memory_after}
 use Rattle.section_body.specs.declared.value.Value.{Value}
 use Rattle.section_body.specs.declared.value.Value.TheVariants.{Const, Of, Made}
-use Rattle.section_body.specs.declared.value.Init.{Init}
 use Rattle.section_body.specs.declared.step.Step.{Step}
 use Rattle.section_body.specs.declared.step.Step.TheVariants.{Load, Want, Fresh, Take, Make, Stamp, Store, Retire, Answer}
 use Rattle.section_body.specs.declared.outcome.Outcome.{Outcome}
@@ -38,16 +37,16 @@ pub record StoreFits (memory : PlainMemory) (trail : List ℕ) (place log : ℕ)
   pub room : slice_index memory.cells place ≡ slice_index trail log → version_of (slice_index trail log) + 1 < 2 ^ 32
 
 -- what a step needs of the memory and of the words agreed so far
-abbrev pub StepFits : ℕ → PlainMemory → List ℕ → Registers → Step → Type 0
-StepFits request memory trail g (Load place into) = place < length memory.cells
-StepFits request memory trail g (Want reg word) = g.log reg < length trail
-StepFits request memory trail g (Fresh reg) = g.log reg < length trail
-StepFits request memory trail g (Take place word) = (place < length memory.cells) × (version_of word + 1 < 2 ^ 32)
-StepFits request memory trail g (Make init into) = SlotFits memory × All (IsLogged g (length trail)) init.cells
-StepFits request memory trail g Stamp = (request < length memory.stamps) × (memory.clock < 2 ^ 62)
-StepFits request memory trail g (Store reg value) = StoreFits memory trail (g.place reg) (g.log reg) × IsLogged g (length trail) value
-StepFits request memory trail g (Retire slot) = length memory.retired < memory.room
-StepFits request memory trail g (Answer reply) = request < length memory.replies
+abbrev pub StepFits : ℕ → PlainMemory → List ℕ → Registers → Bool → Step → Type 0
+StepFits request memory trail g got (Load place into) = place < length memory.cells
+StepFits request memory trail g got (Want reg word) = g.log reg < length trail
+StepFits request memory trail g got (Fresh reg) = g.log reg < length trail
+StepFits request memory trail g got (Take place word) = (place < length memory.cells) × (got ≡ true → version_of word + 1 < 2 ^ 32)
+StepFits request memory trail g got (Make init into) = SlotFits memory × All (IsLogged g (length trail)) init.cells
+StepFits request memory trail g got Stamp = (request < length memory.stamps) × (memory.clock < 2 ^ 62)
+StepFits request memory trail g got (Store reg value) = StoreFits memory trail (g.place reg) (g.log reg) × IsLogged g (length trail) value
+StepFits request memory trail g got (Retire slot) = length memory.retired < memory.room
+StepFits request memory trail g got (Answer reply) = request < length memory.replies
 
 -- the choices at a Take whose lock is got: its free word, which may be taken, and the held one
 pub record GotSuits (s : Setting) (log word : ℕ) : Type 0 where

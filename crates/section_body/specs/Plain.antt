@@ -1,9 +1,10 @@
 -- One run of a body in one go, over a memory of its own.
-use Rattle.std.specs.Prelude.{ℕ, map, List, [], ◌∷◌, ◌++◌, Bool, true, false, drop, length, slice_index, slice_index_or, slice_set, None}
+use Rattle.std.specs.Prelude.{◌≡◌, ◌≢◌, ◌+◌, ◌<◌, ◌≤◌, All, count_by, take, ℕ, map, List, [], ◌∷◌, ◌++◌, Bool, true, false, drop, length, slice_index, slice_index_or, slice_set, None}
 use Rattle.std.specs.List.{range_with_len}
-use Rattle.section_body.specs.Word.{held_word}
+use Rattle.section_body.specs.Word.{version_of, held_word, is_free, is_spent}
 use Rattle.section_body.specs.Memory.{PlainMemory, cell_of}
 use Rattle.section_body.specs.Line.{line}
+use Rattle.section_body.specs.Shape.{IsStep, is_take, is_make, is_retire}
 use Rattle.section_body.specs.Run.{Setting, Run, ran}
 use Rattle.section_body.specs.declared.step.Step.{Step}
 use Rattle.section_body.specs.declared.step.Step.TheVariants.{Load, Want, Fresh, Take, Make, Stamp, Store, Retire, Answer}
@@ -84,3 +85,32 @@ memory_after request memory r = record memory {
   stamps = slice_set memory.stamps request r.stamp;
   replies = slice_set memory.replies request r.reply;
 }
+
+-- the places that a body loads and locks are cells of this memory
+pub record PlacesFit (body : List Step) (memory : PlainMemory) : Type 0 where
+  pub loads : (i place into : ℕ) → IsStep body i (Load place into) → place < length memory.cells
+  pub locks : (i place word : ℕ) → IsStep body i (Take place word) → place < length memory.cells
+
+-- the first free slots, one for each Make, are there and are different, and none of their cells is at the greatest version
+pub record SlotsFit (body : List Step) (memory : PlainMemory) : Type 0 where
+  pub there : count_by is_make body ≤ length memory.free
+  pub different : (i j : ℕ) → i < j → j < count_by is_make body → slice_index memory.free i ≢ slice_index memory.free j
+  pub within : (i cell : ℕ) → i < count_by is_make body → cell < 5 → cell_of memory.fixed_cells (slice_index memory.free i) cell < length memory.cells
+  pub unworn : (i cell : ℕ) → i < count_by is_make body → cell < 5 → version_of (slice_index memory.cells (cell_of memory.fixed_cells (slice_index memory.free i) cell)) ≢ memory.version_max
+
+-- `taken` has an entry for each Take, and a Take whose lock is got expects a free word that isn't spent
+pub record LocksFit (body : List Step) (memory : PlainMemory) (taken : List Bool) : Type 0 where
+  pub given : count_by is_take body ≤ length taken
+  pub takable : (i place word : ℕ) → IsStep body i (Take place word) → slice_index_or taken (count_by is_take (take i body)) false ≡ true → (is_free word ≡ true) × (is_spent memory.version_max word ≡ false)
+
+-- the request's words are there
+abbrev pub HasRequest : ℕ → PlainMemory → Type 0
+HasRequest request memory = (request < length memory.stamps) × (request < length memory.replies)
+
+-- there is room for the slots that this body retires
+abbrev pub HasRoom : List Step → PlainMemory → Type 0
+HasRoom body memory = length memory.retired + count_by is_retire body ≤ memory.room
+
+-- no version among these cells is above the greatest one
+abbrev pub VersionsFit : PlainMemory → Type 0
+VersionsFit memory = All (λ word. version_of word ≤ memory.version_max) memory.cells

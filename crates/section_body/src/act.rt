@@ -45,9 +45,15 @@ fn fill_slot(steps: &[Step], n: usize, init: Init, trail: &Trail, memory: &mut M
 }
 
 /// Takes a lock that is got, or leaves with the word that stands there.
-fn take_lock(place: Place, word: Word, got: bool, memory: &Memory, trail: &mut Trail) -> Option<Outcome>
+fn take_lock(
+    place: Place,
+    word: Word,
+    got: bool,
+    memory: &Memory,
+    trail: &mut Trail,
+) -> Option<Outcome>
     requires within { place < length memory.now.cells }
-    requires room { version_of word + 1 < 2 ^ 32 }
+    requires room { got ≡ true → version_of word + 1 < 2 ^ 32 }
     requires space { length trail.old.words + 2 ≤ 64 }
     ensures taken { got ≡ true → (result ≡ None) × (trail.new ≡ record trail.old { words = (trail.old.words ++ word ∷ []) ++ held_word 0 word ∷ [] }) }
     ensures refused { got ≡ false → let read = slice_index memory.now.cells place in (result ≡ Some (Busy place read)) × (trail.new ≡ record trail.old { words = trail.old.words ++ read ∷ [] }) }
@@ -79,10 +85,18 @@ fn make_node(steps: &[Step], n: usize, init: Init, memory: &mut Memory, trail: &
 }
 
 /// Makes this step, the body's step `n`, for this request, and gives the outcome where the run ends with it.
-pub fn act(steps: &[Step], n: usize, step: &Step, request: u32, got: bool, memory: &mut Memory, trail: &mut Trail) -> Option<Outcome>
+pub fn act(
+    steps: &[Step],
+    n: usize,
+    step: &Step,
+    request: u32,
+    got: bool,
+    memory: &mut Memory,
+    trail: &mut Trail,
+) -> Option<Outcome>
     requires few { length steps.now ≤ 40 }
     requires within { n ≤ length steps.now }
-    requires fits { StepFits request memory.old trail.old.words (registers_before steps.now n) step.now }
+    requires fits { StepFits request memory.old trail.old.words (registers_before steps.now n) got step.now }
     requires space { length trail.old.words + log_words step.now ≤ 64 }
     ensures { (start : PlainMemory) (s : Setting) (run : Run) → let g = registers_before steps.now n in
         Shows request start run memory.old trail.old None → StepSuits s memory.old got g.count step.now → g.count ≡ length trail.old.words → request < length start.stamps → request < length start.replies
@@ -96,7 +110,11 @@ pub fn act(steps: &[Step], n: usize, step: &Step, request: u32, got: bool, memor
         Step::Want { reg, word } => {
             let Register { place, log } = register_at(steps, n, reg);
             let read = trail.word(log);
-            (read != word).then(|| Outcome::Stale { place, expected: word, read })
+            (read != word).then(|| Outcome::Stale {
+                place,
+                expected: word,
+                read,
+            })
         }
         Step::Fresh { reg } => {
             let Register { place, log } = register_at(steps, n, reg);

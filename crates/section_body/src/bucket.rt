@@ -50,10 +50,18 @@ fn read_body(thunk: &Thunk) -> Option<Body>
 {
     let edition = thunk.lock.checked_add(1)?;
     Some(Body::from_slice(&[
-        Step::Load { place: edition, into: 0 },
-        Step::Want { reg: 0, word: Word::from_bits(thunk.operands[0]) },
+        Step::Load {
+            place: edition,
+            into: 0,
+        },
+        Step::Want {
+            reg: 0,
+            word: Word::from_bits(thunk.operands[0]),
+        },
         Step::Stamp,
-        Step::Answer { reply: thunk.operands[1] },
+        Step::Answer {
+            reply: thunk.operands[1],
+        },
     ]))
 }
 
@@ -77,15 +85,30 @@ fn insert_body(thunk: &Thunk) -> Option<Body>
         ],
     };
     Some(Body::from_slice(&[
-        Step::Load { place: head - 1, into: 0 },
-        Step::Want { reg: 0, word: Word::from_bits(thunk.operands[0]) },
+        Step::Load {
+            place: head - 1,
+            into: 0,
+        },
+        Step::Want {
+            reg: 0,
+            word: Word::from_bits(thunk.operands[0]),
+        },
         Step::Fresh { reg: 0 },
-        Step::Load { place: head, into: 1 },
+        Step::Load {
+            place: head,
+            into: 1,
+        },
         Step::Fresh { reg: 1 },
         Step::Make { init, into: 2 },
         Step::Stamp,
-        Step::Store { reg: 1, value: Value::Made(2) },
-        Step::Store { reg: 0, value: Value::Const(0) },
+        Step::Store {
+            reg: 1,
+            value: Value::Made(2),
+        },
+        Step::Store {
+            reg: 0,
+            value: Value::Const(0),
+        },
         Step::Answer { reply: NEW },
     ]))
 }
@@ -101,14 +124,29 @@ fn remove_body(thunk: &Thunk) -> Option<Body>
     let slot = u32::try_from(thunk.operands[2]).ok()?;
     let next = u32::try_from(thunk.operands[3]).ok()?;
     Some(Body::from_slice(&[
-        Step::Load { place: edition, into: 0 },
-        Step::Want { reg: 0, word: Word::from_bits(thunk.operands[0]) },
+        Step::Load {
+            place: edition,
+            into: 0,
+        },
+        Step::Want {
+            reg: 0,
+            word: Word::from_bits(thunk.operands[0]),
+        },
         Step::Fresh { reg: 0 },
-        Step::Load { place: link, into: 1 },
+        Step::Load {
+            place: link,
+            into: 1,
+        },
         Step::Fresh { reg: 1 },
         Step::Stamp,
-        Step::Store { reg: 1, value: Value::Const(next) },
-        Step::Store { reg: 0, value: Value::Const(0) },
+        Step::Store {
+            reg: 1,
+            value: Value::Const(next),
+        },
+        Step::Store {
+            reg: 0,
+            value: Value::Const(0),
+        },
         Step::Retire { slot },
         Step::Answer { reply: GONE },
     ]))

@@ -26,7 +26,9 @@ impl Model for Word {
 impl Word {
     /// The word with this value and this version.
     pub fn pack(value: u32, version: u32) -> Word
-        ensures { result ≡ pack value version }
+        ensures number { result ≡ pack value version }
+        ensures value { value_of result ≡ value }
+        ensures version { version_of result ≡ version }
     {
         Word {
             number: ((version as u64) << 32) | value as u64,
@@ -64,7 +66,8 @@ impl Word {
 
     /// The number that stands in memory for the word.
     pub fn bits(self) -> u64
-        ensures { result ≡ self }
+        ensures number { result ≡ self }
+        ensures parts { pack (value_of result) (version_of result) ≡ result }
     {
         self.number
     }

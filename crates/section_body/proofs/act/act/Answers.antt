@@ -1,12 +1,11 @@
-use Rattle.std.proofs.Common.{◌≡◌, ◌∷◌, [], ◌++◌, ap, ◌∙◌, refl}
-use Rattle.section_body.specs.Trail.{Agreed as Agreement}
+use Rattle.std.proofs.Common.{◌∷◌, [], ◌++◌, ap, ◌∙◌}
 use Rattle.section_body.specs.Line.{registers_before}
 use Rattle.section_body.proofs.ActLemmas.{load_shows, answer_shows, stamp_shows, exchange_shows, make_shows, take_shows}
 use Rattle.section_body.proofs.act.act.Goals as goal
 
 pub returns-in-Load : goal.returns-in-Load
 returns-in-Load c start s run shows suits count stamps replies =
-    let pushed = c.agree.ensures ∙ ap (λ w. record c.args.trail.now { words = c.args.trail.now.words ++ w ∷ [] }) (c.bits.ensures ∙ c.word.ensures) in
+    let pushed = c.agree.ensures ∙ ap (λ w. record c.args.trail.now { words = c.args.trail.now.words ++ w ∷ [] }) (c.bits.ensures.number ∙ c.word.ensures) in
     rw c.in-Load.is (load_shows c.args.request start s run c.args.memory.now c.args.trail.now shows (registers_before c.args.steps.now c.args.n) c.in-Load.place c.in-Load.into c.agree.new.self (rw c.in-Load.is at c.requires.fits) pushed)
 
 pub returns-in-Take : goal.returns-in-Take

@@ -1,4 +1,4 @@
-use Rattle.std.proofs.Common.{◌≡◌, length}
+use Rattle.std.proofs.Common.{◌≡◌}
 use Rattle.std.specs.Prelude.{map}
 use Rattle.section_body.specs.Line.{registers_before, source_of}
 use Rattle.section_body.specs.Run.{source_value}

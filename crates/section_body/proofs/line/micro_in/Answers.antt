@@ -1,5 +1,5 @@
-use Rattle.std.proofs.Common.{◌≡◌, ◌<◌, ◌≤◌, ◌+◌, ◌-◌, length, sym, ap, ◌∙◌, arith, subst}
-use Rattle.section_body.specs.Line.{Registers, registers_before, micro_count}
+use Rattle.std.proofs.Common.{◌<◌, ◌≤◌, ◌-◌, sym, ◌∙◌, arith, subst}
+use Rattle.section_body.specs.Line.{micro_count}
 use Rattle.section_body.proofs.LineLemmas.{micro_found, micro_past, begins_more, count_more}
 use Rattle.section_body.proofs.line.micro_in.Goals as goal
 
@@ -18,7 +18,7 @@ loop-n-preserved c =
       past = omega arith;
       log = omega (arith, count, c.log_words-log.ensures.exact);
       early = omega (arith, c.micro_count-count.ensures.few);
-      few = omega (arith, c.log_words-log.ensures.few)
+      few = omega (arith, c.log_words-log.ensures.few);
     }
 
 pub returns : goal.returns

@@ -8,5 +8,5 @@ invariant-loop-n l = record {
   past : l.begin ≤ l.at;
   log : l.log ≡ (registers_before l.steps l.n).count;
   early : l.begin ≤ 11 * l.n;
-  few : l.log ≤ 2 * l.n
+  few : l.log ≤ 2 * l.n;
 }

@@ -1,6 +1,6 @@
-use Rattle.std.proofs.Common.{◌≡◌, ◌<◌, ◌≤◌, ◌+◌, length, sym, ap, ◌∙◌, arith, subst}
-use Rattle.section_body.specs.Line.{Registers, registers_before, log_words}
-use Rattle.section_body.proofs.LineLemmas.{registers_before_more, count_more, log_words_le}
+use Rattle.std.proofs.Common.{◌<◌, length, sym, ap, ◌∙◌, arith}
+use Rattle.section_body.specs.Line.{Registers, registers_before}
+use Rattle.section_body.proofs.LineLemmas.{registers_before_more, count_more}
 use Rattle.section_body.proofs.line.register_at.Goals as goal
 
 pub loop-i-preserved : goal.loop-i-preserved
@@ -15,5 +15,5 @@ loop-i-preserved c =
       place = c.register_after-register.ensures.place (registers_before steps i) before.place ∙ sym (ap (λ (g : Registers). g.place c.args.reg) next);
       log = c.register_after-register.ensures.log (registers_before steps i) before.log before.count ∙ sym (ap (λ (g : Registers). g.log c.args.reg) next);
       count = omega (arith, count_more steps i step within c.index-steps-i.is, c.log_words-count.ensures.exact);
-      few = omega (arith, c.log_words-count.ensures.few)
+      few = omega (arith, c.log_words-count.ensures.few);
     }

@@ -7,5 +7,5 @@ invariant-loop-i l = record {
   place : l.register.place ≡ (registers_before l.steps l.i).place l.reg;
   log : l.register.log ≡ (registers_before l.steps l.i).log l.reg;
   count : l.count ≡ (registers_before l.steps l.i).count;
-  few : l.count ≤ 2 * l.i
+  few : l.count ≤ 2 * l.i;
 }

@@ -1,0 +1,314 @@
+-- The hash table keeps what it keeps, by every move.
+use Rattle.std.proofs.Common.{◌≡◌, ◌≢◌, ℕ, suc, ◌+◌, ◌*◌, ◌<◌, ◌≤◌, Bool, true, false, cond, refl, sym, ap, ◌∙◌, subst, inl, inr, ⊎_elim, arith}
+use Rattle.std.specs.Prelude.{◌==◌, ◌&&◌, ◌%◌, ◌⊎◌, nat_lt, Option, Some, None, [], ◌∷◌, ◌++◌, slice_get}
+use mathlib.Core.Logic.{dite}
+use native.Mathlib.Decide.{ℕ_discrete}
+use Rattle.map_history.specs.declared.op.Op.{Op}
+use Rattle.map_history.specs.Keys.{key_of}
+use Rattle.section_body.specs.Update.{upd}
+use Rattle.section_body.specs.Word.{value_of}
+use Rattle.section_body.specs.Bucket.{bucket_edition, bucket_head, operand, insert_steps, remove_steps}
+use Rattle.section_body.specs.declared.step.Step.{Step}
+use Rattle.section_body.specs.declared.step.Step.TheVariants.{Want, Fresh, Stamp, Answer}
+use Rattle.section_body.specs.declared.thunk.Thunk.{Thunk}
+use Rattle.table_words.specs.declared.layout.Layout.{Layout}
+use Rattle.table_words.specs.Limits.{IsWithinLimits}
+use Rattle.structure_laws.specs.Scene.{Readings, Section, Status, Free, Live, Retired, Scene, with_cell, with_reader, with_section, with_status, opened}
+use Rattle.structure_laws.specs.Sections.{Here, Settled, Ended, is_exit}
+use Rattle.structure_laws.specs.Keeps.{Keeps}
+use Rattle.structure_laws.proofs.Changes.{upd_same, upd_other, upd_some, upd_none}
+use Rattle.bucket_laws.specs.Chain.{Nodes, Chains}
+use Rattle.bucket_laws.specs.Walk.{Walk, start, cell_at, walk}
+use Rattle.bucket_laws.specs.Buckets.{Insert, Remove, form_of, nodes, Knows, IsWalked, walk_of, bounds, BucketsKept, table}
+use Rattle.bucket_laws.proofs.Elsewhere.{IsElsewhere, knows_on}
+use Rattle.bucket_laws.proofs.Forms.{step_in, no_take}
+use Rattle.bucket_laws.proofs.TableSteps.{quiet_kept, load_kept, make_kept, retire_kept}
+use Rattle.bucket_laws.proofs.TableStores.{table_store}
+use Rattle.bucket_laws.proofs.Walks.{knows_fed, walk_push, is_first, edition_kept}
+
+some_inj : {A : Type 0} {x y : A} → Some x ≡ Some y → x ≡ y
+some_inj e = cc
+
+-- chains are those of any memory that agrees on heads and on the slots in them
+pub chains_agree : (bucket : ℕ → ℕ) (n n' : Nodes) (on : ℕ → Bool) (rank : ℕ → ℕ) (chains : Chains bucket n on rank) (heads : (i : ℕ) → n'.head i ≡ n.head i)
+    (keys : (u : ℕ) → on u ≡ true → n'.key u ≡ n.key u) (links : (u : ℕ) → on u ≡ true → n'.next u ≡ n.next u) → Chains bucket n' on rank
+chains_agree bucket n n' on rank chains heads keys links = record {
+  head_on = λ i t h. let there = chains.head_on i t (sym (heads i) ∙ h) in (there.0, ap bucket (keys t there.0) ∙ there.1);
+  head_top = λ i t u h on_u of. chains.head_top i t u (sym (heads i) ∙ h) on_u (ap bucket (sym (keys u on_u)) ∙ of);
+  head_none = λ i u h on_u of. chains.head_none i u (sym (heads i) ∙ h) on_u (ap bucket (sym (keys u on_u)) ∙ of);
+  next_on = λ s t on_s h. let there = chains.next_on s t on_s (sym (links s on_s) ∙ h) in (there.0, ap bucket (keys t there.0) ∙ there.1 ∙ ap bucket (sym (keys s on_s)), there.2);
+  next_top = λ s t u on_s h on_u beside. chains.next_top s t u on_s (sym (links s on_s) ∙ h) on_u (ap bucket (sym (keys u on_u)) ∙ beside ∙ ap bucket (keys s on_s));
+  next_none = λ s u on_s h on_u beside. chains.next_none s u on_s (sym (links s on_s) ∙ h) on_u (ap bucket (sym (keys u on_u)) ∙ beside ∙ ap bucket (keys s on_s));
+  rank_once = λ s t on_s on_t beside. chains.rank_once s t on_s on_t (ap bucket (sym (keys s on_s)) ∙ beside ∙ ap bucket (keys t on_t));
+  key_once = λ s t on_s on_t same. chains.key_once s t on_s on_t (sym (keys s on_s) ∙ same ∙ keys t on_t);
+}
+
+insert_late : (t : Thunk) (j : ℕ) (step : Step) → slice_get (insert_steps t) j ≡ Some step → 5 ≤ j → is_exit step ≡ false
+insert_late t j step h low = grind arith
+
+remove_late : (t : Thunk) (j : ℕ) (step : Step) → slice_get (remove_steps t) j ≡ Some step → 5 ≤ j → is_exit step ≡ false
+remove_late t j step h low = grind arith
+
+insert_whole : (t : Thunk) (j : ℕ) → slice_get (insert_steps t) j ≡ None → j ≤ 9 → ⊥
+insert_whole t j h low = grind arith
+
+remove_whole : (t : Thunk) (j : ℕ) → slice_get (remove_steps t) j ≡ None → j ≤ 9 → ⊥
+remove_whole t j h low = grind arith
+
+module _ (buckets : ℕ) (bucket : ℕ → ℕ) where
+  -- a section past its exits isn't done before its last step
+  insert_open : (x : Section) → form_of x.thunk ≡ Insert → 5 ≤ x.at → x.at ≤ 9 → (Settled (table buckets bucket) x → Ended (table buckets bucket) x) → ⊥
+  insert_open x form low high ended = insert_whole x.thunk x.at (sym (step_in x.thunk Insert x.at form) ∙ ended (λ j step le h. insert_late x.thunk j step (sym (step_in x.thunk Insert j form) ∙ h) (omega arith))) high
+
+  remove_open : (x : Section) → form_of x.thunk ≡ Remove → 5 ≤ x.at → x.at ≤ 9 → (Settled (table buckets bucket) x → Ended (table buckets bucket) x) → ⊥
+  remove_open x form low high ended = remove_whole x.thunk x.at (sym (step_in x.thunk Remove x.at form) ∙ ended (λ j step le h. remove_late x.thunk j step (sym (step_in x.thunk Remove j form) ∙ h) (omega arith))) high
+
+module _ (buckets : ℕ) (bucket : ℕ → ℕ) (small : (key : ℕ) → bucket key < buckets) (layout : Layout) (s : Scene) (kept : BucketsKept buckets bucket layout s) where
+  -- a runner's readings change
+  readers_kept : (r : ℕ) (new : Option Readings) → ((readings : Readings) (op : Op) → new ≡ Some readings → IsWalked buckets bucket s kept.on kept.rank op (walk_of buckets bucket layout op readings)) → BucketsKept buckets bucket layout (with_reader s r new)
+  readers_kept r new walks = record {
+    on = kept.on;
+    rank = kept.rank;
+    chains = kept.chains;
+    on_live = kept.on_live;
+    readers = λ q readings op h. dite (ℕ_discrete q r) (λ e. walks readings op (sym (upd_same s.reader r q new e) ∙ h)) (λ ne. kept.readers q readings op (sym (upd_other s.reader r q new ne) ∙ h));
+    sections = kept.sections;
+    linked = kept.linked;
+    live = kept.live;
+    limbo = kept.limbo;
+    made = λ e z h form low high. let was = kept.made e z h form low high in record { slot = was.slot; link = was.link; live = was.live; out = was.out; key = was.key; value = was.value; next = was.next };
+    taken = λ e z h form low high. let was = kept.taken e z h form low high in record { live = was.live; out = was.out; key = was.key; next = was.next };
+  }
+
+  start_walked : (op : Op) → IsWalked buckets bucket s kept.on kept.rank op (walk_of buckets bucket layout op [])
+  unfolding walk
+  start_walked op edition none = tt
+
+  -- one more reading
+  read_walked : (op : Op) (readings : Readings) (p : ℕ) → IsWalked buckets bucket s kept.on kept.rank op (walk_of buckets bucket layout op readings) → IsWalked buckets bucket s kept.on kept.rank op (walk_of buckets bucket layout op (readings ++ (p, s.cells p) ∷ []))
+  read_walked op readings p before = ⊎_elim
+      (λ stays. subst (IsWalked buckets bucket s kept.on kept.rank op) (sym stays) before)
+      (λ goes. subst (IsWalked buckets bucket s kept.on kept.rank op) (sym goes.1)
+      (λ edition none. knows_fed buckets bucket small (bounds buckets bucket layout) s.cells kept.on kept.rank kept.chains op (walk_of buckets bucket layout op readings) (walk_of buckets bucket layout op readings).stage p goes.0
+      (⊎_elim (λ first. subst (Knows buckets bucket s.cells kept.on kept.rank op (walk_of buckets bucket layout op readings)) (sym first) tt)
+      (λ later. before (edition ∙ edition_kept buckets bucket small (bounds buckets bucket layout) op (walk_of buckets bucket layout op readings) (walk_of buckets bucket layout op readings).stage (s.cells p) later) none)
+      (is_first buckets bucket small (walk_of buckets bucket layout op readings).stage))))
+      (walk_push buckets bucket small (bounds buckets bucket layout) op start readings p (s.cells p))
+
+  -- a section is published
+  holds_kept : (r d : ℕ) (readings : Readings) (op : Op) (thunk : Thunk) → s.reader r ≡ Some readings → s.section d ≡ None → BucketsKept buckets bucket layout (with_section s d (Some (opened op thunk readings)))
+  holds_kept r d readings op thunk reader none = record {
+    on = kept.on;
+    rank = kept.rank;
+    chains = kept.chains;
+    on_live = kept.on_live;
+    readers = λ q readings op h. walked op (walk_of buckets bucket layout op readings) (kept.readers q readings op h);
+    sections = λ e z h. ⊎_elim
+        (λ same. subst (λ z. IsWalked buckets bucket (with_section s d (Some (opened op thunk readings))) kept.on kept.rank z.op (walk_of buckets bucket layout z.op z.readings)) same.1 (walked op (walk_of buckets bucket layout op readings) (kept.readers r readings op reader)))
+        (λ other. walked z.op (walk_of buckets bucket layout z.op z.readings) (kept.sections e z other.1)) (put e z h);
+    made = λ e z h form low high. ⊎_elim (λ same. absurd (early z same.1 (omega arith)))
+        (λ other. let was = kept.made e z other.1 form low high in record { slot = was.slot; link = was.link; live = was.live; out = was.out; key = was.key; value = was.value; next = was.next }) (put e z h);
+    linked = λ e z h form low. ⊎_elim (λ same. absurd (early z same.1 (omega arith))) (λ other. kept.linked e z other.1 form low) (put e z h);
+    taken = λ e z h form low high. ⊎_elim (λ same. absurd (early z same.1 (omega arith)))
+        (λ other. let was = kept.taken e z other.1 form low high in record { live = was.live; out = was.out; key = was.key; next = was.next }) (put e z h);
+    live = λ t live. ⊎_elim inl (⊎_elim
+        (λ new. inr (inl (new.0, new.1, stays new.0 new.1 new.2 ∙ new.2, new.3, new.4, new.5, new.6)))
+        (λ old. inr (inr (old.0, old.1, stays old.0 old.1 old.2 ∙ old.2, old.3, old.4, old.5, old.6)))) (kept.live t live);
+    limbo = kept.limbo;
+  }
+    where
+      none_some : {x : Section} → None ≡ Some x → ⊥
+      none_some e = cc
+
+      put : (e : ℕ) (z : Section) → upd s.section d (Some (opened op thunk readings)) e ≡ Some z → ((e ≡ d) × (opened op thunk readings ≡ z)) ⊎ ((e ≢ d) × (s.section e ≡ Some z))
+      put e z h = upd_some s.section d e (opened op thunk readings) z h
+
+      early : (z : Section) → opened op thunk readings ≡ z → 1 ≤ z.at → ⊥
+      early z same low = let at = ap (λ z. z.at) same in omega arith
+
+      stays : (e : ℕ) (z : Section) → s.section e ≡ Some z → upd s.section d (Some (opened op thunk readings)) e ≡ s.section e
+      stays e z there = upd_other s.section d e (Some (opened op thunk readings)) (λ same. none_some (sym none ∙ ap s.section (sym same) ∙ there))
+
+      walked : (op' : Op) (w : Walk) → IsWalked buckets bucket s kept.on kept.rank op' w → IsWalked buckets bucket (with_section s d (Some (opened op thunk readings))) kept.on kept.rank op' w
+      walked op' w before edition free = before edition (λ e z there pending. free e z (stays e z there ∙ there) pending)
+
+  -- a section is done
+  done_kept : (d : ℕ) (x : Section) → Here s d x → (Settled (table buckets bucket) x → Ended (table buckets bucket) x) → BucketsKept buckets bucket layout (with_section s d None)
+  done_kept d x here ended = record {
+    on = kept.on;
+    rank = kept.rank;
+    chains = kept.chains;
+    on_live = kept.on_live;
+    readers = λ q readings op h. walked op (walk_of buckets bucket layout op readings) (kept.readers q readings op h);
+    sections = λ e z h. walked z.op (walk_of buckets bucket layout z.op z.readings) (kept.sections e z (left e z h).1);
+    made = λ e z h form low high. let was = kept.made e z (left e z h).1 form low high in record { slot = was.slot; link = was.link; live = was.live; out = was.out; key = was.key; value = was.value; next = was.next };
+    linked = λ e z h form low. kept.linked e z (left e z h).1 form low;
+    taken = λ e z h form low high. let was = kept.taken e z (left e z h).1 form low high in record { live = was.live; out = was.out; key = was.key; next = was.next };
+    live = λ t live. ⊎_elim inl (⊎_elim
+        (λ new. inr (inl (new.0, new.1, stays new.0 new.1 new.2 (λ same. insert_open buckets bucket x (ap (λ z. form_of z.thunk) (sym same) ∙ new.3) (let at = ap (λ z. z.at) same in let low = new.4 in omega arith) (let at = ap (λ z. z.at) same in let high = new.5 in omega arith) ended) ∙ new.2, new.3, new.4, new.5, new.6)))
+        (λ old. inr (inr (old.0, old.1, stays old.0 old.1 old.2 (λ same. remove_open buckets bucket x (ap (λ z. form_of z.thunk) (sym same) ∙ old.3) (let at = ap (λ z. z.at) same in let low = old.4 in omega arith) (let at = ap (λ z. z.at) same in let high = old.5 in omega arith) ended) ∙ old.2, old.3, old.4, old.5, old.6)))) (kept.live t live);
+    limbo = kept.limbo;
+  }
+    where
+      left : (e : ℕ) (z : Section) → upd s.section d None e ≡ Some z → (e ≢ d) × (s.section e ≡ Some z)
+      left e z h = upd_none s.section d e z h
+
+      stays : (e : ℕ) (z : Section) → s.section e ≡ Some z → (z ≡ x → ⊥) → upd s.section d None e ≡ s.section e
+      stays e z there other = upd_other s.section d e None (λ same. other (some_inj (sym there ∙ ap s.section same ∙ here)))
+
+      walked : (op : Op) (w : Walk) → IsWalked buckets bucket s kept.on kept.rank op w → IsWalked buckets bucket (with_section s d None) kept.on kept.rank op w
+      walked op w before edition free = before edition (λ e z there pending. free e z (stays e z there (λ same. ⊎_elim
+          (λ insert. insert_open buckets bucket x (ap (λ z. form_of z.thunk) (sym same) ∙ insert.0) (let at = ap (λ z. z.at) same in let eight = insert.1 in omega arith) (let at = ap (λ z. z.at) same in let eight = insert.1 in omega arith) ended)
+          (λ remove. remove_open buckets bucket x (ap (λ z. form_of z.thunk) (sym same) ∙ remove.0) (let at = ap (λ z. z.at) same in let seven = remove.1 in omega arith) (let at = ap (λ z. z.at) same in let seven = remove.1 in omega arith) ended) pending.1) ∙ there) pending)
+
+  live_free : (x : Status) → x ≡ Live → x ≢ Free
+  live_free x live free = cc
+
+  retired_free : (x : Status) (y : ℕ) → x ≡ Retired y → x ≢ Free
+  retired_free x y retired free = cc
+
+  -- a cell changes that is no edition, no head, and in no node but a free one
+  cell_kept : (p w : ℕ) → ((i : ℕ) → i < buckets → (bucket_edition i ≢ p) × (bucket_head i ≢ p)) → ((u k : ℕ) → s.status u ≢ Free → k < 5 → cell_at buckets bucket u k ≢ p) → BucketsKept buckets bucket layout (with_cell s p w)
+  cell_kept p w fixed cells =
+      let same : (u k : ℕ) → s.status u ≢ Free → k < 5 → upd s.cells p w (cell_at buckets bucket u k) ≡ s.cells (cell_at buckets bucket u k) = λ u k used low. upd_other s.cells p (cell_at buckets bucket u k) w (cells u k used low) in
+      let on_same : (u k : ℕ) → kept.on u ≡ true → k < 5 → upd s.cells p w (cell_at buckets bucket u k) ≡ s.cells (cell_at buckets bucket u k) = λ u k on low. same u k (live_free (s.status u) (kept.on_live u on)) low in
+      let head : (i : ℕ) → i < buckets → upd s.cells p w (bucket_head i) ≡ s.cells (bucket_head i) = λ i low. upd_other s.cells p (bucket_head i) w (fixed i low).1 in
+      let walked : (op : Op) (x : Walk) → IsWalked buckets bucket s kept.on kept.rank op x → IsWalked buckets bucket (with_cell s p w) kept.on kept.rank op x = λ op x before edition none.
+      (let elsewhere : IsElsewhere buckets bucket s.cells (upd s.cells p w) kept.on kept.on kept.rank kept.rank (bucket (key_of op)) = record {
+        head = head (bucket (key_of op)) (small (key_of op));
+        stays = λ u node. node.0;
+        ranks = λ u node. refl;
+        cell = λ u k node low high. on_same u k node.0 (omega arith);
+        back = λ u node. (node.0, ap (λ word. bucket (value_of word)) (sym (on_same u 1 node.0 (omega arith))) ∙ node.1);
+      } in
+      knows_on buckets bucket small s.cells (upd s.cells p w) kept.on kept.on kept.rank kept.rank kept.chains op x elsewhere x.stage
+      (before (sym (upd_other s.cells p (bucket_edition (bucket (key_of op))) w (fixed (bucket (key_of op)) (small (key_of op))).0) ∙ edition) none)) in
+      record {
+        on = kept.on;
+        rank = kept.rank;
+        on_live = kept.on_live;
+        chains = chains_agree bucket (nodes buckets bucket s.cells) (nodes buckets bucket (upd s.cells p w)) kept.on kept.rank kept.chains
+            (λ i. clip_same i buckets (value_of (upd s.cells p w (bucket_head i))) (value_of (s.cells (bucket_head i))) (λ low. ap value_of (head i low)))
+            (λ u on. ap value_of (on_same u 1 on (omega arith))) (λ u on. ap value_of (on_same u 3 on (omega arith)));
+        readers = λ r readings op h. walked op (walk_of buckets bucket layout op readings) (kept.readers r readings op h);
+        sections = λ d x here. walked x.op (walk_of buckets bucket layout x.op x.readings) (kept.sections d x here);
+        made = λ d x here form low high. let was = kept.made d x here form low high in let used = live_free (s.status was.slot) was.live in record {
+          slot = was.slot;
+          link = was.link;
+          live = was.live;
+          out = was.out;
+          key = ap value_of (same was.slot 1 used (omega arith)) ∙ was.key;
+          value = ap value_of (same was.slot 2 used (omega arith)) ∙ was.value;
+          next = ap value_of (same was.slot 3 used (omega arith)) ∙ was.next;
+        };
+        linked = λ d x here form low. ⊎_elim inl (λ node. inr (node.0, (node.1.0, ap (λ word. bucket (value_of word)) (on_same node.0 1 node.1.0 (omega arith)) ∙ node.1.1), node.2)) (kept.linked d x here form low);
+        taken = λ d x here form low high. let was = kept.taken d x here form low high in let used = live_free (s.status (operand x.thunk 2)) was.live in record {
+          live = was.live;
+          out = was.out;
+          key = ap value_of (same (operand x.thunk 2) 1 used (omega arith)) ∙ was.key;
+          next = λ t leads. let node = was.next t (ap value_of (sym (same (operand x.thunk 2) 3 used (omega arith))) ∙ leads) in (node.0, ap (λ word. bucket (value_of word)) (on_same t 1 node.0 (omega arith)) ∙ node.1);
+        };
+        live = kept.live;
+        limbo = λ q y t retired recent leads. kept.limbo q y t retired recent (ap value_of (sym (same q 3 (retired_free (s.status q) y retired) (omega arith))) ∙ leads);
+      }
+    where
+      clip_same : (j n a b : ℕ) → (j < n → a ≡ b) → cond (nat_lt j n) a 0 ≡ cond (nat_lt j n) b 0
+      clip_same j n a b h = grind arith
+
+  -- a slot leaves limbo
+  collect_kept : (t y : ℕ) → s.status t ≡ Retired y → y + 2 ≤ s.epoch → BucketsKept buckets bucket layout (with_status s t Free)
+  collect_kept t y retired old =
+      let other : (u : ℕ) → u ≢ t → upd s.status t Free u ≡ s.status u = λ u ne. upd_other s.status t u Free ne in
+      let still : (u : ℕ) → s.status u ≡ Live → upd s.status t Free u ≡ Live = λ u live. other u (λ e. live_retired (s.status u) y live (ap s.status e ∙ retired)) ∙ live in
+      record {
+        on = kept.on;
+        rank = kept.rank;
+        chains = kept.chains;
+        on_live = λ u on. still u (kept.on_live u on);
+        readers = kept.readers;
+        sections = kept.sections;
+        linked = kept.linked;
+        made = λ d x here form low high. let was = kept.made d x here form low high in record { slot = was.slot; link = was.link; live = still was.slot was.live; out = was.out; key = was.key; value = was.value; next = was.next };
+        taken = λ d x here form low high. let was = kept.taken d x here form low high in record { live = still (operand x.thunk 2) was.live; out = was.out; key = was.key; next = was.next };
+        live = λ u live. dite (ℕ_discrete u t) (λ e. absurd (free_live (sym (upd_same s.status t u Free e) ∙ live))) (λ ne. kept.live u (sym (other u ne) ∙ live));
+        limbo = λ q z u late recent leads. dite (ℕ_discrete q t) (λ e. absurd (free_retired z (sym (upd_same s.status t q Free e) ∙ late)))
+            (λ ne. ⊎_elim (λ live. inl (still u live))
+            (λ later. inr (later.0, other u (λ e. let same = retired_in (sym later.1 ∙ ap s.status e ∙ retired) in let order = later.2 in omega arith) ∙ later.1, later.2))
+            (kept.limbo q z u (sym (other q ne) ∙ late) recent leads));
+      }
+    where
+      live_retired : (x : Status) (y : ℕ) → x ≡ Live → x ≡ Retired y → ⊥
+      live_retired x y e e' = cc
+
+      free_live : Free ≡ Live → ⊥
+      free_live e = cc
+
+      free_retired : (z : ℕ) → Free ≡ Retired z → ⊥
+      free_retired z e = cc
+
+      retired_in : {z w : ℕ} → Retired z ≡ Retired w → z ≡ w
+      retired_in e = cc
+
+  advance_kept : BucketsKept buckets bucket layout (record s { epoch = suc s.epoch })
+  advance_kept = record {
+    on = kept.on;
+    rank = kept.rank;
+    chains = kept.chains;
+    on_live = kept.on_live;
+    readers = kept.readers;
+    sections = kept.sections;
+    linked = kept.linked;
+    live = kept.live;
+    made = λ d x here form low high. let was = kept.made d x here form low high in record { slot = was.slot; link = was.link; live = was.live; out = was.out; key = was.key; value = was.value; next = was.next };
+    taken = λ d x here form low high. let was = kept.taken d x here form low high in record { live = was.live; out = was.out; key = was.key; next = was.next };
+    limbo = λ q y t retired recent leads. kept.limbo q y t retired (omega arith) leads;
+  }
+
+both_true : (a b : Bool) → (a && b) ≡ true → (a ≡ true) × (b ≡ true)
+both_true a b h = (grind arith, grind arith)
+
+lt_of : (a b : ℕ) → nat_lt a b ≡ true → a < b
+lt_of a b h = grind arith
+
+equal_of : (a b : ℕ) → (a == b) ≡ true → a ≡ b
+equal_of a b h = grind arith
+
+-- a lock is a place below the nodes, and the first of its bucket
+pub lock_at : (buckets p : ℕ) → (nat_lt p (3 * buckets) && (p % 3 == 0)) ≡ true → (p < 3 * buckets) × (p % 3 ≡ 0)
+lock_at buckets p lock = let both = both_true _ _ lock in (lt_of p (3 * buckets) both.0, equal_of (p % 3) 0 both.1)
+
+pub table_keeps : (buckets : ℕ) (bucket : ℕ → ℕ) → ((key : ℕ) → bucket key < buckets) → (layout : Layout) → IsWithinLimits layout → Keeps (table buckets bucket) layout
+table_keeps buckets bucket small layout limits = record {
+  enters = λ s r sound kept sound'. readers_kept buckets bucket small layout s kept r (Some []) (λ readings op e. subst (λ readings. IsWalked buckets bucket s kept.on kept.rank op (walk_of buckets bucket layout op readings)) (some_inj e) (start_walked buckets bucket small layout s kept op));
+  reads = λ s r p readings reader known sound kept sound'. readers_kept buckets bucket small layout s kept r (Some (readings ++ (p, s.cells p) ∷ []))
+      (λ longer op e. subst (λ readings. IsWalked buckets bucket s kept.on kept.rank op (walk_of buckets bucket layout op readings)) (some_inj e) (read_walked buckets bucket small layout s kept op readings p (kept.readers r readings op reader)));
+  leaves = λ s r sound kept sound'. readers_kept buckets bucket small layout s kept r None (λ readings op e. absurd (none_some e));
+  holds = λ s r d readings op thunk reader publishes none sound kept sound'. holds_kept buckets bucket small layout s kept r d readings op thunk reader none;
+  load = λ s d p r x here h sound kept sound'. load_kept buckets bucket small layout s sound kept d x here p r (s.cells p) h;
+  want = λ s d r w x here h equal sound kept sound'. quiet_kept buckets bucket small layout s sound kept d x here (Want r w) h (λ q v e. cc) (λ init q e. cc) (λ t e. cc);
+  fresh = λ s d r x here h newer sound kept sound'. quiet_kept buckets bucket small layout s sound kept d x here (Fresh r) h (λ q v e. cc) (λ init q e. cc) (λ t e. cc);
+  take = λ s d l w x here h unheld sound kept sound'. absurd (no_take x.thunk x.at l w h);
+  make = λ s d t r x init here h prepared sound kept sound'. make_kept buckets bucket small layout s sound kept d x here t r init h prepared;
+  stamp = λ s d x here h sound kept sound'. quiet_kept buckets bucket small layout s sound kept d x here Stamp h (λ q v e. cc) (λ init q e. cc) (λ t e. cc);
+  store = λ s d j p r x v here h earlier load found sound kept sound'. table_store buckets bucket small layout limits s sound kept d x here j p r v h load found;
+  retire = λ s d t y x here h past recent links sound kept sound'. retire_kept buckets bucket small layout s sound kept d x here t y h links;
+  answer = λ s d n x here h sound kept sound'. quiet_kept buckets bucket small layout s sound kept d x here (Answer n) h (λ q v e. cc) (λ init q e. cc) (λ t e. cc);
+  done = λ s d x here ended sound kept sound'. done_kept buckets bucket small layout s kept d x here ended;
+  lock = λ s p w lock sound kept sound'. let at = lock_at buckets p lock in cell_kept buckets bucket small layout s kept p w (λ i low. (λ e. edition_lock i p at.1 e, λ e. head_lock i p at.1 e)) (λ u k used low e. let below = at.0 in omega arith);
+  hand = λ s t i w free low sound kept sound'. cell_kept buckets bucket small layout s kept (3 * buckets + 5 * t + i) w (λ j lower. (λ e. omega arith, λ e. omega arith))
+      (λ u k used small' e. used (ap s.status (one_slot (3 * buckets) u t k i small' low e) ∙ free));
+  collect = λ s t y retired old sound kept sound'. collect_kept buckets bucket small layout s kept t y retired old;
+  advance = λ s sound kept sound'. advance_kept buckets bucket small layout s kept;
+}
+  where
+    none_some : {x : Readings} → None ≡ Some x → ⊥
+    none_some e = cc
+
+    edition_lock : (i p : ℕ) → p % 3 ≡ 0 → 3 * i + 1 ≡ p → ⊥
+    edition_lock i p at e = omega arith
+
+    head_lock : (i p : ℕ) → p % 3 ≡ 0 → 3 * i + 2 ≡ p → ⊥
+    head_lock i p at e = omega arith
+
+    one_slot : (n u t k i : ℕ) → k < 5 → i < 5 → n + 5 * u + k ≡ n + 5 * t + i → u ≡ t
+    one_slot n u t k i low low' e = omega arith

@@ -1,0 +1,485 @@
+-- The hash table meets the laws.
+use Rattle.std.proofs.Common.{◌≡◌, ◌≢◌, ℕ, zero, suc, ◌+◌, ◌*◌, ◌<◌, ◌≤◌, Bool, true, false, cond, refl, sym, ap, ◌∙◌, subst, inl, inr, ⊎_elim, arith}
+use Rattle.std.specs.Prelude.{◌==◌, ◌&&◌, ◌-◌, ◌/◌, ◌%◌, ◌^◌, ◌⊎◌, nat_lt, Option, Some, None, slice_get, slice_index, length}
+use Rattle.std.specs.FinMap.{get, empty, get-empty}
+use Rattle.std.specs.Ordering.{nat_cmp}
+use Rattle.map_history.specs.declared.op.Op.{Op}
+use Rattle.map_history.specs.declared.op.Op.TheVariants.{Get, Ins, Del}
+use Rattle.map_history.specs.Keys.{key_of}
+use Rattle.map_history.specs.Replay.{Pairs}
+use Rattle.section_body.specs.Update.{upd}
+use Rattle.section_body.specs.Word.{value_of}
+use Rattle.section_body.specs.Bucket.{bucket_index, bucket_head, operand, is_small, fits_insert, fits_remove, bucket_steps}
+use Rattle.section_body.specs.Shape.{IsShaped}
+use Rattle.section_body.specs.declared.value.Value.{Value}
+use Rattle.section_body.specs.declared.value.Value.TheVariants.{Const, Made}
+use Rattle.section_body.specs.declared.step.Step.TheVariants.{Load, Store}
+use Rattle.section_body.specs.declared.thunk.Thunk.{Thunk}
+use Rattle.table_words.specs.declared.layout.Layout.{Layout}
+use Rattle.table_words.specs.Limits.{IsWithinLimits}
+use Rattle.table_words.specs.Places.{slot_count}
+use Rattle.structure_laws.specs.Scene.{Readings, Section, Status, Free, Live, Retired, Scene}
+use Rattle.structure_laws.specs.Sections.{IsAllowed, IsSmall}
+use Rattle.structure_laws.specs.Cells.{IsKnown, IsSafe}
+use Rattle.structure_laws.specs.Sound.{Sound}
+use Rattle.structure_laws.specs.Shape.{Shaped}
+use Rattle.structure_laws.specs.InTurn.{InTurn}
+use Rattle.structure_laws.specs.Laws.{IsFirst, Laws}
+use Rattle.structure_laws.proofs.Changes.{upd_other}
+use Rattle.bucket_laws.specs.Chain.{Nodes, Chains, Contents}
+use Rattle.bucket_laws.specs.Walk.{AtEdition, AtEnd, Walk, cell_at, form_for, operands_for}
+use Rattle.bucket_laws.specs.Buckets.{Read, Insert, Remove, Empty, form_of, body_of, nodes, is_link_place, walk_of, bounds, BucketsKept, BucketsStand, table, buckets_meaning}
+use Rattle.bucket_laws.proofs.Chain.{same_on}
+use Rattle.bucket_laws.proofs.Fit.{IsFit, fit_of, insert_operands, remove_operands}
+use Rattle.bucket_laws.proofs.Forms.{node_init, steps_of, no_take, load_step, store_step, make_step, answer_step}
+use Rattle.bucket_laws.proofs.TableGives.{reached, table_gives}
+use Rattle.bucket_laws.proofs.TableKeeps.{chains_agree, lock_at, table_keeps}
+use Rattle.bucket_laws.proofs.TableShape.{read_shaped, insert_shaped, remove_shaped}
+use Rattle.bucket_laws.proofs.TableTurn.{table_answers, table_stores}
+use Rattle.bucket_laws.proofs.WalkFacts.{Gives, walk_facts}
+
+live_free : (x : Status) → x ≡ Live → x ≢ Free
+live_free x live free = cc
+
+retired_free : (x : Status) (y : ℕ) → x ≡ Retired y → x ≢ Free
+retired_free x y retired free = cc
+
+is_read : (a p b q c r : Bool) → a ≡ true → p ≡ true → cond a (cond p Read Empty) (cond b (cond q Insert Empty) (cond c (cond r Remove Empty) Empty)) ≡ Read
+is_read true true b q c r h h' = refl
+is_read true false b q c r h h' = absurd (cc)
+is_read false p b q c r h h' = absurd (cc)
+
+is_insert : (a p b q c r : Bool) → a ≡ false → b ≡ true → q ≡ true → cond a (cond p Read Empty) (cond b (cond q Insert Empty) (cond c (cond r Remove Empty) Empty)) ≡ Insert
+is_insert true p b q c r h h' h'' = absurd (cc)
+is_insert false p true true c r h h' h'' = refl
+is_insert false p true false c r h h' h'' = absurd (cc)
+is_insert false p false q c r h h' h'' = absurd (cc)
+
+is_remove : (a p b q c r : Bool) → a ≡ false → b ≡ false → c ≡ true → r ≡ true → cond a (cond p Read Empty) (cond b (cond q Insert Empty) (cond c (cond r Remove Empty) Empty)) ≡ Remove
+is_remove true p b q c r h h' h'' h3 = absurd (cc)
+is_remove false p true q c r h h' h'' h3 = absurd (cc)
+is_remove false p false q true true h h' h'' h3 = refl
+is_remove false p false q true false h h' h'' h3 = absurd (cc)
+is_remove false p false q false r h h' h'' h3 = absurd (cc)
+
+small_is : (n : ℕ) → n < 2 ^ 32 → is_small n ≡ true
+small_is n low = grind arith
+
+eq_true : (a b : ℕ) → a ≡ b → (a == b) ≡ true
+eq_true a b e = grind arith
+
+eq_false : (a b c : ℕ) → a ≡ b → b ≢ c → (a == c) ≡ false
+eq_false a b c e ne = grind arith
+
+four_true : (a b c d : Bool) → a ≡ true → b ≡ true → c ≡ true → d ≡ true → (a && (b && (c && d))) ≡ true
+four_true a b c d h h' h'' h3 = grind arith
+
+no_lock_low : (i r n : ℕ) → 1 ≤ r → r ≤ 2 → (nat_lt (3 * i + r) n && ((3 * i + r) % 3 == 0)) ≡ false
+no_lock_low i r n low high = let rest : (3 * i + r) % 3 ≢ 0 = (λ e. omega arith) in grind arith
+
+no_lock_high : (p n : ℕ) → n ≤ p → (nat_lt p n && (p % 3 == 0)) ≡ false
+no_lock_high p n high = grind arith
+
+form_cases : (op : Op) (found : Bool) → (form_for op found ≡ 1) ⊎ (form_for op found ≡ 2) ⊎ (form_for op found ≡ 3)
+form_cases (Get key) found = inl refl
+form_cases (Ins key value) true = inl refl
+form_cases (Ins key value) false = inr (inl refl)
+form_cases (Del key) true = inr (inr refl)
+form_cases (Del key) false = inl refl
+
+-- the reply word of a thunk that changes nothing isn't 0
+reply_some : (op : Op) (w : Walk) (found : Bool) → form_for op found ≡ 1 → 0 < slice_index (operands_for op w found) 1
+reply_some (Get key) w true form = positive w.value
+  where
+    positive : (v : ℕ) → 0 < 3 * 2 ^ 32 + v
+    positive v = omega arith
+reply_some (Get key) w false form = omega arith
+reply_some (Ins key value) w true form = omega arith
+reply_some (Ins key value) w false form = absurd (omega arith)
+reply_some (Del key) w true form = absurd (omega arith)
+reply_some (Del key) w false form = omega arith
+
+module _ (buckets : ℕ) (bucket : ℕ → ℕ) (small : (key : ℕ) → bucket key < buckets) (few : 3 * buckets ≤ 12288) (layout : Layout) (limits : IsWithinLimits layout) (s : Scene) (sound : Sound (table buckets bucket) layout s)
+    (r : ℕ) (readings : Readings) (op : Op) (thunk : Thunk) (reader : s.reader r ≡ Some readings) (allowed : IsAllowed op) (fits : (table buckets bucket).fits layout op readings thunk ≡ true) where
+  abbrev own : ℕ
+  own = bucket (key_of op)
+
+  abbrev own_walk : Walk
+  own_walk = walk_of buckets bucket layout op readings
+
+  fit : IsFit buckets bucket op own_walk thunk
+  fit = fit_of buckets bucket op own_walk thunk fits
+
+  lock_is : thunk.lock ≡ 3 * own
+  lock_is = fit.lock
+
+  -- a slot that the readings give is a node slot
+  within : (t : ℕ) → Gives buckets bucket small readings t → t < slot_count layout 0
+  within t gives = let by = reached (is_link_place buckets bucket) readings t gives in
+      sound.within t (used ((sound.readers r readings reader).safe by.0 by.1 by.2 t by.3 by.4 by.5))
+    where
+      used : IsSafe s t → s.status t ≢ Free
+      used safe = ⊎_elim (λ live. live_free (s.status t) live) (λ retired. retired_free (s.status t) retired.0 retired.1) safe
+
+  -- the place of the walk's last link
+  link_place : (own_walk.place ≡ bucket_head own) ⊎ ((t : ℕ) × Gives buckets bucket small readings t × (own_walk.place ≡ cell_at buckets bucket t 3))
+  link_place = (walk_facts buckets bucket small (bounds buckets bucket layout) op readings).place (λ e. end_edition (sym fit.stage ∙ e))
+    where
+      end_edition : AtEnd ≡ AtEdition → ⊥
+      end_edition e = cc
+
+  place_small : own_walk.place < 2 ^ 32
+  place_small = ⊎_elim (λ head. let low = small (key_of op) in omega arith)
+      (λ node. let low = within node.0 node.1 in let at = node.2 in let nodes = limits.few_nodes in let runners = limits.few_runners in omega arith) link_place
+
+  lock_small : thunk.lock + 2 < 2 ^ 32
+  lock_small = let at = lock_is in let low = small (key_of op) in omega arith
+
+  number_at : (k : ℕ) → operand thunk k ≡ slice_index (operands_for op own_walk own_walk.found) k
+  number_at k = ap (λ numbers. slice_index numbers k) fit.operands
+
+  read_form : form_for op own_walk.found ≡ 1 → form_of thunk ≡ Read
+  read_form form = is_read (thunk.form == 1) (is_small (thunk.lock + 1)) (thunk.form == 2) (fits_insert thunk) (thunk.form == 3)
+      (fits_remove thunk) (eq_true thunk.form 1 (fit.form ∙ form)) (small_is (thunk.lock + 1) (let low = lock_small in omega arith))
+
+  insert_form : form_for op own_walk.found ≡ 2 → form_of thunk ≡ Insert
+  insert_form form =
+      let named = (insert_operands op own_walk own_walk.found form).1 in
+      let is_key : key_of op ≡ named.0 = ap key_of named.2 in
+      let key_low = allowed.keys (key_of op) (inl refl) in
+      let value_low = allowed.value named.0 named.1 named.2 in
+      let head_low = (walk_facts buckets bucket small (bounds buckets bucket layout) op readings).head_small in
+      is_insert _ _ _ _ _ _ (eq_false thunk.form 2 1 (fit.form ∙ form) (λ e. omega arith)) (eq_true thunk.form 2 (fit.form ∙ form))
+      (four_true _ _ _ _ (small_is (thunk.lock + 2) lock_small) (small_is (operand thunk 1) (let at = number_at 1 ∙ named.3 in omega arith)) (small_is (operand thunk 2) (let at = number_at 2 ∙ named.4 in omega arith))
+      (small_is (operand thunk 3) (let at = number_at 3 ∙ named.5 in omega arith)))
+
+  remove_form : form_for op own_walk.found ≡ 3 → form_of thunk ≡ Remove
+  remove_form form =
+      let named = (remove_operands op own_walk own_walk.found form).1 in
+      let facts = walk_facts buckets bucket small (bounds buckets bucket layout) op readings in
+      let slot_low = facts.slot_small in
+      let next_low = facts.next_small in
+      let place_low = place_small in
+      is_remove _ _ _ _ _ _ (eq_false thunk.form 3 1 (fit.form ∙ form) (λ e. omega arith)) (eq_false thunk.form 3 2 (fit.form ∙ form) (λ e. omega arith)) (eq_true thunk.form 3 (fit.form ∙ form))
+      (four_true _ _ _ _ (small_is (thunk.lock + 1) (let low = lock_small in omega arith)) (small_is (operand thunk 1) (let at = number_at 1 ∙ named.1 in omega arith)) (small_is (operand thunk 2) (let at = number_at 2 ∙ named.2 in omega arith))
+      (small_is (operand thunk 3) (let at = number_at 3 ∙ named.3 in omega arith)))
+
+  -- what a removal's link is
+  remove_link : form_of thunk ≡ Remove → (operand thunk 1 ≡ 3 * own + 2) ⊎ ((t : ℕ) × Gives buckets bucket small readings t × (operand thunk 1 ≡ 3 * buckets + 5 * t + 3))
+  remove_link form = let named = (fit.remove form).1 in ⊎_elim (λ head. inl (named.1 ∙ head)) (λ node. inr (node.0, node.1, named.1 ∙ node.2)) link_place
+
+  shaped : IsShaped (bucket_steps thunk)
+  shaped = subst IsShaped (sym (steps_of thunk)) (⊎_elim
+      (λ form. subst (λ f. IsShaped (body_of f thunk)) (sym (read_form form)) (read_shaped thunk))
+      (⊎_elim (λ form. subst (λ f. IsShaped (body_of f thunk)) (sym (insert_form form)) (insert_shaped thunk))
+      (λ form. subst (λ f. IsShaped (body_of f thunk)) (sym (remove_form form)) (remove_shaped thunk (apart (remove_form form))))) (form_cases op own_walk.found))
+    where
+      apart : form_of thunk ≡ Remove → operand thunk 1 ≢ thunk.lock + 1
+      apart form e = let at = lock_is in let low = small (key_of op) in ⊎_elim (λ head. omega arith) (λ node. let place = node.2 in omega arith) (remove_link form)
+
+  abbrev known : ℕ → Type 0
+  known = IsKnown (table buckets bucket) readings
+
+  low_known : (k : ℕ) → k ≤ 2 → known (thunk.lock + k)
+  low_known k high = inl (let at = lock_is in let low = small (key_of op) in omega arith)
+
+  lock_is_lock : (i : ℕ) → i < buckets → (nat_lt (3 * i) (3 * buckets) && (3 * i % 3 == 0)) ≡ true
+  lock_is_lock i low = let rest : 3 * i % 3 ≡ 0 = omega arith in let below : 3 * i < 3 * buckets = omega arith in grind arith
+
+  no_insert : form_of thunk ≡ Insert → form_of thunk ≡ Remove → ⊥
+  no_insert a b = cc
+
+  abbrev PlaceIs : ℕ → Type 0
+  PlaceIs p = ((k : ℕ) × (1 ≤ k) × (k ≤ 2) × (p ≡ 3 * own + k)) ⊎ ((t : ℕ) × Gives buckets bucket small readings t × (p ≡ 3 * buckets + 5 * t + 3))
+
+  load_place : (j p r : ℕ) → slice_get (bucket_steps thunk) j ≡ Some (Load p r) → PlaceIs p
+  load_place j p r h = let lock = lock_is in ⊎_elim (λ edition. inl (1, omega arith, omega arith, (let at = edition.2 in omega arith)))
+      (⊎_elim (λ insert. inl (2, omega arith, omega arith, (let at = insert.3 in omega arith)))
+      (λ remove. ⊎_elim (λ head. inl (2, omega arith, omega arith, remove.3 ∙ head)) (λ node. inr (node.0, node.1, remove.3 ∙ node.2)) (remove_link remove.0))) (load_step thunk j p r h)
+
+  store_small : (j r : ℕ) (v : Value) → slice_get (bucket_steps thunk) j ≡ Some (Store r v) → IsSmall v
+  store_small j r v h = ⊎_elim (λ a. subst IsSmall (sym a.3) tt) (⊎_elim (λ a. subst IsSmall (sym a.3) (omega arith))
+      (⊎_elim (λ a. subst IsSmall (sym a.3) (let named = (fit.remove a.0).1 in let low = (walk_facts buckets bucket small (bounds buckets bucket layout) op readings).next_small in let at = named.3 in omega arith))
+      (λ a. subst IsSmall (sym a.3) (omega arith)))) (store_step thunk j r v h)
+
+  pub table_shaped : Shaped (table buckets bucket) layout readings thunk
+  table_shaped = record {
+    shape = shaped;
+    outer_lock = ap (λ p. nat_lt p (3 * buckets) && (p % 3 == 0)) lock_is ∙ lock_is_lock own (small (key_of op));
+    outer_known = inl (let at = lock_is in let low = small (key_of op) in omega arith);
+    take_lock = λ j l w h. absurd (no_take thunk j l w h);
+    take_known = λ j l w h. absurd (no_take thunk j l w h);
+    take_inner = λ j l w h. absurd (no_take thunk j l w h);
+    take_once = λ i j l v w h h'. absurd (no_take thunk i l v h);
+    take_read = λ j l w h. absurd (no_take thunk j l w h);
+    take_free = λ j l w h. absurd (no_take thunk j l w h);
+    take_unspent = λ j l w h. absurd (no_take thunk j l w h);
+    load_unlocked = λ j p r h. ⊎_elim (λ low. ap (λ p. nat_lt p (3 * buckets) && (p % 3 == 0)) low.3 ∙ no_lock_low own low.0 (3 * buckets) low.1 low.2)
+        (λ node. no_lock_high p (3 * buckets) (let at = node.2 in omega arith)) (load_place j p r h);
+    load_known = λ j p r h. ⊎_elim (λ low. inl (let at = low.3 in let high = low.2 in let below = small (key_of op) in omega arith)) (λ node. inr (node.0, (3, omega arith, node.2), inr node.1)) (load_place j p r h);
+    load_once = λ i j p q r h h'. once (load_step thunk i p q h) (load_step thunk j p r h');
+    store_once = λ i j r v w h h'. stored (store_step thunk i r v h) (store_step thunk j r w h');
+    store_small = store_small;
+    make_whole = λ j r init h. ap (λ init. length init.cells) (make_step thunk j r init h).3;
+    make_small = λ j r i init v h at. init_small i v (make_step thunk j r init h).0 (sym (ap (λ init. slice_get init.cells i) (make_step thunk j r init h).3) ∙ at);
+    make_unlocked = λ j r i t init v h at lock. absurd (let below = (lock_at buckets (3 * buckets + 5 * t + i) lock).0 in omega arith);
+    answers = λ j n h. ⊎_elim (λ read. let at = read.1 ∙ number_at 1 in let some = reply_some op own_walk own_walk.found (read_back read.0) in omega arith) (⊎_elim (λ insert. let at = insert.1 in omega arith) (λ remove. let at = remove.1 in omega arith)) (answer_step thunk j n h);
+  }
+    where
+      read_back : form_of thunk ≡ Read → form_for op own_walk.found ≡ 1
+      read_back form = ⊎_elim (λ one. one) (⊎_elim (λ two. absurd (read_insert (sym form ∙ insert_form two))) (λ three. absurd (read_remove (sym form ∙ remove_form three)))) (form_cases op own_walk.found)
+        where
+          read_insert : Read ≡ Insert → ⊥
+          read_insert e = cc
+
+          read_remove : Read ≡ Remove → ⊥
+          read_remove e = cc
+
+      edition_link : {p : ℕ} → p ≡ thunk.lock + 1 → (operand thunk 1 ≡ 3 * own + 2) ⊎ ((t : ℕ) × Gives buckets bucket small readings t × (operand thunk 1 ≡ 3 * buckets + 5 * t + 3)) → p ≡ operand thunk 1 → ⊥
+      edition_link e link e' = let lock = lock_is in let low = small (key_of op) in ⊎_elim (λ head. omega arith) (λ node. let at = node.2 in omega arith) link
+
+      once : {i j p q r : ℕ} → ((i ≡ 0) × (q ≡ 0) × (p ≡ thunk.lock + 1)) ⊎ ((form_of thunk ≡ Insert) × (i ≡ 3) × (q ≡ 1) × (p ≡ thunk.lock + 2)) ⊎ ((form_of thunk ≡ Remove) × (i ≡ 3) × (q ≡ 1) × (p ≡ operand thunk 1))
+          → ((j ≡ 0) × (r ≡ 0) × (p ≡ thunk.lock + 1)) ⊎ ((form_of thunk ≡ Insert) × (j ≡ 3) × (r ≡ 1) × (p ≡ thunk.lock + 2)) ⊎ ((form_of thunk ≡ Remove) × (j ≡ 3) × (r ≡ 1) × (p ≡ operand thunk 1)) → i ≡ j
+      once a b = ⊎_elim
+          (λ first. ⊎_elim (λ first'. first.0 ∙ sym first'.0) (⊎_elim (λ insert. absurd (let x = first.2 in let y = insert.3 in omega arith)) (λ remove. absurd (edition_link first.2 (remove_link remove.0) remove.3))) b)
+          (⊎_elim
+          (λ insert. ⊎_elim (λ first'. absurd (let x = first'.2 in let y = insert.3 in omega arith)) (⊎_elim (λ insert'. insert.1 ∙ sym insert'.1) (λ remove. insert.1 ∙ sym remove.1)) b)
+          (λ remove. ⊎_elim (λ first'. absurd (edition_link first'.2 (remove_link remove.0) remove.3)) (⊎_elim (λ insert'. remove.1 ∙ sym insert'.1) (λ remove'. remove.1 ∙ sym remove'.1)) b)) a
+
+      stored : {i j r : ℕ} {v w : Value}
+          → ((form_of thunk ≡ Insert) × (i ≡ 7) × (r ≡ 1) × (v ≡ Made 2)) ⊎ ((form_of thunk ≡ Insert) × (i ≡ 8) × (r ≡ 0) × (v ≡ Const 0)) ⊎ ((form_of thunk ≡ Remove) × (i ≡ 6) × (r ≡ 1) × (v ≡ Const (operand thunk 3))) ⊎ ((form_of thunk ≡ Remove) × (i ≡ 7) × (r ≡ 0) × (v ≡ Const 0))
+          → ((form_of thunk ≡ Insert) × (j ≡ 7) × (r ≡ 1) × (w ≡ Made 2)) ⊎ ((form_of thunk ≡ Insert) × (j ≡ 8) × (r ≡ 0) × (w ≡ Const 0)) ⊎ ((form_of thunk ≡ Remove) × (j ≡ 6) × (r ≡ 1) × (w ≡ Const (operand thunk 3))) ⊎ ((form_of thunk ≡ Remove) × (j ≡ 7) × (r ≡ 0) × (w ≡ Const 0)) → i ≡ j
+      stored a b = ⊎_elim
+          (λ x. ⊎_elim (λ y. x.1 ∙ sym y.1) (⊎_elim (λ y. absurd (apart x.2 y.2)) (⊎_elim (λ y. absurd (no_insert x.0 y.0)) (λ y. absurd (no_insert x.0 y.0)))) b)
+          (⊎_elim
+          (λ x. ⊎_elim (λ y. absurd (apart y.2 x.2)) (⊎_elim (λ y. x.1 ∙ sym y.1) (⊎_elim (λ y. absurd (no_insert x.0 y.0)) (λ y. absurd (no_insert x.0 y.0)))) b)
+          (⊎_elim
+          (λ x. ⊎_elim (λ y. absurd (no_insert y.0 x.0)) (⊎_elim (λ y. absurd (no_insert y.0 x.0)) (⊎_elim (λ y. x.1 ∙ sym y.1) (λ y. absurd (apart x.2 y.2)))) b)
+          (λ x. ⊎_elim (λ y. absurd (no_insert y.0 x.0)) (⊎_elim (λ y. absurd (no_insert y.0 x.0)) (⊎_elim (λ y. absurd (apart y.2 x.2)) (λ y. x.1 ∙ sym y.1))) b))) a
+        where
+          apart : {r : ℕ} → r ≡ 1 → r ≡ 0 → ⊥
+          apart e e' = omega arith
+
+      init_small : (i : ℕ) (v : Value) → form_of thunk ≡ Insert → slice_get (node_init thunk).cells i ≡ Some v → IsSmall v
+      init_small i v form h =
+          let named = (fit.insert form).1 in
+          let is_key : key_of op ≡ named.0 = ap key_of named.2 in
+          let key_low : operand thunk 1 < 2 ^ 32 = (let low = allowed.keys (key_of op) (inl refl) in let at = named.3 in omega arith) in
+          let value_low : operand thunk 2 < 2 ^ 32 = (let low = allowed.value named.0 named.1 named.2 in let at = named.4 in omega arith) in
+          let head_low : operand thunk 3 < 2 ^ 32 = (let low = (walk_facts buckets bucket small (bounds buckets bucket layout) op readings).head_small in let at = named.5 in omega arith) in
+          cells i h key_low value_low head_low
+        where
+          some_inj : {x y : Value} → Some x ≡ Some y → x ≡ y
+          some_inj e = cc
+
+          cells : (i : ℕ) → slice_get (node_init thunk).cells i ≡ Some v → operand thunk 1 < 2 ^ 32 → operand thunk 2 < 2 ^ 32 → operand thunk 3 < 2 ^ 32 → IsSmall v
+          cells zero h a b c = subst IsSmall (some_inj h) (omega arith)
+          cells (suc zero) h a b c = subst IsSmall (some_inj h) a
+          cells (suc (suc zero)) h a b c = subst IsSmall (some_inj h) b
+          cells (suc (suc (suc zero))) h a b c = subst IsSmall (some_inj h) c
+          cells (suc (suc (suc (suc zero)))) h a b c = subst IsSmall (some_inj h) (omega arith)
+          cells (suc (suc (suc (suc (suc i))))) h a b c = absurd (cc)
+
+-- contents are those of any memory that agrees on the slots in the chains
+contents_agree : (n n' : Nodes) (on : ℕ → Bool) (lookup : ℕ → Option ℕ) → Contents n on lookup → ((u : ℕ) → on u ≡ true → n'.key u ≡ n.key u) → ((u : ℕ) → on u ≡ true → n'.value u ≡ n.value u) → Contents n' on lookup
+contents_agree n n' on lookup contents keys values = record {
+  pair = λ t on_t. ap lookup (keys t on_t) ∙ contents.pair t on_t ∙ ap Some (sym (values t on_t));
+  slot = λ key value h. let there = contents.slot key value h in (there.0, there.1, keys there.0 there.1 ∙ there.2);
+}
+
+clip_same : (j n a b : ℕ) → (j < n → a ≡ b) → cond (nat_lt j n) a 0 ≡ cond (nat_lt j n) b 0
+clip_same j n a b h = grind arith
+
+module _ (buckets : ℕ) (bucket : ℕ → ℕ) (small : (key : ℕ) → bucket key < buckets) (layout : Layout) (limits : IsWithinLimits layout) where
+  -- a change of a cell that is no head and in no node of a chain
+  change_stands : (s : Scene) (pairs : Pairs) (p w : ℕ) (stands : BucketsStand buckets bucket s.cells pairs) → ((i : ℕ) → i < buckets → bucket_head i ≢ p) → ((u k : ℕ) → stands.on u ≡ true → 1 ≤ k → k ≤ 3 → cell_at buckets bucket u k ≢ p)
+      → BucketsStand buckets bucket (upd s.cells p w) pairs
+  change_stands s pairs p w stands heads cells =
+      let same : (u k : ℕ) → stands.on u ≡ true → 1 ≤ k → k ≤ 3 → value_of (upd s.cells p w (cell_at buckets bucket u k)) ≡ value_of (s.cells (cell_at buckets bucket u k)) = λ u k on low high. ap value_of (upd_other s.cells p (cell_at buckets bucket u k) w (cells u k on low high)) in
+      record {
+        on = stands.on;
+        rank = stands.rank;
+        chains = chains_agree bucket (nodes buckets bucket s.cells) (nodes buckets bucket (upd s.cells p w)) stands.on stands.rank stands.chains
+            (λ i. clip_same i buckets (value_of (upd s.cells p w (bucket_head i))) (value_of (s.cells (bucket_head i))) (λ low. ap value_of (upd_other s.cells p (bucket_head i) w (heads i low))))
+            (λ u on. same u 1 on (omega arith) (omega arith)) (λ u on. same u 3 on (omega arith) (omega arith));
+        contents = contents_agree (nodes buckets bucket s.cells) (nodes buckets bucket (upd s.cells p w)) stands.on (get pairs) stands.contents (λ u on. same u 1 on (omega arith) (omega arith)) (λ u on. same u 2 on (omega arith) (omega arith));
+      }
+
+  table_in_turn : InTurn (table buckets bucket) layout
+  table_in_turn = record {
+    answers = λ s pairs d x before stamp map. table_answers buckets bucket small layout limits s pairs d x before stamp;
+    stores = λ s pairs d x before stamp. table_stores buckets bucket small layout limits s pairs d x before stamp;
+    lock = λ s pairs p w before lock. let at = lock_at buckets p lock in change_stands s pairs p w before.stands (λ i low e. head_lock i p at.1 e) (λ u k on low high e. let below = at.0 in omega arith);
+    hand = λ s pairs t i w before free low. change_stands s pairs (3 * buckets + 5 * t + i) w before.stands (λ j lower e. omega arith)
+        (λ u k on first last e. live_free (s.status u) (before.kept.on_live u (same_on bucket (nodes buckets bucket s.cells) before.stands.on before.kept.on before.stands.rank before.kept.rank before.stands.chains before.kept.chains u on))
+        (ap s.status (one_slot (3 * buckets) u t k i (omega arith) low e) ∙ free));
+  }
+    where
+      head_lock : (i p : ℕ) → p % 3 ≡ 0 → 3 * i + 2 ≡ p → ⊥
+      head_lock i p at e = omega arith
+
+      one_slot : (n u t k i : ℕ) → k < 5 → i < 5 → n + 5 * u + k ≡ n + 5 * t + i → u ≡ t
+      one_slot n u t k i low low' e = omega arith
+
+  -- in the first memory no slot stands in a chain
+  first_value : (s : Scene) → IsFirst (table buckets bucket) s → (p : ℕ) → value_of (s.cells p) ≡ 0
+  first_value s first p = ap value_of (first.cells p) ∙ zero_word (nat_lt p (3 * buckets + 5 * 0))
+    where
+      zero_word : (b : Bool) → value_of (2 ^ 32 * 1 + cond b 0 0) ≡ 0
+      zero_word true = refl
+      zero_word false = refl
+
+  first_chains : (s : Scene) → IsFirst (table buckets bucket) s → Chains bucket (nodes buckets bucket s.cells) (λ t. false) (λ t. 0)
+  first_chains s first = record {
+    head_on = λ i t h. absurd (zero_suc t (sym (head i) ∙ h));
+    head_top = λ i t u h on. absurd (false_true on);
+    head_none = λ i u h on. absurd (false_true on);
+    next_on = λ p t on. absurd (false_true on);
+    next_top = λ p t u on. absurd (false_true on);
+    next_none = λ p u on. absurd (false_true on);
+    rank_once = λ p t on. absurd (false_true on);
+    key_once = λ p t on. absurd (false_true on);
+  }
+    where
+      false_true : false ≡ true → ⊥
+      false_true e = cc
+
+      zero_suc : (t : ℕ) → 0 ≡ suc t → ⊥
+      zero_suc t e = omega arith
+
+      head : (i : ℕ) → cond (nat_lt i buckets) (value_of (s.cells (bucket_head i))) 0 ≡ 0
+      head i = ap (λ v. cond (nat_lt i buckets) v 0) (first_value s first (bucket_head i)) ∙ either (nat_lt i buckets)
+        where
+          either : (b : Bool) → cond b 0 0 ≡ zero
+          either true = refl
+          either false = refl
+
+  first_kept : (s : Scene) → IsFirst (table buckets bucket) s → BucketsKept buckets bucket layout s
+  first_kept s first = record {
+    on = λ t. false;
+    rank = λ t. 0;
+    chains = first_chains s first;
+    on_live = λ t on. absurd (false_true on);
+    readers = λ r readings op h. absurd (none_some (sym (first.reader r) ∙ h));
+    sections = λ d x h. absurd (none_section (sym (first.section d) ∙ h));
+    made = λ d x h. absurd (none_section (sym (first.section d) ∙ h));
+    linked = λ d x h. absurd (none_section (sym (first.section d) ∙ h));
+    taken = λ d x h. absurd (none_section (sym (first.section d) ∙ h));
+    live = λ t h. absurd (not_live t (sym (first.status t) ∙ h));
+    limbo = λ q y t h. absurd (not_retired q y (sym (first.status q) ∙ h));
+  }
+    where
+      false_true : false ≡ true → ⊥
+      false_true e = cc
+
+      none_some : {x : Readings} → None ≡ Some x → ⊥
+      none_some e = cc
+
+      none_section : {x : Section} → None ≡ Some x → ⊥
+      none_section e = cc
+
+      not_live : (t : ℕ) → cond (nat_lt t 0) Live Free ≡ Live → ⊥
+      not_live t h = grind arith
+
+      not_retired : (t y : ℕ) → cond (nat_lt t 0) Live Free ≡ Retired y → ⊥
+      not_retired t y h = grind arith
+
+  first_stands : (s : Scene) → IsFirst (table buckets bucket) s → BucketsStand buckets bucket s.cells empty
+  first_stands s first = record {
+    on = λ t. false;
+    rank = λ t. 0;
+    chains = first_chains s first;
+    contents = record { pair = λ t on. absurd (false_true on); slot = λ key value h. absurd (none_some (sym (get-empty nat_cmp key) ∙ h)) };
+  }
+    where
+      false_true : false ≡ true → ⊥
+      false_true e = cc
+
+      none_some : {v : ℕ} → None ≡ Some v → ⊥
+      none_some e = cc
+
+-- the hash table over any number of buckets, and any function of keys to buckets
+pub table_laws : (buckets : ℕ) (bucket : ℕ → ℕ) → ((key : ℕ) → bucket key < buckets) → 3 * buckets ≤ 12288 → Laws (table buckets bucket)
+table_laws buckets bucket small few = record {
+  first = record { few_cells = few; few_slots = omega arith; small = λ p fixed. omega arith; locks_free = λ p fixed lock. refl; links = λ p t fixed link h. absurd (omega arith) };
+  unlinked_lock = λ cells p lock. no_link p (lock_at buckets p lock);
+  over = λ layout limits. record {
+    begins = first_kept buckets bucket small layout limits;
+    empty = first_stands buckets bucket small layout limits;
+    shape = λ s sound kept r readings op thunk reader allowed fits. table_shaped buckets bucket small few layout limits s sound r readings op thunk reader allowed fits;
+    in_turn = table_in_turn buckets bucket small layout limits;
+    keeps = table_keeps buckets bucket small layout limits;
+    gives = λ s sound kept. table_gives buckets bucket small layout s sound kept;
+  };
+}
+  where
+    no_link : (p : ℕ) → (p < 3 * buckets) × (p % 3 ≡ 0) → is_link_place buckets bucket p ≡ false
+    no_link p at = let low = at.0 in let rest = at.1 in grind arith
+
+-- each number up to 12 by itself
+each_bits : (P : ℕ → Type 0) → P 0 → P 1 → P 2 → P 3 → P 4 → P 5 → P 6 → P 7 → P 8 → P 9 → P 10 → P 11 → P 12 → (n : ℕ) → n ≤ 12 → P n
+each_bits P p0 p1 p2 p3 p4 p5 p6 p7 p8 p9 p10 p11 p12 zero low = p0
+each_bits P p0 p1 p2 p3 p4 p5 p6 p7 p8 p9 p10 p11 p12 (suc zero) low = p1
+each_bits P p0 p1 p2 p3 p4 p5 p6 p7 p8 p9 p10 p11 p12 (suc (suc zero)) low = p2
+each_bits P p0 p1 p2 p3 p4 p5 p6 p7 p8 p9 p10 p11 p12 (suc (suc (suc zero))) low = p3
+each_bits P p0 p1 p2 p3 p4 p5 p6 p7 p8 p9 p10 p11 p12 (suc (suc (suc (suc zero)))) low = p4
+each_bits P p0 p1 p2 p3 p4 p5 p6 p7 p8 p9 p10 p11 p12 (suc (suc (suc (suc (suc zero))))) low = p5
+each_bits P p0 p1 p2 p3 p4 p5 p6 p7 p8 p9 p10 p11 p12 (suc (suc (suc (suc (suc (suc zero)))))) low = p6
+each_bits P p0 p1 p2 p3 p4 p5 p6 p7 p8 p9 p10 p11 p12 (suc (suc (suc (suc (suc (suc (suc zero))))))) low = p7
+each_bits P p0 p1 p2 p3 p4 p5 p6 p7 p8 p9 p10 p11 p12 (suc (suc (suc (suc (suc (suc (suc (suc zero)))))))) low = p8
+each_bits P p0 p1 p2 p3 p4 p5 p6 p7 p8 p9 p10 p11 p12 (suc (suc (suc (suc (suc (suc (suc (suc (suc zero))))))))) low = p9
+each_bits P p0 p1 p2 p3 p4 p5 p6 p7 p8 p9 p10 p11 p12 (suc (suc (suc (suc (suc (suc (suc (suc (suc (suc zero)))))))))) low = p10
+each_bits P p0 p1 p2 p3 p4 p5 p6 p7 p8 p9 p10 p11 p12 (suc (suc (suc (suc (suc (suc (suc (suc (suc (suc (suc zero))))))))))) low = p11
+each_bits P p0 p1 p2 p3 p4 p5 p6 p7 p8 p9 p10 p11 p12 (suc (suc (suc (suc (suc (suc (suc (suc (suc (suc (suc (suc zero)))))))))))) low = p12
+each_bits P p0 p1 p2 p3 p4 p5 p6 p7 p8 p9 p10 p11 p12 (suc (suc (suc (suc (suc (suc (suc (suc (suc (suc (suc (suc (suc n))))))))))))) low = absurd (omega arith)
+
+remainder_small : (n : ℕ) → n % 2 ^ 32 < 2 ^ 32
+remainder_small n = omega arith
+
+quotient_1 : (n : ℕ) → n < 2 ^ 32 → n / 2 ^ (32 - 1) < 2 ^ 1
+quotient_1 n low = omega arith
+
+quotient_2 : (n : ℕ) → n < 2 ^ 32 → n / 2 ^ (32 - 2) < 2 ^ 2
+quotient_2 n low = omega arith
+
+quotient_3 : (n : ℕ) → n < 2 ^ 32 → n / 2 ^ (32 - 3) < 2 ^ 3
+quotient_3 n low = omega arith
+
+quotient_4 : (n : ℕ) → n < 2 ^ 32 → n / 2 ^ (32 - 4) < 2 ^ 4
+quotient_4 n low = omega arith
+
+quotient_5 : (n : ℕ) → n < 2 ^ 32 → n / 2 ^ (32 - 5) < 2 ^ 5
+quotient_5 n low = omega arith
+
+quotient_6 : (n : ℕ) → n < 2 ^ 32 → n / 2 ^ (32 - 6) < 2 ^ 6
+quotient_6 n low = omega arith
+
+quotient_7 : (n : ℕ) → n < 2 ^ 32 → n / 2 ^ (32 - 7) < 2 ^ 7
+quotient_7 n low = omega arith
+
+quotient_8 : (n : ℕ) → n < 2 ^ 32 → n / 2 ^ (32 - 8) < 2 ^ 8
+quotient_8 n low = omega arith
+
+quotient_9 : (n : ℕ) → n < 2 ^ 32 → n / 2 ^ (32 - 9) < 2 ^ 9
+quotient_9 n low = omega arith
+
+quotient_10 : (n : ℕ) → n < 2 ^ 32 → n / 2 ^ (32 - 10) < 2 ^ 10
+quotient_10 n low = omega arith
+
+quotient_11 : (n : ℕ) → n < 2 ^ 32 → n / 2 ^ (32 - 11) < 2 ^ 11
+quotient_11 n low = omega arith
+
+quotient_12 : (n : ℕ) → n < 2 ^ 32 → n / 2 ^ (32 - 12) < 2 ^ 12
+quotient_12 n low = omega arith
+
+-- the hash function leads to a bucket
+bucket_small : (bits key : ℕ) → bits ≤ 12 → bucket_index key bits < 2 ^ bits
+bucket_small bits key few = let low = remainder_small (key * 2654435769) in
+    each_bits (λ bits. bucket_index key bits < 2 ^ bits) (omega arith) (quotient_1 (key * 2654435769 % 2 ^ 32) low) (quotient_2 (key * 2654435769 % 2 ^ 32) low) (quotient_3 (key * 2654435769 % 2 ^ 32) low) (quotient_4 (key * 2654435769 % 2 ^ 32) low) (quotient_5 (key * 2654435769 % 2 ^ 32) low) (quotient_6 (key * 2654435769 % 2 ^ 32) low) (quotient_7 (key * 2654435769 % 2 ^ 32) low) (quotient_8 (key * 2654435769 % 2 ^ 32) low) (quotient_9 (key * 2654435769 % 2 ^ 32) low) (quotient_10 (key * 2654435769 % 2 ^ 32) low) (quotient_11 (key * 2654435769 % 2 ^ 32) low) (quotient_12 (key * 2654435769 % 2 ^ 32) low) bits few
+
+buckets_few : (bits : ℕ) → bits ≤ 12 → 3 * 2 ^ bits ≤ 12288
+buckets_few bits few = each_bits (λ bits. 3 * 2 ^ bits ≤ 12288) (omega arith) (omega arith) (omega arith) (omega arith) (omega arith) (omega arith) (omega arith) (omega arith) (omega arith) (omega arith) (omega arith) (omega arith) (omega arith) bits few
+
+-- the hash table with 2 ^ bits buckets meets the laws
+pub buckets_laws : (bits : ℕ) → bits ≤ 12 → Laws (buckets_meaning bits)
+buckets_laws bits few = table_laws (2 ^ bits) (λ key. bucket_index key bits) (λ key. bucket_small bits key few) (buckets_few bits few)

@@ -1,0 +1,393 @@
+-- The Stores of a hash table's section keep what the table keeps.
+use Rattle.std.proofs.Common.{◌≡◌, ◌≢◌, ℕ, zero, suc, ◌+◌, ◌*◌, ◌<◌, ◌≤◌, Bool, true, false, refl, sym, ap, ◌∙◌, subst, inl, inr, ⊎_elim, arith}
+use Rattle.std.specs.Prelude.{◌^◌, ◌⊎◌, Some}
+use mathlib.Core.Logic.{dite}
+use native.Mathlib.Decide.{ℕ_discrete}
+use Rattle.map_history.specs.declared.op.Op.{Op}
+use Rattle.map_history.specs.Keys.{key_of}
+use Rattle.section_body.specs.Update.{upd}
+use Rattle.section_body.specs.Word.{value_of, version_of, next_word}
+use Rattle.section_body.specs.Bucket.{bucket_lock, bucket_edition, bucket_head, operand}
+use Rattle.section_body.specs.declared.value.Value.{Value}
+use Rattle.section_body.specs.declared.value.Value.TheVariants.{Const, Made}
+use Rattle.section_body.specs.declared.step.Step.TheVariants.{Load, Store}
+use Rattle.table_words.specs.declared.layout.Layout.{Layout}
+use Rattle.table_words.specs.Limits.{IsWithinLimits}
+use Rattle.table_words.specs.Places.{slot_count}
+use Rattle.structure_laws.specs.Scene.{Cells, Readings, Section, Status, Free, Live, Retired, Scene, with_cell, passes}
+use Rattle.structure_laws.specs.Sections.{Here, IsStep, value_in}
+use Rattle.structure_laws.specs.Sound.{IsRead, Sound}
+use Rattle.structure_laws.proofs.Changes.{upd_same, upd_other, upd_some, value-next_word, version-next_word, value_small}
+use Rattle.structure_laws.proofs.Limits.{links_small, value-small}
+use Rattle.structure_laws.proofs.Progress.{stepped}
+use Rattle.bucket_laws.specs.Chain.{Chains, with_head, with_next}
+use Rattle.bucket_laws.specs.Walk.{cell_at}
+use Rattle.bucket_laws.specs.Buckets.{Insert, Remove, form_of, nodes, IsNode, IsLinkOf, IsWalked, walk_of, Knows, IsTaken, BucketsKept, table}
+use Rattle.bucket_laws.proofs.Chain.{insert, remove_first, remove_next}
+use Rattle.bucket_laws.proofs.Elsewhere.{IsElsewhere, knows_on, edition_seen}
+use Rattle.bucket_laws.proofs.Forms.{store_step, insert_loads, remove_loads}
+use Rattle.bucket_laws.proofs.NodeChanges.{head_changed, next_changed, none_changed}
+use Rattle.bucket_laws.proofs.Sections.{fit, one_bucket, insert_head, insert_missing, insert_remove, remove_target, IsTarget}
+use Rattle.bucket_laws.proofs.TableGives.{target_on}
+use Rattle.bucket_laws.proofs.TableSteps.{Owns, live_cases, owned_once, suc_eq}
+use Rattle.bucket_laws.proofs.Walks.{head_is, is_first}
+
+some_inj : {A : Type 0} {x y : A} → Some x ≡ Some y → x ≡ y
+some_inj e = cc
+
+true_false : {b : Bool} → b ≡ true → b ≡ false → ⊥
+true_false e e' = cc
+
+live_retired : (x : Status) (y : ℕ) → x ≡ Live → x ≡ Retired y → ⊥
+live_retired x y e e' = cc
+
+module _ (buckets : ℕ) (bucket : ℕ → ℕ) (small : (key : ℕ) → bucket key < buckets) (layout : Layout) (limits : IsWithinLimits layout) (s : Scene) (sound : Sound (table buckets bucket) layout s) (kept : BucketsKept buckets bucket layout s)
+    (d : ℕ) (x : Section) (here : Here s d x) where
+  abbrev own : ℕ
+  own = bucket (key_of x.op)
+
+  -- the scene after a Store
+  abbrev stored_scene : Cells → Scene
+  stored_scene cells = record s { cells = cells; section = upd s.section d (Some (stepped x x.reg)) }
+
+  -- what a change of the section's own bucket has to show
+  pub record IsOwnChange (cells : Cells) (on : ℕ → Bool) (rank : ℕ → ℕ) : Type 0 where
+    pub chains : Chains bucket (nodes buckets bucket cells) on rank
+    pub on_live : (t : ℕ) → on t ≡ true → s.status t ≡ Live
+    pub elsewhere : (i : ℕ) → i < buckets → i ≢ own → IsElsewhere buckets bucket s.cells cells kept.on on kept.rank rank i
+    pub edition : (i : ℕ) → i < buckets → i ≢ own → cells (bucket_edition i) ≡ s.cells (bucket_edition i)
+    pub walks : (op : Op) (readings : Readings) → IsRead (table buckets bucket) s readings → bucket (key_of op) ≡ own → IsWalked buckets bucket (stored_scene cells) on rank op (walk_of buckets bucket layout op readings)
+    pub outside : (u k : ℕ) → kept.on u ≡ false → 1 ≤ k → k ≤ 3 → cells (cell_at buckets bucket u k) ≡ s.cells (cell_at buckets bucket u k)
+    pub out : (u : ℕ) → kept.on u ≡ false → (Owns x u → ⊥) → on u ≡ false
+    pub made : form_of x.thunk ≡ Insert → 6 ≤ suc x.at → suc x.at ≤ 7 → ⊥
+    pub linked : form_of x.thunk ≡ Remove → IsLinkOf buckets bucket cells on own (operand x.thunk 1)
+    pub taken : form_of x.thunk ≡ Remove → 7 ≤ suc x.at → suc x.at ≤ 8 → IsTaken buckets bucket (stored_scene cells) on (stepped x x.reg)
+    pub live : (t : ℕ) → kept.on t ≡ true → (on t ≡ true) ⊎ Owns (stepped x x.reg) t
+    pub owned : (t : ℕ) → Owns x t → (on t ≡ true) ⊎ Owns (stepped x x.reg) t
+
+  store_kept : (cells : Cells) (on : ℕ → Bool) (rank : ℕ → ℕ) → IsOwnChange cells on rank → BucketsKept buckets bucket layout (stored_scene cells)
+  store_kept cells on rank change = record {
+    on = on;
+    rank = rank;
+    chains = change.chains;
+    on_live = change.on_live;
+    readers = λ r readings op h. walked op readings (sound.readers r readings h) (kept.readers r readings op h);
+    sections = λ e z h. ⊎_elim
+        (λ same. subst (λ z. IsWalked buckets bucket (stored_scene cells) on rank z.op (walk_of buckets bucket layout z.op z.readings)) same.1 (walked x.op x.readings (sound.published d x here) (kept.sections d x here)))
+        (λ other. walked z.op z.readings (sound.published e z other.1) (kept.sections e z other.1)) (upd_some s.section d e (stepped x x.reg) z h);
+    made = λ e z h form low high. ⊎_elim
+        (λ same. absurd (subst (λ z. form_of z.thunk ≡ Insert → 6 ≤ z.at → z.at ≤ 7 → ⊥) same.1 change.made form low high))
+        (λ other. let was = kept.made e z other.1 form low high in record {
+          slot = was.slot;
+          link = was.link;
+          live = was.live;
+          out = change.out was.slot was.out (λ owns. other.0 (owned_once buckets bucket layout s kept sound e d z x was.slot other.1 here (inl (form, low, high, was.link)) owns));
+          key = ap value_of (change.outside was.slot 1 was.out (omega arith) (omega arith)) ∙ was.key;
+          value = ap value_of (change.outside was.slot 2 was.out (omega arith) (omega arith)) ∙ was.value;
+          next = ap value_of (change.outside was.slot 3 was.out (omega arith) (omega arith)) ∙ was.next;
+        })
+        (upd_some s.section d e (stepped x x.reg) z h);
+    linked = λ e z h form low. ⊎_elim
+        (λ same. subst (λ z. form_of z.thunk ≡ Remove → IsLinkOf buckets bucket cells on (bucket (key_of z.op)) (operand z.thunk 1)) same.1 change.linked form)
+        (λ other. ⊎_elim inl (λ node. inr (node.0, apart_node e z other.0 other.1 node.0 node.1, node.2)) (kept.linked e z other.1 form low))
+        (upd_some s.section d e (stepped x x.reg) z h);
+    taken = λ e z h form low high. ⊎_elim
+        (λ same. subst (λ z. form_of z.thunk ≡ Remove → 7 ≤ z.at → z.at ≤ 8 → IsTaken buckets bucket (stored_scene cells) on z) same.1 change.taken form low high)
+        (λ other. let was = kept.taken e z other.1 form low high in record {
+          live = was.live;
+          out = change.out (operand z.thunk 2) was.out (λ owns. other.0 (owned_once buckets bucket layout s kept sound e d z x (operand z.thunk 2) other.1 here (inr (form, low, high, refl)) owns));
+          key = ap value_of (change.outside (operand z.thunk 2) 1 was.out (omega arith) (omega arith)) ∙ was.key;
+          next = λ t leads. apart_node e z other.0 other.1 t (was.next t (ap value_of (sym (change.outside (operand z.thunk 2) 3 was.out (omega arith) (omega arith))) ∙ leads));
+        })
+        (upd_some s.section d e (stepped x x.reg) z h);
+    live = λ t live. live_cases buckets bucket layout s kept t live (λ on_t. mine t (change.live t on_t)) (λ e z there owns. dite (ℕ_discrete e d)
+        (λ same. mine t (change.owned t (subst (λ z. Owns z t) (some_inj (sym there ∙ ap s.section same ∙ here)) owns)))
+        (λ ne. held t e z (upd_other s.section d e (Some (stepped x x.reg)) ne ∙ there) owns));
+    limbo = λ q y t retired recent leads. kept.limbo q y t retired recent (ap value_of (sym (change.outside q 3 (retired_out q y retired (kept.on q) refl) (omega arith) (omega arith))) ∙ leads);
+  }
+    where
+      retired_out : (q y : ℕ) → s.status q ≡ Retired y → (b : Bool) → kept.on q ≡ b → b ≡ false
+      retired_out q y retired true e = absurd (live_retired (s.status q) y (kept.on_live q e) retired)
+      retired_out q y retired false e = refl
+
+      apart : (e : ℕ) (z : Section) → e ≢ d → s.section e ≡ Some z → bucket (key_of z.op) ≢ own
+      apart e z ne there same = ne (one_bucket buckets bucket layout s sound kept e d z x there here same)
+
+      apart_node : (e : ℕ) (z : Section) → e ≢ d → s.section e ≡ Some z → (t : ℕ) → IsNode buckets bucket s.cells kept.on (bucket (key_of z.op)) t → IsNode buckets bucket cells on (bucket (key_of z.op)) t
+      apart_node e z ne there t node =
+          let same = change.elsewhere (bucket (key_of z.op)) (small (key_of z.op)) (apart e z ne there) in
+          (same.stays t node, ap (λ word. bucket (value_of word)) (same.cell t 1 node (omega arith) (omega arith)) ∙ node.1)
+
+      walked : (op : Op) (readings : Readings) → IsRead (table buckets bucket) s readings → IsWalked buckets bucket s kept.on kept.rank op (walk_of buckets bucket layout op readings)
+          → IsWalked buckets bucket (stored_scene cells) on rank op (walk_of buckets bucket layout op readings)
+      walked op readings read before = dite (ℕ_discrete (bucket (key_of op)) own) (change.walks op readings read)
+          (λ ne. λ edition none. knows_on buckets bucket small s.cells cells kept.on on kept.rank rank kept.chains op (walk_of buckets bucket layout op readings) (change.elsewhere (bucket (key_of op)) (small (key_of op)) ne) (walk_of buckets bucket layout op readings).stage
+          (before (sym (change.edition (bucket (key_of op)) (small (key_of op)) ne) ∙ edition) (λ e z there pending. dite (ℕ_discrete e d)
+          (λ same. ne (lock_bucket (sym (subst (λ z. z.thunk.lock ≡ bucket_lock (bucket (key_of op))) (some_inj (sym there ∙ ap s.section same ∙ here)) pending.0) ∙ (fit buckets bucket layout s sound kept d x here).lock)))
+          (λ ne'. none e z (upd_other s.section d e (Some (stepped x x.reg)) ne' ∙ there) pending))))
+        where
+          lock_bucket : {i j : ℕ} → 3 * i ≡ 3 * j → i ≡ j
+          lock_bucket e = omega arith
+
+      held : (t e : ℕ) (z : Section) → upd s.section d (Some (stepped x x.reg)) e ≡ Some z → Owns z t → (on t ≡ true)
+          ⊎ ((e : ℕ) × (z : Section) × (upd s.section d (Some (stepped x x.reg)) e ≡ Some z) × (form_of z.thunk ≡ Insert) × (6 ≤ z.at) × (z.at ≤ 7) × (z.reg 2 ≡ suc t))
+          ⊎ ((e : ℕ) × (z : Section) × (upd s.section d (Some (stepped x x.reg)) e ≡ Some z) × (form_of z.thunk ≡ Remove) × (7 ≤ z.at) × (z.at ≤ 8) × (operand z.thunk 2 ≡ t))
+      held t e z h owns = ⊎_elim (λ new. inr (inl (e, z, h, new.0, new.1, new.2, new.3))) (λ old. inr (inr (e, z, h, old.0, old.1, old.2, old.3))) owns
+
+      mine : (t : ℕ) → (on t ≡ true) ⊎ Owns (stepped x x.reg) t → (on t ≡ true)
+          ⊎ ((e : ℕ) × (z : Section) × (upd s.section d (Some (stepped x x.reg)) e ≡ Some z) × (form_of z.thunk ≡ Insert) × (6 ≤ z.at) × (z.at ≤ 7) × (z.reg 2 ≡ suc t))
+          ⊎ ((e : ℕ) × (z : Section) × (upd s.section d (Some (stepped x x.reg)) e ≡ Some z) × (form_of z.thunk ≡ Remove) × (7 ≤ z.at) × (z.at ≤ 8) × (operand z.thunk 2 ≡ t))
+      mine t cases = ⊎_elim inl (λ owns. held t d (stepped x x.reg) (upd_same s.section d d (Some (stepped x x.reg)) refl) owns) cases
+
+  -- the section's change is pending, so no walk of its bucket knows anything
+  pending_walks : (cells : Cells) (on : ℕ → Bool) (rank : ℕ → ℕ) → ((form_of x.thunk ≡ Insert) × (suc x.at ≡ 8)) ⊎ ((form_of x.thunk ≡ Remove) × (suc x.at ≡ 7)) → (op : Op) (readings : Readings)
+      → IsRead (table buckets bucket) s readings → bucket (key_of op) ≡ own → IsWalked buckets bucket (stored_scene cells) on rank op (walk_of buckets bucket layout op readings)
+  pending_walks cells on rank pending op readings read same edition none =
+      absurd (none d (stepped x x.reg) (upd_same s.section d d (Some (stepped x x.reg)) refl) ((fit buckets bucket layout s sound kept d x here).lock ∙ ap bucket_lock (sym same), pending))
+
+  lock_is : x.thunk.lock ≡ 3 * own
+  lock_is = (fit buckets bucket layout s sound kept d x here).lock
+
+  -- a new node at the head
+  insert_change : (word : ℕ) → form_of x.thunk ≡ Insert → x.at ≡ 7 → value_of word ≡ value_of (x.reg 2)
+      → (on : ℕ → Bool) × (rank : ℕ → ℕ) × IsOwnChange (upd s.cells (bucket_head own) word) on rank
+  insert_change word form at stored =
+      let made = kept.made d x here form (omega arith) (omega arith) in
+      let t = made.slot in
+      let now = nodes buckets bucket s.cells in
+      let low = small (key_of x.op) in
+      let named = ((fit buckets bucket layout s sound kept d x here).insert form).1 in
+      let narrow = links_small layout 0 t limits (omega arith) (sound.within t (live_free (s.status t) made.live)) in
+      let value : value_of word ≡ suc t = stored ∙ ap value_of made.link ∙ value-small (suc t) narrow in
+      let key : now.key t ≡ key_of x.op = made.key ∙ named.3 ∙ ap key_of (sym named.2) in
+      let missing = insert_missing buckets bucket layout s sound kept d x here form (omega arith) (omega arith) in
+      let first : now.next t ≡ now.head own = made.next ∙ insert_head buckets bucket layout s sound kept d x here form (omega arith) (omega arith) ∙ sym (head_is buckets bucket small s.cells (key_of x.op)) in
+      let top = top_of (now.head own) refl in (
+        upd kept.on t true,
+        upd kept.rank t top.0,
+        record {
+          chains = subst (λ n. Chains bucket n (upd kept.on t true) (upd kept.rank t top.0)) (ap (with_head now own) (sym value) ∙ head_changed buckets bucket s.cells own word low)
+              (insert bucket now kept.on kept.rank kept.chains own t top.0 made.out (ap bucket key) first top.1 (λ u on e. missing u on (e ∙ key)));
+          on_live = λ u on. dite (ℕ_discrete u t) (λ e. ap s.status e ∙ made.live) (λ ne. kept.on_live u (sym (upd_other kept.on t u true ne) ∙ on));
+          elsewhere = λ i lower ne. record {
+            head = upd_other s.cells (bucket_head own) (bucket_head i) word (λ e. ne (omega arith));
+            stays = λ u node. dite (ℕ_discrete u t) (λ e. upd_same kept.on t u true e) (λ other. upd_other kept.on t u true other ∙ node.0);
+            ranks = λ u node. upd_other kept.rank t u top.0 (λ e. true_false node.0 (ap kept.on e ∙ made.out));
+            cell = λ u k node low high. upd_other s.cells (bucket_head own) (cell_at buckets bucket u k) word (λ e. omega arith);
+            back = λ u node.
+                let same : value_of (upd s.cells (bucket_head own) word (cell_at buckets bucket u 1)) ≡ value_of (s.cells (cell_at buckets bucket u 1)) = ap value_of (upd_other s.cells (bucket_head own) (cell_at buckets bucket u 1) word (λ e. omega arith)) in
+                (dite (ℕ_discrete u t) (λ e. absurd (ne (sym node.1 ∙ ap bucket same ∙ ap (λ u. bucket (now.key u)) e ∙ ap bucket key))) (λ other. sym (upd_other kept.on t u true other) ∙ node.0), ap bucket (sym same) ∙ node.1);
+          };
+          edition = λ i lower ne. upd_other s.cells (bucket_head own) (bucket_edition i) word (λ e. omega arith);
+          walks = pending_walks (upd s.cells (bucket_head own) word) (upd kept.on t true) (upd kept.rank t top.0) (inl (form, omega arith));
+          outside = λ u k out low high. upd_other s.cells (bucket_head own) (cell_at buckets bucket u k) word (λ e. omega arith);
+          out = λ u out free. upd_other kept.on t u true (λ e. free (inl (form, omega arith, omega arith, made.link ∙ ap suc (sym e)))) ∙ out;
+          made = λ f low high. omega arith;
+          linked = λ f. absurd (insert_remove (form_of x.thunk) form f);
+          taken = λ f low high. absurd (insert_remove (form_of x.thunk) form f);
+          live = λ u on. inl (dite (ℕ_discrete u t) (λ e. upd_same kept.on t u true e) (λ ne. upd_other kept.on t u true ne ∙ on));
+          owned = λ u owns. ⊎_elim (λ new. inl (upd_same kept.on t u true (suc_eq u t (sym new.3 ∙ made.link)))) (λ old. absurd (insert_remove (form_of x.thunk) form old.0)) owns;
+        },
+      )
+    where
+      live_free : (x : Status) → x ≡ Live → x ≢ Free
+      live_free x live free = cc
+
+      top_of : (link : ℕ) → (nodes buckets bucket s.cells).head own ≡ link → (top : ℕ) × ((u : ℕ) → kept.on u ≡ true → bucket ((nodes buckets bucket s.cells).key u) ≡ own → kept.rank u < top)
+      top_of zero e = (0, λ u on of. absurd (kept.chains.head_none own u e on of))
+      top_of (suc t) e = (suc (kept.rank t), λ u on of. let lower = kept.chains.head_top own t u e on of in omega arith)
+
+  -- the edition, once the chain has changed
+  edition_change : (word : ℕ) → ((form_of x.thunk ≡ Insert) × (x.at ≡ 8)) ⊎ ((form_of x.thunk ≡ Remove) × (x.at ≡ 7)) → version_of (s.cells (bucket_edition own)) < version_of word
+      → IsOwnChange (upd s.cells (bucket_edition own) word) kept.on kept.rank
+  edition_change word stage rises =
+      let low = small (key_of x.op) in
+      let same : (i : ℕ) → IsElsewhere buckets bucket s.cells (upd s.cells (bucket_edition own) word) kept.on kept.on kept.rank kept.rank i = λ i. record {
+        head = upd_other s.cells (bucket_edition own) (bucket_head i) word (λ e. omega arith);
+        stays = λ u node. node.0;
+        ranks = λ u node. refl;
+        cell = λ u k node low high. upd_other s.cells (bucket_edition own) (cell_at buckets bucket u k) word (λ e. omega arith);
+        back = λ u node. (node.0, ap (λ word. bucket (value_of word)) (sym (upd_other s.cells (bucket_edition own) (cell_at buckets bucket u 1) word (λ e. omega arith))) ∙ node.1);
+      } in
+      let cell : (u k : ℕ) → upd s.cells (bucket_edition own) word (cell_at buckets bucket u k) ≡ s.cells (cell_at buckets bucket u k) = λ u k. upd_other s.cells (bucket_edition own) (cell_at buckets bucket u k) word (λ e. omega arith) in
+      record {
+        chains = subst (λ n. Chains bucket n kept.on kept.rank) (none_changed buckets bucket s.cells (bucket_edition own) word (λ j lower e. omega arith) (λ u k low high e. omega arith)) kept.chains;
+        on_live = kept.on_live;
+        elsewhere = λ i lower ne. same i;
+        edition = λ i lower ne. upd_other s.cells (bucket_edition own) (bucket_edition i) word (λ e. ne (omega arith));
+        walks = λ op readings read mine edition none. ⊎_elim
+            (λ first. subst (Knows buckets bucket (upd s.cells (bucket_edition own) word) kept.on kept.rank op (walk_of buckets bucket layout op readings)) (sym first) tt)
+            (λ later.
+            let seen = edition_seen buckets bucket small (record { links = slot_count layout 0 + 8; version_max = layout.version_max }) op readings later in
+            let stood = read.seen seen.0 (bucket_edition (bucket (key_of op))) (walk_of buckets bucket layout op readings).edition seen.1 in
+            let at = ap bucket_edition mine in
+            absurd (older (version_of (walk_of buckets bucket layout op readings).edition) (version_of (s.cells (bucket_edition own))) (version_of word)
+            (⊎_elim (λ less. inl (let same = ap (λ p. version_of (s.cells p)) at in omega arith)) (λ equal. inr (ap version_of equal ∙ ap (λ p. version_of (s.cells p)) at)) stood) rises
+            (ap version_of (sym (upd_same s.cells (bucket_edition own) (bucket_edition (bucket (key_of op))) word at) ∙ edition))))
+            (is_first buckets bucket small (walk_of buckets bucket layout op readings).stage);
+        outside = λ u k out low high. cell u k;
+        out = λ u out free. out;
+        made = λ f low high. ⊎_elim (λ insert. let at = insert.1 in omega arith) (λ remove. insert_remove (form_of x.thunk) f remove.0) stage;
+        linked = λ f. ⊎_elim (λ insert. absurd (insert_remove (form_of x.thunk) insert.0 f))
+            (λ remove. ⊎_elim inl (λ node. inr (node.0, (node.1.0, ap (λ word. bucket (value_of word)) (cell node.0 1) ∙ node.1.1), node.2)) (kept.linked d x here f (let at = remove.1 in omega arith))) stage;
+        taken = λ f low high. ⊎_elim (λ insert. absurd (insert_remove (form_of x.thunk) insert.0 f))
+            (λ remove. let was = kept.taken d x here f (let at = remove.1 in omega arith) (let at = remove.1 in omega arith) in record {
+              live = was.live;
+              out = was.out;
+              key = ap value_of (cell (operand x.thunk 2) 1) ∙ was.key;
+              next = λ t leads. let node = was.next t (ap value_of (sym (cell (operand x.thunk 2) 3)) ∙ leads) in (node.0, ap (λ word. bucket (value_of word)) (cell t 1) ∙ node.1);
+            }) stage;
+        live = λ t on. inl on;
+        owned = λ t owns. ⊎_elim (λ new. ⊎_elim (λ insert. absurd (let at = insert.1 in let early = new.2 in omega arith)) (λ remove. absurd (insert_remove (form_of x.thunk) new.0 remove.0)) stage)
+            (λ old. ⊎_elim (λ insert. absurd (insert_remove (form_of x.thunk) insert.0 old.0)) (λ remove. inr (inr (old.0, (let at = remove.1 in omega arith), (let at = remove.1 in omega arith), old.3))) stage) owns;
+      }
+    where
+      older : (w now next : ℕ) → (w < now) ⊎ (w ≡ now) → now < next → next ≡ w → ⊥
+      older w now next cases less same = ⊎_elim (λ lt. omega arith) (λ e. omega arith) cases
+
+  -- a node leaves its chain: what both places of its link have in common
+  module _ (word : ℕ) (form : form_of x.thunk ≡ Remove) (at : x.at ≡ 6) (stored : value_of word ≡ operand x.thunk 3) where
+    abbrev gone : ℕ
+    gone = operand x.thunk 2
+
+    abbrev link_place : ℕ
+    link_place = operand x.thunk 1
+
+    target : IsTarget buckets bucket layout s sound kept x
+    target = remove_target buckets bucket layout s sound kept d x here form (omega arith) (omega arith)
+
+    gone_on : kept.on gone ≡ true
+    gone_on = target_on buckets bucket small layout s sound kept d x here form (omega arith) (omega arith)
+
+    gone_node : IsNode buckets bucket s.cells kept.on own gone
+    gone_node = (gone_on, ap bucket target.key)
+
+    -- the link stands in a head, or in a node that stays
+    remove_change : Chains bucket (nodes buckets bucket (upd s.cells link_place word)) (upd kept.on gone false) kept.rank
+        → ((u k : ℕ) → (kept.on u ≡ false) ⊎ ((i : ℕ) × (i ≢ own) × IsNode buckets bucket s.cells kept.on i u) ⊎ (u ≡ gone) → 1 ≤ k → k ≤ 3 → cell_at buckets bucket u k ≢ link_place)
+        → ((u : ℕ) → cell_at buckets bucket u 1 ≢ link_place)
+        → ((i : ℕ) → i < buckets → i ≢ own → bucket_head i ≢ link_place) → ((i : ℕ) → i < buckets → bucket_edition i ≢ link_place)
+        → IsLinkOf buckets bucket (upd s.cells link_place word) (upd kept.on gone false) own link_place
+        → IsOwnChange (upd s.cells link_place word) (upd kept.on gone false) kept.rank
+    remove_change chains apart keys heads editions linked = record {
+      chains = chains;
+      on_live = λ u on. kept.on_live u (still u on).0;
+      elsewhere = λ i lower ne. record {
+        head = upd_other s.cells link_place (bucket_head i) word (heads i lower ne);
+        stays = λ u node. upd_other kept.on gone u false (λ e. ne (sym node.1 ∙ ap (λ u. bucket (value_of (s.cells (cell_at buckets bucket u 1)))) e ∙ gone_node.1)) ∙ node.0;
+        ranks = λ u node. refl;
+        cell = λ u k node low high. upd_other s.cells link_place (cell_at buckets bucket u k) word (apart u k (inr (inl (i, ne, node))) low high);
+        back = λ u node. ((still u node.0).0, ap (λ word. bucket (value_of word)) (sym (upd_other s.cells link_place (cell_at buckets bucket u 1) word (keys u))) ∙ node.1);
+      };
+      edition = λ i lower ne. upd_other s.cells link_place (bucket_edition i) word (editions i lower);
+      walks = pending_walks (upd s.cells link_place word) (upd kept.on gone false) kept.rank (inr (form, omega arith));
+      outside = λ u k out low high. upd_other s.cells link_place (cell_at buckets bucket u k) word (apart u k (inl out) low high);
+      out = λ u out free. dite (ℕ_discrete u gone) (λ e. upd_same kept.on gone u false e) (λ ne. upd_other kept.on gone u false ne ∙ out);
+      made = λ f low high. insert_remove (form_of x.thunk) f form;
+      linked = λ f. linked;
+      taken = λ f low high. record {
+        live = kept.on_live gone gone_on;
+        out = upd_same kept.on gone gone false refl;
+        key = ap value_of (upd_other s.cells link_place (cell_at buckets bucket gone 1) word (keys gone)) ∙ target.key;
+        next = λ t leads.
+            let there = kept.chains.next_on gone t gone_on (ap value_of (sym (upd_other s.cells link_place (cell_at buckets bucket gone 3) word (apart gone 3 (inr (inr refl)) (omega arith) (omega arith)))) ∙ leads) in (
+              upd_other kept.on gone t false (λ e. let falls = there.2 in let same = ap kept.rank e in omega arith) ∙ there.0,
+              ap (λ word. bucket (value_of word)) (upd_other s.cells link_place (cell_at buckets bucket t 1) word (keys t)) ∙ there.1 ∙ gone_node.1,
+            );
+      };
+      live = λ u on. dite (ℕ_discrete u gone) (λ e. inr (inr (form, (omega arith), (omega arith), sym e))) (λ ne. inl (upd_other kept.on gone u false ne ∙ on));
+      owned = λ u owns. absurd (⊎_elim (λ new. insert_remove (form_of x.thunk) new.0 form) (λ old. let late = old.1 in omega arith) owns);
+    }
+      where
+        still : (u : ℕ) → upd kept.on gone false u ≡ true → (kept.on u ≡ true) × (u ≢ gone)
+        still u on = dite (ℕ_discrete u gone) (λ e. absurd (true_false on (upd_same kept.on gone u false e))) (λ ne. (sym (upd_other kept.on gone u false ne) ∙ on, ne))
+
+    remove_head : link_place ≡ bucket_head own → IsOwnChange (upd s.cells link_place word) (upd kept.on gone false) kept.rank
+    remove_head head =
+        let now = nodes buckets bucket s.cells in
+        let low = small (key_of x.op) in
+        let leads : now.head own ≡ suc gone = head_is buckets bucket small s.cells (key_of x.op) ∙ ap (λ p. value_of (s.cells p)) (sym head) ∙ target.leads in
+        remove_change
+        (subst (λ p. Chains bucket (nodes buckets bucket (upd s.cells p word)) (upd kept.on gone false) kept.rank) (sym head)
+        (subst (λ n. Chains bucket n (upd kept.on gone false) kept.rank) (ap (with_head now own) (target.next ∙ sym stored) ∙ head_changed buckets bucket s.cells own word low)
+        (remove_first bucket now kept.on kept.rank kept.chains own gone leads)))
+        (λ u k cases first last e. omega arith) (λ u e. omega arith) (λ i lower ne e. ne (omega arith)) (λ i lower e. omega arith) (inl head)
+
+    remove_node : (v : ℕ) → IsNode buckets bucket s.cells kept.on own v → link_place ≡ cell_at buckets bucket v 3 → IsOwnChange (upd s.cells link_place word) (upd kept.on gone false) kept.rank
+    remove_node v node place =
+        let now = nodes buckets bucket s.cells in
+        let leads : now.next v ≡ suc gone = ap (λ p. value_of (s.cells p)) (sym place) ∙ target.leads in
+        let there = kept.chains.next_on v gone node.0 leads in
+        let other : v ≢ gone = λ e. let falls = there.2 in let same = ap kept.rank e in omega arith in
+        remove_change
+        (subst (λ p. Chains bucket (nodes buckets bucket (upd s.cells p word)) (upd kept.on gone false) kept.rank) (sym place)
+        (subst (λ n. Chains bucket n (upd kept.on gone false) kept.rank) (ap (with_next now v) (target.next ∙ sym stored) ∙ next_changed buckets bucket s.cells v word)
+        (remove_next bucket now kept.on kept.rank kept.chains v gone node.0 leads)))
+        (λ u k cases first last e. apart u k cases (own_cell u k first last (sym place ∙ sym e)))
+        (λ u e. omega arith) (λ i lower ne e. omega arith) (λ i lower e. omega arith)
+        (inr (v, (upd_other kept.on gone v false other ∙ node.0, ap (λ word. bucket (value_of word)) (upd_other s.cells link_place (cell_at buckets bucket v 1) word (λ e. omega arith)) ∙ node.1), place))
+      where
+        own_cell : (u k : ℕ) → 1 ≤ k → k ≤ 3 → cell_at buckets bucket v 3 ≡ cell_at buckets bucket u k → u ≡ v
+        own_cell u k first last e = omega arith
+
+        stays : v ≢ gone
+        stays e =
+            let leads : value_of (s.cells (cell_at buckets bucket v 3)) ≡ suc gone = ap (λ p. value_of (s.cells p)) (sym place) ∙ target.leads in
+            let falls = (kept.chains.next_on v gone node.0 leads).2 in
+            let same = ap kept.rank e in
+            omega arith
+
+        apart : (u k : ℕ) → (kept.on u ≡ false) ⊎ ((i : ℕ) × (i ≢ own) × IsNode buckets bucket s.cells kept.on i u) ⊎ (u ≡ gone) → u ≡ v → ⊥
+        apart u k cases same = ⊎_elim (λ out. true_false node.0 (ap kept.on (sym same) ∙ out))
+            (⊎_elim (λ away. away.1 (sym away.2.1 ∙ ap (λ u. bucket (value_of (s.cells (cell_at buckets bucket u 1)))) same ∙ node.1)) (λ e. stays (sym same ∙ e))) cases
+
+  -- every Store of the section
+  pub table_store : (j p r : ℕ) (v : Value) → IsStep (table buckets bucket) x x.at (Store r v) → IsStep (table buckets bucket) x j (Load p r) → s.cells p ≡ x.reg r
+      → BucketsKept buckets bucket layout (with_cell (passes s d x) p (next_word (x.reg r) (value_in x.reg v)))
+  table_store j p r v store load found = ⊎_elim
+      (λ head. let place = insert_place head.0 (λ first. absurd (let one = head.2 in omega arith)) in
+      let change = insert_change (next_word (x.reg r) (value_in x.reg v)) head.0 head.1 (value head.3) in
+      subst (λ p. BucketsKept buckets bucket layout (stored_scene (upd s.cells p (next_word (x.reg r) (value_in x.reg v))))) (sym place)
+      (store_kept (upd s.cells (bucket_head own) (next_word (x.reg r) (value_in x.reg v))) change.0 change.1 change.2))
+      (⊎_elim
+      (λ edition. edition_stored (edition_place (inl edition.0) edition.2) (inl (edition.0, edition.1)) edition.3)
+      (⊎_elim
+      (λ link. let place = remove_place link.0 (λ first. absurd (let one = link.2 in omega arith)) in
+      subst (λ p. BucketsKept buckets bucket layout (stored_scene (upd s.cells p (next_word (x.reg r) (value_in x.reg v))))) (sym place) (link_stored link.0 link.1 (numbered link.0 link.1 link.3)))
+      (λ edition. edition_stored (edition_place (inr edition.0) edition.2) (inr (edition.0, edition.1)) edition.3)))
+      (store_step x.thunk x.at r v store)
+    where
+      value : v ≡ Made 2 → value_of (next_word (x.reg r) (value_in x.reg v)) ≡ value_of (x.reg 2)
+      value made = ap (λ v. value_of (next_word (x.reg r) (value_in x.reg v))) made ∙ value-next_word (x.reg r) (value_of (x.reg 2)) (value_small (x.reg 2))
+
+      insert_place : form_of x.thunk ≡ Insert → (r ≡ 0 → ⊥) → p ≡ bucket_head own
+      insert_place form ne = ⊎_elim (λ first. absurd (ne first.1)) (λ second. let lock = lock_is in let at = second.2 in omega arith) (insert_loads x.thunk j p r form load)
+
+      remove_place : form_of x.thunk ≡ Remove → (r ≡ 0 → ⊥) → p ≡ operand x.thunk 1
+      remove_place form ne = ⊎_elim (λ first. absurd (ne first.1)) (λ second. second.2) (remove_loads x.thunk j p r form load)
+
+      edition_place : (form_of x.thunk ≡ Insert) ⊎ (form_of x.thunk ≡ Remove) → r ≡ 0 → p ≡ bucket_edition own
+      edition_place forms none = ⊎_elim
+          (λ form. ⊎_elim (λ first. let lock = lock_is in let at = first.2 in omega arith) (λ second. absurd (let one = second.1 in omega arith)) (insert_loads x.thunk j p r form load))
+          (λ form. ⊎_elim (λ first. let lock = lock_is in let at = first.2 in omega arith) (λ second. absurd (let one = second.1 in omega arith)) (remove_loads x.thunk j p r form load)) forms
+
+      edition_stored : p ≡ bucket_edition own → ((form_of x.thunk ≡ Insert) × (x.at ≡ 8)) ⊎ ((form_of x.thunk ≡ Remove) × (x.at ≡ 7)) → v ≡ Const 0
+          → BucketsKept buckets bucket layout (stored_scene (upd s.cells p (next_word (x.reg r) (value_in x.reg v))))
+      edition_stored place stage zero_value =
+          let next = ap (λ v. version_of (next_word (x.reg r) (value_in x.reg v))) zero_value ∙ version-next_word (x.reg r) 0 (omega arith) in
+          let was = ap version_of (ap s.cells (sym place) ∙ found) in
+          subst (λ p. BucketsKept buckets bucket layout (stored_scene (upd s.cells p (next_word (x.reg r) (value_in x.reg v))))) (sym place)
+          (store_kept (upd s.cells (bucket_edition own) (next_word (x.reg r) (value_in x.reg v))) kept.on kept.rank (edition_change (next_word (x.reg r) (value_in x.reg v)) stage (omega arith)))
+
+      numbered : form_of x.thunk ≡ Remove → x.at ≡ 6 → v ≡ Const (operand x.thunk 3) → value_of (next_word (x.reg r) (value_in x.reg v)) ≡ operand x.thunk 3
+      numbered form at number =
+          let leaves = remove_target buckets bucket layout s sound kept d x here form (omega arith) (omega arith) in
+          let narrow : operand x.thunk 3 < 2 ^ 32 = subst (λ z. z < 2 ^ 32) leaves.next (value_small (s.cells (cell_at buckets bucket (operand x.thunk 2) 3))) in
+          ap (λ v. value_of (next_word (x.reg r) (value_in x.reg v))) number ∙ value-next_word (x.reg r) (operand x.thunk 3) narrow
+
+      link_stored : form_of x.thunk ≡ Remove → x.at ≡ 6 → value_of (next_word (x.reg r) (value_in x.reg v)) ≡ operand x.thunk 3
+          → BucketsKept buckets bucket layout (stored_scene (upd s.cells (operand x.thunk 1) (next_word (x.reg r) (value_in x.reg v))))
+      link_stored form at stored =
+          let word = next_word (x.reg r) (value_in x.reg v) in
+          store_kept (upd s.cells (operand x.thunk 1) word) (upd kept.on (operand x.thunk 2) false) kept.rank
+          (⊎_elim (λ head. remove_head word form at stored head) (λ node. remove_node word form at stored node.0 node.1 node.2) (target word form at stored).link)

@@ -1,0 +1,162 @@
+-- What a walk of the hash table takes from its readings alone.
+use Rattle.std.proofs.Common.{◌≡◌, ◌≢◌, ℕ, zero, suc, ◌<◌, Bool, true, false, cond, refl, sym, ap, ◌∙◌, inl, inr, ⊎_elim, arith}
+use Rattle.std.specs.Prelude.{◌==◌, ◌&&◌, ◌||◌, not, ◌-◌, ◌^◌, ◌⊎◌, nat_le, Option, Some, None, [], ◌∷◌, slice_get}
+use Rattle.std.specs.List.{list_any}
+use Rattle.map_history.specs.declared.op.Op.{Op}
+use Rattle.map_history.specs.Keys.{key_of}
+use Rattle.section_body.specs.Word.{value_of, is_free, is_spent}
+use Rattle.section_body.specs.Bucket.{bucket_head}
+use Rattle.structure_laws.specs.Scene.{Readings}
+use Rattle.structure_laws.proofs.Changes.{value_small}
+use Rattle.bucket_laws.specs.Walk.{Stage, AtEdition, AtLink, AtKey, AtValue, AtNext, AtLock, AtEnd, Refused, Walk, start, is_del, is_wanted, Bounds, cell_at, wanted_at, fed, walk}
+use Rattle.bucket_laws.specs.Buckets.{is_link_place}
+use Rattle.bucket_laws.proofs.Places.{is_head_link, is_node_link}
+use Rattle.bucket_laws.proofs.Walks.{wanted_eq}
+
+some_eq : (a b : ℕ) → Some a ≡ Some b → a ≡ b
+some_eq a b e = cc
+
+none_some : (a : ℕ) → None ≡ Some a → ⊥
+none_some a e = cc
+
+or_left : (a b : Bool) → a ≡ true → (a || b) ≡ true
+or_left a b h = grind arith
+
+or_right : (a b : Bool) → b ≡ true → (a || b) ≡ true
+or_right a b h = grind arith
+
+both : (a b : Bool) → a ≡ true → b ≡ true → (a && b) ≡ true
+both a b h h' = grind arith
+
+eq_test : (a b : ℕ) → a ≡ b → (a == b) ≡ true
+eq_test a b e = grind arith
+
+-- where a link leads on to a key it isn't 0
+not_none : (none far : Bool) → cond none AtLock (cond far Refused AtKey) ≡ AtKey → none ≡ false
+not_none true far e = absurd (cc)
+not_none false far e = refl
+
+is_not : (a b : ℕ) → (a == b) ≡ false → a ≢ b
+is_not a b h e = grind arith
+
+module _ (buckets : ℕ) (bucket : ℕ → ℕ) (small : (key : ℕ) → bucket key < buckets) where
+  -- the readings give a link to this slot
+  abbrev pub Gives : Readings → ℕ → Type 0
+  Gives readings t = list_any (λ reading. is_link_place buckets bucket reading.0 && (value_of reading.1 == suc t)) readings ≡ true
+
+  -- a word of a link among the readings gives its slot
+  given : (readings : Readings) (i p w t : ℕ) → slice_get readings i ≡ Some (p, w) → is_link_place buckets bucket p ≡ true → value_of w ≡ suc t → Gives readings t
+  given [] i p w t h link leads = absurd (cc)
+  given (reading ∷ readings) zero p w t h link leads =
+      let same = some_pair reading p w h in
+      or_left (is_link_place buckets bucket reading.0 && (value_of reading.1 == suc t)) (list_any (λ reading. is_link_place buckets bucket reading.0 && (value_of reading.1 == suc t)) readings)
+      (both (is_link_place buckets bucket reading.0) (value_of reading.1 == suc t) (ap (is_link_place buckets bucket) same.0 ∙ link) (eq_test (value_of reading.1) (suc t) (ap value_of same.1 ∙ leads)))
+    where
+      some_pair : (reading : ℕ × ℕ) (p w : ℕ) → Some reading ≡ Some (p, w) → (reading.0 ≡ p) × (reading.1 ≡ w)
+      some_pair reading p w e = (ap (λ o. first o) e, ap (λ o. second o) e)
+        where
+          first : Option (ℕ × ℕ) → ℕ
+          first None = 0
+          first (Some reading) = reading.0
+
+          second : Option (ℕ × ℕ) → ℕ
+          second None = 0
+          second (Some reading) = reading.1
+  given (reading ∷ readings) (suc i) p w t h link leads =
+      or_right (is_link_place buckets bucket reading.0 && (value_of reading.1 == suc t)) (list_any (λ reading. is_link_place buckets bucket reading.0 && (value_of reading.1 == suc t)) readings) (given readings i p w t h link leads)
+
+  -- the place of the last link, and what is small
+  pub record WalkFacts (all : Readings) (op : Op) (w : Walk) : Type 0 where
+    pub place : w.stage ≢ AtEdition → (w.place ≡ bucket_head (bucket (key_of op))) ⊎ ((t : ℕ) × Gives all t × (w.place ≡ cell_at buckets bucket t 3))
+    pub slot : w.stage ≡ AtKey → Gives all w.slot
+    pub head_small : w.head < 2 ^ 32
+    pub slot_small : w.slot < 2 ^ 32
+    pub next_small : w.next < 2 ^ 32
+
+  facts_fed : (all : Readings) (b : Bounds) (op : Op) (w : Walk) (stage : Stage) (p word i : ℕ) → WalkFacts all op w → w.stage ≡ stage → wanted_at buckets bucket (bucket (key_of op)) w stage ≡ Some p
+      → slice_get all i ≡ Some (p, word) → WalkFacts all op (fed buckets bucket b op w stage word)
+  facts_fed all b op w AtEdition p word i facts at want h = record { place = λ ne. inl refl; slot = λ e. absurd (cc); head_small = facts.head_small; slot_small = facts.slot_small; next_small = facts.next_small }
+  facts_fed all b op w AtLink p word i facts at want h = record {
+    place = λ ne. facts.place (λ e. link_edition (sym at ∙ e));
+    slot = λ e. let some = is_not (value_of word) 0 (not_none (value_of word == 0) (nat_le b.links (suc w.links)) e) in
+        given all i p word (value_of word - 1) h (ap (is_link_place buckets bucket) (sym (some_eq w.place p want)) ∙ link_is (facts.place (λ e'. link_edition (sym at ∙ e')))) (omega arith);
+    head_small = pick (w.place == bucket_head (bucket (key_of op))) (value_of word) w.head (value_small word) facts.head_small;
+    slot_small = let low = value_small word in omega arith;
+    next_small = facts.next_small;
+  }
+    where
+      link_edition : AtLink ≡ AtEdition → ⊥
+      link_edition e = cc
+
+      link_is : (w.place ≡ bucket_head (bucket (key_of op))) ⊎ ((t : ℕ) × Gives all t × (w.place ≡ cell_at buckets bucket t 3)) → is_link_place buckets bucket w.place ≡ true
+      link_is place = ⊎_elim (λ head. ap (is_link_place buckets bucket) head ∙ is_head_link buckets (bucket (key_of op)) (small (key_of op))) (λ node. ap (is_link_place buckets bucket) node.2 ∙ is_node_link buckets node.0) place
+
+      pick : (c : Bool) (x y : ℕ) → x < 2 ^ 32 → y < 2 ^ 32 → cond c x y < 2 ^ 32
+      pick true x y low low' = low
+      pick false x y low low' = low'
+  facts_fed all b op w AtKey p word i facts at want h = pick (value_of word == key_of op)
+    where
+      key_edition : AtKey ≡ AtEdition → ⊥
+      key_edition e = cc
+
+      pick : (c : Bool) → WalkFacts all op (cond c (record w { stage = AtValue }) (record w { stage = AtLink; place = cell_at buckets bucket w.slot 3 }))
+      pick true = record { place = λ ne. facts.place (λ e. key_edition (sym at ∙ e)); slot = λ e. absurd (cc); head_small = facts.head_small; slot_small = facts.slot_small; next_small = facts.next_small }
+      pick false = record { place = λ ne. inr (w.slot, facts.slot at, refl); slot = λ e. absurd (cc); head_small = facts.head_small; slot_small = facts.slot_small; next_small = facts.next_small }
+  facts_fed all b op w AtValue p word i facts at want h = record {
+    place = λ ne. facts.place (λ e. value_edition (sym at ∙ e));
+    slot = λ e. absurd (no_key (is_del op) e);
+    head_small = facts.head_small;
+    slot_small = facts.slot_small;
+    next_small = facts.next_small;
+  }
+    where
+      value_edition : AtValue ≡ AtEdition → ⊥
+      value_edition e = cc
+
+      no_key : (c : Bool) → cond c AtNext AtLock ≡ AtKey → ⊥
+      no_key true e = cc
+      no_key false e = cc
+  facts_fed all b op w AtNext p word i facts at want h = record {
+    place = λ ne. facts.place (λ e. next_edition (sym at ∙ e));
+    slot = λ e. absurd (cc);
+    head_small = facts.head_small;
+    slot_small = facts.slot_small;
+    next_small = value_small word;
+  }
+    where
+      next_edition : AtNext ≡ AtEdition → ⊥
+      next_edition e = cc
+  facts_fed all b op w AtLock p word i facts at want h = record {
+    place = λ ne. facts.place (λ e. lock_edition (sym at ∙ e));
+    slot = λ e. absurd (no_key (is_free word && not (is_spent b.version_max word)) e);
+    head_small = facts.head_small;
+    slot_small = facts.slot_small;
+    next_small = facts.next_small;
+  }
+    where
+      lock_edition : AtLock ≡ AtEdition → ⊥
+      lock_edition e = cc
+
+      no_key : (c : Bool) → cond c AtEnd Refused ≡ AtKey → ⊥
+      no_key true e = cc
+      no_key false e = cc
+  facts_fed all b op w AtEnd p word i facts at want h = absurd (none_some p want)
+  facts_fed all b op w Refused p word i facts at want h = absurd (none_some p want)
+
+  -- the walk in readings that all stand in a list
+  facts_walked : (all : Readings) (b : Bounds) (op : Op) (w : Walk) (readings : Readings) → ((i : ℕ) (reading : ℕ × ℕ) → slice_get readings i ≡ Some reading → (j : ℕ) × (slice_get all j ≡ Some reading)) → WalkFacts all op w
+      → WalkFacts all op (walk buckets bucket b op w readings)
+  unfolding walk
+  facts_walked all b op w [] within facts = facts
+  facts_walked all b op w (reading ∷ readings) within facts = go (is_wanted (wanted_at buckets bucket (bucket (key_of op)) w w.stage) reading.0) refl
+      (facts_walked all b op (fed buckets bucket b op w w.stage reading.1) readings (λ i other h. within (suc i) other h))
+    where
+      go : (c : Bool) → is_wanted (wanted_at buckets bucket (bucket (key_of op)) w w.stage) reading.0 ≡ c
+          → (WalkFacts all op (fed buckets bucket b op w w.stage reading.1) → WalkFacts all op (walk buckets bucket b op (fed buckets bucket b op w w.stage reading.1) readings))
+          → WalkFacts all op (cond c (walk buckets bucket b op (fed buckets bucket b op w w.stage reading.1) readings) w)
+      go true e again = let here = within 0 reading refl in again (facts_fed all b op w w.stage reading.0 reading.1 here.0 facts refl (wanted_eq (wanted_at buckets bucket (bucket (key_of op)) w w.stage) reading.0 e) here.1)
+      go false e again = facts
+
+  pub walk_facts : (b : Bounds) (op : Op) (readings : Readings) → WalkFacts readings op (walk buckets bucket b op start readings)
+  walk_facts b op readings = facts_walked readings b op start readings (λ i reading h. (i, h))
+      (record { place = λ ne. absurd (ne refl); slot = λ e. absurd (cc); head_small = omega arith; slot_small = omega arith; next_small = omega arith })

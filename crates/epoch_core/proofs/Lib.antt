@@ -1,0 +1,14 @@
+pub mod Entering
+pub mod Scanning
+pub mod NodeSlots
+pub mod Sections
+pub mod Keeping
+pub mod Reusing
+pub mod Exactly
+pub mod Lasting
+pub mod Same
+pub mod Times
+pub mod Collecting
+pub mod Listing
+pub mod Starting
+pub mod Rounding

@@ -1,0 +1,95 @@
+-- What the invariant says of slots that are held.
+use Rattle.std.proofs.Common.{◌≡◌, ℕ, ◌+◌, ◌<◌, ◌≤◌, Bool, true, false, arith}
+use Rattle.epoch_core.specs.declared.location.Location.{Location}
+use Rattle.epoch_core.specs.declared.location.Location.TheVariants.{Fixed, Live, Hand, Free, Worn, Limbo}
+use Rattle.epoch_core.specs.State.{Counts, EpochState, is_entered, entry_of, IsKept}
+use Rattle.epoch_core.specs.Events.{Event, EnterLoad, Announce, EnterAgain, Exit, ScanEpoch, ScanOne, ScanLast, Advance, Test, TakeSlot, MakeCommit, RetireEpoch, RetireCommit, WordCommit, StoreLog, Reach, Publish, RetireDescriptor, after}
+use Rattle.epoch_core.specs.Sound.{IsSound}
+use Rattle.epoch_core.specs.Reuse.{HeldAreSafe, MayLeave, LeavesLate, LeavesNothingOld}
+use Rattle.epoch_core.specs.Moves.{collected}
+use Rattle.epoch_core.specs.Follows.{MayFollow, is_in_use}
+use Rattle.std.proofs.lemmas.Bool.Decides.{nat_tests}
+
+pub held_are_safe : (c : Counts) (w : EpochState) → IsSound c w → HeldAreSafe w
+held_are_safe c w sound =
+    record {
+      free = λ r s r' h at. let kept = sound.held r s h in grind arith;
+      hand = λ r s r' h at. let kept = sound.held r s h in grind arith;
+      worn = λ r s r' h at. let kept = sound.held r s h in grind arith;
+    }
+
+-- where two epochs have passed since the slot was retired, it may leave
+may_leave : (c : Counts) (w : EpochState) (e : Event) → IsSound c w → (s r y : ℕ) → w.location s ≡ Limbo r y
+    → ((r' : ℕ) → is_entered (w.stage r') ≡ true → y < entry_of (w.stage r')) → y + 2 ≤ (after c w e).epoch → MayLeave c w e s y
+may_leave c w e sound s r y at later passed =
+    record {
+      passed = passed;
+      unheld = λ r' h. let kept = sound.held r' s h in let came = later r' (sound.holder r' s h) in grind arith;
+      later = later;
+    }
+
+-- what is in the own limbo after a collect isn't old
+collected_young : (node : Bool) (r e y : ℕ) (x : Location) → collected node r e x ≡ Limbo r y → e < y + 2
+collected_young node r e y Fixed at = cc
+collected_young node r e y Live at = cc
+collected_young node r e y (Hand r') at = cc
+collected_young node r e y (Free r') at = cc
+collected_young node r e y (Worn r') at = cc
+collected_young true r e y (Limbo r' y') at = grind (arith, nat_tests)
+collected_young false r e y (Limbo r' y') at = grind (arith, nat_tests)
+
+pub leaves_nothing_old : (c : Counts) → LeavesNothingOld c
+leaves_nothing_old c w r x n b s y = (λ at. collected_young _ r x y (w.location s) at, λ at. collected_young _ r (x + 1) y (w.location s) at)
+
+-- a slot in use may be held by anybody
+in_use_kept : (x : Location) (g : ℕ) → is_in_use x ≡ true → IsKept x g
+in_use_kept Fixed g h = tt
+in_use_kept Live g h = tt
+in_use_kept (Hand r) g h = absurd (cc)
+in_use_kept (Free r) g h = absurd (cc)
+in_use_kept (Worn r) g h = absurd (cc)
+in_use_kept (Limbo r y) g h = absurd (cc)
+
+-- what one may hold who entered later, one may hold who entered earlier
+kept_earlier : (x : Location) (g z : ℕ) → g ≤ z → IsKept x z → IsKept x g
+kept_earlier Fixed g z le k = tt
+kept_earlier Live g z le k = tt
+kept_earlier (Hand r) g z le k = k
+kept_earlier (Free r) g z le k = k
+kept_earlier (Worn r) g z le k = k
+kept_earlier (Limbo r y) g z le k = omega arith
+
+pub may_follow : (c : Counts) (w : EpochState) → IsSound c w → MayFollow c w
+may_follow c w sound =
+    record {
+      from_live = λ r t isin used none. record { kept = in_use_kept (w.location t) _ used; retires = λ r' pending e. absurd (none r' pending e) };
+      from_retired = λ r q p z t h at kept late.
+          let own = sound.held r q h in let before : entry_of (w.stage r) ≤ z = grind arith in
+          record {
+            kept = kept_earlier (w.location t) (entry_of (w.stage r)) z before kept;
+            retires = λ r' pending e. let since = late r' pending e in omega arith;
+          };
+      descriptor = λ r d isin kept. record { kept = kept; retires = λ r' pending e. let node = sound.retire_node r' pending.0 in absurd (omega arith) };
+    }
+
+pub leaves_late : (c : Counts) → LeavesLate c
+leaves_late c w (EnterLoad q) sound ok s r y at left = absurd (left (grind arith))
+leaves_late c w (Announce q e) sound ok s r y at left = absurd (left (grind arith))
+leaves_late c w (EnterAgain q) sound ok s r y at left = absurd (left (grind arith))
+leaves_late c w (Exit q) sound ok s r y at left = absurd (left (grind arith))
+leaves_late c w (ScanEpoch q) sound ok s r y at left = absurd (left (grind arith))
+leaves_late c w (ScanOne q x n b) sound ok s r y at left = absurd (left (grind arith))
+leaves_late c w (ScanLast q x n b) sound ok s r y at left =
+    may_leave c w (ScanLast q x n b) sound s r y at (λ r' isin. let least = sound.entered_least r' isin in grind arith) (grind arith)
+leaves_late c w (Advance q x n) sound ok s r y at left =
+    may_leave c w (Advance q x n) sound s r y at (λ r' isin. let least = sound.entered_least r' isin in grind arith) (grind arith)
+leaves_late c w (Test q t b) sound ok s r y at left = absurd (left (grind arith))
+leaves_late c w (TakeSlot q t) sound ok s r y at left = absurd (left (grind arith))
+leaves_late c w (MakeCommit q d k t b) sound ok s r y at left = absurd (left (grind arith))
+leaves_late c w (RetireEpoch q d k t) sound ok s r y at left = absurd (left (grind arith))
+leaves_late c w (RetireCommit q) sound ok s r y at left = absurd (left (grind arith))
+leaves_late c w (WordCommit q d k v) sound ok s r y at left = absurd (left (grind arith))
+leaves_late c w (StoreLog q d k v) sound ok s r y at left = absurd (left (grind arith))
+leaves_late c w (Reach q t) sound ok s r y at left = absurd (left (grind arith))
+leaves_late c w (Publish q d roles) sound ok s r y at left = absurd (left (grind arith))
+leaves_late c w (RetireDescriptor q d) sound ok s r y at left = absurd (left (grind arith))

@@ -1,0 +1,14 @@
+pub mod Update
+pub mod State
+pub mod Moves
+pub mod Events
+pub mod Sound
+pub mod Schedules
+pub mod Frame
+pub mod Reuse
+pub mod Lists
+pub mod Follows
+pub mod Commits
+pub mod History
+pub mod Starts
+pub mod Round

@@ -1,0 +1,3 @@
+pub mod End
+pub mod Serve
+pub mod Words

@@ -1,0 +1,76 @@
+// The trusted edge: std's readers and writers as a source and sinks. They tell nothing of what they hold.
+ghost use Rattle.std.specs.Prelude.{None};
+
+use fault_count::FaultCount;
+use report_text::Sink;
+use std::io::{Read, Write};
+use trace_reader::Source;
+
+/// A reader as a source: it counts each read that fails.
+#[derive(Drop)]
+pub struct StdSource<R> {
+    reader: R,
+    faults: FaultCount,
+}
+
+impl<R: Read> StdSource<R> {
+    pub fn new(reader: R) -> Self {
+        Self {
+            reader,
+            faults: FaultCount::new(),
+        }
+    }
+}
+
+impl<R: Read> Source for StdSource<R> {
+    ghost left = { λ _. None };
+
+    ghost faults = { λ source. source.faults };
+
+    fn read(&mut self, buffer: &mut [u8]) -> Result<usize, trace_reader::Failed> {
+        match self.reader.read(buffer) {
+            Ok(count) => Ok(count),
+            Err(_) => {
+                self.faults.raise();
+                Err(trace_reader::Failed)
+            }
+        }
+    }
+}
+
+/// A writer as a sink: it counts each write that fails, and each that takes nothing of bytes that aren't empty.
+#[derive(Drop)]
+pub struct StdSink<W> {
+    writer: W,
+    faults: FaultCount,
+}
+
+impl<W: Write> StdSink<W> {
+    pub fn new(writer: W) -> Self {
+        Self {
+            writer,
+            faults: FaultCount::new(),
+        }
+    }
+}
+
+impl<W: Write> Sink for StdSink<W> {
+    ghost held = { λ _. None };
+
+    ghost faults = { λ sink. sink.faults };
+
+    fn write(&mut self, bytes: &[u8]) -> Result<usize, report_text::Failed> {
+        match self.writer.write(bytes) {
+            Ok(count) => {
+                if count == 0 && !bytes.is_empty() {
+                    self.faults.raise();
+                }
+                Ok(count)
+            }
+            Err(_) => {
+                self.faults.raise();
+                Err(report_text::Failed)
+            }
+        }
+    }
+}

@@ -1,0 +1,16 @@
+-- The requests of a text, as a list.
+use Rattle.std.specs.Prelude.{◌≡◌, ℕ, ◌<◌, ◌≤◌, List, length, map, All}
+use Rattle.std.specs.List.{range_with_len}
+use Rattle.std.specs.List.Sorted.{IsNonDecreasingBy}
+use Rattle.map_history.specs.declared.op.Request.{Request}
+use Rattle.map_history.specs.Keys.{key_of}
+
+-- they are numbered from 0 in order, and their traces never fall along the list and are below the count of traces
+pub record AreInOrder (requests : List Request) (traces : ℕ) : Type 0 where
+  pub few_traces : traces ≤ 64
+  pub few : length requests ≤ 131072
+  pub numbered : map (λ request. request.number) requests ≡ range_with_len 0 (length requests)
+  pub within : All (λ request. request.trace < traces) requests
+  pub rising : IsNonDecreasingBy (λ request. request.trace) requests
+  -- the two numbers above the greatest key serve a search tree as sentinels
+  pub keys : All (λ request. key_of request.op ≤ 4294967293) requests

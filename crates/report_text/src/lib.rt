@@ -1,0 +1,19 @@
+//! The report of a run: in which order its requests were served, what each was answered, and how many pairs are left.
+//!
+//! `order` ranks the served requests, `report` writes the report's bytes by `line` and `page`, `sink` says what
+//! bytes are written to, and `memory` is a sink that keeps them.
+#![tactic(auto)]
+
+mod line;
+mod memory;
+mod order;
+mod page;
+mod report;
+mod sink;
+#[cfg(test)]
+mod tests;
+
+pub use memory::MemorySink;
+pub use order::ranks;
+pub use report::write_report;
+pub use sink::{Failed, Sink, write_all};

@@ -1,0 +1,12 @@
+pub mod Asked
+pub mod Exact
+pub mod Lines
+pub mod Moved
+pub mod Ordered
+pub mod Pieces
+pub mod Refusals
+pub mod Results
+pub mod Steps
+pub mod Texts
+pub mod Told
+pub mod Words

@@ -1,0 +1,9 @@
+pub mod Answer
+pub mod Fields
+pub mod Line
+pub mod Lines
+pub mod Memory
+pub mod Reader
+pub mod Said
+pub mod Source
+pub mod Text

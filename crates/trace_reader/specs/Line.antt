@@ -1,0 +1,100 @@
+-- One line of a text: whether it counts, what is wrong with it, and what it asks.
+use Rattle.std.specs.Prelude.{ℕ, ◌==◌, Bool, true, false, ◌&&◌, not, List, [], ◌∷◌, length, Option, None, Some, is_none, unwrap_or, if◌then◌else◌, nat_lt, codes, slice_index}
+use Rattle.std.specs.List.{list_all, slice_index_or}
+use Rattle.std.specs.Char.{is_ascii}
+use Rattle.std.specs.Str.{bytes_eq}
+use Rattle.map_history.specs.declared.op.Op.{Op}
+use Rattle.map_history.specs.declared.op.Op.TheVariants.{Get, Ins, Del}
+use Rattle.trace_reader.specs.declared.traces.BadLine.{BadLine}
+use Rattle.trace_reader.specs.declared.traces.BadLine.TheVariants.{NotAscii, NoHeader, UnknownWord, RequestBeforeTrace, MissingField, ExtraField, BadNumber, KeyTooLarge, ValueTooLarge}
+use Rattle.trace_reader.specs.Fields.{content_of, fields_of, is_number, value_of}
+
+-- a blank line counts for nothing, and so does one that begins with `#`
+abbrev pub words_count : List (List ℕ) → Bool
+words_count [] = false
+words_count (word ∷ words) = not (slice_index word 0 == 35)
+
+abbrev pub counts : List ℕ → Bool
+counts line = words_count (fields_of line)
+
+-- how many numbers stand behind a word, where it is known
+abbrev pub wanted_by : List ℕ → Option ℕ
+wanted_by word =
+    if bytes_eq word (codes "trace") then Some 0
+    else if bytes_eq word (codes "get") then Some 1
+    else if bytes_eq word (codes "del") then Some 1
+    else if bytes_eq word (codes "ins") then Some 2
+    else None
+
+abbrev pub is_trace : List ℕ → Bool
+is_trace word = bytes_eq word (codes "trace")
+
+-- the field in a place, or nothing
+abbrev pub field : List (List ℕ) → ℕ → List ℕ
+field fields place = slice_index_or fields place []
+
+-- the kind of the first test that finds a fault
+abbrev pub first_found : List (Bool × BadLine) → Option BadLine
+first_found [] = None
+first_found (test ∷ tests) = if test.0 then Some test.1 else first_found tests
+
+-- the tests of a request with so many numbers, in their order
+abbrev pub request_tests : Bool → ℕ → List (List ℕ) → List (Bool × BadLine)
+request_tests begun wanted numbers =
+    (not begun, RequestBeforeTrace)
+    ∷ (nat_lt (length numbers) wanted, MissingField)
+    ∷ (nat_lt wanted (length numbers), ExtraField)
+    ∷ (not (list_all is_number numbers), BadNumber)
+    ∷ (nat_lt 4294967293 (value_of (field numbers 0)), KeyTooLarge)
+    ∷ (nat_lt 4294967295 (value_of (field numbers 1)), ValueTooLarge)
+    ∷ []
+
+-- a trace has begun, or begins here
+abbrev pub tests_of : Bool → List ℕ → List (List ℕ) → List (Bool × BadLine)
+tests_of begun word numbers =
+    (is_none (wanted_by word), UnknownWord)
+    ∷ request_tests (if is_trace word then true else begun) (unwrap_or (wanted_by word) 0) numbers
+
+abbrev pub fault_of_words : Bool → List (List ℕ) → Option BadLine
+fault_of_words begun [] = None
+fault_of_words begun (word ∷ numbers) = first_found (tests_of begun word numbers)
+
+-- the header is `flock 1`
+abbrev pub is_header : List (List ℕ) → Bool
+is_header fields = length fields == 2 && bytes_eq (field fields 0) (codes "flock") && bytes_eq (field fields 1) (codes "1")
+
+-- the fault of a line that counts, behind a header or not
+abbrev pub fault_of_counted : (header begun : Bool) → List ℕ → Option BadLine
+fault_of_counted header begun line =
+    if not (list_all is_ascii (content_of line)) then Some NotAscii
+    else if header then fault_of_words begun (fields_of line)
+    else if is_header (fields_of line) then None
+    else Some NoHeader
+
+-- the fault of a line, where a header and a trace stand before it or not
+abbrev pub fault_of : (header begun : Bool) → List ℕ → Option BadLine
+fault_of header begun line = if counts line then fault_of_counted header begun line else None
+
+-- what a request asks
+abbrev pub asked_by : List ℕ → List (List ℕ) → Option Op
+asked_by word numbers =
+    if bytes_eq word (codes "get") then Some (Get (value_of (field numbers 0)))
+    else if bytes_eq word (codes "del") then Some (Del (value_of (field numbers 0)))
+    else if bytes_eq word (codes "ins") then Some (Ins (value_of (field numbers 0)) (value_of (field numbers 1)))
+    else None
+
+abbrev pub asked_by_words : List (List ℕ) → Option Op
+asked_by_words [] = None
+asked_by_words (word ∷ numbers) = asked_by word numbers
+
+abbrev pub begun_by_words : List (List ℕ) → Bool
+begun_by_words [] = false
+begun_by_words (word ∷ numbers) = is_trace word
+
+-- the operation that a line asks, if it is a request
+abbrev pub asked : List ℕ → Option Op
+asked line = asked_by_words (fields_of line)
+
+-- whether a line begins a trace
+abbrev pub begins_trace : List ℕ → Bool
+begins_trace line = begun_by_words (fields_of line)

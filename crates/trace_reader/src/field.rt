@@ -1,0 +1,83 @@
+// The fields of a line, and the numbers that they are.
+ghost use Rattle.std.specs.Prelude.{◌≡◌, ℕ, ◌<◌, ◌≤◌, ◌^◌, ◌∷◌, [], IfNone, IfSome, length, min, not, position};
+ghost use Rattle.std.specs.Char.{is_ascii, is_ascii_digit};
+ghost use Rattle.std.specs.List.{list_all};
+ghost use Rattle.trace_reader.specs.Fields.{is_blank, fields_in, is_number, value_of, content_of};
+
+/// The line without a carriage return that ends it.
+pub fn content(line: &[u8]) -> &[u8]
+    ensures { result.now ≡ content_of line.now }
+{
+    let len = line.len();
+    if len > 0 && line[len - 1] == b'\r' {
+        &line[..len - 1]
+    } else {
+        line
+    }
+}
+
+/// The first field, and what stands behind it. None where there are only blanks.
+pub fn first_field(line: &[u8]) -> Option<(&[u8], &[u8])>
+    ensures none { IfNone result (fields_in line.now ≡ []) }
+    ensures some { IfSome result (λ found. fields_in line.now ≡ found.0.now ∷ fields_in found.1.now) }
+    ensures begun { IfSome result (λ found. 0 < length found.0.now) }
+{
+    let Some(start) = find_word(line) else {
+        return None;
+    };
+    let words = &line[start..];
+    let end = find_blank(words).unwrap_or(words.len());
+    Some((&words[..end], &words[end..]))
+}
+
+// Where the first byte stands that isn't blank.
+fn find_word(line: &[u8]) -> Option<usize>
+    ensures { result ≡ position (λ byte. not (is_blank byte)) line.now }
+{
+    line.iter().position(|byte| !is_blank(*byte))
+}
+
+// Where the first blank stands.
+fn find_blank(line: &[u8]) -> Option<usize>
+    ensures { result ≡ position is_blank line.now }
+{
+    line.iter().position(|byte| is_blank(*byte))
+}
+
+// A space or a tab.
+fn is_blank(byte: u8) -> bool
+    ensures { result ≡ is_blank byte }
+{
+    byte == b' ' || byte == b'\t'
+}
+
+/// Bytes up to 127 alone.
+pub fn is_ascii(line: &[u8]) -> bool
+    ensures { result ≡ list_all is_ascii line.now }
+{
+    line.iter().all(|byte| byte.is_ascii())
+}
+
+/// One or more decimal digits.
+pub fn is_number(field: &[u8]) -> bool
+    ensures { result ≡ is_number field.now }
+{
+    !field.is_empty() && all_digits(field)
+}
+
+fn all_digits(field: &[u8]) -> bool
+    ensures { result ≡ list_all is_ascii_digit field.now }
+{
+    field.iter().all(|byte| byte.is_ascii_digit())
+}
+
+/// What digits stand for, or 2^32 where that is more.
+pub fn capped_value(digits: &[u8]) -> u64
+    ensures { result ≡ min (value_of digits.now) (2 ^ 32) }
+{
+    let mut value = 0;
+    for digit in digits {
+        value = (value * 10 + u64::from(digit.saturating_sub(b'0'))).min(1 << 32);
+    }
+    value
+}

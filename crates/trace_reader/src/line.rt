@@ -1,0 +1,155 @@
+// What one line says.
+ghost use Rattle.std.specs.Prelude.{◌≡◌, ◌≢◌, ◌≤◌, ◌<◌, ◌∷◌, [], true, false, None, IfErr, IfOk, IfNone, IfSome, OnOk, length};
+ghost use Rattle.map_history.specs.declared.op.Op.TheVariants.{Ins};
+ghost use Rattle.trace_reader.specs.Fields.{fields_in, value_of};
+ghost use Rattle.trace_reader.specs.Line.{fault_of, fault_of_words, field, first_found, is_header, request_tests};
+ghost use Rattle.trace_reader.specs.Said.{Says, SaysWords};
+
+use crate::field::{capped_value, content, first_field, is_ascii, is_number};
+use crate::limits::MAX_KEY;
+use crate::traces::BadLine;
+use map_history::Op;
+
+/// What a line says.
+#[derive(Clone, Copy, Debug, PartialEq, Eq)]
+pub enum Line {
+    /// It counts for nothing.
+    Skipped,
+    Header,
+    Trace,
+    Ask(Op),
+}
+
+/// Reads a line, where a header and a trace stand before it or not.
+pub fn read_line(line: &[u8], header: bool, begun: bool) -> Result<Line, BadLine>
+    ensures fault { IfErr result (λ kind. fault_of header begun line.now ≡ Some kind) }
+    ensures said { IfOk result (λ said. Says said header begun line.now) }
+{
+    let content = content(line);
+    let Some((word, rest)) = first_field(content) else {
+        return Ok(Line::Skipped);
+    };
+    if word[0] == b'#' {
+        return Ok(Line::Skipped);
+    }
+    if !is_ascii(content) {
+        return Err(BadLine::NotAscii);
+    }
+    if header {
+        read_words(word, rest, begun)
+    } else {
+        read_header(word, rest)
+    }
+}
+
+// The header is `flock 1`.
+fn read_header(word: &[u8], rest: &[u8]) -> Result<Line, BadLine>
+    ensures fault { IfErr result (λ kind. (kind ≡ BadLine.NoHeader) × (is_header (word.now ∷ fields_in rest.now) ≡ false)) }
+    ensures said { IfOk result (λ said. (said ≡ Line.Header) × (is_header (word.now ∷ fields_in rest.now) ≡ true)) }
+{
+    match (word, only_field(rest)) {
+        (b"flock", Some(b"1")) => Ok(Line::Header),
+        _ => Err(BadLine::NoHeader),
+    }
+}
+
+// The one field that there is.
+fn only_field(rest: &[u8]) -> Option<&[u8]>
+    ensures one { IfSome result (λ only. fields_in rest.now ≡ only.now ∷ []) }
+    ensures none { IfNone result (length (fields_in rest.now) ≢ 1) }
+{
+    let (only, rest) = first_field(rest)?;
+    match first_field(rest) {
+        Some(_) => None,
+        None => Some(only),
+    }
+}
+
+// A line behind the header.
+fn read_words(word: &[u8], rest: &[u8], begun: bool) -> Result<Line, BadLine>
+    ensures fault { IfErr result (λ kind. fault_of_words begun (word.now ∷ fields_in rest.now) ≡ Some kind) }
+    ensures said { IfOk result (λ said. SaysWords said begun word.now (fields_in rest.now)) }
+{
+    match word {
+        b"trace" => read_trace(rest),
+        b"get" => Ok(Line::Ask(Op::Get(read_key(rest, begun)?))),
+        b"del" => Ok(Line::Ask(Op::Del(read_key(rest, begun)?))),
+        b"ins" => read_pair(rest, begun),
+        _ => Err(BadLine::UnknownWord),
+    }
+}
+
+// Nothing stands behind `trace`.
+fn read_trace(rest: &[u8]) -> Result<Line, BadLine>
+    ensures fault { IfErr result (λ kind. first_found (request_tests true 0 (fields_in rest.now)) ≡ Some kind) }
+    ensures said { IfOk result (λ said. (said ≡ Line.Trace) × (fields_in rest.now ≡ [])) }
+{
+    match first_field(rest) {
+        Some(_) => Err(BadLine::ExtraField),
+        None => Ok(Line::Trace),
+    }
+}
+
+// The key of a request that has no value.
+fn read_key(rest: &[u8], begun: bool) -> Result<u32, BadLine>
+    ensures fault { IfErr result (λ kind. first_found (request_tests begun 1 (fields_in rest.now)) ≡ Some kind) }
+    ensures none { OnOk result (first_found (request_tests begun 1 (fields_in rest.now)) ≡ None) }
+    ensures key { IfOk result (λ key. (key ≡ value_of (field (fields_in rest.now) 0)) × (key ≤ 4294967293)) }
+    ensures begun { OnOk result (begun ≡ true) }
+{
+    if !begun {
+        return Err(BadLine::RequestBeforeTrace);
+    }
+    let (key, rest) = first_field(rest).ok_or(BadLine::MissingField)?;
+    if first_field(rest).is_some() {
+        return Err(BadLine::ExtraField);
+    }
+    if !is_number(key) {
+        return Err(BadLine::BadNumber);
+    }
+    key_in_range(key)
+}
+
+fn key_in_range(digits: &[u8]) -> Result<u32, BadLine>
+    ensures fault { IfErr result (λ kind. (kind ≡ BadLine.KeyTooLarge) × (4294967293 < value_of digits.now)) }
+    ensures key { IfOk result (λ key. (key ≡ value_of digits.now) × (key ≤ 4294967293)) }
+{
+    let value = capped_value(digits);
+    if value > u64::from(MAX_KEY) {
+        return Err(BadLine::KeyTooLarge);
+    }
+    Ok(value as u32)
+}
+
+fn value_in_range(digits: &[u8]) -> Result<u32, BadLine>
+    ensures fault { IfErr result (λ kind. (kind ≡ BadLine.ValueTooLarge) × (4294967295 < value_of digits.now)) }
+    ensures value { IfOk result (λ value. value ≡ value_of digits.now) }
+{
+    let value = capped_value(digits);
+    if value > u64::from(u32::MAX) {
+        return Err(BadLine::ValueTooLarge);
+    }
+    Ok(value as u32)
+}
+
+// The key and the value of an `ins`.
+fn read_pair(rest: &[u8], begun: bool) -> Result<Line, BadLine>
+    ensures fault { IfErr result (λ kind. first_found (request_tests begun 2 (fields_in rest.now)) ≡ Some kind) }
+    ensures none { OnOk result (first_found (request_tests begun 2 (fields_in rest.now)) ≡ None) }
+    ensures said { IfOk result (λ said. said ≡ Line.Ask (Ins (value_of (field (fields_in rest.now) 0)) (value_of (field (fields_in rest.now) 1)))) }
+    ensures key { OnOk result (value_of (field (fields_in rest.now) 0) ≤ 4294967293) }
+    ensures begun { OnOk result (begun ≡ true) }
+{
+    if !begun {
+        return Err(BadLine::RequestBeforeTrace);
+    }
+    let (key, rest) = first_field(rest).ok_or(BadLine::MissingField)?;
+    let (value, rest) = first_field(rest).ok_or(BadLine::MissingField)?;
+    if first_field(rest).is_some() {
+        return Err(BadLine::ExtraField);
+    }
+    if !is_number(key) || !is_number(value) {
+        return Err(BadLine::BadNumber);
+    }
+    Ok(Line::Ask(Op::Ins(key_in_range(key)?, value_in_range(value)?)))
+}

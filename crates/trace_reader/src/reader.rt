@@ -1,0 +1,153 @@
+// A text from its bytes: those of the line that has begun, and what the lines before it say.
+ghost use Rattle.std.specs.Prelude.{◌≡◌, ◌||◌, ℕ, List, [], ◌∷◌, ◌++◌, ◌+◌, ◌<◌, ◌≤◌, OnOk, IfOk, IfErr, length, nat_lt, vec_len};
+
+use crate::limits::MAX_BYTES;
+use crate::line::{Line, read_line};
+use crate::traces::{BadLine, TraceError, Traces};
+use std::alloc::Global;
+
+/// What has been read so far. Its memory, beside the requests, is that of the longest line.
+#[derive(Drop)]
+pub struct Reader {
+    // the bytes of the line that has begun
+    line: Vec<u8>,
+    // how many bytes were read, and how many lines are finished
+    bytes: u32,
+    lines: u32,
+    // whether a finished line counts: without a fault, the first that does is the header
+    has_header: bool,
+    traces: Traces,
+    ghost few_bytes: { bytes ≤ 4194304 },
+    ghost fewer_lines: { lines + vec_len line ≤ bytes },
+    ghost few_traces: { traces.count ≤ 64 },
+    ghost few_requests: { length traces.requests ≤ 131072 },
+}
+
+impl Reader {
+    ghost use Rattle.map_history.specs.Requests.{AreInOrder};
+    ghost use Rattle.trace_reader.specs.Answer.{Answers, IsAnswered};
+    ghost use Rattle.trace_reader.specs.Reader.{StandsAt, StandsAtEnd, StandsBehind, IsRefusedFor, Refuses, TracesAfter, ExcessOf};
+    ghost use Rattle.trace_reader.specs.Said.{Says, is_counted, IsPlaced};
+    ghost use Rattle.trace_reader.specs.Text.{refusal_of};
+
+    pub fn new(alloc: Global) -> Self
+        ensures { StandsAt result [] }
+    {
+        Self {
+            line: Vec::new(alloc),
+            bytes: 0,
+            lines: 0,
+            has_header: false,
+            traces: Traces::new(alloc),
+        }
+    }
+
+    // Takes the next piece of the text.
+    pub fn feed(&mut self, piece: &[u8]) -> Result<(), TraceError>
+        ensures ok { OnOk result ((text : List ℕ) → StandsAt self.old text → StandsAt self.new (text ++ piece.now)) }
+        ensures err { IfErr result (λ e. (text rest : List ℕ) → StandsAt self.old text → Refuses e (text ++ piece.now ++ rest)) }
+        ensures nearer { OnOk result (self.new.bytes ≡ self.old.bytes + length piece.now) }
+    {
+        for byte in piece {
+            self.take(*byte)?;
+        }
+        Ok(())
+    }
+
+    // Takes the next byte.
+    fn take(&mut self, byte: u8) -> Result<(), TraceError>
+        ensures ok { OnOk result ((text : List ℕ) → StandsAt self.old text → StandsAt self.new (text ++ byte ∷ [])) }
+        ensures err { IfErr result (λ e. (text rest : List ℕ) → StandsAt self.old text → Refuses e (text ++ byte ∷ rest)) }
+        ensures nearer { OnOk result (self.new.bytes ≡ self.old.bytes + 1) }
+    {
+        if self.bytes == MAX_BYTES {
+            return Err(TraceError::TooLarge {
+                bytes: u64::from(MAX_BYTES) + 1,
+            });
+        }
+        self.bytes += 1;
+        if byte == b'\n' {
+            return self.end_line();
+        }
+        self.line.push(byte)?;
+        Ok(())
+    }
+
+    // The line that has begun is whole.
+    fn end_line(&mut self) -> Result<(), TraceError>
+        requires { self.old.lines < self.old.bytes }
+        ensures ok { OnOk result ((lines : List (List ℕ)) → StandsBehind self.old lines → StandsBehind self.new (lines ++ self.old.line.items ∷ [])) }
+        ensures cleared { OnOk result (self.new.line.items ≡ []) }
+        ensures bytes { OnOk result (self.new.bytes ≡ self.old.bytes) }
+        ensures err { IfErr result (λ e. (lines : List (List ℕ)) → StandsBehind self.old lines → IsRefusedFor e (refusal_of lines self.old.line.items)) }
+    {
+        let said = self.read_line()?;
+        self.accept(said)?;
+        self.line.clear();
+        self.lines += 1;
+        Ok(())
+    }
+
+    // What that line says.
+    fn read_line(&self) -> Result<Line, TraceError>
+        requires { self.now.lines < self.now.bytes }
+        ensures said { IfOk result (λ said. Says said self.now.has_header (nat_lt 0 self.now.traces.count) self.now.line.items) }
+        ensures err { IfErr result (λ e. (lines : List (List ℕ)) → StandsBehind self.now lines → IsRefusedFor e (refusal_of lines self.now.line.items)) }
+    {
+        match read_line(&self.line, self.has_header, self.traces.count > 0) {
+            Ok(said) => Ok(said),
+            Err(kind) => Err(self.malformed(kind)),
+        }
+    }
+
+    // Takes in what it says.
+    fn accept(&mut self, said: Line) -> Result<(), TraceError>
+        requires { IsPlaced said self.old.has_header (nat_lt 0 self.old.traces.count) }
+        ensures header { OnOk result (self.new.has_header ≡ (self.old.has_header || is_counted said)) }
+        ensures traces { OnOk result (TracesAfter said self.old.traces self.new.traces) }
+        ensures same { (self.new.line.items ≡ self.old.line.items) × (self.new.bytes ≡ self.old.bytes) × (self.new.lines ≡ self.old.lines) }
+        ensures err { IfErr result (λ e. ExcessOf said self.old.traces e) }
+    {
+        match said {
+            Line::Skipped => {}
+            Line::Header => self.has_header = true,
+            Line::Trace => self.traces.begin_trace()?,
+            Line::Ask(op) => self.traces.ask(op)?,
+        }
+        Ok(())
+    }
+
+    // The text ends here.
+    pub fn finish(mut self) -> Result<Traces, TraceError>
+        ensures answer { (text : List ℕ) → StandsAt self text → IsAnswered result text }
+        ensures ordered { (text : List ℕ) → StandsAt self text → IfOk result (λ traces. AreInOrder traces.requests traces.count) }
+    {
+        self.end_last_line()?;
+        if !self.has_header {
+            return Err(self.malformed(BadLine::NoHeader));
+        }
+        Ok(self.traces)
+    }
+
+    // A last piece without a line feed is a line where it isn't empty.
+    fn end_last_line(&mut self) -> Result<(), TraceError>
+        ensures ok { OnOk result ((text : List ℕ) → StandsAt self.old text → StandsAtEnd self.new text) }
+        ensures err { IfErr result (λ e. (text : List ℕ) → StandsAt self.old text → Refuses e text) }
+    {
+        if self.line.is_empty() {
+            return Ok(());
+        }
+        self.end_line()
+    }
+
+    // The next line has this fault.
+    fn malformed(&self, kind: BadLine) -> TraceError
+        requires { self.now.lines ≤ 4194304 }
+        ensures { result ≡ TraceError.Malformed (self.now.lines + 1) kind }
+    {
+        TraceError::Malformed {
+            line: self.lines + 1,
+            kind,
+        }
+    }
+}
