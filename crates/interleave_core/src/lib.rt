@@ -1,10 +1,16 @@
-//! The test structure of the machine.
+//! The pure machine: the words of the table and what each runner is at and keeps, over any order of the runners' atomic steps.
 //!
-//! `tray` is a structure for tests, with its laws. The kinds of step, what they ask and what they make of a runner's part stand in
-//! `runner_steps` and `part_steps`.
+//! `machine` has the machine with its steps and readers, `first` its first state, `schedules` the machine after a list of
+//! events, `enabled` the kinds of step that a runner may make next, and `tray` a structure for tests.
 #![tactic(auto)]
 
+mod enabled;
+mod first;
+mod machine;
+mod schedules;
 mod tray;
 
+pub use machine::{Machine, StepError};
 pub use runner_steps::{Event, EventKind, Structure};
+pub use schedules::{ScheduleError, all_schedules};
 pub use tray::Tray;
