@@ -1,17 +1,17 @@
 pub mod Chain
-mod Elsewhere
-mod Fit
-mod Forms
-mod Maps
-mod NodeChanges
-mod Places
-mod Sections
-mod TableGives
-mod TableKeeps
+pub mod Elsewhere
+pub mod Fit
+pub mod Forms
+pub mod Maps
+pub mod NodeChanges
+pub mod Places
+pub mod Sections
+pub mod TableGives
+pub mod TableKeeps
 pub mod TableLaws
-mod TableShape
-mod TableSteps
-mod TableStores
-mod TableTurn
-mod WalkFacts
-mod Walks
+pub mod TableShape
+pub mod TableSteps
+pub mod TableStores
+pub mod TableTurn
+pub mod WalkFacts
+pub mod Walks

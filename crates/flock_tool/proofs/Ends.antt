@@ -1,11 +1,11 @@
 -- From the way in which a run ends to the number of its status, and back.
-use Rattle.std.proofs.Common.{◌≡◌, ◌≢◌, ℕ, List, Option, None, Some, Result, Ok, Err, IfSome, IsOk, refl, sym, ap, ◌∙◌, subst, ◌⊎◌, ⊎_elim, inl, inr, arith}
+use Rattle.std.proofs.Common.{◌≡◌, ◌≢◌, ℕ, List, Option, None, Some, Result, Err, IfSome, refl, ap, ◌∙◌, ◌⊎◌, ⊎_elim, inl, inr, arith}
 use Rattle.trace_reader.specs.declared.traces.Traces.{Traces}
 use Rattle.trace_reader.specs.declared.traces.BadLine.{BadLine}
 use Rattle.trace_reader.specs.declared.traces.TraceError.{TraceError}
 use Rattle.trace_reader.specs.declared.traces.TraceError.TheVariants.{ReadFault, Memory, TooLarge, Malformed, TooManyTraces, TooManyRequests}
-use Rattle.trace_reader.specs.Answer.{AreTracesOf, IsExact, IsRefusal}
-use Rattle.trace_reader.specs.Text.{IsAccepted, IsFirstRefusal}
+use Rattle.trace_reader.specs.Answer.{IsExact, IsRefusal}
+use Rattle.trace_reader.specs.Text.{IsFirstRefusal}
 use Rattle.flock_tool.specs.declared.status.Stop.{Stop}
 use Rattle.flock_tool.specs.declared.status.Stop.TheVariants.{Words, Text, WriteFault}
 use Rattle.flock_tool.specs.End.{MustEnd, IsLimit, Tells, error_line, error_status, stop_line, stop_status}

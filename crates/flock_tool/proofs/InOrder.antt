@@ -1,6 +1,6 @@
 -- Requests that are served in the order of the text make a legal report.
-use Rattle.std.proofs.Common.{◌≡◌, ℕ, zero, suc, ◌+◌, ◌*◌, ◌<◌, ◌≤◌, Bool, true, List, [], ◌∷◌, Option, None, Some, length, get_or, refl, sym, ap, ◌∙◌, arith, rules}
-use Rattle.std.specs.Prelude.{All, AllPairs, IsSome, IsTrue, IsPermutation, map}
+use Rattle.std.proofs.Common.{◌≡◌, ℕ, zero, suc, ◌+◌, ◌*◌, ◌<◌, List, [], ◌∷◌, Option, get_or, refl, sym, ap, arith, rules}
+use Rattle.std.specs.Prelude.{All, AllPairs, IsSome, IsTrue, map}
 use Rattle.std.specs.List.{enumerate_from, filter_map, zip}
 use Rattle.std.specs.FinMap.{empty, len}
 use Rattle.std.proofs.lemmas.List.Sorted.{IsPermutation-refl}
@@ -8,7 +8,7 @@ use Rattle.map_history.specs.declared.op.Entry.{Entry}
 use Rattle.map_history.specs.declared.op.Request.{Request}
 use Rattle.map_history.specs.Requests.{AreInOrder}
 use Rattle.map_history.specs.History.{IsLegalFrom}
-use Rattle.map_history.specs.Replay.{Pairs, reply_of, map_after, map_after_all}
+use Rattle.map_history.specs.Replay.{Pairs, map_after, map_after_all}
 use Rattle.report_text.specs.Entries.{Entered, entered_of, entered_in, turn_of_entered, answered_by, op_of_entered, AreLegal}
 use Rattle.report_text.specs.Ranks.{comes_before}
 use Rattle.flock_tool.specs.Serve.{ops_of, entries_of, size_of}

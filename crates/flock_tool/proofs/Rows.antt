@@ -1,5 +1,5 @@
 -- The rows of a report in which each request was served.
-use Rattle.std.proofs.Common.{◌≡◌, ℕ, zero, suc, ◌+◌, ◌<◌, Bool, true, false, List, [], ◌∷◌, Option, None, Some, length, get_or, is_some, refl, sym, ap, ◌∙◌, arith, rules}
+use Rattle.std.proofs.Common.{◌≡◌, ℕ, zero, suc, Bool, true, false, List, [], ◌∷◌, Option, None, Some, length, is_some, refl, ap, arith, rules}
 use Rattle.std.specs.Prelude.{All, IsSome, map}
 use Rattle.map_history.specs.declared.op.Entry.{Entry}
 use Rattle.map_history.specs.declared.op.Request.{Request}

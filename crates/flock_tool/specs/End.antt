@@ -1,5 +1,5 @@
 -- How a run ends: what it printed, what it says went wrong, and the number of its status.
-use Rattle.std.specs.Prelude.{◌≡◌, ℕ, ◌⊎◌, List, ◌++◌, Option, Some, IsSome, IfSome, Result, Ok, Err, IsOk, map, All, codes, decimal}
+use Rattle.std.specs.Prelude.{◌≡◌, ℕ, ◌⊎◌, List, ◌++◌, Option, IsSome, Result, Err, IsOk, map, All, codes, decimal}
 use Rattle.fault_count.specs.Rose.{Rose}
 use Rattle.map_history.specs.declared.op.Request.{Request}
 use Rattle.report_text.specs.Legal.{IsLegal}

@@ -66,6 +66,17 @@ struct Ran {
     faults: MemorySink,
 }
 
+impl Ran {
+    // The report, or what is told in its place.
+    fn said(&self) -> &[u8] {
+        if self.status == 0 {
+            self.sink.bytes()
+        } else {
+            self.faults.bytes()
+        }
+    }
+}
+
 fn quiet_sink(alloc: Global) -> MemorySink {
     MemorySink::new(alloc, Vec::new(alloc), Vec::new(alloc))
 }
@@ -91,6 +102,14 @@ fn run_row(alloc: Global, row: &str, bytewise: bool) -> Result<Ran, AllocError> 
     ))
 }
 
+// A row's text, and what has to come out.
+fn columns(row: &str) -> (&str, &str) {
+    match row.split_once("=>") {
+        Some(columns) => columns,
+        None => (row, ""),
+    }
+}
+
 fn check_table(
     rt: &impl Abort,
     alloc: Global,
@@ -99,16 +118,11 @@ fn check_table(
     bytewise: bool,
 ) -> Result<(), AllocError> {
     for row in table.lines() {
-        let (text, out) = row.split_once("=>").unwrap_or((row, ""));
+        let (text, out) = columns(row);
         let out = bytes_of(alloc, out)?;
         let ran = run_row(alloc, text, bytewise)?;
-        let said = if status == 0 {
-            ran.sink.bytes()
-        } else {
-            ran.faults.bytes()
-        };
         assert!(rt; ran.status == status, "{row}");
-        assert!(rt; said == out.as_slice(), "{row}");
+        assert!(rt; ran.said() == out.as_slice(), "{row}");
         assert!(rt;
             ran.sink.bytes().is_empty() || ran.faults.bytes().is_empty(),
             "{row}"

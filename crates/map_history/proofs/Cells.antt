@@ -1,12 +1,12 @@
 -- What a map has at one key after an operation: the operation's own key follows the operation, every other stays.
-use Rattle.std.proofs.Common.{◌≡◌, ℕ, Bool, true, false, cond, Option, None, Some, is_some, refl, sym, ap, ◌∙◌, ◌==◌, ◌≢◌, arith}
+use Rattle.std.proofs.Common.{◌≡◌, ℕ, Bool, true, false, cond, Option, None, Some, is_some, refl, ap, ◌∙◌, ◌==◌, arith}
 use Rattle.std.proofs.lemmas.Cmp.{nat_cmp_total}
 use Rattle.std.specs.Cmp.{unsigned_tied}
-use Rattle.std.specs.FinMap.{get, insert, remove, contains_key, get-insert, get-remove, same_map, nat_cmp-IsAntisymmetric}
+use Rattle.std.specs.FinMap.{get, insert, remove, get-insert, get-remove, same_map, nat_cmp-IsAntisymmetric}
 use Rattle.map_history.specs.declared.op.Op.{Op}
 use Rattle.map_history.specs.declared.op.Op.TheVariants.{Get, Ins, Del}
 use Rattle.map_history.specs.declared.reply.Reply.{Reply}
-use Rattle.map_history.specs.declared.reply.Reply.TheVariants.{New, Dup, Val, Gone, Absent}
+use Rattle.map_history.specs.declared.reply.Reply.TheVariants.{New, Dup, Gone, Absent}
 use Rattle.map_history.specs.Keys.{key_of}
 use Rattle.map_history.specs.Replay.{Pairs, found, reply_of, map_after}
 

@@ -1,5 +1,5 @@
 -- Operations with different keys commute.
-use Rattle.std.proofs.Common.{◌≡◌, ◌≢◌, ℕ, cond, Option, None, Some, refl, sym, ap, ◌∙◌, ◌==◌, inl, arith}
+use Rattle.std.proofs.Common.{◌≡◌, ◌≢◌, ℕ, cond, refl, sym, ap, ◌∙◌, ◌==◌, inl, arith}
 use Rattle.std.specs.FinMap.{get}
 use Rattle.map_history.specs.declared.op.Op.{Op}
 use Rattle.map_history.specs.Keys.{key_of, HaveNoCommonKey}

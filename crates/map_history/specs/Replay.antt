@@ -1,5 +1,5 @@
 -- The sequential map: what an operation is answered, what map it leaves, and the same for a list of operations.
-use Rattle.std.specs.Prelude.{◌≡◌, ℕ, Bool, false, List, [], ◌∷◌, Option, None, Some, if◌then◌else◌}
+use Rattle.std.specs.Prelude.{◌≡◌, ℕ, false, List, [], ◌∷◌, Option, None, Some, if◌then◌else◌}
 use Rattle.std.specs.Ordering.{nat_cmp}
 use Rattle.std.specs.FinMap.{FinMap, get, contains_key, insert, remove}
 use Rattle.map_history.specs.declared.op.Op.{Op}

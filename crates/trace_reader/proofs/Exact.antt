@@ -1,11 +1,11 @@
 -- A text has one first refusal, or none: so the answer to it is settled.
-use Rattle.std.proofs.Common.{◌≡◌, ℕ, ◌<◌, ◌≤◌, List, Option, None, Some, Result, Ok, Err, refl, sym, ap, ◌∙◌, subst, arith, ◌⊎◌, ⊎_elim, inl, inr, IfSome, IsOk, rules}
+use Rattle.std.proofs.Common.{◌≡◌, ℕ, List, Option, None, Some, Result, Ok, Err, refl, sym, ap, ◌∙◌, arith, ⊎_elim, inl, inr, IfSome, rules}
 use Rattle.std.specs.Prelude.{IsErrOf}
 use Rattle.std.proofs.lemmas.Bool.{cases_lt}
 use Rattle.trace_reader.specs.declared.traces.Traces.{Traces}
 use Rattle.trace_reader.specs.declared.traces.TraceError.{TraceError}
 use Rattle.trace_reader.specs.declared.traces.TraceError.TheVariants.{ReadFault, Memory, TooLarge, Malformed, TooManyTraces, TooManyRequests}
-use Rattle.trace_reader.specs.Answer.{Answers, IsExact, IsRefusal}
+use Rattle.trace_reader.specs.Answer.{Answers, IsExact}
 use Rattle.trace_reader.specs.Text.{refusal_at, IsFirstRefusal, IsAccepted}
 
 nothing : {A : Type 0} (e : TraceError) (o : Option TraceError) → o ≡ Some e → o ≡ None → A

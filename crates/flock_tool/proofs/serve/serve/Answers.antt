@@ -1,6 +1,6 @@
-use Rattle.std.proofs.Common.{◌≡◌, ◌≤◌, refl, ap, sym, ◌∙◌, arith, ℕ}
+use Rattle.std.proofs.Common.{refl, arith, ℕ}
 use Rattle.std.specs.Ordering.{nat_cmp}
-use Rattle.std.specs.FinMap.{len-empty, len}
+use Rattle.std.specs.FinMap.{len-empty}
 use Rattle.flock_tool.proofs.Served.{entered_more, left_more}
 use Rattle.flock_tool.proofs.serve.serve.Goals as goal
 

@@ -1,7 +1,7 @@
 use Rattle.std.proofs.Common.{◌≡◌, ◌⊎◌, ℕ, List}
 use Rattle.trace_reader.specs.Text.{IsFirstRefusal}
 use Rattle.trace_reader.specs.declared.traces.TraceError.{TraceError}
-use Rattle.flock_tool.specs.End.{MustEnd, error_status}
+use Rattle.flock_tool.specs.End.{error_status}
 use Rattle.flock_tool.proofs.Ends.{IfSome-from, refused_status, malformed_stop, limit_stop, silent_stop}
 use Rattle.flock_tool.proofs.tool.flock.Goals as goal
 

@@ -1,0 +1,21 @@
+use Rattle.std.proofs.Common.{◌≡◌, List, length, sym, ap, ◌∙◌, arith}
+use Rattle.map_history.specs.declared.op.Request.{Request}
+use Rattle.table_words.specs.Places.{size}
+use Rattle.runner_steps.specs.Asks.{sizes_for}
+use Rattle.interleave_core.proofs.Firsts.{length_parts}
+use Rattle.interleave_core.proofs.machine.Machine.new.Goals as goal
+
+pub invariant_of-result : goal.invariant_of-result
+invariant_of-result g c =
+    let m = g.S.Structure.meaning c.args.structure in
+    let few = c.requires.few in
+    let same = ap length c.in_ok-requests.ensures.items in
+    let sizes_is : c.sizes_for-sizes.result ≡ sizes_for m c.args.layout c.in_ok-requests.requests.items =
+    c.sizes_for-sizes.ensures ∙ ap (λ (rs : List Request). sizes_for m c.args.layout rs) (sym c.in_ok-requests.ensures.items) in
+    let as_many = c.in_ok-words.ensures.room ∙ ap size sizes_is in
+    record {
+      limits = c.requires.limits;
+      few = omega (arith, same, few);
+      words = omega (arith, as_many);
+      parts = ap length c.in_ok-parts.ensures ∙ length_parts m c.args.layout;
+    }

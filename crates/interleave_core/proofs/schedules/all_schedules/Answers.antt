@@ -1,0 +1,23 @@
+use Rattle.std.proofs.Common.{take, get_or, sym, ap, ◌∙◌}
+use Rattle.std.proofs.lemmas.List.{take_more}
+use Rattle.runner_steps.specs.declared.event.Event.{Event}
+use Rattle.interleave_core.specs.World.{happens}
+use Rattle.interleave_core.proofs.Runs.{run_more}
+use Rattle.interleave_core.proofs.schedules.all_schedules.Goals as goal
+
+pub loop-at-preserved : goal.loop-at-preserved
+loop-at-preserved g c =
+    let begun = c.in-Ok.machine in
+    let m = g.S.Structure.meaning begun.structure in
+    let inv = c.loop-at.invariant in
+    let fixed = c.in-Ok-step.ensures.fixed in
+    let e = c.index-events-at.result in
+    let more = take_more c.args.events.now c.loop-at.at e c.loop-at-test.true in
+    let stepped = rw (inv.structure, inv.layout, inv.requests) at c.in-Ok-step.ensures.event in
+    record {
+      structure = fixed.structure ∙ inv.structure;
+      layout = fixed.layout ∙ inv.layout;
+      requests = fixed.requests ∙ inv.requests;
+      so_far = rw more (run_more m begun.layout begun.requests (take c.loop-at.at c.args.events.now) (get_or c.args.events.now c.loop-at.at e) begun.world c.loop-at.machine.world c.step.new.self.world
+          inv.so_far (ap (λ (x : Event). happens m begun.layout begun.requests c.loop-at.machine.world x) (sym c.index-events-at.is) ∙ stepped));
+    }

@@ -1,0 +1,5 @@
+pub mod World
+pub mod Parts
+pub mod Machine
+pub mod First
+pub mod Schedules

@@ -1,0 +1,38 @@
+-- What contracts see of a machine.
+use Rattle.std.specs.Prelude.{◌≡◌, ℕ, ◌≤◌, ◌+◌, List, length}
+use Rattle.map_history.specs.declared.op.Request.{Request}
+use Rattle.table_words.specs.declared.layout.Layout.{Layout}
+use Rattle.table_words.specs.Limits.{IsWithinLimits}
+use Rattle.table_words.specs.declared.spot.Spot.{Spot}
+use Rattle.table_words.specs.Places.{size, Fits}
+use Rattle.table_words.specs.Seen.{seen}
+use Rattle.structure_laws.specs.Meaning.{Meaning}
+use Rattle.runner_steps.specs.Asks.{sizes_for}
+use Rattle.interleave_core.specs.World.{World}
+
+pub record MachineState (T : Type 0) : Type 0 where
+  pub structure : T
+  pub layout : Layout
+  pub requests : List Request
+  pub world : World
+
+-- the machine has all words and all parts
+pub record HasShape (m : Meaning) (l : Layout) (requests : List Request) (w : World) : Type 0 where
+  pub limits : IsWithinLimits l
+  pub few : length requests ≤ 131072
+  pub words : size (sizes_for m l requests) ≤ length w.words
+  pub parts : length w.parts ≡ l.runners + 1
+
+-- the structure, the layout and the requests are as before
+pub record IsSameTable {T : Type 0} (old new : MachineState T) : Type 0 where
+  pub structure : new.structure ≡ old.structure
+  pub layout : new.layout ≡ old.layout
+  pub requests : new.requests ≡ old.requests
+
+-- the machine has this word
+abbrev pub HasWord : {T : Type 0} → Meaning → MachineState T → Spot → Type 0
+HasWord m s spot = Fits (sizes_for m s.layout s.requests) spot
+
+-- the word at this spot
+abbrev pub word_of : {T : Type 0} → Meaning → MachineState T → Spot → ℕ
+word_of m s spot = seen (sizes_for m s.layout s.requests) s.world.words spot

@@ -1,0 +1,153 @@
+//! The first state.
+ghost use Rattle.std.specs.Prelude.{◌≡◌, ◌<◌, ◌≤◌, ◌+◌, ◌*◌, ◌^◌, ◌∷◌, IfOk};
+ghost use Rattle.table_words.specs.Limits.{IsWithinLimits};
+ghost use Rattle.table_words.specs.Places.{size};
+ghost use Rattle.structure_laws.specs.Cells.{first_word};
+ghost use Rattle.interleave_core.specs.First.{falling, IsFilled, first_part, keeper_part, worker_part, workers};
+
+use runner_steps::{Descriptors, Nodes, Part, Reads, Records, Stage, Structure};
+use section_body::{Place, Word};
+use std::alloc::{AllocError, Global};
+use table_words::{Layout, Sizes, Spot, set_word};
+
+/// As many numbers as said from this one on, in falling order.
+fn falling(alloc: Global, from: u32, count: u32) -> Result<Vec<u32>, AllocError>
+    requires { from + count < 2 ^ 32 }
+    ensures { IfOk result (λ v. v.items ≡ falling from count) }
+{
+    let mut numbers = Vec::new(alloc);
+    for below in 0..count {
+        numbers.push(from + (count - 1 - below))?;
+    }
+    Ok(numbers)
+}
+
+/// The first word of a place.
+fn first_word<S: Structure>(structure: &S, place: Place) -> u64
+    ensures { result ≡ first_word (S.meaning structure.now) place }
+{
+    let fixed = structure.fixed_cells() + 5 * structure.fixed_slots();
+    let value = if place < fixed {
+        structure.first_value(place)
+    } else {
+        0
+    };
+    Word::pack(value, 1).bits()
+}
+
+/// The first words of the table.
+#[tactic(auto, using(crate::proofs::Firsts::begins, crate::proofs::Firsts::filled_more))]
+pub fn first_words<S: Structure>(
+    alloc: Global,
+    structure: &S,
+    sizes: Sizes,
+) -> Result<Vec<u64>, AllocError>
+    ensures { IfOk result (λ v. IsFilled (S.meaning structure.now) sizes sizes.cells v.items) }
+{
+    let mut words = vec![in alloc; 0; sizes.words()]?;
+    set_word(&mut words, sizes, Spot::Epoch, 1);
+    for place in 0..sizes.cells {
+        set_word(
+            &mut words,
+            sizes,
+            Spot::Cell(place),
+            first_word(structure, place),
+        );
+    }
+    Ok(words)
+}
+
+/// A runner that has done nothing, with these free node slots and these free descriptors.
+fn first_part(alloc: Global, nodes: Vec<u32>, descriptors: Vec<u32>) -> Part
+    ensures { result ≡ first_part nodes.items descriptors.items }
+{
+    Part {
+        stage: Stage::Idle,
+        run: None,
+        published: None,
+        nodes: Nodes {
+            free: nodes,
+            hand: Vec::new(alloc),
+            tests: Vec::new(alloc),
+            limbo: Vec::new(alloc),
+            worn: Vec::new(alloc),
+        },
+        descriptors: Descriptors {
+            free: descriptors,
+            stored: Vec::new(alloc),
+            limbo: Vec::new(alloc),
+        },
+        reads: Reads {
+            walk: Vec::new(alloc),
+            cells: Vec::new(alloc),
+            held: Vec::new(alloc),
+            published: Vec::new(alloc),
+        },
+        records: Records {
+            known: Vec::new(alloc),
+            finished: Vec::new(alloc),
+            events: 0,
+            left: Vec::new(alloc),
+            splits: 0,
+            joined: Vec::new(alloc),
+        },
+        gone: false,
+    }
+}
+
+/// The keeper's part.
+fn keeper_part<S: Structure>(
+    alloc: Global,
+    structure: &S,
+    layout: Layout,
+) -> Result<Part, AllocError>
+    requires { IsWithinLimits layout }
+    ensures { IfOk result (λ p. p ≡ keeper_part (S.meaning structure.now) layout) }
+{
+    let workers = layout.runners;
+    let nodes = falling(
+        alloc,
+        structure.fixed_slots() + layout.nodes * workers,
+        2 * workers + 2,
+    )?;
+    let descriptors = falling(alloc, layout.sections * workers, workers)?;
+    Ok(first_part(alloc, nodes, descriptors))
+}
+
+/// The part of this worker.
+#[tactic(auto, using(crate::proofs::Firsts::nodes_below, crate::proofs::Firsts::sections_below))]
+fn worker_part<S: Structure>(
+    alloc: Global,
+    structure: &S,
+    layout: Layout,
+    worker: u32,
+) -> Result<Part, AllocError>
+    requires limits { IsWithinLimits layout }
+    requires worker { worker < layout.runners }
+    ensures { IfOk result (λ p. p ≡ worker_part (S.meaning structure.now) layout worker) }
+{
+    let nodes = falling(
+        alloc,
+        structure.fixed_slots() + layout.nodes * worker,
+        layout.nodes,
+    )?;
+    let descriptors = falling(alloc, layout.sections * worker, layout.sections)?;
+    Ok(first_part(alloc, nodes, descriptors))
+}
+
+/// The parts of all runners, the keeper's first.
+pub fn first_parts<S: Structure>(
+    alloc: Global,
+    structure: &S,
+    layout: Layout,
+) -> Result<Vec<Part>, AllocError>
+    requires { IsWithinLimits layout }
+    ensures { IfOk result (λ v. v.items ≡ keeper_part (S.meaning structure.now) layout ∷ workers (S.meaning structure.now) layout layout.runners) }
+{
+    let mut parts = Vec::new(alloc);
+    parts.push(keeper_part(alloc, structure, layout)?)?;
+    for worker in 0..layout.runners {
+        parts.push(worker_part(alloc, structure, layout, worker)?)?;
+    }
+    Ok(parts)
+}

@@ -1,0 +1,49 @@
+//! The machine after a list of events.
+ghost use Rattle.std.specs.Prelude.{◌≡◌, ◌≤◌, ℕ, Some, None, Err, IfOk, length, take, slice_get};
+ghost use Rattle.table_words.specs.Limits.{IsWithinLimits};
+ghost use Rattle.interleave_core.specs.declared.schedules.ScheduleError.TheVariants.{NotEnabled};
+ghost use Rattle.interleave_core.specs.Schedules.{IsAfter, StopsAt};
+
+use crate::machine::{Machine, StepError};
+use map_history::Request;
+use runner_steps::{Event, Structure};
+use std::alloc::{AllocError, Global};
+use table_words::Layout;
+
+/// Why there is no machine after these events.
+#[derive(Clone, Copy, Debug, PartialEq, Eq)]
+pub enum ScheduleError {
+    /// The event with this number is the first that isn't enabled.
+    NotEnabled { at: usize, enabled: u64 },
+    /// There is no memory.
+    Memory,
+}
+
+/// The machine after these events, from its first state on.
+pub fn all_schedules<S: Structure>(
+    alloc: Global,
+    structure: S,
+    layout: Layout,
+    requests: &[Request],
+    events: &[Event],
+) -> Result<Machine<S>, ScheduleError>
+    requires limits { IsWithinLimits layout }
+    requires few { length requests.now ≤ 131072 }
+    ensures ok { IfOk result (λ x. IsAfter (S.meaning structure) layout requests.now events.now x.world) }
+    ensures not_enabled { (at enabled : ℕ) → result ≡ Err (NotEnabled at enabled) → StopsAt (S.meaning structure) layout requests.now events.now at }
+{
+    let Ok(mut machine) = Machine::new(alloc, structure, layout, requests) else {
+        return Err(ScheduleError::Memory);
+    };
+    for at in 0..events.len() {
+        match machine.step(events[at]) {
+            Ok(()) => {}
+            Err(StepError::NotEnabled { enabled }) => return Err(ScheduleError::NotEnabled {
+                at,
+                enabled,
+            }),
+            Err(StepError::Memory) => return Err(ScheduleError::Memory),
+        }
+    }
+    Ok(machine)
+}

@@ -1,0 +1,99 @@
+-- A runner's part after an event, and the state after it.
+use Rattle.std.specs.Prelude.{ℕ, ◌+◌, [], ◌∷◌, ◌++◌, true, ◌==◌, nat_lt, Option, Some, None, if◌then◌else◌}
+use Rattle.table_words.specs.declared.layout.Layout.{Layout}
+use Rattle.table_words.specs.declared.spot.Spot.{Spot}
+use Rattle.table_words.specs.declared.access.Access.{Access}
+use Rattle.table_words.specs.Access.{written}
+use Rattle.structure_laws.specs.Meaning.{Meaning}
+use Rattle.runner_steps.specs.declared.event.EventKind.{EventKind}
+use Rattle.runner_steps.specs.declared.event.EventKind.TheVariants as kinds
+use Rattle.runner_steps.specs.declared.stage.Stage.TheVariants as stages
+use Rattle.section_body.specs.declared.micro.Micro.{Micro}
+use Rattle.runner_steps.specs.State.{RunState, PartState, RecordsState}
+use Rattle.runner_steps.specs.Sections.{is_open_run, next_of}
+use Rattle.runner_steps.specs.AfterOutside.{with_stage, entered, scan_one_after, advance_after, split_after, read_after, entry_after, private_load_after, private_store_after, hold_after, open_after, retire_after}
+use Rattle.runner_steps.specs.AfterInRun.{opened_more, commit_after, cell_loaded, cell_exchanged, fill_loaded, fill_stored, make_committed, retire_committed, number_loaded, stamp_agreed, clock_raised, reply_agreed, lock_committed, done_set, lock_released, place_of, retired_slot_of, reply_word_of}
+
+-- the keeper has joined this worker
+abbrev pub joins : PartState → ℕ → PartState
+joins p worker = record p { records = record (p.records) { joined = p.records.joined ++ worker ∷ [] } }
+
+-- the part after an event outside a run, which found this word
+abbrev pub outside_after : Meaning → Layout → EventKind → PartState → ℕ → PartState
+outside_after m l kinds.EnterLoad p found = with_stage p (stages.Loaded found)
+outside_after m l kinds.Announce p found = with_stage p stages.Announced
+outside_after m l kinds.EnterAgain p found = entered p found
+outside_after m l kinds.Idle p found = with_stage p stages.Idle
+outside_after m l kinds.ScanEpoch p found = with_stage p (stages.Scanning found 0 true)
+outside_after m l (kinds.ScanOne n) p found = scan_one_after l p p.stage found
+outside_after m l kinds.Advance p found = advance_after p p.stage
+outside_after m l kinds.Split p found = split_after l p
+outside_after m l (kinds.Join worker) p found = joins p worker
+outside_after m l (kinds.LoadCell (Some place)) p found = read_after m place p found
+outside_after m l (kinds.LoadEntry request reply) p found = entry_after request reply p found
+outside_after m l (kinds.PrivateLoad slot word) p found = private_load_after l slot word p found
+outside_after m l (kinds.PrivateStore slot word number) p found = private_store_after m l slot word number p
+outside_after m l (kinds.Hold thunk d) p found = hold_after thunk d p found
+outside_after m l (kinds.LoadThunk (Some d)) p found = open_after d p found
+outside_after m l kinds.EpochForRetire p found = retire_after p p.published found
+outside_after m l _ p found = p
+
+-- the part after an event of a run that stood before this step
+abbrev pub line_after : Meaning → Layout → EventKind → PartState → RunState → Micro → ℕ → PartState
+line_after m l kinds.Commit p q micro found = commit_after m l micro p q found
+line_after m l (kinds.LoadCell place) p q micro found = cell_loaded m l (place_of micro) p q found
+line_after m l kinds.ExchangeCell p q micro found = cell_exchanged m l (place_of micro) p q found
+line_after m l (kinds.PrivateLoad slot word) p q micro found = fill_loaded m l slot p q q.made found
+line_after m l (kinds.PrivateStore slot word number) p q micro found = fill_stored m l number p q
+line_after m l kinds.MakeCommit p q micro found = make_committed m l p q q.made found
+line_after m l kinds.RetireCommit p q micro found = retire_committed m l (retired_slot_of micro) p q found
+line_after m l kinds.EpochForRetire p q micro found = number_loaded m l p q found
+line_after m l kinds.SetDone p q micro found = done_set p q
+line_after m l kinds.Release p q micro found = lock_released m l (place_of micro) p q found
+line_after m l kinds.ClockLoad p q micro found = number_loaded m l p q found
+line_after m l kinds.StampExchange p q micro found = stamp_agreed m l p q found
+line_after m l kinds.ClockRaise p q micro found = clock_raised m l p q
+line_after m l kinds.ReplyExchange p q micro found = reply_agreed m l (reply_word_of micro) p q found
+line_after m l kinds.NestedLoad p q micro found = cell_loaded m l (place_of micro) p q found
+line_after m l kinds.NestedHold p q micro found = cell_exchanged m l (place_of micro) p q found
+line_after m l kinds.OutcomeLoad p q micro found = cell_loaded m l (place_of micro) p q found
+line_after m l kinds.OutcomeCommit p q micro found = lock_committed m l p q found
+line_after m l _ p q micro found = p
+
+-- the part after an event of a run
+abbrev pub inside_after : Meaning → Layout → EventKind → PartState → RunState → ℕ → PartState
+inside_after m l kind p q found = if is_open_run q then line_after m l kind p q (next_of m q) found else opened_more p q found
+
+-- the part after the event with this run, or with none
+abbrev pub after_by : Meaning → Layout → EventKind → PartState → Option RunState → ℕ → PartState
+after_by m l kind p None found = outside_after m l kind p found
+after_by m l kind p (Some q) found = inside_after m l kind p q found
+
+-- the part after the event, which found this word
+abbrev pub stepped : Meaning → Layout → EventKind → PartState → ℕ → PartState
+stepped m l kind p found = after_by m l kind p p.run found
+
+-- one more, up to the greatest number of 64 bits
+abbrev pub counted : ℕ → ℕ
+counted n = if nat_lt n 18446744073709551615 then n + 1 else n
+
+-- what the keeper's steps since the last join left
+abbrev pub left_more : RecordsState → EventKind → Spot → ℕ → RecordsState
+left_more s (kinds.Join worker) spot number = record s { left = [] }
+left_more s _ spot number = record s { left = s.left ++ record { spot = spot; number = number } ∷ [] }
+
+-- one more step was made, which left this number at this spot
+abbrev pub noted : Layout → ℕ → EventKind → Spot → ℕ → RecordsState → RecordsState
+noted l r kind spot number s = if r == l.runners then left_more (record s { events = counted s.events }) kind spot number else record s { events = counted s.events }
+
+-- the stepping runner's part after the event, which met this spot and found this word
+abbrev pub after : Meaning → Layout → ℕ → EventKind → Spot → Access → PartState → ℕ → PartState
+after m l r kind spot access p found = let p' = stepped m l kind p found in record p' { records = noted l r kind spot (written access found) p'.records }
+
+-- the part of a worker that was joined
+abbrev pub leaves : PartState → PartState
+leaves p = record p { gone = true }
+
+-- what the keeper knows after a join: also what the worker knew
+abbrev pub knows_also : PartState → PartState → PartState
+knows_also p worker = record p { records = record (p.records) { known = p.records.known ++ worker.records.known } }

@@ -1,0 +1,78 @@
+-- A runner's part after an event outside a run, which found this word.
+use Rattle.std.specs.Prelude.{ℕ, ◌+◌, ◌-◌, [], ◌∷◌, Bool, false, not, ◌==◌, ◌&&◌, ◌||◌, nat_lt, nat_le, length, Option, Some, None, if◌then◌else◌}
+use Rattle.section_body.specs.declared.thunk.Thunk.{Thunk}
+use Rattle.table_words.specs.declared.layout.Layout.{Layout}
+use Rattle.table_words.specs.Places.{slot_count}
+use Rattle.structure_laws.specs.Meaning.{Meaning}
+use Rattle.runner_steps.specs.declared.stage.Stage.{Stage}
+use Rattle.runner_steps.specs.declared.stage.Stage.TheVariants as stages
+use Rattle.runner_steps.specs.declared.entries.Published.{Published}
+use Rattle.runner_steps.specs.State.{RunState, PartState}
+use Rattle.runner_steps.specs.Outside.{last_epoch}
+use Rattle.runner_steps.specs.Lists.{nodes_collected, descriptors_collected, nodes_looked, descriptor_stored, descriptor_taken, descriptor_retired, no_reads, cell_read, holds_named, walked, section_published, learned}
+
+abbrev pub with_stage : PartState → Stage → PartState
+with_stage p stage = record p { stage = stage }
+
+-- the lists begin anew
+abbrev pub entered : PartState → ℕ → PartState
+entered p found = record p { stage = stages.Entered found; reads = no_reads }
+
+-- a scan is over, and this epoch was reached
+abbrev pub collected : PartState → ℕ → PartState
+collected p epoch = record p { stage = stages.Idle; nodes = nodes_collected epoch p.nodes; descriptors = descriptors_collected epoch p.descriptors }
+
+-- an announcement is idle, or the scan's epoch
+abbrev pub is_clear : ℕ → ℕ → Bool
+is_clear epoch found = found == 0 || found == epoch
+
+-- after the last announcement the scan is over, unless an advance may be tried
+abbrev pub scanned : Layout → PartState → ℕ → ℕ → Bool → PartState
+scanned l p x next clear = if next == l.runners && not (clear && nat_lt x last_epoch)
+    then collected p x
+    else with_stage p (stages.Scanning x (next + 1) clear)
+
+abbrev pub scan_one_after : Layout → PartState → Stage → ℕ → PartState
+scan_one_after l p (stages.Scanning x next clear) found = if nat_le next l.runners then scanned l p x next (clear && is_clear x found) else p
+scan_one_after l p _ found = p
+
+abbrev pub advance_after : PartState → Stage → PartState
+advance_after p (stages.Scanning x next clear) = if nat_lt x last_epoch then collected p (x + 1) else p
+advance_after p _ = p
+
+abbrev pub split_after : Layout → PartState → PartState
+split_after l p = if nat_lt p.records.splits l.runners then record p { records = record (p.records) { splits = p.records.splits + 1 } } else p
+
+abbrev pub read_after : Meaning → ℕ → PartState → ℕ → PartState
+read_after m place p found = record p { reads = walked p.reads (m.is_lock place) place found }
+
+abbrev pub entry_after : ℕ → Bool → PartState → ℕ → PartState
+entry_after request reply p found = record p { records = learned p.records request reply found }
+
+abbrev pub private_load_after : Layout → ℕ → ℕ → PartState → ℕ → PartState
+private_load_after l slot word p found = record p { nodes = nodes_looked l p.nodes slot word found }
+
+abbrev pub private_store_after : Meaning → Layout → ℕ → ℕ → ℕ → PartState → PartState
+private_store_after m l slot word number p = record p { descriptors = descriptor_stored p.descriptors (slot - slot_count l m.fixed_slots) word number }
+
+-- where the lock was free, the section is published; otherwise the descriptor stays free
+abbrev pub hold_after : Thunk → ℕ → PartState → ℕ → PartState
+hold_after t d p found = if found == t.word
+    then record p {
+      published = Some (record { descriptor = d; walked = length p.reads.walk; over = false });
+      descriptors = descriptor_taken p.descriptors d;
+      reads = section_published (cell_read p.reads t.lock found) d;
+    }
+    else record p { reads = holds_named (cell_read p.reads t.lock found) found }
+
+-- a run begins
+abbrev pub opened : ℕ → ℕ → RunState
+opened d found = record { descriptor = d; opened = found ∷ []; at = 0; word = 0; trail = []; made = None; worn = false; ended = 0 }
+
+abbrev pub open_after : ℕ → PartState → ℕ → PartState
+open_after d p found = record p { run = Some (opened d found) }
+
+-- the published section's descriptor goes into limbo
+abbrev pub retire_after : PartState → Option Published → ℕ → PartState
+retire_after p None found = p
+retire_after p (Some x) found = record p { published = None; descriptors = descriptor_retired p.descriptors x.descriptor found }

@@ -1,0 +1,118 @@
+-- Which word an event outside a run meets, and how.
+use Rattle.std.specs.Prelude.{ℕ, ◌+◌, ◌-◌, ◌^◌, List, Bool, true, false, not, ◌==◌, ◌&&◌, ◌||◌, nat_lt, nat_le, Option, Some, None, slice_get, if◌then◌else◌, is_none}
+use Rattle.map_history.specs.declared.op.Request.{Request}
+use Rattle.section_body.specs.declared.thunk.Thunk.{Thunk}
+use Rattle.section_body.specs.Word.{held_word}
+use Rattle.section_body.specs.Memory.{cell_of}
+use Rattle.table_words.specs.declared.layout.Layout.{Layout}
+use Rattle.table_words.specs.declared.spot.Spot.{Spot}
+use Rattle.table_words.specs.declared.spot.Spot.TheVariants as spots
+use Rattle.table_words.specs.declared.access.Access.{Access}
+use Rattle.table_words.specs.declared.access.Access.TheVariants.{Loads, Stores, Exchanges}
+use Rattle.table_words.specs.Places.{slot_count, descriptor_count}
+use Rattle.structure_laws.specs.Meaning.{Meaning}
+use Rattle.runner_steps.specs.declared.stage.Stage.{Stage}
+use Rattle.runner_steps.specs.declared.stage.Stage.TheVariants as stages
+use Rattle.runner_steps.specs.declared.entries.Published.{Published}
+use Rattle.runner_steps.specs.declared.entries.Known.{Known}
+use Rattle.runner_steps.specs.State.{PartState}
+use Rattle.runner_steps.specs.Tests.{has, is_walking, is_resting, is_outside, is_next, is_prepared, is_open, serves, is_readable}
+
+-- a word and what the step does with it; None where the event isn't enabled
+abbrev pub Ask : Type 0
+Ask = Option (Spot × Access)
+
+-- this ask, where the test holds
+abbrev pub when : Bool → Spot → Access → Ask
+when test spot access = if test then Some (spot, access) else None
+
+abbrev pub enter_load_ask : Stage → Ask
+enter_load_ask stages.Idle = Some (spots.Epoch, Loads)
+enter_load_ask _ = None
+
+abbrev pub announce_ask : ℕ → Stage → Ask
+announce_ask r (stages.Loaded e) = Some (spots.Announcement r, Stores e)
+announce_ask r _ = None
+
+abbrev pub enter_again_ask : Stage → Ask
+enter_again_ask stages.Announced = Some (spots.Epoch, Loads)
+enter_again_ask _ = None
+
+-- not while it has a published section that it hasn't retired
+abbrev pub idle_ask : ℕ → PartState → Ask
+idle_ask r p = when (is_walking p.stage p.run && is_none p.published) (spots.Announcement r) (Stores 0)
+
+-- the next announcement, the keeper's last
+abbrev pub scan_one_ask : Layout → ℕ → Stage → Ask
+scan_one_ask l n (stages.Scanning x next clear) = when (n == next && nat_le next l.runners) (spots.Announcement n) Loads
+scan_one_ask l n _ = None
+
+-- no advance is tried from this epoch on
+abbrev pub last_epoch : ℕ
+last_epoch = 2 ^ 62
+
+-- after the last announcement, where each was idle or the epoch
+abbrev pub advance_ask : Layout → Stage → Ask
+advance_ask l (stages.Scanning x next clear) = when (nat_lt l.runners next && (clear && nat_lt x last_epoch)) spots.Epoch (Exchanges x (x + 1))
+advance_ask l _ = None
+
+-- the keeper splits off each worker once
+abbrev pub split_ask : Layout → ℕ → PartState → Ask
+split_ask l r p = when (r == l.runners && (is_outside p.run && nat_lt p.records.splits l.runners)) spots.Seat Loads
+
+-- the keeper joins each worker once
+abbrev pub join_ask : Layout → ℕ → ℕ → PartState → Ask
+join_ask l r worker p = when (r == l.runners && (is_outside p.run && (nat_lt worker l.runners && not (has p.records.joined worker)))) spots.Seat Loads
+
+abbrev pub read_ask : Meaning → ℕ → PartState → Ask
+read_ask m place p = when (is_walking p.stage p.run && is_readable m p.reads.walk place) (spots.Cell place) Loads
+
+abbrev pub entry_spot : ℕ → Bool → Spot
+entry_spot request true = spots.Reply request
+entry_spot request false = spots.Stamp request
+
+abbrev pub entry_ask : ℕ → Bool → PartState → Ask
+entry_ask request reply p = when (is_resting p.stage p.run) (entry_spot request reply) Loads
+
+-- a descriptor's word: the thunk words, the done word, the log
+abbrev pub descriptor_spot : ℕ → ℕ → Spot
+descriptor_spot d word = if nat_lt word 12 then spots.ThunkWord d word else (if word == 12 then spots.DoneWord d else spots.LogWord d (word - 13))
+
+-- a cell of an own free node slot, or of one in the own hand; or a word of an own free descriptor
+abbrev pub private_load_ask : Meaning → Layout → ℕ → ℕ → PartState → Ask
+private_load_ask m l slot word p = let slots = slot_count l m.fixed_slots in
+    if nat_lt slot slots
+    then when (is_resting p.stage p.run && (nat_lt word 5 && (has p.nodes.free slot || has p.nodes.hand slot))) (spots.Cell (cell_of m.fixed_cells slot word)) Loads
+    else when (is_resting p.stage p.run && has p.descriptors.free (slot - slots)) (descriptor_spot (slot - slots) word) Loads
+
+-- a word of an own free descriptor
+abbrev pub private_store_ask : Meaning → Layout → ℕ → ℕ → ℕ → PartState → Ask
+private_store_ask m l slot word number p = let slots = slot_count l m.fixed_slots in
+    when (nat_le slots slot && (is_resting p.stage p.run && has p.descriptors.free (slot - slots))) (descriptor_spot (slot - slots) word) (Stores number)
+
+-- the thunk serves the worker's next request
+abbrev pub is_due : Meaning → Layout → List Request → ℕ → List Known → List (ℕ × ℕ) → Thunk → Bool
+is_due m l requests r known walk t = let request = slice_get requests t.request in is_next l r requests known request && serves m l walk t request
+
+-- the thunk may be published: its lock's word was read free, and no section is left to retire
+abbrev pub is_publishable : Meaning → Layout → List Request → ℕ → Thunk → PartState → Bool
+is_publishable m l requests r t p = is_walking p.stage p.run && (is_none p.published && (is_open l p.reads.cells t && is_due m l requests r p.records.known p.reads.walk t))
+
+-- the own free descriptor's words were stored with this thunk
+abbrev pub is_ready : Layout → PartState → ℕ → Thunk → Bool
+is_ready l p d t = nat_lt d (descriptor_count l) && (has p.descriptors.free d && is_prepared p.descriptors.stored d t)
+
+abbrev pub hold_ask : Meaning → Layout → List Request → ℕ → Thunk → ℕ → PartState → Ask
+hold_ask m l requests r t d p = when (is_ready l p d t && is_publishable m l requests r t p) (spots.Cell t.lock) (Exchanges t.word (held_word d t.word))
+
+-- a run begins with the first thunk word of a descriptor that the runner holds
+abbrev pub open_ask : ℕ → PartState → Ask
+open_ask d p = when (is_walking p.stage p.run && has p.reads.held d) (spots.ThunkWord d 0) Loads
+
+-- the section that the runner published was run to its end
+abbrev pub is_over : Option Published → Bool
+is_over None = false
+is_over (Some x) = x.over
+
+abbrev pub retire_ask : PartState → Ask
+retire_ask p = when (is_walking p.stage p.run && is_over p.published) spots.Epoch Loads

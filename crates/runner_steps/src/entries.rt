@@ -1,0 +1,51 @@
+//! The entries of a runner's lists.
+
+use table_words::Spot;
+
+/// A slot in limbo, with the epoch that was loaded for its retirement.
+#[derive(Clone, Copy, Debug, PartialEq, Eq)]
+pub struct Retired {
+    pub slot: u32,
+    pub epoch: u64,
+}
+
+/// A node slot in the hand of which some cells have been looked at, in their order: how many, and whether one of them had
+/// the greatest version.
+#[derive(Clone, Copy, Debug, PartialEq, Eq)]
+pub struct Tested {
+    pub slot: u32,
+    pub cells: u32,
+    pub worn: bool,
+}
+
+/// What was stored into a word of an own free descriptor.
+#[derive(Clone, Copy, Debug, PartialEq, Eq)]
+pub struct Stored {
+    pub descriptor: u32,
+    pub word: u32,
+    pub number: u64,
+}
+
+/// A stamp or reply word that isn't 0, as the runner came to know it.
+#[derive(Clone, Copy, Debug, PartialEq, Eq)]
+pub struct Known {
+    pub request: u32,
+    pub reply: bool,
+    pub number: u64,
+}
+
+/// The section that a runner published last and hasn't retired: its descriptor, how many readings the runner had when it
+/// published it, and whether the runner has run it to its end.
+#[derive(Clone, Copy, Debug, PartialEq, Eq)]
+pub struct Published {
+    pub descriptor: u32,
+    pub walked: usize,
+    pub over: bool,
+}
+
+/// What stood in a word after the runner's step on it.
+#[derive(Clone, Copy, Debug, PartialEq, Eq)]
+pub struct Left {
+    pub spot: Spot,
+    pub number: u64,
+}

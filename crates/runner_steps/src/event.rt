@@ -1,0 +1,52 @@
+//! What a runner may do next.
+
+use section_body::{Place, Thunk};
+
+/// One kind of atomic step, with the arguments that the runner chooses.
+#[derive(Clone, Copy, Debug, PartialEq, Eq)]
+pub enum EventKind {
+    EnterLoad,
+    Announce,
+    EnterAgain,
+    Idle,
+    ScanEpoch,
+    /// Carries the announcement's number.
+    ScanOne(u32),
+    Advance,
+    Split,
+    Commit,
+    /// Carries the place outside a run, and None in a run.
+    LoadCell(Option<Place>),
+    ExchangeCell,
+    /// Descriptors are numbered after the node slots; `word` counts within the slot.
+    PrivateLoad { slot: u32, word: u32 },
+    PrivateStore { slot: u32, word: u32, number: u64 },
+    MakeCommit,
+    RetireCommit,
+    EpochForRetire,
+    /// Carries the descriptor at the start of a run, and None for the later thunk words.
+    LoadThunk(Option<u32>),
+    LoadDone,
+    Hold { thunk: Thunk, descriptor: u32 },
+    SetDone,
+    Release,
+    ClockLoad,
+    StampExchange,
+    ClockRaise,
+    ReplyExchange,
+    /// Carries the worker.
+    Join(u32),
+    /// `reply` is true for the reply word.
+    LoadEntry { request: u32, reply: bool },
+    NestedLoad,
+    NestedHold,
+    OutcomeLoad,
+    OutcomeCommit,
+}
+
+/// One step of one runner. Workers are numbered from 0, and the keeper has the number after the last.
+#[derive(Clone, Copy, Debug, PartialEq, Eq)]
+pub struct Event {
+    pub runner: u32,
+    pub kind: EventKind,
+}
