@@ -7,6 +7,7 @@ use Rattle.epoch_core.specs.Update.{upd, upd2, upd_row}
 use Rattle.epoch_core.specs.State.{Counts, Role, Agrees, Makes, Retires, EpochState, last_epoch, is_entered, IsPending, MayHold, no_retire}
 use Rattle.epoch_core.specs.Moves.{is_clear, is_over, advanced, tested, collected, written_once, made, retired}
 
+-- what may happen; `r` is the runner, `d` a descriptor, `index` a place in its log
 pub data Event : Type 0 where
   -- a runner enters by two loads with its announcement between them, and exits
   EnterLoad : (r : ℕ) → Event
@@ -43,6 +44,7 @@ module _ (c : Counts) where
   abbrev pub after_collect : (ℕ → Location) → ℕ → ℕ → ℕ → Location
   after_collect location r epoch s = collected (nat_lt s c.nodes) r epoch (location s)
 
+  -- the state after an event
   abbrev pub after : EpochState → Event → EpochState
   after w (EnterLoad r) = record w { stage = upd w.stage r (Loaded w.epoch) }
   after w (Announce r e) = record w { announced = upd w.announced r e; stage = upd w.stage r Announced }
@@ -81,6 +83,7 @@ module _ (c : Counts) where
   }
   after w (RetireDescriptor r d) = record w { location = upd w.location (slot_of d) (Limbo r w.epoch) }
 
+  -- when an event may come; what it asks for beside the runner's stage is what the machine supplies
   abbrev pub Enabled : EpochState → Event → Type 0
   Enabled w (EnterLoad r) = w.stage r ≡ Idle
   Enabled w (Announce r e) = (r ≤ c.runners) × (w.stage r ≡ Loaded e)

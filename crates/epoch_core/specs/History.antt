@@ -15,6 +15,7 @@ pub record History : Type 0 where
   pub made : ℕ → ℕ → List ℕ
   pub retired : ℕ → ℕ → List ℕ
 
+-- nothing was published or won
 abbrev pub no_history : History
 no_history = record { published = 0; section = λ d. 0; made = λ n k. []; retired = λ n k. [] }
 
@@ -30,11 +31,13 @@ noted w h (RetireCommit r) = let x = w.retire r in
 noted w h (Publish r d roles) = record h { published = suc h.published; section = upd h.section d (suc h.published) }
 noted w h _ = h
 
+-- a Make's place in the log
 abbrev pub is_makes : Role → Bool
 is_makes Makes = true
 is_makes Agrees = false
 is_makes (Retires slot) = false
 
+-- a Retire's place in the log
 abbrev pub is_retires : Role → Bool
 is_retires (Retires slot) = true
 is_retires Agrees = false
@@ -63,6 +66,7 @@ pub record Lasts (h h' : History) : Type 0 where
   pub retired : (n k : ℕ) → 1 ≤ length (h.retired n k) → h'.retired n k ≡ h.retired n k
 
 module _ (c : Counts) where
+  -- the history says what was won by the commits of this state's sections, and of the earlier ones
   pub record IsExact (w : EpochState) (h : History) : Type 0 where
     -- no section has a number above that of the last publication, and no two descriptors have the same section
     pub numbered : (d : ℕ) → h.section d ≤ h.published

@@ -26,10 +26,11 @@ pub record Lists : Type 0 where
 abbrev pub without : List ℕ → ℕ → List ℕ
 without xs x = filter (λ y. not (y == x)) xs
 
--- the slots of those that were retired long enough ago, and the others
+-- the slots of those that were retired long enough ago
 abbrev pub old_slots : ℕ → List Entry → List ℕ
 old_slots epoch xs = map (λ x. x.slot) (filter (λ x. is_old x.epoch epoch) xs)
 
+-- the others
 abbrev pub young : ℕ → List Entry → List Entry
 young epoch xs = filter (λ x. not (is_old x.epoch epoch)) xs
 
@@ -77,7 +78,7 @@ abbrev pub times_retired : ℕ → ℕ → List Entry → ℕ
 times_retired s y [] = 0
 times_retired s y (x ∷ xs) = cond (x.slot == s && x.epoch == y) (1 + times_retired s y xs) (times_retired s y xs)
 
--- one where the slot is there, 0 elsewhere
+-- 1 where the slot is in this runner's hand, otherwise 0
 abbrev pub in_hand : ℕ → Location → ℕ
 in_hand r (Hand r') = cond (r' == r) 1 0
 in_hand r Fixed = 0
@@ -86,6 +87,7 @@ in_hand r (Free r') = 0
 in_hand r (Worn r') = 0
 in_hand r (Limbo r' y') = 0
 
+-- the same for its free list
 abbrev pub in_free : ℕ → Location → ℕ
 in_free r (Free r') = cond (r' == r) 1 0
 in_free r Fixed = 0
@@ -94,6 +96,7 @@ in_free r (Hand r') = 0
 in_free r (Worn r') = 0
 in_free r (Limbo r' y') = 0
 
+-- the same for its worn list
 abbrev pub in_worn : ℕ → Location → ℕ
 in_worn r (Worn r') = cond (r' == r) 1 0
 in_worn r Fixed = 0
@@ -102,6 +105,7 @@ in_worn r (Hand r') = 0
 in_worn r (Free r') = 0
 in_worn r (Limbo r' y') = 0
 
+-- the same for its limbo, with this epoch
 abbrev pub in_limbo : ℕ → ℕ → Location → ℕ
 in_limbo r y (Limbo r' y') = cond (r' == r && y' == y) 1 0
 in_limbo r y Fixed = 0

@@ -27,6 +27,7 @@ retiring = Reach 0 (λ s. s == 0) ∷ Publish 0 1 (alone (Retires 0)) ∷ Retire
 abbrev pub collecting : List Event
 collecting = ScanEpoch 0 ∷ ScanOne 0 1 0 true ∷ ScanOne 0 1 1 true ∷ Advance 0 1 2 ∷ ScanEpoch 0 ∷ ScanOne 0 2 0 true ∷ ScanOne 0 2 1 true ∷ Advance 0 2 2 ∷ Test 0 0 false ∷ []
 
+-- the states after each part
 abbrev pub made_state : EpochState
 made_state = after_all few (first_state all_free) making
 

@@ -16,6 +16,7 @@ is_for_nodes (Free r) = false
 is_for_nodes (Limbo r y) = false
 
 module _ (c : Counts) where
+  -- what holds after every list of enabled events
   pub record IsSound (w : EpochState) : Type 0 where
     -- the epoch starts at 1 and never passes the last one
     pub some : 1 ≤ w.epoch

@@ -11,12 +11,15 @@ abbrev pub below : ℕ → List ℕ
 below zero = []
 below (suc n) = n ∷ below n
 
+-- every slot is free
 abbrev pub all_free : ℕ → Location
 all_free s = Free 0
 
+-- empty lists
 abbrev pub no_lists : Lists
 no_lists = record { hand = []; free = []; worn = []; limbo = []; free_descriptors = []; limbo_descriptors = [] }
 
+-- runner 0 has them all
 abbrev pub all_listed : Counts → ℕ → Lists
 all_listed c r = cond (r == 0) (record no_lists { free = below c.nodes; free_descriptors = below c.descriptors }) no_lists
 

@@ -47,6 +47,7 @@ pub record EpochState : Type 0 where
 abbrev pub last_epoch : ℕ
 last_epoch = 4611686018427387904
 
+-- whether a runner is entered
 abbrev pub is_entered : Stage → Bool
 is_entered (Entered epoch) = true
 is_entered Idle = false
