@@ -5,9 +5,9 @@ Usage: bench/run.py [PROGRAM]     (default: crates/flock/out/flock, made by `rt 
 
 It wants rustc. Each text is run several times by both; the least wall time and the greatest peak memory are told.
 """
+import os
 import pathlib
 import random
-import resource
 import subprocess
 import sys
 import tempfile
@@ -40,16 +40,18 @@ def texts() -> dict[str, bytes]:
 
 
 def measure(program: list[str], text: pathlib.Path) -> tuple[float, int]:
-    """The least wall time in seconds, and the peak memory in KiB of all children so far."""
-    best = float("inf")
+    """The least wall time in seconds, and the greatest peak memory in KiB."""
+    best, peak = float("inf"), 0
     for _ in range(RUNS):
         with text.open("rb") as source:
             start = time.perf_counter()
-            done = subprocess.run(program, stdin=source, stdout=subprocess.DEVNULL)
+            child = subprocess.Popen(program, stdin=source, stdout=subprocess.DEVNULL)
+            _, status, usage = os.wait4(child.pid, 0)
             best = min(best, time.perf_counter() - start)
-        if done.returncode != 0:
-            sys.exit(f"{program[0]}: status {done.returncode}")
-    return best, resource.getrusage(resource.RUSAGE_CHILDREN).ru_maxrss
+        peak = max(peak, usage.ru_maxrss)
+        if os.waitstatus_to_exitcode(status) != 0:
+            sys.exit(f"{program[0]}: status {os.waitstatus_to_exitcode(status)}")
+    return best, peak
 
 
 def main() -> None:
@@ -57,11 +59,10 @@ def main() -> None:
     with tempfile.TemporaryDirectory() as folder:
         plain = pathlib.Path(folder) / "plain"
         text = pathlib.Path(folder) / "text"
+        subprocess.run(["rustc", "-O", "-o", plain, TOP / "bench/plain.rs"], check=True)
         for name, content in texts().items():
             text.write_bytes(content)
             ours, peak = measure([program, "run"], text)
-            if not plain.exists():
-                subprocess.run(["rustc", "-O", "-o", plain, TOP / "bench/plain.rs"], check=True)
             theirs, _ = measure([str(plain)], text)
             print(f"{name}: {1000 * ours:.1f} ms, plain {1000 * theirs:.1f} ms, ratio {ours / theirs:.2f}, peak {peak} KiB")
 
