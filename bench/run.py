@@ -12,6 +12,7 @@ import subprocess
 import sys
 import tempfile
 import time
+from collections.abc import Iterator
 
 TOP = pathlib.Path(__file__).resolve().parent.parent
 RUNS = 7
@@ -27,20 +28,18 @@ def requests(count: int, keys: int) -> bytes:
     return ("\n".join(lines) + "\n").encode()
 
 
-def texts() -> dict[str, bytes]:
+def texts() -> Iterator[tuple[str, bytes]]:
     size = 4_194_304
     head = b"flock 1\ntrace\n"
-    return {
-        "131,072 requests over 1,000 keys": requests(131_072, 1_000),
-        "one comment of 4 MiB": head + b"#" + b"x" * (size - len(head) - 2) + b"\n",
-        "one line of 4 MiB of blanks": head + b" " * (size - len(head) - 1) + b"\n",
-        "one key of 4 MiB of zeros": head + b"get " + b"0" * (size - len(head) - 5) + b"\n",
-        "4 MiB of empty lines": head + b"\n" * (size - len(head)),
-    }
+    yield "131,072 requests over 1,000 keys", requests(131_072, 1_000)
+    yield "one comment of 4 MiB", head + b"#" + b"x" * (size - len(head) - 2) + b"\n"
+    yield "one line of 4 MiB of blanks", head + b" " * (size - len(head) - 1) + b"\n"
+    yield "one key of 4 MiB of zeros", head + b"get " + b"0" * (size - len(head) - 5) + b"\n"
+    yield "4 MiB of empty lines", head + b"\n" * (size - len(head))
 
 
 def measure(program: list[str], text: pathlib.Path) -> tuple[float, int]:
-    """The least wall time in seconds, and the greatest peak memory in KiB."""
+    """The least wall time in seconds, and the greatest peak memory in KiB: at least this script's own, from which it forks."""
     best, peak = float("inf"), 0
     for _ in range(RUNS):
         with text.open("rb") as source:
@@ -60,8 +59,9 @@ def main() -> None:
         plain = pathlib.Path(folder) / "plain"
         text = pathlib.Path(folder) / "text"
         subprocess.run(["rustc", "-O", "-o", plain, TOP / "bench/plain.rs"], check=True)
-        for name, content in texts().items():
+        for name, content in texts():
             text.write_bytes(content)
+            del content
             ours, peak = measure([program, "run"], text)
             theirs, _ = measure([str(plain)], text)
             print(f"{name}: {1000 * ours:.1f} ms, plain {1000 * theirs:.1f} ms, ratio {ours / theirs:.2f}, peak {peak} KiB")
