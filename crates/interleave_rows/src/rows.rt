@@ -1,0 +1,357 @@
+//! Worked rows.
+ghost use Rattle.std.specs.Prelude.{◌≤◌};
+ghost use Rattle.table_words.specs.Limits.{IsWithinLimits};
+
+use interleave_core::{Event, EventKind, Machine, ScheduleError, StepError, Tray, all_schedules};
+use map_history::{Op, Request};
+use runner_steps::thunk_words;
+use section_body::{Outcome, Thunk, Word};
+use std::alloc::AllocError;
+use table_words::Layout;
+
+/// The first word of a cell: value 0, version 1.
+const FIRST: u64 = 4294967296;
+
+/// The first descriptor, behind the ten node slots of two workers and the keeper.
+const DESCRIPTORS: u32 = 10;
+
+fn layout(runners: u32) -> Layout
+    requires some { 1 ≤ runners }
+    requires few { runners ≤ 2 }
+    ensures { IsWithinLimits result }
+{
+    Layout {
+        runners,
+        nodes: 2,
+        sections: 2,
+        version_max: 4294967295,
+    }
+}
+
+/// A thunk behind the lock at place 0.
+fn thunk(form: u64, request: u32, operand: u64) -> Thunk {
+    Thunk {
+        form,
+        request,
+        lock: 0,
+        word: Word::from_bits(FIRST),
+        operands: [operand, 0, 0, 0, 0, 0, 0, 0],
+    }
+}
+
+/// One request in each of two traces.
+fn requests() -> [Request; 2] {
+    [0, 1].map(|number| Request {
+        trace: number,
+        number,
+        op: Op::Get(1),
+    })
+}
+
+/// Makes this step, and says whether it was enabled.
+fn goes(machine: &mut Machine<Tray>, runner: u32, kind: EventKind) -> bool {
+    machine.step(Event { runner, kind }).is_ok()
+}
+
+fn enters(machine: &mut Machine<Tray>, runner: u32) -> bool {
+    goes(machine, runner, EventKind::EnterLoad)
+        && goes(machine, runner, EventKind::Announce)
+        && goes(machine, runner, EventKind::EnterAgain)
+}
+
+/// Enters, reads the lock, and stores the words of a free descriptor.
+fn prepares(machine: &mut Machine<Tray>, runner: u32, descriptor: u32, thunk: &Thunk) -> bool {
+    if !enters(machine, runner) || !goes(machine, runner, EventKind::LoadCell(Some(0))) {
+        return false;
+    }
+    let words = thunk_words(thunk);
+    let slot = DESCRIPTORS.saturating_add(descriptor);
+    for word in 0..77u32 {
+        let number = words.get(word as usize).copied().unwrap_or(0);
+        if !goes(
+            machine,
+            runner,
+            EventKind::PrivateStore { slot, word, number },
+        ) {
+            return false;
+        }
+    }
+    true
+}
+
+/// Loads the thunk words and the done word.
+fn opens(machine: &mut Machine<Tray>, runner: u32, descriptor: u32) -> bool {
+    if !goes(machine, runner, EventKind::LoadThunk(Some(descriptor))) {
+        return false;
+    }
+    for _ in 0..11u32 {
+        if !goes(machine, runner, EventKind::LoadThunk(None)) {
+            return false;
+        }
+    }
+    goes(machine, runner, EventKind::LoadDone)
+}
+
+/// Makes a private step of a Make that fills a node of zeros, and none outside a run, where a request's word may be loaded.
+fn fills(machine: &mut Machine<Tray>, runner: u32) -> bool {
+    if goes(
+        machine,
+        runner,
+        EventKind::LoadEntry {
+            request: 1,
+            reply: false,
+        },
+    ) {
+        return false;
+    }
+    let number = Word::pack(0, 2).bits();
+    for slot in 0..DESCRIPTORS {
+        for word in 0..5u32 {
+            if goes(machine, runner, EventKind::PrivateLoad { slot, word })
+                || goes(
+                    machine,
+                    runner,
+                    EventKind::PrivateStore { slot, word, number },
+                )
+            {
+                return true;
+            }
+        }
+    }
+    false
+}
+
+/// Makes the one step that comes next in a run.
+fn goes_on(machine: &mut Machine<Tray>, runner: u32) -> bool {
+    for kind in [
+        EventKind::Commit,
+        EventKind::LoadCell(None),
+        EventKind::ExchangeCell,
+        EventKind::MakeCommit,
+        EventKind::RetireCommit,
+        EventKind::SetDone,
+        EventKind::Release,
+        EventKind::ClockLoad,
+        EventKind::StampExchange,
+        EventKind::ClockRaise,
+        EventKind::ReplyExchange,
+    ] {
+        if goes(machine, runner, kind) {
+            return true;
+        }
+    }
+    false
+}
+
+/// Opens the section, runs it to its end, and counts the steps.
+fn runs(machine: &mut Machine<Tray>, runner: u32, descriptor: u32) -> u32 {
+    if !opens(machine, runner, descriptor) {
+        return 0;
+    }
+    let mut steps = 13u32;
+    for _ in 0..64u32 {
+        if !goes_on(machine, runner) && !fills(machine, runner) {
+            break;
+        }
+        steps = steps.saturating_add(1);
+    }
+    steps
+}
+
+#[test]
+fn a_runner_enters_and_leaves(rt: HostRuntime) -> Result<(), AllocError> {
+    let mut machine = Machine::new(rt.alloc(), Tray, layout(1), &[])?;
+    assert!(rt; enters(&mut machine, 0));
+    assert_eq!(rt; machine.announcement(0), 1);
+    assert!(rt; goes(&mut machine, 0, EventKind::Idle));
+    assert_eq!(rt; machine.announcement(0), 0);
+    assert_eq!(rt; machine.epoch(), 1);
+    Ok(())
+}
+
+#[test]
+fn a_list_that_begins_with_announce_is_refused_at_its_start(
+    rt: HostRuntime,
+) -> Result<(), AllocError> {
+    let events = [Event {
+        runner: 0,
+        kind: EventKind::Announce,
+    }];
+    let refused = match all_schedules(rt.alloc(), Tray, layout(1), &[], &events) {
+        Err(ScheduleError::NotEnabled { at, enabled: _ }) => at == 0,
+        _ => false,
+    };
+    assert!(rt; refused);
+    Ok(())
+}
+
+#[test]
+fn idle_enables_five_kinds(rt: HostRuntime) -> Result<(), AllocError> {
+    let requests = requests();
+    let mut machine = Machine::new(rt.alloc(), Tray, layout(2), &requests)?;
+    let kinds = match machine.step(Event {
+        runner: 0,
+        kind: EventKind::Announce,
+    }) {
+        Err(StepError::NotEnabled { enabled }) => enabled,
+        _ => 0,
+    };
+    assert_eq!(rt; kinds, 1 | 1 << 4 | 1 << 11 | 1 << 12 | 1 << 26);
+    Ok(())
+}
+
+#[test]
+fn a_number_is_stored_once_and_a_late_helper_changes_nothing(
+    rt: HostRuntime,
+) -> Result<(), AllocError> {
+    let requests = requests();
+    let mut machine = Machine::new(rt.alloc(), Tray, layout(2), &requests)?;
+    let number = thunk(101, 0, 7);
+    assert!(rt; prepares(&mut machine, 0, 0, &number));
+    assert!(rt;
+        goes(
+            &mut machine,
+            0,
+            EventKind::Hold {
+                thunk: number,
+                descriptor: 0
+            }
+        )
+    );
+    assert!(rt; enters(&mut machine, 1) && goes(&mut machine, 1, EventKind::LoadCell(Some(0))));
+    assert_eq!(rt; runs(&mut machine, 0, 0), 22);
+    assert_eq!(rt; machine.cell(1).bits(), 8589934599);
+    assert_eq!(rt; machine.cell(0).bits(), 12884901888);
+    assert_eq!(rt; runs(&mut machine, 1, 0), 22);
+    assert_eq!(rt; machine.cell(1).bits(), 8589934599);
+    assert_eq!(rt; machine.cell(0).bits(), 12884901888);
+    Ok(())
+}
+
+#[test]
+fn two_runners_store_a_number_once(rt: HostRuntime) -> Result<(), AllocError> {
+    let requests = requests();
+    let mut machine = Machine::new(rt.alloc(), Tray, layout(2), &requests)?;
+    let number = thunk(101, 0, 7);
+    assert!(rt; prepares(&mut machine, 0, 0, &number));
+    assert!(rt;
+        goes(
+            &mut machine,
+            0,
+            EventKind::Hold {
+                thunk: number,
+                descriptor: 0
+            }
+        )
+    );
+    assert!(rt; enters(&mut machine, 1) && goes(&mut machine, 1, EventKind::LoadCell(Some(0))));
+    assert!(rt; opens(&mut machine, 0, 0) && opens(&mut machine, 1, 0));
+    assert!(rt;
+        goes(&mut machine, 0, EventKind::LoadCell(None))
+            && goes(&mut machine, 1, EventKind::LoadCell(None))
+    );
+    assert!(rt;
+        goes(&mut machine, 1, EventKind::Commit) && goes(&mut machine, 0, EventKind::Commit)
+    );
+    assert!(rt; goes_on(&mut machine, 0) && goes_on(&mut machine, 0) && goes_on(&mut machine, 0));
+    assert!(rt; goes_on(&mut machine, 1) && goes_on(&mut machine, 1) && goes_on(&mut machine, 1));
+    assert!(rt; goes(&mut machine, 1, EventKind::ExchangeCell));
+    assert_eq!(rt; machine.cell(1).bits(), 8589934599);
+    assert!(rt; goes(&mut machine, 0, EventKind::ExchangeCell));
+    assert_eq!(rt; machine.cell(1).bits(), 8589934599);
+    Ok(())
+}
+
+#[test]
+fn a_section_that_finds_another_word_leaves(rt: HostRuntime) -> Result<(), AllocError> {
+    let requests = requests();
+    let mut machine = Machine::new(rt.alloc(), Tray, layout(2), &requests)?;
+    let link = thunk(102, 0, 21474836480);
+    assert!(rt; prepares(&mut machine, 0, 0, &link));
+    assert!(rt;
+        goes(
+            &mut machine,
+            0,
+            EventKind::Hold {
+                thunk: link,
+                descriptor: 0
+            }
+        )
+    );
+    assert_eq!(rt; runs(&mut machine, 0, 0), 17);
+    let outcome = machine.part(0).records.finished.first().map(|x| x.outcome);
+    let stale = Outcome::Stale {
+        place: 2,
+        expected: Word::from_bits(21474836480),
+        read: Word::from_bits(FIRST),
+    };
+    assert!(rt; outcome == Some(stale));
+    assert!(rt; machine.is_free(0, 0));
+    Ok(())
+}
+
+#[test]
+fn a_node_is_made(rt: HostRuntime) -> Result<(), AllocError> {
+    let requests = requests();
+    let mut machine = Machine::new(rt.alloc(), Tray, layout(2), &requests)?;
+    let link = thunk(102, 0, FIRST);
+    assert!(rt; prepares(&mut machine, 0, 0, &link));
+    assert!(rt;
+        goes(
+            &mut machine,
+            0,
+            EventKind::Hold {
+                thunk: link,
+                descriptor: 0
+            }
+        )
+    );
+    assert_eq!(rt; runs(&mut machine, 0, 0), 33);
+    assert_eq!(rt; machine.cell(2).bits(), 8589934593);
+    assert!(rt; machine.is_live(0) && !machine.is_live(1));
+    Ok(())
+}
+
+#[test]
+fn a_lock_that_is_held_refuses(rt: HostRuntime) -> Result<(), AllocError> {
+    let requests = requests();
+    let mut machine = Machine::new(rt.alloc(), Tray, layout(2), &requests)?;
+    let mine = thunk(101, 0, 7);
+    let other = thunk(101, 1, 8);
+    assert!(rt; prepares(&mut machine, 0, 0, &mine));
+    assert!(rt; prepares(&mut machine, 1, 2, &other));
+    assert!(rt;
+        !goes(
+            &mut machine,
+            1,
+            EventKind::Hold {
+                thunk: mine,
+                descriptor: 2
+            }
+        )
+    );
+    assert!(rt;
+        goes(
+            &mut machine,
+            0,
+            EventKind::Hold {
+                thunk: mine,
+                descriptor: 0
+            }
+        )
+    );
+    assert!(rt;
+        goes(
+            &mut machine,
+            1,
+            EventKind::Hold {
+                thunk: other,
+                descriptor: 2
+            }
+        )
+    );
+    assert_eq!(rt; machine.cell(0).value(), 1);
+    assert!(rt; goes(&mut machine, 1, EventKind::Idle));
+    assert!(rt; !goes(&mut machine, 0, EventKind::Idle));
+    Ok(())
+}
