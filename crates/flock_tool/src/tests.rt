@@ -1,7 +1,7 @@
 // The program over memory: what it prints, and what it says goes wrong. In the tables `/` stands for a line feed,
 // `^` for a carriage return and `~` for a byte above 127; a row is a text, and behind `=>` what has to come out.
-use crate::flock;
-use report_text::MemorySink;
+use crate::{StdSink, StdSource, flock};
+use report_text::{MemorySink, Sink};
 use std::alloc::{AllocError, Global};
 use std::process::Abort;
 use std::test::Fail;
@@ -299,5 +299,29 @@ fn bytes_have_a_limit_behind_the_faults_before_it(rt: HostRuntime) -> Result<(),
             "flock: line 1: no header/"
         )?
     );
+    Ok(())
+}
+
+#[test]
+fn a_reader_is_a_source(rt: HostRuntime) -> Result<(), Fail> {
+    let alloc = rt.alloc();
+    let text = bytes_of(alloc, "flock 1/trace/")?;
+    let mut source = StdSource::new(text.as_slice());
+    let (mut sink, mut faults) = (quiet_sink(alloc), quiet_sink(alloc));
+    let status = flock(alloc, &["run"], &mut source, &mut sink, &mut faults);
+    assert!(rt; status == 0);
+    assert!(rt; sink.bytes() == b"trace 0\nfinal 0\n".as_slice());
+    Ok(())
+}
+
+#[test]
+fn a_writer_is_a_sink(rt: HostRuntime) -> Result<(), Fail> {
+    let alloc = rt.alloc();
+    let mut written: Vec<u8> = Vec::new(alloc);
+    let mut sink = StdSink::new(&mut written);
+    let taken = sink.write(b"final 0\n");
+    drop(sink);
+    assert!(rt; taken.is_ok());
+    assert!(rt; written.as_slice() == b"final 0\n".as_slice());
     Ok(())
 }
