@@ -1,0 +1,10 @@
+pub mod Words
+pub mod Lines
+pub mod Frame
+pub mod Going
+pub mod Committing
+pub mod Storing
+pub mod Holding
+pub mod Following
+pub mod Moving
+pub mod Stepping

@@ -42,21 +42,22 @@ pub record FinishedAreSound (w : AgreementState) : Type 0 where
   pub whole : (r i d : ℕ) → i < w.finishes r → w.used d ≡ true → IsOf (w.finished r i) (w.section d) → IsWhole d (w.section d) (w.finished r i)
   pub equal : (r i r' i' : ℕ) → i < w.finishes r → i' < w.finishes r' → AreOfOne (w.finished r i) (w.finished r' i') → AreEqual (w.finished r i) (w.finished r' i')
 
-module _ (c : CellRules) where
-  -- what holds of a descriptor that was published since it was last free
-  pub record UsedIsSound (w : AgreementState) (d : ℕ) : Type 0 where
-    pub published : IsPublishable c d ((w.section d).lock) ((w.section d).word) ((w.section d).code) ((w.section d).slot)
-    pub section : SectionIsSound c w.shared d (w.section d)
-    -- it is retired only once it is done
-    pub open_live : (w.section d).done ≡ 0 → w.live d ≡ true
-    -- after the end of a run no lock names it
-    pub over_done : w.over d ≡ true → (w.section d).done ≢ 0
-    pub over_unnamed : w.over d ≡ true → (p : ℕ) → c.is_lock p ≡ true → value_of (w.shared.cells p) ≢ suc d
+-- what holds of a descriptor that was published since it was last free, by whether it is not retired and whether a run of it came to
+-- its end
+pub record UsedIsSound (c : CellRules) (x : Shared) (live over : Bool) (d : ℕ) (s : Section) : Type 0 where
+  pub published : IsPublishable c d s.lock s.word s.code s.slot
+  pub section : SectionIsSound c x d s
+  -- it is retired only once it is done
+  pub open_live : s.done ≡ 0 → live ≡ true
+  -- after the end of a run it is done, and no lock names it
+  pub over_done : over ≡ true → s.done ≢ 0
+  pub over_unnamed : over ≡ true → (p : ℕ) → c.is_lock p ≡ true → value_of (x.cells p) ≢ suc d
 
+module _ (c : CellRules) where
   -- what holds after every list of enabled events
   pub record IsSound (w : AgreementState) : Type 0 where
     pub versions : VersionsAreSound c w.shared
-    pub sections : (d : ℕ) → w.used d ≡ true → UsedIsSound w d
+    pub sections : (d : ℕ) → w.used d ≡ true → UsedIsSound c w.shared (w.live d) (w.over d) d (w.section d)
     pub runs : (r : ℕ) → (w.run r).running ≡ true → RunIsSound c w.shared ((w.run r).descriptor) (section_of w r) (w.run r)
     pub running_used : (r : ℕ) → (w.run r).running ≡ true → w.used ((w.run r).descriptor) ≡ true
     pub live_used : (d : ℕ) → w.live d ≡ true → w.used d ≡ true
