@@ -25,7 +25,7 @@ pub puts_lock : (c : CellRules) (d : ℕ) (s : Section) (x : Shared) (place word
 puts_lock c d s x place word p lock un place' come = upd_else x.cells place place' word
     (λ e. not_both _ lock (ap c.is_lock (sym e) ∙ commit_unlocked c s.lock s.code s.slot p.line come.0 place' come.1 come.3))
 
-same_hold : (p' w' p w : ℕ) → micros.NestedHold p' w' ≡ micros.NestedHold p w → (p' ≡ p) × (w' ≡ w)
+pub same_hold : (p' w' p w : ℕ) → micros.NestedHold p' w' ≡ micros.NestedHold p w → (p' ≡ p) × (w' ≡ w)
 same_hold p' w' p w e = (grind arith, grind arith)
 
 module _ (c : CellRules) (x : Shared) (d : ℕ) (s : Section) (place w : ℕ) (p : IsPublishable c d s.lock s.word s.code s.slot)

@@ -8,3 +8,12 @@ pub mod Holding
 pub mod Following
 pub mod Moving
 pub mod Stepping
+pub mod Changing
+pub mod Reading
+pub mod LineSteps
+pub mod LineEvents
+pub mod EndEvents
+pub mod Releasing
+pub mod Finishing
+pub mod Publishing
+pub mod Keeping

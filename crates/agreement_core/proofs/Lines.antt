@@ -184,3 +184,16 @@ module _ (c : CellRules) (lock : ℕ) (code : ℕ → Micro) (slot : ℕ → ℕ
 
   pub start_outcome : (p k : ℕ) → code 0 ≢ micros.OutcomeCommit p k
   start_outcome p k e = let j = line.ordered.outcome_before 0 p k e in let q = j.1 in omega arith
+
+  -- the Take whose outcome was found to be held
+  pub hold_of_held : (i p k w : ℕ) → code i ≡ micros.CheckHeld p k w → (j : ℕ) × (code j ≡ micros.NestedHold p w)
+  hold_of_held i p k w e = let j = line.ordered.held_before i p k w e in (j.0, j.2)
+
+  -- the steps behind the exchange of a Take
+  pub after_hold : IsWholeLine code → (i p w : ℕ) → code i ≡ micros.NestedHold p w
+      → (k : ℕ) × (is_event (code (suc i)) ≡ true) × (code (suc (suc i)) ≡ micros.OutcomeCommit p k) × (code (suc (suc (suc i))) ≡ micros.CheckHeld p k w)
+  after_hold whole i p w e =
+      let load = line.ordered.hold_next i p w e in
+      let check = whole.outcome_check i p w e in
+      let j = line.ordered.held_before (suc (suc (suc i))) p check.0 w check.1 in
+      (check.0, ap is_event load.1, subst (λ n. code (suc (suc n)) ≡ micros.OutcomeCommit p check.0) (let q = j.1 in omega arith) j.3, check.1)

@@ -27,7 +27,7 @@ use Rattle.agreement_core.proofs.Lines.{event_goes, load_of_commit}
 late_edge : (edge n : ℕ) → n < edge → cond (nat_lt edge (suc n)) (suc n) edge ≡ edge
 late_edge edge n lt = grind arith
 
-lead_edge : (edge n : ℕ) → n ≡ edge → cond (nat_lt edge (suc n)) (suc n) edge ≡ suc edge
+pub lead_edge : (edge n : ℕ) → n ≡ edge → cond (nat_lt edge (suc n)) (suc n) edge ≡ suc edge
 lead_edge edge n e = grind arith
 
 won : (found proposal : ℕ) → found ≡ 0 → written_once found proposal ≡ proposal

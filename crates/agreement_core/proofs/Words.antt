@@ -2,7 +2,7 @@
 use Rattle.std.proofs.Common.{◌≡◌, ◌≢◌, ℕ, zero, suc, ◌+◌, ◌*◌, ◌/◌, ◌%◌, ◌^◌, ◌<◌, ◌≤◌, Bool, true, false, cond, refl, sym, ap, ◌∙◌, subst, inl, inr, ⊎_elim, arith}
 use Rattle.std.specs.Prelude.{◌⊎◌}
 use Rattle.std.proofs.lemmas.Grind.{common_steps}
-use Rattle.section_body.specs.Word.{value_of, version_of, next_word, held_word, is_free}
+use Rattle.section_body.specs.Word.{value_of, version_of, next_word, held_word, is_free, is_spent}
 use Rattle.section_body.specs.declared.micro.Source.{Source}
 use Rattle.section_body.specs.declared.micro.Source.TheVariants.{Fixed, Agreed}
 use Rattle.agreement_core.specs.Checks.{source_in, exchanged}
@@ -38,3 +38,7 @@ first_later_by f v old new before rise is = grind arith
 
 pub first_later : (v old new : ℕ) → v < version_of old → (new ≡ old) ⊎ (version_of old < version_of new) → version_of new ≡ suc v → new ≡ old
 first_later v old new before rise is = first_later_by version_of v old new before rise is
+
+-- a free word that isn't spent leaves room for two versions
+pub unspent_room : (version_max word : ℕ) → is_free word ≡ true → is_spent version_max word ≡ false → suc (suc (version_of word)) ≤ version_max
+unspent_room version_max word free unspent = grind arith
