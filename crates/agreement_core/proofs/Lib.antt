@@ -17,3 +17,10 @@ pub mod Releasing
 pub mod Finishing
 pub mod Publishing
 pub mod Keeping
+pub mod Same
+pub mod Rising
+pub mod Noting
+pub mod Exactly
+pub mod Writing
+pub mod Recording
+pub mod Standing

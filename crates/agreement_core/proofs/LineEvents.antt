@@ -30,7 +30,7 @@ abbrev is_outcome : Micro → Bool
 is_outcome (micros.OutcomeLoad p k) = true
 is_outcome _ = false
 
-positive : (n : ℕ) → n ≢ 0 → 0 < n
+pub positive : (n : ℕ) → n ≢ 0 → 0 < n
 positive zero ne = absurd (ne refl)
 positive (suc n) ne = omega arith
 
@@ -186,11 +186,15 @@ module _ (c : CellRules) (w : AgreementState) (old : IsSound c w) (r : ℕ) wher
         })
         (follows_any _ _ _ _ _ (ap gives_number at.next))
 
-  pub reply_exchange : (reply : ℕ) → Enabled c w (ReplyExchange r reply) → IsSound c (after w (ReplyExchange r reply))
-  reply_exchange reply at =
+  -- a reply isn't 0
+  pub reply_is : (reply : ℕ) → Enabled c w (ReplyExchange r reply) → 0 < reply
+  reply_is reply at =
       let line = (own at.running).published.line.stamped in
       let is : reply ≡ line.reply = same_reply reply line.reply (sym at.next ∙ ap s.code (line.answer_once q.at reply at.next) ∙ line.answers) in
-      let some : 0 < reply = positive reply (λ e. line.replies (sym is ∙ e)) in
+      positive reply (λ e. line.replies (sym is ∙ e))
+
+  pub reply_exchange : (reply : ℕ) → Enabled c w (ReplyExchange r reply) → IsSound c (after w (ReplyExchange r reply))
+  reply_exchange reply at =
       goes_sound c (record w { shared = record (w.shared) { reply = upd w.shared.reply s.request (written_once (w.shared.reply s.request) reply) } }) (replies_sound c w s.request reply old) r at.running at.going q.word (ap is_commit at.next)
         (λ edge. let here : s.code s.edge ≡ micros.ReplyExchange reply = ap s.code (sym edge) ∙ at.next in record {
           goes = event_goes c _ _ _ (ap is_event here);
@@ -198,13 +202,13 @@ module _ (c : CellRules) (w : AgreementState) (old : IsSound c w) (r : ℕ) wher
           hold = λ p free e. let a : 6 ≡ 1 = ap phase (sym here ∙ e) in absurd (omega arith);
           stamp = λ e. absurd (not_both _ e (ap is_stamp_exchange here));
           raise = λ e. absurd (not_both _ e (ap is_clock_raise here));
-          reply = λ e. written_some w.shared.reply s.request reply some;
+          reply = λ e. written_some w.shared.reply s.request reply (reply_is reply at);
           alone = λ p k e. let a : 6 ≡ 1 = ap phase (sym here ∙ e) in absurd (omega arith);
         })
         (follows_any _ _ _ _ _ (ap gives_number at.next))
 
   -- a late store finds the cell past the agreed word
-  store_misses : (place log : ℕ) (v : Source) → (w.run r).running ≡ true → s.code q.at ≡ micros.ExchangeCell place log v → q.at < s.edge → w.shared.cells place ≢ q.trail log
+  pub store_misses : (place log : ℕ) (v : Source) → (w.run r).running ≡ true → s.code q.at ≡ micros.ExchangeCell place log v → q.at < s.edge → w.shared.cells place ≢ q.trail log
   store_misses place log v running next lt e =
       let logged = store_logged c s.lock s.code s.slot (own running).published.line q.at place log v next in
       let run = old.runs r running in

@@ -64,7 +64,7 @@ above_right a b = grind arith
 some_version : (word : ℕ) → 0 < version_of word → 0 < word
 some_version word h = grind arith
 
-pass_checks : (c : CellRules) (d : ℕ) (trail : ℕ → ℕ) (m : Micro) → passes c d trail m ≡ true → is_check m ≡ true
+pub pass_checks : (c : CellRules) (d : ℕ) (trail : ℕ → ℕ) (m : Micro) → passes c d trail m ≡ true → is_check m ≡ true
 pass_checks c d trail m h = grind arith
 
 check_commits : (m : Micro) → is_check m ≡ true → is_commit m ≡ false

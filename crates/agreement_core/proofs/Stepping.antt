@@ -138,7 +138,7 @@ module _ (c : CellRules) (w : AgreementState) (old : IsSound c w) (r : ℕ) (run
       (cases_lt q.at s.edge)
 
   -- the log word of a commit below the edge stands, and so it is agreed
-  found_late : (log proposal : ℕ) → log ≡ s.slot q.at → is_commit (s.code q.at) ≡ true → q.at < s.edge → written_once (s.log log) proposal ≡ s.log log
+  pub found_late : (log proposal : ℕ) → log ≡ s.slot q.at → is_commit (s.code q.at) ≡ true → q.at < s.edge → written_once (s.log log) proposal ≡ s.log log
   found_late log proposal here commit lt =
       let more = own.published.line.counted.slot_commit q.at commit in
       let most = own.published.line.counted.slot_rises (suc q.at) s.edge lt in

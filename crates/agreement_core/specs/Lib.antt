@@ -6,3 +6,8 @@ pub mod Sections
 pub mod Runs
 pub mod Sound
 pub mod Schedules
+pub mod Trails
+pub mod Rising
+pub mod Standing
+pub mod Frame
+pub mod History
