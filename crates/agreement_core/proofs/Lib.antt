@@ -23,4 +23,6 @@ pub mod Noting
 pub mod Exactly
 pub mod Writing
 pub mod Recording
+pub mod Lasting
+pub mod Continuing
 pub mod Standing

@@ -24,7 +24,7 @@ abbrev pub is_exchange : Micro → Bool
 is_exchange (micros.ExchangeCell place k value) = true
 is_exchange _ = false
 
-no_change : (log : ℕ → ℕ) (m : Micro) → is_exchange m ≡ false → change_of log m ≡ []
+pub no_change : (log : ℕ → ℕ) (m : Micro) → is_exchange m ≡ false → change_of log m ≡ []
 no_change log m h = grind arith
 
 -- a section that goes on in this way has made the same changes

@@ -26,7 +26,7 @@ pub marks_here : (f : ℕ → ℕ → Bool) (a b : ℕ) → upd2 f a b true a b 
 marks_here f a b = grind arith
 
 -- what was written stays
-stays : (f : ℕ → ℕ) (k word i : ℕ) → 0 < f i → upd f k (written_once (f k) word) i ≡ f i
+pub stays : (f : ℕ → ℕ) (k word i : ℕ) → 0 < f i → upd f k (written_once (f k) word) i ≡ f i
 stays f k word i h = grind arith
 
 pub written_some : (f : ℕ → ℕ) (k word : ℕ) → 0 < word → 0 < upd f k (written_once (f k) word) k

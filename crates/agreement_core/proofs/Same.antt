@@ -3,6 +3,7 @@ use Rattle.std.proofs.Common.{◌≡◌, ℕ, sym, subst}
 use Rattle.agreement_core.specs.State.{CellRules, AgreementState}
 use Rattle.agreement_core.specs.Sound.{IsSound}
 use Rattle.agreement_core.specs.Frame.{IsSame}
+use Rattle.agreement_core.specs.History.{History, IsExact}
 
 pub one_state : (w w' : AgreementState) → IsSame w w' → w' ≡ w
 one_state w w' same = λ i. record {
@@ -24,3 +25,6 @@ one_state w w' same = λ i. record {
 
 pub same_sound : (c : CellRules) (w w' : AgreementState) → IsSame w w' → IsSound c w → IsSound c w'
 same_sound c w w' same old = subst (IsSound c) (sym (one_state w w' same)) old
+
+pub same_exact : (w w' : AgreementState) (h : History) → IsSame w w' → IsExact w h → IsExact w' h
+same_exact w w' h same old = subst (λ u. IsExact u h) (sym (one_state w w' same)) old

@@ -9,5 +9,6 @@ pub mod Schedules
 pub mod Trails
 pub mod Rising
 pub mod Standing
+pub mod Continuing
 pub mod Frame
 pub mod History

@@ -6,4 +6,8 @@
 
 mod laws;
 
-pub use laws::{events_keep_the_invariant};
+pub use laws::{
+    agreed_words_stand, changes_elsewhere_keep_the_invariant, effects_happen_once, events_keep_the_invariant,
+    loaded_cells_stand, locks_name_live_sections, runs_agree, schedules_meet_the_invariant, takes_agree,
+    the_history_lasts, versions_rise_by_one,
+};
