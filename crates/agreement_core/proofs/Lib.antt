@@ -25,4 +25,6 @@ pub mod Writing
 pub mod Recording
 pub mod Lasting
 pub mod Continuing
+pub mod HelpedLine
+pub mod Helping
 pub mod Standing

@@ -12,3 +12,4 @@ pub mod Standing
 pub mod Continuing
 pub mod Frame
 pub mod History
+pub mod Helped

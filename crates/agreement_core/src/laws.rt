@@ -9,6 +9,7 @@ ghost use Rattle.agreement_core.specs.Rising.{RiseByOne, IsNotFuture};
 ghost use Rattle.agreement_core.specs.Continuing.{SectionsGoOn};
 ghost use Rattle.agreement_core.specs.Standing.{CellsStand, LocksStand, TakesStand, IsDoneLate};
 ghost use Rattle.agreement_core.specs.Frame.{IsSame};
+ghost use Rattle.agreement_core.specs.Helped.{IsHelped};
 ghost use Rattle.agreement_core.specs.History.{History, no_history, noted, noted_all, IsExact, HasAnswered, HasLeft, HappenedOnce, NothingHappened, Lasts};
 
 /// Every enabled event leads from a state that meets the invariant to one that meets it.
@@ -88,4 +89,9 @@ pub fn the_history_lasts()
 pub fn changes_elsewhere_keep_the_invariant()
     ensures sound { (c : CellRules) (w w' : AgreementState) → IsSame w w' → IsSound c w → IsSound c w' }
     ensures exact { (w w' : AgreementState) (h : History) → IsSame w w' → IsExact w h → IsExact w' h }
+{}
+
+/// An example in which the events may come: a section is run by two runners, one of them late, and its effects come once.
+pub fn a_section_is_helped()
+    ensures { IsHelped }
 {}

@@ -7,7 +7,7 @@
 mod laws;
 
 pub use laws::{
-    agreed_words_stand, changes_elsewhere_keep_the_invariant, effects_happen_once, events_keep_the_invariant,
+    a_section_is_helped, agreed_words_stand, changes_elsewhere_keep_the_invariant, effects_happen_once, events_keep_the_invariant,
     loaded_cells_stand, locks_name_live_sections, runs_agree, schedules_meet_the_invariant, takes_agree,
     the_history_lasts, versions_rise_by_one,
 };
