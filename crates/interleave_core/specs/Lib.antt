@@ -1,5 +1,2 @@
-pub mod World
 pub mod Parts
 pub mod Machine
-pub mod First
-pub mod Schedules

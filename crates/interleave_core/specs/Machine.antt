@@ -8,7 +8,7 @@ use Rattle.table_words.specs.Places.{size, Fits}
 use Rattle.table_words.specs.Seen.{seen}
 use Rattle.structure_laws.specs.Meaning.{Meaning}
 use Rattle.runner_steps.specs.Asks.{sizes_for}
-use Rattle.interleave_core.specs.World.{World}
+use Rattle.machine_states.specs.World.{World}
 
 pub record MachineState (T : Type 0) : Type 0 where
   pub structure : T

@@ -3,7 +3,7 @@ ghost use Rattle.std.specs.Prelude.{◌≡◌, ◌<◌, ◌≤◌, ◌+◌, ◌*
 ghost use Rattle.table_words.specs.Limits.{IsWithinLimits};
 ghost use Rattle.table_words.specs.Places.{size};
 ghost use Rattle.structure_laws.specs.Cells.{first_word};
-ghost use Rattle.interleave_core.specs.First.{falling, IsFilled, first_part, keeper_part, worker_part, workers};
+ghost use Rattle.machine_states.specs.First.{falling, IsFilled, first_part, keeper_part, worker_part, workers};
 
 use runner_steps::{Descriptors, Nodes, Part, Reads, Records, Stage, Structure};
 use section_body::{Place, Word};
@@ -36,7 +36,7 @@ fn first_word<S: Structure>(structure: &S, place: Place) -> u64
 }
 
 /// The first words of the table.
-#[tactic(auto, using(crate::proofs::Firsts::begins, crate::proofs::Firsts::filled_more))]
+#[tactic(auto, using(machine_states::proofs::Firsts::begins, machine_states::proofs::Firsts::filled_more))]
 pub fn first_words<S: Structure>(
     alloc: Global,
     structure: &S,
@@ -115,7 +115,7 @@ fn keeper_part<S: Structure>(
 }
 
 /// The part of this worker.
-#[tactic(auto, using(crate::proofs::Firsts::nodes_below, crate::proofs::Firsts::sections_below))]
+#[tactic(auto, using(machine_states::proofs::Firsts::nodes_below, machine_states::proofs::Firsts::sections_below))]
 fn worker_part<S: Structure>(
     alloc: Global,
     structure: &S,

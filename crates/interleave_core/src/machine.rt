@@ -3,12 +3,12 @@ ghost use Rattle.std.specs.Prelude.{◌≡◌, ◌≤◌, ◌<◌, ◌+◌, ◌�
 ghost use Rattle.table_words.specs.Limits.{IsWithinLimits};
 ghost use Rattle.table_words.specs.Places.{size, address, Fits};
 ghost use Rattle.runner_steps.specs.After.{after, knows_also};
-ghost use Rattle.interleave_core.specs.World.{happens, seat_of, settled_part, put_part};
+ghost use Rattle.machine_states.specs.World.{happens, seat_of, settled_part, put_part};
 ghost use Rattle.std.specs.List.{list_any};
 ghost use Rattle.runner_steps.specs.State.{PartState};
 ghost use Rattle.runner_steps.specs.Tests.{has};
 ghost use Rattle.interleave_core.specs.Parts.{is_listed, owns};
-ghost use Rattle.interleave_core.specs.First.{IsFirst};
+ghost use Rattle.machine_states.specs.First.{IsFirst};
 ghost use Rattle.interleave_core.specs.Machine.{IsSameTable, HasWord, word_of};
 ghost use Rattle.table_words.specs.declared.spot.Spot.TheVariants.{Epoch, Announcement, Cell, LogWord};
 ghost use Rattle.interleave_core.specs.declared.machine.StepError.TheVariants.{NotEnabled};
@@ -142,7 +142,7 @@ fn put_part(parts: &mut Vec<Part>, kind: &EventKind, seat: usize, next: Part)
 }
 
 /// Puts a number at this spot, and changes the word at no other.
-#[tactic(auto, using(crate::proofs::Steps::within))]
+#[tactic(auto, using(machine_states::proofs::Steps::within))]
 fn put_word(words: &mut Vec<u64>, sizes: Sizes, spot: Spot, number: u64)
     requires room { size sizes ≤ vec_len words.old }
     requires spot { Fits sizes spot }

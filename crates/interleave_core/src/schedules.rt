@@ -2,7 +2,7 @@
 ghost use Rattle.std.specs.Prelude.{◌≡◌, ◌≤◌, ℕ, Some, None, Err, IfOk, length, take, slice_get};
 ghost use Rattle.table_words.specs.Limits.{IsWithinLimits};
 ghost use Rattle.interleave_core.specs.declared.schedules.ScheduleError.TheVariants.{NotEnabled};
-ghost use Rattle.interleave_core.specs.Schedules.{IsAfter, StopsAt};
+ghost use Rattle.machine_states.specs.Schedules.{IsAfter, StopsAt};
 
 use crate::machine::{Machine, StepError};
 use map_history::Request;

@@ -1,0 +1,12 @@
+pub mod Steps
+pub mod Places
+pub mod Counts
+pub mod Sources
+pub mod Ordered
+pub mod Counted
+pub mod Phases
+pub mod Resolved
+pub mod Placed
+pub mod Runs
+pub mod Progress
+pub mod Moves

@@ -1,8 +1,8 @@
 -- What the core relies on in the line of atomic steps of a published section's body.
-use Rattle.std.specs.Prelude.{ℕ, suc, ◌+◌, ◌<◌, ◌≤◌, ◌≡◌, ◌≢◌, Bool, true, false}
+use Rattle.std.specs.Prelude.{ℕ, suc, ◌<◌, ◌≤◌, ◌^◌, ◌≡◌, ◌≢◌, Bool, true, false}
 use Rattle.section_body.specs.Line.{is_check, is_commit}
 use Rattle.section_body.specs.Word.{is_free, is_spent}
-use Rattle.section_body.specs.declared.micro.Source.TheVariants.{Agreed}
+use Rattle.section_body.specs.declared.micro.Source.TheVariants.{Fixed, Agreed}
 use Rattle.section_body.specs.declared.micro.Source.{Source}
 use Rattle.section_body.specs.declared.micro.Micro.{Micro}
 use Rattle.section_body.specs.declared.micro.Micro.TheVariants.{LoadCell, Commit, CheckWord, CheckFresh, NestedLoad, NestedCommit, CheckFree, NestedHold, OutcomeLoad, OutcomeCommit, CheckHeld, PrivateLoad, PrivateStore, MakeCommit, ClockLoad, StampExchange, ClockRaise, ExchangeCell, EpochForRetire, RetireCommit, ReplyExchange, End, SetDone, Release}
@@ -34,9 +34,14 @@ phase End = 7
 phase SetDone = 8
 phase (Release place word) = 8
 
--- the line as a function of the place, and how many words the steps below a place commit
-module _ (is_lock : ℕ → Bool) (version_max lock : ℕ) (code : ℕ → Micro) (slot : ℕ → ℕ) where
-  -- the line itself: how long it is, and that its phases never fall
+-- the raise of the clock
+abbrev pub is_clock_raise : Micro → Bool
+is_clock_raise ClockRaise = true
+is_clock_raise _ = false
+
+-- the line is a function of the place
+module _ (code : ℕ → Micro) where
+  -- how long it is, and that its phases never fall
   pub record IsInPhases : Type 0 where
     pub length : ℕ
     pub short : length < 440
@@ -45,20 +50,6 @@ module _ (is_lock : ℕ → Bool) (version_max lock : ℕ) (code : ℕ → Micro
     pub phases : (i j : ℕ) → i ≤ j → phase (code i) ≤ phase (code j)
     -- it doesn't begin with a check
     pub start : is_check (code 0) ≡ false
-
-  -- commits, and the places in the log
-  pub record IsCounted : Type 0 where
-    pub slot_start : slot 0 ≡ 0
-    pub slot_commit : (i : ℕ) → is_commit (code i) ≡ true → slot (suc i) ≡ suc (slot i)
-    pub slot_same : (i : ℕ) → is_commit (code i) ≡ false → slot (suc i) ≡ slot i
-    pub slot_rises : (i j : ℕ) → i ≤ j → slot i ≤ slot j
-    pub slot_most : (i : ℕ) → slot i ≤ 64
-    -- a commit's place in the log is the number of words committed before it
-    pub commit_log : (i p k : ℕ) → code i ≡ Commit p k → k ≡ slot i
-    pub nested_log : (i p k : ℕ) → code i ≡ NestedCommit p k → k ≡ slot i
-    pub outcome_log : (i p k : ℕ) → code i ≡ OutcomeCommit p k → k ≡ slot i
-    pub make_log : (i k : ℕ) → code i ≡ MakeCommit k → k ≡ slot i
-    pub retire_log : (i s k : ℕ) → code i ≡ RetireCommit s k → k ≡ slot i
 
   -- which steps stand next to one another
   pub record IsOrdered : Type 0 where
@@ -93,19 +84,48 @@ module _ (is_lock : ℕ → Bool) (version_max lock : ℕ) (code : ℕ → Micro
   abbrev pub LoadedBefore : ℕ → ℕ → ℕ → Type 0
   LoadedBefore i p k = (j : ℕ) × (j < i) × (code j ≡ Commit p k)
 
+  -- one Stamp and one Answer
+  pub record IsStamped : Type 0 where
+    pub stamp : ℕ
+    pub stamps : code stamp ≡ StampExchange
+    pub stamp_once : (i : ℕ) → code i ≡ StampExchange → i ≡ stamp
+    pub answer : ℕ
+    pub reply : ℕ
+    pub answers : code answer ≡ ReplyExchange reply
+    pub answer_once : (i n : ℕ) → code i ≡ ReplyExchange n → i ≡ answer
+    pub replies : reply ≢ 0
+
+-- `slot` gives how many words the steps below a place commit
+module _ (code : ℕ → Micro) (slot : ℕ → ℕ) where
+  -- commits, and the places in the log
+  pub record IsCounted : Type 0 where
+    pub slot_start : slot 0 ≡ 0
+    pub slot_commit : (i : ℕ) → is_commit (code i) ≡ true → slot (suc i) ≡ suc (slot i)
+    pub slot_same : (i : ℕ) → is_commit (code i) ≡ false → slot (suc i) ≡ slot i
+    pub slot_rises : (i j : ℕ) → i ≤ j → slot i ≤ slot j
+    pub slot_most : (i : ℕ) → slot i ≤ 64
+    -- a commit's place in the log is the number of words committed before it
+    pub commit_log : (i p k : ℕ) → code i ≡ Commit p k → k ≡ slot i
+    pub nested_log : (i p k : ℕ) → code i ≡ NestedCommit p k → k ≡ slot i
+    pub outcome_log : (i p k : ℕ) → code i ≡ OutcomeCommit p k → k ≡ slot i
+    pub make_log : (i k : ℕ) → code i ≡ MakeCommit k → k ≡ slot i
+    pub retire_log : (i s k : ℕ) → code i ≡ RetireCommit s k → k ≡ slot i
+
   -- what a store writes is a number, or the value of a word agreed before
   abbrev pub IsSourceBefore : ℕ → Source → Type 0
   IsSourceBefore i v = (k : ℕ) → v ≡ Agreed k → k < slot i
 
   -- what the steps go by
   pub record IsResolved : Type 0 where
-    pub word_loaded : (i p k w : ℕ) → code i ≡ CheckWord p k w → LoadedBefore i p k
-    pub fresh_loaded : (i p k : ℕ) → code i ≡ CheckFresh p k → LoadedBefore i p k
-    pub store_loaded : (i p k : ℕ) (v : Source) → code i ≡ ExchangeCell p k v → LoadedBefore i p k
+    pub word_loaded : (i p k w : ℕ) → code i ≡ CheckWord p k w → LoadedBefore code i p k
+    pub fresh_loaded : (i p k : ℕ) → code i ≡ CheckFresh p k → LoadedBefore code i p k
+    pub store_loaded : (i p k : ℕ) (v : Source) → code i ≡ ExchangeCell p k v → LoadedBefore code i p k
     pub store_fresh : (i p k : ℕ) (v : Source) → code i ≡ ExchangeCell p k v → (j : ℕ) × (j < i) × (code j ≡ CheckFresh p k)
     pub store_source : (i p k : ℕ) (v : Source) → code i ≡ ExchangeCell p k v → IsSourceBefore i v
     pub fill_source : (i c k : ℕ) (v : Source) → code i ≡ PrivateStore c k v → IsSourceBefore i v
 
+-- `lock` is the section's outer lock
+module _ (is_lock : ℕ → Bool) (version_max lock : ℕ) (code : ℕ → Micro) where
   -- the places of its cells and locks
   pub record IsPlaced : Type 0 where
     pub outer_lock : is_lock lock ≡ true
@@ -119,22 +139,17 @@ module _ (is_lock : ℕ → Bool) (version_max lock : ℕ) (code : ℕ → Micro
     pub take_once : (i j p k k' : ℕ) → code i ≡ NestedLoad p k → code j ≡ NestedLoad p k' → i ≡ j
     pub store_once : (i j p k k' : ℕ) (v v' : Source) → code i ≡ ExchangeCell p k v → code j ≡ ExchangeCell p k' v' → i ≡ j
 
-  -- one Stamp and one Answer
-  pub record IsStamped : Type 0 where
-    pub stamp : ℕ
-    pub stamps : code stamp ≡ StampExchange
-    pub stamp_once : (i : ℕ) → code i ≡ StampExchange → i ≡ stamp
-    pub answer : ℕ
-    pub reply : ℕ
-    pub answers : code answer ≡ ReplyExchange reply
-    pub answer_once : (i n : ℕ) → code i ≡ ReplyExchange n → i ≡ answer
-    pub replies : reply ≢ 0
+-- the fixed numbers that a line stores have 32 bits, a Take's outcome is followed by its check, and it doesn't begin with a raise of the clock
+pub record IsWholeLine (code : ℕ → Micro) : Type 0 where
+  pub store_value : (i place log number : ℕ) → code i ≡ ExchangeCell place log (Fixed number) → number < 2 ^ 32
+  pub outcome_check : (i place word : ℕ) → code i ≡ NestedHold place word → (log : ℕ) × (code (suc (suc (suc i))) ≡ CheckHeld place log word)
+  pub start_raise : is_clock_raise (code 0) ≡ false
 
-  -- the line of a section whose thunk has the shape
-  pub record IsLine : Type 0 where
-    pub in_phases : IsInPhases
-    pub counted : IsCounted
-    pub ordered : IsOrdered
-    pub resolved : IsResolved
-    pub placed : IsPlaced
-    pub stamped : IsStamped
+-- the line of a section whose thunk has the shape
+pub record IsLine (is_lock : ℕ → Bool) (version_max lock : ℕ) (code : ℕ → Micro) (slot : ℕ → ℕ) : Type 0 where
+  pub in_phases : IsInPhases code
+  pub counted : IsCounted code slot
+  pub ordered : IsOrdered code
+  pub resolved : IsResolved code slot
+  pub placed : IsPlaced is_lock version_max lock code
+  pub stamped : IsStamped code

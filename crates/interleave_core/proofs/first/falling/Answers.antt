@@ -1,6 +1,6 @@
 use Rattle.std.proofs.Common.{ℕ, ◌+◌, ◌-◌, List, ◌++◌, refl, ap, ◌∙◌}
-use Rattle.interleave_core.specs.First.{falling}
-use Rattle.interleave_core.proofs.Firsts.{falling_next}
+use Rattle.machine_states.specs.First.{falling}
+use Rattle.machine_states.proofs.Firsts.{falling_next}
 use Rattle.interleave_core.proofs.first.falling.Goals as goal
 
 pub loop-below-preserved : goal.loop-below-preserved

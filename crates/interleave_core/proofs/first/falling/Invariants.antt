@@ -1,5 +1,5 @@
 use Rattle.std.proofs.Common.{◌≡◌, ◌-◌, ◌++◌}
-use Rattle.interleave_core.specs.First.{falling}
+use Rattle.machine_states.specs.First.{falling}
 use Rattle.interleave_core.proofs.first.falling.Given as goal
 
 abbrev pub invariant-loop-below : goal.invariant-loop-below

@@ -1,5 +1,5 @@
 use Rattle.std.proofs.Common.{◌≡◌, ◌∷◌}
-use Rattle.interleave_core.specs.First.{keeper_part, workers}
+use Rattle.machine_states.specs.First.{keeper_part, workers}
 use Rattle.interleave_core.proofs.first.first_parts.Given as goal
 
 abbrev pub invariant-loop-worker : goal.invariant-loop-worker

@@ -1,4 +1,4 @@
-use Rattle.interleave_core.specs.First.{IsFilled}
+use Rattle.machine_states.specs.First.{IsFilled}
 use Rattle.interleave_core.proofs.first.first_words.Given as goal
 
 abbrev pub invariant-loop-place : goal.invariant-loop-place

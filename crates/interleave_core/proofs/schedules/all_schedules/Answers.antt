@@ -1,8 +1,8 @@
 use Rattle.std.proofs.Common.{take, get_or, sym, ap, ◌∙◌}
 use Rattle.std.proofs.lemmas.List.{take_more}
 use Rattle.runner_steps.specs.declared.event.Event.{Event}
-use Rattle.interleave_core.specs.World.{happens}
-use Rattle.interleave_core.proofs.Runs.{run_more}
+use Rattle.machine_states.specs.World.{happens}
+use Rattle.machine_states.proofs.Runs.{run_more}
 use Rattle.interleave_core.proofs.schedules.all_schedules.Goals as goal
 
 pub loop-at-preserved : goal.loop-at-preserved

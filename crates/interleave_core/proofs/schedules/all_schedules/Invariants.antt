@@ -1,5 +1,5 @@
 use Rattle.std.proofs.Common.{◌≡◌, take, Some}
-use Rattle.interleave_core.specs.World.{run}
+use Rattle.machine_states.specs.World.{run}
 use Rattle.interleave_core.proofs.schedules.all_schedules.Given as goal
 
 abbrev pub invariant-loop-at : goal.invariant-loop-at

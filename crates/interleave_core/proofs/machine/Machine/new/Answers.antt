@@ -2,7 +2,7 @@ use Rattle.std.proofs.Common.{◌≡◌, List, length, sym, ap, ◌∙◌, arith
 use Rattle.map_history.specs.declared.op.Request.{Request}
 use Rattle.table_words.specs.Places.{size}
 use Rattle.runner_steps.specs.Asks.{sizes_for}
-use Rattle.interleave_core.proofs.Firsts.{length_parts}
+use Rattle.machine_states.proofs.Firsts.{length_parts}
 use Rattle.interleave_core.proofs.machine.Machine.new.Goals as goal
 
 pub invariant_of-result : goal.invariant_of-result

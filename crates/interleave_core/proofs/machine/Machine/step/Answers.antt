@@ -8,8 +8,8 @@ use Rattle.table_words.specs.Places.{Fits, address}
 use Rattle.table_words.specs.Seen.{seen}
 use Rattle.runner_steps.specs.Asks.{asks, sizes_for}
 use Rattle.runner_steps.specs.State.{PartState}
-use Rattle.interleave_core.specs.World.{seat_of, settled_part, put_part}
-use Rattle.interleave_core.proofs.Steps.{asked_fits, not_none, lands, length_put, length_words}
+use Rattle.machine_states.specs.World.{seat_of, settled_part, put_part}
+use Rattle.machine_states.proofs.Steps.{asked_fits, not_none, lands, length_put, length_words}
 use Rattle.interleave_core.proofs.machine.Machine.step.Goals as goal
 
 pub word_at-found-requires-clause-spot : goal.word_at-found-requires-clause-spot

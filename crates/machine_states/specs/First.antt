@@ -13,7 +13,7 @@ use Rattle.runner_steps.specs.declared.stage.Stage.TheVariants as stages
 use Rattle.runner_steps.specs.State.{PartState}
 use Rattle.runner_steps.specs.Lists.{no_reads}
 use Rattle.runner_steps.specs.Asks.{sizes_for}
-use Rattle.interleave_core.specs.World.{World}
+use Rattle.machine_states.specs.World.{World}
 
 -- as many numbers as said from this one on, in falling order
 abbrev pub falling : ℕ → ℕ → List ℕ

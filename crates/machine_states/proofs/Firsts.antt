@@ -12,7 +12,7 @@ use Rattle.table_words.specs.Seen.{seen, put}
 use Rattle.table_words.proofs.Seen as words
 use Rattle.structure_laws.specs.Meaning.{Meaning}
 use Rattle.structure_laws.specs.Cells.{first_word}
-use Rattle.interleave_core.specs.First.{falling, filled, IsFilled, keeper_part, worker_part, workers}
+use Rattle.machine_states.specs.First.{falling, filled, IsFilled, keeper_part, worker_part, workers}
 use Rattle.table_words.specs.declared.layout.Layout.{Layout}
 
 pub nodes_below : (nodes k runners : ℕ) → k < runners → nodes * runners ≤ 262144 → nodes * k + nodes ≤ 262144

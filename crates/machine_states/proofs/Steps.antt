@@ -19,7 +19,7 @@ use Rattle.runner_steps.specs.State.{PartState}
 use Rattle.runner_steps.specs.Outside.{Ask}
 use Rattle.runner_steps.specs.Asks.{fitting, sizes_for, asks, ask_by}
 use Rattle.runner_steps.specs.After.{after}
-use Rattle.interleave_core.specs.World.{World, seat_of, settled_part, left_by, put_part, acted, acts, happens}
+use Rattle.machine_states.specs.World.{World, seat_of, settled_part, left_by, put_part, acted, acts, happens}
 
 pub within : (s : Sizes) (a : Spot) → Fits s a → address s a < size s
 within s a h = words.within s a h

@@ -4,7 +4,7 @@ use Rattle.map_history.specs.declared.op.Request.{Request}
 use Rattle.table_words.specs.declared.layout.Layout.{Layout}
 use Rattle.structure_laws.specs.Meaning.{Meaning}
 use Rattle.runner_steps.specs.declared.event.Event.{Event}
-use Rattle.interleave_core.specs.World.{World, happens, then_run, run}
+use Rattle.machine_states.specs.World.{World, happens, then_run, run}
 
 some_world : (w v : World) → Some w ≡ Some v → w ≡ v
 some_world w v e = cc

@@ -4,8 +4,8 @@ use Rattle.map_history.specs.declared.op.Request.{Request}
 use Rattle.table_words.specs.declared.layout.Layout.{Layout}
 use Rattle.structure_laws.specs.Meaning.{Meaning}
 use Rattle.runner_steps.specs.declared.event.Event.{Event}
-use Rattle.interleave_core.specs.World.{World, happens, run}
-use Rattle.interleave_core.specs.First.{IsFirst}
+use Rattle.machine_states.specs.World.{World, happens, run}
+use Rattle.machine_states.specs.First.{IsFirst}
 
 -- these events lead from the first state to this one
 pub record IsAfter (m : Meaning) (l : Layout) (requests : List Request) (events : List Event) (w : World) : Type 0 where

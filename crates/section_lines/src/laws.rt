@@ -1,0 +1,26 @@
+//! What holds of the lines of bodies.
+ghost use Rattle.std.specs.Prelude.{ℕ, List};
+ghost use Rattle.section_body.specs.Shape.{IsShaped};
+ghost use Rattle.section_body.specs.Line.{line, micro_at, committed};
+ghost use Rattle.section_body.specs.Run.{Setting, Run};
+ghost use Rattle.section_body.specs.declared.step.Step.{Step};
+ghost use Rattle.section_lines.specs.Line.{IsInPhases, IsOrdered, IsCounted, IsResolved};
+ghost use Rattle.section_lines.specs.Runs.{Follows, AgreesWith};
+
+/// The line of a body that has the shape: its phases never fall, the atomic steps of one step stand next to one another, each
+/// commit has the number of words committed before it as its place in the log, and what a check or a store goes by was
+/// agreed before.
+pub fn bodies_have_such_lines()
+    ensures phases { (body : List Step) → IsShaped body → IsInPhases (micro_at (line body)) }
+    ensures order { (body : List Step) → IsOrdered (micro_at (line body)) }
+    ensures counts { (body : List Step) → IsShaped body → IsCounted (micro_at (line body)) (committed (line body)) }
+    ensures registers { (body : List Step) → IsShaped body → IsResolved (micro_at (line body)) (committed (line body)) }
+{}
+
+/// A run of a body in one go, with the cells and the choices that a shared log tells so far: its trail is what the log says,
+/// as far as the line was gone; the whole run's trail begins with it, and is no more where the line is over or a check
+/// doesn't pass.
+pub fn runs_agree_with_logs()
+    ensures { (body : List Step) → IsShaped body → (s : Setting) (start : Run) (log : ℕ → ℕ) (edge : ℕ)
+        → Follows s start (line body) log edge → AgreesWith s start (line body) log edge }
+{}
