@@ -7,13 +7,14 @@ use Rattle.section_body.specs.Word.{value_of, version_of, held_word}
 use Rattle.section_body.specs.declared.micro.Source.{Source}
 use Rattle.section_body.specs.declared.micro.Micro.{Micro}
 use Rattle.section_body.specs.declared.micro.Micro.TheVariants as micros
+use Rattle.section_lines.specs.Line.{is_clock_raise}
 use Rattle.agreement_core.specs.State.{CellRules, Shared, Section, Run}
-use Rattle.agreement_core.specs.Checks.{passes, is_stop, stored_word, is_stamp_exchange, is_clock_raise, is_reply_exchange}
+use Rattle.agreement_core.specs.Checks.{passes, is_stop, stored_word, is_stamp_exchange, is_reply_exchange}
 use Rattle.agreement_core.specs.Events.{IsPublishable}
 use Rattle.agreement_core.specs.Sections.{LogIsSound, CellsAreSound, LocksAreSound, RequestIsSound, SectionIsSound, HoldsWith}
 use Rattle.agreement_core.proofs.Frame.{undone, not_both}
 use Rattle.agreement_core.proofs.Going.{at_edge, holds_goes}
-use Rattle.agreement_core.proofs.Lines.{event_goes, passes_same, logged, nested_logged, outcome_logged, store_logged, stored_same}
+use Rattle.agreement_core.proofs.Lines.{event_goes, passes_same, logged, nested_logged, outcome_logged, retire_logged, store_logged, stored_same}
 
 -- one more word is agreed, and the edge moves by one
 abbrev pub commits : Section → ℕ → Section
@@ -34,6 +35,7 @@ pub record MayCommit (x : Shared) (d : ℕ) (s : Section) (word : ℕ) : Type 0 
   pub outcome_read : (p k : ℕ) → s.code s.edge ≡ micros.OutcomeCommit p k → x.seen p word ≡ true
   pub outcome_held : (p k : ℕ) → s.code s.edge ≡ micros.OutcomeCommit p k → value_of word ≡ suc d → x.cells p ≡ word
   pub outcome_named : (p k : ℕ) → s.code s.edge ≡ micros.OutcomeCommit p k → value_of (x.cells p) ≡ suc d → word ≡ x.cells p
+  pub retired : (slot k : ℕ) → s.code s.edge ≡ micros.RetireCommit slot k → word ≡ suc slot
 
 commit_events : (m : Micro) → is_commit m ≡ true → is_event m ≡ true
 commit_events m e = grind arith
@@ -66,6 +68,9 @@ module _ (c : CellRules) (x : Shared) (d : ℕ) (s : Section) (word : ℕ) (p : 
       empty = λ k le. let le' = subst (λ n. n ≤ k) more le in upd_else s.log (s.slot s.edge) k word (omega arith) ∙ old.empty k (omega arith);
       passed = λ i lt e. ⊎_elim (λ l. passes_same c s.lock s.code s.slot p.line d i _ _ (before i (omega arith)) ∙ old.passed i l e) (λ q. absurd (no_check _ commit (ap (λ n. is_check (s.code n)) (sym q) ∙ e))) (at_edge i s.edge lt);
       within = λ i lt. ⊎_elim (λ l. old.within i l) (λ q. ap (λ n. is_end (s.code n)) q ∙ no_end _ commit) (at_edge i s.edge lt);
+      retired = λ i slot k lt e. ⊎_elim
+        (λ l. before s.edge (omega arith) k (retire_logged c s.lock s.code s.slot p.line s.edge i slot k e l) ∙ old.retired i slot k l e)
+        (λ q. here k (p.line.counted.retire_log i slot k e ∙ ap s.slot q) ∙ may.retired slot k (ap s.code (sym q) ∙ e)) (at_edge i s.edge lt);
       stops = λ ne. absurd (ne (undone c d s old (event_goes c d s.log _ (commit_events _ commit))));
     }
 

@@ -113,7 +113,7 @@ module _ (c : CellRules) (w : AgreementState) (old : IsSound c w) (r : ℕ) (run
   section_done stop =
       let o = own.section in
       record {
-        in_log = record { full = o.in_log.full; empty = o.in_log.empty; passed = o.in_log.passed; within = o.in_log.within; stops = λ ne. stop };
+        in_log = record { full = o.in_log.full; empty = o.in_log.empty; passed = o.in_log.passed; within = o.in_log.within; retired = o.in_log.retired; stops = λ ne. stop };
         in_cells = record { loaded = λ un. absurd (some_done s.done un); stored = λ un. absurd (some_done s.done un); left = o.in_cells.left; lasting = o.in_cells.lasting; read = o.in_cells.read };
         in_locks = record {
           outer_held = λ un. absurd (some_done s.done un);

@@ -7,9 +7,9 @@ use Rattle.section_body.specs.Line.{is_commit}
 use Rattle.section_body.specs.Word.{value_of}
 use Rattle.section_body.specs.declared.micro.Micro.{Micro}
 use Rattle.section_body.specs.declared.micro.Micro.TheVariants as micros
-use Rattle.section_lines.specs.Line.{phase}
+use Rattle.section_lines.specs.Line.{phase, is_clock_raise}
 use Rattle.agreement_core.specs.State.{CellRules, Shared, Section, Run}
-use Rattle.agreement_core.specs.Checks.{is_stamp_exchange, is_clock_raise}
+use Rattle.agreement_core.specs.Checks.{is_stamp_exchange}
 use Rattle.agreement_core.specs.Events.{IsPublishable, begun}
 use Rattle.agreement_core.specs.Runs.{TrailIsSound, WordIsSound, ReleasesAreSound, RunIsSound}
 use Rattle.agreement_core.proofs.Frame.{not_both}

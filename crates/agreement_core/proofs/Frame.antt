@@ -6,8 +6,9 @@ use Rattle.section_body.specs.Word.{value_of, version_of, held_word}
 use Rattle.section_body.specs.declared.micro.Source.{Source}
 use Rattle.section_body.specs.declared.micro.Micro.{Micro}
 use Rattle.section_body.specs.declared.micro.Micro.TheVariants as micros
+use Rattle.section_lines.specs.Line.{is_clock_raise}
 use Rattle.agreement_core.specs.State.{CellRules, Shared, Section, Run}
-use Rattle.agreement_core.specs.Checks.{is_stop, is_stamp_exchange, is_clock_raise}
+use Rattle.agreement_core.specs.Checks.{is_stop, is_stamp_exchange}
 use Rattle.agreement_core.specs.Events.{HasCome, IsPublishable}
 use Rattle.agreement_core.specs.Sections.{LogIsSound, CellsAreSound, LocksAreSound, RequestIsSound, SectionIsSound, HoldsWith}
 use Rattle.agreement_core.specs.Runs.{TrailIsSound, WordIsSound, ReleasesAreSound, RunIsSound}

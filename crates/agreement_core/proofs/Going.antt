@@ -6,8 +6,9 @@ use Rattle.section_body.specs.Word.{value_of, version_of, held_word}
 use Rattle.section_body.specs.declared.micro.Source.{Source}
 use Rattle.section_body.specs.declared.micro.Micro.{Micro}
 use Rattle.section_body.specs.declared.micro.Micro.TheVariants as micros
+use Rattle.section_lines.specs.Line.{is_clock_raise}
 use Rattle.agreement_core.specs.State.{CellRules, Shared, Section, Run}
-use Rattle.agreement_core.specs.Checks.{passes, is_stop, is_stamp_exchange, is_clock_raise, is_reply_exchange}
+use Rattle.agreement_core.specs.Checks.{passes, is_stop, is_stamp_exchange, is_reply_exchange}
 use Rattle.agreement_core.specs.Sections.{LogIsSound, CellsAreSound, LocksAreSound, RequestIsSound, SectionIsSound, HoldsWith}
 use Rattle.agreement_core.proofs.Frame.{undone, not_both}
 
@@ -24,12 +25,13 @@ check_passes c d log m goes check = grind arith
 stop_at_end : (c : CellRules) (d : ℕ) (log : ℕ → ℕ) (m : Micro) → is_stop c d log m ≡ false → is_end m ≡ false
 stop_at_end c d log m goes = grind arith
 
-pub log_goes : (c : CellRules) (d : ℕ) (s : Section) → is_stop c d s.log (s.code s.edge) ≡ false → s.slot (suc s.edge) ≡ s.slot s.edge → LogIsSound c d s → LogIsSound c d (goes s)
-log_goes c d s going same old = record {
+pub log_goes : (c : CellRules) (d : ℕ) (s : Section) → is_stop c d s.log (s.code s.edge) ≡ false → is_commit (s.code s.edge) ≡ false → s.slot (suc s.edge) ≡ s.slot s.edge → LogIsSound c d s → LogIsSound c d (goes s)
+log_goes c d s going no_commit same old = record {
   full = λ k lt. old.full k (subst (λ n. k < n) same lt);
   empty = λ k le. old.empty k (subst (λ n. n ≤ k) same le);
   passed = λ i lt e. ⊎_elim (λ l. old.passed i l e) (λ q. let h : is_check (s.code s.edge) ≡ true = ap (λ n. is_check (s.code n)) (sym q) ∙ e in ap (λ n. passes c d s.log (s.code n)) q ∙ check_passes c d s.log _ going h) (at_edge i s.edge lt);
   within = λ i lt. ⊎_elim (λ l. old.within i l) (λ q. ap (λ n. is_end (s.code n)) q ∙ stop_at_end c d s.log _ going) (at_edge i s.edge lt);
+  retired = λ i slot k lt e. ⊎_elim (λ l. old.retired i slot k l e) (λ q. absurd (not_both _ (ap is_commit (ap s.code (sym q) ∙ e)) no_commit)) (at_edge i s.edge lt);
   stops = λ ne. absurd (ne (undone c d s old going));
 }
 

@@ -6,12 +6,12 @@ use Rattle.section_body.specs.declared.micro.Source.{Source}
 use Rattle.section_body.specs.declared.micro.Source.TheVariants.{Fixed, Agreed}
 use Rattle.section_body.specs.declared.micro.Micro.{Micro}
 use Rattle.section_body.specs.declared.micro.Micro.TheVariants as micros
-use Rattle.section_lines.specs.Line.{phase, IsInPhases, IsCounted, IsOrdered, IsResolved, IsPlaced, IsStamped, IsLine}
-use Rattle.agreement_core.specs.Events.{IsWholeLine}
+use Rattle.section_lines.specs.Line.{phase, IsInPhases, IsCounted, IsOrdered, IsResolved, IsPlaced, IsStamped, IsLine, IsWholeLine}
+
 use Rattle.agreement_core.specs.Helped.{few, code, slot}
 
 abbrev InPhases : Type 0
-InPhases = IsInPhases few.is_lock 9 0 code slot
+InPhases = IsInPhases code
 
 phase_of : ℕ → ℕ
 phase_of i = cond (nat_lt i 3) 1 (cond (nat_lt i 6) 3 (cond (i == 6) 4 (cond (i == 7) 6 7)))
@@ -34,7 +34,7 @@ in_phases = record {
   start = refl;
 }
 
-counted : IsCounted few.is_lock 9 0 code slot
+counted : IsCounted code slot
 counted = record {
   slot_start = refl;
   slot_commit = λ i e. grind arith;
@@ -99,7 +99,7 @@ clock_first i m e f = grind arith
 stamp_first : (i m : ℕ) → code m ≡ micros.ClockRaise → m ≡ suc i → code i ≡ micros.StampExchange
 stamp_first i m e f = grind arith
 
-ordered : IsOrdered few.is_lock 9 0 code slot
+ordered : IsOrdered code
 ordered = record {
   load_next = λ i p k e. grind arith;
   commit_before = λ i p k e. let h = commit_is i p k e in (0, h.0, h.1);
@@ -136,7 +136,7 @@ exchange_is i p k v e = (grind arith, grind arith, grind arith, grind arith)
 no_agreed : (n k : ℕ) → Fixed n ≢ Agreed k
 no_agreed n k e = cc
 
-resolved : IsResolved few.is_lock 9 0 code slot
+resolved : IsResolved code slot
 resolved = record {
   word_loaded = λ i p k w e. absurd (no_word i p k w e);
   fresh_loaded = λ i p k e. let h = fresh_is i p k e in (1, let z = h.0 in omega arith, h.1);
@@ -146,7 +146,7 @@ resolved = record {
   fill_source = λ i n k v e. absurd (no_fill i n k v e);
 }
 
-placed : IsPlaced few.is_lock 9 0 code slot
+placed : IsPlaced few.is_lock 9 0 code
 placed = record {
   outer_lock = refl;
   load_unlocked = λ i p k e. grind arith;
@@ -165,7 +165,7 @@ stamp_once i e = grind arith
 answer_once : (i n : ℕ) → code i ≡ micros.ReplyExchange n → i ≡ 7
 answer_once i n e = grind arith
 
-stamped : IsStamped few.is_lock 9 0 code slot
+stamped : IsStamped code
 stamped = record {
   stamp = 4;
   stamps = refl;

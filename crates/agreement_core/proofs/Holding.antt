@@ -8,9 +8,9 @@ use Rattle.section_body.specs.Word.{value_of, version_of, held_word}
 use Rattle.section_body.specs.declared.micro.Source.{Source}
 use Rattle.section_body.specs.declared.micro.Micro.{Micro}
 use Rattle.section_body.specs.declared.micro.Micro.TheVariants as micros
-use Rattle.section_lines.specs.Line.{phase}
+use Rattle.section_lines.specs.Line.{phase, is_clock_raise}
 use Rattle.agreement_core.specs.State.{CellRules, Shared, Section, Run}
-use Rattle.agreement_core.specs.Checks.{is_stop, stored_word, is_stamp_exchange, is_clock_raise, is_reply_exchange}
+use Rattle.agreement_core.specs.Checks.{is_stop, stored_word, is_stamp_exchange, is_reply_exchange}
 use Rattle.agreement_core.specs.Events.{HasCome, IsPublishable}
 use Rattle.agreement_core.specs.Sections.{LogIsSound, CellsAreSound, LocksAreSound, RequestIsSound, SectionIsSound, HoldsWith}
 use Rattle.agreement_core.proofs.Frame.{LeavesLoaded, LeavesLocks, LeavesWords, Rises, undone, not_both, cells_frame, request_frame}
@@ -90,7 +90,7 @@ module _ (c : CellRules) (x : Shared) (d : ℕ) (s : Section) (place w : ℕ) (p
       let x' = puts x place new in
       let rises = puts_rises x place new hold_rises in
       record {
-        in_log = log_goes c d s hold_goes (p.line.counted.slot_same s.edge no_commit) old.in_log;
+        in_log = log_goes c d s hold_goes no_commit (p.line.counted.slot_same s.edge no_commit) old.in_log;
         in_cells = cells_goes x' s no_commit (λ p' k v e. absurd (let a : 1 ≡ 4 = ap phase (sym at ∙ e) in omega arith))
           (cells_frame c d s p x x' rises (puts_words x place new) (puts_lock c d s x place new p is_lock) old.in_cells);
         in_locks = locks_hold;

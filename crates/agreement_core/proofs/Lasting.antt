@@ -83,7 +83,7 @@ lasts c w h (ReplyExchange r reply) ok old exact = reply_lasts c w old h exact r
 lasts c w h (Publish d lock word request code slot) ok old exact = record { moved = λ n i le. refl; stamps = λ q le. refl; replies = λ q le. refl; stamped = λ n le. refl; replied = λ n le. refl }
 lasts c w h e ok old exact = lasts_refl h
 
-end_is : (m : Micro) → is_end m ≡ true → m ≡ micros.End
+pub end_is : (m : Micro) → is_end m ≡ true → m ≡ micros.End
 end_is micros.End e = refl
 end_is m e = grind arith
 

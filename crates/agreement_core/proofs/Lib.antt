@@ -25,6 +25,7 @@ pub mod Writing
 pub mod Recording
 pub mod Lasting
 pub mod Continuing
+pub mod PlainRuns
 pub mod HelpedLine
 pub mod Helping
 pub mod Standing

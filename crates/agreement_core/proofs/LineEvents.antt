@@ -9,9 +9,9 @@ use Rattle.section_body.specs.Word.{value_of, version_of, held_word}
 use Rattle.section_body.specs.declared.micro.Source.{Source}
 use Rattle.section_body.specs.declared.micro.Micro.{Micro}
 use Rattle.section_body.specs.declared.micro.Micro.TheVariants as micros
-use Rattle.section_lines.specs.Line.{phase}
+use Rattle.section_lines.specs.Line.{phase, is_clock_raise}
 use Rattle.agreement_core.specs.State.{CellRules, Shared, Section, Run, AgreementState, section_of, IsOpen}
-use Rattle.agreement_core.specs.Checks.{passes, is_stop, stored_word, exchanged, is_stamp_exchange, is_clock_raise, is_reply_exchange}
+use Rattle.agreement_core.specs.Checks.{passes, is_stop, stored_word, exchanged, is_stamp_exchange, is_reply_exchange}
 use Rattle.agreement_core.specs.Events.{Event, Enabled, after, HasCome, IsAlone, IsBefore, IsPublishable, IsPrivateStore, goes_on, agrees, reads, with_cell}
 use Rattle.agreement_core.specs.Events.{LoadCell, Commit, NestedLoad, NestedCommit, NestedHold, OutcomeLoad, OutcomeCommit, PrivateLoad, PrivateStore, MakeCommit, ClockLoad, StampExchange, ClockRaise, ExchangeCell, EpochForRetire, RetireCommit, ReplyExchange}
 use Rattle.agreement_core.specs.Sound.{UsedIsSound, IsSound}

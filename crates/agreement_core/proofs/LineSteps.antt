@@ -9,9 +9,9 @@ use Rattle.section_body.specs.Word.{value_of, version_of, held_word}
 use Rattle.section_body.specs.declared.micro.Source.{Source}
 use Rattle.section_body.specs.declared.micro.Micro.{Micro}
 use Rattle.section_body.specs.declared.micro.Micro.TheVariants as micros
-use Rattle.section_lines.specs.Line.{phase}
+use Rattle.section_lines.specs.Line.{phase, is_clock_raise}
 use Rattle.agreement_core.specs.State.{CellRules, Shared, Section, Run, AgreementState, section_of, IsOpen}
-use Rattle.agreement_core.specs.Checks.{passes, is_stop, stored_word, exchanged, is_stamp_exchange, is_clock_raise, is_reply_exchange}
+use Rattle.agreement_core.specs.Checks.{passes, is_stop, stored_word, exchanged, is_stamp_exchange, is_reply_exchange}
 use Rattle.agreement_core.specs.Events.{Event, Enabled, after, HasCome, IsAlone, IsBefore, IsPublishable, IsPrivateStore, goes_on, agrees, reads, with_cell}
 use Rattle.agreement_core.specs.Sections.{SectionIsSound}
 use Rattle.agreement_core.specs.Runs.{RunIsSound}
@@ -54,6 +54,9 @@ same_nested p k p' k' e = grind arith
 
 pub same_hold : (p w p' w' : ℕ) → micros.NestedHold p w ≡ micros.NestedHold p' w' → (p' ≡ p) × (w' ≡ w)
 same_hold p w p' w' e = (grind arith, grind arith)
+
+same_retire : (s k s' k' : ℕ) → micros.RetireCommit s k ≡ micros.RetireCommit s' k' → s ≡ s'
+same_retire s k s' k' e = grind arith
 
 pub above_left : (a b : ℕ) → a ≤ max a b
 above_left a b = grind arith
@@ -101,8 +104,8 @@ module _ (c : CellRules) (w : AgreementState) (old : IsSound c w) (r : ℕ) (run
       }
 
   -- a word that is committed as it was loaded
-  loaded_commits : 0 < q.word → is_event (s.code q.at) ≡ true → q.at ≡ s.edge → MayCommit w.shared q.descriptor s q.word
-  loaded_commits some event at =
+  loaded_commits : 0 < q.word → is_event (s.code q.at) ≡ true → phase (s.code q.at) ≡ 1 → q.at ≡ s.edge → MayCommit w.shared q.descriptor s q.word
+  loaded_commits some event early at =
       let un = undone c q.descriptor s own.section.in_log (event_goes c _ _ _ (subst (λ n. is_event (s.code n) ≡ true) at event)) in
       let code : (m : Micro) → s.code s.edge ≡ m → s.code q.at ≡ m = λ m e. ap s.code at ∙ e in
       record {
@@ -113,12 +116,13 @@ module _ (c : CellRules) (w : AgreementState) (old : IsSound c w) (r : ℕ) (run
         outcome_read = λ p k e. run.in_word.outcome_read p k (code _ e);
         outcome_held = λ p k e v. run.in_word.outcome_held un p k (code _ e) v;
         outcome_named = λ p k e v. run.in_word.outcome_named p k (code _ e) v;
+        retired = λ slot k e. let a : 5 ≡ 1 = ap phase (sym (code _ e)) ∙ early in absurd (omega arith);
       }
 
   -- a word that isn't loaded from a cell
   own_commits : (proposal : ℕ) → 0 < proposal → ((p k : ℕ) → s.code q.at ≢ micros.Commit p k) → ((p k : ℕ) → s.code q.at ≢ micros.NestedCommit p k) → ((p k : ℕ) → s.code q.at ≢ micros.OutcomeCommit p k)
-      → q.at ≡ s.edge → MayCommit w.shared q.descriptor s proposal
-  own_commits proposal some no_cell no_nested no_outcome at =
+      → ((slot k : ℕ) → s.code q.at ≡ micros.RetireCommit slot k → proposal ≡ suc slot) → q.at ≡ s.edge → MayCommit w.shared q.descriptor s proposal
+  own_commits proposal some no_cell no_nested no_outcome retired at =
       let code : (m : Micro) → s.code s.edge ≡ m → s.code q.at ≡ m = λ m e. ap s.code at ∙ e in
       record {
         some = some;
@@ -128,28 +132,31 @@ module _ (c : CellRules) (w : AgreementState) (old : IsSound c w) (r : ℕ) (run
         outcome_read = λ p k e. absurd (no_outcome p k (code _ e));
         outcome_held = λ p k e v. absurd (no_outcome p k (code _ e));
         outcome_named = λ p k e v. absurd (no_outcome p k (code _ e));
+        retired = λ slot k e. retired slot k (code _ e);
       }
 
   pub commit_sound : (p k : ℕ) → s.code q.at ≡ micros.Commit p k → IsSound c (agrees w r k q.word)
   commit_sound p k e = agrees_sound c w old r running going k q.word (own.published.line.counted.commit_log q.at p k e) (ap is_commit e) (ap is_event e)
-      (loaded_commits (some_version _ (old.versions.read_positive p q.word (run.in_word.read p k e))) (ap is_event e)) (follows_any _ _ _ _ _ (ap gives_number e))
+      (loaded_commits (some_version _ (old.versions.read_positive p q.word (run.in_word.read p k e))) (ap is_event e) (ap phase e)) (follows_any _ _ _ _ _ (ap gives_number e))
 
   pub nested_commit_sound : (p k : ℕ) → s.code q.at ≡ micros.NestedCommit p k → IsSound c (agrees w r k q.word)
   nested_commit_sound p k e = agrees_sound c w old r running going k q.word (own.published.line.counted.nested_log q.at p k e) (ap is_commit e) (ap is_event e)
-      (loaded_commits (some_version _ (old.versions.read_positive p q.word (run.in_word.nested_read p k e))) (ap is_event e)) (follows_any _ _ _ _ _ (ap gives_number e))
+      (loaded_commits (some_version _ (old.versions.read_positive p q.word (run.in_word.nested_read p k e))) (ap is_event e) (ap phase e)) (follows_any _ _ _ _ _ (ap gives_number e))
 
   pub outcome_commit_sound : (p k : ℕ) → s.code q.at ≡ micros.OutcomeCommit p k → IsSound c (agrees w r k q.word)
   outcome_commit_sound p k e = agrees_sound c w old r running going k q.word (own.published.line.counted.outcome_log q.at p k e) (ap is_commit e) (ap is_event e)
-      (loaded_commits (some_version _ (old.versions.read_positive p q.word (run.in_word.outcome_read p k e))) (ap is_event e)) (follows_any _ _ _ _ _ (ap gives_number e))
+      (loaded_commits (some_version _ (old.versions.read_positive p q.word (run.in_word.outcome_read p k e))) (ap is_event e) (ap phase e)) (follows_any _ _ _ _ _ (ap gives_number e))
 
   pub make_commit_sound : (k proposal : ℕ) → s.code q.at ≡ micros.MakeCommit k → 0 < proposal → IsSound c (agrees w r k proposal)
   make_commit_sound k proposal e some = agrees_sound c w old r running going k proposal (own.published.line.counted.make_log q.at k e) (ap is_commit e) (ap is_event e)
-      (own_commits proposal some (λ p n f. let a : 1 ≡ 2 = ap phase (sym f ∙ e) in omega arith) (λ p n f. let a : 1 ≡ 2 = ap phase (sym f ∙ e) in omega arith) (λ p n f. let a : 1 ≡ 2 = ap phase (sym f ∙ e) in omega arith))
+      (own_commits proposal some (λ p n f. let a : 1 ≡ 2 = ap phase (sym f ∙ e) in omega arith) (λ p n f. let a : 1 ≡ 2 = ap phase (sym f ∙ e) in omega arith) (λ p n f. let a : 1 ≡ 2 = ap phase (sym f ∙ e) in omega arith)
+        (λ slot n f. let a : 5 ≡ 2 = ap phase (sym f ∙ e) in absurd (omega arith)))
       (follows_any _ _ _ _ _ (ap gives_number e))
 
   pub retire_commit_sound : (slot k : ℕ) → s.code q.at ≡ micros.RetireCommit slot k → IsSound c (agrees w r k (suc slot))
   retire_commit_sound slot k e = agrees_sound c w old r running going k (suc slot) (own.published.line.counted.retire_log q.at slot k e) (ap is_commit e) (ap is_event e)
-      (own_commits (suc slot) (omega arith) (λ p n f. let a : 1 ≡ 5 = ap phase (sym f ∙ e) in omega arith) (λ p n f. let a : 1 ≡ 5 = ap phase (sym f ∙ e) in omega arith) (λ p n f. let a : 1 ≡ 5 = ap phase (sym f ∙ e) in omega arith))
+      (own_commits (suc slot) (omega arith) (λ p n f. let a : 1 ≡ 5 = ap phase (sym f ∙ e) in omega arith) (λ p n f. let a : 1 ≡ 5 = ap phase (sym f ∙ e) in omega arith) (λ p n f. let a : 1 ≡ 5 = ap phase (sym f ∙ e) in omega arith)
+        (λ slot' n f. ap suc (same_retire slot k slot' n (sym e ∙ f))))
       (follows_any _ _ _ _ _ (ap gives_number e))
 
   -- a plain step behind which the next one doesn't go by its number

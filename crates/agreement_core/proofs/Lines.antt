@@ -8,10 +8,10 @@ use Rattle.section_body.specs.declared.micro.Source.{Source}
 use Rattle.section_body.specs.declared.micro.Source.TheVariants.{Fixed, Agreed}
 use Rattle.section_body.specs.declared.micro.Micro.{Micro}
 use Rattle.section_body.specs.declared.micro.Micro.TheVariants as micros
-use Rattle.section_lines.specs.Line.{phase, IsLine, LoadedBefore}
+use Rattle.section_lines.specs.Line.{phase, IsLine, LoadedBefore, IsWholeLine, is_clock_raise}
 use Rattle.agreement_core.specs.State.{CellRules}
-use Rattle.agreement_core.specs.Checks.{passes, is_stop, source_in, stored_word, is_stamp_exchange, is_clock_raise, is_reply_exchange}
-use Rattle.agreement_core.specs.Events.{IsWholeLine}
+use Rattle.agreement_core.specs.Checks.{passes, is_stop, source_in, stored_word, is_stamp_exchange, is_reply_exchange}
+
 use Rattle.agreement_core.proofs.Words.{value_small, version_next}
 
 -- a step on the shared words is no stop
@@ -101,6 +101,13 @@ module _ (c : CellRules) (lock : ℕ) (code : ℕ → Micro) (slot : ℕ → ℕ
   pub outcome_logged : (i j p k : ℕ) → code j ≡ micros.OutcomeCommit p k → j < i → k < slot i
   outcome_logged i j p k e lt =
       let a = line.counted.outcome_log j p k e in
+      let b = line.counted.slot_commit j (ap is_commit e) in
+      let r = line.counted.slot_rises (suc j) i lt in
+      omega arith
+
+  pub retire_logged : (i j t k : ℕ) → code j ≡ micros.RetireCommit t k → j < i → k < slot i
+  retire_logged i j t k e lt =
+      let a = line.counted.retire_log j t k e in
       let b = line.counted.slot_commit j (ap is_commit e) in
       let r = line.counted.slot_rises (suc j) i lt in
       omega arith

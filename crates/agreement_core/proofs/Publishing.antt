@@ -147,6 +147,7 @@ module _ (c : CellRules) (w : AgreementState) (old : IsSound c w) (d lock word r
       empty = λ k le. ok.4 k;
       passed = λ i lt e. absurd (omega arith);
       within = λ i lt. absurd (omega arith);
+      retired = λ i slot k lt e. absurd (omega arith);
       stops = λ ne. absurd (ne ok.3);
     };
     in_cells = record {

@@ -10,8 +10,9 @@ use Rattle.section_body.specs.Word.{value_of, version_of}
 use Rattle.section_body.specs.declared.micro.Source.{Source}
 use Rattle.section_body.specs.declared.micro.Micro.{Micro}
 use Rattle.section_body.specs.declared.micro.Micro.TheVariants as micros
+use Rattle.section_lines.specs.Line.{is_clock_raise}
 use Rattle.agreement_core.specs.State.{CellRules, Shared, Section, Run, AgreementState, section_of, IsOpen}
-use Rattle.agreement_core.specs.Checks.{is_stop, is_stamp_exchange, is_clock_raise, is_reply_exchange}
+use Rattle.agreement_core.specs.Checks.{is_stop, is_stamp_exchange, is_reply_exchange}
 use Rattle.agreement_core.specs.Events.{HasCome, IsAlone, IsPublishable, goes_on, agrees}
 use Rattle.agreement_core.specs.Sections.{SectionIsSound}
 use Rattle.agreement_core.specs.Runs.{RunIsSound}
@@ -117,7 +118,7 @@ module _ (c : CellRules) (w : AgreementState) (old : IsSound c w) (r : ℕ) (run
 
   section_goes : is_commit (s.code s.edge) ≡ false → MayGo → SectionIsSound c w.shared d (goes s)
   section_goes no_commit may = record {
-    in_log = log_goes c d s may.goes (own.published.line.counted.slot_same s.edge no_commit) own.section.in_log;
+    in_log = log_goes c d s may.goes no_commit (own.published.line.counted.slot_same s.edge no_commit) own.section.in_log;
     in_cells = cells_goes w.shared s no_commit may.no_exchange own.section.in_cells;
     in_locks = locks_goes c w.shared d s no_commit may.hold own.section.in_locks;
     in_request = request_goes w.shared s may.stamp may.raise may.reply own.section.in_request;

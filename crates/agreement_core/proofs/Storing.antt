@@ -8,9 +8,9 @@ use Rattle.section_body.specs.Word.{value_of, version_of}
 use Rattle.section_body.specs.declared.micro.Source.{Source}
 use Rattle.section_body.specs.declared.micro.Micro.{Micro}
 use Rattle.section_body.specs.declared.micro.Micro.TheVariants as micros
-use Rattle.section_lines.specs.Line.{phase}
+use Rattle.section_lines.specs.Line.{phase, is_clock_raise}
 use Rattle.agreement_core.specs.State.{CellRules, Shared, Section, Run}
-use Rattle.agreement_core.specs.Checks.{is_stop, stored_word, is_stamp_exchange, is_clock_raise, is_reply_exchange}
+use Rattle.agreement_core.specs.Checks.{is_stop, stored_word, is_stamp_exchange, is_reply_exchange}
 use Rattle.agreement_core.specs.Events.{HasCome, IsPublishable}
 use Rattle.agreement_core.specs.Sections.{LogIsSound, CellsAreSound, LocksAreSound, RequestIsSound, SectionIsSound}
 use Rattle.agreement_core.proofs.Frame.{LeavesLocks, LeavesWords, Rises, undone, not_both, locks_frame, request_frame}
@@ -106,7 +106,7 @@ module _ (c : CellRules) (x : Shared) (d : ℕ) (s : Section) (place k : ℕ) (v
       let x' = puts x place new in
       let rises = puts_rises x place new store_rises in
       record {
-        in_log = log_goes c d s store_goes (p.line.counted.slot_same s.edge no_commit) old.in_log;
+        in_log = log_goes c d s store_goes no_commit (p.line.counted.slot_same s.edge no_commit) old.in_log;
         in_cells = cells_store;
         in_locks = locks_goes c x' d s no_commit (λ p' w e. absurd (let a : 1 ≡ 4 = ap phase (sym e ∙ at) in omega arith)) (locks_frame c d s p x x' rises (puts_words x place new) (puts_no_lock c d s x place new store_unlocked) old.in_locks);
         in_request = request_goes x' s (λ e. absurd (not_both _ e (ap is_stamp_exchange at))) (λ e. absurd (not_both _ e (ap is_clock_raise at))) (λ e. absurd (not_both _ e (ap is_reply_exchange at))) (request_frame c d s p x x' rises (puts_words x place new) old.in_request);

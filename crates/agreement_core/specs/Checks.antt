@@ -5,7 +5,7 @@ use Rattle.section_body.specs.Line.{is_event}
 use Rattle.section_body.specs.declared.micro.Source.{Source}
 use Rattle.section_body.specs.declared.micro.Source.TheVariants.{Fixed, Agreed}
 use Rattle.section_body.specs.declared.micro.Micro.{Micro}
-use Rattle.section_body.specs.declared.micro.Micro.TheVariants.{CheckWord, CheckFresh, CheckFree, CheckHeld, StampExchange, ClockRaise, ReplyExchange}
+use Rattle.section_body.specs.declared.micro.Micro.TheVariants.{CheckWord, CheckFresh, CheckFree, CheckHeld, StampExchange, ReplyExchange}
 use Rattle.agreement_core.specs.State.{CellRules, Section}
 
 -- a check of a section with this descriptor passes with these agreed words
@@ -41,11 +41,6 @@ came s at = record s { edge = cond (nat_lt s.edge at) at s.edge }
 abbrev pub is_stamp_exchange : Micro → Bool
 is_stamp_exchange StampExchange = true
 is_stamp_exchange _ = false
-
--- the raise of the clock
-abbrev pub is_clock_raise : Micro → Bool
-is_clock_raise ClockRaise = true
-is_clock_raise _ = false
 
 -- the exchange of the reply word
 abbrev pub is_reply_exchange : Micro → Bool

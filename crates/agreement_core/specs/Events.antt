@@ -7,10 +7,10 @@ use Rattle.section_body.specs.declared.micro.Source.{Source}
 use Rattle.section_body.specs.declared.micro.Source.TheVariants.{Fixed}
 use Rattle.section_body.specs.declared.micro.Micro.{Micro}
 use Rattle.section_body.specs.declared.micro.Micro.TheVariants as micros
-use Rattle.section_lines.specs.Line.{IsLine}
+use Rattle.section_lines.specs.Line.{IsLine, IsWholeLine}
 use Rattle.agreement_core.specs.Update.{upd2}
 use Rattle.agreement_core.specs.State.{CellRules, Shared, Section, Run, Finished, AgreementState, section_of, IsOpen}
-use Rattle.agreement_core.specs.Checks.{passes, is_stop, stored_word, exchanged, came, is_clock_raise}
+use Rattle.agreement_core.specs.Checks.{passes, is_stop, stored_word, exchanged, came}
 
 -- what may happen; `r` is the runner, `d` a descriptor, `log` a place in a log
 pub data Event : Type 0 where
@@ -138,13 +138,6 @@ pub record IsBefore (w : AgreementState) (r : ℕ) (micro : Micro) : Type 0 wher
 -- a run at this place has taken this lock, free with this word: the outer one, or a nested one that it found to be held
 abbrev pub HasTaken : Section → ℕ → ℕ → ℕ → Type 0
 HasTaken s at place word = ((place ≡ s.lock) × (word ≡ s.word)) ⊎ ((i : ℕ) × (log : ℕ) × (i < at) × (s.code i ≡ micros.CheckHeld place log word))
-
--- what is needed of a line besides: the fixed numbers that it stores are values, a Take's outcome is followed by its check, and it
--- doesn't begin with a raise of the clock
-pub record IsWholeLine (code : ℕ → Micro) : Type 0 where
-  pub store_value : (i place log number : ℕ) → code i ≡ micros.ExchangeCell place log (Fixed number) → number < 2 ^ 32
-  pub outcome_check : (i place word : ℕ) → code i ≡ micros.NestedHold place word → (log : ℕ) × (code (suc (suc (suc i))) ≡ micros.CheckHeld place log word)
-  pub start_raise : is_clock_raise (code 0) ≡ false
 
 -- a section that may be published: its line, a descriptor's number whose link is a value, and a free word that can be taken
 pub record IsPublishable (c : CellRules) (d lock word : ℕ) (code : ℕ → Micro) (slot : ℕ → ℕ) : Type 0 where

@@ -12,4 +12,5 @@ pub mod Standing
 pub mod Continuing
 pub mod Frame
 pub mod History
+pub mod PlainRuns
 pub mod Helped

@@ -2,8 +2,9 @@
 use Rattle.std.specs.Prelude.{ℕ, suc, ◌<◌, ◌≤◌, ◌≡◌, ◌≢◌, Bool, true, false}
 use Rattle.section_body.specs.Word.{value_of}
 use Rattle.section_body.specs.declared.micro.Micro.TheVariants.{Commit, NestedCommit, OutcomeCommit}
+use Rattle.section_lines.specs.Line.{is_clock_raise}
 use Rattle.agreement_core.specs.State.{CellRules, Shared, Section, Run}
-use Rattle.agreement_core.specs.Checks.{is_stamp_exchange, is_clock_raise}
+use Rattle.agreement_core.specs.Checks.{is_stamp_exchange}
 
 -- its place and its trail
 pub record TrailIsSound (s : Section) (q : Run) : Type 0 where

@@ -3,9 +3,10 @@ use Rattle.std.specs.Prelude.{ℕ, suc, ◌+◌, ◌/◌, ◌<◌, ◌≤◌, �
 use Rattle.section_body.specs.Word.{value_of, version_of, held_word}
 use Rattle.section_body.specs.Line.{is_check, is_end}
 use Rattle.section_body.specs.declared.micro.Source.{Source}
-use Rattle.section_body.specs.declared.micro.Micro.TheVariants.{Commit, NestedCommit, NestedHold, OutcomeCommit, ExchangeCell}
+use Rattle.section_body.specs.declared.micro.Micro.TheVariants.{Commit, NestedCommit, NestedHold, OutcomeCommit, RetireCommit, ExchangeCell}
+use Rattle.section_lines.specs.Line.{is_clock_raise}
 use Rattle.agreement_core.specs.State.{CellRules, Shared, Section}
-use Rattle.agreement_core.specs.Checks.{passes, is_stop, stored_word, is_stamp_exchange, is_clock_raise, is_reply_exchange}
+use Rattle.agreement_core.specs.Checks.{passes, is_stop, stored_word, is_stamp_exchange, is_reply_exchange}
 
 -- the log: words that aren't 0 up to the edge, then zeros; each check below the edge passes
 pub record LogIsSound (c : CellRules) (d : ℕ) (s : Section) : Type 0 where
@@ -13,6 +14,8 @@ pub record LogIsSound (c : CellRules) (d : ℕ) (s : Section) : Type 0 where
   pub empty : (k : ℕ) → s.slot s.edge ≤ k → s.log k ≡ 0
   pub passed : (i : ℕ) → i < s.edge → is_check (s.code i) ≡ true → passes c d s.log (s.code i) ≡ true
   pub within : (i : ℕ) → i < s.edge → is_end (s.code i) ≡ false
+  -- a Retire's agreed word names its slot
+  pub retired : (i slot k : ℕ) → i < s.edge → s.code i ≡ RetireCommit slot k → s.log k ≡ suc slot
   -- a section is done only where its runs go no further
   pub stops : s.done ≢ 0 → is_stop c d s.log (s.code s.edge) ≡ true
 
