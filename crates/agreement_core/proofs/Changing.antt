@@ -1,31 +1,29 @@
 -- Each exchange of a cell by a run keeps the invariant.
-use Rattle.std.proofs.Common.{◌≡◌, ◌≢◌, ℕ, zero, suc, ◌+◌, ◌/◌, ◌<◌, ◌≤◌, Bool, true, false, cond, refl, sym, ap, ◌∙◌, subst, inl, inr, ⊎_elim, arith}
+use Rattle.std.proofs.Common.{◌≡◌, ◌≢◌, ℕ, suc, ◌<◌, ◌≤◌, true, false, cond, refl, sym, ap, ◌∙◌, subst, inl, inr, ⊎_elim, arith}
 use Rattle.std.proofs.lemmas.Bool.{cases_lt, cases_eq}
 use Rattle.std.specs.Prelude.{◌⊎◌, nat_lt, ◌==◌, not}
 use mathlib.Core.Path.{fun_ext}
 use Rattle.section_body.specs.Update.{upd}
-use Rattle.section_body.specs.Line.{is_event, is_commit, is_check}
+use Rattle.section_body.specs.Line.{is_commit, is_check}
 use Rattle.section_body.specs.Word.{value_of, version_of, held_word}
 use Rattle.section_body.specs.declared.micro.Source.{Source}
-use Rattle.section_body.specs.declared.micro.Micro.{Micro}
 use Rattle.section_body.specs.declared.micro.Micro.TheVariants as micros
-use Rattle.section_lines.specs.Line.{phase, is_clock_raise}
-use Rattle.agreement_core.specs.State.{CellRules, Shared, Section, Run, AgreementState, section_of, IsOpen}
-use Rattle.agreement_core.specs.Checks.{passes, is_stop, stored_word, exchanged, is_stamp_exchange, is_reply_exchange}
-use Rattle.agreement_core.specs.Events.{HasCome, IsAlone, IsPublishable, goes_on, with_cell}
-use Rattle.agreement_core.specs.Sections.{SectionIsSound}
-use Rattle.agreement_core.specs.Runs.{TrailIsSound, WordIsSound, ReleasesAreSound, RunIsSound}
+use Rattle.section_lines.specs.Line.{phase}
+use Rattle.agreement_core.specs.State.{CellRules, Shared, Section, Run, AgreementState}
+use Rattle.agreement_core.specs.Checks.{passes, stored_word, exchanged}
+use Rattle.agreement_core.specs.Events.{HasCome, IsPublishable, goes_on, with_cell}
+use Rattle.agreement_core.specs.Runs.{RunIsSound}
 use Rattle.agreement_core.specs.Sound.{VersionsAreSound, UsedIsSound, IsSound}
-use Rattle.agreement_core.proofs.Frame.{undone, not_both, word_frame, releases_frame}
+use Rattle.agreement_core.proofs.Frame.{not_both, word_frame, releases_frame}
 use Rattle.agreement_core.proofs.Going.{goes}
 use Rattle.agreement_core.proofs.Committing.{upd_here, upd_else}
 use Rattle.agreement_core.proofs.Storing.{puts, puts_words, puts_rises, puts_no_lock, store_undone, store_finds, store_version, store_rises, store_unlocked, store_come, section_store}
 use Rattle.agreement_core.proofs.Holding.{puts_lock, hold_undone, hold_rises, other_outcome, section_hold}
-use Rattle.agreement_core.proofs.Following.{Follows, follows_any, gives_number, stepped, run_stands, run_steps}
+use Rattle.agreement_core.proofs.Following.{follows_any, gives_number, stepped, run_stands, run_steps}
 use Rattle.agreement_core.proofs.Moving.{RunMoves, run_moves, changed}
-use Rattle.agreement_core.proofs.Stepping.{goes_sound, MayGo, lead_edge}
+use Rattle.agreement_core.proofs.Stepping.{lead_edge}
 use Rattle.agreement_core.proofs.Words.{value_held, version_held, free_value, unspent_room}
-use Rattle.agreement_core.proofs.Lines.{event_goes, outcome_lock, load_of_commit, load_of_hold, store_logged, stored_same, nested_logged, hold_lock, hold_free, hold_unspent}
+use Rattle.agreement_core.proofs.Lines.{outcome_lock, load_of_commit, store_logged, stored_same, hold_lock, hold_free, hold_unspent}
 
 later : (a b c' : ℕ) → a < b → b < c' → a < c'
 later a b c' lt lt' = omega arith
@@ -36,8 +34,8 @@ puts_versions c x place word more most old = record {
   positive = λ p. ⊎_elim (λ e. subst (λ n. 0 < version_of n) (sym (here p e)) (let b = old.positive place in omega arith)) (λ ne. subst (λ n. 0 < version_of n) (sym (upd_else x.cells place p word ne)) (old.positive p)) (cases_eq p place);
   bounded = λ p. ⊎_elim (λ e. subst (λ n. version_of n ≤ c.version_max) (sym (here p e)) most) (λ ne. subst (λ n. version_of n ≤ c.version_max) (sym (upd_else x.cells place p word ne)) (old.bounded p)) (cases_eq p place);
   past = λ p v seen. ⊎_elim
-    (λ e. inr (subst (λ n. version_of v < version_of n) (sym (here p e)) (below v (subst (λ n. (x.cells n ≡ v) ⊎ (version_of v < version_of (x.cells n))) e (old.past p v seen)))))
-    (λ ne. subst (λ n. (n ≡ v) ⊎ (version_of v < version_of n)) (sym (upd_else x.cells place p word ne)) (old.past p v seen)) (cases_eq p place);
+      (λ e. inr (subst (λ n. version_of v < version_of n) (sym (here p e)) (below v (subst (λ n. (x.cells n ≡ v) ⊎ (version_of v < version_of (x.cells n))) e (old.past p v seen)))))
+      (λ ne. subst (λ n. (n ≡ v) ⊎ (version_of v < version_of n)) (sym (upd_else x.cells place p word ne)) (old.past p v seen)) (cases_eq p place);
   read_positive = old.read_positive;
 }
   where
@@ -132,8 +130,8 @@ module _ (c : CellRules) (w : AgreementState) (old : IsSound c w) (r : ℕ) (run
         run_stands c x' d s own.published q' s.log store_open (λ n lt. refl) (record {
           in_trail = h.in_trail;
           in_word = word_frame c d s own.published x x' rises (puts_words x place stored) q' own.section.in_request h.in_trail.behind
-            (λ un' p n e is. same p (outcome_lock c s.lock s.code s.slot own.published.line q'.at p n e)) (λ p n e is. same p (outcome_lock c s.lock s.code s.slot own.published.line q'.at p n e))
-            (λ p n at' e. absurd (let a : 1 ≡ 4 = ap phase (sym e ∙ ap s.code at' ∙ next) in omega arith)) h.in_word;
+              (λ un' p n e is. same p (outcome_lock c s.lock s.code s.slot own.published.line q'.at p n e)) (λ p n e is. same p (outcome_lock c s.lock s.code s.slot own.published.line q'.at p n e))
+              (λ p n at' e. absurd (let a : 1 ≡ 4 = ap phase (sym e ∙ ap s.code at' ∙ next) in omega arith)) h.in_word;
           in_releases = releases_frame c d s own.published x x' rises (puts_words x place stored) q' locks h.in_releases;
         })
 
@@ -151,11 +149,11 @@ module _ (c : CellRules) (w : AgreementState) (old : IsSound c w) (r : ℕ) (run
           words = puts_words x place stored;
           section = section_store c x d s place k v own.published next own.section;
           run = run_steps c (puts x place stored) d (goes s) own.published q q.word going (omega arith) no_commit stands.in_trail stands.in_releases
-            (follows_any _ _ _ _ _ (ap (λ n. gives_number (s.code n)) at ∙ ap gives_number next));
+              (follows_any _ _ _ _ _ (ap (λ n. gives_number (s.code n)) at ∙ ap gives_number next));
           fellows = λ r' ne is e. store_fellow (w.run r') (fellow r' is e);
           others = λ d' ne u. record {
             loaded = λ un' p come. upd_else x.cells place p stored (λ e. old.apart d d' p (λ e'. ne (sym e')) (record { used = used; undone = store_open }) (record { used = u; undone = un' })
-              (subst (HasCome s) (sym e) (store_come c x d s place k v own.published next own.section)) come);
+                (subst (HasCome s) (sym e) (store_come c x d s place k v own.published next own.section)) come);
             locks = puts_no_lock c d' (w.section d') x place stored unlocked;
           };
           named = λ d' p lock is. inl (upd_else x.cells place p stored (λ e. not_both _ lock (ap c.is_lock e ∙ unlocked)));
@@ -176,8 +174,8 @@ module _ (c : CellRules) (w : AgreementState) (old : IsSound c w) (r : ℕ) (run
         let new_word : stored_word q.trail k v ≡ stored = stored_same c s.lock s.code s.slot own.published.line s.edge place k v q.trail s.log next trail_same in
         let moved : exchanged (x.cells place) (q.trail k) (stored_word q.trail k v) ≡ stored = exchange_wins _ _ _ old_word ∙ new_word in
         subst (λ n. IsSound c (record w { shared = puts x place n; section = upd w.section d (changed s s.log s.done (cond (nat_lt s.edge (suc q.at)) (suc q.at) s.edge)); run = upd w.run r (stepped q q.word) })) (sym moved)
-          (subst (λ n. IsSound c (record w { shared = puts x place stored; section = upd w.section d (changed s s.log s.done n); run = upd w.run r (stepped q q.word) })) (sym (lead_edge s.edge q.at at))
-            (run_moves c w r d (puts x place stored) s.log s.done (suc s.edge) (stepped q q.word) store_moves old))
+        (subst (λ n. IsSound c (record w { shared = puts x place stored; section = upd w.section d (changed s s.log s.done n); run = upd w.run r (stepped q q.word) })) (sym (lead_edge s.edge q.at at))
+        (run_moves c w r d (puts x place stored) s.log s.done (suc s.edge) (stepped q q.word) store_moves old))
 
   -- a nested lock that is taken at the edge
   module _ (at : q.at ≡ s.edge) (place free : ℕ) (next : s.code s.edge ≡ micros.NestedHold place free) (finds : x.cells place ≡ free) where
@@ -209,12 +207,12 @@ module _ (c : CellRules) (w : AgreementState) (old : IsSound c w) (r : ℕ) (run
     hold_fellow q' h =
         let x' = puts x place held in
         let else : (p n : ℕ) → s.code q'.at ≡ micros.OutcomeCommit p n → x'.cells p ≡ x.cells p =
-            λ p n e. upd_else x.cells place p held (other_outcome c x d s place free own.published next own.section finds q'.at p n h.in_trail.behind e) in
+        λ p n e. upd_else x.cells place p held (other_outcome c x d s place free own.published next own.section finds q'.at p n h.in_trail.behind e) in
         run_stands c x' d s own.published q' s.log hold_open (λ n lt. refl) (record {
           in_trail = h.in_trail;
           in_word = word_frame c d s own.published x x' (puts_rises x place held rises) (puts_words x place held) q' own.section.in_request h.in_trail.behind
-            (λ un' p n e is. else p n e) (λ p n e is. else p n e)
-            (λ p n at' e. absurd (not_both _ (ap is_commit (ap s.code (sym at') ∙ e)) (ap is_commit next))) h.in_word;
+              (λ un' p n e is. else p n e) (λ p n e is. else p n e)
+              (λ p n at' e. absurd (not_both _ (ap is_commit (ap s.code (sym at') ∙ e)) (ap is_commit next))) h.in_word;
           in_releases = record {
             only_ended = h.in_releases.only_ended;
             unnamed = λ p rel is v. h.in_trail.ended_done (h.in_releases.only_ended p rel) hold_open;
@@ -243,7 +241,7 @@ module _ (c : CellRules) (w : AgreementState) (old : IsSound c w) (r : ℕ) (run
           words = puts_words x place held;
           section = section_hold c x d s place free own.published next own.section finds;
           run = run_steps c (puts x place held) d (goes s) own.published q q.word going (omega arith) no_commit stands.in_trail stands.in_releases
-            (follows_any _ _ _ _ _ (ap (λ n. gives_number (s.code n)) at ∙ ap gives_number next));
+              (follows_any _ _ _ _ _ (ap (λ n. gives_number (s.code n)) at ∙ ap gives_number next));
           fellows = λ r' ne is e. hold_fellow (w.run r') (fellow r' is e);
           others = λ d' ne u. record {
             loaded = puts_lock c d' (w.section d') x place held (old.sections d' u).published lock;
@@ -262,5 +260,5 @@ module _ (c : CellRules) (w : AgreementState) (old : IsSound c w) (r : ℕ) (run
     pub hold_sound : IsSound c (with_cell (goes_on w r q.word) place (exchanged (x.cells place) free held))
     hold_sound =
         subst (λ n. IsSound c (record w { shared = puts x place n; section = upd w.section d (changed s s.log s.done (cond (nat_lt s.edge (suc q.at)) (suc q.at) s.edge)); run = upd w.run r (stepped q q.word) })) (sym (exchange_wins _ _ _ finds))
-          (subst (λ n. IsSound c (record w { shared = puts x place held; section = upd w.section d (changed s s.log s.done n); run = upd w.run r (stepped q q.word) })) (sym (lead_edge s.edge q.at at))
-            (run_moves c w r d (puts x place held) s.log s.done (suc s.edge) (stepped q q.word) hold_moves old))
+        (subst (λ n. IsSound c (record w { shared = puts x place held; section = upd w.section d (changed s s.log s.done n); run = upd w.run r (stepped q q.word) })) (sym (lead_edge s.edge q.at at))
+        (run_moves c w r d (puts x place held) s.log s.done (suc s.edge) (stepped q q.word) hold_moves old))

@@ -1,6 +1,5 @@
 -- Each event leaves every published section as it is, but for one more word, one more place, or the done word.
-use Rattle.std.proofs.Common.{◌≡◌, ◌≢◌, ℕ, zero, suc, ◌+◌, ◌<◌, ◌≤◌, Bool, true, false, cond, refl, sym, ap, ◌∙◌, subst, inl, inr, ⊎_elim, arith}
-use Rattle.std.specs.Prelude.{nat_lt}
+use Rattle.std.proofs.Common.{◌≡◌, ◌≢◌, ℕ, suc, false, refl, sym, ap, ◌∙◌, subst, arith}
 use Rattle.section_body.specs.Update.{upd}
 use Rattle.section_body.specs.Run.{written_once}
 use Rattle.agreement_core.specs.State.{CellRules, Section, AgreementState, section_of}
@@ -31,8 +30,10 @@ done_stays n ne = grind arith
 came_goes : (w : AgreementState) (r : ℕ) → SectionsGoOn w (record w { section = upd w.section ((w.run r).descriptor) (came (section_of w r) (suc ((w.run r).at))) })
 came_goes w r = one_goes w _ _ (record { lock = refl; word = refl; request = refl; code = refl; slot = refl; log = λ k some. refl; edge = edge_rises _ _; done = λ ne. refl })
 
-agrees_goes : (w : AgreementState) (r log proposal : ℕ) → SectionsGoOn w (record w { section = upd w.section ((w.run r).descriptor)
-    (came (record (section_of w r) { log = upd ((section_of w r).log) log (written_once ((section_of w r).log log) proposal) }) (suc ((w.run r).at))) })
+agrees_goes : (w : AgreementState) (r log proposal : ℕ) → SectionsGoOn w (record w {
+  section = upd w.section ((w.run r).descriptor)
+      (came (record (section_of w r) { log = upd ((section_of w r).log) log (written_once ((section_of w r).log log) proposal) }) (suc ((w.run r).at)));
+})
 agrees_goes w r log proposal = one_goes w _ _ (record { lock = refl; word = refl; request = refl; code = refl; slot = refl; log = λ k some. stays ((section_of w r).log) log proposal k some; edge = edge_rises _ _; done = λ ne. refl })
 
 module _ (c : CellRules) where

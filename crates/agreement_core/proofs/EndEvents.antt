@@ -1,31 +1,24 @@
 -- A run begins, passes a check, sets the done word, releases a lock: each keeps the invariant.
-use Rattle.std.proofs.Common.{◌≡◌, ◌≢◌, ℕ, zero, suc, ◌+◌, ◌*◌, ◌/◌, ◌<◌, ◌≤◌, Bool, true, false, cond, refl, sym, ap, ◌∙◌, subst, inl, inr, ⊎_elim, arith}
+use Rattle.std.proofs.Common.{◌≡◌, ◌≢◌, ℕ, Bool, true, false, refl, sym, ap, ◌∙◌, subst, inl, ⊎_elim, arith}
 use Rattle.std.proofs.lemmas.Bool.{cases_lt, cases_eq}
-use Rattle.std.specs.Prelude.{◌⊎◌, ◌^◌}
 use mathlib.Core.Path.{fun_ext}
 use Rattle.section_body.specs.Update.{upd}
 use Rattle.section_body.specs.Run.{written_once}
-use Rattle.section_body.specs.Line.{is_event, is_commit, is_check, is_end}
-use Rattle.section_body.specs.Word.{value_of, version_of, held_word, next_word, is_free, is_spent}
+use Rattle.section_body.specs.Line.{is_check, is_end}
 use Rattle.section_body.specs.declared.micro.Micro.{Micro}
-use Rattle.section_body.specs.declared.micro.Micro.TheVariants as micros
-use Rattle.agreement_core.specs.State.{CellRules, Shared, Section, Run, AgreementState, section_of, IsOpen}
-use Rattle.agreement_core.specs.Checks.{passes, is_stop, exchanged}
-use Rattle.agreement_core.specs.Events.{Event, Enabled, after, HasCome, HasTaken, IsPublishable, begun, with_cell}
-use Rattle.agreement_core.specs.Events.{Open, Pass, SetDone, Release}
-use Rattle.agreement_core.specs.Sections.{LogIsSound, CellsAreSound, LocksAreSound, RequestIsSound, SectionIsSound, HoldsWith}
-use Rattle.agreement_core.specs.Runs.{TrailIsSound, WordIsSound, ReleasesAreSound, RunIsSound}
+use Rattle.agreement_core.specs.State.{CellRules, Shared, Section, Run, AgreementState}
+use Rattle.agreement_core.specs.Checks.{passes, is_stop}
+use Rattle.agreement_core.specs.Events.{Enabled, after, begun}
+use Rattle.agreement_core.specs.Events.{Open, Pass, SetDone}
+use Rattle.agreement_core.specs.Sections.{SectionIsSound}
+use Rattle.agreement_core.specs.Runs.{RunIsSound}
 use Rattle.agreement_core.specs.Sound.{UsedIsSound, IsSound}
-use Rattle.agreement_core.proofs.Frame.{LeavesWords, undone, not_both}
+use Rattle.agreement_core.proofs.Frame.{LeavesWords, not_both}
 use Rattle.agreement_core.proofs.Committing.{upd_here, upd_else}
-use Rattle.agreement_core.proofs.Storing.{puts, puts_words, puts_rises}
-use Rattle.agreement_core.proofs.Holding.{puts_lock}
 use Rattle.agreement_core.proofs.Following.{run_begins}
-use Rattle.agreement_core.proofs.Moving.{RunMoves, run_moves, changed, SharedMoves, shared_moves}
-use Rattle.agreement_core.proofs.Changing.{puts_versions}
+use Rattle.agreement_core.proofs.Moving.{run_moves, changed}
 use Rattle.agreement_core.proofs.LineSteps.{pass_sound}
-use Rattle.agreement_core.proofs.Lines.{passes_same, stop_same, hold_once, hold_inner, hold_lock, hold_free, hold_unspent}
-use Rattle.agreement_core.proofs.Words.{value_held, version_held, version_next, value_next, unspent_room}
+use Rattle.agreement_core.proofs.Lines.{stop_same}
 
 upd_same_at : {A : Type 0} → (f : ℕ → A) (k : ℕ) (v : A) → v ≡ f k → (i : ℕ) → upd f k v i ≡ f i
 upd_same_at f k v e i = ⊎_elim (λ q. ap (upd f k v) q ∙ upd_here f k v ∙ e ∙ ap f (sym q)) (λ ne. upd_else f k i v ne) (cases_eq i k)
@@ -51,23 +44,23 @@ pub run_alone : (c : CellRules) (w : AgreementState) → IsSound c w → (r d : 
 run_alone c w old r d q' used running is run' =
     let s = w.section d in
     let moved : IsSound c (record w { shared = w.shared; section = upd w.section d (changed s s.log s.done s.edge); run = upd w.run r q' }) =
-      run_moves c w r d w.shared s.log s.done s.edge q' (record {
-        used = used;
-        running = running;
-        descriptor = is;
-        versions = old.versions;
-        rises = λ p. inl refl;
-        words = no_words w.shared;
-        section = (old.sections d used).section;
-        run = run';
-        fellows = λ r' ne is' e. subst (λ n. RunIsSound c w.shared n (w.section n) (w.run r')) e (old.runs r' is');
-        others = λ d' ne u. record { loaded = λ un p h. refl; locks = record { held = λ un p lock v. refl; named = λ p lock v. refl } };
-        named = λ d' p lock v. inl refl;
-        reopens = λ e. e;
-        kept_log = λ ne k. refl;
-        kept_edge = λ ne. refl;
-        come = λ un p h. inl h;
-      }) old in
+    run_moves c w r d w.shared s.log s.done s.edge q' (record {
+      used = used;
+      running = running;
+      descriptor = is;
+      versions = old.versions;
+      rises = λ p. inl refl;
+      words = no_words w.shared;
+      section = (old.sections d used).section;
+      run = run';
+      fellows = λ r' ne is' e. subst (λ n. RunIsSound c w.shared n (w.section n) (w.run r')) e (old.runs r' is');
+      others = λ d' ne u. record { loaded = λ un p h. refl; locks = record { held = λ un p lock v. refl; named = λ p lock v. refl } };
+      named = λ d' p lock v. inl refl;
+      reopens = λ e. e;
+      kept_log = λ ne k. refl;
+      kept_edge = λ ne. refl;
+      come = λ un p h. inl h;
+    }) old in
     subst (λ sections. IsSound c (record w { section = sections; run = upd w.run r q' })) (upd_same w.section d) moved
 
 pub open_run : (c : CellRules) (w : AgreementState) → IsSound c w → (r d : ℕ) → Enabled c w (Open r d) → IsSound c (after w (Open r d))
@@ -96,9 +89,9 @@ module _ (c : CellRules) (w : AgreementState) (old : IsSound c w) (r : ℕ) (run
   at_stop : is_stop c d q.trail (s.code q.at) ≡ true → q.at ≡ s.edge
   at_stop stop = ⊎_elim
       (λ lt.
-        let same = stop_same c s.lock s.code s.slot own.published.line d q.at q.trail s.log (λ k l. run.in_trail.agreed k (let e = run.in_trail.counted in omega arith)) in
-        let is = stop_is c d s.log _ (sym same ∙ stop) (own.section.in_log.within q.at lt) in
-        absurd (not_both _ (own.section.in_log.passed q.at lt is.0) is.1))
+      let same = stop_same c s.lock s.code s.slot own.published.line d q.at q.trail s.log (λ k l. run.in_trail.agreed k (let e = run.in_trail.counted in omega arith)) in
+      let is = stop_is c d s.log _ (sym same ∙ stop) (own.section.in_log.within q.at lt) in
+      absurd (not_both _ (own.section.in_log.passed q.at lt is.0) is.1))
       (λ le. let b = run.in_trail.behind in omega arith) (cases_lt q.at s.edge)
 
   stop_log : is_stop c d q.trail (s.code q.at) ≡ true → is_stop c d s.log (s.code s.edge) ≡ true

@@ -1,31 +1,27 @@
 -- Each event keeps the history exact: publications, exchanges of cells, stamps and replies.
-use Rattle.std.proofs.Common.{◌≡◌, ◌≢◌, ℕ, zero, suc, ◌+◌, ◌*◌, ◌<◌, ◌≤◌, Bool, true, false, cond, List, [], ◌∷◌, length, refl, sym, ap, ◌∙◌, subst, inl, inr, ⊎_elim, arith}
+use Rattle.std.proofs.Common.{◌≡◌, ◌≢◌, ℕ, suc, ◌<◌, ◌≤◌, true, false, List, [], ◌∷◌, length, refl, sym, ap, ◌∙◌, subst, ⊎_elim, arith}
 use Rattle.std.proofs.lemmas.Bool.{cases_lt, cases_eq}
-use Rattle.std.specs.Prelude.{◌⊎◌, nat_lt, ◌==◌}
 use mathlib.Core.Path.{fun_ext}
 use Rattle.section_body.specs.Update.{upd}
 use Rattle.section_body.specs.Run.{written_once}
-use Rattle.section_body.specs.Line.{is_commit, is_check, is_event}
 use Rattle.section_body.specs.declared.micro.Source.{Source}
 use Rattle.section_body.specs.declared.micro.Micro.{Micro}
 use Rattle.section_body.specs.declared.micro.Micro.TheVariants as micros
 use Rattle.agreement_core.specs.Update.{upd2}
-use Rattle.agreement_core.specs.State.{CellRules, Section, Run, AgreementState, section_of}
-use Rattle.agreement_core.specs.Checks.{passes, stored_word, came, is_stamp_exchange, is_reply_exchange}
-use Rattle.agreement_core.specs.Events.{Event, Enabled, after, IsPublishable, IsBefore}
-use Rattle.agreement_core.specs.Events.{Publish, StampExchange, ReplyExchange, ExchangeCell}
+use Rattle.agreement_core.specs.State.{CellRules, Section, Run, AgreementState}
+use Rattle.agreement_core.specs.Checks.{stored_word, came, is_stamp_exchange, is_reply_exchange}
+use Rattle.agreement_core.specs.Events.{Enabled, after}
+use Rattle.agreement_core.specs.Events.{Publish, ExchangeCell}
 use Rattle.agreement_core.specs.Runs.{RunIsSound}
 use Rattle.agreement_core.specs.Sound.{UsedIsSound, IsSound}
 use Rattle.agreement_core.specs.History.{Change, History, with_won, noted, change_of, moves_of, written, IsExact}
-use Rattle.agreement_core.proofs.Frame.{not_both}
 use Rattle.agreement_core.proofs.Committing.{upd_here, upd_else}
 use Rattle.agreement_core.proofs.Moving.{upd_split}
-use Rattle.agreement_core.proofs.Changing.{upd_found}
 use Rattle.agreement_core.proofs.Storing.{store_finds}
 use Rattle.agreement_core.proofs.Stepping.{lead_edge}
 use Rattle.agreement_core.proofs.LineEvents.{store_misses}
 use Rattle.agreement_core.proofs.Lines.{store_logged, stored_same}
-use Rattle.agreement_core.proofs.Noting.{above, below, moves_else, edge_rises, is_exchange, SectionLasts, lasts_same, lasts_came, lasts_then, lasts_logs, StatesLast, exact_same, one_lasts}
+use Rattle.agreement_core.proofs.Noting.{above, below, moves_else, edge_rises, lasts_came, exact_same, one_lasts}
 
 -- one exchange more
 pub won_here : {A : Type 0} → (found expected : ℕ) (x : A) (xs : List A) → found ≡ expected → with_won found expected x xs ≡ x ∷ xs
@@ -58,9 +54,9 @@ two_here f r s v = grind arith
 pub two_split : {A : Type 0} → (f : ℕ → ℕ → A) (r s : ℕ) (v : A) (Q : ℕ → ℕ → A → Type 0) → Q r s v → ((i j : ℕ) → Q i j (f i j)) → (i j : ℕ) → Q i j (upd2 f r s v i j)
 two_split f r s v Q here else i j = ⊎_elim
     (λ e. ⊎_elim
-      (λ e'. subst (λ n. Q n j (upd2 f r s v n j)) (sym e) (subst (λ n. Q r n (upd2 f r s v r n)) (sym e') (subst (Q r s) (sym (two_here f r s v)) here)))
-      (λ ne. subst (λ n. Q n j (upd2 f r s v n j)) (sym e) (subst (Q r j) (sym (two_row f r s v j ne)) (else r j)))
-      (cases_eq j s))
+    (λ e'. subst (λ n. Q n j (upd2 f r s v n j)) (sym e) (subst (λ n. Q r n (upd2 f r s v r n)) (sym e') (subst (Q r s) (sym (two_here f r s v)) here)))
+    (λ ne. subst (λ n. Q n j (upd2 f r s v n j)) (sym e) (subst (Q r j) (sym (two_row f r s v j ne)) (else r j)))
+    (cases_eq j s))
     (λ ne. subst (Q i j) (sym (two_else f r s v i j ne)) (else i j))
     (cases_eq i r)
 
@@ -93,9 +89,9 @@ module _ (c : CellRules) (w : AgreementState) (old : IsSound c w) (h : History) 
     apart_new : (d1 d2 : ℕ) → 1 ≤ numbers d1 → numbers d1 ≡ numbers d2 → d1 ≡ d2
     apart_new d1 d2 le same = ⊎_elim
         (λ e1. ⊎_elim (λ e2. e1 ∙ sym e2)
-          (λ ne2. absurd (fresh d2 (sym (upd_else h.section d d2 n ne2) ∙ sym same ∙ ap numbers e1 ∙ upd_here h.section d n))) (cases_eq d2 d))
+        (λ ne2. absurd (fresh d2 (sym (upd_else h.section d d2 n ne2) ∙ sym same ∙ ap numbers e1 ∙ upd_here h.section d n))) (cases_eq d2 d))
         (λ ne1. ⊎_elim (λ e2. absurd (fresh d1 (sym (upd_else h.section d d1 n ne1) ∙ same ∙ ap numbers e2 ∙ upd_here h.section d n)))
-          (λ ne2. exact.apart d1 d2 (subst (λ m. 1 ≤ m) (upd_else h.section d d1 n ne1) le) (sym (upd_else h.section d d1 n ne1) ∙ same ∙ upd_else h.section d d2 n ne2)) (cases_eq d2 d))
+        (λ ne2. exact.apart d1 d2 (subst (λ m. 1 ≤ m) (upd_else h.section d d1 n ne1) le) (sym (upd_else h.section d d1 n ne1) ∙ same ∙ upd_else h.section d d2 n ne2)) (cases_eq d2 d))
         (cases_eq d1 d)
 
     pub publish_exact : IsExact w1 (noted w h (Publish d lock word request code slot))
@@ -151,12 +147,12 @@ module _ (c : CellRules) (w : AgreementState) (old : IsSound c w) (h : History) 
     late_exact lt =
         let same = fun_ext (λ i. fun_ext (same_moved (store_misses c w old r place log v ok.running ok.next lt) i)) in
         subst (λ moved. IsExact stored (record h { moved = moved })) (sym same)
-          (exact_same w stored h (record {
-            stamp = λ n. refl;
-            reply = λ n. refl;
-            was_used = λ d' u. u;
-            sections = λ d' u. one_lasts w.section d (came s (suc q.at)) (lasts_came s q.at run.in_trail.behind (λ e. absurd (omega arith))) d';
-          }) exact)
+        (exact_same w stored h (record {
+          stamp = λ n. refl;
+          reply = λ n. refl;
+          was_used = λ d' u. u;
+          sections = λ d' u. one_lasts w.section d (came s (suc q.at)) (lasts_came s q.at run.in_trail.behind (λ e. absurd (omega arith))) d';
+        }) exact)
 
     -- the agreed words of the trail are those of the log
     trail_same : (k : ℕ) → k < s.slot q.at → q.trail k ≡ s.log k
@@ -183,7 +179,7 @@ module _ (c : CellRules) (w : AgreementState) (old : IsSound c w) (h : History) 
     own_moved : q.at ≡ s.edge → (i : ℕ) → moved' (h.section d) i ≡ moves_of (came s (suc q.at)) i
     own_moved at i = ⊎_elim
         (λ e. subst (λ n. moved' (h.section d) n ≡ moves_of (came s (suc q.at)) n) (sym e)
-          (two_here h.moved (h.section d) q.at _ ∙ won at ∙ change_is ∙ sym (below q.at _ _ _ (subst (λ n. q.at < n) (sym (lead_edge s.edge q.at at)) (omega arith)))))
+        (two_here h.moved (h.section d) q.at _ ∙ won at ∙ change_is ∙ sym (below q.at _ _ _ (subst (λ n. q.at < n) (sym (lead_edge s.edge q.at at)) (omega arith)))))
         (λ ne. two_row h.moved (h.section d) q.at _ i ne ∙ exact.moved d i used ∙ sym (moves_else s q.at i run.in_trail.behind (λ e. ne (e ∙ sym at))))
         (cases_eq i q.at)
 

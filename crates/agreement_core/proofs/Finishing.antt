@@ -1,20 +1,17 @@
 -- A run is over, and its record is kept.
-use Rattle.std.proofs.Common.{◌≡◌, ◌≢◌, ℕ, zero, suc, ◌+◌, ◌<◌, ◌≤◌, Bool, true, false, refl, sym, ap, ◌∙◌, subst, inl, inr, ⊎_elim, arith}
+use Rattle.std.proofs.Common.{◌≡◌, ◌≢◌, ℕ, suc, ◌<◌, true, false, refl, sym, ap, ◌∙◌, subst, inl, inr, ⊎_elim, arith}
 use Rattle.std.proofs.lemmas.Bool.{cases_lt, cases_eq}
-use Rattle.std.specs.Prelude.{◌⊎◌}
-use Rattle.section_body.specs.Update.{upd}
-use Rattle.section_body.specs.Line.{is_event, is_commit, is_check, is_end}
+use Rattle.section_body.specs.Line.{is_event}
 use Rattle.section_body.specs.Word.{value_of, version_of, held_word}
-use Rattle.section_body.specs.declared.micro.Micro.{Micro}
 use Rattle.section_body.specs.declared.micro.Micro.TheVariants as micros
 use Rattle.agreement_core.specs.Update.{upd2}
-use Rattle.agreement_core.specs.State.{CellRules, Shared, Section, Run, Finished, AgreementState}
+use Rattle.agreement_core.specs.State.{CellRules, Section, Run, Finished, AgreementState}
 use Rattle.agreement_core.specs.Checks.{passes, is_stop}
-use Rattle.agreement_core.specs.Events.{Event, Enabled, after, HasTaken, IsPublishable, finished_of}
+use Rattle.agreement_core.specs.Events.{Enabled, after, HasTaken, finished_of}
 use Rattle.agreement_core.specs.Events.{Finish}
-use Rattle.agreement_core.specs.Sections.{SectionIsSound, HoldsWith}
+use Rattle.agreement_core.specs.Sections.{HoldsWith}
 use Rattle.agreement_core.specs.Runs.{RunIsSound}
-use Rattle.agreement_core.specs.Sound.{UsedIsSound, FinishedAreSound, IsOf, IsWhole, AreOfOne, AreEqual, IsSound}
+use Rattle.agreement_core.specs.Sound.{UsedIsSound, IsOf, IsWhole, AreOfOne, AreEqual, IsSound}
 use Rattle.agreement_core.proofs.Frame.{not_both}
 use Rattle.agreement_core.proofs.Going.{at_edge}
 use Rattle.agreement_core.proofs.Committing.{upd_here, upd_else}
@@ -73,25 +70,25 @@ module _ (c : CellRules) (w : AgreementState) (old : IsSound c w) (r : ℕ) (ok 
   held_taken p names holds = ⊎_elim
       (λ o. (s.word, inl (o.0, refl)))
       (λ n.
-        let a = after_hold c s.lock s.code s.slot own.published.line own.published.whole n.0 p n.1 n.3 in
-        let stop = own.section.in_log.stops done in
-        let far : suc (suc (suc n.0)) < s.edge = beyond n.0 p n.1 a.0 names n.2 n.4 a.1 a.2 a.3 stop in
-        (n.1, inr (suc (suc (suc n.0)), a.0, let e = edge in omega arith, a.3)))
+      let a = after_hold c s.lock s.code s.slot own.published.line own.published.whole n.0 p n.1 n.3 in
+      let stop = own.section.in_log.stops done in
+      let far : suc (suc (suc n.0)) < s.edge = beyond n.0 p n.1 a.0 names n.2 n.4 a.1 a.2 a.3 stop in
+      (n.1, inr (suc (suc (suc n.0)), a.0, let e = edge in omega arith, a.3)))
       holds
     where
       beyond : (i p free k : ℕ) → value_of (w.shared.cells p) ≡ suc d → i < s.edge → w.shared.cells p ≡ held_word d free → is_event (s.code (suc i)) ≡ true → s.code (suc (suc i)) ≡ micros.OutcomeCommit p k
-        → s.code (suc (suc (suc i))) ≡ micros.CheckHeld p k free → is_stop c d s.log (s.code s.edge) ≡ true → suc (suc (suc i)) < s.edge
+          → s.code (suc (suc (suc i))) ≡ micros.CheckHeld p k free → is_stop c d s.log (s.code s.edge) ≡ true → suc (suc (suc i)) < s.edge
       beyond i p free k names lt is load commit check stop =
-        ⊎_elim (λ l. l) (λ le. absurd (⊎_elim
+          ⊎_elim (λ l. l) (λ le. absurd (⊎_elim
           (λ l1. ⊎_elim
-            (λ l2. not_both _ stop (event_goes c d s.log _ (let e : suc i ≡ s.edge = omega arith in subst (λ n. is_event (s.code n) ≡ true) e load)))
-            (λ e2. not_both _ stop (event_goes c d s.log _ (subst (λ n. is_event (s.code n) ≡ true) (sym e2) (ap is_event commit))))
-            (at_edge s.edge (suc (suc i)) (omega arith)))
+          (λ l2. not_both _ stop (event_goes c d s.log _ (let e : suc i ≡ s.edge = omega arith in subst (λ n. is_event (s.code n) ≡ true) e load)))
+          (λ e2. not_both _ stop (event_goes c d s.log _ (subst (λ n. is_event (s.code n) ≡ true) (sym e2) (ap is_event commit))))
+          (at_edge s.edge (suc (suc i)) (omega arith)))
           (λ e3.
-            let named = own.section.in_locks.outcome_named (suc (suc i)) p k (omega arith) commit names in
-            not_both _ stop (pass_goes c d s.log _ (ap (λ n. passes c d s.log (s.code n)) e3 ∙ ap (passes c d s.log) check ∙ held_passes c d s.log p k free (named ∙ is))))
+          let named = own.section.in_locks.outcome_named (suc (suc i)) p k (omega arith) commit names in
+          not_both _ stop (pass_goes c d s.log _ (ap (λ n. passes c d s.log (s.code n)) e3 ∙ ap (passes c d s.log) check ∙ held_passes c d s.log p k free (named ∙ is))))
           (at_edge s.edge (suc (suc (suc i))) (omega arith))))
-        (cases_lt (suc (suc (suc i))) s.edge)
+          (cases_lt (suc (suc (suc i))) s.edge)
 
   -- no lock names the section
   unnamed : (p : ℕ) → c.is_lock p ≡ true → value_of (w.shared.cells p) ≢ suc d

@@ -1,13 +1,10 @@
 -- The runs of a section when its first run goes on, and a run's own step.
-use Rattle.std.proofs.Common.{◌≡◌, ◌≢◌, ℕ, zero, suc, ◌+◌, ◌<◌, ◌≤◌, Bool, true, false, refl, sym, ap, ◌∙◌, subst, inl, inr, ⊎_elim, arith}
-use Rattle.std.proofs.lemmas.Bool.{cases_eq}
-use Rattle.std.specs.Prelude.{◌⊎◌}
+use Rattle.std.proofs.Common.{◌≡◌, ℕ, suc, ◌<◌, ◌≤◌, Bool, true, false, refl, sym, ap, ◌∙◌, subst, ⊎_elim, arith}
 use Rattle.section_body.specs.Update.{upd}
 use Rattle.section_body.specs.Line.{is_commit}
-use Rattle.section_body.specs.Word.{value_of}
 use Rattle.section_body.specs.declared.micro.Micro.{Micro}
 use Rattle.section_body.specs.declared.micro.Micro.TheVariants as micros
-use Rattle.section_lines.specs.Line.{phase, is_clock_raise}
+use Rattle.section_lines.specs.Line.{is_clock_raise}
 use Rattle.agreement_core.specs.State.{CellRules, Shared, Section, Run}
 use Rattle.agreement_core.specs.Checks.{is_stamp_exchange}
 use Rattle.agreement_core.specs.Events.{IsPublishable, begun}
@@ -119,8 +116,8 @@ module _ (c : CellRules) (x : Shared) (d : ℕ) (s : Section) (p : IsPublishable
       behind = behind;
       counted = ap suc counted ∙ sym (p.line.counted.slot_commit q.at commit);
       agreed = λ k lt. ⊎_elim
-        (λ l. upd_else q.trail q.count k word (omega arith) ∙ old k l)
-        (λ e. ap (upd q.trail q.count word) e ∙ upd_here q.trail q.count word ∙ sym is ∙ ap s.log (sym (e ∙ counted))) (at_edge k q.count lt);
+          (λ l. upd_else q.trail q.count k word (omega arith) ∙ old k l)
+          (λ e. ap (upd q.trail q.count word) e ∙ upd_here q.trail q.count word ∙ sym is ∙ ap s.log (sym (e ∙ counted))) (at_edge k q.count lt);
       ended_done = λ e. absurd (not_both _ e going);
       ended_edge = λ e. absurd (not_both _ e going);
     };

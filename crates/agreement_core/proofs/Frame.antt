@@ -1,17 +1,15 @@
 -- What a section and its runs keep while others change the shared words.
-use Rattle.std.proofs.Common.{◌≡◌, ◌≢◌, ℕ, zero, suc, ◌+◌, ◌/◌, ◌<◌, ◌≤◌, Bool, true, false, refl, sym, ap, ◌∙◌, subst, inl, inr, ⊎_elim, arith}
+use Rattle.std.proofs.Common.{◌≡◌, ◌≢◌, ℕ, zero, suc, ◌<◌, ◌≤◌, Bool, true, false, refl, sym, ap, ◌∙◌, subst, arith}
 use Rattle.std.specs.Prelude.{◌⊎◌}
 use Rattle.section_body.specs.Line.{is_event}
-use Rattle.section_body.specs.Word.{value_of, version_of, held_word}
-use Rattle.section_body.specs.declared.micro.Source.{Source}
-use Rattle.section_body.specs.declared.micro.Micro.{Micro}
+use Rattle.section_body.specs.Word.{value_of, version_of}
 use Rattle.section_body.specs.declared.micro.Micro.TheVariants as micros
 use Rattle.section_lines.specs.Line.{is_clock_raise}
 use Rattle.agreement_core.specs.State.{CellRules, Shared, Section, Run}
-use Rattle.agreement_core.specs.Checks.{is_stop, is_stamp_exchange}
+use Rattle.agreement_core.specs.Checks.{is_stop}
 use Rattle.agreement_core.specs.Events.{HasCome, IsPublishable}
 use Rattle.agreement_core.specs.Sections.{LogIsSound, CellsAreSound, LocksAreSound, RequestIsSound, SectionIsSound, HoldsWith}
-use Rattle.agreement_core.specs.Runs.{TrailIsSound, WordIsSound, ReleasesAreSound, RunIsSound}
+use Rattle.agreement_core.specs.Runs.{WordIsSound, ReleasesAreSound, RunIsSound}
 use Rattle.agreement_core.proofs.Words.{value_held, past_later, first_later}
 use Rattle.agreement_core.proofs.Lines.{event_goes, outcome_lock, stamp_of_raise}
 
@@ -124,7 +122,7 @@ module _ (c : CellRules) (d : ℕ) (s : Section) (p : IsPublishable c d s.lock s
   run_frame q leaves section old = record {
     in_trail = old.in_trail;
     in_word = word_frame q section.in_request old.in_trail.behind
-      (λ un place k e. leaves.locks.held un place (outcome_lock c s.lock s.code s.slot p.line q.at place k e))
-      (λ place k e. leaves.locks.named place (outcome_lock c s.lock s.code s.slot p.line q.at place k e)) (standing_frame q section.in_log old.in_trail.behind leaves.loaded old.in_word) old.in_word;
+        (λ un place k e. leaves.locks.held un place (outcome_lock c s.lock s.code s.slot p.line q.at place k e))
+        (λ place k e. leaves.locks.named place (outcome_lock c s.lock s.code s.slot p.line q.at place k e)) (standing_frame q section.in_log old.in_trail.behind leaves.loaded old.in_word) old.in_word;
     in_releases = releases_frame q leaves.locks old.in_releases;
   }

@@ -1,15 +1,15 @@
 -- A section whose first run goes on behind a step that commits nothing and changes no cell.
-use Rattle.std.proofs.Common.{◌≡◌, ◌≢◌, ℕ, zero, suc, ◌+◌, ◌/◌, ◌<◌, ◌≤◌, Bool, true, false, refl, sym, ap, ◌∙◌, subst, inl, inr, ⊎_elim, arith}
+use Rattle.std.proofs.Common.{◌≡◌, ◌≢◌, ℕ, suc, ◌/◌, ◌<◌, ◌≤◌, true, false, sym, ap, ◌∙◌, subst, inl, inr, ⊎_elim, arith}
 use Rattle.std.specs.Prelude.{◌⊎◌}
-use Rattle.section_body.specs.Line.{is_event, is_commit, is_check, is_end}
-use Rattle.section_body.specs.Word.{value_of, version_of, held_word}
+use Rattle.section_body.specs.Line.{is_commit, is_check, is_end}
+use Rattle.section_body.specs.Word.{version_of}
 use Rattle.section_body.specs.declared.micro.Source.{Source}
 use Rattle.section_body.specs.declared.micro.Micro.{Micro}
 use Rattle.section_body.specs.declared.micro.Micro.TheVariants as micros
 use Rattle.section_lines.specs.Line.{is_clock_raise}
-use Rattle.agreement_core.specs.State.{CellRules, Shared, Section, Run}
+use Rattle.agreement_core.specs.State.{CellRules, Shared, Section}
 use Rattle.agreement_core.specs.Checks.{passes, is_stop, is_stamp_exchange, is_reply_exchange}
-use Rattle.agreement_core.specs.Sections.{LogIsSound, CellsAreSound, LocksAreSound, RequestIsSound, SectionIsSound, HoldsWith}
+use Rattle.agreement_core.specs.Sections.{LogIsSound, CellsAreSound, LocksAreSound, RequestIsSound, HoldsWith}
 use Rattle.agreement_core.proofs.Frame.{undone, not_both}
 
 -- the edge moves by one

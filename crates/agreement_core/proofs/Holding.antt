@@ -1,19 +1,16 @@
 -- A section whose first run takes a nested lock.
-use Rattle.std.proofs.Common.{◌≡◌, ◌≢◌, ℕ, zero, suc, ◌+◌, ◌<◌, ◌≤◌, Bool, true, false, refl, sym, ap, ◌∙◌, subst, inl, inr, ⊎_elim, arith}
+use Rattle.std.proofs.Common.{◌≡◌, ◌≢◌, ℕ, ◌<◌, ◌≤◌, true, false, sym, ap, ◌∙◌, subst, inr, ⊎_elim, arith}
 use Rattle.std.proofs.lemmas.Bool.{cases_eq}
-use Rattle.std.specs.Prelude.{◌⊎◌}
 use Rattle.section_body.specs.Update.{upd}
 use Rattle.section_body.specs.Line.{is_event, is_commit}
 use Rattle.section_body.specs.Word.{value_of, version_of, held_word}
-use Rattle.section_body.specs.declared.micro.Source.{Source}
-use Rattle.section_body.specs.declared.micro.Micro.{Micro}
 use Rattle.section_body.specs.declared.micro.Micro.TheVariants as micros
 use Rattle.section_lines.specs.Line.{phase, is_clock_raise}
-use Rattle.agreement_core.specs.State.{CellRules, Shared, Section, Run}
-use Rattle.agreement_core.specs.Checks.{is_stop, stored_word, is_stamp_exchange, is_reply_exchange}
-use Rattle.agreement_core.specs.Events.{HasCome, IsPublishable}
-use Rattle.agreement_core.specs.Sections.{LogIsSound, CellsAreSound, LocksAreSound, RequestIsSound, SectionIsSound, HoldsWith}
-use Rattle.agreement_core.proofs.Frame.{LeavesLoaded, LeavesLocks, LeavesWords, Rises, undone, not_both, cells_frame, request_frame}
+use Rattle.agreement_core.specs.State.{CellRules, Shared, Section}
+use Rattle.agreement_core.specs.Checks.{is_stop, is_stamp_exchange, is_reply_exchange}
+use Rattle.agreement_core.specs.Events.{IsPublishable}
+use Rattle.agreement_core.specs.Sections.{LocksAreSound, SectionIsSound, HoldsWith}
+use Rattle.agreement_core.proofs.Frame.{LeavesLoaded, undone, not_both, cells_frame, request_frame}
 use Rattle.agreement_core.proofs.Going.{goes, at_edge, log_goes, cells_goes, holds_goes, request_goes}
 use Rattle.agreement_core.proofs.Committing.{upd_here, upd_else}
 use Rattle.agreement_core.proofs.Storing.{puts, puts_words, puts_rises}
@@ -67,22 +64,22 @@ module _ (c : CellRules) (x : Shared) (d : ℕ) (s : Section) (place w : ℕ) (p
     outer_held = λ un. upd_else x.cells place s.lock new (λ q. hold_inner c s.lock s.code s.slot p.line s.edge place w at (sym q)) ∙ old.in_locks.outer_held un;
     outer_past = past_later _ _ _ old.in_locks.outer_past (puts_rises x place new hold_rises s.lock);
     nested_past = λ i p' free lt e. ⊎_elim
-      (λ l. past_later _ _ _ (old.in_locks.nested_past i p' free l e) (puts_rises x place new hold_rises p'))
-      (λ q. let f = same_hold p' free place w (sym e ∙ ap s.code q ∙ at) in
+        (λ l. past_later _ _ _ (old.in_locks.nested_past i p' free l e) (puts_rises x place new hold_rises p'))
+        (λ q. let f = same_hold p' free place w (sym e ∙ ap s.code q ∙ at) in
         let a : upd x.cells place new p' ≡ new = ap (upd x.cells place new) f.0 ∙ upd_here x.cells place new in
         subst (λ n. version_of free < version_of n) (sym a) (subst (λ n. version_of n < version_of new) (sym f.1) (subst (λ n. version_of n < version_of new) finds hold_rises)))
-      (at_edge i s.edge lt);
+        (at_edge i s.edge lt);
     nested_read = λ i p' k lt e. ⊎_elim (λ l. old.in_locks.nested_read i p' k l e) (λ q. absurd (not_both _ (ap is_commit (ap s.code (sym q) ∙ e)) no_commit)) (at_edge i s.edge lt);
     outcome_read = λ i p' k lt e. ⊎_elim (λ l. old.in_locks.outcome_read i p' k l e) (λ q. absurd (no_outcome i p' k q e)) (at_edge i s.edge lt);
     outcome_held = λ un i p' k lt e v. ⊎_elim (λ l. else i p' k (omega arith) e ∙ old.in_locks.outcome_held un i p' k l e v) (λ q. absurd (no_outcome i p' k q e)) (at_edge i s.edge lt);
     outcome_named = λ i p' k lt e v. ⊎_elim
-      (λ l. let same = else i p' k (omega arith) e in old.in_locks.outcome_named i p' k l e (ap value_of (sym same) ∙ v) ∙ sym same)
-      (λ q. absurd (no_outcome i p' k q e)) (at_edge i s.edge lt);
+        (λ l. let same = else i p' k (omega arith) e in old.in_locks.outcome_named i p' k l e (ap value_of (sym same) ∙ v) ∙ sym same)
+        (λ q. absurd (no_outcome i p' k q e)) (at_edge i s.edge lt);
     held = λ p' lock v. ⊎_elim
-      (λ q. inr (s.edge, w, omega arith, at ∙ ap (λ n. micros.NestedHold n w) (sym q), ap (upd x.cells place new) q ∙ upd_here x.cells place new))
-      (λ ne. let same = upd_else x.cells place p' new ne in
+        (λ q. inr (s.edge, w, omega arith, at ∙ ap (λ n. micros.NestedHold n w) (sym q), ap (upd x.cells place new) q ∙ upd_here x.cells place new))
+        (λ ne. let same = upd_else x.cells place p' new ne in
         subst (HoldsWith d (goes s) p') (sym same) (holds_goes d s p' (x.cells p') (old.in_locks.held p' lock (ap value_of (sym same) ∙ v))))
-      (cases_eq p' place);
+        (cases_eq p' place);
   }
 
   pub section_hold : SectionIsSound c (puts x place new) d (goes s)
@@ -92,8 +89,8 @@ module _ (c : CellRules) (x : Shared) (d : ℕ) (s : Section) (place w : ℕ) (p
       record {
         in_log = log_goes c d s hold_goes no_commit (p.line.counted.slot_same s.edge no_commit) old.in_log;
         in_cells = cells_goes x' s no_commit (λ p' k v e. absurd (let a : 1 ≡ 4 = ap phase (sym at ∙ e) in omega arith))
-          (cells_frame c d s p x x' rises (puts_words x place new) (puts_lock c d s x place new p is_lock) old.in_cells);
+            (cells_frame c d s p x x' rises (puts_words x place new) (puts_lock c d s x place new p is_lock) old.in_cells);
         in_locks = locks_hold;
         in_request = request_goes x' s (λ e. absurd (not_both _ e (ap is_stamp_exchange at))) (λ e. absurd (not_both _ e (ap is_clock_raise at))) (λ e. absurd (not_both _ e (ap is_reply_exchange at)))
-          (request_frame c d s p x x' rises (puts_words x place new) old.in_request);
+            (request_frame c d s p x x' rises (puts_words x place new) old.in_request);
       }

@@ -1,20 +1,19 @@
 -- What stands in the history stays; what it says of a section that is done.
-use Rattle.std.proofs.Common.{◌≡◌, ◌≢◌, ℕ, zero, suc, ◌+◌, ◌*◌, ◌<◌, ◌≤◌, Bool, true, false, cond, List, [], ◌∷◌, length, refl, sym, ap, ◌∙◌, subst, inl, inr, ⊎_elim, arith}
-use Rattle.std.proofs.lemmas.Bool.{cases_lt, cases_eq}
-use Rattle.std.specs.Prelude.{◌⊎◌, nat_lt}
+use Rattle.std.proofs.Common.{◌≡◌, ◌≢◌, ℕ, ◌<◌, ◌≤◌, true, false, List, [], ◌∷◌, length, refl, ap, ◌∙◌, subst, inl, inr, ⊎_elim, arith}
+use Rattle.std.proofs.lemmas.Bool.{cases_lt}
+use Rattle.std.specs.Prelude.{◌⊎◌}
 use Rattle.section_body.specs.Update.{upd}
-use Rattle.section_body.specs.Line.{is_commit, is_check, is_end}
+use Rattle.section_body.specs.Line.{is_check, is_end}
 use Rattle.section_body.specs.declared.micro.Source.{Source}
 use Rattle.section_body.specs.declared.micro.Micro.{Micro}
 use Rattle.section_body.specs.declared.micro.Micro.TheVariants as micros
 use Rattle.section_lines.specs.Line.{phase}
-use Rattle.agreement_core.specs.State.{CellRules, Section, Run, AgreementState, section_of}
-use Rattle.agreement_core.specs.Checks.{is_stop, stored_word, is_stamp_exchange, is_reply_exchange}
-use Rattle.agreement_core.specs.Events.{Event, Enabled, after}
-use Rattle.agreement_core.specs.Events.{Publish, RetireDescriptor, Free, StoreLog, StoreDone, Read, Open, Pass, SetDone, Release, Finish, LoadCell, Commit, NestedLoad, NestedCommit, NestedHold, OutcomeLoad, OutcomeCommit, PrivateLoad, PrivateStore, MakeCommit, ClockLoad, StampExchange, ClockRaise, ExchangeCell, EpochForRetire, RetireCommit, ReplyExchange}
+use Rattle.agreement_core.specs.State.{CellRules, Section, AgreementState, section_of}
+use Rattle.agreement_core.specs.Checks.{is_stop, is_stamp_exchange, is_reply_exchange}
+use Rattle.agreement_core.specs.Events.{Event, Enabled}
+use Rattle.agreement_core.specs.Events.{Publish, StampExchange, ExchangeCell, ReplyExchange}
 use Rattle.agreement_core.specs.Sound.{UsedIsSound, IsSound}
-use Rattle.agreement_core.specs.History.{History, with_won, noted, change_of, moves_of, written, IsExact, Lasts, HasAnswered, HasLeft, HappenedOnce, NothingHappened}
-use Rattle.agreement_core.proofs.Frame.{not_both}
+use Rattle.agreement_core.specs.History.{History, with_won, noted, change_of, written, IsExact, Lasts, HasAnswered, HasLeft, HappenedOnce, NothingHappened}
 use Rattle.agreement_core.proofs.Moving.{upd_split}
 use Rattle.agreement_core.proofs.LineEvents.{store_misses}
 use Rattle.agreement_core.proofs.Noting.{is_exchange, no_change, below, above}
@@ -43,9 +42,9 @@ module _ (c : CellRules) (w : AgreementState) (old : IsSound c w) (h : History) 
       let s = section_of w r in
       record {
         moved = two_split h.moved (h.section q.descriptor) q.at _ (λ n i xs. 1 ≤ length (h.moved n i) → xs ≡ h.moved n i)
-          (λ le. ⊎_elim (λ lt. won_not _ _ _ _ (store_misses c w old r place log v ok.running ok.next lt))
+            (λ le. ⊎_elim (λ lt. won_not _ _ _ _ (store_misses c w old r place log v ok.running ok.next lt))
             (λ ge. absurd (none_of _ le (exact.moved q.descriptor q.at used ∙ above q.at s.edge _ _ ge))) (cases_lt q.at s.edge))
-          (λ n i le. refl);
+            (λ n i le. refl);
         stamps = λ n le. refl;
         replies = λ n le. refl;
         stamped = λ n le. refl;
@@ -115,9 +114,9 @@ module _ (c : CellRules) (w : AgreementState) (old : IsSound c w) (h : History) 
   before_end : HasAnswered s → (i : ℕ) → phase (s.code i) < 7 → i < s.edge
   before_end answered i lt = ⊎_elim (λ l. l)
       (λ le.
-        let a : phase (s.code s.edge) ≡ 7 = ap phase (end_is _ answered.ended) in
-        let b = own.published.line.in_phases.phases s.edge i le in
-        absurd (omega arith))
+      let a : phase (s.code s.edge) ≡ 7 = ap phase (end_is _ answered.ended) in
+      let b = own.published.line.in_phases.phases s.edge i le in
+      absurd (omega arith))
       (cases_lt i s.edge)
 
   pub happened : HasAnswered s → HappenedOnce w h d
@@ -127,7 +126,7 @@ module _ (c : CellRules) (w : AgreementState) (old : IsSound c w) (h : History) 
       let at_answer : line.answer < s.edge = before_end answered line.answer (let a : phase (s.code line.answer) ≡ 6 = ap phase line.answers in omega arith) in
       record {
         moved = λ i place k v e.
-          exact.moved d i used ∙ below i s.edge _ _ (before_end answered i (let a : phase (s.code i) ≡ 4 = ap phase e in omega arith)) ∙ ap (change_of s.log) e;
+            exact.moved d i used ∙ below i s.edge _ _ (before_end answered i (let a : phase (s.code i) ≡ 4 = ap phase e in omega arith)) ∙ ap (change_of s.log) e;
         stamp = exact.stamps s.request ∙ written_some _ (own.section.in_request.stamped line.stamp at_stamp (ap is_stamp_exchange line.stamps));
         reply = exact.replies s.request ∙ written_some _ (own.section.in_request.replied line.answer at_answer (ap is_reply_exchange line.answers));
       }
@@ -138,8 +137,8 @@ module _ (c : CellRules) (w : AgreementState) (old : IsSound c w) (h : History) 
       let early : (i : ℕ) → i < s.edge → phase (s.code i) ≤ 1 = λ i lt. let a = check_phase _ left.check in let b = own.published.line.in_phases.phases i s.edge (let z = lt in omega arith) in omega arith in
       record {
         moved = λ i. exact.moved d i used ∙ ⊎_elim
-          (λ lt. below i s.edge _ _ lt ∙ no_change s.log _ (late_phase _ (early i lt)).0)
-          (λ le. above i s.edge _ _ le) (cases_lt i s.edge);
+            (λ lt. below i s.edge _ _ lt ∙ no_change s.log _ (late_phase _ (early i lt)).0)
+            (λ le. above i s.edge _ _ le) (cases_lt i s.edge);
         stamp = exact.stamped_late d used (λ i lt. (late_phase _ (early i lt)).1);
         reply = exact.replied_late d used (λ i lt. (late_phase _ (early i lt)).2);
       }

@@ -1,28 +1,21 @@
 -- Each step of a run's line keeps the invariant, kind by kind.
-use Rattle.std.proofs.Common.{◌≡◌, ◌≢◌, ℕ, zero, suc, ◌+◌, ◌*◌, ◌/◌, ◌<◌, ◌≤◌, Bool, true, false, cond, refl, sym, ap, ◌∙◌, subst, inl, inr, ⊎_elim, arith}
-use Rattle.std.proofs.lemmas.Bool.{cases_lt, cases_eq}
-use Rattle.std.specs.Prelude.{◌⊎◌, max, not, ◌||◌, ◌&&◌, ◌==◌}
-use Rattle.section_body.specs.Update.{upd}
-use Rattle.section_body.specs.Run.{written_once}
-use Rattle.section_body.specs.Line.{is_event, is_commit, is_check, is_end}
-use Rattle.section_body.specs.Word.{value_of, version_of, held_word}
-use Rattle.section_body.specs.declared.micro.Source.{Source}
+use Rattle.std.proofs.Common.{◌≡◌, ◌≢◌, ℕ, suc, ◌<◌, ◌≤◌, Bool, true, false, sym, ap, ◌∙◌, subst, arith}
+use Rattle.std.specs.Prelude.{max}
+use Rattle.section_body.specs.Line.{is_event, is_commit, is_check}
+use Rattle.section_body.specs.Word.{version_of}
 use Rattle.section_body.specs.declared.micro.Micro.{Micro}
 use Rattle.section_body.specs.declared.micro.Micro.TheVariants as micros
 use Rattle.section_lines.specs.Line.{phase, is_clock_raise}
-use Rattle.agreement_core.specs.State.{CellRules, Shared, Section, Run, AgreementState, section_of, IsOpen}
-use Rattle.agreement_core.specs.Checks.{passes, is_stop, stored_word, exchanged, is_stamp_exchange, is_reply_exchange}
-use Rattle.agreement_core.specs.Events.{Event, Enabled, after, HasCome, IsAlone, IsBefore, IsPublishable, IsPrivateStore, goes_on, agrees, reads, with_cell}
-use Rattle.agreement_core.specs.Sections.{SectionIsSound}
+use Rattle.agreement_core.specs.State.{CellRules, Section, Run, AgreementState}
+use Rattle.agreement_core.specs.Checks.{passes, is_stop, is_stamp_exchange, is_reply_exchange}
+use Rattle.agreement_core.specs.Events.{goes_on, agrees}
 use Rattle.agreement_core.specs.Runs.{RunIsSound}
 use Rattle.agreement_core.specs.Sound.{UsedIsSound, IsSound}
 use Rattle.agreement_core.proofs.Frame.{undone, not_both}
-use Rattle.agreement_core.proofs.Committing.{upd_here, MayCommit}
+use Rattle.agreement_core.proofs.Committing.{MayCommit}
 use Rattle.agreement_core.proofs.Following.{Follows, follows_any, gives_number}
 use Rattle.agreement_core.proofs.Stepping.{MayGo, goes_sound, agrees_sound}
-use Rattle.agreement_core.proofs.Changing.{fails_sound, store_sound, hold_sound}
-use Rattle.agreement_core.proofs.Reading.{reads_sound, marks_here, stamps_sound, written_some, replies_sound, raises_sound, stores_sound}
-use Rattle.agreement_core.proofs.Lines.{event_goes, pass_goes, passes_same, load_of_hold, store_logged, nested_logged}
+use Rattle.agreement_core.proofs.Lines.{event_goes, pass_goes, passes_same}
 
 -- the steps that have no effect at the edge, and after which no cell is come to
 abbrev pub is_plain : Micro → Bool
@@ -150,13 +143,13 @@ module _ (c : CellRules) (w : AgreementState) (old : IsSound c w) (r : ℕ) (run
   pub make_commit_sound : (k proposal : ℕ) → s.code q.at ≡ micros.MakeCommit k → 0 < proposal → IsSound c (agrees w r k proposal)
   make_commit_sound k proposal e some = agrees_sound c w old r running going k proposal (own.published.line.counted.make_log q.at k e) (ap is_commit e) (ap is_event e)
       (own_commits proposal some (λ p n f. let a : 1 ≡ 2 = ap phase (sym f ∙ e) in omega arith) (λ p n f. let a : 1 ≡ 2 = ap phase (sym f ∙ e) in omega arith) (λ p n f. let a : 1 ≡ 2 = ap phase (sym f ∙ e) in omega arith)
-        (λ slot n f. let a : 5 ≡ 2 = ap phase (sym f ∙ e) in absurd (omega arith)))
+      (λ slot n f. let a : 5 ≡ 2 = ap phase (sym f ∙ e) in absurd (omega arith)))
       (follows_any _ _ _ _ _ (ap gives_number e))
 
   pub retire_commit_sound : (slot k : ℕ) → s.code q.at ≡ micros.RetireCommit slot k → IsSound c (agrees w r k (suc slot))
   retire_commit_sound slot k e = agrees_sound c w old r running going k (suc slot) (own.published.line.counted.retire_log q.at slot k e) (ap is_commit e) (ap is_event e)
       (own_commits (suc slot) (omega arith) (λ p n f. let a : 1 ≡ 5 = ap phase (sym f ∙ e) in omega arith) (λ p n f. let a : 1 ≡ 5 = ap phase (sym f ∙ e) in omega arith) (λ p n f. let a : 1 ≡ 5 = ap phase (sym f ∙ e) in omega arith)
-        (λ slot' n f. ap suc (same_retire slot k slot' n (sym e ∙ f))))
+      (λ slot' n f. ap suc (same_retire slot k slot' n (sym e ∙ f))))
       (follows_any _ _ _ _ _ (ap gives_number e))
 
   -- a plain step behind which the next one doesn't go by its number
@@ -167,18 +160,18 @@ module _ (c : CellRules) (w : AgreementState) (old : IsSound c w) (r : ℕ) (run
   pass_sound pass =
       let check = pass_checks c q.descriptor q.trail _ pass in
       let agreed : passes c q.descriptor s.log (s.code q.at) ≡ true =
-        sym (passes_same c s.lock s.code s.slot own.published.line q.descriptor q.at q.trail s.log (λ k lt. run.in_trail.agreed k (let e = run.in_trail.counted in omega arith))) ∙ pass in
+      sym (passes_same c s.lock s.code s.slot own.published.line q.descriptor q.at q.trail s.log (λ k lt. run.in_trail.agreed k (let e = run.in_trail.counted in omega arith))) ∙ pass in
       goes_sound c w old r running going q.word (check_commits _ check)
-        (λ at.
-          let check' : is_check (s.code s.edge) ≡ true = subst (λ n. is_check (s.code n) ≡ true) at check in
-          let quiet = check_quiet _ check' in
-          record {
-            goes = subst (λ n. is_stop c q.descriptor s.log (s.code n) ≡ false) at (pass_goes c q.descriptor s.log (s.code q.at) agreed);
-            no_exchange = λ p k v e. not_both _ check' (ap is_check e);
-            hold = λ p free e. absurd (not_both _ check' (ap is_check e));
-            stamp = λ e. absurd (not_both _ e quiet.0);
-            raise = λ e. absurd (not_both _ e quiet.1);
-            reply = λ e. absurd (not_both _ e quiet.2);
-            alone = λ p k e. absurd (not_both _ check' (ap is_check e));
-          })
-        (follows_any _ _ _ _ _ (check_numbers _ check))
+      (λ at.
+      let check' : is_check (s.code s.edge) ≡ true = subst (λ n. is_check (s.code n) ≡ true) at check in
+      let quiet = check_quiet _ check' in
+      record {
+        goes = subst (λ n. is_stop c q.descriptor s.log (s.code n) ≡ false) at (pass_goes c q.descriptor s.log (s.code q.at) agreed);
+        no_exchange = λ p k v e. not_both _ check' (ap is_check e);
+        hold = λ p free e. absurd (not_both _ check' (ap is_check e));
+        stamp = λ e. absurd (not_both _ e quiet.0);
+        raise = λ e. absurd (not_both _ e quiet.1);
+        reply = λ e. absurd (not_both _ e quiet.2);
+        alone = λ p k e. absurd (not_both _ check' (ap is_check e));
+      })
+      (follows_any _ _ _ _ _ (check_numbers _ check))

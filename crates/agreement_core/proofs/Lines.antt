@@ -1,17 +1,16 @@
 -- What follows from the facts of a line.
-use Rattle.std.proofs.Common.{◌≡◌, ◌≢◌, ℕ, zero, suc, ◌+◌, ◌<◌, ◌≤◌, Bool, true, false, refl, sym, ap, ◌∙◌, subst, inl, inr, ⊎_elim, arith}
-use Rattle.std.proofs.lemmas.Bool.{cases_lt, cases_eq}
-use Rattle.section_body.specs.Line.{is_check, is_commit, is_end, is_event}
+use Rattle.std.proofs.Common.{◌≡◌, ◌≢◌, ℕ, zero, suc, ◌<◌, Bool, true, false, refl, sym, ap, ◌∙◌, subst, ⊎_elim, arith}
+use Rattle.std.proofs.lemmas.Bool.{cases_lt}
+use Rattle.section_body.specs.Line.{is_commit, is_event}
 use Rattle.std.specs.Prelude.{◌==◌, ◌&&◌, ◌||◌, ◌^◌, not}
 use Rattle.section_body.specs.Word.{is_free, is_spent, held_word, next_word, version_of, value_of}
 use Rattle.section_body.specs.declared.micro.Source.{Source}
 use Rattle.section_body.specs.declared.micro.Source.TheVariants.{Fixed, Agreed}
 use Rattle.section_body.specs.declared.micro.Micro.{Micro}
 use Rattle.section_body.specs.declared.micro.Micro.TheVariants as micros
-use Rattle.section_lines.specs.Line.{phase, IsLine, LoadedBefore, IsWholeLine, is_clock_raise}
+use Rattle.section_lines.specs.Line.{phase, IsLine, IsWholeLine, is_clock_raise}
 use Rattle.agreement_core.specs.State.{CellRules}
-use Rattle.agreement_core.specs.Checks.{passes, is_stop, source_in, stored_word, is_stamp_exchange, is_reply_exchange}
-
+use Rattle.agreement_core.specs.Checks.{passes, is_stop, source_in, stored_word, is_stamp_exchange}
 use Rattle.agreement_core.proofs.Words.{value_small, version_next}
 
 -- a step on the shared words is no stop

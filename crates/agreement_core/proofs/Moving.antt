@@ -1,15 +1,15 @@
 -- The whole state after a change of the shared words, and after a step of one run.
-use Rattle.std.proofs.Common.{◌≡◌, ◌≢◌, ℕ, zero, suc, ◌+◌, ◌<◌, ◌≤◌, Bool, true, false, refl, sym, ap, ◌∙◌, subst, inl, inr, ⊎_elim, arith}
+use Rattle.std.proofs.Common.{◌≡◌, ◌≢◌, ℕ, suc, ◌<◌, Bool, true, refl, sym, ap, ◌∙◌, subst, ⊎_elim}
 use Rattle.std.proofs.lemmas.Bool.{cases_eq}
 use Rattle.std.specs.Prelude.{◌⊎◌}
 use Rattle.section_body.specs.Update.{upd}
-use Rattle.section_body.specs.Word.{value_of, version_of}
+use Rattle.section_body.specs.Word.{value_of}
 use Rattle.agreement_core.specs.State.{CellRules, Shared, Section, Run, Finished, AgreementState, section_of, IsOpen}
-use Rattle.agreement_core.specs.Events.{HasCome, IsAlone, IsPublishable}
+use Rattle.agreement_core.specs.Events.{HasCome, IsAlone}
 use Rattle.agreement_core.specs.Sections.{SectionIsSound}
 use Rattle.agreement_core.specs.Runs.{RunIsSound}
-use Rattle.agreement_core.specs.Sound.{VersionsAreSound, FinishedAreSound, UsedIsSound, IsOf, IsWhole, AreOfOne, AreEqual, IsSound}
-use Rattle.agreement_core.proofs.Frame.{LeavesLoaded, LeavesLocks, LeavesCells, LeavesWords, Rises, section_frame, run_frame}
+use Rattle.agreement_core.specs.Sound.{VersionsAreSound, UsedIsSound, IsOf, IsWhole, IsSound}
+use Rattle.agreement_core.proofs.Frame.{LeavesLoaded, LeavesCells, LeavesWords, Rises, section_frame, run_frame}
 use Rattle.agreement_core.proofs.Words.{past_later}
 use Rattle.agreement_core.proofs.Committing.{upd_here, upd_else}
 
@@ -17,9 +17,9 @@ use Rattle.agreement_core.proofs.Committing.{upd_here, upd_else}
 pub upd_split : {A : Type 0} → (f : ℕ → A) (k : ℕ) (v : A) (Q : ℕ → A → Type 0) → Q k v → ((i : ℕ) → i ≢ k → Q i (f i)) → (i : ℕ) → Q i (upd f k v i)
 upd_split f k v Q here else i =
     ⊎_elim
-      (λ e. subst (λ (x : ℕ). Q x (upd f k v x)) (sym e) (subst (Q k) (sym (upd_here f k v)) here))
-      (λ ne. subst (Q i) (sym (upd_else f k i v ne)) (else i ne))
-      (cases_eq i k)
+    (λ e. subst (λ (x : ℕ). Q x (upd f k v x)) (sym e) (subst (Q k) (sym (upd_here f k v)) here))
+    (λ ne. subst (Q i) (sym (upd_else f k i v ne)) (else i ne))
+    (cases_eq i k)
 
 -- a descriptor keeps what holds of it while others change the shared words
 pub used_frame : (c : CellRules) (x x' : Shared) (live over : Bool) (d : ℕ) (s : Section) → Rises x.cells x'.cells → LeavesWords x x' → LeavesCells c d s x.cells x'.cells
@@ -48,7 +48,7 @@ shared_moves c w x' m old =
       versions = m.versions;
       sections = λ d u. used_frame c w.shared x' _ _ d (w.section d) m.rises m.words (leaves d u) (old.sections d u);
       runs = λ r is. let u = old.running_used r is in
-        run_frame c ((w.run r).descriptor) (section_of w r) (old.sections _ u).published w.shared x' m.rises m.words (w.run r) (leaves _ u) (old.sections _ u).section (old.runs r is);
+          run_frame c ((w.run r).descriptor) (section_of w r) (old.sections _ u).published w.shared x' m.rises m.words (w.run r) (leaves _ u) (old.sections _ u).section (old.runs r is);
       running_used = old.running_used;
       live_used = old.live_used;
       named = λ p d lock v. old.named p d lock (ap value_of (sym (m.named d p lock v)) ∙ v);
@@ -112,8 +112,8 @@ module _ (c : CellRules) (w : AgreementState) (r d : ℕ) (x' : Shared) (log : �
   other_run r' ne is = upd_split w.section d s' (λ d' s. (w.run r').descriptor ≡ d' → RunIsSound c x' d' s (w.run r'))
       (m.fellows r' ne is)
       (λ d' ne' e. let u : w.used d' ≡ true = ap w.used (sym e) ∙ old.running_used r' is in
-        run_frame c d' (w.section d') (old.sections d' u).published w.shared x' m.rises m.words (w.run r') (m.others d' ne' u) (old.sections d' u).section
-          (subst (λ n. RunIsSound c w.shared n (w.section n) (w.run r')) e (old.runs r' is)))
+      run_frame c d' (w.section d') (old.sections d' u).published w.shared x' m.rises m.words (w.run r') (m.others d' ne' u) (old.sections d' u).section
+      (subst (λ n. RunIsSound c w.shared n (w.section n) (w.run r')) e (old.runs r' is)))
 
   runs : (r' : ℕ) → (w'.run r').running ≡ true → RunIsSound c x' ((w'.run r').descriptor) (w'.section ((w'.run r').descriptor)) (w'.run r')
   runs = upd_split w.run r q' (λ r' q. q.running ≡ true → RunIsSound c x' q.descriptor (w'.section q.descriptor) q)
@@ -153,9 +153,9 @@ module _ (c : CellRules) (w : AgreementState) (r d : ℕ) (x' : Shared) (log : �
   apart d1 d2 p ne o1 o2 h1 h2 = ⊎_elim
       (λ e. apart_here d2 p (λ e'. ne (e ∙ sym e')) (subst (λ n. IsOpen w' n) e o1) o2 (subst (λ n. HasCome (w'.section n) p) e h1) h2)
       (λ ne1. ⊎_elim
-        (λ e. apart_here d1 p ne1 (subst (λ n. IsOpen w' n) e o2) o1 (subst (λ n. HasCome (w'.section n) p) e h2) h1)
-        (λ ne2. old.apart d1 d2 p ne (open_else d1 ne1 o1) (open_else d2 ne2 o2) (come_else d1 p ne1 h1) (come_else d2 p ne2 h2))
-        (cases_eq d2 d))
+      (λ e. apart_here d1 p ne1 (subst (λ n. IsOpen w' n) e o2) o1 (subst (λ n. HasCome (w'.section n) p) e h2) h1)
+      (λ ne2. old.apart d1 d2 p ne (open_else d1 ne1 o1) (open_else d2 ne2 o2) (come_else d1 p ne1 h1) (come_else d2 p ne2 h2))
+      (cases_eq d2 d))
       (cases_eq d1 d)
 
   -- lock and word of a section stay

@@ -1,21 +1,14 @@
 -- Each event keeps the history exact.
-use Rattle.std.proofs.Common.{◌≡◌, ◌≢◌, ℕ, zero, suc, ◌+◌, ◌*◌, ◌<◌, ◌≤◌, Bool, true, false, cond, List, [], ◌∷◌, length, refl, sym, ap, ◌∙◌, subst, inl, inr, ⊎_elim, arith}
+use Rattle.std.proofs.Common.{◌≡◌, ◌≢◌, ℕ, suc, ◌<◌, ◌≤◌, Bool, true, false, cond, [], ◌∷◌, refl, sym, ap, ◌∙◌, ⊎_elim, arith}
 use Rattle.std.proofs.lemmas.Bool.{cases_lt, cases_eq}
-use Rattle.std.specs.Prelude.{◌⊎◌, nat_lt, ◌==◌}
-use mathlib.Core.Path.{fun_ext}
+use Rattle.std.specs.Prelude.{nat_lt}
 use Rattle.section_body.specs.Update.{upd}
-use Rattle.section_body.specs.Run.{written_once}
-use Rattle.section_body.specs.Line.{is_commit, is_check, is_event}
-use Rattle.section_body.specs.declared.micro.Source.{Source}
 use Rattle.section_body.specs.declared.micro.Micro.{Micro}
 use Rattle.section_body.specs.declared.micro.Micro.TheVariants as micros
-use Rattle.agreement_core.specs.Update.{upd2}
-use Rattle.agreement_core.specs.State.{CellRules, Section, Run, AgreementState, section_of}
-use Rattle.agreement_core.specs.Checks.{passes, stored_word, came, is_stamp_exchange, is_reply_exchange}
+use Rattle.agreement_core.specs.State.{CellRules, Section, AgreementState}
+use Rattle.agreement_core.specs.Checks.{stored_word, came, is_stamp_exchange, is_reply_exchange}
 use Rattle.agreement_core.specs.Events.{IsPublishable}
-use Rattle.agreement_core.specs.History.{Change, History, with_won, change_of, moves_of, written, IsExact}
-use Rattle.agreement_core.proofs.Going.{at_edge}
-use Rattle.agreement_core.proofs.Committing.{upd_here, upd_else}
+use Rattle.agreement_core.specs.History.{History, change_of, moves_of, written, IsExact}
 use Rattle.agreement_core.proofs.Moving.{upd_split}
 use Rattle.agreement_core.proofs.Lines.{store_logged, stored_same}
 
@@ -68,9 +61,9 @@ lasts_came s n le quiet = record {
 
     at_it : (i : ℕ) → i ≡ s.edge → moves_of (came s (suc n)) i ≡ moves_of s i
     at_it i e = ⊎_elim
-      (λ lt. ap (λ b. cond b (change_of s.log (s.code i)) []) (same_test i lt))
-      (λ ge. let q : n ≡ s.edge = omega arith in none i (q ∙ sym e) (quiet q) _ ∙ sym (above i s.edge _ _ (omega arith)))
-      (cases_lt n s.edge)
+        (λ lt. ap (λ b. cond b (change_of s.log (s.code i)) []) (same_test i lt))
+        (λ ge. let q : n ≡ s.edge = omega arith in none i (q ∙ sym e) (quiet q) _ ∙ sym (above i s.edge _ _ (omega arith)))
+        (cases_lt n s.edge)
       where
         same_test : (i : ℕ) → n < s.edge → nat_lt i (cond (nat_lt s.edge (suc n)) (suc n) s.edge) ≡ nat_lt i s.edge
         same_test i lt = grind arith
@@ -98,8 +91,8 @@ lasts_logs c d s p log same = record {
   code = refl;
   edge = omega arith;
   moves = λ i. ⊎_elim
-    (λ lt. ap (λ xs. cond (nat_lt i s.edge) xs []) (change_same c d s p log s.log i (λ k l. same k (let r = p.line.counted.slot_rises i s.edge (let z = lt in omega arith) in omega arith)) _ refl))
-    (λ ge. above i s.edge _ _ ge ∙ sym (above i s.edge _ _ ge)) (cases_lt i s.edge);
+      (λ lt. ap (λ xs. cond (nat_lt i s.edge) xs []) (change_same c d s p log s.log i (λ k l. same k (let r = p.line.counted.slot_rises i s.edge (let z = lt in omega arith) in omega arith)) _ refl))
+      (λ ge. above i s.edge _ _ ge ∙ sym (above i s.edge _ _ ge)) (cases_lt i s.edge);
 }
 
 -- what is the same in both states for the history

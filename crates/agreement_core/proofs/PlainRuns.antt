@@ -1,13 +1,11 @@
 -- A section's log is what the plain run of its body agrees on.
-use Rattle.std.proofs.Common.{◌≡◌, ◌≢◌, ℕ, zero, suc, ◌+◌, ◌-◌, ◌<◌, ◌≤◌, Bool, true, false, cond, List, [], ◌∷◌, length, take, refl, sym, ap, ◌∙◌, subst, inl, inr, ⊎_elim, arith, Some, None, Option}
-use Rattle.std.specs.Prelude.{◌⊎◌, ◌==◌, ◌&&◌, not, slice_index}
-use Rattle.section_body.specs.Line.{line, micro_at, committed, is_check, is_commit, is_end}
-use Rattle.section_body.specs.Word.{value_of, version_of, is_free, is_spent, held_word}
-use Rattle.section_body.specs.Run.{Setting, Run, ran, leaves, refusal, is_takable}
-use Rattle.section_body.specs.Shape.{IsShaped}
-use Rattle.section_body.specs.Plain.{first_values}
+use Rattle.std.proofs.Common.{◌≡◌, ◌≢◌, ℕ, zero, suc, ◌-◌, ◌<◌, Bool, true, false, cond, List, refl, sym, ap, ◌∙◌, subst, ⊎_elim, arith, Some, None, Option}
+use Rattle.std.specs.Prelude.{◌==◌, ◌&&◌, not, slice_index}
+use Rattle.section_body.specs.Line.{line, micro_at, committed, is_check, is_commit}
+use Rattle.section_body.specs.Word.{version_of, is_free, is_spent, held_word}
+use Rattle.section_body.specs.Run.{Setting, Run, leaves, refusal}
 use Rattle.section_body.specs.declared.outcome.Outcome.{Outcome}
-use Rattle.section_body.specs.declared.outcome.Outcome.TheVariants.{Busy, Stale, Spent}
+use Rattle.section_body.specs.declared.outcome.Outcome.TheVariants.{Stale, Spent}
 use Rattle.section_body.specs.declared.step.Step.{Step}
 use Rattle.section_body.specs.declared.micro.Micro.{Micro}
 use Rattle.section_body.specs.declared.micro.Micro.TheVariants as micros
@@ -20,11 +18,13 @@ use Rattle.section_lines.proofs.Runs.{agrees_with}
 use Rattle.agreement_core.specs.State.{CellRules, Section, AgreementState}
 use Rattle.agreement_core.specs.Checks.{passes, is_stop}
 use Rattle.agreement_core.specs.Sound.{UsedIsSound, IsSound}
-use Rattle.agreement_core.specs.History.{HasAnswered, HasLeft}
-use Rattle.agreement_core.specs.PlainRuns.{IsOfBody, chosen, IsOver, FollowsPlainRun}
+use Rattle.agreement_core.specs.History.{HasLeft}
+use Rattle.agreement_core.specs.PlainRuns.{IsOfBody, chosen, IsOver, with_loaded, loaded_cells, start_over, FollowsPlainRun}
+use Rattle.agreement_core.proofs.Going.{at_edge}
+use Rattle.agreement_core.proofs.Committing.{upd_here, upd_else}
 use Rattle.agreement_core.proofs.Frame.{not_both}
 use Rattle.agreement_core.proofs.Lasting.{end_is, answered_or_left}
-use Rattle.agreement_core.proofs.Lines.{word_logged, fresh_logged, free_logged, held_logged, retire_logged}
+use Rattle.agreement_core.proofs.Lines.{word_logged, fresh_logged, free_logged, held_logged}
 
 when_true : {A : Type 0} → (b : Bool) (x y : A) → b ≡ true → cond b x y ≡ x
 when_true b x y e = ap (λ t. cond t x y) e
@@ -112,14 +112,14 @@ module _ (c : CellRules) (w : AgreementState) (old : IsSound c w) (d : ℕ) (use
     nested = λ i p k lt e. refl;
     outcome = λ i p k lt e. refl;
     made = λ i k lt e.
-      let e' = sym (at i) ∙ e in
-      let here = own.published.line.counted.make_log i k e' in
-      let more = own.published.line.counted.slot_commit i (ap is_commit e') in
-      one_before (s.log k) (some_word i k lt (omega arith));
+        let e' = sym (at i) ∙ e in
+        let here = own.published.line.counted.make_log i k e' in
+        let more = own.published.line.counted.slot_commit i (ap is_commit e') in
+        one_before (s.log k) (some_word i k lt (omega arith));
     retired = λ i t k lt e. sym (own.section.in_log.retired i t k lt (sym (at i) ∙ e));
     passed = λ i lt check.
-      let check' : is_check (s.code i) ≡ true = ap is_check (sym (at i)) ∙ check in
-      ap (leaves (chosen c d s fixed_cells first clock) (agreed (line body) s.log i)) (at i)
+        let check' : is_check (s.code i) ≡ true = ap is_check (sym (at i)) ∙ check in
+        ap (leaves (chosen c d s fixed_cells first clock) (agreed (line body) s.log i)) (at i)
         ∙ goes_on c d s.lock s.code s.slot own.published.line s fixed_cells first clock (agreed (line body) s.log i) i (agreed_word i) (s.code i) refl (own.section.in_log.passed i lt check');
   }
 
@@ -132,14 +132,41 @@ module _ (c : CellRules) (w : AgreementState) (old : IsSound c w) (d : ℕ) (use
   pub exits : HasLeft s → SomeOutcome (leaves (chosen c d s fixed_cells first clock) (agreed (line body) s.log s.edge) (micro_at (line body) s.edge))
   exits left = subst (λ m. SomeOutcome (leaves (chosen c d s fixed_cells first clock) (agreed (line body) s.log s.edge) m)) (sym (at s.edge))
       (leaves_at c d s.lock s.code s.slot own.published.line s fixed_cells first clock (agreed (line body) s.log s.edge) s.edge (agreed_word s.edge) (s.code s.edge) refl left.check
-        (stop_fails c d s.log _ (own.section.in_log.stops left.done)))
+      (stop_fails c d s.log _ (own.section.in_log.stops left.done)))
 
   pub follows_plain_run : FollowsPlainRun s body (chosen c d s fixed_cells first clock) start
   follows_plain_run = record {
     so_far = agrees.so_far;
     prefix = agrees.prefix;
     whole = λ done. ⊎_elim
-      (λ answered. agrees.at_end (at s.edge ∙ end_is _ answered.ended))
-      (λ left. let x = exits left in agrees.at_exit x.outcome x.is)
-      (answered_or_left c w old d used done);
+        (λ answered. agrees.at_end (at s.edge ∙ end_is _ answered.ended))
+        (λ left. let x = exits left in agrees.at_exit x.outcome x.is)
+        (answered_or_left c w old d used done);
   }
+
+-- the cells that a line loads keep the agreed words, since no place is loaded twice
+module _ (c : CellRules) (lock : ℕ) (code : ℕ → Micro) (slot : ℕ → ℕ) (p : IsLine c.is_lock c.version_max lock code slot) (log : ℕ → ℕ) where
+  loaded_once : (i j place k k' : ℕ) → code i ≡ micros.Commit place k → code j ≡ micros.Commit place k' → i ≡ j
+  loaded_once i j place k k' e e' =
+      let a = p.ordered.commit_before i place k e in
+      let b = p.ordered.commit_before j place k' e' in
+      a.1 ∙ ap suc (p.placed.load_once a.0 b.0 place k k' a.2 b.2) ∙ sym b.1
+
+  stays : (n i place k : ℕ) → i ≢ n → code i ≡ micros.Commit place k → (cells : ℕ → ℕ) → cells place ≡ log k → (m : Micro) → code n ≡ m → with_loaded log cells m place ≡ log k
+  stays n i place k ne e cells is (micros.Commit place' k') e' =
+      upd_else cells place' place (log k') (λ q. ne (loaded_once i n place k k' e (e' ∙ ap (λ a. micros.Commit a k') (sym q)))) ∙ is
+  stays n i place k ne e cells is m e' = is
+
+  pub cells_loaded : (n i place k : ℕ) → i < n → code i ≡ micros.Commit place k → loaded_cells code log n place ≡ log k
+  cells_loaded zero i place k lt e = absurd (omega arith)
+  cells_loaded (suc n) i place k lt e = ⊎_elim
+      (λ l. stays n i place k (λ q. absurd (omega arith)) e (loaded_cells code log n) (cells_loaded n i place k l e) (code n) refl)
+      (λ q. ap (λ m. with_loaded log (loaded_cells code log n) m place) (ap code (sym q) ∙ e) ∙ upd_here (loaded_cells code log n) place (log k))
+      (at_edge i n lt)
+
+pub starts_over : (c : CellRules) (w : AgreementState) → IsSound c w → (d : ℕ) → w.used d ≡ true → IsOver (w.section d) (start_over (w.section d))
+starts_over c w old d used = let s = w.section d in record {
+  unbegun = refl;
+  unended = refl;
+  loaded = λ i place k lt e. cells_loaded c s.lock s.code s.slot (old.sections d used).published.line s.log s.edge i place k lt e;
+}

@@ -1,20 +1,20 @@
 -- A section is published, retired, and its descriptor is free again.
-use Rattle.std.proofs.Common.{◌≡◌, ◌≢◌, ℕ, zero, suc, ◌+◌, ◌<◌, ◌≤◌, Bool, true, false, refl, sym, ap, ◌∙◌, subst, inl, inr, ⊎_elim, arith}
-use Rattle.std.proofs.lemmas.Bool.{cases_lt, cases_eq}
+use Rattle.std.proofs.Common.{◌≡◌, ◌≢◌, ℕ, suc, ◌<◌, ◌≤◌, Bool, true, false, refl, sym, ap, ◌∙◌, subst, inl, inr, ⊎_elim, arith}
+use Rattle.std.proofs.lemmas.Bool.{cases_eq}
 use Rattle.std.specs.Prelude.{◌⊎◌}
 use Rattle.section_body.specs.Update.{upd}
 use Rattle.section_body.specs.Word.{value_of, version_of, held_word}
 use Rattle.section_body.specs.declared.micro.Micro.{Micro}
 use Rattle.section_body.specs.declared.micro.Micro.TheVariants as micros
-use Rattle.agreement_core.specs.State.{CellRules, Shared, Section, Run, Finished, AgreementState, IsOpen}
-use Rattle.agreement_core.specs.Events.{Event, Enabled, after, HasCome, IsPublishable}
+use Rattle.agreement_core.specs.State.{CellRules, Section, AgreementState, IsOpen}
+use Rattle.agreement_core.specs.Events.{Enabled, after, HasCome, IsPublishable}
 use Rattle.agreement_core.specs.Events.{Publish, RetireDescriptor, Free, StoreLog, StoreDone}
-use Rattle.agreement_core.specs.Sections.{LogIsSound, CellsAreSound, LocksAreSound, RequestIsSound, SectionIsSound, HoldsWith}
+use Rattle.agreement_core.specs.Sections.{SectionIsSound}
 use Rattle.agreement_core.specs.Runs.{RunIsSound}
-use Rattle.agreement_core.specs.Sound.{UsedIsSound, FinishedAreSound, IsOf, IsWhole, IsSound}
+use Rattle.agreement_core.specs.Sound.{UsedIsSound, IsOf, IsWhole, IsSound}
 use Rattle.agreement_core.proofs.Frame.{LeavesCells, not_both, run_frame}
 use Rattle.agreement_core.proofs.Committing.{upd_here, upd_else}
-use Rattle.agreement_core.proofs.Storing.{puts, puts_words, puts_rises}
+use Rattle.agreement_core.proofs.Storing.{puts_words, puts_rises}
 use Rattle.agreement_core.proofs.Holding.{puts_lock}
 use Rattle.agreement_core.proofs.Moving.{upd_split, used_frame}
 use Rattle.agreement_core.proofs.Changing.{puts_versions}
@@ -34,11 +34,11 @@ unused_changes c w d s' unused old =
       live_used = old.live_used;
       named = old.named;
       apart = λ d1 d2 p ne o1 o2 h1 h2. old.apart d1 d2 p ne
-        (record { used = o1.used; undone = ap (λ (s : Section). s.done) (same d1 o1.used) ∙ o1.undone }) (record { used = o2.used; undone = ap (λ (s : Section). s.done) (same d2 o2.used) ∙ o2.undone })
-        (subst (λ s. HasCome s p) (sym (same d1 o1.used)) h1) (subst (λ s. HasCome s p) (sym (same d2 o2.used)) h2);
+          (record { used = o1.used; undone = ap (λ (s : Section). s.done) (same d1 o1.used) ∙ o1.undone }) (record { used = o2.used; undone = ap (λ (s : Section). s.done) (same d2 o2.used) ∙ o2.undone })
+          (subst (λ s. HasCome s p) (sym (same d1 o1.used)) h1) (subst (λ s. HasCome s p) (sym (same d2 o2.used)) h2);
       single = λ d1 d2 u1 u2 l e. old.single d1 d2 u1 u2
-        (ap (λ (s : Section). s.lock) (same d1 u1) ∙ l ∙ ap (λ (s : Section). s.lock) (sym (same d2 u2)))
-        (ap (λ (s : Section). s.word) (same d1 u1) ∙ e ∙ ap (λ (s : Section). s.word) (sym (same d2 u2)));
+          (ap (λ (s : Section). s.lock) (same d1 u1) ∙ l ∙ ap (λ (s : Section). s.lock) (sym (same d2 u2)))
+          (ap (λ (s : Section). s.word) (same d1 u1) ∙ e ∙ ap (λ (s : Section). s.word) (sym (same d2 u2)));
       finished = record {
         past = old.finished.past;
         whole = λ r i d' lt u is. subst (λ s. IsOf (w.finished r i) s → IsWhole d' s (w.finished r i)) (same d' u) (old.finished.whole r i d' lt u) is;
@@ -58,13 +58,13 @@ retire_descriptor c w old d ok =
     record {
       versions = old.versions;
       sections = upd_split w.live d false (λ d' live. w.used d' ≡ true → UsedIsSound c w.shared live (w.over d') d' (w.section d'))
-        (λ u. record { published = own.published; section = own.section; open_live = λ un. absurd (own.over_done ok.1 un); over_done = own.over_done; over_unnamed = own.over_unnamed })
-        (λ d' ne u. old.sections d' u);
+          (λ u. record { published = own.published; section = own.section; open_live = λ un. absurd (own.over_done ok.1 un); over_done = own.over_done; over_unnamed = own.over_unnamed })
+          (λ d' ne u. old.sections d' u);
       runs = old.runs;
       running_used = old.running_used;
       live_used = upd_split w.live d false (λ d' live. live ≡ true → w.used d' ≡ true) (λ h. absurd (not_both _ h refl)) (λ d' ne h. old.live_used d' h);
       named = λ p d' lock v. upd_split w.live d false (λ d' live. value_of (w.shared.cells p) ≡ suc d' → live ≡ true)
-        (λ v'. absurd (own.over_unnamed ok.1 p lock v')) (λ d' ne v'. old.named p d' lock v') d' v;
+          (λ v'. absurd (own.over_unnamed ok.1 p lock v')) (λ d' ne v'. old.named p d' lock v') d' v;
       apart = λ d1 d2 p ne o1 o2 h1 h2. old.apart d1 d2 p ne (record { used = o1.used; undone = o1.undone }) (record { used = o2.used; undone = o2.undone }) h1 h2;
       single = old.single;
       finished = record { past = old.finished.past; whole = old.finished.whole; equal = old.finished.equal };
@@ -166,9 +166,9 @@ module _ (c : CellRules) (w : AgreementState) (old : IsSound c w) (d lock word r
       outcome_held = λ un i p k lt e v. absurd (omega arith);
       outcome_named = λ i p k lt e v. absurd (omega arith);
       held = λ p is v. ⊎_elim
-        (λ e. inl (e, held_here p e))
-        (λ ne. let same = upd_else w.shared.cells lock p held ne in absurd (not_both _ (old.live_used d (old.named p d is (ap value_of (sym same) ∙ v))) ok.0))
-        (cases_eq p lock);
+          (λ e. inl (e, held_here p e))
+          (λ ne. let same = upd_else w.shared.cells lock p held ne in absurd (not_both _ (old.live_used d (old.named p d is (ap value_of (sym same) ∙ v))) ok.0))
+          (cases_eq p lock);
     };
     in_request = record { stamped = λ i lt e. absurd (omega arith); raised = λ i lt e. absurd (omega arith); replied = λ i lt e. absurd (omega arith) };
   }
@@ -186,9 +186,9 @@ module _ (c : CellRules) (w : AgreementState) (old : IsSound c w) (d lock word r
   other : (d' : ℕ) → d' ≢ d → w.used d' ≡ true → UsedIsSound c w'.shared (w'.live d') (w'.over d') d' (w'.section d')
   other d' ne u =
       subst (λ s. UsedIsSound c w'.shared (w'.live d') (w'.over d') d' s) (sym (section_else d' ne))
-        (subst (λ live. UsedIsSound c w'.shared live (w'.over d') d' (w.section d')) (sym (upd_else w.live d d' true ne))
-          (subst (λ over. UsedIsSound c w'.shared (w.live d') over d' (w.section d')) (sym (upd_else w.over d d' false ne))
-            (used_frame c w.shared w'.shared _ _ d' (w.section d') (puts_rises w.shared lock held more) (puts_words w.shared lock held) (leaves d' u) (old.sections d' u))))
+      (subst (λ live. UsedIsSound c w'.shared live (w'.over d') d' (w.section d')) (sym (upd_else w.live d d' true ne))
+      (subst (λ over. UsedIsSound c w'.shared (w.live d') over d' (w.section d')) (sym (upd_else w.over d d' false ne))
+      (used_frame c w.shared w'.shared _ _ d' (w.section d') (puts_rises w.shared lock held more) (puts_words w.shared lock held) (leaves d' u) (old.sections d' u))))
 
   here : UsedIsSound c w'.shared (w'.live d) (w'.over d) d (w'.section d)
   here =
@@ -209,7 +209,7 @@ module _ (c : CellRules) (w : AgreementState) (old : IsSound c w) (d lock word r
       let u = old.running_used r is in
       let d' = (w.run r).descriptor in
       subst (λ s. RunIsSound c w'.shared d' s (w.run r)) (sym (section_else d' (not_used d' u)))
-        (run_frame c d' (w.section d') (old.sections d' u).published w.shared w'.shared (puts_rises w.shared lock held more) (puts_words w.shared lock held) (w.run r) (leaves d' u) (old.sections d' u).section (old.runs r is))
+      (run_frame c d' (w.section d') (old.sections d' u).published w.shared w'.shared (puts_rises w.shared lock held more) (puts_words w.shared lock held) (w.run r) (leaves d' u) (old.sections d' u).section (old.runs r is))
 
   now_used : (d' : ℕ) → w.used d' ≡ true → w'.used d' ≡ true
   now_used d' u = upd_else w.used d d' true (not_used d' u) ∙ u
@@ -235,9 +235,9 @@ module _ (c : CellRules) (w : AgreementState) (old : IsSound c w) (d lock word r
   apart d1 d2 p ne o1 o2 h1 h2 = ⊎_elim
       (λ e. none_come p (subst (λ n. HasCome (w'.section n) p) e h1))
       (λ ne1. ⊎_elim
-        (λ e. none_come p (subst (λ n. HasCome (w'.section n) p) e h2))
-        (λ ne2. old.apart d1 d2 p ne (was_open d1 ne1 o1) (was_open d2 ne2 o2) (subst (λ s. HasCome s p) (section_else d1 ne1) h1) (subst (λ s. HasCome s p) (section_else d2 ne2) h2))
-        (cases_eq d2 d)) (cases_eq d1 d)
+      (λ e. none_come p (subst (λ n. HasCome (w'.section n) p) e h2))
+      (λ ne2. old.apart d1 d2 p ne (was_open d1 ne1 o1) (was_open d2 ne2 o2) (subst (λ s. HasCome s p) (section_else d1 ne1) h1) (subst (λ s. HasCome s p) (section_else d2 ne2) h2))
+      (cases_eq d2 d)) (cases_eq d1 d)
 
   -- the lock of an earlier section is past its free word, so it isn't this lock with this word
   past_word : (lock' word' : ℕ) → version_of word' < version_of (w.shared.cells lock') → lock' ≡ lock → word' ≡ word → ⊥
@@ -260,9 +260,9 @@ module _ (c : CellRules) (w : AgreementState) (old : IsSound c w) (d lock word r
   single d1 d2 u1 u2 l e = ⊎_elim
       (λ e1. ⊎_elim (λ e2. e1 ∙ sym e2) (λ o2. absurd (other_section d2 o2.0 o2.1 (sym l ∙ lock_here d1 e1) (sym e ∙ word_here d1 e1))) (used_cases d2 u2))
       (λ o1. ⊎_elim (λ e2. absurd (other_section d1 o1.0 o1.1 (l ∙ lock_here d2 e2) (e ∙ word_here d2 e2)))
-        (λ o2. old.single d1 d2 o1.1 o2.1
-          (ap (λ (s : Section). s.lock) (sym (section_else d1 o1.0)) ∙ l ∙ ap (λ (s : Section). s.lock) (section_else d2 o2.0))
-          (ap (λ (s : Section). s.word) (sym (section_else d1 o1.0)) ∙ e ∙ ap (λ (s : Section). s.word) (section_else d2 o2.0))) (used_cases d2 u2))
+      (λ o2. old.single d1 d2 o1.1 o2.1
+      (ap (λ (s : Section). s.lock) (sym (section_else d1 o1.0)) ∙ l ∙ ap (λ (s : Section). s.lock) (section_else d2 o2.0))
+      (ap (λ (s : Section). s.word) (sym (section_else d1 o1.0)) ∙ e ∙ ap (λ (s : Section). s.word) (section_else d2 o2.0))) (used_cases d2 u2))
       (used_cases d1 u1)
 
   whole : (r i d' : ℕ) → i < w.finishes r → w'.used d' ≡ true → IsOf (w.finished r i) (w'.section d') → IsWhole d' (w'.section d') (w.finished r i)

@@ -1,19 +1,19 @@
 -- The changes of shared words that come before a run goes on: a cell is read, the clock, a stamp or a reply is written, a cell is stored privately.
-use Rattle.std.proofs.Common.{◌≡◌, ◌≢◌, ℕ, zero, suc, ◌+◌, ◌/◌, ◌<◌, ◌≤◌, Bool, true, false, cond, refl, sym, ap, ◌∙◌, subst, inl, inr, ⊎_elim, arith}
+use Rattle.std.proofs.Common.{◌≡◌, ℕ, suc, ◌<◌, ◌≤◌, Bool, true, refl, sym, ap, ◌∙◌, subst, inl, ⊎_elim, arith}
 use Rattle.std.proofs.lemmas.Bool.{cases_eq}
-use Rattle.std.specs.Prelude.{◌⊎◌, max}
+use Rattle.std.specs.Prelude.{◌⊎◌}
 use Rattle.section_body.specs.Update.{upd}
 use Rattle.section_body.specs.Run.{written_once}
 use Rattle.section_body.specs.Word.{value_of, version_of}
 use Rattle.agreement_core.specs.Update.{upd2}
-use Rattle.agreement_core.specs.State.{CellRules, Shared, Section, Run, AgreementState}
+use Rattle.agreement_core.specs.State.{CellRules, Shared, AgreementState}
 use Rattle.agreement_core.specs.Events.{HasCome, IsPrivateStore, reads, with_cell}
 use Rattle.agreement_core.specs.Sound.{VersionsAreSound, IsSound}
-use Rattle.agreement_core.proofs.Frame.{LeavesWords, not_both}
+use Rattle.agreement_core.proofs.Frame.{LeavesWords}
 use Rattle.agreement_core.proofs.Committing.{upd_here, upd_else}
 use Rattle.agreement_core.proofs.Storing.{puts, puts_words, puts_rises}
 use Rattle.agreement_core.proofs.Changing.{puts_versions}
-use Rattle.agreement_core.proofs.Moving.{SharedMoves, shared_moves}
+use Rattle.agreement_core.proofs.Moving.{shared_moves}
 
 -- a pair that was marked, or was before
 marked : (f : ℕ → ℕ → Bool) (a b i j : ℕ) → upd2 f a b true i j ≡ true → ((i ≡ a) × (j ≡ b)) ⊎ (f i j ≡ true)
@@ -47,13 +47,13 @@ pub reads_sound : (c : CellRules) (w : AgreementState) (place : ℕ) → IsSound
 reads_sound c w place old =
     let x = w.shared in
     cells_stay c w ((reads w place).shared) refl
-      (record {
-        positive = old.versions.positive;
-        bounded = old.versions.bounded;
-        past = λ p v h. ⊎_elim (λ e. inl (ap x.cells e.0 ∙ sym e.1)) (λ e. old.versions.past p v e) (marked x.seen place (x.cells place) p v h);
-        read_positive = λ p v h. ⊎_elim (λ e. subst (λ n. 0 < version_of n) (sym e.1) (old.versions.positive place)) (λ e. old.versions.read_positive p v e) (marked x.seen place (x.cells place) p v h);
-      })
-      (record { seen = λ p v h. marks x.seen place (x.cells place) p v h; clock = omega arith; stamp = λ n h. refl; reply = λ n h. refl }) old
+    (record {
+      positive = old.versions.positive;
+      bounded = old.versions.bounded;
+      past = λ p v h. ⊎_elim (λ e. inl (ap x.cells e.0 ∙ sym e.1)) (λ e. old.versions.past p v e) (marked x.seen place (x.cells place) p v h);
+      read_positive = λ p v h. ⊎_elim (λ e. subst (λ n. 0 < version_of n) (sym e.1) (old.versions.positive place)) (λ e. old.versions.read_positive p v e) (marked x.seen place (x.cells place) p v h);
+    })
+    (record { seen = λ p v h. marks x.seen place (x.cells place) p v h; clock = omega arith; stamp = λ n h. refl; reply = λ n h. refl }) old
 
 same_versions : (c : CellRules) (x x' : Shared) → x'.cells ≡ x.cells → x'.seen ≡ x.seen → VersionsAreSound c x → VersionsAreSound c x'
 same_versions c x x' cells seen old = record {
@@ -87,6 +87,6 @@ stores_sound c w place word store old =
       loaded = λ d u un p come. upd_else x.cells place p word (λ e. store.apart d (record { used = u; undone = un }) (subst (HasCome (w.section d)) e come));
       held = λ d u un p lock v. upd_else x.cells place p word (λ e. let z : suc d ≡ 0 = sym v ∙ ap (λ n. value_of (x.cells n)) e ∙ store.free_before (ap c.is_lock (sym e) ∙ lock) in omega arith);
       named = λ d p lock v. ⊎_elim
-        (λ e. absurd (let z : suc d ≡ 0 = sym v ∙ ap value_of (ap (upd x.cells place word) e ∙ upd_here x.cells place word) ∙ store.free_after (ap c.is_lock (sym e) ∙ lock) in omega arith))
-        (λ ne. upd_else x.cells place p word ne) (cases_eq p place);
+          (λ e. absurd (let z : suc d ≡ 0 = sym v ∙ ap value_of (ap (upd x.cells place word) e ∙ upd_here x.cells place word) ∙ store.free_after (ap c.is_lock (sym e) ∙ lock) in omega arith))
+          (λ ne. upd_else x.cells place p word ne) (cases_eq p place);
     }) old

@@ -1,28 +1,24 @@
 -- The history is exact after every list of enabled events, and what stands in it stays.
-use Rattle.std.proofs.Common.{◌≡◌, ◌≢◌, ℕ, zero, suc, ◌+◌, ◌*◌, ◌<◌, ◌≤◌, Bool, true, false, cond, List, [], ◌∷◌, length, refl, sym, ap, ◌∙◌, subst, inl, inr, ⊎_elim, arith}
-use Rattle.std.proofs.lemmas.Bool.{cases_lt, cases_eq}
-use Rattle.std.specs.Prelude.{◌⊎◌, nat_lt}
+use Rattle.std.proofs.Common.{◌≡◌, ℕ, suc, ◌<◌, ◌≤◌, Bool, true, false, List, [], ◌∷◌, refl, sym, ap, ◌∙◌, subst, ⊎_elim, arith}
+use Rattle.std.proofs.lemmas.Bool.{cases_lt}
 use Rattle.section_body.specs.Update.{upd}
 use Rattle.section_body.specs.Run.{written_once}
 use Rattle.section_body.specs.Line.{is_commit, is_check}
-use Rattle.section_body.specs.declared.micro.Source.{Source}
 use Rattle.section_body.specs.declared.micro.Micro.{Micro}
-use Rattle.section_body.specs.declared.micro.Micro.TheVariants as micros
 use Rattle.agreement_core.specs.State.{CellRules, Shared, Section, Run, AgreementState, section_of}
-use Rattle.agreement_core.specs.Checks.{passes, came}
+use Rattle.agreement_core.specs.Checks.{came}
 use Rattle.agreement_core.specs.Events.{Event, Enabled, after}
 use Rattle.agreement_core.specs.Events.{Publish, RetireDescriptor, Free, StoreLog, StoreDone, Read, Open, Pass, SetDone, Release, Finish, LoadCell, Commit, NestedLoad, NestedCommit, NestedHold, OutcomeLoad, OutcomeCommit, PrivateLoad, PrivateStore, MakeCommit, ClockLoad, StampExchange, ClockRaise, ExchangeCell, EpochForRetire, RetireCommit, ReplyExchange}
-use Rattle.agreement_core.specs.Runs.{RunIsSound}
 use Rattle.agreement_core.specs.Sound.{UsedIsSound, IsSound}
 use Rattle.agreement_core.specs.Schedules.{first_state, AllEnabled, after_all}
 use Rattle.agreement_core.specs.History.{History, no_history, noted, noted_all, IsExact}
 use Rattle.agreement_core.proofs.Frame.{not_both}
-use Rattle.agreement_core.proofs.Committing.{upd_here, upd_else}
+use Rattle.agreement_core.proofs.Committing.{upd_else}
 use Rattle.agreement_core.proofs.Stepping.{found_late}
 use Rattle.agreement_core.proofs.LineSteps.{pass_checks}
-use Rattle.agreement_core.proofs.LineEvents.{positive, reply_is}
+use Rattle.agreement_core.proofs.LineEvents.{reply_is}
 use Rattle.agreement_core.proofs.Keeping.{keeps}
-use Rattle.agreement_core.proofs.Noting.{is_exchange, SectionLasts, lasts_same, lasts_came, lasts_then, lasts_logs, StatesLast, exact_same, one_lasts}
+use Rattle.agreement_core.proofs.Noting.{is_exchange, SectionLasts, lasts_same, lasts_came, lasts_then, lasts_logs, exact_same, one_lasts}
 use Rattle.agreement_core.proofs.Exactly.{publish_exact, exchange_exact}
 use Rattle.agreement_core.proofs.Writing.{stamp_exact, reply_exact}
 
@@ -86,8 +82,8 @@ module _ (c : CellRules) where
         → IsExact (record w { section = upd w.section q.descriptor (came (record s { log = upd s.log log (written_once (s.log log) proposal) }) (suc q.at)); run = run }) h
     agrees_exact going run log proposal here commit = lasts_exact w.shared run _ (λ n. refl) (λ n. refl)
         (lasts_then s (record s { log = upd s.log log (written_once (s.log log) proposal) }) _
-          (lasts_logs c q.descriptor s own.published _ (stands going log proposal here commit))
-          (lasts_came (record s { log = upd s.log log (written_once (s.log log) proposal) }) q.at behind (λ e. commit_quiet _ commit)))
+        (lasts_logs c q.descriptor s own.published _ (stands going log proposal here commit))
+        (lasts_came (record s { log = upd s.log log (written_once (s.log log) proposal) }) q.at behind (λ e. commit_quiet _ commit)))
 
   pub keeps_exact : (w : AgreementState) (h : History) (e : Event) → Enabled c w e → IsSound c w → IsExact w h → IsExact (after w e) (noted w h e)
   keeps_exact w h (Publish d lock word request code slot) ok old exact = publish_exact c w old h exact d lock word request code slot ok

@@ -1,21 +1,17 @@
 -- A run releases a lock of its section.
-use Rattle.std.proofs.Common.{◌≡◌, ◌≢◌, ℕ, zero, suc, ◌+◌, ◌<◌, ◌≤◌, Bool, true, false, refl, sym, ap, ◌∙◌, subst, inl, inr, ⊎_elim, arith}
-use Rattle.std.proofs.lemmas.Bool.{cases_lt, cases_eq}
-use Rattle.std.specs.Prelude.{◌⊎◌, ◌^◌}
+use Rattle.std.proofs.Common.{◌≡◌, ◌≢◌, ℕ, suc, ◌<◌, ◌≤◌, true, refl, sym, ap, ◌∙◌, subst, ⊎_elim, arith}
+use Rattle.std.proofs.lemmas.Bool.{cases_eq}
+use Rattle.std.specs.Prelude.{◌^◌}
 use mathlib.Core.Path.{fun_ext}
 use Rattle.section_body.specs.Update.{upd}
-use Rattle.section_body.specs.Line.{is_event, is_commit, is_check, is_end}
-use Rattle.section_body.specs.Word.{value_of, version_of, held_word, next_word, is_free, is_spent}
-use Rattle.section_body.specs.declared.micro.Micro.{Micro}
-use Rattle.section_body.specs.declared.micro.Micro.TheVariants as micros
-use Rattle.agreement_core.specs.State.{CellRules, Shared, Section, Run, AgreementState}
-use Rattle.agreement_core.specs.Checks.{passes, is_stop, exchanged}
-use Rattle.agreement_core.specs.Events.{Event, Enabled, after, HasTaken, IsPublishable, with_cell}
+use Rattle.section_body.specs.Word.{value_of, version_of, held_word, next_word}
+use Rattle.agreement_core.specs.State.{CellRules, Section, Run, AgreementState}
+use Rattle.agreement_core.specs.Checks.{exchanged}
+use Rattle.agreement_core.specs.Events.{Enabled, after, HasTaken, IsPublishable, with_cell}
 use Rattle.agreement_core.specs.Events.{Release}
-use Rattle.agreement_core.specs.Sections.{SectionIsSound, HoldsWith}
-use Rattle.agreement_core.specs.Runs.{ReleasesAreSound, RunIsSound}
+use Rattle.agreement_core.specs.Sections.{HoldsWith}
+use Rattle.agreement_core.specs.Runs.{RunIsSound}
 use Rattle.agreement_core.specs.Sound.{UsedIsSound, IsSound}
-use Rattle.agreement_core.proofs.Frame.{not_both}
 use Rattle.agreement_core.proofs.Committing.{upd_here, upd_else}
 use Rattle.agreement_core.proofs.Storing.{puts, puts_words, puts_rises}
 use Rattle.agreement_core.proofs.Holding.{puts_lock, same_hold}
@@ -38,17 +34,17 @@ module _ (c : CellRules) (d : ℕ) (s : Section) (p : IsPublishable c d s.lock s
   pub taken_room : HasTaken s at place word → suc (suc (version_of word)) ≤ c.version_max
   taken_room taken = ⊎_elim (λ o. subst (λ n. suc (suc (version_of n)) ≤ c.version_max) (sym o.1) (unspent_room c.version_max s.word p.free p.unspent))
       (λ n. let j = hold_of_held c s.lock s.code s.slot p.line n.0 place n.1 word n.3 in
-        unspent_room c.version_max word (hold_free c s.lock s.code s.slot p.line j.0 place word j.1) (hold_unspent c s.lock s.code s.slot p.line j.0 place word j.1)) taken
+      unspent_room c.version_max word (hold_free c s.lock s.code s.slot p.line j.0 place word j.1) (hold_unspent c s.lock s.code s.slot p.line j.0 place word j.1)) taken
 
   -- a taken lock that the section holds has the held word of its free word
   pub taken_exactly : (now : ℕ) → HasTaken s at place word → HoldsWith d s place now → now ≡ held_word d word
   taken_exactly now taken holds = ⊎_elim
       (λ o. ⊎_elim (λ h. h.1 ∙ ap (held_word d) (sym o.1)) (λ h. absurd (hold_inner c s.lock s.code s.slot p.line h.0 place h.1 h.3 o.0)) holds)
       (λ n.
-        let j = hold_of_held c s.lock s.code s.slot p.line n.0 place n.1 word n.3 in
-        ⊎_elim (λ h. absurd (hold_inner c s.lock s.code s.slot p.line j.0 place word j.1 h.0))
-          (λ h. let same = hold_once c s.lock s.code s.slot p.line h.0 j.0 place h.1 word h.3 j.1 in
-            h.4 ∙ ap (held_word d) (same_hold place h.1 place word (sym h.3 ∙ ap s.code same ∙ j.1)).1) holds)
+      let j = hold_of_held c s.lock s.code s.slot p.line n.0 place n.1 word n.3 in
+      ⊎_elim (λ h. absurd (hold_inner c s.lock s.code s.slot p.line j.0 place word j.1 h.0))
+      (λ h. let same = hold_once c s.lock s.code s.slot p.line h.0 j.0 place h.1 word h.3 j.1 in
+      h.4 ∙ ap (held_word d) (same_hold place h.1 place word (sym h.3 ∙ ap s.code same ∙ j.1)).1) holds)
       taken
 
 module _ (c : CellRules) (w : AgreementState) (old : IsSound c w) (r place word : ℕ) (ok : Enabled c w (Release r place word)) where
@@ -105,12 +101,12 @@ module _ (c : CellRules) (w : AgreementState) (old : IsSound c w) (r place word 
         words = puts_words x place new;
         loaded = λ d' u. puts_lock c d' (w.section d') x place new (old.sections d' u).published lock;
         held = λ d' u un p is v. upd_else x.cells place p new (λ e.
-          let same : suc d' ≡ suc d = sym v ∙ ap (λ n. value_of (x.cells n)) e ∙ ap value_of finds ∙ value_held d word own.published.link in
-          let same' : d' ≡ d = omega arith in
-          done (subst (λ n. (w.section n).done ≡ 0) same' un));
+            let same : suc d' ≡ suc d = sym v ∙ ap (λ n. value_of (x.cells n)) e ∙ ap value_of finds ∙ value_held d word own.published.link in
+            let same' : d' ≡ d = omega arith in
+            done (subst (λ n. (w.section n).done ≡ 0) same' un));
         named = λ d' p is v. ⊎_elim
-          (λ e. absurd (unnamed d' (ap value_of (sym (ap (upd x.cells place new) e ∙ upd_here x.cells place new)) ∙ v)))
-          (λ ne. upd_else x.cells place p new ne) (cases_eq p place);
+            (λ e. absurd (unnamed d' (ap value_of (sym (ap (upd x.cells place new) e ∙ upd_here x.cells place new)) ∙ v)))
+            (λ ne. upd_else x.cells place p new ne) (cases_eq p place);
       }
 
   abbrev released : AgreementState
@@ -127,9 +123,9 @@ module _ (c : CellRules) (w : AgreementState) (old : IsSound c w) (r place word 
   released_unnamed v =
       let here : released.shared.cells place ≡ exchanged (w.shared.cells place) held new = upd_here w.shared.cells place _ in
       ⊎_elim
-        (λ finds. unnamed d (ap value_of (sym (here ∙ exchange_wins _ _ _ finds)) ∙ v))
-        (λ ne. ne (taken_exactly c d s own.published q.at place word _ ok.2 (own.section.in_locks.held place lock (ap value_of (sym (here ∙ exchange_fails _ held new ne)) ∙ v))))
-        (cases_eq (w.shared.cells place) held)
+      (λ finds. unnamed d (ap value_of (sym (here ∙ exchange_wins _ _ _ finds)) ∙ v))
+      (λ ne. ne (taken_exactly c d s own.published q.at place word _ ok.2 (own.section.in_locks.held place lock (ap value_of (sym (here ∙ exchange_fails _ held new ne)) ∙ v))))
+      (cases_eq (w.shared.cells place) held)
 
   pub release_sound : IsSound c (after w (Release r place word))
   release_sound =
@@ -149,7 +145,7 @@ module _ (c : CellRules) (w : AgreementState) (old : IsSound c w) (r place word 
         in_releases = record {
           only_ended = λ p rel. ok.1;
           unnamed = λ p rel is v. ⊎_elim
-            (λ e. released_unnamed (ap (λ n. value_of (released.shared.cells n)) (sym e) ∙ v))
-            (λ ne. now.in_releases.unnamed p (sym (upd_else q.released place p true ne) ∙ rel) is v) (cases_eq p place);
+              (λ e. released_unnamed (ap (λ n. value_of (released.shared.cells n)) (sym e) ∙ v))
+              (λ ne. now.in_releases.unnamed p (sym (upd_else q.released place p true ne) ∙ rel) is v) (cases_eq p place);
         };
       })

@@ -1,11 +1,11 @@
 -- Each event raises versions by one at most.
-use Rattle.std.proofs.Common.{◌≡◌, ◌≢◌, ℕ, zero, suc, ◌+◌, ◌<◌, ◌≤◌, Bool, true, false, refl, sym, ap, ◌∙◌, subst, inl, inr, ⊎_elim, arith}
+use Rattle.std.proofs.Common.{◌≡◌, ℕ, suc, refl, sym, ap, ◌∙◌, inl, inr, ⊎_elim, arith}
 use Rattle.std.proofs.lemmas.Bool.{cases_eq}
 use Rattle.std.specs.Prelude.{◌⊎◌}
 use Rattle.section_body.specs.Update.{upd}
-use Rattle.section_body.specs.Word.{value_of, version_of, held_word, next_word}
+use Rattle.section_body.specs.Word.{version_of, held_word}
 use Rattle.agreement_core.specs.State.{CellRules, AgreementState, section_of}
-use Rattle.agreement_core.specs.Checks.{stored_word, exchanged}
+use Rattle.agreement_core.specs.Checks.{exchanged}
 use Rattle.agreement_core.specs.Events.{Event, Enabled, after}
 use Rattle.agreement_core.specs.Events.{Publish, RetireDescriptor, Free, StoreLog, StoreDone, Read, Open, Pass, SetDone, Release, Finish, LoadCell, Commit, NestedLoad, NestedCommit, NestedHold, OutcomeLoad, OutcomeCommit, PrivateLoad, PrivateStore, MakeCommit, ClockLoad, StampExchange, ClockRaise, ExchangeCell, EpochForRetire, RetireCommit, ReplyExchange}
 use Rattle.agreement_core.specs.Sound.{IsSound}
@@ -19,7 +19,7 @@ use Rattle.agreement_core.proofs.Lines.{version_stored}
 put_rises : (cells : ℕ → ℕ) (place new : ℕ) → (new ≡ cells place) ⊎ (version_of new ≡ suc (version_of (cells place))) → (p : ℕ) → (upd cells place new p ≡ cells p) ⊎ (version_of (upd cells place new p) ≡ suc (version_of (cells p)))
 put_rises cells place new h p = ⊎_elim
     (λ e. ⊎_elim (λ same. inl (ap (upd cells place new) e ∙ upd_here cells place new ∙ same ∙ ap cells (sym e)))
-      (λ up. inr (ap version_of (ap (upd cells place new) e ∙ upd_here cells place new) ∙ up ∙ ap (λ n. suc (version_of (cells n))) (sym e))) h)
+    (λ up. inr (ap version_of (ap (upd cells place new) e ∙ upd_here cells place new) ∙ up ∙ ap (λ n. suc (version_of (cells n))) (sym e))) h)
     (λ ne. inl (upd_else cells place p new ne)) (cases_eq p place)
 
 -- an exchange to a word with the next version

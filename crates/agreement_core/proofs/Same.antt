@@ -1,5 +1,5 @@
 -- States that are the same everywhere are one.
-use Rattle.std.proofs.Common.{◌≡◌, ℕ, sym, subst}
+use Rattle.std.proofs.Common.{◌≡◌, sym, subst}
 use Rattle.agreement_core.specs.State.{CellRules, AgreementState}
 use Rattle.agreement_core.specs.Sound.{IsSound}
 use Rattle.agreement_core.specs.Frame.{IsSame}

@@ -1,17 +1,14 @@
 -- What follows from the invariant: agreement, cells and locks.
-use Rattle.std.proofs.Common.{◌≡◌, ◌≢◌, ℕ, zero, suc, ◌+◌, ◌<◌, ◌≤◌, Bool, true, false, refl, sym, ap, ◌∙◌, subst, inl, inr, ⊎_elim, arith}
-use Rattle.std.proofs.lemmas.Bool.{cases_lt, cases_eq}
+use Rattle.std.proofs.Common.{◌≡◌, ◌≢◌, ℕ, suc, ◌<◌, ◌≤◌, true, refl, sym, ap, ◌∙◌, subst, inl, inr, ⊎_elim, arith}
+use Rattle.std.proofs.lemmas.Bool.{cases_lt}
 use Rattle.std.specs.Prelude.{◌⊎◌}
 use Rattle.section_body.specs.Word.{value_of, version_of, held_word}
-use Rattle.section_body.specs.declared.micro.Source.{Source}
-use Rattle.section_body.specs.declared.micro.Micro.{Micro}
-use Rattle.section_body.specs.declared.micro.Micro.TheVariants as micros
-use Rattle.agreement_core.specs.State.{CellRules, Section, AgreementState, section_of}
+use Rattle.agreement_core.specs.State.{CellRules, AgreementState, section_of}
 use Rattle.agreement_core.specs.Checks.{stored_word}
-use Rattle.agreement_core.specs.Sound.{UsedIsSound, IsSound}
+use Rattle.agreement_core.specs.Sound.{IsSound}
 use Rattle.agreement_core.specs.Trails.{RunsAgree}
 use Rattle.agreement_core.specs.Rising.{IsNotFuture}
-use Rattle.agreement_core.specs.Standing.{HasStored, HasOutcome, CellsStand, LocksStand, TakesStand, IsDoneLate}
+use Rattle.agreement_core.specs.Standing.{CellsStand, LocksStand, TakesStand, IsDoneLate}
 use Rattle.agreement_core.proofs.Words.{value_held}
 use Rattle.agreement_core.proofs.Holding.{same_hold}
 use Rattle.agreement_core.proofs.Lines.{version_stored, hold_lock, hold_once, hold_inner}
@@ -20,10 +17,10 @@ pub agree : (c : CellRules) (w : AgreementState) → IsSound c w → RunsAgree w
 agree c w old = record {
   logs = λ d u. let o = (old.sections d u).section.in_log in record { full = o.full; empty = o.empty };
   trails = λ r is.
-    let o = (old.runs r is).in_trail in
-    let s = section_of w r in
-    let most = (old.sections _ (old.running_used r is)).published.line.counted.slot_rises ((w.run r).at) s.edge o.behind in
-    record { short = subst (λ n. n ≤ s.slot s.edge) (sym o.counted) most; agreed = o.agreed };
+      let o = (old.runs r is).in_trail in
+      let s = section_of w r in
+      let most = (old.sections _ (old.running_used r is)).published.line.counted.slot_rises ((w.run r).at) s.edge o.behind in
+      record { short = subst (λ n. n ≤ s.slot s.edge) (sym o.counted) most; agreed = o.agreed };
   whole = old.finished.whole;
   equal = old.finished.equal;
 }
@@ -46,8 +43,8 @@ cells_stand c w old d u =
       loaded = λ is_open p k h none. x.loaded is_open.undone h.0 p k h.1 h.2 (λ j k' v lt e. none (s.log k') (stored_word s.log k' v) (j, k', v, lt, e, refl, refl));
       stored = λ is_open p agreed word h. x.stored is_open.undone h.0 p h.1 h.2 h.3 h.4 ∙ sym h.6;
       lasting = λ p agreed word h.
-        let up = version_stored c s.lock s.code s.slot o.published.line o.published.whole h.0 p h.1 h.2 s.log h.4 in
-        ⊎_elim (λ e. inl (x.lasting h.0 p h.1 h.2 h.3 h.4 e ∙ sym h.6))
+          let up = version_stored c s.lock s.code s.slot o.published.line o.published.whole h.0 p h.1 h.2 s.log h.4 in
+          ⊎_elim (λ e. inl (x.lasting h.0 p h.1 h.2 h.3 h.4 e ∙ sym h.6))
           (λ lt. inr (subst (λ n. n < version_of (w.shared.cells p)) (sym (ap version_of h.6 ∙ up)) lt))
           (next_or_later _ _ (x.left h.0 p h.1 h.2 h.3 h.4));
     }
@@ -69,12 +66,12 @@ takes_stand c w old d u =
       past = λ p free outcome h. x.nested_past h.0 p free (omega arith) h.3;
       held = λ is_open p free outcome h e. x.outcome_held is_open.undone (suc (suc h.0)) p h.1 h.2 h.4 (ap value_of (sym h.5 ∙ e) ∙ value_held d free o.published.link) ∙ sym h.5;
       refused = λ p free outcome h ne v.
-        let lock = hold_lock c s.lock s.code s.slot o.published.line h.0 p free h.3 in
-        let named : outcome ≡ w.shared.cells p = h.5 ∙ x.outcome_named (suc (suc h.0)) p h.1 h.2 h.4 v in
-        ⊎_elim (λ outer. hold_inner c s.lock s.code s.slot o.published.line h.0 p free h.3 outer.0)
+          let lock = hold_lock c s.lock s.code s.slot o.published.line h.0 p free h.3 in
+          let named : outcome ≡ w.shared.cells p = h.5 ∙ x.outcome_named (suc (suc h.0)) p h.1 h.2 h.4 v in
+          ⊎_elim (λ outer. hold_inner c s.lock s.code s.slot o.published.line h.0 p free h.3 outer.0)
           (λ n. let same = hold_once c s.lock s.code s.slot o.published.line n.0 h.0 p n.1 free n.3 h.3 in
-            let free_same = (same_hold p n.1 p free (sym n.3 ∙ ap s.code same ∙ h.3)).1 in
-            ne (named ∙ n.4 ∙ ap (held_word d) free_same))
+          let free_same = (same_hold p n.1 p free (sym n.3 ∙ ap s.code same ∙ h.3)).1 in
+          ne (named ∙ n.4 ∙ ap (held_word d) free_same))
           (x.held p lock v);
     }
 

@@ -1,27 +1,26 @@
 -- Each step of a run keeps the invariant, by what is known of the step: one that goes on, one that commits.
-use Rattle.std.proofs.Common.{◌≡◌, ◌≢◌, ℕ, zero, suc, ◌+◌, ◌/◌, ◌<◌, ◌≤◌, Bool, true, false, cond, refl, sym, ap, ◌∙◌, subst, inl, inr, ⊎_elim, arith}
-use Rattle.std.proofs.lemmas.Bool.{cases_lt, cases_eq}
+use Rattle.std.proofs.Common.{◌≡◌, ◌≢◌, ℕ, suc, ◌/◌, ◌<◌, ◌≤◌, true, false, cond, refl, sym, ap, ◌∙◌, subst, inl, inr, ⊎_elim, arith}
+use Rattle.std.proofs.lemmas.Bool.{cases_lt}
 use Rattle.std.specs.Prelude.{◌⊎◌, nat_lt}
 use mathlib.Core.Path.{fun_ext}
 use Rattle.section_body.specs.Update.{upd}
 use Rattle.section_body.specs.Run.{written_once}
 use Rattle.section_body.specs.Line.{is_event, is_commit}
-use Rattle.section_body.specs.Word.{value_of, version_of}
+use Rattle.section_body.specs.Word.{version_of}
 use Rattle.section_body.specs.declared.micro.Source.{Source}
-use Rattle.section_body.specs.declared.micro.Micro.{Micro}
 use Rattle.section_body.specs.declared.micro.Micro.TheVariants as micros
 use Rattle.section_lines.specs.Line.{is_clock_raise}
-use Rattle.agreement_core.specs.State.{CellRules, Shared, Section, Run, AgreementState, section_of, IsOpen}
+use Rattle.agreement_core.specs.State.{CellRules, Section, Run, AgreementState}
 use Rattle.agreement_core.specs.Checks.{is_stop, is_stamp_exchange, is_reply_exchange}
-use Rattle.agreement_core.specs.Events.{HasCome, IsAlone, IsPublishable, goes_on, agrees}
+use Rattle.agreement_core.specs.Events.{HasCome, IsAlone, goes_on, agrees}
 use Rattle.agreement_core.specs.Sections.{SectionIsSound}
 use Rattle.agreement_core.specs.Runs.{RunIsSound}
 use Rattle.agreement_core.specs.Sound.{UsedIsSound, IsSound}
 use Rattle.agreement_core.proofs.Frame.{undone, not_both}
 use Rattle.agreement_core.proofs.Going.{goes, log_goes, cells_goes, locks_goes, request_goes}
-use Rattle.agreement_core.proofs.Committing.{upd_here, upd_else, commits, MayCommit, section_commits}
+use Rattle.agreement_core.proofs.Committing.{upd_here, upd_else, MayCommit, section_commits}
 use Rattle.agreement_core.proofs.Following.{Follows, stepped, agreed, run_stands, run_steps, run_agrees}
-use Rattle.agreement_core.proofs.Moving.{RunMoves, run_moves, changed}
+use Rattle.agreement_core.proofs.Moving.{run_moves, changed}
 use Rattle.agreement_core.proofs.Lines.{event_goes, load_of_commit}
 
 -- where the edge is after a step
@@ -103,8 +102,8 @@ module _ (c : CellRules) (w : AgreementState) (old : IsSound c w) (r : ℕ) (run
       (λ r' is e. run_stands c w.shared d s own.published (w.run r') log un same (fellow r' is e))
       (λ ne. absurd (ne un)) (λ ne. absurd (ne un))
       (λ un' p h. ⊎_elim (λ lt. inl (h.0, h.1, omega arith, h.3))
-        (λ le. inr (alone p h.1 (load_of_commit c s.lock s.code s.slot own.published.line s.edge p h.1 (let e : h.0 ≡ suc s.edge = let b = h.2 in omega arith in subst (λ n. s.code n ≡ micros.Commit p h.1) e h.3))))
-        (cases_lt h.0 (suc s.edge)))
+      (λ le. inr (alone p h.1 (load_of_commit c s.lock s.code s.slot own.published.line s.edge p h.1 (let e : h.0 ≡ suc s.edge = let b = h.2 in omega arith in subst (λ n. s.code n ≡ micros.Commit p h.1) e h.3))))
+      (cases_lt h.0 (suc s.edge)))
 
   -- what is needed of a step that goes on, where it stands at the edge
   pub record MayGo : Type 0 where
@@ -127,15 +126,15 @@ module _ (c : CellRules) (w : AgreementState) (old : IsSound c w) (r : ℕ) (run
   pub goes_sound : (word : ℕ) → is_commit (s.code q.at) ≡ false → (q.at ≡ s.edge → MayGo) → Follows w.shared s.code s.request q.at word → IsSound c (goes_on w r word)
   goes_sound word no_commit may follows = ⊎_elim
       (λ lt. subst (λ n. IsSound c (reached s.log n (stepped q word))) (sym (late_edge s.edge q.at lt))
-        (late (stepped q word) running refl (run_steps c w.shared d s own.published q word going lt no_commit run.in_trail run.in_releases follows)))
+      (late (stepped q word) running refl (run_steps c w.shared d s own.published q word going lt no_commit run.in_trail run.in_releases follows)))
       (λ le.
-        let at : q.at ≡ s.edge = let b = run.in_trail.behind in omega arith in
-        let m = may at in
-        let un = undone c d s own.section.in_log m.goes in
-        let stands = run_stands c w.shared d s own.published q s.log un (λ k lt. refl) run in
-        subst (λ n. IsSound c (reached s.log n (stepped q word))) (sym (lead_edge s.edge q.at at))
-          (lead s.log (stepped q word) running refl un (λ k lt. refl) (section_goes (subst (λ n. is_commit (s.code n) ≡ false) at no_commit) m)
-            (run_steps c w.shared d (goes s) own.published q word going (omega arith) no_commit stands.in_trail stands.in_releases follows) m.alone))
+      let at : q.at ≡ s.edge = let b = run.in_trail.behind in omega arith in
+      let m = may at in
+      let un = undone c d s own.section.in_log m.goes in
+      let stands = run_stands c w.shared d s own.published q s.log un (λ k lt. refl) run in
+      subst (λ n. IsSound c (reached s.log n (stepped q word))) (sym (lead_edge s.edge q.at at))
+      (lead s.log (stepped q word) running refl un (λ k lt. refl) (section_goes (subst (λ n. is_commit (s.code n) ≡ false) at no_commit) m)
+      (run_steps c w.shared d (goes s) own.published q word going (omega arith) no_commit stands.in_trail stands.in_releases follows) m.alone))
       (cases_lt q.at s.edge)
 
   -- the log word of a commit below the edge stands, and so it is agreed
@@ -151,9 +150,9 @@ module _ (c : CellRules) (w : AgreementState) (old : IsSound c w) (r : ℕ) (run
       let stands : word ≡ s.log log = found_late log proposal here commit lt in
       let same : upd s.log log word ≡ s.log = fun_ext (upd_found s.log log word stands) in
       subst (λ lg. IsSound c (reached lg (cond (nat_lt s.edge (suc q.at)) (suc q.at) s.edge) (agreed q word))) (sym same)
-        (subst (λ n. IsSound c (reached s.log n (agreed q word))) (sym (late_edge s.edge q.at lt))
-          (late (agreed q word) running refl
-            (run_agrees c w.shared d s own.published q word going lt commit (ap s.log (sym here) ∙ sym stands) run.in_trail.counted run.in_trail.agreed run.in_releases follows)))
+      (subst (λ n. IsSound c (reached s.log n (agreed q word))) (sym (late_edge s.edge q.at lt))
+      (late (agreed q word) running refl
+      (run_agrees c w.shared d s own.published q word going lt commit (ap s.log (sym here) ∙ sym stands) run.in_trail.counted run.in_trail.agreed run.in_releases follows)))
 
   agrees_lead : (log proposal : ℕ) → log ≡ s.slot q.at → is_commit (s.code q.at) ≡ true → is_event (s.code q.at) ≡ true → MayCommit w.shared d s proposal → Follows w.shared s.code s.request q.at q.word → q.at ≡ s.edge → IsSound c (agrees w r log proposal)
   agrees_lead log proposal here commit event may follows at =
@@ -165,13 +164,13 @@ module _ (c : CellRules) (w : AgreementState) (old : IsSound c w) (r : ℕ) (run
       let stands = run_stands c w.shared d s own.published q (upd s.log log word) un same run in
       let more = own.published.line.counted.slot_rises q.at s.edge run.in_trail.behind in
       subst (λ n. IsSound c (reached (upd s.log log word) n (agreed q word))) (sym (lead_edge s.edge q.at at))
-        (lead (upd s.log log word) (agreed q word) running refl un same
-          (subst (λ k. SectionIsSound c w.shared d (changed s (upd s.log k word) s.done (suc s.edge))) (sym edge_log)
-            (subst (λ v. SectionIsSound c w.shared d (changed s (upd s.log (s.slot s.edge) v) s.done (suc s.edge))) (sym agree)
-              (section_commits c w.shared d s proposal own.published (ap (λ n. is_commit (s.code n)) (sym at) ∙ commit) may own.section)))
-          (run_agrees c w.shared d (changed s (upd s.log log word) s.done (suc s.edge)) own.published q word going (omega arith) commit
-            (ap (upd s.log log word) (sym here) ∙ upd_here s.log log word) run.in_trail.counted stands.in_trail.agreed run.in_releases follows)
-          (λ p k e. absurd (not_both _ (ap (λ n. is_commit (s.code n)) (sym at) ∙ commit) (ap is_commit e))))
+      (lead (upd s.log log word) (agreed q word) running refl un same
+      (subst (λ k. SectionIsSound c w.shared d (changed s (upd s.log k word) s.done (suc s.edge))) (sym edge_log)
+      (subst (λ v. SectionIsSound c w.shared d (changed s (upd s.log (s.slot s.edge) v) s.done (suc s.edge))) (sym agree)
+      (section_commits c w.shared d s proposal own.published (ap (λ n. is_commit (s.code n)) (sym at) ∙ commit) may own.section)))
+      (run_agrees c w.shared d (changed s (upd s.log log word) s.done (suc s.edge)) own.published q word going (omega arith) commit
+      (ap (upd s.log log word) (sym here) ∙ upd_here s.log log word) run.in_trail.counted stands.in_trail.agreed run.in_releases follows)
+      (λ p k e. absurd (not_both _ (ap (λ n. is_commit (s.code n)) (sym at) ∙ commit) (ap is_commit e))))
 
   pub agrees_sound : (log proposal : ℕ) → log ≡ s.slot q.at → is_commit (s.code q.at) ≡ true → is_event (s.code q.at) ≡ true → (q.at ≡ s.edge → MayCommit w.shared d s proposal)
       → Follows w.shared s.code s.request q.at q.word → IsSound c (agrees w r log proposal)

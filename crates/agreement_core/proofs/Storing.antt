@@ -1,18 +1,16 @@
 -- A section whose first run stores to a cell.
-use Rattle.std.proofs.Common.{◌≡◌, ◌≢◌, ℕ, zero, suc, ◌+◌, ◌<◌, ◌≤◌, Bool, true, false, refl, sym, ap, ◌∙◌, subst, inl, inr, ⊎_elim, arith}
+use Rattle.std.proofs.Common.{◌≡◌, ◌≢◌, ℕ, suc, ◌<◌, true, false, refl, sym, ap, ◌∙◌, subst, inl, inr, ⊎_elim, arith}
 use Rattle.std.proofs.lemmas.Bool.{cases_eq}
-use Rattle.std.specs.Prelude.{◌⊎◌}
 use Rattle.section_body.specs.Update.{upd}
 use Rattle.section_body.specs.Line.{is_event, is_commit}
-use Rattle.section_body.specs.Word.{value_of, version_of}
+use Rattle.section_body.specs.Word.{version_of}
 use Rattle.section_body.specs.declared.micro.Source.{Source}
-use Rattle.section_body.specs.declared.micro.Micro.{Micro}
 use Rattle.section_body.specs.declared.micro.Micro.TheVariants as micros
 use Rattle.section_lines.specs.Line.{phase, is_clock_raise}
-use Rattle.agreement_core.specs.State.{CellRules, Shared, Section, Run}
+use Rattle.agreement_core.specs.State.{CellRules, Shared, Section}
 use Rattle.agreement_core.specs.Checks.{is_stop, stored_word, is_stamp_exchange, is_reply_exchange}
 use Rattle.agreement_core.specs.Events.{HasCome, IsPublishable}
-use Rattle.agreement_core.specs.Sections.{LogIsSound, CellsAreSound, LocksAreSound, RequestIsSound, SectionIsSound}
+use Rattle.agreement_core.specs.Sections.{CellsAreSound, SectionIsSound}
 use Rattle.agreement_core.proofs.Frame.{LeavesLocks, LeavesWords, Rises, undone, not_both, locks_frame, request_frame}
 use Rattle.agreement_core.proofs.Going.{goes, at_edge, log_goes, locks_goes, request_goes}
 use Rattle.agreement_core.proofs.Committing.{upd_here, upd_else}
@@ -81,24 +79,24 @@ module _ (c : CellRules) (x : Shared) (d : ℕ) (s : Section) (place k : ℕ) (v
   cells_store : CellsAreSound (puts x place new) (goes s)
   cells_store = record {
     loaded = λ un i p' k' lt e none. ⊎_elim
-      (λ l. upd_else x.cells place p' new (λ q. none s.edge k v (omega arith) (at ∙ ap (λ n. micros.ExchangeCell n k v) (sym q)))
+        (λ l. upd_else x.cells place p' new (λ q. none s.edge k v (omega arith) (at ∙ ap (λ n. micros.ExchangeCell n k v) (sym q)))
         ∙ old.in_cells.loaded un i p' k' l e (λ j k'' v' l'. none j k'' v' (omega arith)))
-      (λ q. absurd (not_both _ (ap is_commit (ap s.code (sym q) ∙ e)) no_commit)) (at_edge i s.edge lt);
+        (λ q. absurd (not_both _ (ap is_commit (ap s.code (sym q) ∙ e)) no_commit)) (at_edge i s.edge lt);
     stored = λ un i p' k' v' lt e. ⊎_elim
-      (λ l. else i p' k' v' l e ∙ old.in_cells.stored un i p' k' v' l e)
-      (λ q. let f = same_store x.cells s.log place k p' k' v v' (sym e ∙ ap s.code q ∙ at) in ap (upd x.cells place new) f.0 ∙ upd_here x.cells place new ∙ sym f.1) (at_edge i s.edge lt);
+        (λ l. else i p' k' v' l e ∙ old.in_cells.stored un i p' k' v' l e)
+        (λ q. let f = same_store x.cells s.log place k p' k' v v' (sym e ∙ ap s.code q ∙ at) in ap (upd x.cells place new) f.0 ∙ upd_here x.cells place new ∙ sym f.1) (at_edge i s.edge lt);
     left = λ i p' k' v' lt e. ⊎_elim
-      (λ l. subst (λ n. version_of (s.log k') < version_of n) (sym (else i p' k' v' l e)) (old.in_cells.left i p' k' v' l e))
-      (λ q. let f = same_store x.cells s.log place k p' k' v v' (sym e ∙ ap s.code q ∙ at) in
+        (λ l. subst (λ n. version_of (s.log k') < version_of n) (sym (else i p' k' v' l e)) (old.in_cells.left i p' k' v' l e))
+        (λ q. let f = same_store x.cells s.log place k p' k' v v' (sym e ∙ ap s.code q ∙ at) in
         let a : upd x.cells place new p' ≡ new = ap (upd x.cells place new) f.0 ∙ upd_here x.cells place new in
         let b : version_of (s.log k') ≡ version_of (s.log k) = ap (λ n. version_of (s.log n)) f.2 in
         subst (λ n. version_of (s.log k') < version_of n) (sym a) (subst (λ n. n < version_of new) (sym b) (let g = store_version in omega arith))) (at_edge i s.edge lt);
     lasting = λ i p' k' v' lt e is. ⊎_elim
-      (λ l. else i p' k' v' l e ∙ old.in_cells.lasting i p' k' v' l e (ap version_of (sym (else i p' k' v' l e)) ∙ is))
-      (λ q. let f = same_store x.cells s.log place k p' k' v v' (sym e ∙ ap s.code q ∙ at) in ap (upd x.cells place new) f.0 ∙ upd_here x.cells place new ∙ sym f.1) (at_edge i s.edge lt);
+        (λ l. else i p' k' v' l e ∙ old.in_cells.lasting i p' k' v' l e (ap version_of (sym (else i p' k' v' l e)) ∙ is))
+        (λ q. let f = same_store x.cells s.log place k p' k' v v' (sym e ∙ ap s.code q ∙ at) in ap (upd x.cells place new) f.0 ∙ upd_here x.cells place new ∙ sym f.1) (at_edge i s.edge lt);
     read = λ i p' k' lt e. ⊎_elim
-      (λ l. old.in_cells.read i p' k' l e)
-      (λ q. absurd (not_both _ (ap is_commit (ap s.code (sym q) ∙ e)) no_commit)) (at_edge i s.edge lt);
+        (λ l. old.in_cells.read i p' k' l e)
+        (λ q. absurd (not_both _ (ap is_commit (ap s.code (sym q) ∙ e)) no_commit)) (at_edge i s.edge lt);
   }
 
   pub section_store : SectionIsSound c (puts x place new) d (goes s)

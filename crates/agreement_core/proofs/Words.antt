@@ -1,11 +1,8 @@
 -- Words of cells, and words that are written once.
-use Rattle.std.proofs.Common.{◌≡◌, ◌≢◌, ℕ, zero, suc, ◌+◌, ◌*◌, ◌/◌, ◌%◌, ◌^◌, ◌<◌, ◌≤◌, Bool, true, false, cond, refl, sym, ap, ◌∙◌, subst, inl, inr, ⊎_elim, arith}
+use Rattle.std.proofs.Common.{◌≡◌, ℕ, suc, ◌^◌, ◌<◌, ◌≤◌, true, false, arith}
 use Rattle.std.specs.Prelude.{◌⊎◌}
 use Rattle.std.proofs.lemmas.Grind.{common_steps}
 use Rattle.section_body.specs.Word.{value_of, version_of, next_word, held_word, is_free, is_spent}
-use Rattle.section_body.specs.declared.micro.Source.{Source}
-use Rattle.section_body.specs.declared.micro.Source.TheVariants.{Fixed, Agreed}
-use Rattle.agreement_core.specs.Checks.{source_in, exchanged}
 
 pub version_next : (old v : ℕ) → v < 2 ^ 32 → version_of (next_word old v) ≡ suc (version_of old)
 version_next old v small = grind (arith, common_steps)

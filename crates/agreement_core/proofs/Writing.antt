@@ -1,32 +1,22 @@
 -- Each write of a stamp or a reply keeps the history exact.
-use Rattle.std.proofs.Common.{◌≡◌, ◌≢◌, ℕ, zero, suc, ◌+◌, ◌*◌, ◌<◌, ◌≤◌, Bool, true, false, cond, List, [], ◌∷◌, length, refl, sym, ap, ◌∙◌, subst, inl, inr, ⊎_elim, arith}
-use Rattle.std.proofs.lemmas.Bool.{cases_lt, cases_eq}
-use Rattle.std.specs.Prelude.{◌⊎◌, nat_lt, ◌==◌}
-use mathlib.Core.Path.{fun_ext}
+use Rattle.std.proofs.Common.{◌≡◌, ◌≢◌, ℕ, suc, ◌+◌, ◌*◌, ◌<◌, ◌≤◌, Bool, true, false, cond, List, [], length, refl, sym, ap, ◌∙◌, subst, ⊎_elim, arith}
+use Rattle.std.proofs.lemmas.Bool.{cases_eq}
+use Rattle.std.specs.Prelude.{nat_lt}
 use Rattle.section_body.specs.Update.{upd}
 use Rattle.section_body.specs.Run.{written_once}
-use Rattle.section_body.specs.Line.{is_commit, is_check, is_event}
-use Rattle.section_body.specs.declared.micro.Source.{Source}
 use Rattle.section_body.specs.declared.micro.Micro.{Micro}
 use Rattle.section_body.specs.declared.micro.Micro.TheVariants as micros
-use Rattle.agreement_core.specs.Update.{upd2}
-use Rattle.agreement_core.specs.State.{CellRules, Section, Run, AgreementState, section_of}
-use Rattle.agreement_core.specs.Checks.{passes, stored_word, came, is_stamp_exchange, is_reply_exchange}
-use Rattle.agreement_core.specs.Events.{Event, Enabled, after, IsPublishable, IsBefore}
-use Rattle.agreement_core.specs.Events.{Publish, StampExchange, ReplyExchange, ExchangeCell}
-use Rattle.agreement_core.specs.Runs.{RunIsSound}
-use Rattle.agreement_core.specs.Sound.{UsedIsSound, IsSound}
-use Rattle.agreement_core.specs.History.{Change, History, with_won, noted, change_of, moves_of, written, IsExact}
+use Rattle.agreement_core.specs.State.{CellRules, Section, Run, AgreementState}
+use Rattle.agreement_core.specs.Checks.{came, is_stamp_exchange, is_reply_exchange}
+use Rattle.agreement_core.specs.Events.{after}
+use Rattle.agreement_core.specs.Events.{StampExchange, ReplyExchange}
+use Rattle.agreement_core.specs.Sound.{IsSound}
+use Rattle.agreement_core.specs.History.{History, with_won, noted, written, IsExact}
 use Rattle.agreement_core.proofs.Frame.{not_both}
 use Rattle.agreement_core.proofs.Committing.{upd_here, upd_else}
 use Rattle.agreement_core.proofs.Moving.{upd_split}
-use Rattle.agreement_core.proofs.Changing.{upd_found}
-use Rattle.agreement_core.proofs.Storing.{store_finds}
-use Rattle.agreement_core.proofs.Stepping.{lead_edge}
-use Rattle.agreement_core.proofs.LineEvents.{store_misses}
-use Rattle.agreement_core.proofs.Lines.{store_logged, stored_same}
-use Rattle.agreement_core.proofs.Noting.{above, below, moves_else, edge_rises, is_exchange, SectionLasts, lasts_same, lasts_came, lasts_then, lasts_logs, StatesLast, exact_same, one_lasts}
-use Rattle.agreement_core.proofs.Exactly.{won_here, won_not, written_won, once_won}
+use Rattle.agreement_core.proofs.Noting.{is_exchange, SectionLasts, lasts_came, one_lasts}
+use Rattle.agreement_core.proofs.Exactly.{written_won, once_won}
 
 zero_before : (f : ℕ → ℕ) (k word i : ℕ) → upd f k (written_once (f k) word) i ≡ 0 → f i ≡ 0
 zero_before f k word i h = grind arith
@@ -136,10 +126,10 @@ module _ (c : CellRules) (w : AgreementState) (old : IsSound c w) (h : History) 
         stamped_once = mine_once w.shared.stamp h.stamps h.stamped s.request n stamp some (exact.unstamped d used) exact.stamped_once;
         replied_once = exact.replied_once;
         unstamped = λ d' u z. mine_written w.shared.stamp h.stamps h.stamped s.request n stamp some d w.used h.section (λ d'. (w.section d').request) refl refl apart exact.unstamped d' u
-          (ap (upd w.shared.stamp s.request (written_once (w.shared.stamp s.request) stamp)) (sym (request d')) ∙ z);
+            (ap (upd w.shared.stamp s.request (written_once (w.shared.stamp s.request) stamp)) (sym (request d')) ∙ z);
         unreplied = λ d' u z. exact.unreplied d' u (ap w.shared.reply (sym (request d')) ∙ z);
         stamped_late = mine_late w.shared.stamp h.stamps h.stamped s.request n stamp some d w.used h.section (λ d'. (w.section d').request) refl refl apart
-          (λ d'. NoneBelow is_stamp_exchange (w.section d')) (λ d'. NoneBelow is_stamp_exchange (sections d')) (passed is_stamp_exchange (ap is_stamp_exchange next)) (none_before is_stamp_exchange) exact.stamped_late;
+            (λ d'. NoneBelow is_stamp_exchange (w.section d')) (λ d'. NoneBelow is_stamp_exchange (sections d')) (passed is_stamp_exchange (ap is_stamp_exchange next)) (none_before is_stamp_exchange) exact.stamped_late;
         replied_late = λ d' u late. exact.replied_late d' u (none_still quiet is_reply_exchange d' late);
       }
 
@@ -163,8 +153,8 @@ module _ (c : CellRules) (w : AgreementState) (old : IsSound c w) (h : History) 
         replied_once = mine_once w.shared.reply h.replies h.replied s.request n reply some (exact.unreplied d used) exact.replied_once;
         unstamped = λ d' u z. exact.unstamped d' u (ap w.shared.stamp (sym (request d')) ∙ z);
         unreplied = λ d' u z. mine_written w.shared.reply h.replies h.replied s.request n reply some d w.used h.section (λ d'. (w.section d').request) refl refl apart exact.unreplied d' u
-          (ap (upd w.shared.reply s.request (written_once (w.shared.reply s.request) reply)) (sym (request d')) ∙ z);
+            (ap (upd w.shared.reply s.request (written_once (w.shared.reply s.request) reply)) (sym (request d')) ∙ z);
         stamped_late = λ d' u late. exact.stamped_late d' u (none_still quiet is_stamp_exchange d' late);
         replied_late = mine_late w.shared.reply h.replies h.replied s.request n reply some d w.used h.section (λ d'. (w.section d').request) refl refl apart
-          (λ d'. NoneBelow is_reply_exchange (w.section d')) (λ d'. NoneBelow is_reply_exchange (sections d')) (passed is_reply_exchange (ap is_reply_exchange next)) (none_before is_reply_exchange) exact.replied_late;
+            (λ d'. NoneBelow is_reply_exchange (w.section d')) (λ d'. NoneBelow is_reply_exchange (sections d')) (passed is_reply_exchange (ap is_reply_exchange next)) (none_before is_reply_exchange) exact.replied_late;
       }

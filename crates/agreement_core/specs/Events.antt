@@ -1,15 +1,14 @@
 -- The events of agreement, when each may come, and the state after it.
-use Rattle.std.specs.Prelude.{ℕ, suc, ◌+◌, ◌*◌, ◌/◌, ◌^◌, ◌<◌, ◌≤◌, ◌≡◌, ◌≢◌, ◌⊎◌, max, Bool, true, false}
+use Rattle.std.specs.Prelude.{ℕ, suc, ◌+◌, ◌*◌, ◌/◌, ◌^◌, ◌<◌, ◌≤◌, ◌≡◌, ◌≢◌, ◌⊎◌, max, true, false}
 use Rattle.section_body.specs.Update.{upd}
 use Rattle.section_body.specs.Word.{value_of, version_of, next_word, held_word, is_free, is_spent}
 use Rattle.section_body.specs.Run.{written_once}
 use Rattle.section_body.specs.declared.micro.Source.{Source}
-use Rattle.section_body.specs.declared.micro.Source.TheVariants.{Fixed}
 use Rattle.section_body.specs.declared.micro.Micro.{Micro}
 use Rattle.section_body.specs.declared.micro.Micro.TheVariants as micros
 use Rattle.section_lines.specs.Line.{IsLine, IsWholeLine}
 use Rattle.agreement_core.specs.Update.{upd2}
-use Rattle.agreement_core.specs.State.{CellRules, Shared, Section, Run, Finished, AgreementState, section_of, IsOpen}
+use Rattle.agreement_core.specs.State.{CellRules, Section, Run, Finished, AgreementState, section_of, IsOpen}
 use Rattle.agreement_core.specs.Checks.{passes, is_stop, stored_word, exchanged, came}
 
 -- what may happen; `r` is the runner, `d` a descriptor, `log` a place in a log

@@ -1,5 +1,5 @@
 -- An example: one section is run by two runners, one of them late; its effects come once.
-use Rattle.std.specs.Prelude.{ℕ, suc, ◌+◌, ◌*◌, ◌^◌, ◌<◌, ◌≤◌, ◌≡◌, ◌≢◌, ◌==◌, nat_lt, true, false, cond, List, [], ◌∷◌, ◌++◌}
+use Rattle.std.specs.Prelude.{ℕ, ◌≡◌, ◌==◌, nat_lt, false, cond, List, [], ◌∷◌, ◌++◌}
 use Rattle.section_body.specs.Word.{pack}
 use Rattle.section_body.specs.declared.micro.Source.TheVariants.{Fixed}
 use Rattle.section_body.specs.declared.micro.Micro.{Micro}

@@ -1,12 +1,13 @@
 -- A section's log and the plain run of its body.
-use Rattle.std.specs.Prelude.{ℕ, ◌-◌, ◌<◌, ◌≡◌, ◌≢◌, List, [], false, true, take, None}
-use Rattle.section_body.specs.Line.{line, micro_at, committed, is_check}
+use Rattle.std.specs.Prelude.{ℕ, zero, suc, ◌-◌, ◌<◌, ◌≡◌, ◌≢◌, List, [], false, take, None}
+use Rattle.section_body.specs.Update.{upd}
+use Rattle.section_body.specs.Line.{line, micro_at, committed}
 use Rattle.section_body.specs.Shape.{IsShaped}
 use Rattle.section_body.specs.Run.{Setting, Run, ran}
-use Rattle.section_body.specs.declared.outcome.Outcome.{Outcome}
 use Rattle.section_body.specs.declared.step.Step.{Step}
+use Rattle.section_body.specs.declared.micro.Micro.{Micro}
 use Rattle.section_body.specs.declared.micro.Micro.TheVariants.{Commit}
-use Rattle.section_lines.specs.Runs.{agreed, AgreesWith}
+use Rattle.section_lines.specs.Runs.{agreed}
 use Rattle.agreement_core.specs.State.{CellRules, Section}
 
 -- the section's line is that of this body
@@ -34,6 +35,20 @@ pub record IsOver (s : Section) (start : Run) : Type 0 where
   pub unbegun : start.trail ≡ []
   pub unended : start.outcome ≡ None
   pub loaded : (i p k : ℕ) → i < s.edge → s.code i ≡ Commit p k → start.cells p ≡ s.log k
+
+-- the cells after a Load has agreed on its word
+abbrev pub with_loaded : (ℕ → ℕ) → (ℕ → ℕ) → Micro → ℕ → ℕ
+with_loaded log cells (Commit place k) = upd cells place (log k)
+with_loaded log cells _ = cells
+
+-- cells in which each one holds the word on which a Load below this place of a line agreed, and the others 0
+abbrev pub loaded_cells : (ℕ → Micro) → (ℕ → ℕ) → ℕ → ℕ → ℕ
+loaded_cells code log zero = λ p. 0
+loaded_cells code log (suc n) = with_loaded log (loaded_cells code log n) (code n)
+
+-- a run that begins over the words that a section has loaded
+abbrev pub start_over : Section → Run
+start_over s = record { cells = loaded_cells s.code s.log s.edge; clock = 0; stamp = 0; reply = 0; trail = []; made = []; retired = []; outcome = None }
 
 -- what was agreed is the trail of the plain run as far as its runs have come, and the whole run's trail begins with it; once the
 -- section is done it is the whole run's trail

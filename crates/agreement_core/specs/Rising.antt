@@ -1,5 +1,5 @@
 -- Versions: what one event does to them, and what was read.
-use Rattle.std.specs.Prelude.{ℕ, suc, ◌<◌, ◌≤◌, ◌≡◌, ◌⊎◌, true}
+use Rattle.std.specs.Prelude.{ℕ, suc, ◌≤◌, ◌≡◌, ◌⊎◌, true}
 use Rattle.section_body.specs.Word.{version_of}
 use Rattle.agreement_core.specs.State.{AgreementState}
 

@@ -1,5 +1,5 @@
 -- The invariant of one run of a section.
-use Rattle.std.specs.Prelude.{ℕ, suc, ◌<◌, ◌≤◌, ◌≡◌, ◌≢◌, Bool, true, false}
+use Rattle.std.specs.Prelude.{ℕ, suc, ◌<◌, ◌≤◌, ◌≡◌, ◌≢◌, true}
 use Rattle.section_body.specs.Word.{value_of}
 use Rattle.section_body.specs.declared.micro.Micro.TheVariants.{Commit, NestedCommit, OutcomeCommit}
 use Rattle.section_lines.specs.Line.{is_clock_raise}

@@ -1,5 +1,5 @@
 -- The first state, and lists of enabled events.
-use Rattle.std.specs.Prelude.{ℕ, ◌<◌, ◌≤◌, ◌≡◌, Bool, true, false, List, [], ◌∷◌}
+use Rattle.std.specs.Prelude.{ℕ, ◌<◌, ◌≤◌, ◌≡◌, true, false, List, [], ◌∷◌}
 use Rattle.section_body.specs.Word.{value_of, version_of}
 use Rattle.section_body.specs.declared.micro.Micro.TheVariants.{End}
 use Rattle.agreement_core.specs.State.{CellRules, Section, Run, Finished, AgreementState}

@@ -1,5 +1,5 @@
 -- The invariant of one section: its log, the cells that it loads and stores to, its locks, and the words of its request.
-use Rattle.std.specs.Prelude.{ℕ, suc, ◌+◌, ◌/◌, ◌<◌, ◌≤◌, ◌≡◌, ◌≢◌, ◌⊎◌, Bool, true, false}
+use Rattle.std.specs.Prelude.{ℕ, suc, ◌/◌, ◌<◌, ◌≤◌, ◌≡◌, ◌≢◌, ◌⊎◌, true, false}
 use Rattle.section_body.specs.Word.{value_of, version_of, held_word}
 use Rattle.section_body.specs.Line.{is_check, is_end}
 use Rattle.section_body.specs.declared.micro.Source.{Source}

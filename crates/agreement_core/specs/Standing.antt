@@ -1,5 +1,5 @@
 -- What stands in the cells and the locks of a section.
-use Rattle.std.specs.Prelude.{ℕ, suc, ◌<◌, ◌≤◌, ◌≡◌, ◌≢◌, ◌⊎◌, Bool, true, false}
+use Rattle.std.specs.Prelude.{ℕ, suc, ◌<◌, ◌≡◌, ◌≢◌, ◌⊎◌, true}
 use Rattle.section_body.specs.Word.{value_of, version_of, held_word}
 use Rattle.section_body.specs.declared.micro.Source.{Source}
 use Rattle.section_body.specs.declared.micro.Micro.TheVariants.{Commit, NestedHold, OutcomeCommit, ExchangeCell}

@@ -1,5 +1,5 @@
 -- The state of agreement: the shared words, the sections by descriptor, and the runs by runner.
-use Rattle.std.specs.Prelude.{ℕ, ◌≤◌, ◌≡◌, Bool, true, false}
+use Rattle.std.specs.Prelude.{ℕ, ◌≡◌, Bool, true}
 use Rattle.section_body.specs.declared.micro.Micro.{Micro}
 
 -- which places are locks, and the greatest version

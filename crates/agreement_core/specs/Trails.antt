@@ -1,6 +1,6 @@
 -- Agreement: what is said of a section's log and of the trails of its runs.
-use Rattle.std.specs.Prelude.{ℕ, ◌<◌, ◌≤◌, ◌≡◌, ◌≢◌, Bool, true, false}
-use Rattle.agreement_core.specs.State.{CellRules, Section, Run, AgreementState, section_of}
+use Rattle.std.specs.Prelude.{ℕ, ◌<◌, ◌≤◌, ◌≡◌, true}
+use Rattle.agreement_core.specs.State.{Section, Run, AgreementState, section_of}
 use Rattle.agreement_core.specs.Sound.{IsOf, IsWhole, AreOfOne, AreEqual}
 
 -- this many words of the log are agreed: they aren't 0, and zeros follow

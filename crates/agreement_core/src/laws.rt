@@ -11,7 +11,7 @@ ghost use Rattle.agreement_core.specs.Standing.{CellsStand, LocksStand, TakesSta
 ghost use Rattle.agreement_core.specs.Frame.{IsSame};
 ghost use Rattle.section_body.specs.Run.{Run};
 ghost use Rattle.section_body.specs.declared.step.Step.{Step};
-ghost use Rattle.agreement_core.specs.PlainRuns.{IsOfBody, chosen, IsOver, FollowsPlainRun};
+ghost use Rattle.agreement_core.specs.PlainRuns.{IsOfBody, chosen, IsOver, start_over, FollowsPlainRun};
 ghost use Rattle.agreement_core.specs.Helped.{IsHelped};
 ghost use Rattle.agreement_core.specs.History.{History, no_history, noted, noted_all, IsExact, HasAnswered, HasLeft, HappenedOnce, NothingHappened, Lasts};
 
@@ -69,9 +69,10 @@ pub fn takes_agree()
 
 /// Take the plain run of a section's body, with the choices that the section's log tells, over cells in which each cell that
 /// the section has loaded holds the agreed word. What was agreed is that run's trail as far as the runs of the section have
-/// come, the whole run's trail begins with it, and once the section is done it is the whole run's trail.
+/// come, the whole run's trail begins with it, and once the section is done it is the whole run's trail. Such cells are there.
 pub fn logs_follow_plain_runs()
-    ensures { (c : CellRules) (w : AgreementState) (d : ℕ) (body : List Step) (fixed_cells : ℕ) (first : ℕ → ℕ → ℕ) (clock : ℕ) (start : Run)
+    ensures start { (c : CellRules) (w : AgreementState) (d : ℕ) → IsSound c w → w.used d ≡ true → IsOver (w.section d) (start_over (w.section d)) }
+    ensures follows { (c : CellRules) (w : AgreementState) (d : ℕ) (body : List Step) (fixed_cells : ℕ) (first : ℕ → ℕ → ℕ) (clock : ℕ) (start : Run)
         → IsSound c w → w.used d ≡ true → IsOfBody (w.section d) body → IsOver (w.section d) start
         → FollowsPlainRun (w.section d) body (chosen c d (w.section d) fixed_cells first clock) start }
 {}
