@@ -29,13 +29,18 @@ later : (a b c' : ℕ) → a < b → b < c' → a < c'
 later a b c' lt lt' = omega arith
 
 -- a cell that changes to a later version within the greatest one
-pub puts_versions : (c : CellRules) (x : Shared) (place word : ℕ) → version_of (x.cells place) < version_of word → version_of word ≤ c.version_max → VersionsAreSound c x → VersionsAreSound c (puts x place word)
+pub puts_versions : (c : CellRules) (x : Shared) (place word : ℕ) → version_of (x.cells place) < version_of word
+    → version_of word ≤ c.version_max → VersionsAreSound c x → VersionsAreSound c (puts x place word)
 puts_versions c x place word more most old = record {
-  positive = λ p. ⊎_elim (λ e. subst (λ n. 0 < version_of n) (sym (here p e)) (let b = old.positive place in omega arith)) (λ ne. subst (λ n. 0 < version_of n) (sym (upd_else x.cells place p word ne)) (old.positive p)) (cases_eq p place);
-  bounded = λ p. ⊎_elim (λ e. subst (λ n. version_of n ≤ c.version_max) (sym (here p e)) most) (λ ne. subst (λ n. version_of n ≤ c.version_max) (sym (upd_else x.cells place p word ne)) (old.bounded p)) (cases_eq p place);
+  positive = λ p. ⊎_elim (λ e. subst (λ n. 0 < version_of n) (sym (here p e)) (let b = old.positive place in omega arith))
+      (λ ne. subst (λ n. 0 < version_of n) (sym (upd_else x.cells place p word ne)) (old.positive p)) (cases_eq p place);
+  bounded = λ p. ⊎_elim (λ e. subst (λ n. version_of n ≤ c.version_max) (sym (here p e)) most)
+      (λ ne. subst (λ n. version_of n ≤ c.version_max) (sym (upd_else x.cells place p word ne)) (old.bounded p)) (cases_eq p place);
   past = λ p v seen. ⊎_elim
-      (λ e. inr (subst (λ n. version_of v < version_of n) (sym (here p e)) (below v (subst (λ n. (x.cells n ≡ v) ⊎ (version_of v < version_of (x.cells n))) e (old.past p v seen)))))
-      (λ ne. subst (λ n. (n ≡ v) ⊎ (version_of v < version_of n)) (sym (upd_else x.cells place p word ne)) (old.past p v seen)) (cases_eq p place);
+      (λ e. inr (subst (λ n. version_of v < version_of n) (sym (here p e))
+      (below v (subst (λ n. (x.cells n ≡ v) ⊎ (version_of v < version_of (x.cells n))) e (old.past p v seen)))))
+      (λ ne. subst (λ n. (n ≡ v) ⊎ (version_of v < version_of n)) (sym (upd_else x.cells place p word ne)) (old.past p v seen))
+      (cases_eq p place);
   read_positive = old.read_positive;
 }
   where
@@ -54,16 +59,20 @@ exchange_fails found old new ne = grind arith
 pub upd_found : (f : ℕ → ℕ) (k v : ℕ) → v ≡ f k → (i : ℕ) → upd f k v i ≡ f i
 upd_found f k v e i = grind arith
 
-fresh_passes : (c : CellRules) (log : ℕ → ℕ) (k : ℕ) → not (version_of (log k) == c.version_max) ≡ true → version_of (log k) ≤ c.version_max → suc (version_of (log k)) ≤ c.version_max
+fresh_passes : (c : CellRules) (log : ℕ → ℕ) (k : ℕ) → not (version_of (log k) == c.version_max) ≡ true → version_of (log k) ≤ c.version_max
+    → suc (version_of (log k)) ≤ c.version_max
 fresh_passes c log k pass most = grind arith
 
 -- a step that loads no cell comes to no new one
-come_goes : (c : CellRules) (s : Section) {d : ℕ} → IsPublishable c d s.lock s.word s.code s.slot → ((p k : ℕ) → s.code s.edge ≢ micros.LoadCell p k) → (p : ℕ) → HasCome (goes s) p → HasCome s p
+come_goes : (c : CellRules) (s : Section) {d : ℕ} → IsPublishable c d s.lock s.word s.code s.slot
+    → ((p k : ℕ) → s.code s.edge ≢ micros.LoadCell p k) → (p : ℕ) → HasCome (goes s) p → HasCome s p
 come_goes c s published no_load p h = ⊎_elim (λ lt. (h.0, h.1, omega arith, h.3))
-    (λ le. absurd (no_load p h.1 (load_of_commit c s.lock s.code s.slot published.line s.edge p h.1 (let e : h.0 ≡ suc s.edge = let b = h.2 in omega arith in subst (λ n. s.code n ≡ micros.Commit p h.1) e h.3))))
+    (λ le. absurd (no_load p h.1 (load_of_commit c s.lock s.code s.slot published.line s.edge p h.1
+    (let e : h.0 ≡ suc s.edge = let b = h.2 in omega arith in subst (λ n. s.code n ≡ micros.Commit p h.1) e h.3))))
     (cases_lt h.0 (suc s.edge))
 
-module _ (c : CellRules) (w : AgreementState) (old : IsSound c w) (r : ℕ) (running : (w.run r).running ≡ true) (going : (w.run r).ended ≡ false) where
+module _ (c : CellRules) (w : AgreementState) (old : IsSound c w) (r : ℕ) (running : (w.run r).running ≡ true)
+    (going : (w.run r).ended ≡ false) where
   abbrev q : Run
   q = w.run r
 
@@ -93,9 +102,11 @@ module _ (c : CellRules) (w : AgreementState) (old : IsSound c w) (r : ℕ) (run
   put place word = record w { shared = puts x place word; section = upd w.section d (goes s); run = upd w.run r (stepped q q.word) }
 
   -- an exchange that fails changes no cell
-  pub fails_sound : (place found new : ℕ) → x.cells place ≢ found → IsSound c (goes_on w r q.word) → IsSound c (with_cell (goes_on w r q.word) place (exchanged (x.cells place) found new))
+  pub fails_sound : (place found new : ℕ) → x.cells place ≢ found → IsSound c (goes_on w r q.word)
+      → IsSound c (with_cell (goes_on w r q.word) place (exchanged (x.cells place) found new))
   fails_sound place found new ne sound =
-      let same : upd x.cells place (exchanged (x.cells place) found new) ≡ x.cells = fun_ext (upd_found x.cells place _ (exchange_fails (x.cells place) found new ne)) in
+      let same : upd x.cells place (exchanged (x.cells place) found new) ≡ x.cells = fun_ext
+      (upd_found x.cells place _ (exchange_fails (x.cells place) found new ne)) in
       subst (λ cells. IsSound c (record (goes_on w r q.word) { shared = record x { cells = cells } })) (sym same) sound
 
   -- a store at the edge moves its cell
@@ -115,7 +126,8 @@ module _ (c : CellRules) (w : AgreementState) (old : IsSound c w) (r : ℕ) (run
     room : version_of stored ≤ c.version_max
     room =
         let j = own.published.line.resolved.store_fresh s.edge place k v next in
-        let pass : passes c d s.log (micros.CheckFresh place k) ≡ true = ap (passes c d s.log) (sym j.2) ∙ own.section.in_log.passed j.0 j.1 (ap is_check j.2) in
+        let pass : passes c d s.log (micros.CheckFresh place k) ≡ true = ap (passes c d s.log) (sym j.2)
+        ∙ own.section.in_log.passed j.0 j.1 (ap is_check j.2) in
         let most : version_of (s.log k) ≤ c.version_max = subst (λ n. version_of n ≤ c.version_max) finds (old.versions.bounded place) in
         let a = fresh_passes c s.log k pass most in
         let b = store_version c x d s place k v own.published next own.section in
@@ -126,11 +138,13 @@ module _ (c : CellRules) (w : AgreementState) (old : IsSound c w) (r : ℕ) (run
         let rises = puts_rises x place stored (store_rises c x d s place k v own.published next own.section) in
         let locks = puts_no_lock c d s x place stored unlocked in
         let x' = puts x place stored in
-        let same : (p : ℕ) → c.is_lock p ≡ true → x'.cells p ≡ x.cells p = λ p lock. upd_else x.cells place p stored (λ e. not_both _ lock (ap c.is_lock e ∙ unlocked)) in
+        let same : (p : ℕ) → c.is_lock p ≡ true → x'.cells p ≡ x.cells p = λ p lock. upd_else x.cells place p stored
+        (λ e. not_both _ lock (ap c.is_lock e ∙ unlocked)) in
         run_stands c x' d s own.published q' s.log store_open (λ n lt. refl) (record {
           in_trail = h.in_trail;
           in_word = word_frame c d s own.published x x' rises (puts_words x place stored) q' own.section.in_request h.in_trail.behind
-              (λ un' p n e is. same p (outcome_lock c s.lock s.code s.slot own.published.line q'.at p n e)) (λ p n e is. same p (outcome_lock c s.lock s.code s.slot own.published.line q'.at p n e))
+              (λ un' p n e is. same p (outcome_lock c s.lock s.code s.slot own.published.line q'.at p n e))
+              (λ p n e is. same p (outcome_lock c s.lock s.code s.slot own.published.line q'.at p n e))
               (λ p n at' e. absurd (let a : 1 ≡ 4 = ap phase (sym e ∙ ap s.code at' ∙ next) in omega arith)) h.in_word;
           in_releases = releases_frame c d s own.published x x' rises (puts_words x place stored) q' locks h.in_releases;
         })
@@ -148,11 +162,13 @@ module _ (c : CellRules) (w : AgreementState) (old : IsSound c w) (r : ℕ) (run
           rises = puts_rises x place stored rises;
           words = puts_words x place stored;
           section = section_store c x d s place k v own.published next own.section;
-          run = run_steps c (puts x place stored) d (goes s) own.published q q.word going (omega arith) no_commit stands.in_trail stands.in_releases
+          run = run_steps c (puts x place stored) d (goes s) own.published q q.word going
+              (omega arith) no_commit stands.in_trail stands.in_releases
               (follows_any _ _ _ _ _ (ap (λ n. gives_number (s.code n)) at ∙ ap gives_number next));
           fellows = λ r' ne is e. store_fellow (w.run r') (fellow r' is e);
           others = λ d' ne u. record {
-            loaded = λ un' p come. upd_else x.cells place p stored (λ e. old.apart d d' p (λ e'. ne (sym e')) (record { used = used; undone = store_open }) (record { used = u; undone = un' })
+            loaded = λ un' p come. upd_else x.cells place p stored
+                (λ e. old.apart d d' p (λ e'. ne (sym e')) (record { used = used; undone = store_open }) (record { used = u; undone = un' })
                 (subst (HasCome s) (sym e) (store_come c x d s place k v own.published next own.section)) come);
             locks = puts_no_lock c d' (w.section d') x place stored unlocked;
           };
@@ -165,7 +181,8 @@ module _ (c : CellRules) (w : AgreementState) (old : IsSound c w) (r : ℕ) (run
 
     -- the words of the trail are those of the log
     trail_same : (n : ℕ) → n < s.slot s.edge → q.trail n ≡ s.log n
-    trail_same n lt = run.in_trail.agreed n (let e = run.in_trail.counted in let f : s.slot q.at ≡ s.slot s.edge = ap s.slot at in omega arith)
+    trail_same n lt = run.in_trail.agreed n (let e = run.in_trail.counted in let f : s.slot q.at ≡ s.slot s.edge = ap s.slot at in
+        omega arith)
 
     pub store_sound : IsSound c (with_cell (goes_on w r q.word) place (exchanged (x.cells place) (q.trail k) (stored_word q.trail k v)))
     store_sound =
@@ -173,8 +190,20 @@ module _ (c : CellRules) (w : AgreementState) (old : IsSound c w) (r : ℕ) (run
         let old_word : x.cells place ≡ q.trail k = finds ∙ sym (trail_same k logged) in
         let new_word : stored_word q.trail k v ≡ stored = stored_same c s.lock s.code s.slot own.published.line s.edge place k v q.trail s.log next trail_same in
         let moved : exchanged (x.cells place) (q.trail k) (stored_word q.trail k v) ≡ stored = exchange_wins _ _ _ old_word ∙ new_word in
-        subst (λ n. IsSound c (record w { shared = puts x place n; section = upd w.section d (changed s s.log s.done (cond (nat_lt s.edge (suc q.at)) (suc q.at) s.edge)); run = upd w.run r (stepped q q.word) })) (sym moved)
-        (subst (λ n. IsSound c (record w { shared = puts x place stored; section = upd w.section d (changed s s.log s.done n); run = upd w.run r (stepped q q.word) })) (sym (lead_edge s.edge q.at at))
+        subst (λ n. IsSound c
+        (record w {
+          shared = puts x place n;
+          section = upd w.section d
+              (changed s s.log s.done (cond (nat_lt s.edge (suc q.at)) (suc q.at) s.edge));
+          run = upd w.run r (stepped q q.word);
+        }))
+        (sym moved)
+        (subst (λ n. IsSound c
+        (record w {
+          shared = puts x place stored;
+          section = upd w.section d (changed s s.log s.done n);
+          run = upd w.run r (stepped q q.word);
+        })) (sym (lead_edge s.edge q.at at))
         (run_moves c w r d (puts x place stored) s.log s.done (suc s.edge) (stepped q q.word) store_moves old))
 
   -- a nested lock that is taken at the edge
@@ -193,7 +222,8 @@ module _ (c : CellRules) (w : AgreementState) (old : IsSound c w) (r : ℕ) (run
 
     hold_room : version_of held ≤ c.version_max
     hold_room =
-        let a = unspent_room c.version_max free (hold_free c s.lock s.code s.slot own.published.line s.edge place free next) (hold_unspent c s.lock s.code s.slot own.published.line s.edge place free next) in
+        let a = unspent_room c.version_max free (hold_free c s.lock s.code s.slot own.published.line s.edge place free next)
+        (hold_unspent c s.lock s.code s.slot own.published.line s.edge place free next) in
         let b = version_held d free own.published.link in
         omega arith
 
@@ -207,10 +237,12 @@ module _ (c : CellRules) (w : AgreementState) (old : IsSound c w) (r : ℕ) (run
     hold_fellow q' h =
         let x' = puts x place held in
         let else : (p n : ℕ) → s.code q'.at ≡ micros.OutcomeCommit p n → x'.cells p ≡ x.cells p =
-        λ p n e. upd_else x.cells place p held (other_outcome c x d s place free own.published next own.section finds q'.at p n h.in_trail.behind e) in
+        λ p n e. upd_else x.cells place p held
+        (other_outcome c x d s place free own.published next own.section finds q'.at p n h.in_trail.behind e) in
         run_stands c x' d s own.published q' s.log hold_open (λ n lt. refl) (record {
           in_trail = h.in_trail;
-          in_word = word_frame c d s own.published x x' (puts_rises x place held rises) (puts_words x place held) q' own.section.in_request h.in_trail.behind
+          in_word = word_frame c d s own.published x x' (puts_rises x place held rises)
+              (puts_words x place held) q' own.section.in_request h.in_trail.behind
               (λ un' p n e is. else p n e) (λ p n e is. else p n e)
               (λ p n at' e. absurd (not_both _ (ap is_commit (ap s.code (sym at') ∙ e)) (ap is_commit next))) h.in_word;
           in_releases = record {
@@ -225,7 +257,8 @@ module _ (c : CellRules) (w : AgreementState) (old : IsSound c w) (r : ℕ) (run
 
     new_lock : (d' p : ℕ) → value_of (upd x.cells place held p) ≡ suc d' → (upd x.cells place held p ≡ x.cells p) ⊎ (d' ≡ d)
     new_lock d' p v = ⊎_elim
-        (λ e. inr (let z : suc d' ≡ suc d = sym v ∙ ap value_of (ap (upd x.cells place held) e ∙ upd_here x.cells place held) ∙ names in omega arith))
+        (λ e. inr (let z : suc d' ≡ suc d = sym v ∙ ap value_of (ap (upd x.cells place held) e ∙ upd_here x.cells place held) ∙ names in
+        omega arith))
         (λ ne. inl (upd_else x.cells place p held ne)) (cases_eq p place)
 
     hold_moves : RunMoves c w r d (puts x place held) s.log s.done (suc s.edge) (stepped q q.word)
@@ -240,7 +273,8 @@ module _ (c : CellRules) (w : AgreementState) (old : IsSound c w) (r : ℕ) (run
           rises = puts_rises x place held rises;
           words = puts_words x place held;
           section = section_hold c x d s place free own.published next own.section finds;
-          run = run_steps c (puts x place held) d (goes s) own.published q q.word going (omega arith) no_commit stands.in_trail stands.in_releases
+          run = run_steps c (puts x place held) d (goes s) own.published q q.word going
+              (omega arith) no_commit stands.in_trail stands.in_releases
               (follows_any _ _ _ _ _ (ap (λ n. gives_number (s.code n)) at ∙ ap gives_number next));
           fellows = λ r' ne is e. hold_fellow (w.run r') (fellow r' is e);
           others = λ d' ne u. record {
@@ -259,6 +293,18 @@ module _ (c : CellRules) (w : AgreementState) (old : IsSound c w) (r : ℕ) (run
 
     pub hold_sound : IsSound c (with_cell (goes_on w r q.word) place (exchanged (x.cells place) free held))
     hold_sound =
-        subst (λ n. IsSound c (record w { shared = puts x place n; section = upd w.section d (changed s s.log s.done (cond (nat_lt s.edge (suc q.at)) (suc q.at) s.edge)); run = upd w.run r (stepped q q.word) })) (sym (exchange_wins _ _ _ finds))
-        (subst (λ n. IsSound c (record w { shared = puts x place held; section = upd w.section d (changed s s.log s.done n); run = upd w.run r (stepped q q.word) })) (sym (lead_edge s.edge q.at at))
+        subst (λ n. IsSound c
+        (record w {
+          shared = puts x place n;
+          section = upd w.section d
+              (changed s s.log s.done (cond (nat_lt s.edge (suc q.at)) (suc q.at) s.edge));
+          run = upd w.run r (stepped q q.word);
+        }))
+        (sym (exchange_wins _ _ _ finds))
+        (subst (λ n. IsSound c
+        (record w {
+          shared = puts x place held;
+          section = upd w.section d (changed s s.log s.done n);
+          run = upd w.run r (stepped q q.word);
+        })) (sym (lead_edge s.edge q.at at))
         (run_moves c w r d (puts x place held) s.log s.done (suc s.edge) (stepped q q.word) hold_moves old))

@@ -14,27 +14,60 @@ use Rattle.agreement_core.proofs.Reading.{stays}
 use Rattle.agreement_core.proofs.Noting.{edge_rises}
 
 same_section : (s : Section) → GoesOn s s
-same_section s = record { lock = refl; word = refl; request = refl; code = refl; slot = refl; log = λ k some. refl; edge = omega arith; done = λ ne. refl }
+same_section s = record {
+  lock = refl;
+  word = refl;
+  request = refl;
+  code = refl;
+  slot = refl;
+  log = λ k some. refl;
+  edge = omega arith;
+  done = λ ne. refl;
+}
 
 -- one section changes
-one_goes : (w : AgreementState) (d : ℕ) (s' : Section) → GoesOn (w.section d) s' → SectionsGoOn w (record w { section = upd w.section d s' })
+one_goes : (w : AgreementState) (d : ℕ) (s' : Section) → GoesOn (w.section d) s'
+    → SectionsGoOn w (record w { section = upd w.section d s' })
 one_goes w d s' goes d' used = upd_split w.section d s' (λ d' s. GoesOn (w.section d') s) goes (λ d' ne. same_section (w.section d')) d'
 
 -- a section of which nothing is published changes
 unused_goes : (w : AgreementState) (d : ℕ) (s' : Section) → w.used d ≡ false → SectionsGoOn w (record w { section = upd w.section d s' })
-unused_goes w d s' unused d' used = subst (GoesOn (w.section d')) (sym (upd_else w.section d d' s' (λ e. not_both _ used (ap w.used e ∙ unused)))) (same_section (w.section d'))
+unused_goes w d s' unused d' used = subst (GoesOn (w.section d'))
+    (sym (upd_else w.section d d' s' (λ e. not_both _ used (ap w.used e ∙ unused)))) (same_section (w.section d'))
 
 done_stays : (n : ℕ) → n ≢ 0 → written_once n 1 ≡ n
 done_stays n ne = grind arith
 
-came_goes : (w : AgreementState) (r : ℕ) → SectionsGoOn w (record w { section = upd w.section ((w.run r).descriptor) (came (section_of w r) (suc ((w.run r).at))) })
-came_goes w r = one_goes w _ _ (record { lock = refl; word = refl; request = refl; code = refl; slot = refl; log = λ k some. refl; edge = edge_rises _ _; done = λ ne. refl })
+came_goes : (w : AgreementState) (r : ℕ) → SectionsGoOn w
+    (record w { section = upd w.section ((w.run r).descriptor) (came (section_of w r) (suc ((w.run r).at))) })
+came_goes w r = one_goes w _ _
+    (record {
+      lock = refl;
+      word = refl;
+      request = refl;
+      code = refl;
+      slot = refl;
+      log = λ k some. refl;
+      edge = edge_rises _ _;
+      done = λ ne. refl;
+    })
 
 agrees_goes : (w : AgreementState) (r log proposal : ℕ) → SectionsGoOn w (record w {
   section = upd w.section ((w.run r).descriptor)
-      (came (record (section_of w r) { log = upd ((section_of w r).log) log (written_once ((section_of w r).log log) proposal) }) (suc ((w.run r).at)));
+      (came (record (section_of w r) { log = upd ((section_of w r).log) log (written_once ((section_of w r).log log) proposal) })
+      (suc ((w.run r).at)));
 })
-agrees_goes w r log proposal = one_goes w _ _ (record { lock = refl; word = refl; request = refl; code = refl; slot = refl; log = λ k some. stays ((section_of w r).log) log proposal k some; edge = edge_rises _ _; done = λ ne. refl })
+agrees_goes w r log proposal = one_goes w _ _
+    (record {
+      lock = refl;
+      word = refl;
+      request = refl;
+      code = refl;
+      slot = refl;
+      log = λ k some. stays ((section_of w r).log) log proposal k some;
+      edge = edge_rises _ _;
+      done = λ ne. refl;
+    })
 
 module _ (c : CellRules) where
   pub goes_on_all : (w : AgreementState) (e : Event) → Enabled c w e → SectionsGoOn w (after w e)
@@ -46,7 +79,17 @@ module _ (c : CellRules) where
   goes_on_all w (Read place) ok = λ d' u. same_section (w.section d')
   goes_on_all w (Open r d) ok = λ d' u. same_section (w.section d')
   goes_on_all w (Pass r) ok = came_goes w r
-  goes_on_all w (SetDone r) ok = one_goes w _ _ (record { lock = refl; word = refl; request = refl; code = refl; slot = refl; log = λ k some. refl; edge = omega arith; done = λ ne. done_stays _ ne })
+  goes_on_all w (SetDone r) ok = one_goes w _ _
+      (record {
+        lock = refl;
+        word = refl;
+        request = refl;
+        code = refl;
+        slot = refl;
+        log = λ k some. refl;
+        edge = omega arith;
+        done = λ ne. done_stays _ ne;
+      })
   goes_on_all w (Release r place word) ok = λ d' u. same_section (w.section d')
   goes_on_all w (Finish r) ok = λ d' u. same_section (w.section d')
   goes_on_all w (LoadCell r place log) ok = came_goes w r

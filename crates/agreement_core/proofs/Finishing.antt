@@ -18,7 +18,8 @@ use Rattle.agreement_core.proofs.Committing.{upd_here, upd_else}
 use Rattle.agreement_core.proofs.Moving.{upd_split}
 use Rattle.agreement_core.proofs.Lines.{event_goes, pass_goes, after_hold}
 
-held_passes : (c : CellRules) (d : ℕ) (log : ℕ → ℕ) (p k free : ℕ) → log k ≡ held_word d free → passes c d log (micros.CheckHeld p k free) ≡ true
+held_passes : (c : CellRules) (d : ℕ) (log : ℕ → ℕ) (p k free : ℕ) → log k ≡ held_word d free
+    → passes c d log (micros.CheckHeld p k free) ≡ true
 held_passes c d log p k free e = grind arith
 
 upd2_row : (f : ℕ → ℕ → Finished) (r s : ℕ) (v : Finished) (i j : ℕ) → i ≢ r → upd2 f r s v i j ≡ f i j
@@ -76,17 +77,20 @@ module _ (c : CellRules) (w : AgreementState) (old : IsSound c w) (r : ℕ) (ok 
       (n.1, inr (suc (suc (suc n.0)), a.0, let e = edge in omega arith, a.3)))
       holds
     where
-      beyond : (i p free k : ℕ) → value_of (w.shared.cells p) ≡ suc d → i < s.edge → w.shared.cells p ≡ held_word d free → is_event (s.code (suc i)) ≡ true → s.code (suc (suc i)) ≡ micros.OutcomeCommit p k
+      beyond : (i p free k : ℕ) → value_of (w.shared.cells p) ≡ suc d → i < s.edge → w.shared.cells p ≡ held_word d free
+          → is_event (s.code (suc i)) ≡ true → s.code (suc (suc i)) ≡ micros.OutcomeCommit p k
           → s.code (suc (suc (suc i))) ≡ micros.CheckHeld p k free → is_stop c d s.log (s.code s.edge) ≡ true → suc (suc (suc i)) < s.edge
       beyond i p free k names lt is load commit check stop =
           ⊎_elim (λ l. l) (λ le. absurd (⊎_elim
           (λ l1. ⊎_elim
-          (λ l2. not_both _ stop (event_goes c d s.log _ (let e : suc i ≡ s.edge = omega arith in subst (λ n. is_event (s.code n) ≡ true) e load)))
+          (λ l2. not_both _ stop
+          (event_goes c d s.log _ (let e : suc i ≡ s.edge = omega arith in subst (λ n. is_event (s.code n) ≡ true) e load)))
           (λ e2. not_both _ stop (event_goes c d s.log _ (subst (λ n. is_event (s.code n) ≡ true) (sym e2) (ap is_event commit))))
           (at_edge s.edge (suc (suc i)) (omega arith)))
           (λ e3.
           let named = own.section.in_locks.outcome_named (suc (suc i)) p k (omega arith) commit names in
-          not_both _ stop (pass_goes c d s.log _ (ap (λ n. passes c d s.log (s.code n)) e3 ∙ ap (passes c d s.log) check ∙ held_passes c d s.log p k free (named ∙ is))))
+          not_both _ stop (pass_goes c d s.log _ (ap (λ n. passes c d s.log (s.code n)) e3 ∙ ap (passes c d s.log) check
+          ∙ held_passes c d s.log p k free (named ∙ is))))
           (at_edge s.edge (suc (suc (suc i))) (omega arith))))
           (cases_lt (suc (suc (suc i))) s.edge)
 
@@ -98,15 +102,24 @@ module _ (c : CellRules) (w : AgreementState) (old : IsSound c w) (r : ℕ) (ok 
 
   sections : (d' : ℕ) → w.used d' ≡ true → UsedIsSound c w.shared (w.live d') (w'.over d') d' (w.section d')
   sections = upd_split w.over d true (λ d' over. w.used d' ≡ true → UsedIsSound c w.shared (w.live d') over d' (w.section d'))
-      (λ u. record { published = own.published; section = own.section; open_live = own.open_live; over_done = λ is. done; over_unnamed = λ is. unnamed })
+      (λ u. record {
+        published = own.published;
+        section = own.section;
+        open_live = own.open_live;
+        over_done = λ is. done;
+        over_unnamed = λ is. unnamed;
+      })
       (λ d' ne u. old.sections d' u)
 
-  runs : (r' : ℕ) → (w'.run r').running ≡ true → RunIsSound c w.shared ((w'.run r').descriptor) (w.section ((w'.run r').descriptor)) (w'.run r')
-  runs = upd_split w.run r (record q { running = false }) (λ r' q'. q'.running ≡ true → RunIsSound c w.shared q'.descriptor (w.section q'.descriptor) q')
+  runs : (r' : ℕ) → (w'.run r').running ≡ true → RunIsSound c w.shared ((w'.run r').descriptor) (w.section ((w'.run r').descriptor))
+      (w'.run r')
+  runs = upd_split w.run r (record q { running = false })
+      (λ r' q'. q'.running ≡ true → RunIsSound c w.shared q'.descriptor (w.section q'.descriptor) q')
       (λ is. absurd (not_both _ is refl)) (λ r' ne is. old.runs r' is)
 
   running_used : (r' : ℕ) → (w'.run r').running ≡ true → w.used ((w'.run r').descriptor) ≡ true
-  running_used = upd_split w.run r (record q { running = false }) (λ r' q'. q'.running ≡ true → w.used q'.descriptor ≡ true) (λ is. absurd (not_both _ is refl)) (λ r' ne is. old.running_used r' is)
+  running_used = upd_split w.run r (record q { running = false }) (λ r' q'. q'.running ≡ true → w.used q'.descriptor ≡ true)
+      (λ is. absurd (not_both _ is refl)) (λ r' ne is. old.running_used r' is)
 
   -- what is kept of this run
   abbrev new : Finished
@@ -130,24 +143,29 @@ module _ (c : CellRules) (w : AgreementState) (old : IsSound c w) (r : ℕ) (ok 
   row_new = upd2_here w.finished r (w.finishes r) new
 
   kept_here : (i : ℕ) → i < suc (w.finishes r) → IsKept (upd2 w.finished r (w.finishes r) new r i)
-  kept_here i lt = ⊎_elim (λ l. before r i l (row_here i (omega arith))) (λ e. now (ap (upd2 w.finished r (w.finishes r) new r) e ∙ row_new)) (at_edge i (w.finishes r) lt)
+  kept_here i lt = ⊎_elim (λ l. before r i l (row_here i (omega arith)))
+      (λ e. now (ap (upd2 w.finished r (w.finishes r) new r) e ∙ row_new)) (at_edge i (w.finishes r) lt)
 
   kept : (r' i : ℕ) → i < w'.finishes r' → IsKept (w'.finished r' i)
   kept r' i lt = ⊎_elim
-      (λ e. subst (λ n. IsKept (upd2 w.finished r (w.finishes r) new n i)) (sym e) (kept_here i (subst (λ n. i < n) (ap w'.finishes e ∙ upd_here w.finishes r (suc (w.finishes r))) lt)))
+      (λ e. subst (λ n. IsKept (upd2 w.finished r (w.finishes r) new n i)) (sym e)
+      (kept_here i (subst (λ n. i < n) (ap w'.finishes e ∙ upd_here w.finishes r (suc (w.finishes r))) lt)))
       (λ ne. before r' i (subst (λ n. i < n) (upd_else w.finishes r r' (suc (w.finishes r)) ne) lt) (row_else r' i ne))
       (cases_eq r' r)
 
   past : (f : Finished) → IsKept f → version_of f.word < version_of (w.shared.cells f.lock)
   past f (now e) = subst (λ (g : Finished). version_of g.word < version_of (w.shared.cells g.lock)) (sym e) own.section.in_locks.outer_past
-  past f (before r' i lt e) = subst (λ (g : Finished). version_of g.word < version_of (w.shared.cells g.lock)) (sym e) (old.finished.past r' i lt)
+  past f (before r' i lt e) = subst (λ (g : Finished). version_of g.word < version_of (w.shared.cells g.lock)) (sym e)
+      (old.finished.past r' i lt)
 
   whole : (f : Finished) → IsKept f → (d' : ℕ) → w.used d' ≡ true → IsOf f (w.section d') → IsWhole d' (w.section d') f
   whole f (now e) d' u is =
-      let same : d ≡ d' = old.single d d' used u (ap (λ (g : Finished). g.lock) (sym e) ∙ is.lock) (ap (λ (g : Finished). g.word) (sym e) ∙ is.word) in
+      let same : d ≡ d' = old.single d d' used u (ap (λ (g : Finished). g.lock) (sym e) ∙ is.lock)
+      (ap (λ (g : Finished). g.word) (sym e) ∙ is.word) in
       subst (λ n. IsWhole n (w.section n) f) same (subst (IsWhole d s) (sym e) new_whole)
   whole f (before r' i lt e) d' u is =
-      subst (IsWhole d' (w.section d')) (sym e) (old.finished.whole r' i d' lt u (record { lock = ap (λ (g : Finished). g.lock) (sym e) ∙ is.lock; word = ap (λ (g : Finished). g.word) (sym e) ∙ is.word }))
+      subst (IsWhole d' (w.section d')) (sym e) (old.finished.whole r' i d' lt u
+      (record { lock = ap (λ (g : Finished). g.lock) (sym e) ∙ is.lock; word = ap (λ (g : Finished). g.word) (sym e) ∙ is.word }))
 
   -- a kept run of this run's section has the whole log
   whole_own : (f : Finished) → IsKept f → f.lock ≡ new.lock → f.word ≡ new.word → IsWhole d s f
@@ -156,7 +174,8 @@ module _ (c : CellRules) (w : AgreementState) (old : IsSound c w) (r : ℕ) (ok 
   equal : (f f' : Finished) → IsKept f → IsKept f' → AreOfOne f f' → AreEqual f f'
   equal f f' (now e) k' one = both_whole d s f f' (whole_own f (now e) (ap (λ (g : Finished). g.lock) e) (ap (λ (g : Finished). g.word) e))
       (whole_own f' k' (sym one.lock ∙ ap (λ (g : Finished). g.lock) e) (sym one.word ∙ ap (λ (g : Finished). g.word) e))
-  equal f f' (before r1 i1 lt1 e1) (now e) one = both_whole d s f f' (whole_own f (before r1 i1 lt1 e1) (one.lock ∙ ap (λ (g : Finished). g.lock) e) (one.word ∙ ap (λ (g : Finished). g.word) e))
+  equal f f' (before r1 i1 lt1 e1) (now e) one = both_whole d s f f'
+      (whole_own f (before r1 i1 lt1 e1) (one.lock ∙ ap (λ (g : Finished). g.lock) e) (one.word ∙ ap (λ (g : Finished). g.word) e))
       (whole_own f' (now e) (ap (λ (g : Finished). g.lock) e) (ap (λ (g : Finished). g.word) e))
   equal f f' (before r1 i1 lt1 e1) (before r2 i2 lt2 e2) one =
       let a : AreOfOne (w.finished r1 i1) (w.finished r2 i2) = record {
@@ -173,7 +192,8 @@ module _ (c : CellRules) (w : AgreementState) (old : IsSound c w) (r : ℕ) (ok 
     running_used = running_used;
     live_used = old.live_used;
     named = old.named;
-    apart = λ d1 d2 p ne o1 o2 h1 h2. old.apart d1 d2 p ne (record { used = o1.used; undone = o1.undone }) (record { used = o2.used; undone = o2.undone }) h1 h2;
+    apart = λ d1 d2 p ne o1 o2 h1 h2. old.apart d1 d2 p ne (record { used = o1.used; undone = o1.undone })
+        (record { used = o2.used; undone = o2.undone }) h1 h2;
     single = old.single;
     finished = record {
       past = λ r' i lt. past _ (kept r' i lt);

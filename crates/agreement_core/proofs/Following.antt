@@ -54,14 +54,16 @@ agreed q word = record q { at = suc q.at; count = suc q.count; trail = upd q.tra
 
 module _ (c : CellRules) (x : Shared) (d : ℕ) (s : Section) (p : IsPublishable c d s.lock s.word s.code s.slot) where
   -- a run that stands while the edge moves
-  pub run_stands : (q : Run) (log : ℕ → ℕ) → s.done ≡ 0 → ((k : ℕ) → k < s.slot s.edge → log k ≡ s.log k) → RunIsSound c x d s q → RunIsSound c x d (moved s log) q
+  pub run_stands : (q : Run) (log : ℕ → ℕ) → s.done ≡ 0 → ((k : ℕ) → k < s.slot s.edge → log k ≡ s.log k) → RunIsSound c x d s q
+      → RunIsSound c x d (moved s log) q
   run_stands q log un same old =
       let behind = old.in_trail.behind in
       record {
         in_trail = record {
           behind = omega arith;
           counted = old.in_trail.counted;
-          agreed = λ k lt. let r = p.line.counted.slot_rises q.at s.edge behind in let n = old.in_trail.counted in old.in_trail.agreed k lt ∙ sym (same k (omega arith));
+          agreed = λ k lt. let r = p.line.counted.slot_rises q.at s.edge behind in let n = old.in_trail.counted in
+              old.in_trail.agreed k lt ∙ sym (same k (omega arith));
           ended_done = old.in_trail.ended_done;
           ended_edge = λ e. absurd (old.in_trail.ended_done e un);
         };
@@ -84,17 +86,25 @@ module _ (c : CellRules) (x : Shared) (d : ℕ) (s : Section) (p : IsPublishable
       let code : (m : Micro) → s.code q.at ≡ m → s.code (suc n) ≡ m = λ m e. ap s.code (sym at) ∙ e in
       record {
         standing = λ place k edge e. is ∙ (follows.cell place k (load_of_commit c s.lock s.code s.slot p.line n place k (code _ e))).0;
-        read = λ place k e. ap (x.seen place) is ∙ (follows.cell place k (load_of_commit c s.lock s.code s.slot p.line n place k (code _ e))).1;
-        nested_read = λ place k e. ap (x.seen place) is ∙ follows.nested place k (load_of_nested c s.lock s.code s.slot p.line n place k (code _ e));
-        outcome_read = λ place k e. ap (x.seen place) is ∙ (follows.outcome place k (load_of_outcome c s.lock s.code s.slot p.line n place k (code _ e))).1;
-        outcome_held = λ un place k e v. sym (is ∙ (follows.outcome place k (load_of_outcome c s.lock s.code s.slot p.line n place k (code _ e))).0);
-        outcome_named = λ place k e v. is ∙ (follows.outcome place k (load_of_outcome c s.lock s.code s.slot p.line n place k (code _ e))).0;
-        clock_read = λ e. subst (λ m. m ≤ x.clock) (sym is) (follows.clock (clock_of_stamp c s.lock s.code s.slot p.line n (ap (λ m. is_stamp_exchange (s.code m)) (sym at) ∙ e)));
-        stamp_agreed = λ e. is ∙ follows.stamp (exchange_of_raise c s.lock s.code s.slot p.line n (ap (λ m. is_clock_raise (s.code m)) (sym at) ∙ e));
+        read = λ place k e. ap (x.seen place) is
+            ∙ (follows.cell place k (load_of_commit c s.lock s.code s.slot p.line n place k (code _ e))).1;
+        nested_read = λ place k e. ap (x.seen place) is ∙ follows.nested place k
+            (load_of_nested c s.lock s.code s.slot p.line n place k (code _ e));
+        outcome_read = λ place k e. ap (x.seen place) is ∙
+            (follows.outcome place k (load_of_outcome c s.lock s.code s.slot p.line n place k (code _ e))).1;
+        outcome_held = λ un place k e v. sym
+            (is ∙ (follows.outcome place k (load_of_outcome c s.lock s.code s.slot p.line n place k (code _ e))).0);
+        outcome_named = λ place k e v. is
+            ∙ (follows.outcome place k (load_of_outcome c s.lock s.code s.slot p.line n place k (code _ e))).0;
+        clock_read = λ e. subst (λ m. m ≤ x.clock) (sym is)
+            (follows.clock (clock_of_stamp c s.lock s.code s.slot p.line n (ap (λ m. is_stamp_exchange (s.code m)) (sym at) ∙ e)));
+        stamp_agreed = λ e. is
+            ∙ follows.stamp (exchange_of_raise c s.lock s.code s.slot p.line n (ap (λ m. is_clock_raise (s.code m)) (sym at) ∙ e));
       }
 
   -- a run behind a step that commits nothing
-  pub run_steps : (q : Run) (word : ℕ) → q.ended ≡ false → q.at < s.edge → is_commit (s.code q.at) ≡ false → TrailIsSound s q → ReleasesAreSound c x d q → Follows x s.code s.request q.at word
+  pub run_steps : (q : Run) (word : ℕ) → q.ended ≡ false → q.at < s.edge → is_commit (s.code q.at) ≡ false → TrailIsSound s q
+      → ReleasesAreSound c x d q → Follows x s.code s.request q.at word
       → RunIsSound c x d s (stepped q word)
   run_steps q word going behind no_commit trail releases follows = record {
     in_trail = record {
@@ -109,15 +119,18 @@ module _ (c : CellRules) (x : Shared) (d : ℕ) (s : Section) (p : IsPublishable
   }
 
   -- a run behind a commit
-  pub run_agrees : (q : Run) (word : ℕ) → q.ended ≡ false → q.at < s.edge → is_commit (s.code q.at) ≡ true → s.log (s.slot q.at) ≡ word → q.count ≡ s.slot q.at
-      → ((k : ℕ) → k < q.count → q.trail k ≡ s.log k) → ReleasesAreSound c x d q → Follows x s.code s.request q.at q.word → RunIsSound c x d s (agreed q word)
+  pub run_agrees : (q : Run) (word : ℕ) → q.ended ≡ false → q.at < s.edge → is_commit (s.code q.at) ≡ true → s.log (s.slot q.at) ≡ word
+      → q.count ≡ s.slot q.at
+      → ((k : ℕ) → k < q.count → q.trail k ≡ s.log k) → ReleasesAreSound c x d q → Follows x s.code s.request q.at q.word
+      → RunIsSound c x d s (agreed q word)
   run_agrees q word going behind commit is counted old releases follows = record {
     in_trail = record {
       behind = behind;
       counted = ap suc counted ∙ sym (p.line.counted.slot_commit q.at commit);
       agreed = λ k lt. ⊎_elim
           (λ l. upd_else q.trail q.count k word (omega arith) ∙ old k l)
-          (λ e. ap (upd q.trail q.count word) e ∙ upd_here q.trail q.count word ∙ sym is ∙ ap s.log (sym (e ∙ counted))) (at_edge k q.count lt);
+          (λ e. ap (upd q.trail q.count word) e ∙ upd_here q.trail q.count word ∙ sym is ∙ ap s.log (sym (e ∙ counted)))
+          (at_edge k q.count lt);
       ended_done = λ e. absurd (not_both _ e going);
       ended_edge = λ e. absurd (not_both _ e going);
     };

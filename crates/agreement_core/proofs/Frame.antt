@@ -49,26 +49,33 @@ not_both b x y = grind arith
 pub undone : (c : CellRules) (d : ℕ) (s : Section) → LogIsSound c d s → is_stop c d s.log (s.code s.edge) ≡ false → s.done ≡ 0
 undone c d s in_log goes = zero_unless s.done (λ ne. not_both _ (in_log.stops ne) goes)
 
-module _ (c : CellRules) (d : ℕ) (s : Section) (p : IsPublishable c d s.lock s.word s.code s.slot) (x x' : Shared) (rises : Rises x.cells x'.cells) (words : LeavesWords x x') where
+module _ (c : CellRules) (d : ℕ) (s : Section) (p : IsPublishable c d s.lock s.word s.code s.slot) (x x' : Shared)
+    (rises : Rises x.cells x'.cells) (words : LeavesWords x x') where
   pub cells_frame : LeavesLoaded s x.cells x'.cells → CellsAreSound x s → CellsAreSound x' s
   cells_frame leaves old = record {
     loaded = λ un i place k lt e none. leaves un place (i, k, omega arith, e) ∙ old.loaded un i place k lt e none;
-    stored = λ un i place k v lt e. let j = p.line.resolved.store_loaded i place k v e in leaves un place (j.0, k, omega arith, j.2) ∙ old.stored un i place k v lt e;
+    stored = λ un i place k v lt e. let j = p.line.resolved.store_loaded i place k v e in
+        leaves un place (j.0, k, omega arith, j.2) ∙ old.stored un i place k v lt e;
     left = λ i place k v lt e. past_later _ _ _ (old.left i place k v lt e) (rises place);
-    lasting = λ i place k v lt e is. let same = first_later _ _ _ (old.left i place k v lt e) (rises place) is in same ∙ old.lasting i place k v lt e (ap version_of (sym same) ∙ is);
+    lasting = λ i place k v lt e is. let same = first_later _ _ _ (old.left i place k v lt e) (rises place) is in
+        same ∙ old.lasting i place k v lt e (ap version_of (sym same) ∙ is);
     read = λ i place k lt e. words.seen place _ (old.read i place k lt e);
   }
 
   pub locks_frame : LeavesLocks c d s x.cells x'.cells → LocksAreSound c x d s → LocksAreSound c x' d s
   locks_frame leaves old = record {
-    outer_held = λ un. let h = old.outer_held un in leaves.held un s.lock p.line.placed.outer_lock (ap value_of h ∙ value_held d s.word p.link) ∙ h;
+    outer_held = λ un. let h = old.outer_held un in leaves.held un s.lock p.line.placed.outer_lock
+        (ap value_of h ∙ value_held d s.word p.link) ∙ h;
     outer_past = past_later _ _ _ old.outer_past (rises s.lock);
     nested_past = λ i place free lt e. past_later _ _ _ (old.nested_past i place free lt e) (rises place);
     nested_read = λ i place k lt e. words.seen place _ (old.nested_read i place k lt e);
     outcome_read = λ i place k lt e. words.seen place _ (old.outcome_read i place k lt e);
-    outcome_held = λ un i place k lt e v. let h = old.outcome_held un i place k lt e v in leaves.held un place (outcome_lock c s.lock s.code s.slot p.line i place k e) (ap value_of h ∙ v) ∙ h;
-    outcome_named = λ i place k lt e v. let same = leaves.named place (outcome_lock c s.lock s.code s.slot p.line i place k e) v in old.outcome_named i place k lt e (ap value_of (sym same) ∙ v) ∙ sym same;
-    held = λ place lock v. let same = leaves.named place lock v in subst (HoldsWith d s place) (sym same) (old.held place lock (ap value_of (sym same) ∙ v));
+    outcome_held = λ un i place k lt e v. let h = old.outcome_held un i place k lt e v in
+        leaves.held un place (outcome_lock c s.lock s.code s.slot p.line i place k e) (ap value_of h ∙ v) ∙ h;
+    outcome_named = λ i place k lt e v. let same = leaves.named place (outcome_lock c s.lock s.code s.slot p.line i place k e) v in
+        old.outcome_named i place k lt e (ap value_of (sym same) ∙ v) ∙ sym same;
+    held = λ place lock v. let same = leaves.named place lock v in
+        subst (HoldsWith d s place) (sym same) (old.held place lock (ap value_of (sym same) ∙ v));
   }
 
   -- the stamp word was written before a raise of the clock
@@ -78,7 +85,8 @@ module _ (c : CellRules) (d : ℕ) (s : Section) (p : IsPublishable c d s.lock s
   pub request_frame : RequestIsSound x s → RequestIsSound x' s
   request_frame old = record {
     stamped = λ i lt e. let h = old.stamped i lt e in subst (λ n. 0 < n) (sym (words.stamp s.request h)) h;
-    raised = λ i lt e. let h = old.raised i lt e in let same = words.stamp s.request (stamp_before old i (omega arith) e) in let up = words.clock in grind arith;
+    raised = λ i lt e. let h = old.raised i lt e in let same = words.stamp s.request (stamp_before old i (omega arith) e) in
+        let up = words.clock in grind arith;
     replied = λ i lt e. let h = old.replied i lt e in subst (λ n. 0 < n) (sym (words.reply s.request h)) h;
   }
 
@@ -92,9 +100,11 @@ module _ (c : CellRules) (d : ℕ) (s : Section) (p : IsPublishable c d s.lock s
 
   -- the number that a run goes by, by what others leave of the lock whose outcome it has loaded, and of the cell that it has loaded at the edge
   pub word_frame : (q : Run) → RequestIsSound x s → q.at ≤ s.edge
-      → (s.done ≡ 0 → (place k : ℕ) → s.code q.at ≡ micros.OutcomeCommit place k → value_of (x.cells place) ≡ suc d → x'.cells place ≡ x.cells place)
+      → (s.done ≡ 0 → (place k : ℕ) → s.code q.at ≡ micros.OutcomeCommit place k → value_of (x.cells place) ≡ suc d
+      → x'.cells place ≡ x.cells place)
       → ((place k : ℕ) → s.code q.at ≡ micros.OutcomeCommit place k → value_of (x'.cells place) ≡ suc d → x'.cells place ≡ x.cells place)
-      → ((place k : ℕ) → q.at ≡ s.edge → s.code q.at ≡ micros.Commit place k → q.word ≡ x'.cells place) → WordIsSound x d s q → WordIsSound x' d s q
+      → ((place k : ℕ) → q.at ≡ s.edge → s.code q.at ≡ micros.Commit place k → q.word ≡ x'.cells place) → WordIsSound x d s q
+      → WordIsSound x' d s q
   word_frame q request behind held named standing old = record {
     standing = standing;
     read = λ place k e. words.seen place _ (old.read place k e);
@@ -123,6 +133,7 @@ module _ (c : CellRules) (d : ℕ) (s : Section) (p : IsPublishable c d s.lock s
     in_trail = old.in_trail;
     in_word = word_frame q section.in_request old.in_trail.behind
         (λ un place k e. leaves.locks.held un place (outcome_lock c s.lock s.code s.slot p.line q.at place k e))
-        (λ place k e. leaves.locks.named place (outcome_lock c s.lock s.code s.slot p.line q.at place k e)) (standing_frame q section.in_log old.in_trail.behind leaves.loaded old.in_word) old.in_word;
+        (λ place k e. leaves.locks.named place (outcome_lock c s.lock s.code s.slot p.line q.at place k e))
+        (standing_frame q section.in_log old.in_trail.behind leaves.loaded old.in_word) old.in_word;
     in_releases = releases_frame q leaves.locks old.in_releases;
   }

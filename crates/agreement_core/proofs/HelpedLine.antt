@@ -27,7 +27,8 @@ in_phases = record {
   short = lit< tt;
   inside = λ i lt. grind arith;
   outside = λ i le. grind arith;
-  phases = λ i j le. subst (λ n. n ≤ phase (code j)) (sym (phase_is i)) (subst (λ n. phase_of i ≤ n) (sym (phase_is j)) (phases_rise i j le));
+  phases = λ i j le. subst (λ n. n ≤ phase (code j)) (sym (phase_is i))
+      (subst (λ n. phase_of i ≤ n) (sym (phase_is j)) (phases_rise i j le));
   start = refl;
 }
 
@@ -127,7 +128,8 @@ no_word i p k w e = grind arith
 fresh_is : (i p k : ℕ) → code i ≡ micros.CheckFresh p k → (i ≡ 2) × (micros.Commit 1 0 ≡ micros.Commit p k)
 fresh_is i p k e = (grind arith, grind arith)
 
-exchange_is : (i p k : ℕ) (v : Source) → code i ≡ micros.ExchangeCell p k v → (i ≡ 6) × (micros.Commit 1 0 ≡ micros.Commit p k) × (micros.CheckFresh 1 0 ≡ micros.CheckFresh p k) × (v ≡ Fixed 5)
+exchange_is : (i p k : ℕ) (v : Source) → code i ≡ micros.ExchangeCell p k v
+    → (i ≡ 6) × (micros.Commit 1 0 ≡ micros.Commit p k) × (micros.CheckFresh 1 0 ≡ micros.CheckFresh p k) × (v ≡ Fixed 5)
 exchange_is i p k v e = (grind arith, grind arith, grind arith, grind arith)
 
 no_agreed : (n k : ℕ) → Fixed n ≢ Agreed k
@@ -175,7 +177,14 @@ stamped = record {
 }
 
 pub helped_line : IsLine few.is_lock 9 0 code slot
-helped_line = record { in_phases = in_phases; counted = counted; ordered = ordered; resolved = resolved; placed = placed; stamped = stamped }
+helped_line = record {
+  in_phases = in_phases;
+  counted = counted;
+  ordered = ordered;
+  resolved = resolved;
+  placed = placed;
+  stamped = stamped;
+}
 
 number_is : (i p k n : ℕ) → code i ≡ micros.ExchangeCell p k (Fixed n) → n ≡ 5
 number_is i p k n e = same_number n 5 (exchange_is i p k (Fixed n) e).3

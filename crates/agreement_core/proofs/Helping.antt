@@ -82,7 +82,76 @@ spared r [] w h = refl
 spared r (e ∷ es) w h = spared r es (after w e) h.1 ∙ h.0 w
 
 others_spared : (r : ℕ) → r ≢ 0 → r ≢ 1 → Spares r (leading ++ late)
-others_spared r n0 n1 = (λ w. refl, (λ w. upd_else w.run 1 r _ n1, (λ w. upd_else w.run 1 r _ n1, (λ w. upd_else w.run 0 r _ n0, (λ w. upd_else w.run 0 r _ n0, (λ w. upd_else w.run 0 r _ n0, (λ w. upd_else w.run 0 r _ n0, (λ w. upd_else w.run 0 r _ n0, (λ w. upd_else w.run 0 r _ n0, (λ w. upd_else w.run 0 r _ n0, (λ w. upd_else w.run 0 r _ n0, (λ w. upd_else w.run 0 r _ n0, (λ w. upd_else w.run 0 r _ n0, (λ w. upd_else w.run 0 r _ n0, (λ w. upd_else w.run 0 r _ n0, (λ w. upd_else w.run 1 r _ n1, (λ w. upd_else w.run 1 r _ n1, (λ w. upd_else w.run 1 r _ n1, (λ w. upd_else w.run 1 r _ n1, (λ w. upd_else w.run 1 r _ n1, (λ w. upd_else w.run 1 r _ n1, (λ w. upd_else w.run 1 r _ n1, (λ w. upd_else w.run 1 r _ n1, (λ w. upd_else w.run 1 r _ n1, (λ w. upd_else w.run 1 r _ n1, tt)))))))))))))))))))))))))
+others_spared r n0 n1 = (
+  λ w. refl,
+  (
+    λ w. upd_else w.run 1 r _ n1,
+    (
+      λ w. upd_else w.run 1 r _ n1,
+      (
+        λ w. upd_else w.run 0 r _ n0,
+        (
+          λ w. upd_else w.run 0 r _ n0,
+          (
+            λ w. upd_else w.run 0 r _ n0,
+            (
+              λ w. upd_else w.run 0 r _ n0,
+              (
+                λ w. upd_else w.run 0 r _ n0,
+                (
+                  λ w. upd_else w.run 0 r _ n0,
+                  (
+                    λ w. upd_else w.run 0 r _ n0,
+                    (
+                      λ w. upd_else w.run 0 r _ n0,
+                      (
+                        λ w. upd_else w.run 0 r _ n0,
+                        (
+                          λ w. upd_else w.run 0 r _ n0,
+                          (
+                            λ w. upd_else w.run 0 r _ n0,
+                            (
+                              λ w. upd_else w.run 0 r _ n0,
+                              (
+                                λ w. upd_else w.run 1 r _ n1,
+                                (
+                                  λ w. upd_else w.run 1 r _ n1,
+                                  (
+                                    λ w. upd_else w.run 1 r _ n1,
+                                    (
+                                      λ w. upd_else w.run 1 r _ n1,
+                                      (
+                                        λ w. upd_else w.run 1 r _ n1,
+                                        (
+                                          λ w. upd_else w.run 1 r _ n1,
+                                          (
+                                            λ w. upd_else w.run 1 r _ n1,
+                                            (
+                                              λ w. upd_else w.run 1 r _ n1,
+                                              (λ w. upd_else w.run 1 r _ n1, (λ w. upd_else w.run 1 r _ n1, tt)),
+                                            ),
+                                          ),
+                                        ),
+                                      ),
+                                    ),
+                                  ),
+                                ),
+                              ),
+                            ),
+                          ),
+                        ),
+                      ),
+                    ),
+                  ),
+                ),
+              ),
+            ),
+          ),
+        ),
+      ),
+    ),
+  ),
+)
 
 -- after their ends nobody is in a run
 idle_first : ((after_all few led late).run 0).running ≡ false

@@ -18,7 +18,8 @@ use Rattle.agreement_core.proofs.Words.{past_later, version_held}
 use Rattle.agreement_core.proofs.Lines.{event_goes, hold_lock, hold_inner, hold_once, hold_of_outcome, commit_unlocked}
 
 -- a change of a lock leaves the loaded cells
-pub puts_lock : (c : CellRules) (d : ℕ) (s : Section) (x : Shared) (place word : ℕ) → IsPublishable c d s.lock s.word s.code s.slot → c.is_lock place ≡ true → LeavesLoaded s x.cells (puts x place word).cells
+pub puts_lock : (c : CellRules) (d : ℕ) (s : Section) (x : Shared) (place word : ℕ) → IsPublishable c d s.lock s.word s.code s.slot
+    → c.is_lock place ≡ true → LeavesLoaded s x.cells (puts x place word).cells
 puts_lock c d s x place word p lock un place' come = upd_else x.cells place place' word
     (λ e. not_both _ lock (ap c.is_lock (sym e) ∙ commit_unlocked c s.lock s.code s.slot p.line come.0 place' come.1 come.3))
 
@@ -61,24 +62,37 @@ module _ (c : CellRules) (x : Shared) (d : ℕ) (s : Section) (place w : ℕ) (p
 
   locks_hold : LocksAreSound c (puts x place new) d (goes s)
   locks_hold = record {
-    outer_held = λ un. upd_else x.cells place s.lock new (λ q. hold_inner c s.lock s.code s.slot p.line s.edge place w at (sym q)) ∙ old.in_locks.outer_held un;
+    outer_held = λ un. upd_else x.cells place s.lock new (λ q. hold_inner c s.lock s.code s.slot p.line s.edge place w at (sym q))
+        ∙ old.in_locks.outer_held un;
     outer_past = past_later _ _ _ old.in_locks.outer_past (puts_rises x place new hold_rises s.lock);
     nested_past = λ i p' free lt e. ⊎_elim
         (λ l. past_later _ _ _ (old.in_locks.nested_past i p' free l e) (puts_rises x place new hold_rises p'))
         (λ q. let f = same_hold p' free place w (sym e ∙ ap s.code q ∙ at) in
         let a : upd x.cells place new p' ≡ new = ap (upd x.cells place new) f.0 ∙ upd_here x.cells place new in
-        subst (λ n. version_of free < version_of n) (sym a) (subst (λ n. version_of n < version_of new) (sym f.1) (subst (λ n. version_of n < version_of new) finds hold_rises)))
+        subst (λ n. version_of free < version_of n) (sym a)
+        (subst (λ n. version_of n < version_of new) (sym f.1) (subst (λ n. version_of n < version_of new) finds hold_rises)))
         (at_edge i s.edge lt);
-    nested_read = λ i p' k lt e. ⊎_elim (λ l. old.in_locks.nested_read i p' k l e) (λ q. absurd (not_both _ (ap is_commit (ap s.code (sym q) ∙ e)) no_commit)) (at_edge i s.edge lt);
-    outcome_read = λ i p' k lt e. ⊎_elim (λ l. old.in_locks.outcome_read i p' k l e) (λ q. absurd (no_outcome i p' k q e)) (at_edge i s.edge lt);
-    outcome_held = λ un i p' k lt e v. ⊎_elim (λ l. else i p' k (omega arith) e ∙ old.in_locks.outcome_held un i p' k l e v) (λ q. absurd (no_outcome i p' k q e)) (at_edge i s.edge lt);
+    nested_read = λ i p' k lt e. ⊎_elim (λ l. old.in_locks.nested_read i p' k l e)
+        (λ q. absurd (not_both _ (ap is_commit (ap s.code (sym q) ∙ e)) no_commit)) (at_edge i s.edge lt);
+    outcome_read = λ i p' k lt e. ⊎_elim (λ l. old.in_locks.outcome_read i p' k l e)
+        (λ q. absurd (no_outcome i p' k q e)) (at_edge i s.edge lt);
+    outcome_held = λ un i p' k lt e v. ⊎_elim (λ l. else i p' k (omega arith) e ∙ old.in_locks.outcome_held un i p' k l e v)
+        (λ q. absurd (no_outcome i p' k q e)) (at_edge i s.edge lt);
     outcome_named = λ i p' k lt e v. ⊎_elim
         (λ l. let same = else i p' k (omega arith) e in old.in_locks.outcome_named i p' k l e (ap value_of (sym same) ∙ v) ∙ sym same)
         (λ q. absurd (no_outcome i p' k q e)) (at_edge i s.edge lt);
     held = λ p' lock v. ⊎_elim
-        (λ q. inr (s.edge, w, omega arith, at ∙ ap (λ n. micros.NestedHold n w) (sym q), ap (upd x.cells place new) q ∙ upd_here x.cells place new))
+        (λ q. inr (
+          s.edge,
+          w,
+          omega arith,
+          at ∙ ap (λ n. micros.NestedHold n w) (sym q),
+          ap (upd x.cells place new) q
+              ∙ upd_here x.cells place new,
+        ))
         (λ ne. let same = upd_else x.cells place p' new ne in
-        subst (HoldsWith d (goes s) p') (sym same) (holds_goes d s p' (x.cells p') (old.in_locks.held p' lock (ap value_of (sym same) ∙ v))))
+        subst (HoldsWith d (goes s) p') (sym same) (holds_goes d s p' (x.cells p')
+        (old.in_locks.held p' lock (ap value_of (sym same) ∙ v))))
         (cases_eq p' place);
   }
 
@@ -91,6 +105,7 @@ module _ (c : CellRules) (x : Shared) (d : ℕ) (s : Section) (place w : ℕ) (p
         in_cells = cells_goes x' s no_commit (λ p' k v e. absurd (let a : 1 ≡ 4 = ap phase (sym at ∙ e) in omega arith))
             (cells_frame c d s p x x' rises (puts_words x place new) (puts_lock c d s x place new p is_lock) old.in_cells);
         in_locks = locks_hold;
-        in_request = request_goes x' s (λ e. absurd (not_both _ e (ap is_stamp_exchange at))) (λ e. absurd (not_both _ e (ap is_clock_raise at))) (λ e. absurd (not_both _ e (ap is_reply_exchange at)))
+        in_request = request_goes x' s (λ e. absurd (not_both _ e (ap is_stamp_exchange at)))
+            (λ e. absurd (not_both _ e (ap is_clock_raise at))) (λ e. absurd (not_both _ e (ap is_reply_exchange at)))
             (request_frame c d s p x x' rises (puts_words x place new) old.in_request);
       }

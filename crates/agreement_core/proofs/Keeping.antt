@@ -50,7 +50,12 @@ module _ (c : CellRules) where
 
   pub first : (cells : ℕ → ℕ) → IsFirst c cells → IsSound c (first_state cells)
   first cells start = record {
-    versions = record { positive = start.positive; bounded = start.bounded; past = λ p v h. absurd (not_both _ h refl); read_positive = λ p v h. absurd (not_both _ h refl) };
+    versions = record {
+      positive = start.positive;
+      bounded = start.bounded;
+      past = λ p v h. absurd (not_both _ h refl);
+      read_positive = λ p v h. absurd (not_both _ h refl);
+    };
     sections = λ d u. absurd (not_both _ u refl);
     runs = λ r is. absurd (not_both _ is refl);
     running_used = λ r is. absurd (not_both _ is refl);
@@ -58,5 +63,9 @@ module _ (c : CellRules) where
     named = λ p d lock v. absurd (let z : suc d ≡ 0 = sym v ∙ start.free p lock in omega arith);
     apart = λ d1 d2 p ne o1. absurd (not_both _ o1.used refl);
     single = λ d1 d2 u1. absurd (not_both _ u1 refl);
-    finished = record { past = λ r i lt. absurd (omega arith); whole = λ r i d lt. absurd (omega arith); equal = λ r i r' i' lt. absurd (omega arith) };
+    finished = record {
+      past = λ r i lt. absurd (omega arith);
+      whole = λ r i d lt. absurd (omega arith);
+      equal = λ r i r' i' lt. absurd (omega arith);
+    };
   }

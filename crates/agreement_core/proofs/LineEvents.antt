@@ -73,8 +73,10 @@ module _ (c : CellRules) (w : AgreementState) (old : IsSound c w) (r : ℕ) wher
         stamp = λ e. absurd (not_both _ e (ap is_stamp_exchange here));
         raise = λ e. absurd (not_both _ e (ap is_clock_raise here));
         reply = λ e. absurd (not_both _ e (ap is_reply_exchange here));
-        alone = λ p k e d' ne o come. ok.1 edge (undone c q.descriptor s (old.sections _ (old.running_used r at.running)).section.in_log (event_goes c _ _ _ (ap is_event here)))
-            d' ne (record { used = o.used; undone = o.undone }) (subst (HasCome (w.section d')) (same_load place log p k (sym here ∙ e)) come);
+        alone = λ p k e d' ne o come. ok.1 edge (undone c q.descriptor s (old.sections _ (old.running_used r at.running)).section.in_log
+            (event_goes c _ _ _ (ap is_event here)))
+            d' ne (record { used = o.used; undone = o.undone })
+            (subst (HasCome (w.section d')) (same_load place log p k (sym here ∙ e)) come);
       })
       (record {
         cell = λ p k e. let same = same_load place log p k (sym at.next ∙ e) in (cell_at place p same, seen_at place p same);
@@ -87,7 +89,8 @@ module _ (c : CellRules) (w : AgreementState) (old : IsSound c w) (r : ℕ) wher
   -- a lock that is loaded isn't the cell of a Load
   pub nested_load : (place log : ℕ) → Enabled c w (NestedLoad r place log) → IsSound c (after w (NestedLoad r place log))
   nested_load place log at =
-      plain_sound c (reads w place) (reads_sound c w place old) r at.running at.going (w.shared.cells place) (ap is_plain at.next) (ap is_commit at.next)
+      plain_sound c (reads w place) (reads_sound c w place old) r at.running at.going (w.shared.cells place) (ap is_plain at.next)
+      (ap is_commit at.next)
       (record {
         cell = λ p k e. absurd (not_both _ (ap is_plain at.next) (ap is_plain e));
         nested = λ p k e. seen_at place p (same_nested place log p k (sym at.next ∙ e));
@@ -98,7 +101,8 @@ module _ (c : CellRules) (w : AgreementState) (old : IsSound c w) (r : ℕ) wher
 
   pub outcome_load : (place log : ℕ) → Enabled c w (OutcomeLoad r place log) → IsSound c (after w (OutcomeLoad r place log))
   outcome_load place log at =
-      plain_sound c (reads w place) (reads_sound c w place old) r at.running at.going (w.shared.cells place) (ap is_plain at.next) (ap is_commit at.next)
+      plain_sound c (reads w place) (reads_sound c w place old) r at.running at.going (w.shared.cells place) (ap is_plain at.next)
+      (ap is_commit at.next)
       (record {
         cell = λ p k e. absurd (not_both _ (ap is_plain at.next) (ap is_plain e));
         nested = λ p k e. absurd (not_both _ (ap is_outcome at.next) (ap is_outcome e));
@@ -117,23 +121,29 @@ module _ (c : CellRules) (w : AgreementState) (old : IsSound c w) (r : ℕ) wher
   outcome_commit place log at = outcome_commit_sound c w old r at.running at.going place log at.next
 
   pub make_commit : (log proposal : ℕ) → Enabled c w (MakeCommit r log proposal) → IsSound c (after w (MakeCommit r log proposal))
-  make_commit log proposal ok = let at = ok.0 in make_commit_sound c w old r at.running at.going log proposal at.next (positive proposal ok.1)
+  make_commit log proposal ok = let at = ok.0 in make_commit_sound c w old r at.running at.going log proposal at.next
+      (positive proposal ok.1)
 
   pub retire_commit : (slot log : ℕ) → Enabled c w (RetireCommit r slot log) → IsSound c (after w (RetireCommit r slot log))
   retire_commit slot log at = retire_commit_sound c w old r at.running at.going slot log at.next
 
   pub private_load : (cell log place : ℕ) → Enabled c w (PrivateLoad r cell log place) → IsSound c (after w (PrivateLoad r cell log place))
   private_load cell log place at =
-      plain_sound c (reads w place) (reads_sound c w place old) r at.running at.going (w.shared.cells place) (ap is_plain at.next) (ap is_commit at.next) (follows_any _ _ _ _ _ (ap gives_number at.next))
+      plain_sound c (reads w place) (reads_sound c w place old) r at.running at.going (w.shared.cells place) (ap is_plain at.next)
+      (ap is_commit at.next) (follows_any _ _ _ _ _ (ap gives_number at.next))
 
-  pub private_store : (cell log : ℕ) (v : Source) (place word : ℕ) → Enabled c w (PrivateStore r cell log v place word) → IsSound c (after w (PrivateStore r cell log v place word))
+  pub private_store : (cell log : ℕ) (v : Source) (place word : ℕ) → Enabled c w (PrivateStore r cell log v place word)
+      → IsSound c (after w (PrivateStore r cell log v place word))
   private_store cell log v place word ok =
       let at = ok.0 in
-      plain_sound c (with_cell w place word) (stores_sound c w place word ok.1 old) r at.running at.going q.word (ap is_plain at.next) (ap is_commit at.next) (follows_any _ _ _ _ _ (ap gives_number at.next))
+      plain_sound c (with_cell w place word) (stores_sound c w place word ok.1 old) r at.running at.going q.word (ap is_plain at.next)
+      (ap is_commit at.next) (follows_any _ _ _ _ _ (ap gives_number at.next))
 
-  pub epoch_for_retire : (slot log epoch : ℕ) → Enabled c w (EpochForRetire r slot log epoch) → IsSound c (after w (EpochForRetire r slot log epoch))
+  pub epoch_for_retire : (slot log epoch : ℕ) → Enabled c w (EpochForRetire r slot log epoch)
+      → IsSound c (after w (EpochForRetire r slot log epoch))
   epoch_for_retire slot log epoch at =
-      plain_sound c w old r at.running at.going epoch (ap is_plain at.next) (ap is_commit at.next) (follows_any _ _ _ _ _ (ap gives_number at.next))
+      plain_sound c w old r at.running at.going epoch (ap is_plain at.next) (ap is_commit at.next)
+      (follows_any _ _ _ _ _ (ap gives_number at.next))
 
   pub clock_load : Enabled c w (ClockLoad r) → IsSound c (after w (ClockLoad r))
   clock_load at =
@@ -152,7 +162,8 @@ module _ (c : CellRules) (w : AgreementState) (old : IsSound c w) (r : ℕ) wher
   pub stamp_exchange : Enabled c w (StampExchange r) → IsSound c (after w (StampExchange r))
   stamp_exchange at =
       let word = written_once (w.shared.stamp s.request) (2 * (q.word + 1)) in
-      goes_sound c (record w { shared = record (w.shared) { stamp = upd w.shared.stamp s.request word } }) (stamps_sound c w s.request (2 * (q.word + 1)) old) r at.running at.going word (ap is_commit at.next)
+      goes_sound c (record w { shared = record (w.shared) { stamp = upd w.shared.stamp s.request word } })
+      (stamps_sound c w s.request (2 * (q.word + 1)) old) r at.running at.going word (ap is_commit at.next)
       (λ edge. let here : s.code s.edge ≡ micros.StampExchange = ap s.code (sym edge) ∙ at.next in record {
         goes = event_goes c _ _ _ (ap is_event here);
         no_exchange = λ p k v e. let a : 3 ≡ 4 = ap phase (sym here ∙ e) in omega arith;
@@ -173,13 +184,15 @@ module _ (c : CellRules) (w : AgreementState) (old : IsSound c w) (r : ℕ) wher
   pub clock_raise : Enabled c w (ClockRaise r) → IsSound c (after w (ClockRaise r))
   clock_raise at =
       let clock = max w.shared.clock (q.word / 2) in
-      goes_sound c (record w { shared = record (w.shared) { clock = clock } }) (raises_sound c w clock (above_left w.shared.clock (q.word / 2)) old) r at.running at.going q.word (ap is_commit at.next)
+      goes_sound c (record w { shared = record (w.shared) { clock = clock } })
+      (raises_sound c w clock (above_left w.shared.clock (q.word / 2)) old) r at.running at.going q.word (ap is_commit at.next)
       (λ edge. let here : s.code s.edge ≡ micros.ClockRaise = ap s.code (sym edge) ∙ at.next in record {
         goes = event_goes c _ _ _ (ap is_event here);
         no_exchange = λ p k v e. let a : 3 ≡ 4 = ap phase (sym here ∙ e) in omega arith;
         hold = λ p free e. let a : 3 ≡ 1 = ap phase (sym here ∙ e) in absurd (omega arith);
         stamp = λ e. absurd (not_both _ e (ap is_stamp_exchange here));
-        raise = λ e. subst (λ n. n / 2 ≤ clock) ((old.runs r at.running).in_word.stamp_agreed (ap is_clock_raise at.next)) (above_right w.shared.clock (q.word / 2));
+        raise = λ e. subst (λ n. n / 2 ≤ clock) ((old.runs r at.running).in_word.stamp_agreed (ap is_clock_raise at.next))
+            (above_right w.shared.clock (q.word / 2));
         reply = λ e. absurd (not_both _ e (ap is_reply_exchange here));
         alone = λ p k e. let a : 3 ≡ 1 = ap phase (sym here ∙ e) in absurd (omega arith);
       })
@@ -189,12 +202,19 @@ module _ (c : CellRules) (w : AgreementState) (old : IsSound c w) (r : ℕ) wher
   pub reply_is : (reply : ℕ) → Enabled c w (ReplyExchange r reply) → 0 < reply
   reply_is reply at =
       let line = (own at.running).published.line.stamped in
-      let is : reply ≡ line.reply = same_reply reply line.reply (sym at.next ∙ ap s.code (line.answer_once q.at reply at.next) ∙ line.answers) in
+      let is : reply ≡ line.reply = same_reply reply line.reply
+      (sym at.next ∙ ap s.code (line.answer_once q.at reply at.next) ∙ line.answers) in
       positive reply (λ e. line.replies (sym is ∙ e))
 
   pub reply_exchange : (reply : ℕ) → Enabled c w (ReplyExchange r reply) → IsSound c (after w (ReplyExchange r reply))
   reply_exchange reply at =
-      goes_sound c (record w { shared = record (w.shared) { reply = upd w.shared.reply s.request (written_once (w.shared.reply s.request) reply) } }) (replies_sound c w s.request reply old) r at.running at.going q.word (ap is_commit at.next)
+      goes_sound c (record w {
+        shared = record (w.shared) {
+          reply = upd w.shared.reply s.request
+              (written_once (w.shared.reply s.request) reply);
+        };
+      }) (replies_sound c w s.request reply old) r at.running at.going q.word
+      (ap is_commit at.next)
       (λ edge. let here : s.code s.edge ≡ micros.ReplyExchange reply = ap s.code (sym edge) ∙ at.next in record {
         goes = event_goes c _ _ _ (ap is_event here);
         no_exchange = λ p k v e. let a : 6 ≡ 4 = ap phase (sym here ∙ e) in omega arith;
@@ -207,33 +227,41 @@ module _ (c : CellRules) (w : AgreementState) (old : IsSound c w) (r : ℕ) wher
       (follows_any _ _ _ _ _ (ap gives_number at.next))
 
   -- a late store finds the cell past the agreed word
-  pub store_misses : (place log : ℕ) (v : Source) → (w.run r).running ≡ true → s.code q.at ≡ micros.ExchangeCell place log v → q.at < s.edge → w.shared.cells place ≢ q.trail log
+  pub store_misses : (place log : ℕ) (v : Source) → (w.run r).running ≡ true → s.code q.at ≡ micros.ExchangeCell place log v → q.at < s.edge
+      → w.shared.cells place ≢ q.trail log
   store_misses place log v running next lt e =
       let logged = store_logged c s.lock s.code s.slot (own running).published.line q.at place log v next in
       let run = old.runs r running in
       let agreed = run.in_trail.agreed log (let n = run.in_trail.counted in omega arith) in
       above _ _ ((own running).section.in_cells.left q.at place log v lt next) (e ∙ agreed)
 
-  pub exchange_cell : (place log : ℕ) (v : Source) → Enabled c w (ExchangeCell r place log v) → IsSound c (after w (ExchangeCell r place log v))
+  pub exchange_cell : (place log : ℕ) (v : Source) → Enabled c w (ExchangeCell r place log v)
+      → IsSound c (after w (ExchangeCell r place log v))
   exchange_cell place log v at = ⊎_elim
-      (λ lt. fails_sound c w old r at.running at.going place (q.trail log) (stored_word q.trail log v) (store_misses place log v at.running at.next lt)
-      (goes_sound c w old r at.running at.going q.word (ap is_commit at.next) (λ edge. absurd (omega arith)) (follows_any _ _ _ _ _ (ap gives_number at.next))))
+      (λ lt. fails_sound c w old r at.running at.going place (q.trail log) (stored_word q.trail log v)
+      (store_misses place log v at.running at.next lt)
+      (goes_sound c w old r at.running at.going q.word (ap is_commit at.next)
+      (λ edge. absurd (omega arith)) (follows_any _ _ _ _ _ (ap gives_number at.next))))
       (λ le.
       let edge : q.at ≡ s.edge = let b = (old.runs r at.running).in_trail.behind in omega arith in
       store_sound c w old r at.running at.going edge place log v (ap s.code (sym edge) ∙ at.next))
       (cases_lt q.at s.edge)
 
   -- a try on a nested lock finds it past the expected word, or free
-  hold_misses : (place free : ℕ) → (w.run r).running ≡ true → q.at ≡ s.edge → s.code s.edge ≡ micros.NestedHold place free → w.shared.cells place ≢ free → version_of free < version_of (w.shared.cells place)
+  hold_misses : (place free : ℕ) → (w.run r).running ≡ true → q.at ≡ s.edge → s.code s.edge ≡ micros.NestedHold place free
+      → w.shared.cells place ≢ free → version_of free < version_of (w.shared.cells place)
   hold_misses place free running edge next ne =
       let o = own running in
       let j = load_of_hold c s.lock s.code s.slot o.published.line s.edge place free next in
       let far = j.2 in
-      let agreed : s.log j.1 ≡ free = free_passes c q.descriptor s.log place j.1 free (ap (passes c q.descriptor s.log) (sym j.5) ∙ o.section.in_log.passed (suc (suc j.0)) (omega arith) (ap is_check j.5)) in
+      let agreed : s.log j.1 ≡ free = free_passes c q.descriptor s.log place j.1 free
+      (ap (passes c q.descriptor s.log) (sym j.5) ∙ o.section.in_log.passed (suc (suc j.0)) (omega arith) (ap is_check j.5)) in
       let read = o.section.in_locks.nested_read (suc j.0) place j.1 (omega arith) j.4 in
-      subst (λ n. version_of n < version_of (w.shared.cells place)) agreed (⊎_elim (λ e. absurd (ne (e ∙ agreed))) (λ lt. lt) (old.versions.past place (s.log j.1) read))
+      subst (λ n. version_of n < version_of (w.shared.cells place)) agreed
+      (⊎_elim (λ e. absurd (ne (e ∙ agreed))) (λ lt. lt) (old.versions.past place (s.log j.1) read))
 
-  hold_fails : (place free : ℕ) → Enabled c w (NestedHold r place free) → w.shared.cells place ≢ free → IsSound c (after w (NestedHold r place free))
+  hold_fails : (place free : ℕ) → Enabled c w (NestedHold r place free) → w.shared.cells place ≢ free
+      → IsSound c (after w (NestedHold r place free))
   hold_fails place free at ne =
       fails_sound c w old r at.running at.going place free (held_word q.descriptor free) ne
       (goes_sound c w old r at.running at.going q.word (ap is_commit at.next)
@@ -241,7 +269,9 @@ module _ (c : CellRules) (w : AgreementState) (old : IsSound c w) (r : ℕ) wher
         goes = event_goes c _ _ _ (ap is_event here);
         no_exchange = λ p k v e. let a : 1 ≡ 4 = ap phase (sym here ∙ e) in omega arith;
         hold = λ p free' e. let same = same_hold place free p free' (sym here ∙ e) in
-            subst (λ n. version_of free' < version_of (w.shared.cells n)) (sym same.0) (subst (λ n. version_of n < version_of (w.shared.cells place)) (sym same.1) (hold_misses place free at.running edge here ne));
+            subst (λ n. version_of free' < version_of (w.shared.cells n)) (sym same.0)
+            (subst (λ n. version_of n < version_of (w.shared.cells place)) (sym same.1)
+            (hold_misses place free at.running edge here ne));
         stamp = λ e. absurd (not_both _ e (ap is_stamp_exchange here));
         raise = λ e. absurd (not_both _ e (ap is_clock_raise here));
         reply = λ e. absurd (not_both _ e (ap is_reply_exchange here));

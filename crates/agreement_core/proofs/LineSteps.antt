@@ -69,7 +69,8 @@ check_commits m h = grind arith
 check_numbers : (m : Micro) → is_check m ≡ true → gives_number m ≡ false
 check_numbers m h = grind arith
 
-module _ (c : CellRules) (w : AgreementState) (old : IsSound c w) (r : ℕ) (running : (w.run r).running ≡ true) (going : (w.run r).ended ≡ false) where
+module _ (c : CellRules) (w : AgreementState) (old : IsSound c w) (r : ℕ) (running : (w.run r).running ≡ true)
+    (going : (w.run r).ended ≡ false) where
   abbrev q : Run
   q = w.run r
 
@@ -97,7 +98,8 @@ module _ (c : CellRules) (w : AgreementState) (old : IsSound c w) (r : ℕ) (run
       }
 
   -- a word that is committed as it was loaded
-  loaded_commits : 0 < q.word → is_event (s.code q.at) ≡ true → phase (s.code q.at) ≡ 1 → q.at ≡ s.edge → MayCommit w.shared q.descriptor s q.word
+  loaded_commits : 0 < q.word → is_event (s.code q.at) ≡ true → phase (s.code q.at) ≡ 1 → q.at ≡ s.edge
+      → MayCommit w.shared q.descriptor s q.word
   loaded_commits some event early at =
       let un = undone c q.descriptor s own.section.in_log (event_goes c _ _ _ (subst (λ n. is_event (s.code n) ≡ true) at event)) in
       let code : (m : Micro) → s.code s.edge ≡ m → s.code q.at ≡ m = λ m e. ap s.code at ∙ e in
@@ -113,8 +115,10 @@ module _ (c : CellRules) (w : AgreementState) (old : IsSound c w) (r : ℕ) (run
       }
 
   -- a word that isn't loaded from a cell
-  own_commits : (proposal : ℕ) → 0 < proposal → ((p k : ℕ) → s.code q.at ≢ micros.Commit p k) → ((p k : ℕ) → s.code q.at ≢ micros.NestedCommit p k) → ((p k : ℕ) → s.code q.at ≢ micros.OutcomeCommit p k)
-      → ((slot k : ℕ) → s.code q.at ≡ micros.RetireCommit slot k → proposal ≡ suc slot) → q.at ≡ s.edge → MayCommit w.shared q.descriptor s proposal
+  own_commits : (proposal : ℕ) → 0 < proposal → ((p k : ℕ) → s.code q.at ≢ micros.Commit p k)
+      → ((p k : ℕ) → s.code q.at ≢ micros.NestedCommit p k) → ((p k : ℕ) → s.code q.at ≢ micros.OutcomeCommit p k)
+      → ((slot k : ℕ) → s.code q.at ≡ micros.RetireCommit slot k → proposal ≡ suc slot) → q.at ≡ s.edge
+      → MayCommit w.shared q.descriptor s proposal
   own_commits proposal some no_cell no_nested no_outcome retired at =
       let code : (m : Micro) → s.code s.edge ≡ m → s.code q.at ≡ m = λ m e. ap s.code at ∙ e in
       record {
@@ -129,38 +133,50 @@ module _ (c : CellRules) (w : AgreementState) (old : IsSound c w) (r : ℕ) (run
       }
 
   pub commit_sound : (p k : ℕ) → s.code q.at ≡ micros.Commit p k → IsSound c (agrees w r k q.word)
-  commit_sound p k e = agrees_sound c w old r running going k q.word (own.published.line.counted.commit_log q.at p k e) (ap is_commit e) (ap is_event e)
-      (loaded_commits (some_version _ (old.versions.read_positive p q.word (run.in_word.read p k e))) (ap is_event e) (ap phase e)) (follows_any _ _ _ _ _ (ap gives_number e))
+  commit_sound p k e = agrees_sound c w old r running going k q.word (own.published.line.counted.commit_log q.at p k e) (ap is_commit e)
+      (ap is_event e)
+      (loaded_commits (some_version _ (old.versions.read_positive p q.word (run.in_word.read p k e))) (ap is_event e) (ap phase e))
+      (follows_any _ _ _ _ _ (ap gives_number e))
 
   pub nested_commit_sound : (p k : ℕ) → s.code q.at ≡ micros.NestedCommit p k → IsSound c (agrees w r k q.word)
-  nested_commit_sound p k e = agrees_sound c w old r running going k q.word (own.published.line.counted.nested_log q.at p k e) (ap is_commit e) (ap is_event e)
-      (loaded_commits (some_version _ (old.versions.read_positive p q.word (run.in_word.nested_read p k e))) (ap is_event e) (ap phase e)) (follows_any _ _ _ _ _ (ap gives_number e))
+  nested_commit_sound p k e = agrees_sound c w old r running going k q.word (own.published.line.counted.nested_log q.at p k e)
+      (ap is_commit e) (ap is_event e)
+      (loaded_commits (some_version _ (old.versions.read_positive p q.word (run.in_word.nested_read p k e))) (ap is_event e) (ap phase e))
+      (follows_any _ _ _ _ _ (ap gives_number e))
 
   pub outcome_commit_sound : (p k : ℕ) → s.code q.at ≡ micros.OutcomeCommit p k → IsSound c (agrees w r k q.word)
-  outcome_commit_sound p k e = agrees_sound c w old r running going k q.word (own.published.line.counted.outcome_log q.at p k e) (ap is_commit e) (ap is_event e)
-      (loaded_commits (some_version _ (old.versions.read_positive p q.word (run.in_word.outcome_read p k e))) (ap is_event e) (ap phase e)) (follows_any _ _ _ _ _ (ap gives_number e))
+  outcome_commit_sound p k e = agrees_sound c w old r running going k q.word (own.published.line.counted.outcome_log q.at p k e)
+      (ap is_commit e) (ap is_event e)
+      (loaded_commits (some_version _ (old.versions.read_positive p q.word (run.in_word.outcome_read p k e))) (ap is_event e) (ap phase e))
+      (follows_any _ _ _ _ _ (ap gives_number e))
 
   pub make_commit_sound : (k proposal : ℕ) → s.code q.at ≡ micros.MakeCommit k → 0 < proposal → IsSound c (agrees w r k proposal)
-  make_commit_sound k proposal e some = agrees_sound c w old r running going k proposal (own.published.line.counted.make_log q.at k e) (ap is_commit e) (ap is_event e)
-      (own_commits proposal some (λ p n f. let a : 1 ≡ 2 = ap phase (sym f ∙ e) in omega arith) (λ p n f. let a : 1 ≡ 2 = ap phase (sym f ∙ e) in omega arith) (λ p n f. let a : 1 ≡ 2 = ap phase (sym f ∙ e) in omega arith)
+  make_commit_sound k proposal e some = agrees_sound c w old r running going k proposal (own.published.line.counted.make_log q.at k e)
+      (ap is_commit e) (ap is_event e)
+      (own_commits proposal some (λ p n f. let a : 1 ≡ 2 = ap phase (sym f ∙ e) in omega arith)
+      (λ p n f. let a : 1 ≡ 2 = ap phase (sym f ∙ e) in omega arith) (λ p n f. let a : 1 ≡ 2 = ap phase (sym f ∙ e) in omega arith)
       (λ slot n f. let a : 5 ≡ 2 = ap phase (sym f ∙ e) in absurd (omega arith)))
       (follows_any _ _ _ _ _ (ap gives_number e))
 
   pub retire_commit_sound : (slot k : ℕ) → s.code q.at ≡ micros.RetireCommit slot k → IsSound c (agrees w r k (suc slot))
-  retire_commit_sound slot k e = agrees_sound c w old r running going k (suc slot) (own.published.line.counted.retire_log q.at slot k e) (ap is_commit e) (ap is_event e)
-      (own_commits (suc slot) (omega arith) (λ p n f. let a : 1 ≡ 5 = ap phase (sym f ∙ e) in omega arith) (λ p n f. let a : 1 ≡ 5 = ap phase (sym f ∙ e) in omega arith) (λ p n f. let a : 1 ≡ 5 = ap phase (sym f ∙ e) in omega arith)
+  retire_commit_sound slot k e = agrees_sound c w old r running going k (suc slot) (own.published.line.counted.retire_log q.at slot k e)
+      (ap is_commit e) (ap is_event e)
+      (own_commits (suc slot) (omega arith) (λ p n f. let a : 1 ≡ 5 = ap phase (sym f ∙ e) in omega arith)
+      (λ p n f. let a : 1 ≡ 5 = ap phase (sym f ∙ e) in omega arith) (λ p n f. let a : 1 ≡ 5 = ap phase (sym f ∙ e) in omega arith)
       (λ slot' n f. ap suc (same_retire slot k slot' n (sym e ∙ f))))
       (follows_any _ _ _ _ _ (ap gives_number e))
 
   -- a plain step behind which the next one doesn't go by its number
-  pub plain_sound : (word : ℕ) → is_plain (s.code q.at) ≡ true → is_commit (s.code q.at) ≡ false → Follows w.shared s.code s.request q.at word → IsSound c (goes_on w r word)
+  pub plain_sound : (word : ℕ) → is_plain (s.code q.at) ≡ true → is_commit (s.code q.at) ≡ false
+      → Follows w.shared s.code s.request q.at word → IsSound c (goes_on w r word)
   plain_sound word plain no_commit follows = goes_sound c w old r running going word no_commit (plain_goes plain) follows
 
   pub pass_sound : passes c q.descriptor q.trail (s.code q.at) ≡ true → IsSound c (goes_on w r q.word)
   pass_sound pass =
       let check = pass_checks c q.descriptor q.trail _ pass in
       let agreed : passes c q.descriptor s.log (s.code q.at) ≡ true =
-      sym (passes_same c s.lock s.code s.slot own.published.line q.descriptor q.at q.trail s.log (λ k lt. run.in_trail.agreed k (let e = run.in_trail.counted in omega arith))) ∙ pass in
+      sym (passes_same c s.lock s.code s.slot own.published.line q.descriptor q.at q.trail s.log
+      (λ k lt. run.in_trail.agreed k (let e = run.in_trail.counted in omega arith))) ∙ pass in
       goes_sound c w old r running going q.word (check_commits _ check)
       (λ at.
       let check' : is_check (s.code s.edge) ≡ true = subst (λ n. is_check (s.code n) ≡ true) at check in

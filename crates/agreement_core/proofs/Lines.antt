@@ -42,12 +42,20 @@ module _ (c : CellRules) (lock : ℕ) (code : ℕ → Micro) (slot : ℕ → ℕ
 
   -- the load of a Take before its exchange
   pub load_of_hold : (i p w : ℕ) → code i ≡ micros.NestedHold p w
-      → (j k : ℕ) × (i ≡ suc (suc (suc j))) × (code j ≡ micros.NestedLoad p k) × (code (suc j) ≡ micros.NestedCommit p k) × (code (suc (suc j)) ≡ micros.CheckFree p k w)
+      → (j k : ℕ) × (i ≡ suc (suc (suc j))) × (code j ≡ micros.NestedLoad p k) × (code (suc j) ≡ micros.NestedCommit p k) ×
+      (code (suc (suc j)) ≡ micros.CheckFree p k w)
   load_of_hold i p w e =
       let a = line.ordered.hold_before i p w e in
       let b = line.ordered.free_before a.0 p a.1 w a.3 in
-      let n = line.ordered.nested_before b.0 p a.1 b.2 in
-      (n.0, a.1, a.2 ∙ ap suc (b.1 ∙ ap suc n.1), n.2, subst (λ x. code x ≡ micros.NestedCommit p a.1) n.1 b.2, subst (λ x. code x ≡ micros.CheckFree p a.1 w) (b.1 ∙ ap suc n.1) a.3)
+      let n = line.ordered.nested_before b.0 p a.1 b.2 in (
+        n.0,
+        a.1,
+        a.2 ∙ ap suc (b.1 ∙ ap suc n.1),
+        n.2,
+        subst (λ x. code x ≡ micros.NestedCommit p a.1) n.1 b.2,
+        subst
+            (λ x. code x ≡ micros.CheckFree p a.1 w) (b.1 ∙ ap suc n.1) a.3,
+      )
 
   pub hold_lock : (i p w : ℕ) → code i ≡ micros.NestedHold p w → c.is_lock p ≡ true
   hold_lock i p w e = let a = load_of_hold i p w e in line.placed.take_lock a.0 p a.1 a.3
@@ -80,7 +88,8 @@ module _ (c : CellRules) (lock : ℕ) (code : ℕ → Micro) (slot : ℕ → ℕ
   -- each commit of a cell stands before each store
   pub commit_first : (i j p k p' k' : ℕ) (v : Source) → code i ≡ micros.ExchangeCell p k v → code j ≡ micros.Commit p' k' → j < i
   commit_first i j p k p' k' v e e' =
-      ⊎_elim (λ lt. lt) (λ le. absurd (let h = line.in_phases.phases i j le in let a : phase (code i) ≡ 4 = ap phase e in let b : phase (code j) ≡ 1 = ap phase e' in omega arith)) (cases_lt j i)
+      ⊎_elim (λ lt. lt) (λ le. absurd (let h = line.in_phases.phases i j le in let a : phase (code i) ≡ 4 = ap phase e in
+      let b : phase (code j) ≡ 1 = ap phase e' in omega arith)) (cases_lt j i)
 
   -- an agreed word's place in the log is below the number of words that are committed later
   pub logged : (i j p k : ℕ) → code j ≡ micros.Commit p k → j < i → k < slot i
@@ -130,7 +139,8 @@ module _ (c : CellRules) (lock : ℕ) (code : ℕ → Micro) (slot : ℕ → ℕ
   passes_with : (d i : ℕ) (f g : ℕ → ℕ) → ((k : ℕ) → k < slot i → f k ≡ g k) → (m : Micro) → code i ≡ m → passes c d f m ≡ passes c d g m
   passes_with d i f g same (micros.CheckWord p k w) e = ap (λ x. x == w) (same k (word_logged i p k w e))
   passes_with d i f g same (micros.CheckFresh p k) e = ap (λ x. not (version_of x == c.version_max)) (same k (fresh_logged i p k e))
-  passes_with d i f g same (micros.CheckFree p k w) e = ap (λ x. x == w && (is_free w && not (is_spent c.version_max w))) (same k (free_logged i p k w e))
+  passes_with d i f g same (micros.CheckFree p k w) e = ap
+      (λ x. x == w && (is_free w && not (is_spent c.version_max w))) (same k (free_logged i p k w e))
   passes_with d i f g same (micros.CheckHeld p k w) e = ap (λ x. x == held_word d w) (same k (held_logged i p k w e))
   passes_with d i f g same m e = refl
 
@@ -140,14 +150,17 @@ module _ (c : CellRules) (lock : ℕ) (code : ℕ → Micro) (slot : ℕ → ℕ
   pub stop_same : (d i : ℕ) (f g : ℕ → ℕ) → ((k : ℕ) → k < slot i → f k ≡ g k) → is_stop c d f (code i) ≡ is_stop c d g (code i)
   stop_same d i f g same = ap (λ b. not (is_event (code i) || b)) (passes_same d i f g same)
 
-  source_with : (i : ℕ) (f g : ℕ → ℕ) (v : Source) → ((k : ℕ) → k < slot i → f k ≡ g k) → ((k : ℕ) → v ≡ Agreed k → k < slot i) → source_in f v ≡ source_in g v
+  source_with : (i : ℕ) (f g : ℕ → ℕ) (v : Source) → ((k : ℕ) → k < slot i → f k ≡ g k) → ((k : ℕ) → v ≡ Agreed k → k < slot i)
+      → source_in f v ≡ source_in g v
   source_with i f g (Fixed n) same within = refl
   source_with i f g (Agreed k) same within = ap value_of (same k (within k refl))
 
   -- a store's word goes by words that were committed before it
-  pub stored_same : (i p k : ℕ) (v : Source) (f g : ℕ → ℕ) → code i ≡ micros.ExchangeCell p k v → ((k : ℕ) → k < slot i → f k ≡ g k) → stored_word f k v ≡ stored_word g k v
+  pub stored_same : (i p k : ℕ) (v : Source) (f g : ℕ → ℕ) → code i ≡ micros.ExchangeCell p k v → ((k : ℕ) → k < slot i → f k ≡ g k)
+      → stored_word f k v ≡ stored_word g k v
   stored_same i p k v f g e same =
-      ap (λ x. next_word x (source_in f v)) (same k (store_logged i p k v e)) ∙ ap (λ y. next_word (g k) y) (source_with i f g v same (line.resolved.store_source i p k v e))
+      ap (λ x. next_word x (source_in f v)) (same k (store_logged i p k v e)) ∙ ap
+      (λ y. next_word (g k) y) (source_with i f g v same (line.resolved.store_source i p k v e))
 
   -- what a store writes is a value
   value_of_source : (f : ℕ → ℕ) (v : Source) → ((n : ℕ) → v ≡ Fixed n → n < 2 ^ 32) → source_in f v < 2 ^ 32
@@ -157,23 +170,28 @@ module _ (c : CellRules) (lock : ℕ) (code : ℕ → Micro) (slot : ℕ → ℕ
   pub source_small : IsWholeLine code → (i p k : ℕ) (v : Source) (f : ℕ → ℕ) → code i ≡ micros.ExchangeCell p k v → source_in f v < 2 ^ 32
   source_small whole i p k v f e = value_of_source f v (λ n q. whole.store_value i p k n (e ∙ ap (micros.ExchangeCell p k) q))
 
-  pub version_stored : IsWholeLine code → (i p k : ℕ) (v : Source) (f : ℕ → ℕ) → code i ≡ micros.ExchangeCell p k v → version_of (stored_word f k v) ≡ suc (version_of (f k))
+  pub version_stored : IsWholeLine code → (i p k : ℕ) (v : Source) (f : ℕ → ℕ) → code i ≡ micros.ExchangeCell p k v
+      → version_of (stored_word f k v) ≡ suc (version_of (f k))
   version_stored whole i p k v f e = version_next (f k) (source_in f v) (source_small whole i p k v f e)
 
   -- a raise of the clock follows the exchange of the stamp word
-  pub stamp_of_raise : IsWholeLine code → (i : ℕ) → is_clock_raise (code i) ≡ true → (j : ℕ) × (i ≡ suc j) × (is_stamp_exchange (code j) ≡ true)
+  pub stamp_of_raise : IsWholeLine code → (i : ℕ) → is_clock_raise (code i) ≡ true
+      → (j : ℕ) × (i ≡ suc j) × (is_stamp_exchange (code j) ≡ true)
   stamp_of_raise whole zero e = absurd (not_both _ _ refl e whole.start_raise)
   stamp_of_raise whole (suc j) e = (j, refl, ap is_stamp_exchange (line.ordered.raise_before j (suc j) (raise_is _ e) refl))
 
   -- the step before one that goes by a number
   pub load_of_commit : (n p k : ℕ) → code (suc n) ≡ micros.Commit p k → code n ≡ micros.LoadCell p k
-  load_of_commit n p k e = let j = line.ordered.commit_before (suc n) p k e in subst (λ i. code i ≡ micros.LoadCell p k) (let q = j.1 in omega arith) j.2
+  load_of_commit n p k e = let j = line.ordered.commit_before (suc n) p k e in
+      subst (λ i. code i ≡ micros.LoadCell p k) (let q = j.1 in omega arith) j.2
 
   pub load_of_nested : (n p k : ℕ) → code (suc n) ≡ micros.NestedCommit p k → code n ≡ micros.NestedLoad p k
-  load_of_nested n p k e = let j = line.ordered.nested_before (suc n) p k e in subst (λ i. code i ≡ micros.NestedLoad p k) (let q = j.1 in omega arith) j.2
+  load_of_nested n p k e = let j = line.ordered.nested_before (suc n) p k e in
+      subst (λ i. code i ≡ micros.NestedLoad p k) (let q = j.1 in omega arith) j.2
 
   pub load_of_outcome : (n p k : ℕ) → code (suc n) ≡ micros.OutcomeCommit p k → code n ≡ micros.OutcomeLoad p k
-  load_of_outcome n p k e = let j = line.ordered.outcome_before (suc n) p k e in subst (λ i. code i ≡ micros.OutcomeLoad p k) (let q = j.1 in omega arith) j.2
+  load_of_outcome n p k e = let j = line.ordered.outcome_before (suc n) p k e in
+      subst (λ i. code i ≡ micros.OutcomeLoad p k) (let q = j.1 in omega arith) j.2
 
   pub clock_of_stamp : (n : ℕ) → is_stamp_exchange (code (suc n)) ≡ true → code n ≡ micros.ClockLoad
   clock_of_stamp n e = line.ordered.stamp_before n (suc n) (stamp_is _ e) refl
@@ -197,9 +215,14 @@ module _ (c : CellRules) (lock : ℕ) (code : ℕ → Micro) (slot : ℕ → ℕ
 
   -- the steps behind the exchange of a Take
   pub after_hold : IsWholeLine code → (i p w : ℕ) → code i ≡ micros.NestedHold p w
-      → (k : ℕ) × (is_event (code (suc i)) ≡ true) × (code (suc (suc i)) ≡ micros.OutcomeCommit p k) × (code (suc (suc (suc i))) ≡ micros.CheckHeld p k w)
+      → (k : ℕ) × (is_event (code (suc i)) ≡ true) × (code (suc (suc i)) ≡ micros.OutcomeCommit p k) ×
+      (code (suc (suc (suc i))) ≡ micros.CheckHeld p k w)
   after_hold whole i p w e =
       let load = line.ordered.hold_next i p w e in
       let check = whole.outcome_check i p w e in
-      let j = line.ordered.held_before (suc (suc (suc i))) p check.0 w check.1 in
-      (check.0, ap is_event load.1, subst (λ n. code (suc (suc n)) ≡ micros.OutcomeCommit p check.0) (let q = j.1 in omega arith) j.3, check.1)
+      let j = line.ordered.held_before (suc (suc (suc i))) p check.0 w check.1 in (
+        check.0,
+        ap is_event load.1,
+        subst (λ n. code (suc (suc n)) ≡ micros.OutcomeCommit p check.0) (let q = j.1 in omega arith) j.3,
+        check.1,
+      )

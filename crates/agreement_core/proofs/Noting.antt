@@ -77,7 +77,8 @@ lasts_then s s1 s2 a b = record {
 }
 
 -- a log that is the same up to a step makes the same change of it
-change_same : (c : CellRules) (d : ℕ) (s : Section) → IsPublishable c d s.lock s.word s.code s.slot → (f g : ℕ → ℕ) (i : ℕ) → ((k : ℕ) → k < s.slot i → f k ≡ g k) → (m : Micro) → s.code i ≡ m → change_of f m ≡ change_of g m
+change_same : (c : CellRules) (d : ℕ) (s : Section) → IsPublishable c d s.lock s.word s.code s.slot → (f g : ℕ → ℕ) (i : ℕ)
+    → ((k : ℕ) → k < s.slot i → f k ≡ g k) → (m : Micro) → s.code i ≡ m → change_of f m ≡ change_of g m
 change_same c d s p f g i same (micros.ExchangeCell place k v) e =
     let old : f k ≡ g k = same k (store_logged c s.lock s.code s.slot p.line i place k v e) in
     let new : stored_word f k v ≡ stored_word g k v = stored_same c s.lock s.code s.slot p.line i place k v f g e same in
@@ -85,13 +86,15 @@ change_same c d s p f g i same (micros.ExchangeCell place k v) e =
 change_same c d s p f g i same m e = refl
 
 -- a section whose log grows behind its agreed words
-pub lasts_logs : (c : CellRules) (d : ℕ) (s : Section) → IsPublishable c d s.lock s.word s.code s.slot → (log : ℕ → ℕ) → ((k : ℕ) → k < s.slot s.edge → log k ≡ s.log k) → SectionLasts s (record s { log = log })
+pub lasts_logs : (c : CellRules) (d : ℕ) (s : Section) → IsPublishable c d s.lock s.word s.code s.slot → (log : ℕ → ℕ)
+    → ((k : ℕ) → k < s.slot s.edge → log k ≡ s.log k) → SectionLasts s (record s { log = log })
 lasts_logs c d s p log same = record {
   request = refl;
   code = refl;
   edge = omega arith;
   moves = λ i. ⊎_elim
-      (λ lt. ap (λ xs. cond (nat_lt i s.edge) xs []) (change_same c d s p log s.log i (λ k l. same k (let r = p.line.counted.slot_rises i s.edge (let z = lt in omega arith) in omega arith)) _ refl))
+      (λ lt. ap (λ xs. cond (nat_lt i s.edge) xs []) (change_same c d s p log s.log i
+      (λ k l. same k (let r = p.line.counted.slot_rises i s.edge (let z = lt in omega arith) in omega arith)) _ refl))
       (λ ge. above i s.edge _ _ ge ∙ sym (above i s.edge _ _ ge)) (cases_lt i s.edge);
 }
 
@@ -119,10 +122,15 @@ exact_same w w' h same old = record {
   replied_once = old.replied_once;
   unstamped = λ d u z. old.unstamped d (same.was_used d u) (sym (same.stamp _ ∙ ap w.shared.stamp (same.sections d u).request) ∙ z);
   unreplied = λ d u z. old.unreplied d (same.was_used d u) (sym (same.reply _ ∙ ap w.shared.reply (same.sections d u).request) ∙ z);
-  stamped_late = λ d u late. old.stamped_late d (same.was_used d u) (λ i lt. ap (λ (f : ℕ → Micro). is_stamp_exchange (f i)) (sym (same.sections d u).code) ∙ late i (let e = (same.sections d u).edge in omega arith));
-  replied_late = λ d u late. old.replied_late d (same.was_used d u) (λ i lt. ap (λ (f : ℕ → Micro). is_reply_exchange (f i)) (sym (same.sections d u).code) ∙ late i (let e = (same.sections d u).edge in omega arith));
+  stamped_late = λ d u late. old.stamped_late d (same.was_used d u)
+      (λ i lt. ap (λ (f : ℕ → Micro). is_stamp_exchange (f i)) (sym (same.sections d u).code)
+      ∙ late i (let e = (same.sections d u).edge in omega arith));
+  replied_late = λ d u late. old.replied_late d (same.was_used d u)
+      (λ i lt. ap (λ (f : ℕ → Micro). is_reply_exchange (f i)) (sym (same.sections d u).code)
+      ∙ late i (let e = (same.sections d u).edge in omega arith));
 }
 
 -- the state with another section of this descriptor
-pub one_lasts : (section : ℕ → Section) (d : ℕ) (s' : Section) → SectionLasts (section d) s' → (d' : ℕ) → SectionLasts (section d') (upd section d s' d')
+pub one_lasts : (section : ℕ → Section) (d : ℕ) (s' : Section) → SectionLasts (section d) s' → (d' : ℕ)
+    → SectionLasts (section d') (upd section d s' d')
 one_lasts section d s' last = upd_split section d s' (λ d' s. SectionLasts (section d') s) last (λ d' ne. lasts_same (section d'))

@@ -28,18 +28,22 @@ module _ (c : CellRules) (d : ℕ) (s : Section) (p : IsPublishable c d s.lock s
   -- a lock that a run has taken is a lock
   pub taken_lock : HasTaken s at place word → c.is_lock place ≡ true
   taken_lock taken = ⊎_elim (λ o. ap c.is_lock o.0 ∙ p.line.placed.outer_lock)
-      (λ n. let j = hold_of_held c s.lock s.code s.slot p.line n.0 place n.1 word n.3 in hold_lock c s.lock s.code s.slot p.line j.0 place word j.1) taken
+      (λ n. let j = hold_of_held c s.lock s.code s.slot p.line n.0 place n.1 word n.3 in
+      hold_lock c s.lock s.code s.slot p.line j.0 place word j.1) taken
 
   -- two versions are left above the word that it was free with
   pub taken_room : HasTaken s at place word → suc (suc (version_of word)) ≤ c.version_max
-  taken_room taken = ⊎_elim (λ o. subst (λ n. suc (suc (version_of n)) ≤ c.version_max) (sym o.1) (unspent_room c.version_max s.word p.free p.unspent))
+  taken_room taken = ⊎_elim
+      (λ o. subst (λ n. suc (suc (version_of n)) ≤ c.version_max) (sym o.1) (unspent_room c.version_max s.word p.free p.unspent))
       (λ n. let j = hold_of_held c s.lock s.code s.slot p.line n.0 place n.1 word n.3 in
-      unspent_room c.version_max word (hold_free c s.lock s.code s.slot p.line j.0 place word j.1) (hold_unspent c s.lock s.code s.slot p.line j.0 place word j.1)) taken
+      unspent_room c.version_max word (hold_free c s.lock s.code s.slot p.line j.0 place word j.1)
+      (hold_unspent c s.lock s.code s.slot p.line j.0 place word j.1)) taken
 
   -- a taken lock that the section holds has the held word of its free word
   pub taken_exactly : (now : ℕ) → HasTaken s at place word → HoldsWith d s place now → now ≡ held_word d word
   taken_exactly now taken holds = ⊎_elim
-      (λ o. ⊎_elim (λ h. h.1 ∙ ap (held_word d) (sym o.1)) (λ h. absurd (hold_inner c s.lock s.code s.slot p.line h.0 place h.1 h.3 o.0)) holds)
+      (λ o. ⊎_elim (λ h. h.1 ∙ ap (held_word d) (sym o.1))
+      (λ h. absurd (hold_inner c s.lock s.code s.slot p.line h.0 place h.1 h.3 o.0)) holds)
       (λ n.
       let j = hold_of_held c s.lock s.code s.slot p.line n.0 place n.1 word n.3 in
       ⊎_elim (λ h. absurd (hold_inner c s.lock s.code s.slot p.line j.0 place word j.1 h.0))
@@ -85,7 +89,8 @@ module _ (c : CellRules) (w : AgreementState) (old : IsSound c w) (r place word 
   new_version = version_next held 0 zero_small
 
   room : version_of new ≤ c.version_max
-  room = let a = taken_room c d s own.published q.at place word ok.2 in let b = version_held d word own.published.link in let e = new_version in omega arith
+  room = let a = taken_room c d s own.published q.at place word ok.2 in let b = version_held d word own.published.link in
+      let e = new_version in omega arith
 
   unnamed : (d' : ℕ) → value_of new ≢ suc d'
   unnamed d' v = let z : 0 ≡ suc d' = sym new_value ∙ v in omega arith
@@ -94,14 +99,16 @@ module _ (c : CellRules) (w : AgreementState) (old : IsSound c w) (r place word 
   won : w.shared.cells place ≡ held → SharedMoves c w (puts w.shared place new)
   won finds =
       let x = w.shared in
-      let more : version_of (x.cells place) < version_of new = let a : version_of (x.cells place) ≡ version_of held = ap version_of finds in let e = new_version in omega arith in
+      let more : version_of (x.cells place) < version_of new = let a : version_of (x.cells place) ≡ version_of held = ap version_of finds in
+      let e = new_version in omega arith in
       record {
         versions = puts_versions c x place new more room old.versions;
         rises = puts_rises x place new more;
         words = puts_words x place new;
         loaded = λ d' u. puts_lock c d' (w.section d') x place new (old.sections d' u).published lock;
         held = λ d' u un p is v. upd_else x.cells place p new (λ e.
-            let same : suc d' ≡ suc d = sym v ∙ ap (λ n. value_of (x.cells n)) e ∙ ap value_of finds ∙ value_held d word own.published.link in
+            let same : suc d' ≡ suc d = sym v ∙ ap (λ n. value_of (x.cells n)) e ∙ ap value_of finds
+            ∙ value_held d word own.published.link in
             let same' : d' ≡ d = omega arith in
             done (subst (λ n. (w.section n).done ≡ 0) same' un));
         named = λ d' p is v. ⊎_elim
@@ -114,8 +121,10 @@ module _ (c : CellRules) (w : AgreementState) (old : IsSound c w) (r place word 
 
   released_sound : IsSound c released
   released_sound = ⊎_elim
-      (λ finds. subst (λ n. IsSound c (with_cell w place n)) (sym (exchange_wins _ _ _ finds)) (shared_moves c w (puts w.shared place new) (won finds) old))
-      (λ ne. subst (λ cells. IsSound c (record w { shared = record (w.shared) { cells = cells } })) (sym (fun_ext (upd_found w.shared.cells place _ (exchange_fails _ held new ne)))) old)
+      (λ finds. subst (λ n. IsSound c (with_cell w place n)) (sym (exchange_wins _ _ _ finds))
+      (shared_moves c w (puts w.shared place new) (won finds) old))
+      (λ ne. subst (λ cells. IsSound c (record w { shared = record (w.shared) { cells = cells } }))
+      (sym (fun_ext (upd_found w.shared.cells place _ (exchange_fails _ held new ne)))) old)
       (cases_eq (w.shared.cells place) held)
 
   -- the lock doesn't name the section after that
@@ -124,14 +133,21 @@ module _ (c : CellRules) (w : AgreementState) (old : IsSound c w) (r place word 
       let here : released.shared.cells place ≡ exchanged (w.shared.cells place) held new = upd_here w.shared.cells place _ in
       ⊎_elim
       (λ finds. unnamed d (ap value_of (sym (here ∙ exchange_wins _ _ _ finds)) ∙ v))
-      (λ ne. ne (taken_exactly c d s own.published q.at place word _ ok.2 (own.section.in_locks.held place lock (ap value_of (sym (here ∙ exchange_fails _ held new ne)) ∙ v))))
+      (λ ne. ne (taken_exactly c d s own.published q.at place word _ ok.2
+      (own.section.in_locks.held place lock (ap value_of (sym (here ∙ exchange_fails _ held new ne)) ∙ v))))
       (cases_eq (w.shared.cells place) held)
 
   pub release_sound : IsSound c (after w (Release r place word))
   release_sound =
       let now = released_sound.runs r ok.0 in
       run_alone c released released_sound r d (record q { released = upd q.released place true }) used ok.0 refl (record {
-        in_trail = record { behind = now.in_trail.behind; counted = now.in_trail.counted; agreed = now.in_trail.agreed; ended_done = now.in_trail.ended_done; ended_edge = now.in_trail.ended_edge };
+        in_trail = record {
+          behind = now.in_trail.behind;
+          counted = now.in_trail.counted;
+          agreed = now.in_trail.agreed;
+          ended_done = now.in_trail.ended_done;
+          ended_edge = now.in_trail.ended_edge;
+        };
         in_word = record {
           standing = now.in_word.standing;
           read = now.in_word.read;

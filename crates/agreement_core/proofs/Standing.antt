@@ -26,7 +26,8 @@ agree c w old = record {
 }
 
 pub not_future : (c : CellRules) (w : AgreementState) → IsSound c w → IsNotFuture w
-not_future c w old p word h = ⊎_elim (λ e. subst (λ n. version_of n ≤ version_of (w.shared.cells p)) e (omega arith)) (λ lt. below _ _ lt) (old.versions.past p word h)
+not_future c w old p word h = ⊎_elim (λ e. subst (λ n. version_of n ≤ version_of (w.shared.cells p)) e (omega arith))
+    (λ lt. below _ _ lt) (old.versions.past p word h)
   where
     below : (a b : ℕ) → a < b → a ≤ b
     below a b lt = omega arith
@@ -40,13 +41,14 @@ cells_stand c w old d u =
     let s = w.section d in
     let x = o.section.in_cells in
     record {
-      loaded = λ is_open p k h none. x.loaded is_open.undone h.0 p k h.1 h.2 (λ j k' v lt e. none (s.log k') (stored_word s.log k' v) (j, k', v, lt, e, refl, refl));
-      stored = λ is_open p agreed word h. x.stored is_open.undone h.0 p h.1 h.2 h.3 h.4 ∙ sym h.6;
+      loaded = λ is_open p k h none. x.loaded is_open.undone h.at p k h.passed h.step
+          (λ j k' v lt e. none (s.log k') (stored_word s.log k' v) (record { at = j; log = k'; value = v; passed = lt; step = e; old = refl; new = refl }));
+      stored = λ is_open p agreed word h. x.stored is_open.undone h.at p h.log h.value h.passed h.step ∙ sym h.new;
       lasting = λ p agreed word h.
-          let up = version_stored c s.lock s.code s.slot o.published.line o.published.whole h.0 p h.1 h.2 s.log h.4 in
-          ⊎_elim (λ e. inl (x.lasting h.0 p h.1 h.2 h.3 h.4 e ∙ sym h.6))
-          (λ lt. inr (subst (λ n. n < version_of (w.shared.cells p)) (sym (ap version_of h.6 ∙ up)) lt))
-          (next_or_later _ _ (x.left h.0 p h.1 h.2 h.3 h.4));
+          let up = version_stored c s.lock s.code s.slot o.published.line o.published.whole h.at p h.log h.value s.log h.step in
+          ⊎_elim (λ e. inl (x.lasting h.at p h.log h.value h.passed h.step e ∙ sym h.new))
+          (λ lt. inr (subst (λ n. n < version_of (w.shared.cells p)) (sym (ap version_of h.new ∙ up)) lt))
+          (next_or_later _ _ (x.left h.at p h.log h.value h.passed h.step));
     }
 
 pub locks_stand : (c : CellRules) (w : AgreementState) → IsSound c w → LocksStand c w
@@ -63,14 +65,16 @@ takes_stand c w old d u =
     let s = w.section d in
     let x = o.section.in_locks in
     record {
-      past = λ p free outcome h. x.nested_past h.0 p free (omega arith) h.3;
-      held = λ is_open p free outcome h e. x.outcome_held is_open.undone (suc (suc h.0)) p h.1 h.2 h.4 (ap value_of (sym h.5 ∙ e) ∙ value_held d free o.published.link) ∙ sym h.5;
+      past = λ p free outcome h. x.nested_past h.at p free (let lt = h.passed in omega arith) h.hold;
+      held = λ is_open p free outcome h e.
+          let names = ap value_of (sym h.agreed ∙ e) ∙ value_held d free o.published.link in
+          x.outcome_held is_open.undone (suc (suc h.at)) p h.log h.passed h.commit names ∙ sym h.agreed;
       refused = λ p free outcome h ne v.
-          let lock = hold_lock c s.lock s.code s.slot o.published.line h.0 p free h.3 in
-          let named : outcome ≡ w.shared.cells p = h.5 ∙ x.outcome_named (suc (suc h.0)) p h.1 h.2 h.4 v in
-          ⊎_elim (λ outer. hold_inner c s.lock s.code s.slot o.published.line h.0 p free h.3 outer.0)
-          (λ n. let same = hold_once c s.lock s.code s.slot o.published.line n.0 h.0 p n.1 free n.3 h.3 in
-          let free_same = (same_hold p n.1 p free (sym n.3 ∙ ap s.code same ∙ h.3)).1 in
+          let lock = hold_lock c s.lock s.code s.slot o.published.line h.at p free h.hold in
+          let named : outcome ≡ w.shared.cells p = h.agreed ∙ x.outcome_named (suc (suc h.at)) p h.log h.passed h.commit v in
+          ⊎_elim (λ outer. hold_inner c s.lock s.code s.slot o.published.line h.at p free h.hold outer.0)
+          (λ n. let same = hold_once c s.lock s.code s.slot o.published.line n.0 h.at p n.1 free n.3 h.hold in
+          let free_same = (same_hold p n.1 p free (sym n.3 ∙ ap s.code same ∙ h.hold)).1 in
           ne (named ∙ n.4 ∙ ap (held_word d) free_same))
           (x.held p lock v);
     }
@@ -80,5 +84,6 @@ done_late c w old d u done =
     let o = old.sections d u in
     record {
       stops = o.section.in_log.stops done;
-      stored = λ p agreed word h. subst (λ n. version_of n < version_of (w.shared.cells p)) (sym h.5) (o.section.in_cells.left h.0 p h.1 h.2 h.3 h.4);
+      stored = λ p agreed word h.
+          subst (λ n. version_of n < version_of (w.shared.cells p)) (sym h.old) (o.section.in_cells.left h.at p h.log h.value h.passed h.step);
     }

@@ -39,7 +39,8 @@ lost found proposal lt = grind arith
 upd_found : (f : ℕ → ℕ) (k v : ℕ) → v ≡ f k → (i : ℕ) → upd f k v i ≡ f i
 upd_found f k v e i = grind arith
 
-module _ (c : CellRules) (w : AgreementState) (old : IsSound c w) (r : ℕ) (running : (w.run r).running ≡ true) (going : (w.run r).ended ≡ false) where
+module _ (c : CellRules) (w : AgreementState) (old : IsSound c w) (r : ℕ) (running : (w.run r).running ≡ true)
+    (going : (w.run r).ended ≡ false) where
   abbrev q : Run
   q = w.run r
 
@@ -63,9 +64,11 @@ module _ (c : CellRules) (w : AgreementState) (old : IsSound c w) (r : ℕ) (run
   reached log edge q' = record w { section = upd w.section d (changed s log s.done edge); run = upd w.run r q' }
 
   -- no shared word changes
-  still : (log : ℕ → ℕ) (edge : ℕ) (q' : Run) → q'.running ≡ true → q'.descriptor ≡ d → SectionIsSound c w.shared d (changed s log s.done edge) → RunIsSound c w.shared d (changed s log s.done edge) q'
+  still : (log : ℕ → ℕ) (edge : ℕ) (q' : Run) → q'.running ≡ true → q'.descriptor ≡ d
+      → SectionIsSound c w.shared d (changed s log s.done edge) → RunIsSound c w.shared d (changed s log s.done edge) q'
       → ((r' : ℕ) → (w.run r').running ≡ true → (w.run r').descriptor ≡ d → RunIsSound c w.shared d (changed s log s.done edge) (w.run r'))
-      → (s.done ≢ 0 → (k : ℕ) → log k ≡ s.log k) → (s.done ≢ 0 → edge ≡ s.edge) → (s.done ≡ 0 → (p : ℕ) → HasCome (changed s log s.done edge) p → HasCome s p ⊎ IsAlone w d p)
+      → (s.done ≢ 0 → (k : ℕ) → log k ≡ s.log k) → (s.done ≢ 0 → edge ≡ s.edge)
+      → (s.done ≡ 0 → (p : ℕ) → HasCome (changed s log s.done edge) p → HasCome s p ⊎ IsAlone w d p)
       → IsSound c (reached log edge q')
   still log edge q' is_running is_of section run' fellows kept_log kept_edge come = run_moves c w r d w.shared log s.done edge q'
       (record {
@@ -92,7 +95,8 @@ module _ (c : CellRules) (w : AgreementState) (old : IsSound c w) (r : ℕ) (run
 
   -- a step behind the edge changes the run alone
   late : (q' : Run) → q'.running ≡ true → q'.descriptor ≡ d → RunIsSound c w.shared d s q' → IsSound c (reached s.log s.edge q')
-  late q' is_running is_of run' = still s.log s.edge q' is_running is_of own.section run' fellow (λ ne k. refl) (λ ne. refl) (λ un p h. inl h)
+  late q' is_running is_of run' = still s.log s.edge q' is_running is_of own.section run' fellow (λ ne k. refl) (λ ne. refl)
+      (λ un p h. inl h)
 
   -- a step at the edge of an open section
   lead : (log : ℕ → ℕ) (q' : Run) → q'.running ≡ true → q'.descriptor ≡ d → s.done ≡ 0 → ((k : ℕ) → k < s.slot s.edge → log k ≡ s.log k)
@@ -102,7 +106,8 @@ module _ (c : CellRules) (w : AgreementState) (old : IsSound c w) (r : ℕ) (run
       (λ r' is e. run_stands c w.shared d s own.published (w.run r') log un same (fellow r' is e))
       (λ ne. absurd (ne un)) (λ ne. absurd (ne un))
       (λ un' p h. ⊎_elim (λ lt. inl (h.0, h.1, omega arith, h.3))
-      (λ le. inr (alone p h.1 (load_of_commit c s.lock s.code s.slot own.published.line s.edge p h.1 (let e : h.0 ≡ suc s.edge = let b = h.2 in omega arith in subst (λ n. s.code n ≡ micros.Commit p h.1) e h.3))))
+      (λ le. inr (alone p h.1 (load_of_commit c s.lock s.code s.slot own.published.line s.edge p h.1
+      (let e : h.0 ≡ suc s.edge = let b = h.2 in omega arith in subst (λ n. s.code n ≡ micros.Commit p h.1) e h.3))))
       (cases_lt h.0 (suc s.edge)))
 
   -- what is needed of a step that goes on, where it stands at the edge
@@ -123,10 +128,12 @@ module _ (c : CellRules) (w : AgreementState) (old : IsSound c w) (r : ℕ) (run
     in_request = request_goes w.shared s may.stamp may.raise may.reply own.section.in_request;
   }
 
-  pub goes_sound : (word : ℕ) → is_commit (s.code q.at) ≡ false → (q.at ≡ s.edge → MayGo) → Follows w.shared s.code s.request q.at word → IsSound c (goes_on w r word)
+  pub goes_sound : (word : ℕ) → is_commit (s.code q.at) ≡ false → (q.at ≡ s.edge → MayGo) → Follows w.shared s.code s.request q.at word
+      → IsSound c (goes_on w r word)
   goes_sound word no_commit may follows = ⊎_elim
       (λ lt. subst (λ n. IsSound c (reached s.log n (stepped q word))) (sym (late_edge s.edge q.at lt))
-      (late (stepped q word) running refl (run_steps c w.shared d s own.published q word going lt no_commit run.in_trail run.in_releases follows)))
+      (late (stepped q word) running refl
+      (run_steps c w.shared d s own.published q word going lt no_commit run.in_trail run.in_releases follows)))
       (λ le.
       let at : q.at ≡ s.edge = let b = run.in_trail.behind in omega arith in
       let m = may at in
@@ -134,17 +141,20 @@ module _ (c : CellRules) (w : AgreementState) (old : IsSound c w) (r : ℕ) (run
       let stands = run_stands c w.shared d s own.published q s.log un (λ k lt. refl) run in
       subst (λ n. IsSound c (reached s.log n (stepped q word))) (sym (lead_edge s.edge q.at at))
       (lead s.log (stepped q word) running refl un (λ k lt. refl) (section_goes (subst (λ n. is_commit (s.code n) ≡ false) at no_commit) m)
-      (run_steps c w.shared d (goes s) own.published q word going (omega arith) no_commit stands.in_trail stands.in_releases follows) m.alone))
+      (run_steps c w.shared d (goes s) own.published q word going
+      (omega arith) no_commit stands.in_trail stands.in_releases follows) m.alone))
       (cases_lt q.at s.edge)
 
   -- the log word of a commit below the edge stands, and so it is agreed
-  pub found_late : (log proposal : ℕ) → log ≡ s.slot q.at → is_commit (s.code q.at) ≡ true → q.at < s.edge → written_once (s.log log) proposal ≡ s.log log
+  pub found_late : (log proposal : ℕ) → log ≡ s.slot q.at → is_commit (s.code q.at) ≡ true → q.at < s.edge
+      → written_once (s.log log) proposal ≡ s.log log
   found_late log proposal here commit lt =
       let more = own.published.line.counted.slot_commit q.at commit in
       let most = own.published.line.counted.slot_rises (suc q.at) s.edge lt in
       lost (s.log log) proposal (own.section.in_log.full log (omega arith))
 
-  agrees_late : (log proposal : ℕ) → log ≡ s.slot q.at → is_commit (s.code q.at) ≡ true → Follows w.shared s.code s.request q.at q.word → q.at < s.edge → IsSound c (agrees w r log proposal)
+  agrees_late : (log proposal : ℕ) → log ≡ s.slot q.at → is_commit (s.code q.at) ≡ true → Follows w.shared s.code s.request q.at q.word
+      → q.at < s.edge → IsSound c (agrees w r log proposal)
   agrees_late log proposal here commit follows lt =
       let word = written_once (s.log log) proposal in
       let stands : word ≡ s.log log = found_late log proposal here commit lt in
@@ -152,9 +162,12 @@ module _ (c : CellRules) (w : AgreementState) (old : IsSound c w) (r : ℕ) (run
       subst (λ lg. IsSound c (reached lg (cond (nat_lt s.edge (suc q.at)) (suc q.at) s.edge) (agreed q word))) (sym same)
       (subst (λ n. IsSound c (reached s.log n (agreed q word))) (sym (late_edge s.edge q.at lt))
       (late (agreed q word) running refl
-      (run_agrees c w.shared d s own.published q word going lt commit (ap s.log (sym here) ∙ sym stands) run.in_trail.counted run.in_trail.agreed run.in_releases follows)))
+      (run_agrees c w.shared d s own.published q word going lt commit
+      (ap s.log (sym here) ∙ sym stands) run.in_trail.counted run.in_trail.agreed run.in_releases follows)))
 
-  agrees_lead : (log proposal : ℕ) → log ≡ s.slot q.at → is_commit (s.code q.at) ≡ true → is_event (s.code q.at) ≡ true → MayCommit w.shared d s proposal → Follows w.shared s.code s.request q.at q.word → q.at ≡ s.edge → IsSound c (agrees w r log proposal)
+  agrees_lead : (log proposal : ℕ) → log ≡ s.slot q.at → is_commit (s.code q.at) ≡ true → is_event (s.code q.at) ≡ true
+      → MayCommit w.shared d s proposal → Follows w.shared s.code s.request q.at q.word → q.at ≡ s.edge
+      → IsSound c (agrees w r log proposal)
   agrees_lead log proposal here commit event may follows at =
       let word = written_once (s.log log) proposal in
       let edge_log : log ≡ s.slot s.edge = here ∙ ap s.slot at in
@@ -172,9 +185,11 @@ module _ (c : CellRules) (w : AgreementState) (old : IsSound c w) (r : ℕ) (run
       (ap (upd s.log log word) (sym here) ∙ upd_here s.log log word) run.in_trail.counted stands.in_trail.agreed run.in_releases follows)
       (λ p k e. absurd (not_both _ (ap (λ n. is_commit (s.code n)) (sym at) ∙ commit) (ap is_commit e))))
 
-  pub agrees_sound : (log proposal : ℕ) → log ≡ s.slot q.at → is_commit (s.code q.at) ≡ true → is_event (s.code q.at) ≡ true → (q.at ≡ s.edge → MayCommit w.shared d s proposal)
+  pub agrees_sound : (log proposal : ℕ) → log ≡ s.slot q.at → is_commit (s.code q.at) ≡ true → is_event (s.code q.at) ≡ true
+      → (q.at ≡ s.edge → MayCommit w.shared d s proposal)
       → Follows w.shared s.code s.request q.at q.word → IsSound c (agrees w r log proposal)
   agrees_sound log proposal here commit event may follows = ⊎_elim
       (λ lt. agrees_late log proposal here commit follows lt)
-      (λ le. let at : q.at ≡ s.edge = let b = run.in_trail.behind in omega arith in agrees_lead log proposal here commit event (may at) follows at)
+      (λ le. let at : q.at ≡ s.edge = let b = run.in_trail.behind in omega arith in
+      agrees_lead log proposal here commit event (may at) follows at)
       (cases_lt q.at s.edge)

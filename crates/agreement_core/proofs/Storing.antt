@@ -25,13 +25,16 @@ puts_words x place word = record { seen = λ p v h. h; clock = omega arith; stam
 
 pub puts_rises : (x : Shared) (place word : ℕ) → version_of (x.cells place) < version_of word → Rises x.cells (puts x place word).cells
 puts_rises x place word more p = ⊎_elim
-    (λ e. inr (subst (λ n. version_of (x.cells n) < version_of (upd x.cells place word n)) (sym e) (subst (λ n. version_of (x.cells place) < version_of n) (sym (upd_here x.cells place word)) more)))
+    (λ e. inr (subst (λ n. version_of (x.cells n) < version_of (upd x.cells place word n)) (sym e)
+    (subst (λ n. version_of (x.cells place) < version_of n) (sym (upd_here x.cells place word)) more)))
     (λ ne. inl (upd_else x.cells place p word ne)) (cases_eq p place)
 
 -- a change of a cell that is no lock leaves all locks
-pub puts_no_lock : (c : CellRules) (d : ℕ) (s : Section) (x : Shared) (place word : ℕ) → c.is_lock place ≡ false → LeavesLocks c d s x.cells (puts x place word).cells
+pub puts_no_lock : (c : CellRules) (d : ℕ) (s : Section) (x : Shared) (place word : ℕ) → c.is_lock place ≡ false
+    → LeavesLocks c d s x.cells (puts x place word).cells
 puts_no_lock c d s x place word unlocked =
-    let else : (p : ℕ) → c.is_lock p ≡ true → upd x.cells place word p ≡ x.cells p = λ p lock. upd_else x.cells place p word (λ e. not_both _ lock (ap c.is_lock e ∙ unlocked)) in
+    let else : (p : ℕ) → c.is_lock p ≡ true → upd x.cells place word p ≡ x.cells p = λ p lock. upd_else x.cells place p word
+    (λ e. not_both _ lock (ap c.is_lock e ∙ unlocked)) in
     record { held = λ un p lock v. else p lock; named = λ p lock v. else p lock }
 
 same_store : (cells log : ℕ → ℕ) (place k p' k' : ℕ) (v v' : Source) → micros.ExchangeCell p' k' v' ≡ micros.ExchangeCell place k v
@@ -61,7 +64,8 @@ module _ (c : CellRules) (x : Shared) (d : ℕ) (s : Section) (place k : ℕ) (v
   store_version = version_stored c s.lock s.code s.slot p.line p.whole s.edge place k v s.log at
 
   pub store_rises : version_of (x.cells place) < version_of new
-  store_rises = let a : version_of (x.cells place) ≡ version_of (s.log k) = ap version_of store_finds in let b = store_version in grind arith
+  store_rises = let a : version_of (x.cells place) ≡ version_of (s.log k) = ap version_of store_finds in let b = store_version in
+      grind arith
 
   pub store_unlocked : c.is_lock place ≡ false
   store_unlocked = exchange_unlocked c s.lock s.code s.slot p.line s.edge place k v at
@@ -84,16 +88,19 @@ module _ (c : CellRules) (x : Shared) (d : ℕ) (s : Section) (place k : ℕ) (v
         (λ q. absurd (not_both _ (ap is_commit (ap s.code (sym q) ∙ e)) no_commit)) (at_edge i s.edge lt);
     stored = λ un i p' k' v' lt e. ⊎_elim
         (λ l. else i p' k' v' l e ∙ old.in_cells.stored un i p' k' v' l e)
-        (λ q. let f = same_store x.cells s.log place k p' k' v v' (sym e ∙ ap s.code q ∙ at) in ap (upd x.cells place new) f.0 ∙ upd_here x.cells place new ∙ sym f.1) (at_edge i s.edge lt);
+        (λ q. let f = same_store x.cells s.log place k p' k' v v' (sym e ∙ ap s.code q ∙ at) in
+        ap (upd x.cells place new) f.0 ∙ upd_here x.cells place new ∙ sym f.1) (at_edge i s.edge lt);
     left = λ i p' k' v' lt e. ⊎_elim
         (λ l. subst (λ n. version_of (s.log k') < version_of n) (sym (else i p' k' v' l e)) (old.in_cells.left i p' k' v' l e))
         (λ q. let f = same_store x.cells s.log place k p' k' v v' (sym e ∙ ap s.code q ∙ at) in
         let a : upd x.cells place new p' ≡ new = ap (upd x.cells place new) f.0 ∙ upd_here x.cells place new in
         let b : version_of (s.log k') ≡ version_of (s.log k) = ap (λ n. version_of (s.log n)) f.2 in
-        subst (λ n. version_of (s.log k') < version_of n) (sym a) (subst (λ n. n < version_of new) (sym b) (let g = store_version in omega arith))) (at_edge i s.edge lt);
+        subst (λ n. version_of (s.log k') < version_of n) (sym a)
+        (subst (λ n. n < version_of new) (sym b) (let g = store_version in omega arith))) (at_edge i s.edge lt);
     lasting = λ i p' k' v' lt e is. ⊎_elim
         (λ l. else i p' k' v' l e ∙ old.in_cells.lasting i p' k' v' l e (ap version_of (sym (else i p' k' v' l e)) ∙ is))
-        (λ q. let f = same_store x.cells s.log place k p' k' v v' (sym e ∙ ap s.code q ∙ at) in ap (upd x.cells place new) f.0 ∙ upd_here x.cells place new ∙ sym f.1) (at_edge i s.edge lt);
+        (λ q. let f = same_store x.cells s.log place k p' k' v v' (sym e ∙ ap s.code q ∙ at) in
+        ap (upd x.cells place new) f.0 ∙ upd_here x.cells place new ∙ sym f.1) (at_edge i s.edge lt);
     read = λ i p' k' lt e. ⊎_elim
         (λ l. old.in_cells.read i p' k' l e)
         (λ q. absurd (not_both _ (ap is_commit (ap s.code (sym q) ∙ e)) no_commit)) (at_edge i s.edge lt);
@@ -106,6 +113,10 @@ module _ (c : CellRules) (x : Shared) (d : ℕ) (s : Section) (place k : ℕ) (v
       record {
         in_log = log_goes c d s store_goes no_commit (p.line.counted.slot_same s.edge no_commit) old.in_log;
         in_cells = cells_store;
-        in_locks = locks_goes c x' d s no_commit (λ p' w e. absurd (let a : 1 ≡ 4 = ap phase (sym e ∙ at) in omega arith)) (locks_frame c d s p x x' rises (puts_words x place new) (puts_no_lock c d s x place new store_unlocked) old.in_locks);
-        in_request = request_goes x' s (λ e. absurd (not_both _ e (ap is_stamp_exchange at))) (λ e. absurd (not_both _ e (ap is_clock_raise at))) (λ e. absurd (not_both _ e (ap is_reply_exchange at))) (request_frame c d s p x x' rises (puts_words x place new) old.in_request);
+        in_locks = locks_goes c x' d s no_commit (λ p' w e. absurd (let a : 1 ≡ 4 = ap phase (sym e ∙ at) in omega arith))
+            (locks_frame c d s p x x' rises (puts_words x place new) (puts_no_lock c d s x place new store_unlocked) old.in_locks);
+        in_request = request_goes x' s (λ e. absurd (not_both _ e (ap is_stamp_exchange at)))
+            (λ e. absurd (not_both _ e (ap is_clock_raise at)))
+            (λ e. absurd (not_both _ e (ap is_reply_exchange at)))
+            (request_frame c d s p x x' rises (puts_words x place new) old.in_request);
       }

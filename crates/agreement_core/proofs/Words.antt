@@ -33,9 +33,11 @@ past_later v old new before rise = past_later_by version_of v old new before ris
 first_later_by : (f : ℕ → ℕ) (v old new : ℕ) → v < f old → (new ≡ old) ⊎ (f old < f new) → f new ≡ suc v → new ≡ old
 first_later_by f v old new before rise is = grind arith
 
-pub first_later : (v old new : ℕ) → v < version_of old → (new ≡ old) ⊎ (version_of old < version_of new) → version_of new ≡ suc v → new ≡ old
+pub first_later : (v old new : ℕ) → v < version_of old → (new ≡ old) ⊎ (version_of old < version_of new) → version_of new ≡ suc v
+    → new ≡ old
 first_later v old new before rise is = first_later_by version_of v old new before rise is
 
 -- a free word that isn't spent leaves room for two versions
-pub unspent_room : (version_max word : ℕ) → is_free word ≡ true → is_spent version_max word ≡ false → suc (suc (version_of word)) ≤ version_max
+pub unspent_room : (version_max word : ℕ) → is_free word ≡ true → is_spent version_max word ≡ false
+    → suc (suc (version_of word)) ≤ version_max
 unspent_room version_max word free unspent = grind arith

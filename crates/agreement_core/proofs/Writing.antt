@@ -44,7 +44,8 @@ module _ (f : ℕ → ℕ) (all mine : ℕ → List ℕ) (request number word : 
       (λ q ne. exact q ∙ ap written (sym (upd_else f request q _ ne)))
 
   pub mine_once : (f request ≡ 0 → mine number ≡ []) → ((n : ℕ) → length (mine n) ≤ 1) → (n : ℕ) → length (mine' n) ≤ 1
-  mine_once none once = upd_split mine number _ (λ n xs. length xs ≤ 1) (once_won (f request) word (mine number) (once number) none) (λ n ne. once n)
+  mine_once none once = upd_split mine number _ (λ n xs. length xs ≤ 1) (once_won (f request) word (mine number) (once number) none)
+      (λ n ne. once n)
 
   -- by descriptor: the number of its section, and its request
   module _ (d : ℕ) (used : ℕ → Bool) (numbers requests : ℕ → ℕ) (own_number : numbers d ≡ number) (own_request : requests d ≡ request)
@@ -52,13 +53,15 @@ module _ (f : ℕ → ℕ) (all mine : ℕ → List ℕ) (request number word : 
     mine_else : (d' : ℕ) → used d' ≡ true → d' ≢ d → mine' (numbers d') ≡ mine (numbers d')
     mine_else d' u ne = upd_else mine number (numbers d') _ (λ e. ne (apart d' u e))
 
-    pub mine_written : ((d' : ℕ) → used d' ≡ true → f (requests d') ≡ 0 → mine (numbers d') ≡ []) → (d' : ℕ) → used d' ≡ true → f' (requests d') ≡ 0 → mine' (numbers d') ≡ []
+    pub mine_written : ((d' : ℕ) → used d' ≡ true → f (requests d') ≡ 0 → mine (numbers d') ≡ []) → (d' : ℕ) → used d' ≡ true
+        → f' (requests d') ≡ 0 → mine' (numbers d') ≡ []
     mine_written un d' u z = ⊎_elim
         (λ e. absurd (nonzero_now f request word some (ap f' (sym (ap requests e ∙ own_request)) ∙ z)))
         (λ ne. mine_else d' u ne ∙ un d' u (zero_before f request word (requests d') z))
         (cases_eq d' d)
 
-    pub mine_late : (Late Late' : ℕ → Type 0) → (Late' d → ⊥) → ((d' : ℕ) → d' ≢ d → Late' d' → Late d') → ((d' : ℕ) → used d' ≡ true → Late d' → mine (numbers d') ≡ []) → (d' : ℕ) → used d' ≡ true → Late' d' → mine' (numbers d') ≡ []
+    pub mine_late : (Late Late' : ℕ → Type 0) → (Late' d → ⊥) → ((d' : ℕ) → d' ≢ d → Late' d' → Late d')
+        → ((d' : ℕ) → used d' ≡ true → Late d' → mine (numbers d') ≡ []) → (d' : ℕ) → used d' ≡ true → Late' d' → mine' (numbers d') ≡ []
     mine_late Late Late' never before un d' u late = ⊎_elim
         (λ e. absurd (never (subst Late' e late)))
         (λ ne. mine_else d' u ne ∙ un d' u (before d' ne late))
@@ -68,7 +71,8 @@ module _ (f : ℕ → ℕ) (all mine : ℕ → List ℕ) (request number word : 
 abbrev pub NoneBelow : (Micro → Bool) → Section → Type 0
 NoneBelow kind s = (i : ℕ) → i < s.edge → kind (s.code i) ≡ false
 
-module _ (c : CellRules) (w : AgreementState) (old : IsSound c w) (h : History) (exact : IsExact w h) (r : ℕ) (running : (w.run r).running ≡ true) where
+module _ (c : CellRules) (w : AgreementState) (old : IsSound c w) (h : History) (exact : IsExact w h) (r : ℕ)
+    (running : (w.run r).running ≡ true) where
   abbrev q : Run
   q = w.run r
 
@@ -102,8 +106,10 @@ module _ (c : CellRules) (w : AgreementState) (old : IsSound c w) (h : History) 
   none_before : (kind : Micro → Bool) → (d' : ℕ) → d' ≢ d → NoneBelow kind (sections d') → NoneBelow kind (w.section d')
   none_before kind d' ne none = subst (NoneBelow kind) (upd_else w.section d d' _ ne) none
 
-  none_still : is_exchange (s.code q.at) ≡ false → (kind : Micro → Bool) → (d' : ℕ) → NoneBelow kind (sections d') → NoneBelow kind (w.section d')
-  none_still quiet kind d' none i lt = ap (λ (f : ℕ → Micro). kind (f i)) (sym (lasts quiet d').code) ∙ none i (let e = (lasts quiet d').edge in omega arith)
+  none_still : is_exchange (s.code q.at) ≡ false → (kind : Micro → Bool) → (d' : ℕ) → NoneBelow kind (sections d')
+      → NoneBelow kind (w.section d')
+  none_still quiet kind d' none i lt = ap (λ (f : ℕ → Micro). kind (f i)) (sym (lasts quiet d').code)
+      ∙ none i (let e = (lasts quiet d').edge in omega arith)
 
   pub stamp_exact : s.code q.at ≡ micros.StampExchange → IsExact (after w (StampExchange r)) (noted w h (StampExchange r))
   stamp_exact next =
@@ -125,15 +131,20 @@ module _ (c : CellRules) (w : AgreementState) (old : IsSound c w) (h : History) 
         replies = exact.replies;
         stamped_once = mine_once w.shared.stamp h.stamps h.stamped s.request n stamp some (exact.unstamped d used) exact.stamped_once;
         replied_once = exact.replied_once;
-        unstamped = λ d' u z. mine_written w.shared.stamp h.stamps h.stamped s.request n stamp some d w.used h.section (λ d'. (w.section d').request) refl refl apart exact.unstamped d' u
+        unstamped = λ d' u z. mine_written w.shared.stamp h.stamps h.stamped s.request n stamp some d w.used h.section
+            (λ d'. (w.section d').request) refl refl apart exact.unstamped d' u
             (ap (upd w.shared.stamp s.request (written_once (w.shared.stamp s.request) stamp)) (sym (request d')) ∙ z);
         unreplied = λ d' u z. exact.unreplied d' u (ap w.shared.reply (sym (request d')) ∙ z);
-        stamped_late = mine_late w.shared.stamp h.stamps h.stamped s.request n stamp some d w.used h.section (λ d'. (w.section d').request) refl refl apart
-            (λ d'. NoneBelow is_stamp_exchange (w.section d')) (λ d'. NoneBelow is_stamp_exchange (sections d')) (passed is_stamp_exchange (ap is_stamp_exchange next)) (none_before is_stamp_exchange) exact.stamped_late;
+        stamped_late = mine_late w.shared.stamp h.stamps h.stamped s.request n stamp some d w.used h.section
+            (λ d'. (w.section d').request) refl refl apart
+            (λ d'. NoneBelow is_stamp_exchange (w.section d'))
+            (λ d'. NoneBelow is_stamp_exchange (sections d')) (passed is_stamp_exchange (ap is_stamp_exchange next))
+            (none_before is_stamp_exchange) exact.stamped_late;
         replied_late = λ d' u late. exact.replied_late d' u (none_still quiet is_reply_exchange d' late);
       }
 
-  pub reply_exact : (reply : ℕ) → 0 < reply → s.code q.at ≡ micros.ReplyExchange reply → IsExact (after w (ReplyExchange r reply)) (noted w h (ReplyExchange r reply))
+  pub reply_exact : (reply : ℕ) → 0 < reply → s.code q.at ≡ micros.ReplyExchange reply
+      → IsExact (after w (ReplyExchange r reply)) (noted w h (ReplyExchange r reply))
   reply_exact reply some next =
       let n = h.section d in
       let quiet : is_exchange (s.code q.at) ≡ false = ap is_exchange next in
@@ -152,9 +163,13 @@ module _ (c : CellRules) (w : AgreementState) (old : IsSound c w) (h : History) 
         stamped_once = exact.stamped_once;
         replied_once = mine_once w.shared.reply h.replies h.replied s.request n reply some (exact.unreplied d used) exact.replied_once;
         unstamped = λ d' u z. exact.unstamped d' u (ap w.shared.stamp (sym (request d')) ∙ z);
-        unreplied = λ d' u z. mine_written w.shared.reply h.replies h.replied s.request n reply some d w.used h.section (λ d'. (w.section d').request) refl refl apart exact.unreplied d' u
+        unreplied = λ d' u z. mine_written w.shared.reply h.replies h.replied s.request n reply some d w.used h.section
+            (λ d'. (w.section d').request) refl refl apart exact.unreplied d' u
             (ap (upd w.shared.reply s.request (written_once (w.shared.reply s.request) reply)) (sym (request d')) ∙ z);
         stamped_late = λ d' u late. exact.stamped_late d' u (none_still quiet is_stamp_exchange d' late);
-        replied_late = mine_late w.shared.reply h.replies h.replied s.request n reply some d w.used h.section (λ d'. (w.section d').request) refl refl apart
-            (λ d'. NoneBelow is_reply_exchange (w.section d')) (λ d'. NoneBelow is_reply_exchange (sections d')) (passed is_reply_exchange (ap is_reply_exchange next)) (none_before is_reply_exchange) exact.replied_late;
+        replied_late = mine_late w.shared.reply h.replies h.replied s.request n reply some d w.used h.section
+            (λ d'. (w.section d').request) refl refl apart
+            (λ d'. NoneBelow is_reply_exchange (w.section d'))
+            (λ d'. NoneBelow is_reply_exchange (sections d')) (passed is_reply_exchange (ap is_reply_exchange next))
+            (none_before is_reply_exchange) exact.replied_late;
       }

@@ -96,7 +96,9 @@ after w (SetDone r) = let q = w.run r in record w {
   section = upd w.section q.descriptor (record (section_of w r) { done = written_once ((section_of w r).done) 1 });
 }
 after w (Release r place word) = let q = w.run r in let held = held_word q.descriptor word in
-    record (with_cell w place (exchanged (w.shared.cells place) held (next_word held 0))) { run = upd w.run r (record q { released = upd q.released place true }) }
+    record (with_cell w place (exchanged (w.shared.cells place) held (next_word held 0))) {
+      run = upd w.run r (record q { released = upd q.released place true });
+    }
 after w (Finish r) = let q = w.run r in record w {
   run = upd w.run r (record q { running = false });
   over = upd w.over q.descriptor true;
@@ -107,36 +109,47 @@ after w (LoadCell r place log) = reads (goes_on w r (w.shared.cells place)) plac
 after w (Commit r place log) = agrees w r log ((w.run r).word)
 after w (NestedLoad r place log) = reads (goes_on w r (w.shared.cells place)) place
 after w (NestedCommit r place log) = agrees w r log ((w.run r).word)
-after w (NestedHold r place word) = with_cell (goes_on w r ((w.run r).word)) place (exchanged (w.shared.cells place) word (held_word ((w.run r).descriptor) word))
+after w (NestedHold r place word) = with_cell (goes_on w r ((w.run r).word)) place
+    (exchanged (w.shared.cells place) word (held_word ((w.run r).descriptor) word))
 after w (OutcomeLoad r place log) = reads (goes_on w r (w.shared.cells place)) place
 after w (OutcomeCommit r place log) = agrees w r log ((w.run r).word)
 after w (PrivateLoad r cell log place) = reads (goes_on w r (w.shared.cells place)) place
 after w (PrivateStore r cell log value place word) = with_cell (goes_on w r ((w.run r).word)) place word
 after w (MakeCommit r log proposal) = agrees w r log proposal
 after w (ClockLoad r) = goes_on w r (w.shared.clock)
-after w (StampExchange r) = let q = w.run r in let request = (section_of w r).request in let stamp = written_once (w.shared.stamp request) (2 * (q.word + 1)) in
+after w (StampExchange r) = let q = w.run r in let request = (section_of w r).request in
+    let stamp = written_once (w.shared.stamp request) (2 * (q.word + 1)) in
     record (goes_on w r stamp) { shared = record (w.shared) { stamp = upd w.shared.stamp request stamp } }
-after w (ClockRaise r) = record (goes_on w r ((w.run r).word)) { shared = record (w.shared) { clock = max w.shared.clock ((w.run r).word / 2) } }
+after w (ClockRaise r) = record (goes_on w r ((w.run r).word)) {
+  shared = record (w.shared) { clock = max w.shared.clock ((w.run r).word / 2) };
+}
 after w (ExchangeCell r place log value) = let q = w.run r in
     with_cell (goes_on w r q.word) place (exchanged (w.shared.cells place) (q.trail log) (stored_word q.trail log value))
 after w (EpochForRetire r slot log epoch) = goes_on w r epoch
 after w (RetireCommit r slot log) = agrees w r log (suc slot)
 after w (ReplyExchange r reply) = let request = (section_of w r).request in
-    record (goes_on w r ((w.run r).word)) { shared = record (w.shared) { reply = upd w.shared.reply request (written_once (w.shared.reply request) reply) } }
+    record (goes_on w r ((w.run r).word)) {
+      shared = record (w.shared) { reply = upd w.shared.reply request (written_once (w.shared.reply request) reply) };
+    }
 
 -- a run of the section has come to a commit of a word of this cell
 abbrev pub HasCome : Section → ℕ → Type 0
 HasCome s place = (at : ℕ) × (log : ℕ) × (at ≤ s.edge) × (s.code at ≡ micros.Commit place log)
 
+-- the step of its line before which a runner's run stands
+abbrev pub step_of : AgreementState → ℕ → Micro
+step_of w r = (section_of w r).code ((w.run r).at)
+
 -- the runner is in a run that hasn't ended, before this step of its line
 pub record IsBefore (w : AgreementState) (r : ℕ) (micro : Micro) : Type 0 where
   pub running : (w.run r).running ≡ true
   pub going : (w.run r).ended ≡ false
-  pub next : (section_of w r).code ((w.run r).at) ≡ micro
+  pub next : step_of w r ≡ micro
 
 -- a run at this place has taken this lock, free with this word: the outer one, or a nested one that it found to be held
 abbrev pub HasTaken : Section → ℕ → ℕ → ℕ → Type 0
-HasTaken s at place word = ((place ≡ s.lock) × (word ≡ s.word)) ⊎ ((i : ℕ) × (log : ℕ) × (i < at) × (s.code i ≡ micros.CheckHeld place log word))
+HasTaken s at place word = ((place ≡ s.lock) × (word ≡ s.word))
+    ⊎ ((i : ℕ) × (log : ℕ) × (i < at) × (s.code i ≡ micros.CheckHeld place log word))
 
 -- a section that may be published: its line, a descriptor's number whose link is a value, and a free word that can be taken
 pub record IsPublishable (c : CellRules) (d lock word : ℕ) (code : ℕ → Micro) (slot : ℕ → ℕ) : Type 0 where
@@ -161,7 +174,8 @@ IsAlone w d place = (d' : ℕ) → d' ≢ d → IsOpen w d' → HasCome (w.secti
 module _ (c : CellRules) where
   -- when an event may come; what it asks for beside the runner's step is what the machine supplies
   abbrev pub Enabled : AgreementState → Event → Type 0
-  Enabled w (Publish d lock word request code slot) = (w.used d ≡ false) × (w.shared.cells lock ≡ word) × IsPublishable c d lock word code slot
+  Enabled w (Publish d lock word request code slot) = (w.used d ≡ false) × (w.shared.cells lock ≡ word)
+      × IsPublishable c d lock word code slot
       × ((w.section d).done ≡ 0) × ((log : ℕ) → (w.section d).log log ≡ 0)
   Enabled w (RetireDescriptor d) = (w.live d ≡ true) × (w.over d ≡ true)
   Enabled w (Free d) = (w.live d ≡ false) × ((r : ℕ) → (w.run r).running ≡ true → (w.run r).descriptor ≢ d)
@@ -169,10 +183,14 @@ module _ (c : CellRules) where
   Enabled w (StoreDone d word) = w.used d ≡ false
   Enabled w (Read place) = Unit {0}
   Enabled w (Open r d) = ((w.run r).running ≡ false) × (w.used d ≡ true)
-  Enabled w (Pass r) = ((w.run r).running ≡ true) × ((w.run r).ended ≡ false) × (passes c ((w.run r).descriptor) ((w.run r).trail) ((section_of w r).code ((w.run r).at)) ≡ true)
-  Enabled w (SetDone r) = ((w.run r).running ≡ true) × ((w.run r).ended ≡ false) × (is_stop c ((w.run r).descriptor) ((w.run r).trail) ((section_of w r).code ((w.run r).at)) ≡ true)
-  Enabled w (Release r place word) = ((w.run r).running ≡ true) × ((w.run r).ended ≡ true) × HasTaken (section_of w r) ((w.run r).at) place word
-  Enabled w (Finish r) = ((w.run r).running ≡ true) × ((w.run r).ended ≡ true) × ((place word : ℕ) → HasTaken (section_of w r) ((w.run r).at) place word → (w.run r).released place ≡ true)
+  Enabled w (Pass r) = ((w.run r).running ≡ true) × ((w.run r).ended ≡ false)
+      × (passes c ((w.run r).descriptor) ((w.run r).trail) (step_of w r) ≡ true)
+  Enabled w (SetDone r) = ((w.run r).running ≡ true) × ((w.run r).ended ≡ false)
+      × (is_stop c ((w.run r).descriptor) ((w.run r).trail) (step_of w r) ≡ true)
+  Enabled w (Release r place word) = ((w.run r).running ≡ true) × ((w.run r).ended ≡ true)
+      × HasTaken (section_of w r) ((w.run r).at) place word
+  Enabled w (Finish r) = ((w.run r).running ≡ true) × ((w.run r).ended ≡ true)
+      × ((place word : ℕ) → HasTaken (section_of w r) ((w.run r).at) place word → (w.run r).released place ≡ true)
   Enabled w (LoadCell r place log) = IsBefore w r (micros.LoadCell place log)
       × ((w.run r).at ≡ (section_of w r).edge → (section_of w r).done ≡ 0 → IsAlone w ((w.run r).descriptor) place)
   Enabled w (Commit r place log) = IsBefore w r (micros.Commit place log)

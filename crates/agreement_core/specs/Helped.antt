@@ -30,7 +30,8 @@ slot i = cond (nat_lt i 2) 0 1
 
 -- this runner runs its line
 abbrev pub runs_line : ℕ → List Event
-runs_line r = LoadCell r 1 0 ∷ Commit r 1 0 ∷ Pass r ∷ ClockLoad r ∷ StampExchange r ∷ ClockRaise r ∷ ExchangeCell r 1 0 (Fixed 5) ∷ ReplyExchange r 7 ∷ []
+runs_line r = LoadCell r 1 0 ∷ Commit r 1 0 ∷ Pass r ∷ ClockLoad r ∷ StampExchange r ∷ ClockRaise r
+    ∷ ExchangeCell r 1 0 (Fixed 5) ∷ ReplyExchange r 7 ∷ []
 
 -- and ends
 abbrev pub ends : ℕ → List Event

@@ -30,7 +30,15 @@ pub record History : Type 0 where
 
 -- nothing was published or changed
 abbrev pub no_history : History
-no_history = record { published = 0; section = λ d. 0; moved = λ n i. []; stamps = λ q. []; replies = λ q. []; stamped = λ n. []; replied = λ n. [] }
+no_history = record {
+  published = 0;
+  section = λ d. 0;
+  moved = λ n i. [];
+  stamps = λ q. [];
+  replies = λ q. [];
+  stamped = λ n. [];
+  replied = λ n. [];
+}
 
 -- one more, where the exchange found the word that it expected
 abbrev pub with_won : {A : Type 0} → ℕ → ℕ → A → List A → List A
@@ -44,12 +52,14 @@ number_of w h r = h.section ((w.run r).descriptor)
 abbrev pub noted : AgreementState → History → Event → History
 noted w h (Publish d lock word request code slot) = record h { published = suc h.published; section = upd h.section d (suc h.published) }
 noted w h (ExchangeCell r place log value) = let q = w.run r in let n = number_of w h r in record h {
-  moved = upd2 h.moved n q.at (with_won (w.shared.cells place) (q.trail log) (record { place = place; old = q.trail log; new = stored_word q.trail log value }) (h.moved n q.at));
+  moved = upd2 h.moved n q.at (with_won (w.shared.cells place) (q.trail log)
+      (record { place = place; old = q.trail log; new = stored_word q.trail log value }) (h.moved n q.at));
 }
-noted w h (StampExchange r) = let n = number_of w h r in let request = (section_of w r).request in let stamp = 2 * ((w.run r).word + 1) in record h {
-  stamps = upd h.stamps request (with_won (w.shared.stamp request) 0 stamp (h.stamps request));
-  stamped = upd h.stamped n (with_won (w.shared.stamp request) 0 stamp (h.stamped n));
-}
+noted w h (StampExchange r) = let n = number_of w h r in let request = (section_of w r).request in let stamp = 2 * ((w.run r).word + 1) in
+    record h {
+      stamps = upd h.stamps request (with_won (w.shared.stamp request) 0 stamp (h.stamps request));
+      stamped = upd h.stamped n (with_won (w.shared.stamp request) 0 stamp (h.stamped n));
+    }
 noted w h (ReplyExchange r reply) = let n = number_of w h r in let request = (section_of w r).request in record h {
   replies = upd h.replies request (with_won (w.shared.reply request) 0 reply (h.replies request));
   replied = upd h.replied n (with_won (w.shared.reply request) 0 reply (h.replied n));
@@ -94,8 +104,10 @@ pub record IsExact (w : AgreementState) (h : History) : Type 0 where
   pub replied_once : (n : ℕ) → length (h.replied n) ≤ 1
   pub unstamped : (d : ℕ) → w.used d ≡ true → w.shared.stamp (w.section d).request ≡ 0 → h.stamped (h.section d) ≡ []
   pub unreplied : (d : ℕ) → w.used d ≡ true → w.shared.reply (w.section d).request ≡ 0 → h.replied (h.section d) ≡ []
-  pub stamped_late : (d : ℕ) → w.used d ≡ true → ((i : ℕ) → i < (w.section d).edge → is_stamp_exchange ((w.section d).code i) ≡ false) → h.stamped (h.section d) ≡ []
-  pub replied_late : (d : ℕ) → w.used d ≡ true → ((i : ℕ) → i < (w.section d).edge → is_reply_exchange ((w.section d).code i) ≡ false) → h.replied (h.section d) ≡ []
+  pub stamped_late : (d : ℕ) → w.used d ≡ true → ((i : ℕ) → i < (w.section d).edge → is_stamp_exchange ((w.section d).code i) ≡ false)
+      → h.stamped (h.section d) ≡ []
+  pub replied_late : (d : ℕ) → w.used d ≡ true → ((i : ℕ) → i < (w.section d).edge → is_reply_exchange ((w.section d).code i) ≡ false)
+      → h.replied (h.section d) ≡ []
 
 -- a section that is done and answered: its runs came to the end of the line
 pub record HasAnswered (s : Section) : Type 0 where

@@ -1,9 +1,10 @@
 -- A section's log and the plain run of its body.
-use Rattle.std.specs.Prelude.{ℕ, zero, suc, ◌-◌, ◌<◌, ◌≡◌, ◌≢◌, List, [], false, take, None}
+use Rattle.std.specs.Prelude.{ℕ, zero, suc, ◌-◌, ◌<◌, ◌≡◌, ◌≢◌, List, [], false, take, Some, None}
 use Rattle.section_body.specs.Update.{upd}
 use Rattle.section_body.specs.Line.{line, micro_at, committed}
 use Rattle.section_body.specs.Shape.{IsShaped}
-use Rattle.section_body.specs.Run.{Setting, Run, ran}
+use Rattle.section_body.specs.Run.{Setting, Run, leaves, ran}
+use Rattle.section_body.specs.declared.outcome.Outcome.{Outcome}
 use Rattle.section_body.specs.declared.step.Step.{Step}
 use Rattle.section_body.specs.declared.micro.Micro.{Micro}
 use Rattle.section_body.specs.declared.micro.Micro.TheVariants.{Commit}
@@ -48,7 +49,16 @@ loaded_cells code log (suc n) = with_loaded log (loaded_cells code log n) (code 
 
 -- a run that begins over the words that a section has loaded
 abbrev pub start_over : Section → Run
-start_over s = record { cells = loaded_cells s.code s.log s.edge; clock = 0; stamp = 0; reply = 0; trail = []; made = []; retired = []; outcome = None }
+start_over s = record {
+  cells = loaded_cells s.code s.log s.edge;
+  clock = 0;
+  stamp = 0;
+  reply = 0;
+  trail = [];
+  made = [];
+  retired = [];
+  outcome = None;
+}
 
 -- what was agreed is the trail of the plain run as far as its runs have come, and the whole run's trail begins with it; once the
 -- section is done it is the whole run's trail
@@ -56,3 +66,6 @@ pub record FollowsPlainRun (s : Section) (body : List Step) (setting : Setting) 
   pub so_far : (ran setting start (take s.edge (line body))).trail ≡ agreed (line body) s.log s.edge
   pub prefix : take (committed (line body) s.edge) (ran setting start (line body)).trail ≡ agreed (line body) s.log s.edge
   pub whole : s.done ≢ 0 → (ran setting start (line body)).trail ≡ agreed (line body) s.log s.edge
+  -- where the section stands at a check by which the run leaves, the whole run leaves there
+  pub exit : (outcome : Outcome) → leaves setting (agreed (line body) s.log s.edge) (micro_at (line body) s.edge) ≡ Some outcome
+      → (ran setting start (line body)).outcome ≡ Some outcome

@@ -39,8 +39,10 @@ pub record AreEqual (f f' : Finished) : Type 0 where
 -- the runs that came to their end
 pub record FinishedAreSound (w : AgreementState) : Type 0 where
   pub past : (r i : ℕ) → i < w.finishes r → version_of ((w.finished r i).word) < version_of (w.shared.cells ((w.finished r i).lock))
-  pub whole : (r i d : ℕ) → i < w.finishes r → w.used d ≡ true → IsOf (w.finished r i) (w.section d) → IsWhole d (w.section d) (w.finished r i)
-  pub equal : (r i r' i' : ℕ) → i < w.finishes r → i' < w.finishes r' → AreOfOne (w.finished r i) (w.finished r' i') → AreEqual (w.finished r i) (w.finished r' i')
+  pub whole : (r i d : ℕ) → i < w.finishes r → w.used d ≡ true → IsOf (w.finished r i) (w.section d)
+      → IsWhole d (w.section d) (w.finished r i)
+  pub equal : (r i r' i' : ℕ) → i < w.finishes r → i' < w.finishes r' → AreOfOne (w.finished r i) (w.finished r' i')
+      → AreEqual (w.finished r i) (w.finished r' i')
 
 -- what holds of a descriptor that was published since it was last free, by whether it is not retired and whether a run of it came to
 -- its end
@@ -66,5 +68,6 @@ module _ (c : CellRules) where
     -- no two open sections have come to one place
     pub apart : (d d' p : ℕ) → d ≢ d' → IsOpen w d → IsOpen w d' → HasCome (w.section d) p → HasCome (w.section d') p → ⊥
     -- no two sections have the same lock and the same word
-    pub single : (d d' : ℕ) → w.used d ≡ true → w.used d' ≡ true → (w.section d).lock ≡ (w.section d').lock → (w.section d).word ≡ (w.section d').word → d ≡ d'
+    pub single : (d d' : ℕ) → w.used d ≡ true → w.used d' ≡ true → (w.section d).lock ≡ (w.section d').lock
+        → (w.section d).word ≡ (w.section d').word → d ≡ d'
     pub finished : FinishedAreSound w

@@ -8,23 +8,38 @@ use Rattle.agreement_core.specs.Checks.{is_stop, stored_word}
 use Rattle.agreement_core.specs.Sections.{HoldsWith}
 
 -- the section has agreed on the word at this place of its log, which its line loads from this cell
-abbrev pub HasLoaded : Section → ℕ → ℕ → Type 0
-HasLoaded s place log = (i : ℕ) × (i < s.edge) × (s.code i ≡ Commit place log)
+pub record HasLoaded (s : Section) (place log : ℕ) : Type 0 where
+  pub at : ℕ
+  pub passed : at < s.edge
+  pub step : s.code at ≡ Commit place log
 
 -- the section has stored this word to this cell, where the other one was agreed
-abbrev pub HasStored : Section → ℕ → ℕ → ℕ → Type 0
-HasStored s place agreed word = (i : ℕ) × (log : ℕ) × (v : Source) × (i < s.edge) × (s.code i ≡ ExchangeCell place log v) × (agreed ≡ s.log log) × (word ≡ stored_word s.log log v)
+pub record HasStored (s : Section) (place agreed word : ℕ) : Type 0 where
+  pub at : ℕ
+  pub log : ℕ
+  pub value : Source
+  pub passed : at < s.edge
+  pub step : s.code at ≡ ExchangeCell place log value
+  pub old : agreed ≡ s.log log
+  pub new : word ≡ stored_word s.log log value
 
--- the section has agreed on this outcome of its Take of this lock, which was free with this word
-abbrev pub HasOutcome : Section → ℕ → ℕ → ℕ → Type 0
-HasOutcome s place free outcome = (i : ℕ) × (log : ℕ) × (suc (suc i) < s.edge) × (s.code i ≡ NestedHold place free) × (s.code (suc (suc i)) ≡ OutcomeCommit place log) × (outcome ≡ s.log log)
+-- the section has agreed on this outcome of its Take of this lock, which is expected to be free with this word
+pub record HasOutcome (s : Section) (place free outcome : ℕ) : Type 0 where
+  pub at : ℕ
+  pub log : ℕ
+  pub passed : suc (suc at) < s.edge
+  pub hold : s.code at ≡ NestedHold place free
+  pub commit : s.code (suc (suc at)) ≡ OutcomeCommit place log
+  pub agreed : outcome ≡ s.log log
 
 -- a cell that a section has loaded holds the agreed word, or what the section has stored there, until it is done
 pub record CellsStand (w : AgreementState) (d : ℕ) : Type 0 where
-  pub loaded : IsOpen w d → (p k : ℕ) → HasLoaded (w.section d) p k → ((agreed word : ℕ) → HasStored (w.section d) p agreed word → ⊥) → w.shared.cells p ≡ (w.section d).log k
+  pub loaded : IsOpen w d → (p k : ℕ) → HasLoaded (w.section d) p k → ((agreed word : ℕ) → HasStored (w.section d) p agreed word → ⊥)
+      → w.shared.cells p ≡ (w.section d).log k
   pub stored : IsOpen w d → (p agreed word : ℕ) → HasStored (w.section d) p agreed word → w.shared.cells p ≡ word
   -- a stored word stands, or a later version, from then on
-  pub lasting : (p agreed word : ℕ) → HasStored (w.section d) p agreed word → (w.shared.cells p ≡ word) ⊎ (version_of word < version_of (w.shared.cells p))
+  pub lasting : (p agreed word : ℕ) → HasStored (w.section d) p agreed word
+      → (w.shared.cells p ≡ word) ⊎ (version_of word < version_of (w.shared.cells p))
 
 module _ (c : CellRules) where
   -- locks name sections that are published and not retired
@@ -41,9 +56,11 @@ module _ (c : CellRules) where
     -- once it is agreed the lock is past the expected word, so that no run of the section takes it later
     pub past : (p free outcome : ℕ) → HasOutcome (w.section d) p free outcome → version_of free < version_of (w.shared.cells p)
     -- a lock that was agreed to be held has that word until the section is done
-    pub held : IsOpen w d → (p free outcome : ℕ) → HasOutcome (w.section d) p free outcome → outcome ≡ held_word d free → w.shared.cells p ≡ outcome
+    pub held : IsOpen w d → (p free outcome : ℕ) → HasOutcome (w.section d) p free outcome → outcome ≡ held_word d free
+        → w.shared.cells p ≡ outcome
     -- a lock whose outcome is another doesn't name the section
-    pub refused : (p free outcome : ℕ) → HasOutcome (w.section d) p free outcome → outcome ≢ held_word d free → value_of (w.shared.cells p) ≢ suc d
+    pub refused : (p free outcome : ℕ) → HasOutcome (w.section d) p free outcome → outcome ≢ held_word d free
+        → value_of (w.shared.cells p) ≢ suc d
 
   -- a section is done only after each exchange of its line up to where its runs stop
   pub record IsDoneLate (w : AgreementState) (d : ℕ) : Type 0 where

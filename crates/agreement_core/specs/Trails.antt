@@ -24,6 +24,8 @@ pub record RunsAgree (w : AgreementState) : Type 0 where
   -- the trail of each run in progress
   pub trails : (r : ℕ) → (w.run r).running ≡ true → IsPrefix (section_of w r) (w.run r) (agreed_count (section_of w r))
   -- the trail of each run that came to its end is the whole log, until the descriptor is free again
-  pub whole : (r i d : ℕ) → i < w.finishes r → w.used d ≡ true → IsOf (w.finished r i) (w.section d) → IsWhole d (w.section d) (w.finished r i)
+  pub whole : (r i d : ℕ) → i < w.finishes r → w.used d ≡ true → IsOf (w.finished r i) (w.section d)
+      → IsWhole d (w.section d) (w.finished r i)
   -- and any two of one section are equal, for good
-  pub equal : (r i r' i' : ℕ) → i < w.finishes r → i' < w.finishes r' → AreOfOne (w.finished r i) (w.finished r' i') → AreEqual (w.finished r i) (w.finished r' i')
+  pub equal : (r i r' i' : ℕ) → i < w.finishes r → i' < w.finishes r' → AreOfOne (w.finished r i) (w.finished r' i')
+      → AreEqual (w.finished r i) (w.finished r' i')
