@@ -20,7 +20,7 @@ use Rattle.agreement_core.proofs.Moving.{run_moves, changed}
 use Rattle.agreement_core.proofs.LineSteps.{pass_sound}
 use Rattle.agreement_core.proofs.Lines.{stop_same}
 
-upd_same_at : {A : Type 0} → (f : ℕ → A) (k : ℕ) (v : A) → v ≡ f k → (i : ℕ) → upd f k v i ≡ f i
+pub upd_same_at : {A : Type 0} → (f : ℕ → A) (k : ℕ) (v : A) → v ≡ f k → (i : ℕ) → upd f k v i ≡ f i
 upd_same_at f k v e i = ⊎_elim (λ q. ap (upd f k v) q ∙ upd_here f k v ∙ e ∙ ap f (sym q)) (λ ne. upd_else f k i v ne) (cases_eq i k)
 
 pub upd_same : {A : Type 0} → (f : ℕ → A) (k : ℕ) → upd f k (f k) ≡ f

@@ -26,6 +26,7 @@ pub mod Recording
 pub mod Lasting
 pub mod Continuing
 pub mod PlainRuns
+pub mod Late
 pub mod HelpedLine
 pub mod Helping
 pub mod Standing

@@ -39,7 +39,7 @@ same_reply n n' e = grind arith
 free_passes : (c : CellRules) (d : ℕ) (log : ℕ → ℕ) (p k free : ℕ) → passes c d log (micros.CheckFree p k free) ≡ true → log k ≡ free
 free_passes c d log p k free h = grind arith
 
-above : (a b : ℕ) → version_of a < version_of b → b ≢ a
+pub above : (a b : ℕ) → version_of a < version_of b → b ≢ a
 above a b lt e = let same : version_of b ≡ version_of a = ap version_of e in never _ _ lt same
   where
     never : (m n : ℕ) → m < n → n ≡ m → ⊥

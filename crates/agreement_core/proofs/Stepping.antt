@@ -24,7 +24,7 @@ use Rattle.agreement_core.proofs.Moving.{run_moves, changed}
 use Rattle.agreement_core.proofs.Lines.{event_goes, load_of_commit}
 
 -- where the edge is after a step
-late_edge : (edge n : ℕ) → n < edge → cond (nat_lt edge (suc n)) (suc n) edge ≡ edge
+pub late_edge : (edge n : ℕ) → n < edge → cond (nat_lt edge (suc n)) (suc n) edge ≡ edge
 late_edge edge n lt = grind arith
 
 pub lead_edge : (edge n : ℕ) → n ≡ edge → cond (nat_lt edge (suc n)) (suc n) edge ≡ suc edge

@@ -9,6 +9,7 @@ pub mod Schedules
 pub mod Trails
 pub mod Rising
 pub mod Standing
+pub mod Late
 pub mod Continuing
 pub mod Frame
 pub mod History

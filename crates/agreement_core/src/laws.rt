@@ -1,5 +1,5 @@
 //! The laws of agreement, each on a contract.
-ghost use Rattle.std.specs.Prelude.{◌≡◌, ◌≢◌, ◌⊎◌, ℕ, true, List};
+ghost use Rattle.std.specs.Prelude.{◌≡◌, ◌≢◌, ◌⊎◌, ℕ, true, List, Some};
 ghost use Rattle.agreement_core.specs.State.{CellRules, AgreementState, section_of};
 ghost use Rattle.agreement_core.specs.Events.{Event, Release, HasTaken, Enabled, after};
 ghost use Rattle.agreement_core.specs.Sound.{IsSound};
@@ -8,6 +8,7 @@ ghost use Rattle.agreement_core.specs.Trails.{RunsAgree};
 ghost use Rattle.agreement_core.specs.Rising.{RiseByOne, IsNotFuture};
 ghost use Rattle.agreement_core.specs.Continuing.{SectionsGoOn};
 ghost use Rattle.agreement_core.specs.Standing.{CellsStand, LocksStand, TakesStand, IsDoneLate};
+ghost use Rattle.agreement_core.specs.Late.{stepper, IsLate, IsUnchanged, LocksStay};
 ghost use Rattle.agreement_core.specs.Frame.{IsSame};
 ghost use Rattle.section_body.specs.Run.{Run};
 ghost use Rattle.section_body.specs.declared.step.Step.{Step};
@@ -40,6 +41,13 @@ pub fn agreed_words_stand()
     ensures { (c : CellRules) (w : AgreementState) (e : Event) → Enabled c w e → SectionsGoOn w (after w e) }
 {}
 
+/// A step of a run that is behind the furthest one of its section changes no cell, clock, stamp or reply, and nothing in any
+/// section.
+pub fn late_runs_change_nothing()
+    ensures { (c : CellRules) (w : AgreementState) (e : Event) (r : ℕ) → Enabled c w e → IsSound c w → stepper e ≡ Some r → IsLate w r
+        → IsUnchanged w (after w e) }
+{}
+
 /// An event changes no cell, or raises its version by exactly one. A word that was read isn't from the future.
 pub fn versions_rise_by_one()
     ensures rise { (c : CellRules) (w : AgreementState) (e : Event) → Enabled c w e → IsSound c w → RiseByOne w (after w e) }
@@ -53,10 +61,12 @@ pub fn loaded_cells_stand()
 {}
 
 /// A lock word that names a descriptor names a section that is published and isn't retired, with the held word of a lock of
-/// that section. A section is done only behind the exchanges of its line, and only a run that has set it done releases a lock.
+/// that section. A section is done only behind the exchanges of its line. No event changes a lock that an open section holds, so
+/// only a run that has set it done releases a lock.
 pub fn locks_name_live_sections()
     ensures named { (c : CellRules) (w : AgreementState) → IsSound c w → LocksStand c w }
     ensures done { (c : CellRules) (w : AgreementState) (d : ℕ) → IsSound c w → w.used d ≡ true → (w.section d).done ≢ 0 → IsDoneLate c w d }
+    ensures stay { (c : CellRules) (w : AgreementState) (e : Event) → Enabled c w e → IsSound c w → LocksStay c w (after w e) }
     ensures released { (c : CellRules) (w : AgreementState) (r place word : ℕ) → IsSound c w → Enabled c w (Release r place word)
         → (section_of w r).done ≢ 0 }
 {}

@@ -8,7 +8,7 @@ mod laws;
 
 pub use laws::{
     a_section_is_helped, agreed_words_stand, changes_elsewhere_keep_the_invariant,
-    effects_happen_once, events_keep_the_invariant, loaded_cells_stand, locks_name_live_sections,
-    logs_follow_plain_runs, runs_agree, schedules_meet_the_invariant, takes_agree,
-    the_history_lasts, versions_rise_by_one,
+    effects_happen_once, events_keep_the_invariant, late_runs_change_nothing, loaded_cells_stand,
+    locks_name_live_sections, logs_follow_plain_runs, runs_agree, schedules_meet_the_invariant,
+    takes_agree, the_history_lasts, versions_rise_by_one,
 };
