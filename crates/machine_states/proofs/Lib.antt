@@ -1,3 +1,6 @@
 pub mod Firsts
 pub mod Runs
 pub mod Steps
+pub mod Sights
+pub mod Updates
+pub mod FirstSights

@@ -1,3 +1,4 @@
 pub mod World
 pub mod First
 pub mod Schedules
+pub mod Sight

@@ -3,6 +3,7 @@ use Rattle.std.proofs.lemmas.List.{take_more}
 use Rattle.runner_steps.specs.declared.event.Event.{Event}
 use Rattle.machine_states.specs.World.{happens}
 use Rattle.machine_states.proofs.Runs.{run_more}
+use Rattle.machine_joins.proofs.Reached.{sound_after}
 use Rattle.interleave_core.proofs.schedules.all_schedules.Goals as goal
 
 pub loop-at-preserved : goal.loop-at-preserved
@@ -21,3 +22,6 @@ loop-at-preserved g c =
       so_far = rw more (run_more m begun.layout begun.requests (take c.loop-at.at c.args.events.now) (get_or c.args.events.now c.loop-at.at e) begun.world c.loop-at.machine.world c.step.new.self.world
           inv.so_far (ap (λ (x : Event). happens m begun.layout begun.requests c.loop-at.machine.world x) (sym c.index-events-at.is) ∙ stepped));
     }
+
+pub returns-clause-epochs : goal.returns-clause-epochs
+returns-clause-epochs g c = sound_after (g.S.Structure.meaning c.args.structure) c.args.layout c.args.requests.now c.args.events.now c.loop-at.machine.world
