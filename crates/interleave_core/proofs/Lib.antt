@@ -1,3 +1,4 @@
 pub mod Firsts
+pub mod Reached
 pub mod Runs
 pub mod Steps

@@ -3,3 +3,4 @@ pub mod Parts
 pub mod Machine
 pub mod First
 pub mod Schedules
+pub mod Reached
