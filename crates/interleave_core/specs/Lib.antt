@@ -4,3 +4,5 @@ pub mod Machine
 pub mod First
 pub mod Schedules
 pub mod Reached
+pub mod Local
+pub mod Enabled
