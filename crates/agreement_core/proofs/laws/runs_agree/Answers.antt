@@ -1,0 +1,7 @@
+use Rattle.agreement_core.specs.Schedules.{first_state}
+use Rattle.agreement_core.proofs.Keeping.{first, keeps_all}
+use Rattle.agreement_core.proofs.Standing.{agree}
+use Rattle.agreement_core.proofs.laws.runs_agree.Goals as goal
+
+pub returns : goal.returns
+returns c = λ rules cells es start ok. agree rules _ (keeps_all rules (first_state cells) es ok (first rules cells start))
