@@ -28,7 +28,7 @@ falling_next from n count below xs h is =
     let rest : count - (below + 1) ≡ n = omega arith in
     append_assoc xs _ _ ∙ rw (one, rest) refl
 
-length_workers : (m : Meaning) (l : Layout) (n : ℕ) → length (workers m l n) ≡ n
+pub length_workers : (m : Meaning) (l : Layout) (n : ℕ) → length (workers m l n) ≡ n
 length_workers m l zero = refl
 length_workers m l (suc n) = length-append (workers m l n) (worker_part m l n ∷ []) ∙ (let h = length_workers m l n in omega arith)
 

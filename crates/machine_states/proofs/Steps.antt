@@ -38,7 +38,7 @@ fit_if s y x true e h = let same : y ≡ x = cc in subst (λ (z : Spot × Access
 fit_if s y x false e h = absurd (some_none x h)
 
 -- what fits is a word of the table
-fitting_fits : (s : Sizes) (a : Ask) (x : Spot × Access) → fitting s a ≡ Some x → Fits s x.0
+pub fitting_fits : (s : Sizes) (a : Ask) (x : Spot × Access) → fitting s a ≡ Some x → Fits s x.0
 fitting_fits s None x h = absurd (some_none x h)
 fitting_fits s (Some y) x h = fit_if s y x (fits s y.0) refl h
 

@@ -1,3 +1,5 @@
 pub mod World
 pub mod First
 pub mod Schedules
+pub mod Sight
+pub mod Reached

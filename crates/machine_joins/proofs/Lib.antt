@@ -1,0 +1,5 @@
+pub mod OutsideAsked
+pub mod Elsewhere
+pub mod Entering
+pub mod Entries
+pub mod Reached

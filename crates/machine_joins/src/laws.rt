@@ -1,0 +1,16 @@
+//! The laws of the machine's states, each on a contract.
+ghost use Rattle.std.specs.Prelude.{List};
+ghost use Rattle.map_history.specs.declared.op.Request.{Request};
+ghost use Rattle.table_words.specs.declared.layout.Layout.{Layout};
+ghost use Rattle.runner_steps.specs.declared.event.Event.{Event};
+ghost use Rattle.machine_states.specs.World.{World};
+ghost use Rattle.machine_joins.specs.Epochs.{SoundAfter};
+
+use runner_steps::Structure;
+
+/// After every list of enabled events an announced epoch is at most the epoch, a runner that entered with g is at g or g + 1, and
+/// where a scanner found an announcement idle or of its epoch and that is still the epoch, its runner entered with it if it is
+/// entered.
+pub fn epochs_are_sound<S: Structure>(structure: &S)
+    ensures { (layout : Layout) (requests : List Request) (events : List Event) (w : World) → SoundAfter (S.meaning structure.now) layout requests events w }
+{}
