@@ -1,12 +1,13 @@
 -- Each event leaves every published section as it is, but for one more word, one more place, or the done word.
-use Rattle.std.proofs.Common.{◌≡◌, ◌≢◌, ℕ, suc, false, refl, sym, ap, ◌∙◌, subst, arith}
+use Rattle.std.proofs.Common.{◌<◌, ◌≤◌, ◌≡◌, ◌≢◌, ℕ, suc, false, refl, sym, ap, ◌∙◌, subst, arith}
 use Rattle.section_body.specs.Update.{upd}
 use Rattle.section_body.specs.Run.{written_once}
-use Rattle.agreement_core.specs.State.{CellRules, Section, AgreementState, section_of}
+use Rattle.agreement_core.specs.State.{CellRules, Section, Finished, AgreementState, section_of}
+use Rattle.agreement_core.specs.Update.{upd2}
 use Rattle.agreement_core.specs.Checks.{came}
 use Rattle.agreement_core.specs.Events.{Event, Enabled, after}
 use Rattle.agreement_core.specs.Events.{Publish, RetireDescriptor, Free, StoreLog, StoreDone, Read, Open, Pass, SetDone, Release, Finish, LoadCell, Commit, NestedLoad, NestedCommit, NestedHold, OutcomeLoad, OutcomeCommit, PrivateLoad, PrivateStore, MakeCommit, ClockLoad, StampExchange, ClockRaise, ExchangeCell, EpochForRetire, RetireCommit, ReplyExchange}
-use Rattle.agreement_core.specs.Continuing.{GoesOn, SectionsGoOn}
+use Rattle.agreement_core.specs.Continuing.{GoesOn, SectionsGoOn, RecordsStand}
 use Rattle.agreement_core.proofs.Frame.{not_both}
 use Rattle.agreement_core.proofs.Committing.{upd_else}
 use Rattle.agreement_core.proofs.Moving.{upd_split}
@@ -109,3 +110,21 @@ module _ (c : CellRules) where
   goes_on_all w (EpochForRetire r slot log epoch) ok = came_goes w r
   goes_on_all w (RetireCommit r slot log) ok = agrees_goes w r log _
   goes_on_all w (ReplyExchange r reply) ok = came_goes w r
+
+-- no record is kept anew
+none_kept : (w w' : AgreementState) → w'.finishes ≡ w.finishes → w'.finished ≡ w.finished → RecordsStand w w'
+none_kept w w' count same = record {
+  more = λ r. subst (λ (f : ℕ → ℕ). w.finishes r ≤ f r) (sym count) (omega arith);
+  same = λ r i lt. ap (λ (f : ℕ → ℕ → Finished). f r i) same;
+}
+
+kept_more : (f : ℕ → ℕ) (r r' : ℕ) → f r' ≤ upd f r (suc (f r)) r'
+kept_more f r r' = grind arith
+
+kept_same : (finishes : ℕ → ℕ) (finished : ℕ → ℕ → Finished) (r : ℕ) (new : Finished) (r' i : ℕ) → i < finishes r'
+    → upd2 finished r (finishes r) new r' i ≡ finished r' i
+kept_same finishes finished r new r' i lt = grind arith
+
+pub records_stand : (w : AgreementState) (e : Event) → RecordsStand w (after w e)
+records_stand w (Finish r) = record { more = kept_more w.finishes r; same = kept_same w.finishes w.finished r _ }
+records_stand w e = none_kept w (after w e) refl refl

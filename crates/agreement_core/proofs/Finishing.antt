@@ -1,6 +1,7 @@
 -- A run is over, and its record is kept.
-use Rattle.std.proofs.Common.{◌≡◌, ◌≢◌, ℕ, suc, ◌<◌, true, false, refl, sym, ap, ◌∙◌, subst, inl, inr, ⊎_elim, arith}
+use Rattle.std.proofs.Common.{Bool, ◌≡◌, ◌≢◌, ℕ, suc, ◌<◌, true, false, refl, sym, ap, ◌∙◌, subst, inl, inr, ⊎_elim, arith}
 use Rattle.std.proofs.lemmas.Bool.{cases_lt, cases_eq}
+use Rattle.section_body.specs.Update.{upd}
 use Rattle.section_body.specs.Line.{is_event}
 use Rattle.section_body.specs.Word.{value_of, version_of, held_word}
 use Rattle.section_body.specs.declared.micro.Micro.TheVariants as micros
@@ -30,6 +31,9 @@ upd2_else f r s v j ne = grind arith
 
 upd2_here : (f : ℕ → ℕ → Finished) (r s : ℕ) (v : Finished) → upd2 f r s v r s ≡ v
 upd2_here f r s v = grind arith
+
+stays_over : (over : ℕ → Bool) (d d' : ℕ) → over d' ≡ true → upd over d true d' ≡ true
+stays_over over d d' h = grind arith
 
 -- two runs that came to their end of this section
 both_whole : (d : ℕ) (s : Section) (f f' : Finished) → IsWhole d s f → IsWhole d s f' → AreEqual f f'
@@ -167,6 +171,14 @@ module _ (c : CellRules) (w : AgreementState) (old : IsSound c w) (r : ℕ) (ok 
       subst (IsWhole d' (w.section d')) (sym e) (old.finished.whole r' i d' lt u
       (record { lock = ap (λ (g : Finished). g.lock) (sym e) ∙ is.lock; word = ap (λ (g : Finished). g.word) (sym e) ∙ is.word }))
 
+  ended : (f : Finished) → IsKept f → (d' : ℕ) → w.used d' ≡ true → IsOf f (w.section d') → w'.over d' ≡ true
+  ended f (now e) d' u is =
+      let same : d ≡ d' = old.single d d' used u (ap (λ (g : Finished). g.lock) (sym e) ∙ is.lock)
+      (ap (λ (g : Finished). g.word) (sym e) ∙ is.word) in
+      ap w'.over (sym same) ∙ upd_here w.over d true
+  ended f (before r' i lt e) d' u is = stays_over w.over d d' (old.finished.ended r' i d' lt u
+      (record { lock = ap (λ (g : Finished). g.lock) (sym e) ∙ is.lock; word = ap (λ (g : Finished). g.word) (sym e) ∙ is.word }))
+
   -- a kept run of this run's section has the whole log
   whole_own : (f : Finished) → IsKept f → f.lock ≡ new.lock → f.word ≡ new.word → IsWhole d s f
   whole_own f k lock word = whole f k d used (record { lock = lock; word = word })
@@ -197,6 +209,7 @@ module _ (c : CellRules) (w : AgreementState) (old : IsSound c w) (r : ℕ) (ok 
     single = old.single;
     finished = record {
       past = λ r' i lt. past _ (kept r' i lt);
+      ended = λ r' i d' lt u is. ended _ (kept r' i lt) d' u is;
       whole = λ r' i d' lt u is. whole _ (kept r' i lt) d' u is;
       equal = λ r1 i1 r2 i2 lt1 lt2 one. equal _ _ (kept r1 i1 lt1) (kept r2 i2 lt2) one;
     };

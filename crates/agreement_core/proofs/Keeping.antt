@@ -65,6 +65,7 @@ module _ (c : CellRules) where
     single = λ d1 d2 u1. absurd (not_both _ u1 refl);
     finished = record {
       past = λ r i lt. absurd (omega arith);
+      ended = λ r i d lt. absurd (omega arith);
       whole = λ r i d lt. absurd (omega arith);
       equal = λ r i r' i' lt. absurd (omega arith);
     };

@@ -53,12 +53,17 @@ module _ (c : CellRules) (w : AgreementState) (old : IsSound c w) (r : ℕ) (run
   goes_section = upd_same_at w.section q.descriptor (came s (suc q.at)) (same_edge s.log refl)
 
   agrees_section : q.ended ≡ false → (log proposal : ℕ) → log ≡ s.slot q.at → is_commit (s.code q.at) ≡ true
-      → (d : ℕ) → upd w.section q.descriptor (came (record s { log = upd s.log log (written_once (s.log log) proposal) }) (suc q.at)) d ≡ w.section d
+      → (d : ℕ) → upd w.section q.descriptor (came (record s { log = upd s.log log (written_once (s.log log) proposal) })
+      (suc q.at)) d ≡ w.section d
   agrees_section going log proposal here commit = upd_same_at w.section q.descriptor _
       (same_edge _ (fun_ext (upd_found s.log log _ (found_late c w old r running going log proposal here commit late))))
 
   -- a step that changes no shared word
-  goes_nothing : (word : ℕ) → IsUnchanged w (record w { section = upd w.section q.descriptor (came s (suc q.at)); run = upd w.run r (record q { at = suc q.at; word = word }) })
+  goes_nothing : (word : ℕ)
+      → IsUnchanged w (record w {
+        section = upd w.section q.descriptor (came s (suc q.at));
+        run = upd w.run r (record q { at = suc q.at; word = word });
+      })
   goes_nothing word = record { cells = λ p. refl; clock = refl; stamp = λ n. refl; reply = λ n. refl; section = goes_section }
 
   hold_nothing : (place free : ℕ) → Enabled c w (NestedHold r place free) → IsUnchanged w (after w (NestedHold r place free))
@@ -72,7 +77,8 @@ module _ (c : CellRules) (w : AgreementState) (old : IsSound c w) (r : ℕ) (run
         section = goes_section;
       }
 
-  store_nothing : (place log : ℕ) (v : Source) → Enabled c w (ExchangeCell r place log v) → IsUnchanged w (after w (ExchangeCell r place log v))
+  store_nothing : (place log : ℕ) (v : Source) → Enabled c w (ExchangeCell r place log v)
+      → IsUnchanged w (after w (ExchangeCell r place log v))
   store_nothing place log v ok = record {
     cells = upd_found w.shared.cells place _ (exchange_fails _ _ _ (store_misses c w old r place log v running ok.next late));
     clock = refl;
@@ -84,12 +90,24 @@ module _ (c : CellRules) (w : AgreementState) (old : IsSound c w) (r : ℕ) (run
   stamp_nothing : Enabled c w (StampExchange r) → IsUnchanged w (after w (StampExchange r))
   stamp_nothing ok =
       let some = own.section.in_request.stamped q.at late (ap is_stamp_exchange ok.next) in
-      record { cells = λ p. refl; clock = refl; stamp = upd_found w.shared.stamp s.request _ (written _ _ some); reply = λ n. refl; section = goes_section }
+      record {
+        cells = λ p. refl;
+        clock = refl;
+        stamp = upd_found w.shared.stamp s.request _ (written _ _ some);
+        reply = λ n. refl;
+        section = goes_section;
+      }
 
   reply_nothing : (reply : ℕ) → Enabled c w (ReplyExchange r reply) → IsUnchanged w (after w (ReplyExchange r reply))
   reply_nothing reply ok =
       let some = own.section.in_request.replied q.at late (ap is_reply_exchange ok.next) in
-      record { cells = λ p. refl; clock = refl; stamp = λ n. refl; reply = upd_found w.shared.reply s.request _ (written _ _ some); section = goes_section }
+      record {
+        cells = λ p. refl;
+        clock = refl;
+        stamp = λ n. refl;
+        reply = upd_found w.shared.reply s.request _ (written _ _ some);
+        section = goes_section;
+      }
 
   raise_nothing : Enabled c w (ClockRaise r) → IsUnchanged w (after w (ClockRaise r))
   raise_nothing ok =
@@ -108,40 +126,67 @@ module _ (c : CellRules) (w : AgreementState) (old : IsSound c w) (r : ℕ) (run
       → ((n : ℕ) → w'.shared.stamp n ≡ w.shared.stamp n) → ((n : ℕ) → w'.shared.reply n ≡ w.shared.reply n)
       → w'.section ≡ upd w.section q.descriptor (came s (suc q.at)) → IsUnchanged w w'
   plain_nothing w' cells clock stamp reply section =
-      record { cells = cells; clock = clock; stamp = stamp; reply = reply; section = λ d. ap (λ (f : ℕ → Section). f d) section ∙ goes_section d }
+      record {
+        cells = cells;
+        clock = clock;
+        stamp = stamp;
+        reply = reply;
+        section = λ d. ap (λ (f : ℕ → Section). f d) section ∙ goes_section d;
+      }
 
-  commit_nothing : q.ended ≡ false → (log proposal : ℕ) → log ≡ s.slot q.at → is_commit (s.code q.at) ≡ true → IsUnchanged w (agrees w r log proposal)
+  commit_nothing : q.ended ≡ false → (log proposal : ℕ) → log ≡ s.slot q.at → is_commit (s.code q.at) ≡ true
+      → IsUnchanged w (agrees w r log proposal)
   commit_nothing going log proposal here commit =
-      record { cells = λ p. refl; clock = refl; stamp = λ n. refl; reply = λ n. refl; section = agrees_section going log proposal here commit }
+      record {
+        cells = λ p. refl;
+        clock = refl;
+        stamp = λ n. refl;
+        reply = λ n. refl;
+        section = agrees_section going log proposal here commit;
+      }
 
 module _ (c : CellRules) where
   -- the places in the log of the commits of a line
-  own_line : (w : AgreementState) → IsSound c w → (r : ℕ) → (w.run r).running ≡ true → UsedIsSound c w.shared (w.live ((w.run r).descriptor)) (w.over ((w.run r).descriptor)) ((w.run r).descriptor) (section_of w r)
+  own_line : (w : AgreementState) → IsSound c w → (r : ℕ) → (w.run r).running ≡ true
+      → UsedIsSound c w.shared (w.live ((w.run r).descriptor)) (w.over ((w.run r).descriptor)) ((w.run r).descriptor) (section_of w r)
   own_line w old r running = old.sections ((w.run r).descriptor) (old.running_used r running)
 
   own_late : (w : AgreementState) (r0 r : ℕ) → Some r0 ≡ Some r → IsLate w r → IsLate w r0
   own_late w r0 r e late = subst (IsLate w) (sym (same_runner r0 r e)) late
 
-  pub by_stepper : (w : AgreementState) (e : Event) → Enabled c w e → IsSound c w → (r : ℕ) → stepper e ≡ Some r → IsLate w r → IsUnchanged w (after w e)
-  by_stepper w (LoadCell r0 place log) ok old r e late = plain_nothing c w old r0 (ok.0).running (own_late w r0 r e late) _ (λ p. refl) refl (λ n. refl) (λ n. refl) refl
-  by_stepper w (Commit r0 place log) ok old r e late = let at = ok in commit_nothing c w old r0 at.running (own_late w r0 r e late) at.going log ((w.run r0).word)
+  pub by_stepper : (w : AgreementState) (e : Event) → Enabled c w e → IsSound c w → (r : ℕ) → stepper e ≡ Some r → IsLate w r
+      → IsUnchanged w (after w e)
+  by_stepper w (LoadCell r0 place log) ok old r e late = plain_nothing c w old r0 (ok.0).running (own_late w r0 r e late) _ (λ p. refl) refl
+      (λ n. refl) (λ n. refl) refl
+  by_stepper w (Commit r0 place log) ok old r e late = let at = ok in
+      commit_nothing c w old r0 at.running (own_late w r0 r e late) at.going log ((w.run r0).word)
       ((own_line w old r0 at.running).published.line.counted.commit_log ((w.run r0).at) place log at.next) (ap is_commit at.next)
-  by_stepper w (NestedLoad r0 place log) ok old r e late = plain_nothing c w old r0 ok.running (own_late w r0 r e late) _ (λ p. refl) refl (λ n. refl) (λ n. refl) refl
-  by_stepper w (NestedCommit r0 place log) ok old r e late = let at = ok in commit_nothing c w old r0 at.running (own_late w r0 r e late) at.going log ((w.run r0).word)
+  by_stepper w (NestedLoad r0 place log) ok old r e late = plain_nothing c w old r0 ok.running (own_late w r0 r e late) _ (λ p. refl) refl
+      (λ n. refl) (λ n. refl) refl
+  by_stepper w (NestedCommit r0 place log) ok old r e late = let at = ok in
+      commit_nothing c w old r0 at.running (own_late w r0 r e late) at.going log ((w.run r0).word)
       ((own_line w old r0 at.running).published.line.counted.nested_log ((w.run r0).at) place log at.next) (ap is_commit at.next)
   by_stepper w (NestedHold r0 place free) ok old r e late = hold_nothing c w old r0 ok.running (own_late w r0 r e late) place free ok
-  by_stepper w (OutcomeLoad r0 place log) ok old r e late = plain_nothing c w old r0 ok.running (own_late w r0 r e late) _ (λ p. refl) refl (λ n. refl) (λ n. refl) refl
-  by_stepper w (OutcomeCommit r0 place log) ok old r e late = let at = ok in commit_nothing c w old r0 at.running (own_late w r0 r e late) at.going log ((w.run r0).word)
+  by_stepper w (OutcomeLoad r0 place log) ok old r e late = plain_nothing c w old r0 ok.running (own_late w r0 r e late) _ (λ p. refl) refl
+      (λ n. refl) (λ n. refl) refl
+  by_stepper w (OutcomeCommit r0 place log) ok old r e late = let at = ok in
+      commit_nothing c w old r0 at.running (own_late w r0 r e late) at.going log ((w.run r0).word)
       ((own_line w old r0 at.running).published.line.counted.outcome_log ((w.run r0).at) place log at.next) (ap is_commit at.next)
-  by_stepper w (PrivateLoad r0 cell log place) ok old r e late = plain_nothing c w old r0 ok.running (own_late w r0 r e late) _ (λ p. refl) refl (λ n. refl) (λ n. refl) refl
-  by_stepper w (MakeCommit r0 log proposal) ok old r e late = let at = ok.0 in commit_nothing c w old r0 at.running (own_late w r0 r e late) at.going log proposal
+  by_stepper w (PrivateLoad r0 cell log place) ok old r e late = plain_nothing c w old r0 ok.running (own_late w r0 r e late) _
+      (λ p. refl) refl (λ n. refl) (λ n. refl) refl
+  by_stepper w (MakeCommit r0 log proposal) ok old r e late = let at = ok.0 in
+      commit_nothing c w old r0 at.running (own_late w r0 r e late) at.going log proposal
       ((own_line w old r0 at.running).published.line.counted.make_log ((w.run r0).at) log at.next) (ap is_commit at.next)
-  by_stepper w (ClockLoad r0) ok old r e late = plain_nothing c w old r0 ok.running (own_late w r0 r e late) _ (λ p. refl) refl (λ n. refl) (λ n. refl) refl
+  by_stepper w (ClockLoad r0) ok old r e late = plain_nothing c w old r0 ok.running (own_late w r0 r e late) _ (λ p. refl) refl (λ n. refl)
+      (λ n. refl) refl
   by_stepper w (StampExchange r0) ok old r e late = stamp_nothing c w old r0 ok.running (own_late w r0 r e late) ok
   by_stepper w (ClockRaise r0) ok old r e late = raise_nothing c w old r0 ok.running (own_late w r0 r e late) ok
-  by_stepper w (ExchangeCell r0 place log value) ok old r e late = store_nothing c w old r0 ok.running (own_late w r0 r e late) place log value ok
-  by_stepper w (EpochForRetire r0 slot log epoch) ok old r e late = plain_nothing c w old r0 ok.running (own_late w r0 r e late) _ (λ p. refl) refl (λ n. refl) (λ n. refl) refl
-  by_stepper w (RetireCommit r0 slot log) ok old r e late = let at = ok in commit_nothing c w old r0 at.running (own_late w r0 r e late) at.going log (suc slot)
+  by_stepper w (ExchangeCell r0 place log value) ok old r e late = store_nothing c w old r0 ok.running
+      (own_late w r0 r e late) place log value ok
+  by_stepper w (EpochForRetire r0 slot log epoch) ok old r e late = plain_nothing c w old r0 ok.running (own_late w r0 r e late) _
+      (λ p. refl) refl (λ n. refl) (λ n. refl) refl
+  by_stepper w (RetireCommit r0 slot log) ok old r e late = let at = ok in
+      commit_nothing c w old r0 at.running (own_late w r0 r e late) at.going log (suc slot)
       ((own_line w old r0 at.running).published.line.counted.retire_log ((w.run r0).at) slot log at.next) (ap is_commit at.next)
   by_stepper w (ReplyExchange r0 reply) ok old r e late = reply_nothing c w old r0 ok.running (own_late w r0 r e late) reply ok
   by_stepper w (Publish d lock word request code slot) ok old r e late = absurd (none_some r e)
@@ -158,19 +203,24 @@ module _ (c : CellRules) where
   by_stepper w (PrivateStore r0 cell log value place word) ok old r e late = absurd (none_some r e)
 
   -- the lock of an exchange from a free word isn't one that a section holds
-  lock_else : (w : AgreementState) (place free d p new : ℕ) → value_of free ≡ 0 → w.shared.cells place ≡ free → value_of (w.shared.cells p) ≡ suc d
+  lock_else : (w : AgreementState) (place free d p new : ℕ) → value_of free ≡ 0 → w.shared.cells place ≡ free
+      → value_of (w.shared.cells p) ≡ suc d
       → upd w.shared.cells place new p ≡ w.shared.cells p
   lock_else w place free d p new zero_value is names =
-      upd_else w.shared.cells place p new (λ e. let z : suc d ≡ 0 = sym names ∙ ap (λ n. value_of (w.shared.cells n)) e ∙ ap value_of is ∙ zero_value in omega arith)
+      upd_else w.shared.cells place p new (λ e. let z : suc d ≡ 0 = sym names ∙ ap (λ n. value_of (w.shared.cells n)) e ∙ ap value_of is
+      ∙ zero_value in omega arith)
 
   -- an exchange from one word leaves a cell with another one
-  exchange_else : (w : AgreementState) (place old new p : ℕ) → (p ≡ place → w.shared.cells place ≡ old → ⊥) → upd w.shared.cells place (exchanged (w.shared.cells place) old new) p ≡ w.shared.cells p
+  exchange_else : (w : AgreementState) (place old new p : ℕ) → (p ≡ place → w.shared.cells place ≡ old → ⊥)
+      → upd w.shared.cells place (exchanged (w.shared.cells place) old new) p ≡ w.shared.cells p
   exchange_else w place old new p never = ⊎_elim
-      (λ e. ⊎_elim (λ is. absurd (never e is)) (λ ne. upd_found w.shared.cells place _ (exchange_fails _ old new ne) p) (cases_eq (w.shared.cells place) old))
+      (λ e. ⊎_elim (λ is. absurd (never e is)) (λ ne. upd_found w.shared.cells place _ (exchange_fails _ old new ne) p)
+      (cases_eq (w.shared.cells place) old))
       (λ ne. upd_else w.shared.cells place p _ ne) (cases_eq p place)
 
   pub locks_stay : (w : AgreementState) (e : Event) → Enabled c w e → IsSound c w → LocksStay c w (after w e)
-  locks_stay w (Publish d0 lock word request code slot) ok old d p is_open lock' names = lock_else w lock word d p (held_word d0 word) (free_value word ok.2.free) ok.1 names
+  locks_stay w (Publish d0 lock word request code slot) ok old d p is_open lock' names = lock_else w lock word d p (held_word d0 word)
+      (free_value word ok.2.free) ok.1 names
   locks_stay w (Release r place word) ok old d p is_open lock names =
       let d0 = (w.run r).descriptor in
       let o = own_line w old r ok.0 in
@@ -182,12 +232,16 @@ module _ (c : CellRules) where
       let o = own_line w old r ok.running in
       let s = section_of w r in
       exchange_else w place free _ p (λ e is.
-      let z : suc d ≡ 0 = sym names ∙ ap (λ n. value_of (w.shared.cells n)) e ∙ ap value_of is ∙ free_value free (hold_free c s.lock s.code s.slot o.published.line ((w.run r).at) place free ok.next) in
+      let z : suc d ≡ 0 = sym names ∙ ap (λ n. value_of (w.shared.cells n)) e ∙ ap value_of is
+      ∙ free_value free (hold_free c s.lock s.code s.slot o.published.line ((w.run r).at) place free ok.next) in
       omega arith)
   locks_stay w (PrivateStore r cell log value place word) ok old d p is_open lock names =
-      upd_else w.shared.cells place p word (λ e. let z : suc d ≡ 0 = sym names ∙ ap (λ n. value_of (w.shared.cells n)) e ∙ ok.1.free_before (ap c.is_lock (sym e) ∙ lock) in omega arith)
+      upd_else w.shared.cells place p word (λ e. let z : suc d ≡ 0 = sym names ∙ ap (λ n. value_of (w.shared.cells n)) e
+      ∙ ok.1.free_before (ap c.is_lock (sym e) ∙ lock) in omega arith)
   locks_stay w (ExchangeCell r place log value) ok old d p is_open lock names =
       let o = own_line w old r ok.running in
       let s = section_of w r in
-      upd_else w.shared.cells place p _ (λ e. not_both _ lock (ap c.is_lock e ∙ exchange_unlocked c s.lock s.code s.slot o.published.line ((w.run r).at) place log value ok.next))
+      upd_else w.shared.cells place p _
+      (λ e. not_both _ lock (ap c.is_lock e ∙ exchange_unlocked c s.lock s.code s.slot o.published.line
+      ((w.run r).at) place log value ok.next))
   locks_stay w e ok old d p is_open lock names = refl

@@ -63,6 +63,7 @@ shared_moves c w x' m old =
       single = old.single;
       finished = record {
         past = λ r i lt. past_later _ _ _ (old.finished.past r i lt) (m.rises ((w.finished r i).lock));
+        ended = old.finished.ended;
         whole = old.finished.whole;
         equal = old.finished.equal;
       };
@@ -207,6 +208,7 @@ module _ (c : CellRules) (w : AgreementState) (r d : ℕ) (x' : Shared) (log : �
     single = λ d1 d2 u1 u2 l e. old.single d1 d2 u1 u2 (sym (lock_same d1) ∙ l ∙ lock_same d2) (sym (word_same d1) ∙ e ∙ word_same d2);
     finished = record {
       past = λ r' i lt. past_later _ _ _ (old.finished.past r' i lt) (m.rises ((w.finished r' i).lock));
+      ended = λ r' i d' lt u is. old.finished.ended r' i d' lt u (record { lock = is.lock ∙ lock_same d'; word = is.word ∙ word_same d' });
       whole = whole;
       equal = old.finished.equal;
     };

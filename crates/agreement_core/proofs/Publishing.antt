@@ -43,6 +43,7 @@ unused_changes c w d s' unused old =
           (ap (λ (s : Section). s.word) (same d1 u1) ∙ e ∙ ap (λ (s : Section). s.word) (sym (same d2 u2)));
       finished = record {
         past = old.finished.past;
+        ended = λ r i d' lt u is. old.finished.ended r i d' lt u (subst (IsOf (w.finished r i)) (sym (same d' u)) is);
         whole = λ r i d' lt u is. subst (λ s. IsOf (w.finished r i) s → IsWhole d' s (w.finished r i)) (same d' u)
             (old.finished.whole r i d' lt u) is;
         equal = old.finished.equal;
@@ -81,7 +82,7 @@ retire_descriptor c w old d ok =
       apart = λ d1 d2 p ne o1 o2 h1 h2. old.apart d1 d2 p ne (record { used = o1.used; undone = o1.undone })
           (record { used = o2.used; undone = o2.undone }) h1 h2;
       single = old.single;
-      finished = record { past = old.finished.past; whole = old.finished.whole; equal = old.finished.equal };
+      finished = record { past = old.finished.past; ended = old.finished.ended; whole = old.finished.whole; equal = old.finished.equal };
     }
 
 -- what is used after a descriptor was freed was used
@@ -104,6 +105,7 @@ free_descriptor c w old d ok = record {
   single = λ d1 d2 u1 u2 l e. old.single d1 d2 (was_used w.used d d1 u1) (was_used w.used d d2 u2) l e;
   finished = record {
     past = old.finished.past;
+    ended = λ r i d' lt u is. old.finished.ended r i d' lt (was_used w.used d d' u) is;
     whole = λ r i d' lt u is. old.finished.whole r i d' lt (was_used w.used d d' u) is;
     equal = old.finished.equal;
   };
@@ -312,6 +314,12 @@ module _ (c : CellRules) (w : AgreementState) (old : IsSound c w) (d lock word r
       (old.finished.whole r i d' lt o.1 (subst (IsOf (w.finished r i)) (section_else d' o.0) is)))
       (used_cases d' u)
 
+  ended : (r i d' : ℕ) → i < w.finishes r → w'.used d' ≡ true → IsOf (w.finished r i) (w'.section d') → w'.over d' ≡ true
+  ended r i d' lt u is = ⊎_elim
+      (λ e. absurd (past_word _ _ (old.finished.past r i lt) (is.lock ∙ lock_here d' e) (is.word ∙ word_here d' e)))
+      (λ o. upd_else w.over d d' false o.0 ∙ old.finished.ended r i d' lt o.1 (subst (IsOf (w.finished r i)) (section_else d' o.0) is))
+      (used_cases d' u)
+
   pub publish_sound : IsSound c w'
   publish_sound = record {
     versions = puts_versions c w.shared lock held more room old.versions;
@@ -324,6 +332,7 @@ module _ (c : CellRules) (w : AgreementState) (old : IsSound c w) (d lock word r
     single = single;
     finished = record {
       past = λ r i lt. past_later _ _ _ (old.finished.past r i lt) (puts_rises w.shared lock held more ((w.finished r i).lock));
+      ended = ended;
       whole = whole;
       equal = old.finished.equal;
     };

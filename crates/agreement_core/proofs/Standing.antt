@@ -5,8 +5,8 @@ use Rattle.std.specs.Prelude.{◌⊎◌}
 use Rattle.section_body.specs.Word.{value_of, version_of, held_word}
 use Rattle.agreement_core.specs.State.{CellRules, AgreementState, section_of}
 use Rattle.agreement_core.specs.Checks.{stored_word}
-use Rattle.agreement_core.specs.Sound.{IsSound}
-use Rattle.agreement_core.specs.Trails.{RunsAgree}
+use Rattle.agreement_core.specs.Sound.{IsOf, IsSound}
+use Rattle.agreement_core.specs.Trails.{RunsAgree, HoldsNothing}
 use Rattle.agreement_core.specs.Rising.{IsNotFuture}
 use Rattle.agreement_core.specs.Standing.{CellsStand, LocksStand, TakesStand, IsDoneLate}
 use Rattle.agreement_core.proofs.Words.{value_held}
@@ -42,7 +42,8 @@ cells_stand c w old d u =
     let x = o.section.in_cells in
     record {
       loaded = λ is_open p k h none. x.loaded is_open.undone h.at p k h.passed h.step
-          (λ j k' v lt e. none (s.log k') (stored_word s.log k' v) (record { at = j; log = k'; value = v; passed = lt; step = e; old = refl; new = refl }));
+          (λ j k' v lt e. none (s.log k') (stored_word s.log k' v)
+          (record { at = j; log = k'; value = v; passed = lt; step = e; old = refl; new = refl }));
       stored = λ is_open p agreed word h. x.stored is_open.undone h.at p h.log h.value h.passed h.step ∙ sym h.new;
       lasting = λ p agreed word h.
           let up = version_stored c s.lock s.code s.slot o.published.line o.published.whole h.at p h.log h.value s.log h.step in
@@ -85,5 +86,13 @@ done_late c w old d u done =
     record {
       stops = o.section.in_log.stops done;
       stored = λ p agreed word h.
-          subst (λ n. version_of n < version_of (w.shared.cells p)) (sym h.old) (o.section.in_cells.left h.at p h.log h.value h.passed h.step);
+          subst (λ n. version_of n < version_of (w.shared.cells p)) (sym h.old)
+          (o.section.in_cells.left h.at p h.log h.value h.passed h.step);
     }
+
+pub holds_nothing : (c : CellRules) (w : AgreementState) → IsSound c w → (r i d : ℕ) → i < w.finishes r → w.used d ≡ true
+    → IsOf (w.finished r i) (w.section d) → HoldsNothing c w d
+holds_nothing c w old r i d lt used is =
+    let over = old.finished.ended r i d lt used is in
+    let o = old.sections d used in
+    record { done = o.over_done over; unnamed = o.over_unnamed over }

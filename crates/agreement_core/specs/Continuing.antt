@@ -13,6 +13,11 @@ pub record GoesOn (s s' : Section) : Type 0 where
   pub edge : s.edge ≤ s'.edge
   pub done : s.done ≢ 0 → s'.done ≡ s.done
 
+-- what is kept of a run that came to its end stands for good
+pub record RecordsStand (w w' : AgreementState) : Type 0 where
+  pub more : (r : ℕ) → w.finishes r ≤ w'.finishes r
+  pub same : (r i : ℕ) → i < w.finishes r → w'.finished r i ≡ w.finished r i
+
 -- each section goes on whose descriptor isn't freed
 abbrev pub SectionsGoOn : AgreementState → AgreementState → Type 0
 SectionsGoOn w w' = (d : ℕ) → w.used d ≡ true → GoesOn (w.section d) (w'.section d)

@@ -38,6 +38,7 @@ pub record AreEqual (f f' : Finished) : Type 0 where
 
 -- the runs that came to their end
 pub record FinishedAreSound (w : AgreementState) : Type 0 where
+  pub ended : (r i d : ℕ) → i < w.finishes r → w.used d ≡ true → IsOf (w.finished r i) (w.section d) → w.over d ≡ true
   pub past : (r i : ℕ) → i < w.finishes r → version_of ((w.finished r i).word) < version_of (w.shared.cells ((w.finished r i).lock))
   pub whole : (r i d : ℕ) → i < w.finishes r → w.used d ≡ true → IsOf (w.finished r i) (w.section d)
       → IsWhole d (w.section d) (w.finished r i)

@@ -1,6 +1,7 @@
 -- Agreement: what is said of a section's log and of the trails of its runs.
-use Rattle.std.specs.Prelude.{ℕ, ◌<◌, ◌≤◌, ◌≡◌, true}
-use Rattle.agreement_core.specs.State.{Section, Run, AgreementState, section_of}
+use Rattle.std.specs.Prelude.{ℕ, suc, ◌<◌, ◌≤◌, ◌≡◌, ◌≢◌, true}
+use Rattle.section_body.specs.Word.{value_of}
+use Rattle.agreement_core.specs.State.{CellRules, Section, Run, AgreementState, section_of}
 use Rattle.agreement_core.specs.Sound.{IsOf, IsWhole, AreOfOne, AreEqual}
 
 -- this many words of the log are agreed: they aren't 0, and zeros follow
@@ -29,3 +30,8 @@ pub record RunsAgree (w : AgreementState) : Type 0 where
   -- and any two of one section are equal, for good
   pub equal : (r i r' i' : ℕ) → i < w.finishes r → i' < w.finishes r' → AreOfOne (w.finished r i) (w.finished r' i')
       → AreEqual (w.finished r i) (w.finished r' i')
+
+-- where a run of this section has come to its end, the section is done, and no lock names it until its descriptor is free again
+pub record HoldsNothing (c : CellRules) (w : AgreementState) (d : ℕ) : Type 0 where
+  pub done : (w.section d).done ≢ 0
+  pub unnamed : (p : ℕ) → c.is_lock p ≡ true → value_of (w.shared.cells p) ≢ suc d

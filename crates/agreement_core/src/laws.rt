@@ -1,12 +1,12 @@
 //! The laws of agreement, each on a contract.
-ghost use Rattle.std.specs.Prelude.{◌≡◌, ◌≢◌, ◌⊎◌, ℕ, true, List, Some};
+ghost use Rattle.std.specs.Prelude.{◌≡◌, ◌≢◌, ◌<◌, ◌⊎◌, ℕ, true, List, Some};
 ghost use Rattle.agreement_core.specs.State.{CellRules, AgreementState, section_of};
 ghost use Rattle.agreement_core.specs.Events.{Event, Release, HasTaken, Enabled, after};
-ghost use Rattle.agreement_core.specs.Sound.{IsSound};
+ghost use Rattle.agreement_core.specs.Sound.{IsOf, IsSound};
 ghost use Rattle.agreement_core.specs.Schedules.{IsFirst, first_state, AllEnabled, after_all};
-ghost use Rattle.agreement_core.specs.Trails.{RunsAgree};
+ghost use Rattle.agreement_core.specs.Trails.{RunsAgree, HoldsNothing};
 ghost use Rattle.agreement_core.specs.Rising.{RiseByOne, IsNotFuture};
-ghost use Rattle.agreement_core.specs.Continuing.{SectionsGoOn};
+ghost use Rattle.agreement_core.specs.Continuing.{SectionsGoOn, RecordsStand};
 ghost use Rattle.agreement_core.specs.Standing.{CellsStand, LocksStand, TakesStand, IsDoneLate};
 ghost use Rattle.agreement_core.specs.Late.{stepper, IsLate, IsUnchanged, LocksStay};
 ghost use Rattle.agreement_core.specs.Frame.{IsSame};
@@ -29,16 +29,19 @@ pub fn schedules_meet_the_invariant()
 
 /// After every list of enabled events each section's log is agreed words and then zeros, the trail of each of its runs is a
 /// prefix of these words, the trail of a run that came to its end is all of them, and any two such trails of one section are
-/// equal.
+/// equal. Where a run came to its end, the section is done and no lock names it.
 pub fn runs_agree()
-    ensures { (c : CellRules) (cells : ℕ → ℕ) (es : List Event) → IsFirst c cells
+    ensures over { (c : CellRules) (w : AgreementState) (r i d : ℕ) → IsSound c w → i < w.finishes r → w.used d ≡ true
+        → IsOf (w.finished r i) (w.section d) → HoldsNothing c w d }
+    ensures agree { (c : CellRules) (cells : ℕ → ℕ) (es : List Event) → IsFirst c cells
         → AllEnabled c (first_state cells) es → RunsAgree (after_all c (first_state cells) es) }
 {}
 
 /// An agreed word stands until the section's descriptor is free again, and so does all else that the section is; a section
-/// that is done stays done.
+/// that is done stays done. What is kept of a run that came to its end stands for good.
 pub fn agreed_words_stand()
-    ensures { (c : CellRules) (w : AgreementState) (e : Event) → Enabled c w e → SectionsGoOn w (after w e) }
+    ensures records { (w : AgreementState) (e : Event) → RecordsStand w (after w e) }
+    ensures sections { (c : CellRules) (w : AgreementState) (e : Event) → Enabled c w e → SectionsGoOn w (after w e) }
 {}
 
 /// A step of a run that is behind the furthest one of its section changes no cell, clock, stamp or reply, and nothing in any
