@@ -1,0 +1,11 @@
+pub mod Lists
+pub mod Splits
+pub mod Asked
+pub mod Told
+pub mod Ties
+pub mod Calls
+pub mod Begins
+pub mod SeatMoves
+pub mod SeatCalls
+pub mod Stages
+pub mod Inside

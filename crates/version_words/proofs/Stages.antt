@@ -1,0 +1,252 @@
+-- What a runner in no run may do, and where it is then.
+use Rattle.std.proofs.Common.{◌≡◌, ℕ, ◌+◌, ◌<◌, ◌≤◌, ◌^◌, length, List, [], ◌∷◌, ◌++◌, ◌≢◌, eq-eqb, ne_eqb, Bool, true, false, refl, sym, ap, subst, ◌∙◌, arith, Option, Some, None}
+use Rattle.std.specs.Prelude.{◌==◌, ◌&&◌, ◌||◌, is_some, nat_lt, nat_le, not, is_none, if◌then◌else◌}
+use Rattle.std.proofs.lemmas.Bool.Decides.{nat_tests}
+use mathlib.Core.Logic.{dite}
+use native.Mathlib.Decide.{ℕ_discrete}
+use Rattle.version_words.specs.Shown.{left_part}
+use Rattle.table_words.specs.declared.layout.Layout.{Layout}
+use Rattle.table_words.specs.declared.sizes.Sizes.{Sizes}
+use Rattle.table_words.specs.declared.spot.Spot.{Spot}
+use Rattle.table_words.specs.declared.spot.Spot.TheVariants as spots
+use Rattle.table_words.specs.declared.access.Access.{Access}
+use Rattle.table_words.specs.declared.access.Access.TheVariants.{Loads, Stores, Exchanges}
+use Rattle.table_words.specs.Places.{Fits}
+use Rattle.table_words.proofs.Seen.{fits_is}
+use Rattle.structure_laws.specs.Meaning.{Meaning}
+use Rattle.runner_steps.specs.declared.event.EventKind.{EventKind}
+use Rattle.runner_steps.specs.declared.event.EventKind.TheVariants as kinds
+use Rattle.runner_steps.specs.declared.stage.Stage.{Stage}
+use Rattle.runner_steps.specs.declared.stage.Stage.TheVariants as stages
+use Rattle.runner_steps.specs.declared.entries.Published.{Published}
+use Rattle.runner_steps.specs.Tests.{has, is_walking, is_resting, is_outside}
+use Rattle.runner_steps.specs.State.{RunState, PartState, RecordsState}
+use Rattle.runner_steps.specs.Outside.{Ask, when, enter_load_ask, announce_ask, enter_again_ask, scan_one_ask, advance_ask, last_epoch}
+use Rattle.runner_steps.specs.Asks.{ask_by, outside_ask, fitting, sizes_for}
+use Rattle.runner_steps.specs.AfterOutside.{with_stage, collected, scanned, scan_one_after, advance_after, is_clear}
+use Rattle.runner_steps.specs.After.{outside_after, after_by, stepped, counted, after, leaves}
+use Rattle.version_words.specs.RunnerState.{RunnerState}
+use Rattle.version_words.specs.TableState.{TableState, first_keeper}
+use Rattle.version_words.specs.Events.{IsEnabled, Makes, next_worker, joined_by}
+use Rattle.version_words.proofs.SeatMoves.{one_split, joins_none}
+use Rattle.version_words.specs.Stages.{IsAt, IsKeeper, HasJoined, stage_scanned}
+
+fitted_some : (s : Sizes) (a : Ask) (x : Spot × Access) → a ≡ Some x → Fits s x.0 → fitting s a ≡ Some x
+fitted_some s a x e h = ap (fitting s) e ∙ ap (λ (b : Bool). if b then Some x else None) (fits_is s x.0 h)
+
+module _ {T : Type 0} (m : Meaning) (r : RunnerState T) where
+  -- a runner in no run may make what its stage lets it make
+  enabled : (k : EventKind) (x : Spot × Access) → r.part.gone ≡ false → r.part.run ≡ None → outside_ask m r.layout r.requests r.number k r.part ≡ Some x → Fits (sizes_for m r.layout r.requests) x.0 → IsEnabled m k r
+  enabled k x present resting e h = record {
+    met = x;
+    asked = ap (λ (g : Bool). if g then None else fitting (sizes_for m r.layout r.requests) (ask_by m r.layout r.requests r.number k r.part r.part.run)) present
+        ∙ fitted_some (sizes_for m r.layout r.requests) _ x (ap (ask_by m r.layout r.requests r.number k r.part) resting ∙ e) h;
+  }
+
+  module _ (section : Option Published) where
+    at_stage : (stage : Stage) (k : EventKind) (x : Spot × Access) → IsAt r stage section → outside_ask m r.layout r.requests r.number k r.part ≡ Some x → Fits (sizes_for m r.layout r.requests) x.0 → IsEnabled m k r
+    at_stage stage k x is e h = enabled k x is.present is.resting e h
+
+    pub may_enter_load : IsAt r stages.Idle section → IsEnabled m kinds.EnterLoad r
+    may_enter_load is = at_stage stages.Idle kinds.EnterLoad (spots.Epoch, Loads) is (ap enter_load_ask is.at) tt
+
+    pub may_announce : (epoch : ℕ) → IsAt r (stages.Loaded epoch) section → IsEnabled m kinds.Announce r
+    may_announce epoch is = at_stage (stages.Loaded epoch) kinds.Announce (spots.Announcement r.number, Stores epoch) is (ap (announce_ask r.number) is.at) is.seated
+
+    pub may_enter_again : IsAt r stages.Announced section → IsEnabled m kinds.EnterAgain r
+    may_enter_again is = at_stage stages.Announced kinds.EnterAgain (spots.Epoch, Loads) is (ap enter_again_ask is.at) tt
+
+    pub may_scan_epoch : IsAt r stages.Idle section → IsEnabled m kinds.ScanEpoch r
+    may_scan_epoch is = at_stage stages.Idle kinds.ScanEpoch (spots.Epoch, Loads) is (ap enter_load_ask is.at) tt
+
+    pub may_scan_one : (epoch next : ℕ) (clear : Bool) → IsAt r (stages.Scanning epoch next clear) section → next ≤ r.layout.runners → IsEnabled m (kinds.ScanOne next) r
+    may_scan_one epoch next clear is few = at_stage (stages.Scanning epoch next clear) (kinds.ScanOne next) (spots.Announcement next, Loads) is
+        (ap (scan_one_ask r.layout next) is.at ∙ ap (λ (b : Bool). when b (spots.Announcement next) Loads) (let e : next == next && nat_le next r.layout.runners ≡ true = grind (arith, nat_tests, few) in e)) few
+
+    pub may_advance : (epoch next : ℕ) → IsAt r (stages.Scanning epoch next true) section → r.layout.runners < next → epoch < 2 ^ 62 → IsEnabled m kinds.Advance r
+    may_advance epoch next is past few = at_stage (stages.Scanning epoch next true) kinds.Advance (spots.Epoch, Exchanges epoch (epoch + 1)) is
+        (ap (advance_ask r.layout) is.at ∙ ap (λ (b : Bool). when b spots.Epoch (Exchanges epoch (epoch + 1))) (let e : nat_lt r.layout.runners next && nat_lt epoch last_epoch ≡ true = grind (arith, nat_tests, past, few) in e)) tt
+
+    pub may_load_entry : (request : ℕ) (reply : Bool) → IsAt r stages.Idle section → request < length r.requests → IsEnabled m (kinds.LoadEntry request reply) r
+    may_load_entry request true is few = at_stage stages.Idle (kinds.LoadEntry request true) (spots.Reply request, Loads) is (ap (λ (b : Bool). when b (spots.Reply request) Loads) ((λ i. is_resting (is.at i) (is.resting i)))) few
+    may_load_entry request false is few = at_stage stages.Idle (kinds.LoadEntry request false) (spots.Stamp request, Loads) is (ap (λ (b : Bool). when b (spots.Stamp request) Loads) ((λ i. is_resting (is.at i) (is.resting i)))) few
+
+  pub may_idle : (epoch : ℕ) → IsAt r (stages.Entered epoch) None → IsEnabled m kinds.Idle r
+  may_idle epoch is = at_stage None (stages.Entered epoch) kinds.Idle (spots.Announcement r.number, Stores 0) is
+      (ap (λ (b : Bool). when b (spots.Announcement r.number) (Stores 0)) (λ i. is_walking (is.at i) (is.resting i) && is_none (is.published i))) is.seated
+
+  pub may_split : (splits : ℕ) → IsKeeper r splits → splits < r.layout.runners → IsEnabled m kinds.Split r
+  may_split splits is few = enabled kinds.Split (spots.Seat, Loads) is.present is.resting
+      (ap (λ (b : Bool). when b spots.Seat Loads) ((λ i. (is.number i == r.layout.runners) && (is_outside (is.resting i) && nat_lt (is.as_many i) r.layout.runners))
+      ∙ (let e : r.layout.runners == r.layout.runners && nat_lt splits r.layout.runners ≡ true = grind (arith, nat_tests, few) in e))) tt
+
+  pub may_join : (worker splits count : ℕ) → IsKeeper r splits → HasJoined r count → worker ≡ count → worker < r.layout.runners → IsEnabled m (kinds.Join worker) r
+  may_join worker splits count is joined next few = enabled (kinds.Join worker) (spots.Seat, Loads) is.present is.resting
+      (ap (λ (b : Bool). when b spots.Seat Loads) ((λ i. (is.number i == r.layout.runners) && (is_outside (is.resting i) && (nat_lt worker r.layout.runners && not (joined.fresh worker (omega (arith, next)) i))))
+      ∙ (let e : r.layout.runners == r.layout.runners && (nat_lt worker r.layout.runners && true) ≡ true = grind (arith, nat_tests, few) in e))) tt
+
+-- where a runner in no run is after a step: `goes` is what the step makes of the part but for its records
+module _ {T : Type 0} (m : Meaning) (k : EventKind) (found : ℕ) (r r' : RunnerState T) (made : Makes m k found r r') (resting : r.part.run ≡ None) where
+  abbrev next : PartState
+  next = outside_after m r.layout k r.part found
+
+  made_at : (stage : Stage) (section : Option Published) → r.number ≤ r.layout.runners → next.gone ≡ false → next.run ≡ None → next.stage ≡ stage → next.published ≡ section → IsAt r' stage section
+  made_at stage section seated present none at published =
+      let is = made.made in let run = λ (o : Option RunState). after_by m r.layout k r.part o found in
+      record {
+        present = ap (λ (y : RunnerState T). y.part.gone) is ∙ (ap (λ (o : Option RunState). (after_by m r.layout k r.part o found).gone) resting ∙ present);
+        resting = ap (λ (y : RunnerState T). y.part.run) is ∙ (ap (λ (o : Option RunState). (after_by m r.layout k r.part o found).run) resting ∙ none);
+        at = ap (λ (y : RunnerState T). y.part.stage) is ∙ (ap (λ (o : Option RunState). (after_by m r.layout k r.part o found).stage) resting ∙ at);
+        published = ap (λ (y : RunnerState T). y.part.published) is ∙ (ap (λ (o : Option RunState). (after_by m r.layout k r.part o found).published) resting ∙ published);
+        seated = subst (λ (y : RunnerState T). y.number ≤ y.layout.runners) (sym is) seated;
+      }
+
+module _ {T : Type 0} (m : Meaning) (found : ℕ) (r r' : RunnerState T) (section : Option Published) where
+  pub then_loaded : Makes m kinds.EnterLoad found r r' → IsAt r stages.Idle section → IsAt r' (stages.Loaded found) section
+  then_loaded made is = made_at m kinds.EnterLoad found r r' made is.resting (stages.Loaded found) section is.seated is.present is.resting refl is.published
+
+  pub then_announced : (epoch : ℕ) → Makes m kinds.Announce found r r' → IsAt r (stages.Loaded epoch) section → IsAt r' stages.Announced section
+  then_announced epoch made is = made_at m kinds.Announce found r r' made is.resting stages.Announced section is.seated is.present is.resting refl is.published
+
+  pub then_entered : Makes m kinds.EnterAgain found r r' → IsAt r stages.Announced section → IsAt r' (stages.Entered found) section
+  then_entered made is = made_at m kinds.EnterAgain found r r' made is.resting (stages.Entered found) section is.seated is.present is.resting refl is.published
+
+  pub then_idle : (epoch : ℕ) → Makes m kinds.Idle found r r' → IsAt r (stages.Entered epoch) section → IsAt r' stages.Idle section
+  then_idle epoch made is = made_at m kinds.Idle found r r' made is.resting stages.Idle section is.seated is.present is.resting refl is.published
+
+  pub then_scanning : Makes m kinds.ScanEpoch found r r' → IsAt r stages.Idle section → IsAt r' (stages.Scanning found 0 true) section
+  then_scanning made is = made_at m kinds.ScanEpoch found r r' made is.resting (stages.Scanning found 0 true) section is.seated is.present is.resting refl is.published
+
+  pub then_knows : (stage : Stage) (request : ℕ) (reply : Bool) → Makes m (kinds.LoadEntry request reply) found r r' → IsAt r stage section → IsAt r' stage section
+  then_knows stage request reply made is = made_at m (kinds.LoadEntry request reply) found r r' made is.resting stage section is.seated is.present is.resting is.at is.published
+
+-- a choice between two parts
+chosen : {A : Type 0} (f : PartState → A) (b : Bool) (p q : PartState) → f (if b then p else q) ≡ (if b then f p else f q)
+chosen f true p q = refl
+chosen f false p q = refl
+
+same : {A : Type 0} (f : PartState → A) (b : Bool) (p q : PartState) (a : A) → f p ≡ a → f q ≡ a → f (if b then p else q) ≡ a
+same f true p q a e e' = e
+same f false p q a e e' = e'
+
+module _ {A : Type 0} (f : PartState → A) (l : Layout) (p : PartState) (epoch next : ℕ) (clear : Bool) (found : ℕ) (few : next ≤ l.runners) where
+  abbrev still : Bool
+  still = clear && is_clear epoch found
+
+  -- a scan changes the stage and the slots alone
+  scan_keeps : ((stage : Stage) → f (with_stage p stage) ≡ f p) → ((e : ℕ) → f (collected p e) ≡ f p) → f (scan_one_after l p (stages.Scanning epoch next clear) found) ≡ f p
+  scan_keeps one two = same f (nat_le next l.runners) (scanned l p epoch next still) p (f p) (same f (next == l.runners && not (still && nat_lt epoch last_epoch)) _ _ (f p) (two epoch) (one (stages.Scanning epoch (next + 1) still))) refl
+
+scan_stage : (l : Layout) (p : PartState) (epoch next : ℕ) (clear : Bool) (found : ℕ) → next ≤ l.runners → (scan_one_after l p (stages.Scanning epoch next clear) found).stage ≡ stage_scanned l epoch next clear found
+scan_stage l p epoch next clear found few =
+    let within : nat_le next l.runners ≡ true = grind (arith, nat_tests, few) in
+    ap (λ (b : Bool). (if b then scanned l p epoch next (clear && is_clear epoch found) else p).stage) within
+    ∙ chosen (λ (q : PartState). q.stage) (next == l.runners && not ((clear && is_clear epoch found) && nat_lt epoch last_epoch)) (collected p epoch) (with_stage p (stages.Scanning epoch (next + 1) (clear && is_clear epoch found)))
+
+module _ {T : Type 0} (m : Meaning) (found : ℕ) (r r' : RunnerState T) (section : Option Published) (epoch next : ℕ) where
+  pub then_scanned : (clear : Bool) → Makes m (kinds.ScanOne next) found r r' → IsAt r (stages.Scanning epoch next clear) section → next ≤ r.layout.runners → IsAt r' (stage_scanned r.layout epoch next clear found) section
+  then_scanned clear made is few =
+      let scan = λ (stage : Stage). scan_one_after r.layout r.part stage found in
+      made_at m (kinds.ScanOne next) found r r' made is.resting (stage_scanned r.layout epoch next clear found) section is.seated
+      (ap (λ (y : Stage). (scan_one_after r.layout r.part y found).gone) is.at ∙ (scan_keeps (λ (q : PartState). q.gone) r.layout r.part epoch next clear found few (λ y. refl) (λ e. refl) ∙ is.present))
+      (ap (λ (y : Stage). (scan_one_after r.layout r.part y found).run) is.at ∙ (scan_keeps (λ (q : PartState). q.run) r.layout r.part epoch next clear found few (λ y. refl) (λ e. refl) ∙ is.resting))
+      (ap (λ (y : Stage). (scan_one_after r.layout r.part y found).stage) is.at ∙ scan_stage r.layout r.part epoch next clear found few)
+      (ap (λ (y : Stage). (scan_one_after r.layout r.part y found).published) is.at ∙ (scan_keeps (λ (q : PartState). q.published) r.layout r.part epoch next clear found few (λ y. refl) (λ e. refl) ∙ is.published))
+
+  pub then_advanced : Makes m kinds.Advance found r r' → IsAt r (stages.Scanning epoch next true) section → epoch < 2 ^ 62 → IsAt r' stages.Idle section
+  then_advanced made is few =
+      let on : nat_lt epoch last_epoch ≡ true = grind (arith, nat_tests, few) in
+      let part : advance_after r.part r.part.stage ≡ collected r.part (epoch + 1) = ap (advance_after r.part) is.at ∙ ap (λ (b : Bool). if b then collected r.part (epoch + 1) else r.part) on in
+      made_at m kinds.Advance found r r' made is.resting stages.Idle section is.seated
+      (ap (λ (q : PartState). q.gone) part ∙ is.present) (ap (λ (q : PartState). q.run) part ∙ is.resting) (ap (λ (q : PartState). q.stage) part) (ap (λ (q : PartState). q.published) part ∙ is.published)
+
+-- a keeper that splits off a worker
+module _ {T : Type 0} (m : Meaning) (found : ℕ) (r r' : RunnerState T) (splits : ℕ) where
+  pub then_split : Makes m kinds.Split found r r' → IsKeeper r splits → splits < r.layout.runners → IsKeeper r' (splits + 1)
+  then_split made is few =
+      let on : nat_lt r.part.records.splits r.layout.runners ≡ true = ap (λ n. nat_lt n r.layout.runners) is.as_many ∙ (let e : nat_lt splits r.layout.runners ≡ true = grind (arith, nat_tests, few) in e) in
+      let at = made_at m kinds.Split found r r' made is.resting r.part.stage r.part.published (omega (arith, is.number))
+      (same (λ (q : PartState). q.gone) (nat_lt r.part.records.splits r.layout.runners) _ _ false is.present is.present)
+      (same (λ (q : PartState). q.run) (nat_lt r.part.records.splits r.layout.runners) _ _ None is.resting is.resting)
+      (same (λ (q : PartState). q.stage) (nat_lt r.part.records.splits r.layout.runners) _ _ r.part.stage refl refl)
+      (same (λ (q : PartState). q.published) (nat_lt r.part.records.splits r.layout.runners) _ _ r.part.published refl refl) in
+      record {
+        present = at.present;
+        resting = at.resting;
+        number = ap (λ (y : RunnerState T). y.number) made.made ∙ (is.number ∙ sym (ap (λ (y : RunnerState T). y.layout.runners) made.made));
+        as_many = ap (λ (y : RunnerState T). y.part.records.splits) made.made ∙ (one_split m r.layout r.number made.met.0 made.met.1 found r.part is.resting (omega (arith, few, is.as_many)) ∙ ap (λ n. n + 1) is.as_many);
+      }
+
+pub first_is_keeper : {T : Type 0} (m : Meaning) (t : TableState T) (r : RunnerState T) → r ≡ first_keeper m t → IsKeeper r 0
+first_is_keeper {T} m t r is = subst (λ (y : RunnerState T). IsKeeper y 0) (sym is) (record { present = refl; resting = refl; number = refl; as_many = refl })
+
+pub next_is_idle : {T : Type 0} (m : Meaning) (keeper r : RunnerState T) (splits : ℕ) → r ≡ next_worker m keeper → IsKeeper keeper splits → splits < keeper.layout.runners → IsAt r stages.Idle None
+next_is_idle {T} m keeper r splits is k few = subst (λ (y : RunnerState T). IsAt y stages.Idle None) (sym is)
+    (record { present = refl; resting = refl; at = refl; published = refl; seated = (let a = k.as_many in omega (arith, a, few)) })
+
+has_more : (xs : List ℕ) (x y : ℕ) → has xs y ≡ false → x ≢ y → has (xs ++ x ∷ []) y ≡ false
+has_more [] x y none ne = ap (λ (b : Bool). b || false) (ne_eqb x y ne)
+has_more (z ∷ xs) x y none ne = grind (arith, nat_tests, none, ne, has_more xs x y)
+
+kept_joined : (b : Bool) (s t : RecordsState) (joined : List ℕ) → s.joined ≡ joined → t.joined ≡ joined → (if b then s else t).joined ≡ joined
+kept_joined true s t joined one two = one
+kept_joined false s t joined one two = two
+
+lists_joined : (m : Meaning) (l : Layout) (r worker : ℕ) (p : PartState) → p.run ≡ None → (after m l r (kinds.Join worker) spots.Seat Loads p 0).records.joined ≡ p.records.joined ++ worker ∷ []
+lists_joined m l r worker p none = let s = (stepped m l (kinds.Join worker) p 0).records in
+    kept_joined (r == l.runners) _ (record s { events = counted s.events }) s.joined refl refl ∙ ap (λ (o : Option RunState). (after_by m l (kinds.Join worker) p o 0).records.joined) none
+
+-- a keeper that joins a worker
+module _ {T : Type 0} (m : Meaning) (keeper worker r' : RunnerState T) (splits count : ℕ) (joins : r' ≡ joined_by m worker keeper) where
+  pub then_keeper : IsKeeper keeper splits → IsKeeper r' splits
+  then_keeper is = subst (λ (y : RunnerState T). IsKeeper y splits) (sym joins) (record {
+    present = ap (λ (o : Option RunState). (after_by m keeper.layout (kinds.Join worker.number) keeper.part o 0).gone) is.resting ∙ is.present;
+    resting = ap (λ (o : Option RunState). (after_by m keeper.layout (kinds.Join worker.number) keeper.part o 0).run) is.resting ∙ is.resting;
+    number = is.number;
+    as_many = joins_none m keeper.layout keeper.number worker.number 0 keeper.part worker.part ∙ is.as_many;
+  })
+
+  pub then_joined : IsKeeper keeper splits → HasJoined keeper count → worker.number ≡ count → HasJoined r' (count + 1)
+  then_joined is joined next = subst (λ (y : RunnerState T). HasJoined y (count + 1)) (sym joins) (record {
+    fresh = λ k past. ap (λ (xs : List ℕ). has xs k) (lists_joined m keeper.layout keeper.number worker.number keeper.part is.resting)
+        ∙ has_more keeper.part.records.joined worker.number k (joined.fresh k (omega (arith, past))) (λ e. omega (arith, past, next, e));
+    parts = λ k few. dite (ℕ_discrete worker.number k)
+        (λ e. ap (λ (b : Bool). is_some (if b then Some (leaves worker.part) else left_part keeper.joined k)) (eq-eqb worker.number k e))
+        (λ ne. ap (λ (b : Bool). is_some (if b then Some (leaves worker.part) else left_part keeper.joined k)) (ne_eqb worker.number k ne) ∙ joined.parts k (omega (arith, few, next, ne)));
+  })
+
+-- a step changes no runner's number
+pub same_number : {T : Type 0} (m : Meaning) (k : EventKind) (found : ℕ) (r r' : RunnerState T) → Makes m k found r r' → r'.number ≡ r.number
+same_number m k found r r' made = ap (λ y. y.number) made.made
+
+-- the stage after the last announcement, and before it
+module _ (l : Layout) (epoch next : ℕ) (clear : Bool) (found : ℕ) where
+  abbrev clear_still : Bool
+  clear_still = clear && is_clear epoch found
+
+  pub scanned_on : next ≡ l.runners → clear && is_clear epoch found ≡ true → epoch < 2 ^ 62 → stage_scanned l epoch next clear found ≡ stages.Scanning epoch (next + 1) true
+  scanned_on last still few =
+      let on : nat_lt epoch last_epoch ≡ true = grind (arith, nat_tests, few) in
+      (λ i. if eq-eqb next l.runners last i && not (still i && on i) then stages.Idle else stages.Scanning epoch (next + 1) (still i))
+
+  pub scanned_over : next ≡ l.runners → (clear && is_clear epoch found) && nat_lt epoch last_epoch ≡ false → stage_scanned l epoch next clear found ≡ stages.Idle
+  scanned_over last over = (λ i. if eq-eqb next l.runners last i && not (over i) then stages.Idle else stages.Scanning epoch (next + 1) (clear && is_clear epoch found))
+
+  pub scanned_more : next < l.runners → stage_scanned l epoch next clear found ≡ stages.Scanning epoch (next + 1) (clear && is_clear epoch found)
+  scanned_more few = (λ i. if ne_eqb next l.runners (λ e. omega (arith, few, e)) i && not ((clear && is_clear epoch found) && nat_lt epoch last_epoch) then stages.Idle else stages.Scanning epoch (next + 1) (clear && is_clear epoch found))
+
+-- a split joins no one
+splits_none : (m : Meaning) (l : Layout) (r : ℕ) (spot : Spot) (access : Access) (found : ℕ) (p : PartState) → p.run ≡ None → (after m l r kinds.Split spot access p found).records.joined ≡ p.records.joined
+splits_none m l r spot access found p none = let s = (stepped m l kinds.Split p found).records in
+    kept_joined (r == l.runners) _ (record s { events = counted s.events }) s.joined refl refl
+    ∙ (ap (λ (o : Option RunState). (after_by m l kinds.Split p o found).records.joined) none
+    ∙ same (λ (q : PartState). q.records.joined) (nat_lt p.records.splits l.runners) (record p { records = record (p.records) { splits = p.records.splits + 1 } }) p p.records.joined refl refl)
+
+pub split_joined : {T : Type 0} (m : Meaning) (found : ℕ) (r r' : RunnerState T) (splits count : ℕ) → Makes m kinds.Split found r r' → IsKeeper r splits → HasJoined r count → HasJoined r' count
+split_joined m found r r' splits count made is joined = record {
+  fresh = λ k past. ap (λ y. has y.part.records.joined k) made.made ∙ (ap (λ (xs : List ℕ). has xs k) (splits_none m r.layout r.number made.met.0 made.met.1 found r.part is.resting) ∙ joined.fresh k past);
+  parts = λ k few. ap (λ y. is_some (left_part y.joined k)) made.made ∙ joined.parts k few;
+}
+
+pub first_joined_none : {T : Type 0} (m : Meaning) (t : TableState T) (r : RunnerState T) → r ≡ first_keeper m t → HasJoined r 0
+first_joined_none {T} m t r is = subst (λ (y : RunnerState T). HasJoined y 0) (sym is) (record { fresh = λ k past. refl; parts = λ k few. absurd (omega arith) })

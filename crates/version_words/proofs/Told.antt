@@ -1,0 +1,97 @@
+-- What a runner's code keeps of its part after an event.
+use Rattle.std.specs.Prelude.{◌==◌, ◌&&◌, not, nat_lt, nat_le}
+use Rattle.std.proofs.Common.{◌≡◌, ℕ, ◌+◌, [], Bool, true, false, refl, ap, ◌∙◌, Option, None, if◌then◌else◌, Some, sym}
+use Rattle.table_words.specs.declared.layout.Layout.{Layout}
+use Rattle.table_words.specs.declared.spot.Spot.{Spot}
+use Rattle.table_words.specs.declared.access.Access.{Access}
+use Rattle.table_words.specs.Access.{written}
+use Rattle.structure_laws.specs.Meaning.{Meaning}
+use Rattle.runner_steps.specs.declared.event.EventKind.{EventKind}
+use Rattle.runner_steps.specs.declared.event.EventKind.TheVariants as kinds
+use Rattle.runner_steps.specs.declared.stage.Stage.{Stage}
+use Rattle.runner_steps.specs.declared.stage.Stage.TheVariants as stages
+use Rattle.runner_steps.specs.State.{RunState, PartState}
+use Rattle.runner_steps.specs.Outside.{last_epoch}
+use Rattle.runner_steps.specs.AfterOutside.{with_stage, collected, scanned, is_clear, scan_one_after, advance_after}
+use Rattle.runner_steps.specs.After.{outside_after, after_by, stepped, after}
+use Rattle.version_words.specs.declared.place.RunPlace.{RunPlace}
+use Rattle.version_words.specs.RunnerState.{RunnerState, told_part}
+use Rattle.version_words.specs.Place.{HasPlace}
+use Rattle.version_words.specs.Events.{Makes}
+use Rattle.version_words.proofs.Asked.{is_outer, in_no_run}
+use Rattle.version_words.proofs.Splits.{notes}
+
+false_true : false ≡ true → ⊥
+false_true e = cc
+
+module _ (m : Meaning) (l : Layout) (r : ℕ) (k : EventKind) (spot : Spot) (access : Access) (p : PartState) (found : ℕ) where
+  pub told : told_part (after m l r k spot access p found) ≡ told_part (stepped m l k p found)
+  told = ap (λ (z : ℕ). record (told_part (stepped m l k p found)) { records = record { known = []; finished = []; events = 0; left = []; splits = z; joined = [] } })
+      (notes l r k spot (written access found) (stepped m l k p found).records)
+
+  -- after an event in no run
+  pub told_outside : p.run ≡ None → told_part (after m l r k spot access p found) ≡ told_part (outside_after m l k p found)
+  told_outside none = told ∙ ap (λ (o : Option RunState). told_part (after_by m l k p o found)) none
+
+-- a choice between two parts
+told_chosen : (b : Bool) (p q p' q' : PartState) → p' ≡ told_part p → q' ≡ told_part q → (if b then p' else q') ≡ told_part (if b then p else q)
+told_chosen true p q p' q' e e' = e
+told_chosen false p q p' q' e e' = e'
+
+pub told_scan : (l : Layout) (p : PartState) (stage : Stage) (found : ℕ) → scan_one_after l (told_part p) stage found ≡ told_part (scan_one_after l p stage found)
+told_scan l p (stages.Scanning x next clear) found =
+    let still = clear && is_clear x found in
+    let over = next == l.runners && not (still && nat_lt x last_epoch) in
+    let on = stages.Scanning x (next + 1) still in
+    told_chosen (nat_le next l.runners) (scanned l p x next still) p (scanned l (told_part p) x next still) (told_part p)
+    (told_chosen over (collected p x) (with_stage p on) (collected (told_part p) x) (with_stage (told_part p) on) refl refl) refl
+told_scan l p _ found = refl
+
+pub told_advance : (p : PartState) (stage : Stage) → advance_after (told_part p) stage ≡ told_part (advance_after p stage)
+told_advance p (stages.Scanning x next clear) = told_chosen (nat_lt x last_epoch) (collected p (x + 1)) p (collected (told_part p) (x + 1)) (told_part p) refl refl
+told_advance p _ = refl
+
+run_chosen : (b : Bool) (p q : PartState) (run : Option RunState) → p.run ≡ run → q.run ≡ run → (if b then p else q).run ≡ run
+run_chosen true p q run e e' = e
+run_chosen false p q run e e' = e'
+
+scan_runs : (l : Layout) (p : PartState) (stage : Stage) (found : ℕ) → (scan_one_after l p stage found).run ≡ p.run
+scan_runs l p (stages.Scanning x next clear) found =
+    let still = clear && is_clear x found in
+    run_chosen (nat_le next l.runners) (scanned l p x next still) p p.run (run_chosen (next == l.runners && not (still && nat_lt x last_epoch)) (collected p x) (with_stage p (stages.Scanning x (next + 1) still)) p.run refl refl) refl
+scan_runs l p _ found = refl
+
+advance_runs : (p : PartState) (stage : Stage) → (advance_after p stage).run ≡ p.run
+advance_runs p (stages.Scanning x next clear) = run_chosen (nat_lt x last_epoch) (collected p (x + 1)) p p.run refl refl
+advance_runs p _ = refl
+
+module _ (m : Meaning) (l : Layout) (p : PartState) (found : ℕ) where
+  outer_runs : (k : EventKind) → is_outer k ≡ true → (outside_after m l k p found).run ≡ p.run
+  outer_runs (kinds.ScanOne n) e = scan_runs l p p.stage found
+  outer_runs kinds.Advance e = advance_runs p p.stage
+  outer_runs kinds.Split e = run_chosen (nat_lt p.records.splits l.runners) (record p { records = record (p.records) { splits = p.records.splits + 1 } }) p p.run refl refl
+  outer_runs (kinds.Hold thunk d) e = run_chosen (found == thunk.word) _ _ p.run refl refl
+  outer_runs (kinds.LoadCell o) e = absurd (false_true e)
+  outer_runs (kinds.LoadThunk o) e = absurd (false_true e)
+  outer_runs kinds.EpochForRetire e = absurd (false_true e)
+  outer_runs _ e = refl
+
+  -- a step in no run begins none
+  pub still_outside : (r : ℕ) (k : EventKind) (spot : Spot) (access : Access) → is_outer k ≡ true → p.run ≡ None → (after m l r k spot access p found).run ≡ None
+  still_outside r k spot access e none = ap (λ (o : Option RunState). (after_by m l k p o found).run) none ∙ (outer_runs k e ∙ none)
+
+some_none : {A : Type 0} → (a : A) → None ≡ Some a → ⊥
+some_none a e = cc
+
+-- a runner in no run has none to keep the place of
+pub no_place : {T : Type 0} (m : Meaning) (k : EventKind) (found : ℕ) (r r' : RunnerState T) (kept : RunPlace) → is_outer k ≡ true → Makes m k found r r' → HasPlace kept r'.part
+no_place m k found r r' kept e made q run = absurd (some_none q
+    (sym (ap (λ y. y.part.run) made.made ∙ still_outside m r.layout r.part found r.number k made.met.0 made.met.1 e (in_no_run m r k e (record { met = made.met; asked = made.asked }))) ∙ run))
+
+-- the lists after a step in no run
+pub outer_lists : {T : Type 0} (m : Meaning) (k : EventKind) (found : ℕ) (r r' : RunnerState T) → is_outer k ≡ true → Makes m k found r r' → told_part (outside_after m r.layout k r.part found) ≡ told_part r'.part
+outer_lists m k found r r' e made = sym (ap (λ y. told_part y.part) made.made ∙ told_outside m r.layout r.number k made.met.0 made.met.1 r.part found (in_no_run m r k e (record { met = made.met; asked = made.asked })))
+
+pub scan_lists : {T : Type 0} (m : Meaning) (n found : ℕ) (r r' : RunnerState T) (kept kept' : PartState) → Makes m (kinds.ScanOne n) found r r' → kept ≡ told_part r.part → kept' ≡ scan_one_after r.layout kept kept.stage found → kept' ≡ told_part r'.part
+scan_lists m n found r r' kept kept' made is next =
+    next ∙ (ap (λ (q : PartState). scan_one_after r.layout q q.stage found) is ∙ (told_scan r.layout r.part r.part.stage found ∙ outer_lists m (kinds.ScanOne n) found r r' refl made))

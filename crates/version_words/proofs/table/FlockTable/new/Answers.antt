@@ -1,0 +1,14 @@
+use Rattle.std.proofs.Common.{List, sym, ap, subst, ◌∙◌}
+use Rattle.map_history.specs.declared.op.Request.{Request}
+use Rattle.table_words.specs.declared.sizes.Sizes.{Sizes}
+use Rattle.runner_steps.specs.Asks.{sizes_for}
+use Rattle.machine_states.specs.First.{IsFilled}
+use Rattle.version_words.proofs.Begins.{begins}
+use Rattle.version_words.proofs.table.FlockTable.new.Goals as goal
+
+pub of_words-requires : goal.of_words-requires
+of_words-requires g c =
+    let m = g.S.Structure.meaning c.args.structure in
+    let sizes_is = c.sizes_for-sizes.ensures ∙ ap (λ (rs : List Request). sizes_for m c.args.layout rs) (sym c.in_ok-requests.ensures.items) in
+    begins m c.args.structure c.args.layout c.in_ok-requests.requests.items c.as_slice.result.now
+    (subst (λ (z : Sizes). IsFilled m z z.cells c.as_slice.result.now) sizes_is (subst (IsFilled m c.sizes_for-sizes.result c.sizes_for-sizes.result.cells) (sym c.as_slice.ensures.value) c.in_ok-words.ensures))

@@ -1,0 +1,14 @@
+use Rattle.std.proofs.Common.{refl, sym, subst, ◌+◌}
+use Rattle.runner_steps.specs.declared.event.EventKind.TheVariants.{OutcomeCommit}
+use Rattle.version_words.specs.declared.block.Block.{Block}
+use Rattle.version_words.specs.Kept.{IsKept}
+use Rattle.version_words.proofs.Inside.{commit_kept}
+use Rattle.version_words.proofs.table.FlockTable.outcome_commit.Goals as goal
+
+pub invariant_of-runner : goal.invariant_of-runner
+invariant_of-runner g c =
+    let m = g.S.Structure.meaning c.args.self.now.structure in let seat = c.runner.inside.seat in let new = c.exchange-found.new.seat in
+    let kept = c.runner.inside.kept.value in let number = c.runner.inside.number in
+    let after_commit = commit_kept m OutcomeCommit c.exchange-found.result number kept seat.table_id new.table_id seat.me new.me c.exchange-found.ensures.event c.exchange-found.ensures.slots c.runner.invariant refl in
+    subst (λ (b : Block). IsKept number (record b { place = record (b.place) { agreed = c.deref.result.now.place.agreed + 1 } }) new.me) (sym c.deref_mut.ensures.value)
+    (subst (λ (b : Block). IsKept number (record kept { place = record (kept.place) { agreed = b.place.agreed + 1 } }) new.me) (sym c.deref.ensures) after_commit)

@@ -1,0 +1,44 @@
+use Rattle.std.proofs.Common.{ℕ, ◌<◌, ◌+◌, ◌^◌, ◌-◌, Some, refl, sym, ap, subst, ◌∙◌}
+use Rattle.section_body.specs.Word.{version_of, held_word, next_word}
+use Rattle.table_words.specs.declared.spot.Spot.TheVariants.{Cell}
+use Rattle.table_words.specs.declared.access.Access.TheVariants.{Exchanges}
+use Rattle.table_words.specs.Limits.{IsWithinLimits}
+use Rattle.runner_steps.specs.declared.event.EventKind.TheVariants.{Release}
+use Rattle.std.specs.Prelude.{Option}
+use Rattle.runner_steps.specs.State.{RunState}
+use Rattle.version_words.specs.Place.{held_by_run}
+use Rattle.version_words.proofs.Inside.{may_release, has_run, quiet_kept}
+use Rattle.version_words.proofs.table.FlockTable.release.Goals as goal
+
+pub held_word-held-requires-clause-descriptor : goal.held_word-held-requires-clause-descriptor
+held_word-held-requires-clause-descriptor g c =
+    let m = g.S.Structure.meaning c.args.self.now.structure in let r = c.args.runner in let word = c.args.word in let held = held_by_run r.part.run word in
+    let run = has_run m r Release (Cell c.args.place, Exchanges held (next_word held 0)) refl c.requires.next in
+    let limits = subst IsWithinLimits (sym (c.requires.own.layout ∙ ap (λ t. t.layout) (sym c.self.view_is))) c.self.invariant.limits in
+    let next = c.requires.next ∙ ap (λ (o : Option RunState). Some (Cell c.args.place, Exchanges (held_by_run o word) (next_word (held_by_run o word) 0))) run.1 in
+    let can = may_release m r run.0 c.args.place word (next_word (held_word run.0.descriptor word) 0) limits run.1 next in
+    let is = ap (λ b. b.place.descriptor) c.deref.ensures ∙ (c.runner.invariant.place run.0 (ap (λ y. y.part.run) c.runner.view_is ∙ run.1)).descriptor in
+    subst (λ (n : ℕ). n < 2 ^ 32 - 1) (sym is) can.0.few
+
+pub held_word-held-requires-clause-version : goal.held_word-held-requires-clause-version
+held_word-held-requires-clause-version g c =
+    let m = g.S.Structure.meaning c.args.self.now.structure in let r = c.args.runner in let word = c.args.word in let held = held_by_run r.part.run word in
+    let run = has_run m r Release (Cell c.args.place, Exchanges held (next_word held 0)) refl c.requires.next in
+    let limits = subst IsWithinLimits (sym (c.requires.own.layout ∙ ap (λ t. t.layout) (sym c.self.view_is))) c.self.invariant.limits in
+    let next = c.requires.next ∙ ap (λ (o : Option RunState). Some (Cell c.args.place, Exchanges (held_by_run o word) (next_word (held_by_run o word) 0))) run.1 in
+    let can = may_release m r run.0 c.args.place word (next_word (held_word run.0.descriptor word) 0) limits run.1 next in
+    can.0.low
+
+pub next-free-requires : goal.next-free-requires
+next-free-requires g c =
+    let m = g.S.Structure.meaning c.args.self.now.structure in let r = c.args.runner in let word = c.args.word in let held = held_by_run r.part.run word in
+    let run = has_run m r Release (Cell c.args.place, Exchanges held (next_word held 0)) refl c.requires.next in
+    let limits = subst IsWithinLimits (sym (c.requires.own.layout ∙ ap (λ t. t.layout) (sym c.self.view_is))) c.self.invariant.limits in
+    let next = c.requires.next ∙ ap (λ (o : Option RunState). Some (Cell c.args.place, Exchanges (held_by_run o word) (next_word (held_by_run o word) 0))) run.1 in
+    let can = may_release m r run.0 c.args.place word (next_word (held_word run.0.descriptor word) 0) limits run.1 next in
+    let is = ap (λ b. b.place.descriptor) c.deref.ensures ∙ (c.runner.invariant.place run.0 (ap (λ y. y.part.run) c.runner.view_is ∙ run.1)).descriptor in
+    subst (λ (n : ℕ). version_of n + 1 < 2 ^ 32) (sym (c.held_word-held.ensures ∙ ap (λ (d : ℕ). held_word d word) is)) can.1
+
+pub invariant_of-runner : goal.invariant_of-runner
+invariant_of-runner g c = let seat = c.runner.inside.seat in let event = c.exchange.ensures.event in
+    quiet_kept (g.S.Structure.meaning c.args.self.now.structure) Release c.exchange.result c.runner.inside.number c.runner.inside.kept.value seat.table_id c.exchange.new.seat.table_id seat.me c.exchange.new.seat.me event c.exchange.ensures.slots c.runner.invariant refl

@@ -1,0 +1,11 @@
+pub mod Room
+pub mod Shown
+pub mod Naming
+pub mod Rule
+pub mod RunnerState
+pub mod TableState
+pub mod Events
+pub mod Place
+pub mod Kept
+pub mod Closed
+pub mod Stages

@@ -1,0 +1,42 @@
+-- Which event a step is.
+use Rattle.std.specs.Prelude.{ℕ, ◌/◌, ◌%◌, ◌==◌, List, Bool, true, false, Option, Some, None}
+use Rattle.atomic_table.specs.Table.{Step}
+use Rattle.map_history.specs.declared.op.Request.{Request}
+use Rattle.section_body.specs.declared.thunk.Thunk.{Thunk}
+use Rattle.table_words.specs.declared.layout.Layout.{Layout}
+use Rattle.table_words.specs.declared.spot.Spot.{Spot}
+use Rattle.table_words.specs.declared.spot.Spot.TheVariants.{Seat}
+use Rattle.structure_laws.specs.Meaning.{Meaning}
+use Rattle.runner_steps.specs.declared.event.EventKind.{EventKind}
+use Rattle.runner_steps.specs.declared.event.EventKind.TheVariants as kinds
+use Rattle.runner_steps.specs.declared.stage.Stage.{Stage}
+use Rattle.runner_steps.specs.declared.stage.Stage.TheVariants as stages
+use Rattle.runner_steps.specs.State.{RunState, PartState}
+
+-- which event a step is, by the part before it and the step's word and operands: a step can be told nothing else
+abbrev pub Naming : Type 1
+Naming = Meaning → Layout → List Request → PartState → Step Thunk → EventKind
+
+-- an event that changes one part and no number of seats
+abbrev pub is_plain : EventKind → Bool
+is_plain kinds.Split = false
+is_plain (kinds.Join worker) = false
+is_plain _ = true
+
+abbrev pub is_seat : Spot → Bool
+is_seat Seat = true
+is_seat _ = false
+
+-- a scan reads the announcement that comes next
+abbrev pub scan_of : Stage → EventKind
+scan_of (stages.Scanning epoch next clear) = kinds.ScanOne next
+scan_of _ = kinds.ScanOne 0
+
+-- a stamp word or a reply word is read, by its place among them
+abbrev pub entry_of : ℕ → EventKind
+entry_of place = kinds.LoadEntry (place / 2) (place % 2 == 1)
+
+-- a cell is loaded: in a run the one that comes next, outside the one that the runner chooses
+abbrev pub load_of : Option RunState → ℕ → EventKind
+load_of None place = kinds.LoadCell (Some place)
+load_of (Some q) place = kinds.LoadCell None

@@ -1,0 +1,42 @@
+-- What a runner's code keeps of a run in progress.
+use Rattle.std.specs.Prelude.{◌≡◌, ℕ, ◌<◌, ◌%◌, ◌^◌, length, slice_index, Option, Some, None}
+use Rattle.section_body.specs.Word.{held_word}
+use Rattle.table_words.specs.declared.spot.Spot.{Spot}
+use Rattle.table_words.specs.declared.spot.Spot.TheVariants as spots
+use Rattle.runner_steps.specs.State.{RunState, PartState}
+use Rattle.version_words.specs.declared.place.RunPlace.{RunPlace}
+
+-- it has the run's descriptor, how many words of the opening were loaded, the request that they name, and how many words were agreed on
+pub record IsPlaced (kept : RunPlace) (q : RunState) : Type 0 where
+  pub descriptor : kept.descriptor ≡ q.descriptor
+  pub opened : kept.opened ≡ length q.opened
+  pub request : 1 < length q.opened → kept.request ≡ slice_index q.opened 1 % 2 ^ 32
+  pub agreed : kept.agreed ≡ length q.trail
+
+-- where the runner has a run in progress
+abbrev pub HasPlace : RunPlace → PartState → Type 0
+HasPlace kept p = (q : RunState) → p.run ≡ Some q → IsPlaced kept q
+
+-- the next word of the log of a runner's run
+abbrev pub next_log : Option RunState → Spot
+next_log None = spots.Seat
+next_log (Some q) = spots.LogWord q.descriptor (length q.trail)
+
+-- the done word of the run's descriptor
+abbrev pub own_done : Option RunState → Spot
+own_done None = spots.Seat
+own_done (Some q) = spots.DoneWord q.descriptor
+
+-- the stamp word and the reply word of the run's request
+abbrev pub own_stamp : Option RunState → Spot
+own_stamp None = spots.Seat
+own_stamp (Some q) = spots.Stamp (slice_index q.opened 1 % 2 ^ 32)
+
+abbrev pub own_reply : Option RunState → Spot
+own_reply None = spots.Seat
+own_reply (Some q) = spots.Reply (slice_index q.opened 1 % 2 ^ 32)
+
+-- the word of a lock that the run's section holds, where this free word stood before
+abbrev pub held_by_run : Option RunState → ℕ → ℕ
+held_by_run None word = 0
+held_by_run (Some q) word = held_word q.descriptor word

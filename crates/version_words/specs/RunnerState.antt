@@ -1,0 +1,47 @@
+-- What contracts see of a runner.
+use Rattle.std.specs.Prelude.{ℕ, List, [], Option, Some, None, false}
+use Rattle.atomic_table.specs.Seated.{TableId}
+use Rattle.map_history.specs.declared.op.Request.{Request}
+use Rattle.table_words.specs.declared.layout.Layout.{Layout}
+use Rattle.runner_steps.specs.declared.stage.Stage.{Stage}
+use Rattle.runner_steps.specs.declared.stage.Stage.TheVariants as stages
+use Rattle.runner_steps.specs.State.{PartState}
+use Rattle.runner_steps.specs.Lists.{no_reads}
+
+-- a runner: its table, its number, what it is at and keeps, and of the keeper the parts of the workers that it joined, the last one first
+pub record RunnerState (T : Type 0) : Type 0 where
+  pub table : TableId
+  pub structure : Option T
+  pub layout : Layout
+  pub requests : List Request
+  pub number : ℕ
+  pub part : PartState
+  pub joined : List (ℕ × PartState)
+
+-- the epoch of an entered runner
+abbrev pub entered_of : Stage → Option ℕ
+entered_of (stages.Entered g) = Some g
+entered_of _ = None
+
+-- of a part, what the runner's code keeps
+abbrev pub told_part : PartState → PartState
+told_part p = record {
+  stage = p.stage;
+  run = None;
+  published = None;
+  nodes = record (p.nodes) { tests = [] };
+  descriptors = record (p.descriptors) { stored = [] };
+  reads = no_reads;
+  records = record { known = []; finished = []; events = 0; left = []; splits = p.records.splits; joined = [] };
+  gone = false;
+}
+
+-- the epoch that a runner loaded and has to announce
+abbrev pub loaded_of : Stage → ℕ
+loaded_of (stages.Loaded epoch) = epoch
+loaded_of _ = 0
+
+-- the epoch for which a runner scans
+abbrev pub scanned_of : Stage → ℕ
+scanned_of (stages.Scanning epoch next clear) = epoch
+scanned_of _ = 0

@@ -1,0 +1,37 @@
+-- A runner in no run.
+use Rattle.std.specs.Prelude.{◌≡◌, ℕ, ◌+◌, ◌<◌, ◌≤◌, Bool, false, not, ◌==◌, ◌&&◌, nat_lt, Option, None, if◌then◌else◌}
+use Rattle.std.specs.Option.{IsSome}
+use Rattle.table_words.specs.declared.layout.Layout.{Layout}
+use Rattle.runner_steps.specs.declared.stage.Stage.{Stage}
+use Rattle.runner_steps.specs.declared.stage.Stage.TheVariants as stages
+use Rattle.runner_steps.specs.declared.entries.Published.{Published}
+use Rattle.runner_steps.specs.Tests.{has}
+use Rattle.runner_steps.specs.Outside.{last_epoch}
+use Rattle.runner_steps.specs.AfterOutside.{is_clear}
+use Rattle.version_words.specs.Shown.{left_part}
+use Rattle.version_words.specs.RunnerState.{RunnerState}
+
+-- the runner is in no run, at this stage, and has this section to retire, if any
+pub record IsAt {T : Type 0} (r : RunnerState T) (stage : Stage) (section : Option Published) : Type 0 where
+  pub present : r.part.gone ≡ false
+  pub resting : r.part.run ≡ None
+  pub at : r.part.stage ≡ stage
+  pub published : r.part.published ≡ section
+  pub seated : r.number ≤ r.layout.runners
+
+-- a keeper in no run that has split off so many workers
+pub record IsKeeper {T : Type 0} (r : RunnerState T) (splits : ℕ) : Type 0 where
+  pub present : r.part.gone ≡ false
+  pub resting : r.part.run ≡ None
+  pub number : r.number ≡ r.layout.runners
+  pub as_many : r.part.records.splits ≡ splits
+
+-- the stage after one more announcement was read
+abbrev pub stage_scanned : Layout → ℕ → ℕ → Bool → ℕ → Stage
+stage_scanned l epoch next clear found = let still = clear && is_clear epoch found in
+    if next == l.runners && not (still && nat_lt epoch last_epoch) then stages.Idle else stages.Scanning epoch (next + 1) still
+
+-- a keeper that has joined the first workers, so many, and no others
+pub record HasJoined {T : Type 0} (r : RunnerState T) (count : ℕ) : Type 0 where
+  pub fresh : (worker : ℕ) → count ≤ worker → has r.part.records.joined worker ≡ false
+  pub parts : (worker : ℕ) → worker < count → IsSome (left_part r.joined worker)

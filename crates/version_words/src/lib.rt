@@ -1,0 +1,28 @@
+//! The machine's words, shared by threads.
+//!
+//! `table` has the table and its private steps, `seats` how runners are made and joined and how a table begins and ends, `entry`
+//! and `scan` the step calls, `runner` a seat with what its thread keeps (`kept`), and `words` what is left of a closed table.
+//! `rule` is what holds between any two steps, `view` what a seat knows, `plays` what a step tells it, and `laws` what the types
+//! say, as contracts.
+#![tactic(auto)]
+
+mod block;
+mod entry;
+mod kept;
+mod laws;
+mod place;
+mod plays;
+mod rule;
+mod run_ends;
+mod runner;
+mod runs;
+mod scan;
+mod seats;
+mod table;
+mod view;
+mod words;
+
+pub use laws::words_are_reached;
+pub use runner::Runner;
+pub use table::FlockTable;
+pub use words::Words;

@@ -1,0 +1,226 @@
+//! What each step tells its runner: it was this event on the own part, and its word had this number.
+//!
+//! A step can't be told a value, so where its event has an argument its name reads it off the part before, or off the number of
+//! the word that the step met.
+use crate::view::View;
+use atomic_table::{Join, Play, Split};
+use runner_steps::Structure;
+use section_body::Thunk;
+use std::marker::PhantomData;
+
+/// Which event a step is.
+pub trait Named {
+    ghost use Rattle.version_words.specs.Naming.{Naming};
+
+    ghost naming: { Naming };
+}
+
+/// A step that is the event of this name.
+pub struct Makes<S, E> {
+    marker: PhantomData<(S, E)>,
+}
+
+impl<S: Structure, E: Named> Play<Thunk, View<S>> for Makes<S, E> {
+    ghost use Rattle.version_words.specs.Rule.{Tells};
+
+    ghost then = { Tells S.meaning E.naming };
+}
+
+pub struct EnterLoad;
+
+impl Named for EnterLoad {
+    ghost use Rattle.runner_steps.specs.declared.event.EventKind.TheVariants as kinds;
+
+    ghost naming = { λ m layout requests part step. kinds.EnterLoad };
+}
+
+pub struct Announce;
+
+impl Named for Announce {
+    ghost use Rattle.runner_steps.specs.declared.event.EventKind.TheVariants as kinds;
+
+    ghost naming = { λ m layout requests part step. kinds.Announce };
+}
+
+pub struct EnterAgain;
+
+impl Named for EnterAgain {
+    ghost use Rattle.runner_steps.specs.declared.event.EventKind.TheVariants as kinds;
+
+    ghost naming = { λ m layout requests part step. kinds.EnterAgain };
+}
+
+pub struct Idle;
+
+impl Named for Idle {
+    ghost use Rattle.runner_steps.specs.declared.event.EventKind.TheVariants as kinds;
+
+    ghost naming = { λ m layout requests part step. kinds.Idle };
+}
+
+pub struct ScanEpoch;
+
+impl Named for ScanEpoch {
+    ghost use Rattle.runner_steps.specs.declared.event.EventKind.TheVariants as kinds;
+
+    ghost naming = { λ m layout requests part step. kinds.ScanEpoch };
+}
+
+pub struct Advance;
+
+impl Named for Advance {
+    ghost use Rattle.runner_steps.specs.declared.event.EventKind.TheVariants as kinds;
+
+    ghost naming = { λ m layout requests part step. kinds.Advance };
+}
+
+pub struct Commit;
+
+impl Named for Commit {
+    ghost use Rattle.runner_steps.specs.declared.event.EventKind.TheVariants as kinds;
+
+    ghost naming = { λ m layout requests part step. kinds.Commit };
+}
+
+pub struct ExchangeCell;
+
+impl Named for ExchangeCell {
+    ghost use Rattle.runner_steps.specs.declared.event.EventKind.TheVariants as kinds;
+
+    ghost naming = { λ m layout requests part step. kinds.ExchangeCell };
+}
+
+pub struct SetDone;
+
+impl Named for SetDone {
+    ghost use Rattle.runner_steps.specs.declared.event.EventKind.TheVariants as kinds;
+
+    ghost naming = { λ m layout requests part step. kinds.SetDone };
+}
+
+pub struct Release;
+
+impl Named for Release {
+    ghost use Rattle.runner_steps.specs.declared.event.EventKind.TheVariants as kinds;
+
+    ghost naming = { λ m layout requests part step. kinds.Release };
+}
+
+pub struct ClockLoad;
+
+impl Named for ClockLoad {
+    ghost use Rattle.runner_steps.specs.declared.event.EventKind.TheVariants as kinds;
+
+    ghost naming = { λ m layout requests part step. kinds.ClockLoad };
+}
+
+pub struct StampExchange;
+
+impl Named for StampExchange {
+    ghost use Rattle.runner_steps.specs.declared.event.EventKind.TheVariants as kinds;
+
+    ghost naming = { λ m layout requests part step. kinds.StampExchange };
+}
+
+pub struct ClockRaise;
+
+impl Named for ClockRaise {
+    ghost use Rattle.runner_steps.specs.declared.event.EventKind.TheVariants as kinds;
+
+    ghost naming = { λ m layout requests part step. kinds.ClockRaise };
+}
+
+pub struct ReplyExchange;
+
+impl Named for ReplyExchange {
+    ghost use Rattle.runner_steps.specs.declared.event.EventKind.TheVariants as kinds;
+
+    ghost naming = { λ m layout requests part step. kinds.ReplyExchange };
+}
+
+pub struct NestedLoad;
+
+impl Named for NestedLoad {
+    ghost use Rattle.runner_steps.specs.declared.event.EventKind.TheVariants as kinds;
+
+    ghost naming = { λ m layout requests part step. kinds.NestedLoad };
+}
+
+pub struct NestedHold;
+
+impl Named for NestedHold {
+    ghost use Rattle.runner_steps.specs.declared.event.EventKind.TheVariants as kinds;
+
+    ghost naming = { λ m layout requests part step. kinds.NestedHold };
+}
+
+pub struct OutcomeLoad;
+
+impl Named for OutcomeLoad {
+    ghost use Rattle.runner_steps.specs.declared.event.EventKind.TheVariants as kinds;
+
+    ghost naming = { λ m layout requests part step. kinds.OutcomeLoad };
+}
+
+pub struct OutcomeCommit;
+
+impl Named for OutcomeCommit {
+    ghost use Rattle.runner_steps.specs.declared.event.EventKind.TheVariants as kinds;
+
+    ghost naming = { λ m layout requests part step. kinds.OutcomeCommit };
+}
+
+/// In a run the cell is the one that comes next; outside it is read off the step's word.
+pub struct LoadCell;
+
+impl Named for LoadCell {
+    ghost use Rattle.std.specs.Prelude.{◌+◌, ◌*◌, ◌-◌, length};
+    ghost use Rattle.version_words.specs.Naming.{load_of};
+
+    ghost naming = { λ m layout requests part step. load_of part.run (step.word - (4 + layout.runners + 2 * length requests)) };
+}
+
+/// The announcement is the one that comes next.
+pub struct ScanOne;
+
+impl Named for ScanOne {
+    ghost use Rattle.version_words.specs.Naming.{scan_of};
+
+    ghost naming = { λ m layout requests part step. scan_of part.stage };
+}
+
+/// The request and its word are read off the step's word.
+pub struct LoadEntry;
+
+impl Named for LoadEntry {
+    ghost use Rattle.std.specs.Prelude.{◌+◌, ◌-◌};
+    ghost use Rattle.version_words.specs.Naming.{entry_of};
+
+    ghost naming = { λ m layout requests part step. entry_of (step.word - (4 + layout.runners)) };
+}
+
+/// The keeper splits off the next worker.
+pub struct SplitsOff<S> {
+    marker: PhantomData<S>,
+}
+
+impl<S: Structure> Split<View<S>> for SplitsOff<S> {
+    ghost use Rattle.version_words.specs.Rule.{splitting, split_off};
+
+    ghost left = { λ v. splitting S.meaning v v.structure };
+
+    ghost right = { λ v. split_off S.meaning v v.structure };
+}
+
+/// The keeper joins a worker.
+pub struct Joins<S> {
+    marker: PhantomData<S>,
+}
+
+impl<S: Structure> Join<View<S>> for Joins<S> {
+    ghost use Rattle.version_words.specs.Rule.{joining, spent};
+
+    ghost both = { λ v w. joining S.meaning v w v.structure };
+
+    ghost spent = { spent };
+}

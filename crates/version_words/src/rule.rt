@@ -1,0 +1,31 @@
+//! The rule of the table: its words and all views show a state of the machine that enabled events lead to.
+
+use crate::view::View;
+use atomic_table::TableRule;
+use map_history::Request;
+use runner_steps::Structure;
+use section_body::Thunk;
+use std::marker::PhantomData;
+use table_words::{Layout, Sizes};
+
+/// What a table is told once.
+#[derive(Drop)]
+pub struct Setup<S: Structure> {
+    pub structure: S,
+    pub layout: Layout,
+    pub requests: Vec<Request>,
+    pub sizes: Sizes,
+}
+
+/// The words and all views show a state of the machine that enabled events lead to.
+pub struct Shows<S> {
+    marker: PhantomData<S>,
+}
+
+impl<S: Structure> TableRule<Thunk, View<S>, Setup<S>> for Shows<S> {
+    ghost use Rattle.version_words.specs.Rule.{Holds, keeper_view};
+
+    ghost holds = { λ key s. Holds (S.meaning key.structure) key.structure key.layout key.requests.items s };
+
+    ghost first = { λ key. keeper_view (S.meaning key.structure) key.structure key.layout key.requests.items };
+}

@@ -1,0 +1,94 @@
+//! A seat with what its thread keeps.
+ghost use Rattle.std.specs.Prelude.{◌≡◌, length};
+ghost use Rattle.version_words.specs.RunnerState.{entered_of};
+
+use crate::block::Block;
+use crate::view::View;
+use atomic_table::Seat;
+use runner_steps::Stage;
+use section_body::Thunk;
+use std::alloc::Global;
+use std::marker::Model;
+
+/// A seat at the table, with what its thread keeps: a number, and behind one pointer the runner's lists. What else the runner
+/// knows stands in its view alone and has no bytes.
+#[derive(Drop)]
+pub struct Runner<S> {
+    pub(crate) seat: Seat<Thunk, View<S>>,
+    pub(crate) number: u32,
+    pub(crate) kept: Box<Block, Global>,
+}
+
+impl<S> Model for Runner<S> {
+    ghost use Rattle.version_words.specs.RunnerState.{RunnerState};
+    ghost use Rattle.version_words.specs.Kept.{IsKept};
+
+    ghost Value = { RunnerState S };
+
+    ghost view = { λ a. record {
+      table = a.seat.table_id;
+      structure = a.seat.me.0.structure;
+      layout = a.seat.me.0.layout;
+      requests = a.seat.me.0.requests;
+      number = a.seat.me.0.number;
+      part = a.seat.me.0.part;
+      joined = a.seat.me.0.joined;
+    } };
+
+    ghost invariant = { λ a. IsKept a.number a.kept.value a.seat.me };
+}
+
+impl<S> Runner<S> {
+    pub fn number(&self) -> u32
+        ensures { result ≡ self.now.number }
+    {
+        self.number
+    }
+
+    /// The epoch with which the runner is entered, if it is.
+    pub fn entered(&self) -> Option<u64>
+        ensures { result ≡ entered_of self.now.part.stage }
+    {
+        match self.kept.lists.stage() {
+            Stage::Entered(epoch) => Some(epoch),
+            _ => None,
+        }
+    }
+
+    pub fn free_nodes(&self) -> &[u32]
+        ensures { result.now ≡ self.now.part.nodes.free }
+    {
+        self.kept.lists.free_nodes()
+    }
+
+    pub fn free_descriptors(&self) -> &[u32]
+        ensures { result.now ≡ self.now.part.descriptors.free }
+    {
+        self.kept.lists.free_descriptors()
+    }
+
+    /// The node slots in the own hand, in the order in which they came.
+    pub fn hand(&self) -> &[u32]
+        ensures { result.now ≡ self.now.part.nodes.hand }
+    {
+        self.kept.lists.hand()
+    }
+
+    pub fn limbo_nodes(&self) -> u32
+        ensures { result ≡ length self.now.part.nodes.limbo }
+    {
+        self.kept.lists.limbo_nodes()
+    }
+
+    pub fn limbo_descriptors(&self) -> u32
+        ensures { result ≡ length self.now.part.descriptors.limbo }
+    {
+        self.kept.lists.limbo_descriptors()
+    }
+
+    pub fn worn(&self) -> u32
+        ensures { result ≡ length self.now.part.nodes.worn }
+    {
+        self.kept.lists.worn()
+    }
+}

@@ -1,0 +1,190 @@
+//! How runners are made and joined, and how a table begins and ends.
+ghost use Rattle.std.specs.Prelude.{◌≡◌, ◌≤◌, ◌<◌, IfOk, IfErr, length};
+ghost use Rattle.table_words.specs.Limits.{IsWithinLimits};
+ghost use Rattle.runner_steps.specs.declared.event.EventKind.TheVariants as kinds;
+ghost use Rattle.machine_states.specs.First.{keeper_part, worker_part};
+ghost use Rattle.version_words.specs.TableState.{IsOf, IsNew, first_keeper, HasJoinedAll, IsClosing};
+ghost use Rattle.version_words.specs.Events.{IsEnabled, Makes, next_worker, joined_by};
+
+use crate::block::Block;
+use crate::kept::Kept;
+use crate::place::RunPlace;
+use crate::plays::{Joins, SplitsOff};
+use crate::rule::Setup;
+use crate::runner::Runner;
+use crate::table::FlockTable;
+use crate::words::Words;
+use atomic_table::Table;
+use interleave_core::first_words;
+use map_history::Request;
+use runner_steps::{Structure, sizes_for, slot_count};
+use std::alloc::{AllocError, Global};
+use table_words::Layout;
+
+/// A block with these lists, for a runner in no run.
+fn boxed(alloc: Global, lists: Kept) -> Result<Box<Block, Global>, AllocError>
+    ensures { IfOk result (λ b. b.value.lists ≡ lists) }
+{
+    let place = RunPlace {
+        descriptor: 0,
+        opened: 0,
+        request: 0,
+        agreed: 0,
+    };
+    Ok(Box::new(alloc, Block { lists, place })?)
+}
+
+/// The keeper's lists: its node slots and descriptors come after the workers'.
+fn keeper_lists<S: Structure>(
+    alloc: Global,
+    structure: &S,
+    layout: Layout,
+) -> Result<Box<Block, Global>, AllocError>
+    requires { IsWithinLimits layout }
+    ensures { IfOk result (λ b. b.value.lists ≡ keeper_part (S.meaning structure.now) layout) }
+{
+    let workers = layout.runners;
+    let lists = Kept::new(
+        alloc,
+        structure.fixed_slots() + layout.nodes * workers,
+        2 * workers + 2,
+        slot_count(structure, layout) as usize,
+        layout.sections * workers,
+        workers,
+        (layout.sections * workers + workers) as usize,
+    )?;
+    boxed(alloc, lists)
+}
+
+/// The lists of this worker.
+#[tactic(auto, using(machine_states::proofs::Firsts::nodes_below, machine_states::proofs::Firsts::sections_below))]
+fn worker_lists<S: Structure>(
+    alloc: Global,
+    structure: &S,
+    layout: Layout,
+    worker: u32,
+) -> Result<Box<Block, Global>, AllocError>
+    requires limits { IsWithinLimits layout }
+    requires worker { worker < layout.runners }
+    ensures { IfOk result (λ b. b.value.lists ≡ worker_part (S.meaning structure.now) layout worker) }
+{
+    let lists = Kept::new(
+        alloc,
+        structure.fixed_slots() + layout.nodes * worker,
+        layout.nodes,
+        slot_count(structure, layout) as usize,
+        layout.sections * worker,
+        layout.sections,
+        (layout.sections * layout.runners + layout.runners) as usize,
+    )?;
+    boxed(alloc, lists)
+}
+
+impl<S: Structure> FlockTable<S> {
+    /// The table in its first state, and the keeper.
+    pub fn new(
+        alloc: Global,
+        structure: S,
+        layout: Layout,
+        requests: &[Request],
+    ) -> Result<(FlockTable<S>, Runner<S>), AllocError>
+        requires limits { IsWithinLimits layout }
+        requires few { length requests.now ≤ 131072 }
+        ensures table { IfOk result (λ x. IsNew structure layout requests.now x.0) }
+        ensures own { IfOk result (λ x. IsOf x.0 x.1) }
+        ensures keeper { IfOk result (λ x. x.1 ≡ first_keeper (S.meaning structure) x.0) }
+    {
+        let sizes = sizes_for(&structure, layout, requests);
+        let words = first_words(alloc, &structure, sizes)?;
+        let kept = keeper_lists(alloc, &structure, layout)?;
+        let requests = Vec::from_slice(alloc, requests)?;
+        let setup = Setup {
+            structure,
+            layout,
+            requests,
+            sizes,
+        };
+        let (table, seat) = Table::of_words(alloc, words.as_slice(), &setup)?;
+        let keeper = Runner {
+            seat,
+            number: layout.runners,
+            kept,
+        };
+        Ok((FlockTable { table, setup }, keeper))
+    }
+
+    /// The keeper back, and the next worker. Where there is no memory the keeper comes back as it was.
+    pub fn runner(
+        &self,
+        alloc: Global,
+        mut keeper: Runner<S>,
+    ) -> Result<(Runner<S>, Runner<S>), (Runner<S>, AllocError)>
+        requires own { IsOf self.now keeper }
+        requires next { IsEnabled (S.meaning self.now.structure) kinds.Split keeper }
+        ensures own { IfOk result (λ x. IsOf self.now x.0 × IsOf self.now x.1) }
+        ensures event { IfOk result (λ x. Makes (S.meaning self.now.structure) kinds.Split 0 keeper x.0) }
+        ensures worker { IfOk result (λ x. x.1 ≡ next_worker (S.meaning self.now.structure) keeper) }
+        ensures err { IfErr result (λ e. e.0 ≡ keeper) }
+    {
+        let number = keeper.kept.lists.splits();
+        let Ok(kept) = worker_lists(alloc, &self.setup.structure, self.setup.layout, number) else {
+            return Err((keeper, AllocError));
+        };
+        let seat = self
+            .table
+            .shared
+            .split_seat::<SplitsOff<S>>(&mut keeper.seat);
+        keeper.kept.lists.split(self.setup.layout);
+        let worker = Runner { seat, number, kept };
+        Ok((keeper, worker))
+    }
+
+    /// The keeper, which knows also what the worker knew, and keeps the worker's part as it stood.
+    pub fn join_runner(&self, mut keeper: Runner<S>, worker: Runner<S>) -> Runner<S>
+        requires own { IsOf self.now keeper }
+        requires worker { IsOf self.now worker }
+        requires next { IsEnabled (S.meaning self.now.structure) (kinds.Join worker.number) keeper }
+        ensures own { IsOf self.now result }
+        ensures event { result ≡ joined_by (S.meaning self.now.structure) worker keeper }
+    {
+        let Runner {
+            seat,
+            number: _,
+            kept,
+        } = worker;
+        drop(kept);
+        self.table
+            .shared
+            .join_seat::<Joins<S>>(&mut keeper.seat, seat);
+        keeper
+    }
+
+    /// The words as they stand.
+    pub fn close(self, keeper: Runner<S>) -> Words<S>
+        requires own { IsOf self keeper }
+        requires joined { HasJoinedAll self keeper }
+        ensures { IsClosing (S.meaning self.structure) self keeper result }
+    {
+        let FlockTable { table, setup } = self;
+        let Runner {
+            seat,
+            number: _,
+            kept,
+        } = keeper;
+        drop(kept);
+        let closed = table.close_with(seat);
+        Words { closed, setup }
+    }
+
+    pub fn structure(&self) -> &S
+        ensures { result.now ≡ self.now.structure }
+    {
+        &self.setup.structure
+    }
+
+    pub fn layout(&self) -> Layout
+        ensures { result ≡ self.now.layout }
+    {
+        self.setup.layout
+    }
+}

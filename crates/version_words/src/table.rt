@@ -1,0 +1,108 @@
+//! The shared table.
+ghost use Rattle.std.specs.Prelude.{◌≡◌, ℕ, ◌==◌, false};
+ghost use Rattle.table_words.specs.declared.access.Access.TheVariants.{Loads, Stores, Exchanges, Raises};
+ghost use Rattle.table_words.specs.Access.{written};
+ghost use Rattle.version_words.specs.Naming.{is_seat};
+ghost use Rattle.version_words.specs.TableState.{IsOf};
+ghost use Rattle.version_words.specs.Events.{Makes, Tries, Leaves, Commits, IsNamed, IsBlind, step_at, nothing, seen_seat};
+
+use crate::plays::{self, Named};
+use crate::rule::{Setup, Shows};
+use crate::view::View;
+use atomic_table::{Seat, Table};
+use runner_steps::Structure;
+use section_body::Thunk;
+use std::alloc::Global;
+use std::marker::Model;
+use table_words::Spot;
+
+/// The words of the machine, shared by threads.
+#[derive(Drop)]
+pub struct FlockTable<S: Structure> {
+    pub(crate) table: Table<Thunk, View<S>, Setup<S>, Shows<S>, Global>,
+    pub(crate) setup: Setup<S>,
+}
+
+impl<S: Structure> Model for FlockTable<S> {
+    ghost use Rattle.version_words.specs.TableState.{TableState, IsBuilt};
+
+    ghost Value = { TableState S };
+
+    ghost view = { λ a. record { table = a.table.shared.table_id; structure = a.setup.structure; layout = a.setup.layout; requests = a.setup.requests.items } };
+
+    ghost invariant = { λ a. IsBuilt (S.meaning a.setup.structure) a.table.shared.table_id a.table.shared.key a.setup };
+}
+
+impl<S: Structure> FlockTable<S> {
+    /// A load that is the event of this name.
+    pub(crate) fn load<E: Named>(&self, seat: &mut Seat<Thunk, View<S>>, spot: Spot) -> u64
+        requires own { IsOf self.now (seen_seat seat.old.table_id seat.old.me) }
+        requires named { IsNamed (S.meaning self.now.structure) E.naming (seen_seat seat.old.table_id seat.old.me) (step_at (S.meaning self.now.structure) self.now spot 0 0 nothing) (spot, Loads) }
+        ensures own { IsOf self.now (seen_seat seat.new.table_id seat.new.me) }
+        ensures event { Makes (S.meaning self.now.structure) (E.naming (S.meaning self.now.structure) seat.old.me.0.layout seat.old.me.0.requests seat.old.me.0.part (step_at (S.meaning self.now.structure) self.now spot 0 0 nothing)) result (seen_seat seat.old.table_id seat.old.me) (seen_seat seat.new.table_id seat.new.me) }
+        ensures slots { seat.new.me.1 ≡ seat.old.me.1 }
+    {
+        let at = spot.address(self.setup.sizes);
+        self.table.shared.load::<plays::Makes<S, E>>(seat, at)
+    }
+
+    /// A store that is the event of this name.
+    pub(crate) fn store<E: Named>(&self, seat: &mut Seat<Thunk, View<S>>, spot: Spot, number: u64)
+        requires own { IsOf self.now (seen_seat seat.old.table_id seat.old.me) }
+        requires named { IsNamed (S.meaning self.now.structure) E.naming (seen_seat seat.old.table_id seat.old.me) (step_at (S.meaning self.now.structure) self.now spot number 0 nothing) (spot, Stores number) }
+        requires apart { is_seat spot ≡ false }
+        requires blind { IsBlind (S.meaning self.now.structure) (E.naming (S.meaning self.now.structure) seat.old.me.0.layout seat.old.me.0.requests seat.old.me.0.part (step_at (S.meaning self.now.structure) self.now spot number 0 nothing)) (spot, Stores number) (seen_seat seat.old.table_id seat.old.me) }
+        ensures own { IsOf self.now (seen_seat seat.new.table_id seat.new.me) }
+        ensures event { (found : ℕ) → Makes (S.meaning self.now.structure) (E.naming (S.meaning self.now.structure) seat.old.me.0.layout seat.old.me.0.requests seat.old.me.0.part (step_at (S.meaning self.now.structure) self.now spot number 0 nothing)) found (seen_seat seat.old.table_id seat.old.me) (seen_seat seat.new.table_id seat.new.me) }
+        ensures slots { seat.new.me.1 ≡ seat.old.me.1 }
+    {
+        let at = spot.address(self.setup.sizes);
+        self.table
+            .shared
+            .store::<plays::Makes<S, E>>(seat, at, number)
+    }
+
+    /// An exchange that is the event of this name.
+    pub(crate) fn exchange<E: Named>(
+        &self,
+        seat: &mut Seat<Thunk, View<S>>,
+        spot: Spot,
+        old: u64,
+        new: u64,
+    ) -> u64
+        requires own { IsOf self.now (seen_seat seat.old.table_id seat.old.me) }
+        requires named { IsNamed (S.meaning self.now.structure) E.naming (seen_seat seat.old.table_id seat.old.me) (step_at (S.meaning self.now.structure) self.now spot old new nothing) (spot, Exchanges old new) }
+        requires apart { is_seat spot ≡ false }
+        ensures own { IsOf self.now (seen_seat seat.new.table_id seat.new.me) }
+        ensures event { Makes (S.meaning self.now.structure) (E.naming (S.meaning self.now.structure) seat.old.me.0.layout seat.old.me.0.requests seat.old.me.0.part (step_at (S.meaning self.now.structure) self.now spot old new nothing)) result (seen_seat seat.old.table_id seat.old.me) (seen_seat seat.new.table_id seat.new.me) }
+        ensures tries { Tries (S.meaning self.now.structure) (E.naming (S.meaning self.now.structure) seat.old.me.0.layout seat.old.me.0.requests seat.old.me.0.part (step_at (S.meaning self.now.structure) self.now spot old new nothing)) (result == old) (seen_seat seat.old.table_id seat.old.me) (seen_seat seat.new.table_id seat.new.me) }
+        ensures commits { Commits (S.meaning self.now.structure) (E.naming (S.meaning self.now.structure) seat.old.me.0.layout seat.old.me.0.requests seat.old.me.0.part (step_at (S.meaning self.now.structure) self.now spot old new nothing)) (written (Exchanges old new) result) (result == old) (seen_seat seat.old.table_id seat.old.me) (seen_seat seat.new.table_id seat.new.me) }
+        ensures leaves { Leaves (S.meaning self.now.structure) (E.naming (S.meaning self.now.structure) seat.old.me.0.layout seat.old.me.0.requests seat.old.me.0.part (step_at (S.meaning self.now.structure) self.now spot old new nothing)) (written (Exchanges old new) result) (seen_seat seat.old.table_id seat.old.me) (seen_seat seat.new.table_id seat.new.me) }
+        ensures slots { seat.new.me.1 ≡ seat.old.me.1 }
+    {
+        let at = spot.address(self.setup.sizes);
+        self.table
+            .shared
+            .compare_exchange::<plays::Makes<S, E>>(seat, at, old, new)
+    }
+
+    /// A fetch_max that is the event of this name.
+    pub(crate) fn raise<E: Named>(
+        &self,
+        seat: &mut Seat<Thunk, View<S>>,
+        spot: Spot,
+        number: u64,
+    ) -> u64
+        requires own { IsOf self.now (seen_seat seat.old.table_id seat.old.me) }
+        requires named { IsNamed (S.meaning self.now.structure) E.naming (seen_seat seat.old.table_id seat.old.me) (step_at (S.meaning self.now.structure) self.now spot number 0 nothing) (spot, Raises number) }
+        requires apart { is_seat spot ≡ false }
+        ensures own { IsOf self.now (seen_seat seat.new.table_id seat.new.me) }
+        ensures event { Makes (S.meaning self.now.structure) (E.naming (S.meaning self.now.structure) seat.old.me.0.layout seat.old.me.0.requests seat.old.me.0.part (step_at (S.meaning self.now.structure) self.now spot number 0 nothing)) result (seen_seat seat.old.table_id seat.old.me) (seen_seat seat.new.table_id seat.new.me) }
+        ensures slots { seat.new.me.1 ≡ seat.old.me.1 }
+    {
+        let at = spot.address(self.setup.sizes);
+        self.table
+            .shared
+            .fetch_max::<plays::Makes<S, E>>(seat, at, number)
+    }
+}
