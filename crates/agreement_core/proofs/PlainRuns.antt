@@ -193,7 +193,7 @@ module _ (c : CellRules) (w : AgreementState) (old : IsSound c w) (d : ℕ) (use
   follows_plain_run = record {
     so_far = agrees.so_far;
     prefix = agrees.prefix;
-    exit = agrees.leaves_with;
+    left = λ left. let x = exits left in (x.outcome, x.is, agrees.leaves_with x.outcome x.is);
     answer = answers;
     whole = λ done. ⊎_elim
         (λ answered. agrees.at_end (at s.edge ∙ end_is _ answered.ended))
