@@ -6,4 +6,4 @@
 
 mod laws;
 
-pub use laws::epochs_are_sound;
+pub use laws::{descriptors_are_sound, epochs_are_sound};
