@@ -1,2 +1,4 @@
 pub mod Parts
 pub mod Machine
+pub mod Local
+pub mod Enabled

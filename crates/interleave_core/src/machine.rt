@@ -9,12 +9,14 @@ ghost use Rattle.runner_steps.specs.State.{PartState};
 ghost use Rattle.runner_steps.specs.Tests.{has};
 ghost use Rattle.interleave_core.specs.Parts.{is_listed, owns};
 ghost use Rattle.machine_states.specs.First.{IsFirst};
+ghost use Rattle.machine_states.specs.Reached.{Reached};
+ghost use Rattle.interleave_core.specs.Enabled.{NamesEnabled};
 ghost use Rattle.interleave_core.specs.Machine.{IsSameTable, HasWord, word_of};
 ghost use Rattle.table_words.specs.declared.spot.Spot.TheVariants.{Epoch, Announcement, Cell, LogWord};
 ghost use Rattle.interleave_core.specs.declared.machine.StepError.TheVariants.{NotEnabled};
 
-use crate::enabled::enabled;
 use crate::first::{first_parts, first_words};
+use enabled_kinds::enabled;
 use map_history::Request;
 use part_steps::{after, part_copy};
 use runner_steps::{Event, EventKind, Nodes, Part, Records, Retired, Structure, sizes_for};
@@ -154,12 +156,14 @@ fn put_word(words: &mut Vec<u64>, sizes: Sizes, spot: Spot, number: u64)
 impl<S: Structure> Machine<S> {
     /// One event. At an error the state is as it was.
     ///
-    /// `NotEnabled` comes exactly where the runner may not make this event next, by its kind or by its argument. `Memory` is
-    /// want of memory for the runner's lists.
+    /// `NotEnabled` comes exactly where the runner may not make this event next, by its kind or by its argument, and names the
+    /// kinds of step that it may make. `Memory` is want of memory for the runner's lists.
     pub fn step(&mut self, event: Event) -> Result<(), StepError>
         ensures event { OnOk result (happens (S.meaning self.old.structure) self.old.layout self.old.requests self.old.world event ≡ Some self.new.world) }
         ensures refused { (enabled : ℕ) → result ≡ Err (NotEnabled enabled) → happens (S.meaning self.old.structure) self.old.layout self.old.requests self.old.world event ≡ None }
         ensures refuses { happens (S.meaning self.old.structure) self.old.layout self.old.requests self.old.world event ≡ None → (enabled : ℕ) × (result ≡ Err (NotEnabled enabled)) }
+        ensures kinds { (enabled : ℕ) → result ≡ Err (NotEnabled enabled) → NamesEnabled (S.meaning self.old.structure) self.old.layout self.old.requests self.old.world event.runner enabled }
+        ensures reached { OnOk result (Reached (S.meaning self.old.structure) self.old.layout self.old.requests self.old.world → Reached (S.meaning self.old.structure) self.old.layout self.old.requests self.new.world) }
         ensures err { OnErr result (self.new ≡ self.old) }
         ensures fixed { IsSameTable self.old self.new }
     {
@@ -216,6 +220,7 @@ impl<S: Structure> Machine<S> {
         requires limits { IsWithinLimits layout }
         requires few { length requests.now ≤ 131072 }
         ensures first { IfOk result (λ x. IsFirst (S.meaning structure) layout requests.now x.world) }
+        ensures reached { IfOk result (λ x. Reached (S.meaning structure) layout requests.now x.world) }
         ensures structure { IfOk result (λ x. x.structure ≡ structure) }
         ensures layout { IfOk result (λ x. x.layout ≡ layout) }
         ensures requests { IfOk result (λ x. x.requests ≡ requests.now) }

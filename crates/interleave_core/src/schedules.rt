@@ -2,9 +2,10 @@
 ghost use Rattle.std.specs.Prelude.{◌≡◌, ◌≤◌, ℕ, Some, None, Err, IfOk, length, take, slice_get};
 ghost use Rattle.table_words.specs.Limits.{IsWithinLimits};
 ghost use Rattle.interleave_core.specs.declared.schedules.ScheduleError.TheVariants.{NotEnabled};
-ghost use Rattle.machine_states.specs.Schedules.{IsAfter, StopsAt};
+ghost use Rattle.machine_states.specs.Schedules.{IsAfter};
 ghost use Rattle.machine_joins.specs.Descriptors.{DescriptorsSoundAfter};
 ghost use Rattle.machine_joins.specs.Epochs.{SoundAfter};
+ghost use Rattle.interleave_core.specs.Enabled.{StopsNaming};
 
 use crate::machine::{Machine, StepError};
 use map_history::Request;
@@ -15,7 +16,8 @@ use table_words::Layout;
 /// Why there is no machine after these events.
 #[derive(Clone, Copy, Debug, PartialEq, Eq)]
 pub enum ScheduleError {
-    /// The event with this number is the first that isn't enabled.
+    /// The event with this number is the first that isn't enabled. Bit `j` of `enabled` is set where its runner may make a step
+    /// of the kind with number `j` there.
     NotEnabled { at: usize, enabled: u64 },
     /// There is no memory.
     Memory,
@@ -34,7 +36,10 @@ pub fn all_schedules<S: Structure>(
     ensures ok { IfOk result (λ x. IsAfter (S.meaning structure) layout requests.now events.now x.world) }
     ensures epochs { IfOk result (λ x. SoundAfter (S.meaning structure) layout requests.now events.now x.world) }
     ensures descriptors { IfOk result (λ x. DescriptorsSoundAfter (S.meaning structure) layout requests.now events.now x.world) }
-    ensures not_enabled { (at enabled : ℕ) → result ≡ Err (NotEnabled at enabled) → StopsAt (S.meaning structure) layout requests.now events.now at }
+    ensures structure { IfOk result (λ x. x.structure ≡ structure) }
+    ensures layout { IfOk result (λ x. x.layout ≡ layout) }
+    ensures requests { IfOk result (λ x. x.requests ≡ requests.now) }
+    ensures not_enabled { (at enabled : ℕ) → result ≡ Err (NotEnabled at enabled) → StopsNaming (S.meaning structure) layout requests.now events.now at enabled }
 {
     let Ok(mut machine) = Machine::new(alloc, structure, layout, requests) else {
         return Err(ScheduleError::Memory);

@@ -18,10 +18,11 @@ use Rattle.epoch_core.specs.Events.{slot_of}
 use Rattle.epoch_core.specs.Sound.{is_for_nodes}
 use Rattle.epoch_core.specs.History.{is_out}
 use Rattle.epoch_core.specs.Lists.{times, times_retired, in_hand, in_free, in_worn, in_limbo, IsListed}
-use Rattle.epoch_core.specs.Schedules.{first_state, is_unused}
+use Rattle.epoch_core.specs.Schedules.{IsFirst, first_state, is_unused}
 use Rattle.epoch_core.proofs.Keeping.{first}
 use Rattle.machine_states.specs.World.{World}
-use Rattle.machine_states.specs.First.{IsFirst, first_part, keeper_part, worker_part, falling}
+use Rattle.machine_states.specs.First as states
+use Rattle.machine_states.specs.First.{first_part, keeper_part, worker_part, falling}
 use Rattle.machine_states.specs.Sight.{Sight, sight}
 use Rattle.machine_states.proofs.FirstSights.{first_part_of, first_parts, unannounced, unlogged}
 use Rattle.machine_joins.specs.Entries.{counts_of, stage_of}
@@ -119,6 +120,10 @@ module _ (m : Meaning) (l : Layout) where
       by_test false true e h = absurd (let x = h in cc)
       by_test false false e h = absurd (let x = h in cc)
 
+  -- it is a first state of the component
+  pub first_is : IsFirst (counts_of m l) (first_place m l)
+  first_is = record { unused = at_first m l (λ p. is_unused p ≡ true) refl (λ r. refl); for_nodes = fixed_nodes }
+
   nowhere : (Q : Location → ℕ) → Q Fixed ≡ 0 → ((r : ℕ) → Q (Free r) ≡ 0) → (t : ℕ) → 0 ≡ Q (first_place m l t)
   nowhere Q fixed free t = sym (at_first m l (λ p. Q p ≡ 0) fixed free t)
 
@@ -172,7 +177,7 @@ module _ (m : Meaning) (l : Layout) where
     stored = λ d j n free last. none_some last;
   }
 
-  module _ (rs : List Request) (w : World) (start : IsFirst m l rs w) where
+  module _ (rs : List Request) (w : World) (start : states.IsFirst m l rs w) where
     abbrev s : Sight
     s = sight m l rs w
 
@@ -185,7 +190,7 @@ module _ (m : Meaning) (l : Layout) where
     -- the first state and the component's first state with these places are joined
     pub first_joined : IsJoined m l begun s
     first_joined = record {
-      sound = first (counts_of m l) (first_place m l) (record { unused = at_first m l (λ p. is_unused p ≡ true) refl (λ r. refl); for_nodes = fixed_nodes });
+      sound = first (counts_of m l) (first_place m l) first_is;
       listed = subst (λ (f : ℕ → PartState). IsListed (counts_of m l) begun (λ r. lists_of (f r))) (sym parts_are) listed;
       entries = record {
         epoch = sym (start.words.seen Epoch tt);

@@ -4,3 +4,4 @@ pub mod Steps
 pub mod Sights
 pub mod Updates
 pub mod FirstSights
+pub mod Reached

@@ -8,3 +8,5 @@ pub mod Phases
 pub mod Resolved
 pub mod Placed
 pub mod Runs
+pub mod Progress
+pub mod Moves

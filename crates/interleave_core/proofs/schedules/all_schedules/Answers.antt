@@ -1,9 +1,11 @@
-use Rattle.std.proofs.Common.{take, get_or, sym, ap, ◌∙◌}
+use Rattle.std.proofs.Common.{take, get_or, length, refl, sym, ap, ◌∙◌, Err}
+use Rattle.std.proofs.lemmas.Option.{slice_get_read}
 use Rattle.std.proofs.lemmas.List.{take_more}
 use Rattle.runner_steps.specs.declared.event.Event.{Event}
 use Rattle.machine_states.specs.World.{happens}
 use Rattle.machine_states.proofs.Runs.{run_more}
 use Rattle.machine_joins.proofs.Reached.{sound_after, descriptors_after}
+use Rattle.interleave_core.proofs.Stops.{stops}
 use Rattle.interleave_core.proofs.schedules.all_schedules.Goals as goal
 
 pub loop-at-preserved : goal.loop-at-preserved
@@ -28,3 +30,17 @@ returns-clause-epochs g c = sound_after (g.S.Structure.meaning c.args.structure)
 
 pub returns-clause-descriptors : goal.returns-clause-descriptors
 returns-clause-descriptors g c = descriptors_after (g.S.Structure.meaning c.args.structure) c.args.layout c.args.requests.now c.args.events.now c.loop-at.machine.world
+
+pub returns-in-Err-NotEnabled-clause-not_enabled : goal.returns-in-Err-NotEnabled-clause-not_enabled
+returns-in-Err-NotEnabled-clause-not_enabled g c =
+    let begun = c.in-Ok.machine in
+    let inv = c.loop-at.invariant in
+    let made = c.in-Ok.ensures in
+    let refusal = c.in-Err-NotEnabled in
+    let e = c.index-events-at.result in
+    let m = g.S.Structure.meaning c.args.structure in
+    let refused = rw (inv.structure, inv.layout, inv.requests, made.structure, made.layout, made.requests) at (refusal.ensures.refused refusal.enabled (ap Err refusal.field-0-is)) in
+    let kinds = rw (inv.structure, inv.layout, inv.requests, made.structure, made.layout, made.requests) at (refusal.ensures.kinds refusal.enabled (ap Err refusal.field-0-is)) in
+    let runs = rw (made.structure, made.layout, made.requests) at inv.so_far in
+    let here = slice_get_read c.args.events.now (length c.args.events.now) c.loop-at.at e refl c.loop-at-test.true c.index-events-at.is in
+    λ at enabled. stops m c.args.layout c.args.requests.now c.args.events.now begun.world c.loop-at.machine.world e c.loop-at.at refusal.enabled _ at enabled refusal.enabled-is made.first runs here refused kinds

@@ -1,5 +1,5 @@
-use Rattle.std.proofs.Common.{◌≡◌, ◌<◌, List, length, sym, refl, ap, subst, ◌∙◌, arith, Some, slice_get, slice_set}
-use Rattle.std.proofs.lemmas.Option.{slice_get_read}
+use Rattle.std.proofs.Common.{◌≡◌, ◌<◌, ◌≤◌, ℕ, List, length, sym, refl, ap, subst, ◌∙◌, arith, Some, slice_get, slice_set}
+use Rattle.std.proofs.lemmas.Option.{slice_get_past, slice_get_read}
 use Rattle.map_history.specs.declared.op.Request.{Request}
 use Rattle.table_words.specs.declared.sizes.Sizes.{Sizes}
 use Rattle.table_words.specs.declared.spot.Spot.{Spot}
@@ -8,8 +8,12 @@ use Rattle.table_words.specs.Places.{Fits, address}
 use Rattle.table_words.specs.Seen.{seen}
 use Rattle.runner_steps.specs.Asks.{asks, sizes_for}
 use Rattle.runner_steps.specs.State.{PartState}
-use Rattle.machine_states.specs.World.{seat_of, settled_part, put_part}
 use Rattle.machine_states.proofs.Steps.{asked_fits, not_none, lands, length_put, length_words}
+use Rattle.machine_states.specs.World.{World, seat_of, settled_part, put_part}
+use Rattle.enabled_kinds.specs.May.{AreEnabled}
+use Rattle.interleave_core.specs.Enabled.{NamesEnabled}
+use Rattle.interleave_core.proofs.Enabled.{named, names_none, names}
+use Rattle.machine_states.proofs.Reached.{more_reached}
 use Rattle.interleave_core.proofs.machine.Machine.step.Goals as goal
 
 pub word_at-found-requires-clause-spot : goal.word_at-found-requires-clause-spot
@@ -116,3 +120,30 @@ invariant_of-self g c =
       words = omega (arith, as_many, room);
       parts = ap length c.put_part.ensures ∙ (length_put s.parts.items c.args.event.kind c.seat_of-seat.result c.in-Ok-settled_part.last ∙ c.self.invariant.parts);
     }
+
+pub returns-then-seat-len-clause-kinds : goal.returns-then-seat-len-clause-kinds
+returns-then-seat-len-clause-kinds g c =
+    let s = c.self.inside in
+    let m = g.S.Structure.meaning s.structure in
+    let w : World = record { words = s.words.items; parts = s.parts.items } in
+    let past : length s.parts.items ≤ seat_of s.layout c.args.event.runner = (let a = c.len.ensures in let b = s.parts.ok.0 in let d = c.if-seat-len.true in let e = c.seat_of-seat.ensures in omega (arith, a, b, d, e)) in
+    rw (← c.self.view_is) (λ enabled is. subst (λ (n : ℕ). NamesEnabled m s.layout s.requests.items w c.args.event.runner n) (named 0 enabled is)
+    (names_none m s.layout s.requests.items w c.args.event.runner (slice_get_past s.parts.items (seat_of s.layout c.args.event.runner) past)))
+
+pub returns-in_default-clause-kinds : goal.returns-in_default-clause-kinds
+returns-in_default-clause-kinds g c =
+    let s = c.self.inside in
+    let m = g.S.Structure.meaning s.structure in
+    let e = c.args.event in
+    let p = c.index-part.result.now in
+    let w : World = record { words = s.words.items; parts = s.parts.items } in
+    let room : c.seat_of-seat.result < length s.parts.items = (let a = c.len.ensures in let b = s.parts.ok.0 in let d = c.if-seat-len.false in omega arith) in
+    let here : slice_get s.parts.items (seat_of s.layout e.runner) ≡ Some p =
+    ap (slice_get s.parts.items) (sym c.seat_of-seat.ensures) ∙ slice_get_read s.parts.items (length s.parts.items) c.seat_of-seat.result p refl room c.index-part.ensures in
+    let on_part : AreEnabled m s.layout s.requests.items e.runner p c.enabled-kinds.result =
+    subst (λ (rs : List Request). AreEnabled m s.layout rs e.runner p c.enabled-kinds.result) c.deref-in_default.ensures.value c.enabled-kinds.ensures in
+    rw (← c.self.view_is) (λ enabled is. subst (λ (n : ℕ). NamesEnabled m s.layout s.requests.items w e.runner n) (named c.enabled-kinds.result enabled is)
+    (names m s.layout s.requests.items w e.runner p here c.enabled-kinds.result on_part))
+
+pub returns-clause-reached : goal.returns-clause-reached
+returns-clause-reached g c = λ so_far. more_reached (g.S.Structure.meaning c.args.self.now.structure) c.args.self.now.layout c.args.self.now.requests c.args.self.now.world _ c.args.event so_far (returns-clause-event g c)

@@ -1,0 +1,23 @@
+-- What one event leaves of a section.
+use Rattle.std.specs.Prelude.{ℕ, ◌<◌, ◌≤◌, ◌≡◌, ◌≢◌, true}
+use Rattle.agreement_core.specs.State.{Section, AgreementState}
+
+-- the section is the same, its agreed words stand, its runs have come as far or further, and done it stays done
+pub record GoesOn (s s' : Section) : Type 0 where
+  pub lock : s'.lock ≡ s.lock
+  pub word : s'.word ≡ s.word
+  pub request : s'.request ≡ s.request
+  pub code : s'.code ≡ s.code
+  pub slot : s'.slot ≡ s.slot
+  pub log : (k : ℕ) → 0 < s.log k → s'.log k ≡ s.log k
+  pub edge : s.edge ≤ s'.edge
+  pub done : s.done ≢ 0 → s'.done ≡ s.done
+
+-- what is kept of a run that came to its end stands for good
+pub record RecordsStand (w w' : AgreementState) : Type 0 where
+  pub more : (r : ℕ) → w.finishes r ≤ w'.finishes r
+  pub same : (r i : ℕ) → i < w.finishes r → w'.finished r i ≡ w.finished r i
+
+-- each section goes on whose descriptor isn't freed
+abbrev pub SectionsGoOn : AgreementState → AgreementState → Type 0
+SectionsGoOn w w' = (d : ℕ) → w.used d ≡ true → GoesOn (w.section d) (w'.section d)

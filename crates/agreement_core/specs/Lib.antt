@@ -1,0 +1,17 @@
+pub mod Update
+pub mod State
+pub mod Checks
+pub mod Events
+pub mod Sections
+pub mod Runs
+pub mod Sound
+pub mod Schedules
+pub mod Trails
+pub mod Rising
+pub mod Standing
+pub mod Late
+pub mod Continuing
+pub mod Frame
+pub mod History
+pub mod PlainRuns
+pub mod Helped

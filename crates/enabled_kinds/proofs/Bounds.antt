@@ -1,0 +1,15 @@
+-- The numbers of slots and descriptors are small.
+use Rattle.std.proofs.Common.{ℕ, ◌+◌, ◌*◌, ◌^◌, ◌<◌, ◌≤◌, arith}
+use Rattle.table_words.specs.declared.layout.Layout.{Layout}
+use Rattle.table_words.specs.Limits.{IsWithinLimits}
+use Rattle.table_words.specs.Places.{slot_count, descriptor_count}
+
+few_products : (sections runners : ℕ) → sections ≤ 1024 → runners ≤ 16 → sections * runners ≤ 1024 * 16
+few_products sections runners a b = grind arith
+
+pub few_numbers : (l : Layout) (fixed_slots : ℕ) → IsWithinLimits l → fixed_slots ≤ 3 → slot_count l fixed_slots + descriptor_count l < 2 ^ 32
+few_numbers l fixed_slots limits few =
+    let products = few_products l.sections l.runners limits.few_sections limits.few_runners in
+    let nodes = limits.few_nodes in
+    let runners = limits.few_runners in
+    omega (arith, products, nodes, runners, few)

@@ -1,0 +1,133 @@
+-- Kinds by their numbers.
+use Rattle.std.specs.Prelude.{Bool, Option, Some, None}
+use Rattle.section_body.specs.declared.thunk.Thunk.{Thunk}
+use Rattle.std.proofs.Common.{◌≡◌, ◌≢◌, ◌<◌, ℕ, refl, arith}
+use Rattle.runner_steps.specs.declared.event.EventKind.{EventKind}
+use Rattle.runner_steps.specs.declared.event.EventKind.TheVariants as kinds
+use Rattle.enabled_kinds.specs.Kinds.{kind_number, plain_kind, IsGiven}
+
+absent : {A : Type 0} (a : A) → None ≡ Some a → ⊥
+absent a e = cc
+
+present : {A : Type 0} (a : A) → Some a ≡ None → ⊥
+present a e = cc
+
+the_same : {A : Type 0} (a b : A) → Some a ≡ Some b → a ≡ b
+the_same a b e = cc
+
+-- a kind whose events carry no argument has one event
+pub plain_only : (k k' : EventKind) → plain_kind (kind_number k) ≡ Some k' → k ≡ k'
+plain_only kinds.EnterLoad k' e = the_same kinds.EnterLoad k' e
+plain_only kinds.Announce k' e = the_same kinds.Announce k' e
+plain_only kinds.EnterAgain k' e = the_same kinds.EnterAgain k' e
+plain_only kinds.Idle k' e = the_same kinds.Idle k' e
+plain_only kinds.ScanEpoch k' e = the_same kinds.ScanEpoch k' e
+plain_only (kinds.ScanOne n) k' e = absurd (absent k' e)
+plain_only kinds.Advance k' e = the_same kinds.Advance k' e
+plain_only kinds.Split k' e = the_same kinds.Split k' e
+plain_only kinds.Commit k' e = the_same kinds.Commit k' e
+plain_only (kinds.LoadCell place) k' e = absurd (absent k' e)
+plain_only kinds.ExchangeCell k' e = the_same kinds.ExchangeCell k' e
+plain_only (kinds.PrivateLoad slot word) k' e = absurd (absent k' e)
+plain_only (kinds.PrivateStore slot word number) k' e = absurd (absent k' e)
+plain_only kinds.MakeCommit k' e = the_same kinds.MakeCommit k' e
+plain_only kinds.RetireCommit k' e = the_same kinds.RetireCommit k' e
+plain_only kinds.EpochForRetire k' e = the_same kinds.EpochForRetire k' e
+plain_only (kinds.LoadThunk d) k' e = absurd (absent k' e)
+plain_only kinds.LoadDone k' e = the_same kinds.LoadDone k' e
+plain_only (kinds.Hold thunk d) k' e = absurd (absent k' e)
+plain_only kinds.SetDone k' e = the_same kinds.SetDone k' e
+plain_only kinds.Release k' e = the_same kinds.Release k' e
+plain_only kinds.ClockLoad k' e = the_same kinds.ClockLoad k' e
+plain_only kinds.StampExchange k' e = the_same kinds.StampExchange k' e
+plain_only kinds.ClockRaise k' e = the_same kinds.ClockRaise k' e
+plain_only kinds.ReplyExchange k' e = the_same kinds.ReplyExchange k' e
+plain_only (kinds.Join worker) k' e = absurd (absent k' e)
+plain_only (kinds.LoadEntry request reply) k' e = absurd (absent k' e)
+plain_only kinds.NestedLoad k' e = the_same kinds.NestedLoad k' e
+plain_only kinds.NestedHold k' e = the_same kinds.NestedHold k' e
+plain_only kinds.OutcomeLoad k' e = the_same kinds.OutcomeLoad k' e
+plain_only kinds.OutcomeCommit k' e = the_same kinds.OutcomeCommit k' e
+
+-- the kinds whose events carry arguments
+pub argued : (k : EventKind) → plain_kind (kind_number k) ≡ None → kind_number k ≢ 5 → kind_number k ≢ 9 → kind_number k ≢ 11 → kind_number k ≢ 12 → kind_number k ≢ 16 → kind_number k ≢ 18 → kind_number k ≢ 25 → kind_number k ≢ 26 → ⊥
+argued (kinds.ScanOne n) e n5 n9 n11 n12 n16 n18 n25 n26 = n5 refl
+argued (kinds.LoadCell place) e n5 n9 n11 n12 n16 n18 n25 n26 = n9 refl
+argued (kinds.PrivateLoad slot word) e n5 n9 n11 n12 n16 n18 n25 n26 = n11 refl
+argued (kinds.PrivateStore slot word number) e n5 n9 n11 n12 n16 n18 n25 n26 = n12 refl
+argued (kinds.LoadThunk d) e n5 n9 n11 n12 n16 n18 n25 n26 = n16 refl
+argued (kinds.Hold thunk d) e n5 n9 n11 n12 n16 n18 n25 n26 = n18 refl
+argued (kinds.Join worker) e n5 n9 n11 n12 n16 n18 n25 n26 = n25 refl
+argued (kinds.LoadEntry request reply) e n5 n9 n11 n12 n16 n18 n25 n26 = n26 refl
+argued _ e n5 n9 n11 n12 n16 n18 n25 n26 = present _ e
+
+pub given_plain : (k k' : EventKind) → plain_kind (kind_number k) ≡ Some k' → IsGiven k
+given_plain (kinds.Hold thunk d) k' e = absurd (absent k' e)
+given_plain _ k' e = tt
+
+-- an event of a kind by its number
+module _ (P : EventKind → Type 0) where
+  pub only_scan : ((n : ℕ) → P (kinds.ScanOne n)) → (k : EventKind) → kind_number k ≡ 5 → P k
+  only_scan each (kinds.ScanOne n) e = each n
+  only_scan each _ e = absurd (omega (arith, e))
+
+  pub only_cell : ((place : Option ℕ) → P (kinds.LoadCell place)) → (k : EventKind) → kind_number k ≡ 9 → P k
+  only_cell each (kinds.LoadCell place) e = each place
+  only_cell each _ e = absurd (omega (arith, e))
+
+  pub only_private_load : ((slot word : ℕ) → P (kinds.PrivateLoad slot word)) → (k : EventKind) → kind_number k ≡ 11 → P k
+  only_private_load each (kinds.PrivateLoad slot word) e = each slot word
+  only_private_load each _ e = absurd (omega (arith, e))
+
+  pub only_private_store : ((slot word number : ℕ) → P (kinds.PrivateStore slot word number)) → (k : EventKind) → kind_number k ≡ 12 → P k
+  only_private_store each (kinds.PrivateStore slot word number) e = each slot word number
+  only_private_store each _ e = absurd (omega (arith, e))
+
+  pub only_thunk : ((d : Option ℕ) → P (kinds.LoadThunk d)) → (k : EventKind) → kind_number k ≡ 16 → P k
+  only_thunk each (kinds.LoadThunk d) e = each d
+  only_thunk each _ e = absurd (omega (arith, e))
+
+  pub only_hold : ((thunk : Thunk) (d : ℕ) → P (kinds.Hold thunk d)) → (k : EventKind) → kind_number k ≡ 18 → P k
+  only_hold each (kinds.Hold thunk d) e = each thunk d
+  only_hold each _ e = absurd (omega (arith, e))
+
+  pub only_join : ((worker : ℕ) → P (kinds.Join worker)) → (k : EventKind) → kind_number k ≡ 25 → P k
+  only_join each (kinds.Join worker) e = each worker
+  only_join each _ e = absurd (omega (arith, e))
+
+  pub only_entry : ((request : ℕ) (reply : Bool) → P (kinds.LoadEntry request reply)) → (k : EventKind) → kind_number k ≡ 26 → P k
+  only_entry each (kinds.LoadEntry request reply) e = each request reply
+  only_entry each _ e = absurd (omega (arith, e))
+
+pub few_kinds : (k : EventKind) → kind_number k < 31
+few_kinds kinds.EnterLoad = omega arith
+few_kinds kinds.Announce = omega arith
+few_kinds kinds.EnterAgain = omega arith
+few_kinds kinds.Idle = omega arith
+few_kinds kinds.ScanEpoch = omega arith
+few_kinds (kinds.ScanOne n) = omega arith
+few_kinds kinds.Advance = omega arith
+few_kinds kinds.Split = omega arith
+few_kinds kinds.Commit = omega arith
+few_kinds (kinds.LoadCell place) = omega arith
+few_kinds kinds.ExchangeCell = omega arith
+few_kinds (kinds.PrivateLoad slot word) = omega arith
+few_kinds (kinds.PrivateStore slot word number) = omega arith
+few_kinds kinds.MakeCommit = omega arith
+few_kinds kinds.RetireCommit = omega arith
+few_kinds kinds.EpochForRetire = omega arith
+few_kinds (kinds.LoadThunk d) = omega arith
+few_kinds kinds.LoadDone = omega arith
+few_kinds (kinds.Hold thunk d) = omega arith
+few_kinds kinds.SetDone = omega arith
+few_kinds kinds.Release = omega arith
+few_kinds kinds.ClockLoad = omega arith
+few_kinds kinds.StampExchange = omega arith
+few_kinds kinds.ClockRaise = omega arith
+few_kinds kinds.ReplyExchange = omega arith
+few_kinds (kinds.Join worker) = omega arith
+few_kinds (kinds.LoadEntry request reply) = omega arith
+few_kinds kinds.NestedLoad = omega arith
+few_kinds kinds.NestedHold = omega arith
+few_kinds kinds.OutcomeLoad = omega arith
+few_kinds kinds.OutcomeCommit = omega arith

@@ -1,0 +1,135 @@
+-- What the tests tell of the kinds whose events carry arguments.
+use Rattle.std.specs.Prelude.{Bool, true, false, ◌==◌, ◌||◌, nat_lt, nat_le}
+use Rattle.std.specs.List.{list_any}
+use Rattle.std.proofs.Common.{◌≡◌, ◌<◌, ℕ, List, length, ⊎_elim, sym, refl, ap, ◌∙◌, Option, Some, None, arith}
+use Rattle.map_history.specs.declared.op.Request.{Request}
+use Rattle.table_words.specs.declared.layout.Layout.{Layout}
+use Rattle.table_words.specs.declared.spot.Spot.{Spot}
+use Rattle.table_words.specs.declared.access.Access.{Access}
+use Rattle.table_words.specs.declared.access.Access.TheVariants.{Loads}
+use Rattle.table_words.specs.Places.{fits}
+use Rattle.structure_laws.specs.Meaning.{Meaning}
+use Rattle.runner_steps.specs.declared.event.EventKind.{EventKind}
+use Rattle.runner_steps.specs.declared.event.EventKind.TheVariants as kinds
+use Rattle.runner_steps.specs.declared.stage.Stage.{Stage}
+use Rattle.runner_steps.specs.declared.stage.Stage.TheVariants as stages
+use Rattle.runner_steps.specs.State.{PartState}
+use Rattle.runner_steps.specs.Tests.{has, is_walking, is_outside}
+use Rattle.runner_steps.specs.Outside.{scan_one_ask, entry_spot}
+use Rattle.runner_steps.specs.Asks.{sizes_for}
+use Rattle.enabled_kinds.specs.Kinds.{kind_number, plain_kind, IsGiven}
+use Rattle.enabled_kinds.specs.May.{is_enabled, is_enabled_if, May, Tells}
+use Rattle.enabled_kinds.proofs.Asked.{absent, not_both, not_true, both, either, neither, equal, some_passes, none_passes, when_asks, asks_when, below, is_below, resting_asks, asked, enabled, asked_outside}
+use Rattle.enabled_kinds.proofs.Numbers.{plain_only, only_scan, only_cell, only_thunk, only_join, only_entry}
+
+module _ (m : Meaning) (l : Layout) (rs : List Request) (r : ℕ) (p : PartState) where
+  abbrev can : EventKind → Bool
+  can k = is_enabled m l rs r p k
+
+  -- some event of the kind with this number is enabled
+  pub one : (k : EventKind) → IsGiven k → can k ≡ true → May m l rs r p (kind_number k)
+  one k given e = record { kind = k; is_of = refl; given = given; enabled = e }
+
+  -- the announcement that a scan loads is its next one
+  scan_at : (n : ℕ) (st : Stage) (x : Spot × Access) → scan_one_ask l n st ≡ Some x → (e : ℕ) × (clear : Bool) × (st ≡ stages.Scanning e n clear)
+  scan_at n (stages.Scanning e next clear) x h =
+      let same = equal n next (both (n == next) (nat_le next l.runners) (when_asks _ _ _ x h).0).0 in
+      (e, clear, ap (λ (k : ℕ). stages.Scanning e k clear) (sym same))
+  scan_at n _ x h = absurd (absent x h)
+
+  IsScanning : Stage → ℕ → Type 0
+  IsScanning st n = (e : ℕ) × (clear : Bool) × (st ≡ stages.Scanning e n clear)
+
+  scan_found : (st : Stage) (b : Bool) → ((e next : ℕ) (clear : Bool) → st ≡ stages.Scanning e next clear → b ≡ can (kinds.ScanOne next))
+      → (((e next : ℕ) (clear : Bool) → st ≡ stages.Scanning e next clear → ⊥) → b ≡ false) → b ≡ true → May m l rs r p 5
+  scan_found (stages.Scanning e next clear) b scanning no_scan h = one (kinds.ScanOne next) tt (sym (scanning e next clear refl) ∙ h)
+  scan_found stages.Idle b scanning no_scan h = absurd (not_both b h (no_scan (λ e next clear same. cc)))
+  scan_found (stages.Loaded x) b scanning no_scan h = absurd (not_both b h (no_scan (λ e next clear same. cc)))
+  scan_found stages.Announced b scanning no_scan h = absurd (not_both b h (no_scan (λ e next clear same. cc)))
+  scan_found (stages.Entered g) b scanning no_scan h = absurd (not_both b h (no_scan (λ e next clear same. cc)))
+
+  pub scan_tells : (b : Bool) → ((e next : ℕ) (clear : Bool) → p.stage ≡ stages.Scanning e next clear → b ≡ can (kinds.ScanOne next))
+      → (((e next : ℕ) (clear : Bool) → p.stage ≡ stages.Scanning e next clear → ⊥) → b ≡ false) → Tells m l rs r p 5 b
+  scan_tells b scanning no_scan = record {
+    found = scan_found p.stage b scanning no_scan;
+    missed = λ no. only_scan (λ k. IsGiven k → can k ≡ false) (λ n given. not_true (can (kinds.ScanOne n)) (λ yes'.
+        let a = asked m l rs r p (kinds.ScanOne n) yes' in
+        let at = scan_at n p.stage a.ask (asked_outside m l rs r p (kinds.ScanOne n) a refl) in
+        not_both b (scanning at.0 n at.1 at.2 ∙ yes') no));
+  }
+
+  cell_inside : (place : ℕ) → can (kinds.LoadCell (Some place)) ≡ true → place < (sizes_for m l rs).cells
+  cell_inside place e =
+      let a = asked m l rs r p (kinds.LoadCell (Some place)) e in
+      let is = (when_asks _ _ _ a.ask (asked_outside m l rs r p (kinds.LoadCell (Some place)) a refl)).1 in
+      below place (sizes_for m l rs).cells (ap (λ (x : Spot × Access). fits (sizes_for m l rs) x.0) is ∙ a.fitting)
+
+  cell_missed : (walk : Bool) (place : Option ℕ) → can (kinds.LoadCell None) ≡ false → ((q : ℕ) → q < (sizes_for m l rs).cells → can (kinds.LoadCell (Some q)) ≡ false) → can (kinds.LoadCell place) ≡ false
+  cell_missed walk None none each = none
+  cell_missed walk (Some q) none each = not_true (can (kinds.LoadCell (Some q))) (λ e. not_both (can (kinds.LoadCell (Some q))) e (each q (cell_inside q e)))
+
+  pub cell_tells : (walk : Bool) → (walk ≡ true → (place : ℕ) × (can (kinds.LoadCell (Some place)) ≡ true)) → (walk ≡ false → (q : ℕ) → q < (sizes_for m l rs).cells → can (kinds.LoadCell (Some q)) ≡ false)
+      → Tells m l rs r p 9 (can (kinds.LoadCell None) || walk)
+  cell_tells walk found missed = record {
+    found = λ h. ⊎_elim (λ here. one (kinds.LoadCell None) tt here) (λ there. let x = found there in one (kinds.LoadCell (Some x.0)) tt x.1) (either (can (kinds.LoadCell None)) walk h);
+    missed = λ h. let no = neither (can (kinds.LoadCell None)) walk h in only_cell (λ k. IsGiven k → can k ≡ false) (λ place given. cell_missed walk place no.0 (missed no.1));
+  }
+
+  thunk_held : (d : ℕ) → can (kinds.LoadThunk (Some d)) ≡ true → has p.reads.held d ≡ true
+  thunk_held d e =
+      let a = asked m l rs r p (kinds.LoadThunk (Some d)) e in
+      (both (is_walking p.stage p.run) (has p.reads.held d) (when_asks _ _ _ a.ask (asked_outside m l rs r p (kinds.LoadThunk (Some d)) a refl)).0).1
+
+  thunk_missed : (d : Option ℕ) → can (kinds.LoadThunk None) ≡ false → list_any (λ d. can (kinds.LoadThunk (Some d))) p.reads.held ≡ false → can (kinds.LoadThunk d) ≡ false
+  thunk_missed None none each = none
+  thunk_missed (Some d) none each = not_true (can (kinds.LoadThunk (Some d))) (λ e. not_both _ e (none_passes (λ d. can (kinds.LoadThunk (Some d))) p.reads.held d each (thunk_held d e)))
+
+  pub thunk_tells : Tells m l rs r p 16 (can (kinds.LoadThunk None) || list_any (λ d. can (kinds.LoadThunk (Some d))) p.reads.held)
+  thunk_tells =
+      let some = list_any (λ d. can (kinds.LoadThunk (Some d))) p.reads.held in
+      record {
+        found = λ h. ⊎_elim (λ here. one (kinds.LoadThunk None) tt here) (λ there. let x = some_passes (λ d. can (kinds.LoadThunk (Some d))) p.reads.held there in one (kinds.LoadThunk (Some x.0)) tt x.1) (either (can (kinds.LoadThunk None)) some h);
+        missed = λ h. let no = neither (can (kinds.LoadThunk None)) some h in only_thunk (λ k. IsGiven k → can k ≡ false) (λ d given. thunk_missed d no.0 no.1);
+      }
+
+  join_inside : (worker : ℕ) → can (kinds.Join worker) ≡ true → worker < l.runners
+  join_inside worker e =
+      let a = asked m l rs r p (kinds.Join worker) e in
+      let test = (when_asks _ _ _ a.ask (asked_outside m l rs r p (kinds.Join worker) a refl)).0 in
+      let rest = both (r == l.runners) _ test in
+      let inner = both (is_outside p.run) _ rest.1 in
+      below worker l.runners (both (nat_lt worker l.runners) _ inner.1).0
+
+  pub join_tells : (b : Bool) → (b ≡ true → (worker : ℕ) × (can (kinds.Join worker) ≡ true)) → (b ≡ false → (worker : ℕ) → worker < l.runners → can (kinds.Join worker) ≡ false) → Tells m l rs r p 25 b
+  join_tells b found missed = record {
+    found = λ h. let x = found h in one (kinds.Join x.0) tt x.1;
+    missed = λ h. only_join (λ k. IsGiven k → can k ≡ false) (λ worker given. not_true (can (kinds.Join worker)) (λ e. not_both _ e (missed h worker (join_inside worker e))));
+  }
+
+  entry_below : (request : ℕ) (reply : Bool) → fits (sizes_for m l rs) (entry_spot request reply) ≡ true → fits (sizes_for m l rs) (entry_spot 0 false) ≡ true
+  entry_below request true e = is_below 0 (length rs) (let h = below request (length rs) e in omega (arith, h))
+  entry_below request false e = is_below 0 (length rs) (let h = below request (length rs) e in omega (arith, h))
+
+  entry_first : (request : ℕ) (reply : Bool) → can (kinds.LoadEntry request reply) ≡ true → can (kinds.LoadEntry 0 false) ≡ true
+  entry_first request reply e =
+      let a = asked m l rs r p (kinds.LoadEntry request reply) e in
+      let is = when_asks _ _ _ a.ask (asked_outside m l rs r p (kinds.LoadEntry request reply) a refl) in
+      let inside = entry_below request reply (ap (λ (x : Spot × Access). fits (sizes_for m l rs) x.0) is.1 ∙ a.fitting) in
+      enabled m l rs r p (kinds.LoadEntry 0 false) (entry_spot 0 false, Loads) a.stays (resting_asks m l rs r p (kinds.LoadEntry 0 false) (entry_spot 0 false, Loads) is.0 (asks_when _ _ _ is.0)) inside
+
+  pub entry_tells : Tells m l rs r p 26 (can (kinds.LoadEntry 0 false))
+  entry_tells = record {
+    found = λ h. one (kinds.LoadEntry 0 false) tt h;
+    missed = λ h. only_entry (λ k. IsGiven k → can k ≡ false) (λ request reply given. not_true (can (kinds.LoadEntry request reply)) (λ e. not_both _ (entry_first request reply e) h));
+  }
+
+  -- a kind whose events carry no argument has one event
+  pub if_tells : (n : ℕ) (o : Option EventKind) → plain_kind n ≡ o → ((k : EventKind) → kind_number k ≡ n → plain_kind n ≡ None → ⊥) → ((k : EventKind) → o ≡ Some k → (kind_number k ≡ n) × IsGiven k) → Tells m l rs r p n (is_enabled_if m l rs r p o)
+  if_tells n None is no_other of = record {
+    found = λ h. absurd (not_both false h refl);
+    missed = λ h k number given. absurd (no_other k number is);
+  }
+  if_tells n (Some k) is no_other of = record {
+    found = λ h. record { kind = k; is_of = (of k refl).0; given = (of k refl).1; enabled = h };
+    missed = λ h k' number given. ap can (plain_only k' k (ap plain_kind number ∙ is)) ∙ h;
+  }

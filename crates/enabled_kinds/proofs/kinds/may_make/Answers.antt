@@ -1,0 +1,37 @@
+use Rattle.std.proofs.Common.{◌≢◌, ℕ, Bool, sym, ap, subst, ◌∙◌, arith}
+use Rattle.enabled_kinds.specs.May.{Tells}
+use Rattle.enabled_kinds.specs.Kinds.{plain_kind}
+use Rattle.enabled_kinds.proofs.Numbers.{argued, given_plain}
+use Rattle.enabled_kinds.proofs.Tells.{scan_tells, if_tells}
+use Rattle.enabled_kinds.proofs.Published.{hold_tells}
+use Rattle.enabled_kinds.proofs.kinds.may_make.Goals as goal
+
+pub returns-in-5 : goal.returns-in-5
+returns-in-5 g c =
+    subst (λ (n : ℕ). Tells (g.S.Structure.meaning c.args.structure.now) c.args.layout c.args.requests.now c.args.runner c.args.part.now n c.may_scan.result) (sym c.in-5.is)
+    (scan_tells (g.S.Structure.meaning c.args.structure.now) c.args.layout c.args.requests.now c.args.runner c.args.part.now c.may_scan.result c.may_scan.ensures.scanning c.may_scan.ensures.no_scan)
+
+pub returns-in-18 : goal.returns-in-18
+returns-in-18 g c =
+    let met = g.met.S.Structure g.world.𝓛 g.world.𝓜 g.world.𝓡 ((λ s allowed. allowed), (λ patient. patient), (λ alone. alone), (λ cuts. cuts)) in
+    let first = (met.laws c.args.structure.now).first in
+    subst (λ (n : ℕ). Tells (g.S.Structure.meaning c.args.structure.now) c.args.layout c.args.requests.now c.args.runner c.args.part.now n c.may_publish.result) (sym c.in-18.is)
+    (subst (λ (b : Bool). Tells (g.S.Structure.meaning c.args.structure.now) c.args.layout c.args.requests.now c.args.runner c.args.part.now 18 b) (sym c.may_publish.ensures)
+    (hold_tells (g.S.Structure.meaning c.args.structure.now) c.args.layout c.args.requests.now c.args.runner c.args.part.now c.requires.limits c.requires.few first.few_cells first.few_slots))
+
+pub returns-in_default : goal.returns-in_default
+returns-in_default g c =
+    let n = c.args.number in
+    let not5 : n ≢ 5 = grind arith in
+    let not9 : n ≢ 9 = grind arith in
+    let not11 : n ≢ 11 = grind arith in
+    let not12 : n ≢ 12 = grind arith in
+    let not16 : n ≢ 16 = grind arith in
+    let not18 : n ≢ 18 = grind arith in
+    let not25 : n ≢ 25 = grind arith in
+    let not26 : n ≢ 26 = grind arith in
+    subst (λ (b : Bool). Tells (g.S.Structure.meaning c.args.structure.now) c.args.layout c.args.requests.now c.args.runner c.args.part.now n b) (sym c.may_if.ensures)
+    (if_tells (g.S.Structure.meaning c.args.structure.now) c.args.layout c.args.requests.now c.args.runner c.args.part.now n c.plain_kind.result (sym c.plain_kind.ensures.kind)
+    (λ k is none. argued k (ap plain_kind is ∙ none) (λ e. not5 (sym is ∙ e)) (λ e. not9 (sym is ∙ e)) (λ e. not11 (sym is ∙ e)) (λ e. not12 (sym is ∙ e))
+    (λ e. not16 (sym is ∙ e)) (λ e. not18 (sym is ∙ e)) (λ e. not25 (sym is ∙ e)) (λ e. not26 (sym is ∙ e)))
+    (λ k is. (c.plain_kind.ensures.number k is, given_plain k k (ap plain_kind (c.plain_kind.ensures.number k is) ∙ (sym c.plain_kind.ensures.kind ∙ is)))))

@@ -1,0 +1,50 @@
+-- The events that are tried, for kinds whose events carry arguments.
+use Rattle.std.specs.Prelude.{ℕ, ◌%◌, ◌^◌, List, [], ◌∷◌, Option, Some, None, if◌then◌else◌}
+use Rattle.section_body.specs.declared.thunk.Thunk.{Thunk}
+use Rattle.section_body.specs.declared.micro.Micro.{Micro}
+use Rattle.section_body.specs.declared.micro.Micro.TheVariants as micros
+use Rattle.section_body.specs.Word.{next_word}
+use Rattle.section_body.specs.Run.{source_value}
+use Rattle.table_words.specs.declared.layout.Layout.{Layout}
+use Rattle.structure_laws.specs.Meaning.{Meaning}
+use Rattle.runner_steps.specs.declared.entries.Stored.{Stored}
+use Rattle.runner_steps.specs.declared.event.EventKind.{EventKind}
+use Rattle.runner_steps.specs.declared.event.EventKind.TheVariants as kinds
+use Rattle.runner_steps.specs.State.{RunState}
+use Rattle.runner_steps.specs.Tests.{last_stored}
+use Rattle.runner_steps.specs.Sections.{is_open_run, next_of}
+use Rattle.runner_steps.specs.InRun.{make_slot, can_raise}
+
+-- the private load of the cell at which a Make is, in this slot
+abbrev pub load_at : Option ℕ → Micro → Option EventKind
+load_at (Some slot) (micros.PrivateLoad cell log) = Some (kinds.PrivateLoad slot cell)
+load_at _ _ = None
+
+-- the private load that a run makes next; `free` is the list of free node slots
+abbrev pub made_load : Meaning → List ℕ → Option RunState → Option EventKind
+made_load m free None = None
+made_load m free (Some q) = if is_open_run q then load_at (make_slot q.made free) (next_of m q) else None
+
+-- the private store of the next word into the cell at which a Make is, in this slot
+abbrev pub store_at : Layout → RunState → Option ℕ → Micro → Option EventKind
+store_at l q (Some slot) (micros.PrivateStore cell log value) = if can_raise l q.word then Some (kinds.PrivateStore slot cell (next_word q.word (source_value q.trail value))) else None
+store_at l q _ _ = None
+
+-- the private store that a run makes next
+abbrev pub made_store : Meaning → Layout → Option RunState → Option EventKind
+made_store m l None = None
+made_store m l (Some q) = if is_open_run q then store_at l q q.made (next_of m q) else None
+
+abbrev pub or_zero : Option ℕ → ℕ
+or_zero None = 0
+or_zero (Some number) = number
+
+-- the thunk that was stored last into the words of this descriptor
+abbrev pub stored_thunk : List Stored → ℕ → Thunk
+stored_thunk stored d = let word = λ (j : ℕ). or_zero (last_stored stored d j None) in record {
+  form = word 0;
+  request = word 1 % 2 ^ 32;
+  lock = word 2 % 2 ^ 32;
+  word = word 3;
+  operands = word 4 ∷ word 5 ∷ word 6 ∷ word 7 ∷ word 8 ∷ word 9 ∷ word 10 ∷ word 11 ∷ [];
+}

@@ -1,0 +1,303 @@
+//! The kinds whose events carry arguments.
+ghost use Rattle.std.specs.Prelude.{◌≡◌, ◌<◌, ◌≤◌, ◌+◌, ◌^◌, ◌&&◌, nat_lt, ℕ, Bool, Some, None, true, false, length};
+ghost use Rattle.std.specs.List.{list_any};
+ghost use Rattle.table_words.specs.Limits.{IsWithinLimits};
+ghost use Rattle.table_words.specs.Places.{slot_count, descriptor_count};
+ghost use Rattle.runner_steps.specs.Asks.{sizes_for};
+ghost use Rattle.runner_steps.specs.declared.event.EventKind.TheVariants as kinds;
+ghost use Rattle.runner_steps.specs.declared.stage.Stage.TheVariants.{Scanning};
+ghost use Rattle.runner_steps.specs.Tests.{last_stored};
+ghost use Rattle.enabled_kinds.specs.May.{is_enabled};
+ghost use Rattle.enabled_kinds.specs.Tried.{stored_thunk, or_zero};
+
+use map_history::Request;
+use runner_steps::{
+    EventKind, Part, Stage, Stored, Structure, last_stored, sizes_for, slot_count, thunk_of,
+};
+use section_body::Thunk;
+use table_words::Layout;
+
+/// Whether the runner may make this event next.
+pub fn may<S: Structure>(
+    part: &Part,
+    structure: &S,
+    layout: Layout,
+    requests: &[Request],
+    runner: u32,
+    kind: EventKind,
+) -> bool
+    requires limits { IsWithinLimits layout }
+    requires few { length requests.now ≤ 131072 }
+    ensures { result ≡ is_enabled (S.meaning structure.now) layout requests.now runner part.now kind }
+{
+    part.asks(structure, layout, requests, runner, &kind)
+        .is_some()
+}
+
+/// Whether it may load the next announcement of its scan.
+pub fn may_scan<S: Structure>(
+    part: &Part,
+    structure: &S,
+    layout: Layout,
+    requests: &[Request],
+    runner: u32,
+) -> bool
+    requires limits { IsWithinLimits layout }
+    requires few { length requests.now ≤ 131072 }
+    ensures scanning { (e : ℕ) (next : ℕ) (clear : Bool) → part.now.stage ≡ Scanning e next clear → result ≡ is_enabled (S.meaning structure.now) layout requests.now runner part.now (kinds.ScanOne next) }
+    ensures no_scan { ((e : ℕ) (next : ℕ) (clear : Bool) → part.now.stage ≡ Scanning e next clear → ⊥) → result ≡ false }
+{
+    match part.stage {
+        Stage::Scanning {
+            epoch: _,
+            next,
+            clear: _,
+        } => may(
+            part,
+            structure,
+            layout,
+            requests,
+            runner,
+            EventKind::ScanOne(next),
+        ),
+        _ => false,
+    }
+}
+
+/// Whether it may load a cell outside a run.
+pub fn may_walk<S: Structure>(
+    part: &Part,
+    structure: &S,
+    layout: Layout,
+    requests: &[Request],
+    runner: u32,
+) -> bool
+    requires limits { IsWithinLimits layout }
+    requires few { length requests.now ≤ 131072 }
+    ensures found { result ≡ true → (place : ℕ) × (is_enabled (S.meaning structure.now) layout requests.now runner part.now (kinds.LoadCell (Some place)) ≡ true) }
+    ensures missed { result ≡ false → (place : ℕ) → place < (sizes_for (S.meaning structure.now) layout requests.now).cells → is_enabled (S.meaning structure.now) layout requests.now runner part.now (kinds.LoadCell (Some place)) ≡ false }
+{
+    for place in 0..sizes_for(structure, layout, requests).cells {
+        let kind = EventKind::LoadCell(Some(place));
+        if may(part, structure, layout, requests, runner, kind) {
+            return true;
+        }
+    }
+    false
+}
+
+/// Whether it may load the first cell of one of these slots.
+fn may_look<S: Structure>(
+    part: &Part,
+    structure: &S,
+    layout: Layout,
+    requests: &[Request],
+    runner: u32,
+    slots: &[u32],
+) -> bool
+    requires limits { IsWithinLimits layout }
+    requires few { length requests.now ≤ 131072 }
+    ensures { result ≡ list_any (λ slot. is_enabled (S.meaning structure.now) layout requests.now runner part.now (kinds.PrivateLoad slot 0)) slots.now }
+{
+    for slot in slots {
+        let kind = EventKind::PrivateLoad {
+            slot: *slot,
+            word: 0,
+        };
+        if may(part, structure, layout, requests, runner, kind) {
+            return true;
+        }
+    }
+    false
+}
+
+/// Whether it may load the first cell of an own node slot that is free.
+pub fn may_look_free<S: Structure>(
+    part: &Part,
+    structure: &S,
+    layout: Layout,
+    requests: &[Request],
+    runner: u32,
+) -> bool
+    requires limits { IsWithinLimits layout }
+    requires few { length requests.now ≤ 131072 }
+    ensures { result ≡ list_any (λ slot. is_enabled (S.meaning structure.now) layout requests.now runner part.now (kinds.PrivateLoad slot 0)) part.now.nodes.free }
+{
+    may_look(part, structure, layout, requests, runner, &part.nodes.free)
+}
+
+/// Whether it may load the first cell of an own node slot that is in the hand.
+pub fn may_look_hand<S: Structure>(
+    part: &Part,
+    structure: &S,
+    layout: Layout,
+    requests: &[Request],
+    runner: u32,
+) -> bool
+    requires limits { IsWithinLimits layout }
+    requires few { length requests.now ≤ 131072 }
+    ensures { result ≡ list_any (λ slot. is_enabled (S.meaning structure.now) layout requests.now runner part.now (kinds.PrivateLoad slot 0)) part.now.nodes.hand }
+{
+    may_look(part, structure, layout, requests, runner, &part.nodes.hand)
+}
+
+/// Whether it may load the first word of an own free descriptor.
+#[tactic(auto, using(crate::proofs::Bounds::few_numbers))]
+pub fn may_reread<S: Structure>(
+    part: &Part,
+    structure: &S,
+    layout: Layout,
+    requests: &[Request],
+    runner: u32,
+) -> bool
+    requires limits { IsWithinLimits layout }
+    requires few { length requests.now ≤ 131072 }
+    ensures { result ≡ list_any (λ d. nat_lt d (descriptor_count layout) && is_enabled (S.meaning structure.now) layout requests.now runner part.now (kinds.PrivateLoad (slot_count layout (S.meaning structure.now).fixed_slots + d) 0)) part.now.descriptors.free }
+{
+    let slots = slot_count(structure, layout);
+    let descriptors = sizes_for(structure, layout, requests).descriptors;
+    for descriptor in &part.descriptors.free {
+        if *descriptor < descriptors {
+            let slot = slots + *descriptor;
+            let kind = EventKind::PrivateLoad { slot, word: 0 };
+            if may(part, structure, layout, requests, runner, kind) {
+                return true;
+            }
+        }
+    }
+    false
+}
+
+/// Whether it may store into the first word of an own free descriptor.
+#[tactic(auto, using(crate::proofs::Bounds::few_numbers))]
+pub fn may_prepare<S: Structure>(
+    part: &Part,
+    structure: &S,
+    layout: Layout,
+    requests: &[Request],
+    runner: u32,
+) -> bool
+    requires limits { IsWithinLimits layout }
+    requires few { length requests.now ≤ 131072 }
+    ensures { result ≡ list_any (λ d. nat_lt d (descriptor_count layout) && is_enabled (S.meaning structure.now) layout requests.now runner part.now (kinds.PrivateStore (slot_count layout (S.meaning structure.now).fixed_slots + d) 0 0)) part.now.descriptors.free }
+{
+    let slots = slot_count(structure, layout);
+    let descriptors = sizes_for(structure, layout, requests).descriptors;
+    for descriptor in &part.descriptors.free {
+        if *descriptor < descriptors {
+            let slot = slots + *descriptor;
+            let kind = EventKind::PrivateStore {
+                slot,
+                word: 0,
+                number: 0,
+            };
+            if may(part, structure, layout, requests, runner, kind) {
+                return true;
+            }
+        }
+    }
+    false
+}
+
+/// Whether it may begin a run, with a descriptor that it holds.
+pub fn may_begin<S: Structure>(
+    part: &Part,
+    structure: &S,
+    layout: Layout,
+    requests: &[Request],
+    runner: u32,
+) -> bool
+    requires limits { IsWithinLimits layout }
+    requires few { length requests.now ≤ 131072 }
+    ensures { result ≡ list_any (λ d. is_enabled (S.meaning structure.now) layout requests.now runner part.now (kinds.LoadThunk (Some d))) part.now.reads.held }
+{
+    for descriptor in &part.reads.held {
+        let kind = EventKind::LoadThunk(Some(*descriptor));
+        if may(part, structure, layout, requests, runner, kind) {
+            return true;
+        }
+    }
+    false
+}
+
+/// The thunk that was stored last into the words of this descriptor.
+fn stored_thunk(stored: &[Stored], descriptor: u32) -> Thunk
+    ensures { result ≡ stored_thunk stored.now descriptor }
+{
+    thunk_of(&[
+        stored_word(stored, descriptor, 0),
+        stored_word(stored, descriptor, 1),
+        stored_word(stored, descriptor, 2),
+        stored_word(stored, descriptor, 3),
+        stored_word(stored, descriptor, 4),
+        stored_word(stored, descriptor, 5),
+        stored_word(stored, descriptor, 6),
+        stored_word(stored, descriptor, 7),
+        stored_word(stored, descriptor, 8),
+        stored_word(stored, descriptor, 9),
+        stored_word(stored, descriptor, 10),
+        stored_word(stored, descriptor, 11),
+    ])
+}
+
+/// The number that was stored last into this word of the descriptor, or 0.
+fn stored_word(stored: &[Stored], descriptor: u32, word: u32) -> u64
+    ensures { result ≡ or_zero (last_stored stored.now descriptor word None) }
+{
+    match last_stored(stored, descriptor, word) {
+        None => 0,
+        Some(number) => number,
+    }
+}
+
+/// Whether it may publish one of its free descriptors with the thunk that was stored into it.
+pub fn may_publish<S: Structure>(
+    part: &Part,
+    structure: &S,
+    layout: Layout,
+    requests: &[Request],
+    runner: u32,
+) -> bool
+    requires limits { IsWithinLimits layout }
+    requires few { length requests.now ≤ 131072 }
+    ensures { result ≡ list_any (λ d. is_enabled (S.meaning structure.now) layout requests.now runner part.now (kinds.Hold (stored_thunk part.now.descriptors.stored d) d)) part.now.descriptors.free }
+{
+    for descriptor in &part.descriptors.free {
+        let kind = EventKind::Hold {
+            thunk: stored_thunk(&part.descriptors.stored, *descriptor),
+            descriptor: *descriptor,
+        };
+        if may(part, structure, layout, requests, runner, kind) {
+            return true;
+        }
+    }
+    false
+}
+
+/// Whether the keeper may join a worker.
+pub fn may_join<S: Structure>(
+    part: &Part,
+    structure: &S,
+    layout: Layout,
+    requests: &[Request],
+    runner: u32,
+) -> bool
+    requires limits { IsWithinLimits layout }
+    requires few { length requests.now ≤ 131072 }
+    ensures found { result ≡ true → (worker : ℕ) × (is_enabled (S.meaning structure.now) layout requests.now runner part.now (kinds.Join worker) ≡ true) }
+    ensures missed { result ≡ false → (worker : ℕ) → worker < layout.runners → is_enabled (S.meaning structure.now) layout requests.now runner part.now (kinds.Join worker) ≡ false }
+{
+    for worker in 0..layout.runners {
+        if may(
+            part,
+            structure,
+            layout,
+            requests,
+            runner,
+            EventKind::Join(worker),
+        ) {
+            return true;
+        }
+    }
+    false
+}
