@@ -24,3 +24,4 @@ pub mod FirstJoin
 pub mod Joins
 pub mod Owning
 pub mod Reached
+pub mod Collecting

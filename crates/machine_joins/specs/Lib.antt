@@ -7,3 +7,4 @@ pub mod Joined
 pub mod Supplied
 pub mod Firsts
 pub mod Descriptors
+pub mod Collects
