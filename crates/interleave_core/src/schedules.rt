@@ -3,6 +3,7 @@ ghost use Rattle.std.specs.Prelude.{◌≡◌, ◌≤◌, ℕ, Some, None, Err, 
 ghost use Rattle.table_words.specs.Limits.{IsWithinLimits};
 ghost use Rattle.interleave_core.specs.declared.schedules.ScheduleError.TheVariants.{NotEnabled};
 ghost use Rattle.machine_states.specs.Schedules.{IsAfter};
+ghost use Rattle.machine_joins.specs.Descriptors.{DescriptorsSoundAfter};
 ghost use Rattle.machine_joins.specs.Epochs.{SoundAfter};
 ghost use Rattle.interleave_core.specs.Enabled.{StopsNaming};
 
@@ -34,6 +35,7 @@ pub fn all_schedules<S: Structure>(
     requires few { length requests.now ≤ 131072 }
     ensures ok { IfOk result (λ x. IsAfter (S.meaning structure) layout requests.now events.now x.world) }
     ensures epochs { IfOk result (λ x. SoundAfter (S.meaning structure) layout requests.now events.now x.world) }
+    ensures descriptors { IfOk result (λ x. DescriptorsSoundAfter (S.meaning structure) layout requests.now events.now x.world) }
     ensures structure { IfOk result (λ x. x.structure ≡ structure) }
     ensures layout { IfOk result (λ x. x.layout ≡ layout) }
     ensures requests { IfOk result (λ x. x.requests ≡ requests.now) }

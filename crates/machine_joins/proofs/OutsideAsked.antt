@@ -1,17 +1,23 @@
 -- What it says of a runner in no run that an event of its is enabled.
-use Rattle.std.specs.Prelude.{◌==◌, ◌&&◌, Bool, true, false, nat_lt, nat_le}
-use Rattle.std.proofs.Common.{◌≡◌, ℕ, ◌+◌, ◌<◌, ◌≤◌, sym, refl, ap, subst, arith, Option, Some, None}
+use Rattle.std.specs.Prelude.{◌==◌, ◌&&◌, cond, Bool, true, false, nat_lt, nat_le, is_none}
+use Rattle.std.proofs.Common.{◌≡◌, ℕ, ◌+◌, ◌-◌, ◌<◌, ◌≤◌, List, sym, refl, ap, subst, arith, Option, Some, None}
 use Rattle.std.proofs.lemmas.Bool.Decides.{nat_tests}
+use Rattle.map_history.specs.declared.op.Request.{Request}
+use Rattle.section_body.specs.declared.thunk.Thunk.{Thunk}
+use Rattle.section_body.specs.Word.{held_word, is_free}
 use Rattle.table_words.specs.declared.layout.Layout.{Layout}
 use Rattle.table_words.specs.declared.spot.Spot.{Spot}
-use Rattle.table_words.specs.declared.spot.Spot.TheVariants.{Epoch, Announcement}
+use Rattle.table_words.specs.declared.spot.Spot.TheVariants.{Seat, Epoch, Announcement, Cell, ThunkWord}
+use Rattle.table_words.specs.Places.{slot_count, descriptor_count}
 use Rattle.table_words.specs.declared.access.Access.{Access}
 use Rattle.table_words.specs.declared.access.Access.TheVariants.{Loads, Stores, Exchanges}
+use Rattle.structure_laws.specs.Meaning.{Meaning}
+use Rattle.runner_steps.specs.declared.entries.Published.{Published}
 use Rattle.runner_steps.specs.declared.stage.Stage.{Stage}
 use Rattle.runner_steps.specs.declared.stage.Stage.TheVariants.{Idle, Loaded, Announced, Entered, Scanning}
 use Rattle.runner_steps.specs.State.{RunState, PartState}
-use Rattle.runner_steps.specs.Tests.{is_walking}
-use Rattle.runner_steps.specs.Outside.{last_epoch, enter_load_ask, announce_ask, enter_again_ask, idle_ask, scan_one_ask, advance_ask}
+use Rattle.runner_steps.specs.Tests.{has, is_walking, is_prepared}
+use Rattle.runner_steps.specs.Outside.{when, last_epoch, enter_load_ask, announce_ask, enter_again_ask, idle_ask, scan_one_ask, advance_ask, split_ask, entry_spot, entry_ask, read_ask, private_load_ask, descriptor_spot, private_store_ask, hold_ask, open_ask, is_over, retire_ask}
 use Rattle.machine_states.proofs.Steps.{some_same}
 use Rattle.machine_states.proofs.Sights.{if_some, some_none}
 
@@ -59,3 +65,88 @@ advance_asked l (Scanning epoch next clear) x e =
     let h = if_some _ _ x e in
     let t = advance_test l.runners next epoch clear h.0 in (epoch, next, ap (λ b. Scanning epoch next b) t.1, t.0, t.2, h.1)
 advance_asked l _ x e = some_none x e
+
+pub split_asked : (l : Layout) (r : ℕ) (p : PartState) (x : Spot × Access) → split_ask l r p ≡ Some x → (Seat, Loads) ≡ x
+split_asked l r p x e = (if_some _ _ x e).1
+
+pub entry_asked : (request : ℕ) (reply : Bool) (p : PartState) (x : Spot × Access) → entry_ask request reply p ≡ Some x → (entry_spot request reply, Loads) ≡ x
+entry_asked request reply p x e = (if_some _ _ x e).1
+
+pub read_asked : (m : Meaning) (place : ℕ) (p : PartState) (x : Spot × Access) → read_ask m place p ≡ Some x → (g : ℕ) × (p.stage ≡ Entered g) × ((Cell place, Loads) ≡ x)
+read_asked m place p x e =
+    let h = if_some _ _ x e in
+    let w = walking p.stage p.run (both _ _ h.0).0 in (w.0, w.1, h.1)
+
+load_of : (b b' c : Bool) (a a' : Spot) (x : Spot × Access) → cond c (when b a Loads) (when b' a' Loads) ≡ Some x → (spot : Spot) × ((spot, Loads) ≡ x)
+load_of b b' true a a' x e = (a, (if_some b _ x e).1)
+load_of b b' false a a' x e = (a', (if_some b' _ x e).1)
+
+pub private_load_asked : (m : Meaning) (l : Layout) (slot word : ℕ) (p : PartState) (x : Spot × Access) → private_load_ask m l slot word p ≡ Some x → (spot : Spot) × ((spot, Loads) ≡ x)
+private_load_asked m l slot word p x e = load_of _ _ (nat_lt slot (slot_count l m.fixed_slots)) _ _ x e
+
+store_test : (n slot : ℕ) (a b : Bool) → (nat_le n slot && (a && b)) ≡ true → b ≡ true
+store_test n slot a true e = refl
+store_test n slot true false e = grind (arith, nat_tests)
+store_test n slot false false e = grind (arith, nat_tests)
+
+-- a private store is one into a word of an own free descriptor
+pub private_store_asked : (m : Meaning) (l : Layout) (slot word number : ℕ) (p : PartState) (x : Spot × Access) → private_store_ask m l slot word number p ≡ Some x
+    → (has p.descriptors.free (slot - slot_count l m.fixed_slots) ≡ true) × ((descriptor_spot (slot - slot_count l m.fixed_slots) word, Stores number) ≡ x)
+private_store_asked m l slot word number p x e = let h = if_some _ _ x e in (store_test (slot_count l m.fixed_slots) slot _ _ h.0, h.1)
+
+-- what a publication needs
+pub record HoldAsked (m : Meaning) (l : Layout) (t : Thunk) (d : ℕ) (p : PartState) (x : Spot × Access) : Type 0 where
+  pub few : d < descriptor_count l
+  pub free : has p.descriptors.free d ≡ true
+  pub prepared : is_prepared p.descriptors.stored d t ≡ true
+  pub entry : ℕ
+  pub entered : p.stage ≡ Entered entry
+  pub unpublished : p.published ≡ None
+  pub unheld : is_free t.word ≡ true
+  pub is : (Cell t.lock, Exchanges t.word (held_word d t.word)) ≡ x
+
+lt_test : (a b : ℕ) → nat_lt a b ≡ true → a < b
+lt_test a b e = grind (arith, nat_tests)
+
+no_option : {A : Type 0} → (o : Option A) → is_none o ≡ true → o ≡ None
+no_option None e = refl
+no_option (Some y) e = absurd (let x = e in cc)
+
+pub hold_asked : (m : Meaning) (l : Layout) (rs : List Request) (r : ℕ) (t : Thunk) (d : ℕ) (p : PartState) (x : Spot × Access) → hold_ask m l rs r t d p ≡ Some x → HoldAsked m l t d p x
+hold_asked m l rs r t d p x e =
+    let h = if_some _ _ x e in
+    let b = both _ _ h.0 in
+    let ready = both _ _ b.0 in
+    let own = both _ _ ready.1 in
+    let may = both _ _ b.1 in
+    let w = walking p.stage p.run may.0 in
+    let rest = both _ _ may.1 in
+    let due = both _ _ rest.1 in
+    let lock = both _ _ due.0 in
+    record {
+      few = lt_test _ _ ready.0;
+      free = own.0;
+      prepared = own.1;
+      entry = w.0;
+      entered = w.1;
+      unpublished = no_option p.published rest.0;
+      unheld = lock.0;
+      is = h.1;
+    }
+
+pub open_asked : (d : ℕ) (p : PartState) (x : Spot × Access) → open_ask d p ≡ Some x → (g : ℕ) × (p.stage ≡ Entered g) × (has p.reads.held d ≡ true) × ((ThunkWord d 0, Loads) ≡ x)
+open_asked d p x e =
+    let h = if_some _ _ x e in
+    let b = both _ _ h.0 in
+    let w = walking p.stage p.run b.0 in (w.0, w.1, b.1, h.1)
+
+over_some : (o : Option Published) → is_over o ≡ true → (y : Published) × (o ≡ Some y)
+over_some None e = absurd (let x = e in cc)
+over_some (Some y) e = (y, refl)
+
+pub retire_asked : (p : PartState) (x : Spot × Access) → retire_ask p ≡ Some x → (g : ℕ) × (y : Published) × (p.stage ≡ Entered g) × (p.published ≡ Some y) × ((Epoch, Loads) ≡ x)
+retire_asked p x e =
+    let h = if_some _ _ x e in
+    let b = both _ _ h.0 in
+    let w = walking p.stage p.run b.0 in
+    let o = over_some p.published b.1 in (w.0, o.0, w.1, o.1, h.1)

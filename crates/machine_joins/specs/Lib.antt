@@ -1,3 +1,10 @@
 pub mod Entries
 pub mod Scans
 pub mod Epochs
+pub mod Roles
+pub mod Slots
+pub mod Joined
+pub mod Supplied
+pub mod Firsts
+pub mod Descriptors
+pub mod Collects

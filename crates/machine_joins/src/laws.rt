@@ -5,6 +5,9 @@ ghost use Rattle.table_words.specs.declared.layout.Layout.{Layout};
 ghost use Rattle.runner_steps.specs.declared.event.Event.{Event};
 ghost use Rattle.machine_states.specs.World.{World};
 ghost use Rattle.machine_joins.specs.Epochs.{SoundAfter};
+ghost use Rattle.machine_states.specs.Reached.{Reached};
+ghost use Rattle.machine_joins.specs.Collects.{ScansCollect};
+ghost use Rattle.machine_joins.specs.Descriptors.{DescriptorsSoundAfter};
 
 use runner_steps::Structure;
 
@@ -13,4 +16,18 @@ use runner_steps::Structure;
 /// entered.
 pub fn epochs_are_sound<S: Structure>(structure: &S)
     ensures { (layout : Layout) (requests : List Request) (events : List Event) (w : World) → SoundAfter (S.meaning structure.now) layout requests events w }
+{}
+
+/// After every list of enabled events each descriptor stands once with its owner, free, in limbo or published, and with no other
+/// runner; nothing was retired in an epoch to come; and the descriptor of a section that an entered runner published in this
+/// entry is in nobody's free list.
+pub fn descriptors_are_sound<S: Structure>(structure: &S)
+    ensures { (layout : Layout) (requests : List Request) (events : List Event) (w : World) → DescriptorsSoundAfter (S.meaning structure.now) layout requests events w }
+{}
+
+/// In every state that the machine reaches, an event that ends a runner's scan leaves nothing in its limbo that was retired two epochs
+/// before the one that the scan reached; an advance is tried only where each announcement was found idle or of the scan's
+/// epoch, and a scan that ends without one found another, or its epoch is the last.
+pub fn scans_collect<S: Structure>(structure: &S)
+    ensures { (layout : Layout) (requests : List Request) (w v : World) → Reached (S.meaning structure.now) layout requests w → ScansCollect (S.meaning structure.now) layout requests w v }
 {}

@@ -4,7 +4,7 @@ use Rattle.std.proofs.Common.{◌≡◌, ℕ, zero, suc, List, [], ◌∷◌, �
 use Rattle.std.proofs.lemmas.Bool.Decides.{nat_tests}
 use Rattle.map_history.specs.declared.op.Request.{Request}
 use Rattle.table_words.specs.declared.layout.Layout.{Layout}
-use Rattle.table_words.specs.declared.spot.Spot.TheVariants.{Announcement}
+use Rattle.table_words.specs.declared.spot.Spot.TheVariants.{Announcement, LogWord}
 use Rattle.table_words.specs.Places.{address, fits}
 use Rattle.table_words.specs.Seen.{seen}
 use Rattle.table_words.proofs.Seen as words
@@ -78,3 +78,11 @@ module _ (m : Meaning) (l : Layout) where
     -- all words and all parts are there
     pub first_whole : IsWhole m l rs w
     first_whole = record { words = le_of_eq (sym first.words.room); parts = ap length first.parts ∙ length_parts m l }
+
+    -- every log is empty
+    pub unlogged : (d k : ℕ) → seen (sizes_for m l rs) w.words (LogWord d k) ≡ 0
+    unlogged d k = by_fit (fits (sizes_for m l rs) (LogWord d k)) refl
+      where
+        by_fit : (b : Bool) → fits (sizes_for m l rs) (LogWord d k) ≡ b → seen (sizes_for m l rs) w.words (LogWord d k) ≡ 0
+        by_fit true e = first.words.seen (LogWord d k) (words.fits_means (sizes_for m l rs) (LogWord d k) e)
+        by_fit false e = ap (λ b. cond b (slice_index w.words (address (sizes_for m l rs) (LogWord d k))) 0) e

@@ -66,7 +66,7 @@ cond_none true x e = some_none x e
 cond_none false x e = some_none x e
 
 -- a join is the keeper's, and of a worker
-abbrev Joins : Layout → EventKind → ℕ → Type 0
+abbrev pub Joins : Layout → EventKind → ℕ → Type 0
 Joins l (kinds.Join worker) r = (r ≡ l.runners) × (worker < l.runners)
 Joins l _ r = Unit {0}
 
@@ -78,7 +78,7 @@ module _ (m : Meaning) (l : Layout) (rs : List Request) where
   join_asked r worker p None x e = join_test r l.runners worker _ _ (if_some _ _ x e).0
   join_asked r worker p (Some q) x e = cond_none _ x e
 
-  joins : (kind : EventKind) (r : ℕ) (p : PartState) (x : Spot × Access) → asks m l rs r kind p ≡ Some x → Joins l kind r
+  pub joins : (kind : EventKind) (r : ℕ) (p : PartState) (x : Spot × Access) → asks m l rs r kind p ≡ Some x → Joins l kind r
   joins (kinds.Join worker) r p x e = join_asked r worker p p.run x (unless_gone _ p.gone _ x e).1
   joins _ r p x e = tt
 

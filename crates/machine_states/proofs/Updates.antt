@@ -28,7 +28,7 @@ upd_same_at f k v e i = upd_split f k v (λ j a. a ≡ f j) e (λ j ne. refl) i
 pub upd_same : {A : Type 0} → (f : ℕ → A) (k : ℕ) (v : A) → v ≡ f k → upd f k v ≡ f
 upd_same f k v e = fun_ext (upd_same_at f k v e)
 
-map_cond : {A B : Type 0} → (h : A → B) (b : Bool) (x y : A) → h (cond b x y) ≡ cond b (h x) (h y)
+pub map_cond : {A B : Type 0} → (h : A → B) (b : Bool) (x y : A) → h (cond b x y) ≡ cond b (h x) (h y)
 map_cond h true x y = refl
 map_cond h false x y = refl
 

@@ -4,7 +4,7 @@ use Rattle.std.proofs.lemmas.List.{take_more}
 use Rattle.runner_steps.specs.declared.event.Event.{Event}
 use Rattle.machine_states.specs.World.{happens}
 use Rattle.machine_states.proofs.Runs.{run_more}
-use Rattle.machine_joins.proofs.Reached.{sound_after}
+use Rattle.machine_joins.proofs.Reached.{sound_after, descriptors_after}
 use Rattle.interleave_core.proofs.Stops.{stops}
 use Rattle.interleave_core.proofs.schedules.all_schedules.Goals as goal
 
@@ -27,6 +27,9 @@ loop-at-preserved g c =
 
 pub returns-clause-epochs : goal.returns-clause-epochs
 returns-clause-epochs g c = sound_after (g.S.Structure.meaning c.args.structure) c.args.layout c.args.requests.now c.args.events.now c.loop-at.machine.world
+
+pub returns-clause-descriptors : goal.returns-clause-descriptors
+returns-clause-descriptors g c = descriptors_after (g.S.Structure.meaning c.args.structure) c.args.layout c.args.requests.now c.args.events.now c.loop-at.machine.world
 
 pub returns-in-Err-NotEnabled-clause-not_enabled : goal.returns-in-Err-NotEnabled-clause-not_enabled
 returns-in-Err-NotEnabled-clause-not_enabled g c =
