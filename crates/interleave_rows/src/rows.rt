@@ -4,7 +4,7 @@ ghost use Rattle.table_words.specs.Limits.{IsWithinLimits};
 
 use interleave_core::{Event, EventKind, Machine, ScheduleError, StepError, Tray, all_schedules};
 use map_history::{Op, Request};
-use runner_steps::thunk_words;
+use runner_steps::{Part, thunk_words};
 use section_body::{Outcome, Thunk, Word};
 use std::alloc::AllocError;
 use table_words::Layout;
@@ -39,10 +39,10 @@ fn thunk(form: u64, request: u32, operand: u64) -> Thunk {
     }
 }
 
-/// One request in each of two traces.
-fn requests() -> [Request; 2] {
-    [0, 1].map(|number| Request {
-        trace: number,
+/// Two requests in each of two traces.
+fn requests() -> [Request; 4] {
+    [0, 1, 2, 3].map(|number| Request {
+        trace: number / 2,
         number,
         op: Op::Get(1),
     })
@@ -77,6 +77,93 @@ fn prepares(machine: &mut Machine<Tray>, runner: u32, descriptor: u32, thunk: &T
         }
     }
     true
+}
+
+/// Prepares a descriptor with the thunk, and publishes it.
+fn publishes(machine: &mut Machine<Tray>, runner: u32, descriptor: u32, thunk: Thunk) -> bool {
+    prepares(machine, runner, descriptor, &thunk)
+        && goes(machine, runner, EventKind::Hold { thunk, descriptor })
+}
+
+/// Enters, and reads the lock.
+fn looks(machine: &mut Machine<Tray>, runner: u32) -> bool {
+    enters(machine, runner) && goes(machine, runner, EventKind::LoadCell(Some(0)))
+}
+
+/// Scans all announcements of two workers and the keeper, and advances the epoch where that is enabled.
+fn collects(machine: &mut Machine<Tray>, runner: u32) -> bool {
+    if !goes(machine, runner, EventKind::ScanEpoch) {
+        return false;
+    }
+    for number in 0..3u32 {
+        if !goes(machine, runner, EventKind::ScanOne(number)) {
+            return false;
+        }
+    }
+    let _ = goes(machine, runner, EventKind::Advance);
+    true
+}
+
+/// The kind of a run's step that has this name.
+fn kind_of(name: &str) -> EventKind {
+    match name {
+        "load" => EventKind::LoadCell(None),
+        "commit" => EventKind::Commit,
+        "make" => EventKind::MakeCommit,
+        "clock" => EventKind::ClockLoad,
+        "stamp" => EventKind::StampExchange,
+        "raise" => EventKind::ClockRaise,
+        "epoch" => EventKind::EpochForRetire,
+        "retire" => EventKind::RetireCommit,
+        "answer" => EventKind::ReplyExchange,
+        "done" => EventKind::SetDone,
+        "release" => EventKind::Release,
+        _ => EventKind::ExchangeCell,
+    }
+}
+
+/// Makes these steps of runs, in turn.
+fn plays(machine: &mut Machine<Tray>, steps: &str) -> bool {
+    for step in steps.split(", ") {
+        let Some((runner, name)) = step.split_once(' ') else {
+            return false;
+        };
+        let Ok(runner) = runner.parse::<u32>() else {
+            return false;
+        };
+        if !goes(machine, runner, kind_of(name)) {
+            return false;
+        }
+    }
+    true
+}
+
+/// Makes the ten private steps of a Make that fills this slot with zeros.
+fn fills_slot(machine: &mut Machine<Tray>, runner: u32, slot: u32) -> bool {
+    let number = Word::pack(0, 2).bits();
+    for word in 0..5u32 {
+        if !goes(machine, runner, EventKind::PrivateLoad { slot, word }) {
+            return false;
+        }
+        if !goes(
+            machine,
+            runner,
+            EventKind::PrivateStore { slot, word, number },
+        ) {
+            return false;
+        }
+    }
+    true
+}
+
+/// Whether the latest run of this part ended so.
+fn ends(part: &Part, outcome: Outcome, trail: &[u64], late: bool) -> bool {
+    match part.records.finished.last() {
+        None => false,
+        Some(last) => last.outcome == outcome
+            && last.trail.as_slice() == trail
+            && last.late == late,
+    }
 }
 
 /// Loads the thunk words and the done word.
@@ -160,6 +247,18 @@ fn runs(machine: &mut Machine<Tray>, runner: u32, descriptor: u32) -> u32 {
 
 #[test]
 fn a_runner_enters_and_leaves(rt: HostRuntime) -> Result<(), AllocError> {
+    let kinds = [
+        EventKind::EnterLoad,
+        EventKind::Announce,
+        EventKind::EnterAgain,
+        EventKind::Idle,
+    ];
+    let events = kinds.map(|kind| Event { runner: 0, kind });
+    let leaves = match all_schedules(rt.alloc(), Tray, layout(1), &[], &events) {
+        Ok(machine) => machine.announcement(0) == 0 && machine.epoch() == 1,
+        Err(_) => false,
+    };
+    assert!(rt; leaves);
     let mut machine = Machine::new(rt.alloc(), Tray, layout(1), &[])?;
     assert!(rt; enters(&mut machine, 0));
     assert_eq!(rt; machine.announcement(0), 1);
@@ -207,22 +306,14 @@ fn a_number_is_stored_once_and_a_late_helper_changes_nothing(
     let requests = requests();
     let mut machine = Machine::new(rt.alloc(), Tray, layout(2), &requests)?;
     let number = thunk(101, 0, 7);
-    assert!(rt; prepares(&mut machine, 0, 0, &number));
-    assert!(rt;
-        goes(
-            &mut machine,
-            0,
-            EventKind::Hold {
-                thunk: number,
-                descriptor: 0
-            }
-        )
-    );
-    assert!(rt; enters(&mut machine, 1) && goes(&mut machine, 1, EventKind::LoadCell(Some(0))));
+    assert!(rt; publishes(&mut machine, 0, 0, number));
+    assert!(rt; looks(&mut machine, 1));
     assert_eq!(rt; runs(&mut machine, 0, 0), 22);
     assert_eq!(rt; machine.cell(1).bits(), 8589934599);
     assert_eq!(rt; machine.cell(0).bits(), 12884901888);
+    assert!(rt; ends(machine.part(0), Outcome::Answered(FIRST), &[FIRST], false));
     assert_eq!(rt; runs(&mut machine, 1, 0), 22);
+    assert!(rt; ends(machine.part(1), Outcome::Answered(FIRST), &[FIRST], true));
     assert_eq!(rt; machine.cell(1).bits(), 8589934599);
     assert_eq!(rt; machine.cell(0).bits(), 12884901888);
     Ok(())
@@ -233,32 +324,22 @@ fn two_runners_store_a_number_once(rt: HostRuntime) -> Result<(), AllocError> {
     let requests = requests();
     let mut machine = Machine::new(rt.alloc(), Tray, layout(2), &requests)?;
     let number = thunk(101, 0, 7);
-    assert!(rt; prepares(&mut machine, 0, 0, &number));
+    assert!(rt; publishes(&mut machine, 0, 0, number));
+    assert!(rt; looks(&mut machine, 1));
+    assert!(rt; opens(&mut machine, 0, 0) && opens(&mut machine, 1, 0));
+    assert!(rt; plays(&mut machine, "0 load, 1 load, 1 commit, 0 commit"));
     assert!(rt;
-        goes(
+        plays(
             &mut machine,
-            0,
-            EventKind::Hold {
-                thunk: number,
-                descriptor: 0
-            }
+            "0 clock, 0 stamp, 0 raise, 1 clock, 1 stamp, 1 raise"
         )
     );
-    assert!(rt; enters(&mut machine, 1) && goes(&mut machine, 1, EventKind::LoadCell(Some(0))));
-    assert!(rt; opens(&mut machine, 0, 0) && opens(&mut machine, 1, 0));
-    assert!(rt;
-        goes(&mut machine, 0, EventKind::LoadCell(None))
-            && goes(&mut machine, 1, EventKind::LoadCell(None))
-    );
-    assert!(rt;
-        goes(&mut machine, 1, EventKind::Commit) && goes(&mut machine, 0, EventKind::Commit)
-    );
-    assert!(rt; goes_on(&mut machine, 0) && goes_on(&mut machine, 0) && goes_on(&mut machine, 0));
-    assert!(rt; goes_on(&mut machine, 1) && goes_on(&mut machine, 1) && goes_on(&mut machine, 1));
-    assert!(rt; goes(&mut machine, 1, EventKind::ExchangeCell));
+    assert!(rt; plays(&mut machine, "1 store"));
     assert_eq!(rt; machine.cell(1).bits(), 8589934599);
-    assert!(rt; goes(&mut machine, 0, EventKind::ExchangeCell));
+    assert!(rt; plays(&mut machine, "0 store"));
     assert_eq!(rt; machine.cell(1).bits(), 8589934599);
+    assert_eq!(rt; machine.log_word(0, 0), FIRST);
+    assert_eq!(rt; machine.log_word(0, 1), 0);
     Ok(())
 }
 
@@ -267,17 +348,7 @@ fn a_section_that_finds_another_word_leaves(rt: HostRuntime) -> Result<(), Alloc
     let requests = requests();
     let mut machine = Machine::new(rt.alloc(), Tray, layout(2), &requests)?;
     let link = thunk(102, 0, 21474836480);
-    assert!(rt; prepares(&mut machine, 0, 0, &link));
-    assert!(rt;
-        goes(
-            &mut machine,
-            0,
-            EventKind::Hold {
-                thunk: link,
-                descriptor: 0
-            }
-        )
-    );
+    assert!(rt; publishes(&mut machine, 0, 0, link));
     assert_eq!(rt; runs(&mut machine, 0, 0), 17);
     let outcome = machine.part(0).records.finished.first().map(|x| x.outcome);
     let stale = Outcome::Stale {
@@ -295,17 +366,7 @@ fn a_node_is_made(rt: HostRuntime) -> Result<(), AllocError> {
     let requests = requests();
     let mut machine = Machine::new(rt.alloc(), Tray, layout(2), &requests)?;
     let link = thunk(102, 0, FIRST);
-    assert!(rt; prepares(&mut machine, 0, 0, &link));
-    assert!(rt;
-        goes(
-            &mut machine,
-            0,
-            EventKind::Hold {
-                thunk: link,
-                descriptor: 0
-            }
-        )
-    );
+    assert!(rt; publishes(&mut machine, 0, 0, link));
     assert_eq!(rt; runs(&mut machine, 0, 0), 33);
     assert_eq!(rt; machine.cell(2).bits(), 8589934593);
     assert!(rt; machine.is_live(0) && !machine.is_live(1));
@@ -317,7 +378,7 @@ fn a_lock_that_is_held_refuses(rt: HostRuntime) -> Result<(), AllocError> {
     let requests = requests();
     let mut machine = Machine::new(rt.alloc(), Tray, layout(2), &requests)?;
     let mine = thunk(101, 0, 7);
-    let other = thunk(101, 1, 8);
+    let other = thunk(101, 2, 8);
     assert!(rt; prepares(&mut machine, 0, 0, &mine));
     assert!(rt; prepares(&mut machine, 1, 2, &other));
     assert!(rt;
@@ -353,5 +414,79 @@ fn a_lock_that_is_held_refuses(rt: HostRuntime) -> Result<(), AllocError> {
     assert_eq!(rt; machine.cell(0).value(), 1);
     assert!(rt; goes(&mut machine, 1, EventKind::Idle));
     assert!(rt; !goes(&mut machine, 0, EventKind::Idle));
+    Ok(())
+}
+
+#[test]
+fn two_runners_make_one_node(rt: HostRuntime) -> Result<(), AllocError> {
+    let requests = requests();
+    let mut machine = Machine::new(rt.alloc(), Tray, layout(2), &requests)?;
+    assert!(rt; publishes(&mut machine, 0, 0, thunk(102, 0, FIRST)) && looks(&mut machine, 1));
+    assert!(rt; opens(&mut machine, 0, 0) && opens(&mut machine, 1, 0));
+    assert!(rt; plays(&mut machine, "0 load, 0 commit") && fills_slot(&mut machine, 0, 0));
+    assert!(rt; plays(&mut machine, "1 load, 1 commit") && fills_slot(&mut machine, 1, 2));
+    assert!(rt; plays(&mut machine, "1 make, 0 make"));
+    assert!(rt;
+        plays(
+            &mut machine,
+            "0 clock, 0 stamp, 0 raise, 1 clock, 1 stamp, 1 raise"
+        )
+    );
+    assert!(rt; plays(&mut machine, "0 store, 1 store"));
+    assert_eq!(rt; machine.log_word(0, 0), FIRST);
+    assert_eq!(rt; machine.log_word(0, 1), 3);
+    assert_eq!(rt; machine.cell(2).bits(), 8589934595);
+    assert!(rt; machine.is_live(2) && !machine.is_live(0) && machine.is_free(0, 0));
+    for place in 3..8u32 {
+        assert_eq!(rt; machine.cell(place).bits(), 8589934592);
+    }
+    Ok(())
+}
+
+#[test]
+fn a_node_is_taken_out(rt: HostRuntime) -> Result<(), AllocError> {
+    let requests = requests();
+    let mut machine = Machine::new(rt.alloc(), Tray, layout(2), &requests)?;
+    assert!(rt; publishes(&mut machine, 0, 0, thunk(102, 0, FIRST)));
+    assert_eq!(rt; runs(&mut machine, 0, 0), 33);
+    assert!(rt;
+        goes(&mut machine, 0, EventKind::EpochForRetire) && goes(&mut machine, 0, EventKind::Idle)
+    );
+    let mut unlink = thunk(103, 1, machine.cell(2).bits());
+    unlink.word = machine.cell(0);
+    assert!(rt; publishes(&mut machine, 0, 1, unlink));
+    let before = machine.part(0).records.events;
+    assert!(rt; opens(&mut machine, 0, 1));
+    assert!(rt;
+        plays(
+            &mut machine,
+            "0 load, 0 commit, 0 clock, 0 stamp, 0 raise, 0 store"
+        )
+    );
+    assert!(rt;
+        plays(
+            &mut machine,
+            "0 epoch, 0 retire, 0 answer, 0 done, 0 release"
+        )
+    );
+    assert_eq!(rt; machine.part(0).records.events.saturating_sub(before), 24);
+    assert_eq!(rt; machine.cell(2).bits(), 12884901888);
+    assert!(rt; !machine.is_live(0) && !machine.is_free(0, 0));
+    Ok(())
+}
+
+#[test]
+fn the_epoch_waits_for_an_old_announcement(rt: HostRuntime) -> Result<(), AllocError> {
+    let mut machine = Machine::new(rt.alloc(), Tray, layout(2), &[])?;
+    assert!(rt; enters(&mut machine, 0));
+    assert!(rt; collects(&mut machine, 1));
+    assert_eq!(rt; machine.epoch(), 2);
+    assert!(rt; collects(&mut machine, 1));
+    assert_eq!(rt; machine.epoch(), 2);
+    assert!(rt; goes(&mut machine, 0, EventKind::Idle));
+    assert!(rt; collects(&mut machine, 1));
+    assert_eq!(rt; machine.epoch(), 3);
+    assert!(rt; enters(&mut machine, 0));
+    assert_eq!(rt; machine.announcement(0), 3);
     Ok(())
 }
