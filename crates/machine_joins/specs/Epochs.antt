@@ -42,4 +42,5 @@ pub record EpochsAreSound (s : Sight) (found : Found) : Type 0 where
 
 -- where these events lead from a first state to this one, its epochs are sound
 abbrev pub SoundAfter : Meaning → Layout → List Request → List Event → World → Type 0
-SoundAfter m l requests events w = (after : IsAfter m l requests events w) → EpochsAreSound (sight m l requests w) (found_after m l requests after.start nothing_found events)
+SoundAfter m l requests events w = (after : IsAfter m l requests events w)
+    → EpochsAreSound (sight m l requests w) (found_after m l requests after.start nothing_found events)
