@@ -36,6 +36,10 @@ use Rattle.machine_joins.proofs.OutsideAsked as asked
 use Rattle.machine_joins.proofs.Elsewhere.{is_entry, quiet_asks, stage_kept}
 use Rattle.machine_joins.proofs.Entrances as entrances
 
+-- a scanner has found an announcement before this one that was neither idle nor of its epoch
+abbrev pub FoundOther : Found → ℕ → ℕ → Type 0
+FoundOther found r n = (r' : ℕ) × (r' < n) × (found r r' ≡ false)
+
 -- a state of the component that has the machine's entries, is at no Retire, and has of each scanner what it has found
 pub record Entries (m : Meaning) (l : Layout) (found : Found) (s : Sight) : Type 0 where
   pub state : EpochState
@@ -43,6 +47,7 @@ pub record Entries (m : Meaning) (l : Layout) (found : Found) (s : Sight) : Type
   pub shows : ShowsEntries state s
   pub unloaded : (r : ℕ) → (state.retire r).loaded ≡ false
   pub clear : (r r' x n : ℕ) (b : Bool) → (s.part r).stage ≡ Scanning x n b → state.clear r r' ≡ found r r'
+  pub unclear : (r x n : ℕ) → (s.part r).stage ≡ Scanning x n false → FoundOther found r n
 
 -- whether a runner at this stage scans
 abbrev is_scanning : Stage → Bool
@@ -64,6 +69,15 @@ row_both f g r i j else = grind (arith, nat_tests)
 pair_both : (f g : ℕ → ℕ → Bool) (r n i j : ℕ) (a b : Bool) → a ≡ b → f i j ≡ g i j → upd2 f r n a i j ≡ upd2 g r n b i j
 pair_both f g r n i j a b e h = λ k. cond (i == r) (cond (j == n) (e k) (h k)) (h k)
 
+row_kept : (f : ℕ → ℕ → Bool) (r i j : ℕ) → i ≢ r → upd_row f r (λ k. false) i j ≡ f i j
+row_kept f r i j ne = grind (arith, nat_tests)
+
+pair_here : (f : ℕ → ℕ → Bool) (r n : ℕ) (a : Bool) → upd2 f r n a r n ≡ a
+pair_here f r n a = grind (arith, nat_tests)
+
+pair_before : (f : ℕ → ℕ → Bool) (r n j : ℕ) (a : Bool) → j < n → f r j ≡ upd2 f r n a r j
+pair_before f r n j a low = grind (arith, nat_tests)
+
 pair_else : (f : ℕ → ℕ → Bool) (r n i j : ℕ) (a : Bool) → i ≢ r → f i j ≡ upd2 f r n a i j
 pair_else f r n i j a ne = grind (arith, nat_tests)
 
@@ -79,14 +93,17 @@ module _ (m : Meaning) (l : Layout) (found : Found) (s : Sight) (old : Entries m
       → ((i : ℕ) → ((events.after (counts_of m l) w e).retire i).loaded ≡ (w.retire i).loaded)
       → ((r' x n : ℕ) (b : Bool) → p'.stage ≡ Scanning x n b → (events.after (counts_of m l) w e).clear r r' ≡ found' r r')
       → ((i r' : ℕ) → i ≢ r → w.clear i r' ≡ found i r' → (events.after (counts_of m l) w e).clear i r' ≡ found' i r')
+      → ((x n : ℕ) → p'.stage ≡ Scanning x n false → FoundOther found' r n) → ((i r' : ℕ) → i ≢ r → found' i r' ≡ found i r')
       → Entries m l found' (record { word = f; part = upd s.part r p' })
-  enters e f p' found' goes retire own others = record {
+  enters e f p' found' goes retire own others missing kept = record {
     state = events.after (counts_of m l) w e;
     sound = keeps (counts_of m l) w e goes.0 old.sound;
     shows = goes.1;
     unloaded = λ i. retire i ∙ old.unloaded i;
     clear = λ i. upd_split s.part r p' (λ k q. (r' x n : ℕ) (b : Bool) → q.stage ≡ Scanning x n b → (events.after (counts_of m l) w e).clear k r' ≡ found' k r') own
         (λ k ne r' x n b is. others k r' ne (old.clear k r' x n b is)) i;
+    unclear = λ i. upd_split s.part r p' (λ k q. (x n : ℕ) → q.stage ≡ Scanning x n false → FoundOther found' k n) missing
+        (λ k ne x n is. let h = old.unclear k x n is in (h.0, h.1, kept k h.0 ne ∙ h.2)) i;
   }
 
   unscanning : {B : Type 0} {st : Stage} {x n : ℕ} {b : Bool} → is_scanning st ≡ false → st ≡ Scanning x n b → B
@@ -98,31 +115,31 @@ module _ (m : Meaning) (l : Layout) (found : Found) (s : Sight) (old : Entries m
 
   enter_load : (x : Spot × Access) → enter_load_ask p.stage ≡ Some x → Leads kinds.EnterLoad found x
   enter_load x e = let h = asked.enter_load_asked p.stage x e in
-      subst (Leads kinds.EnterLoad found) h.1 (λ records. enters (events.EnterLoad r) _ _ found (entrances.enter_load m l w s old.shows r _ h.0 refl) (λ i. refl) (λ r' x n b is. unscanning refl is) (λ i r' ne h. h))
+      subst (Leads kinds.EnterLoad found) h.1 (λ records. enters (events.EnterLoad r) _ _ found (entrances.enter_load m l w s old.shows r _ h.0 refl) (λ i. refl) (λ r' x n b is. unscanning refl is) (λ i r' ne h. h) (λ x n is. unscanning refl is) (λ i r' ne. refl))
 
   announce : (x : Spot × Access) → r ≤ l.runners → announce_ask r p.stage ≡ Some x → Leads kinds.Announce found x
   announce x some e = let h = asked.announce_asked r p.stage x e in
-      subst (Leads kinds.Announce found) h.2 (λ records. enters (events.Announce r h.0) _ _ found (entrances.announce m l w s old.shows r _ h.0 some h.1 refl) (λ i. refl) (λ r' x n b is. unscanning refl is) (λ i r' ne h. h))
+      subst (Leads kinds.Announce found) h.2 (λ records. enters (events.Announce r h.0) _ _ found (entrances.announce m l w s old.shows r _ h.0 some h.1 refl) (λ i. refl) (λ r' x n b is. unscanning refl is) (λ i r' ne h. h) (λ x n is. unscanning refl is) (λ i r' ne. refl))
 
   enter_again : (x : Spot × Access) → enter_again_ask p.stage ≡ Some x → Leads kinds.EnterAgain found x
   enter_again x e = let h = asked.enter_again_asked p.stage x e in
-      subst (Leads kinds.EnterAgain found) h.1 (λ records. enters (events.EnterAgain r) _ _ found (entrances.enter_again m l w s old.shows r _ h.0 refl) (λ i. refl) (λ r' x n b is. unscanning refl is) (λ i r' ne h. h))
+      subst (Leads kinds.EnterAgain found) h.1 (λ records. enters (events.EnterAgain r) _ _ found (entrances.enter_again m l w s old.shows r _ h.0 refl) (λ i. refl) (λ r' x n b is. unscanning refl is) (λ i r' ne h. h) (λ x n is. unscanning refl is) (λ i r' ne. refl))
 
   exit : (x : Spot × Access) → idle_ask r p ≡ Some x → Leads kinds.Idle found x
   exit x e = let h = asked.idle_asked r p x e in
-      subst (Leads kinds.Idle found) h.3 (λ records. enters (events.Exit r) _ _ found (entrances.exit m l w s old.shows r _ h.0 (old.unloaded r) h.1 refl) (λ i. refl) (λ r' x n b is. unscanning refl is) (λ i r' ne h. h))
+      subst (Leads kinds.Idle found) h.3 (λ records. enters (events.Exit r) _ _ found (entrances.exit m l w s old.shows r _ h.0 (old.unloaded r) h.1 refl) (λ i. refl) (λ r' x n b is. unscanning refl is) (λ i r' ne h. h) (λ x n is. unscanning refl is) (λ i r' ne. refl))
 
   scan_epoch : (x : Spot × Access) → enter_load_ask p.stage ≡ Some x → Leads kinds.ScanEpoch (upd_row found r (λ r'. false)) x
   scan_epoch x e = let h = asked.enter_load_asked p.stage x e in
       subst (Leads kinds.ScanEpoch (upd_row found r (λ r'. false))) h.1 (λ records. enters (events.ScanEpoch r) _ _ (upd_row found r (λ r'. false)) (entrances.scan_epoch m l w s old.shows r _ h.0 refl) (λ i. refl)
-      (λ r' x n b is. row_both w.clear found r r r' (λ ne. absurd (ne refl))) (λ i r' ne h. row_both w.clear found r i r' (λ ne'. h)))
+      (λ r' x n b is. row_both w.clear found r r r' (λ ne. absurd (ne refl))) (λ i r' ne h. row_both w.clear found r i r' (λ ne'. h)) (λ x n is. absurd (let y = is in cc)) (λ i r' ne. row_kept found r i r' ne))
 
   advance : (x : Spot × Access) → advance_ask l p.stage ≡ Some x → Leads kinds.Advance found x
   advance x e = let h = asked.advance_asked l p.stage x e in
       subst (Leads kinds.Advance found) h.5 (λ records.
       let over : outside.advance_after p p.stage ≡ outside.collected p (h.0 + 1) = ap (λ (q : Stage). outside.advance_after p q) h.2 ∙ below_test h.0 last_epoch _ p h.4 in
       let idle : (outside.advance_after p p.stage).stage ≡ Idle = ap (λ (q : PartState). q.stage) over in
-      enters (events.Advance r h.0 h.1) _ _ found (entrances.advance m l w s old.shows r _ h.0 h.1 h.2 h.3 h.4 idle) (λ i. refl) (λ r' x n b is. unscanning refl (sym idle ∙ is)) (λ i r' ne h. h))
+      enters (events.Advance r h.0 h.1) _ _ found (entrances.advance m l w s old.shows r _ h.0 h.1 h.2 h.3 h.4 idle) (λ i. refl) (λ r' x n b is. unscanning refl (sym idle ∙ is)) (λ i r' ne h. h) (λ x n is. unscanning refl (sym idle ∙ is)) (λ i r' ne. refl))
 
   -- the next announcement of a scan
   module _ (x n : ℕ) (clear : Bool) (some : n ≤ l.runners) (was : p.stage ≡ Scanning x n clear) (records : RecordsState) where
@@ -138,12 +155,18 @@ module _ (m : Meaning) (l : Layout) (found : Found) (s : Sight) (old : Entries m
     abbrev Scans : PartState → Type 0
     Scans q = Entries m l finds (record { word = put s.word (Announcement n) read; part = upd s.part r (record q { records = records }) })
 
+    missing_more : (b : Bool) → p.stage ≡ Scanning x n b → (x' n' : ℕ) → Scanning x (n + 1) (b && is_clear x read) ≡ Scanning x' n' false → FoundOther finds r n'
+    missing_more true was' x' n' is = let out : is_clear x read ≡ false = cc in let past : n + 1 ≡ n' = cc in (n, omega arith, pair_here found r n (is_clear x read) ∙ out)
+    missing_more false was' x' n' is = let past : n + 1 ≡ n' = cc in let h = old.unclear r x n was' in let low = h.1 in (h.0, omega arith, sym (pair_before found r n h.0 (is_clear x read) h.1) ∙ h.2)
+
     scan_by : (b : Bool) → is_over l.runners x n still ≡ b → Scans (cond b (outside.collected p x) (outside.with_stage p (Scanning x (n + 1) still)))
     scan_by true is = enters (events.ScanLast r x n clear) _ _ finds (entrances.scan_last m l w s old.shows r _ x n clear some was is refl) (λ i. refl)
         (λ r' x' n' b is'. unscanning refl is') (λ i r' ne h. h ∙ pair_else found r n i r' (is_clear x read) ne)
+        (λ x' n' is'. unscanning refl is') (λ i r' ne. sym (pair_else found r n i r' (is_clear x read) ne))
     scan_by false is = enters (events.ScanOne r x n clear) _ _ finds (entrances.scan_one m l w s old.shows r _ x n clear some was is (ap (λ k. Scanning x k still) (add-one n))) (λ i. refl)
         (λ r' x' n' b is'. pair_both w.clear found r n r r' _ _ (ap (is_clear x) (old.shows.announced n)) (old.clear r r' x n clear was))
         (λ i r' ne h. pair_both w.clear found r n i r' _ _ (ap (is_clear x) (old.shows.announced n)) h)
+        (λ x' n' is'. missing_more clear was x' n' is') (λ i r' ne. sym (pair_else found r n i r' (is_clear x read) ne))
 
     scans : Scans (outside.scan_one_after l p p.stage read)
     scans = subst Scans (sym (ap (λ (q : Stage). outside.scan_one_after l p q read) was ∙ within_test n l.runners _ p some)) (scan_by (is_over l.runners x n still) refl)
@@ -166,6 +189,7 @@ module _ (m : Meaning) (l : Layout) (found : Found) (s : Sight) (old : Entries m
     };
     unloaded = old.unloaded;
     clear = λ i r' x n b is. old.clear i r' x n b (sym (stage i) ∙ is);
+    unclear = λ i x n is. old.unclear i x n (sym (stage i) ∙ is);
   }
 
 module _ (m : Meaning) (l : Layout) (rs : List Request) where

@@ -68,6 +68,7 @@ module _ (m : Meaning) (l : Layout) (rs : List Request) where
       };
       unloaded = λ r. refl;
       clear = λ r r' x n b is. refl;
+      unclear = λ r x n is. absurd (let y = sym (ap (λ (p : PartState). p.stage) (first_parts m l w.parts start.parts r) ∙ first_stage r) ∙ is in cc);
     },
     first_owns m l rs w start,
   )
@@ -118,6 +119,7 @@ module _ (m : Meaning) (l : Layout) (found : Found) (s : Sight) (entries : Entri
     scanned = λ r r' x n g b e cl same e'. let h = enters r' g e' in
         sym h.1 ∙ old.scanned r x n r' b (sees r (Scanning x n b) e) (entries.clear r r' x n b e ∙ cl) (epoch ∙ same) h.0;
     scan_clear = λ r r' x n e below. sym (entries.clear r r' x n true e) ∙ old.scan_clear r x n r' (sees r (Scanning x n true) e) below;
+    scan_unclear = λ r x n e. entries.unclear r x n e;
   }
 
 pub sound_after : (m : Meaning) (l : Layout) (rs : List Request) (es : List Event) (w : World) → SoundAfter m l rs es w

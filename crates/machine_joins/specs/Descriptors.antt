@@ -39,8 +39,10 @@ pub record DescriptorsAreSound (l : Layout) (s : Sight) : Type 0 where
   pub nodes_most : (r : ℕ) → All (λ x. x.epoch ≤ s.word Epoch) (s.part r).nodes.limbo
   -- the descriptor of a section that an entered runner published in this entry is in nobody's free list, and if it was retired, it was no
   -- earlier than the runner entered
-  pub own_unfree : (r i g d : ℕ) → (s.part r).stage ≡ Entered g → has (s.part r).reads.published d ≡ true → times d (s.part i).descriptors.free ≡ 0
-  pub own_late : (r g d : ℕ) → (s.part r).stage ≡ Entered g → has (s.part r).reads.published d ≡ true → All (λ x. x.slot ≡ d → g ≤ x.epoch) (s.part r).descriptors.limbo
+  pub own_unfree : (r i g d : ℕ) → (s.part r).stage ≡ Entered g → has (s.part r).reads.published d ≡ true
+      → times d (s.part i).descriptors.free ≡ 0
+  pub own_late : (r g d : ℕ) → (s.part r).stage ≡ Entered g → has (s.part r).reads.published d ≡ true
+      → All (λ x. x.slot ≡ d → g ≤ x.epoch) (s.part r).descriptors.limbo
 
 -- where these events lead from a first state to this one, its descriptors are sound
 abbrev pub DescriptorsSoundAfter : Meaning → Layout → List Request → List Event → World → Type 0

@@ -1,5 +1,5 @@
 -- The epoch, the announcements and the runners' entries, in every state that the machine reaches.
-use Rattle.std.specs.Prelude.{◌≡◌, ℕ, ◌+◌, ◌^◌, ◌<◌, ◌≤◌, Bool, true, List}
+use Rattle.std.specs.Prelude.{◌≡◌, ℕ, ◌+◌, ◌^◌, ◌<◌, ◌≤◌, Bool, true, false, List}
 use Rattle.map_history.specs.declared.op.Request.{Request}
 use Rattle.table_words.specs.declared.layout.Layout.{Layout}
 use Rattle.table_words.specs.declared.spot.Spot.TheVariants.{Epoch, Announcement}
@@ -36,9 +36,11 @@ pub record EpochsAreSound (s : Sight) (found : Found) : Type 0 where
   -- is the epoch
   pub scanned : (r r' x n g : ℕ) (b : Bool) → (s.part r).stage ≡ Scanning x n b → found r r' ≡ true → s.word Epoch ≡ x
       → (s.part r').stage ≡ Entered g → g ≡ x
-  -- where a scan is clear so far, each announcement that it read was found so
+  -- where a scan is clear so far, each announcement that it read was found so, and where it isn't, some one wasn't
   pub scan_clear : (r r' x n : ℕ) → (s.part r).stage ≡ Scanning x n true → r' < n → found r r' ≡ true
+  pub scan_unclear : (r x n : ℕ) → (s.part r).stage ≡ Scanning x n false → (r' : ℕ) × (r' < n) × (found r r' ≡ false)
 
 -- where these events lead from a first state to this one, its epochs are sound
 abbrev pub SoundAfter : Meaning → Layout → List Request → List Event → World → Type 0
-SoundAfter m l requests events w = (after : IsAfter m l requests events w) → EpochsAreSound (sight m l requests w) (found_after m l requests after.start nothing_found events)
+SoundAfter m l requests events w = (after : IsAfter m l requests events w)
+    → EpochsAreSound (sight m l requests w) (found_after m l requests after.start nothing_found events)

@@ -51,5 +51,6 @@ module _ (m : Meaning) (l : Layout) where
     -- a descriptor that isn't free again commits what its thunk's body does
     pub roles : (d k : ℕ) → is_out (w.location (slot_of (counts_of m l) d)) ≡ true → w.role d k ≡ role_at (m.body (thunk_in s.word d)) k
     -- no two runners have published the same descriptor
-    pub published_once : (r r' : ℕ) (x x' : Published) → (s.part r).published ≡ Some x → (s.part r').published ≡ Some x' → x.descriptor ≡ x'.descriptor → r ≡ r'
+    pub published_once : (r r' : ℕ) (x x' : Published) → (s.part r).published ≡ Some x → (s.part r').published ≡ Some x'
+        → x.descriptor ≡ x'.descriptor → r ≡ r'
     pub tied : (r : ℕ) → IsTied w s.word r (s.part r)

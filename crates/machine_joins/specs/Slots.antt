@@ -42,7 +42,8 @@ retiring_of m (Some q) = retire_before q (micro_at (line_of m q) q.at)
 
 -- the thunk in a descriptor's words
 abbrev pub thunk_in : (Spot → ℕ) → ℕ → Thunk
-thunk_in word d = let w : ℕ → ℕ = λ j. word (ThunkWord d j) in thunk_of (w 0 ∷ w 1 ∷ w 2 ∷ w 3 ∷ w 4 ∷ w 5 ∷ w 6 ∷ w 7 ∷ w 8 ∷ w 9 ∷ w 10 ∷ w 11 ∷ [])
+thunk_in word d = let w : ℕ → ℕ = λ j. word (ThunkWord d j) in
+    thunk_of (w 0 ∷ w 1 ∷ w 2 ∷ w 3 ∷ w 4 ∷ w 5 ∷ w 6 ∷ w 7 ∷ w 8 ∷ w 9 ∷ w 10 ∷ w 11 ∷ [])
 
 -- the component's state has the machine's epoch, announcements and stages
 pub record ShowsEntries (w : EpochState) (s : Sight) : Type 0 where

@@ -52,7 +52,8 @@ comes_by m c kind p (Some q) found t = comes_inside c kind (next_of m q) p q fou
 pub record MayRetire (c : Counts) (w : EpochState) (d index slot : ℕ) : Type 0 where
   pub node : slot < c.nodes
   pub live : w.log d index ≡ 0 → w.location slot ≡ Live
-  pub once : w.log d index ≡ 0 → (r : ℕ) → IsPending w r → (w.retire r).slot ≡ slot → ((w.retire r).descriptor ≡ d) × ((w.retire r).index ≡ index)
+  pub once : w.log d index ≡ 0 → (r : ℕ) → IsPending w r → (w.retire r).slot ≡ slot
+      → ((w.retire r).descriptor ≡ d) × ((w.retire r).index ≡ index)
 
 module _ (m : Meaning) (l : Layout) where
   -- what is needed for an event of this runner that meets this word
@@ -60,6 +61,8 @@ module _ (m : Meaning) (l : Layout) where
     -- without a reading nothing is reached
     pub unread : (t : ℕ) → m.reaches [] t ≡ false
     -- what the runner comes to hold, it may hold
-    pub held : (t : ℕ) → comes_by m (counts_of m l) kind (s.part r) (s.part r).run (s.word spot) t ≡ true → w.holds r t ≡ false → MayHold w r t
+    pub held : (t : ℕ) → comes_by m (counts_of m l) kind (s.part r) (s.part r).run (s.word spot) t ≡ true
+        → w.holds r t ≡ false → MayHold w r t
     -- a Retire before which its run stands may be made
-    pub retires : (q : RunState) (slot index : ℕ) → (s.part r).run ≡ Some q → next_of m q ≡ EpochForRetire slot index → MayRetire (counts_of m l) w q.descriptor index slot
+    pub retires : (q : RunState) (slot index : ℕ) → (s.part r).run ≡ Some q → next_of m q ≡ EpochForRetire slot index
+        → MayRetire (counts_of m l) w q.descriptor index slot

@@ -27,7 +27,7 @@ pub fn descriptors_are_sound<S: Structure>(structure: &S)
 
 /// In every state that the machine reaches, an event that ends a runner's scan leaves nothing in its limbo that was retired two epochs
 /// before the one that the scan reached; an advance is tried only where each announcement was found idle or of the scan's
-/// epoch, and a scan that ends without one found another, or its epoch is the last.
+/// epoch, and a scan that was clear so far and ends without one found the last announcement in the way, or its epoch is the last.
 pub fn scans_collect<S: Structure>(structure: &S)
     ensures { (layout : Layout) (requests : List Request) (w v : World) → Reached (S.meaning structure.now) layout requests w → ScansCollect (S.meaning structure.now) layout requests w v }
 {}
