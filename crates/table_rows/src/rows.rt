@@ -4,7 +4,7 @@ ghost use Rattle.runner_steps.specs.declared.stage.Stage.TheVariants as stages;
 ghost use Rattle.version_words.specs.TableState.{IsOf};
 ghost use Rattle.version_words.specs.Stages.{IsAt};
 
-use crate::walks::{collect, crew, enter, exit, gather, new_table};
+use crate::walks::{collect, crew, enter, exit, gather, look, new_table};
 use interleave_core::Tray;
 use std::alloc::AllocError;
 use std::thread;
@@ -90,5 +90,18 @@ fn two_threads_enter_leave_and_scan(rt: HostRuntime) -> Result<(), AllocError> {
     let words = gather(table, keeper, first, second);
     assert!(&rt; words.entry(0).is_none() && words.cell(2).bits() == 4294967296);
     assert!(&rt; *words.structure() == Tray);
+    Ok(())
+}
+
+#[test]
+fn an_entered_runner_loads_a_cell(rt: HostRuntime) -> Result<(), AllocError> {
+    let (table, keeper) = new_table(rt.alloc())?;
+    let (keeper, first, second) = crew(&table, rt.alloc(), keeper)?;
+    let (first, epoch) = enter(&table, first);
+    let (first, word) = look(&table, first, epoch, 1);
+    assert!(&rt; word.bits() == 4294967296);
+    let first = exit(&table, first, epoch);
+    let words = gather(table, keeper, first, second);
+    assert!(&rt; words.cell(1).bits() == 4294967296);
     Ok(())
 }

@@ -9,6 +9,7 @@ ghost use Rattle.version_words.specs.Stages.{IsAt, IsKeeper, HasJoined};
 use interleave_core::Tray;
 use map_history::{Op, Request};
 use runner_steps::LAST_EPOCH;
+use section_body::{Place, Word};
 use std::alloc::{AllocError, Global};
 use table_words::Layout;
 use version_words::{FlockTable, Runner, Words};
@@ -24,6 +25,23 @@ pub fn enter(table: &FlockTable<Tray>, runner: Runner<Tray>) -> (Runner<Tray>, u
     let (runner, _) = table.enter_load(runner);
     let runner = table.announce(runner);
     table.enter_again(runner)
+}
+
+/// Loads a fixed cell in an entry.
+pub fn look(
+    table: &FlockTable<Tray>,
+    runner: Runner<Tray>,
+    epoch: u64,
+    place: Place,
+) -> (Runner<Tray>, Word)
+    requires own { IsOf table.now runner }
+    requires at { IsAt runner (stages.Entered epoch) None }
+    requires fixed { place < 3 }
+    ensures own { IsOf table.now result.0 }
+    ensures at { IsAt result.0 (stages.Entered epoch) None }
+    ensures number { result.0.number ≡ runner.number }
+{
+    table.load_cell(runner, place)
 }
 
 /// Leaves.

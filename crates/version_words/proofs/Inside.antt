@@ -1,6 +1,6 @@
 -- A runner's code keeps the place of its run.
-use Rattle.std.proofs.Common.{◌≡◌, ℕ, ◌-◌, ◌*◌, ◌+◌, ◌<◌, List, [], ◌∷◌, length, Bool, true, false, refl, sym, ap, subst, ◌∙◌, arith, Option, Some, None, if◌then◌else◌, length-append}
-use Rattle.std.specs.Prelude.{◌%◌, ◌^◌, ◌&&◌, nat_lt, slice_index}
+use Rattle.std.proofs.Common.{◌≡◌, ℕ, ◌-◌, ◌*◌, ◌+◌, ◌<◌, ◌≤◌, List, [], ◌∷◌, length, Bool, true, false, refl, sym, ap, subst, ◌∙◌, arith, Option, Some, None, if◌then◌else◌, length-append}
+use Rattle.std.specs.Prelude.{◌%◌, ◌^◌, ◌&&◌, ◌==◌, nat_lt, slice_index}
 use Rattle.map_history.specs.declared.op.Request.{Request}
 use Rattle.section_body.specs.declared.thunk.Thunk.{Thunk}
 use Rattle.section_body.specs.declared.micro.Micro.{Micro}
@@ -23,12 +23,12 @@ use Rattle.structure_laws.specs.Meaning.{Meaning}
 use Rattle.runner_steps.specs.declared.event.EventKind.{EventKind}
 use Rattle.runner_steps.specs.declared.event.EventKind.TheVariants as kinds
 use Rattle.runner_steps.specs.State.{RunState, PartState}
-use Rattle.runner_steps.specs.Sections.{is_open_run, next_of, thunk_of}
+use Rattle.runner_steps.specs.Sections.{line_limit, is_open_run, next_of, thunk_of}
 use Rattle.runner_steps.specs.InRun.{stamp_after, last_clock, can_raise, can_hold, nested_hold_ask, release_ask}
 use Rattle.runner_steps.specs.Asks.{asks, sizes_for, ask_by, outside_ask, line_ask, opening_ask}
 use Rattle.runner_steps.specs.AfterInRun.{opened_more, goes_on, agrees, with_run, ended_more, run_over, lock_committed, word_committed, is_of_lock, place_of, reply_word_of}
 use Rattle.runner_steps.specs.Lists.{cell_read, learned}
-use Rattle.runner_steps.specs.After.{line_after, after_by, stepped}
+use Rattle.runner_steps.specs.After.{outside_after, line_after, after_by, stepped}
 use Rattle.version_words.specs.declared.view.View.{View}
 use Rattle.version_words.specs.declared.place.RunPlace.{RunPlace}
 use Rattle.version_words.specs.declared.block.Block.{Block}
@@ -37,8 +37,8 @@ use Rattle.version_words.specs.Place.{IsPlaced}
 use Rattle.version_words.specs.Kept.{IsKept}
 use Rattle.version_words.specs.Events.{met_by, Makes, seen_seat}
 use Rattle.version_words.proofs.Splits.{learns}
-use Rattle.version_words.proofs.Asked.{unless_gone, tested}
-use Rattle.version_words.proofs.Told.{told}
+use Rattle.version_words.proofs.Asked.{is_outer, unless_gone, tested}
+use Rattle.version_words.proofs.Told.{told, no_place, outer_lists}
 use Rattle.machine_states.proofs.Steps.{some_same}
 
 some_none : {A : Type 0} → (a : A) → None ≡ Some a → ⊥
@@ -220,6 +220,13 @@ module _ (m : Meaning) (l : Layout) (p : PartState) (q : RunState) (there : p.ru
   commit_place kinds.OutcomeCommit e = agrees_placed (written_once found q.word)
   commit_place _ e = absurd (false_true e)
 
+both_true : (a b : Bool) → a && b ≡ true → (a ≡ true) × (b ≡ true)
+both_true true b e = (refl, e)
+both_true false b e = absurd (false_true e)
+
+opened_all : (q : RunState) → is_open_run q ≡ true → length q.opened ≡ 13
+opened_all q e = let a = (both_true (length q.opened == 13) (nat_lt q.at line_limit && nat_lt q.ended line_limit) e).0 in grind (arith, nat_tests)
+
 module _ {T : Type 0} (m : Meaning) (k : EventKind) (found number : ℕ) (kept : Block) (old_table new_table : TableId) (me me' : Me Thunk (View T))
     (made : Makes m k found (seen_seat old_table me) (seen_seat new_table me')) (slots : me'.1 ≡ me.1) (was : IsKept number kept me) where
   abbrev r : RunnerState T
@@ -239,12 +246,18 @@ module _ {T : Type 0} (m : Meaning) (k : EventKind) (found number : ℕ) (kept :
   run_is : (h : HasOpenRun p) → me'.0.part.run ≡ (line_after m r.layout k p h.run (next_of m h.run) found).run
   run_is h = ap (λ (y : RunnerState T). y.part.run) made.made ∙ ap (λ (y : PartState). y.run) (step_is m r.layout k p found h)
 
+  over : (h : HasOpenRun p) → 12 ≤ kept.place.opened
+  over h = let a = (was.place.run h.run h.there).opened in let b = opened_all h.run h.ready in omega (arith, a, b)
+
   -- what the code keeps after a step of a run that leaves the lists and the log
   pub quiet_kept : is_quiet k ≡ true → IsKept number kept me'
   quiet_kept e = let h = opened_run m r.layout r.requests r.number k p made.met (quiet_inner k e) made.asked in record {
     same_number = same_number;
     lists = lists_still (quiet_inner k e);
-    place = λ y run. quiet_place m r.layout p h.run h.there (next_of m h.run) found kept.place (was.place h.run h.there) k e y (sym (run_is h) ∙ run);
+    place = record {
+      run = λ y run. quiet_place m r.layout p h.run h.there (next_of m h.run) found kept.place (was.place.run h.run h.there) k e y (sym (run_is h) ∙ run);
+      rest = λ none. over h;
+    };
     slots = slots ∙ was.slots;
   }
 
@@ -253,7 +266,10 @@ module _ {T : Type 0} (m : Meaning) (k : EventKind) (found number : ℕ) (kept :
   commit_kept e = let h = opened_run m r.layout r.requests r.number k p made.met (commit_inner k e) made.asked in record {
     same_number = same_number;
     lists = lists_still (commit_inner k e);
-    place = λ y run. commit_place m r.layout p h.run h.there (next_of m h.run) found kept.place (was.place h.run h.there) k e y (sym (run_is h) ∙ run);
+    place = record {
+      run = λ y run. commit_place m r.layout p h.run h.there (next_of m h.run) found kept.place (was.place.run h.run h.there) k e y (sym (run_is h) ∙ run);
+      rest = λ none. over h;
+    };
     slots = slots ∙ was.slots;
   }
 
@@ -261,10 +277,6 @@ module _ {T : Type 0} (m : Meaning) (k : EventKind) (found number : ℕ) (kept :
 abbrev old_of : Access → ℕ
 old_of (Exchanges old new) = old
 old_of _ = 0
-
-both_true : (a b : Bool) → a && b ≡ true → (a ≡ true) × (b ≡ true)
-both_true true b e = (refl, e)
-both_true false b e = absurd (false_true e)
 
 line_by : (m : Meaning) (l : Layout) (k : EventKind) (free : List ℕ) (q : RunState) (x : Spot × Access) (b : Bool) → opening_ask k q ≡ None
     → (if b then line_ask m l k free q (next_of m q) else opening_ask k q) ≡ Some x → line_ask m l k free q (next_of m q) ≡ Some x
@@ -335,3 +347,13 @@ may_release m r q place word new limits there h =
 -- a run is in progress where one of its steps is enabled
 pub has_run : {T : Type 0} (m : Meaning) (r : RunnerState T) (k : EventKind) (x : Spot × Access) → is_inner k ≡ true → met_by m r k ≡ Some x → (q : RunState) × (r.part.run ≡ Some q)
 has_run m r k x e h = let o = opened_run m r.layout r.requests r.number k r.part x e h in (o.run, o.there)
+
+-- what the code keeps after a step in no run
+pub outer_kept : {T : Type 0} (m : Meaning) (k : EventKind) (found number : ℕ) (kept : Block) (lists : PartState) (old_table new_table : TableId) (me me' : Me Thunk (View T)) → is_outer k ≡ true
+    → Makes m k found (seen_seat old_table me) (seen_seat new_table me') → me'.1 ≡ me.1 → IsKept number kept me → lists ≡ told_part (outside_after m me.0.layout k me.0.part found) → IsKept number (record kept { lists = lists }) me'
+outer_kept m k found number kept lists old_table new_table me me' e made slots was is = record {
+  same_number = was.same_number ∙ sym (ap (λ y. y.number) made.made);
+  lists = is ∙ outer_lists m k found (seen_seat old_table me) (seen_seat new_table me') e made;
+  place = no_place m k found (seen_seat old_table me) (seen_seat new_table me') kept.place e made was.place;
+  slots = slots ∙ was.slots;
+}

@@ -9,3 +9,4 @@ pub mod SeatMoves
 pub mod SeatCalls
 pub mod Stages
 pub mod Inside
+pub mod Openings

@@ -1,5 +1,5 @@
 -- What a runner in no run may do, and where it is then.
-use Rattle.std.proofs.Common.{◌≡◌, ℕ, ◌+◌, ◌<◌, ◌≤◌, ◌^◌, length, List, [], ◌∷◌, ◌++◌, ◌≢◌, eq-eqb, ne_eqb, Bool, true, false, refl, sym, ap, subst, ◌∙◌, arith, Option, Some, None}
+use Rattle.std.proofs.Common.{◌≡◌, ℕ, ◌+◌, ◌<◌, ◌≤◌, ◌^◌, length, List, [], ◌∷◌, ◌++◌, ◌≢◌, eq-eqb, ne_eqb, Bool, true, false, refl, sym, ap, subst, ◌∙◌, arith, Option, Some, None, ◌-◌, ◌/◌}
 use Rattle.std.specs.Prelude.{◌==◌, ◌&&◌, ◌||◌, is_some, nat_lt, nat_le, not, is_none, if◌then◌else◌}
 use Rattle.std.proofs.lemmas.Bool.Decides.{nat_tests}
 use mathlib.Core.Logic.{dite}
@@ -27,8 +27,9 @@ use Rattle.runner_steps.specs.AfterOutside.{with_stage, collected, scanned, scan
 use Rattle.runner_steps.specs.After.{outside_after, after_by, stepped, counted, after, leaves}
 use Rattle.version_words.specs.RunnerState.{RunnerState}
 use Rattle.version_words.specs.TableState.{TableState, first_keeper}
-use Rattle.version_words.specs.Events.{IsEnabled, Makes, next_worker, joined_by}
+use Rattle.version_words.specs.Events.{met_by, IsEnabled, Makes, next_worker, joined_by}
 use Rattle.version_words.proofs.SeatMoves.{one_split, joins_none}
+use Rattle.version_words.specs.Naming.{load_of}
 use Rattle.version_words.specs.Stages.{IsAt, IsKeeper, HasJoined, stage_scanned}
 
 fitted_some : (s : Sizes) (a : Ask) (x : Spot × Access) → a ≡ Some x → Fits s x.0 → fitting s a ≡ Some x
@@ -36,12 +37,21 @@ fitted_some s a x e h = ap (fitting s) e ∙ ap (λ (b : Bool). if b then Some x
 
 module _ {T : Type 0} (m : Meaning) (r : RunnerState T) where
   -- a runner in no run may make what its stage lets it make
+  asked_is : (k : EventKind) (x : Spot × Access) → r.part.gone ≡ false → r.part.run ≡ None → outside_ask m r.layout r.requests r.number k r.part ≡ Some x → Fits (sizes_for m r.layout r.requests) x.0 → met_by m r k ≡ Some x
+  asked_is k x present resting e h = ap (λ (g : Bool). if g then None else fitting (sizes_for m r.layout r.requests) (ask_by m r.layout r.requests r.number k r.part r.part.run)) present
+      ∙ fitted_some (sizes_for m r.layout r.requests) _ x (ap (ask_by m r.layout r.requests r.number k r.part) resting ∙ e) h
+
   enabled : (k : EventKind) (x : Spot × Access) → r.part.gone ≡ false → r.part.run ≡ None → outside_ask m r.layout r.requests r.number k r.part ≡ Some x → Fits (sizes_for m r.layout r.requests) x.0 → IsEnabled m k r
-  enabled k x present resting e h = record {
-    met = x;
-    asked = ap (λ (g : Bool). if g then None else fitting (sizes_for m r.layout r.requests) (ask_by m r.layout r.requests r.number k r.part r.part.run)) present
-        ∙ fitted_some (sizes_for m r.layout r.requests) _ x (ap (ask_by m r.layout r.requests r.number k r.part) resting ∙ e) h;
-  }
+  enabled k x present resting e h = record { met = x; asked = asked_is k x present resting e h }
+
+  -- an entered runner may load a fixed cell
+  pub may_load_fixed : (epoch place : ℕ) (section : Option Published) → IsAt r (stages.Entered epoch) section → place < m.fixed_cells → met_by m r (load_of r.part.run place) ≡ Some (spots.Cell place, Loads)
+  may_load_fixed epoch place section is few =
+      let fixed : nat_lt place m.fixed_cells ≡ true = grind (arith, nat_tests, few) in
+      ap (λ (o : Option RunState). met_by m r (load_of o place)) is.resting
+      ∙ asked_is (kinds.LoadCell (Some place)) (spots.Cell place, Loads) is.present is.resting
+      (ap (λ (b : Bool). when b (spots.Cell place) Loads) (λ i. is_walking (is.at i) (is.resting i) && (fixed i || (m.is_lock place || (nat_lt ((place - m.fixed_cells) / 5) m.fixed_slots || m.reaches r.part.reads.walk ((place - m.fixed_cells) / 5))))))
+      (omega (arith, few))
 
   module _ (section : Option Published) where
     at_stage : (stage : Stage) (k : EventKind) (x : Spot × Access) → IsAt r stage section → outside_ask m r.layout r.requests r.number k r.part ≡ Some x → Fits (sizes_for m r.layout r.requests) x.0 → IsEnabled m k r
@@ -250,3 +260,9 @@ split_joined m found r r' splits count made is joined = record {
 
 pub first_joined_none : {T : Type 0} (m : Meaning) (t : TableState T) (r : RunnerState T) → r ≡ first_keeper m t → HasJoined r 0
 first_joined_none {T} m t r is = subst (λ (y : RunnerState T). HasJoined y 0) (sym is) (record { fresh = λ k past. refl; parts = λ k few. absurd (omega arith) })
+
+-- an entered runner stays entered when it has loaded a cell
+pub then_loaded_cell : {T : Type 0} (m : Meaning) (found epoch place : ℕ) (r r' : RunnerState T) (section : Option Published) → Makes m (load_of r.part.run place) found r r' → IsAt r (stages.Entered epoch) section → IsAt r' (stages.Entered epoch) section
+then_loaded_cell {T} m found epoch place r r' section made is =
+    let read : Makes m (kinds.LoadCell (Some place)) found r r' = subst (λ (o : Option RunState). Makes m (load_of o place) found r r') is.resting made in
+    made_at m (kinds.LoadCell (Some place)) found r r' read is.resting (stages.Entered epoch) section is.seated is.present is.resting is.at is.published

@@ -84,9 +84,13 @@ some_none : {A : Type 0} → (a : A) → None ≡ Some a → ⊥
 some_none a e = cc
 
 -- a runner in no run has none to keep the place of
-pub no_place : {T : Type 0} (m : Meaning) (k : EventKind) (found : ℕ) (r r' : RunnerState T) (kept : RunPlace) → is_outer k ≡ true → Makes m k found r r' → HasPlace kept r'.part
-no_place m k found r r' kept e made q run = absurd (some_none q
-    (sym (ap (λ y. y.part.run) made.made ∙ still_outside m r.layout r.part found r.number k made.met.0 made.met.1 e (in_no_run m r k e (record { met = made.met; asked = made.asked }))) ∙ run))
+pub no_place : {T : Type 0} (m : Meaning) (k : EventKind) (found : ℕ) (r r' : RunnerState T) (kept : RunPlace) → is_outer k ≡ true → Makes m k found r r' → HasPlace kept r.part → HasPlace kept r'.part
+no_place m k found r r' kept e made was =
+    let resting = in_no_run m r k e (record { met = made.met; asked = made.asked }) in
+    record {
+      run = λ q run. absurd (some_none q (sym (ap (λ y. y.part.run) made.made ∙ still_outside m r.layout r.part found r.number k made.met.0 made.met.1 e resting) ∙ run));
+      rest = λ none. was.rest resting;
+    }
 
 -- the lists after a step in no run
 pub outer_lists : {T : Type 0} (m : Meaning) (k : EventKind) (found : ℕ) (r r' : RunnerState T) → is_outer k ≡ true → Makes m k found r r' → told_part (outside_after m r.layout k r.part found) ≡ told_part r'.part

@@ -40,3 +40,8 @@ entry_of place = kinds.LoadEntry (place / 2) (place % 2 == 1)
 abbrev pub load_of : Option RunState → ℕ → EventKind
 load_of None place = kinds.LoadCell (Some place)
 load_of (Some q) place = kinds.LoadCell None
+
+-- a thunk word is loaded: in a run the one that comes next, outside the first of a descriptor
+abbrev pub open_of : Option RunState → ℕ → EventKind
+open_of None descriptor = kinds.LoadThunk (Some descriptor)
+open_of (Some q) descriptor = kinds.LoadThunk None

@@ -1,5 +1,5 @@
 -- What a runner's code keeps of a run in progress.
-use Rattle.std.specs.Prelude.{◌≡◌, ℕ, ◌<◌, ◌%◌, ◌^◌, length, slice_index, Option, Some, None}
+use Rattle.std.specs.Prelude.{◌≡◌, ℕ, ◌+◌, ◌==◌, nat_lt, if◌then◌else◌, ◌<◌, ◌≤◌, ◌%◌, ◌^◌, length, slice_index, Option, Some, None}
 use Rattle.section_body.specs.Word.{held_word}
 use Rattle.table_words.specs.declared.spot.Spot.{Spot}
 use Rattle.table_words.specs.declared.spot.Spot.TheVariants as spots
@@ -13,9 +13,10 @@ pub record IsPlaced (kept : RunPlace) (q : RunState) : Type 0 where
   pub request : 1 < length q.opened → kept.request ≡ slice_index q.opened 1 % 2 ^ 32
   pub agreed : kept.agreed ≡ length q.trail
 
--- where the runner has a run in progress
-abbrev pub HasPlace : RunPlace → PartState → Type 0
-HasPlace kept p = (q : RunState) → p.run ≡ Some q → IsPlaced kept q
+-- where the runner has a run in progress; and outside a run the last one's opening is over
+pub record HasPlace (kept : RunPlace) (p : PartState) : Type 0 where
+  pub run : (q : RunState) → p.run ≡ Some q → IsPlaced kept q
+  pub rest : p.run ≡ None → 12 ≤ kept.opened
 
 -- the next word of the log of a runner's run
 abbrev pub next_log : Option RunState → Spot
@@ -40,3 +41,18 @@ own_reply (Some q) = spots.Reply (slice_index q.opened 1 % 2 ^ 32)
 abbrev pub held_by_run : Option RunState → ℕ → ℕ
 held_by_run None word = 0
 held_by_run (Some q) word = held_word q.descriptor word
+
+-- how many words of the opening were loaded
+abbrev pub opened_of : Option RunState → ℕ
+opened_of None = 0
+opened_of (Some q) = length q.opened
+
+-- the place after one more word of an opening, or after the first of a new one
+abbrev pub opened_place : RunPlace → ℕ → ℕ → RunPlace
+opened_place kept descriptor word = if nat_lt kept.opened 12
+    then record { descriptor = descriptor; opened = kept.opened + 1; request = if kept.opened == 1 then word % 2 ^ 32 else kept.request; agreed = kept.agreed }
+    else record { descriptor = descriptor; opened = 1; request = 0; agreed = 0 }
+
+-- the thunk word that is loaded next: that of the opening, or the first one of a new run
+abbrev pub next_thunk_word : RunPlace → ℕ
+next_thunk_word kept = if nat_lt kept.opened 12 then kept.opened else 0

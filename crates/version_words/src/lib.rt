@@ -10,6 +10,7 @@ mod block;
 mod entry;
 mod kept;
 mod laws;
+mod opening;
 mod place;
 mod plays;
 mod rule;

@@ -170,6 +170,26 @@ impl Named for OutcomeCommit {
     ghost naming = { λ m layout requests part step. kinds.OutcomeCommit };
 }
 
+pub struct LoadDone;
+
+impl Named for LoadDone {
+    ghost use Rattle.runner_steps.specs.declared.event.EventKind.TheVariants as kinds;
+
+    ghost naming = { λ m layout requests part step. kinds.LoadDone };
+}
+
+/// In a run the thunk word is the one that comes next; outside it is the first of a descriptor, read off the step's word.
+pub struct LoadThunk;
+
+impl Named for LoadThunk {
+    ghost use Rattle.std.specs.Prelude.{◌+◌, ◌-◌, ◌/◌, length};
+    ghost use Rattle.table_words.specs.Places.{descriptor_at};
+    ghost use Rattle.runner_steps.specs.Asks.{sizes_for};
+    ghost use Rattle.version_words.specs.Naming.{open_of};
+
+    ghost naming = { λ m layout requests part step. open_of part.run ((step.word - descriptor_at (sizes_for m layout requests) 0) / 77) };
+}
+
 /// In a run the cell is the one that comes next; outside it is read off the step's word.
 pub struct LoadCell;
 

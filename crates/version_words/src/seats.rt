@@ -23,11 +23,12 @@ use table_words::Layout;
 
 /// A block with these lists, for a runner in no run.
 fn boxed(alloc: Global, lists: Kept) -> Result<Box<Block, Global>, AllocError>
-    ensures { IfOk result (λ b. b.value.lists ≡ lists) }
+    ensures lists { IfOk result (λ b. b.value.lists ≡ lists) }
+    ensures place { IfOk result (λ b. b.value.place.opened ≡ 13) }
 {
     let place = RunPlace {
         descriptor: 0,
-        opened: 0,
+        opened: 13,
         request: 0,
         agreed: 0,
     };
@@ -41,7 +42,8 @@ fn keeper_lists<S: Structure>(
     layout: Layout,
 ) -> Result<Box<Block, Global>, AllocError>
     requires { IsWithinLimits layout }
-    ensures { IfOk result (λ b. b.value.lists ≡ keeper_part (S.meaning structure.now) layout) }
+    ensures lists { IfOk result (λ b. b.value.lists ≡ keeper_part (S.meaning structure.now) layout) }
+    ensures place { IfOk result (λ b. b.value.place.opened ≡ 13) }
 {
     let workers = layout.runners;
     let lists = Kept::new(
@@ -66,7 +68,8 @@ fn worker_lists<S: Structure>(
 ) -> Result<Box<Block, Global>, AllocError>
     requires limits { IsWithinLimits layout }
     requires worker { worker < layout.runners }
-    ensures { IfOk result (λ b. b.value.lists ≡ worker_part (S.meaning structure.now) layout worker) }
+    ensures lists { IfOk result (λ b. b.value.lists ≡ worker_part (S.meaning structure.now) layout worker) }
+    ensures place { IfOk result (λ b. b.value.place.opened ≡ 13) }
 {
     let lists = Kept::new(
         alloc,

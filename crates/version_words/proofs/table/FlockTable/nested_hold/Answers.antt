@@ -12,7 +12,7 @@ held_word-held-requires-clause-descriptor g c =
     let m = g.S.Structure.meaning c.args.self.now.structure in let r = c.args.runner in let held = held_by_run r.part.run c.args.word in
     let run = has_run m r NestedHold (Cell c.args.place, Exchanges c.args.word held) refl c.requires.next in
     let limits = subst IsWithinLimits (sym (c.requires.own.layout ∙ ap (λ t. t.layout) (sym c.self.view_is))) c.self.invariant.limits in
-    let is = (c.runner.invariant.place run.0 (ap (λ y. y.part.run) c.runner.view_is ∙ run.1)).descriptor in
+    let is = (c.runner.invariant.place.run run.0 (ap (λ y. y.part.run) c.runner.view_is ∙ run.1)).descriptor in
     subst (λ (n : ℕ). n < 2 ^ 32 - 1) (sym (ap (λ b. b.place.descriptor) c.deref.ensures ∙ is)) (may_nest m r run.0 c.args.place c.args.word held limits run.1 c.requires.next).few
 
 pub held_word-held-requires-clause-version : goal.held_word-held-requires-clause-version

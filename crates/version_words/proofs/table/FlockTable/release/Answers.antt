@@ -17,7 +17,7 @@ held_word-held-requires-clause-descriptor g c =
     let limits = subst IsWithinLimits (sym (c.requires.own.layout ∙ ap (λ t. t.layout) (sym c.self.view_is))) c.self.invariant.limits in
     let next = c.requires.next ∙ ap (λ (o : Option RunState). Some (Cell c.args.place, Exchanges (held_by_run o word) (next_word (held_by_run o word) 0))) run.1 in
     let can = may_release m r run.0 c.args.place word (next_word (held_word run.0.descriptor word) 0) limits run.1 next in
-    let is = ap (λ b. b.place.descriptor) c.deref.ensures ∙ (c.runner.invariant.place run.0 (ap (λ y. y.part.run) c.runner.view_is ∙ run.1)).descriptor in
+    let is = ap (λ b. b.place.descriptor) c.deref.ensures ∙ (c.runner.invariant.place.run run.0 (ap (λ y. y.part.run) c.runner.view_is ∙ run.1)).descriptor in
     subst (λ (n : ℕ). n < 2 ^ 32 - 1) (sym is) can.0.few
 
 pub held_word-held-requires-clause-version : goal.held_word-held-requires-clause-version
@@ -36,7 +36,7 @@ next-free-requires g c =
     let limits = subst IsWithinLimits (sym (c.requires.own.layout ∙ ap (λ t. t.layout) (sym c.self.view_is))) c.self.invariant.limits in
     let next = c.requires.next ∙ ap (λ (o : Option RunState). Some (Cell c.args.place, Exchanges (held_by_run o word) (next_word (held_by_run o word) 0))) run.1 in
     let can = may_release m r run.0 c.args.place word (next_word (held_word run.0.descriptor word) 0) limits run.1 next in
-    let is = ap (λ b. b.place.descriptor) c.deref.ensures ∙ (c.runner.invariant.place run.0 (ap (λ y. y.part.run) c.runner.view_is ∙ run.1)).descriptor in
+    let is = ap (λ b. b.place.descriptor) c.deref.ensures ∙ (c.runner.invariant.place.run run.0 (ap (λ y. y.part.run) c.runner.view_is ∙ run.1)).descriptor in
     subst (λ (n : ℕ). version_of n + 1 < 2 ^ 32) (sym (c.held_word-held.ensures ∙ ap (λ (d : ℕ). held_word d word) is)) can.1
 
 pub invariant_of-runner : goal.invariant_of-runner

@@ -1,0 +1,30 @@
+use Rattle.std.proofs.Common.{◌≡◌, Some, ap, sym, subst, ◌∙◌}
+use Rattle.table_words.specs.declared.spot.Spot.TheVariants.{ThunkWord}
+use Rattle.table_words.specs.declared.access.Access.TheVariants.{Loads}
+use Rattle.runner_steps.specs.declared.event.EventKind.{EventKind}
+use Rattle.runner_steps.specs.Asks.{sizes_for}
+use Rattle.version_words.specs.declared.block.Block.{Block}
+use Rattle.version_words.specs.declared.place.RunPlace.{RunPlace}
+use Rattle.version_words.specs.Naming.{open_of}
+use Rattle.version_words.specs.Kept.{IsKept}
+use Rattle.version_words.specs.Place.{opened_of, opened_place, next_thunk_word}
+use Rattle.version_words.specs.TableState.{IsOf}
+use Rattle.version_words.specs.Events.{met_by, Makes, seen_seat}
+use Rattle.version_words.proofs.Openings.{opening_kept, thunk_named}
+use Rattle.version_words.proofs.table.FlockTable.load_thunk.Goals as goal
+
+pub invariant_of-runner : goal.invariant_of-runner
+invariant_of-runner g c =
+    let m = g.S.Structure.meaning c.args.self.now.structure in let seat = c.runner.inside.seat in let new = c.load-word.new.seat in
+    let d = c.args.descriptor in let found = c.load-word.result in let p = seat.me.0.part in
+    let old = seen_seat seat.table_id seat.me in
+    let asked = subst (λ r. met_by m r (open_of r.part.run d) ≡ Some (ThunkWord d (opened_of r.part.run), Loads)) (sym c.runner.view_is) c.requires.next in
+    let own = subst (λ r. IsOf c.args.self.now r) (sym c.runner.view_is) c.requires.own in
+    let same_sizes : sizes_for m c.args.self.now.layout c.args.self.now.requests ≡ sizes_for m seat.me.0.layout seat.me.0.requests = (λ i. sizes_for m (sym own.layout i) (sym own.requests i)) in
+    let place_is = ap (λ (b : Block). b.place) c.deref.ensures in
+    let named = thunk_named (sizes_for m c.args.self.now.layout c.args.self.now.requests) (sizes_for m seat.me.0.layout seat.me.0.requests) c.runner.inside.kept.value.place p d c.next_thunk_word-index.result same_sizes c.runner.invariant.place
+    (c.next_thunk_word-index.ensures ∙ ap next_thunk_word place_is) in
+    let event = subst (λ (k : EventKind). Makes m k found old (seen_seat new.table_id new.me)) named c.load-word.ensures.event in
+    let kept = opening_kept m d found c.runner.inside.number c.runner.inside.kept.value seat.table_id new.table_id seat.me new.me c.load-word.ensures.slots c.runner.invariant asked event in
+    subst (λ (b : Block). IsKept c.runner.inside.number (record { lists = b.lists; place = c.opened.result }) new.me) (sym c.deref_mut.ensures.value)
+    (subst (λ (k : RunPlace). IsKept c.runner.inside.number (record { lists = c.runner.inside.kept.value.lists; place = k }) new.me) (sym (c.opened.ensures ∙ ap (λ (k : RunPlace). opened_place k d found) place_is)) kept)

@@ -1,0 +1,46 @@
+//! Steps that open a run.
+ghost use Rattle.std.specs.Prelude.{◌≡◌, ◌==◌, ◌<◌, not, ℕ, Some};
+ghost use Rattle.table_words.specs.declared.spot.Spot.TheVariants as spots;
+ghost use Rattle.table_words.specs.declared.access.Access.TheVariants.{Loads};
+ghost use Rattle.runner_steps.specs.declared.event.EventKind.TheVariants as kinds;
+ghost use Rattle.version_words.specs.Naming.{open_of};
+ghost use Rattle.version_words.specs.Place.{opened_of, own_done};
+ghost use Rattle.version_words.specs.TableState.{IsOf};
+ghost use Rattle.version_words.specs.Events.{met_by, Makes};
+
+use crate::plays;
+use crate::runner::Runner;
+use crate::table::FlockTable;
+use runner_steps::Structure;
+use table_words::Spot;
+
+impl<S: Structure> FlockTable<S> {
+    /// The next thunk word of the run's descriptor; outside a run the first one of a descriptor that the runner holds, with which a
+    /// run begins.
+    pub fn load_thunk(&self, mut runner: Runner<S>, descriptor: u32) -> (Runner<S>, u64)
+        requires own { IsOf self.now runner }
+        requires next { met_by (S.meaning self.now.structure) runner (open_of runner.part.run descriptor) ≡ Some (spots.ThunkWord descriptor (opened_of runner.part.run), Loads) }
+        ensures own { IsOf self.now result.0 }
+        ensures event { Makes (S.meaning self.now.structure) (open_of runner.part.run descriptor) result.1 runner result.0 }
+    {
+        let place = runner.kept.place;
+        let index = place.next_thunk_word();
+        let spot = Spot::ThunkWord(descriptor, index);
+        let word = self.load::<plays::LoadThunk>(&mut runner.seat, spot);
+        runner.kept.place = place.opened(descriptor, word);
+        (runner, word)
+    }
+
+    /// The done word of the run's descriptor: whether it is set.
+    pub fn load_done(&self, mut runner: Runner<S>) -> (Runner<S>, bool)
+        requires own { IsOf self.now runner }
+        requires next { met_by (S.meaning self.now.structure) runner kinds.LoadDone ≡ Some (own_done runner.part.run, Loads) }
+        ensures own { IsOf self.now result.0 }
+        ensures event { (found : ℕ) × Makes (S.meaning self.now.structure) kinds.LoadDone found runner result.0 × (result.1 ≡ not (found == 0)) }
+    {
+        let spot = Spot::DoneWord(runner.kept.place.descriptor);
+        let found = self.load::<plays::LoadDone>(&mut runner.seat, spot);
+        runner.kept.place.opened = 13;
+        (runner, found != 0)
+    }
+}
