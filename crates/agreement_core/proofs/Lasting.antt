@@ -116,6 +116,18 @@ answered_or_left c w old d used done =
     (λ e. inr (record { done = done; check = e })) (end_or_check c d s.log (s.code s.edge)
     ((old.sections d used).section.in_log.stops done))
 
+-- each step of an earlier phase is below the end
+pub before_end : (c : CellRules) (w : AgreementState) → IsSound c w → (d : ℕ) → w.used d ≡ true → HasAnswered (w.section d)
+    → (i : ℕ) → phase ((w.section d).code i) < 7 → i < (w.section d).edge
+before_end c w old d used answered i lt =
+    let s = w.section d in
+    ⊎_elim (λ l. l)
+    (λ le.
+    let a : phase (s.code s.edge) ≡ 7 = ap phase (end_is _ answered.ended) in
+    let b = (old.sections d used).published.line.in_phases.phases s.edge i le in
+    absurd (omega arith))
+    (cases_lt i s.edge)
+
 module _ (c : CellRules) (w : AgreementState) (old : IsSound c w) (h : History) (exact : IsExact w h) (d : ℕ) (used : w.used d ≡ true) where
   abbrev s : Section
   s = w.section d
@@ -123,25 +135,17 @@ module _ (c : CellRules) (w : AgreementState) (old : IsSound c w) (h : History) 
   own : UsedIsSound c w.shared (w.live d) (w.over d) d s
   own = old.sections d used
 
-  -- each step of an earlier phase is below the end
-  before_end : HasAnswered s → (i : ℕ) → phase (s.code i) < 7 → i < s.edge
-  before_end answered i lt = ⊎_elim (λ l. l)
-      (λ le.
-      let a : phase (s.code s.edge) ≡ 7 = ap phase (end_is _ answered.ended) in
-      let b = own.published.line.in_phases.phases s.edge i le in
-      absurd (omega arith))
-      (cases_lt i s.edge)
-
   pub happened : HasAnswered s → HappenedOnce w h d
   happened answered =
       let line = own.published.line.stamped in
-      let at_stamp : line.stamp < s.edge = before_end answered line.stamp
+      let at_stamp : line.stamp < s.edge = before_end c w old d used answered line.stamp
       (let a : phase (s.code line.stamp) ≡ 3 = ap phase line.stamps in omega arith) in
-      let at_answer : line.answer < s.edge = before_end answered line.answer
+      let at_answer : line.answer < s.edge = before_end c w old d used answered line.answer
       (let a : phase (s.code line.answer) ≡ 6 = ap phase line.answers in omega arith) in
       record {
         moved = λ i place k v e.
-            exact.moved d i used ∙ below i s.edge _ _ (before_end answered i (let a : phase (s.code i) ≡ 4 = ap phase e in omega arith))
+            exact.moved d i used ∙ below i s.edge _ _ (before_end c w old d used answered i
+            (let a : phase (s.code i) ≡ 4 = ap phase e in omega arith))
             ∙ ap (change_of s.log) e;
         stamp = exact.stamps s.request
             ∙ written_some _ (own.section.in_request.stamped line.stamp at_stamp (ap is_stamp_exchange line.stamps));

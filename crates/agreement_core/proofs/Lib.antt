@@ -25,6 +25,7 @@ pub mod Writing
 pub mod Recording
 pub mod Lasting
 pub mod Continuing
+pub mod Answering
 pub mod PlainRuns
 pub mod Late
 pub mod HelpedLine

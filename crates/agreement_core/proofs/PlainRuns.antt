@@ -1,29 +1,33 @@
 -- A section's log is what the plain run of its body agrees on.
-use Rattle.std.proofs.Common.{◌≡◌, ◌≢◌, ℕ, zero, suc, ◌-◌, ◌<◌, Bool, true, false, cond, List, refl, sym, ap, ◌∙◌, subst, ⊎_elim, arith, Some, None, Option}
+use Rattle.std.proofs.Common.{◌≤◌, ◌≡◌, ◌≢◌, ℕ, zero, suc, ◌-◌, ◌<◌, Bool, true, false, cond, List, length, refl, sym, ap, ◌∙◌, subst, ⊎_elim, arith, Some, None, Option}
 use Rattle.std.specs.Prelude.{◌==◌, ◌&&◌, not, slice_index}
 use Rattle.section_body.specs.Line.{line, micro_at, committed, is_check, is_commit}
 use Rattle.section_body.specs.Word.{version_of, is_free, is_spent, held_word}
-use Rattle.section_body.specs.Run.{Setting, Run, leaves, refusal}
+use Rattle.section_body.specs.Run.{Setting, Run, ran, leaves, refusal}
 use Rattle.section_body.specs.declared.outcome.Outcome.{Outcome}
+use Rattle.section_body.specs.declared.outcome.Outcome.TheVariants.{Answered}
 use Rattle.section_body.specs.declared.outcome.Outcome.TheVariants.{Stale, Spent}
 use Rattle.section_body.specs.declared.step.Step.{Step}
 use Rattle.section_body.specs.declared.micro.Micro.{Micro}
 use Rattle.section_body.specs.declared.micro.Micro.TheVariants as micros
 use Rattle.section_body.proofs.ValueLemmas.{get_or-first_values}
-use Rattle.section_lines.specs.Line.{IsLine}
+use Rattle.std.proofs.lemmas.Bool.{cases_lt}
+use Rattle.section_body.proofs.LineLemmas.{past_line}
+use Rattle.section_lines.specs.Line.{phase, IsLine}
 use Rattle.section_lines.specs.Runs.{agreed, Follows, AgreesWith}
 use Rattle.section_lines.proofs.Phases.{is_in_phases, one_answer}
 use Rattle.section_lines.proofs.Counted.{is_counted}
 use Rattle.section_lines.proofs.Runs.{agrees_with}
 use Rattle.agreement_core.specs.State.{CellRules, Section, AgreementState}
-use Rattle.agreement_core.specs.Checks.{passes, is_stop}
+use Rattle.agreement_core.specs.Checks.{passes, is_stop, is_reply_exchange}
 use Rattle.agreement_core.specs.Sound.{UsedIsSound, IsSound}
-use Rattle.agreement_core.specs.History.{HasLeft}
+use Rattle.agreement_core.specs.History.{HasAnswered, HasLeft}
 use Rattle.agreement_core.specs.PlainRuns.{IsOfBody, chosen, IsOver, with_loaded, loaded_cells, start_over, FollowsPlainRun}
 use Rattle.agreement_core.proofs.Going.{at_edge}
 use Rattle.agreement_core.proofs.Committing.{upd_here, upd_else}
 use Rattle.agreement_core.proofs.Frame.{not_both}
-use Rattle.agreement_core.proofs.Lasting.{end_is, answered_or_left}
+use Rattle.agreement_core.proofs.Answering.{follows_below, ends_answered}
+use Rattle.agreement_core.proofs.Lasting.{end_is, before_end, answered_or_left}
 use Rattle.agreement_core.proofs.Lines.{word_logged, fresh_logged, free_logged, held_logged}
 
 when_true : {A : Type 0} → (b : Bool) (x y : A) → b ≡ true → cond b x y ≡ x
@@ -98,6 +102,10 @@ one_before n some = omega arith
 stop_fails : (c : CellRules) (d : ℕ) (log : ℕ → ℕ) (m : Micro) → is_stop c d log m ≡ true → passes c d log m ≡ false
 stop_fails c d log m stop = grind arith
 
+not_reply : (m : Micro) → ((reply : ℕ) → m ≡ micros.ReplyExchange reply → ⊥) → is_reply_exchange m ≡ false
+not_reply (micros.ReplyExchange reply) never = absurd (never reply refl)
+not_reply m never = refl
+
 -- over plain values, so that the line and the counts may stand for the section's
 module _ (c : CellRules) (w : AgreementState) (old : IsSound c w) (d : ℕ) (used : w.used d ≡ true) (body : List Step)
     (is : IsOfBody (w.section d) body) (fixed_cells : ℕ) (first : ℕ → ℕ → ℕ) (clock : ℕ)
@@ -142,11 +150,15 @@ module _ (c : CellRules) (w : AgreementState) (old : IsSound c w) (d : ℕ) (use
         (s.code i) refl (own.section.in_log.passed i lt check');
   }
 
-  agrees : AgreesWith (chosen c d s fixed_cells first clock) start (line body) s.log s.edge
-  agrees =
+  agrees_at : (n : ℕ) → n ≤ s.edge → AgreesWith (chosen c d s fixed_cells first clock) start (line body) s.log n
+  agrees_at n le =
       let answer = one_answer body is.shaped in
       agrees_with (chosen c d s fixed_cells first clock) start (line body) s.log (is_in_phases body is.shaped)
-      (is_counted body is.shaped.short) answer.0 answer.1 s.edge follows
+      (is_counted body is.shaped.short) answer.0 answer.1 n
+      (follows_below (chosen c d s fixed_cells first clock) start (line body) s.log s.edge n le follows)
+
+  agrees : AgreesWith (chosen c d s fixed_cells first clock) start (line body) s.log s.edge
+  agrees = agrees_at s.edge (omega arith)
 
   -- where a section has left
   pub exits : HasLeft s
@@ -157,11 +169,32 @@ module _ (c : CellRules) (w : AgreementState) (old : IsSound c w) (d : ℕ) (use
       (agreed_word s.edge) (s.code s.edge) refl left.check
       (stop_fails c d s.log _ (own.section.in_log.stops left.done)))
 
+  -- where a section has answered
+  answers : HasAnswered s → (i reply : ℕ) → s.code i ≡ micros.ReplyExchange reply
+      → (ran (chosen c d s fixed_cells first clock) start (line body)).outcome ≡ Some (Answered reply)
+  answers answered i reply e =
+      let stamped = own.published.line.stamped in
+      let six : phase (s.code i) ≡ 6 = ap phase e in
+      let below : i < s.edge = before_end c w old d used answered i (omega arith) in
+      ends_answered (chosen c d s fixed_cells first clock) start (line body) s.log s.edge follows
+      (λ n le. (agrees_at n le).so_far) i reply below
+      (within i (omega arith)) (at i ∙ e) (λ n lt. earlier n i lt (stamped.answer_once i reply e))
+    where
+      within : (i : ℕ) → phase (s.code i) < 7 → i < length (line body)
+      within i low = ⊎_elim (λ l. l)
+          (λ high. absurd (let seven : phase (s.code i) ≡ 7 = ap phase (sym (at i) ∙ past_line (line body) i high) in omega arith))
+          (cases_lt i (length (line body)))
+
+      earlier : (n i : ℕ) → n < i → i ≡ own.published.line.stamped.answer → is_reply_exchange (micro_at (line body) n) ≡ false
+      earlier n i lt here = not_reply _ (λ reply f. let same = own.published.line.stamped.answer_once n reply (sym (at n) ∙ f) in
+          omega arith)
+
   pub follows_plain_run : FollowsPlainRun s body (chosen c d s fixed_cells first clock) start
   follows_plain_run = record {
     so_far = agrees.so_far;
     prefix = agrees.prefix;
-    exit = agrees.leaves_with;
+    left = λ left. let x = exits left in (x.outcome, x.is, agrees.leaves_with x.outcome x.is);
+    answer = answers;
     whole = λ done. ⊎_elim
         (λ answered. agrees.at_end (at s.edge ∙ end_is _ answered.ended))
         (λ left. let x = exits left in agrees.at_exit x.outcome x.is)

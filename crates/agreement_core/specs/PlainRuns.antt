@@ -5,11 +5,13 @@ use Rattle.section_body.specs.Line.{line, micro_at, committed}
 use Rattle.section_body.specs.Shape.{IsShaped}
 use Rattle.section_body.specs.Run.{Setting, Run, leaves, ran}
 use Rattle.section_body.specs.declared.outcome.Outcome.{Outcome}
+use Rattle.section_body.specs.declared.outcome.Outcome.TheVariants.{Answered}
 use Rattle.section_body.specs.declared.step.Step.{Step}
 use Rattle.section_body.specs.declared.micro.Micro.{Micro}
-use Rattle.section_body.specs.declared.micro.Micro.TheVariants.{Commit}
+use Rattle.section_body.specs.declared.micro.Micro.TheVariants.{Commit, ReplyExchange}
 use Rattle.section_lines.specs.Runs.{agreed}
 use Rattle.agreement_core.specs.State.{CellRules, Section}
+use Rattle.agreement_core.specs.History.{HasAnswered, HasLeft}
 
 -- the section's line is that of this body
 pub record IsOfBody (s : Section) (body : List Step) : Type 0 where
@@ -66,6 +68,10 @@ pub record FollowsPlainRun (s : Section) (body : List Step) (setting : Setting) 
   pub so_far : (ran setting start (take s.edge (line body))).trail ≡ agreed (line body) s.log s.edge
   pub prefix : take (committed (line body) s.edge) (ran setting start (line body)).trail ≡ agreed (line body) s.log s.edge
   pub whole : s.done ≢ 0 → (ran setting start (line body)).trail ≡ agreed (line body) s.log s.edge
-  -- where the section stands at a check by which the run leaves, the whole run leaves there
-  pub exit : (outcome : Outcome) → leaves setting (agreed (line body) s.log s.edge) (micro_at (line body) s.edge) ≡ Some outcome
-      → (ran setting start (line body)).outcome ≡ Some outcome
+  -- where the section has left at a check, the whole run leaves there, with that check's outcome
+  pub left : HasLeft s → (outcome : Outcome) × (leaves setting (agreed (line body) s.log s.edge)
+      (micro_at (line body) s.edge) ≡ Some outcome)
+      × ((ran setting start (line body)).outcome ≡ Some outcome)
+  -- where the section has answered, the run ends with that answer
+  pub answer : HasAnswered s → (i reply : ℕ) → s.code i ≡ ReplyExchange reply
+      → (ran setting start (line body)).outcome ≡ Some (Answered reply)

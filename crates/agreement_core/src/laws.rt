@@ -47,8 +47,8 @@ pub fn agreed_words_stand()
 /// A step of a run that is behind the furthest one of its section changes no cell, clock, stamp or reply, and nothing in any
 /// section.
 pub fn late_runs_change_nothing()
-    ensures { (c : CellRules) (w : AgreementState) (e : Event) (r : ℕ) → Enabled c w e → IsSound c w → stepper e ≡ Some r → IsLate w r
-        → IsUnchanged w (after w e) }
+    ensures { (c : CellRules) (w : AgreementState) (e : Event) (r : ℕ) → Enabled c w e → IsSound c w → stepper e ≡ Some r
+        → IsLate w r → IsUnchanged w (after w e) }
 {}
 
 /// An event changes no cell, or raises its version by exactly one. A word that was read isn't from the future.
@@ -68,7 +68,8 @@ pub fn loaded_cells_stand()
 /// only a run that has set it done releases a lock.
 pub fn locks_name_live_sections()
     ensures named { (c : CellRules) (w : AgreementState) → IsSound c w → LocksStand c w }
-    ensures done { (c : CellRules) (w : AgreementState) (d : ℕ) → IsSound c w → w.used d ≡ true → (w.section d).done ≢ 0 → IsDoneLate c w d }
+    ensures done { (c : CellRules) (w : AgreementState) (d : ℕ) → IsSound c w → w.used d ≡ true → (w.section d).done ≢ 0
+        → IsDoneLate c w d }
     ensures stay { (c : CellRules) (w : AgreementState) (e : Event) → Enabled c w e → IsSound c w → LocksStay c w (after w e) }
     ensures released { (c : CellRules) (w : AgreementState) (r place word : ℕ) → IsSound c w → Enabled c w (Release r place word)
         → (section_of w r).done ≢ 0 }
@@ -82,11 +83,13 @@ pub fn takes_agree()
 
 /// Take the plain run of a section's body, with the choices that the section's log tells, over cells in which each cell that
 /// the section has loaded holds the agreed word. What was agreed is that run's trail as far as the runs of the section have
-/// come, the whole run's trail begins with it, and once the section is done it is the whole run's trail. Such cells are there.
+/// come, the whole run's trail begins with it, and once the section is done it is the whole run's trail, and the run ends as the
+/// section did. Such cells are there.
 pub fn logs_follow_plain_runs()
-    ensures start { (c : CellRules) (w : AgreementState) (d : ℕ) → IsSound c w → w.used d ≡ true → IsOver (w.section d) (start_over (w.section d)) }
-    ensures follows { (c : CellRules) (w : AgreementState) (d : ℕ) (body : List Step) (fixed_cells : ℕ) (first : ℕ → ℕ → ℕ) (clock : ℕ) (start : Run)
-        → IsSound c w → w.used d ≡ true → IsOfBody (w.section d) body → IsOver (w.section d) start
+    ensures start { (c : CellRules) (w : AgreementState) (d : ℕ) → IsSound c w → w.used d ≡ true
+        → IsOver (w.section d) (start_over (w.section d)) }
+    ensures follows { (c : CellRules) (w : AgreementState) (d : ℕ) (body : List Step) (fixed_cells : ℕ)
+        (first : ℕ → ℕ → ℕ) (clock : ℕ) (start : Run) → IsSound c w → w.used d ≡ true → IsOfBody (w.section d) body → IsOver (w.section d) start
         → FollowsPlainRun (w.section d) body (chosen c d (w.section d) fixed_cells first clock) start }
 {}
 
