@@ -21,6 +21,10 @@ use Rattle.machine_joins.specs.Slots.{retiring_of}
 use Rattle.machine_joins.proofs.Places.{has_append, has_times}
 use Rattle.machine_joins.specs.Descriptors.{times_limbo, times_published, times_with}
 
+-- the Retire at which an entered runner's run is has an epoch that is no earlier than the runner's entry
+abbrev pub IsRecent : Meaning → PartState → Type 0
+IsRecent m p = (g : ℕ) → p.stage ≡ Entered g → (retiring_of m p.run).loaded ≡ true → g ≤ (retiring_of m p.run).epoch
+
 -- what is so of a runner's part where the epoch is this
 pub record IsOwn (m : Meaning) (l : Layout) (epoch r : ℕ) (p : PartState) : Type 0 where
   pub once : (d : ℕ) → d < descriptor_count l → times_with p d ≡ cond (owner_of l.sections l.runners d == r) 1 0
@@ -28,6 +32,7 @@ pub record IsOwn (m : Meaning) (l : Layout) (epoch r : ℕ) (p : PartState) : Ty
   pub nodes_most : All (λ x. x.epoch ≤ epoch) p.nodes.limbo
   -- the Retire at which its run is, if any, has an epoch that was loaded
   pub retire_most : (retiring_of m p.run).epoch ≤ epoch
+  pub retire_least : IsRecent m p
   pub run_begins : (q : RunState) → p.run ≡ Some q → length q.opened < 13 → q.at ≡ 0
   -- what it published in this entry it has published still, or it is in its limbo
   pub own_count : (g d : ℕ) → p.stage ≡ Entered g → has p.reads.published d ≡ true → (d < descriptor_count l) × (1 ≤ times_limbo d p.descriptors.limbo + times_published d p.published)
@@ -49,13 +54,14 @@ later epoch epoch' h xs all = All-weaker (λ x. x.epoch ≤ epoch) (λ x. x.epoc
 
 module _ (m : Meaning) (l : Layout) (epoch r : ℕ) where
   -- a step that changes neither lists nor what was published
-  pub stays : (p p' : PartState) → IsSameLists p' p → IsSameEntry p' p → (retiring_of m p'.run).epoch ≤ epoch → ((q : RunState) → p'.run ≡ Some q → length q.opened < 13 → q.at ≡ 0)
+  pub stays : (p p' : PartState) → IsSameLists p' p → IsSameEntry p' p → (retiring_of m p'.run).epoch ≤ epoch → IsRecent m p' → ((q : RunState) → p'.run ≡ Some q → length q.opened < 13 → q.at ≡ 0)
       → IsOwn m l epoch r p → IsOwn m l epoch r p'
-  stays p p' same entry retire begins old = record {
+  stays p p' same entry retire least begins old = record {
     once = λ d few. counts d ∙ old.once d few;
     descriptors_most = subst (All (λ x. x.epoch ≤ epoch)) (sym same.limbo) old.descriptors_most;
     nodes_most = subst (All (λ x. x.epoch ≤ epoch)) (sym same.nodes) old.nodes_most;
     retire_most = retire;
+    retire_least = least;
     run_begins = begins;
     own_count = λ g d at it. let e = entry g d at it in let c = old.own_count g d e.0 e.1 in
         (c.0, subst (λ n. 1 ≤ n) (sym (λ i. times_limbo d (same.limbo i) + same.published d i)) c.1);
@@ -67,7 +73,7 @@ module _ (m : Meaning) (l : Layout) (epoch r : ℕ) where
 
   -- the same with no run
   pub idles : (p p' : PartState) → IsSameLists p' p → IsSameEntry p' p → p'.run ≡ None → IsOwn m l epoch r p → IsOwn m l epoch r p'
-  idles p p' same entry none old = stays p p' same entry (subst (λ (o : Option RunState). (retiring_of m o).epoch ≤ epoch) (sym none) (omega arith)) (λ q at few. absurd (let x = sym none ∙ at in cc)) old
+  idles p p' same entry none old = stays p p' same entry (subst (λ (o : Option RunState). (retiring_of m o).epoch ≤ epoch) (sym none) (omega arith)) (λ g at loaded. absurd (let x = sym (ap (λ (o : Option RunState). (retiring_of m o).loaded) none) ∙ loaded in cc)) (λ q at few. absurd (let x = sym none ∙ at in cc)) old
 
   -- the epoch goes on
   pub passes : (epoch' : ℕ) (p : PartState) → epoch ≤ epoch' → IsOwn m l epoch r p → IsOwn m l epoch' r p
@@ -76,6 +82,7 @@ module _ (m : Meaning) (l : Layout) (epoch r : ℕ) where
     descriptors_most = later epoch epoch' h _ old.descriptors_most;
     nodes_most = later epoch epoch' h _ old.nodes_most;
     retire_most = let low = old.retire_most in omega arith;
+    retire_least = old.retire_least;
     run_begins = old.run_begins;
     own_count = old.own_count;
     own_late = old.own_late;
@@ -174,6 +181,7 @@ module _ (m : Meaning) (l : Layout) (epoch r : ℕ) (p : PartState) (old : IsOwn
     descriptors_most = All-filter (λ x. not (lists.is_old e x)) (λ x. x.epoch ≤ epoch) p.descriptors.limbo old.descriptors_most;
     nodes_most = All-filter (λ x. not (lists.is_old e x)) (λ x. x.epoch ≤ epoch) p.nodes.limbo old.nodes_most;
     retire_most = at_none;
+    retire_least = λ g at loaded. absurd (let x = at in cc);
     run_begins = old.run_begins;
     own_count = λ g d at it. absurd (let x = at in cc);
     own_late = λ g d at it. absurd (let x = at in cc);
@@ -207,6 +215,7 @@ module _ (m : Meaning) (l : Layout) (epoch r : ℕ) (p : PartState) (old : IsOwn
       descriptors_most = old.descriptors_most;
       nodes_most = old.nodes_most;
       retire_most = at_none;
+      retire_least = old.retire_least;
       run_begins = old.run_begins;
       own_count = λ g d' at it. ⊎_elim
           (λ same. (subst (λ n. n < descriptor_count l) (sym same) few, (let one = pub_here d d' same in omega arith)))
@@ -246,6 +255,7 @@ module _ (m : Meaning) (l : Layout) (epoch r : ℕ) (p : PartState) (old : IsOwn
       descriptors_most = All-push (λ y. y.epoch ≤ epoch) p.descriptors.limbo new old.descriptors_most (omega arith);
       nodes_most = old.nodes_most;
       retire_most = at_none;
+      retire_least = old.retire_least;
       run_begins = old.run_begins;
       own_count = λ g d at it. let c = old.own_count g d at it in (c.0, (let most = c.1 in let now = moves d in omega arith));
       own_late = λ g d at it. All-push (λ y. y.slot ≡ d → g ≤ y.epoch) p.descriptors.limbo new (old.own_late g d at it) (λ same. later_than g at);

@@ -32,11 +32,12 @@ use Rattle.runner_steps.specs.After.{outside_after, line_after, inside_after}
 use Rattle.machine_states.proofs.Steps.{some_same}
 use Rattle.machine_states.proofs.Sights.{some_none}
 use Rattle.machine_joins.specs.Slots.{retire_before, retiring_of}
+use Rattle.epoch_core.specs.State.{Retiring, no_retire}
 use Rattle.machine_joins.specs.Descriptors.{times_published}
 use Rattle.machine_joins.proofs.OutsideAsked as asked
 use Rattle.machine_joins.proofs.InsideAsked as inside
 use Rattle.machine_joins.proofs.RunPlaces.{next_in_line, open_run, goes_on_unretired, begins_unretired}
-use Rattle.machine_joins.proofs.OwnDescriptors.{IsOwn, IsSameLists, stays, idles, collects, publishes, retires}
+use Rattle.machine_joins.proofs.OwnDescriptors.{IsOwn, IsRecent, IsSameLists, stays, idles, collects, publishes, retires}
 
 -- whether a runner at this stage is entered
 abbrev is_in : Stage → Bool
@@ -55,6 +56,10 @@ abbrev is_retire : Micro → Bool
 is_retire (micros.EpochForRetire slot log) = true
 is_retire _ = false
 
+-- at no Retire no epoch is loaded
+no_loaded : {B : Type 0} {y : Retiring} → y ≡ no_retire → y.loaded ≡ true → B
+no_loaded e is = absurd (let z = sym (ap (λ (a : Retiring). a.loaded) e) ∙ is in cc)
+
 looked_limbo : (l : Layout) (n : NodesState) (slot cell word : ℕ) → (lists.nodes_looked l n slot cell word).limbo ≡ n.limbo
 looked_limbo l n slot cell word = by_test (has n.hand slot && (cell == (lists.test_of n.tests slot).cells && nat_lt cell 5)) (lists.one_more l (lists.test_of n.tests slot) word)
   where
@@ -70,11 +75,11 @@ looked_limbo l n slot cell word = by_test (has n.hand slot && (cell == (lists.te
     by_test true y = whole (y.cells == 5) y
     by_test false y = refl
 
-module _ (m : Meaning) (l : Layout) (rs : List Request) (epoch r : ℕ) (p : PartState) (old : IsOwn m l epoch r p) (x : Spot × Access) (found : ℕ) (loaded : x.0 ≡ Epoch → found ≡ epoch) (records : RecordsState) where
+module _ (m : Meaning) (l : Layout) (rs : List Request) (epoch r : ℕ) (p : PartState) (old : IsOwn m l epoch r p) (x : Spot × Access) (found : ℕ) (loaded : x.0 ≡ Epoch → found ≡ epoch) (entered : (g : ℕ) → p.stage ≡ Entered g → g ≤ epoch) (records : RecordsState) where
   abbrev Own : PartState → Type 0
   Own p' = IsOwn m l epoch r (record p' { records = records })
 
-  module _ (none : p.run ≡ None) (entered : (g : ℕ) → p.stage ≡ Entered g → g ≤ epoch) where
+  module _ (none : p.run ≡ None) where
     same_lists : IsSameLists p p
     same_lists = record { free = refl; limbo = refl; published = λ d. refl; nodes = refl }
 
@@ -135,7 +140,7 @@ module _ (m : Meaning) (l : Layout) (rs : List Request) (epoch r : ℕ) (p : Par
     opens d =
         let begun : RunState = outside.opened d found in
         stays m l epoch r p (record p { run = Some begun; records = records }) (record { free = refl; limbo = refl; published = λ d. refl; nodes = refl }) (λ g d at it. (at, it))
-        (subst (λ y. y ≤ epoch) (sym (ap (λ y. y.epoch) (begins_unretired m begun refl))) (omega arith)) (λ q at few. ap (λ (a : RunState). a.at) (sym (some_same begun q at))) old
+        (subst (λ y. y ≤ epoch) (sym (ap (λ y. y.epoch) (begins_unretired m begun refl))) (omega arith)) (λ g at is. no_loaded (begins_unretired m begun refl) is) (λ q at few. ap (λ (a : RunState). a.at) (sym (some_same begun q at))) old
 
     retires_own : retire_ask p ≡ Some x → Own (outside.retire_after p p.published found)
     retires_own e =
@@ -165,9 +170,9 @@ module _ (m : Meaning) (l : Layout) (rs : List Request) (epoch r : ℕ) (p : Par
 
   module _ (q : RunState) (at : p.run ≡ Some q) where
     -- the part after a step of the run: its lists are these, and so is its run's Retire
-    in_run : (p' : PartState) → IsSameLists p' p → p'.stage ≡ p.stage → p'.reads.published ≡ p.reads.published → (retiring_of m p'.run).epoch ≤ epoch
+    in_run : (p' : PartState) → IsSameLists p' p → p'.stage ≡ p.stage → p'.reads.published ≡ p.reads.published → (retiring_of m p'.run).epoch ≤ epoch → IsRecent m p'
         → ((q' : RunState) → p'.run ≡ Some q' → length q'.opened < 13 → q'.at ≡ 0) → IsOwn m l epoch r p'
-    in_run p' same stage published retire begins = stays m l epoch r p p' same (λ g d at it. (sym stage ∙ at, ap (λ (xs : List ℕ). has xs d) (sym published) ∙ it)) retire begins old
+    in_run p' same stage published retire least begins = stays m l epoch r p p' same (λ g d at it. (sym stage ∙ at, ap (λ (xs : List ℕ). has xs d) (sym published) ∙ it)) retire least begins old
 
     -- one more word is loaded
     opens_more : length q.opened < 13 → Own (runs.opened_more p q found)
@@ -175,7 +180,7 @@ module _ (m : Meaning) (l : Layout) (rs : List Request) (epoch r : ℕ) (p : Par
         let more : RunState = record q { opened = q.opened ++ found ∷ [] } in
         let start = old.run_begins q at few in
         in_run (record p { run = Some more; records = records }) (record { free = refl; limbo = refl; published = λ d. refl; nodes = refl }) refl refl
-        (subst (λ y. y ≤ epoch) (sym (ap (λ y. y.epoch) (begins_unretired m more start))) (omega arith)) (λ q' e few'. ap (λ (a : RunState). a.at) (sym (some_same more q' e)) ∙ start)
+        (subst (λ y. y ≤ epoch) (sym (ap (λ y. y.epoch) (begins_unretired m more start))) (omega arith)) (λ g at' is. no_loaded (begins_unretired m more start) is) (λ q' e few'. ap (λ (a : RunState). a.at) (sym (some_same more q' e)) ∙ start)
 
     opening_own : (kind : EventKind) → opening_ask kind q ≡ Some x → Own (runs.opened_more p q found)
     opening_own (kinds.LoadThunk None) e = opens_more (let low = (inside.open_more_asked q x e).0 in omega arith)
@@ -192,6 +197,7 @@ module _ (m : Meaning) (l : Layout) (rs : List Request) (epoch r : ℕ) (p : Par
       moves other q' opened trail rests nodes limbo reads published =
           in_run (record p { run = Some q'; nodes = nodes; reads = reads; records = records }) (record { free = refl; limbo = refl; published = λ d. refl; nodes = limbo }) refl published
           (subst (λ y. y ≤ epoch) (sym (ap (λ y. y.epoch) (goes_on_unretired m l q (micro_at (line_of m q) q.at) refl (λ s k e. other s k (ahead s k e)) q' opened trail rests))) (omega arith))
+          (λ g at' is. no_loaded (goes_on_unretired m l q (micro_at (line_of m q) q.at) refl (λ s k e. other s k (ahead s k e)) q' opened trail rests) is)
           (λ q2 e few. absurd (let all = ap (λ (a : RunState). length a.opened) (sym (some_same q' q2 e)) ∙ (ap (λ (xs : List ℕ). length xs) opened ∙ all_loaded) in omega arith))
         where
           ahead : (s k : ℕ) → micro_at (line_of m q) q.at ≡ micros.EpochForRetire s k → next_of m q ≡ micros.EpochForRetire s k
@@ -202,6 +208,13 @@ module _ (m : Meaning) (l : Layout) (rs : List Request) (epoch r : ℕ) (p : Par
       same_retire (micros.RetireCommit s k) = refl
       same_retire _ = refl
 
+      same_loaded : (micro : Micro) → (retire_before (runs.ended_more q) micro).loaded ≡ (retire_before q micro).loaded
+      same_loaded (micros.RetireCommit s k) = refl
+      same_loaded _ = refl
+
+      was_least : (g : ℕ) → p.stage ≡ Entered g → (retire_before q (micro_at (line_of m q) q.at)).loaded ≡ true → g ≤ (retire_before q (micro_at (line_of m q) q.at)).epoch
+      was_least g stage = subst (λ (o : Option RunState). (retiring_of m o).loaded ≡ true → g ≤ (retiring_of m o).epoch) at (old.retire_least g stage)
+
       was_most : (retire_before q (micro_at (line_of m q) q.at)).epoch ≤ epoch
       was_most = subst (λ (o : Option RunState). (retiring_of m o).epoch ≤ epoch) at old.retire_most
 
@@ -209,6 +222,7 @@ module _ (m : Meaning) (l : Layout) (rs : List Request) (epoch r : ℕ) (p : Par
       ends_more reads published =
           in_run (record p { run = Some (runs.ended_more q); reads = reads; records = records }) (record { free = refl; limbo = refl; published = λ d. refl; nodes = refl }) refl published
           (subst (λ n. n ≤ epoch) (sym (same_retire (micro_at (line_of m q) q.at))) was_most)
+          (λ g stage is. subst (λ n. g ≤ n) (sym (same_retire (micro_at (line_of m q) q.at))) (was_least g stage (sym (same_loaded (micro_at (line_of m q) q.at)) ∙ is)))
           (λ q2 e few. absurd (let all = ap (λ (a : RunState). length a.opened) (sym (some_same (runs.ended_more q) q2 e)) ∙ all_loaded in omega arith))
 
       over_same : (o : Option Published) (d : ℕ) → times_published d (runs.over_if o q.descriptor) ≡ times_published d o
@@ -218,7 +232,7 @@ module _ (m : Meaning) (l : Layout) (rs : List Request) (epoch r : ℕ) (p : Par
       is_over : (reads : ReadsState) → reads.published ≡ p.reads.published → Own (record p { run = None; published = runs.over_if p.published q.descriptor; reads = reads })
       is_over reads published =
           in_run (record p { run = None; published = runs.over_if p.published q.descriptor; reads = reads; records = records }) (record { free = refl; limbo = refl; published = over_same p.published; nodes = refl }) refl published
-          (omega arith) (λ q2 e few. absurd (let y = e in cc))
+          (omega arith) (λ g stage is. absurd (let y = is in cc)) (λ q2 e few. absurd (let y = e in cc))
 
       releases : (b : Bool) (reads : ReadsState) → reads.published ≡ p.reads.published → (finished : RecordsState)
           → Own (cond b (record p { run = None; published = runs.over_if p.published q.descriptor; reads = reads; records = finished }) (record p { run = Some (runs.ended_more q); reads = reads }))
@@ -230,10 +244,15 @@ module _ (m : Meaning) (l : Layout) (rs : List Request) (epoch r : ℕ) (p : Par
       some_most q' (micros.RetireCommit s k) e = omega arith
       some_most q' _ e = omega arith
 
+      some_least : (q' : RunState) (micro : Micro) → q'.word ≡ epoch → (g : ℕ) → g ≤ epoch → (retire_before q' micro).loaded ≡ true → g ≤ (retire_before q' micro).epoch
+      some_least q' (micros.RetireCommit s k) e g low is = omega arith
+      some_least q' _ e g low is = absurd (let y = is in cc)
+
       loads_epoch : found ≡ epoch → Own (runs.number_loaded m l p q found)
       loads_epoch now =
           let q' = runs.goes_on m l q found in
           in_run (record p { run = Some q'; records = records }) (record { free = refl; limbo = refl; published = λ d. refl; nodes = refl }) refl refl (some_most q' (micro_at (line_of m q') q'.at) now)
+          (λ g stage is. some_least q' (micro_at (line_of m q') q'.at) now g (entered g stage) is)
           (λ q2 e few. absurd (let all = ap (λ (a : RunState). length a.opened) (sym (some_same q' q2 e)) ∙ all_loaded in omega arith))
 
       no_other : (micro : Micro) → is_retire micro ≡ false → next_of m q ≡ micro → (s k : ℕ) → next_of m q ≡ micros.EpochForRetire s k → ⊥
@@ -254,6 +273,7 @@ module _ (m : Meaning) (l : Layout) (rs : List Request) (epoch r : ℕ) (p : Par
             descriptors_most = kept.descriptors_most;
             nodes_most = limbo_by (found == 0) slot' low;
             retire_most = kept.retire_most;
+            retire_least = kept.retire_least;
             run_begins = kept.run_begins;
             own_count = kept.own_count;
             own_late = kept.own_late;

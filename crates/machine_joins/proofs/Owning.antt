@@ -29,6 +29,11 @@ use Rattle.machine_states.proofs.Updates.{upd_split}
 use Rattle.machine_states.proofs.FirstSights.{first_part_of, first_parts}
 use Rattle.machine_joins.specs.Entries.{stage_of}
 use Rattle.machine_joins.specs.Scans.{Found}
+use Rattle.section_body.specs.Line.{micro_at}
+use Rattle.section_body.specs.declared.micro.Micro.TheVariants.{RetireCommit}
+use Rattle.runner_steps.specs.Sections.{line_of}
+use Rattle.epoch_core.specs.State.{Retiring}
+use Rattle.machine_joins.specs.Slots.{retire_before, retiring_of}
 use Rattle.machine_joins.specs.Firsts.{owner_of}
 use Rattle.machine_joins.specs.Descriptors.{DescriptorsAreSound}
 use Rattle.machine_joins.proofs.OutsideAsked as asked
@@ -49,6 +54,7 @@ copied m l epoch r p records gone o = record {
   descriptors_most = o.descriptors_most;
   nodes_most = o.nodes_most;
   retire_most = o.retire_most;
+  retire_least = o.retire_least;
   run_begins = o.run_begins;
   own_count = o.own_count;
   own_late = o.own_late;
@@ -84,8 +90,8 @@ module _ (m : Meaning) (l : Layout) (rs : List Request) (s : Sight) (r : ℕ) (x
 
   module _ (old : Owns m l s) (entered : (g : ℕ) → p.stage ≡ Entered g → g ≤ s.word Epoch) where
     own_by : (kind : EventKind) (o : Option RunState) → p.run ≡ o → ask_by m l rs r kind p o ≡ Some x → (records : RecordsState) → IsOwn m l (s.word Epoch) r (record (after_by m l kind p o (s.word x.0)) { records = records })
-    own_by kind None at e records = outside_own m l rs (s.word Epoch) r p (old r) x (s.word x.0) (ap s.word) records at entered kind e
-    own_by kind (Some q) at e records = inside_own m l rs (s.word Epoch) r p (old r) x (s.word x.0) (ap s.word) records q at kind e
+    own_by kind None at e records = outside_own m l rs (s.word Epoch) r p (old r) x (s.word x.0) (ap s.word) entered records at kind e
+    own_by kind (Some q) at e records = inside_own m l rs (s.word Epoch) r p (old r) x (s.word x.0) (ap s.word) entered records q at kind e
 
     -- the stepping runner's part
     own_after : (kind : EventKind) → asks m l rs r kind p ≡ Some x → IsOwn m l (s.word Epoch) r (after m l r kind x.0 x.1 p (s.word x.0))
@@ -116,6 +122,7 @@ module _ (m : Meaning) (l : Layout) (rs : List Request) where
     descriptors_most = All-nil (λ x. x.epoch ≤ epoch);
     nodes_most = All-nil (λ x. x.epoch ≤ epoch);
     retire_most = omega arith;
+    retire_least = λ g at is. absurd (let y = at in cc);
     run_begins = λ q e few. absurd (let y = e in cc);
     own_count = λ g d at it. absurd (let y = at in cc);
     own_late = λ g d at it. absurd (let y = at in cc);
@@ -157,11 +164,17 @@ module _ (m : Meaning) (l : Layout) (s : Sight) (own : Owns m l s) where
       let his = (own i).once d c.0 in let none = not_mine (owner_of l.sections l.runners d) i (λ e. other (sym e ∙ owner)) in omega arith)
       (cases_eq i r)
 
-  pub descriptors_sound : DescriptorsAreSound l s
+  recent : (r g slot log : ℕ) (q : RunState) → (s.part r).stage ≡ Entered g → (s.part r).run ≡ Some q → micro_at (line_of m q) q.at ≡ RetireCommit slot log → (g ≤ q.word) × (q.word ≤ s.word Epoch)
+  recent r g slot log q stage run at =
+      let now : retiring_of m (s.part r).run ≡ retire_before q (RetireCommit slot log) = ap (retiring_of m) run ∙ ap (retire_before q) at in
+      (subst (λ (y : Retiring). g ≤ y.epoch) now ((own r).retire_least g stage (ap (λ (y : Retiring). y.loaded) now)), subst (λ (y : Retiring). y.epoch ≤ s.word Epoch) now (own r).retire_most)
+
+  pub descriptors_sound : DescriptorsAreSound m l s
   descriptors_sound = record {
     once = λ r. (own r).once;
     descriptors_most = λ r. (own r).descriptors_most;
     nodes_most = λ r. (own r).nodes_most;
     own_unfree = unfree;
     own_late = λ r. (own r).own_late;
+    retire_recent = recent;
   }

@@ -1,6 +1,8 @@
--- Descriptors and limbo lists, in every state that the machine reaches.
+-- Descriptors, limbo lists and the epochs of Retires, in every state that the machine reaches.
 use Rattle.std.specs.Prelude.{◌≡◌, ℕ, ◌+◌, ◌<◌, ◌≤◌, ◌==◌, cond, true, List, [], ◌∷◌, Option, Some, None, All}
 use Rattle.map_history.specs.declared.op.Request.{Request}
+use Rattle.section_body.specs.Line.{micro_at}
+use Rattle.section_body.specs.declared.micro.Micro.TheVariants.{RetireCommit}
 use Rattle.table_words.specs.declared.layout.Layout.{Layout}
 use Rattle.table_words.specs.declared.spot.Spot.TheVariants.{Epoch}
 use Rattle.table_words.specs.Places.{descriptor_count}
@@ -9,7 +11,8 @@ use Rattle.runner_steps.specs.declared.stage.Stage.TheVariants.{Entered}
 use Rattle.runner_steps.specs.declared.entries.Retired.{Retired}
 use Rattle.runner_steps.specs.declared.entries.Published.{Published}
 use Rattle.runner_steps.specs.declared.event.Event.{Event}
-use Rattle.runner_steps.specs.State.{PartState}
+use Rattle.runner_steps.specs.State.{RunState, PartState}
+use Rattle.runner_steps.specs.Sections.{line_of}
 use Rattle.runner_steps.specs.Tests.{has}
 use Rattle.epoch_core.specs.Lists.{times}
 use Rattle.machine_states.specs.World.{World}
@@ -31,7 +34,7 @@ times_published d (Some x) = cond (x.descriptor == d) 1 0
 abbrev pub times_with : PartState → ℕ → ℕ
 times_with p d = times d p.descriptors.free + (times_limbo d p.descriptors.limbo + times_published d p.published)
 
-pub record DescriptorsAreSound (l : Layout) (s : Sight) : Type 0 where
+pub record DescriptorsAreSound (m : Meaning) (l : Layout) (s : Sight) : Type 0 where
   -- each descriptor stands once with its owner, free, in limbo or published, and with no other runner
   pub once : (r d : ℕ) → d < descriptor_count l → times_with (s.part r) d ≡ cond (owner_of l.sections l.runners d == r) 1 0
   -- nothing was retired in an epoch to come
@@ -43,7 +46,10 @@ pub record DescriptorsAreSound (l : Layout) (s : Sight) : Type 0 where
       → times d (s.part i).descriptors.free ≡ 0
   pub own_late : (r g d : ℕ) → (s.part r).stage ≡ Entered g → has (s.part r).reads.published d ≡ true
       → All (λ x. x.slot ≡ d → g ≤ x.epoch) (s.part r).descriptors.limbo
+  -- at the commit of a Retire the run of an entered runner goes by an epoch that is no earlier than the runner entered, and not to come
+  pub retire_recent : (r g slot log : ℕ) (q : RunState) → (s.part r).stage ≡ Entered g → (s.part r).run ≡ Some q
+      → micro_at (line_of m q) q.at ≡ RetireCommit slot log → (g ≤ q.word) × (q.word ≤ s.word Epoch)
 
 -- where these events lead from a first state to this one, its descriptors are sound
 abbrev pub DescriptorsSoundAfter : Meaning → Layout → List Request → List Event → World → Type 0
-DescriptorsSoundAfter m l requests events w = IsAfter m l requests events w → DescriptorsAreSound l (sight m l requests w)
+DescriptorsSoundAfter m l requests events w = IsAfter m l requests events w → DescriptorsAreSound m l (sight m l requests w)

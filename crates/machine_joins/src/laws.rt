@@ -19,8 +19,8 @@ pub fn epochs_are_sound<S: Structure>(structure: &S)
 {}
 
 /// After every list of enabled events each descriptor stands once with its owner, free, in limbo or published, and with no other
-/// runner; nothing was retired in an epoch to come; and the descriptor of a section that an entered runner published in this
-/// entry is in nobody's free list.
+/// runner; nothing was retired in an epoch to come, and no run of an entered runner retires with an epoch before its entry; and
+/// the descriptor of a section that an entered runner published in this entry is in nobody's free list.
 pub fn descriptors_are_sound<S: Structure>(structure: &S)
     ensures { (layout : Layout) (requests : List Request) (events : List Event) (w : World) → DescriptorsSoundAfter (S.meaning structure.now) layout requests events w }
 {}
