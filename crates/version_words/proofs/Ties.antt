@@ -24,7 +24,6 @@ use Rattle.runner_steps.specs.State.{PartState}
 use Rattle.runner_steps.specs.Asks.{asks, sizes_for}
 use Rattle.runner_steps.specs.After.{after}
 use Rattle.machine_states.specs.World.{World, seat_of, settled_part, put_part, happens}
-use Rattle.machine_states.proofs.Runs.{run_more}
 use Rattle.machine_states.proofs.Steps.{goes, some_same}
 use Rattle.machine_states.proofs.Reached.{more_reached}
 use Rattle.version_words.specs.declared.view.View.{View}

@@ -57,7 +57,7 @@ module _ {T : Type 0} (m : Meaning) where
     pub told : won ≡ wins event.met.1 found
 
   -- the runner made this event, and isn't told what it found
-  pub record Raised (kind : EventKind) (old new : RunnerState T) : Type 0 where
+  pub record IsMade (kind : EventKind) (old new : RunnerState T) : Type 0 where
     pub found : ℕ
     pub event : Makes kind found old new
 

@@ -7,7 +7,7 @@ ghost use Rattle.table_words.specs.declared.access.Access.TheVariants.{Loads, Ex
 ghost use Rattle.runner_steps.specs.declared.event.EventKind.TheVariants as kinds;
 ghost use Rattle.version_words.specs.Place.{next_log, own_done, own_stamp, own_reply, held_by_run};
 ghost use Rattle.version_words.specs.TableState.{IsOf};
-ghost use Rattle.version_words.specs.Events.{met_by, Raised, Leaves, Commits};
+ghost use Rattle.version_words.specs.Events.{met_by, IsMade, Leaves, Commits};
 
 use crate::plays;
 use crate::runner::Runner;
@@ -67,7 +67,7 @@ impl<S: Structure> FlockTable<S> {
         requires own { IsOf self.now runner }
         requires next { met_by (S.meaning self.now.structure) runner kinds.SetDone ≡ Some (own_done runner.part.run, Exchanges 0 1) }
         ensures own { IsOf self.now result }
-        ensures event { Raised (S.meaning self.now.structure) kinds.SetDone runner result }
+        ensures event { IsMade (S.meaning self.now.structure) kinds.SetDone runner result }
     {
         let spot = Spot::DoneWord(runner.kept.place.descriptor);
         self.exchange::<plays::SetDone>(&mut runner.seat, spot, 0, 1);
@@ -103,7 +103,7 @@ impl<S: Structure> FlockTable<S> {
         requires own { IsOf self.now runner }
         requires next { met_by (S.meaning self.now.structure) runner kinds.NestedHold ≡ Some (spots.Cell place, Exchanges word (held_by_run runner.part.run word)) }
         ensures own { IsOf self.now result }
-        ensures event { Raised (S.meaning self.now.structure) kinds.NestedHold runner result }
+        ensures event { IsMade (S.meaning self.now.structure) kinds.NestedHold runner result }
     {
         let _ = &self.setup;
         let spot = Spot::Cell(place);
@@ -118,7 +118,7 @@ impl<S: Structure> FlockTable<S> {
         requires own { IsOf self.now runner }
         requires next { let held = held_by_run runner.part.run word in met_by (S.meaning self.now.structure) runner kinds.Release ≡ Some (spots.Cell place, Exchanges held (next_word held 0)) }
         ensures own { IsOf self.now result }
-        ensures event { Raised (S.meaning self.now.structure) kinds.Release runner result }
+        ensures event { IsMade (S.meaning self.now.structure) kinds.Release runner result }
     {
         let _ = &self.setup;
         let spot = Spot::Cell(place);

@@ -5,7 +5,7 @@ ghost use Rattle.table_words.specs.declared.access.Access.TheVariants.{Loads, Ex
 ghost use Rattle.runner_steps.specs.declared.event.EventKind.TheVariants as kinds;
 ghost use Rattle.version_words.specs.Naming.{load_of};
 ghost use Rattle.version_words.specs.TableState.{IsOf};
-ghost use Rattle.version_words.specs.Events.{met_by, IsEnabled, Makes, Raised};
+ghost use Rattle.version_words.specs.Events.{met_by, IsEnabled, Makes, IsMade};
 
 use crate::plays;
 use crate::runner::Runner;
@@ -64,7 +64,7 @@ impl<S: Structure> FlockTable<S> {
         requires own { IsOf self.now runner }
         requires next { met_by (S.meaning self.now.structure) runner kinds.ClockRaise ≡ Some (spots.Clock, Raises number) }
         ensures own { IsOf self.now result }
-        ensures event { Raised (S.meaning self.now.structure) kinds.ClockRaise runner result }
+        ensures event { IsMade (S.meaning self.now.structure) kinds.ClockRaise runner result }
     {
         self.raise::<plays::ClockRaise>(&mut runner.seat, Spot::Clock, number);
         runner
