@@ -1,15 +1,14 @@
 -- Where a run stands in its line.
-use Rattle.std.specs.Prelude.{◌==◌, ◌&&◌, ◌||◌, ◌%◌, ◌^◌, not, cond, Bool, true, false, nat_lt, nat_le, slice_index, slice_index_or}
-use Rattle.std.proofs.Common.{◌≡◌, ℕ, zero, suc, ◌<◌, List, [], ◌∷◌, ◌++◌, length, take, append_assoc, refl, sym, ap, ◌∙◌, subst, arith, Some}
+use Rattle.std.specs.Prelude.{◌||◌, ◌%◌, ◌^◌, not, Bool, true, false, nat_le, slice_index}
+use Rattle.std.proofs.Common.{◌≡◌, ℕ, ◌<◌, [], ◌∷◌, length, refl, sym, ap, ◌∙◌, subst, arith, Some}
 use Rattle.std.proofs.lemmas.Bool.Decides.{nat_tests}
 use Rattle.section_body.specs.declared.micro.Micro.{Micro}
-use Rattle.section_body.specs.declared.micro.Micro.TheVariants as micros
-use Rattle.section_body.specs.Line.{micro_at, is_event, release_of, releases, ending}
+use Rattle.section_body.specs.Line.{micro_at, is_event}
 use Rattle.table_words.specs.declared.layout.Layout.{Layout}
 use Rattle.table_words.specs.declared.spot.Spot.TheVariants as spots
 use Rattle.structure_laws.specs.Meaning.{Meaning}
 use Rattle.runner_steps.specs.State.{RunState}
-use Rattle.runner_steps.specs.Sections.{thunk_of, is_open_run, line_limit, line_of, next_of}
+use Rattle.runner_steps.specs.Sections.{thunk_of, line_of, next_of}
 use Rattle.agreement_core.specs.State.{AgreementState, section_of}
 use Rattle.agreement_core.specs.Checks.{is_stop, passes}
 use Rattle.agreement_core.specs.Events.{IsBefore}

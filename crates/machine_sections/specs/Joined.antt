@@ -1,5 +1,5 @@
 -- The machine's state and the component's state of agreement, joined.
-use Rattle.std.specs.Prelude.{◌≡◌, ℕ, ◌-◌, ◌<◌, List, [], ◌∷◌, Bool, true, false, ◌==◌, nat_le, length, take, drop, slice_get, slice_index, Option, Some, None}
+use Rattle.std.specs.Prelude.{◌≡◌, ℕ, ◌-◌, ◌<◌, List, Bool, true, false, ◌==◌, nat_le, length, take, drop, slice_get, slice_index, Option, Some, None}
 use Rattle.std.specs.List.{list_any}
 use Rattle.section_body.specs.declared.micro.Micro.{Micro}
 use Rattle.section_body.specs.declared.thunk.Thunk.{Thunk}
