@@ -1,6 +1,6 @@
 -- What an atomic step at the edge of a section is for the section: it passes a step of its body, or it is within one.
 use Rattle.std.proofs.Common.{◌≡◌, ◌≢◌, ℕ, zero, suc, ◌+◌, ◌-◌, ◌<◌, ◌≤◌, List, [], ◌∷◌, length, true, false, refl, sym, ap, ◌∙◌, subst, arith, inl, inr, ⊎_elim, None, slice_get}
-use Rattle.std.specs.Prelude.{Bool, ◌⊎◌, Contains}
+use Rattle.std.specs.Prelude.{◌*◌, Bool, ◌⊎◌, Contains, Some, slice_index_or}
 use Rattle.std.proofs.lemmas.Bool.{cases_eq}
 use Rattle.std.proofs.lemmas.Bool.Decides.{nat_tests}
 use Rattle.map_history.specs.declared.op.Op.{Op}
@@ -24,8 +24,8 @@ use Rattle.structure_laws.specs.Sections.{value_in, is_exit}
 use Rattle.structure_laws.proofs.Bodies.{loaded_before, same_step}
 use Rattle.section_lines.proofs.Steps.{kind, owner}
 use Rattle.section_lines.proofs.Places.{stands, part_at, step_inside, whole_line}
-use Rattle.section_lines.proofs.Sources.{From, of_load, of_want, of_fresh, of_take, of_make, of_stamp, of_store, of_retire, of_answer}
-use Rattle.section_lines.proofs.Ordered.{few_loads}
+use Rattle.section_lines.proofs.Sources.{From, part_there, of_load, of_want, of_fresh, of_take, of_make, of_stamp, of_store, of_retire, of_answer}
+use Rattle.section_lines.proofs.Ordered.{few_loads, fill_of, fills}
 use Rattle.section_lines.proofs.Progress.{some_micros, not_yet, passed_at, passed_next, passed_all, words_next, words_kept}
 use Rattle.section_lines.specs.Progress.{passed_steps, words_after, words_of, section_at, source_word}
 
@@ -303,6 +303,38 @@ module _ (body : List Step) where
               ∙ (value_word log f.n s.1 (inside_body f) (shaped.used f.n (Store s.0 s.1) f.here 1 (Const 0) (omega arith)) ∙ ap (source_word log) source);
           next = moves op thunk readings log log f refl refl;
         }
+
+    -- what a Make at the edge fills one of its slot's cells with
+    pub record MakeFills (log : ℕ → ℕ) (e k cell : ℕ) (v : Value) : Type 0 where
+      pub at : ℕ
+      pub below : at < e
+      pub source : Source
+      pub stores : code at ≡ PrivateStore cell k source
+      pub word : value_in (now log e).reg v ≡ source_word log source
+
+    pub make_fills : (log : ℕ → ℕ) (e k : ℕ) → code e ≡ MakeCommit k → (init : Init) (into : ℕ) → IsStep body (now log e).at (Make init into)
+        → (cell : ℕ) (v : Value) → cell < 5 → slice_get init.cells cell ≡ Some v → MakeFills log e k cell v
+    make_fills log e k is init into here cell v low fill =
+        let s = of_make body e (MakeCommit k) is refl in let f = s.2.from in let g = registers_before body f.n in
+        let count : MakeCommit k ≡ MakeCommit g.count = s.2.same in
+        let same : Make s.0 s.1 ≡ Make init into = same_step body f.n (now log e).at (Make s.0 s.1) (Make init into) f.here here (sym (before_it f)) in
+        let made : s.0 ≡ init = cc in
+        let value = filled_with init.cells cell v fill in
+        let by : SetBefore body f.n v = subst (SetBefore body f.n) value.1 (shaped.used f.n (Make init into) (subst (IsStep body f.n) same f.here) cell (Const 0) value.0) in
+        record {
+          at = begins body f.n + (1 + 2 * cell);
+          below = let place = f.place in omega arith;
+          source = source_of g v;
+          stores = part_there body f (begins body f.n + (1 + 2 * cell)) (1 + 2 * cell) refl (omega arith)
+              ∙ ((fills g s.0 s.1 cell low).store ∙ (ap (PrivateStore cell g.count) (ap (λ (i : Init). fill_of g i cell) made ∙ ap (source_of g) value.1)
+              ∙ ap (λ n. PrivateStore cell n (source_of g v)) (let at : g.count ≡ k = cc in at)));
+          word = ap (λ n. value_in (words_of log body n) v) (before_it f) ∙ value_word log f.n v (inside_body f) by;
+        }
+      where
+        filled_with : (cells : List Value) (cell : ℕ) (v : Value) → slice_get cells cell ≡ Some v → (cell < length cells) × (slice_index_or cells cell (Const 0) ≡ v)
+        filled_with [] cell v fill = absurd (cc)
+        filled_with (first ∷ cells) zero v fill = (omega arith, cc)
+        filled_with (first ∷ cells) (suc cell) v fill = let rest = filled_with cells cell v fill in (omega arith, rest.1)
 
   module _ (op : Op) (thunk : Thunk) (readings : Readings) where
     -- a section that has just been published

@@ -1,0 +1,71 @@
+-- The places of an open section's line up to its edge, as steps of its body.
+use Rattle.std.proofs.Common.{◌≡◌, ℕ, suc, ◌≤◌, List, length, refl, sym, ap, ◌∙◌, subst, ⊎_elim, arith}
+use Rattle.std.proofs.lemmas.Bool.{cases_lt}
+use Rattle.section_body.specs.declared.step.Step.{Step}
+use Rattle.section_body.specs.declared.step.Step.TheVariants.{Load, Retire}
+use Rattle.section_body.specs.declared.micro.Micro.TheVariants as micros
+use Rattle.section_body.specs.Line.{registers_before, line, begins, micro_at}
+use Rattle.section_body.specs.Shape.{IsStep}
+use Rattle.section_body.proofs.LineLemmas.{begins_next}
+use Rattle.section_lines.specs.Progress.{passed_steps}
+use Rattle.section_lines.proofs.Places.{stands, whole_line, begins_rises, step_inside}
+use Rattle.section_lines.proofs.Progress.{passed_at, passed_all}
+use Rattle.section_lines.proofs.Sources.{of_load, of_retire}
+
+-- from a step's beginning on that step is come to
+passed_from : (body : List Step) (edge n : ℕ) → n ≤ length body → begins body n ≤ edge → n ≤ passed_steps body edge
+passed_from body edge n within from = ⊎_elim
+    (λ low.
+    let s = stands body edge low in
+    let at : passed_steps body edge ≡ s.n = ap (passed_steps body) s.place ∙ passed_at body s.n s.at s.step s.here s.within in
+    let inside = step_inside body s.n s.step s.here in
+    ⊎_elim (λ before. absurd (let rises = begins_rises body (suc s.n) n before within in let next = begins_next body s.n s.step s.here in
+    let place = s.place in let more = s.within in omega arith))
+    (λ le. omega arith) (cases_lt s.n n))
+    (λ past. let all = passed_all body edge (let whole = whole_line body in omega arith) in omega arith)
+    (cases_lt edge (length (line body)))
+
+-- a Load that a run has come to, and where it stands in the body
+pub record LoadStep (body : List Step) (edge place : ℕ) : Type 0 where
+  pub step : ℕ
+  pub register : ℕ
+  pub here : IsStep body step (Load place register)
+  pub passed : step ≤ passed_steps body edge
+
+pub come_load : (body : List Step) (edge at place log : ℕ) → at ≤ edge → micro_at (line body) at ≡ micros.Commit place log
+    → LoadStep body edge place
+come_load body edge at place log below is =
+    let s = of_load body at (micros.Commit place log) is refl in let f = s.2.from in
+    let same : micros.Commit place log ≡ micros.Commit s.0 (registers_before body f.n).count = s.2.same in
+    let there : s.0 ≡ place = cc in
+    record {
+      step = f.n;
+      register = s.1;
+      here = subst (λ q. IsStep body f.n (Load q s.1)) there f.here;
+      passed = passed_from body edge f.n (let inside = step_inside body f.n (Load s.0 s.1) f.here in omega arith)
+          (let at = f.place in omega arith);
+    }
+
+-- the Load at the edge
+pub load_here : (body : List Step) (edge place log : ℕ) → micro_at (line body) edge ≡ micros.LoadCell place log → LoadStep body edge place
+load_here body edge place log is =
+    let s = of_load body edge (micros.LoadCell place log) is refl in let f = s.2.from in
+    let same : micros.LoadCell place log ≡ micros.LoadCell s.0 (registers_before body f.n).count = s.2.same in
+    let there : s.0 ≡ place = cc in
+    record {
+      step = f.n;
+      register = s.1;
+      here = subst (λ q. IsStep body f.n (Load q s.1)) there f.here;
+      passed = passed_from body edge f.n (let inside = step_inside body f.n (Load s.0 s.1) f.here in omega arith)
+          (let at = f.place in omega arith);
+    }
+
+-- at the load of the epoch for a Retire the next step is that Retire
+pub retire_here : (body : List Step) (edge t log : ℕ) → micro_at (line body) edge ≡ micros.EpochForRetire t log
+    → IsStep body (passed_steps body edge) (Retire t)
+retire_here body edge t log is =
+    let s = of_retire body edge (micros.EpochForRetire t log) is refl in let f = s.1.from in
+    let same : micros.EpochForRetire t log ≡ micros.EpochForRetire s.0 (registers_before body f.n).count = s.1.same in
+    let there : s.0 ≡ t = cc in
+    subst (λ n. IsStep body n (Retire t)) (sym (ap (passed_steps body) f.place ∙ passed_at body f.n 0 (Retire s.0) f.here (omega arith)))
+    (subst (λ q. IsStep body f.n (Retire q)) there f.here)
