@@ -108,6 +108,7 @@ module _ (m : Meaning) (laws : Laws m) (layout : Layout) (limits : IsWithinLimit
         stands = λ r pending. absurd (not_both pending.0 refl);
         linked = λ r pending. absurd (not_both pending.0 refl);
       };
+      shaped = λ d used. absurd (not_both used refl);
       nodes = λ d i t log used. absurd (not_both used refl);
       fixed = λ t is. ⊎_elim (λ lt. lt) (λ le. absurd (first.unfixed t le is)) (cases_lt t m.fixed_slots);
     }

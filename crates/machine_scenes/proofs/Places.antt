@@ -1,16 +1,21 @@
 -- The places of an open section's line up to its edge, as steps of its body.
-use Rattle.std.proofs.Common.{◌≡◌, ℕ, suc, ◌≤◌, List, length, refl, sym, ap, ◌∙◌, subst, ⊎_elim, arith}
+use Rattle.std.proofs.Common.{◌≡◌, ℕ, suc, ◌≤◌, List, length, refl, sym, ap, ◌∙◌, subst, ⊎_elim, arith, ◌<◌}
 use Rattle.std.proofs.lemmas.Bool.{cases_lt}
 use Rattle.section_body.specs.declared.step.Step.{Step}
-use Rattle.section_body.specs.declared.step.Step.TheVariants.{Load, Retire}
+use Rattle.section_body.specs.declared.step.Step.TheVariants.{Load, Make, Retire}
+use Rattle.section_body.specs.declared.value.Init.{Init}
+use Rattle.section_body.specs.declared.value.Value.TheVariants.{Const}
+use Rattle.section_body.specs.declared.micro.Source.{Source}
 use Rattle.section_body.specs.declared.micro.Micro.TheVariants as micros
-use Rattle.section_body.specs.Line.{registers_before, line, begins, micro_at}
+use Rattle.section_body.specs.Line.{registers_before, line, begins, micro_at, source_of}
 use Rattle.section_body.specs.Shape.{IsStep}
 use Rattle.section_body.proofs.LineLemmas.{begins_next}
+use Rattle.std.specs.Prelude.{slice_index_or}
 use Rattle.section_lines.specs.Progress.{passed_steps}
 use Rattle.section_lines.proofs.Places.{stands, whole_line, begins_rises, step_inside}
 use Rattle.section_lines.proofs.Progress.{passed_at, passed_all}
-use Rattle.section_lines.proofs.Sources.{of_load, of_retire}
+use Rattle.section_lines.proofs.Sources.{of_load, of_make, of_retire}
+use Rattle.section_lines.proofs.Ordered.{fill_of, fills}
 
 -- from a step's beginning on that step is come to
 passed_from : (body : List Step) (edge n : ℕ) → n ≤ length body → begins body n ≤ edge → n ≤ passed_steps body edge
@@ -69,3 +74,22 @@ retire_here body edge t log is =
     let there : s.0 ≡ t = cc in
     subst (λ n. IsStep body n (Retire t)) (sym (ap (passed_steps body) f.place ∙ passed_at body f.n 0 (Retire s.0) f.here (omega arith)))
     (subst (λ q. IsStep body f.n (Retire q)) there f.here)
+
+-- a private store is that of a cell of a Make's slot, with its value for this cell
+pub record FillStep (body : List Step) (cell : ℕ) (value : Source) : Type 0 where
+  pub step : ℕ
+  pub init : Init
+  pub register : ℕ
+  pub here : IsStep body step (Make init register)
+  pub low : cell < 5
+  pub source : value ≡ source_of (registers_before body step) (slice_index_or init.cells cell (Const 0))
+
+pub fill_here : (body : List Step) (at cell log : ℕ) (value : Source) → micro_at (line body) at ≡ micros.PrivateStore cell log value
+    → FillStep body cell value
+fill_here body at cell log value is =
+    let s = of_make body at (micros.PrivateStore cell log value) is refl in let f = s.2.from in
+    let low : cell < 5 = (let within = f.within in omega arith) in
+    let same : micros.PrivateStore cell log value
+    ≡ micros.PrivateStore cell (registers_before body f.n).count (fill_of (registers_before body f.n) s.0 cell) = s.2.same
+    ∙ (fills (registers_before body f.n) s.0 s.1 cell low).store in
+    record { step = f.n; init = s.0; register = s.1; here = f.here; low = low; source = cc }

@@ -1,12 +1,16 @@
 -- What states that meet the invariant supply to the components.
-use Rattle.std.proofs.Common.{◌≡◌, ℕ, suc, ◌+◌, ◌<◌, ◌≤◌, Bool, true, false, refl, sym, ap, ◌∙◌, subst, inl, inr, ⊎_elim, arith}
-use Rattle.std.specs.Prelude.{◌⊎◌, ◌^◌, nat_lt, cond, Some, [], slice_get}
+use Rattle.std.proofs.Common.{◌≡◌, ℕ, suc, ◌+◌, ◌<◌, ◌≤◌, Bool, true, false, refl, sym, ap, ◌∙◌, subst, inl, inr, ⊎_elim, arith, List, zero, length}
+use Rattle.std.specs.Prelude.{◌⊎◌, ◌^◌, nat_lt, cond, Some, [], slice_get, slice_index_or, ◌∷◌}
 use Rattle.std.proofs.lemmas.Bool.{cases_lt}
 use Rattle.std.proofs.lemmas.Bool.Decides.{nat_tests}
 use Rattle.map_history.specs.declared.op.Op.{Op}
-use Rattle.section_body.specs.Line.{line, micro_at, committed, is_event}
+use Rattle.section_body.specs.Line.{registers_before, source_of, line, micro_at, committed, is_event}
 use Rattle.section_body.specs.Word.{is_free, is_spent}
 use Rattle.section_body.specs.declared.step.Step.TheVariants.{Retire}
+use Rattle.section_body.specs.declared.value.Value.{Value}
+use Rattle.section_body.specs.declared.value.Value.TheVariants.{Const}
+use Rattle.section_body.specs.declared.micro.Source.{Source}
+use Rattle.section_body.specs.declared.micro.Source.TheVariants.{Fixed}
 use Rattle.section_body.specs.declared.micro.Micro.{Micro}
 use Rattle.section_body.specs.declared.micro.Micro.TheVariants as micros
 use Rattle.section_body.specs.declared.thunk.Thunk.{Thunk}
@@ -45,7 +49,7 @@ use Rattle.machine_scenes.proofs.Running.{event_open}
 use Rattle.machine_scenes.proofs.Readers.{entered_reads}
 use Rattle.machine_scenes.proofs.Links.{true_false, one_slot, no_slot, gives, outside_used}
 use Rattle.machine_scenes.proofs.JointSteps.{hand_status}
-use Rattle.machine_scenes.proofs.Places.{come_load, load_here, retire_here}
+use Rattle.machine_scenes.proofs.Places.{come_load, load_here, retire_here, fill_here}
 
 module _ (m : Meaning) (laws : Laws m) (layout : Layout) (limits : IsWithinLimits layout) (c : Counts) (nodes : c.nodes ≡ slots m layout)
     (j : States) (kept : kept_states.IsKept m layout c j) where
@@ -117,8 +121,26 @@ module _ (m : Meaning) (laws : Laws m) (layout : Layout) (limits : IsWithinLimit
         unspent = unspent;
       }
 
+  unlocked : (r cell log t : ℕ) (value : Source) → IsBefore a r (micros.PrivateStore cell log value) → m.is_lock (cell_of m t cell) ≡ true
+      → value ≡ Fixed 0
+  unlocked r cell log t value before lock =
+      let d = descriptor_of j r in let used = kept.agreement.running_used r before.running in
+      let fill = fill_here (m.body (p.thunk d)) ((a.run r).at) cell log value
+      (sym ((kept.thunks d used).code ((a.run r).at)) ∙ before.next) in
+      let shaped = kept.shaped d used in
+      let whole = shaped.make_whole fill.step fill.register fill.init fill.here in
+      let zero = shaped.make_unlocked fill.step fill.register cell t fill.init (slice_index_or fill.init.cells cell (Const 0)) fill.here
+      (get_within fill.init.cells cell (Const 0) (let low = fill.low in omega arith)) lock in
+      fill.source ∙ ap (source_of (registers_before (m.body (p.thunk d)) fill.step)) zero
+    where
+      get_within : (cells : List Value) (cell : ℕ) (value : Value) → cell < length cells
+          → slice_get cells cell ≡ Some (slice_index_or cells cell value)
+      get_within [] cell value low = absurd (omega arith)
+      get_within (first ∷ cells) zero value low = refl
+      get_within (first ∷ cells) (suc cell) value low = get_within cells cell value (omega arith)
+
   pub supplies_agreement : SuppliesAgreement m layout c j
-  supplies_agreement = record { alone = alone; apart = apart; publishable = publishable }
+  supplies_agreement = record { alone = alone; apart = apart; unlocked = unlocked; publishable = publishable }
 
   -- a structure reaches nothing without a reading
   unread : (t : ℕ) → m.reaches [] t ≡ false

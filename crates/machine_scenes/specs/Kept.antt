@@ -5,6 +5,7 @@ use Rattle.table_words.specs.declared.layout.Layout.{Layout}
 use Rattle.structure_laws.specs.Scene.{Retired, Scene}
 use Rattle.structure_laws.specs.Meaning.{Meaning}
 use Rattle.structure_laws.specs.Cells.{cell_of, Links}
+use Rattle.structure_laws.specs.Shape.{Shaped}
 use Rattle.structure_laws.specs.Lawful.{IsLawful}
 use Rattle.agreement_core.specs.State.{AgreementState, IsOpen}
 use Rattle.agreement_core.specs.Sound as agreement
@@ -45,6 +46,8 @@ module _ (m : Meaning) (layout : Layout) (c : Counts) where
     pub met : HoldMet m c j.agreement.shared.cells j.epochs j.walk
     pub publishers : HavePublishers j.epochs j.walk j.publications.runner (λ d. sections_of m j.publications j.agreement d)
     pub retires : RetiresAreKept m c j
+    -- the thunk of a published section has the shape that the laws ask for
+    pub shaped : (d : ℕ) → j.agreement.used d ≡ true → Shaped m layout (j.publications.readings d) (j.publications.thunk d)
     -- what a published section has retired is a node slot
     pub nodes : RetiresNodes c.nodes j.agreement
     -- only the structure's fixed slots are fixed

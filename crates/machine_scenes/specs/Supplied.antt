@@ -3,6 +3,8 @@ use Rattle.std.specs.Prelude.{ℕ, suc, ◌<◌, ◌^◌, ◌≡◌, true, false
 use Rattle.map_history.specs.declared.op.Op.{Op}
 use Rattle.section_body.specs.Line.{line, micro_at, committed}
 use Rattle.section_body.specs.Word.{is_free, is_spent}
+use Rattle.section_body.specs.declared.micro.Source.{Source}
+use Rattle.section_body.specs.declared.micro.Source.TheVariants.{Fixed}
 use Rattle.section_body.specs.declared.micro.Micro.TheVariants as micros
 use Rattle.section_body.specs.declared.thunk.Thunk.{Thunk}
 use Rattle.table_words.specs.declared.layout.Layout.{Layout}
@@ -36,6 +38,10 @@ module _ (m : Meaning) (layout : Layout) (c : Counts) where
     -- no open section has come to a cell of a slot in a hand
     pub apart : (r t cell : ℕ) → j.epochs.location t ≡ Hand r → cell < 5 → (d : ℕ) → IsOpen j.agreement d
         → HasCome (j.agreement.section d) (cell_of m t cell) → ⊥
+    -- a Make's store to a lock of its slot is of 0
+    pub unlocked : (r cell log t : ℕ) (value : Source) → IsBefore j.agreement r (micros.PrivateStore cell log value)
+        → m.is_lock (cell_of m t cell) ≡ true
+        → value ≡ Fixed 0
     -- a section whose thunk fits what an entered runner has read may be published
     pub publishable : (r d : ℕ) (op : Op) (thunk : Thunk) → is_entered (j.epochs.stage r) ≡ true → IsAllowed op
         → m.fits layout op (j.walk r) thunk ≡ true
