@@ -19,7 +19,8 @@ use Rattle.agreement_core.proofs.Keeping.{keeps_all}
 use Rattle.machine_states.specs.Sight.{Sight}
 use Rattle.machine_states.proofs.Updates.{upd_split}
 use Rattle.machine_joins.specs.Slots.{thunk_in}
-use Rattle.machine_sections.specs.Joined.{rules_of, IsOfThunk, IsRunOf, ShowsWords, ShowsSection, IsTied, IsJoined}
+use Rattle.machine_scenes.specs.Shown.{rules_of, IsOfThunk}
+use Rattle.machine_sections.specs.Joined.{IsRunOf, ShowsWords, ShowsSection, IsTied, IsJoined}
 use Rattle.machine_sections.specs.Goes.{Leads, Goes}
 use Rattle.machine_sections.proofs.Passes.{IsFurther, checks_ahead, goes, run_settled, settled_rests}
 use Rattle.machine_sections.proofs.Frames.{HasSameText, IsOwnStep, IsOwnPart, same_thunk, tied_stays, tied_own}

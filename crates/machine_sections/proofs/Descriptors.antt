@@ -26,7 +26,8 @@ use Rattle.agreement_core.specs.Events.{IsPublishable, begun, reads, with_cell}
 use Rattle.machine_states.specs.Sight.{Sight}
 use Rattle.machine_states.proofs.Updates.{upd_here, upd_else, upd_split}
 use Rattle.machine_joins.specs.Slots.{thunk_in}
-use Rattle.machine_sections.specs.Joined.{rules_of, has_released, IsOfThunk, IsRunOf, ShowsRun, IsFinishOf, ShowsWords, ShowsSection, IsTied, IsJoined}
+use Rattle.machine_scenes.specs.Shown.{rules_of, IsOfThunk}
+use Rattle.machine_sections.specs.Joined.{has_released, IsRunOf, ShowsRun, IsFinishOf, ShowsWords, ShowsSection, IsTied, IsJoined}
 use Rattle.machine_sections.proofs.Passes.{settled_here}
 use Rattle.machine_sections.proofs.Frames.{HasSameText}
 use Rattle.machine_sections.proofs.Components.{reads_own, reads_more}

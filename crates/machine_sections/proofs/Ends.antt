@@ -29,7 +29,8 @@ use Rattle.agreement_core.specs.Events as events
 use Rattle.agreement_core.specs.Events.{HasTaken, with_cell, reads}
 use Rattle.machine_states.specs.Sight.{Sight, sight_after}
 use Rattle.machine_states.proofs.Updates.{upd_here, upd_else, upd_split}
-use Rattle.machine_sections.specs.Joined.{rules_of, has_released, IsRunOf, ShowsSection, IsJoined}
+use Rattle.machine_scenes.specs.Shown.{rules_of}
+use Rattle.machine_sections.specs.Joined.{has_released, IsRunOf, ShowsSection, IsJoined}
 use Rattle.machine_sections.proofs.Passes.{resting, same_check}
 use Rattle.machine_sections.proofs.RunPlaces as places
 use Rattle.machine_sections.proofs.LineAsked as asked

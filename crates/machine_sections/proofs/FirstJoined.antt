@@ -22,7 +22,8 @@ use Rattle.machine_states.specs.First.{IsFirst, first_part, keeper_part, worker_
 use Rattle.machine_states.specs.Sight.{Sight, sight}
 use Rattle.machine_states.proofs.FirstSights.{first_parts}
 use Rattle.agreement_core.proofs.Keeping as keeping
-use Rattle.machine_sections.specs.Joined.{rules_of, IsTied, IsJoined}
+use Rattle.machine_scenes.specs.Shown.{rules_of}
+use Rattle.machine_sections.specs.Joined.{IsTied, IsJoined}
 
 module _ (m : Meaning) (l : Layout) (rs : List Request) (w : World) (start : IsFirst m l rs w) where
   abbrev s : Sight

@@ -11,7 +11,8 @@ use Rattle.runner_steps.specs.State.{RunState, PartState}
 use Rattle.runner_steps.specs.Tests.{has_pair}
 use Rattle.runner_steps.specs.Sections.{thunk_of, line_of, settles}
 use Rattle.agreement_core.specs.State.{Section, Run, Finished, AgreementState}
-use Rattle.machine_sections.specs.Joined.{has_released, IsOfThunk, IsRunOf, ShowsRun, IsFinishOf, IsTied}
+use Rattle.machine_scenes.specs.Shown.{IsOfThunk}
+use Rattle.machine_sections.specs.Joined.{has_released, IsRunOf, ShowsRun, IsFinishOf, IsTied}
 
 -- a section whose description is the same
 pub record HasSameText (x y : Section) : Type 0 where

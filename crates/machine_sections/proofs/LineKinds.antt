@@ -27,7 +27,8 @@ use Rattle.agreement_core.specs.Events.{IsBefore, IsAlone, goes_on, agrees, with
 use Rattle.machine_states.specs.Sight.{Sight}
 use Rattle.machine_states.proofs.Updates.{put_same}
 use Rattle.machine_joins.proofs.RunPlaces.{is_of_end, next_in_line, open_run}
-use Rattle.machine_sections.specs.Joined.{rules_of, IsRunOf, ShowsWords, ShowsSection, IsJoined}
+use Rattle.machine_scenes.specs.Shown.{rules_of}
+use Rattle.machine_sections.specs.Joined.{IsRunOf, ShowsWords, ShowsSection, IsJoined}
 use Rattle.machine_sections.proofs.RunPlaces as places
 use Rattle.machine_sections.proofs.Frames.{IsOwnStep, IsOwnPart}
 use Rattle.machine_sections.proofs.Components.{own_then, goes_on_own, goes_on_run, goes_on_sections, agrees_own, agrees_run, agrees_sections, reads_own, reads_more}

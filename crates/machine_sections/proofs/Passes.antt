@@ -17,7 +17,8 @@ use Rattle.agreement_core.specs.Checks.{passes, came}
 use Rattle.agreement_core.specs.Events.{Pass, after}
 use Rattle.agreement_core.specs.Schedules.{AllEnabled, after_all}
 use Rattle.machine_states.proofs.Updates.{upd_here, upd_else, upd_split}
-use Rattle.machine_sections.specs.Joined.{rules_of, IsRunOf}
+use Rattle.machine_scenes.specs.Shown.{rules_of}
+use Rattle.machine_sections.specs.Joined.{IsRunOf}
 
 -- a section that differs at most in how far its runs have come
 abbrev pub SameText : Section → Section → Type 0

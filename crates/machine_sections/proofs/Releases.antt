@@ -36,7 +36,8 @@ use Rattle.agreement_core.specs.Events.{HasTaken, with_cell, reads}
 use Rattle.agreement_core.specs.Update.{upd2}
 use Rattle.machine_states.specs.Sight.{Sight, sight_after}
 use Rattle.machine_states.proofs.Updates.{upd_here, upd_else}
-use Rattle.machine_sections.specs.Joined.{rules_of, has_released, IsOfThunk, IsRunOf, IsFinishOf, ShowsWords, ShowsSection, IsTied, IsJoined}
+use Rattle.machine_scenes.specs.Shown.{rules_of, IsOfThunk}
+use Rattle.machine_sections.specs.Joined.{has_released, IsRunOf, IsFinishOf, ShowsWords, ShowsSection, IsTied, IsJoined}
 use Rattle.machine_sections.proofs.RunPlaces as places
 use Rattle.machine_sections.proofs.LineAsked as asked
 use Rattle.machine_sections.proofs.Frames.{HasSameText}

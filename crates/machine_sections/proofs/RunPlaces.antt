@@ -15,7 +15,8 @@ use Rattle.agreement_core.specs.Events.{IsBefore}
 use Rattle.machine_states.specs.Sight.{Sight}
 use Rattle.machine_joins.specs.Slots.{thunk_in}
 use Rattle.machine_joins.proofs.RunPlaces.{is_of_end, next_in_line}
-use Rattle.machine_sections.specs.Joined.{rules_of, IsOfThunk, IsRunOf, ShowsRun, IsJoined}
+use Rattle.machine_scenes.specs.Shown.{rules_of, IsOfThunk}
+use Rattle.machine_sections.specs.Joined.{IsRunOf, ShowsRun, IsJoined}
 
 module _ (m : Meaning) (l : Layout) (w : AgreementState) (s : Sight) (old : IsJoined m l w s) (r : ℕ) (q : RunState) (is : (s.part r).run ≡ Some q) where
   -- the component's run

@@ -36,7 +36,8 @@ use Rattle.agreement_core.specs.Checks.{source_in, stored_word, exchanged}
 use Rattle.agreement_core.specs.Events.{IsBefore, IsPrivateStore, goes_on, with_cell, reads}
 use Rattle.machine_states.specs.Sight.{Sight, sight_after}
 use Rattle.machine_joins.proofs.RunPlaces.{is_of_end}
-use Rattle.machine_sections.specs.Joined.{rules_of, IsRunOf, ShowsWords, IsJoined}
+use Rattle.machine_scenes.specs.Shown.{rules_of}
+use Rattle.machine_sections.specs.Joined.{IsRunOf, ShowsWords, IsJoined}
 use Rattle.machine_sections.proofs.RunPlaces as places
 use Rattle.machine_sections.proofs.LineAsked as asked
 use Rattle.machine_sections.proofs.Frames.{IsOwnPart}

@@ -11,7 +11,8 @@ use Rattle.agreement_core.specs.Schedules.{first_state, AllEnabled, after_all}
 use Rattle.machine_states.specs.World.{World}
 use Rattle.machine_states.specs.First.{IsFirst}
 use Rattle.machine_states.specs.Sight.{Sight, sight, Steps}
-use Rattle.machine_sections.specs.Joined.{rules_of, IsJoined}
+use Rattle.machine_scenes.specs.Shown.{rules_of}
+use Rattle.machine_sections.specs.Joined.{IsJoined}
 use Rattle.machine_sections.specs.Supplied.{IsSupplied}
 
 module _ (m : Meaning) (l : Layout) where

@@ -16,18 +16,8 @@ use Rattle.runner_steps.specs.AfterInRun.{place_of}
 use Rattle.agreement_core.specs.State.{CellRules, Section, Run, Finished, Shared, AgreementState}
 use Rattle.agreement_core.specs.Sound.{IsSound}
 use Rattle.machine_states.specs.Sight.{Sight}
+use Rattle.machine_scenes.specs.Shown.{rules_of, IsOfThunk}
 use Rattle.machine_joins.specs.Slots.{thunk_in}
-
-abbrev pub rules_of : Meaning → Layout → CellRules
-rules_of m l = record { is_lock = m.is_lock; version_max = l.version_max }
-
--- the section is that of this thunk
-pub record IsOfThunk (m : Meaning) (x : Section) (t : Thunk) : Type 0 where
-  pub lock : x.lock ≡ t.lock
-  pub word : x.word ≡ t.word
-  pub request : x.request ≡ t.request
-  pub code : (i : ℕ) → x.code i ≡ micro_at (line (m.body t)) i
-  pub slot : (i : ℕ) → x.slot i ≡ committed (line (m.body t)) i
 
 -- the releases of a run's end, in order
 abbrev pub end_releases : List Micro → ℕ → ℕ → ℕ → List Micro

@@ -23,7 +23,7 @@ use Rattle.agreement_core.specs.State.{AgreementState, section_of}
 use Rattle.agreement_core.specs.Events.{IsAlone, IsPrivateStore, IsPublishable}
 use Rattle.machine_states.specs.Sight.{Sight}
 use Rattle.machine_joins.specs.Slots.{thunk_in}
-use Rattle.machine_sections.specs.Joined.{rules_of}
+use Rattle.machine_scenes.specs.Shown.{rules_of}
 
 -- a retired descriptor that nobody runs
 pub record IsIdle (w : AgreementState) (d : ℕ) : Type 0 where
