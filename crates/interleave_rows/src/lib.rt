@@ -1,7 +1,14 @@
-//! Worked rows on the pure machine, over its test structure.
+//! Worked rows and random schedules on the pure machine, over its test structure.
 //!
-//! `rows` has helpers that make steps, and the tests.
+//! `rows` has helpers that make steps, and the rows; `random` has the random schedules, on the machine of `two_workers`, and
+//! `plain_runs` the runs in one go that they are compared with.
 #![tactic(auto)]
 
 #[cfg(test)]
+mod plain_runs;
+#[cfg(test)]
+mod random;
+#[cfg(test)]
 mod rows;
+#[cfg(test)]
+mod two_workers;
