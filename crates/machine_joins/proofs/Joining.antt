@@ -25,6 +25,7 @@ use Rattle.machine_states.proofs.Updates.{upd_split, map_same, put_same}
 use Rattle.machine_joins.specs.Entries.{counts_of, stage_of}
 use Rattle.machine_joins.specs.Roles.{role_at}
 use Rattle.machine_joins.specs.Slots.{lists_of, thunk_in, ShowsEntries}
+pub use Rattle.machine_joins.specs.Goes.{Goes}
 use Rattle.machine_joins.specs.Joined.{IsTied, IsJoined}
 
 -- the words of descriptors are the same
@@ -110,12 +111,6 @@ module _ (m : Meaning) (l : Layout) where
     stored = λ d j n free last. e.stored d j free ∙ old.stored d j n free last;
   }
 
-  -- a state of the machine to which events of the component lead
-  pub record Goes (w : EpochState) (s' : Sight) : Type 0 where
-    pub events : List events.Event
-    pub enabled : AllEnabled c w events
-    pub joined : IsJoined m l (after_all c w events) s'
-
   module _ (w : EpochState) (s : Sight) (old : IsJoined m l w s) (r : ℕ) where
     -- only the stepping runner's part is new
     abbrev pub next : (Spot → ℕ) → PartState → Sight
@@ -167,7 +162,7 @@ module _ (m : Meaning) (l : Layout) where
       });
     }
 
-    pub stays : (f : Spot → ℕ) (p : PartState) → IsSameBut f s.word → p.stage ≡ (s.part r).stage → lists_of p ≡ lists_of (s.part r) → Publishes p → IsTied m l w f r p → Goes w (next f p)
+    pub stays : (f : Spot → ℕ) (p : PartState) → IsSameBut f s.word → p.stage ≡ (s.part r).stage → lists_of p ≡ lists_of (s.part r) → Publishes p → IsTied m l w f r p → Goes m l w (next f p)
     stays f p same stage lists back own = record { events = []; enabled = tt; joined = stays_joined f p same stage lists back own }
 
     -- a step of these events of the component, by which a runner's part becomes this one
@@ -176,7 +171,7 @@ module _ (m : Meaning) (l : Layout) where
         → ShowsEntries (after_all c w es) (next f p) → ((d k : ℕ) → (after_all c w es).log d k ≡ f (LogWord d k)) → ((d k : ℕ) → 64 ≤ k → f (LogWord d k) ≡ 0)
         → ((d k : ℕ) → is_out ((after_all c w es).location (slot_of c d)) ≡ true → (after_all c w es).role d k ≡ role_at (m.body (thunk_in f d)) k)
         → ((i i' : ℕ) (x x' : Published) → (upd s.part r p i).published ≡ Some x → (upd s.part r p i').published ≡ Some x' → x.descriptor ≡ x'.descriptor → i ≡ i')
-        → IsTied m l (after_all c w es) f r p → ((i : ℕ) → i ≢ r → IsElsewhere w (after_all c w es) s.word f i (s.part i)) → Goes w (next f p)
+        → IsTied m l (after_all c w es) f r p → ((i : ℕ) → i ≢ r → IsElsewhere w (after_all c w es) s.word f i (s.part i)) → Goes m l w (next f p)
     goes_with es ok f p lists entries log past roles apart own others = record {
       events = es;
       enabled = ok;

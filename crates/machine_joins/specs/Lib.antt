@@ -5,6 +5,7 @@ pub mod Roles
 pub mod Slots
 pub mod Joined
 pub mod Supplied
+pub mod Goes
 pub mod Firsts
 pub mod Descriptors
 pub mod Collects

@@ -8,6 +8,7 @@ ghost use Rattle.machine_joins.specs.Epochs.{SoundAfter};
 ghost use Rattle.machine_states.specs.Reached.{Reached};
 ghost use Rattle.machine_joins.specs.Collects.{ScansCollect};
 ghost use Rattle.machine_joins.specs.Descriptors.{DescriptorsSoundAfter};
+ghost use Rattle.machine_joins.specs.Goes.{StepsAreEvents, StartsJoined};
 
 use runner_steps::Structure;
 
@@ -30,4 +31,16 @@ pub fn descriptors_are_sound<S: Structure>(structure: &S)
 /// epoch, and a scan that was clear so far and ends without one found the last announcement in the way, or its epoch is the last.
 pub fn scans_collect<S: Structure>(structure: &S)
     ensures { (layout : Layout) (requests : List Request) (w v : World) → Reached (S.meaning structure.now) layout requests w → ScansCollect (S.meaning structure.now) layout requests w v }
+{}
+
+/// A step of the machine, of whatever kind, is a list of events of epochs and slots that may come, where it is supplied with what
+/// agreement and the structure's laws give: from a state of theirs that belongs to the machine's they lead to one that belongs to
+/// the machine's after the step.
+pub fn steps_are_events_of_slots<S: Structure>(structure: &S)
+    ensures { (layout : Layout) (requests : List Request) → StepsAreEvents (S.meaning structure.now) layout requests }
+{}
+
+/// In the machine's first state each slot is where it is at first, and that state of epochs and slots belongs to the machine's.
+pub fn first_slots_are_joined<S: Structure>(structure: &S)
+    ensures { (layout : Layout) (requests : List Request) → StartsJoined (S.meaning structure.now) layout requests }
 {}

@@ -7,4 +7,7 @@
 
 mod laws;
 
-pub use laws::{descriptors_are_sound, epochs_are_sound, scans_collect};
+pub use laws::{
+    descriptors_are_sound, epochs_are_sound, first_slots_are_joined, scans_collect,
+    steps_are_events_of_slots,
+};

@@ -1,0 +1,32 @@
+-- A step of the machine as events of the component of epochs and slots.
+use Rattle.std.specs.Prelude.{ℕ, List}
+use Rattle.map_history.specs.declared.op.Request.{Request}
+use Rattle.table_words.specs.declared.layout.Layout.{Layout}
+use Rattle.structure_laws.specs.Meaning.{Meaning}
+use Rattle.runner_steps.specs.declared.event.EventKind.{EventKind}
+use Rattle.epoch_core.specs.State.{EpochState}
+use Rattle.epoch_core.specs.Events.{Event}
+use Rattle.epoch_core.specs.Schedules.{first_state, AllEnabled, after_all}
+use Rattle.machine_states.specs.World.{World}
+use Rattle.machine_states.specs.First.{IsFirst}
+use Rattle.machine_states.specs.Sight.{Sight, sight, Steps}
+use Rattle.machine_joins.specs.Entries.{counts_of}
+use Rattle.machine_joins.specs.Firsts.{first_place}
+use Rattle.machine_joins.specs.Joined.{IsJoined}
+use Rattle.machine_joins.specs.Supplied.{IsSupplied}
+
+module _ (m : Meaning) (l : Layout) where
+  -- a list of the component's enabled events leads to a state that is joined with this one of the machine
+  pub record Goes (w : EpochState) (s : Sight) : Type 0 where
+    pub events : List Event
+    pub enabled : AllEnabled (counts_of m l) w events
+    pub joined : IsJoined m l (after_all (counts_of m l) w events) s
+
+  -- each step of the machine is a list of the component's events, where it is supplied
+  abbrev pub StepsAreEvents : List Request → Type 0
+  StepsAreEvents requests = (w : EpochState) (s s' : Sight) (r : ℕ) (kind : EventKind) → IsJoined m l w s
+      → (step : Steps m l requests s s' r kind) → IsSupplied m l w s r kind step.ask.0 → Goes w s'
+
+  -- in the first state each slot is where it is at first, and nobody holds one
+  abbrev pub StartsJoined : List Request → Type 0
+  StartsJoined requests = (w : World) → IsFirst m l requests w → IsJoined m l (first_state (first_place m l)) (sight m l requests w)
