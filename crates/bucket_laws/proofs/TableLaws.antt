@@ -5,7 +5,7 @@ use Rattle.std.specs.FinMap.{get, empty, get-empty}
 use Rattle.std.specs.Ordering.{nat_cmp}
 use Rattle.map_history.specs.declared.op.Op.{Op}
 use Rattle.map_history.specs.declared.op.Op.TheVariants.{Get, Ins, Del}
-use Rattle.map_history.specs.Keys.{key_of}
+use Rattle.map_history.specs.Keys.{key_of, value_given}
 use Rattle.map_history.specs.Replay.{Pairs}
 use Rattle.section_body.specs.Update.{upd}
 use Rattle.section_body.specs.Word.{value_of}
@@ -147,7 +147,7 @@ module _ (buckets : ℕ) (bucket : ℕ → ℕ) (small : (key : ℕ) → bucket 
       let named = (insert_operands op own_walk own_walk.found form).1 in
       let is_key : key_of op ≡ named.0 = ap key_of named.2 in
       let key_low = allowed.keys (key_of op) (inl refl) in
-      let value_low = allowed.value named.0 named.1 named.2 in
+      let value_low = allowed.value named.1 (ap value_given named.2) in
       let head_low = (walk_facts buckets bucket small (bounds buckets bucket layout) op readings).head_small in
       is_insert _ _ _ _ _ _ (eq_false thunk.form 2 1 (fit.form ∙ form) (λ e. omega arith)) (eq_true thunk.form 2 (fit.form ∙ form))
       (four_true _ _ _ _ (small_is (thunk.lock + 2) lock_small) (small_is (operand thunk 1) (let at = number_at 1 ∙ named.3 in omega arith)) (small_is (operand thunk 2) (let at = number_at 2 ∙ named.4 in omega arith))
@@ -265,7 +265,7 @@ module _ (buckets : ℕ) (bucket : ℕ → ℕ) (small : (key : ℕ) → bucket 
           let named = (fit.insert form).1 in
           let is_key : key_of op ≡ named.0 = ap key_of named.2 in
           let key_low : operand thunk 1 < 2 ^ 32 = (let low = allowed.keys (key_of op) (inl refl) in let at = named.3 in omega arith) in
-          let value_low : operand thunk 2 < 2 ^ 32 = (let low = allowed.value named.0 named.1 named.2 in let at = named.4 in omega arith) in
+          let value_low : operand thunk 2 < 2 ^ 32 = (let low = allowed.value named.1 (ap value_given named.2) in let at = named.4 in omega arith) in
           let head_low : operand thunk 3 < 2 ^ 32 = (let low = (walk_facts buckets bucket small (bounds buckets bucket layout) op readings).head_small in let at = named.5 in omega arith) in
           cells i h key_low value_low head_low
         where

@@ -1,8 +1,8 @@
 //! One step of a run in one go.
-ghost use Rattle.std.specs.Prelude.{◌≡◌, ℕ, ◌+◌, ◌^◌, ◌<◌, ◌≤◌, ◌∷◌, [], ◌++◌, All, Some, None, true, false, length, map, drop, slice_index};
+ghost use Rattle.std.specs.Prelude.{◌≡◌, ℕ, ◌+◌, ◌^◌, ◌<◌, ◌≤◌, ◌∷◌, [], ◌++◌, All, Some, None, ◌==◌, cond, true, false, length, map, drop, slice_index};
 ghost use Rattle.section_body.specs.Line.{registers_before, source_of, log_words, micros};
 ghost use Rattle.section_body.specs.Word.{version_of, held_word};
-ghost use Rattle.section_body.specs.declared.outcome.Outcome.TheVariants.{Busy};
+ghost use Rattle.section_body.specs.declared.outcome.Outcome.TheVariants.{Busy, Stale, Spent};
 ghost use Rattle.section_body.specs.Memory.{PlainMemory, cell_of};
 ghost use Rattle.section_body.specs.Run.{Setting, Run, source_value, ran};
 ghost use Rattle.section_body.specs.Act.{Shows, IsLogged, SlotFits, StoreFits, StepFits, StepSuits, filled};
@@ -42,6 +42,24 @@ fn fill_slot(steps: &[Step], n: usize, init: Init, trail: &Trail, memory: &mut M
         let value = value_at(steps, n, init.cells[cell as usize], trail);
         memory.fill(slot, cell, value);
     }
+}
+
+/// The outcome of a `Want` that read this word in place of the expected one, if they differ.
+fn stale(place: Place, expected: Word, read: Word) -> Option<Outcome>
+    ensures { result ≡ cond (read == expected) None (Some (Stale place expected read)) }
+{
+    (read != expected).then(|| Outcome::Stale {
+        place,
+        expected,
+        read,
+    })
+}
+
+/// The outcome of a `Fresh` that read this word, if it has the greatest version.
+fn spent(place: Place, read: Word, version_max: u32) -> Option<Outcome>
+    ensures { result ≡ cond (version_of read == version_max) (Some (Spent place read)) None }
+{
+    (read.version() == version_max).then(|| Outcome::Spent(place, read))
 }
 
 /// Takes a lock that is got, or leaves with the word that stands there.
@@ -109,17 +127,11 @@ pub fn act(
         }
         Step::Want { reg, word } => {
             let Register { place, log } = register_at(steps, n, reg);
-            let read = trail.word(log);
-            (read != word).then(|| Outcome::Stale {
-                place,
-                expected: word,
-                read,
-            })
+            stale(place, word, trail.word(log))
         }
         Step::Fresh { reg } => {
             let Register { place, log } = register_at(steps, n, reg);
-            let read = trail.word(log);
-            (read.version() == memory.version_max).then(|| Outcome::Spent(place, read))
+            spent(place, trail.word(log), memory.version_max)
         }
         Step::Take { place, word } => take_lock(place, word, got, memory, trail),
         Step::Make { init, into: _ } => {

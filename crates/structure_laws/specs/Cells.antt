@@ -12,7 +12,8 @@ use Rattle.structure_laws.specs.Sections.{Here}
 abbrev pub IsSeen : ℕ → ℕ → Type 0
 IsSeen word cell = (version_of word < version_of cell) ⊎ (word ≡ cell)
 
--- the slot is live, or was retired a short while ago: no runner that reached it has left since
+-- the slot is live, or was retired in this epoch or the one before: it is safe for a runner that was entered when it was
+-- retired and hasn't left
 abbrev pub IsSafe : Scene → ℕ → Type 0
 IsSafe s t = (s.status t ≡ Live) ⊎ ((y : ℕ) × (s.status t ≡ Retired y) × (s.epoch ≤ y + 1))
 
@@ -57,6 +58,6 @@ module _ (m : Meaning) where
   abbrev pub IsLoadable : Readings → ℕ → Type 0
   IsLoadable readings p = IsKnown readings p ⊎ (m.is_lock p ≡ true)
 
-  -- a fixed cell, a lock, or a cell of a slot in no hand and no free list
+  -- a fixed cell, a lock, or a cell of a slot that is live or was retired in this epoch or the one before
   abbrev pub IsOutside : Scene → ℕ → Type 0
   IsOutside s p = (p < m.fixed_cells) ⊎ (m.is_lock p ≡ true) ⊎ ((t : ℕ) × IsCellOf t p × IsSafe s t)

@@ -1,8 +1,7 @@
 -- How far a section has come in its body, and the locks that it holds.
 use Rattle.std.specs.Prelude.{ℕ, ◌<◌, ◌≤◌, ◌^◌, ◌≡◌, ◌⊎◌, Bool, true, false, None, Some, slice_get}
 use Rattle.map_history.specs.declared.op.Op.{Op}
-use Rattle.map_history.specs.declared.op.Op.TheVariants.{Ins}
-use Rattle.map_history.specs.Keys.{DependsOn}
+use Rattle.map_history.specs.Keys.{DependsOn, value_given}
 use Rattle.section_body.specs.Word.{value_of}
 use Rattle.section_body.specs.declared.value.Value.{Value}
 use Rattle.section_body.specs.declared.value.Value.TheVariants.{Const, Of, Made}
@@ -15,10 +14,10 @@ use Rattle.structure_laws.specs.Meaning.{Meaning}
 abbrev pub key_max : ℕ
 key_max = 4294967293
 
--- the operation's keys are within the limit, and its value has 32 bits
+-- the operation's keys are within the limit, and the value that it gives has 32 bits
 pub record IsAllowed (op : Op) : Type 0 where
   pub keys : (key : ℕ) → DependsOn op key → key ≤ key_max
-  pub value : (key v : ℕ) → op ≡ Ins key v → v < 2 ^ 32
+  pub value : (v : ℕ) → value_given op ≡ Some v → v < 2 ^ 32
 
 -- what a value of a step stands for, over the registers' words
 abbrev pub value_in : (ℕ → ℕ) → Value → ℕ
