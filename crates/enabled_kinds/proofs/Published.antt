@@ -91,14 +91,15 @@ module _ (m : Meaning) (l : Layout) (rs : List Request) (r : ℕ) (p : PartState
         let a = asked m l rs r p (kinds.Hold t d) e in
         let is = when_asks (is_ready l p d t && is_publishable m l rs r t p) (spots.Cell t.lock) (Exchanges t.word (held_word d t.word)) a.ask (asked_outside m l rs r p (kinds.Hold t d) a refl) in
         let test = both (is_ready l p d t) (is_publishable m l rs r t p) is.0 in
-        let ready = both (has p.descriptors.free d) (is_prepared p.descriptors.stored d t) (both (nat_lt d (descriptor_count l)) _ test.0).1 in
+        let ready = both (has p.descriptors.free d) _ (both (nat_lt d (descriptor_count l)) _ test.0).1 in
+        let prepared = both _ (is_prepared p.descriptors.stored d t) ready.1 in
         let walking = both (is_walking p.stage p.run) _ test.1 in
         let unpublished = both (is_none p.published) _ walking.1 in
         let due = (both (is_open l p.reads.cells t) (is_due m l rs r p.records.known p.reads.walk t) unpublished.1).1 in
         let request = due_within p.records.known p.reads.walk t (slice_get rs t.request) due in
         let inside = slice_get_within rs t.request request.0 request.1 in
         let lock = below t.lock (sizes_for m l rs).cells (ap (λ (x : Spot × Access). fits (sizes_for m l rs) x.0) is.1 ∙ a.fitting) in
-        (ready.0, thunk_is p.descriptors.stored d t given (omega (arith, inside, few)) (few_places t.lock lock) ready.1)
+        (ready.0, thunk_is p.descriptors.stored d t given (omega (arith, inside, few)) (few_places t.lock lock) prepared.1)
 
     -- of a publication nothing else has to be tried
     pub hold_tells : Tells m l rs r p 18 (list_any publishes p.descriptors.free)

@@ -1,5 +1,5 @@
 -- Which word an event outside a run meets, and how.
-use Rattle.std.specs.Prelude.{ℕ, ◌+◌, ◌-◌, ◌^◌, List, Bool, true, false, not, ◌==◌, ◌&&◌, ◌||◌, nat_lt, nat_le, Option, Some, None, slice_get, if◌then◌else◌, is_none}
+use Rattle.std.specs.Prelude.{ℕ, ◌+◌, ◌-◌, ◌^◌, List, Bool, true, false, not, ◌==◌, ◌&&◌, ◌||◌, nat_lt, nat_le, Option, Some, None, slice_get, length, if◌then◌else◌, is_none}
 use Rattle.map_history.specs.declared.op.Request.{Request}
 use Rattle.section_body.specs.declared.thunk.Thunk.{Thunk}
 use Rattle.section_body.specs.Word.{held_word}
@@ -98,9 +98,9 @@ is_due m l requests r known walk t = let request = slice_get requests t.request 
 abbrev pub is_publishable : Meaning → Layout → List Request → ℕ → Thunk → PartState → Bool
 is_publishable m l requests r t p = is_walking p.stage p.run && (is_none p.published && (is_open l p.reads.cells t && is_due m l requests r p.records.known p.reads.walk t))
 
--- the own free descriptor's words were stored with this thunk
+-- the own free descriptor's words were stored with this thunk, which has eight operands
 abbrev pub is_ready : Layout → PartState → ℕ → Thunk → Bool
-is_ready l p d t = nat_lt d (descriptor_count l) && (has p.descriptors.free d && is_prepared p.descriptors.stored d t)
+is_ready l p d t = nat_lt d (descriptor_count l) && (has p.descriptors.free d && (length t.operands == 8 && is_prepared p.descriptors.stored d t))
 
 abbrev pub hold_ask : Meaning → Layout → List Request → ℕ → Thunk → ℕ → PartState → Ask
 hold_ask m l requests r t d p = when (is_ready l p d t && is_publishable m l requests r t p) (spots.Cell t.lock) (Exchanges t.word (held_word d t.word))

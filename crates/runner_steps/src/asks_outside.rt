@@ -288,8 +288,10 @@ impl Part {
         requires { IsWithinLimits layout }
         ensures { result ≡ is_ready layout self.now descriptor thunk.now }
     {
+        let operands: &[u64] = &thunk.operands;
         descriptor < descriptor_count(layout)
             && has(&self.descriptors.free, descriptor)
+            && operands.len() == 8
             && is_prepared(&self.descriptors.stored, descriptor, thunk)
     }
 

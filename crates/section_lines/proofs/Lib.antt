@@ -10,3 +10,4 @@ pub mod Placed
 pub mod Runs
 pub mod Progress
 pub mod Moves
+pub mod Fills

@@ -14,12 +14,11 @@ use Rattle.structure_laws.specs.Cells.{cell_of, slots, Links, IsLoadable}
 use Rattle.structure_laws.specs.Sound.{Sound}
 
 module _ (m : Meaning) where
-  -- an entered runner may publish a section: the thunk fits its readings, and the outer lock stands free with the thunk's
-  -- word, which it has read
+  -- an entered runner may publish a section: the thunk fits its readings, and the outer lock stands free with the thunk's word. That
+  -- the runner has read this word in a walk is asked only as far as `fits` asks for it
   pub record Publishes (layout : Layout) (s : Scene) (readings : Readings) (op : Op) (thunk : Thunk) : Type 0 where
     pub allowed : IsAllowed op
     pub fits : m.fits layout op readings thunk ≡ true
-    pub read : (i : ℕ) × (slice_get readings i ≡ Some (thunk.lock, thunk.word))
     pub free : is_free thunk.word ≡ true
     pub unspent : is_spent layout.version_max thunk.word ≡ false
     pub found : s.cells thunk.lock ≡ thunk.word
