@@ -19,14 +19,16 @@ use Rattle.runner_steps.specs.AfterInRun.{opened_more}
 use Rattle.runner_steps.specs.Asks.{outside_ask, line_ask, opening_ask, inside_ask, ask_by, sizes_for, asks}
 use Rattle.runner_steps.specs.After.{outside_after, line_after, inside_after, after_by, noted, after, leaves, knows_also}
 use Rattle.epoch_core.specs.State.{EpochState, MayHold}
+use Rattle.epoch_core.specs.Events.{Event}
 use Rattle.machine_states.specs.Sight.{Sight, sight_after, Steps}
 use Rattle.machine_states.proofs.Sights.{if_some, some_none, cond_none, unless_gone, joins}
 use Rattle.machine_states.proofs.Updates.{upd_else}
 use Rattle.machine_joins.specs.Entries.{counts_of}
 use Rattle.machine_joins.specs.Slots.{lists_of}
 use Rattle.machine_joins.specs.Joined.{IsTied, IsJoined}
+use Rattle.machine_joins.specs.Chunks.{IsOutsideChunk, IsLineChunk, IsInsideChunk, IsChunk}
 use Rattle.machine_joins.specs.Supplied.{comes_by, IsSupplied}
-use Rattle.machine_joins.proofs.Joining.{but_load, descriptor_same, still_tied, Goes, next, as_published, stays_joined}
+use Rattle.machine_joins.proofs.Joining.{but_load, descriptor_same, still_tied, GoesBy, StaysAt, next, as_published, stays_joined}
 use Rattle.machine_joins.proofs.EntryKinds as entry
 use Rattle.machine_joins.proofs.OutsideKinds as outside
 use Rattle.machine_joins.proofs.StoreKinds as stores
@@ -56,9 +58,9 @@ module _ (m : Meaning) (l : Layout) (rs : List Request) (w : EpochState) (s : Si
   abbrev records_of : EventKind → PartState → RecordsState
   records_of kind p' = noted l r kind x.0 (written x.1 found) p'.records
 
-  -- the step leads to a joined state, if it leads to this part
-  abbrev To : EventKind → PartState → Type 0
-  To kind p' = Goes m l w (next m l w s old r f (record p' { records = records_of kind p' }))
+  -- events of which this holds lead to a joined state, if a step of this kind leads to this part
+  abbrev To : (List Event → Type 0) → EventKind → PartState → Type 0
+  To P kind p' = GoesBy m l P w (next m l w s old r f (record p' { records = records_of kind p' }))
 
   not_join : (kind : EventKind) → is_join kind ≡ false → sight_after m l s r kind x ≡ next m l w s old r f (after m l r kind x.0 x.1 p found)
   not_join (kinds.Join worker) e = absurd (let y = e in cc)
@@ -72,7 +74,8 @@ module _ (m : Meaning) (l : Layout) (rs : List Request) (w : EpochState) (s : Si
   -- the steps of a run
   module _ (q : RunState) (at : p.run ≡ Some q) where
     module _ (is_open : is_open_run q ≡ true) where
-      line_goes : (kind : EventKind) → IsSupplied m l w s r kind x.0 → line_ask m l kind p.nodes.free q (next_of m q) ≡ Some x → To kind (line_after m l kind p q (next_of m q) found)
+      line_goes : (kind : EventKind) → IsSupplied m l w s r kind x.0 → line_ask m l kind p.nodes.free q (next_of m q) ≡ Some x
+          → To (IsLineChunk m l r kind p q (next_of m q) found) kind (line_after m l kind p q (next_of m q) found)
       line_goes kinds.Commit u e = commits.commit m l w s old r q at is_open rs _ (next_of m q) refl x fits e (λ t. may_by kinds.Commit u (Some q) at t)
       line_goes (kinds.LoadCell None) u e = runs.load_cell m l w s old r q at is_open _ (next_of m q) refl x e
       line_goes kinds.ExchangeCell u e = runs.exchange_cell m l w s old r q at is_open _ (next_of m q) refl x e
@@ -80,7 +83,7 @@ module _ (m : Meaning) (l : Layout) (rs : List Request) (w : EpochState) (s : Si
       line_goes (kinds.PrivateStore slot word number) u e = slots.fill_store m l w s old r q at is_open _ (next_of m q) refl x slot word number e
       line_goes kinds.MakeCommit u e = slots.make_commit m l w s old r q at is_open _ (next_of m q) refl x rs fits e
       line_goes kinds.RetireCommit u e = retires.retire_commit m l w s old r q at is_open _ (next_of m q) refl x rs fits e
-      line_goes kinds.EpochForRetire u e = retires.epoch_for_retire m l w s old r q at is_open _ (next_of m q) refl x (λ slot k is. u.retires q slot k at is) e
+      line_goes kinds.EpochForRetire u e = retires.epoch_for_retire m l w s old r q at is_open _ (next_of m q) refl x (λ slot k is. u.retires q slot k at is_open is) e
       line_goes kinds.SetDone u e = ends.set_done m l w s old r q at is_open _ (next_of m q) refl x rs fits e
       line_goes kinds.Release u e = ends.release m l w s old r q at is_open _ (next_of m q) refl x e
       line_goes kinds.ClockLoad u e = runs.clock_load m l w s old r q at is_open _ (next_of m q) refl x e
@@ -93,22 +96,24 @@ module _ (m : Meaning) (l : Layout) (rs : List Request) (w : EpochState) (s : Si
       line_goes kinds.OutcomeCommit u e = commits.outcome_commit m l w s old r q at is_open rs _ (next_of m q) refl x fits e (λ t. may_by kinds.OutcomeCommit u (Some q) at t)
       line_goes _ u e = some_none x e
 
-    opening_goes : (kind : EventKind) → opening_ask kind q ≡ Some x → To kind (opened_more p q found)
+    opening_goes : (kind : EventKind) → opening_ask kind q ≡ Some x → To (λ es. es ≡ []) kind (opened_more p q found)
     opening_goes (kinds.LoadThunk None) e = ends.load_thunk m l w s old r q at _ x e
     opening_goes kinds.LoadDone e = ends.load_done m l w s old r q at _ x e
     opening_goes _ e = some_none x e
 
     inside_by : (kind : EventKind) (b : Bool) → is_open_run q ≡ b → IsSupplied m l w s r kind x.0 → cond b (line_ask m l kind p.nodes.free q (next_of m q)) (opening_ask kind q) ≡ Some x
-        → To kind (cond b (line_after m l kind p q (next_of m q) found) (opened_more p q found))
+        → To (IsInsideChunk m l r b kind p q found) kind (cond b (line_after m l kind p q (next_of m q) found) (opened_more p q found))
     inside_by kind true is u e = line_goes is kind u e
     inside_by kind false is u e = opening_goes kind e
 
-    inside_goes : (kind : EventKind) → IsSupplied m l w s r kind x.0 → inside_ask m l kind p.nodes.free q ≡ Some x → To kind (inside_after m l kind p q found)
+    inside_goes : (kind : EventKind) → IsSupplied m l w s r kind x.0 → inside_ask m l kind p.nodes.free q ≡ Some x
+        → To (IsInsideChunk m l r (is_open_run q) kind p q found) kind (inside_after m l kind p q found)
     inside_goes kind u e = inside_by kind (is_open_run q) refl u e
 
   -- the steps of a runner in no run
   module _ (none : p.run ≡ None) where
-    outside_goes : (kind : EventKind) → is_join kind ≡ false → IsSupplied m l w s r kind x.0 → outside_ask m l rs r kind p ≡ Some x → To kind (outside_after m l kind p found)
+    outside_goes : (kind : EventKind) → is_join kind ≡ false → IsSupplied m l w s r kind x.0 → outside_ask m l rs r kind p ≡ Some x
+        → To (IsOutsideChunk m l r kind p found) kind (outside_after m l kind p found)
     outside_goes kinds.EnterLoad j u e = entry.enter_load m l w s old r none _ x e
     outside_goes kinds.Announce j u e = entry.announce m l w s old r none _ x some e
     outside_goes kinds.EnterAgain j u e = entry.enter_again m l w s old r none _ x u.unread e
@@ -173,27 +178,31 @@ module _ (m : Meaning) (l : Layout) (w : EpochState) (s : Sight) (old : IsJoined
   worker_tied : IsTied m l w seat worker (leaves (s.part worker))
   worker_tied = copied m l w seat worker (s.part worker) (s.part worker).records true (subst (IsTied m l w seat worker) worker_is (keeper_joined.tied worker))
 
-  join_goes : Goes m l w (record { word = seat; part = upd (upd s.part r keeper) worker (leaves (s.part worker)) })
-  join_goes = record {
-    events = [];
-    enabled = tt;
-    joined = stays_joined m l w kept keeper_joined worker seat (leaves (s.part worker)) (record { epoch = refl; announced = λ i. refl; thunk = λ d j. refl; done = λ d. refl; log = λ d k. refl })
-        (ap (λ (q : PartState). q.stage) (sym worker_is)) (ap lists_of (sym worker_is))
-        (as_published m l w kept keeper_joined worker (leaves (s.part worker)) (ap (λ (q : PartState). q.published) (sym worker_is))) worker_tied;
-  }
+  join_goes : StaysAt m l w (record { word = seat; part = upd (upd s.part r keeper) worker (leaves (s.part worker)) })
+  join_goes = (
+    [],
+    refl,
+    record {
+      enabled = tt;
+      joined = stays_joined m l w kept keeper_joined worker seat (leaves (s.part worker)) (record { epoch = refl; announced = λ i. refl; thunk = λ d j. refl; done = λ d. refl; log = λ d k. refl })
+          (ap (λ (q : PartState). q.stage) (sym worker_is)) (ap lists_of (sym worker_is))
+          (as_published m l w kept keeper_joined worker (leaves (s.part worker)) (ap (λ (q : PartState). q.published) (sym worker_is))) worker_tied;
+    },
+  )
 
 below_other : (a b c : ℕ) → a < b → c ≡ b → a ≢ c
 below_other a b c h e e' = omega arith
 
 module _ (m : Meaning) (l : Layout) (rs : List Request) (w : EpochState) (s : Sight) (old : IsJoined m l w s) (r : ℕ) (x : Spot × Access) where
   -- the keeper joins a worker
-  joins_worker : (worker : ℕ) → asks m l rs r (kinds.Join worker) (s.part r) ≡ Some x → Goes m l w (sight_after m l s r (kinds.Join worker) x)
+  joins_worker : (worker : ℕ) → asks m l rs r (kinds.Join worker) (s.part r) ≡ Some x
+      → GoesBy m l (IsChunk m l r (kinds.Join worker) (s.part r) (s.part r).run (s.word x.0)) w (sight_after m l s r (kinds.Join worker) x)
   joins_worker worker e =
       let is_his = joins m l rs (kinds.Join worker) r (s.part r) x e in
       let asked = by_run (s.part r).run refl (unless_gone (sizes_for m l rs) (s.part r).gone _ x e).1 in
       let other : worker ≢ r = below_other worker l.runners r is_his.1 is_his.0 in
-      subst (λ (y : Spot × Access). Goes m l w (sight_after m l s r (kinds.Join worker) y)) asked.1
-      (subst (λ (o : Option RunState). Goes m l w (record { word = put s.word Seat (s.word Seat); part = upd (upd s.part r (knows_also (record (after_by m l (kinds.Join worker) (s.part r) o (s.word Seat)) { records = noted l r (kinds.Join worker) Seat (s.word Seat) (after_by m l (kinds.Join worker) (s.part r) o (s.word Seat)).records }) (s.part worker))) worker (leaves (s.part worker)) }))
+      subst (λ (y : Spot × Access). GoesBy m l (IsChunk m l r (kinds.Join worker) (s.part r) (s.part r).run (s.word y.0)) w (sight_after m l s r (kinds.Join worker) y)) asked.1
+      (subst (λ (o : Option RunState). GoesBy m l (IsChunk m l r (kinds.Join worker) (s.part r) o (s.word Seat)) w (record { word = put s.word Seat (s.word Seat); part = upd (upd s.part r (knows_also (record (after_by m l (kinds.Join worker) (s.part r) o (s.word Seat)) { records = noted l r (kinds.Join worker) Seat (s.word Seat) (after_by m l (kinds.Join worker) (s.part r) o (s.word Seat)).records }) (s.part worker))) worker (leaves (s.part worker)) }))
       (sym asked.0) (join_goes m l w s old r worker other _))
     where
       by_run : (o : Option RunState) → (s.part r).run ≡ o → ask_by m l rs r (kinds.Join worker) (s.part r) o ≡ Some x → ((s.part r).run ≡ None) × ((Seat, Loads) ≡ x)
@@ -203,20 +212,22 @@ module _ (m : Meaning) (l : Layout) (rs : List Request) (w : EpochState) (s : Si
   module _ (some : r ≤ l.runners) (fits : Fits (sizes_for m l rs) x.0) where
     -- a step of another kind, in a run or outside
     plain_goes : (kind : EventKind) (o : Option RunState) → (s.part r).run ≡ o → is_join kind ≡ false → IsSupplied m l w s r kind x.0 → ask_by m l rs r kind (s.part r) o ≡ Some x
-        → To m l rs w s old r some x fits kind (after_by m l kind (s.part r) o (s.word x.0))
+        → To m l rs w s old r some x fits (IsChunk m l r kind (s.part r) o (s.word x.0)) kind (after_by m l kind (s.part r) o (s.word x.0))
     plain_goes kind None at j u e = outside_goes m l rs w s old r some x fits at kind j u e
     plain_goes kind (Some q) at j u e = inside_goes m l rs w s old r some x fits q at kind u e
 
-    plain_step : (kind : EventKind) → is_join kind ≡ false → IsSupplied m l w s r kind x.0 → asks m l rs r kind (s.part r) ≡ Some x → Goes m l w (sight_after m l s r kind x)
+    plain_step : (kind : EventKind) → is_join kind ≡ false → IsSupplied m l w s r kind x.0 → asks m l rs r kind (s.part r) ≡ Some x
+        → GoesBy m l (IsChunk m l r kind (s.part r) (s.part r).run (s.word x.0)) w (sight_after m l s r kind x)
     plain_step kind j u e =
-        subst (Goes m l w) (sym (not_join m l rs w s old r some x fits kind j))
+        subst (GoesBy m l (IsChunk m l r kind (s.part r) (s.part r).run (s.word x.0)) w) (sym (not_join m l rs w s old r some x fits kind j))
         (plain_goes kind (s.part r).run refl j u (unless_gone (sizes_for m l rs) (s.part r).gone _ x e).1)
 
-    kind_goes : (kind : EventKind) → IsSupplied m l w s r kind x.0 → asks m l rs r kind (s.part r) ≡ Some x → Goes m l w (sight_after m l s r kind x)
+    kind_goes : (kind : EventKind) → IsSupplied m l w s r kind x.0 → asks m l rs r kind (s.part r) ≡ Some x
+        → GoesBy m l (IsChunk m l r kind (s.part r) (s.part r).run (s.word x.0)) w (sight_after m l s r kind x)
     kind_goes (kinds.Join worker) u e = joins_worker worker e
     kind_goes kind u e = plain_step kind refl u e
 
--- a step of the machine that is supplied leads from a joined state to a joined one, by events of the component
+-- a step of the machine that is supplied leads from a joined state to a joined one, by the component's events of its kind
 pub joined_step : (m : Meaning) (l : Layout) (rs : List Request) (w : EpochState) (s s' : Sight) (r : ℕ) (kind : EventKind) → (step : Steps m l rs s s' r kind) → IsJoined m l w s
-    → IsSupplied m l w s r kind step.ask.0 → Goes m l w s'
-joined_step m l rs w s s' r kind step old supplied = subst (Goes m l w) (sym step.next) (kind_goes m l rs w s old r step.ask step.runner step.has_word kind supplied step.asked)
+    → IsSupplied m l w s r kind step.ask.0 → GoesBy m l (IsChunk m l r kind (s.part r) (s.part r).run (s.word (step.ask.0))) w s'
+joined_step m l rs w s s' r kind step old supplied = subst (GoesBy m l (IsChunk m l r kind (s.part r) (s.part r).run (s.word (step.ask.0))) w) (sym step.next) (kind_goes m l rs w s old r step.ask step.runner step.has_word kind supplied step.asked)

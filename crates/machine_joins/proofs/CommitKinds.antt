@@ -1,6 +1,6 @@
 -- The commits of words.
-use Rattle.std.specs.Prelude.{◌==◌, ◌&&◌, ◌||◌, not, cond, Bool, true, false}
-use Rattle.std.proofs.Common.{◌≡◌, ◌≢◌, ℕ, ◌<◌, ◌≤◌, List, [], ◌∷◌, ◌++◌, refl, sym, ap, ◌∙◌, subst, arith, Some, ⊎_elim}
+use Rattle.std.specs.Prelude.{◌==◌, ◌&&◌, ◌||◌, cond, Bool, true, false}
+use Rattle.std.proofs.Common.{◌≡◌, ◌≢◌, ℕ, ◌<◌, ◌≤◌, List, [], ◌∷◌, ◌++◌, refl, sym, ap, ◌∙◌, subst, arith, Some, ⊎_elim, inl, inr}
 use Rattle.std.proofs.lemmas.Bool.Decides.{nat_tests}
 use Rattle.map_history.specs.declared.op.Request.{Request}
 use Rattle.section_body.specs.declared.micro.Micro.{Micro}
@@ -41,6 +41,7 @@ use Rattle.machine_joins.proofs.Roles as roles
 use Rattle.machine_joins.proofs.RunPlaces.{is_of_end, next_in_line, open_run}
 use Rattle.machine_joins.proofs.Places.{has_append, names_it, apart, log_elsewhere, run_entered, run_role}
 use Rattle.machine_joins.proofs.Joining.{Goes, next}
+use Rattle.machine_joins.proofs.Reaching.{may_hold, unreached}
 use Rattle.machine_joins.proofs.RunKinds.{is_of_retire, run_goes, still, Leads, for_step}
 
 pub row_else : (f : ℕ → ℕ → Bool) (r i t : ℕ) (row : ℕ → Bool) → i ≢ r → f i t ≡ true → upd_row f r row i t ≡ true
@@ -49,13 +50,8 @@ row_else f r i t row ne h = grind (arith, nat_tests)
 pub row_more : (r : ℕ) (a b : Bool) → a ≡ true → cond (r == r) (a || b) a ≡ true
 row_more r a b h = grind (arith, nat_tests)
 
-pub row_named : (r : ℕ) (had comes holds : Bool) → (had ≡ true → holds ≡ true) → (had || comes) ≡ true → cond (r == r) (holds || (comes && not holds)) holds ≡ true
+pub row_named : (r : ℕ) (had comes holds : Bool) → (had ≡ true → holds ≡ true) → (had || comes) ≡ true → cond (r == r) (holds || comes) holds ≡ true
 row_named r had comes holds h e = grind (arith, nat_tests)
-
-pub new_comes : (a b : Bool) → (a && not b) ≡ true → (a ≡ true) × (b ≡ false)
-new_comes true false e = (refl, refl)
-new_comes true true e = absurd (let x = e in cc)
-new_comes false b e = absurd (let x = e in cc)
 
 past_log : (b : Bool) (k k' v x : ℕ) → k < 64 → 64 ≤ k' → x ≡ 0 → cond b (cond (k' == k) v x) x ≡ 0
 past_log b k k' v x low high e = grind (arith, nat_tests)
@@ -82,20 +78,17 @@ module _ (m : Meaning) (l : Layout) (w : EpochState) (s : Sight) (old : IsJoined
     module _ (micro : Micro) (ahead : next_of m q ≡ micro) (inner : is_of_end micro ≡ false) (other : is_of_retire micro ≡ false)
         (k : ℕ) (role : w.role d k ≡ Agrees) (few : d < (counts_of m l).descriptors) (low : k < 64)
         (comes : ℕ → Bool) (may : (t : ℕ) → comes t ≡ true → w.holds r t ≡ false → MayHold w r t) where
-      abbrev new_slots : ℕ → Bool
-      new_slots t = comes t && not (w.holds r t)
-
       abbrev f : Spot → ℕ
       f = put s.word (LogWord d k) (exchanged (s.word (LogWord d k)) 0 q.word)
 
       pub commits : (reads : ReadsState) (records : RecordsState) → reads.walk ≡ p.reads.walk → ((i : ℕ) → has reads.held i ≡ true → (has p.reads.held i || comes (slot_of (counts_of m l) i)) ≡ true)
-          → Goes m l w (next m l w s old r f (record p { run = Some (runs.agrees m l q (written_once (s.word (LogWord d k)) q.word)); reads = reads; records = records }))
+          → Goes m l (events.Reach r comes ∷ events.WordCommit r d k q.word ∷ []) w (next m l w s old r f (record p { run = Some (runs.agrees m l q (written_once (s.word (LogWord d k)) q.word)); reads = reads; records = records }))
       commits reads records walk named =
-          run_goes m l w s old r q at is_open (events.Reach r new_slots ∷ events.WordCommit r d k q.word ∷ [])
-          ((run_entered m l w s old r q at (open_run q is_open), λ t h. let n = new_comes (comes t) (w.holds r t) h in may t n.0 n.1), ((row_more r _ _ held, role), tt))
+          run_goes m l w s old r q at is_open (events.Reach r comes ∷ events.WordCommit r d k q.word ∷ [])
+          ((run_entered m l w s old r q at (open_run q is_open), λ t h. may_hold (counts_of m l) w old.sound r t (may t h)), ((row_more r _ _ held, role), tt))
           f (runs.agrees m l q (written_once (s.word (LogWord d k)) q.word)) _
           (record {
-            holds = λ t h. row_more r (w.holds r t) (new_slots t) h;
+            holds = λ t h. row_more r (w.holds r t) (comes t) h;
             entered = λ h. h;
             live = λ i h. h;
             thunk = λ i j. refl;
@@ -119,7 +112,7 @@ module _ (m : Meaning) (l : Layout) (w : EpochState) (s : Sight) (old : IsJoined
             past = λ i j high. log_past d k _ i j low high;
           })
           (λ i ne. record {
-            holds = λ t h. row_else w.holds r i t (λ u. w.holds r u || new_slots u) ne h;
+            holds = λ t h. row_else w.holds r i t (λ u. w.holds r u || comes u) ne h;
             words = λ i' j h. refl;
             hand = λ t h. h;
             retire = refl;
@@ -164,19 +157,25 @@ module _ (m : Meaning) (l : Layout) (w : EpochState) (s : Sight) (old : IsJoined
 
       word_goes : (place log : ℕ) → micro ≡ micros.Commit place log → (LogWord d log, Exchanges 0 q.word) ≡ x → Leads m l w s old r q at is_open kinds.Commit records micro x
       word_goes place log e is = let few = for_log q.word log is in
-          for_step m l w s old r q at is_open kinds.Commit records micro x (micros.Commit place log) (LogWord d log, Exchanges 0 q.word) e is
-          (commits (micros.Commit place log) (ahead ∙ e) refl refl log (role_of log Agrees (roles.load_role (m.body (thunk_of q.opened)) q.at place log (code_is (micros.Commit place log) e refl))) few.0 few.1
-          (λ t. false) (λ t h no'. absurd (let y = h in cc)) p.reads records refl (λ i h. left h))
+          for_step m l w s old r q at is_open kinds.Commit records micro x (micros.Commit place log) (LogWord d log, Exchanges 0 q.word) e is (
+            _,
+            (place, log, inl (refl, refl)),
+            unreached m l w r (λ t. false) (λ t. refl) (commits (micros.Commit place log) (ahead ∙ e) refl refl log (role_of log Agrees (roles.load_role (m.body (thunk_of q.opened)) q.at place log (code_is (micros.Commit place log) e refl))) few.0 few.1
+                (λ t. false) (λ t h no'. absurd (let y = h in cc)) p.reads records refl (λ i h. left h)),
+          )
         where
           left : {a : Bool} → a ≡ true → (a || false) ≡ true
           left e = grind arith
 
       lock_goes : (place log : ℕ) → micro ≡ micros.NestedCommit place log → (LogWord d log, Exchanges 0 q.word) ≡ x → May kinds.Commit micro x → Leads m l w s old r q at is_open kinds.Commit records micro x
       lock_goes place log e is may = let few = for_log q.word log is in
-          for_step m l w s old r q at is_open kinds.Commit records micro x (micros.NestedCommit place log) (LogWord d log, Exchanges 0 q.word) e is
-          (commits (micros.NestedCommit place log) (ahead ∙ e) refl refl log (role_of log Agrees (roles.nested_role (m.body (thunk_of q.opened)) q.at place log (code_is (micros.NestedCommit place log) e refl))) few.0 few.1
-          (comes_agreed (counts_of m l) p q (s.word (LogWord d log))) (subst (λ (μ : Micro). May kinds.Commit μ (LogWord d log, Exchanges 0 q.word)) e (subst (May kinds.Commit micro) (sym is) may))
-          (lock_agreed p.reads d (written_once (s.word (LogWord d log)) q.word)) records (lock_walk _) (agreed_named _))
+          for_step m l w s old r q at is_open kinds.Commit records micro x (micros.NestedCommit place log) (LogWord d log, Exchanges 0 q.word) e is (
+            _,
+            (place, log, inr (refl, refl)),
+            commits (micros.NestedCommit place log) (ahead ∙ e) refl refl log (role_of log Agrees (roles.nested_role (m.body (thunk_of q.opened)) q.at place log (code_is (micros.NestedCommit place log) e refl))) few.0 few.1
+                (comes_agreed (counts_of m l) p q (s.word (LogWord d log))) (subst (λ (μ : Micro). May kinds.Commit μ (LogWord d log, Exchanges 0 q.word)) e (subst (May kinds.Commit micro) (sym is) may))
+                (lock_agreed p.reads d (written_once (s.word (LogWord d log)) q.word)) records (lock_walk _) (agreed_named _),
+          )
 
       pub commit : commit_ask q micro ≡ Some x → May kinds.Commit micro x → Leads m l w s old r q at is_open kinds.Commit records micro x
       commit e may = let h = asked.commit_asked q x micro e in
@@ -187,7 +186,10 @@ module _ (m : Meaning) (l : Layout) (w : EpochState) (s : Sight) (old : IsJoined
           let h = asked.outcome_commit_asked q x micro e in
           let μ : Micro = micros.OutcomeCommit h.step.0 h.log in
           let few = for_log q.word h.log h.is in
-          for_step m l w s old r q at is_open kinds.OutcomeCommit records micro x μ (LogWord d h.log, Exchanges 0 q.word) h.step.1 h.is
-          (commits μ (ahead ∙ h.step.1) refl refl h.log (role_of h.log Agrees (roles.outcome_role (m.body (thunk_of q.opened)) q.at h.step.0 h.log (code_is μ h.step.1 refl))) few.0 few.1
-          (comes_agreed (counts_of m l) p q (s.word (LogWord d h.log))) (subst (λ (a : Micro). May kinds.OutcomeCommit a (LogWord d h.log, Exchanges 0 q.word)) h.step.1 (subst (May kinds.OutcomeCommit micro) (sym h.is) may))
-          (lock_agreed p.reads d (written_once (s.word (LogWord d h.log)) q.word)) records (lock_walk _) (agreed_named _))
+          for_step m l w s old r q at is_open kinds.OutcomeCommit records micro x μ (LogWord d h.log, Exchanges 0 q.word) h.step.1 h.is (
+            _,
+            (h.step.0, h.log, refl, refl),
+            commits μ (ahead ∙ h.step.1) refl refl h.log (role_of h.log Agrees (roles.outcome_role (m.body (thunk_of q.opened)) q.at h.step.0 h.log (code_is μ h.step.1 refl))) few.0 few.1
+                (comes_agreed (counts_of m l) p q (s.word (LogWord d h.log))) (subst (λ (a : Micro). May kinds.OutcomeCommit a (LogWord d h.log, Exchanges 0 q.word)) h.step.1 (subst (May kinds.OutcomeCommit micro) (sym h.is) may))
+                (lock_agreed p.reads d (written_once (s.word (LogWord d h.log)) q.word)) records (lock_walk _) (agreed_named _),
+          )

@@ -36,7 +36,7 @@ use Rattle.machine_joins.specs.Slots.{lists_of, retiring_of}
 use Rattle.machine_joins.proofs.InsideAsked as asked
 use Rattle.machine_joins.proofs.RunPlaces.{is_of_end, begins_unretired, ends_unretired}
 use Rattle.machine_joins.proofs.Places.{apart, done_elsewhere}
-use Rattle.machine_joins.proofs.Joining.{IsSameBut, but_cell, but_load, descriptor_same, Goes, next, as_published, stays}
+use Rattle.machine_joins.proofs.Joining.{IsSameBut, but_cell, but_load, descriptor_same, StaysAt, next, as_published, stays}
 use Rattle.machine_joins.proofs.RunKinds.{run_goes, Leads, for_step}
 
 some_none : {A : Type 0} {x : A} {B : Type 0} → None ≡ Some x → B
@@ -74,7 +74,7 @@ module _ (m : Meaning) (l : Layout) (w : EpochState) (s : Sight) (old : IsJoined
         (λ other. let before : j < length q.opened = (let more = length-append q.opened (found ∷ []) in omega arith) in index_old q.opened found j before ∙ (old.tied r).run_opened q j at before low')
         (cases_eq j (length q.opened))
 
-    pub opens : (f : Spot → ℕ) → IsSameBut f s.word → (records : RecordsState) → Goes m l w (next m l w s old r f (record p { run = Some opened; records = records }))
+    pub opens : (f : Spot → ℕ) → IsSameBut f s.word → (records : RecordsState) → StaysAt m l w (next m l w s old r f (record p { run = Some opened; records = records }))
     opens f same records =
         let t = old.tied r in
         stays m l w s old r f (record p { run = Some opened; records = records }) same refl refl (as_published m l w s old r (record p { run = Some opened; records = records }) refl) (record {
@@ -96,7 +96,7 @@ module _ (m : Meaning) (l : Layout) (w : EpochState) (s : Sight) (old : IsJoined
 
   -- the state after such a step on this word
   abbrev pub Opens : RecordsState → Spot × Access → Type 0
-  Opens records x = Goes m l w (next m l w s old r (put s.word x.0 (written x.1 (s.word x.0))) (record (opened_more p q (s.word x.0)) { records = records }))
+  Opens records x = StaysAt m l w (next m l w s old r (put s.word x.0 (written x.1 (s.word x.0))) (record (opened_more p q (s.word x.0)) { records = records }))
 
   pub load_thunk : (records : RecordsState) (x : Spot × Access) → open_more_ask q ≡ Some x → Opens records x
   load_thunk records x e = let h = asked.open_more_asked q x e in
@@ -125,47 +125,50 @@ module _ (m : Meaning) (l : Layout) (w : EpochState) (s : Sight) (old : IsJoined
     -- the run goes on with its end
     goes_on : (f : Spot → ℕ) → ((d j : ℕ) → f (ThunkWord d j) ≡ s.word (ThunkWord d j)) → ((i d j : ℕ) → has (s.part i).descriptors.free d ≡ true → f (descriptor_spot d j) ≡ s.word (descriptor_spot d j))
         → f Epoch ≡ s.word Epoch → ((i : ℕ) → f (Announcement i) ≡ s.word (Announcement i)) → ((d k : ℕ) → f (LogWord d k) ≡ s.word (LogWord d k))
-        → (reads : ReadsState) → reads.held ≡ now.reads.held → reads.walk ≡ now.reads.walk → Goes m l w (next m l w s old r f (ended reads))
-    goes_on f thunk stored epoch announced log reads same_held walk =
-        run_goes m l w s old r q at is_open [] tt f (ended_more q) (ended reads)
-        (record {
-          holds = λ t h. h;
-          entered = λ h. h;
-          live = λ d h. h;
-          thunk = thunk;
-          stored = λ d j h. stored r d j h;
-          on_run = record { descriptor = refl; opened = refl };
-          made = λ t e. (old.tied r).run_made q t at e;
-          moved = record { stage = refl; published = refl; descriptors = refl; walk = walk };
-          here = refl;
-          retire = unretired ∙ sym (ends_unretired m q μ here ends (ended_more q));
-          named = λ d isin is_named. (old.tied r).named d isin (ap (λ (xs : List ℕ). has xs d) (sym same_held) ∙ is_named);
-        })
-        (record {
-          epoch = refl;
-          announced = λ i. refl;
-          stage = λ i. refl;
-          role = λ d k. refl;
-          out = λ d h. h;
-          seen_epoch = epoch;
-          seen_announced = announced;
-          log = λ d k. old.log d k ∙ sym (log d k);
-          past = λ d k high. log d k ∙ old.past d k high;
-        })
-        (λ i ne. record {
-          holds = λ t h. h;
-          words = λ d j h. thunk d j;
-          hand = λ t h. h;
-          retire = refl;
-          live = λ y e h. h;
-          entered = λ h. h;
-          stored = λ d j h. stored i d j h;
-        })
-        (sym (map_same lists_of s.part r (ended reads) refl))
+        → (reads : ReadsState) → reads.held ≡ now.reads.held → reads.walk ≡ now.reads.walk → StaysAt m l w (next m l w s old r f (ended reads))
+    goes_on f thunk stored epoch announced log reads same_held walk = (
+      [],
+      refl,
+      run_goes m l w s old r q at is_open [] tt f (ended_more q) (ended reads)
+          (record {
+            holds = λ t h. h;
+            entered = λ h. h;
+            live = λ d h. h;
+            thunk = thunk;
+            stored = λ d j h. stored r d j h;
+            on_run = record { descriptor = refl; opened = refl };
+            made = λ t e. (old.tied r).run_made q t at e;
+            moved = record { stage = refl; published = refl; descriptors = refl; walk = walk };
+            here = refl;
+            retire = unretired ∙ sym (ends_unretired m q μ here ends (ended_more q));
+            named = λ d isin is_named. (old.tied r).named d isin (ap (λ (xs : List ℕ). has xs d) (sym same_held) ∙ is_named);
+          })
+          (record {
+            epoch = refl;
+            announced = λ i. refl;
+            stage = λ i. refl;
+            role = λ d k. refl;
+            out = λ d h. h;
+            seen_epoch = epoch;
+            seen_announced = announced;
+            log = λ d k. old.log d k ∙ sym (log d k);
+            past = λ d k high. log d k ∙ old.past d k high;
+          })
+          (λ i ne. record {
+            holds = λ t h. h;
+            words = λ d j h. thunk d j;
+            hand = λ t h. h;
+            retire = refl;
+            live = λ y e h. h;
+            entered = λ h. h;
+            stored = λ d j h. stored i d j h;
+          })
+          (sym (map_same lists_of s.part r (ended reads) refl)),
+    )
 
     -- the run is over
     is_over : (f : Spot → ℕ) → IsSameBut f s.word → (reads : ReadsState) → reads.held ≡ now.reads.held → reads.walk ≡ now.reads.walk
-        → Goes m l w (next m l w s old r f (record now { run = None; published = over_if now.published q.descriptor; reads = reads; records = records }))
+        → StaysAt m l w (next m l w s old r f (record now { run = None; published = over_if now.published q.descriptor; reads = reads; records = records }))
     is_over f same reads same_held walk =
         stays m l w s old r f over same refl refl (over_back now.published q.descriptor) (record {
           run_held = λ q2 e. some_none e;
@@ -195,7 +198,7 @@ module _ (m : Meaning) (l : Layout) (w : EpochState) (s : Sight) (old : IsJoined
 
   -- after a release the run is over, or goes on with the next one
   release_by : (b : Bool) (place word v : ℕ) → next_of m q ≡ micros.Release place word → (reads : ReadsState) → reads.held ≡ now.reads.held → reads.walk ≡ now.reads.walk → (finished : RecordsState)
-      → Goes m l w (next m l w s old r (put s.word (Cell place) v) (record (cond b (record now { run = None; published = over_if now.published q.descriptor; reads = reads; records = finished }) (record now { run = Some (ended_more q); reads = reads })) { records = records }))
+      → StaysAt m l w (next m l w s old r (put s.word (Cell place) v) (record (cond b (record now { run = None; published = over_if now.published q.descriptor; reads = reads; records = finished }) (record now { run = Some (ended_more q); reads = reads })) { records = records }))
   release_by true place word v here reads same_held walk finished = is_over (micros.Release place word) here refl (put s.word (Cell place) v) (but_cell s.word place v) reads same_held walk
   release_by false place word v here reads same_held walk finished =
       goes_on (micros.Release place word) here refl (put s.word (Cell place) v) (λ d j. refl) (λ i d j free. descriptor_same (put s.word (Cell place) v) s.word (but_cell s.word place v) d j)

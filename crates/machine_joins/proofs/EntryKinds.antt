@@ -1,7 +1,7 @@
 -- The kinds of step that change the epoch, an announcement or a stage.
 use Rattle.std.specs.Prelude.{◌==◌, ◌&&◌, ◌||◌, not, cond, Bool, true, false, nat_lt, nat_le}
 use Rattle.std.specs.List.{filter}
-use Rattle.std.proofs.Common.{◌≡◌, ◌≢◌, ℕ, suc, ◌+◌, ◌<◌, ◌≤◌, List, [], ◌∷◌, ◌++◌, map, refl, sym, ap, ◌∙◌, subst, arith, add-one, Some, None}
+use Rattle.std.proofs.Common.{◌≡◌, ◌≢◌, ℕ, suc, ◌+◌, ◌<◌, ◌≤◌, List, [], ◌∷◌, ◌++◌, map, refl, sym, ap, ◌∙◌, subst, arith, add-one, Some, None, inl, inr}
 use Rattle.std.proofs.lemmas.Bool.Decides.{nat_tests}
 use Rattle.section_body.specs.declared.thunk.Thunk.{Thunk}
 use Rattle.table_words.specs.declared.layout.Layout.{Layout}
@@ -38,16 +38,21 @@ use Rattle.machine_joins.specs.Entries.{counts_of}
 use Rattle.machine_joins.specs.Roles.{role_at}
 use Rattle.machine_joins.specs.Slots.{entry_of, lists_of, retiring_of, ShowsEntries}
 use Rattle.machine_joins.specs.Joined.{IsJoined}
+use Rattle.machine_joins.specs.ScanEnds.{advance_collects, scan_collects, collects}
+use Rattle.machine_joins.specs.Chunks.{IsOutsideChunk}
 use Rattle.machine_joins.proofs.OutsideAsked as asked
 use Rattle.machine_joins.proofs.Entrances as entrances
 use Rattle.machine_joins.proofs.CommitKinds.{row_else}
-use Rattle.machine_joins.proofs.Joining.{but_load, but_entries, IsSameSections, section_same, thunk_same, Goes, next, as_published, once, goes_with}
+use Rattle.machine_joins.proofs.Joining.{but_load, but_entries, IsSameSections, section_same, thunk_same, Goes, GoesBy, next, as_published, once, goes_with}
 
 within_test : (a b : ℕ) (p p' : PartState) → a ≤ b → cond (nat_le a b) p p' ≡ p
 within_test a b p p' h = grind (arith, nat_tests)
 
 below_test : (a b : ℕ) (p p' : PartState) → a < b → cond (nat_lt a b) p p' ≡ p
 below_test a b p p' h = grind (arith, nat_tests)
+
+below_some : (a b x : ℕ) → a < b → cond (nat_lt a b) (Some x) None ≡ Some x
+below_some a b x h = grind (arith, nat_tests)
 
 none_some : {A : Type 0} {x : A} {B : Type 0} → None ≡ Some x → B
 none_some e = absurd (let y = e in cc)
@@ -127,7 +132,7 @@ module _ (m : Meaning) (l : Layout) (w : EpochState) (s : Sight) (old : IsJoined
     reached : (t : ℕ) → is_entered (w'.stage r) ≡ true → t < (counts_of m l).nodes → m.reaches p'.reads.walk t ≡ true → w'.holds r t ≡ true
 
   enters : (e : events.Event) (f : Spot → ℕ) (p' : PartState) → Enabled (counts_of m l) w e × ShowsEntries (after (counts_of m l) w e) (next m l w s old r f p')
-      → ◌≡◌ {A = ℕ → Lists} (listed w (λ i. lists_of (s.part i)) e) (λ i. lists_of (upd s.part r p' i)) → KeepsSlots (after (counts_of m l) w e) f p' → Goes m l w (next m l w s old r f p')
+      → ◌≡◌ {A = ℕ → Lists} (listed w (λ i. lists_of (s.part i)) e) (λ i. lists_of (upd s.part r p' i)) → KeepsSlots (after (counts_of m l) w e) f p' → Goes m l (e ∷ []) w (next m l w s old r f p')
   enters e f p' goes lists k =
       goes_with m l w s old r (e ∷ []) (goes.0, tt) f p' lists goes.1
       (λ d i. k.log d i ∙ (old.log d i ∙ sym (k.same.log d i)))
@@ -165,7 +170,7 @@ module _ (m : Meaning) (l : Layout) (w : EpochState) (s : Sight) (old : IsJoined
 
   -- the state after a step of this kind on this word, with these records
   abbrev pub Leads : EventKind → RecordsState → Spot × Access → Type 0
-  Leads kind records x = Goes m l w (next m l w s old r (put s.word x.0 (written x.1 (s.word x.0))) (record (outside_after m l kind p (s.word x.0)) { records = records }))
+  Leads kind records x = GoesBy m l (IsOutsideChunk m l r kind p (s.word x.0)) w (next m l w s old r (put s.word x.0 (written x.1 (s.word x.0))) (record (outside_after m l kind p (s.word x.0)) { records = records }))
 
   same_load : (a : Spot) → IsSameSections (put s.word a (s.word a)) s.word
   same_load a = but_entries _ _ (but_load s.word a)
@@ -175,111 +180,131 @@ module _ (m : Meaning) (l : Layout) (w : EpochState) (s : Sight) (old : IsJoined
     enter_load x e =
         let h = asked.enter_load_asked p.stage x e in
         let p' : PartState = record p { stage = Loaded (s.word Epoch); records = records } in
-        subst (Leads kinds.EnterLoad records) h.1 (enters (events.EnterLoad r) _ p' (entrances.enter_load m l w s old.entries r p' h.0 refl) (sym (map_same lists_of s.part r p' refl)) (record {
-          holds = λ i ne t h. h;
-          hand = λ i t h. h;
-          live = λ t h. h;
-          out = λ t h. h;
-          retire = λ i. refl;
-          role = λ d k. refl;
-          log = λ d k. refl;
-          stage = λ i ne. upd_else w.stage r _ i ne;
-          same = same_load Epoch;
-          run = none;
-          published = refl;
-          stored = refl;
-          freed = λ d h. h;
-          named = λ d isin. unentered (points.Loaded w.epoch) refl isin;
-          reached = λ t isin. unentered (points.Loaded w.epoch) refl isin;
-        }))
+        subst (Leads kinds.EnterLoad records) h.1 (
+          _,
+          refl,
+          enters (events.EnterLoad r) _ p' (entrances.enter_load m l w s old.entries r p' h.0 refl) (sym (map_same lists_of s.part r p' refl)) (record {
+            holds = λ i ne t h. h;
+            hand = λ i t h. h;
+            live = λ t h. h;
+            out = λ t h. h;
+            retire = λ i. refl;
+            role = λ d k. refl;
+            log = λ d k. refl;
+            stage = λ i ne. upd_else w.stage r _ i ne;
+            same = same_load Epoch;
+            run = none;
+            published = refl;
+            stored = refl;
+            freed = λ d h. h;
+            named = λ d isin. unentered (points.Loaded w.epoch) refl isin;
+            reached = λ t isin. unentered (points.Loaded w.epoch) refl isin;
+          }),
+        )
 
     pub announce : (x : Spot × Access) → r ≤ l.runners → announce_ask r p.stage ≡ Some x → Leads kinds.Announce records x
     announce x some e =
         let h = asked.announce_asked r p.stage x e in
         let p' : PartState = record p { stage = Announced; records = records } in
-        subst (Leads kinds.Announce records) h.2 (enters (events.Announce r h.0) _ p' (entrances.announce m l w s old.entries r p' h.0 some h.1 refl) (sym (map_same lists_of s.part r p' refl)) (record {
-          holds = λ i ne t h. h;
-          hand = λ i t h. h;
-          live = λ t h. h;
-          out = λ t h. h;
-          retire = λ i. refl;
-          role = λ d k. refl;
-          log = λ d k. refl;
-          stage = λ i ne. upd_else w.stage r _ i ne;
-          same = record { thunk = λ d j. refl; done = λ d. refl; log = λ d k. refl };
-          run = none;
-          published = refl;
-          stored = refl;
-          freed = λ d h. h;
-          named = λ d isin. unentered points.Announced refl isin;
-          reached = λ t isin. unentered points.Announced refl isin;
-        }))
+        subst (Leads kinds.Announce records) h.2 (
+          _,
+          (h.0, h.1, refl),
+          enters (events.Announce r h.0) _ p' (entrances.announce m l w s old.entries r p' h.0 some h.1 refl) (sym (map_same lists_of s.part r p' refl)) (record {
+            holds = λ i ne t h. h;
+            hand = λ i t h. h;
+            live = λ t h. h;
+            out = λ t h. h;
+            retire = λ i. refl;
+            role = λ d k. refl;
+            log = λ d k. refl;
+            stage = λ i ne. upd_else w.stage r _ i ne;
+            same = record { thunk = λ d j. refl; done = λ d. refl; log = λ d k. refl };
+            run = none;
+            published = refl;
+            stored = refl;
+            freed = λ d h. h;
+            named = λ d isin. unentered points.Announced refl isin;
+            reached = λ t isin. unentered points.Announced refl isin;
+          }),
+        )
 
     pub enter_again : (x : Spot × Access) → ((t : ℕ) → m.reaches [] t ≡ false) → enter_again_ask p.stage ≡ Some x → Leads kinds.EnterAgain records x
     enter_again x unread e =
         let h = asked.enter_again_asked p.stage x e in
         let p' : PartState = record p { stage = Entered (s.word Epoch); reads = lists.no_reads; records = records } in
-        subst (Leads kinds.EnterAgain records) h.1 (enters (events.EnterAgain r) _ p' (entrances.enter_again m l w s old.entries r p' h.0 refl) (sym (map_same lists_of s.part r p' refl)) (record {
-          holds = λ i ne t h. h;
-          hand = λ i t h. h;
-          live = λ t h. h;
-          out = λ t h. h;
-          retire = λ i. refl;
-          role = λ d k. refl;
-          log = λ d k. refl;
-          stage = λ i ne. upd_else w.stage r _ i ne;
-          same = same_load Epoch;
-          run = none;
-          published = refl;
-          stored = refl;
-          freed = λ d h. h;
-          named = λ d isin is_named. absurd (let x = is_named in cc);
-          reached = λ t isin node is_there. absurd (let x = sym (unread t) ∙ is_there in cc);
-        }))
+        subst (Leads kinds.EnterAgain records) h.1 (
+          _,
+          refl,
+          enters (events.EnterAgain r) _ p' (entrances.enter_again m l w s old.entries r p' h.0 refl) (sym (map_same lists_of s.part r p' refl)) (record {
+            holds = λ i ne t h. h;
+            hand = λ i t h. h;
+            live = λ t h. h;
+            out = λ t h. h;
+            retire = λ i. refl;
+            role = λ d k. refl;
+            log = λ d k. refl;
+            stage = λ i ne. upd_else w.stage r _ i ne;
+            same = same_load Epoch;
+            run = none;
+            published = refl;
+            stored = refl;
+            freed = λ d h. h;
+            named = λ d isin is_named. absurd (let x = is_named in cc);
+            reached = λ t isin node is_there. absurd (let x = sym (unread t) ∙ is_there in cc);
+          }),
+        )
 
     pub exit : (x : Spot × Access) → idle_ask r p ≡ Some x → Leads kinds.Idle records x
     exit x e =
         let h = asked.idle_asked r p x e in
         let p' : PartState = record p { stage = Idle; records = records } in
-        subst (Leads kinds.Idle records) h.3 (enters (events.Exit r) _ p' (entrances.exit m l w s old.entries r p' h.0 (ap (λ (y : Retiring). y.loaded) unretired) h.1 refl) (sym (map_same lists_of s.part r p' refl)) (record {
-          holds = λ i ne t h. row_else w.holds r i t (λ u. false) ne h;
-          hand = λ i t h. h;
-          live = λ t h. h;
-          out = λ t h. h;
-          retire = λ i. refl;
-          role = λ d k. refl;
-          log = λ d k. refl;
-          stage = λ i ne. upd_else w.stage r _ i ne;
-          same = record { thunk = λ d j. refl; done = λ d. refl; log = λ d k. refl };
-          run = none;
-          published = refl;
-          stored = refl;
-          freed = λ d h. h;
-          named = λ d isin. unentered points.Idle refl isin;
-          reached = λ t isin. unentered points.Idle refl isin;
-        }))
+        subst (Leads kinds.Idle records) h.3 (
+          _,
+          refl,
+          enters (events.Exit r) _ p' (entrances.exit m l w s old.entries r p' h.0 (ap (λ (y : Retiring). y.loaded) unretired) h.1 refl) (sym (map_same lists_of s.part r p' refl)) (record {
+            holds = λ i ne t h. row_else w.holds r i t (λ u. false) ne h;
+            hand = λ i t h. h;
+            live = λ t h. h;
+            out = λ t h. h;
+            retire = λ i. refl;
+            role = λ d k. refl;
+            log = λ d k. refl;
+            stage = λ i ne. upd_else w.stage r _ i ne;
+            same = record { thunk = λ d j. refl; done = λ d. refl; log = λ d k. refl };
+            run = none;
+            published = refl;
+            stored = refl;
+            freed = λ d h. h;
+            named = λ d isin. unentered points.Idle refl isin;
+            reached = λ t isin. unentered points.Idle refl isin;
+          }),
+        )
 
     pub scan_epoch : (x : Spot × Access) → enter_load_ask p.stage ≡ Some x → Leads kinds.ScanEpoch records x
     scan_epoch x e =
         let h = asked.enter_load_asked p.stage x e in
         let p' : PartState = record p { stage = Scanning (s.word Epoch) 0 true; records = records } in
-        subst (Leads kinds.ScanEpoch records) h.1 (enters (events.ScanEpoch r) _ p' (entrances.scan_epoch m l w s old.entries r p' h.0 refl) (sym (map_same lists_of s.part r p' refl)) (record {
-          holds = λ i ne t h. h;
-          hand = λ i t h. h;
-          live = λ t h. h;
-          out = λ t h. h;
-          retire = λ i. refl;
-          role = λ d k. refl;
-          log = λ d k. refl;
-          stage = λ i ne. upd_else w.stage r _ i ne;
-          same = same_load Epoch;
-          run = none;
-          published = refl;
-          stored = refl;
-          freed = λ d h. h;
-          named = λ d isin. unentered (points.Scanning w.epoch 0 true) refl isin;
-          reached = λ t isin. unentered (points.Scanning w.epoch 0 true) refl isin;
-        }))
+        subst (Leads kinds.ScanEpoch records) h.1 (
+          _,
+          refl,
+          enters (events.ScanEpoch r) _ p' (entrances.scan_epoch m l w s old.entries r p' h.0 refl) (sym (map_same lists_of s.part r p' refl)) (record {
+            holds = λ i ne t h. h;
+            hand = λ i t h. h;
+            live = λ t h. h;
+            out = λ t h. h;
+            retire = λ i. refl;
+            role = λ d k. refl;
+            log = λ d k. refl;
+            stage = λ i ne. upd_else w.stage r _ i ne;
+            same = same_load Epoch;
+            run = none;
+            published = refl;
+            stored = refl;
+            freed = λ d h. h;
+            named = λ d isin. unentered (points.Scanning w.epoch 0 true) refl isin;
+            reached = λ t isin. unentered (points.Scanning w.epoch 0 true) refl isin;
+          }),
+        )
 
     -- the end of a scan
     module _ (epoch : ℕ) where
@@ -311,41 +336,55 @@ module _ (m : Meaning) (l : Layout) (w : EpochState) (s : Sight) (old : IsJoined
     pub advance : (x : Spot × Access) → advance_ask l p.stage ≡ Some x → Leads kinds.Advance records x
     advance x e =
         let h = asked.advance_asked l p.stage x e in
-        subst (Leads kinds.Advance records) h.5
-        (subst (λ (q : PartState). Goes m l w (next m l w s old r (put s.word Epoch (exchanged (s.word Epoch) h.0 (h.0 + 1))) (record q { records = records })))
-        (sym (ap (λ (q : Stage). outside.advance_after p q) h.2 ∙ below_test h.0 last_epoch _ p h.4))
-        (enters (events.Advance r h.0 h.1) _ (over (h.0 + 1)) (entrances.advance m l w s old.entries r (over (h.0 + 1)) h.0 h.1 h.2 h.3 h.4 refl) (own_lists (h.0 + 1))
-        (ends (h.0 + 1) (after (counts_of m l) w (events.Advance r h.0 h.1)) _ (record { thunk = λ d j. refl; done = λ d. refl; log = λ d k. refl }) refl)))
+        let collect : collects l kinds.Advance p.stage (s.word Epoch) ≡ Some (h.0 + 1) = ap advance_collects h.2 ∙ below_some h.0 last_epoch _ h.4 in
+        subst (Leads kinds.Advance records) h.5 (
+          _,
+          (h.0, h.1, h.2, collect, refl),
+          subst (λ (q : PartState). Goes m l (events.Advance r h.0 h.1 ∷ []) w (next m l w s old r (put s.word Epoch (exchanged (s.word Epoch) h.0 (h.0 + 1))) (record q { records = records })))
+              (sym (ap (λ (q : Stage). outside.advance_after p q) h.2 ∙ below_test h.0 last_epoch _ p h.4))
+              (enters (events.Advance r h.0 h.1) _ (over (h.0 + 1)) (entrances.advance m l w s old.entries r (over (h.0 + 1)) h.0 h.1 h.2 h.3 h.4 refl) (own_lists (h.0 + 1))
+              (ends (h.0 + 1) (after (counts_of m l) w (events.Advance r h.0 h.1)) _ (record { thunk = λ d j. refl; done = λ d. refl; log = λ d k. refl }) refl)),
+        )
 
     module _ (x n : ℕ) (clear : Bool) (some : n ≤ l.runners) (was : p.stage ≡ Scanning x n clear) where
       abbrev still : Bool
       still = clear && is_clear x (s.word (Announcement n))
 
       abbrev Scans : PartState → Type 0
-      Scans q = Goes m l w (next m l w s old r (put s.word (Announcement n) (s.word (Announcement n))) (record q { records = records }))
+      Scans q = GoesBy m l (IsOutsideChunk m l r (kinds.ScanOne n) p (s.word (Announcement n))) w (next m l w s old r (put s.word (Announcement n) (s.word (Announcement n))) (record q { records = records }))
+
+      collect : (b : Bool) → is_over l.runners x n still ≡ b → collects l (kinds.ScanOne n) p.stage (s.word (Announcement n)) ≡ cond b (Some x) None
+      collect b is = ap (scan_collects l (s.word (Announcement n))) was ∙ ap (λ a. cond a (Some x) None) is
 
       scan_by : (b : Bool) → is_over l.runners x n still ≡ b → Scans (cond b (outside.collected p x) (outside.with_stage p (Scanning x (n + 1) still)))
-      scan_by true is = enters (events.ScanLast r x n clear) _ (over x) (entrances.scan_last m l w s old.entries r (over x) x n clear some was is refl) (own_lists x)
-          (ends x (after (counts_of m l) w (events.ScanLast r x n clear)) _ (same_load (Announcement n)) refl)
+      scan_by true is = (
+        _,
+        (x, clear, was, inr (collect true is, refl)),
+        enters (events.ScanLast r x n clear) _ (over x) (entrances.scan_last m l w s old.entries r (over x) x n clear some was is refl) (own_lists x)
+            (ends x (after (counts_of m l) w (events.ScanLast r x n clear)) _ (same_load (Announcement n)) refl),
+      )
       scan_by false is =
-          let p' : PartState = record p { stage = Scanning x (n + 1) still; records = records } in
-          enters (events.ScanOne r x n clear) _ p' (entrances.scan_one m l w s old.entries r p' x n clear some was is (ap (λ k. Scanning x k still) (add-one n))) (sym (map_same lists_of s.part r p' refl)) (record {
-            holds = λ i ne t h. h;
-            hand = λ i t h. h;
-            live = λ t h. h;
-            out = λ t h. h;
-            retire = λ i. refl;
-            role = λ d k. refl;
-            log = λ d k. refl;
-            stage = λ i ne. upd_else w.stage r _ i ne;
-            same = same_load (Announcement n);
-            run = none;
-            published = refl;
-            stored = refl;
-            freed = λ d h. h;
-            named = λ d isin. unentered (points.Scanning x (suc n) (clear && is_clear x (w.announced n))) refl isin;
-            reached = λ t isin. unentered (points.Scanning x (suc n) (clear && is_clear x (w.announced n))) refl isin;
-          })
+          let p' : PartState = record p { stage = Scanning x (n + 1) still; records = records } in (
+            _,
+            (x, clear, was, inl (collect false is, refl)),
+            enters (events.ScanOne r x n clear) _ p' (entrances.scan_one m l w s old.entries r p' x n clear some was is (ap (λ k. Scanning x k still) (add-one n))) (sym (map_same lists_of s.part r p' refl)) (record {
+              holds = λ i ne t h. h;
+              hand = λ i t h. h;
+              live = λ t h. h;
+              out = λ t h. h;
+              retire = λ i. refl;
+              role = λ d k. refl;
+              log = λ d k. refl;
+              stage = λ i ne. upd_else w.stage r _ i ne;
+              same = same_load (Announcement n);
+              run = none;
+              published = refl;
+              stored = refl;
+              freed = λ d h. h;
+              named = λ d isin. unentered (points.Scanning x (suc n) (clear && is_clear x (w.announced n))) refl isin;
+              reached = λ t isin. unentered (points.Scanning x (suc n) (clear && is_clear x (w.announced n))) refl isin;
+            }),
+          )
 
       scans : Scans (outside.scan_one_after l p p.stage (s.word (Announcement n)))
       scans = subst Scans (sym (ap (λ (q : Stage). outside.scan_one_after l p q (s.word (Announcement n))) was ∙ within_test n l.runners _ p some))

@@ -40,7 +40,7 @@ at_first m l Q fixed free t = by_test (nat_lt t m.fixed_slots) (nat_lt t (slot_c
     by_test false true = free _
     by_test false false = free _
 
-at_fixed : (m : Meaning) (l : Layout) (t : ℕ) → t < m.fixed_slots → first_place m l t ≡ Fixed
+pub at_fixed : (m : Meaning) (l : Layout) (t : ℕ) → t < m.fixed_slots → first_place m l t ≡ Fixed
 at_fixed m l t h = ap (λ b. cond b Fixed (cond (nat_lt t (slot_count l m.fixed_slots)) (Free (owner_of l.nodes l.runners (t - m.fixed_slots))) (Free (owner_of l.sections l.runners (t - slot_count l m.fixed_slots))))) (below t m.fixed_slots h)
   where
     below : (a b : ℕ) → a < b → nat_lt a b ≡ true
@@ -55,7 +55,7 @@ at_node m l t low high = λ i. cond (behind t m.fixed_slots low i) Fixed (cond (
     behind : (a b : ℕ) → b ≤ a → nat_lt a b ≡ false
     behind a b h = grind (arith, nat_tests)
 
-at_descriptor : (m : Meaning) (l : Layout) (d : ℕ) → first_place m l (slot_count l m.fixed_slots + d) ≡ Free (owner_of l.sections l.runners d)
+pub at_descriptor : (m : Meaning) (l : Layout) (d : ℕ) → first_place m l (slot_count l m.fixed_slots + d) ≡ Free (owner_of l.sections l.runners d)
 at_descriptor m l d = λ i. cond (fixed i) Fixed (cond (behind (slot_count l m.fixed_slots) d i) (Free (owner_of l.nodes l.runners (slot_count l m.fixed_slots + d - m.fixed_slots))) (Free (owner_of l.sections l.runners (back (slot_count l m.fixed_slots) d i))))
   where
     behind : (n d : ℕ) → nat_lt (n + d) n ≡ false

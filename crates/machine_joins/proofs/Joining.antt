@@ -25,7 +25,7 @@ use Rattle.machine_states.proofs.Updates.{upd_split, map_same, put_same}
 use Rattle.machine_joins.specs.Entries.{counts_of, stage_of}
 use Rattle.machine_joins.specs.Roles.{role_at}
 use Rattle.machine_joins.specs.Slots.{lists_of, thunk_in, ShowsEntries}
-pub use Rattle.machine_joins.specs.Goes.{Goes}
+pub use Rattle.machine_joins.specs.Goes.{Goes, GoesBy}
 use Rattle.machine_joins.specs.Joined.{IsTied, IsJoined}
 
 -- the words of descriptors are the same
@@ -86,6 +86,10 @@ thunk_same f g d same = rw (same 0, same 1, same 2, same 3, same 4, same 5, same
 module _ (m : Meaning) (l : Layout) where
   abbrev pub c : Counts
   c = counts_of m l
+
+  -- no event leads there
+  abbrev pub StaysAt : EpochState → Sight → Type 0
+  StaysAt = GoesBy m l (λ es. es ≡ [])
 
   -- why what is tied to a runner's part stays, where it is another runner that steps
   pub record IsElsewhere (w w' : EpochState) (word word' : Spot → ℕ) (r : ℕ) (p : PartState) : Type 0 where
@@ -162,8 +166,8 @@ module _ (m : Meaning) (l : Layout) where
       });
     }
 
-    pub stays : (f : Spot → ℕ) (p : PartState) → IsSameBut f s.word → p.stage ≡ (s.part r).stage → lists_of p ≡ lists_of (s.part r) → Publishes p → IsTied m l w f r p → Goes m l w (next f p)
-    stays f p same stage lists back own = record { events = []; enabled = tt; joined = stays_joined f p same stage lists back own }
+    pub stays : (f : Spot → ℕ) (p : PartState) → IsSameBut f s.word → p.stage ≡ (s.part r).stage → lists_of p ≡ lists_of (s.part r) → Publishes p → IsTied m l w f r p → StaysAt w (next f p)
+    stays f p same stage lists back own = ([], refl, record { enabled = tt; joined = stays_joined f p same stage lists back own })
 
     -- a step of these events of the component, by which a runner's part becomes this one
     pub goes_with : (es : List events.Event) → AllEnabled c w es → (f : Spot → ℕ) (p : PartState)
@@ -171,9 +175,8 @@ module _ (m : Meaning) (l : Layout) where
         → ShowsEntries (after_all c w es) (next f p) → ((d k : ℕ) → (after_all c w es).log d k ≡ f (LogWord d k)) → ((d k : ℕ) → 64 ≤ k → f (LogWord d k) ≡ 0)
         → ((d k : ℕ) → is_out ((after_all c w es).location (slot_of c d)) ≡ true → (after_all c w es).role d k ≡ role_at (m.body (thunk_in f d)) k)
         → ((i i' : ℕ) (x x' : Published) → (upd s.part r p i).published ≡ Some x → (upd s.part r p i').published ≡ Some x' → x.descriptor ≡ x'.descriptor → i ≡ i')
-        → IsTied m l (after_all c w es) f r p → ((i : ℕ) → i ≢ r → IsElsewhere w (after_all c w es) s.word f i (s.part i)) → Goes m l w (next f p)
+        → IsTied m l (after_all c w es) f r p → ((i : ℕ) → i ≢ r → IsElsewhere w (after_all c w es) s.word f i (s.part i)) → Goes m l es w (next f p)
     goes_with es ok f p lists entries log past roles apart own others = record {
-      events = es;
       enabled = ok;
       joined = record {
         sound = keeps_all c w es ok old.sound;

@@ -2,9 +2,11 @@
 use Rattle.std.proofs.Common.{◌≡◌, List, Some}
 use Rattle.map_history.specs.declared.op.Request.{Request}
 use Rattle.table_words.specs.declared.layout.Layout.{Layout}
+use Rattle.table_words.specs.declared.spot.Spot.{Spot}
 use Rattle.structure_laws.specs.Meaning.{Meaning}
 use Rattle.runner_steps.specs.declared.event.Event.{Event}
 use Rattle.epoch_core.specs.State.{EpochState}
+use Rattle.epoch_core.specs.Events as events
 use Rattle.epoch_core.specs.Schedules.{after_all}
 use Rattle.epoch_core.specs.History.{History, no_history, noted_all, IsExact}
 use Rattle.epoch_core.proofs.Exactly.{exact_first, exact_all}
@@ -17,8 +19,9 @@ use Rattle.machine_states.proofs.Reached.{run_has}
 use Rattle.machine_states.proofs.FirstSights.{first_whole}
 use Rattle.machine_joins.specs.Entries.{counts_of}
 use Rattle.machine_joins.specs.Joined.{IsJoined}
+use Rattle.machine_joins.specs.Chunks.{IsChunk}
 use Rattle.machine_joins.specs.Supplied.{IsSupplied}
-use Rattle.machine_joins.proofs.Joining.{Goes}
+use Rattle.machine_joins.proofs.Joining.{GoesBy}
 use Rattle.machine_joins.proofs.AllKinds.{joined_step}
 use Rattle.machine_joins.proofs.FirstJoin.{begun, first_is, first_joined}
 
@@ -32,13 +35,18 @@ module _ (m : Meaning) (l : Layout) (rs : List Request) (K : EpochState → Worl
     pub joined : IsJoined m l state (sight m l rs v)
     pub rest : K state v
 
+  -- the component's events of this event of the machine, which meets this word
+  abbrev pub IsEventChunk : World → Event → Spot → List events.Event → Type 0
+  IsEventChunk v e spot = let s = sight m l rs v in IsChunk m l e.runner e.kind (s.part e.runner) (s.part e.runner).run (s.word spot)
+
   -- the rest holds at first, supplies each event, and is kept by it
   pub record Carries : Type 0 where
     pub starts : (v : World) → IsFirst m l rs v → K (begun m l) v
     pub supplies : (w : EpochState) (v v' : World) (e : Event) → IsJoined m l w (sight m l rs v) → K w v → (step : Steps m l rs (sight m l rs v) (sight m l rs v') e.runner e.kind)
         → IsSupplied m l w (sight m l rs v) e.runner e.kind step.ask.0
     pub keeps : (w : EpochState) (v v' : World) (e : Event) → IsJoined m l w (sight m l rs v) → K w v → happens m l rs v e ≡ Some v'
-        → (g : Goes m l w (sight m l rs v')) → K (after_all (counts_of m l) w g.events) v'
+        → (step : Steps m l rs (sight m l rs v) (sight m l rs v') e.runner e.kind)
+        → (g : GoesBy m l (IsEventChunk v e (step.ask.0)) w (sight m l rs v')) → K (after_all (counts_of m l) w g.0) v'
 
   module _ (carries : Carries) where
     one_more : (v v' : World) (e : Event) → happens m l rs v e ≡ Some v' → Holds v → Holds v'
@@ -46,12 +54,12 @@ module _ (m : Meaning) (l : Layout) (rs : List Request) (K : EpochState → Worl
         let step = happens_steps m l rs v v' e old.whole h in
         let g = joined_step m l rs old.state (sight m l rs v) (sight m l rs v') e.runner e.kind step.0 old.joined (carries.supplies old.state v v' e old.joined old.rest step.0) in
         record {
-          state = after_all (counts_of m l) old.state g.events;
-          history = noted_all (counts_of m l) old.state old.history g.events;
-          exact = exact_all (counts_of m l) old.state old.history g.events g.enabled old.joined.sound old.exact;
+          state = after_all (counts_of m l) old.state g.0;
+          history = noted_all (counts_of m l) old.state old.history g.0;
+          exact = exact_all (counts_of m l) old.state old.history g.0 g.2.enabled old.joined.sound old.exact;
           whole = step.1;
-          joined = g.joined;
-          rest = carries.keeps old.state v v' e old.joined old.rest h g;
+          joined = g.2.joined;
+          rest = carries.keeps old.state v v' e old.joined old.rest h step.0 g;
         }
 
     -- every state that these events lead to is joined

@@ -8,6 +8,7 @@ pub mod OwnKinds
 pub mod Roles
 pub mod RunPlaces
 pub mod Joining
+pub mod Reaching
 pub mod Places
 pub mod EntryKinds
 pub mod OutsideKinds

@@ -1,10 +1,10 @@
 -- What it says of a runner in no run that an event of its is enabled.
-use Rattle.std.specs.Prelude.{◌==◌, ◌&&◌, cond, Bool, true, false, nat_lt, nat_le, is_none}
-use Rattle.std.proofs.Common.{◌≡◌, ℕ, ◌+◌, ◌-◌, ◌<◌, ◌≤◌, List, sym, refl, ap, subst, arith, Option, Some, None}
+use Rattle.std.specs.Prelude.{◌==◌, ◌&&◌, cond, Bool, true, false, nat_lt, nat_le, is_none, not, slice_get}
+use Rattle.std.proofs.Common.{◌≡◌, ℕ, ◌+◌, ◌-◌, ◌<◌, ◌≤◌, List, length, sym, refl, ap, subst, arith, Option, Some, None}
 use Rattle.std.proofs.lemmas.Bool.Decides.{nat_tests}
 use Rattle.map_history.specs.declared.op.Request.{Request}
 use Rattle.section_body.specs.declared.thunk.Thunk.{Thunk}
-use Rattle.section_body.specs.Word.{held_word, is_free}
+use Rattle.section_body.specs.Word.{held_word, is_free, is_spent}
 use Rattle.table_words.specs.declared.layout.Layout.{Layout}
 use Rattle.table_words.specs.declared.spot.Spot.{Spot}
 use Rattle.table_words.specs.declared.spot.Spot.TheVariants.{Seat, Epoch, Announcement, Cell, ThunkWord}
@@ -17,6 +17,7 @@ use Rattle.runner_steps.specs.declared.stage.Stage.{Stage}
 use Rattle.runner_steps.specs.declared.stage.Stage.TheVariants.{Idle, Loaded, Announced, Entered, Scanning}
 use Rattle.runner_steps.specs.State.{RunState, PartState}
 use Rattle.runner_steps.specs.Tests.{has, is_walking, is_prepared}
+use Rattle.runner_steps.specs.Tests as tests
 use Rattle.runner_steps.specs.Outside.{when, last_epoch, enter_load_ask, announce_ask, enter_again_ask, idle_ask, scan_one_ask, advance_ask, split_ask, entry_spot, entry_ask, read_ask, private_load_ask, descriptor_spot, private_store_ask, hold_ask, open_ask, is_over, retire_ask}
 use Rattle.machine_states.proofs.Steps.{some_same}
 use Rattle.machine_states.proofs.Sights.{if_some, some_none}
@@ -95,42 +96,67 @@ pub private_store_asked : (m : Meaning) (l : Layout) (slot word number : ℕ) (p
 private_store_asked m l slot word number p x e = let h = if_some _ _ x e in (store_test (slot_count l m.fixed_slots) slot _ _ h.0, h.1)
 
 -- what a publication needs
-pub record HoldAsked (m : Meaning) (l : Layout) (t : Thunk) (d : ℕ) (p : PartState) (x : Spot × Access) : Type 0 where
+pub record HoldAsked (m : Meaning) (l : Layout) (rs : List Request) (t : Thunk) (d : ℕ) (p : PartState) (x : Spot × Access) : Type 0 where
   pub few : d < descriptor_count l
   pub free : has p.descriptors.free d ≡ true
+  pub eight : length t.operands ≡ 8
   pub prepared : is_prepared p.descriptors.stored d t ≡ true
   pub entry : ℕ
   pub entered : p.stage ≡ Entered entry
   pub unpublished : p.published ≡ None
   pub unheld : is_free t.word ≡ true
+  pub unspent : is_spent l.version_max t.word ≡ false
+  pub request : Request
+  pub of_request : slice_get rs t.request ≡ Some request
+  pub serves : m.fits l request.op p.reads.walk t ≡ true
   pub is : (Cell t.lock, Exchanges t.word (held_word d t.word)) ≡ x
 
 lt_test : (a b : ℕ) → nat_lt a b ≡ true → a < b
 lt_test a b e = grind (arith, nat_tests)
 
+same_test : (a b : ℕ) → (a == b) ≡ true → a ≡ b
+same_test a b e = grind (arith, nat_tests)
+
 no_option : {A : Type 0} → (o : Option A) → is_none o ≡ true → o ≡ None
 no_option None e = refl
 no_option (Some y) e = absurd (let x = e in cc)
 
-pub hold_asked : (m : Meaning) (l : Layout) (rs : List Request) (r : ℕ) (t : Thunk) (d : ℕ) (p : PartState) (x : Spot × Access) → hold_ask m l rs r t d p ≡ Some x → HoldAsked m l t d p x
+not_so : (b : Bool) → not b ≡ true → b ≡ false
+not_so false e = refl
+not_so true e = absurd (let x = e in cc)
+
+-- what serves a request serves one that there is
+serves_some : (m : Meaning) (l : Layout) (walk : List (ℕ × ℕ)) (t : Thunk) (o : Option Request) → tests.serves m l walk t o ≡ true
+    → (q : Request) × (o ≡ Some q) × (m.fits l q.op walk t ≡ true)
+serves_some m l walk t None e = absurd (let x = e in cc)
+serves_some m l walk t (Some q) e = (q, refl, e)
+
+pub hold_asked : (m : Meaning) (l : Layout) (rs : List Request) (r : ℕ) (t : Thunk) (d : ℕ) (p : PartState) (x : Spot × Access) → hold_ask m l rs r t d p ≡ Some x → HoldAsked m l rs t d p x
 hold_asked m l rs r t d p x e =
     let h = if_some _ _ x e in
     let b = both _ _ h.0 in
     let ready = both _ _ b.0 in
     let own = both _ _ ready.1 in
+    let words = both _ _ own.1 in
     let may = both _ _ b.1 in
     let w = walking p.stage p.run may.0 in
     let rest = both _ _ may.1 in
     let due = both _ _ rest.1 in
     let lock = both _ _ due.0 in
+    let request = serves_some m l p.reads.walk t (slice_get rs t.request) (both _ _ due.1).1 in
     record {
       few = lt_test _ _ ready.0;
       free = own.0;
-      prepared = own.1;
+      eight = same_test _ _ words.0;
+      prepared = words.1;
       entry = w.0;
       entered = w.1;
       unpublished = no_option p.published rest.0;
       unheld = lock.0;
+      unspent = not_so _ (both _ _ lock.1).0;
+      request = request.0;
+      of_request = request.1;
+      serves = request.2;
       is = h.1;
     }
 

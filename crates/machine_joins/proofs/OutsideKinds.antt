@@ -1,5 +1,5 @@
 -- The kinds of step outside a run that change no stage.
-use Rattle.std.specs.Prelude.{◌==◌, ◌&&◌, ◌||◌, not, cond, Bool, true, false, nat_lt, slice_index}
+use Rattle.std.specs.Prelude.{◌==◌, ◌&&◌, ◌||◌, cond, Bool, true, false, nat_lt, slice_index}
 use Rattle.std.proofs.Common.{◌≡◌, ℕ, zero, suc, ◌+◌, ◌<◌, ◌≤◌, List, [], ◌∷◌, ◌++◌, length, refl, sym, ap, ◌∙◌, subst, arith, Some, None}
 use Rattle.std.proofs.lemmas.Bool.Decides.{nat_tests}
 use Rattle.section_body.specs.declared.thunk.Thunk.{Thunk}
@@ -35,12 +35,14 @@ use Rattle.machine_joins.specs.Entries.{counts_of, stage_of}
 use Rattle.machine_joins.specs.Roles.{role_at}
 use Rattle.machine_joins.specs.Slots.{lists_of, retiring_of}
 use Rattle.machine_joins.specs.Joined.{IsTied, IsJoined}
+use Rattle.machine_joins.specs.Chunks.{is_last_look, IsOutsideChunk}
 use Rattle.machine_joins.specs.Supplied.{reaches_node, names_slot, comes_outside}
 use Rattle.machine_joins.proofs.OutsideAsked as asked
 use Rattle.machine_joins.proofs.RunPlaces.{begins_unretired}
 use Rattle.machine_joins.proofs.Places.{has_append, names_it, has_times, hand_node}
-use Rattle.machine_joins.proofs.Joining.{IsSameBut, but_load, descriptor_same, thunk_same, still_tied, Goes, next, as_published, once, stages_stay, stays, goes_with}
-use Rattle.machine_joins.proofs.CommitKinds.{row_else, row_named, new_comes}
+use Rattle.machine_joins.proofs.Joining.{IsSameBut, but_load, descriptor_same, thunk_same, still_tied, Goes, GoesBy, StaysAt, next, as_published, once, stages_stay, stays, goes_with}
+use Rattle.machine_joins.proofs.CommitKinds.{row_else, row_named}
+use Rattle.machine_joins.proofs.Reaching.{may_hold}
 use Rattle.machine_joins.proofs.SlotKinds.{kept_place, other_place, hand_hand, back_lists}
 
 -- a test of a slot is a test of that slot
@@ -65,7 +67,7 @@ module _ (m : Meaning) (l : Layout) (w : EpochState) (s : Sight) (old : IsJoined
 
   -- the state after a step of this kind on this word, with these records
   abbrev pub Leads : EventKind → RecordsState → Spot × Access → Type 0
-  Leads kind records x = Goes m l w (next m l w s old r (put s.word x.0 (written x.1 (s.word x.0))) (record (outside_after m l kind p (s.word x.0)) { records = records }))
+  Leads kind records x = GoesBy m l (IsOutsideChunk m l r kind p (s.word x.0)) w (next m l w s old r (put s.word x.0 (written x.1 (s.word x.0))) (record (outside_after m l kind p (s.word x.0)) { records = records }))
 
   -- what is tied to a part in which tests and records alone have changed
   same_tied : (f : Spot → ℕ) → IsSameBut f s.word → (tests : List Tested) (records : RecordsState) → IsTied m l w f r (record p { nodes = record (p.nodes) { tests = tests }; records = records })
@@ -93,7 +95,7 @@ module _ (m : Meaning) (l : Layout) (w : EpochState) (s : Sight) (old : IsJoined
       }
 
   -- a load after which tests and records alone have changed
-  notes : (a : Spot) (tests : List Tested) (records : RecordsState) → Goes m l w (next m l w s old r (put s.word a (s.word a)) (record p { nodes = record (p.nodes) { tests = tests }; records = records }))
+  notes : (a : Spot) (tests : List Tested) (records : RecordsState) → StaysAt m l w (next m l w s old r (put s.word a (s.word a)) (record p { nodes = record (p.nodes) { tests = tests }; records = records }))
   notes a tests records = stays m l w s old r _ p' (but_load s.word a) refl refl (as_published m l w s old r p' refl) (same_tied _ (but_load s.word a) tests records)
     where
       p' : PartState
@@ -111,7 +113,7 @@ module _ (m : Meaning) (l : Layout) (w : EpochState) (s : Sight) (old : IsJoined
   pub split : (records : RecordsState) (x : Spot × Access) → split_ask l r p ≡ Some x → Leads kinds.Split records x
   split records x e = subst (Leads kinds.Split records) (asked.split_asked l r p x e) (by_test (nat_lt p.records.splits l.runners))
     where
-      by_test : (b : Bool) → Goes m l w (next m l w s old r (put s.word Seat (s.word Seat)) (record (cond b (record p { records = record (p.records) { splits = p.records.splits + 1 } }) p) { records = records }))
+      by_test : (b : Bool) → StaysAt m l w (next m l w s old r (put s.word Seat (s.word Seat)) (record (cond b (record p { records = record (p.records) { splits = p.records.splits + 1 } }) p) { records = records }))
       by_test true = notes Seat p.nodes.tests records
       by_test false = notes Seat p.nodes.tests records
 
@@ -144,14 +146,11 @@ module _ (m : Meaning) (l : Layout) (w : EpochState) (s : Sight) (old : IsJoined
 
   -- readings by which the runner comes to hold these slots
   module _ (f : Spot → ℕ) (same : IsSameBut f s.word) (entered : is_entered (w.stage r) ≡ true) (comes : ℕ → Bool) (may : (t : ℕ) → comes t ≡ true → w.holds r t ≡ false → MayHold w r t) where
-    abbrev new_slots : ℕ → Bool
-    new_slots t = comes t && not (w.holds r t)
-
     pub reads : (now : ReadsState) (records : RecordsState) → ((d : ℕ) → has now.held d ≡ true → (has p.reads.held d || comes (slot_of (counts_of m l) d)) ≡ true)
         → ((t : ℕ) → t < (counts_of m l).nodes → m.reaches now.walk t ≡ true → (m.reaches p.reads.walk t || comes t) ≡ true)
-        → Goes m l w (next m l w s old r f (record p { reads = now; records = records }))
+        → Goes m l (events.Reach r comes ∷ []) w (next m l w s old r f (record p { reads = now; records = records }))
     reads now records named reached =
-        goes_with m l w s old r (events.Reach r new_slots ∷ []) ((entered, λ t h. let n = new_comes (comes t) (w.holds r t) h in may t n.0 n.1), tt) f p'
+        goes_with m l w s old r (events.Reach r comes ∷ []) ((entered, λ t h. may_hold (counts_of m l) w old.sound r t (may t h)), tt) f p'
         (sym (map_same lists_of s.part r p' refl))
         (record {
           epoch = old.entries.epoch ∙ sym same.epoch;
@@ -175,7 +174,7 @@ module _ (m : Meaning) (l : Layout) (w : EpochState) (s : Sight) (old : IsJoined
           stored = λ d j n free last. descriptor_same f s.word same d j ∙ (old.tied r).stored d j n free last;
         })
         (λ i ne. record {
-          holds = λ t h. row_else w.holds r i t (λ u. w.holds r u || new_slots u) ne h;
+          holds = λ t h. row_else w.holds r i t (λ u. w.holds r u || comes u) ne h;
           words = λ d j h. same.thunk d j;
           hand = λ t h. h;
           retire = refl;
@@ -212,10 +211,13 @@ module _ (m : Meaning) (l : Layout) (w : EpochState) (s : Sight) (old : IsJoined
     load_cell may e =
         let h = asked.read_asked m place p x e in
         let found = s.word (Cell place) in
-        subst (Leads (kinds.LoadCell (Some place)) records) h.2
-        (reads _ (but_load s.word (Cell place)) (entered_at h.0 h.1) (comes found) (subst May (sym h.2) may) (lists.walked p.reads (m.is_lock place) place found) records
-        (λ d is_named. named_then found d (m.is_lock place) (reaches_node m (counts_of m l) (p.reads.walk ++ (place, found) ∷ []) (slot_of (counts_of m l) d)) is_named)
-        (λ t node is_there. reached_then t (counts_of m l).nodes (m.reaches p.reads.walk t) (m.reaches (p.reads.walk ++ (place, found) ∷ []) t) (m.is_lock place && names_slot (counts_of m l) found t) node is_there))
+        subst (Leads (kinds.LoadCell (Some place)) records) h.2 (
+          _,
+          refl,
+          reads _ (but_load s.word (Cell place)) (entered_at h.0 h.1) (comes found) (subst May (sym h.2) may) (lists.walked p.reads (m.is_lock place) place found) records
+              (λ d is_named. named_then found d (m.is_lock place) (reaches_node m (counts_of m l) (p.reads.walk ++ (place, found) ∷ []) (slot_of (counts_of m l) d)) is_named)
+              (λ t node is_there. reached_then t (counts_of m l).nodes (m.reaches p.reads.walk t) (m.reaches (p.reads.walk ++ (place, found) ∷ []) t) (m.is_lock place && names_slot (counts_of m l) found t) node is_there),
+        )
 
   -- a slot in the hand was looked at whole, and comes back
   module _ (a : Spot) (t : ℕ) (worn : Bool) (in_hand : w.location t ≡ Hand r) (records : RecordsState) where
@@ -234,7 +236,7 @@ module _ (m : Meaning) (l : Layout) (w : EpochState) (s : Sight) (old : IsJoined
     descriptor_place : (d : ℕ) → upd w.location t (tested worn r) (slot_of (counts_of m l) d) ≡ w.location (slot_of (counts_of m l) d)
     descriptor_place d = let low = node in other_place w.location t (slot_of (counts_of m l) d) (tested worn r) (λ e. absurd (omega arith))
 
-    comes_back : Goes m l w (next m l w s old r f back)
+    comes_back : Goes m l (events.Test r t worn ∷ []) w (next m l w s old r f back)
     comes_back =
         goes_with m l w s old r (events.Test r t worn ∷ []) (in_hand, tt) f back
         (ap (λ (x : Lists). upd (λ i. lists_of (s.part i)) r x) (back_lists p t worn) ∙ sym (map_upd lists_of s.part r back))
@@ -274,8 +276,9 @@ module _ (m : Meaning) (l : Layout) (w : EpochState) (s : Sight) (old : IsJoined
     abbrev looked : Tested
     looked = lists.one_more l (lists.test_of p.nodes.tests slot) (s.word a)
 
-    abbrev Looks : NodesState → Type 0
-    Looks nodes = Goes m l w (next m l w s old r (put s.word a (s.word a)) (record p { nodes = nodes; records = records }))
+    -- it does, where this was the last look
+    abbrev Looks : Bool → NodesState → Type 0
+    Looks last nodes = GoesBy m l (λ es. es ≡ cond last (events.Test r slot looked.worn ∷ []) []) w (next m l w s old r (put s.word a (s.word a)) (record p { nodes = nodes; records = records }))
 
     in_hand : has p.nodes.hand slot ≡ true → w.location looked.slot ≡ Hand r
     in_hand e = ap w.location (test_slot p.nodes.tests slot) ∙ hand_node m l w s old r slot (below (counts_of m l).nodes slot (old.listed.hand_nodes r slot) (has_times p.nodes.hand slot e)) e
@@ -283,15 +286,15 @@ module _ (m : Meaning) (l : Layout) (w : EpochState) (s : Sight) (old : IsJoined
         below : (n t : ℕ) {k : ℕ} → (n ≤ t → k ≡ 0) → 1 ≤ k → t < n
         below n t h some = grind arith
 
-    whole : (b : Bool) → has p.nodes.hand slot ≡ true → Looks (cond b (lists.slot_back p.nodes looked.slot looked.worn) (record (p.nodes) { tests = lists.tests_without p.nodes.tests looked.slot ++ looked ∷ [] }))
-    whole true e = comes_back a looked.slot looked.worn (in_hand e) records
+    whole : (b : Bool) → has p.nodes.hand slot ≡ true → Looks b (cond b (lists.slot_back p.nodes looked.slot looked.worn) (record (p.nodes) { tests = lists.tests_without p.nodes.tests looked.slot ++ looked ∷ [] }))
+    whole true e = (_, ap (λ t. events.Test r t looked.worn ∷ []) (test_slot p.nodes.tests slot), comes_back a looked.slot looked.worn (in_hand e) records)
     whole false e = notes a _ records
 
-    looks : (b : Bool) → (has p.nodes.hand slot && (word == (lists.test_of p.nodes.tests slot).cells && nat_lt word 5)) ≡ b → Looks (cond b (lists.slot_tested p.nodes looked) p.nodes)
+    looks : (b : Bool) → (has p.nodes.hand slot && (word == (lists.test_of p.nodes.tests slot).cells && nat_lt word 5)) ≡ b → Looks (b && looked.cells == 5) (cond b (lists.slot_tested p.nodes looked) p.nodes)
     looks true e = whole (looked.cells == 5) (first_true _ _ e)
     looks false e = notes a p.nodes.tests records
 
-    pub looks_at : Looks (lists.nodes_looked l p.nodes slot word (s.word a))
+    pub looks_at : Looks (is_last_look p.nodes slot word) (lists.nodes_looked l p.nodes slot word (s.word a))
     looks_at = looks (has p.nodes.hand slot && (word == (lists.test_of p.nodes.tests slot).cells && nat_lt word 5)) refl
 
   pub private_load : (records : RecordsState) (slot word : ℕ) (x : Spot × Access) → private_load_ask m l slot word p ≡ Some x → Leads (kinds.PrivateLoad slot word) records x

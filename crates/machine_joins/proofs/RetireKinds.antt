@@ -85,7 +85,7 @@ module _ (m : Meaning) (l : Layout) (w : EpochState) (s : Sight) (old : IsJoined
     unloaded : (w.retire r).loaded ≡ false
     unloaded = ap (λ (x : Retiring). x.loaded) ((old.tied r).retire ∙ (ap (retiring_of m) at ∙ unretired_before m q (micros.EpochForRetire slot k) (λ s k e. let x = e in cc) here))
 
-    pub loads_epoch : (records : RecordsState) → Goes m l w (next m l w s old r (put s.word Epoch (s.word Epoch)) (record p { run = Some loaded; records = records }))
+    pub loads_epoch : (records : RecordsState) → Goes m l (events.RetireEpoch r d k slot ∷ []) w (next m l w s old r (put s.word Epoch (s.word Epoch)) (record p { run = Some loaded; records = records }))
     loads_epoch records =
         run_goes m l w s old r q at is_open (events.RetireEpoch r d k slot ∷ [])
         ((unloaded, held, run_role m l w s old r q at (open_run q is_open) k (Retires slot) (roles.retire_role (m.body (thunk_of q.opened)) q.at slot k here), may.node, may.live, may.once), tt)
@@ -181,7 +181,7 @@ module _ (m : Meaning) (l : Layout) (w : EpochState) (s : Sight) (old : IsJoined
     own_lists : retired_lists (w.log d k) slot q.word (lists_of p) ≡ lists_of own
     own_lists = ap (λ n. retired_lists n slot q.word (lists_of p)) (old.log d k) ∙ lists_by (found == 0)
 
-    pub retires : (records : RecordsState) → Goes m l w (next m l w s old r f (record own { records = records }))
+    pub retires : (records : RecordsState) → Goes m l (events.RetireCommit r ∷ []) w (next m l w s old r f (record own { records = records }))
     retires records =
         run_goes m l w s old r q at is_open (events.RetireCommit r ∷ []) (is_loaded, tt) f agreed _
         (subst (λ (x : Retiring). KeepsRun m l w s old r q at is_open (committed x) f agreed (record own { records = records })) (sym is_now) (record {
@@ -229,7 +229,7 @@ module _ (m : Meaning) (l : Layout) (w : EpochState) (s : Sight) (old : IsJoined
       let h = asked.epoch_for_retire_asked q x micro e in
       let μ : Micro = micros.EpochForRetire h.0 h.1 in
       for_step m l w s old r q at is_open kinds.EpochForRetire records micro x μ (Epoch, Loads) h.2 h.3
-      (loads_epoch m l w s old r q at is_open h.0 h.1 (next_in_line m q μ refl (ahead ∙ h.2)) (may h.0 h.1 h.2) records)
+      (_, (h.0, h.1, refl, refl), loads_epoch m l w s old r q at is_open h.0 h.1 (next_in_line m q μ refl (ahead ∙ h.2)) (may h.0 h.1 h.2) records)
 
   pub retire_commit : (rs : List Request) → Fits (sizes_for m l rs) x.0 → retire_commit_ask q micro ≡ Some x → Leads m l w s old r q at is_open kinds.RetireCommit records micro x
   retire_commit rs fits e =
@@ -238,4 +238,4 @@ module _ (m : Meaning) (l : Layout) (w : EpochState) (s : Sight) (old : IsJoined
       let few : (q.descriptor < (counts_of m l).descriptors) × (k < 64) = subst (λ (y : Spot × Access). Fits (sizes_for m l rs) y.0) (sym h.1.is) fits in
       let μ : Micro = micros.RetireCommit h.0 k in
       for_step m l w s old r q at is_open kinds.RetireCommit records micro x μ (LogWord q.descriptor k, Exchanges 0 (h.0 + 1)) h.1.step h.1.is
-      (retires m l w s old r q at is_open h.0 k (next_in_line m q μ refl (ahead ∙ h.1.step)) few.0 few.1 records)
+      (_, (h.0, k, refl, refl), retires m l w s old r q at is_open h.0 k (next_in_line m q μ refl (ahead ∙ h.1.step)) few.0 few.1 records)

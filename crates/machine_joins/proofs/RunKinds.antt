@@ -37,9 +37,10 @@ use Rattle.machine_joins.specs.Entries.{counts_of}
 use Rattle.machine_joins.specs.Roles.{role_at}
 use Rattle.machine_joins.specs.Slots.{lists_of, retiring_of}
 use Rattle.machine_joins.specs.Joined.{IsTied, IsJoined}
+use Rattle.machine_joins.specs.Chunks.{IsLineChunk}
 use Rattle.machine_joins.proofs.InsideAsked as asked
 use Rattle.machine_joins.proofs.RunPlaces.{is_of_end, next_in_line, open_run, goes_on_unretired, unretired_before}
-use Rattle.machine_joins.proofs.Joining.{IsSameBut, but_cell, but_clock, but_stamp, but_reply, descriptor_same, thunk_same, IsElsewhere, Goes, next, as_published, once, stages_stay, stays, goes_with}
+use Rattle.machine_joins.proofs.Joining.{IsSameBut, but_cell, but_clock, but_stamp, but_reply, descriptor_same, thunk_same, IsElsewhere, Goes, GoesBy, StaysAt, next, as_published, once, stages_stay, stays, goes_with}
 
 -- a step of a Retire
 abbrev pub is_of_retire : Micro → Bool
@@ -132,7 +133,7 @@ module _ (m : Meaning) (l : Layout) (w : EpochState) (s : Sight) (old : IsJoined
   pub run_goes : (es : List events.Event) → AllEnabled (counts_of m l) w es → (f : Spot → ℕ) (q' : RunState) (p' : PartState) → KeepsRun (after_all (counts_of m l) w es) f q' p'
       → KeepsRest (after_all (counts_of m l) w es) f → ((i : ℕ) → i ≢ r → IsElsewhere m l w (after_all (counts_of m l) w es) s.word f i (s.part i))
       → ◌≡◌ {A = ℕ → Lists} (listed_all (counts_of m l) w (λ i. lists_of (s.part i)) es) (λ i. lists_of (upd s.part r p' i))
-      → Goes m l w (next m l w s old r f p')
+      → Goes m l es w (next m l w s old r f p')
   run_goes es ok f q' p' k rest others lists =
       goes_with m l w s old r es ok f p' lists
       (record {
@@ -156,7 +157,7 @@ module _ (m : Meaning) (l : Layout) (w : EpochState) (s : Sight) (old : IsJoined
 
     -- a step of the run that is no event of the component
     pub goes_on : (f : Spot → ℕ) → IsSameBut f s.word → (q' : RunState) → IsOn q' q → q'.made ≡ q.made → (trail : List ℕ)
-        → q'.at ≡ settled (setting_of l q.descriptor) trail (line_of m q) (q.at + 1) → (p' : PartState) → IsMoved p' p → p'.nodes ≡ p.nodes → p'.reads.held ≡ p.reads.held → p'.run ≡ Some q' → Goes m l w (next m l w s old r f p')
+        → q'.at ≡ settled (setting_of l q.descriptor) trail (line_of m q) (q.at + 1) → (p' : PartState) → IsMoved p' p → p'.nodes ≡ p.nodes → p'.reads.held ≡ p.reads.held → p'.run ≡ Some q' → StaysAt m l w (next m l w s old r f p')
     goes_on f same q' on' made trail rests p' moved nodes held here' =
         stays m l w s old r f p' same moved.stage (moved_lists p' p moved nodes) (as_published m l w s old r p' moved.published)
         (run_tied w f q' p' (record {
@@ -175,7 +176,7 @@ module _ (m : Meaning) (l : Layout) (w : EpochState) (s : Sight) (old : IsJoined
 
     -- a step that leaves the run with a number to go by, and the runner with these cells read
     pub steps : (f : Spot → ℕ) → IsSameBut f s.word → (word : ℕ) (reads : ReadsState) (records : RecordsState) → reads.held ≡ p.reads.held → reads.walk ≡ p.reads.walk
-        → Goes m l w (next m l w s old r f (record p { run = Some (runs.goes_on m l q word); reads = reads; records = records }))
+        → StaysAt m l w (next m l w s old r f (record p { run = Some (runs.goes_on m l q word); reads = reads; records = records }))
     steps f same word reads records held walk = goes_on f same (runs.goes_on m l q word) (record { descriptor = refl; opened = refl }) refl q.trail refl _
         (record { stage = refl; published = refl; descriptors = refl; walk = walk }) refl held refl
 
@@ -186,7 +187,7 @@ module _ (m : Meaning) (l : Layout) (w : EpochState) (s : Sight) (old : IsJoined
 
   -- the state after a step of this run on this word, with these records
   abbrev pub Leads : EventKind → RecordsState → Micro → Spot × Access → Type 0
-  Leads kind records micro x = Goes m l w (next m l w s old r (put s.word x.0 (written x.1 (s.word x.0))) (record (line_after m l kind p q micro (s.word x.0)) { records = records }))
+  Leads kind records micro x = GoesBy m l (IsLineChunk m l r kind p q micro (s.word x.0)) w (next m l w s old r (put s.word x.0 (written x.1 (s.word x.0))) (record (line_after m l kind p q micro (s.word x.0)) { records = records }))
 
   module _ (kind : EventKind) (records : RecordsState) (micro : Micro) (x : Spot × Access) where
     -- the step in hand, for the one that the run asks
@@ -235,5 +236,5 @@ module _ (m : Meaning) (l : Layout) (w : EpochState) (s : Sight) (old : IsJoined
     stamp_exchange e = let h = asked.stamp_exchange_asked q x micro e in
         let spot = Stamp (thunk_of q.opened).request in
         for_step kinds.StampExchange records micro x micros.StampExchange (spot, h.2) h.0 h.3
-        (subst (λ b. Goes m l w (next m l w s old r (put s.word spot (written h.2 (s.word spot))) (record (cond b (stamped (s.word spot)) p) { records = records }))) (sym h.1)
+        (subst (λ b. StaysAt m l w (next m l w s old r (put s.word spot (written h.2 (s.word spot))) (record (cond b (stamped (s.word spot)) p) { records = records }))) (sym h.1)
         (steps _ (ahead ∙ h.0) refl refl _ (but_stamp s.word _ _) _ p.reads records refl refl))

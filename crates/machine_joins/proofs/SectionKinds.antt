@@ -1,15 +1,16 @@
 -- The publication of a section, and the retirement of its descriptor.
-use Rattle.std.specs.Prelude.{◌==◌, ◌&&◌, ◌||◌, not, cond, Bool, true, false, nat_lt, replicate}
+use Rattle.std.specs.Prelude.{◌==◌, ◌&&◌, ◌||◌, not, cond, ◌^◌, ◌%◌, Bool, true, false, nat_lt, replicate, slice_index}
 use Rattle.std.specs.List.{filter}
-use Rattle.std.proofs.Common.{◌≡◌, ◌≢◌, ℕ, zero, suc, ◌+◌, ◌-◌, ◌<◌, ◌≤◌, List, [], ◌∷◌, ◌++◌, length, map, refl, sym, ap, ◌∙◌, subst, arith, ◌⊎◌, ⊎_elim, Option, Some, None}
+use Rattle.std.proofs.Common.{◌≡◌, ◌≢◌, ℕ, zero, suc, ◌+◌, ◌-◌, ◌<◌, ◌≤◌, List, [], ◌∷◌, ◌++◌, length, map, refl, sym, ap, ◌∙◌, subst, arith, ◌⊎◌, ⊎_elim, inl, inr, Option, Some, None}
 use Rattle.std.proofs.lemmas.Bool.{cases_eq}
+use Rattle.std.proofs.lemmas.List.{length-replicate}
 use Rattle.std.proofs.lemmas.Bool.Decides.{nat_tests}
 use Rattle.map_history.specs.declared.op.Request.{Request}
 use Rattle.section_body.specs.declared.thunk.Thunk.{Thunk}
 use Rattle.section_body.specs.Word.{held_word}
 use Rattle.table_words.specs.declared.layout.Layout.{Layout}
 use Rattle.table_words.specs.declared.spot.Spot.{Spot}
-use Rattle.table_words.specs.declared.spot.Spot.TheVariants.{Epoch, Cell, LogWord}
+use Rattle.table_words.specs.declared.spot.Spot.TheVariants.{Epoch, Cell, ThunkWord, LogWord}
 use Rattle.table_words.specs.declared.access.Access.{Access}
 use Rattle.table_words.specs.declared.access.Access.TheVariants.{Exchanges}
 use Rattle.table_words.specs.Access.{written}
@@ -20,8 +21,9 @@ use Rattle.runner_steps.specs.declared.stage.Stage.TheVariants.{Entered}
 use Rattle.runner_steps.specs.declared.entries.Published.{Published}
 use Rattle.runner_steps.specs.declared.entries.Stored.{Stored}
 use Rattle.runner_steps.specs.State.{PartState, RecordsState}
-use Rattle.runner_steps.specs.Tests.{has, last_stored, is_some_of, are_stored, is_prepared}
+use Rattle.runner_steps.specs.Tests.{has, last_stored, is_some_of, are_stored, thunk_words, is_prepared}
 use Rattle.runner_steps.specs.Outside.{descriptor_spot, hold_ask, retire_ask}
+use Rattle.runner_steps.specs.Sections.{thunk_of}
 use Rattle.runner_steps.specs.Lists as lists
 use Rattle.runner_steps.specs.AfterOutside as outside
 use Rattle.epoch_core.specs.declared.location.Location.{Location}
@@ -39,19 +41,20 @@ use Rattle.machine_joins.specs.Entries.{counts_of, stage_of}
 use Rattle.machine_joins.specs.Roles.{role_at}
 use Rattle.machine_joins.specs.Slots.{entry_of, lists_of, thunk_in}
 use Rattle.machine_joins.specs.Joined.{IsJoined}
+use Rattle.machine_joins.specs.Chunks.{roles_of, IsOutsideChunk}
 use Rattle.machine_joins.specs.Supplied.{names_slot, comes_outside}
 use Rattle.machine_joins.proofs.OutsideAsked as asked
 use Rattle.machine_joins.proofs.Places.{has_append, names_it, free_descriptor}
-use Rattle.machine_joins.proofs.Joining.{but_cell, but_load, descriptor_same, Goes, next, once, stages_stay, goes_with}
+use Rattle.machine_joins.proofs.Joining.{but_cell, but_load, descriptor_same, Goes, GoesBy, next, once, stages_stay, goes_with}
 use Rattle.machine_joins.proofs.SlotKinds.{other_place, this_place, kept_place, live_hand}
 use Rattle.machine_joins.proofs.RetireKinds.{map_more}
 use Rattle.machine_joins.proofs.OutsideKinds.{Leads, reads}
 
--- the words of a free descriptor's log were stored as 0
-stored_nought : (stored : List Stored) (d n word i : ℕ) → i < n → are_stored stored d word (replicate n 0) ≡ true → last_stored stored d (word + i) None ≡ Some 0
+-- each of these words was stored last at its place
+pub stored_index : (stored : List Stored) (d : ℕ) (ns : List ℕ) (word i : ℕ) → i < length ns → are_stored stored d word ns ≡ true → last_stored stored d (word + i) None ≡ Some (slice_index ns i)
 unfolding are_stored
-stored_nought stored d zero word i low e = absurd (omega arith)
-stored_nought stored d (suc n) word zero low e = ap (λ k. last_stored stored d k None) (let h : word + 0 ≡ word = omega arith in h) ∙ is_nought (last_stored stored d word None) (first (is_some_of (last_stored stored d word None) 0) _ e)
+stored_index stored d [] word i low e = absurd (omega arith)
+stored_index stored d (n ∷ ns) word zero low e = ap (λ k. last_stored stored d k None) (let h : word + 0 ≡ word = omega arith in h) ∙ is_it (last_stored stored d word None) (first (is_some_of (last_stored stored d word None) n) _ e)
   where
     first : (a b : Bool) → (a && b) ≡ true → a ≡ true
     first true b e = refl
@@ -60,11 +63,11 @@ stored_nought stored d (suc n) word zero low e = ap (λ k. last_stored stored d 
     same : (a b : ℕ) → (a == b) ≡ true → a ≡ b
     same a b h = grind (arith, nat_tests)
 
-    is_nought : (o : Option ℕ) → is_some_of o 0 ≡ true → o ≡ Some 0
-    is_nought None e = absurd (let x = e in cc)
-    is_nought (Some k) e = ap (λ n. Some n) (same k 0 e)
-stored_nought stored d (suc n) word (suc i) low e =
-    ap (λ k. last_stored stored d k None) (let h : word + suc i ≡ word + 1 + i = omega arith in h) ∙ stored_nought stored d n (word + 1) i (omega arith) (second (is_some_of (last_stored stored d word None) 0) _ e)
+    is_it : (o : Option ℕ) → is_some_of o n ≡ true → o ≡ Some n
+    is_it None e = absurd (let x = e in cc)
+    is_it (Some k) e = ap (λ a. Some a) (same k n e)
+stored_index stored d (n ∷ ns) word (suc i) low e =
+    ap (λ k. last_stored stored d k None) (let h : word + suc i ≡ word + 1 + i = omega arith in h) ∙ stored_index stored d ns (word + 1) i (omega arith) (second (is_some_of (last_stored stored d word None) n) _ e)
   where
     second : (a b : Bool) → (a && b) ≡ true → b ≡ true
     second true b e = e
@@ -119,6 +122,12 @@ row_other f d i k row ne = grind (arith, nat_tests)
 row_here : (f : ℕ → ℕ → Role) (d i k : ℕ) (row : ℕ → Role) → i ≡ d → upd_row f d row i k ≡ row k
 row_here f d i k row e = grind (arith, nat_tests)
 
+same_word : (a b : ℕ) → (a == b) ≡ true → a ≡ b
+same_word a b e = grind (arith, nat_tests)
+
+other_word : (a b : ℕ) → (a == b) ≡ false → a ≢ b
+other_word a b e = grind (arith, nat_tests)
+
 free_live : (r : ℕ) → Free r ≡ Live → ⊥
 free_live r e = let x = e in cc
 
@@ -128,7 +137,7 @@ free_not_hand r i e = let x = e in cc
 slot_apart : (n d d' : ℕ) → d' ≢ d → n + d' ≢ n + d
 slot_apart n d d' ne e = ne (omega arith)
 
-log_spot : (d k : ℕ) → descriptor_spot d (13 + k) ≡ LogWord d k
+pub log_spot : (d k : ℕ) → descriptor_spot d (13 + k) ≡ LogWord d k
 log_spot d k = rw (far k, near k, back k) refl
   where
     far : (k : ℕ) → nat_lt (13 + k) 12 ≡ false
@@ -139,6 +148,57 @@ log_spot d k = rw (far k, near k, back k) refl
 
     back : (k : ℕ) → 13 + k - 13 ≡ k
     back k = omega arith
+
+pub replicate_index : (n x i : ℕ) → i < n → slice_index (replicate n x) i ≡ x
+replicate_index zero x i low = absurd (omega arith)
+replicate_index (suc n) x zero low = refl
+replicate_index (suc n) x (suc i) low = replicate_index n x i (omega arith)
+
+eight : (xs : List ℕ) → length xs ≡ 8 → slice_index xs 0 ∷ slice_index xs 1 ∷ slice_index xs 2 ∷ slice_index xs 3 ∷ slice_index xs 4 ∷ slice_index xs 5 ∷ slice_index xs 6 ∷ slice_index xs 7 ∷ [] ≡ xs
+eight (a ∷ b ∷ c ∷ d ∷ e ∷ f ∷ g ∷ h ∷ []) n = refl
+eight (a ∷ b ∷ c ∷ d ∷ e ∷ f ∷ g ∷ h ∷ i ∷ xs) n = absurd (omega (arith, n))
+eight _ n = absurd (omega (arith, n))
+
+small : (n : ℕ) → n < 2 ^ 32 → n % 2 ^ 32 ≡ n
+small n h = grind arith
+
+-- a thunk with eight operands, whose request and lock are numbers of 32 bits, is the one that its words hold
+pub thunk_again : (t : Thunk) → length t.operands ≡ 8 → t.request < 2 ^ 32 → t.lock < 2 ^ 32 → thunk_of (thunk_words t) ≡ t
+thunk_again t given request lock = λ i. record {
+  form = t.form;
+  request = small t.request request i;
+  lock = small t.lock lock i;
+  word = t.word;
+  operands = eight t.operands given i;
+}
+
+-- a prepared descriptor has the thunk that the words hold which were stored
+module _ (m : Meaning) (l : Layout) (w : EpochState) (s : Sight) (old : IsJoined m l w s) (r : ℕ) (t : Thunk) (d : ℕ) (free : has (s.part r).descriptors.free d ≡ true)
+    (prepared : is_prepared (s.part r).descriptors.stored d t ≡ true) where
+  prepared_word : (j : ℕ) → j < 12 → s.word (descriptor_spot d j) ≡ slice_index (thunk_words t) j
+  prepared_word j low = (old.tied r).stored d j (slice_index (thunk_words t) j) free
+      (ap (λ n. last_stored (s.part r).descriptors.stored d n None) (let h : j ≡ 0 + j = omega arith in h)
+      ∙ stored_index (s.part r).descriptors.stored d (thunk_words t) 0 j low (left _ _ prepared))
+    where
+      left : (a b : Bool) → (a && b) ≡ true → a ≡ true
+      left true b e = refl
+      left false b e = absurd (let x = e in cc)
+
+  pub prepared_thunk : thunk_in s.word d ≡ thunk_of (thunk_words t)
+  prepared_thunk =
+      let word0 : s.word (ThunkWord d 0) ≡ slice_index (thunk_words t) 0 = prepared_word 0 (omega arith) in
+      let word1 : s.word (ThunkWord d 1) ≡ slice_index (thunk_words t) 1 = prepared_word 1 (omega arith) in
+      let word2 : s.word (ThunkWord d 2) ≡ slice_index (thunk_words t) 2 = prepared_word 2 (omega arith) in
+      let word3 : s.word (ThunkWord d 3) ≡ slice_index (thunk_words t) 3 = prepared_word 3 (omega arith) in
+      let word4 : s.word (ThunkWord d 4) ≡ slice_index (thunk_words t) 4 = prepared_word 4 (omega arith) in
+      let word5 : s.word (ThunkWord d 5) ≡ slice_index (thunk_words t) 5 = prepared_word 5 (omega arith) in
+      let word6 : s.word (ThunkWord d 6) ≡ slice_index (thunk_words t) 6 = prepared_word 6 (omega arith) in
+      let word7 : s.word (ThunkWord d 7) ≡ slice_index (thunk_words t) 7 = prepared_word 7 (omega arith) in
+      let word8 : s.word (ThunkWord d 8) ≡ slice_index (thunk_words t) 8 = prepared_word 8 (omega arith) in
+      let word9 : s.word (ThunkWord d 9) ≡ slice_index (thunk_words t) 9 = prepared_word 9 (omega arith) in
+      let word10 : s.word (ThunkWord d 10) ≡ slice_index (thunk_words t) 10 = prepared_word 10 (omega arith) in
+      let word11 : s.word (ThunkWord d 11) ≡ slice_index (thunk_words t) 11 = prepared_word 11 (omega arith) in
+      λ i. thunk_of (word0 i ∷ word1 i ∷ word2 i ∷ word3 i ∷ word4 i ∷ word5 i ∷ word6 i ∷ word7 i ∷ word8 i ∷ word9 i ∷ word10 i ∷ word11 i ∷ [])
 
 module _ (m : Meaning) (l : Layout) (w : EpochState) (s : Sight) (old : IsJoined m l w s) (r : ℕ) (none : (s.part r).run ≡ None) (t : Thunk) (d : ℕ) (records : RecordsState)
     (v : ℕ) (entered : is_entered (w.stage r) ≡ true) where
@@ -163,7 +223,7 @@ module _ (m : Meaning) (l : Layout) (w : EpochState) (s : Sight) (old : IsJoined
     holding = record p { published = Some mine; descriptors = lists.descriptor_taken p.descriptors d; reads = lists.section_published (lists.cell_read p.reads t.lock found) d; records = records }
 
     abbrev roles : ℕ → Role
-    roles k = role_at (m.body (thunk_in s.word d)) k
+    roles = roles_of m (thunk_words t)
 
     at_free : w.location here ≡ Free r
     at_free = free_descriptor m l w s old r d few free
@@ -175,7 +235,8 @@ module _ (m : Meaning) (l : Layout) (w : EpochState) (s : Sight) (old : IsJoined
     log_word : (k : ℕ) → k < 64 → s.word (LogWord d k) ≡ 0
     log_word k low = ap s.word (sym (log_spot d k)) ∙ (old.tied r).stored d (13 + k) 0 free
         (ap (λ n. last_stored p.descriptors.stored d n None) (let h : 13 + k ≡ 12 + (1 + k) = omega arith in h)
-        ∙ stored_nought p.descriptors.stored d 65 12 (1 + k) (omega arith) (second _ _ prepared))
+        ∙ (stored_index p.descriptors.stored d (replicate 65 0) 12 (1 + k) (let h = length-replicate {A = ℕ} 65 0 in omega arith) (second _ _ prepared)
+        ∙ ap (λ n. Some n) (replicate_index 65 0 (1 + k) (omega arith))))
 
     empty : (k : ℕ) → w.log d k ≡ 0
     empty k = old.log d k ∙ ⊎_elim (λ low. log_word k low) (λ high. old.past d k high) (order k 64)
@@ -220,14 +281,14 @@ module _ (m : Meaning) (l : Layout) (w : EpochState) (s : Sight) (old : IsJoined
         else : (k : ℕ) → k ≢ r → (y : Published) → (upd s.part r holding k).published ≡ Some y → (s.part k).published ≡ Some y
         else k a y e = sym (ap (λ (q : PartState). q.published) (else_is s.part holding k r a)) ∙ e
 
-    publishes : Goes m l w (next m l w s old r f holding)
+    publishes : Goes m l (events.Publish r d roles ∷ []) w (next m l w s old r f holding)
     publishes =
         goes_with m l w s old r (events.Publish r d roles ∷ []) ((entered, at_free, empty), tt) f holding
         (sym (map_upd lists_of s.part r holding))
         (record { epoch = old.entries.epoch; announced = old.entries.announced; stage = stages_stay m l w s old r f holding refl })
         old.log old.past
         (λ d' k out. ⊎_elim
-        (λ same. row_here w.role d d' k roles same ∙ ap (λ n. role_at (m.body (thunk_in s.word n)) k) (sym same))
+        (λ same. row_here w.role d d' k roles same ∙ (ap (λ (u : Thunk). role_at (m.body u) k) (sym (prepared_thunk m l w s old r t d free prepared)) ∙ ap (λ n. role_at (m.body (thunk_in s.word n)) k) (sym same)))
         (λ other. row_other w.role d d' k roles other ∙ old.roles d' k (ap is_out (sym (other_place w.location here (slot_of (counts_of m l) d') Live (slot_apart (counts_of m l).nodes d d' other))) ∙ out))
         (cases_eq d' d))
         alone
@@ -256,12 +317,15 @@ module _ (m : Meaning) (l : Layout) (w : EpochState) (s : Sight) (old : IsJoined
 
   -- the lock was held, and the word that was found there may name a descriptor
   loses : (found == t.word) ≡ false → ((u : ℕ) → comes_outside m (counts_of m l) (kinds.Hold t d) p found u ≡ true → w.holds r u ≡ false → MayHold w r u)
-      → Goes m l w (next m l w s old r f (record p { reads = lists.holds_named (lists.cell_read p.reads t.lock found) found; records = records }))
+      → Goes m l (events.Reach r (comes_outside m (counts_of m l) (kinds.Hold t d) p found) ∷ []) w (next m l w s old r f (record p { reads = lists.holds_named (lists.cell_read p.reads t.lock found) found; records = records }))
   loses lost may =
-      reads m l w s old r none f (but_cell s.word t.lock v) entered (λ u. names_slot (counts_of m l) found u) (λ u h. may u (ap (λ b. not b && names_slot (counts_of m l) found u) lost ∙ h))
+      reads m l w s old r none f (but_cell s.word t.lock v) entered (comes_outside m (counts_of m l) (kinds.Hold t d) p found) may
       (lists.holds_named (lists.cell_read p.reads t.lock found) found) records
-      (λ d' e. sym (has_append p.reads.held (lists.named_by found) d' ∙ ap (λ b. has p.reads.held d' || b) (names_it (counts_of m l) found d')) ∙ e)
-      (λ u low is_there. ap (λ b. b || names_slot (counts_of m l) found u) is_there)
+      (λ d' e. sym (has_append p.reads.held (lists.named_by found) d' ∙ ap (λ b. has p.reads.held d' || b) (names_it (counts_of m l) found d' ∙ brought (slot_of (counts_of m l) d'))) ∙ e)
+      (λ u low is_there. ap (λ b. b || comes_outside m (counts_of m l) (kinds.Hold t d) p found u) is_there)
+    where
+      brought : (u : ℕ) → names_slot (counts_of m l) found u ≡ comes_outside m (counts_of m l) (kinds.Hold t d) p found u
+      brought u = ap (λ b. not b && names_slot (counts_of m l) found u) (sym lost)
 
 module _ (m : Meaning) (l : Layout) (w : EpochState) (s : Sight) (old : IsJoined m l w s) (r : ℕ) (none : (s.part r).run ≡ None) (records : RecordsState) (x : Spot × Access) where
   abbrev now : PartState
@@ -291,11 +355,11 @@ module _ (m : Meaning) (l : Layout) (w : EpochState) (s : Sight) (old : IsJoined
       entered : (g : ℕ) → now.stage ≡ Entered g → is_entered (w.stage r) ≡ true
       entered g e = ap is_entered (old.entries.stage r ∙ ap stage_of e)
 
-      by_test : asked.HoldAsked m l t d now x → (y : Spot × Access) (b : Bool) → (s.word (Cell t.lock) == t.word) ≡ b
+      by_test : asked.HoldAsked m l rs t d now x → (y : Spot × Access) (b : Bool) → (s.word (Cell t.lock) == t.word) ≡ b
           → ((u : ℕ) → comes_outside m (counts_of m l) (kinds.Hold t d) now (s.word (Cell t.lock)) u ≡ true → w.holds r u ≡ false → MayHold w r u)
-          → Goes m l w (next m l w s old r (put s.word (Cell t.lock) (written (Exchanges t.word (held_word d t.word)) (s.word (Cell t.lock)))) (record (cond b (won (s.word (Cell t.lock))) (lost (s.word (Cell t.lock)))) { records = records }))
-      by_test h y true is there = publishes m l w s old r none t d records _ (entered h.entry h.entered) h.few h.free h.prepared h.unpublished
-      by_test h y false is there = loses m l w s old r none t d records _ (entered h.entry h.entered) is there
+          → GoesBy m l (IsOutsideChunk m l r (kinds.Hold t d) now (s.word (Cell t.lock))) w (next m l w s old r (put s.word (Cell t.lock) (written (Exchanges t.word (held_word d t.word)) (s.word (Cell t.lock)))) (record (cond b (won (s.word (Cell t.lock))) (lost (s.word (Cell t.lock)))) { records = records }))
+      by_test h y true is there = (_, inl (same_word _ _ is, refl), publishes m l w s old r none t d records _ (entered h.entry h.entered) h.few h.free h.prepared h.unpublished)
+      by_test h y false is there = (_, inr (other_word _ _ is, refl), loses m l w s old r none t d records _ (entered h.entry h.entered) is there)
 
   -- the published section's descriptor goes into limbo
   module _ (y : Published) (is_published : now.published ≡ Some y) (isin : is_entered (w.stage r) ≡ true) where
@@ -328,7 +392,7 @@ module _ (m : Meaning) (l : Layout) (w : EpochState) (s : Sight) (old : IsJoined
         (λ other. ap is_out (sym (other_place w.location slot t place other)) ∙ out)
         (cases_eq t slot)
 
-    retires : Goes m l w (next m l w s old r words retired)
+    retires : Goes m l (events.RetireDescriptor r y.descriptor ∷ []) w (next m l w s old r words retired)
     retires =
         let same = but_load s.word Epoch in
         goes_with m l w s old r (events.RetireDescriptor r y.descriptor ∷ []) ((isin, at_live), tt) words retired
@@ -362,6 +426,9 @@ module _ (m : Meaning) (l : Layout) (w : EpochState) (s : Sight) (old : IsJoined
   pub retire_descriptor : retire_ask now ≡ Some x → Leads m l w s old r none kinds.EpochForRetire records x
   retire_descriptor e =
       let h = asked.retire_asked now x e in
-      subst (Leads m l w s old r none kinds.EpochForRetire records) h.4
-      (subst (λ (o : Option Published). Goes m l w (next m l w s old r (put s.word Epoch (s.word Epoch)) (record (outside.retire_after now o (s.word Epoch)) { records = records }))) (sym h.3)
-      (retires h.1 h.3 (ap is_entered (old.entries.stage r ∙ ap stage_of h.2))))
+      subst (Leads m l w s old r none kinds.EpochForRetire records) h.4 (
+        _,
+        (h.1, h.3, refl),
+        subst (λ (o : Option Published). Goes m l (events.RetireDescriptor r h.1.descriptor ∷ []) w (next m l w s old r (put s.word Epoch (s.word Epoch)) (record (outside.retire_after now o (s.word Epoch)) { records = records }))) (sym h.3)
+            (retires h.1 h.3 (ap is_entered (old.entries.stage r ∙ ap stage_of h.2))),
+      )

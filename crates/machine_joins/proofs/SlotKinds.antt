@@ -1,6 +1,6 @@
 -- The kinds of step of a run by which node slots change their places.
 use Rattle.std.specs.Prelude.{◌==◌, ◌||◌, cond, if◌then◌else◌, Bool, true, false, slice_index}
-use Rattle.std.proofs.Common.{◌≡◌, ◌≢◌, ℕ, zero, suc, ◌+◌, ◌-◌, ◌<◌, List, [], ◌∷◌, ◌++◌, length, refl, sym, ap, ◌∙◌, subst, arith, add-one, Option, Some, None}
+use Rattle.std.proofs.Common.{◌≡◌, ◌≢◌, ℕ, zero, suc, ◌+◌, ◌-◌, ◌<◌, List, [], ◌∷◌, ◌++◌, length, refl, sym, ap, ◌∙◌, subst, arith, add-one, ◌⊎◌, inl, inr, Option, Some, None}
 use Rattle.std.proofs.lemmas.Bool.Decides.{nat_tests}
 use Rattle.map_history.specs.declared.op.Request.{Request}
 use Rattle.section_body.specs.declared.micro.Micro.{Micro}
@@ -44,7 +44,7 @@ use Rattle.machine_joins.proofs.InsideAsked as asked
 use Rattle.machine_joins.proofs.Roles as roles
 use Rattle.machine_joins.proofs.RunPlaces.{is_of_end, next_in_line, open_run}
 use Rattle.machine_joins.proofs.Places.{free_node, apart, log_elsewhere, run_role}
-use Rattle.machine_joins.proofs.Joining.{but_cell, descriptor_same, Goes, next}
+use Rattle.machine_joins.proofs.Joining.{but_cell, descriptor_same, Goes, GoesBy, next}
 use Rattle.machine_joins.proofs.RunKinds.{is_of_retire, run_goes, still, steps, goes_on, Leads, for_step}
 use Rattle.machine_joins.proofs.CommitKinds.{log_agrees, log_past}
 
@@ -72,6 +72,9 @@ live_hand i e = let x = e in cc
 pub back_lists : (p : PartState) (slot : ℕ) (worn : Bool) → tested_lists worn slot (lists_of p) ≡ lists_of (record p { nodes = slot_back p.nodes slot worn })
 back_lists p slot true = refl
 back_lists p slot false = refl
+
+same_slot : (a b : ℕ) → (a == b) ≡ true → a ≡ b
+same_slot a b e = grind (arith, nat_tests)
 
 has_index : (xs : List ℕ) (i : ℕ) → i < length xs → has xs (slice_index xs i) ≡ true
 has_index [] i h = absurd (omega arith)
@@ -137,7 +140,7 @@ module _ (m : Meaning) (l : Layout) (w : EpochState) (s : Sight) (old : IsJoined
     own_lists : made_lists (w.log q.descriptor k) q.worn slot (lists_of p) ≡ lists_of (record p { nodes = runs.made p q slot found })
     own_lists = ap (λ n. made_lists n q.worn slot (lists_of p)) (old.log q.descriptor k) ∙ lists_by (found == 0)
 
-    pub makes : (records : RecordsState) → Goes m l w (next m l w s old r f (record p { run = Some agreed; nodes = runs.made p q slot found; records = records }))
+    pub makes : (records : RecordsState) → Goes m l (events.MakeCommit r q.descriptor k slot q.worn ∷ []) w (next m l w s old r f (record p { run = Some agreed; nodes = runs.made p q slot found; records = records }))
     makes records =
         run_goes m l w s old r q at is_open (events.MakeCommit r q.descriptor k slot q.worn ∷ []) ((held, role, in_hand), tt) f agreed _
         (record {
@@ -184,7 +187,7 @@ module _ (m : Meaning) (l : Layout) (w : EpochState) (s : Sight) (old : IsJoined
 
     -- the first step of a Make takes a free slot into the hand
     pub takes : (place v : ℕ) (word : ℕ) (records : RecordsState)
-        → Goes m l w (next m l w s old r (put s.word (Cell place) v) (record p { run = Some (runs.goes_on m l taking word); nodes = slot_taken p.nodes slot; records = records }))
+        → Goes m l (events.TakeSlot r slot ∷ []) w (next m l w s old r (put s.word (Cell place) v) (record p { run = Some (runs.goes_on m l taking word); nodes = slot_taken p.nodes slot; records = records }))
     takes place v word records =
         run_goes m l w s old r q at is_open (events.TakeSlot r slot ∷ []) ((free, node), tt) (put s.word (Cell place) v) (runs.goes_on m l taking word) _
         (record {
@@ -228,11 +231,13 @@ module _ (m : Meaning) (l : Layout) (w : EpochState) (s : Sight) (old : IsJoined
       abbrev filled : Option ℕ → PartState
       filled o = record (runs.fill_loaded m l slot p q o (s.word (Cell place))) { records = records }
 
-      fill_by : (o : Option ℕ) → slot < (counts_of m l).nodes → is_slot (make_slot o p.nodes.free) slot ≡ true → Goes m l w (next m l w s old r (put s.word (Cell place) (s.word (Cell place))) (filled o))
+      fill_by : (o : Option ℕ) → slot < (counts_of m l).nodes → is_slot (make_slot o p.nodes.free) slot ≡ true
+          → GoesBy m l (λ es. ((o ≡ None) × (es ≡ events.TakeSlot r slot ∷ [])) ⊎ ((o ≡ Some slot) × (es ≡ []))) w (next m l w s old r (put s.word (Cell place) (s.word (Cell place))) (filled o))
       fill_by None low is =
-          takes slot low (free_node m l w s old r slot low (last_has p.nodes.free slot is)) (micros.PrivateLoad cell log) (ahead ∙ e) refl refl place _ (s.word (Cell place)) records
+          (_, inl (refl, refl), takes slot low (free_node m l w s old r slot low (last_has p.nodes.free slot is)) (micros.PrivateLoad cell log) (ahead ∙ e) refl refl place _ (s.word (Cell place)) records)
       fill_by (Some t) low is =
-          steps m l w s old r q at is_open (micros.PrivateLoad cell log) (ahead ∙ e) refl refl _ (but_cell s.word place _) (s.word (Cell place)) p.reads records refl refl
+          let stay = steps m l w s old r q at is_open (micros.PrivateLoad cell log) (ahead ∙ e) refl refl _ (but_cell s.word place _) (s.word (Cell place)) p.reads records refl refl in
+          (stay.0, inr (ap Some (same_slot t slot is), stay.1), stay.2)
 
     pub fill_load : (slot word : ℕ) → fill_load_ask m l slot word p.nodes.free q micro ≡ Some x → Leads m l w s old r q at is_open (kinds.PrivateLoad slot word) records micro x
     fill_load slot word e =
@@ -254,7 +259,10 @@ module _ (m : Meaning) (l : Layout) (w : EpochState) (s : Sight) (old : IsJoined
         let k = h.2.log in
         let few : (q.descriptor < (counts_of m l).descriptors) × (k < 64) = subst (λ (y : Spot × Access). Fits (sizes_for m l rs) y.0) (sym h.2.is) fits in
         let here : micro_at (line (m.body (thunk_of q.opened))) q.at ≡ micros.MakeCommit k = next_in_line m q (micros.MakeCommit k) refl (ahead ∙ h.2.step) in
-        for_step m l w s old r q at is_open kinds.MakeCommit records micro x (micros.MakeCommit k) (LogWord q.descriptor k, Exchanges 0 (h.0 + 1)) h.2.step h.2.is
-        (subst (λ (o : Option ℕ). Goes m l w (next m l w s old r (put s.word (LogWord q.descriptor k) (exchanged (s.word (LogWord q.descriptor k)) 0 (h.0 + 1))) (record (runs.make_committed m l p q o (s.word (LogWord q.descriptor k))) { records = records }))) (sym h.1)
-        (makes h.0 k ((old.tied r).run_made q h.0 at h.1) (micros.MakeCommit k) (ahead ∙ h.2.step) refl refl
-        (run_role m l w s old r q at (open_run q is_open) k Makes (roles.make_role (m.body (thunk_of q.opened)) q.at k here)) few.0 few.1 records))
+        for_step m l w s old r q at is_open kinds.MakeCommit records micro x (micros.MakeCommit k) (LogWord q.descriptor k, Exchanges 0 (h.0 + 1)) h.2.step h.2.is (
+          _,
+          (k, h.0, refl, h.1, refl),
+          subst (λ (o : Option ℕ). Goes m l (events.MakeCommit r q.descriptor k h.0 q.worn ∷ []) w (next m l w s old r (put s.word (LogWord q.descriptor k) (exchanged (s.word (LogWord q.descriptor k)) 0 (h.0 + 1))) (record (runs.make_committed m l p q o (s.word (LogWord q.descriptor k))) { records = records }))) (sym h.1)
+              (makes h.0 k ((old.tied r).run_made q h.0 at h.1) (micros.MakeCommit k) (ahead ∙ h.2.step) refl refl
+              (run_role m l w s old r q at (open_run q is_open) k Makes (roles.make_role (m.body (thunk_of q.opened)) q.at k here)) few.0 few.1 records),
+        )

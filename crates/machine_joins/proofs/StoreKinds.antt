@@ -33,9 +33,10 @@ use Rattle.machine_joins.specs.Entries.{counts_of}
 use Rattle.machine_joins.specs.Roles.{role_at}
 use Rattle.machine_joins.specs.Slots.{lists_of, thunk_in, ShowsEntries}
 use Rattle.machine_joins.specs.Joined.{IsTied, IsJoined}
+use Rattle.machine_joins.specs.Chunks.{stored}
 use Rattle.machine_joins.proofs.OutsideAsked as asked
 use Rattle.machine_joins.proofs.Places.{free_descriptor, held_unfree}
-use Rattle.machine_joins.proofs.Joining.{thunk_same, IsElsewhere, Goes, next, as_published, once, stages_stay, goes_with}
+use Rattle.machine_joins.proofs.Joining.{thunk_same, IsElsewhere, Goes, GoesBy, next, as_published, once, stages_stay, goes_with}
 use Rattle.machine_joins.proofs.OutsideKinds.{Leads}
 
 hits : (a b : Bool) (v x : ℕ) → cond a (cond b v x) x ≡ cond (a && b) v x
@@ -153,7 +154,7 @@ module _ (m : Meaning) (l : Layout) (w : EpochState) (s : Sight) (old : IsJoined
 
     stores : (es : List events.Event) → AllEnabled (counts_of m l) w es → (log : ℕ → ℕ → ℕ) → after_all (counts_of m l) w es ≡ record w { log = log }
         → listed_all (counts_of m l) w (λ i. lists_of (s.part i)) es ≡ (λ i. lists_of (s.part i))
-        → ((d' k : ℕ) → log d' k ≡ f (LogWord d' k)) → ((d' k : ℕ) → 64 ≤ k → f (LogWord d' k) ≡ 0) → Goes m l w (next m l w s old r f p')
+        → ((d' k : ℕ) → log d' k ≡ f (LogWord d' k)) → ((d' k : ℕ) → 64 ≤ k → f (LogWord d' k) ≡ 0) → Goes m l es w (next m l w s old r f p')
     stores es ok log is lists logs past =
         goes_with m l w s old r es ok f p' (lists ∙ sym (map_same lists_of s.part r p' refl))
         (subst (λ (v : EpochState). ShowsEntries v (next m l w s old r f p')) (sym is) (record {
@@ -198,15 +199,19 @@ module _ (m : Meaning) (l : Layout) (w : EpochState) (s : Sight) (old : IsJoined
 
   -- the store, by the word that it meets
   store_by : (b b' : Bool) (sizes : Sizes) → ((d' j : ℕ) → put s.word (spot_by b b' d word) number (descriptor_spot d' j) ≡ cond (d' == d && j == word) number (s.word (descriptor_spot d' j)))
-      → Fits sizes (spot_by b b' d word) → Goes m l w (next m l w s old r (put s.word (spot_by b b' d word) number) p')
-  store_by true b' sizes spot fits = stores _ spot (λ d' j ne. thunk_else d' d j word number _ ne) refl (λ i. refl) [] tt w.log refl refl old.log old.past
-  store_by false true sizes spot fits = stores _ spot (λ d' j ne. refl) refl (λ i. refl) [] tt w.log refl refl old.log old.past
-  store_by false false sizes spot fits =
-      stores _ spot (λ d' j ne. refl) refl (λ i. refl) (events.StoreLog r d (word - 13) number ∷ []) (at_free, tt) (upd2 w.log d (word - 13) number) refl refl
-      (λ d' k i. cond (d' == d) (cond (k == word - 13) number (old.log d' k i)) (old.log d' k i))
-      (λ d' k high. log_past' (d' == d) (word - 13) k number _ fits.1 high (old.past d' k high))
+      → Fits sizes (spot_by b b' d word)
+      → GoesBy m l (λ es. es ≡ cond b [] (cond b' [] (events.StoreLog r d (word - 13) number ∷ []))) w (next m l w s old r (put s.word (spot_by b b' d word) number) p')
+  store_by true b' sizes spot fits = (_, refl, stores _ spot (λ d' j ne. thunk_else d' d j word number _ ne) refl (λ i. refl) [] tt w.log refl refl old.log old.past)
+  store_by false true sizes spot fits = (_, refl, stores _ spot (λ d' j ne. refl) refl (λ i. refl) [] tt w.log refl refl old.log old.past)
+  store_by false false sizes spot fits = (
+    _,
+    refl,
+    stores _ spot (λ d' j ne. refl) refl (λ i. refl) (events.StoreLog r d (word - 13) number ∷ []) (at_free, tt) (upd2 w.log d (word - 13) number) refl refl
+        (λ d' k i. cond (d' == d) (cond (k == word - 13) number (old.log d' k i)) (old.log d' k i))
+        (λ d' k high. log_past' (d' == d) (word - 13) k number _ fits.1 high (old.past d' k high)),
+  )
 
-  pub stores_there : (rs : List Request) → Fits (sizes_for m l rs) (descriptor_spot d word) → Goes m l w (next m l w s old r (put s.word (descriptor_spot d word) number) p')
+  pub stores_there : (rs : List Request) → Fits (sizes_for m l rs) (descriptor_spot d word) → GoesBy m l (λ es. es ≡ stored r d word number) w (next m l w s old r (put s.word (descriptor_spot d word) number) p')
   stores_there rs fits = store_by (nat_lt word 12) (word == 12) (sizes_for m l rs) (λ d' j. put_spot s.word d word number d' j) fits
 
 fits_few : (sizes : Sizes) (d word : ℕ) (b b' : Bool) → Fits sizes (spot_by b b' d word) → d < sizes.descriptors

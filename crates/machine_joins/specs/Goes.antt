@@ -14,18 +14,23 @@ use Rattle.machine_joins.specs.Entries.{counts_of}
 use Rattle.machine_joins.specs.Firsts.{first_place}
 use Rattle.machine_joins.specs.Joined.{IsJoined}
 use Rattle.machine_joins.specs.Supplied.{IsSupplied}
+use Rattle.machine_joins.specs.Chunks.{IsChunk}
 
 module _ (m : Meaning) (l : Layout) where
-  -- a list of the component's enabled events leads to a state that is joined with this one of the machine
-  pub record Goes (w : EpochState) (s : Sight) : Type 0 where
-    pub events : List Event
+  -- these enabled events of the component lead to a state that is joined with this one of the machine
+  pub record Goes (events : List Event) (w : EpochState) (s : Sight) : Type 0 where
     pub enabled : AllEnabled (counts_of m l) w events
     pub joined : IsJoined m l (after_all (counts_of m l) w events) s
 
-  -- each step of the machine is a list of the component's events, where it is supplied
+  -- events of which this holds lead to such a state
+  abbrev pub GoesBy : (List Event → Type 0) → EpochState → Sight → Type 0
+  GoesBy P w s = (events : List Event) × P events × Goes events w s
+
+  -- each step of the machine is the component's events of its kind, where it is supplied
   abbrev pub StepsAreEvents : List Request → Type 0
   StepsAreEvents requests = (w : EpochState) (s s' : Sight) (r : ℕ) (kind : EventKind) → IsJoined m l w s
-      → (step : Steps m l requests s s' r kind) → IsSupplied m l w s r kind step.ask.0 → Goes w s'
+      → (step : Steps m l requests s s' r kind) → IsSupplied m l w s r kind step.ask.0
+      → GoesBy (IsChunk m l r kind (s.part r) (s.part r).run (s.word (step.ask.0))) w s'
 
   -- in the first state each slot is where it is at first, and nobody holds one
   abbrev pub StartsJoined : List Request → Type 0

@@ -1,10 +1,12 @@
 pub mod Entries
 pub mod Scans
+pub mod ScanEnds
 pub mod Epochs
 pub mod Roles
 pub mod Slots
 pub mod Joined
 pub mod Supplied
+pub mod Chunks
 pub mod Goes
 pub mod Firsts
 pub mod Descriptors

@@ -10,7 +10,7 @@ use Rattle.structure_laws.specs.Meaning.{Meaning}
 use Rattle.runner_steps.specs.declared.event.EventKind.{EventKind}
 use Rattle.runner_steps.specs.declared.event.EventKind.TheVariants as kinds
 use Rattle.runner_steps.specs.State.{RunState, PartState}
-use Rattle.runner_steps.specs.Sections.{next_of}
+use Rattle.runner_steps.specs.Sections.{is_open_run, next_of}
 use Rattle.runner_steps.specs.Tests.{has}
 use Rattle.runner_steps.specs.Lists.{named_by}
 use Rattle.runner_steps.specs.AfterInRun.{is_of_lock}
@@ -64,5 +64,5 @@ module _ (m : Meaning) (l : Layout) where
     pub held : (t : ℕ) → comes_by m (counts_of m l) kind (s.part r) (s.part r).run (s.word spot) t ≡ true
         → w.holds r t ≡ false → MayHold w r t
     -- a Retire before which its run stands may be made
-    pub retires : (q : RunState) (slot index : ℕ) → (s.part r).run ≡ Some q → next_of m q ≡ EpochForRetire slot index
+    pub retires : (q : RunState) (slot index : ℕ) → (s.part r).run ≡ Some q → is_open_run q ≡ true → next_of m q ≡ EpochForRetire slot index
         → MayRetire (counts_of m l) w q.descriptor index slot

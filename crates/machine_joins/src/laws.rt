@@ -33,7 +33,7 @@ pub fn scans_collect<S: Structure>(structure: &S)
     ensures { (layout : Layout) (requests : List Request) (w v : World) → Reached (S.meaning structure.now) layout requests w → ScansCollect (S.meaning structure.now) layout requests w v }
 {}
 
-/// A step of the machine, of whatever kind, is a list of events of epochs and slots that may come, where it is supplied with what
+/// A step of the machine is exactly the events of epochs and slots of its kind, which may come, where it is supplied with what
 /// agreement and the structure's laws give: from a state of theirs that belongs to the machine's they lead to one that belongs to
 /// the machine's after the step.
 pub fn steps_are_events_of_slots<S: Structure>(structure: &S)

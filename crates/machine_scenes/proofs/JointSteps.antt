@@ -234,7 +234,7 @@ module _ (m : Meaning) (laws : Laws m) (layout : Layout) (limits : IsWithinLimit
   step_lawful (Publish r d lock word request code slot op thunk) ok =
       publish_lawful m laws layout limits p e.epoch status reader a kept.agreement kept.thunks kept.lawful d lock word request code slot
       ok.enabled op thunk (j.walk r) r
-      (entered_reads (e.stage r) (j.walk r) ok.entered) ok.allowed ok.fits ok.of_thunk.lock ok.of_thunk.word ok.read.0 ok.read.1
+      (entered_reads (e.stage r) (j.walk r) ok.entered) ok.allowed ok.fits ok.of_thunk.lock ok.of_thunk.word
   step_lawful (Fill r cell log value t word) ok = private_store_lawful m laws layout limits p e.epoch status reader a kept.agreement
       kept.thunks kept.lawful r ok.0.0.running ok.0.0.going
       cell log t word value ok.0.0.next (hand_status c e.location t ok.1.0 ok.1.1) ok.2 ok.0.1.rises

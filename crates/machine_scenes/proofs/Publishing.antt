@@ -1,6 +1,6 @@
 -- A publication leads from a lawful scene to a lawful scene.
 use Rattle.std.proofs.Common.{◌≡◌, ◌≢◌, ℕ, suc, Bool, true, sym, ap, ◌∙◌, subst, ⊎_elim, arith}
-use Rattle.std.specs.Prelude.{◌&&◌, ◌==◌, cond, Option, Some, None, slice_get}
+use Rattle.std.specs.Prelude.{◌&&◌, ◌==◌, cond, Option, Some, None}
 use Rattle.std.proofs.lemmas.Bool.{cases_eq}
 use mathlib.Core.Path.{fun_ext}
 use Rattle.map_history.specs.declared.op.Op.{Op}
@@ -96,13 +96,11 @@ module _ (m : Meaning) (laws : Laws m) (layout : Layout) (limits : IsWithinLimit
       let value : value_of (cells l) ≡ 0 = ap (λ n. value_of (cells n)) e ∙ (ap value_of ok.1 ∙ free_value word ok.2.free) in
       absurd (let f : suc d' ≡ 0 = sym named ∙ value in omega arith)
 
-  -- an entered runner publishes a section of an operation within the limits that fits what it has read, with a word that it has read in
-  -- the outer lock
+  -- an entered runner publishes a section of an operation within the limits that fits what it has read
   pub publish_lawful : reader r ≡ Some readings → IsAllowed op → m.fits layout op readings thunk ≡ true → lock ≡ thunk.lock
       → word ≡ thunk.word
-      → (i : ℕ) → slice_get readings i ≡ Some (thunk.lock, thunk.word)
       → Lawful m laws layout limits p' epoch status reader (upd cells lock (held_word d word)) more
-  publish_lawful reads allowed fits same_lock same_word i read =
+  publish_lawful reads allowed fits same_lock same_word =
       with_sections m laws layout limits p' epoch status reader (upd cells lock (held_word d word)) more
       (upd all d (Some (opened op thunk readings))) sections_publish
       ((moves m laws layout limits).lock (scene m laws layout limits p epoch status reader cells
@@ -112,7 +110,6 @@ module _ (m : Meaning) (laws : Laws m) (layout : Layout) (limits : IsWithinLimit
       (record {
         allowed = allowed;
         fits = fits;
-        read = (i, read);
         free = ap is_free (sym same_word) ∙ ok.2.free;
         unspent = ap (is_spent layout.version_max) (sym same_word) ∙ ok.2.unspent;
         found = ap cells (sym same_lock) ∙ (ok.1 ∙ same_word);

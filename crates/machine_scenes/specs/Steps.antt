@@ -1,5 +1,5 @@
 -- The steps of the joined states: an event of agreement, one of epochs and slots, or one of both at once.
-use Rattle.std.specs.Prelude.{ℕ, suc, ◌<◌, ◌≡◌, ◌≢◌, ◌⊎◌, Bool, true, false, [], ◌∷◌, ◌++◌, Some, slice_get}
+use Rattle.std.specs.Prelude.{ℕ, suc, ◌<◌, ◌≡◌, ◌≢◌, ◌⊎◌, Bool, true, false, [], ◌∷◌, ◌++◌}
 use Rattle.map_history.specs.declared.op.Op.{Op}
 use Rattle.section_body.specs.Update.{upd}
 use Rattle.section_body.specs.Word.{value_of}
@@ -86,14 +86,12 @@ module _ (m : Meaning) (layout : Layout) (c : Counts) where
     pub loadable : IsLoadable m (j.walk r) place
     pub holds : (t : ℕ) → t < c.nodes → MeetsBy j place t → j.epochs.holds r t ≡ true
 
-  -- an entered runner may publish a section: its operation is within the limits, its thunk fits what the runner has read, which has the
-  -- outer lock's word
+  -- an entered runner may publish a section: its operation is within the limits, and its thunk fits what the runner has read
   pub record MayPublish (j : States) (r d lock word request : ℕ) (code : ℕ → Micro) (slot : ℕ → ℕ) (op : Op) (thunk : Thunk) : Type 0 where
     pub enabled : agreement_events.Enabled (rules_of m layout) j.agreement (agreement_events.Publish d lock word request code slot)
     pub entered : is_entered (j.epochs.stage r) ≡ true
     pub allowed : IsAllowed op
     pub fits : m.fits layout op (j.walk r) thunk ≡ true
-    pub read : (i : ℕ) × (slice_get (j.walk r) i ≡ Some (thunk.lock, thunk.word))
     pub of_thunk : IsOfThunk m (published j.agreement d lock word request code slot) thunk
 
   -- a Make's slot is in the hand, and each of its cells holds what the Make's private store there writes

@@ -1,6 +1,6 @@
 -- Every kind of step keeps the join.
 use Rattle.std.specs.Prelude.{◌==◌, Bool, true, false, nat_lt, if◌then◌else◌}
-use Rattle.std.proofs.Common.{◌≡◌, ◌≢◌, ℕ, ◌<◌, List, length, refl, sym, ap, ◌∙◌, subst, arith, Option, Some, None}
+use Rattle.std.proofs.Common.{◌≡◌, ◌≢◌, ℕ, ◌<◌, List, [], length, refl, sym, ap, ◌∙◌, subst, arith, Option, Some, None}
 use Rattle.std.proofs.lemmas.Bool.Decides.{nat_tests}
 use Rattle.map_history.specs.declared.op.Request.{Request}
 use Rattle.table_words.specs.declared.layout.Layout.{Layout}
@@ -21,16 +21,18 @@ use Rattle.runner_steps.specs.AfterInRun.{opened_more}
 use Rattle.runner_steps.specs.Asks.{outside_ask, line_ask, opening_ask, ask_by, asks}
 use Rattle.runner_steps.specs.After.{after, after_by, line_after, leaves, knows_also, joins as joins_after}
 use Rattle.agreement_core.specs.State.{AgreementState}
+use Rattle.agreement_core.specs.Events.{Event}
 use Rattle.machine_states.specs.Sight.{Sight, sight_after, Steps}
 use Rattle.machine_states.proofs.Sights.{if_some, some_none, unless_gone, joins}
 use Rattle.machine_states.proofs.Updates.{upd_else}
 use Rattle.machine_joins.proofs.OutsideAsked as asked_outside
 use Rattle.machine_sections.specs.Joined.{IsJoined}
 use Rattle.machine_sections.specs.Supplied.{IsSupplied}
+use Rattle.machine_sections.specs.Chunks.{IsLineChunk, IsInsideChunk, IsChunk}
 use Rattle.machine_sections.specs.Goes.{Goes}
-use Rattle.machine_sections.proofs.Assembly.{leads_more}
+use Rattle.machine_sections.proofs.Assembly.{leads_alone}
 use Rattle.machine_sections.proofs.LineKinds.{noting, noted_finished}
-use Rattle.machine_sections.proofs.Outside.{after_outside, load_same, quiet_goes}
+use Rattle.machine_sections.proofs.Outside.{after_outside, lead_none, load_same, quiet_joined}
 use Rattle.machine_sections.proofs.Descriptors as descriptors
 use Rattle.machine_sections.proofs.LineAsked as asked
 use Rattle.machine_sections.proofs.Loads as loads
@@ -48,14 +50,23 @@ module _ (m : Meaning) (l : Layout) (rs : List Request) (w : AgreementState) (s 
   abbrev p : PartState
   p = s.part r
 
+  -- the step leads to a joined state, by the events of its kind
   abbrev To : EventKind → Spot × Access → Type 0
-  To kind x = Goes m l w (sight_after m l s r kind x)
+  To kind x = (heads : List Event) × IsChunk m l w r kind p p.run (s.word x.0) heads × Goes m l r heads w (sight_after m l s r kind x)
 
   -- the steps of a run
   module _ (q : RunState) (at : p.run ≡ Some q) where
-    line_goes : (kind : EventKind) (x : Spot × Access) → is_open_run q ≡ true → IsSupplied m l w s r kind (s.word x.0) → asks m l rs r kind p ≡ Some x → line_ask m l kind p.nodes.free q (next_of m q) ≡ Some x → To kind x
+    -- the same in the words of its line
+    abbrev LineTo : EventKind → Spot × Access → Type 0
+    LineTo kind x = (heads : List Event) × IsLineChunk m l w r kind q (s.word x.0) heads × Goes m l r heads w (sight_after m l s r kind x)
+
+    inside_to : (kind : EventKind) (x : Spot × Access) (b : Bool) (heads : List Event) → is_open_run q ≡ b → IsInsideChunk m l w r b kind q (s.word x.0) heads → Goes m l r heads w (sight_after m l s r kind x) → To kind x
+    inside_to kind x b heads is chunk goes =
+        (heads, subst (λ o. IsChunk m l w r kind p o (s.word x.0) heads) (sym at) (subst (λ c. IsInsideChunk m l w r c kind q (s.word x.0) heads) (sym is) chunk), goes)
+
+    line_goes : (kind : EventKind) (x : Spot × Access) → is_open_run q ≡ true → IsSupplied m l w s r kind (s.word x.0) → asks m l rs r kind p ≡ Some x → line_ask m l kind p.nodes.free q (next_of m q) ≡ Some x → LineTo kind x
     line_goes kinds.Commit x open_q u e k = loads.commit m l rs w s old r q at open_q x e
-    line_goes (kinds.LoadCell None) x open_q u e k = loads.load_cell m l rs w s old r q at open_q x e (λ place log is. u.alone q place log at is)
+    line_goes (kinds.LoadCell None) x open_q u e k = loads.load_cell m l rs w s old r q at open_q x e (λ place log is. u.alone q place log at open_q is)
     line_goes kinds.ExchangeCell x open_q u e k = stores.exchange_cell m l rs w s old r q at open_q x e
     line_goes (kinds.PrivateLoad slot word) x open_q u e k = stores.private_load m l rs w s old r q at open_q slot word x e
     line_goes (kinds.PrivateStore slot word number) x open_q u e k = stores.private_store m l rs w s old r q at open_q slot word number x e (u.private q slot word number at refl)
@@ -80,7 +91,7 @@ module _ (m : Meaning) (l : Layout) (rs : List Request) (w : AgreementState) (s 
         (ap (λ o. after_by m l kind p o (s.word x.0)) at ∙ ap (λ b. if b then line_after m l kind p q (next_of m q) (s.word x.0) else opened_more p q (s.word x.0)) unopened)
 
     opens : (kind : EventKind) (a : Spot) → length q.opened < 13 → (length q.opened < 12 → s.word a ≡ s.word (spots.ThunkWord q.descriptor (length q.opened)))
-        → Goes m l w (record { word = put s.word a (s.word a); part = upd s.part r (noting l r kind a (s.word a) (opened_more p q (s.word a))) })
+        → Goes m l r [] w (record { word = put s.word a (s.word a); part = upd s.part r (noting l r kind a (s.word a) (opened_more p q (s.word a))) })
     opens kind a few word = descriptors.run_opens m l w s old r q (s.word a) _ at few word refl refl (noted_finished l r kind a (s.word a) p.records) refl (put s.word a (s.word a)) (load_same m l s.word a)
 
     less : (a b : ℕ) → nat_lt a b ≡ true → a < b
@@ -93,24 +104,28 @@ module _ (m : Meaning) (l : Layout) (rs : List Request) (w : AgreementState) (s 
     opening_goes (kinds.LoadThunk None) x unopened j e =
         let h = if_some _ _ x e in let few = less (length q.opened) 12 h.0 in
         subst (To (kinds.LoadThunk None)) h.1
-        (subst (λ (y : PartState). Goes m l w (record { word = put s.word (spots.ThunkWord q.descriptor (length q.opened)) (s.word (spots.ThunkWord q.descriptor (length q.opened))); part = upd s.part r y }))
-        (sym (after_opening (kinds.LoadThunk None) (spots.ThunkWord q.descriptor (length q.opened), Loads) unopened)) (opens (kinds.LoadThunk None) (spots.ThunkWord q.descriptor (length q.opened)) (omega arith) (λ low. refl)))
+        (inside_to (kinds.LoadThunk None) (spots.ThunkWord q.descriptor (length q.opened), Loads) false [] unopened refl (subst (λ (y : PartState). Goes m l r [] w (record { word = put s.word (spots.ThunkWord q.descriptor (length q.opened)) (s.word (spots.ThunkWord q.descriptor (length q.opened))); part = upd s.part r y }))
+        (sym (after_opening (kinds.LoadThunk None) (spots.ThunkWord q.descriptor (length q.opened), Loads) unopened)) (opens (kinds.LoadThunk None) (spots.ThunkWord q.descriptor (length q.opened)) (omega arith) (λ low. refl))))
     opening_goes kinds.LoadDone x unopened j e =
         let h = if_some _ _ x e in let twelve = equal (length q.opened) 12 h.0 in
         subst (To kinds.LoadDone) h.1
-        (subst (λ (y : PartState). Goes m l w (record { word = put s.word (spots.DoneWord q.descriptor) (s.word (spots.DoneWord q.descriptor)); part = upd s.part r y }))
-        (sym (after_opening kinds.LoadDone (spots.DoneWord q.descriptor, Loads) unopened)) (opens kinds.LoadDone (spots.DoneWord q.descriptor) (omega arith) (λ low. absurd (omega arith))))
+        (inside_to kinds.LoadDone (spots.DoneWord q.descriptor, Loads) false [] unopened refl (subst (λ (y : PartState). Goes m l r [] w (record { word = put s.word (spots.DoneWord q.descriptor) (s.word (spots.DoneWord q.descriptor)); part = upd s.part r y }))
+        (sym (after_opening kinds.LoadDone (spots.DoneWord q.descriptor, Loads) unopened)) (opens kinds.LoadDone (spots.DoneWord q.descriptor) (omega arith) (λ low. absurd (omega arith)))))
     opening_goes _ x unopened j e = some_none x e
 
     inside_goes : (kind : EventKind) (x : Spot × Access) (b : Bool) → is_open_run q ≡ b → is_join kind ≡ false → IsSupplied m l w s r kind (s.word x.0) → asks m l rs r kind p ≡ Some x → To kind x
-    inside_goes kind x true is j u e = line_goes kind x is u e (asked.line_asked m l rs r kind p q x e at is)
+    inside_goes kind x true is j u e = let to = line_goes kind x is u e (asked.line_asked m l rs r kind p q x e at is) in inside_to kind x true to.0 is to.1 to.2
     inside_goes kind x false is j u e = opening_goes kind x is j (ap (λ b. if b then line_ask m l kind p.nodes.free q (next_of m q) else opening_ask kind q) (sym is) ∙ asked.inside_asked m l rs r kind p q x e at)
 
   -- the steps of a runner in no run
   module _ (none : p.run ≡ None) where
     outside_to : (kind : EventKind) (x : Spot × Access) → is_join kind ≡ false → outside.To m l rs w s old r none kind x → To kind x
-    outside_to (kinds.Join worker) x j goes = absurd (let y = j in cc)
-    outside_to kind x j goes = subst (λ (y : PartState). Goes m l w (record { word = put s.word x.0 (written x.1 (s.word x.0)); part = upd s.part r y })) (sym (after_outside m l r kind x p (s.word x.0) none)) goes
+    outside_to (kinds.Join worker) x j to = absurd (let y = j in cc)
+    outside_to kind x j to = (
+      to.0,
+      subst (λ o. IsChunk m l w r kind p o (s.word x.0) to.0) (sym none) to.1,
+      subst (λ (y : PartState). Goes m l r to.0 w (record { word = put s.word x.0 (written x.1 (s.word x.0)); part = upd s.part r y })) (sym (after_outside m l r kind x p (s.word x.0) none)) to.2,
+    )
 
     outside_goes : (kind : EventKind) (x : Spot × Access) → is_join kind ≡ false → IsSupplied m l w s r kind (s.word x.0) → outside_ask m l rs r kind p ≡ Some x → outside.To m l rs w s old r none kind x
     outside_goes kinds.EnterLoad x j u e = outside.enter_load m l rs w s old r none x e
@@ -144,7 +159,7 @@ module _ (m : Meaning) (l : Layout) (rs : List Request) (w : AgreementState) (s 
             let p1 = after m l r (kinds.Join worker) spots.Seat Loads p (s.word spots.Seat) in
             let known = knows_also p1 (s.part worker) in
             let same : p1 ≡ noting l r (kinds.Join worker) spots.Seat (s.word spots.Seat) (joins_after p worker) = after_outside m l r (kinds.Join worker) (spots.Seat, Loads) p (s.word spots.Seat) none in
-            let one = quiet_goes m l w s old r word' known (load_same m l s.word spots.Seat)
+            let one = quiet_joined m l w s old r word' known (load_same m l s.word spots.Seat)
             (record {
               run = ap (λ (y : PartState). y.run) same;
               published = λ y e. ap (λ (z : PartState). z.published) (sym same) ∙ e;
@@ -153,7 +168,7 @@ module _ (m : Meaning) (l : Layout) (rs : List Request) (w : AgreementState) (s 
             }) in
             let s1 : Sight = record { word = word'; part = upd s.part r known } in
             let here : upd s.part r known worker ≡ s.part worker = upd_else s.part r known worker other in
-            let two = quiet_goes m l one.next s1 one.joined worker word' (leaves (s.part worker))
+            let two = quiet_joined m l w s1 one worker word' (leaves (s.part worker))
             (record { cells = λ i. refl; clock = refl; stamp = λ i. refl; reply = λ i. refl; thunks = λ d j. refl; done = λ d. refl; log = λ d k. refl })
             (record {
               run = ap (λ (y : PartState). y.run) (sym here);
@@ -161,7 +176,7 @@ module _ (m : Meaning) (l : Layout) (rs : List Request) (w : AgreementState) (s 
               finished = ap (λ (y : PartState). y.records.finished) (sym here);
               read = λ a b e. subst (λ (z : PartState). has_pair z.reads.cells a b ≡ true) (sym here) e;
             }) in
-            record { next = two.next; leads = leads_more m l w one.next two.next one.leads two.leads; joined = two.joined }
+            ([], subst (λ o. IsChunk m l w r (kinds.Join worker) p o (s.word spots.Seat) []) (sym none) refl, record { next = w; leads = leads_alone m l r [] w w (lead_none m l w); joined = two })
 
   -- the step by whether the runner is in a run
   by_run : (kind : EventKind) (x : Spot × Access) → is_join kind ≡ false → IsSupplied m l w s r kind (s.word x.0) → asks m l rs r kind p ≡ Some x → (o : Option RunState) → p.run ≡ o → To kind x
@@ -182,6 +197,7 @@ module _ (m : Meaning) (l : Layout) (rs : List Request) (w : AgreementState) (s 
       join_by worker x (λ same. let keeper = who.0 in let low = who.1 in absurd (omega arith)) p.run refl (unless_gone _ p.gone _ x e).1
   to_any kind x u e = by_run kind x refl u e p.run refl
 
-  -- a step of the machine that is supplied leads to a joined state, by events of the component
-  pub step_goes : (s' : Sight) (kind : EventKind) (step : Steps m l rs s s' r kind) → IsSupplied m l w s r kind (s.word (step.ask.0)) → Goes m l w s'
-  step_goes s' kind step u = subst (Goes m l w) (sym step.next) (to_any kind step.ask u step.asked)
+  -- a step of the machine that is supplied leads to a joined state, by the events of its kind
+  pub step_goes : (s' : Sight) (kind : EventKind) (step : Steps m l rs s s' r kind) → IsSupplied m l w s r kind (s.word (step.ask.0))
+      → (heads : List Event) × IsChunk m l w r kind p p.run (s.word (step.ask.0)) heads × Goes m l r heads w s'
+  step_goes s' kind step u = let to = to_any kind step.ask u step.asked in (to.0, to.1, subst (Goes m l r to.0 w) (sym step.next) to.2)

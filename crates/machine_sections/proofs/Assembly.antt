@@ -1,6 +1,7 @@
 -- An event of a run's line, and the checks behind it, lead from a joined state to a joined one.
 use Rattle.std.specs.Prelude.{Bool, true, replicate}
 use Rattle.std.proofs.Common.{◌≡◌, ◌≢◌, ℕ, List, [], ◌∷◌, ◌++◌, length, sym, refl, ap, ◌∙◌, subst, Some}
+use Rattle.std.proofs.lemmas.List.{append-nil}
 use Rattle.section_body.specs.declared.micro.Micro.{Micro}
 use Rattle.section_body.specs.Line.{line, micro_at}
 use Rattle.table_words.specs.declared.layout.Layout.{Layout}
@@ -47,15 +48,27 @@ module _ (m : Meaning) (l : Layout) where
   abbrev c : CellRules
   c = rules_of m l
 
-  pub leads_more : (w w' w'' : AgreementState) → Leads m l w w' → Leads m l w' w'' → Leads m l w w''
-  leads_more w w' w'' one two = record {
-    events = one.events ++ two.events;
-    enabled = enabled_append c w one.events two.events one.enabled (subst (λ x. AllEnabled c x two.events) (sym one.there) two.enabled);
-    there = after_append c w one.events two.events ∙ (ap (λ x. after_all c x two.events) one.there ∙ two.there);
+  -- these events, each enabled where it comes, lead from the one state to the other
+  pub record LeadBy (es : List Event) (w w' : AgreementState) : Type 0 where
+    pub enabled : AllEnabled c w es
+    pub there : after_all c w es ≡ w'
+
+  pub lead_more : (front back : List Event) (w w' w'' : AgreementState) → LeadBy front w w' → LeadBy back w' w'' → LeadBy (front ++ back) w w''
+  lead_more front back w w' w'' one two = record {
+    enabled = enabled_append c w front back one.enabled (subst (λ x. AllEnabled c x back) (sym one.there) two.enabled);
+    there = after_append c w front back ∙ (ap (λ x. after_all c x back) one.there ∙ two.there);
   }
 
-  pub leads_sound : (w w' : AgreementState) → Leads m l w w' → IsSound c w → IsSound c w'
-  leads_sound w w' leads old = subst (IsSound c) leads.there (keeps_all c w leads.events leads.enabled old)
+  pub lead_sound : (es : List Event) (w w' : AgreementState) → LeadBy es w w' → IsSound c w → IsSound c w'
+  lead_sound es w w' leads old = subst (IsSound c) leads.there (keeps_all c w es leads.enabled old)
+
+  -- no check passes behind them
+  pub leads_alone : (r : ℕ) (heads : List Event) (w w' : AgreementState) → LeadBy heads w w' → Leads m l r heads w w'
+  leads_alone r heads w w' leads = record {
+    passes = 0;
+    enabled = subst (AllEnabled c w) (sym (append-nil heads)) leads.enabled;
+    there = ap (after_all c w) (append-nil heads) ∙ leads.there;
+  }
 
   pub own_more : (w w' w'' : AgreementState) (r n : ℕ) → IsOwnStep w w' r → IsFurther w' w'' r n → IsOwnStep w w'' r
   own_more w w' w'' r n one two = record {
@@ -75,28 +88,29 @@ module _ (m : Meaning) (l : Layout) where
     seen = λ p word is. ap (λ (x : Shared). x.seen p word) two.shared ∙ one.seen p word is;
   }
 
-  -- an event of an open run, which leads the component from w to w1
-  pub line_goes : (w w1 : AgreementState) (s : Sight) (r : ℕ) (q q1 : RunState) (word' : Spot → ℕ) (p' : PartState)
+  -- the events of a step of an open run, which lead the component from w to w1
+  pub line_goes : (heads : List Event) (w w1 : AgreementState) (s : Sight) (r : ℕ) (q q1 : RunState) (word' : Spot → ℕ) (p' : PartState)
       → IsJoined m l w s → (s.part r).run ≡ Some q → length q.opened ≡ 13
-      → Leads m l w w1 → IsOwnStep w w1 r → IsRunOf (w1.run r) q1 → q1.ended ≡ 0 → q1.descriptor ≡ q.descriptor → q1.opened ≡ q.opened
+      → LeadBy heads w w1 → IsOwnStep w w1 r → IsRunOf (w1.run r) q1 → q1.ended ≡ 0 → q1.descriptor ≡ q.descriptor → q1.opened ≡ q.opened
       → ((i : ℕ) → (w.section q.descriptor).code i ≡ micro_at (line_of m q) i)
       → IsOwnPart m l (s.part r) p' q1
       → ShowsWords w1.shared word' → ((d : ℕ) → ShowsSection (w1.section d) word' d) → ThunksStay s.word word'
       → ((place found : ℕ) → has_pair p'.reads.cells place found ≡ true → w1.shared.seen place found ≡ true)
-      → Goes m l w (record { word = word'; part = upd s.part r p' })
-  line_goes w w1 s r q q1 word' p' old is all leads step run1 going descriptor opened code own words sections thunks read =
+      → Goes m l r heads w (record { word = word'; part = upd s.part r p' })
+  line_goes heads w w1 s r q q1 word' p' old is all leads step run1 going descriptor opened code own words sections thunks read =
       let code1 : (i : ℕ) → (w1.section q1.descriptor).code i ≡ micro_at (line_of m q1) i = λ i.
       ap (λ d. (w1.section d).code i) descriptor ∙ (ap (λ (f : ℕ → Micro). f i) (step.text q.descriptor).code ∙ (code i ∙ ap (λ xs. micro_at (line (m.body (thunk_of xs))) i) (sym opened))) in
       let behind = goes m l q1 w1 r run1 going code1 in
-      let w2 = after_all c w1 (replicate (checks_ahead m l q1) (Pass r)) in
-      let leads2 = leads_more w w1 w2 leads (record { events = replicate (checks_ahead m l q1) (Pass r); enabled = behind.enabled; there = refl }) in
+      let passes = replicate (checks_ahead m l q1) (Pass r) in
+      let w2 = after_all c w1 passes in
+      let leads2 = lead_more heads passes w w1 w2 leads (record { enabled = behind.enabled; there = refl }) in
       let further = behind.further in
       let step2 = own_more w w1 w2 r (checks_ahead m l q1) step further in
       record {
         next = w2;
-        leads = leads2;
+        leads = record { passes = checks_ahead m l q1; enabled = leads2.enabled; there = leads2.there };
         joined = record {
-          sound = leads_sound w w2 leads2 old.sound;
+          sound = lead_sound (heads ++ passes) w w2 leads2 old.sound;
           words = subst (λ (x : Shared). ShowsWords x word') (sym further.shared) words;
           sections = λ d. let same = further.sections d in record {
             log = λ k. ap (λ (x : Section). x.log k) same ∙ (sections d).log k;
@@ -120,22 +134,24 @@ module _ (m : Meaning) (l : Layout) where
     pub over : (d : ℕ) → w.over d ≡ true → w'.over d ≡ true
     pub seen : (p word : ℕ) → w.shared.seen p word ≡ true → w'.shared.seen p word ≡ true
 
-  -- an event of a runner, which leads the component from w to w1
-  pub plain_goes : (w w1 : AgreementState) (s : Sight) (r : ℕ) (word' : Spot → ℕ) (p' : PartState) → IsJoined m l w s → Leads m l w w1 → IsOtherStep w w1 r
+  -- the events of a runner's step, which lead the component from w to w1
+  pub plain_joined : (heads : List Event) (w w1 : AgreementState) (s : Sight) (r : ℕ) (word' : Spot → ℕ) (p' : PartState) → IsJoined m l w s → LeadBy heads w w1 → IsOtherStep w w1 r
       → ShowsWords w1.shared word' → ((d : ℕ) → ShowsSection (w1.section d) word' d) → ((d : ℕ) → w1.used d ≡ true → IsOfThunk m (w1.section d) (thunk_in word' d)) → ThunksStay s.word word'
-      → IsTied m l w1 word' r p' → Goes m l w (record { word = word'; part = upd s.part r p' })
-  plain_goes w w1 s r word' p' old leads step words sections thunks stay own = record {
-    next = w1;
-    leads = leads;
-    joined = record {
-      sound = leads_sound w w1 leads old.sound;
-      words = words;
-      sections = sections;
-      thunks = thunks;
-      tied = upd_split s.part r p' (λ i p. IsTied m l w1 word' i p) own
-          (λ i ne. tied_stays m l w w1 s.word word' i (s.part i) (step.others i ne) (step.finishes i ne) (λ k. step.finished i k ne) step.over step.seen stay (old.tied i));
-    };
+      → IsTied m l w1 word' r p' → IsJoined m l w1 (record { word = word'; part = upd s.part r p' })
+  plain_joined heads w w1 s r word' p' old leads step words sections thunks stay own = record {
+    sound = lead_sound heads w w1 leads old.sound;
+    words = words;
+    sections = sections;
+    thunks = thunks;
+    tied = upd_split s.part r p' (λ i p. IsTied m l w1 word' i p) own
+        (λ i ne. tied_stays m l w w1 s.word word' i (s.part i) (step.others i ne) (step.finishes i ne) (λ k. step.finished i k ne) step.over step.seen stay (old.tied i));
   }
+
+  pub plain_goes : (heads : List Event) (w w1 : AgreementState) (s : Sight) (r : ℕ) (word' : Spot → ℕ) (p' : PartState) → IsJoined m l w s → LeadBy heads w w1 → IsOtherStep w w1 r
+      → ShowsWords w1.shared word' → ((d : ℕ) → ShowsSection (w1.section d) word' d) → ((d : ℕ) → w1.used d ≡ true → IsOfThunk m (w1.section d) (thunk_in word' d)) → ThunksStay s.word word'
+      → IsTied m l w1 word' r p' → Goes m l r heads w (record { word = word'; part = upd s.part r p' })
+  plain_goes heads w w1 s r word' p' old leads step words sections thunks stay own =
+      record { next = w1; leads = leads_alone r heads w w1 leads; joined = plain_joined heads w w1 s r word' p' old leads step words sections thunks stay own }
 
   -- the thunks of sections whose descriptions are as before
   pub thunks_kept : (w w1 : AgreementState) (s : Sight) (word' : Spot → ℕ) → IsJoined m l w s → w1.used ≡ w.used → ((d : ℕ) → HasSameText (w1.section d) (w.section d)) → ThunksStay s.word word'

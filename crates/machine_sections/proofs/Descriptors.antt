@@ -31,9 +31,10 @@ use Rattle.machine_sections.specs.Joined.{has_released, IsRunOf, ShowsRun, IsFin
 use Rattle.machine_sections.proofs.Passes.{settled_here}
 use Rattle.machine_sections.proofs.Frames.{HasSameText}
 use Rattle.machine_sections.proofs.Components.{reads_own, reads_more}
-use Rattle.machine_sections.specs.Goes.{Leads, Goes}
-use Rattle.machine_sections.proofs.Assembly.{ThunksStay, same_thunk_in, plain_goes, thunks_kept, leads_sound}
-use Rattle.machine_sections.proofs.Outside.{SameWords}
+use Rattle.machine_sections.specs.Chunks.{publication}
+use Rattle.machine_sections.specs.Goes.{Goes}
+use Rattle.machine_sections.proofs.Assembly.{LeadBy, ThunksStay, same_thunk_in, leads_alone, plain_goes, thunks_kept, lead_sound}
+use Rattle.machine_sections.proofs.Outside.{SameWords, lead_none}
 use Rattle.machine_sections.proofs.RunPlaces as places
 
 module _ (m : Meaning) (l : Layout) (w : AgreementState) (s : Sight) (old : IsJoined m l w s) (r : ℕ) where
@@ -68,13 +69,13 @@ module _ (m : Meaning) (l : Layout) (w : AgreementState) (s : Sight) (old : IsJo
 
   -- a private store into a thunk word of an unpublished descriptor
   pub thunk_stored : (d j number : ℕ) (p' : PartState) → w.used d ≡ false → p'.run ≡ (s.part r).run → p'.published ≡ (s.part r).published → p'.records.finished ≡ (s.part r).records.finished → p'.reads ≡ (s.part r).reads
-      → Goes m l w (record { word = put s.word (spots.ThunkWord d j) number; part = table.upd s.part r p' })
+      → Goes m l r [] w (record { word = put s.word (spots.ThunkWord d j) number; part = table.upd s.part r p' })
   thunk_stored d j number p' unused run published records reads_same =
       let word' = put s.word (spots.ThunkWord d j) number in
       let other : (d' j' : ℕ) → d' ≢ d → word' (spots.ThunkWord d' j') ≡ s.word (spots.ThunkWord d' j') = λ d' j' ne. ap (λ b. cond b (cond (j' == j) number (s.word (spots.ThunkWord d' j'))) (s.word (spots.ThunkWord d' j'))) (else_test d' d ne) in
       record {
         next = w;
-        leads = record { events = []; enabled = tt; there = refl };
+        leads = leads_alone m l r [] w w (lead_none m l w);
         joined = record {
           sound = old.sound;
           words = (let x = old.words in record { cells = x.cells; clock = x.clock; stamp = x.stamp; reply = x.reply });
@@ -94,15 +95,15 @@ module _ (m : Meaning) (l : Layout) (w : AgreementState) (s : Sight) (old : IsJo
       same_thunk_at word' k same = λ i. let v : ℕ → ℕ = λ j. same j i in thunk_of (v 0 ∷ v 1 ∷ v 2 ∷ v 3 ∷ v 4 ∷ v 5 ∷ v 6 ∷ v 7 ∷ v 8 ∷ v 9 ∷ v 10 ∷ v 11 ∷ [])
 
   -- what a step needs that changes a descriptor's words or its place alone
-  changed_goes : (w1 : AgreementState) (word' : Spot → ℕ) (p' : PartState) → Leads m l w w1 → w1.run ≡ w.run → w1.finishes ≡ w.finishes → w1.finished ≡ w.finished → w1.over ≡ w.over → w1.shared ≡ w.shared
+  changed_goes : (heads : List events.Event) (w1 : AgreementState) (word' : Spot → ℕ) (p' : PartState) → LeadBy m l heads w w1 → w1.run ≡ w.run → w1.finishes ≡ w.finishes → w1.finished ≡ w.finished → w1.over ≡ w.over → w1.shared ≡ w.shared
       → p'.run ≡ (s.part r).run → ((x : Published) → p'.published ≡ Some x → x.over ≡ true → (s.part r).published ≡ Some x) → p'.records.finished ≡ (s.part r).records.finished → p'.reads ≡ (s.part r).reads
       → ShowsWords w.shared word' → ((d : ℕ) → ShowsSection (w1.section d) word' d) → ((d : ℕ) → w1.used d ≡ true → IsOfThunk m (w1.section d) (thunk_in word' d)) → ThunksStay s.word word'
-      → Goes m l w (record { word = word'; part = table.upd s.part r p' })
-  changed_goes w1 word' p' leads run finishes finished over shared runs published records reads_same words sections thunks stay = record {
+      → Goes m l r heads w (record { word = word'; part = table.upd s.part r p' })
+  changed_goes heads w1 word' p' leads run finishes finished over shared runs published records reads_same words sections thunks stay = record {
     next = w1;
-    leads = leads;
+    leads = leads_alone m l r heads w w1 leads;
     joined = record {
-      sound = leads_sound m l w w1 leads old.sound;
+      sound = lead_sound m l heads w w1 leads old.sound;
       words = subst (λ (x : Shared). ShowsWords x word') (sym shared) words;
       sections = sections;
       thunks = thunks;
@@ -116,10 +117,10 @@ module _ (m : Meaning) (l : Layout) (w : AgreementState) (s : Sight) (old : IsJo
 
   -- private stores into the done word and into the log of an unpublished descriptor
   pub done_stored : (d number : ℕ) (p' : PartState) → w.used d ≡ false → p'.run ≡ (s.part r).run → p'.published ≡ (s.part r).published → p'.records.finished ≡ (s.part r).records.finished → p'.reads ≡ (s.part r).reads
-      → Goes m l w (record { word = put s.word (spots.DoneWord d) number; part = table.upd s.part r p' })
+      → Goes m l r (events.StoreDone d number ∷ []) w (record { word = put s.word (spots.DoneWord d) number; part = table.upd s.part r p' })
   done_stored d number p' unused run published records reads_same =
       let w1 = events.after w (events.StoreDone d number) in
-      changed_goes w1 (put s.word (spots.DoneWord d) number) p' (record { events = events.StoreDone d number ∷ []; enabled = (unused, tt); there = refl }) refl refl refl refl refl
+      changed_goes (events.StoreDone d number ∷ []) w1 (put s.word (spots.DoneWord d) number) p' (record { enabled = (unused, tt); there = refl }) refl refl refl refl refl
       run (λ x e done. sym published ∙ e) records reads_same (let x = old.words in record { cells = x.cells; clock = x.clock; stamp = x.stamp; reply = x.reply })
       (upd_split w.section d (record (w.section d) { done = number }) (λ i y. ShowsSection y (put s.word (spots.DoneWord d) number) i)
       (record { log = (old.sections d).log; done = sym (ap (λ b. cond b number (s.word (spots.DoneWord d))) (at d)) })
@@ -135,11 +136,11 @@ module _ (m : Meaning) (l : Layout) (w : AgreementState) (s : Sight) (old : IsJo
       other i n ne = grind (arith, nat_tests)
 
   pub log_stored : (d k number : ℕ) (p' : PartState) → w.used d ≡ false → p'.run ≡ (s.part r).run → p'.published ≡ (s.part r).published → p'.records.finished ≡ (s.part r).records.finished → p'.reads ≡ (s.part r).reads
-      → Goes m l w (record { word = put s.word (spots.LogWord d k) number; part = table.upd s.part r p' })
+      → Goes m l r (events.StoreLog d k number ∷ []) w (record { word = put s.word (spots.LogWord d k) number; part = table.upd s.part r p' })
   log_stored d k number p' unused run published records reads_same =
       let w1 = events.after w (events.StoreLog d k number) in
       let x1 : Section = record (w.section d) { log = upd ((w.section d).log) k number } in
-      changed_goes w1 (put s.word (spots.LogWord d k) number) p' (record { events = events.StoreLog d k number ∷ []; enabled = (unused, tt); there = refl }) refl refl refl refl refl
+      changed_goes (events.StoreLog d k number ∷ []) w1 (put s.word (spots.LogWord d k) number) p' (record { enabled = (unused, tt); there = refl }) refl refl refl refl refl
       run (λ x e done. sym published ∙ e) records reads_same (let x = old.words in record { cells = x.cells; clock = x.clock; stamp = x.stamp; reply = x.reply })
       (upd_split w.section d x1 (λ i y. ShowsSection y (put s.word (spots.LogWord d k) number) i)
       (record { done = (old.sections d).done; log = λ j. ap (cond (j == k) number) ((old.sections d).log j) ∙ sym (ap (λ b. cond b (cond (j == k) number (s.word (spots.LogWord d j))) (s.word (spots.LogWord d j))) (at d)) })
@@ -156,10 +157,10 @@ module _ (m : Meaning) (l : Layout) (w : AgreementState) (s : Sight) (old : IsJo
 
   -- the published descriptor is retired
   pub retired : (d : ℕ) (p' : PartState) (word' : Spot → ℕ) → SameWords m l s.word word' → w.live d ≡ true → w.over d ≡ true → p'.run ≡ (s.part r).run → p'.published ≡ None → p'.records.finished ≡ (s.part r).records.finished
-      → p'.reads ≡ (s.part r).reads → Goes m l w (record { word = word'; part = table.upd s.part r p' })
+      → p'.reads ≡ (s.part r).reads → Goes m l r (events.RetireDescriptor d ∷ []) w (record { word = word'; part = table.upd s.part r p' })
   retired d p' word' words live over run published records reads_same =
       let w1 = events.after w (events.RetireDescriptor d) in
-      changed_goes w1 word' p' (record { events = events.RetireDescriptor d ∷ []; enabled = ((live, over), tt); there = refl }) refl refl refl refl refl
+      changed_goes (events.RetireDescriptor d ∷ []) w1 word' p' (record { enabled = ((live, over), tt); there = refl }) refl refl refl refl refl
       run (λ x e done. absurd (let none = sym published ∙ e in cc)) records reads_same (shows word' words) (λ i. shown word' words i)
       (thunks_kept m l w w1 s word' old refl (λ i. record { lock = refl; word = refl; request = refl; code = refl; slot = refl }) words.thunks) words.thunks
     where
@@ -171,13 +172,13 @@ module _ (m : Meaning) (l : Layout) (w : AgreementState) (s : Sight) (old : IsJo
 
   -- a run begins with the first word of a published descriptor
   pub run_begins : (d : ℕ) (p' : PartState) → (s.part r).run ≡ None → w.used d ≡ true → p'.run ≡ Some (opened d (s.word (spots.ThunkWord d 0))) → p'.published ≡ (s.part r).published
-      → p'.records.finished ≡ (s.part r).records.finished → p'.reads ≡ (s.part r).reads → (word' : Spot → ℕ) → SameWords m l s.word word' → Goes m l w (record { word = word'; part = table.upd s.part r p' })
+      → p'.records.finished ≡ (s.part r).records.finished → p'.reads ≡ (s.part r).reads → (word' : Spot → ℕ) → SameWords m l s.word word' → Goes m l r (events.Open r d ∷ []) w (record { word = word'; part = table.upd s.part r p' })
   run_begins d p' none used run published records reads_same word' words =
       let w1 = events.after w (events.Open r d) in
       let first = opened d (s.word (spots.ThunkWord d 0)) in
       let fresh : w1.run r ≡ begun d = upd_here w.run r (begun d) in
-      plain_goes m l w w1 s r word' p' old
-      (record { events = events.Open r d ∷ []; there = refl; enabled = ((subst (ShowsRun (w.run r)) none (old.tied r).run, used), tt) })
+      plain_goes m l (events.Open r d ∷ []) w w1 s r word' p' old
+      (record { there = refl; enabled = ((subst (ShowsRun (w.run r)) none (old.tied r).run, used), tt) })
       (record { others = λ i ne. upd_else w.run r (begun d) i ne; finishes = λ i ne. refl; finished = λ i k ne. refl; over = λ k e. e; seen = λ a b e. e })
       (let x = old.words in record { cells = λ i. x.cells i ∙ sym (words.cells i); clock = x.clock ∙ sym words.clock; stamp = λ i. x.stamp i ∙ sym (words.stamp i); reply = λ i. x.reply i ∙ sym (words.reply i) })
       (λ i. record { log = λ k. (old.sections i).log k ∙ sym (words.log i k); done = (old.sections i).done ∙ sym (words.done i) })
@@ -207,11 +208,11 @@ module _ (m : Meaning) (l : Layout) (w : AgreementState) (s : Sight) (old : IsJo
   -- a run loads one more of its words
   pub run_opens : (q : RunState) (found : ℕ) (p' : PartState) → (s.part r).run ≡ Some q → length q.opened < 13 → (length q.opened < 12 → found ≡ s.word (spots.ThunkWord q.descriptor (length q.opened)))
       → p'.run ≡ Some (record q { opened = q.opened ++ found ∷ [] }) → p'.published ≡ (s.part r).published → p'.records.finished ≡ (s.part r).records.finished → p'.reads ≡ (s.part r).reads
-      → (word' : Spot → ℕ) → SameWords m l s.word word' → Goes m l w (record { word = word'; part = table.upd s.part r p' })
+      → (word' : Spot → ℕ) → SameWords m l s.word word' → Goes m l r [] w (record { word = word'; part = table.upd s.part r p' })
   run_opens q found p' is low word run published records reads_same word' words =
       let q1 : RunState = record q { opened = q.opened ++ found ∷ [] } in
       let here : IsRunOf (w.run r) q = places.run_here m l w s old r q is in
-      plain_goes m l w w s r word' p' old (record { events = []; enabled = tt; there = refl })
+      plain_goes m l [] w w s r word' p' old (lead_none m l w)
       (record { others = λ i ne. refl; finishes = λ i ne. refl; finished = λ i k ne. refl; over = λ k e. e; seen = λ a b e. e })
       (let x = old.words in record { cells = λ i. x.cells i ∙ sym (words.cells i); clock = x.clock ∙ sym words.clock; stamp = λ i. x.stamp i ∙ sym (words.stamp i); reply = λ i. x.reply i ∙ sym (words.reply i) })
       (λ i. record { log = λ k. (old.sections i).log k ∙ sym (words.log i k); done = (old.sections i).done ∙ sym (words.done i) })
@@ -281,7 +282,7 @@ module _ (m : Meaning) (l : Layout) (w : AgreementState) (s : Sight) (old : IsJo
     word' = put s.word (spots.Cell t.lock) (held_word d t.word)
 
     abbrev publish : events.Event
-    publish = events.Publish d t.lock t.word t.request (micro_at (line (m.body t))) (committed (line (m.body t)))
+    publish = publication m d t
 
     abbrev w0 : AgreementState
     w0 = reads w t.lock
@@ -292,9 +293,8 @@ module _ (m : Meaning) (l : Layout) (w : AgreementState) (s : Sight) (old : IsJo
     abbrev section1 : Section
     section1 = record (w.section d) { lock = t.lock; word = t.word; request = t.request; code = micro_at (line (m.body t)); slot = committed (line (m.body t)); edge = 0 }
 
-    leads : Leads m l w w1
+    leads : LeadBy m l (events.Read t.lock ∷ publish ∷ []) w w1
     leads = record {
-      events = events.Read t.lock ∷ publish ∷ [];
       there = refl;
       enabled = (tt, ((unused, old.words.cells t.lock ∙ found, line_of_t, (old.sections d).done ∙ undone, λ k. (old.sections d).log k ∙ unlogged k), tt));
     }
@@ -302,12 +302,12 @@ module _ (m : Meaning) (l : Layout) (w : AgreementState) (s : Sight) (old : IsJo
     over_else : (x : Published) → x.descriptor ≢ d → w.over x.descriptor ≡ true → w1.over x.descriptor ≡ true
     over_else x ne e = upd_else w.over d false x.descriptor ne ∙ e
 
-    pub publishes : Goes m l w (record { word = word'; part = table.upd s.part r p' })
+    pub publishes : Goes m l r (events.Read t.lock ∷ publish ∷ []) w (record { word = word'; part = table.upd s.part r p' })
     publishes = record {
       next = w1;
-      leads = leads;
+      leads = leads_alone m l r (events.Read t.lock ∷ publish ∷ []) w w1 leads;
       joined = record {
-        sound = leads_sound m l w w1 leads old.sound;
+        sound = lead_sound m l (events.Read t.lock ∷ publish ∷ []) w w1 leads old.sound;
         words = record { clock = old.words.clock; stamp = old.words.stamp; reply = old.words.reply; cells = λ i. ap (cond (i == t.lock) (held_word d t.word)) (old.words.cells i) };
         sections = upd_split w.section d section1 (λ i y. ShowsSection y word' i) (record { log = (old.sections d).log; done = (old.sections d).done }) (λ i ne. record { log = (old.sections i).log; done = (old.sections i).done });
         thunks = λ i used. ⊎_elim

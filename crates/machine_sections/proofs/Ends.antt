@@ -1,6 +1,6 @@
 -- The end of a run: the done word, the releases, and what is kept of it, each kind of step joined.
 use Rattle.std.specs.Prelude.{◌==◌, ◌||◌, not, Bool, true, false, nat_le, slice_index, slice_index_or, slice_get, cond}
-use Rattle.std.proofs.Common.{◌≡◌, ◌≢◌, ℕ, zero, suc, ◌+◌, ◌<◌, ◌≤◌, List, length, take, sym, refl, ap, ◌∙◌, subst, arith, ⊎_elim, Some}
+use Rattle.std.proofs.Common.{◌≡◌, ◌≢◌, ℕ, zero, suc, ◌+◌, ◌<◌, ◌≤◌, List, [], ◌∷◌, length, take, sym, refl, ap, ◌∙◌, subst, arith, ⊎_elim, Some}
 use Rattle.std.specs.Prelude.{◌⊎◌}
 use Rattle.std.proofs.lemmas.Bool.Decides.{nat_tests}
 use Rattle.map_history.specs.declared.op.Request.{Request}
@@ -35,6 +35,7 @@ use Rattle.machine_sections.proofs.Passes.{resting, same_check}
 use Rattle.machine_sections.proofs.RunPlaces as places
 use Rattle.machine_sections.proofs.LineAsked as asked
 use Rattle.machine_sections.proofs.Frames.{HasSameText}
+use Rattle.machine_sections.specs.Chunks.{IsLineChunk}
 use Rattle.machine_sections.specs.Goes.{Goes}
 use Rattle.machine_sections.proofs.Assembly.{plain_goes, thunks_kept}
 use Rattle.machine_sections.proofs.Endings.{no_done}
@@ -49,8 +50,9 @@ module _ (m : Meaning) (l : Layout) (rs : List Request) (w : AgreementState) (s 
   abbrev c : CellRules
   c = rules_of m l
 
+  -- the step leads to a joined state, by the events of its kind
   abbrev After : EventKind → Spot × Access → Type 0
-  After kind x = Goes m l w (sight_after m l s r kind x)
+  After kind x = (heads : List events.Event) × IsLineChunk m l w r kind q (s.word x.0) heads × Goes m l r heads w (sight_after m l s r kind x)
 
   run_here : IsRunOf (w.run r) q
   run_here = places.run_here m l w s old r q is
@@ -133,22 +135,25 @@ module _ (m : Meaning) (l : Layout) (rs : List Request) (w : AgreementState) (s 
           let w1 = events.after w (events.SetDone r) in
           let word' = put s.word (spots.DoneWord q.descriptor) (exchanged found 0 1) in
           let text : (d : ℕ) → HasSameText (w1.section d) (w.section d) = upd_split w.section (w.run r).descriptor (record (section_of w r) { done = written_once ((section_of w r).done) 1 }) (λ i y. HasSameText y (w.section i))
-          (record { lock = refl; word = refl; request = refl; code = refl; slot = refl }) (λ i ne. record { lock = refl; word = refl; request = refl; code = refl; slot = refl }) in
-          subst (λ (p : PartState). Goes m l w (record { word = word'; part = table.upd s.part r p })) (sym (after_line m l r kinds.SetDone x (s.part r) found q micros.SetDone is opened next))
-          (plain_goes m l w w1 s r word' (noting l r kinds.SetDone (spots.DoneWord q.descriptor) (exchanged found 0 1) (done_set (s.part r) q)) old
-          (one m l rs w s old r q is opened (events.SetDone r) (run_here.running, run_here.ended ∙ ap (nat_le 1) going, stops none))
-          (record { others = λ i ne. upd_else w.run r _ i ne; finishes = λ i ne. refl; finished = λ i k ne. refl; over = λ d e. e; seen = λ p word e. e })
-          (let y = old.words in record { cells = y.cells; clock = y.clock; stamp = y.stamp; reply = y.reply })
-          (done_sections (exchanged found 0 1) (ap (λ d. written_once ((w.section d).done) 1) run_here.descriptor ∙ ap (λ n. written_once n 1) (old.sections q.descriptor).done))
-          (thunks_kept m l w w1 s word' old refl text (λ d j. refl)) (λ d j. refl)
-          (record {
-            run = done_run going;
-            opened = λ k j e low more. let same : q1 ≡ k = cc in subst (λ (y : RunState). j < length y.opened → slice_index y.opened j ≡ word' (spots.ThunkWord y.descriptor j)) same (λ low. (old.tied r).opened q j is low more) low;
-            begins = λ k e low. let same : q1 ≡ k = cc in absurd (let n = ap (λ (y : RunState). length y.opened) same in let all = long in omega arith);
-            rests = λ k e all. let same : q1 ≡ k = cc in subst (λ (y : RunState). settles m l y ≡ y) same (rests_more ((old.tied r).rests q is long));
-            released = λ k place e has. let same : q1 ≡ k = cc in absurd (none_yet place going (subst (λ (y : RunState). has_released (line_of m y) y.at ((thunk_of y.opened).lock) ((thunk_of y.opened).word) y.ended place ≡ true) (sym same) has));
-            read = (old.tied r).read;
-            finishes = (old.tied r).finishes ∙ ap length (sym (noted_finished l r kinds.SetDone (spots.DoneWord q.descriptor) (exchanged found 0 1) (s.part r).records));
-            finished = λ i f e. (old.tied r).finished i f (ap (λ xs. slice_get xs i) (sym (noted_finished l r kinds.SetDone (spots.DoneWord q.descriptor) (exchanged found 0 1) (s.part r).records)) ∙ e);
-            over = (old.tied r).over;
-          }))
+          (record { lock = refl; word = refl; request = refl; code = refl; slot = refl }) (λ i ne. record { lock = refl; word = refl; request = refl; code = refl; slot = refl }) in (
+            events.SetDone r ∷ [],
+            (next, refl),
+            subst (λ (p : PartState). Goes m l r (events.SetDone r ∷ []) w (record { word = word'; part = table.upd s.part r p })) (sym (after_line m l r kinds.SetDone x (s.part r) found q micros.SetDone is opened next))
+                (plain_goes m l (events.SetDone r ∷ []) w w1 s r word' (noting l r kinds.SetDone (spots.DoneWord q.descriptor) (exchanged found 0 1) (done_set (s.part r) q)) old
+                (one m l rs w s old r q is opened (events.SetDone r) (run_here.running, run_here.ended ∙ ap (nat_le 1) going, stops none))
+                (record { others = λ i ne. upd_else w.run r _ i ne; finishes = λ i ne. refl; finished = λ i k ne. refl; over = λ d e. e; seen = λ p word e. e })
+                (let y = old.words in record { cells = y.cells; clock = y.clock; stamp = y.stamp; reply = y.reply })
+                (done_sections (exchanged found 0 1) (ap (λ d. written_once ((w.section d).done) 1) run_here.descriptor ∙ ap (λ n. written_once n 1) (old.sections q.descriptor).done))
+                (thunks_kept m l w w1 s word' old refl text (λ d j. refl)) (λ d j. refl)
+                (record {
+                  run = done_run going;
+                  opened = λ k j e low more. let same : q1 ≡ k = cc in subst (λ (y : RunState). j < length y.opened → slice_index y.opened j ≡ word' (spots.ThunkWord y.descriptor j)) same (λ low. (old.tied r).opened q j is low more) low;
+                  begins = λ k e low. let same : q1 ≡ k = cc in absurd (let n = ap (λ (y : RunState). length y.opened) same in let all = long in omega arith);
+                  rests = λ k e all. let same : q1 ≡ k = cc in subst (λ (y : RunState). settles m l y ≡ y) same (rests_more ((old.tied r).rests q is long));
+                  released = λ k place e has. let same : q1 ≡ k = cc in absurd (none_yet place going (subst (λ (y : RunState). has_released (line_of m y) y.at ((thunk_of y.opened).lock) ((thunk_of y.opened).word) y.ended place ≡ true) (sym same) has));
+                  read = (old.tied r).read;
+                  finishes = (old.tied r).finishes ∙ ap length (sym (noted_finished l r kinds.SetDone (spots.DoneWord q.descriptor) (exchanged found 0 1) (s.part r).records));
+                  finished = λ i f e. (old.tied r).finished i f (ap (λ xs. slice_get xs i) (sym (noted_finished l r kinds.SetDone (spots.DoneWord q.descriptor) (exchanged found 0 1) (s.part r).records)) ∙ e);
+                  over = (old.tied r).over;
+                })),
+          )

@@ -11,14 +11,14 @@ use Rattle.agreement_core.specs.Events as events
 use Rattle.machine_states.specs.Sight.{Sight}
 use Rattle.machine_sections.specs.Joined.{IsJoined}
 use Rattle.machine_sections.specs.Supplied.{IsIdle}
-use Rattle.machine_sections.specs.Goes.{Leads}
-use Rattle.machine_sections.proofs.Assembly.{leads_more, leads_sound}
+use Rattle.machine_sections.specs.Chunks.{frees}
+use Rattle.machine_sections.proofs.Assembly.{LeadBy, lead_more, lead_sound}
 
 module _ (m : Meaning) (l : Layout) (s : Sight) where
   -- the state after these descriptors have become free
   pub record Freed (w : AgreementState) (ds : List ℕ) : Type 0 where
     pub next : AgreementState
-    pub leads : Leads m l w next
+    pub leads : LeadBy m l (frees ds) w next
     pub joined : IsJoined m l next s
     pub used : (d : ℕ) → next.used d ≡ (w.used d && not (has ds d))
     pub live : next.live ≡ w.live
@@ -29,11 +29,11 @@ module _ (m : Meaning) (l : Layout) (s : Sight) where
   one_freed : (w : AgreementState) (d : ℕ) → IsJoined m l w s → IsIdle w d → Freed w (d ∷ [])
   one_freed w d old idle =
       let w1 = events.after w (events.Free d) in
-      let leads : Leads m l w w1 = record { events = events.Free d ∷ []; there = refl; enabled = ((idle.retired, idle.unrun), tt) } in record {
+      let leads : LeadBy m l (events.Free d ∷ []) w w1 = record { there = refl; enabled = ((idle.retired, idle.unrun), tt) } in record {
         next = w1;
         leads = leads;
         joined = record {
-          sound = leads_sound m l w w1 leads old.sound;
+          sound = lead_sound m l (events.Free d ∷ []) w w1 leads old.sound;
           words = old.words;
           sections = old.sections;
           thunks = λ i used. old.thunks i (still (w.used) d i used);
@@ -54,7 +54,7 @@ module _ (m : Meaning) (l : Layout) (s : Sight) where
 
   -- all of them, one after the other
   pub freed : (ds : List ℕ) (w : AgreementState) → IsJoined m l w s → ((d : ℕ) → has ds d ≡ true → IsIdle w d) → Freed w ds
-  freed [] w old idle = record { next = w; leads = record { events = []; enabled = tt; there = refl }; joined = old; used = λ d. nobody (w.used d); live = refl; section = refl; run = refl; shared = refl }
+  freed [] w old idle = record { next = w; leads = record { enabled = tt; there = refl }; joined = old; used = λ d. nobody (w.used d); live = refl; section = refl; run = refl; shared = refl }
     where
       nobody : (b : Bool) → b ≡ (b && not false)
       nobody true = refl
@@ -67,7 +67,7 @@ module _ (m : Meaning) (l : Layout) (s : Sight) where
       }) in
       record {
         next = rest.next;
-        leads = leads_more m l w one.next rest.next one.leads rest.leads;
+        leads = lead_more m l (frees (d ∷ [])) (frees ds) w one.next rest.next one.leads rest.leads;
         joined = rest.joined;
         used = λ i. rest.used i ∙ (ap (λ b. b && not (has ds i)) (one.used i) ∙ both (w.used i) (d == i) (has ds i));
         live = rest.live ∙ one.live;

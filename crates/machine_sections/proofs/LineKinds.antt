@@ -32,8 +32,8 @@ use Rattle.machine_sections.specs.Joined.{IsRunOf, ShowsWords, ShowsSection, IsJ
 use Rattle.machine_sections.proofs.RunPlaces as places
 use Rattle.machine_sections.proofs.Frames.{IsOwnStep, IsOwnPart}
 use Rattle.machine_sections.proofs.Components.{own_then, goes_on_own, goes_on_run, goes_on_sections, agrees_own, agrees_run, agrees_sections, reads_own, reads_more}
-use Rattle.machine_sections.specs.Goes.{Leads, Goes}
-use Rattle.machine_sections.proofs.Assembly.{ThunksStay, line_goes}
+use Rattle.machine_sections.specs.Goes.{Goes}
+use Rattle.machine_sections.proofs.Assembly.{LeadBy, ThunksStay, line_goes}
 
 left_finished : (s : RecordsState) (kind : EventKind) (spot : Spot) (n : ℕ) → (left_more s kind spot n).finished ≡ s.finished
 left_finished s (kinds.Join worker) spot n = refl
@@ -72,24 +72,24 @@ module _ (m : Meaning) (l : Layout) where
     word_after x = put s.word x.0 (written x.1 (s.word x.0))
 
     -- a step of the line leads to a joined state
-    pub step_goes : (kind : EventKind) (x : Spot × Access) (micro : Micro) (q1 : RunState) (w1 : AgreementState) → next_of m q ≡ micro → is_event micro ≡ true → is_of_end micro ≡ false
-        → Leads m l w w1 → IsOwnStep w w1 r → IsRunOf (w1.run r) q1 → q1.ended ≡ q.ended → q1.descriptor ≡ q.descriptor → q1.opened ≡ q.opened
+    pub step_goes : (heads : List events.Event) (kind : EventKind) (x : Spot × Access) (micro : Micro) (q1 : RunState) (w1 : AgreementState) → next_of m q ≡ micro → is_event micro ≡ true → is_of_end micro ≡ false
+        → LeadBy m l heads w w1 → IsOwnStep w w1 r → IsRunOf (w1.run r) q1 → q1.ended ≡ q.ended → q1.descriptor ≡ q.descriptor → q1.opened ≡ q.opened
         → IsOwnPart m l (s.part r) (line_after m l kind (s.part r) q micro (s.word x.0)) q1
         → ShowsWords w1.shared (word_after x) → ((d : ℕ) → ShowsSection (w1.section d) (word_after x) d) → ThunksStay s.word (word_after x)
         → ((place found : ℕ) → has_pair (line_after m l kind (s.part r) q micro (s.word x.0)).reads.cells place found ≡ true → w1.shared.seen place found ≡ true)
-        → Goes m l w (record { word = word_after x; part = upd s.part r (after m l r kind x.0 x.1 (s.part r) (s.word x.0)) })
-    step_goes kind x micro q1 w1 next event inner leads step run1 ended descriptor same_words own words sections thunks read =
+        → Goes m l r heads w (record { word = word_after x; part = upd s.part r (after m l r kind x.0 x.1 (s.part r) (s.word x.0)) })
+    step_goes heads kind x micro q1 w1 next event inner leads step run1 ended descriptor same_words own words sections thunks read =
         let going = places.not_ended m l w s old r q is all (ap is_event (next_in_line m q micro inner next) ∙ event) in
         let pp = line_after m l kind (s.part r) q micro (s.word x.0) in
-        subst (λ (p : PartState). Goes m l w (record { word = word_after x; part = upd s.part r p })) (sym (after_line r kind x (s.part r) (s.word x.0) q micro is opened next))
-        (line_goes m l w w1 s r q q1 (word_after x) (noting l r kind x.0 (written x.1 (s.word x.0)) pp) old is all leads step run1 (ended ∙ going) descriptor same_words
+        subst (λ (p : PartState). Goes m l r heads w (record { word = word_after x; part = upd s.part r p })) (sym (after_line r kind x (s.part r) (s.word x.0) q micro is opened next))
+        (line_goes m l heads w w1 s r q q1 (word_after x) (noting l r kind x.0 (written x.1 (s.word x.0)) pp) old is all leads step run1 (ended ∙ going) descriptor same_words
         (places.code_here m l w s old r q is all)
         (record { run = own.run; published = own.published; finished = noted_finished l r kind x.0 (written x.1 (s.word x.0)) pp.records ∙ own.finished })
         words sections thunks read)
 
     -- one event of the component
-    pub one : (e : events.Event) → events.Enabled c w e → Leads m l w (events.after w e)
-    one e enabled = record { events = e ∷ []; enabled = (enabled, tt); there = refl }
+    pub one : (e : events.Event) → events.Enabled c w e → LeadBy m l (e ∷ []) w (events.after w e)
+    one e enabled = record { enabled = (enabled, tt); there = refl }
 
     -- a load changes no word
     pub load_words : (a : Spot) → ShowsWords w.shared (word_after (a, Loads))
@@ -110,8 +110,8 @@ module _ (m : Meaning) (l : Layout) where
       abbrev w1 : AgreementState
       w1 = reads (goes_on w r (w.shared.cells p)) p
 
-      leads : Leads m l w w1
-      leads = subst (Leads m l w) is_load (one e enabled)
+      leads : LeadBy m l (e ∷ []) w w1
+      leads = subst (LeadBy m l (e ∷ []) w) is_load (one e enabled)
 
       step : IsOwnStep w w1 r
       step = own_then w (goes_on w r (w.shared.cells p)) w1 r (goes_on_own w r (w.shared.cells p)) (reads_own (goes_on w r (w.shared.cells p)) r p)
@@ -124,8 +124,8 @@ module _ (m : Meaning) (l : Layout) where
 
       pub load_goes : IsOwnPart m l (s.part r) (line_after m l kind (s.part r) q micro (s.word (spots.Cell p))) q1
           → (line_after m l kind (s.part r) q micro (s.word (spots.Cell p))).reads.cells ≡ (s.part r).reads.cells ++ (p, s.word (spots.Cell p)) ∷ []
-          → Goes m l w (record { word = word_after (spots.Cell p, Loads); part = upd s.part r (after m l r kind (spots.Cell p) Loads (s.part r) (s.word (spots.Cell p))) })
-      load_goes own cells = step_goes kind (spots.Cell p, Loads) micro q1 w1 next event inner leads step run1 refl refl refl own
+          → Goes m l r (e ∷ []) w (record { word = word_after (spots.Cell p, Loads); part = upd s.part r (after m l r kind (spots.Cell p) Loads (s.part r) (s.word (spots.Cell p))) })
+      load_goes own cells = step_goes (e ∷ []) kind (spots.Cell p, Loads) micro q1 w1 next event inner leads step run1 refl refl refl own
           (let x = load_words (spots.Cell p) in record { cells = x.cells; clock = x.clock; stamp = x.stamp; reply = x.reply })
           (load_sections (spots.Cell p) w1 sections) (load_thunks (spots.Cell p))
           (reads_more (goes_on w r (w.shared.cells p)) p (s.word (spots.Cell p)) (s.part r).reads.cells _ (old.words.cells p) cells (λ place found has. (old.tied r).read place found has))
@@ -135,9 +135,9 @@ module _ (m : Meaning) (l : Layout) where
         (number : ℕ) (is_load : events.after w e ≡ goes_on w r number) (same : number ≡ s.word a) (enabled : events.Enabled c w e) where
       pub number_goes : IsOwnPart m l (s.part r) (line_after m l kind (s.part r) q micro (s.word a)) (record q { at = q.at + 1; word = s.word a })
           → (line_after m l kind (s.part r) q micro (s.word a)).reads.cells ≡ (s.part r).reads.cells
-          → Goes m l w (record { word = word_after (a, Loads); part = upd s.part r (after m l r kind a Loads (s.part r) (s.word a)) })
-      number_goes own cells = step_goes kind (a, Loads) micro (record q { at = q.at + 1; word = s.word a }) (goes_on w r number) next event inner
-          (subst (Leads m l w) is_load (one e enabled)) (goes_on_own w r number)
+          → Goes m l r (e ∷ []) w (record { word = word_after (a, Loads); part = upd s.part r (after m l r kind a Loads (s.part r) (s.word a)) })
+      number_goes own cells = step_goes (e ∷ []) kind (a, Loads) micro (record q { at = q.at + 1; word = s.word a }) (goes_on w r number) next event inner
+          (subst (LeadBy m l (e ∷ []) w) is_load (one e enabled)) (goes_on_own w r number)
           (subst (λ n. IsRunOf ((goes_on w r number).run r) (record q { at = q.at + 1; word = n })) same (goes_on_run w r q number (places.run_here m l w s old r q is))) refl refl refl own
           (load_words a) (load_sections a (goes_on w r number) (goes_on_sections w r number s.word old.sections)) (load_thunks a)
           (λ place found has. (old.tied r).read place found (subst (λ xs. has_pair xs place found ≡ true) cells has))
@@ -172,9 +172,9 @@ module _ (m : Meaning) (l : Layout) where
       pub commit_goes : (q1 : RunState) → q1.descriptor ≡ q.descriptor → q1.at ≡ q.at + 1 → q1.word ≡ q.word → q1.trail ≡ q.trail ++ agreed ∷ [] → q1.ended ≡ q.ended → q1.opened ≡ q.opened
           → IsOwnPart m l (s.part r) (line_after m l kind (s.part r) q micro (s.word log)) q1
           → (line_after m l kind (s.part r) q micro (s.word log)).reads.cells ≡ (s.part r).reads.cells
-          → Goes m l w (record { word = word_after (log, Exchanges 0 number); part = upd s.part r (after m l r kind log (Exchanges 0 number) (s.part r) (s.word log)) })
-      commit_goes q1 d a n t ended o own cells = step_goes kind (log, Exchanges 0 number) micro q1 (agrees w r k proposal) next event inner
-          (subst (Leads m l w) is_commit (one e enabled)) (agrees_own w r k proposal)
+          → Goes m l r (e ∷ []) w (record { word = word_after (log, Exchanges 0 number); part = upd s.part r (after m l r kind log (Exchanges 0 number) (s.part r) (s.word log)) })
+      commit_goes q1 d a n t ended o own cells = step_goes (e ∷ []) kind (log, Exchanges 0 number) micro q1 (agrees w r k proposal) next event inner
+          (subst (LeadBy m l (e ∷ []) w) is_commit (one e enabled)) (agrees_own w r k proposal)
           (agrees_run w r q q1 k proposal agreed (places.run_here m l w s old r q is) agreed_same d a n t ended) ended d o own
           (let x = old.words in record { cells = x.cells; clock = x.clock; stamp = x.stamp; reply = x.reply }) commit_sections (λ d j. refl)
           (λ place found has. (old.tied r).read place found (subst (λ xs. has_pair xs place found ≡ true) cells has))

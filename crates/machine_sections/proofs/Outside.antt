@@ -22,8 +22,8 @@ use Rattle.machine_states.proofs.Updates.{put_same}
 use Rattle.machine_sections.specs.Joined.{ShowsRun, IsFinishOf, ShowsWords, ShowsSection, IsTied, IsJoined}
 use Rattle.machine_sections.proofs.Frames.{tied_stays}
 use Rattle.machine_sections.proofs.Components.{reads_own, reads_more}
-use Rattle.machine_sections.specs.Goes.{Leads, Goes}
-use Rattle.machine_sections.proofs.Assembly.{IsOtherStep, ThunksStay, plain_goes, thunks_kept}
+use Rattle.machine_sections.specs.Goes.{Goes}
+use Rattle.machine_sections.proofs.Assembly.{LeadBy, IsOtherStep, ThunksStay, leads_alone, plain_joined, plain_goes, thunks_kept}
 use Rattle.machine_sections.proofs.LineKinds.{noting}
 
 module _ (m : Meaning) (l : Layout) where
@@ -35,8 +35,8 @@ module _ (m : Meaning) (l : Layout) where
   other_none : (w : AgreementState) (r : ℕ) → IsOtherStep m l w w r
   other_none w r = record { others = λ i ne. refl; finishes = λ i ne. refl; finished = λ i k ne. refl; over = λ d e. e; seen = λ p word e. e }
 
-  leads_none : (w : AgreementState) → Leads m l w w
-  leads_none w = record { events = []; enabled = tt; there = refl }
+  pub lead_none : (w : AgreementState) → LeadBy m l [] w w
+  lead_none w = record { enabled = tt; there = refl }
 
   -- what a part keeps that the component sees
   pub record IsSamePart (p p' : PartState) : Type 0 where
@@ -88,19 +88,22 @@ module _ (m : Meaning) (l : Layout) where
 
   module _ (w : AgreementState) (s : Sight) (old : IsJoined m l w s) (r : ℕ) where
     -- a step that the component doesn't see
-    pub quiet_goes : (word' : Spot → ℕ) (p' : PartState) → SameWords s.word word' → IsSamePart (s.part r) p' → Goes m l w (record { word = word'; part = table.upd s.part r p' })
-    quiet_goes word' p' words same = plain_goes m l w w s r word' p' old (leads_none w) (other_none w r) (shows_same w.shared s.word word' words old.words)
+    pub quiet_joined : (word' : Spot → ℕ) (p' : PartState) → SameWords s.word word' → IsSamePart (s.part r) p' → IsJoined m l w (record { word = word'; part = table.upd s.part r p' })
+    quiet_joined word' p' words same = plain_joined m l [] w w s r word' p' old (lead_none w) (other_none w r) (shows_same w.shared s.word word' words old.words)
         (λ d. section_same (w.section d) s.word word' d words (old.sections d))
         (thunks_kept m l w w s word' old refl (λ d. record { lock = refl; word = refl; request = refl; code = refl; slot = refl }) words.thunks) words.thunks
         (tied_word w s.word word' r p' words.thunks (tied_same w w s.word r (s.part r) p' refl refl refl refl same.run same.published same.finished (λ a b has. (old.tied r).read a b (same.read a b has)) (old.tied r)))
 
+    pub quiet_goes : (word' : Spot → ℕ) (p' : PartState) → SameWords s.word word' → IsSamePart (s.part r) p' → Goes m l r [] w (record { word = word'; part = table.upd s.part r p' })
+    quiet_goes word' p' words same = record { next = w; leads = leads_alone m l r [] w w (lead_none w); joined = quiet_joined word' p' words same }
+
     -- a cell is read
     pub read_goes : (place : ℕ) (p' : PartState) → p'.run ≡ (s.part r).run → ((x : Published) → p'.published ≡ Some x → (s.part r).published ≡ Some x) → p'.records.finished ≡ (s.part r).records.finished
         → p'.reads.cells ≡ (s.part r).reads.cells ++ (place, s.word (spots.Cell place)) ∷ [] → (word' : Spot → ℕ) → SameWords s.word word'
-        → Goes m l w (record { word = word'; part = table.upd s.part r p' })
+        → Goes m l r (events.Read place ∷ []) w (record { word = word'; part = table.upd s.part r p' })
     read_goes place p' run published finished cells word' words =
         let w1 = reads w place in
-        plain_goes m l w w1 s r word' p' old (record { events = events.Read place ∷ []; enabled = (tt, tt); there = refl })
+        plain_goes m l (events.Read place ∷ []) w w1 s r word' p' old (record { enabled = (tt, tt); there = refl })
         (record { others = λ i ne. refl; finishes = λ i ne. refl; finished = λ i k ne. refl; over = λ d e. e; seen = (reads_own w r place).seen })
         (let x = shows_same w.shared s.word word' words old.words in record { cells = x.cells; clock = x.clock; stamp = x.stamp; reply = x.reply })
         (λ d. section_same (w.section d) s.word word' d words (old.sections d))

@@ -42,8 +42,9 @@ use Rattle.machine_sections.proofs.RunPlaces as places
 use Rattle.machine_sections.proofs.LineAsked as asked
 use Rattle.machine_sections.proofs.Frames.{HasSameText}
 use Rattle.machine_sections.proofs.Components.{reads_own, reads_more}
-use Rattle.machine_sections.specs.Goes.{Leads, Goes}
-use Rattle.machine_sections.proofs.Assembly.{IsOtherStep, leads_more, plain_goes, thunks_kept}
+use Rattle.machine_sections.specs.Chunks.{IsLineChunk}
+use Rattle.machine_sections.specs.Goes.{Goes}
+use Rattle.machine_sections.proofs.Assembly.{LeadBy, IsOtherStep, lead_more, plain_goes, thunks_kept}
 use Rattle.machine_sections.proofs.Endings.{TakesIn, tail_of, release_taken, past_all, all_released, released_more}
 use Rattle.machine_sections.proofs.Ends as ends
 use Rattle.machine_sections.proofs.LineKinds.{noting, noted_finished, after_line, all}
@@ -85,8 +86,9 @@ module _ (m : Meaning) (l : Layout) (rs : List Request) (w : AgreementState) (s 
   abbrev c : CellRules
   c = rules_of m l
 
+  -- the step leads to a joined state, by the events of its kind
   abbrev After : EventKind → Spot × Access → Type 0
-  After kind x = Goes m l w (sight_after m l s r kind x)
+  After kind x = (heads : List events.Event) × IsLineChunk m l w r kind q (s.word x.0) heads × Goes m l r heads w (sight_after m l s r kind x)
 
   run_here : IsRunOf (w.run r) q
   run_here = places.run_here m l w s old r q is
@@ -181,9 +183,12 @@ module _ (m : Meaning) (l : Layout) (rs : List Request) (w : AgreementState) (s 
         some : (n k : ℕ) → n ≡ suc k → nat_le 1 n ≡ true
         some n k e = grind (arith, nat_tests)
 
-    leads : Leads m l w w1
+    -- the lock is read, and released
+    abbrev heads : List events.Event
+    heads = events.Read p ∷ events.Release r p word ∷ []
+
+    leads : LeadBy m l heads w w1
     leads = record {
-      events = events.Read p ∷ events.Release r p word ∷ [];
       there = refl;
       enabled = (tt, ((run_here.running, is_ended, has_taken p word (release_taken (take q.at ms) t.lock t.word p word place.0 place.2)), tt));
     }
@@ -265,8 +270,8 @@ module _ (m : Meaning) (l : Layout) (rs : List Request) (w : AgreementState) (s 
           released_now a (ap (list_any (λ y. place_of y == a)) (take_all (q.ended + 1 - 1) tail (let few = whole in omega arith))
           ∙ all_released (take q.at ms) t.lock t.word a b (takes_in a b before))
 
-      leads2 : Leads m l w w2
-      leads2 = leads_more m l w w1 w2 leads (record { events = events.Finish r ∷ []; there = refl; enabled = ((run0.running, run0.ended ∙ some q.ended, each_released), tt) })
+      leads2 : LeadBy m l (heads ++ events.Finish r ∷ []) w w2
+      leads2 = lead_more m l heads (events.Finish r ∷ []) w w1 w2 leads (record { there = refl; enabled = ((run0.running, run0.ended ∙ some q.ended, each_released), tt) })
         where
           some : (n : ℕ) → nat_le 1 (n + 1) ≡ true
           some n = grind (arith, nat_tests)
@@ -323,14 +328,27 @@ module _ (m : Meaning) (l : Layout) (rs : List Request) (w : AgreementState) (s 
           more_long : {A : Type 0} (xs : List A) (y : A) → suc (length xs) ≡ length (xs ++ y ∷ [])
           more_long xs y = let n = length-append xs (y ∷ []) in omega arith
 
-    release_by : (b : Bool) → is_end (next_of m q1) ≡ b → Goes m l w (record { word = word'; part = table.upd s.part r (noted_of (if b then run_over m l read_part q1 else record read_part { run = Some q1 })) })
-    release_by false e = plain_goes m l w w1 s r word' (noted_of (record read_part { run = Some q1 })) old leads other words sections (thunks_kept m l w w1 s word' old refl same_text (λ d j. refl)) (λ d j. refl) goes_on_tied
-    release_by true e = plain_goes m l w (w2 e) s r word' (noted_of (run_over m l read_part q1)) old (leads2 e) (other2 e)
+    -- and the run is over where this was the last of its releases
+    abbrev heads_by : Bool → List events.Event
+    heads_by b = if b then heads ++ events.Finish r ∷ [] else heads
+
+    release_by : (b : Bool) → is_end (next_of m q1) ≡ b → Goes m l r (heads_by b) w (record { word = word'; part = table.upd s.part r (noted_of (if b then run_over m l read_part q1 else record read_part { run = Some q1 })) })
+    release_by false e = plain_goes m l heads w w1 s r word' (noted_of (record read_part { run = Some q1 })) old leads other words sections (thunks_kept m l w w1 s word' old refl same_text (λ d j. refl)) (λ d j. refl) goes_on_tied
+    release_by true e = plain_goes m l (heads ++ events.Finish r ∷ []) w (w2 e) s r word' (noted_of (run_over m l read_part q1)) old (leads2 e) (other2 e)
         (record { cells = words.cells; clock = words.clock; stamp = words.stamp; reply = words.reply }) sections (thunks_kept m l w (w2 e) s word' old refl same_text (λ d j. refl)) (λ d j. refl) (over_tied e)
 
+    over_or_on : (b : Bool) → is_end (next_of m q1) ≡ b
+        → ((is_end (next_of m q1) ≡ false) × (heads_by b ≡ heads)) ⊎ ((is_end (next_of m q1) ≡ true) × (heads_by b ≡ events.Read p ∷ events.Release r p word ∷ events.Finish r ∷ []))
+    over_or_on false e = inl (e, refl)
+    over_or_on true e = inr (e, refl)
+
     release_goes : After kinds.Release x
-    release_goes = subst (λ (y : PartState). Goes m l w (record { word = word'; part = table.upd s.part r y })) (sym (after_line m l r kinds.Release x (s.part r) found q (micros.Release p word) is opened next))
-        (subst (λ b. Goes m l w (record { word = word'; part = table.upd s.part r (noted_of (if b then run_over m l read_part q1 else record read_part { run = Some q1 })) })) refl (release_by (is_end (next_of m q1)) refl))
+    release_goes = (
+      heads_by (is_end (next_of m q1)),
+      (p, word, next, over_or_on (is_end (next_of m q1)) refl),
+      subst (λ (y : PartState). Goes m l r (heads_by (is_end (next_of m q1))) w (record { word = word'; part = table.upd s.part r y }))
+          (sym (after_line m l r kinds.Release x (s.part r) found q (micros.Release p word) is opened next)) (release_by (is_end (next_of m q1)) refl),
+    )
 
   pub release : (x : Spot × Access) → asks m l rs r kinds.Release (s.part r) ≡ Some x → After kinds.Release x
   release x e =

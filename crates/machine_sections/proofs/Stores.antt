@@ -1,6 +1,7 @@
 -- The private steps, the exchanges and the words of the request in a run's line, each kind of step joined.
 use Rattle.std.specs.Prelude.{◌==◌, ◌||◌, nat_le, slice_index, max, ◌/◌, Bool, true, false, cond, if◌then◌else◌}
-use Rattle.std.proofs.Common.{◌≡◌, ℕ, ◌+◌, ◌*◌, List, [], ◌∷◌, ◌++◌, length, sym, refl, ap, ◌∙◌, subst, Option, Some, None}
+use Rattle.std.proofs.Common.{◌≡◌, ℕ, ◌+◌, ◌*◌, List, [], ◌∷◌, ◌++◌, length, sym, refl, ap, ◌∙◌, subst, arith, Option, Some, None}
+use Rattle.std.proofs.lemmas.Bool.Decides.{nat_tests}
 use Rattle.map_history.specs.declared.op.Request.{Request}
 use Rattle.section_body.specs.declared.micro.Micro.{Micro}
 use Rattle.section_body.specs.declared.micro.Micro.TheVariants as micros
@@ -25,7 +26,7 @@ use Rattle.runner_steps.specs.State.{RunState, RecordsState, PartState}
 use Rattle.runner_steps.specs.Tests.{has_pair}
 use Rattle.runner_steps.specs.Lists.{learned}
 use Rattle.runner_steps.specs.Sections.{thunk_of, is_open_run, next_of}
-use Rattle.runner_steps.specs.InRun.{stamp_after}
+use Rattle.runner_steps.specs.InRun.{stamp_after, is_slot}
 use Rattle.runner_steps.specs.Asks.{asks}
 use Rattle.runner_steps.specs.AfterInRun.{fill_loaded}
 use Rattle.runner_steps.specs.AfterInRun as run_steps
@@ -41,7 +42,9 @@ use Rattle.machine_sections.specs.Joined.{IsRunOf, ShowsWords, IsJoined}
 use Rattle.machine_sections.proofs.RunPlaces as places
 use Rattle.machine_sections.proofs.LineAsked as asked
 use Rattle.machine_sections.proofs.Frames.{IsOwnPart}
-use Rattle.machine_sections.specs.Goes.{Leads, Goes}
+use Rattle.machine_sections.specs.Chunks.{IsLineChunk}
+use Rattle.machine_sections.specs.Goes.{Goes}
+use Rattle.machine_sections.proofs.Assembly.{LeadBy}
 use Rattle.machine_sections.proofs.LineKinds.{step_goes, one, load_words, load_sections, load_thunks, all}
 use Rattle.machine_sections.proofs.Components.{own_then, own_shared, goes_on_own, goes_on_run, goes_on_sections, reads_own, reads_more, with_cell_own}
 
@@ -49,8 +52,9 @@ module _ (m : Meaning) (l : Layout) (rs : List Request) (w : AgreementState) (s 
   abbrev c : CellRules
   c = rules_of m l
 
+  -- the step leads to a joined state, by the events of its kind
   abbrev After : EventKind → Spot × Access → Type 0
-  After kind x = Goes m l w (sight_after m l s r kind x)
+  After kind x = (heads : List events.Event) × IsLineChunk m l w r kind q (s.word x.0) heads × Goes m l r heads w (sight_after m l s r kind x)
 
   before : (micro : Micro) → is_of_end micro ≡ false → is_event micro ≡ true → next_of m q ≡ micro → IsBefore w r micro
   before micro inner event next = places.before m l w s old r q is (all m l rs w s old r q is opened) micro inner event next
@@ -89,13 +93,17 @@ module _ (m : Meaning) (l : Layout) (rs : List Request) (w : AgreementState) (s 
         → IsOwnPart m l (s.part r) (line_after m l (kinds.PrivateLoad slot word) (s.part r) q (micros.PrivateLoad word k) found) q1
         → (line_after m l (kinds.PrivateLoad slot word) (s.part r) q (micros.PrivateLoad word k) found).reads.cells ≡ (s.part r).reads.cells
         → After (kinds.PrivateLoad slot word) (spots.Cell p, Loads)
-    fill_goes x micro next q1 d o a n t e own cells = step_goes m l rs w s old r q is opened (kinds.PrivateLoad slot word) (spots.Cell p, Loads) (micros.PrivateLoad word k) q1 loaded next refl refl
-        (one m l rs w s old r q is opened (events.PrivateLoad r word k p) (before (micros.PrivateLoad word k) refl refl next))
-        (own_then w (goes_on w r (w.shared.cells p)) loaded r (goes_on_own w r (w.shared.cells p)) (reads_own (goes_on w r (w.shared.cells p)) r p))
-        (loaded_run q1 d a n t e) e d o own
-        (let y = load_words m l rs w s old r q is opened (spots.Cell p) in record { cells = y.cells; clock = y.clock; stamp = y.stamp; reply = y.reply })
-        (load_sections m l rs w s old r q is opened (spots.Cell p) loaded (goes_on_sections w r (w.shared.cells p) s.word old.sections)) (load_thunks m l rs w s old r q is opened (spots.Cell p))
-        (λ place word has. (reads_own (goes_on w r (w.shared.cells p)) r p).seen place word ((old.tied r).read place word (subst (λ xs. has_pair xs place word ≡ true) cells has)))
+    fill_goes x micro next q1 d o a n t e own cells = (
+      events.PrivateLoad r word k p ∷ [],
+      (k, next, refl),
+      step_goes m l rs w s old r q is opened (events.PrivateLoad r word k p ∷ []) (kinds.PrivateLoad slot word) (spots.Cell p, Loads) (micros.PrivateLoad word k) q1 loaded next refl refl
+          (one m l rs w s old r q is opened (events.PrivateLoad r word k p) (before (micros.PrivateLoad word k) refl refl next))
+          (own_then w (goes_on w r (w.shared.cells p)) loaded r (goes_on_own w r (w.shared.cells p)) (reads_own (goes_on w r (w.shared.cells p)) r p))
+          (loaded_run q1 d a n t e) e d o own
+          (let y = load_words m l rs w s old r q is opened (spots.Cell p) in record { cells = y.cells; clock = y.clock; stamp = y.stamp; reply = y.reply })
+          (load_sections m l rs w s old r q is opened (spots.Cell p) loaded (goes_on_sections w r (w.shared.cells p) s.word old.sections)) (load_thunks m l rs w s old r q is opened (spots.Cell p))
+          (λ place word has. (reads_own (goes_on w r (w.shared.cells p)) r p).seen place word ((old.tied r).read place word (subst (λ xs. has_pair xs place word ≡ true) cells has))),
+    )
 
     fill_by : (made : Option ℕ) → q.made ≡ made → next_of m q ≡ micros.PrivateLoad word k → After (kinds.PrivateLoad slot word) (spots.Cell p, Loads)
     fill_by None made next =
@@ -130,15 +138,25 @@ module _ (m : Meaning) (l : Layout) (rs : List Request) (w : AgreementState) (s 
       let h = asked.fill_store_asked q x m l slot word number (next_of m q) (asked.line_asked m l rs r (kinds.PrivateStore slot word number) (s.part r) q x e is opened) in
       let p = cell_of m.fixed_cells slot word in
       let w1 = with_cell (goes_on w r ((w.run r).word)) p number in
-      subst (After (kinds.PrivateStore slot word number)) h.6
-      (step_goes m l rs w s old r q is opened (kinds.PrivateStore slot word number) (spots.Cell p, Stores number) (micros.PrivateStore word h.0 h.1)
-      (record q { worn = q.worn || version_of number == l.version_max; at = q.at + 1; word = q.word }) w1 h.2 refl refl
-      (one m l rs w s old r q is opened (events.PrivateStore r word h.0 h.1 p number) (before (micros.PrivateStore word h.0 h.1) refl refl h.2, supplied))
-      (own_then w (goes_on w r ((w.run r).word)) w1 r (goes_on_own w r ((w.run r).word)) (with_cell_own (goes_on w r ((w.run r).word)) r p number))
-      (moved_run (w.run r).word run_here.word) refl refl refl (record { run = refl; published = refl; finished = refl })
-      (changed_words w.shared p number number refl refl refl refl refl) (goes_on_sections w r ((w.run r).word) (put s.word (spots.Cell p) number) (λ d. let o = old.sections d in record { log = o.log; done = o.done })) (λ d j. refl)
-      (λ place found has. (old.tied r).read place found has))
+      subst (After (kinds.PrivateStore slot word number)) h.6 (
+        events.PrivateStore r word h.0 h.1 p number ∷ [],
+        (h.0, h.1, h.2, own_slot q.made slot h.3, refl),
+        step_goes m l rs w s old r q is opened (events.PrivateStore r word h.0 h.1 p number ∷ []) (kinds.PrivateStore slot word number) (spots.Cell p, Stores number) (micros.PrivateStore word h.0 h.1)
+            (record q { worn = q.worn || version_of number == l.version_max; at = q.at + 1; word = q.word }) w1 h.2 refl refl
+            (one m l rs w s old r q is opened (events.PrivateStore r word h.0 h.1 p number) (before (micros.PrivateStore word h.0 h.1) refl refl h.2, supplied))
+            (own_then w (goes_on w r ((w.run r).word)) w1 r (goes_on_own w r ((w.run r).word)) (with_cell_own (goes_on w r ((w.run r).word)) r p number))
+            (moved_run (w.run r).word run_here.word) refl refl refl (record { run = refl; published = refl; finished = refl })
+            (changed_words w.shared p number number refl refl refl refl refl) (goes_on_sections w r ((w.run r).word) (put s.word (spots.Cell p) number) (λ d. let o = old.sections d in record { log = o.log; done = o.done })) (λ d j. refl)
+            (λ place found has. (old.tied r).read place found has),
+      )
     where
+      own_slot : (made : Option ℕ) (slot : ℕ) → is_slot made slot ≡ true → made ≡ Some slot
+      own_slot None slot e = absurd (let no = e in cc)
+      own_slot (Some t) slot e = let same : t ≡ slot = equal t slot e in ap (λ k. Some k) same
+        where
+          equal : (a b : ℕ) → (a == b) ≡ true → a ≡ b
+          equal a b e = grind (arith, nat_tests)
+
       moved_run : (n : ℕ) → n ≡ q.word → IsRunOf ((goes_on w r n).run r) (record q { worn = q.worn || version_of number == l.version_max; at = q.at + 1; word = q.word })
       moved_run n e = let run = goes_on_run w r q n run_here in record { running = run.running; descriptor = run.descriptor; at = run.at; word = run.word ∙ e; count = run.count; trail = run.trail; ended = run.ended }
 
@@ -154,19 +172,19 @@ module _ (m : Meaning) (l : Layout) (rs : List Request) (w : AgreementState) (s 
     abbrev w0 : AgreementState
     w0 = reads w p
 
-    then_one : (e : events.Event) → events.Enabled c w0 e → Leads m l w (events.after w0 e)
-    then_one e enabled = record { events = events.Read p ∷ e ∷ []; enabled = (tt, (enabled, tt)); there = refl }
+    then_one : (e : events.Event) → events.Enabled c w0 e → LeadBy m l (events.Read p ∷ e ∷ []) w (events.after w0 e)
+    then_one e enabled = record { enabled = (tt, (enabled, tt)); there = refl }
 
     -- the cell changes, and the run goes on
     exchange_goes : (kind : EventKind) (old_word new_word new : ℕ) (micro : Micro) (e : events.Event) → next_of m q ≡ micro → is_event micro ≡ true → is_of_end micro ≡ false
         → events.after w0 e ≡ with_cell (goes_on w0 r ((w.run r).word)) p new → events.Enabled c w0 e → new ≡ exchanged (s.word (spots.Cell p)) old_word new_word
         → IsOwnPart m l (s.part r) (line_after m l kind (s.part r) q micro (s.word (spots.Cell p))) (record q { at = q.at + 1; word = q.word })
         → (line_after m l kind (s.part r) q micro (s.word (spots.Cell p))).reads.cells ≡ (s.part r).reads.cells ++ (p, s.word (spots.Cell p)) ∷ []
-        → Goes m l w (record { word = put s.word (spots.Cell p) (exchanged (s.word (spots.Cell p)) old_word new_word); part = table.upd s.part r (after m l r kind (spots.Cell p) (Exchanges old_word new_word) (s.part r) (s.word (spots.Cell p))) })
+        → Goes m l r (events.Read p ∷ e ∷ []) w (record { word = put s.word (spots.Cell p) (exchanged (s.word (spots.Cell p)) old_word new_word); part = table.upd s.part r (after m l r kind (spots.Cell p) (Exchanges old_word new_word) (s.part r) (s.word (spots.Cell p))) })
     exchange_goes kind old_word new_word new micro e next event inner there enabled same own cells =
         let w1 = with_cell (goes_on w0 r ((w.run r).word)) p new in
-        step_goes m l rs w s old r q is opened kind (spots.Cell p, Exchanges old_word new_word) micro (record q { at = q.at + 1; word = q.word }) w1 next event inner
-        (subst (Leads m l w) there (then_one e enabled))
+        step_goes m l rs w s old r q is opened (events.Read p ∷ e ∷ []) kind (spots.Cell p, Exchanges old_word new_word) micro (record q { at = q.at + 1; word = q.word }) w1 next event inner
+        (subst (LeadBy m l (events.Read p ∷ e ∷ []) w) there (then_one e enabled))
         (own_then w w0 w1 r (reads_own w r p) (own_then w0 (goes_on w0 r ((w.run r).word)) w1 r (goes_on_own w0 r ((w.run r).word)) (with_cell_own (goes_on w0 r ((w.run r).word)) r p new)))
         (behind_run w0 (w.run r).word refl run_here.word) refl refl refl own
         (changed_words w0.shared p new (exchanged (s.word (spots.Cell p)) old_word new_word) refl refl refl refl same)
@@ -188,21 +206,27 @@ module _ (m : Meaning) (l : Layout) (rs : List Request) (w : AgreementState) (s 
   exchange_cell x e =
       let h = asked.exchange_asked q x l (next_of m q) (asked.line_asked m l rs r kinds.ExchangeCell (s.part r) q x e is opened) in
       let from = slice_index q.trail h.1 in let to = next_word from (source_value q.trail h.2) in
-      subst (After kinds.ExchangeCell) h.4
-      (exchange_goes h.0 kinds.ExchangeCell from to (exchanged (w.shared.cells h.0) ((w.run r).trail h.1) (stored_word ((w.run r).trail) h.1 h.2)) (micros.ExchangeCell h.0 h.1 h.2) (events.ExchangeCell r h.0 h.1 h.2) h.3 refl refl
-      refl (before_read h.0 (micros.ExchangeCell h.0 h.1 h.2) (before (micros.ExchangeCell h.0 h.1 h.2) refl refl h.3))
-      (ap (λ n. exchanged n ((w.run r).trail h.1) (stored_word ((w.run r).trail) h.1 h.2)) (old.words.cells h.0)
-      ∙ (ap (λ n. exchanged (s.word (spots.Cell h.0)) n (stored_word ((w.run r).trail) h.1 h.2)) (run_here.trail h.1) ∙ ap (exchanged (s.word (spots.Cell h.0)) from) (same_stored h.1 h.2)))
-      (record { run = refl; published = refl; finished = refl }) refl)
+      subst (After kinds.ExchangeCell) h.4 (
+        events.Read h.0 ∷ events.ExchangeCell r h.0 h.1 h.2 ∷ [],
+        (h.0, h.1, h.2, h.3, refl),
+        exchange_goes h.0 kinds.ExchangeCell from to (exchanged (w.shared.cells h.0) ((w.run r).trail h.1) (stored_word ((w.run r).trail) h.1 h.2)) (micros.ExchangeCell h.0 h.1 h.2) (events.ExchangeCell r h.0 h.1 h.2) h.3 refl refl
+            refl (before_read h.0 (micros.ExchangeCell h.0 h.1 h.2) (before (micros.ExchangeCell h.0 h.1 h.2) refl refl h.3))
+            (ap (λ n. exchanged n ((w.run r).trail h.1) (stored_word ((w.run r).trail) h.1 h.2)) (old.words.cells h.0)
+            ∙ (ap (λ n. exchanged (s.word (spots.Cell h.0)) n (stored_word ((w.run r).trail) h.1 h.2)) (run_here.trail h.1) ∙ ap (exchanged (s.word (spots.Cell h.0)) from) (same_stored h.1 h.2)))
+            (record { run = refl; published = refl; finished = refl }) refl,
+      )
 
   pub nested_hold : (x : Spot × Access) → asks m l rs r kinds.NestedHold (s.part r) ≡ Some x → After kinds.NestedHold x
   nested_hold x e =
       let h = asked.nested_hold_asked q x l (next_of m q) (asked.line_asked m l rs r kinds.NestedHold (s.part r) q x e is opened) in
-      subst (After kinds.NestedHold) h.3
-      (exchange_goes h.0 kinds.NestedHold h.1 (held_word q.descriptor h.1) (exchanged (w.shared.cells h.0) h.1 (held_word ((w.run r).descriptor) h.1)) (micros.NestedHold h.0 h.1) (events.NestedHold r h.0 h.1) h.2 refl refl
-      refl (before_read h.0 (micros.NestedHold h.0 h.1) (before (micros.NestedHold h.0 h.1) refl refl h.2))
-      (ap (λ n. exchanged n h.1 (held_word ((w.run r).descriptor) h.1)) (old.words.cells h.0) ∙ ap (λ d. exchanged (s.word (spots.Cell h.0)) h.1 (held_word d h.1)) run_here.descriptor)
-      (record { run = refl; published = refl; finished = refl }) refl)
+      subst (After kinds.NestedHold) h.3 (
+        events.Read h.0 ∷ events.NestedHold r h.0 h.1 ∷ [],
+        (h.0, h.1, h.2, refl),
+        exchange_goes h.0 kinds.NestedHold h.1 (held_word q.descriptor h.1) (exchanged (w.shared.cells h.0) h.1 (held_word ((w.run r).descriptor) h.1)) (micros.NestedHold h.0 h.1) (events.NestedHold r h.0 h.1) h.2 refl refl
+            refl (before_read h.0 (micros.NestedHold h.0 h.1) (before (micros.NestedHold h.0 h.1) refl refl h.2))
+            (ap (λ n. exchanged n h.1 (held_word ((w.run r).descriptor) h.1)) (old.words.cells h.0) ∙ ap (λ d. exchanged (s.word (spots.Cell h.0)) h.1 (held_word d h.1)) run_here.descriptor)
+            (record { run = refl; published = refl; finished = refl }) refl,
+      )
 
   -- the words of the request: its section has the same one as the run's thunk
   own_request : (section_of w r).request ≡ (thunk_of q.opened).request
@@ -228,38 +252,44 @@ module _ (m : Meaning) (l : Layout) (rs : List Request) (w : AgreementState) (s 
       ≡ record (s.part r) { run = Some (run_steps.goes_on m l q stamp); records = learned (s.part r).records request false stamp }
       = ap (λ b. if b then record (s.part r) { run = Some (run_steps.goes_on m l q stamp); records = learned (s.part r).records request false stamp } else s.part r) h.1 in
       let w1 = record (goes_on w r mine) { shared = record (w.shared) { stamp = upd w.shared.stamp ((section_of w r).request) mine } } in
-      subst (After kinds.StampExchange) h.2
-      (step_goes m l rs w s old r q is opened kinds.StampExchange (spots.Stamp request, Exchanges 0 (stamp_after q.word)) micros.StampExchange (record q { at = q.at + 1; word = stamp }) w1 h.0 refl refl
-      (one m l rs w s old r q is opened (events.StampExchange r) (before micros.StampExchange refl refl h.0))
-      (own_then w (goes_on w r mine) w1 r (goes_on_own w r mine) (own_shared (goes_on w r mine) r (record (w.shared) { stamp = upd w.shared.stamp ((section_of w r).request) mine }) (λ p word seen. seen)))
-      (subst (λ n. IsRunOf ((goes_on w r mine).run r) (record q { at = q.at + 1; word = n })) same (goes_on_run w r q mine run_here)) refl refl refl
-      (record {
-        run = ap (λ (p : PartState). p.run) next;
-        published = ap (λ (p : PartState). p.published) next;
-        finished = ap (λ (p : PartState). p.records.finished) next ∙ learned_finished (s.part r).records request false stamp;
-      })
-      (record {
-        cells = old.words.cells;
-        clock = old.words.clock;
-        reply = old.words.reply;
-        stamp = λ i. ap (λ k. upd w.shared.stamp k mine i) own_request ∙ (ap (λ k. upd w.shared.stamp request k i) same ∙ ap (cond (i == request) stamp) (old.words.stamp i));
-      })
-      (goes_on_sections w r mine (put s.word (spots.Stamp request) stamp) (λ d. let o = old.sections d in record { log = o.log; done = o.done })) (λ d j. refl)
-      (λ place word has. (old.tied r).read place word (subst (λ xs. has_pair xs place word ≡ true) (ap (λ (p : PartState). p.reads.cells) next) has)))
+      subst (After kinds.StampExchange) h.2 (
+        events.StampExchange r ∷ [],
+        (h.0, refl),
+        step_goes m l rs w s old r q is opened (events.StampExchange r ∷ []) kinds.StampExchange (spots.Stamp request, Exchanges 0 (stamp_after q.word)) micros.StampExchange (record q { at = q.at + 1; word = stamp }) w1 h.0 refl refl
+            (one m l rs w s old r q is opened (events.StampExchange r) (before micros.StampExchange refl refl h.0))
+            (own_then w (goes_on w r mine) w1 r (goes_on_own w r mine) (own_shared (goes_on w r mine) r (record (w.shared) { stamp = upd w.shared.stamp ((section_of w r).request) mine }) (λ p word seen. seen)))
+            (subst (λ n. IsRunOf ((goes_on w r mine).run r) (record q { at = q.at + 1; word = n })) same (goes_on_run w r q mine run_here)) refl refl refl
+            (record {
+              run = ap (λ (p : PartState). p.run) next;
+              published = ap (λ (p : PartState). p.published) next;
+              finished = ap (λ (p : PartState). p.records.finished) next ∙ learned_finished (s.part r).records request false stamp;
+            })
+            (record {
+              cells = old.words.cells;
+              clock = old.words.clock;
+              reply = old.words.reply;
+              stamp = λ i. ap (λ k. upd w.shared.stamp k mine i) own_request ∙ (ap (λ k. upd w.shared.stamp request k i) same ∙ ap (cond (i == request) stamp) (old.words.stamp i));
+            })
+            (goes_on_sections w r mine (put s.word (spots.Stamp request) stamp) (λ d. let o = old.sections d in record { log = o.log; done = o.done })) (λ d j. refl)
+            (λ place word has. (old.tied r).read place word (subst (λ xs. has_pair xs place word ≡ true) (ap (λ (p : PartState). p.reads.cells) next) has)),
+      )
 
   pub clock_raise : (x : Spot × Access) → asks m l rs r kinds.ClockRaise (s.part r) ≡ Some x → After kinds.ClockRaise x
   clock_raise x e =
       let h = asked.clock_raise_asked q x (next_of m q) (asked.line_asked m l rs r kinds.ClockRaise (s.part r) q x e is opened) in
       let n = (w.run r).word in
       let w1 = record (goes_on w r n) { shared = record (w.shared) { clock = max w.shared.clock (n / 2) } } in
-      subst (After kinds.ClockRaise) h.1
-      (step_goes m l rs w s old r q is opened kinds.ClockRaise (spots.Clock, Raises (q.word / 2)) micros.ClockRaise (record q { at = q.at + 1; word = q.word }) w1 h.0 refl refl
-      (one m l rs w s old r q is opened (events.ClockRaise r) (before micros.ClockRaise refl refl h.0))
-      (own_then w (goes_on w r n) w1 r (goes_on_own w r n) (own_shared (goes_on w r n) r (record (w.shared) { clock = max w.shared.clock (n / 2) }) (λ p word seen. seen)))
-      (behind_run w n refl run_here.word) refl refl refl (record { run = refl; published = refl; finished = refl })
-      (record { cells = old.words.cells; stamp = old.words.stamp; reply = old.words.reply; clock = ap (λ k. max k (n / 2)) old.words.clock ∙ ap (λ k. max (s.word spots.Clock) (k / 2)) run_here.word })
-      (goes_on_sections w r n (put s.word spots.Clock (max (s.word spots.Clock) (q.word / 2))) (λ d. let o = old.sections d in record { log = o.log; done = o.done })) (λ d j. refl)
-      (λ place word has. (old.tied r).read place word has))
+      subst (After kinds.ClockRaise) h.1 (
+        events.ClockRaise r ∷ [],
+        (h.0, refl),
+        step_goes m l rs w s old r q is opened (events.ClockRaise r ∷ []) kinds.ClockRaise (spots.Clock, Raises (q.word / 2)) micros.ClockRaise (record q { at = q.at + 1; word = q.word }) w1 h.0 refl refl
+            (one m l rs w s old r q is opened (events.ClockRaise r) (before micros.ClockRaise refl refl h.0))
+            (own_then w (goes_on w r n) w1 r (goes_on_own w r n) (own_shared (goes_on w r n) r (record (w.shared) { clock = max w.shared.clock (n / 2) }) (λ p word seen. seen)))
+            (behind_run w n refl run_here.word) refl refl refl (record { run = refl; published = refl; finished = refl })
+            (record { cells = old.words.cells; stamp = old.words.stamp; reply = old.words.reply; clock = ap (λ k. max k (n / 2)) old.words.clock ∙ ap (λ k. max (s.word spots.Clock) (k / 2)) run_here.word })
+            (goes_on_sections w r n (put s.word spots.Clock (max (s.word spots.Clock) (q.word / 2))) (λ d. let o = old.sections d in record { log = o.log; done = o.done })) (λ d j. refl)
+            (λ place word has. (old.tied r).read place word has),
+      )
 
   pub reply_exchange : (x : Spot × Access) → asks m l rs r kinds.ReplyExchange (s.part r) ≡ Some x → After kinds.ReplyExchange x
   reply_exchange x e =
@@ -271,17 +301,20 @@ module _ (m : Meaning) (l : Layout) (rs : List Request) (w : AgreementState) (s 
       let same : mine ≡ reply = ap (λ n. written_once (w.shared.reply n) h.0) own_request ∙ ap (λ n. written_once n h.0) (old.words.reply request) in
       let n = (w.run r).word in
       let w1 = record (goes_on w r n) { shared = record (w.shared) { reply = upd w.shared.reply ((section_of w r).request) mine } } in
-      subst (After kinds.ReplyExchange) h.2
-      (step_goes m l rs w s old r q is opened kinds.ReplyExchange (spots.Reply request, Exchanges 0 h.0) (micros.ReplyExchange h.0) (record q { at = q.at + 1; word = q.word }) w1 h.1 refl refl
-      (one m l rs w s old r q is opened (events.ReplyExchange r h.0) (before (micros.ReplyExchange h.0) refl refl h.1))
-      (own_then w (goes_on w r n) w1 r (goes_on_own w r n) (own_shared (goes_on w r n) r (record (w.shared) { reply = upd w.shared.reply ((section_of w r).request) mine }) (λ p word seen. seen)))
-      (behind_run w n refl run_here.word) refl refl refl
-      (record { run = refl; published = refl; finished = learned_finished (s.part r).records request true reply })
-      (record {
-        cells = old.words.cells;
-        clock = old.words.clock;
-        stamp = old.words.stamp;
-        reply = λ i. ap (λ k. upd w.shared.reply k mine i) own_request ∙ (ap (λ k. upd w.shared.reply request k i) same ∙ ap (cond (i == request) reply) (old.words.reply i));
-      })
-      (goes_on_sections w r n (put s.word (spots.Reply request) reply) (λ d. let o = old.sections d in record { log = o.log; done = o.done })) (λ d j. refl)
-      (λ place word has. (old.tied r).read place word has))
+      subst (After kinds.ReplyExchange) h.2 (
+        events.ReplyExchange r h.0 ∷ [],
+        (h.0, h.1, refl),
+        step_goes m l rs w s old r q is opened (events.ReplyExchange r h.0 ∷ []) kinds.ReplyExchange (spots.Reply request, Exchanges 0 h.0) (micros.ReplyExchange h.0) (record q { at = q.at + 1; word = q.word }) w1 h.1 refl refl
+            (one m l rs w s old r q is opened (events.ReplyExchange r h.0) (before (micros.ReplyExchange h.0) refl refl h.1))
+            (own_then w (goes_on w r n) w1 r (goes_on_own w r n) (own_shared (goes_on w r n) r (record (w.shared) { reply = upd w.shared.reply ((section_of w r).request) mine }) (λ p word seen. seen)))
+            (behind_run w n refl run_here.word) refl refl refl
+            (record { run = refl; published = refl; finished = learned_finished (s.part r).records request true reply })
+            (record {
+              cells = old.words.cells;
+              clock = old.words.clock;
+              stamp = old.words.stamp;
+              reply = λ i. ap (λ k. upd w.shared.reply k mine i) own_request ∙ (ap (λ k. upd w.shared.reply request k i) same ∙ ap (cond (i == request) reply) (old.words.reply i));
+            })
+            (goes_on_sections w r n (put s.word (spots.Reply request) reply) (λ d. let o = old.sections d in record { log = o.log; done = o.done })) (λ d j. refl)
+            (λ place word has. (old.tied r).read place word has),
+      )

@@ -1,12 +1,12 @@
 -- A step of the machine as events of the component of agreement.
-use Rattle.std.specs.Prelude.{◌≡◌, ℕ, List}
+use Rattle.std.specs.Prelude.{◌≡◌, ℕ, List, ◌++◌, replicate}
 use Rattle.map_history.specs.declared.op.Request.{Request}
 use Rattle.table_words.specs.declared.layout.Layout.{Layout}
 use Rattle.table_words.specs.declared.spot.Spot.TheVariants.{Cell}
 use Rattle.structure_laws.specs.Meaning.{Meaning}
 use Rattle.runner_steps.specs.declared.event.EventKind.{EventKind}
 use Rattle.agreement_core.specs.State.{AgreementState}
-use Rattle.agreement_core.specs.Events.{Event}
+use Rattle.agreement_core.specs.Events.{Event, Pass}
 use Rattle.agreement_core.specs.Schedules.{first_state, AllEnabled, after_all}
 use Rattle.machine_states.specs.World.{World}
 use Rattle.machine_states.specs.First.{IsFirst}
@@ -14,24 +14,27 @@ use Rattle.machine_states.specs.Sight.{Sight, sight, Steps}
 use Rattle.machine_scenes.specs.Shown.{rules_of}
 use Rattle.machine_sections.specs.Joined.{IsJoined}
 use Rattle.machine_sections.specs.Supplied.{IsSupplied}
+use Rattle.machine_sections.specs.Chunks.{IsChunk}
 
 module _ (m : Meaning) (l : Layout) where
-  -- a list of the component's enabled events leads from the one state to the other
-  pub record Leads (w w' : AgreementState) : Type 0 where
-    pub events : List Event
-    pub enabled : AllEnabled (rules_of m l) w events
-    pub there : after_all (rules_of m l) w events ≡ w'
+  -- these events, and then a Pass of this runner for each check behind them that passes, lead from the one state to the other, each of
+  -- them enabled where it comes
+  pub record Leads (r : ℕ) (heads : List Event) (w w' : AgreementState) : Type 0 where
+    pub passes : ℕ
+    pub enabled : AllEnabled (rules_of m l) w (heads ++ replicate passes (Pass r))
+    pub there : after_all (rules_of m l) w (heads ++ replicate passes (Pass r)) ≡ w'
 
-  -- such events lead to a state that is joined with this one of the machine
-  pub record Goes (w : AgreementState) (s : Sight) : Type 0 where
+  -- they lead to a state that is joined with this one of the machine
+  pub record Goes (r : ℕ) (heads : List Event) (w : AgreementState) (s : Sight) : Type 0 where
     pub next : AgreementState
-    pub leads : Leads w next
+    pub leads : Leads r heads w next
     pub joined : IsJoined m l next s
 
-  -- each step of the machine is a list of the component's events, where it is supplied
+  -- each step of the machine is the events of its kind, where it is supplied, and then a Pass for each check behind them that passes
   abbrev pub StepsAreEvents : List Request → Type 0
   StepsAreEvents requests = (w : AgreementState) (s s' : Sight) (r : ℕ) (kind : EventKind) → IsJoined m l w s
-      → (step : Steps m l requests s s' r kind) → IsSupplied m l w s r kind (s.word (step.ask.0)) → Goes w s'
+      → (step : Steps m l requests s s' r kind) → IsSupplied m l w s r kind (s.word (step.ask.0))
+      → (heads : List Event) × IsChunk m l w r kind (s.part r) (s.part r).run (s.word (step.ask.0)) heads × Goes r heads w s'
 
   -- in the first state agreement has done nothing
   abbrev pub StartsJoined : List Request → Type 0

@@ -2,8 +2,7 @@
 use Rattle.std.specs.Prelude.{◌≡◌, ℕ, ◌-◌, ◌<◌, List, Bool, true, false, ◌==◌, nat_le, length, take, drop, slice_get, slice_index, Option, Some, None}
 use Rattle.std.specs.List.{list_any}
 use Rattle.section_body.specs.declared.micro.Micro.{Micro}
-use Rattle.section_body.specs.declared.thunk.Thunk.{Thunk}
-use Rattle.section_body.specs.Line.{line, micro_at, committed, ending}
+use Rattle.section_body.specs.Line.{ending}
 use Rattle.table_words.specs.declared.layout.Layout.{Layout}
 use Rattle.table_words.specs.declared.spot.Spot.{Spot}
 use Rattle.table_words.specs.declared.spot.Spot.TheVariants.{Clock, Stamp, Reply, Cell, ThunkWord, DoneWord, LogWord}
@@ -13,7 +12,7 @@ use Rattle.runner_steps.specs.State.{RunState, FinishedState, PartState}
 use Rattle.runner_steps.specs.Tests.{has_pair}
 use Rattle.runner_steps.specs.Sections.{thunk_of, line_of, settles}
 use Rattle.runner_steps.specs.AfterInRun.{place_of}
-use Rattle.agreement_core.specs.State.{CellRules, Section, Run, Finished, Shared, AgreementState}
+use Rattle.agreement_core.specs.State.{Section, Run, Finished, Shared, AgreementState}
 use Rattle.agreement_core.specs.Sound.{IsSound}
 use Rattle.machine_states.specs.Sight.{Sight}
 use Rattle.machine_scenes.specs.Shown.{rules_of, IsOfThunk}

@@ -1,3 +1,4 @@
 pub mod Joined
 pub mod Supplied
+pub mod Chunks
 pub mod Goes

@@ -1,5 +1,5 @@
 -- What the join of sections needs of epochs and slots and of the structure's laws, step by step.
-use Rattle.std.specs.Prelude.{◌≡◌, ◌≢◌, ℕ, ◌+◌, true, false, not, ◌==◌, ◌&&◌, nat_lt, Option, Some, None, if◌then◌else◌}
+use Rattle.std.specs.Prelude.{◌≡◌, ◌≢◌, ℕ, true, false, Some, None}
 use Rattle.std.specs.List.{filter}
 use Rattle.section_body.specs.declared.micro.Micro.TheVariants.{LoadCell}
 use Rattle.section_body.specs.declared.thunk.Thunk.{Thunk}
@@ -10,19 +10,16 @@ use Rattle.table_words.specs.declared.spot.Spot.TheVariants.{DoneWord, LogWord}
 use Rattle.structure_laws.specs.Meaning.{Meaning}
 use Rattle.runner_steps.specs.declared.event.EventKind.{EventKind}
 use Rattle.runner_steps.specs.declared.event.EventKind.TheVariants as kinds
-use Rattle.runner_steps.specs.declared.stage.Stage.{Stage}
-use Rattle.runner_steps.specs.declared.stage.Stage.TheVariants.{Scanning}
 use Rattle.runner_steps.specs.declared.entries.Published.{Published}
 use Rattle.runner_steps.specs.State.{RunState}
 use Rattle.runner_steps.specs.Tests.{has}
-use Rattle.runner_steps.specs.Outside.{last_epoch}
-use Rattle.runner_steps.specs.AfterOutside.{is_clear}
 use Rattle.runner_steps.specs.Lists.{is_old, slots_of}
-use Rattle.runner_steps.specs.Sections.{next_of}
+use Rattle.runner_steps.specs.Sections.{is_open_run, next_of}
 use Rattle.agreement_core.specs.State.{AgreementState, section_of}
 use Rattle.agreement_core.specs.Events.{IsAlone, IsPrivateStore, IsPublishable}
 use Rattle.machine_states.specs.Sight.{Sight}
 use Rattle.machine_joins.specs.Slots.{thunk_in}
+pub use Rattle.machine_joins.specs.ScanEnds.{scan_collects, advance_collects, collects}
 use Rattle.machine_scenes.specs.Shown.{rules_of}
 
 -- a retired descriptor that nobody runs
@@ -39,27 +36,11 @@ pub record MayPublish (m : Meaning) (l : Layout) (w : AgreementState) (s : Sight
   -- no other runner has published it
   pub apart : (i : ℕ) (x : Published) → i ≢ r → (s.part i).published ≡ Some x → x.descriptor ≢ d
 
--- the epoch for which a scanner collects that reads the last announcement, where no advance is tried
-abbrev pub scan_collects : Layout → ℕ → Stage → Option ℕ
-scan_collects l found (Scanning epoch next clear) = if next == l.runners && not ((clear && is_clear epoch found) && nat_lt epoch last_epoch) then Some epoch else None
-scan_collects l found _ = None
-
--- the same where it tries one
-abbrev pub advance_collects : Stage → Option ℕ
-advance_collects (Scanning epoch next clear) = if nat_lt epoch last_epoch then Some (epoch + 1) else None
-advance_collects _ = None
-
--- the epoch for which a step of this kind collects, if it ends a scan
-abbrev pub collects : Layout → EventKind → Stage → ℕ → Option ℕ
-collects l (kinds.ScanOne n) stage found = scan_collects l found stage
-collects l kinds.Advance stage found = advance_collects stage
-collects l _ stage found = None
-
 module _ (m : Meaning) (l : Layout) where
   -- what is needed for an event of this runner that found this word
   pub record IsSupplied (w : AgreementState) (s : Sight) (r : ℕ) (kind : EventKind) (found : ℕ) : Type 0 where
     -- a run that loads a cell at the edge of its open section: no other open section has come to the cell
-    pub alone : (q : RunState) (p k : ℕ) → (s.part r).run ≡ Some q → next_of m q ≡ LoadCell p k → (w.run r).at ≡ (section_of w r).edge → (section_of w r).done ≡ 0
+    pub alone : (q : RunState) (p k : ℕ) → (s.part r).run ≡ Some q → is_open_run q ≡ true → next_of m q ≡ LoadCell p k → (w.run r).at ≡ (section_of w r).edge → (section_of w r).done ≡ 0
         → IsAlone w ((w.run r).descriptor) p
     -- a Make's store into a cell of its slot
     pub private : (q : RunState) (slot cell number : ℕ) → (s.part r).run ≡ Some q → kind ≡ kinds.PrivateStore slot cell number → IsPrivateStore (rules_of m l) w (cell_of m.fixed_cells slot cell) number

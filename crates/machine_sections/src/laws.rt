@@ -7,9 +7,10 @@ ghost use Rattle.machine_sections.specs.Goes.{StepsAreEvents, StartsJoined};
 
 use runner_steps::Structure;
 
-/// Each step of the machine, of whatever kind, is a list of enabled events of agreement, where it is supplied with what the other
-/// components know: a state of agreement that belongs to the machine's before the step is led to one that belongs to the machine's
-/// after it. So what agreement keeps over every list of its events, the machine keeps with it.
+/// Each step of the machine is the events of agreement that belong to its kind, each enabled where it comes, and then a Pass for each check
+/// that passes, where the step is supplied with what the other components know: they lead a state of agreement that belongs to the
+/// machine's before the step to one that belongs to the machine's after it. So what agreement keeps over every list of its events, the
+/// machine keeps with it.
 pub fn steps_are_events<S: Structure>(structure: &S)
     ensures { (layout : Layout) (requests : List Request) → StepsAreEvents (S.meaning structure.now) layout requests }
 {}

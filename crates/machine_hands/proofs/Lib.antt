@@ -1,0 +1,5 @@
+pub mod Locks
+pub mod Cells
+pub mod Runs
+pub mod Filled
+pub mod Stores
