@@ -5,6 +5,8 @@ ghost use Rattle.interleave_core.specs.declared.schedules.ScheduleError.TheVaria
 ghost use Rattle.machine_states.specs.Schedules.{IsAfter};
 ghost use Rattle.machine_joins.specs.Descriptors.{DescriptorsSoundAfter};
 ghost use Rattle.machine_joins.specs.Epochs.{SoundAfter};
+ghost use Rattle.machine_whole.specs.After.{WholeAfter};
+ghost use Rattle.machine_whole.specs.Rising.{RisesAfter};
 ghost use Rattle.interleave_core.specs.Enabled.{StopsNaming};
 
 use crate::machine::{Machine, StepError};
@@ -23,7 +25,9 @@ pub enum ScheduleError {
     Memory,
 }
 
-/// The machine after these events, from its first state on.
+/// The machine after these events, from its first state on. Over every structure, whatever the events: its epochs, slots, descriptors and
+/// sections are sound, each event was exactly the events of its kind in agreement and in epochs and slots, and the next one leaves
+/// each cell as it is or raises its version by one. `NotEnabled` comes exactly where an event isn't enabled, and names the first.
 pub fn all_schedules<S: Structure>(
     alloc: Global,
     structure: S,
@@ -36,6 +40,8 @@ pub fn all_schedules<S: Structure>(
     ensures ok { IfOk result (λ x. IsAfter (S.meaning structure) layout requests.now events.now x.world) }
     ensures epochs { IfOk result (λ x. SoundAfter (S.meaning structure) layout requests.now events.now x.world) }
     ensures descriptors { IfOk result (λ x. DescriptorsSoundAfter (S.meaning structure) layout requests.now events.now x.world) }
+    ensures whole { IfOk result (λ x. WholeAfter (S.meaning structure) layout requests.now events.now x.world) }
+    ensures rises { IfOk result (λ x. RisesAfter (S.meaning structure) layout requests.now events.now x.world) }
     ensures structure { IfOk result (λ x. x.structure ≡ structure) }
     ensures layout { IfOk result (λ x. x.layout ≡ layout) }
     ensures requests { IfOk result (λ x. x.requests ≡ requests.now) }

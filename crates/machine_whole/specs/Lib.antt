@@ -1,0 +1,10 @@
+pub mod Named
+pub mod Whole
+pub mod Slots
+pub mod Trails
+pub mod Sections
+pub mod Along
+pub mod States
+pub mod After
+pub mod Lengths
+pub mod Rising
