@@ -1,9 +1,11 @@
-//! Worked rows on the shared table, over the test structure.
+//! Walks of runners in no run over the shared table of the test structure, and worked rows as tests.
 //!
-//! `walks` has helpers that make the steps of an entry, a scan and a join; `rows` has the tests.
+//! `walks` has the steps of an entry, a scan, a join and the private steps, each in the order in which a runner makes them; `rows` has
+//! the tests.
 #![tactic(auto)]
 
 #[cfg(test)]
 mod rows;
-#[cfg(test)]
 mod walks;
+
+pub use walks::{collect, crew, enter, entry, exit, fetch, gather, look, new_table, put};

@@ -4,7 +4,7 @@ ghost use Rattle.runner_steps.specs.declared.stage.Stage.TheVariants as stages;
 ghost use Rattle.version_words.specs.TableState.{IsOf};
 ghost use Rattle.version_words.specs.Stages.{IsAt};
 
-use crate::walks::{collect, crew, enter, exit, gather, look, new_table};
+use crate::walks::{collect, crew, enter, entry, exit, fetch, gather, look, new_table, put};
 use interleave_core::Tray;
 use std::alloc::AllocError;
 use std::thread;
@@ -103,5 +103,34 @@ fn an_entered_runner_loads_a_cell(rt: HostRuntime) -> Result<(), AllocError> {
     let first = exit(&table, first, epoch);
     let words = gather(table, keeper, first, second);
     assert!(&rt; words.cell(1).bits() == 4294967296);
+    Ok(())
+}
+
+#[test]
+fn an_idle_worker_stores_into_a_free_descriptor_and_loads_it(
+    rt: HostRuntime,
+) -> Result<(), AllocError> {
+    let (table, keeper) = new_table(rt.alloc())?;
+    let (keeper, first, second) = crew(&table, rt.alloc(), keeper)?;
+    let first = put(&table, first, 0, 0, 9);
+    let second = put(&table, second, 1, 76, 5);
+    let (first, word) = fetch(&table, first, 0, 0);
+    let (second, other) = fetch(&table, second, 1, 76);
+    let (second, unstored) = fetch(&table, second, 1, 12);
+    assert!(&rt; word == 9 && other == 5 && unstored == 0);
+    let (first, stamp) = entry(&table, first, 0);
+    assert!(&rt; stamp == 0);
+    let words = gather(table, keeper, first, second);
+    assert!(&rt; words.entry(0).is_none());
+    Ok(())
+}
+
+#[test]
+fn a_new_worker_has_two_node_slots_and_none_in_limbo(rt: HostRuntime) -> Result<(), AllocError> {
+    let (table, keeper) = new_table(rt.alloc())?;
+    let (keeper, first, second) = crew(&table, rt.alloc(), keeper)?;
+    assert!(&rt; first.free_nodes().len() == 2 && first.limbo_nodes() == 0 && first.worn() == 0);
+    let words = gather(table, keeper, first, second);
+    assert!(&rt; words.entry(0).is_none());
     Ok(())
 }

@@ -4,11 +4,12 @@ ghost use Rattle.runner_steps.specs.declared.stage.Stage.TheVariants as stages;
 ghost use Rattle.runner_steps.specs.Outside.{last_epoch};
 ghost use Rattle.runner_steps.specs.AfterOutside.{is_clear};
 ghost use Rattle.version_words.specs.TableState.{IsOf};
-ghost use Rattle.version_words.specs.Stages.{IsAt, IsKeeper, HasJoined};
+ghost use Rattle.table_words.specs.Limits.{IsWithinLimits};
+ghost use Rattle.version_words.specs.Stages.{IsAt, IsKeeper, HasJoined, HasFree};
 
 use interleave_core::Tray;
 use map_history::{Op, Request};
-use runner_steps::LAST_EPOCH;
+use runner_steps::{LAST_EPOCH, slot_count};
 use section_body::{Place, Word};
 use std::alloc::{AllocError, Global};
 use table_words::Layout;
@@ -53,6 +54,61 @@ pub fn exit(table: &FlockTable<Tray>, runner: Runner<Tray>, epoch: u64) -> Runne
     ensures number { result.number ≡ runner.number }
 {
     table.idle(runner)
+}
+
+/// Stores a number into a word of an own free descriptor.
+pub fn put(
+    table: &FlockTable<Tray>,
+    runner: Runner<Tray>,
+    descriptor: u32,
+    word: u32,
+    number: u64,
+) -> Runner<Tray>
+    requires own { IsOf table.now runner }
+    requires limits { IsWithinLimits table.now.layout }
+    requires at { IsAt runner stages.Idle None }
+    requires free { HasFree runner descriptor }
+    requires word { word < 77 }
+    ensures own { IsOf table.now result }
+    ensures at { IsAt result stages.Idle None }
+    ensures free { HasFree result descriptor }
+    ensures number { result.number ≡ runner.number }
+{
+    let slots = slot_count(table.structure(), table.layout());
+    table.private_store(runner, slots + descriptor, word, number)
+}
+
+/// Loads a word of an own free descriptor.
+pub fn fetch(
+    table: &FlockTable<Tray>,
+    runner: Runner<Tray>,
+    descriptor: u32,
+    word: u32,
+) -> (Runner<Tray>, u64)
+    requires own { IsOf table.now runner }
+    requires limits { IsWithinLimits table.now.layout }
+    requires at { IsAt runner stages.Idle None }
+    requires free { HasFree runner descriptor }
+    requires word { word < 77 }
+    ensures own { IsOf table.now result.0 }
+    ensures at { IsAt result.0 stages.Idle None }
+    ensures free { HasFree result.0 descriptor }
+    ensures number { result.0.number ≡ runner.number }
+{
+    let slots = slot_count(table.structure(), table.layout());
+    table.private_load(runner, slots + descriptor, word)
+}
+
+/// Loads a request's stamp word.
+pub fn entry(table: &FlockTable<Tray>, runner: Runner<Tray>, request: u32) -> (Runner<Tray>, u64)
+    requires own { IsOf table.now runner }
+    requires at { IsAt runner stages.Idle None }
+    requires request { request < length table.now.requests }
+    ensures own { IsOf table.now result.0 }
+    ensures at { IsAt result.0 stages.Idle None }
+    ensures number { result.0.number ≡ runner.number }
+{
+    table.load_entry(runner, request, false)
 }
 
 /// The last announcement of a scan, and the advance where one may be tried. The answer says whether the epoch went on.
@@ -123,9 +179,11 @@ fn split(
     requires keeper { IsKeeper keeper number }
     requires unjoined { HasJoined keeper 0 }
     requires few { number < table.now.layout.runners }
+    requires one { table.now.layout.sections ≡ 1 }
     ensures own { IfOk result (λ x. IsOf table.now x.0 × IsOf table.now x.1) }
     ensures keeper { IfOk result (λ x. IsKeeper x.0 (number + 1) × HasJoined x.0 0) }
     ensures worker { IfOk result (λ x. IsAt x.1 stages.Idle None × (x.1.number ≡ number)) }
+    ensures free { IfOk result (λ x. HasFree x.1 number) }
 {
     match table.runner(alloc, keeper) {
         Ok(both) => Ok(both),
@@ -155,7 +213,8 @@ fn join(
 pub fn new_table(alloc: Global) -> Result<(FlockTable<Tray>, Runner<Tray>), AllocError>
     ensures own { IfOk result (λ x. IsOf x.0 x.1) }
     ensures keeper { IfOk result (λ x. IsKeeper x.1 0 × HasJoined x.1 0) }
-    ensures sizes { IfOk result (λ x. (x.0.layout.runners ≡ 2) × (length x.0.requests ≡ 1)) }
+    ensures sizes { IfOk result (λ x. (x.0.layout.runners ≡ 2) × (x.0.layout.sections ≡ 1) × (length x.0.requests ≡ 1)) }
+    ensures limits { IfOk result (λ x. IsWithinLimits x.0.layout) }
 {
     let layout = Layout {
         runners: 2,
@@ -180,11 +239,12 @@ pub fn crew(
 ) -> Result<(Runner<Tray>, Runner<Tray>, Runner<Tray>), AllocError>
     requires own { IsOf table.now keeper }
     requires keeper { IsKeeper keeper 0 × HasJoined keeper 0 }
-    requires two { table.now.layout.runners ≡ 2 }
+    requires two { (table.now.layout.runners ≡ 2) × (table.now.layout.sections ≡ 1) }
     ensures own { IfOk result (λ x. IsOf table.now x.0 × IsOf table.now x.1 × IsOf table.now x.2) }
     ensures keeper { IfOk result (λ x. IsKeeper x.0 2 × HasJoined x.0 0) }
     ensures workers { IfOk result (λ x. IsAt x.1 stages.Idle None × IsAt x.2 stages.Idle None) }
     ensures numbers { IfOk result (λ x. (x.1.number ≡ 0) × (x.2.number ≡ 1)) }
+    ensures free { IfOk result (λ x. HasFree x.1 0 × HasFree x.2 1) }
 {
     let (keeper, first) = split(table, alloc, keeper, 0)?;
     let (keeper, second) = split(table, alloc, keeper, 1)?;

@@ -1,12 +1,15 @@
 -- A runner's code keeps the place of its run.
-use Rattle.std.proofs.Common.{◌≡◌, ℕ, ◌-◌, ◌*◌, ◌+◌, ◌<◌, ◌≤◌, List, [], ◌∷◌, length, Bool, true, false, refl, sym, ap, subst, ◌∙◌, arith, Option, Some, None, if◌then◌else◌, length-append}
-use Rattle.std.specs.Prelude.{◌%◌, ◌^◌, ◌&&◌, ◌==◌, nat_lt, slice_index}
+use Rattle.std.proofs.Common.{◌≡◌, ℕ, ◌-◌, ◌*◌, ◌+◌, ◌<◌, ◌≤◌, List, [], ◌∷◌, ◌++◌, length, Bool, true, false, refl, sym, ap, subst, ◌∙◌, arith, Option, Some, None, if◌then◌else◌, length-append}
+use Rattle.std.specs.Prelude.{◌%◌, ◌^◌, ◌&&◌, ◌==◌, suc, zero, nat_lt, slice_index, slice_index_or, cond, take}
+use Rattle.std.specs.Option.{is_some}
+use Rattle.std.specs.List.{list_all}
+use Rattle.std.proofs.lemmas.List.Folds.{list_all-append}
 use Rattle.map_history.specs.declared.op.Request.{Request}
 use Rattle.section_body.specs.declared.thunk.Thunk.{Thunk}
 use Rattle.section_body.specs.declared.micro.Micro.{Micro}
 use Rattle.section_body.specs.declared.micro.Micro.TheVariants as micros
 use Rattle.section_body.specs.Word.{version_of, held_word, next_word}
-use Rattle.section_body.specs.Line.{is_end}
+use Rattle.section_body.specs.Line.{is_end, is_event, micro_at, release_of, releases, ending}
 use Rattle.section_body.specs.Run.{written_once}
 use Rattle.atomic_table.specs.Table.{Me}
 use Rattle.atomic_table.specs.Seated.{TableId}
@@ -15,7 +18,7 @@ use Rattle.table_words.specs.declared.spot.Spot.{Spot}
 use Rattle.table_words.specs.declared.spot.Spot.TheVariants as spots
 use Rattle.table_words.specs.declared.access.Access.{Access}
 use Rattle.table_words.specs.declared.access.Access.TheVariants.{Exchanges}
-use Rattle.table_words.specs.Places.{descriptor_count}
+use Rattle.table_words.specs.Places.{address, descriptor_count}
 use Rattle.table_words.specs.Limits.{IsWithinLimits}
 use Rattle.std.proofs.Math.Nat.{mul-le-mul_left}
 use Rattle.std.proofs.lemmas.Bool.Decides.{nat_tests}
@@ -23,22 +26,27 @@ use Rattle.structure_laws.specs.Meaning.{Meaning}
 use Rattle.runner_steps.specs.declared.event.EventKind.{EventKind}
 use Rattle.runner_steps.specs.declared.event.EventKind.TheVariants as kinds
 use Rattle.runner_steps.specs.State.{RunState, PartState}
-use Rattle.runner_steps.specs.Sections.{line_limit, is_open_run, next_of, thunk_of}
+use Rattle.runner_steps.specs.Sections.{line_limit, is_open_run, next_of, thunk_of, line_of}
+use Rattle.runner_steps.specs.declared.entries.Published.{Published}
+use Rattle.runner_steps.specs.Tests.{has}
 use Rattle.runner_steps.specs.InRun.{stamp_after, last_clock, can_raise, can_hold, nested_hold_ask, release_ask}
 use Rattle.runner_steps.specs.Asks.{asks, sizes_for, ask_by, outside_ask, line_ask, opening_ask}
-use Rattle.runner_steps.specs.AfterInRun.{opened_more, goes_on, agrees, with_run, ended_more, run_over, lock_committed, word_committed, is_of_lock, place_of, reply_word_of}
+use Rattle.runner_steps.specs.AfterInRun.{opened_more, over_if, goes_on, agrees, with_run, ended_more, run_over, lock_committed, word_committed, is_of_lock, place_of, reply_word_of}
 use Rattle.runner_steps.specs.Lists.{cell_read, learned}
-use Rattle.runner_steps.specs.After.{outside_after, line_after, after_by, stepped}
+use Rattle.runner_steps.specs.After.{line_after, after_by, stepped}
 use Rattle.version_words.specs.declared.view.View.{View}
 use Rattle.version_words.specs.declared.place.RunPlace.{RunPlace}
 use Rattle.version_words.specs.declared.block.Block.{Block}
-use Rattle.version_words.specs.RunnerState.{RunnerState, told_part}
-use Rattle.version_words.specs.Place.{IsPlaced}
+use Rattle.version_words.specs.Naming.{load_of}
+use Rattle.version_words.specs.RunnerState.{RunnerState, told_part, told_published}
+use Rattle.version_words.specs.TableState.{TableState, IsOf}
+use Rattle.version_words.specs.Place.{IsPlaced, HasEpoch, is_ending}
 use Rattle.version_words.specs.Kept.{IsKept}
 use Rattle.version_words.specs.Events.{met_by, Makes, seen_seat}
 use Rattle.version_words.proofs.Splits.{learns}
-use Rattle.version_words.proofs.Asked.{is_outer, unless_gone, tested}
-use Rattle.version_words.proofs.Told.{told, no_place, outer_lists}
+use Rattle.version_words.proofs.Asked.{unless_gone, tested}
+use Rattle.version_words.proofs.Keeps.{KeepsPart, no_epoch, was_part, then_kept}
+use Rattle.version_words.proofs.Epochs.{is_epoch, goes_epoch, ended_epoch, epoch_if}
 use Rattle.machine_states.proofs.Steps.{some_same}
 
 some_none : {A : Type 0} → (a : A) → None ≡ Some a → ⊥
@@ -46,6 +54,9 @@ some_none a e = cc
 
 false_true : false ≡ true → ⊥
 false_true e = cc
+
+true_false : true ≡ false → ⊥
+true_false e = cc
 
 -- the kinds of step that are made in a run alone, once it has loaded its opening, and that leave the lists as they are
 abbrev pub is_quiet : EventKind → Bool
@@ -68,6 +79,22 @@ is_commit kinds.Commit = true
 is_commit kinds.OutcomeCommit = true
 is_commit _ = false
 
+-- those of the end of a run
+abbrev pub is_ender : EventKind → Bool
+is_ender kinds.SetDone = true
+is_ender kinds.Release = true
+is_ender _ = false
+
+ender_quiet : (k : EventKind) → is_ender k ≡ true → is_quiet k ≡ true
+ender_quiet kinds.SetDone e = refl
+ender_quiet kinds.Release e = refl
+ender_quiet _ e = absurd (false_true e)
+
+commit_goes : (k : EventKind) → is_commit k ≡ true → is_ender k ≡ false
+commit_goes kinds.Commit e = refl
+commit_goes kinds.OutcomeCommit e = refl
+commit_goes _ e = absurd (false_true e)
+
 abbrev pub is_inner : EventKind → Bool
 is_inner kinds.Commit = true
 is_inner kinds.OutcomeCommit = true
@@ -86,7 +113,7 @@ commit_inner kinds.OutcomeCommit e = refl
 commit_inner _ e = absurd (false_true e)
 
 -- a run that has loaded its opening
-record HasOpenRun (p : PartState) : Type 0 where
+pub record HasOpenRun (p : PartState) : Type 0 where
   pub run : RunState
   pub there : p.run ≡ Some run
   pub ready : is_open_run run ≡ true
@@ -126,8 +153,12 @@ by_run m l rs r k p (Some q) x e h = (q, refl, open_by m l k p.nodes.free q x (i
 opened_run : (m : Meaning) (l : Layout) (rs : List Request) (r : ℕ) (k : EventKind) (p : PartState) (x : Spot × Access) → is_inner k ≡ true → asks m l rs r k p ≡ Some x → HasOpenRun p
 opened_run m l rs r k p x e h = let b = by_run m l rs r k p p.run x e (unless_gone (sizes_for m l rs) p.gone (ask_by m l rs r k p p.run) x h) in record { run = b.0; there = b.1; ready = b.2 }
 
-step_is : (m : Meaning) (l : Layout) (k : EventKind) (p : PartState) (found : ℕ) (h : HasOpenRun p) → stepped m l k p found ≡ line_after m l k p h.run (next_of m h.run) found
+pub step_is : (m : Meaning) (l : Layout) (k : EventKind) (p : PartState) (found : ℕ) (h : HasOpenRun p) → stepped m l k p found ≡ line_after m l k p h.run (next_of m h.run) found
 step_is m l k p found h = ap (λ (o : Option RunState). after_by m l k p o found) h.there ∙ ap (λ (b : Bool). if b then line_after m l k p h.run (next_of m h.run) found else opened_more p h.run found) h.ready
+
+over_published : (o : Option Published) (descriptor : ℕ) → told_published (over_if o descriptor) ≡ told_published o
+over_published None descriptor = refl
+over_published (Some x) descriptor = refl
 
 -- the lists stay
 told_same : (b : Bool) (p q r : PartState) → told_part p ≡ told_part r → told_part q ≡ told_part r → told_part (if b then p else q) ≡ told_part r
@@ -138,6 +169,10 @@ module _ (m : Meaning) (l : Layout) (p : PartState) (q : RunState) (micro : Micr
   knows_more : (request : ℕ) (reply : Bool) (number : ℕ) → told_part (record p { records = learned p.records request reply number }) ≡ told_part p
   knows_more request reply number = ap (λ (n : ℕ). record (told_part p) { records = record { known = []; finished = []; events = 0; left = []; splits = n; joined = [] } }) (learns p.records request reply number)
 
+  -- a run that is over leaves them, and the section that the code keeps as published
+  over_told : (p' : PartState) (q' : RunState) → told_part (run_over m l p' q') ≡ told_part p'
+  over_told p' q' = ap (λ (o : Option Published). record (told_part p') { published = o }) (over_published p'.published q'.descriptor)
+
   -- a quiet step leaves the lists
   quiet_lists : (k : EventKind) → is_inner k ≡ true → told_part (line_after m l k p q micro found) ≡ told_part p
   quiet_lists kinds.Commit e = told_same (is_of_lock micro) (lock_committed m l p q found) (word_committed m l p q found) p refl refl
@@ -145,7 +180,7 @@ module _ (m : Meaning) (l : Layout) (p : PartState) (q : RunState) (micro : Micr
   quiet_lists (kinds.LoadCell None) e = refl
   quiet_lists kinds.ExchangeCell e = refl
   quiet_lists kinds.SetDone e = refl
-  quiet_lists kinds.Release e = let after_release = record p { reads = cell_read p.reads (place_of micro) found } in told_same (is_end (next_of m (ended_more q))) (run_over m l after_release (ended_more q)) (with_run after_release (ended_more q)) p refl refl
+  quiet_lists kinds.Release e = let after_release = record p { reads = cell_read p.reads (place_of micro) found } in told_same (is_end (next_of m (ended_more q))) (run_over m l after_release (ended_more q)) (with_run after_release (ended_more q)) p (over_told after_release (ended_more q)) refl
   quiet_lists kinds.ClockLoad e = refl
   quiet_lists kinds.StampExchange e = let stamp = written_once found (stamp_after q.word) in let request = (thunk_of q.opened).request in
       told_same (nat_lt q.word last_clock) (record p { run = Some (goes_on m l q stamp); records = learned p.records request false stamp }) p p (knows_more request false stamp) refl
@@ -158,125 +193,299 @@ module _ (m : Meaning) (l : Layout) (p : PartState) (q : RunState) (micro : Micr
   quiet_lists _ e = absurd (false_true e)
 
 -- the place of a run with these words
-same_place : (kept : RunPlace) (q y : RunState) → y.descriptor ≡ q.descriptor → y.opened ≡ q.opened → y.trail ≡ q.trail → IsPlaced kept q → IsPlaced kept y
-same_place kept q y d o t is = record {
+pub same_place : (kept : RunPlace) (q y : RunState) → y.descriptor ≡ q.descriptor → y.opened ≡ q.opened → y.trail ≡ q.trail → y.made ≡ q.made → y.worn ≡ q.worn → IsPlaced kept q → IsPlaced kept y
+same_place kept q y d o t a w is = record {
   descriptor = is.descriptor ∙ sym d;
   opened = is.opened ∙ ap length (sym o);
   request = λ some. subst (λ (xs : List ℕ). 1 < length xs → kept.request ≡ slice_index xs 1 % 2 ^ 32) (sym o) is.request some;
   agreed = is.agreed ∙ ap length (sym t);
+  making = is.making ∙ ap is_some (sym a);
+  worn = is.worn ∙ sym w;
 }
 
-abbrev PlacesRun : RunPlace → Option RunState → Type 0
-PlacesRun kept o = (y : RunState) → o ≡ Some y → IsPlaced kept y
+-- the place is that of this run, in which a Make has the same slot as before
+abbrev pub PlacesRun : RunPlace → Option ℕ → Option RunState → Type 0
+PlacesRun kept made o = (y : RunState) → o ≡ Some y → IsPlaced kept y × (y.made ≡ made)
 
-places : (kept : RunPlace) (q : RunState) → IsPlaced kept q → PlacesRun kept (Some q)
-places kept q is y e = subst (IsPlaced kept) (some_same q y e) is
+pub places : (kept : RunPlace) (made : Option ℕ) (q : RunState) → IsPlaced kept q → q.made ≡ made → PlacesRun kept made (Some q)
+places kept made q is same y e = let e' = some_same q y e in (subst (IsPlaced kept) e' is, ap (λ (z : RunState). z.made) (sym e') ∙ same)
 
-places_none : (kept : RunPlace) → PlacesRun kept None
-places_none kept y e = absurd (some_none y e)
+pub places_none : (kept : RunPlace) (made : Option ℕ) → PlacesRun kept made None
+places_none kept made y e = absurd (some_none y e)
 
-run_if : (kept : RunPlace) (b : Bool) (p p' : PartState) → PlacesRun kept p.run → PlacesRun kept p'.run → PlacesRun kept (if b then p else p').run
-run_if kept true p p' e e' = e
-run_if kept false p p' e e' = e'
+run_if : (kept : RunPlace) (made : Option ℕ) (b : Bool) (p p' : PartState) → PlacesRun kept made p.run → PlacesRun kept made p'.run → PlacesRun kept made (if b then p else p').run
+run_if kept made true p p' e e' = e
+run_if kept made false p p' e e' = e'
+
+some_if : (b : Bool) (p p' : PartState) → (p.run ≡ None → ⊥) → (p'.run ≡ None → ⊥) → (if b then p else p').run ≡ None → ⊥
+some_if true p p' e e' = e
+some_if false p p' e e' = e'
+
+-- the same place, not marked as in progress any more
+abbrev pub at_end : RunPlace → RunPlace
+at_end kept = record kept { inside = false }
+
+at_end_placed : (kept : RunPlace) (q : RunState) → IsPlaced kept q → IsPlaced (at_end kept) q
+at_end_placed kept q is = record { descriptor = is.descriptor; opened = is.opened; request = is.request; agreed = is.agreed; making = is.making; worn = is.worn }
 
 module _ (m : Meaning) (l : Layout) (p : PartState) (q : RunState) (there : p.run ≡ Some q) (micro : Micro) (found : ℕ) (kept : RunPlace) (is : IsPlaced kept q) where
-  goes_placed : (word : ℕ) → PlacesRun kept (Some (goes_on m l q word))
-  goes_placed word = places kept (goes_on m l q word) (same_place kept q (goes_on m l q word) refl refl refl is)
+  goes_placed : (word : ℕ) → PlacesRun kept q.made (Some (goes_on m l q word))
+  goes_placed word = places kept q.made (goes_on m l q word) (same_place kept q (goes_on m l q word) refl refl refl refl refl is) refl
 
-  ended_placed : PlacesRun kept (Some (ended_more q))
-  ended_placed = places kept (ended_more q) (same_place kept q (ended_more q) refl refl refl is)
+  ended_placed : PlacesRun (at_end kept) q.made (Some (ended_more q))
+  ended_placed = places (at_end kept) q.made (ended_more q) (same_place (at_end kept) q (ended_more q) refl refl refl refl refl (at_end_placed kept q is)) refl
 
-  quiet_place : (k : EventKind) → is_quiet k ≡ true → PlacesRun kept (line_after m l k p q micro found).run
-  quiet_place (kinds.LoadCell None) e = goes_placed found
-  quiet_place kinds.ExchangeCell e = goes_placed q.word
-  quiet_place kinds.SetDone e = ended_placed
-  quiet_place kinds.Release e = let after_release = record p { reads = cell_read p.reads (place_of micro) found } in
-      run_if kept (is_end (next_of m (ended_more q))) (run_over m l after_release (ended_more q)) (with_run after_release (ended_more q)) (places_none kept) ended_placed
-  quiet_place kinds.ClockLoad e = goes_placed found
-  quiet_place kinds.StampExchange e = let stamp = written_once found (stamp_after q.word) in let request = (thunk_of q.opened).request in
-      run_if kept (nat_lt q.word last_clock) (record p { run = Some (goes_on m l q stamp); records = learned p.records request false stamp }) p (goes_placed stamp)
-      (λ y e. places kept q is y (sym there ∙ e))
-  quiet_place kinds.ClockRaise e = goes_placed q.word
-  quiet_place kinds.ReplyExchange e = goes_placed q.word
-  quiet_place kinds.NestedLoad e = goes_placed found
-  quiet_place kinds.NestedHold e = goes_placed q.word
-  quiet_place kinds.OutcomeLoad e = goes_placed found
-  quiet_place (kinds.LoadCell (Some place)) e = absurd (false_true e)
-  quiet_place _ e = absurd (false_true e)
+  stays_place : (k : EventKind) → is_quiet k ≡ true → is_ender k ≡ false → PlacesRun kept q.made (line_after m l k p q micro found).run
+  stays_place (kinds.LoadCell None) e n = goes_placed found
+  stays_place kinds.ExchangeCell e n = goes_placed q.word
+  stays_place kinds.SetDone e n = absurd (true_false n)
+  stays_place kinds.Release e n = absurd (true_false n)
+  stays_place kinds.ClockLoad e n = goes_placed found
+  stays_place kinds.StampExchange e n = let stamp = written_once found (stamp_after q.word) in let request = (thunk_of q.opened).request in
+      run_if kept q.made (nat_lt q.word last_clock) (record p { run = Some (goes_on m l q stamp); records = learned p.records request false stamp }) p (goes_placed stamp)
+      (λ y e. places kept q.made q is refl y (sym there ∙ e))
+  stays_place kinds.ClockRaise e n = goes_placed q.word
+  stays_place kinds.ReplyExchange e n = goes_placed q.word
+  stays_place kinds.NestedLoad e n = goes_placed found
+  stays_place kinds.NestedHold e n = goes_placed q.word
+  stays_place kinds.OutcomeLoad e n = goes_placed found
+  stays_place (kinds.LoadCell (Some place)) e n = absurd (false_true e)
+  stays_place _ e n = absurd (false_true e)
+
+  stays_open : (k : EventKind) → is_quiet k ≡ true → is_ender k ≡ false → (line_after m l k p q micro found).run ≡ None → ⊥
+  stays_open kinds.SetDone e n none = true_false n
+  stays_open kinds.Release e n none = true_false n
+  stays_open kinds.StampExchange e n none = let stamp = written_once found (stamp_after q.word) in let request = (thunk_of q.opened).request in
+      some_if (nat_lt q.word last_clock) (record p { run = Some (goes_on m l q stamp); records = learned p.records request false stamp }) p (λ h. some_none (goes_on m l q stamp) (sym h)) (λ h. some_none q (sym h ∙ there)) none
+  stays_open (kinds.LoadCell None) e n none = some_none (goes_on m l q found) (sym none)
+  stays_open kinds.ExchangeCell e n none = some_none (goes_on m l q q.word) (sym none)
+  stays_open kinds.ClockLoad e n none = some_none (goes_on m l q found) (sym none)
+  stays_open kinds.ClockRaise e n none = some_none (goes_on m l q q.word) (sym none)
+  stays_open kinds.ReplyExchange e n none = some_none (goes_on m l q q.word) (sym none)
+  stays_open kinds.NestedLoad e n none = some_none (goes_on m l q found) (sym none)
+  stays_open kinds.NestedHold e n none = some_none (goes_on m l q q.word) (sym none)
+  stays_open kinds.OutcomeLoad e n none = some_none (goes_on m l q found) (sym none)
+  stays_open (kinds.LoadCell (Some place)) e n none = false_true e
+  stays_open _ e n none = false_true e
+
+  commit_open : (k : EventKind) → is_commit k ≡ true → (line_after m l k p q micro found).run ≡ None → ⊥
+  commit_open kinds.Commit e none = some_if (is_of_lock micro) (lock_committed m l p q found) (word_committed m l p q found) (λ h. some_none (agrees m l q (written_once found q.word)) (sym h)) (λ h. some_none (agrees m l q (written_once found q.word)) (sym h)) none
+  commit_open kinds.OutcomeCommit e none = some_none (agrees m l q (written_once found q.word)) (sym none)
+  commit_open _ e none = false_true e
+
+  ends_place : (k : EventKind) → is_ender k ≡ true → PlacesRun (at_end kept) q.made (line_after m l k p q micro found).run
+  ends_place kinds.SetDone e = ended_placed
+  ends_place kinds.Release e = let after_release = record p { reads = cell_read p.reads (place_of micro) found } in
+      run_if (at_end kept) q.made (is_end (next_of m (ended_more q))) (run_over m l after_release (ended_more q)) (with_run after_release (ended_more q)) (places_none (at_end kept) q.made) ended_placed
+  ends_place _ e = absurd (false_true e)
 
   abbrev one_more : RunPlace
   one_more = record kept { agreed = kept.agreed + 1 }
 
-  agrees_placed : (word : ℕ) → PlacesRun one_more (Some (agrees m l q word))
-  agrees_placed word = places one_more (agrees m l q word) (record {
+  agrees_placed : (word : ℕ) → PlacesRun one_more q.made (Some (agrees m l q word))
+  agrees_placed word = places one_more q.made (agrees m l q word) (record {
     descriptor = is.descriptor;
     opened = is.opened;
     request = is.request;
     agreed = (let a = is.agreed in let b = length-append q.trail (word ∷ []) in omega (arith, a, b));
-  })
+    making = is.making;
+    worn = is.worn;
+  }) refl
 
-  commit_place : (k : EventKind) → is_commit k ≡ true → PlacesRun one_more (line_after m l k p q micro found).run
-  commit_place kinds.Commit e = run_if one_more (is_of_lock micro) (lock_committed m l p q found) (word_committed m l p q found) (agrees_placed (written_once found q.word)) (agrees_placed (written_once found q.word))
+  commit_place : (k : EventKind) → is_commit k ≡ true → PlacesRun one_more q.made (line_after m l k p q micro found).run
+  commit_place kinds.Commit e = run_if one_more q.made (is_of_lock micro) (lock_committed m l p q found) (word_committed m l p q found) (agrees_placed (written_once found q.word)) (agrees_placed (written_once found q.word))
   commit_place kinds.OutcomeCommit e = agrees_placed (written_once found q.word)
   commit_place _ e = absurd (false_true e)
 
-both_true : (a b : Bool) → a && b ≡ true → (a ≡ true) × (b ≡ true)
+-- the epoch that a run loaded stays when it goes on
+module _ (m : Meaning) (l : Layout) (p : PartState) (q : RunState) (there : p.run ≡ Some q) (micro : Micro) (found epoch : ℕ) (was : HasEpoch m epoch (Some q)) where
+  quiet_epoch : ((word : ℕ) → HasEpoch m epoch (Some (goes_on m l q word))) → (k : EventKind) → is_quiet k ≡ true → is_ender k ≡ false → HasEpoch m epoch (line_after m l k p q micro found).run
+  quiet_epoch goes (kinds.LoadCell None) e n = goes found
+  quiet_epoch goes kinds.ExchangeCell e n = goes q.word
+  quiet_epoch goes kinds.SetDone e n = absurd (true_false n)
+  quiet_epoch goes kinds.Release e n = absurd (true_false n)
+  quiet_epoch goes kinds.ClockLoad e n = goes found
+  quiet_epoch goes kinds.StampExchange e n = let stamp = written_once found (stamp_after q.word) in let request = (thunk_of q.opened).request in
+      epoch_if m epoch (nat_lt q.word last_clock) (record p { run = Some (goes_on m l q stamp); records = learned p.records request false stamp }) p (goes stamp) (subst (HasEpoch m epoch) (sym there) was)
+  quiet_epoch goes kinds.ClockRaise e n = goes q.word
+  quiet_epoch goes kinds.ReplyExchange e n = goes q.word
+  quiet_epoch goes kinds.NestedLoad e n = goes found
+  quiet_epoch goes kinds.NestedHold e n = goes q.word
+  quiet_epoch goes kinds.OutcomeLoad e n = goes found
+  quiet_epoch goes (kinds.LoadCell (Some place)) e n = absurd (false_true e)
+  quiet_epoch goes _ e n = absurd (false_true e)
+
+  commit_epoch : ((word : ℕ) → HasEpoch m epoch (Some (agrees m l q word))) → (k : EventKind) → is_commit k ≡ true → HasEpoch m epoch (line_after m l k p q micro found).run
+  commit_epoch agree kinds.Commit e = epoch_if m epoch (is_of_lock micro) (lock_committed m l p q found) (word_committed m l p q found) (agree (written_once found q.word)) (agree (written_once found q.word))
+  commit_epoch agree kinds.OutcomeCommit e = agree (written_once found q.word)
+  commit_epoch agree _ e = absurd (false_true e)
+
+  ender_epoch : (k : EventKind) → is_ender k ≡ true → HasEpoch m epoch (line_after m l k p q micro found).run
+  ender_epoch kinds.SetDone e = ended_epoch m epoch q was
+  ender_epoch kinds.Release e = let after_release = record p { reads = cell_read p.reads (place_of micro) found } in
+      epoch_if m epoch (is_end (next_of m (ended_more q))) (run_over m l after_release (ended_more q)) (with_run after_release (ended_more q)) (no_epoch m epoch None (λ y e. some_none y e)) (ended_epoch m epoch q was)
+  ender_epoch _ e = absurd (false_true e)
+
+quiet_other : (k : EventKind) → is_quiet k ≡ true → is_epoch k ≡ false
+quiet_other kinds.EpochForRetire e = absurd (false_true e)
+quiet_other _ e = refl
+
+commit_other : (k : EventKind) → is_commit k ≡ true → is_epoch k ≡ false
+commit_other kinds.EpochForRetire e = absurd (false_true e)
+commit_other _ e = refl
+
+pub both_true : (a b : Bool) → a && b ≡ true → (a ≡ true) × (b ≡ true)
 both_true true b e = (refl, e)
 both_true false b e = absurd (false_true e)
 
-opened_all : (q : RunState) → is_open_run q ≡ true → length q.opened ≡ 13
+pub opened_all : (q : RunState) → is_open_run q ≡ true → length q.opened ≡ 13
 opened_all q e = let a = (both_true (length q.opened == 13) (nat_lt q.at line_limit && nat_lt q.ended line_limit) e).0 in grind (arith, nat_tests)
 
-module _ {T : Type 0} (m : Meaning) (k : EventKind) (found number : ℕ) (kept : Block) (old_table new_table : TableId) (me me' : Me Thunk (View T))
-    (made : Makes m k found (seen_seat old_table me) (seen_seat new_table me')) (slots : me'.1 ≡ me.1) (was : IsKept number kept me) where
-  abbrev r : RunnerState T
-  r = seen_seat old_table me
+-- at the end of a run its line asks for nothing but the done word and releases
+module _ (m : Meaning) (l : Layout) (free : List ℕ) (q : RunState) where
+  done_asks : (k : EventKind) → is_ender k ≡ false → line_ask m l k free q micros.SetDone ≡ None
+  done_asks (kinds.LoadCell None) n = refl
+  done_asks (kinds.LoadCell (Some place)) n = refl
+  done_asks kinds.SetDone n = absurd (true_false n)
+  done_asks kinds.Release n = absurd (true_false n)
+  done_asks _ n = refl
 
-  abbrev p : PartState
-  p = me.0.part
+  release_asks : (k : EventKind) (place word : ℕ) → is_ender k ≡ false → line_ask m l k free q (micros.Release place word) ≡ None
+  release_asks (kinds.LoadCell None) place word n = refl
+  release_asks (kinds.LoadCell (Some p)) place word n = refl
+  release_asks kinds.SetDone place word n = absurd (true_false n)
+  release_asks kinds.Release place word n = absurd (true_false n)
+  release_asks _ place word n = refl
 
-  lists_still : is_inner k ≡ true → kept.lists ≡ told_part me'.0.part
-  lists_still e = let h = opened_run m r.layout r.requests r.number k p made.met e made.asked in
-      was.lists ∙ sym (ap (λ (y : RunnerState T). told_part y.part) made.made ∙ (told m r.layout r.number k made.met.0 made.met.1 p found
-      ∙ (ap told_part (step_is m r.layout k p found h) ∙ quiet_lists m r.layout p h.run (next_of m h.run) found k e)))
+  end_asks : (k : EventKind) → line_ask m l k free q micros.End ≡ None
+  end_asks (kinds.LoadCell None) = refl
+  end_asks (kinds.LoadCell (Some p)) = refl
+  end_asks _ = refl
 
-  same_number : number ≡ me'.0.number
-  same_number = was.same_number ∙ sym (ap (λ (y : RunnerState T). y.number) made.made)
+  ending_asks : (k : EventKind) → is_ender k ≡ false → (micro : Micro) → is_ending micro ≡ true → line_ask m l k free q micro ≡ None
+  ending_asks k n micros.SetDone e = done_asks k n
+  ending_asks k n (micros.Release place word) e = release_asks k place word n
+  ending_asks k n micros.End e = end_asks k
+  ending_asks k n _ e = absurd (false_true e)
 
-  run_is : (h : HasOpenRun p) → me'.0.part.run ≡ (line_after m r.layout k p h.run (next_of m h.run) found).run
-  run_is h = ap (λ (y : RunnerState T). y.part.run) made.made ∙ ap (λ (y : PartState). y.run) (step_is m r.layout k p found h)
+  -- and where it asks for these it is at its end
+  ender_ends : (k : EventKind) → is_ender k ≡ true → (micro : Micro) (x : Spot × Access) → line_ask m l k free q micro ≡ Some x → is_ending micro ≡ true
+  ender_ends kinds.SetDone e micros.SetDone x h = refl
+  ender_ends kinds.SetDone e _ x h = absurd (some_none x h)
+  ender_ends kinds.Release e (micros.Release place word) x h = refl
+  ender_ends kinds.Release e _ x h = absurd (some_none x h)
+  ender_ends _ e micro x h = absurd (false_true e)
 
-  over : (h : HasOpenRun p) → 12 ≤ kept.place.opened
-  over h = let a = (was.place.run h.run h.there).opened in let b = opened_all h.run h.ready in omega (arith, a, b)
+all_ending : (xs : List Micro) → list_all is_ending xs ≡ true → (i : ℕ) → is_ending (slice_index_or xs i micros.End) ≡ true
+all_ending [] e i = refl
+all_ending (x ∷ xs) e zero = (both_true (is_ending x) (list_all is_ending xs) e).0
+all_ending (x ∷ xs) e (suc i) = all_ending xs (both_true (is_ending x) (list_all is_ending xs) e).1 i
 
-  -- what the code keeps after a step of a run that leaves the lists and the log
-  pub quiet_kept : is_quiet k ≡ true → IsKept number kept me'
-  quiet_kept e = let h = opened_run m r.layout r.requests r.number k p made.met (quiet_inner k e) made.asked in record {
-    same_number = same_number;
-    lists = lists_still (quiet_inner k e);
+release_ends : (x : Micro) → list_all is_ending (release_of x) ≡ true
+release_ends (micros.CheckHeld place log word) = refl
+release_ends _ = refl
+
+both : (a b : Bool) → a ≡ true → b ≡ true → a && b ≡ true
+both true b e e' = e'
+both false b e e' = absurd (false_true e)
+
+releases_end : (xs : List Micro) → list_all is_ending (releases xs) ≡ true
+releases_end [] = refl
+releases_end (x ∷ xs) = list_all-append is_ending (release_of x) (releases xs) ∙ both (list_all is_ending (release_of x)) (list_all is_ending (releases xs)) (release_ends x) (releases_end xs)
+
+ending_ends : (line : List Micro) (at lock word : ℕ) → list_all is_ending (ending line at lock word) ≡ true
+ending_ends line at lock word = list_all-append is_ending (releases (take at line)) (micros.Release lock word ∷ [])
+    ∙ both (list_all is_ending (releases (take at line))) true (releases_end (take at line)) refl
+
+next_ends_by : (b : Bool) (micro : Micro) (xs : List Micro) (i j : ℕ) → list_all is_ending xs ≡ true → is_ending (cond b micro (slice_index_or xs i micros.End)) ≡ true → is_ending (cond b micro (slice_index_or xs j micros.End)) ≡ true
+next_ends_by true micro xs i j all e = e
+next_ends_by false micro xs i j all e = all_ending xs all j
+
+-- a run at its end stays there
+next_ends : (m : Meaning) (q : RunState) → is_ending (next_of m q) ≡ true → is_ending (next_of m (ended_more q)) ≡ true
+next_ends m q e = let t = thunk_of q.opened in next_ends_by (is_event (micro_at (line_of m q) q.at)) (micro_at (line_of m q) q.at) (ending (line_of m q) q.at t.lock t.word) q.ended (q.ended + 1) (ending_ends (line_of m q) q.at t.lock t.word) e
+
+-- the run, if any, after a step of the end
+ends_some : (m : Meaning) (q : RunState) → is_ending (next_of m q) ≡ true → (y : RunState) → Some q ≡ Some y → is_ending (next_of m y) ≡ true
+ends_some m q e y h = subst (λ (z : RunState). is_ending (next_of m z) ≡ true) (some_same q y h) e
+
+ends_if : (m : Meaning) (b : Bool) (p p' : PartState) → ((y : RunState) → p.run ≡ Some y → is_ending (next_of m y) ≡ true) → ((y : RunState) → p'.run ≡ Some y → is_ending (next_of m y) ≡ true)
+    → (y : RunState) → (if b then p else p').run ≡ Some y → is_ending (next_of m y) ≡ true
+ends_if m true p p' e e' = e
+ends_if m false p p' e e' = e'
+
+ends_run : (m : Meaning) (l : Layout) (p : PartState) (q : RunState) (micro : Micro) (found : ℕ) (k : EventKind) → is_ender k ≡ true → is_ending (next_of m q) ≡ true
+    → (y : RunState) → (line_after m l k p q micro found).run ≡ Some y → is_ending (next_of m y) ≡ true
+ends_run m l p q micro found kinds.SetDone e is = ends_some m (ended_more q) (next_ends m q is)
+ends_run m l p q micro found kinds.Release e is = let after_release = record p { reads = cell_read p.reads (place_of micro) found } in
+    ends_if m (is_end (next_of m (ended_more q))) (run_over m l after_release (ended_more q)) (with_run after_release (ended_more q)) (λ y h. absurd (some_none y h)) (ends_some m (ended_more q) (next_ends m q is))
+ends_run m l p q micro found _ e is = absurd (false_true e)
+
+pub over : (kept : Block) (q : RunState) → IsPlaced kept.place q → is_open_run q ≡ true → 12 ≤ kept.place.opened
+over kept q is ready = let a = is.opened in let b = opened_all q ready in omega (arith, a, b)
+
+-- a run that goes on isn't at its end
+pub goes_inside : (m : Meaning) (l : Layout) (kept : Block) (p : PartState) (q : RunState) (k : EventKind) (x : Spot × Access) → KeepsPart m kept p → p.run ≡ Some q → is_ender k ≡ false
+    → line_ask m l k p.nodes.free q (next_of m q) ≡ Some x → kept.place.inside ≡ false → ⊥
+goes_inside m l kept p q k x was there n asked closed = some_none x (sym (ending_asks m l p.nodes.free q k n (next_of m q) (was.run.ending q there closed)) ∙ asked)
+
+module _ (m : Meaning) (l : Layout) (k : EventKind) (kept : Block) (p : PartState) (found : ℕ) (h : HasOpenRun p) (x : Spot × Access) (asked : line_ask m l k p.nodes.free h.run (next_of m h.run) ≡ Some x) (was : KeepsPart m kept p) where
+  abbrev q : RunState
+  q = h.run
+
+  abbrev p' : PartState
+  p' = line_after m l k p q (next_of m q) found
+
+  abbrev placed : IsPlaced kept.place q
+  placed = was.place.run q h.there
+
+  -- the hand has the same slots, so the slot of a Make too
+  hand_stays : (place : RunPlace) → PlacesRun place q.made p'.run → told_part p' ≡ told_part p → (y : RunState) (slot : ℕ) → p'.run ≡ Some y → y.made ≡ Some slot → has p'.nodes.hand slot ≡ true
+  hand_stays place run same y slot there made = ap (λ (z : PartState). has z.nodes.hand slot) same ∙ was.place.in_hand q slot h.there (sym (run y there).1 ∙ made)
+
+  goes_part : (kept' : Block) → kept'.place.inside ≡ kept.place.inside → is_ender k ≡ false → kept'.lists.part ≡ told_part p' → PlacesRun kept'.place q.made p'.run → (p'.run ≡ None → ⊥) → 12 ≤ kept'.place.opened
+      → told_part p' ≡ told_part p → HasEpoch m kept'.place.epoch p'.run → KeepsPart m kept' p'
+  goes_part kept' inside n lists run goes past same epoch = record {
+    lists = lists;
     place = record {
-      run = λ y run. quiet_place m r.layout p h.run h.there (next_of m h.run) found kept.place (was.place.run h.run h.there) k e y (sym (run_is h) ∙ run);
-      rest = λ none. over h;
+      run = λ y e. (run y e).0;
+      rest = λ none. past;
+      outside = λ none. absurd (goes none);
+      in_hand = hand_stays kept'.place run same;
     };
-    slots = slots ∙ was.slots;
+    run = record { ending = λ y e closed. absurd (goes_inside m l kept p q k x was h.there n asked (sym inside ∙ closed)) };
+    epoch = epoch;
   }
+
+  was_epoch : HasEpoch m kept.place.epoch (Some q)
+  was_epoch = subst (HasEpoch m kept.place.epoch) h.there was.epoch
+
+  -- after a step of a run that leaves the lists and the log
+  stays_part : is_quiet k ≡ true → is_ender k ≡ false → KeepsPart m kept p'
+  stays_part quiet n =
+      let same = quiet_lists m l p q (next_of m q) found k (quiet_inner k quiet) in
+      goes_part kept refl n (was.lists ∙ sym same) (stays_place m l p q h.there (next_of m q) found kept.place placed k quiet n) (stays_open m l p q h.there (next_of m q) found kept.place placed k quiet n) (over kept q placed h.ready) same
+      (quiet_epoch m l p q h.there (next_of m q) found kept.place.epoch was_epoch (λ word. goes_epoch m l p.nodes.free q k x (quiet_other k quiet) asked h.ready kept.place.epoch (goes_on m l q word) q.trail refl refl) k quiet n)
 
   -- after a commit of a loaded word
-  pub commit_kept : is_commit k ≡ true → IsKept number (record kept { place = record (kept.place) { agreed = kept.place.agreed + 1 } }) me'
-  commit_kept e = let h = opened_run m r.layout r.requests r.number k p made.met (commit_inner k e) made.asked in record {
-    same_number = same_number;
-    lists = lists_still (commit_inner k e);
-    place = record {
-      run = λ y run. commit_place m r.layout p h.run h.there (next_of m h.run) found kept.place (was.place.run h.run h.there) k e y (sym (run_is h) ∙ run);
-      rest = λ none. over h;
-    };
-    slots = slots ∙ was.slots;
-  }
+  commit_part : is_commit k ≡ true → KeepsPart m (record kept { place = record (kept.place) { agreed = kept.place.agreed + 1 } }) p'
+  commit_part commits =
+      let same = quiet_lists m l p q (next_of m q) found k (commit_inner k commits) in
+      goes_part (record kept { place = record (kept.place) { agreed = kept.place.agreed + 1 } }) refl (commit_goes k commits) (was.lists ∙ sym same) (commit_place m l p q h.there (next_of m q) found kept.place placed k commits)
+      (commit_open m l p q h.there (next_of m q) found kept.place placed k commits) (over kept q placed h.ready) same
+      (commit_epoch m l p q h.there (next_of m q) found kept.place.epoch was_epoch (λ word. goes_epoch m l p.nodes.free q k x (commit_other k commits) asked h.ready kept.place.epoch (agrees m l q word) (q.trail ++ word ∷ []) refl refl) k commits)
 
--- what an exchange expects
-abbrev old_of : Access → ℕ
-old_of (Exchanges old new) = old
-old_of _ = 0
+  -- after a step of the end
+  ends_part : is_ender k ≡ true → KeepsPart m (record kept { place = at_end kept.place }) p'
+  ends_part ender =
+      let same = quiet_lists m l p q (next_of m q) found k (quiet_inner k (ender_quiet k ender)) in
+      let run = ends_place m l p q h.there (next_of m q) found kept.place placed k ender in
+      record {
+        lists = was.lists ∙ sym same;
+        place = record { run = λ y e. (run y e).0; rest = λ none. over kept q placed h.ready; outside = λ none. refl; in_hand = hand_stays (at_end kept.place) run same };
+        run = record { ending = λ y e closed. ends_run m l p q (next_of m q) found k ender (ender_ends m l p.nodes.free q k ender (next_of m q) x asked) y e };
+        epoch = ender_epoch m l p q h.there (next_of m q) found kept.place.epoch was_epoch k ender;
+      }
 
 line_by : (m : Meaning) (l : Layout) (k : EventKind) (free : List ℕ) (q : RunState) (x : Spot × Access) (b : Bool) → opening_ask k q ≡ None
     → (if b then line_ask m l k free q (next_of m q) else opening_ask k q) ≡ Some x → line_ask m l k free q (next_of m q) ≡ Some x
@@ -291,6 +500,37 @@ asked_by m l rs r k p o q x e there h = line_by m l k p.nodes.free q x (is_open_
 line_asked : {T : Type 0} (m : Meaning) (r : RunnerState T) (k : EventKind) (q : RunState) (x : Spot × Access) → is_inner k ≡ true → r.part.run ≡ Some q → met_by m r k ≡ Some x
     → line_ask m r.layout k r.part.nodes.free q (next_of m q) ≡ Some x
 line_asked m r k q x e there h = asked_by m r.layout r.requests r.number k r.part r.part.run q x e there (unless_gone (sizes_for m r.layout r.requests) r.part.gone (ask_by m r.layout r.requests r.number k r.part r.part.run) x h)
+
+module _ {T : Type 0} (mean : T → Meaning) (s : T) (k : EventKind) (found number : ℕ) (kept : Block) (old_table new_table : TableId) (me me' : Me Thunk (View T)) (live : me.0.structure ≡ Some s)
+    (made : Makes (mean s) k found (seen_seat old_table me) (seen_seat new_table me')) (slots : me'.1 ≡ me.1) (was : IsKept mean number kept me) (inner : is_inner k ≡ true) where
+  opens : HasOpenRun me.0.part
+  opens = opened_run (mean s) me.0.layout me.0.requests me.0.number k me.0.part made.met inner made.asked
+
+  next_asked : line_ask (mean s) me.0.layout k me.0.part.nodes.free opens.run (next_of (mean s) opens.run) ≡ Some made.met
+  next_asked = line_asked (mean s) (seen_seat old_table me) k opens.run made.met inner opens.there made.asked
+
+  run_kept : (kept' : Block) → kept'.lists.room ≡ kept.lists.room → KeepsPart (mean s) kept' (line_after (mean s) me.0.layout k me.0.part opens.run (next_of (mean s) opens.run) found) → IsKept mean number kept' me'
+  run_kept kept' room h = then_kept mean s k found number kept old_table new_table me me' live made slots was kept' room (subst (KeepsPart (mean s) kept') (sym (step_is (mean s) me.0.layout k me.0.part found opens)) h)
+
+  abbrev before : KeepsPart (mean s) kept me.0.part
+  before = was_part mean s k found number kept old_table new_table me me' live made slots was
+
+  -- what the code keeps after a step of a run that leaves the lists and the log
+  pub quiet_kept : is_quiet k ≡ true → is_ender k ≡ false → IsKept mean number kept me'
+  quiet_kept quiet n = run_kept kept refl (stays_part (mean s) me.0.layout k kept me.0.part found opens made.met next_asked before quiet n)
+
+  -- after a commit of a loaded word
+  pub commit_kept : is_commit k ≡ true → IsKept mean number (record kept { place = record (kept.place) { agreed = kept.place.agreed + 1 } }) me'
+  commit_kept commits = run_kept (record kept { place = record (kept.place) { agreed = kept.place.agreed + 1 } }) refl (commit_part (mean s) me.0.layout k kept me.0.part found opens made.met next_asked before commits)
+
+  -- after a step of the end
+  pub ender_kept : is_ender k ≡ true → IsKept mean number (record kept { place = at_end kept.place }) me'
+  ender_kept ender = run_kept (record kept { place = at_end kept.place }) refl (ends_part (mean s) me.0.layout k kept me.0.part found opens made.met next_asked before ender)
+
+-- what an exchange expects
+abbrev old_of : Access → ℕ
+old_of (Exchanges old new) = old
+old_of _ = 0
 
 -- the lock can be held by this descriptor with this word
 record CanHold (l : Layout) (descriptor word : ℕ) : Type 0 where
@@ -307,7 +547,7 @@ nested_can l q (micros.NestedHold place word) x e =
 nested_can l q _ x e = absurd (some_none x e)
 
 -- these numbers fit
-few_descriptors : (l : Layout) → IsWithinLimits l → descriptor_count l < 20000
+pub few_descriptors : (l : Layout) → IsWithinLimits l → descriptor_count l < 20000
 few_descriptors l limits = let a = mul-le-mul_left l.sections limits.few_runners in let d = limits.few_sections in let b = limits.few_runners in omega (arith, a, b, d)
 
 -- the held word of this lock can be made
@@ -348,12 +588,27 @@ may_release m r q place word new limits there h =
 pub has_run : {T : Type 0} (m : Meaning) (r : RunnerState T) (k : EventKind) (x : Spot × Access) → is_inner k ≡ true → met_by m r k ≡ Some x → (q : RunState) × (r.part.run ≡ Some q)
 has_run m r k x e h = let o = opened_run m r.layout r.requests r.number k r.part x e h in (o.run, o.there)
 
--- what the code keeps after a step in no run
-pub outer_kept : {T : Type 0} (m : Meaning) (k : EventKind) (found number : ℕ) (kept : Block) (lists : PartState) (old_table new_table : TableId) (me me' : Me Thunk (View T)) → is_outer k ≡ true
-    → Makes m k found (seen_seat old_table me) (seen_seat new_table me') → me'.1 ≡ me.1 → IsKept number kept me → lists ≡ told_part (outside_after m me.0.layout k me.0.part found) → IsKept number (record kept { lists = lists }) me'
-outer_kept m k found number kept lists old_table new_table me me' e made slots was is = record {
-  same_number = was.same_number ∙ sym (ap (λ y. y.number) made.made);
-  lists = is ∙ outer_lists m k found (seen_seat old_table me) (seen_seat new_table me') e made;
-  place = no_place m k found (seen_seat old_table me) (seen_seat new_table me') kept.place e made was.place;
-  slots = slots ∙ was.slots;
-}
+-- what the code keeps after a load of a cell, in a run or outside
+module _ {T : Type 0} (mean : T → Meaning) (s : T) (place found number : ℕ) (kept : Block) (old_table new_table : TableId) (me me' : Me Thunk (View T)) (live : me.0.structure ≡ Some s)
+    (slots : me'.1 ≡ me.1) (was : IsKept mean number kept me) where
+  cell_by : (o : Option RunState) → me.0.part.run ≡ o → Makes (mean s) (load_of o place) found (seen_seat old_table me) (seen_seat new_table me') → IsKept mean number kept me'
+  cell_by None none made =
+      let b = was_part mean s (kinds.LoadCell (Some place)) found number kept old_table new_table me me' live made slots was in
+      then_kept mean s (kinds.LoadCell (Some place)) found number kept old_table new_table me me' live made slots was kept refl
+      (subst (KeepsPart (mean s) kept) (sym (ap (λ (o : Option RunState). after_by (mean s) me.0.layout (kinds.LoadCell (Some place)) me.0.part o found) none))
+      (record {
+        lists = b.lists;
+        place = record { run = b.place.run; rest = b.place.rest; outside = b.place.outside; in_hand = b.place.in_hand };
+        run = record { ending = b.run.ending };
+        epoch = record { opening = b.epoch.opening; retiring = b.epoch.retiring };
+      }))
+  cell_by (Some q) there made = quiet_kept mean s (kinds.LoadCell None) found number kept old_table new_table me me' live made slots was refl refl refl
+
+  pub cell_kept : Makes (mean s) (load_of me.0.part.run place) found (seen_seat old_table me) (seen_seat new_table me') → IsKept mean number kept me'
+  cell_kept made = cell_by me.0.part.run refl made
+
+-- the step that loads a cell has the event's name
+pub cell_event : {T : Type 0} (m : Meaning) (t : TableState T) (r : RunnerState T) → IsOf t r → (place found : ℕ) (r' : RunnerState T)
+    → Makes m (load_of r.part.run (address (sizes_for m t.layout t.requests) (spots.Cell place) - (4 + r.layout.runners + 2 * length r.requests))) found r r' → Makes m (load_of r.part.run place) found r r'
+cell_event m t r own place found r' = subst (λ (n : ℕ). Makes m (load_of r.part.run n) found r r')
+    ((λ i. address (sizes_for m (sym own.layout i) (sym own.requests i)) (spots.Cell place) - (4 + r.layout.runners + 2 * length r.requests)) ∙ (let is : address (sizes_for m r.layout r.requests) (spots.Cell place) - (4 + r.layout.runners + 2 * length r.requests) ≡ place = omega arith in is))

@@ -1,5 +1,7 @@
 -- What a runner in no run may do, and where it is then.
-use Rattle.std.proofs.Common.{◌≡◌, ℕ, ◌+◌, ◌<◌, ◌≤◌, ◌^◌, length, List, [], ◌∷◌, ◌++◌, ◌≢◌, eq-eqb, ne_eqb, Bool, true, false, refl, sym, ap, subst, ◌∙◌, arith, Option, Some, None, ◌-◌, ◌/◌}
+use Rattle.machine_states.specs.First.{falling}
+use Rattle.section_body.specs.Memory.{cell_of}
+use Rattle.std.proofs.Common.{◌≡◌, ℕ, ◌+◌, ◌<◌, ◌≤◌, ◌^◌, length, List, [], ◌∷◌, ◌++◌, ◌≢◌, eq-eqb, ne_eqb, Bool, true, false, refl, sym, ap, subst, ◌∙◌, arith, Option, Some, None, ◌-◌, ◌/◌, ◌*◌, if◌then◌else◌}
 use Rattle.std.specs.Prelude.{◌==◌, ◌&&◌, ◌||◌, is_some, nat_lt, nat_le, not, is_none, if◌then◌else◌}
 use Rattle.std.proofs.lemmas.Bool.Decides.{nat_tests}
 use mathlib.Core.Logic.{dite}
@@ -11,7 +13,7 @@ use Rattle.table_words.specs.declared.spot.Spot.{Spot}
 use Rattle.table_words.specs.declared.spot.Spot.TheVariants as spots
 use Rattle.table_words.specs.declared.access.Access.{Access}
 use Rattle.table_words.specs.declared.access.Access.TheVariants.{Loads, Stores, Exchanges}
-use Rattle.table_words.specs.Places.{Fits}
+use Rattle.table_words.specs.Places.{Fits, slot_count, descriptor_count}
 use Rattle.table_words.proofs.Seen.{fits_is}
 use Rattle.structure_laws.specs.Meaning.{Meaning}
 use Rattle.runner_steps.specs.declared.event.EventKind.{EventKind}
@@ -21,7 +23,7 @@ use Rattle.runner_steps.specs.declared.stage.Stage.TheVariants as stages
 use Rattle.runner_steps.specs.declared.entries.Published.{Published}
 use Rattle.runner_steps.specs.Tests.{has, is_walking, is_resting, is_outside}
 use Rattle.runner_steps.specs.State.{RunState, PartState, RecordsState}
-use Rattle.runner_steps.specs.Outside.{Ask, when, enter_load_ask, announce_ask, enter_again_ask, scan_one_ask, advance_ask, last_epoch}
+use Rattle.runner_steps.specs.Outside.{Ask, when, enter_load_ask, announce_ask, enter_again_ask, scan_one_ask, advance_ask, last_epoch, descriptor_spot}
 use Rattle.runner_steps.specs.Asks.{ask_by, outside_ask, fitting, sizes_for}
 use Rattle.runner_steps.specs.AfterOutside.{with_stage, collected, scanned, scan_one_after, advance_after, is_clear}
 use Rattle.runner_steps.specs.After.{outside_after, after_by, stepped, counted, after, leaves}
@@ -30,7 +32,7 @@ use Rattle.version_words.specs.TableState.{TableState, first_keeper}
 use Rattle.version_words.specs.Events.{met_by, IsEnabled, Makes, next_worker, joined_by}
 use Rattle.version_words.proofs.SeatMoves.{one_split, joins_none}
 use Rattle.version_words.specs.Naming.{load_of}
-use Rattle.version_words.specs.Stages.{IsAt, IsKeeper, HasJoined, stage_scanned}
+use Rattle.version_words.specs.Stages.{IsAt, IsKeeper, HasJoined, stage_scanned, HasFree}
 
 fitted_some : (s : Sizes) (a : Ask) (x : Spot × Access) → a ≡ Some x → Fits s x.0 → fitting s a ≡ Some x
 fitted_some s a x e h = ap (fitting s) e ∙ ap (λ (b : Bool). if b then Some x else None) (fits_is s x.0 h)
@@ -266,3 +268,60 @@ pub then_loaded_cell : {T : Type 0} (m : Meaning) (found epoch place : ℕ) (r r
 then_loaded_cell {T} m found epoch place r r' section made is =
     let read : Makes m (kinds.LoadCell (Some place)) found r r' = subst (λ (o : Option RunState). Makes m (load_of o place) found r r') is.resting made in
     made_at m (kinds.LoadCell (Some place)) found r r' read is.resting (stages.Entered epoch) section is.seated is.present is.resting is.at is.published
+
+fits_by : (s : Sizes) (d word : ℕ) (b b' : Bool) → nat_lt word 12 ≡ b → word == 12 ≡ b' → d < s.descriptors → word < 77 → Fits s (if b then spots.ThunkWord d word else (if b' then spots.DoneWord d else spots.LogWord d (word - 13)))
+fits_by s d word true b' e e' few low = (few, grind (arith, nat_tests, e))
+fits_by s d word false true e e' few low = few
+fits_by s d word false false e e' few low = (few, let past : 13 ≤ word = grind (arith, nat_tests, e, e') in omega (arith, past, low))
+
+own_word : (slots d : ℕ) → slots + d - slots ≡ d
+own_word slots d = omega arith
+
+-- an idle runner may load and store words of its free descriptors
+module _ {T : Type 0} (m : Meaning) (r : RunnerState T) (section : Option Published) (d word : ℕ) (is : IsAt r stages.Idle section) (free : HasFree r d) (few : word < 77) where
+  abbrev slots : ℕ
+  slots = slot_count r.layout m.fixed_slots
+
+  word_fits : Fits (sizes_for m r.layout r.requests) (descriptor_spot d word)
+  word_fits = fits_by (sizes_for m r.layout r.requests) d word (nat_lt word 12) (word == 12) refl refl free.few few
+
+  pub may_store_word : (number : ℕ) → IsEnabled m (kinds.PrivateStore (slots + d) word number) r
+  may_store_word number = enabled m r (kinds.PrivateStore (slots + d) word number) (descriptor_spot d word, Stores number) is.present is.resting
+      (ap (λ (n : ℕ). when (nat_le slots (slots + d) && (is_resting r.part.stage r.part.run && has r.part.descriptors.free n)) (descriptor_spot n word) (Stores number)) (own_word slots d)
+      ∙ ap (λ (b : Bool). when b (descriptor_spot d word) (Stores number))
+      ((λ i. nat_le slots (slots + d) && (is_resting (is.at i) (is.resting i) && free.own i)) ∙ (let e : nat_le slots (slots + d) && true ≡ true = grind (arith, nat_tests) in e))) word_fits
+
+  pub may_load_word : IsEnabled m (kinds.PrivateLoad (slots + d) word) r
+  may_load_word = enabled m r (kinds.PrivateLoad (slots + d) word) (descriptor_spot d word, Loads) is.present is.resting
+      (ap (λ (b : Bool). if b then when (is_resting r.part.stage r.part.run && (nat_lt word 5 && (has r.part.nodes.free (slots + d) || has r.part.nodes.hand (slots + d)))) (spots.Cell (cell_of m.fixed_cells (slots + d) word)) Loads
+      else when (is_resting r.part.stage r.part.run && has r.part.descriptors.free (slots + d - slots)) (descriptor_spot (slots + d - slots) word) Loads) (let past : nat_lt (slots + d) slots ≡ false = grind (arith, nat_tests) in past)
+      ∙ (ap (λ (n : ℕ). when (is_resting r.part.stage r.part.run && has r.part.descriptors.free n) (descriptor_spot n word) Loads) (own_word slots d)
+      ∙ ap (λ (b : Bool). when b (descriptor_spot d word) Loads) (λ i. is_resting (is.at i) (is.resting i) && free.own i))) word_fits
+
+-- and is idle then, with the same free descriptors
+module _ {T : Type 0} (m : Meaning) (found : ℕ) (r r' : RunnerState T) (section : Option Published) (slot word : ℕ) (is : IsAt r stages.Idle section) where
+  still_free : (k : EventKind) (d : ℕ) → Makes m k found r r' → (outside_after m r.layout k r.part found).descriptors.free ≡ r.part.descriptors.free → HasFree r d → HasFree r' d
+  still_free k d made same free = record {
+    own = ap (λ (y : RunnerState T). has y.part.descriptors.free d) made.made
+        ∙ (ap (λ (o : Option RunState). has (after_by m r.layout k r.part o found).descriptors.free d) is.resting ∙ (ap (λ (xs : List ℕ). has xs d) same ∙ free.own));
+    few = subst (λ (y : RunnerState T). d < descriptor_count y.layout) (sym made.made) free.few;
+  }
+
+  pub then_stored_word : (number : ℕ) → Makes m (kinds.PrivateStore slot word number) found r r' → IsAt r' stages.Idle section
+  then_stored_word number made = made_at m (kinds.PrivateStore slot word number) found r r' made is.resting stages.Idle section is.seated is.present is.resting is.at is.published
+
+  pub still_free_stored : (number d : ℕ) → Makes m (kinds.PrivateStore slot word number) found r r' → HasFree r d → HasFree r' d
+  still_free_stored number d made free = still_free (kinds.PrivateStore slot word number) d made refl free
+
+  pub then_loaded_word : Makes m (kinds.PrivateLoad slot word) found r r' → IsAt r' stages.Idle section
+  then_loaded_word made = made_at m (kinds.PrivateLoad slot word) found r r' made is.resting stages.Idle section is.seated is.present is.resting is.at is.published
+
+  pub still_free_loaded : (d : ℕ) → Makes m (kinds.PrivateLoad slot word) found r r' → HasFree r d → HasFree r' d
+  still_free_loaded d made free = still_free (kinds.PrivateLoad slot word) d made refl free
+
+-- a new worker has its first descriptor
+pub first_free : {T : Type 0} (m : Meaning) (keeper r : RunnerState T) (n : ℕ) → r ≡ next_worker m keeper → keeper.layout.sections ≡ 1 → keeper.part.records.splits ≡ n → n < keeper.layout.runners → HasFree r n
+first_free {T} m keeper r n is one count few = subst (λ (y : RunnerState T). HasFree y n) (sym is) (record {
+  own = (λ i. has (falling (one i * count i) (one i)) n) ∙ (let e : (1 * n + 0) == n || false ≡ true = grind (arith, nat_tests) in e);
+  few = (let a = ap (λ s. s * keeper.layout.runners) one in omega (arith, a, few));
+})

@@ -1,6 +1,6 @@
 -- What a runner's code keeps of its part after an event.
 use Rattle.std.specs.Prelude.{◌==◌, ◌&&◌, not, nat_lt, nat_le}
-use Rattle.std.proofs.Common.{◌≡◌, ℕ, ◌+◌, [], Bool, true, false, refl, ap, ◌∙◌, Option, None, if◌then◌else◌, Some, sym}
+use Rattle.std.proofs.Common.{◌≡◌, ℕ, ◌+◌, [], Bool, true, false, refl, ap, ◌∙◌, Option, None, if◌then◌else◌, sym}
 use Rattle.table_words.specs.declared.layout.Layout.{Layout}
 use Rattle.table_words.specs.declared.spot.Spot.{Spot}
 use Rattle.table_words.specs.declared.access.Access.{Access}
@@ -14,9 +14,7 @@ use Rattle.runner_steps.specs.State.{RunState, PartState}
 use Rattle.runner_steps.specs.Outside.{last_epoch}
 use Rattle.runner_steps.specs.AfterOutside.{with_stage, collected, scanned, is_clear, scan_one_after, advance_after}
 use Rattle.runner_steps.specs.After.{outside_after, after_by, stepped, after}
-use Rattle.version_words.specs.declared.place.RunPlace.{RunPlace}
 use Rattle.version_words.specs.RunnerState.{RunnerState, told_part}
-use Rattle.version_words.specs.Place.{HasPlace}
 use Rattle.version_words.specs.Events.{Makes}
 use Rattle.version_words.proofs.Asked.{is_outer, in_no_run}
 use Rattle.version_words.proofs.Splits.{notes}
@@ -66,7 +64,7 @@ advance_runs p (stages.Scanning x next clear) = run_chosen (nat_lt x last_epoch)
 advance_runs p _ = refl
 
 module _ (m : Meaning) (l : Layout) (p : PartState) (found : ℕ) where
-  outer_runs : (k : EventKind) → is_outer k ≡ true → (outside_after m l k p found).run ≡ p.run
+  pub outer_runs : (k : EventKind) → is_outer k ≡ true → (outside_after m l k p found).run ≡ p.run
   outer_runs (kinds.ScanOne n) e = scan_runs l p p.stage found
   outer_runs kinds.Advance e = advance_runs p p.stage
   outer_runs kinds.Split e = run_chosen (nat_lt p.records.splits l.runners) (record p { records = record (p.records) { splits = p.records.splits + 1 } }) p p.run refl refl
@@ -79,18 +77,6 @@ module _ (m : Meaning) (l : Layout) (p : PartState) (found : ℕ) where
   -- a step in no run begins none
   pub still_outside : (r : ℕ) (k : EventKind) (spot : Spot) (access : Access) → is_outer k ≡ true → p.run ≡ None → (after m l r k spot access p found).run ≡ None
   still_outside r k spot access e none = ap (λ (o : Option RunState). (after_by m l k p o found).run) none ∙ (outer_runs k e ∙ none)
-
-some_none : {A : Type 0} → (a : A) → None ≡ Some a → ⊥
-some_none a e = cc
-
--- a runner in no run has none to keep the place of
-pub no_place : {T : Type 0} (m : Meaning) (k : EventKind) (found : ℕ) (r r' : RunnerState T) (kept : RunPlace) → is_outer k ≡ true → Makes m k found r r' → HasPlace kept r.part → HasPlace kept r'.part
-no_place m k found r r' kept e made was =
-    let resting = in_no_run m r k e (record { met = made.met; asked = made.asked }) in
-    record {
-      run = λ q run. absurd (some_none q (sym (ap (λ y. y.part.run) made.made ∙ still_outside m r.layout r.part found r.number k made.met.0 made.met.1 e resting) ∙ run));
-      rest = λ none. was.rest resting;
-    }
 
 -- the lists after a step in no run
 pub outer_lists : {T : Type 0} (m : Meaning) (k : EventKind) (found : ℕ) (r r' : RunnerState T) → is_outer k ≡ true → Makes m k found r r' → told_part (outside_after m r.layout k r.part found) ≡ told_part r'.part

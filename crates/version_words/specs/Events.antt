@@ -1,9 +1,10 @@
 -- What contracts say of a step: it is one event of the machine on the own part.
-use Rattle.std.specs.Prelude.{◌≡◌, ℕ, Bool, true, false, [], ◌∷◌, ◌==◌, Some}
-use mathlib.Core.Option.{Option as Option_of, none}
+use Rattle.std.specs.Prelude.{◌≡◌, ℕ, ◌-◌, Bool, true, false, [], ◌∷◌, ◌==◌, Some}
+use mathlib.Core.Option.{Option as Option_of, none, some}
 use Rattle.atomic_table.specs.Table.{Me, Step, step}
 use Rattle.atomic_table.specs.Seated.{TableId}
 use Rattle.section_body.specs.declared.thunk.Thunk.{Thunk}
+use Rattle.section_body.specs.Word.{value_of}
 use Rattle.table_words.specs.Access.{written}
 use Rattle.table_words.specs.Places.{address}
 use Rattle.table_words.specs.declared.spot.Spot.{Spot}
@@ -29,10 +30,17 @@ Announced = Option_of Thunk
 abbrev pub nothing : Announced
 nothing = none
 
+abbrev pub announcing : Thunk → Announced
+announcing thunk = some thunk
+
 -- the exchange finds the number that it expects
 abbrev pub wins : Access → ℕ → Bool
 wins (Exchanges old new) found = found == old
 wins _ found = false
+
+-- the slot that a log word names
+abbrev pub slot_named : ℕ → ℕ
+slot_named word = value_of word - 1
 
 module _ {T : Type 0} (m : Meaning) where
   -- the word that this event of the runner meets, and what it does there; None where it isn't enabled
@@ -73,6 +81,12 @@ module _ {T : Type 0} (m : Meaning) where
     pub event : Makes kind found old new
     pub told : agreed ≡ written event.met.1 found
     pub first : won ≡ wins event.met.1 found
+
+  -- the runner made this event, which agrees on a slot; this is the slot that the agreed word names, and the event's exchange won or lost
+  pub record AgreesOn (kind : EventKind) (slot : ℕ) (won : Bool) (old new : RunnerState T) : Type 0 where
+    pub agreed : ℕ
+    pub event : Commits kind agreed won old new
+    pub named : slot ≡ slot_named agreed
 
   -- a plain store doesn't tell what it found, and the part afterwards doesn't go by it
   pub record IsBlind (kind : EventKind) (x : Spot × Access) (r : RunnerState T) : Type 0 where

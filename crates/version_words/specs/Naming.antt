@@ -1,5 +1,6 @@
 -- Which event a step is.
 use Rattle.std.specs.Prelude.{ℕ, ◌/◌, ◌%◌, ◌==◌, List, Bool, true, false, Option, Some, None}
+use mathlib.Core.Option.{Option as Option_of, none, some}
 use Rattle.atomic_table.specs.Table.{Step}
 use Rattle.map_history.specs.declared.op.Request.{Request}
 use Rattle.section_body.specs.declared.thunk.Thunk.{Thunk}
@@ -45,3 +46,8 @@ load_of (Some q) place = kinds.LoadCell None
 abbrev pub open_of : Option RunState → ℕ → EventKind
 open_of None descriptor = kinds.LoadThunk (Some descriptor)
 open_of (Some q) descriptor = kinds.LoadThunk None
+
+-- a section is published with the thunk that its step announces
+abbrev pub hold_of : Option_of Thunk → ℕ → EventKind
+hold_of none descriptor = kinds.EnterLoad
+hold_of (some thunk) descriptor = kinds.Hold thunk descriptor

@@ -1,22 +1,50 @@
 -- What a runner's code keeps of a run in progress.
-use Rattle.std.specs.Prelude.{◌≡◌, ℕ, ◌+◌, ◌==◌, nat_lt, if◌then◌else◌, ◌<◌, ◌≤◌, ◌%◌, ◌^◌, length, slice_index, Option, Some, None}
+use Rattle.std.specs.Prelude.{◌≡◌, ℕ, ◌+◌, ◌==◌, Bool, true, false, nat_lt, if◌then◌else◌, ◌<◌, ◌≤◌, ◌%◌, ◌^◌, length, slice_index, Option, Some, None}
+use Rattle.std.specs.Option.{is_some}
+use Rattle.section_body.specs.declared.micro.Micro.{Micro}
+use Rattle.section_body.specs.declared.micro.Micro.TheVariants as micros
 use Rattle.section_body.specs.Word.{held_word}
+use Rattle.section_body.specs.Line.{micro_at}
 use Rattle.table_words.specs.declared.spot.Spot.{Spot}
 use Rattle.table_words.specs.declared.spot.Spot.TheVariants as spots
+use Rattle.structure_laws.specs.Meaning.{Meaning}
 use Rattle.runner_steps.specs.State.{RunState, PartState}
+use Rattle.runner_steps.specs.Tests.{has}
+use Rattle.runner_steps.specs.Sections.{line_of, next_of}
 use Rattle.version_words.specs.declared.place.RunPlace.{RunPlace}
 
--- it has the run's descriptor, how many words of the opening were loaded, the request that they name, and how many words were agreed on
+-- it has the run's descriptor, how many words of the opening were loaded, the request that they name, how many words were agreed on, whether
+-- a Make has its slot in the hand, and whether a cell of that slot came to the greatest version
 pub record IsPlaced (kept : RunPlace) (q : RunState) : Type 0 where
   pub descriptor : kept.descriptor ≡ q.descriptor
   pub opened : kept.opened ≡ length q.opened
   pub request : 1 < length q.opened → kept.request ≡ slice_index q.opened 1 % 2 ^ 32
   pub agreed : kept.agreed ≡ length q.trail
+  pub making : kept.making ≡ is_some q.made
+  pub worn : kept.worn ≡ q.worn
 
--- where the runner has a run in progress; and outside a run the last one's opening is over
+-- where the runner has a run in progress, in which the slot of a Make is in the hand; and outside a run the last one's opening is over
 pub record HasPlace (kept : RunPlace) (p : PartState) : Type 0 where
   pub run : (q : RunState) → p.run ≡ Some q → IsPlaced kept q
   pub rest : p.run ≡ None → 12 ≤ kept.opened
+  pub outside : p.run ≡ None → kept.inside ≡ false
+  pub in_hand : (q : RunState) (slot : ℕ) → p.run ≡ Some q → q.made ≡ Some slot → has p.nodes.hand slot ≡ true
+
+-- a step of the end of a run
+abbrev pub is_ending : Micro → Bool
+is_ending micros.SetDone = true
+is_ending (micros.Release place word) = true
+is_ending micros.End = true
+is_ending _ = false
+
+-- while a run's opening is loaded, and before its commit of a retirement, this is the number that it loaded last
+pub record HasEpoch (m : Meaning) (epoch : ℕ) (run : Option RunState) : Type 0 where
+  pub opening : (q : RunState) → run ≡ Some q → length q.opened < 13 → epoch ≡ q.word
+  pub retiring : (q : RunState) (slot log : ℕ) → run ≡ Some q → micro_at (line_of m q) q.at ≡ micros.RetireCommit slot log → epoch ≡ q.word
+
+-- a run that isn't marked as in progress is at its end
+pub record EndsSo (m : Meaning) (kept : RunPlace) (run : Option RunState) : Type 0 where
+  pub ending : (q : RunState) → run ≡ Some q → kept.inside ≡ false → is_ending (next_of m q) ≡ true
 
 -- the next word of the log of a runner's run
 abbrev pub next_log : Option RunState → Spot
@@ -50,9 +78,14 @@ opened_of (Some q) = length q.opened
 -- the place after one more word of an opening, or after the first of a new one
 abbrev pub opened_place : RunPlace → ℕ → ℕ → RunPlace
 opened_place kept descriptor word = if nat_lt kept.opened 12
-    then record { descriptor = descriptor; opened = kept.opened + 1; request = if kept.opened == 1 then word % 2 ^ 32 else kept.request; agreed = kept.agreed }
-    else record { descriptor = descriptor; opened = 1; request = 0; agreed = 0 }
+    then record kept { descriptor = descriptor; opened = kept.opened + 1; request = if kept.opened == 1 then word % 2 ^ 32 else kept.request; inside = true }
+    else record { descriptor = descriptor; opened = 1; request = 0; agreed = 0; epoch = 0; inside = true; making = false; worn = false }
 
 -- the thunk word that is loaded next: that of the opening, or the first one of a new run
 abbrev pub next_thunk_word : RunPlace → ℕ
 next_thunk_word kept = if nat_lt kept.opened 12 then kept.opened else 0
+
+-- the place of a runner in no run
+pub record IsAtRest (kept : RunPlace) : Type 0 where
+  pub opened : kept.opened ≡ 13
+  pub outside : kept.inside ≡ false

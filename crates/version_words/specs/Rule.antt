@@ -6,6 +6,7 @@ use Rattle.atomic_table.specs.Table.{State, Me, Step}
 use Rattle.map_history.specs.declared.op.Request.{Request}
 use Rattle.section_body.specs.declared.thunk.Thunk.{Thunk}
 use Rattle.table_words.specs.declared.layout.Layout.{Layout}
+use Rattle.table_words.specs.Places.{slot_count}
 use Rattle.table_words.specs.declared.spot.Spot.{Spot}
 use Rattle.table_words.specs.declared.spot.Spot.TheVariants.{Seat}
 use Rattle.table_words.specs.declared.access.Access.{Access}
@@ -21,6 +22,7 @@ use Rattle.version_words.specs.declared.view.View.{View}
 use Rattle.machine_states.specs.Reached.{Reached}
 use Rattle.version_words.specs.Shown.{IsShown}
 use Rattle.version_words.specs.Naming.{Naming}
+use Rattle.version_words.specs.Room.{AreFew}
 
 -- the view is of this table, and its runner has this seat
 pub record IsSeatedAt {T : Type 0} (s : T) (l : Layout) (requests : List Request) (seat : ℕ) (t : T) (v : View T) : Type 0 where
@@ -51,6 +53,11 @@ module _ {T : Type 0} where
   Tells mean naming step me found me' = (s : T) (x : Spot × Access) → me.0.structure ≡ Some s
       → asks (mean s) me.0.layout me.0.requests me.0.number (naming (mean s) me.0.layout me.0.requests me.0.part step) me.0.part ≡ Some x
       → me' ≡ (stepped (mean s) (naming (mean s) me.0.layout me.0.requests me.0.part step) x.0 x.1 me.0 found, me.1)
+
+  -- the same, and the runner's lists of node slots have then no more entries than there are node slots
+  pub record TellsRoom (mean : T → Meaning) (naming : Naming) (step : Step Thunk) (me : Me Thunk (View T)) (found : ℕ) (me' : Me Thunk (View T)) : Type 0 where
+    pub tells : Tells mean naming step me found me'
+    pub room : (s : T) → me'.0.structure ≡ Some s → AreFew (slot_count me'.0.layout (mean s).fixed_slots) me'.0.part.nodes
 
   -- the keeper's view once it has split off one more worker
   abbrev pub splitting : (T → Meaning) → View T → Option T → View T

@@ -1,7 +1,8 @@
 -- A runner in no run.
-use Rattle.std.specs.Prelude.{◌≡◌, ℕ, ◌+◌, ◌<◌, ◌≤◌, Bool, false, not, ◌==◌, ◌&&◌, nat_lt, Option, None, if◌then◌else◌}
+use Rattle.std.specs.Prelude.{◌≡◌, ℕ, ◌+◌, ◌<◌, ◌≤◌, Bool, true, false, not, ◌==◌, ◌&&◌, nat_lt, Option, None, if◌then◌else◌}
 use Rattle.std.specs.Option.{IsSome}
 use Rattle.table_words.specs.declared.layout.Layout.{Layout}
+use Rattle.table_words.specs.Places.{descriptor_count}
 use Rattle.runner_steps.specs.declared.stage.Stage.{Stage}
 use Rattle.runner_steps.specs.declared.stage.Stage.TheVariants as stages
 use Rattle.runner_steps.specs.declared.entries.Published.{Published}
@@ -35,3 +36,8 @@ stage_scanned l epoch next clear found = let still = clear && is_clear epoch fou
 pub record HasJoined {T : Type 0} (r : RunnerState T) (count : ℕ) : Type 0 where
   pub fresh : (worker : ℕ) → count ≤ worker → has r.part.records.joined worker ≡ false
   pub parts : (worker : ℕ) → worker < count → IsSome (left_part r.joined worker)
+
+-- the runner has this free descriptor
+pub record HasFree {T : Type 0} (r : RunnerState T) (descriptor : ℕ) : Type 0 where
+  pub own : has r.part.descriptors.free descriptor ≡ true
+  pub few : descriptor < descriptor_count r.layout

@@ -1,8 +1,10 @@
 -- What contracts see of a table, and of the words of a closed one.
-use Rattle.std.specs.Prelude.{◌≡◌, ℕ, ◌<◌, ◌≤◌, suc, length, List, Option, Some, slice_get, [], None, ◌==◌, if◌then◌else◌}
+use Rattle.std.specs.Prelude.{◌≡◌, ℕ, ◌<◌, ◌^◌, suc, List, Option, Some, slice_get, [], None, ◌==◌, if◌then◌else◌}
 use Rattle.std.specs.Option.{IsSome}
 use Rattle.atomic_table.specs.Seated.{TableId}
+use Rattle.map_history.specs.declared.op.Op.{Op}
 use Rattle.map_history.specs.declared.op.Request.{Request}
+use Rattle.map_history.specs.Keys.{value_given}
 use Rattle.table_words.specs.declared.layout.Layout.{Layout}
 use Rattle.table_words.specs.Limits.{IsWithinLimits}
 use Rattle.table_words.specs.declared.spot.Spot.{Spot}
@@ -14,6 +16,7 @@ use Rattle.machine_states.specs.World.{World}
 use Rattle.machine_states.specs.First.{keeper_part}
 use Rattle.version_words.specs.declared.rule.Setup.{Setup}
 use Rattle.machine_states.specs.Reached.{Reached}
+use Rattle.machine_whole.specs.After.{AreAllowed}
 use Rattle.version_words.specs.Shown.{left_part}
 use Rattle.version_words.specs.RunnerState.{RunnerState}
 
@@ -82,11 +85,15 @@ pub record IsClosing {T : Type 0} (m : Meaning) (t : TableState T) (keeper : Run
   pub keeper_part : slice_get world.parts 0 ≡ Some keeper.part
   pub worker_parts : (worker : ℕ) → worker < t.layout.runners → slice_get world.parts (suc worker) ≡ left_part keeper.joined worker
 
--- the table has the machine's words, under its rule
+-- the value that the operation gives, if any, has 32 bits
+abbrev pub HasSmallValue : Op → Type 0
+HasSmallValue op = (v : ℕ) → value_given op ≡ Some v → v < 2 ^ 32
+
+-- the table has the machine's words, under its rule, and is within the limits
 pub record IsBuilt {T : Type 0} (m : Meaning) (id : TableId) (key built : Setup T) : Type 0 where
   pub told : key ≡ built
   pub as_sized : built.sizes ≡ sizes_for m built.layout built.requests.items
   pub words : id.words ≡ size built.sizes
   pub no_slots : id.slots ≡ 0
   pub limits : IsWithinLimits built.layout
-  pub few : length built.requests.items ≤ 131072
+  pub allowed : AreAllowed built.requests.items

@@ -1,14 +1,15 @@
 //! What a runner's code keeps of its part, in one block of memory.
-ghost use Rattle.std.specs.Prelude.{◌≡◌, ◌+◌, ◌<◌, ◌≤◌, ◌*◌, ◌^◌, ◌∷◌, ◌++◌, ℕ, IfOk, vec_len, length, not};
-ghost use Rattle.std.specs.List.{filter};
-ghost use Rattle.std.specs.Vec.{vec_capacity};
-ghost use Rattle.runner_steps.specs.Lists.{is_old, slots_of};
-ghost use Rattle.runner_steps.specs.AfterOutside.{with_stage, collected, scanned, scan_one_after, advance_after, split_after};
-ghost use Rattle.version_words.specs.Room.{HasRoom};
-ghost use Rattle.version_words.specs.RunnerState.{loaded_of, scanned_of};
+ghost use Rattle.std.specs.Prelude.{◌≡◌, ◌+◌, ◌<◌, ◌≤◌, ◌^◌, ℕ, IfOk, length, true, None, if◌then◌else◌};
+ghost use Rattle.runner_steps.specs.Tests.{has};
+ghost use Rattle.runner_steps.specs.AfterOutside.{with_stage, collected, scanned, scan_one_after, advance_after, split_after, retire_after};
+ghost use Rattle.runner_steps.specs.Lists.{slot_taken, slot_made, slot_back, slot_retired, nodes_looked};
+ghost use Rattle.version_words.specs.RunnerState.{loaded_of, scanned_of, held_in, with_part, with_nodes};
+ghost use Rattle.version_words.specs.Room.{AreFew};
 ghost use Rattle.machine_states.specs.First.{falling, first_part};
 
-use runner_steps::{LAST_EPOCH, Retired, Stage};
+use crate::descriptors::DescriptorLists;
+use crate::nodes::NodeLists;
+use runner_steps::{LAST_EPOCH, Stage};
 use std::alloc::{AllocError, Global};
 use std::marker::Model;
 use table_words::Layout;
@@ -18,122 +19,72 @@ use table_words::Layout;
 #[derive(Drop)]
 pub struct Kept {
     stage: Stage,
-    nodes: Vec<u32>,
-    hand: Vec<u32>,
-    limbo_nodes: Vec<Retired>,
-    worn: Vec<u32>,
-    descriptors: Vec<u32>,
-    limbo_descriptors: Vec<Retired>,
+    nodes: NodeLists,
+    descriptors: DescriptorLists,
     splits: u32,
 }
 
 impl Model for Kept {
-    ghost use Rattle.version_words.specs.Room.{HasRoom};
-    ghost use Rattle.std.specs.Prelude.{◌<◌, ◌^◌, vec_len, None, [], false};
-    ghost use Rattle.std.specs.Vec.{vec_capacity};
-    ghost use Rattle.runner_steps.specs.State.{PartState};
+    ghost use Rattle.std.specs.Prelude.{None, [], false};
     ghost use Rattle.runner_steps.specs.Lists.{no_reads};
+    ghost use Rattle.version_words.specs.RunnerState.{KeptState, published_as};
 
-    ghost Value = { PartState };
+    ghost Value = { KeptState };
 
     ghost view = { λ a. record {
-      stage = a.stage;
-      run = None;
-      published = None;
-      nodes = record { free = a.nodes.items; hand = a.hand.items; tests = []; limbo = a.limbo_nodes.items; worn = a.worn.items };
-      descriptors = record { free = a.descriptors.items; stored = []; limbo = a.limbo_descriptors.items };
-      reads = no_reads;
-      records = record { known = []; finished = []; events = 0; left = []; splits = a.splits; joined = [] };
-      gone = false;
+      part = record {
+        stage = a.stage;
+        run = None;
+        published = published_as a.descriptors.published;
+        nodes = a.nodes.lists;
+        descriptors = record { free = a.descriptors.free; stored = []; limbo = a.descriptors.limbo };
+        reads = no_reads;
+        records = record { known = []; finished = []; events = 0; left = []; splits = a.splits; joined = [] };
+        gone = false;
+      };
+      room = a.nodes.room;
     } };
-
-    ghost invariant = { λ a. HasRoom (vec_len a.hand) (vec_len a.limbo_nodes) (vec_capacity a.hand) × HasRoom (vec_len a.descriptors) (vec_len a.limbo_descriptors) (vec_capacity a.descriptors) × (vec_len a.worn < 2 ^ 32) };
 }
 
-/// Whether a slot was retired long enough ago to be used again: two epochs before this one.
-fn is_old(epoch: u64, retired: &Retired) -> bool
-    ensures { result ≡ is_old epoch retired.now }
-{
-    epoch >= 2 && retired.epoch <= epoch - 2
-}
-
-/// The slots that have waited long enough are added to the list.
-fn add_old(list: &mut Vec<u32>, limbo: &[Retired], epoch: u64)
-    requires { vec_len list.old + length limbo.now ≤ vec_capacity list.old }
-    ensures items { list.new.items ≡ list.old.items ++ slots_of (filter (is_old epoch) limbo.now) }
-    ensures room { vec_capacity list.new ≡ vec_capacity list.old }
-{
-    for retired in limbo {
-        if is_old(epoch, retired) {
-            list.push_reserved(retired.slot);
-        }
-    }
-}
-
-/// The slots that have waited long enough go from limbo into the list.
-fn wait_over(list: &mut Vec<u32>, limbo: &mut Vec<Retired>, epoch: u64)
-    requires { HasRoom (vec_len list.old) (vec_len limbo.old) (vec_capacity list.old) }
-    ensures list { list.new.items ≡ list.old.items ++ slots_of (filter (is_old epoch) limbo.old.items) }
-    ensures limbo { limbo.new.items ≡ filter (λ x. not (is_old epoch x)) limbo.old.items }
-    ensures room { HasRoom (vec_len list.new) (vec_len limbo.new) (vec_capacity list.new) }
-{
-    add_old(list, limbo, epoch);
-    limbo.retain(|x| !is_old(epoch, x));
-}
-
-/// A list of this many numbers from this one on, in falling order, with room for `room` of them.
-fn falling(alloc: Global, from: u32, count: u32, room: usize) -> Result<Vec<u32>, AllocError>
-    requires fits { from + count < 2 ^ 32 }
-    requires room { count ≤ room }
-    ensures items { IfOk result (λ v. v.items ≡ falling from count) }
-    ensures room { IfOk result (λ v. vec_capacity v ≡ room) }
-{
-    let mut numbers = Vec::with_capacity(alloc, room)?;
-    for below in 0..count {
-        numbers.push_reserved(from + (count - 1 - below));
-    }
-    Ok(numbers)
+/// What one kind of slot begins with: so many free slots from the first on, and room for so many.
+#[derive(Clone, Copy)]
+pub struct Share {
+    pub first: u32,
+    pub count: u32,
+    pub room: u32,
 }
 
 impl Kept {
-    /// A runner that has done nothing: `nodes` free node slots from `first_node` on, `descriptors` free descriptors from
-    /// `first_descriptor` on, and lists with room for so many of each.
-    pub fn new(
-        alloc: Global,
-        first_node: u32,
-        nodes: u32,
-        node_room: usize,
-        first_descriptor: u32,
-        descriptors: u32,
-        descriptor_room: usize,
-    ) -> Result<Self, AllocError>
-        requires nodes { first_node + nodes < 2 ^ 32 }
-        requires node_room { HasRoom nodes 0 node_room }
-        requires descriptors { first_descriptor + descriptors < 2 ^ 32 }
-        requires descriptor_room { HasRoom descriptors 0 descriptor_room }
-        ensures { IfOk result (λ x. x ≡ first_part (falling first_node nodes) (falling first_descriptor descriptors)) }
+    /// A runner that has done nothing, with these node slots and these descriptors.
+    pub fn new(alloc: Global, nodes: Share, descriptors: Share) -> Result<Self, AllocError>
+        requires nodes { nodes.first + nodes.count ≤ nodes.room }
+        requires descriptors { descriptors.first + descriptors.count < 2 ^ 32 }
+        requires descriptor_room { descriptors.count ≤ descriptors.room }
+        ensures part { IfOk result (λ x. x.part ≡ first_part (falling nodes.first nodes.count) (falling descriptors.first descriptors.count)) }
+        ensures room { IfOk result (λ x. x.room ≡ nodes.room) }
     {
         Ok(Kept {
             stage: Stage::Idle,
-            nodes: falling(alloc, first_node, nodes, node_room)?,
-            hand: Vec::with_capacity(alloc, node_room)?,
-            limbo_nodes: Vec::with_capacity(alloc, node_room)?,
-            worn: Vec::with_capacity(alloc, node_room)?,
-            descriptors: falling(alloc, first_descriptor, descriptors, descriptor_room)?,
-            limbo_descriptors: Vec::with_capacity(alloc, descriptor_room)?,
+            nodes: NodeLists::new(alloc, nodes.first, nodes.count, nodes.room)?,
+            descriptors: DescriptorLists::new(
+                alloc,
+                descriptors.first,
+                descriptors.count,
+                descriptors.room,
+            )?,
             splits: 0,
         })
     }
 
     pub fn stage(&self) -> Stage
-        ensures { result ≡ self.now.stage }
+        ensures { result ≡ self.now.part.stage }
     {
         self.stage
     }
 
     /// The epoch that was loaded, to be announced.
     pub fn loaded(&self) -> u64
-        ensures { result ≡ loaded_of self.now.stage }
+        ensures { result ≡ loaded_of self.now.part.stage }
     {
         match self.stage {
             Stage::Loaded(epoch) => epoch,
@@ -143,7 +94,7 @@ impl Kept {
 
     /// The epoch for which the runner scans.
     pub fn scanned(&self) -> u64
-        ensures { result ≡ scanned_of self.now.stage }
+        ensures { result ≡ scanned_of self.now.part.stage }
     {
         match self.stage {
             Stage::Scanning {
@@ -156,59 +107,59 @@ impl Kept {
     }
 
     pub fn splits(&self) -> u32
-        ensures { result ≡ self.now.records.splits }
+        ensures { result ≡ self.now.part.records.splits }
     {
         self.splits
     }
 
     pub fn free_nodes(&self) -> &[u32]
-        ensures { result.now ≡ self.now.nodes.free }
+        ensures { result.now ≡ self.now.part.nodes.free }
     {
-        &self.nodes
+        self.nodes.free()
     }
 
     pub fn hand(&self) -> &[u32]
-        ensures { result.now ≡ self.now.nodes.hand }
+        ensures { result.now ≡ self.now.part.nodes.hand }
     {
-        &self.hand
+        self.nodes.hand()
     }
 
     pub fn limbo_nodes(&self) -> u32
-        ensures { result ≡ length self.now.nodes.limbo }
+        ensures { result ≡ length self.now.part.nodes.limbo }
     {
-        self.limbo_nodes.len() as u32
+        self.nodes.limbo()
     }
 
     pub fn worn(&self) -> u32
-        ensures { result ≡ length self.now.nodes.worn }
+        ensures { result ≡ length self.now.part.nodes.worn }
     {
-        self.worn.len() as u32
+        self.nodes.worn()
     }
 
     pub fn free_descriptors(&self) -> &[u32]
-        ensures { result.now ≡ self.now.descriptors.free }
+        ensures { result.now ≡ self.now.part.descriptors.free }
     {
-        &self.descriptors
+        self.descriptors.free()
     }
 
     pub fn limbo_descriptors(&self) -> u32
-        ensures { result ≡ length self.now.descriptors.limbo }
+        ensures { result ≡ length self.now.part.descriptors.limbo }
     {
-        self.limbo_descriptors.len() as u32
+        self.descriptors.limbo()
     }
 
     pub fn set_stage(&mut self, stage: Stage)
-        ensures { self.new ≡ with_stage self.old stage }
+        ensures { self.new ≡ with_part self.old (with_stage self.old.part stage) }
     {
         self.stage = stage;
     }
 
     /// A scan is over, and this epoch was reached.
     fn collect(&mut self, epoch: u64)
-        ensures { self.new ≡ collected self.old epoch }
+        ensures { self.new ≡ with_part self.old (collected self.old.part epoch) }
     {
-        wait_over(&mut self.hand, &mut self.limbo_nodes, epoch);
-        wait_over(&mut self.descriptors, &mut self.limbo_descriptors, epoch);
+        self.nodes.collect(epoch);
+        self.descriptors.collect(epoch);
         self.stage = Stage::Idle;
     }
 
@@ -216,7 +167,7 @@ impl Kept {
     fn scan_on(&mut self, layout: Layout, epoch: u64, next: u32, clear: bool)
         requires limits { layout.runners < 2 ^ 31 }
         requires next { next ≤ layout.runners }
-        ensures { self.new ≡ scanned layout self.old epoch next clear }
+        ensures { self.new ≡ with_part self.old (scanned layout self.old.part epoch next clear) }
     {
         if next == layout.runners && !(clear && epoch < LAST_EPOCH) {
             self.collect(epoch);
@@ -232,7 +183,7 @@ impl Kept {
     /// One more announcement was read.
     pub fn scan_one(&mut self, layout: Layout, found: u64)
         requires { layout.runners < 2 ^ 31 }
-        ensures { self.new ≡ scan_one_after layout self.old self.old.stage found }
+        ensures { self.new ≡ with_part self.old (scan_one_after layout self.old.part self.old.part.stage found) }
     {
         if let Stage::Scanning { epoch, next, clear } = self.stage {
             if next <= layout.runners {
@@ -244,7 +195,7 @@ impl Kept {
 
     /// The next epoch was reached.
     pub fn advance(&mut self)
-        ensures { self.new ≡ advance_after self.old self.old.stage }
+        ensures { self.new ≡ with_part self.old (advance_after self.old.part self.old.part.stage) }
     {
         if let Stage::Scanning {
             epoch,
@@ -260,10 +211,59 @@ impl Kept {
 
     /// One more worker was split off.
     pub fn split(&mut self, layout: Layout)
-        ensures { self.new ≡ split_after layout self.old }
+        ensures { self.new ≡ with_part self.old (split_after layout self.old.part) }
     {
         if self.splits < layout.runners {
             self.splits += 1;
         }
+    }
+
+    /// An exchange was to publish a section with this free descriptor, and won or lost.
+    pub fn hold(&mut self, descriptor: u32, won: bool)
+        requires own { has self.old.part.descriptors.free descriptor ≡ true }
+        requires none { self.old.part.published ≡ None }
+        ensures { self.new ≡ with_part self.old (held_in self.old.part descriptor won) }
+    {
+        if won {
+            self.descriptors.publish(descriptor);
+        }
+    }
+
+    /// The epoch was loaded to retire the published section.
+    pub fn retire(&mut self, epoch: u64)
+        ensures { self.new ≡ with_part self.old (retire_after self.old.part self.old.part.published epoch) }
+    {
+        self.descriptors.retire(epoch);
+    }
+
+    /// A Make takes a free slot into the hand.
+    pub fn take(&mut self, slot: u32)
+        requires { has self.old.part.nodes.free slot ≡ true }
+        ensures { self.new ≡ with_nodes self.old (slot_taken self.old.part.nodes slot) }
+    {
+        self.nodes.take(slot);
+    }
+
+    /// The slot in the hand that a Make filled is live, where its commit won; otherwise it comes back.
+    pub fn made(&mut self, slot: u32, won: bool, worn: bool)
+        requires { has self.old.part.nodes.hand slot ≡ true }
+        ensures { self.new ≡ with_nodes self.old (if won then slot_made self.old.part.nodes slot else slot_back self.old.part.nodes slot worn) }
+    {
+        self.nodes.made(slot, won, worn);
+    }
+
+    /// A node slot was retired with this epoch.
+    pub fn retire_slot(&mut self, slot: u32, epoch: u64)
+        requires { AreFew self.old.room (slot_retired self.old.part.nodes slot epoch) }
+        ensures { self.new ≡ with_nodes self.old (slot_retired self.old.part.nodes slot epoch) }
+    {
+        self.nodes.retire(slot, epoch);
+    }
+
+    /// A cell of an own node slot was loaded outside a run.
+    pub fn look(&mut self, layout: Layout, slot: u32, cell: u32, word: u64)
+        ensures { self.new ≡ with_nodes self.old (nodes_looked layout self.old.part.nodes slot cell word) }
+    {
+        self.nodes.look(layout, slot, cell, word);
     }
 }

@@ -7,12 +7,18 @@
 #![tactic(auto)]
 
 mod block;
+mod descriptors;
 mod entry;
+mod hold;
 mod kept;
 mod laws;
+mod makes;
+mod nodes;
 mod opening;
 mod place;
 mod plays;
+mod private;
+mod reserved;
 mod rule;
 mod run_ends;
 mod runner;

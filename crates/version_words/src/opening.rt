@@ -41,6 +41,7 @@ impl<S: Structure> FlockTable<S> {
         let spot = Spot::DoneWord(runner.kept.place.descriptor);
         let found = self.load::<plays::LoadDone>(&mut runner.seat, spot);
         runner.kept.place.opened = 13;
+        runner.kept.place.inside = true;
         (runner, found != 0)
     }
 }

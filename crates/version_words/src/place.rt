@@ -5,13 +5,21 @@ ghost use Rattle.version_words.specs.Place.{opened_place, next_thunk_word};
 use section_body::Word;
 
 /// The run's descriptor, how many words of its opening were loaded, the request that they name, and how many words were agreed
-/// on. Outside a run it says nothing.
+/// on.
 #[derive(Clone, Copy)]
 pub struct RunPlace {
     pub descriptor: u32,
     pub opened: u32,
     pub request: u32,
     pub agreed: u32,
+    /// The epoch that the run loaded last for a retirement.
+    pub epoch: u64,
+    /// Whether a run is in progress that isn't at its end.
+    pub inside: bool,
+    /// Whether a Make has its slot in the hand.
+    pub making: bool,
+    /// Whether a cell of that slot came to the greatest version.
+    pub worn: bool,
 }
 
 impl RunPlace {
@@ -37,6 +45,10 @@ impl RunPlace {
                 opened: self.opened + 1,
                 request,
                 agreed: self.agreed,
+                epoch: self.epoch,
+                inside: true,
+                making: self.making,
+                worn: self.worn,
             }
         } else {
             RunPlace {
@@ -44,6 +56,10 @@ impl RunPlace {
                 opened: 1,
                 request: 0,
                 agreed: 0,
+                epoch: 0,
+                inside: true,
+                making: false,
+                worn: false,
             }
         }
     }

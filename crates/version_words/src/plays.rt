@@ -26,6 +26,17 @@ impl<S: Structure, E: Named> Play<Thunk, View<S>> for Makes<S, E> {
     ghost then = { Tells S.meaning E.naming };
 }
 
+/// A step that is the event of this name, after which the own lists of node slots are seen to be short.
+pub struct LeavesRoom<S, E> {
+    marker: PhantomData<(S, E)>,
+}
+
+impl<S: Structure, E: Named> Play<Thunk, View<S>> for LeavesRoom<S, E> {
+    ghost use Rattle.version_words.specs.Rule.{TellsRoom};
+
+    ghost then = { TellsRoom S.meaning E.naming };
+}
+
 pub struct EnterLoad;
 
 impl Named for EnterLoad {
@@ -198,6 +209,61 @@ impl Named for LoadCell {
     ghost use Rattle.version_words.specs.Naming.{load_of};
 
     ghost naming = { λ m layout requests part step. load_of part.run (step.word - (4 + layout.runners + 2 * length requests)) };
+}
+
+/// The thunk is the one that the step announces, and the descriptor is read off the word that is to stand in the lock.
+pub struct Hold;
+
+impl Named for Hold {
+    ghost use Rattle.std.specs.Prelude.{◌-◌};
+    ghost use Rattle.section_body.specs.Word.{value_of};
+    ghost use Rattle.version_words.specs.Naming.{hold_of};
+
+    ghost naming = { λ m layout requests part step. hold_of step.said (value_of step.second - 1) };
+}
+
+/// The slot and its word are read off the step's word, the number is the one that is stored.
+pub struct PrivateStore;
+
+impl Named for PrivateStore {
+    ghost use Rattle.runner_steps.specs.declared.event.EventKind.TheVariants as kinds;
+    ghost use Rattle.version_words.specs.Private.{slot_at, word_at};
+
+    ghost naming = { λ m layout requests part step. kinds.PrivateStore (slot_at m layout requests step.word) (word_at m layout requests step.word) step.first };
+}
+
+/// The slot and its word are read off the step's word.
+pub struct PrivateLoad;
+
+impl Named for PrivateLoad {
+    ghost use Rattle.runner_steps.specs.declared.event.EventKind.TheVariants as kinds;
+    ghost use Rattle.version_words.specs.Private.{slot_at, word_at};
+
+    ghost naming = { λ m layout requests part step. kinds.PrivateLoad (slot_at m layout requests step.word) (word_at m layout requests step.word) };
+}
+
+pub struct MakeCommit;
+
+impl Named for MakeCommit {
+    ghost use Rattle.runner_steps.specs.declared.event.EventKind.TheVariants as kinds;
+
+    ghost naming = { λ m layout requests part step. kinds.MakeCommit };
+}
+
+pub struct RetireCommit;
+
+impl Named for RetireCommit {
+    ghost use Rattle.runner_steps.specs.declared.event.EventKind.TheVariants as kinds;
+
+    ghost naming = { λ m layout requests part step. kinds.RetireCommit };
+}
+
+pub struct EpochForRetire;
+
+impl Named for EpochForRetire {
+    ghost use Rattle.runner_steps.specs.declared.event.EventKind.TheVariants as kinds;
+
+    ghost naming = { λ m layout requests part step. kinds.EpochForRetire };
 }
 
 /// The announcement is the one that comes next.

@@ -17,14 +17,14 @@ use section_body::{Place, Word};
 use table_words::Spot;
 
 /// What then stands in a word that was exchanged from 0.
-fn agreed_on(found: u64, proposal: u64) -> u64
+pub fn agreed_on(found: u64, proposal: u64) -> u64
     ensures { result ≡ written_once found proposal }
 {
     if found == 0 { proposal } else { found }
 }
 
 /// The word of a lock that this descriptor's section holds, where this free word stood before.
-fn held_word(descriptor: u32, word: Word) -> Word
+pub fn held_word(descriptor: u32, word: Word) -> Word
     requires descriptor { descriptor < 2 ^ 32 - 1 }
     requires version { version_of word < 2 ^ 32 - 1 }
     ensures { result ≡ held_word descriptor word }
@@ -71,6 +71,7 @@ impl<S: Structure> FlockTable<S> {
     {
         let spot = Spot::DoneWord(runner.kept.place.descriptor);
         self.exchange::<plays::SetDone>(&mut runner.seat, spot, 0, 1);
+        runner.kept.place.inside = false;
         runner
     }
 
@@ -125,6 +126,7 @@ impl<S: Structure> FlockTable<S> {
         let held = held_word(runner.kept.place.descriptor, word);
         let free = held.next(0);
         self.exchange::<plays::Release>(&mut runner.seat, spot, held.bits(), free.bits());
+        runner.kept.place.inside = false;
         runner
     }
 }

@@ -5,7 +5,7 @@ ghost use Rattle.version_words.specs.RunnerState.{entered_of};
 use crate::block::Block;
 use crate::view::View;
 use atomic_table::Seat;
-use runner_steps::Stage;
+use runner_steps::{Stage, Structure};
 use section_body::Thunk;
 use std::alloc::Global;
 use std::marker::Model;
@@ -13,13 +13,13 @@ use std::marker::Model;
 /// A seat at the table, with what its thread keeps: a number, and behind one pointer the runner's lists. What else the runner
 /// knows stands in its view alone and has no bytes.
 #[derive(Drop)]
-pub struct Runner<S> {
+pub struct Runner<S: Structure> {
     pub(crate) seat: Seat<Thunk, View<S>>,
     pub(crate) number: u32,
     pub(crate) kept: Box<Block, Global>,
 }
 
-impl<S> Model for Runner<S> {
+impl<S: Structure> Model for Runner<S> {
     ghost use Rattle.version_words.specs.RunnerState.{RunnerState};
     ghost use Rattle.version_words.specs.Kept.{IsKept};
 
@@ -35,10 +35,10 @@ impl<S> Model for Runner<S> {
       joined = a.seat.me.0.joined;
     } };
 
-    ghost invariant = { λ a. IsKept a.number a.kept.value a.seat.me };
+    ghost invariant = { λ a. IsKept S.meaning a.number a.kept.value a.seat.me };
 }
 
-impl<S> Runner<S> {
+impl<S: Structure> Runner<S> {
     pub fn number(&self) -> u32
         ensures { result ≡ self.now.number }
     {

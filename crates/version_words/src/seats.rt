@@ -1,13 +1,17 @@
 //! How runners are made and joined, and how a table begins and ends.
-ghost use Rattle.std.specs.Prelude.{◌≡◌, ◌≤◌, ◌<◌, IfOk, IfErr, length};
+ghost use Rattle.std.specs.Prelude.{◌≡◌, ◌≤◌, ◌<◌, IfOk, IfErr, length, All};
+ghost use Rattle.map_history.specs.declared.op.Request.{Request};
+ghost use Rattle.map_history.specs.Keys.{key_of};
 ghost use Rattle.table_words.specs.Limits.{IsWithinLimits};
+ghost use Rattle.table_words.specs.Places.{slot_count};
 ghost use Rattle.runner_steps.specs.declared.event.EventKind.TheVariants as kinds;
 ghost use Rattle.machine_states.specs.First.{keeper_part, worker_part};
-ghost use Rattle.version_words.specs.TableState.{IsOf, IsNew, first_keeper, HasJoinedAll, IsClosing};
+ghost use Rattle.version_words.specs.Place.{IsAtRest};
+ghost use Rattle.version_words.specs.TableState.{IsOf, IsNew, HasSmallValue, first_keeper, HasJoinedAll, IsClosing};
 ghost use Rattle.version_words.specs.Events.{IsEnabled, Makes, next_worker, joined_by};
 
 use crate::block::Block;
-use crate::kept::Kept;
+use crate::kept::{Kept, Share};
 use crate::place::RunPlace;
 use crate::plays::{Joins, SplitsOff};
 use crate::rule::Setup;
@@ -16,7 +20,7 @@ use crate::table::FlockTable;
 use crate::words::Words;
 use atomic_table::Table;
 use interleave_core::first_words;
-use map_history::Request;
+use map_history::{Op, Request};
 use runner_steps::{Structure, sizes_for, slot_count};
 use std::alloc::{AllocError, Global};
 use table_words::Layout;
@@ -24,13 +28,17 @@ use table_words::Layout;
 /// A block with these lists, for a runner in no run.
 fn boxed(alloc: Global, lists: Kept) -> Result<Box<Block, Global>, AllocError>
     ensures lists { IfOk result (λ b. b.value.lists ≡ lists) }
-    ensures place { IfOk result (λ b. b.value.place.opened ≡ 13) }
+    ensures place { IfOk result (λ b. IsAtRest b.value.place) }
 {
     let place = RunPlace {
         descriptor: 0,
         opened: 13,
         request: 0,
         agreed: 0,
+        epoch: 0,
+        inside: false,
+        making: false,
+        worn: false,
     };
     Ok(Box::new(alloc, Block { lists, place })?)
 }
@@ -42,19 +50,22 @@ fn keeper_lists<S: Structure>(
     layout: Layout,
 ) -> Result<Box<Block, Global>, AllocError>
     requires { IsWithinLimits layout }
-    ensures lists { IfOk result (λ b. b.value.lists ≡ keeper_part (S.meaning structure.now) layout) }
-    ensures place { IfOk result (λ b. b.value.place.opened ≡ 13) }
+    ensures lists { IfOk result (λ b. b.value.lists.part ≡ keeper_part (S.meaning structure.now) layout) }
+    ensures room { IfOk result (λ b. b.value.lists.room ≡ slot_count layout (S.meaning structure.now).fixed_slots) }
+    ensures place { IfOk result (λ b. IsAtRest b.value.place) }
 {
     let workers = layout.runners;
-    let lists = Kept::new(
-        alloc,
-        structure.fixed_slots() + layout.nodes * workers,
-        2 * workers + 2,
-        slot_count(structure, layout) as usize,
-        layout.sections * workers,
-        workers,
-        (layout.sections * workers + workers) as usize,
-    )?;
+    let nodes = Share {
+        first: structure.fixed_slots() + layout.nodes * workers,
+        count: 2 * workers + 2,
+        room: slot_count(structure, layout),
+    };
+    let descriptors = Share {
+        first: layout.sections * workers,
+        count: workers,
+        room: layout.sections * workers + workers,
+    };
+    let lists = Kept::new(alloc, nodes, descriptors)?;
     boxed(alloc, lists)
 }
 
@@ -68,19 +79,40 @@ fn worker_lists<S: Structure>(
 ) -> Result<Box<Block, Global>, AllocError>
     requires limits { IsWithinLimits layout }
     requires worker { worker < layout.runners }
-    ensures lists { IfOk result (λ b. b.value.lists ≡ worker_part (S.meaning structure.now) layout worker) }
-    ensures place { IfOk result (λ b. b.value.place.opened ≡ 13) }
+    ensures lists { IfOk result (λ b. b.value.lists.part ≡ worker_part (S.meaning structure.now) layout worker) }
+    ensures room { IfOk result (λ b. b.value.lists.room ≡ slot_count layout (S.meaning structure.now).fixed_slots) }
+    ensures place { IfOk result (λ b. IsAtRest b.value.place) }
 {
-    let lists = Kept::new(
-        alloc,
-        structure.fixed_slots() + layout.nodes * worker,
-        layout.nodes,
-        slot_count(structure, layout) as usize,
-        layout.sections * worker,
-        layout.sections,
-        (layout.sections * layout.runners + layout.runners) as usize,
-    )?;
+    let nodes = Share {
+        first: structure.fixed_slots() + layout.nodes * worker,
+        count: layout.nodes,
+        room: slot_count(structure, layout),
+    };
+    let descriptors = Share {
+        first: layout.sections * worker,
+        count: layout.sections,
+        room: layout.sections * layout.runners + layout.runners,
+    };
+    let lists = Kept::new(alloc, nodes, descriptors)?;
     boxed(alloc, lists)
+}
+
+/// The value that an operation gives has 32 bits, by its type.
+fn value_fits(op: Op)
+    ensures { HasSmallValue op }
+{
+    if let Op::Ins(_, value) = op {
+        let _ = u64::from(value);
+    }
+}
+
+/// So it is with each request.
+fn values_fit(requests: &[Request])
+    ensures { All (λ (request : Request). HasSmallValue request.op) requests.now }
+{
+    for request in requests {
+        value_fits(request.op);
+    }
 }
 
 impl<S: Structure> FlockTable<S> {
@@ -93,10 +125,12 @@ impl<S: Structure> FlockTable<S> {
     ) -> Result<(FlockTable<S>, Runner<S>), AllocError>
         requires limits { IsWithinLimits layout }
         requires few { length requests.now ≤ 131072 }
+        requires keys { All (λ (request : Request). key_of request.op ≤ 4294967293) requests.now }
         ensures table { IfOk result (λ x. IsNew structure layout requests.now x.0) }
         ensures own { IfOk result (λ x. IsOf x.0 x.1) }
         ensures keeper { IfOk result (λ x. x.1 ≡ first_keeper (S.meaning structure) x.0) }
     {
+        values_fit(requests);
         let sizes = sizes_for(&structure, layout, requests);
         let words = first_words(alloc, &structure, sizes)?;
         let kept = keeper_lists(alloc, &structure, layout)?;

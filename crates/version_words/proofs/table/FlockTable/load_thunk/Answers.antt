@@ -25,6 +25,7 @@ invariant_of-runner g c =
     let named = thunk_named (sizes_for m c.args.self.now.layout c.args.self.now.requests) (sizes_for m seat.me.0.layout seat.me.0.requests) c.runner.inside.kept.value.place p d c.next_thunk_word-index.result same_sizes c.runner.invariant.place
     (c.next_thunk_word-index.ensures ∙ ap next_thunk_word place_is) in
     let event = subst (λ (k : EventKind). Makes m k found old (seen_seat new.table_id new.me)) named c.load-word.ensures.event in
-    let kept = opening_kept m d found c.runner.inside.number c.runner.inside.kept.value seat.table_id new.table_id seat.me new.me c.load-word.ensures.slots c.runner.invariant asked event in
-    subst (λ (b : Block). IsKept c.runner.inside.number (record { lists = b.lists; place = c.opened.result }) new.me) (sym c.deref_mut.ensures.value)
-    (subst (λ (k : RunPlace). IsKept c.runner.inside.number (record { lists = c.runner.inside.kept.value.lists; place = k }) new.me) (sym (c.opened.ensures ∙ ap (λ (k : RunPlace). opened_place k d found) place_is)) kept)
+    let mean = g.S.Structure.meaning in let number = c.runner.inside.number in let block = c.runner.inside.kept.value in
+    let kept = opening_kept mean c.args.self.now.structure d found number block seat.table_id new.table_id seat.me new.me own.structure c.load-word.ensures.slots c.runner.invariant asked event in
+    subst (λ (b : Block). IsKept mean number (record { lists = b.lists; place = c.opened.result }) new.me) (sym c.deref_mut.ensures.value)
+    (subst (λ (k : RunPlace). IsKept mean number (record { lists = block.lists; place = k }) new.me) (sym (c.opened.ensures ∙ ap (λ (k : RunPlace). opened_place k d found) place_is)) kept)

@@ -23,5 +23,7 @@ held_word-held-requires-clause-version g c =
     (may_nest m r run.0 c.args.place c.args.word held limits run.1 c.requires.next).low
 
 pub invariant_of-runner : goal.invariant_of-runner
-invariant_of-runner g c = let seat = c.runner.inside.seat in let event = c.exchange.ensures.event in
-    quiet_kept (g.S.Structure.meaning c.args.self.now.structure) NestedHold c.exchange.result c.runner.inside.number c.runner.inside.kept.value seat.table_id c.exchange.new.seat.table_id seat.me c.exchange.new.seat.me event c.exchange.ensures.slots c.runner.invariant refl
+invariant_of-runner g c =
+    let seat = c.runner.inside.seat in let new = c.exchange.new.seat in
+    quiet_kept g.S.Structure.meaning c.args.self.now.structure NestedHold c.exchange.result c.runner.inside.number c.runner.inside.kept.value seat.table_id new.table_id seat.me new.me
+    (ap (λ r. r.structure) c.runner.view_is ∙ c.requires.own.structure) c.exchange.ensures.event c.exchange.ensures.slots c.runner.invariant refl refl refl

@@ -1,4 +1,4 @@
-use Rattle.std.proofs.Common.{refl, sym, subst, ◌+◌}
+use Rattle.std.proofs.Common.{refl, sym, subst, ap, ◌+◌, ◌∙◌}
 use Rattle.runner_steps.specs.declared.event.EventKind.TheVariants.{OutcomeCommit}
 use Rattle.version_words.specs.declared.block.Block.{Block}
 use Rattle.version_words.specs.Kept.{IsKept}
@@ -7,8 +7,9 @@ use Rattle.version_words.proofs.table.FlockTable.outcome_commit.Goals as goal
 
 pub invariant_of-runner : goal.invariant_of-runner
 invariant_of-runner g c =
-    let m = g.S.Structure.meaning c.args.self.now.structure in let seat = c.runner.inside.seat in let new = c.exchange-found.new.seat in
+    let mean = g.S.Structure.meaning in let seat = c.runner.inside.seat in let new = c.exchange-found.new.seat in
     let kept = c.runner.inside.kept.value in let number = c.runner.inside.number in
-    let after_commit = commit_kept m OutcomeCommit c.exchange-found.result number kept seat.table_id new.table_id seat.me new.me c.exchange-found.ensures.event c.exchange-found.ensures.slots c.runner.invariant refl in
-    subst (λ (b : Block). IsKept number (record b { place = record (b.place) { agreed = c.deref.result.now.place.agreed + 1 } }) new.me) (sym c.deref_mut.ensures.value)
-    (subst (λ (b : Block). IsKept number (record kept { place = record (kept.place) { agreed = b.place.agreed + 1 } }) new.me) (sym c.deref.ensures) after_commit)
+    let after_commit = commit_kept mean c.args.self.now.structure OutcomeCommit c.exchange-found.result number kept seat.table_id new.table_id seat.me new.me
+    (ap (λ r. r.structure) c.runner.view_is ∙ c.requires.own.structure) c.exchange-found.ensures.event c.exchange-found.ensures.slots c.runner.invariant refl refl in
+    subst (λ (b : Block). IsKept mean number (record b { place = record (b.place) { agreed = c.deref.result.now.place.agreed + 1 } }) new.me) (sym c.deref_mut.ensures.value)
+    (subst (λ (b : Block). IsKept mean number (record kept { place = record (kept.place) { agreed = b.place.agreed + 1 } }) new.me) (sym c.deref.ensures) after_commit)

@@ -6,8 +6,11 @@ use Rattle.table_words.specs.Limits.{IsWithinLimits}
 use Rattle.runner_steps.specs.declared.event.EventKind.TheVariants.{Release}
 use Rattle.std.specs.Prelude.{Option}
 use Rattle.runner_steps.specs.State.{RunState}
+use Rattle.std.proofs.Common.{false}
+use Rattle.version_words.specs.declared.block.Block.{Block}
+use Rattle.version_words.specs.Kept.{IsKept}
 use Rattle.version_words.specs.Place.{held_by_run}
-use Rattle.version_words.proofs.Inside.{may_release, has_run, quiet_kept}
+use Rattle.version_words.proofs.Inside.{may_release, has_run, ender_kept}
 use Rattle.version_words.proofs.table.FlockTable.release.Goals as goal
 
 pub held_word-held-requires-clause-descriptor : goal.held_word-held-requires-clause-descriptor
@@ -40,5 +43,8 @@ next-free-requires g c =
     subst (λ (n : ℕ). version_of n + 1 < 2 ^ 32) (sym (c.held_word-held.ensures ∙ ap (λ (d : ℕ). held_word d word) is)) can.1
 
 pub invariant_of-runner : goal.invariant_of-runner
-invariant_of-runner g c = let seat = c.runner.inside.seat in let event = c.exchange.ensures.event in
-    quiet_kept (g.S.Structure.meaning c.args.self.now.structure) Release c.exchange.result c.runner.inside.number c.runner.inside.kept.value seat.table_id c.exchange.new.seat.table_id seat.me c.exchange.new.seat.me event c.exchange.ensures.slots c.runner.invariant refl
+invariant_of-runner g c =
+    let mean = g.S.Structure.meaning in let seat = c.runner.inside.seat in let new = c.exchange.new.seat in let number = c.runner.inside.number in
+    subst (λ (b : Block). IsKept mean number (record b { place = record (b.place) { inside = false } }) new.me) (sym c.deref_mut.ensures.value)
+    (ender_kept mean c.args.self.now.structure Release c.exchange.result number c.runner.inside.kept.value seat.table_id new.table_id seat.me new.me
+    (ap (λ r. r.structure) c.runner.view_is ∙ c.requires.own.structure) c.exchange.ensures.event c.exchange.ensures.slots c.runner.invariant refl refl)

@@ -1,7 +1,7 @@
 use Rattle.std.proofs.Common.{ℕ, ◌+◌, ◌-◌, List, ◌++◌, refl, ap, ◌∙◌, arith}
 use Rattle.machine_states.specs.First.{falling}
 use Rattle.machine_states.proofs.Firsts.{falling_next}
-use Rattle.version_words.proofs.kept.falling.Goals as goal
+use Rattle.version_words.proofs.reserved.falling.Goals as goal
 
 pub loop-below-preserved : goal.loop-below-preserved
 loop-below-preserved c = let h = c.push_reserved.ensures in let inv = c.loop-below.invariant in record {

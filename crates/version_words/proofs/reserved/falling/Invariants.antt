@@ -1,7 +1,7 @@
 use Rattle.std.proofs.Common.{◌≡◌, ◌-◌, ◌++◌, vec_len}
 use Rattle.std.specs.Vec.{vec_capacity}
 use Rattle.machine_states.specs.First.{falling}
-use Rattle.version_words.proofs.kept.falling.Given as goal
+use Rattle.version_words.proofs.reserved.falling.Given as goal
 
 abbrev pub invariant-loop-below : goal.invariant-loop-below
 invariant-loop-below l = record {

@@ -2,7 +2,7 @@ use Rattle.std.proofs.Common.{◌≡◌, ◌+◌, ◌++◌, ◌≤◌, vec_len, 
 use Rattle.std.specs.List.{filter}
 use Rattle.std.specs.Vec.{vec_capacity}
 use Rattle.runner_steps.specs.Lists.{is_old, slots_of}
-use Rattle.version_words.proofs.kept.add_old.Given as goal
+use Rattle.version_words.proofs.reserved.add_old.Given as goal
 
 abbrev pub invariant-loop-retired : goal.invariant-loop-retired
 invariant-loop-retired l = record {

@@ -5,7 +5,7 @@ use Rattle.std.proofs.lemmas.Fn.{filter_same}
 use Rattle.std.proofs.lemmas.List.Filters.{length-filter_both}
 use Rattle.runner_steps.specs.declared.entries.Retired.{Retired}
 use Rattle.runner_steps.specs.Lists.{is_old, slots_of}
-use Rattle.version_words.proofs.kept.wait_over.Goals as goal
+use Rattle.version_words.proofs.reserved.wait_over.Goals as goal
 
 young : goal.returns-clause-limbo
 young c = filter_same _ _ _ (λ x b f' h. search rules) _ _ c.retain.ensures.filtered
@@ -22,10 +22,9 @@ as_many xs ys limbo left epoch added stayed =
     let e = ap length stayed in
     omega (arith, a, b, d, e)
 
-pub returns-clause-room : goal.returns-clause-room
-returns-clause-room c =
+pub returns-clause-sum : goal.returns-clause-sum
+returns-clause-sum c =
     let added = c.add_old.ensures.items ∙ ap (λ (xs : List Retired). c.args.list.now.items ++ slots_of (filter (is_old c.args.epoch) xs)) c.deref.ensures.value in
     let same = as_many c.args.list.now.items c.add_old.new.list.items c.args.limbo.now.items c.retain.new.self.items c.args.epoch added (young c) in
-    let cap = c.add_old.ensures.room in let room = c.requires.fits in let few = c.requires.few in
     let a = c.args.list.now.ok.0 in let b = c.add_old.new.list.ok.0 in let d = c.args.limbo.now.ok.0 in let e = c.retain.new.self.ok.0 in
-    record { fits = omega (arith, same, cap, room, a, b, d, e); few = omega (arith, cap, few) }
+    omega (arith, same, a, b, d, e)

@@ -1,0 +1,54 @@
+//! The kinds of step that can be made again and again, with their names.
+
+/// A kind of step, or a cycle of steps that comes back to where it began.
+#[derive(Clone, Copy, Debug, PartialEq, Eq)]
+pub enum Kind {
+    /// The load of a request's stamp word.
+    LoadEntry,
+    /// The load of a cell by an entered runner.
+    LoadCell,
+    /// The load of a word of an own free descriptor.
+    PrivateLoad,
+    /// A store into a word of an own free descriptor.
+    PrivateStore,
+    /// An entry and its end: two loads of the epoch, and two stores of the announcement.
+    Enter,
+    /// A scan of two workers and the keeper: four loads, and the exchange that advances the epoch.
+    Scan,
+}
+
+pub const KINDS: [Kind; 6] = [
+    Kind::LoadEntry,
+    Kind::LoadCell,
+    Kind::PrivateLoad,
+    Kind::PrivateStore,
+    Kind::Enter,
+    Kind::Scan,
+];
+
+impl Kind {
+    pub fn name(self) -> &'static str {
+        match self {
+            Kind::LoadEntry => "load_entry",
+            Kind::LoadCell => "load_cell",
+            Kind::PrivateLoad => "private_load",
+            Kind::PrivateStore => "private_store",
+            Kind::Enter => "enter",
+            Kind::Scan => "scan",
+        }
+    }
+
+    /// How many steps a round has.
+    pub fn steps(self) -> u32 {
+        match self {
+            Kind::LoadEntry | Kind::LoadCell | Kind::PrivateLoad | Kind::PrivateStore => 1,
+            Kind::Enter => 4,
+            Kind::Scan => 5,
+        }
+    }
+
+    /// The kind of this name.
+    pub fn named(name: &str) -> Option<Kind> {
+        KINDS.into_iter().find(|kind| kind.name() == name)
+    }
+}

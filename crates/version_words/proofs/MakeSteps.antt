@@ -1,0 +1,192 @@
+-- The commit of a Make, and the load of the epoch for a retirement.
+use Rattle.std.proofs.Common.{◌≡◌, ℕ, [], ◌+◌, ⊎_elim, inl, inr, List, ◌∷◌, ◌++◌, Bool, true, false, refl, sym, ap, subst, ◌∙◌, arith, Option, Some, None, if◌then◌else◌, length-append}
+use Rattle.std.specs.Prelude.{◌==◌, ◌&&◌}
+use Rattle.atomic_table.specs.Table.{Me}
+use Rattle.atomic_table.specs.Seated.{TableId}
+use Rattle.map_history.specs.declared.op.Request.{Request}
+use Rattle.section_body.specs.declared.thunk.Thunk.{Thunk}
+use Rattle.section_body.specs.declared.micro.Micro.{Micro}
+use Rattle.section_body.specs.declared.micro.Micro.TheVariants as micros
+use Rattle.section_body.specs.Run.{written_once}
+use Rattle.table_words.specs.declared.layout.Layout.{Layout}
+use Rattle.table_words.specs.declared.spot.Spot.{Spot}
+use Rattle.table_words.specs.declared.spot.Spot.TheVariants as spots
+use Rattle.table_words.specs.declared.access.Access.{Access}
+use Rattle.table_words.specs.declared.access.Access.TheVariants.{Loads, Exchanges}
+use Rattle.structure_laws.specs.Meaning.{Meaning}
+use Rattle.runner_steps.specs.declared.event.EventKind.TheVariants as kinds
+use Rattle.runner_steps.specs.declared.entries.Published.{Published}
+use Rattle.runner_steps.specs.State.{RunState, PartState}
+use Rattle.runner_steps.specs.Tests.{has, is_walking}
+use Rattle.runner_steps.specs.Lists.{slot_made, slot_back}
+use Rattle.runner_steps.specs.Sections.{is_open_run, next_of}
+use Rattle.runner_steps.specs.Outside.{is_over}
+use Rattle.runner_steps.specs.InRun.{make_commit_ask, make_commit_to, epoch_for_retire_ask}
+use Rattle.runner_steps.specs.Asks.{asks, ask_by, sizes_for}
+use Rattle.runner_steps.specs.AfterInRun.{goes_on, agrees, make_committed}
+use Rattle.runner_steps.specs.AfterOutside.{retire_after}
+use Rattle.runner_steps.specs.After.{after_by, stepped}
+use Rattle.version_words.specs.declared.view.View.{View}
+use Rattle.version_words.specs.declared.block.Block.{Block}
+use Rattle.version_words.specs.RunnerState.{RunnerState, told_part, told_published, with_part}
+use Rattle.version_words.specs.TableState.{TableState}
+use Rattle.version_words.specs.Place.{IsPlaced}
+use Rattle.version_words.specs.Kept.{IsKept, block_made, block_retired}
+use Rattle.version_words.specs.Events.{met_by, IsEnabled, IsNamed, Makes, step_at, nothing, seen_seat}
+use Rattle.version_words.proofs.Asked.{unless_gone, tested}
+use Rattle.version_words.proofs.Keeps.{KeepsPart, no_epoch, was_part, then_kept}
+use Rattle.version_words.proofs.Epochs.{goes_epoch, loaded_epoch}
+use Rattle.version_words.proofs.Inside.{PlacesRun, goes_inside, over, places, step_is}
+use Rattle.version_words.proofs.Privates.{IsOpenFor, Stands, open_inside}
+use Rattle.version_words.proofs.OwnLoads.{goes_on_part}
+use Rattle.machine_states.proofs.Steps.{some_same}
+
+some_none : {A : Type 0} → (a : A) → None ≡ Some a → ⊥
+some_none a e = cc
+
+-- what an exchange puts there
+abbrev new_of : Access → ℕ
+new_of (Exchanges old new) = new
+new_of _ = 0
+
+slot_by : (q : RunState) (log : ℕ) (o : Option ℕ) (spot : Spot) (slot : ℕ) → make_commit_to q log o ≡ Some (spot, Exchanges 0 (slot + 1)) → o ≡ Some slot
+slot_by q log None spot slot e = absurd (some_none (spot, Exchanges 0 (slot + 1)) e)
+slot_by q log (Some s) spot slot e =
+    let same = ap (λ (x : Spot × Access). new_of x.1) (some_same (spots.LogWord q.descriptor log, Exchanges 0 (s + 1)) (spot, Exchanges 0 (slot + 1)) e) in
+    ap (λ (n : ℕ). Some n) (let is : s ≡ slot = omega (arith, same) in is)
+
+-- the commit of a Make proposes the slot that the run has in the hand
+made_slot : (q : RunState) (micro : Micro) (spot : Spot) (slot : ℕ) → make_commit_ask q micro ≡ Some (spot, Exchanges 0 (slot + 1)) → q.made ≡ Some slot
+made_slot q (micros.MakeCommit log) spot slot e = slot_by q log q.made spot slot e
+made_slot q _ spot slot e = absurd (some_none (spot, Exchanges 0 (slot + 1)) e)
+
+module _ (m : Meaning) (l : Layout) (rs : List Request) (r : ℕ) (p : PartState) (x : Spot × Access) where
+  make_by : (o : Option RunState) → p.run ≡ o → ask_by m l rs r kinds.MakeCommit p o ≡ Some x → IsOpenFor m l kinds.MakeCommit p x
+  make_by None run e = absurd (some_none x e)
+  make_by (Some q) run e = let h = open_inside m l kinds.MakeCommit p q (is_open_run q) x refl refl e in record { open_run = record { run = q; there = run; ready = h.0 }; asks_so = h.1 }
+
+  make_asked : asks m l rs r kinds.MakeCommit p ≡ Some x → IsOpenFor m l kinds.MakeCommit p x
+  make_asked e = make_by p.run refl (unless_gone (sizes_for m l rs) p.gone (ask_by m l rs r kinds.MakeCommit p p.run) x e)
+
+  epoch_spot : (q : RunState) (micro : Micro) → epoch_for_retire_ask q micro ≡ Some x → x ≡ (spots.Epoch, Loads)
+  epoch_spot q (micros.EpochForRetire slot log) e = sym (some_same (spots.Epoch, Loads) x e)
+  epoch_spot q _ e = absurd (some_none x e)
+
+  epoch_by : (o : Option RunState) → p.run ≡ o → ask_by m l rs r kinds.EpochForRetire p o ≡ Some x → (x ≡ (spots.Epoch, Loads)) × Stands m l kinds.EpochForRetire p x
+  epoch_by None run e = (sym (tested (is_walking p.stage p.run && is_over p.published) spots.Epoch Loads x e).1, inl run)
+  epoch_by (Some q) run e = let h = open_inside m l kinds.EpochForRetire p q (is_open_run q) x refl refl e in
+      (epoch_spot q (next_of m q) h.1, inr (record { open_run = record { run = q; there = run; ready = h.0 }; asks_so = h.1 }))
+
+  epoch_asked : asks m l rs r kinds.EpochForRetire p ≡ Some x → (x ≡ (spots.Epoch, Loads)) × Stands m l kinds.EpochForRetire p x
+  epoch_asked e = epoch_by p.run refl (unless_gone (sizes_for m l rs) p.gone (ask_by m l rs r kinds.EpochForRetire p p.run) x e)
+
+pub epoch_named : {T : Type 0} (m : Meaning) (t : TableState T) (r : RunnerState T) → IsEnabled m kinds.EpochForRetire r
+    → IsNamed m (λ m' l' rs' p' made. kinds.EpochForRetire) r (step_at m t spots.Epoch 0 0 nothing) (spots.Epoch, Loads)
+epoch_named m t r enabled = record { asked = enabled.asked ∙ ap Some (epoch_asked m r.layout r.requests r.number r.part enabled.met enabled.asked).0; plain = refl }
+
+retired_runs : (p : PartState) (o : Option Published) (found : ℕ) → (retire_after p o found).run ≡ p.run
+retired_runs p None found = refl
+retired_runs p (Some x) found = refl
+
+told_retired : (p : PartState) (o : Option Published) (found : ℕ) → retire_after (told_part p) (told_published o) found ≡ told_part (retire_after p o found)
+told_retired p None found = refl
+told_retired p (Some x) found = refl
+
+module _ (m : Meaning) (l : Layout) (found : ℕ) (kept : Block) (p : PartState) (x : Spot × Access) (was : KeepsPart m kept p) where
+  -- outside a run
+  retired_part : p.run ≡ None → KeepsPart m (block_retired kept found) (retire_after p p.published found)
+  retired_part none =
+      let p' = retire_after p p.published found in
+      let kept' : Block = record kept { lists = with_part kept.lists (retire_after kept.lists.part kept.lists.part.published found) } in
+      let rests = retired_runs p p.published found ∙ none in
+      subst (λ (b : Bool). KeepsPart m (if b then record kept { place = record (kept.place) { epoch = found } } else kept') p') (sym (was.place.outside none)) (record {
+        lists = ap (λ (y : PartState). retire_after y y.published found) was.lists ∙ told_retired p p.published found;
+        place = record {
+          run = λ q e. absurd (some_none q (sym rests ∙ e));
+          rest = λ e. was.place.rest none;
+          outside = λ e. was.place.outside none;
+          in_hand = λ q s e f. absurd (some_none q (sym rests ∙ e));
+        };
+        run = record { ending = λ q e. absurd (some_none q (sym rests ∙ e)) };
+        epoch = no_epoch m kept.place.epoch p'.run (λ q e. some_none q (sym rests ∙ e));
+      })
+
+  in_run_by : (h : IsOpenFor m l kinds.EpochForRetire p x) (b : Bool) → kept.place.inside ≡ b
+      → KeepsPart m (if b then record kept { place = record (kept.place) { epoch = found } } else record kept { lists = with_part kept.lists (retire_after kept.lists.part kept.lists.part.published found) }) (record p { run = Some (goes_on m l h.open_run.run found) })
+  in_run_by h true e = goes_on_part m l kinds.EpochForRetire kept found p h.open_run x found was refl h.asks_so (loaded_epoch m (goes_on m l h.open_run.run found))
+  in_run_by h false e = absurd (goes_inside m l kept p h.open_run.run kinds.EpochForRetire x was h.open_run.there refl h.asks_so e)
+
+  epoch_part : Stands m l kinds.EpochForRetire p x → KeepsPart m (block_retired kept found) (stepped m l kinds.EpochForRetire p found)
+  epoch_part at = ⊎_elim
+      (λ (none : p.run ≡ None). subst (KeepsPart m (block_retired kept found)) (sym (ap (λ (o : Option RunState). after_by m l kinds.EpochForRetire p o found) none)) (retired_part none))
+      (λ (h : IsOpenFor m l kinds.EpochForRetire p x). subst (KeepsPart m (block_retired kept found)) (sym (step_is m l kinds.EpochForRetire p found h.open_run)) (in_run_by h kept.place.inside refl)) at
+
+module _ {T : Type 0} (mean : T → Meaning) (s : T) (found number : ℕ) (kept : Block) (old_table new_table : TableId) (me me' : Me Thunk (View T)) (live : me.0.structure ≡ Some s)
+    (made : Makes (mean s) kinds.EpochForRetire found (seen_seat old_table me) (seen_seat new_table me')) (slots : me'.1 ≡ me.1) (was : IsKept mean number kept me) where
+  same_room : (b : Bool) → (if b then record kept { place = record (kept.place) { epoch = found } } else record kept { lists = with_part kept.lists (retire_after kept.lists.part kept.lists.part.published found) }).lists.room ≡ kept.lists.room
+  same_room true = refl
+  same_room false = refl
+
+  pub epoch_kept : IsKept mean number (block_retired kept found) me'
+  epoch_kept = then_kept mean s kinds.EpochForRetire found number kept old_table new_table me me' live made slots was (block_retired kept found) (same_room kept.place.inside)
+      (epoch_part (mean s) me.0.layout found kept me.0.part made.met (was_part mean s kinds.EpochForRetire found number kept old_table new_table me me' live made slots was)
+      (epoch_asked (mean s) me.0.layout me.0.requests me.0.number me.0.part made.met made.asked).1)
+
+-- the commit of a Make
+module _ {T : Type 0} (mean : T → Meaning) (s : T) (spot : Spot) (slot number : ℕ) (kept : Block) (own_table : TableId) (me : Me Thunk (View T)) (live : me.0.structure ≡ Some s)
+    (next : met_by (mean s) (seen_seat own_table me) kinds.MakeCommit ≡ Some (spot, Exchanges 0 (slot + 1))) (was : IsKept mean number kept me) where
+  abbrev p : PartState
+  p = me.0.part
+
+  opens : IsOpenFor (mean s) me.0.layout kinds.MakeCommit p (spot, Exchanges 0 (slot + 1))
+  opens = make_asked (mean s) me.0.layout me.0.requests me.0.number p (spot, Exchanges 0 (slot + 1)) next
+
+  abbrev q : RunState
+  q = opens.open_run.run
+
+  fills : q.made ≡ Some slot
+  fills = made_slot q (next_of (mean s) q) spot slot opens.asks_so
+
+  -- its slot is in the hand
+  pub in_hand : has kept.lists.part.nodes.hand slot ≡ true
+  in_hand = ap (λ (y : PartState). has y.nodes.hand slot) was.lists ∙ was.place.in_hand q slot opens.open_run.there fills
+
+  module _ (found : ℕ) (new_table : TableId) (me' : Me Thunk (View T)) (made : Makes (mean s) kinds.MakeCommit found (seen_seat own_table me) (seen_seat new_table me')) (slots : me'.1 ≡ me.1) where
+    abbrev placed : IsPlaced kept.place q
+    placed = was.place.run q opens.open_run.there
+
+    abbrev before : KeepsPart (mean s) kept p
+    before = was_part mean s kinds.MakeCommit found number kept own_table new_table me me' live made slots was
+
+    abbrev q' : RunState
+    q' = agrees (mean s) me.0.layout (record q { made = None; worn = false }) (written_once found (slot + 1))
+
+    abbrev kept' : Block
+    kept' = block_made kept slot (found == 0)
+
+    goes : PlacesRun kept'.place None (Some q')
+    goes = places kept'.place None q' (record {
+      descriptor = placed.descriptor;
+      opened = placed.opened;
+      request = placed.request;
+      agreed = (let a = placed.agreed in let b = length-append q.trail (written_once found (slot + 1) ∷ []) in omega (arith, a, b));
+      making = refl;
+      worn = refl;
+    }) refl
+
+    part_made : KeepsPart (mean s) kept' (make_committed (mean s) me.0.layout p q (Some slot) found)
+    part_made = record {
+      lists = (λ i. record (was.lists i) { nodes = if found == 0 then slot_made (was.lists i).nodes slot else slot_back (was.lists i).nodes slot (placed.worn i) });
+      place = record {
+        run = λ y e. (goes y e).0;
+        rest = λ none. over kept q placed opens.open_run.ready;
+        outside = λ none. absurd (some_none q' (sym none));
+        in_hand = λ y n e f. absurd (some_none n (sym (goes y e).1 ∙ f));
+      };
+      run = record { ending = λ y e closed. absurd (goes_inside (mean s) me.0.layout kept p q kinds.MakeCommit (spot, Exchanges 0 (slot + 1)) before opens.open_run.there refl opens.asks_so closed) };
+      epoch = goes_epoch (mean s) me.0.layout p.nodes.free q kinds.MakeCommit (spot, Exchanges 0 (slot + 1)) refl opens.asks_so opens.open_run.ready kept.place.epoch q' (q.trail ++ written_once found (slot + 1) ∷ []) refl refl;
+    }
+
+    pub make_kept : IsKept mean number kept' me'
+    make_kept = then_kept mean s kinds.MakeCommit found number kept own_table new_table me me' live made slots was kept' refl
+        (subst (KeepsPart (mean s) kept') (sym (step_is (mean s) me.0.layout kinds.MakeCommit p found opens.open_run ∙ ap (λ (o : Option ℕ). make_committed (mean s) me.0.layout p q o found) fills)) part_made)

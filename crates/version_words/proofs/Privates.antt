@@ -1,0 +1,279 @@
+-- Stores into the words of own slots.
+use Rattle.std.proofs.Common.{◌≡◌, ℕ, [], ◌+◌, ◌-◌, ◌*◌, ◌/◌, ◌<◌, ◌≤◌, ◌⊎◌, inl, inr, ⊎_elim, List, Bool, true, false, refl, sym, ap, subst, ◌∙◌, arith, Option, Some, None, if◌then◌else◌}
+use Rattle.std.specs.Prelude.{◌||◌, ◌%◌, ◌==◌, ◌&&◌, nat_lt, nat_le}
+use Rattle.std.proofs.lemmas.Bool.Decides.{nat_tests}
+use Rattle.atomic_table.specs.Table.{Me}
+use Rattle.atomic_table.specs.Seated.{TableId}
+use Rattle.map_history.specs.declared.op.Request.{Request}
+use Rattle.section_body.specs.declared.thunk.Thunk.{Thunk}
+use Rattle.section_body.specs.declared.micro.Micro.{Micro}
+use Rattle.section_body.specs.declared.micro.Micro.TheVariants as micros
+use Rattle.section_body.specs.Memory.{cell_of}
+use Rattle.section_body.specs.Run.{source_value}
+use Rattle.section_body.specs.Word.{next_word, version_of}
+use Rattle.table_words.specs.declared.layout.Layout.{Layout}
+use Rattle.table_words.specs.declared.sizes.Sizes.{Sizes}
+use Rattle.table_words.specs.declared.spot.Spot.{Spot}
+use Rattle.table_words.specs.declared.spot.Spot.TheVariants as spots
+use Rattle.table_words.specs.declared.access.Access.{Access}
+use Rattle.table_words.specs.declared.access.Access.TheVariants.{Stores}
+use Rattle.table_words.specs.Places.{address, Fits, slot_count, cells_at, descriptor_at}
+use Rattle.structure_laws.specs.Meaning.{Meaning}
+use Rattle.runner_steps.specs.declared.event.EventKind.{EventKind}
+use Rattle.runner_steps.specs.declared.event.EventKind.TheVariants as kinds
+use Rattle.runner_steps.specs.State.{RunState, PartState}
+use Rattle.runner_steps.specs.Tests.{has, is_resting}
+use Rattle.runner_steps.specs.Sections.{is_open_run, next_of}
+use Rattle.runner_steps.specs.Outside.{descriptor_spot, private_store_ask}
+use Rattle.runner_steps.specs.InRun.{is_cell, is_slot, can_raise, fill_store_ask}
+use Rattle.runner_steps.specs.Asks.{asks, ask_by, line_ask, opening_ask, sizes_for}
+use Rattle.runner_steps.specs.AfterInRun.{goes_on, fill_stored}
+use Rattle.runner_steps.specs.AfterOutside.{private_store_after}
+use Rattle.runner_steps.specs.After.{after_by, noted, stepped}
+use Rattle.machine_states.proofs.Steps.{asked_fits}
+use Rattle.version_words.specs.declared.view.View.{View}
+use Rattle.version_words.specs.declared.block.Block.{Block}
+use Rattle.version_words.specs.RunnerState.{RunnerState}
+use Rattle.version_words.specs.TableState.{TableState, IsOf}
+use Rattle.version_words.specs.Private.{IsWithin, private_spot, slot_at, word_at}
+use Rattle.version_words.specs.Kept.{IsKept, block_stored}
+use Rattle.version_words.specs.Events.{met_by, IsEnabled, IsNamed, IsBlind, Makes, step_at, nothing, seen_seat}
+use Rattle.version_words.proofs.Asked.{unless_gone, tested}
+use Rattle.version_words.proofs.Keeps.{KeepsPart, no_epoch, was_part, then_kept}
+use Rattle.version_words.proofs.Epochs.{goes_epoch}
+use Rattle.version_words.proofs.Inside.{HasOpenRun, PlacesRun, both_true, goes_inside, over, places, step_is}
+
+some_none : {A : Type 0} → (a : A) → None ≡ Some a → ⊥
+some_none a e = cc
+
+-- where a descriptor's word stands
+record StandsAt (s : Sizes) (d word at : ℕ) : Type 0 where
+  pub is : at ≡ descriptor_at s d + word
+  pub few : word < 77
+
+stands_by : (s : Sizes) (d word : ℕ) (b b' : Bool) → nat_lt word 12 ≡ b → word == 12 ≡ b' → Fits s (if b then spots.ThunkWord d word else (if b' then spots.DoneWord d else spots.LogWord d (word - 13)))
+    → StandsAt s d word (address s (if b then spots.ThunkWord d word else (if b' then spots.DoneWord d else spots.LogWord d (word - 13))))
+stands_by s d word true b' e e' fits = let a = fits.1 in record { is = refl; few = omega (arith, a) }
+stands_by s d word false true e e' fits = let a : word ≡ 12 = grind (arith, nat_tests) in record { is = omega (arith, a); few = omega (arith, a) }
+stands_by s d word false false e e' fits = let a : 13 ≤ word = grind (arith, nat_tests) in let b = fits.1 in record { is = omega (arith, a); few = omega (arith, a, b) }
+
+stands : (s : Sizes) (d word : ℕ) → Fits s (descriptor_spot d word) → StandsAt s d word (address s (descriptor_spot d word))
+stands s d word fits = stands_by s d word (nat_lt word 12) (word == 12) refl refl fits
+
+fifth : (a f slot word at : ℕ) → at ≡ a + (f + 5 * slot + word) → word < 5 → ((at - (a + f)) / 5 ≡ slot) × ((at - (a + f)) % 5 ≡ word)
+fifth a f slot word at is few = (grind arith, grind arith)
+
+within : (a d word at : ℕ) → at ≡ a + 77 * d + word → word < 77 → ((at - (a + 77 * 0)) / 77 ≡ d) × ((at - (a + 77 * 0)) % 77 ≡ word)
+within a d word at is few = (grind arith, grind arith)
+
+module _ (m : Meaning) (l : Layout) (rs : List Request) where
+  abbrev s : Sizes
+  s = sizes_for m l rs
+
+  abbrev slots : ℕ
+  slots = slot_count l m.fixed_slots
+
+  -- the slot and the word are those that stand at the address
+  pub record IsThere (slot word at : ℕ) : Type 0 where
+    pub slot_is : slot_at m l rs at ≡ slot
+    pub word_is : word_at m l rs at ≡ word
+
+  there_cell : (slot word : ℕ) → word < 5 → Fits s (spots.Cell (cell_of m.fixed_cells slot word)) → IsThere slot word (address s (spots.Cell (cell_of m.fixed_cells slot word)))
+  there_cell slot word few fits =
+      let at = address s (spots.Cell (cell_of m.fixed_cells slot word)) in
+      let inside : nat_lt at (descriptor_at s 0) ≡ true = grind (arith, nat_tests, fits) in
+      let f = fifth (cells_at s) m.fixed_cells slot word at refl few in
+      record {
+        slot_is = ap (λ (b : Bool). if b then (at - (cells_at s + m.fixed_cells)) / 5 else slots + (at - descriptor_at s 0) / 77) inside ∙ f.0;
+        word_is = ap (λ (b : Bool). if b then (at - (cells_at s + m.fixed_cells)) % 5 else (at - descriptor_at s 0) % 77) inside ∙ f.1;
+      }
+
+  there_word : (slot word : ℕ) → slots ≤ slot → Fits s (descriptor_spot (slot - slots) word) → IsThere slot word (address s (descriptor_spot (slot - slots) word))
+  there_word slot word past fits =
+      let at = address s (descriptor_spot (slot - slots) word) in
+      let st = stands s (slot - slots) word fits in let a = st.is in
+      let behind : nat_lt at (descriptor_at s 0) ≡ false = grind (arith, nat_tests, a) in
+      let f = within (cells_at s + s.cells) (slot - slots) word at a st.few in
+      record {
+        slot_is = ap (λ (b : Bool). if b then (at - (cells_at s + m.fixed_cells)) / 5 else slots + (at - descriptor_at s 0) / 77) behind ∙ (ap (λ n. slots + n) f.0 ∙ omega (arith, past));
+        word_is = ap (λ (b : Bool). if b then (at - (cells_at s + m.fixed_cells)) % 5 else (at - descriptor_at s 0) % 77) behind ∙ f.1;
+      }
+
+  there_by : (slot word : ℕ) (b : Bool) → nat_lt slot slots ≡ b → (slot < slots → word < 5) → Fits s (if b then spots.Cell (cell_of m.fixed_cells slot word) else descriptor_spot (slot - slots) word)
+      → IsThere slot word (address s (if b then spots.Cell (cell_of m.fixed_cells slot word) else descriptor_spot (slot - slots) word))
+  there_by slot word true e few fits = there_cell slot word (few (grind (arith, nat_tests, e))) fits
+  there_by slot word false e few fits = there_word slot word (grind (arith, nat_tests, e)) fits
+
+  pub is_there : (slot word : ℕ) → (slot < slots → word < 5) → Fits s (private_spot m l slot word) → IsThere slot word (address s (private_spot m l slot word))
+  is_there slot word few fits = there_by slot word (nat_lt slot slots) refl few fits
+
+-- what an enabled step on a word of an own slot asks
+pub record IsPrivate (m : Meaning) (l : Layout) (slot word : ℕ) (access : Access) (x : Spot × Access) : Type 0 where
+  pub met : x ≡ (private_spot m l slot word, access)
+  pub cell : IsWithin m l slot word
+
+pub of_cell : (m : Meaning) (l : Layout) (slot word : ℕ) (access : Access) (x : Spot × Access) → nat_lt slot (slot_count l m.fixed_slots) ≡ true → nat_lt word 5 ≡ true
+    → (spots.Cell (cell_of m.fixed_cells slot word), access) ≡ x → IsPrivate m l slot word access x
+of_cell m l slot word access x e few is = record {
+  met = sym is ∙ sym (ap (λ (b : Bool). ((if b then spots.Cell (cell_of m.fixed_cells slot word) else descriptor_spot (slot - slot_count l m.fixed_slots) word), access)) e);
+  cell = record { cell = λ h. grind (arith, nat_tests, few) };
+}
+
+pub of_word : (m : Meaning) (l : Layout) (slot word : ℕ) (access : Access) (x : Spot × Access) → nat_lt slot (slot_count l m.fixed_slots) ≡ false
+    → (descriptor_spot (slot - slot_count l m.fixed_slots) word, access) ≡ x → IsPrivate m l slot word access x
+of_word m l slot word access x e is = record {
+  met = sym is ∙ sym (ap (λ (b : Bool). ((if b then spots.Cell (cell_of m.fixed_cells slot word) else descriptor_spot (slot - slot_count l m.fixed_slots) word), access)) e);
+  cell = record { cell = λ h. absurd (let no : ⊥ = grind (arith, nat_tests, e, h) in no) };
+}
+
+pub not_below : (a b : ℕ) → nat_le a b ≡ true → nat_lt b a ≡ false
+not_below a b e = grind (arith, nat_tests)
+
+store_outside : (m : Meaning) (l : Layout) (slot word number : ℕ) (p : PartState) (x : Spot × Access) → private_store_ask m l slot word number p ≡ Some x → IsPrivate m l slot word (Stores number) x
+store_outside m l slot word number p x e =
+    let slots = slot_count l m.fixed_slots in
+    let t = tested (nat_le slots slot && (is_resting p.stage p.run && has p.descriptors.free (slot - slots))) (descriptor_spot (slot - slots) word) (Stores number) x e in
+    of_word m l slot word (Stores number) x (not_below slots slot (both_true (nat_le slots slot) _ t.0).0) t.1
+
+store_inside : (m : Meaning) (l : Layout) (slot word number : ℕ) (q : RunState) (micro : Micro) (x : Spot × Access) → fill_store_ask m l slot word number q micro ≡ Some x → IsPrivate m l slot word (Stores number) x
+store_inside m l slot word number q (micros.PrivateStore cell log value) x e =
+    let t = tested (is_cell m l slot word && (is_slot q.made slot && (word == cell && (can_raise l q.word && number == next_word q.word (source_value q.trail value))))) (spots.Cell (cell_of m.fixed_cells slot word)) (Stores number) x e in
+    let b = both_true (nat_lt slot (slot_count l m.fixed_slots)) (nat_lt word 5) (both_true (is_cell m l slot word) _ t.0).0 in
+    of_cell m l slot word (Stores number) x b.0 b.1 t.1
+store_inside m l slot word number q _ x e = absurd (some_none x e)
+
+-- a run that has loaded its opening, and whose next step is of this kind
+pub record IsOpenFor (m : Meaning) (l : Layout) (k : EventKind) (p : PartState) (x : Spot × Access) : Type 0 where
+  pub open_run : HasOpenRun p
+  pub asks_so : line_ask m l k p.nodes.free open_run.run (next_of m open_run.run) ≡ Some x
+
+-- in no run, or in such a one
+abbrev pub Stands : Meaning → Layout → EventKind → PartState → Spot × Access → Type 0
+Stands m l k p x = (p.run ≡ None) ⊎ IsOpenFor m l k p x
+
+pub open_inside : (m : Meaning) (l : Layout) (k : EventKind) (p : PartState) (q : RunState) (b : Bool) (x : Spot × Access) → opening_ask k q ≡ None → is_open_run q ≡ b
+    → (if b then line_ask m l k p.nodes.free q (next_of m q) else opening_ask k q) ≡ Some x → (is_open_run q ≡ true) × (line_ask m l k p.nodes.free q (next_of m q) ≡ Some x)
+open_inside m l k p q true x none e h = (e, h)
+open_inside m l k p q false x none e h = absurd (some_none x (sym none ∙ h))
+
+module _ (m : Meaning) (l : Layout) (rs : List Request) (r : ℕ) (slot word number : ℕ) (p : PartState) (x : Spot × Access) where
+  abbrev kind : EventKind
+  kind = kinds.PrivateStore slot word number
+
+  store_by : (o : Option RunState) → p.run ≡ o → ask_by m l rs r kind p o ≡ Some x → IsPrivate m l slot word (Stores number) x × Stands m l kind p x
+  store_by None run e = (store_outside m l slot word number p x e, inl run)
+  store_by (Some q) run e = let h = open_inside m l kind p q (is_open_run q) x refl refl e in
+      (store_inside m l slot word number q (next_of m q) x h.1, inr (record { open_run = record { run = q; there = run; ready = h.0 }; asks_so = h.1 }))
+
+  store_asked : asks m l rs r kind p ≡ Some x → IsPrivate m l slot word (Stores number) x × Stands m l kind p x
+  store_asked e = store_by p.run refl (unless_gone (sizes_for m l rs) p.gone (ask_by m l rs r kind p p.run) x e)
+
+-- the part afterwards doesn't go by what was found
+stored_alike : (m : Meaning) (l : Layout) (slot word number : ℕ) (p : PartState) (x : Spot × Access) → Stands m l (kinds.PrivateStore slot word number) p x → (a b : ℕ) → stepped m l (kinds.PrivateStore slot word number) p a ≡ stepped m l (kinds.PrivateStore slot word number) p b
+stored_alike m l slot word number p x at a b = ⊎_elim
+    (λ (none : p.run ≡ None). ap (λ (o : Option RunState). after_by m l (kinds.PrivateStore slot word number) p o a) none ∙ sym (ap (λ (o : Option RunState). after_by m l (kinds.PrivateStore slot word number) p o b) none))
+    (λ (h : IsOpenFor m l (kinds.PrivateStore slot word number) p x). step_is m l (kinds.PrivateStore slot word number) p a h.open_run ∙ sym (step_is m l (kinds.PrivateStore slot word number) p b h.open_run)) at
+
+module _ {T : Type 0} (m : Meaning) (t : TableState T) (r : RunnerState T) (own : IsOf t r) (slot word number : ℕ) (enabled : IsEnabled m (kinds.PrivateStore slot word number) r) where
+  asked : IsPrivate m r.layout slot word (Stores number) enabled.met × Stands m r.layout (kinds.PrivateStore slot word number) r.part enabled.met
+  asked = store_asked m r.layout r.requests r.number slot word number r.part enabled.met enabled.asked
+
+  pub few_cells : IsWithin m t.layout slot word
+  few_cells = subst (λ (l : Layout). IsWithin m l slot word) own.layout asked.0.cell
+
+  module _ (spot : Spot) (spot_is : spot ≡ private_spot m t.layout slot word) where
+    own_spot : enabled.met ≡ (spot, Stores number)
+    own_spot = asked.0.met ∙ (ap (λ (l : Layout). (private_spot m l slot word, Stores number)) own.layout ∙ sym (ap (λ (z : Spot). (z, Stores number)) spot_is))
+
+    fits_there : Fits (sizes_for m t.layout t.requests) (private_spot m t.layout slot word)
+    fits_there = subst (λ (z : Spot). Fits (sizes_for m t.layout t.requests) z) (ap (λ (z : Spot × Access). z.0) own_spot ∙ spot_is)
+        (subst (λ (z : Sizes). Fits z enabled.met.0) (λ i. sizes_for m (own.layout i) (own.requests i))
+        (asked_fits m r.layout r.requests [] [] (record { runner = r.number; kind = kinds.PrivateStore slot word number }) r.part enabled.met enabled.asked))
+
+    abbrev at : ℕ
+    at = address (sizes_for m t.layout t.requests) spot
+
+    -- the step's name is that of the event
+    pub store_name : kinds.PrivateStore (slot_at m r.layout r.requests at) (word_at m r.layout r.requests at) number ≡ kinds.PrivateStore slot word number
+    store_name =
+        let there = is_there m t.layout t.requests slot word few_cells.cell fits_there in
+        let at_is = ap (address (sizes_for m t.layout t.requests)) spot_is in
+        (λ i. kinds.PrivateStore (slot_at m (own.layout i) (own.requests i) (at_is i)) (word_at m (own.layout i) (own.requests i) (at_is i)) number)
+        ∙ (λ i. kinds.PrivateStore (there.slot_is i) (there.word_is i) number)
+
+    pub store_event : (found : ℕ) (r' : RunnerState T) → Makes m (kinds.PrivateStore (slot_at m r.layout r.requests at) (word_at m r.layout r.requests at) number) found r r' → Makes m (kinds.PrivateStore slot word number) found r r'
+    store_event found r' made = subst (λ (k : EventKind). Makes m k found r r') store_name made
+
+    pub store_named : IsNamed m (λ m' l' rs' p' made. kinds.PrivateStore (slot_at m' l' rs' made.word) (word_at m' l' rs' made.word) made.first) r (step_at m t spot number 0 nothing) (spot, Stores number)
+    store_named = record { asked = ap (met_by m r) store_name ∙ (enabled.asked ∙ ap Some own_spot); plain = refl }
+
+    stored_here : (a b : ℕ) → stepped m r.layout (kinds.PrivateStore (slot_at m r.layout r.requests at) (word_at m r.layout r.requests at) number) r.part a ≡ stepped m r.layout (kinds.PrivateStore (slot_at m r.layout r.requests at) (word_at m r.layout r.requests at) number) r.part b
+    stored_here a b = subst (λ (k : EventKind). stepped m r.layout k r.part a ≡ stepped m r.layout k r.part b) (sym store_name) (stored_alike m r.layout slot word number r.part enabled.met asked.1 a b)
+
+    pub store_blind : IsBlind m (kinds.PrivateStore (slot_at m r.layout r.requests at) (word_at m r.layout r.requests at) number) (spot, Stores number) r
+    store_blind = record { same = λ found other. ap (λ (q : PartState). record q { records = noted r.layout r.number (kinds.PrivateStore (slot_at m r.layout r.requests at) (word_at m r.layout r.requests at) number) spot number q.records }) (stored_here found other) }
+
+-- what the code keeps after such a store
+module _ {T : Type 0} (mean : T → Meaning) (s : T) (slot word number found own_number : ℕ) (kept : Block) (old_table new_table : TableId) (me me' : Me Thunk (View T)) (live : me.0.structure ≡ Some s)
+    (made : Makes (mean s) (kinds.PrivateStore slot word number) found (seen_seat old_table me) (seen_seat new_table me')) (same_slots : me'.1 ≡ me.1) (was : IsKept mean own_number kept me) where
+  abbrev m : Meaning
+  m = mean s
+
+  abbrev l : Layout
+  l = me.0.layout
+
+  abbrev p : PartState
+  p = me.0.part
+
+  abbrev k : EventKind
+  k = kinds.PrivateStore slot word number
+
+  abbrev kept' : Block
+  kept' = block_stored l kept number
+
+  abbrev before : KeepsPart m kept p
+  before = was_part mean s k found own_number kept old_table new_table me me' live made same_slots was
+
+  store_resting : p.run ≡ None → KeepsPart m kept' (private_store_after m l slot word number p)
+  store_resting none = record {
+    lists = was.lists;
+    place = record {
+      run = λ q e. absurd (some_none q (sym none ∙ e));
+      rest = λ e. was.place.rest none;
+      outside = λ e. was.place.outside none;
+      in_hand = λ q made e f. absurd (some_none q (sym none ∙ e));
+    };
+    run = record { ending = λ q e. absurd (some_none q (sym none ∙ e)) };
+    epoch = no_epoch m kept.place.epoch p.run (λ q e. some_none q (sym none ∙ e));
+  }
+
+  store_running : (h : HasOpenRun p) (x : Spot × Access) → line_ask m l k p.nodes.free h.run (next_of m h.run) ≡ Some x → KeepsPart m kept' (fill_stored m l number p h.run)
+  store_running h x asks_so =
+      let q = h.run in let is = was.place.run q h.there in
+      let run : PlacesRun kept'.place q.made (fill_stored m l number p q).run = places kept'.place q.made (goes_on m l (record q { worn = q.worn || version_of number == l.version_max }) q.word)
+      (record {
+        descriptor = is.descriptor;
+        opened = is.opened;
+        request = is.request;
+        agreed = is.agreed;
+        making = is.making;
+        worn = ap (λ (b : Bool). b || version_of number == l.version_max) is.worn;
+      }) refl in
+      record {
+        lists = was.lists;
+        place = record {
+          run = λ y e. (run y e).0;
+          rest = λ none. over kept q is h.ready;
+          outside = λ none. absurd (some_none _ (sym none));
+          in_hand = λ y made e f. was.place.in_hand q made h.there (sym (run y e).1 ∙ f);
+        };
+        run = record { ending = λ y e closed. absurd (goes_inside m l kept p q k x before h.there refl asks_so closed) };
+        epoch = goes_epoch m l p.nodes.free q k x refl asks_so h.ready kept.place.epoch (goes_on m l (record q { worn = q.worn || version_of number == l.version_max }) q.word) q.trail refl refl;
+      }
+
+  pub store_kept : IsKept mean own_number kept' me'
+  store_kept = then_kept mean s k found own_number kept old_table new_table me me' live made same_slots was kept' refl
+      (⊎_elim
+      (λ (none : p.run ≡ None). subst (KeepsPart m kept') (sym (ap (λ (o : Option RunState). after_by m l k p o found) none)) (store_resting none))
+      (λ (h : IsOpenFor m l k p made.met). subst (KeepsPart m kept') (sym (step_is m l k p found h.open_run)) (store_running h.open_run made.met h.asks_so))
+      (store_asked m l me.0.requests me.0.number slot word number p made.met made.asked).1)

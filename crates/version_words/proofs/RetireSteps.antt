@@ -1,0 +1,149 @@
+-- The commit of a Retire.
+use Rattle.std.proofs.Common.{◌≡◌, ℕ, [], ◌+◌, List, ◌∷◌, ◌++◌, Bool, true, false, refl, sym, ap, subst, ◌∙◌, arith, Option, Some, None, if◌then◌else◌, length-append}
+use Rattle.std.specs.Prelude.{◌==◌}
+use Rattle.atomic_table.specs.Table.{Me}
+use Rattle.atomic_table.specs.Seated.{TableId}
+use Rattle.map_history.specs.declared.op.Request.{Request}
+use Rattle.section_body.specs.declared.thunk.Thunk.{Thunk}
+use Rattle.section_body.specs.declared.micro.Micro.{Micro}
+use Rattle.section_body.specs.declared.micro.Micro.TheVariants as micros
+use Rattle.section_body.specs.Run.{written_once}
+use Rattle.table_words.specs.declared.layout.Layout.{Layout}
+use Rattle.table_words.specs.declared.spot.Spot.{Spot}
+use Rattle.table_words.specs.declared.spot.Spot.TheVariants as spots
+use Rattle.table_words.specs.declared.access.Access.{Access}
+use Rattle.table_words.specs.declared.access.Access.TheVariants.{Exchanges}
+use Rattle.table_words.specs.Places.{slot_count}
+use Rattle.structure_laws.specs.Meaning.{Meaning}
+use Rattle.runner_steps.specs.declared.event.EventKind.TheVariants as kinds
+use Rattle.runner_steps.specs.State.{RunState, PartState, NodesState}
+use Rattle.runner_steps.specs.Tests.{has}
+use Rattle.runner_steps.specs.Lists.{slot_retired}
+use Rattle.runner_steps.specs.Sections.{is_open_run, next_of}
+use Rattle.runner_steps.specs.InRun.{retire_commit_ask}
+use Rattle.runner_steps.specs.Asks.{asks, ask_by, sizes_for}
+use Rattle.runner_steps.specs.AfterInRun.{agrees, retire_committed, retired_slot_of}
+use Rattle.runner_steps.specs.After.{stepped}
+use Rattle.machine_joins.proofs.RunPlaces.{next_in_line}
+use Rattle.machine_states.proofs.Steps.{some_same}
+use Rattle.version_words.specs.declared.view.View.{View}
+use Rattle.version_words.specs.declared.block.Block.{Block}
+use Rattle.version_words.specs.RunnerState.{RunnerState}
+use Rattle.version_words.specs.Room.{AreFew}
+use Rattle.version_words.specs.Place.{IsPlaced}
+use Rattle.version_words.specs.Kept.{IsKept, block_slot_retired}
+use Rattle.version_words.specs.Events.{met_by, Makes, seen_seat}
+use Rattle.version_words.proofs.Asked.{unless_gone}
+use Rattle.version_words.proofs.Keeps.{KeepsPart, was_part, then_kept}
+use Rattle.version_words.proofs.Epochs.{goes_epoch}
+use Rattle.version_words.proofs.Inside.{PlacesRun, goes_inside, over, places, step_is}
+use Rattle.version_words.proofs.Privates.{IsOpenFor, open_inside}
+
+some_none : {A : Type 0} → (a : A) → None ≡ Some a → ⊥
+some_none a e = cc
+
+-- what an exchange puts there
+abbrev new_of : Access → ℕ
+new_of (Exchanges old new) = new
+new_of _ = 0
+
+-- the step of the line that a commit of a Retire makes
+retires_next : (q : RunState) (micro : Micro) (spot : Spot) (slot : ℕ) → retire_commit_ask q micro ≡ Some (spot, Exchanges 0 (slot + 1)) → (log : ℕ) × (micro ≡ micros.RetireCommit slot log)
+retires_next q (micros.RetireCommit s log) spot slot e =
+    let same = ap (λ (x : Spot × Access). new_of x.1) (some_same (spots.LogWord q.descriptor log, Exchanges 0 (s + 1)) (spot, Exchanges 0 (slot + 1)) e) in
+    (log, ap (λ (n : ℕ). micros.RetireCommit n log) (let is : s ≡ slot = omega (arith, same) in is))
+retires_next q _ spot slot e = absurd (some_none (spot, Exchanges 0 (slot + 1)) e)
+
+module _ (m : Meaning) (l : Layout) (rs : List Request) (r : ℕ) (p : PartState) (x : Spot × Access) where
+  retire_by : (o : Option RunState) → p.run ≡ o → ask_by m l rs r kinds.RetireCommit p o ≡ Some x → IsOpenFor m l kinds.RetireCommit p x
+  retire_by None run e = absurd (some_none x e)
+  retire_by (Some q) run e = let h = open_inside m l kinds.RetireCommit p q (is_open_run q) x refl refl e in record { open_run = record { run = q; there = run; ready = h.0 }; asks_so = h.1 }
+
+  retire_asked : asks m l rs r kinds.RetireCommit p ≡ Some x → IsOpenFor m l kinds.RetireCommit p x
+  retire_asked e = retire_by p.run refl (unless_gone (sizes_for m l rs) p.gone (ask_by m l rs r kinds.RetireCommit p p.run) x e)
+
+-- the lists of node slots after the commit, which leaves the hand
+abbrev lists_after : Bool → NodesState → ℕ → ℕ → NodesState
+lists_after won n slot epoch = if won then slot_retired n slot epoch else n
+
+same_hand : (won : Bool) (n : NodesState) (slot epoch : ℕ) → (lists_after won n slot epoch).hand ≡ n.hand
+same_hand true n slot epoch = refl
+same_hand false n slot epoch = refl
+
+module _ {T : Type 0} (mean : T → Meaning) (s : T) (spot : Spot) (slot number : ℕ) (kept : Block) (own_table : TableId) (me : Me Thunk (View T)) (live : me.0.structure ≡ Some s)
+    (next : met_by (mean s) (seen_seat own_table me) kinds.RetireCommit ≡ Some (spot, Exchanges 0 (slot + 1))) (was : IsKept mean number kept me)
+    (found : ℕ) (new_table : TableId) (me' : Me Thunk (View T)) (made : Makes (mean s) kinds.RetireCommit found (seen_seat own_table me) (seen_seat new_table me')) (slots : me'.1 ≡ me.1) where
+  abbrev p : PartState
+  p = me.0.part
+
+  opens : IsOpenFor (mean s) me.0.layout kinds.RetireCommit p (spot, Exchanges 0 (slot + 1))
+  opens = retire_asked (mean s) me.0.layout me.0.requests me.0.number p (spot, Exchanges 0 (slot + 1)) next
+
+  abbrev q : RunState
+  q = opens.open_run.run
+
+  retires : (log : ℕ) × (next_of (mean s) q ≡ micros.RetireCommit slot log)
+  retires = retires_next q (next_of (mean s) q) spot slot opens.asks_so
+
+  abbrev placed : IsPlaced kept.place q
+  placed = was.place.run q opens.open_run.there
+
+  abbrev before : KeepsPart (mean s) kept p
+  before = was_part mean s kinds.RetireCommit found number kept own_table new_table me me' live made slots was
+
+  -- the epoch that the code keeps is the one that the run loaded last
+  loaded : kept.place.epoch ≡ q.word
+  loaded = before.epoch.retiring q slot retires.0 opens.open_run.there (next_in_line (mean s) q (micros.RetireCommit slot retires.0) refl retires.1)
+
+  abbrev part' : PartState
+  part' = retire_committed (mean s) me.0.layout slot p q found
+
+  after_is : stepped (mean s) me.0.layout kinds.RetireCommit p found ≡ part'
+  after_is = step_is (mean s) me.0.layout kinds.RetireCommit p found opens.open_run
+      ∙ ap (λ (micro : Micro). retire_committed (mean s) me.0.layout (retired_slot_of micro) p q found) retires.1
+
+  nodes_are : lists_after (found == 0) kept.lists.part.nodes slot kept.place.epoch ≡ part'.nodes
+  nodes_are = (λ i. lists_after (found == 0) (was.lists i).nodes slot (loaded i))
+
+  -- the lists have room for the slot, where the exchange won
+  pub retire_room : AreFew (slot_count me'.0.layout (mean s).fixed_slots) me'.0.part.nodes → found == 0 ≡ true → AreFew kept.lists.room (slot_retired kept.lists.part.nodes slot kept.place.epoch)
+  retire_room few won =
+      let nodes : me'.0.part.nodes ≡ slot_retired kept.lists.part.nodes slot kept.place.epoch =
+      ap (λ (r : RunnerState T). r.part.nodes) made.made ∙ (ap (λ (y : PartState). y.nodes) after_is
+      ∙ (sym nodes_are ∙ ap (λ (b : Bool). lists_after b kept.lists.part.nodes slot kept.place.epoch) won)) in
+      let room : slot_count me'.0.layout (mean s).fixed_slots ≡ kept.lists.room = ap (λ (r : RunnerState T). slot_count r.layout (mean s).fixed_slots) made.made ∙ sym (was.of_table s live).room in
+      subst (λ (n : ℕ). AreFew n (slot_retired kept.lists.part.nodes slot kept.place.epoch)) room
+      (subst (λ (n : NodesState). AreFew (slot_count me'.0.layout (mean s).fixed_slots) n) nodes few)
+
+  abbrev q' : RunState
+  q' = agrees (mean s) me.0.layout q (written_once found (slot + 1))
+
+  abbrev kept' : Block
+  kept' = block_slot_retired kept slot (found == 0)
+
+  goes : PlacesRun kept'.place q.made (Some q')
+  goes = places kept'.place q.made q' (record {
+    descriptor = placed.descriptor;
+    opened = placed.opened;
+    request = placed.request;
+    agreed = (let a = placed.agreed in let b = length-append q.trail (written_once found (slot + 1) ∷ []) in omega (arith, a, b));
+    making = placed.making;
+    worn = placed.worn;
+  }) refl
+
+  part_retired : KeepsPart (mean s) kept' part'
+  part_retired = record {
+    lists = (λ i. record (was.lists i) { nodes = nodes_are i });
+    place = record {
+      run = λ y e. (goes y e).0;
+      rest = λ none. over kept q placed opens.open_run.ready;
+      outside = λ none. absurd (some_none q' (sym none));
+      in_hand = λ y n e f. ap (λ (xs : List ℕ). has xs n) (same_hand (found == 0) p.nodes slot q.word) ∙ was.place.in_hand q n opens.open_run.there (sym (goes y e).1 ∙ f);
+    };
+    run = record { ending = λ y e closed. absurd (goes_inside (mean s) me.0.layout kept p q kinds.RetireCommit (spot, Exchanges 0 (slot + 1)) before opens.open_run.there refl opens.asks_so closed) };
+    epoch = goes_epoch (mean s) me.0.layout p.nodes.free q kinds.RetireCommit (spot, Exchanges 0 (slot + 1)) refl opens.asks_so opens.open_run.ready kept.place.epoch q' (q.trail ++ written_once found (slot + 1) ∷ []) refl refl;
+  }
+
+  pub retire_kept : IsKept mean number kept' me'
+  retire_kept = then_kept mean s kinds.RetireCommit found number kept own_table new_table me me' live made slots was kept' refl
+      (subst (KeepsPart (mean s) kept') (sym after_is) part_retired)

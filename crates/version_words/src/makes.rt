@@ -1,0 +1,75 @@
+//! The commits of a Make and of a Retire, and the load of the epoch for a retirement.
+ghost use Rattle.std.specs.Prelude.{◌≡◌, ◌+◌, ◌-◌, Some};
+ghost use Rattle.section_body.specs.Word.{value_of};
+ghost use Rattle.table_words.specs.declared.access.Access.TheVariants.{Exchanges};
+ghost use Rattle.runner_steps.specs.declared.event.EventKind.TheVariants as kinds;
+ghost use Rattle.version_words.specs.Place.{next_log};
+ghost use Rattle.version_words.specs.TableState.{IsOf};
+ghost use Rattle.version_words.specs.Events.{met_by, IsEnabled, Makes, Tries, AgreesOn, slot_named};
+
+use crate::plays;
+use crate::run_ends::agreed_on;
+use crate::runner::Runner;
+use crate::table::FlockTable;
+use runner_steps::Structure;
+use section_body::Word;
+use table_words::Spot;
+
+/// The slot that this log word names.
+fn slot_named(word: u64) -> u32
+    ensures { result ≡ slot_named word }
+{
+    let value = Word::from_bits(word).value();
+    if value == 0 { 0 } else { value - 1 }
+}
+
+impl<S: Structure> FlockTable<S> {
+    /// The next log word: the slot that the run's Make filled is agreed on, where it is still empty. The answer is the slot that the
+    /// agreed word names, and whether this exchange put it there.
+    pub fn make_commit(&self, mut runner: Runner<S>, slot: u32) -> (Runner<S>, u32, bool)
+        requires own { IsOf self.now runner }
+        requires next { met_by (S.meaning self.now.structure) runner kinds.MakeCommit ≡ Some (next_log runner.part.run, Exchanges 0 (slot + 1)) }
+        ensures own { IsOf self.now result.0 }
+        ensures event { AgreesOn (S.meaning self.now.structure) kinds.MakeCommit result.1 result.2 runner result.0 }
+    {
+        let place = runner.kept.place;
+        let spot = Spot::LogWord(place.descriptor, place.agreed);
+        let proposal = slot as u64 + 1;
+        let found = self.exchange::<plays::MakeCommit>(&mut runner.seat, spot, 0, proposal);
+        runner.kept.made(slot, found == 0);
+        (runner, slot_named(agreed_on(found, proposal)), found == 0)
+    }
+
+    /// The next log word: the node slot that the run's Retire names is agreed on, where it is still empty. The answer is whether this exchange
+    /// put it there. Then this runner retires the slot, with the epoch that its run loaded last.
+    pub fn retire_commit(&self, mut runner: Runner<S>, slot: u32) -> (Runner<S>, bool)
+        requires own { IsOf self.now runner }
+        requires next { met_by (S.meaning self.now.structure) runner kinds.RetireCommit ≡ Some (next_log runner.part.run, Exchanges 0 (slot + 1)) }
+        ensures own { IsOf self.now result.0 }
+        ensures event { Tries (S.meaning self.now.structure) kinds.RetireCommit result.1 runner result.0 }
+    {
+        let place = runner.kept.place;
+        let spot = Spot::LogWord(place.descriptor, place.agreed);
+        let proposal = slot as u64 + 1;
+        let found = self.exchange_in_room::<plays::RetireCommit>(
+            &mut runner.seat,
+            spot,
+            0,
+            proposal,
+        );
+        runner.kept.slot_retired(slot, found == 0);
+        (runner, found == 0)
+    }
+
+    /// The epoch, to retire a node slot in a run, or outside one the descriptor of the section that the runner published.
+    pub fn epoch_for_retire(&self, mut runner: Runner<S>) -> (Runner<S>, u64)
+        requires own { IsOf self.now runner }
+        requires next { IsEnabled (S.meaning self.now.structure) kinds.EpochForRetire runner }
+        ensures own { IsOf self.now result.0 }
+        ensures event { Makes (S.meaning self.now.structure) kinds.EpochForRetire result.1 runner result.0 }
+    {
+        let epoch = self.load::<plays::EpochForRetire>(&mut runner.seat, Spot::Epoch);
+        runner.kept.retired(epoch);
+        (runner, epoch)
+    }
+}

@@ -1,0 +1,75 @@
+//! Steps on the words of own slots.
+ghost use Rattle.std.specs.Prelude.{◌≡◌, ℕ};
+ghost use Rattle.runner_steps.specs.Outside.{descriptor_spot};
+ghost use Rattle.runner_steps.specs.declared.event.EventKind.TheVariants as kinds;
+ghost use Rattle.version_words.specs.Private.{IsWithin, private_spot};
+ghost use Rattle.version_words.specs.TableState.{IsOf};
+ghost use Rattle.version_words.specs.Events.{IsEnabled, Makes};
+
+use crate::plays;
+use crate::runner::Runner;
+use crate::table::FlockTable;
+use runner_steps::{Structure, slot_count};
+use table_words::Spot;
+
+/// A descriptor's word: the thunk words, the done word, the log.
+fn descriptor_spot(descriptor: u32, word: u32) -> Spot
+    ensures { result ≡ descriptor_spot descriptor word }
+{
+    if word < 12 {
+        Spot::ThunkWord(descriptor, word)
+    } else if word == 12 {
+        Spot::DoneWord(descriptor)
+    } else {
+        Spot::LogWord(descriptor, word - 13)
+    }
+}
+
+impl<S: Structure> FlockTable<S> {
+    /// A word of a slot: a cell of a node slot, or a word of a descriptor.
+    fn private_spot(&self, slot: u32, word: u32) -> Spot
+        requires { IsWithin (S.meaning self.now.structure) self.now.layout slot word }
+        ensures { result ≡ private_spot (S.meaning self.now.structure) self.now.layout slot word }
+    {
+        let slots = slot_count(&self.setup.structure, self.setup.layout);
+        if slot < slots {
+            Spot::Cell(self.setup.structure.fixed_cells() + 5 * slot + word)
+        } else {
+            descriptor_spot(slot - slots, word)
+        }
+    }
+
+    /// A word of an own slot: a cell of an own free node slot or of one in the hand, a word of an own free descriptor, or in a run the
+    /// cell of the node slot that a Make fills. Descriptors are numbered after the node slots.
+    pub fn private_load(&self, mut runner: Runner<S>, slot: u32, word: u32) -> (Runner<S>, u64)
+        requires own { IsOf self.now runner }
+        requires next { IsEnabled (S.meaning self.now.structure) (kinds.PrivateLoad slot word) runner }
+        ensures own { IsOf self.now result.0 }
+        ensures event { Makes (S.meaning self.now.structure) (kinds.PrivateLoad slot word) result.1 runner result.0 }
+    {
+        let spot = self.private_spot(slot, word);
+        let found = self.load::<plays::PrivateLoad>(&mut runner.seat, spot);
+        runner.kept.loaded(self.setup.layout, slot, word, found);
+        (runner, found)
+    }
+
+    /// A word of an own free descriptor, or in a run the cell of the node slot that a Make fills, becomes this number. Descriptors
+    /// are numbered after the node slots.
+    pub fn private_store(
+        &self,
+        mut runner: Runner<S>,
+        slot: u32,
+        word: u32,
+        number: u64,
+    ) -> Runner<S>
+        requires own { IsOf self.now runner }
+        requires next { IsEnabled (S.meaning self.now.structure) (kinds.PrivateStore slot word number) runner }
+        ensures own { IsOf self.now result }
+        ensures event { (found : ℕ) → Makes (S.meaning self.now.structure) (kinds.PrivateStore slot word number) found runner result }
+    {
+        let spot = self.private_spot(slot, word);
+        self.store::<plays::PrivateStore>(&mut runner.seat, spot, number);
+        runner.kept.stored(self.setup.layout, number);
+        runner
+    }
+}
