@@ -20,6 +20,7 @@ use Rattle.runner_steps.specs.Asks.{outside_ask, line_ask, opening_ask, inside_a
 use Rattle.runner_steps.specs.After.{outside_after, line_after, inside_after, after_by, noted, after, leaves, knows_also}
 use Rattle.epoch_core.specs.State.{EpochState, MayHold}
 use Rattle.epoch_core.specs.Events.{Event}
+use Rattle.machine_states.specs.World.{is_join}
 use Rattle.machine_states.specs.Sight.{Sight, sight_after, Steps}
 use Rattle.machine_states.proofs.Sights.{if_some, some_none, cond_none, unless_gone, joins}
 use Rattle.machine_states.proofs.Updates.{upd_else}
@@ -38,11 +39,6 @@ use Rattle.machine_joins.proofs.CommitKinds as commits
 use Rattle.machine_joins.proofs.SlotKinds as slots
 use Rattle.machine_joins.proofs.RetireKinds as retires
 use Rattle.machine_joins.proofs.EndKinds as ends
-
--- whether this is a join, the one kind of step that changes another runner's part too
-abbrev is_join : EventKind → Bool
-is_join (kinds.Join worker) = true
-is_join _ = false
 
 module _ (m : Meaning) (l : Layout) (rs : List Request) (w : EpochState) (s : Sight) (old : IsJoined m l w s) (r : ℕ) (some : r ≤ l.runners) (x : Spot × Access) (fits : Fits (sizes_for m l rs) x.0) where
   abbrev p : PartState

@@ -22,6 +22,7 @@ use Rattle.runner_steps.specs.Asks.{outside_ask, line_ask, opening_ask, ask_by, 
 use Rattle.runner_steps.specs.After.{after, after_by, line_after, leaves, knows_also, joins as joins_after}
 use Rattle.agreement_core.specs.State.{AgreementState}
 use Rattle.agreement_core.specs.Events.{Event}
+use Rattle.machine_states.specs.World.{is_join}
 use Rattle.machine_states.specs.Sight.{Sight, sight_after, Steps}
 use Rattle.machine_states.proofs.Sights.{if_some, some_none, unless_gone, joins}
 use Rattle.machine_states.proofs.Updates.{upd_else}
@@ -40,11 +41,6 @@ use Rattle.machine_sections.proofs.Stores as stores
 use Rattle.machine_sections.proofs.Ends as ends
 use Rattle.machine_sections.proofs.Releases as releases
 use Rattle.machine_sections.proofs.OutsideKinds as outside
-
--- whether this is a join, the one kind of step that changes another runner's part too
-abbrev is_join : EventKind → Bool
-is_join (kinds.Join worker) = true
-is_join _ = false
 
 module _ (m : Meaning) (l : Layout) (rs : List Request) (w : AgreementState) (s : Sight) (old : IsJoined m l w s) (r : ℕ) where
   abbrev p : PartState

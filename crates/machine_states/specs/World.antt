@@ -1,5 +1,5 @@
 -- The state of the machine: the table's words, and one part per runner, the keeper's first.
-use Rattle.std.specs.Prelude.{ℕ, suc, List, [], ◌∷◌, ◌==◌, slice_get, slice_index, slice_set, Option, Some, None, if◌then◌else◌}
+use Rattle.std.specs.Prelude.{ℕ, suc, List, [], ◌∷◌, Bool, true, false, ◌==◌, slice_get, slice_index, slice_set, Option, Some, None, if◌then◌else◌}
 use Rattle.map_history.specs.declared.op.Request.{Request}
 use Rattle.table_words.specs.declared.layout.Layout.{Layout}
 use Rattle.table_words.specs.Access.{written}
@@ -25,6 +25,11 @@ seat_of l r = if r == l.runners then 0 else suc r
 abbrev pub knowing : PartState → Option PartState → PartState
 knowing keeper None = keeper
 knowing keeper (Some worker) = knows_also keeper worker
+
+-- whether this is a join, the one kind of event that reads and changes another runner's part too
+abbrev pub is_join : EventKind → Bool
+is_join (kinds.Join worker) = true
+is_join _ = false
 
 -- the stepping runner's part at the end of the event, where these parts stood before
 abbrev pub settled_part : EventKind → PartState → List PartState → PartState

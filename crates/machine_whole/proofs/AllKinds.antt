@@ -15,6 +15,7 @@ use Rattle.runner_steps.specs.declared.event.EventKind.TheVariants as kinds
 use Rattle.runner_steps.specs.State.{RunState, PartState}
 use Rattle.runner_steps.specs.Sections.{is_open_run, next_of}
 use Rattle.runner_steps.specs.Asks.{line_ask, opening_ask, asks, sizes_for}
+use Rattle.machine_states.specs.World.{is_join}
 use Rattle.machine_states.specs.Sight.{Sight, sight_after, Steps}
 use Rattle.machine_states.proofs.Sights.{some_none}
 use Rattle.machine_joins.specs.Entries.{counts_of}
@@ -25,7 +26,6 @@ use Rattle.machine_whole.proofs.SuppliesSlots.{HoldsMet, slots_met}
 use Rattle.machine_whole.proofs.Meeting.{having_met, has_met}
 use Rattle.machine_whole.proofs.Chunked.{is_plain_line}
 use Rattle.machine_whole.proofs.Pieces.{Pieces, KeepsWhole, pieces}
-use Rattle.machine_whole.proofs.Sights.{is_join}
 use Rattle.machine_whole.proofs.Plain.{plain_whole, outside_whole, join_whole}
 use Rattle.machine_whole.proofs.Taking.{has_named, is_taking, taking_lock, taking_whole}
 use Rattle.machine_whole.proofs.Makes.{private_load_whole, private_store_whole, make_commit_whole}

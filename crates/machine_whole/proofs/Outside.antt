@@ -20,6 +20,7 @@ use Rattle.agreement_core.specs.Schedules as agreement_schedules
 use Rattle.epoch_core.specs.declared.location.Location.{Location}
 use Rattle.epoch_core.specs.State.{Counts, EpochState}
 use Rattle.epoch_core.specs.Events.{slot_of}
+use Rattle.machine_states.specs.World.{is_join}
 use Rattle.machine_states.specs.Sight.{Sight, sight_after}
 use Rattle.machine_states.proofs.Updates.{upd_split}
 use Rattle.machine_joins.specs.Entries.{counts_of}
@@ -38,7 +39,7 @@ use Rattle.machine_whole.proofs.Ties.{IsOnward, named_onward, tied_onward}
 use Rattle.machine_whole.proofs.Quiet.{is_still, all_still, in_run, with_walk}
 use Rattle.machine_whole.proofs.Chunked.{is_unlocked, all_unlocked}
 use Rattle.machine_whole.proofs.Parts.{outside_made}
-use Rattle.machine_whole.proofs.Sights.{is_join, after_is}
+use Rattle.machine_whole.proofs.Sights.{after_is}
 use Rattle.machine_whole.proofs.Pieces.{Pieces}
 
 -- a descriptor's place, where one has changed

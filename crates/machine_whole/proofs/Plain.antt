@@ -20,6 +20,7 @@ use Rattle.runner_steps.specs.Outside.{private_store_ask}
 use Rattle.runner_steps.specs.Asks.{outside_ask, line_ask, opening_ask, asks}
 use Rattle.agreement_core.specs.Events as agreement
 use Rattle.agreement_core.specs.Schedules as agreement_schedules
+use Rattle.machine_states.specs.World.{is_join}
 use Rattle.machine_states.specs.Sight.{Sight, sight_after}
 use Rattle.machine_states.proofs.Sights.{some_none}
 use Rattle.machine_joins.specs.Slots.{thunk_in}
@@ -37,7 +38,7 @@ use Rattle.machine_whole.proofs.Parts.{is_making, is_other}
 use Rattle.machine_whole.proofs.Runs.{passes_are, append_are}
 use Rattle.machine_whole.proofs.Quiet.{is_still, IsQuiet, quiet_whole}
 use Rattle.machine_whole.proofs.Thunks.{inside_leaves, outside_leaves, other_thunk}
-use Rattle.machine_whole.proofs.Sights.{is_join, inside_quiet, outside_quiet, join_quiet, thunks_after}
+use Rattle.machine_whole.proofs.Sights.{inside_quiet, outside_quiet, join_quiet, thunks_after}
 use Rattle.machine_whole.proofs.Chunked.{is_unlocked, all_unlocked, AreCalm, AreSteady, is_plain_line, inside_calm, inside_steady}
 use Rattle.machine_whole.proofs.Chunked.{is_plain_outside, outside_calm, outside_steady, join_calm, join_steady}
 use Rattle.machine_whole.proofs.Outside.{outside_asked, outside_heads, outside_events}

@@ -11,6 +11,7 @@ use Rattle.runner_steps.specs.declared.event.EventKind.{EventKind}
 use Rattle.runner_steps.specs.declared.event.EventKind.TheVariants as kinds
 use Rattle.runner_steps.specs.State.{RunState, PartState}
 use Rattle.runner_steps.specs.After.{after_by, after, leaves, knows_also}
+use Rattle.machine_states.specs.World.{is_join}
 use Rattle.machine_states.specs.Sight.{Sight, sight_after}
 use Rattle.machine_states.proofs.Updates.{upd_split}
 use Rattle.machine_joins.specs.Slots.{thunk_in}
@@ -19,11 +20,6 @@ use Rattle.machine_whole.specs.Whole.{HasPublished, made_in, made_of}
 use Rattle.machine_whole.proofs.Parts.{IsSamePart, is_making, inside_same, inside_made, is_other, outside_same, outside_made, noted_same}
 use Rattle.machine_whole.proofs.Quiet.{IsQuiet}
 use Rattle.machine_whole.proofs.Thunks.{LeavesThunks}
-
--- whether this is a join, the one kind of step that changes another runner's part too
-abbrev pub is_join : EventKind → Bool
-is_join (kinds.Join worker) = true
-is_join _ = false
 
 module _ (m : Meaning) (l : Layout) (s : Sight) (r : ℕ) where
   abbrev p : PartState

@@ -22,6 +22,7 @@ use Rattle.agreement_core.specs.Events as agreement
 use Rattle.agreement_core.specs.Schedules as agreement_schedules
 use Rattle.epoch_core.specs.State.{EpochState, is_entered}
 use Rattle.epoch_core.specs.Events as epochs
+use Rattle.machine_states.specs.World.{is_join}
 use Rattle.machine_states.specs.Sight.{Sight, sight_after}
 use Rattle.machine_states.proofs.Updates.{upd_split, upd_here, upd_else}
 use Rattle.machine_joins.specs.Entries.{counts_of}
@@ -37,7 +38,7 @@ use Rattle.machine_whole.proofs.Parts.{IsSamePart, inside_same, noted_same}
 use Rattle.machine_whole.proofs.Runs.{AllAre, InHands, Stands, is_calm, agreement_stands, passes_are}
 use Rattle.machine_whole.proofs.Ties.{IsOnward, named_onward, tied_onward}
 use Rattle.machine_whole.proofs.Quiet.{is_still, KeepsUse, all_still, all_stay, with_walk}
-use Rattle.machine_whole.proofs.Sights.{is_join, after_is, thunks_after}
+use Rattle.machine_whole.proofs.Sights.{after_is, thunks_after}
 use Rattle.machine_whole.proofs.Thunks.{inside_leaves}
 use Rattle.machine_whole.proofs.Chunked.{is_unlocked, all_unlocked}
 use Rattle.machine_whole.proofs.Pieces.{Leads, led}

@@ -33,6 +33,7 @@ use Rattle.epoch_core.specs.State.{Counts, EpochState, is_entered}
 use Rattle.epoch_core.specs.Events as epochs
 use Rattle.epoch_core.specs.Events.{slot_of}
 use Rattle.epoch_core.specs.Schedules as epoch_schedules
+use Rattle.machine_states.specs.World.{is_join}
 use Rattle.machine_states.specs.Sight.{Sight, sight_after}
 use Rattle.machine_joins.specs.Entries.{counts_of}
 use Rattle.machine_joins.specs.Supplied.{names_slot}
@@ -54,7 +55,7 @@ use Rattle.machine_whole.proofs.Parts.{is_making}
 use Rattle.machine_whole.proofs.Runs.{AllAre, passes_are}
 use Rattle.machine_whole.proofs.Quiet.{is_still, quiet_whole}
 use Rattle.machine_whole.proofs.Thunks.{inside_leaves}
-use Rattle.machine_whole.proofs.Sights.{is_join, inside_quiet, thunks_after}
+use Rattle.machine_whole.proofs.Sights.{inside_quiet, thunks_after}
 use Rattle.machine_whole.proofs.Chunked.{is_unlocked, all_unlocked}
 use Rattle.machine_whole.proofs.Reaching.{now_held, whole_reached}
 use Rattle.machine_whole.proofs.SuppliesSlots.{named_may}

@@ -23,7 +23,7 @@ use Rattle.runner_steps.specs.declared.event.Event.{Event}
 use Rattle.runner_steps.specs.State.{PartState}
 use Rattle.runner_steps.specs.Asks.{asks, sizes_for}
 use Rattle.runner_steps.specs.After.{after}
-use Rattle.machine_states.specs.World.{World, seat_of, settled_part, put_part, happens}
+use Rattle.machine_states.specs.World.{World, seat_of, is_join, settled_part, put_part, happens}
 use Rattle.machine_states.proofs.Steps.{goes, some_same}
 use Rattle.machine_states.proofs.Reached.{more_reached}
 use Rattle.version_words.specs.declared.view.View.{View}
@@ -42,10 +42,6 @@ false_true e = cc
 
 true_false : true ≡ false → ⊥
 true_false e = cc
-
-abbrev pub is_join : EventKind → Bool
-is_join (kinds.Join worker) = true
-is_join _ = false
 
 no_join : (k : EventKind) → is_plain k ≡ true → is_join k ≡ false
 no_join (kinds.Join worker) e = absurd (false_true e)
