@@ -2,6 +2,7 @@ pub mod Room
 pub mod Shown
 pub mod Naming
 pub mod Private
+pub mod Bases
 pub mod Rule
 pub mod RunnerState
 pub mod TableState

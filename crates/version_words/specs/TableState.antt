@@ -8,7 +8,7 @@ use Rattle.map_history.specs.Keys.{value_given}
 use Rattle.table_words.specs.declared.layout.Layout.{Layout}
 use Rattle.table_words.specs.Limits.{IsWithinLimits}
 use Rattle.table_words.specs.declared.spot.Spot.{Spot}
-use Rattle.table_words.specs.Places.{size, Fits}
+use Rattle.table_words.specs.Places.{size, slot_count, Fits}
 use Rattle.table_words.specs.Seen.{seen}
 use Rattle.structure_laws.specs.Meaning.{Meaning}
 use Rattle.runner_steps.specs.Asks.{sizes_for}
@@ -93,6 +93,8 @@ HasSmallValue op = (v : ℕ) → value_given op ≡ Some v → v < 2 ^ 32
 pub record IsBuilt {T : Type 0} (m : Meaning) (id : TableId) (key built : Setup T) : Type 0 where
   pub told : key ≡ built
   pub as_sized : built.sizes ≡ sizes_for m built.layout built.requests.items
+  pub node_slots : built.node_slots ≡ slot_count built.layout m.fixed_slots
+  pub first_cell : built.first_cell ≡ m.fixed_cells
   pub words : id.words ≡ size built.sizes
   pub no_slots : id.slots ≡ 0
   pub limits : IsWithinLimits built.layout

@@ -6,6 +6,7 @@
 //! say, as contracts.
 #![tactic(auto)]
 
+mod bases;
 mod block;
 mod descriptors;
 mod entry;

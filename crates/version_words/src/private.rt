@@ -9,7 +9,7 @@ ghost use Rattle.version_words.specs.Events.{IsEnabled, Makes};
 use crate::plays;
 use crate::runner::Runner;
 use crate::table::FlockTable;
-use runner_steps::{Structure, slot_count};
+use runner_steps::Structure;
 use table_words::Spot;
 
 /// A descriptor's word: the thunk words, the done word, the log.
@@ -31,9 +31,9 @@ impl<S: Structure> FlockTable<S> {
         requires { IsWithin (S.meaning self.now.structure) self.now.layout slot word }
         ensures { result ≡ private_spot (S.meaning self.now.structure) self.now.layout slot word }
     {
-        let slots = slot_count(&self.setup.structure, self.setup.layout);
+        let slots = self.setup.node_slots;
         if slot < slots {
-            Spot::Cell(self.setup.structure.fixed_cells() + 5 * slot + word)
+            Spot::Cell(self.setup.first_cell + 5 * slot + word)
         } else {
             descriptor_spot(slot - slots, word)
         }

@@ -1,12 +1,13 @@
 //! The rule of the table: its words and all views show a state of the machine that enabled events lead to.
 
+use crate::bases::Bases;
 use crate::view::View;
 use atomic_table::TableRule;
 use map_history::Request;
 use runner_steps::Structure;
 use section_body::Thunk;
 use std::marker::PhantomData;
-use table_words::{Layout, Sizes};
+use table_words::Layout;
 
 /// What a table is told once.
 #[derive(Drop)]
@@ -14,7 +15,11 @@ pub struct Setup<S: Structure> {
     pub structure: S,
     pub layout: Layout,
     pub requests: Vec<Request>,
-    pub sizes: Sizes,
+    pub sizes: Bases,
+    /// How many node slots there are.
+    pub node_slots: u32,
+    /// The first cell of the node slots.
+    pub first_cell: u32,
 }
 
 /// The words and all views show a state of the machine that enabled events lead to.

@@ -10,6 +10,7 @@ ghost use Rattle.version_words.specs.Place.{IsAtRest};
 ghost use Rattle.version_words.specs.TableState.{IsOf, IsNew, HasSmallValue, first_keeper, HasJoinedAll, IsClosing};
 ghost use Rattle.version_words.specs.Events.{IsEnabled, Makes, next_worker, joined_by};
 
+use crate::bases::Bases;
 use crate::block::Block;
 use crate::kept::{Kept, Share};
 use crate::place::RunPlace;
@@ -133,13 +134,17 @@ impl<S: Structure> FlockTable<S> {
         values_fit(requests);
         let sizes = sizes_for(&structure, layout, requests);
         let words = first_words(alloc, &structure, sizes)?;
+        let node_slots = slot_count(&structure, layout);
+        let first_cell = structure.fixed_cells();
         let kept = keeper_lists(alloc, &structure, layout)?;
         let requests = Vec::from_slice(alloc, requests)?;
         let setup = Setup {
             structure,
             layout,
             requests,
-            sizes,
+            sizes: Bases::of(sizes),
+            node_slots,
+            first_cell,
         };
         let (table, seat) = Table::of_words(alloc, words.as_slice(), &setup)?;
         let keeper = Runner {

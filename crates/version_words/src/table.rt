@@ -44,7 +44,7 @@ impl<S: Structure> FlockTable<S> {
         ensures event { Makes (S.meaning self.now.structure) (E.naming (S.meaning self.now.structure) seat.old.me.0.layout seat.old.me.0.requests seat.old.me.0.part (step_at (S.meaning self.now.structure) self.now spot 0 0 nothing)) result (seen_seat seat.old.table_id seat.old.me) (seen_seat seat.new.table_id seat.new.me) }
         ensures slots { seat.new.me.1 ≡ seat.old.me.1 }
     {
-        let at = spot.address(self.setup.sizes);
+        let at = self.setup.sizes.address(spot);
         self.table.shared.load::<plays::Makes<S, E>>(seat, at)
     }
 
@@ -58,7 +58,7 @@ impl<S: Structure> FlockTable<S> {
         ensures event { (found : ℕ) → Makes (S.meaning self.now.structure) (E.naming (S.meaning self.now.structure) seat.old.me.0.layout seat.old.me.0.requests seat.old.me.0.part (step_at (S.meaning self.now.structure) self.now spot number 0 nothing)) found (seen_seat seat.old.table_id seat.old.me) (seen_seat seat.new.table_id seat.new.me) }
         ensures slots { seat.new.me.1 ≡ seat.old.me.1 }
     {
-        let at = spot.address(self.setup.sizes);
+        let at = self.setup.sizes.address(spot);
         self.table
             .shared
             .store::<plays::Makes<S, E>>(seat, at, number)
@@ -82,7 +82,7 @@ impl<S: Structure> FlockTable<S> {
         ensures leaves { Leaves (S.meaning self.now.structure) (E.naming (S.meaning self.now.structure) seat.old.me.0.layout seat.old.me.0.requests seat.old.me.0.part (step_at (S.meaning self.now.structure) self.now spot old new nothing)) (written (Exchanges old new) result) (seen_seat seat.old.table_id seat.old.me) (seen_seat seat.new.table_id seat.new.me) }
         ensures slots { seat.new.me.1 ≡ seat.old.me.1 }
     {
-        let at = spot.address(self.setup.sizes);
+        let at = self.setup.sizes.address(spot);
         self.table
             .shared
             .compare_exchange::<plays::Makes<S, E>>(seat, at, old, new)
@@ -105,7 +105,7 @@ impl<S: Structure> FlockTable<S> {
         ensures slots { seat.new.me.1 ≡ seat.old.me.1 }
         ensures room { AreFew (slot_count self.now.layout (S.meaning self.now.structure).fixed_slots) seat.new.me.0.part.nodes }
     {
-        let at = spot.address(self.setup.sizes);
+        let at = self.setup.sizes.address(spot);
         self.table
             .shared
             .compare_exchange::<plays::LeavesRoom<S, E>>(seat, at, old, new)
@@ -127,7 +127,7 @@ impl<S: Structure> FlockTable<S> {
         ensures event { Makes (S.meaning self.now.structure) (E.naming (S.meaning self.now.structure) seat.old.me.0.layout seat.old.me.0.requests seat.old.me.0.part (step_at (S.meaning self.now.structure) self.now spot old new (announcing said.now))) result (seen_seat seat.old.table_id seat.old.me) (seen_seat seat.new.table_id seat.new.me) }
         ensures slots { seat.new.me.1 ≡ seat.old.me.1 }
     {
-        let at = spot.address(self.setup.sizes);
+        let at = self.setup.sizes.address(spot);
         self.table
             .shared
             .compare_exchange_with::<plays::Makes<S, E>>(seat, at, old, new, said)
@@ -147,7 +147,7 @@ impl<S: Structure> FlockTable<S> {
         ensures event { Makes (S.meaning self.now.structure) (E.naming (S.meaning self.now.structure) seat.old.me.0.layout seat.old.me.0.requests seat.old.me.0.part (step_at (S.meaning self.now.structure) self.now spot number 0 nothing)) result (seen_seat seat.old.table_id seat.old.me) (seen_seat seat.new.table_id seat.new.me) }
         ensures slots { seat.new.me.1 ≡ seat.old.me.1 }
     {
-        let at = spot.address(self.setup.sizes);
+        let at = self.setup.sizes.address(spot);
         self.table
             .shared
             .fetch_max::<plays::Makes<S, E>>(seat, at, number)

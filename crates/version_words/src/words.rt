@@ -66,7 +66,7 @@ impl<S: Structure> Words<S> {
         requires { HasWord (S.meaning self.now.structure) self.now spot }
         ensures { result ≡ word_of (S.meaning self.now.structure) self.now spot }
     {
-        self.closed.word(spot.address(self.setup.sizes))
+        self.closed.word(self.setup.sizes.address(spot))
     }
 
     pub fn structure(&self) -> &S

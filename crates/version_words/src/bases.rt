@@ -1,0 +1,74 @@
+//! A table's sizes, with the addresses at which its groups of words begin.
+ghost use Rattle.std.specs.Prelude.{◌≡◌};
+ghost use Rattle.table_words.specs.Places.{address, Fits};
+
+use std::marker::Model;
+use table_words::{Sizes, Spot};
+
+/// The sizes of a table, with where its entries, its cells and its descriptors begin: a step only adds to one of these numbers.
+#[derive(Drop)]
+pub struct Bases {
+    sizes: Sizes,
+    entries: usize,
+    cells: usize,
+    descriptors: usize,
+}
+
+impl Model for Bases {
+    ghost use Rattle.table_words.specs.declared.sizes.Sizes.{Sizes};
+    ghost use Rattle.version_words.specs.Bases.{AreBases};
+
+    ghost Value = { Sizes };
+
+    ghost view = { λ a. a.sizes };
+
+    ghost invariant = { λ a. AreBases a.sizes a.entries a.cells a.descriptors };
+}
+
+impl Bases {
+    /// The sizes with their bases, worked out once.
+    pub fn of(sizes: Sizes) -> Self
+        ensures { result ≡ sizes }
+    {
+        let entries = 4 + sizes.runners as usize;
+        let cells = entries + 2 * sizes.requests as usize;
+        Bases {
+            sizes,
+            entries,
+            cells,
+            descriptors: cells + sizes.cells as usize,
+        }
+    }
+
+    /// Where this word stands.
+    pub fn address(&self, spot: Spot) -> usize
+        requires { Fits self.now spot }
+        ensures { result ≡ address self.now spot }
+    {
+        match spot {
+            Spot::Seat => 0,
+            Spot::Epoch => 1,
+            Spot::Clock => 2,
+            Spot::Announcement(runner) => 3 + runner as usize,
+            Spot::Stamp(request) => self.entries + 2 * request as usize,
+            Spot::Reply(request) => self.entries + 2 * request as usize + 1,
+            Spot::Cell(place) => self.cells + place as usize,
+            Spot::ThunkWord(descriptor, word) => self.descriptor_at(descriptor) + word as usize,
+            Spot::DoneWord(descriptor) => self.descriptor_at(descriptor) + 12,
+            Spot::LogWord(descriptor, word) => self.descriptor_at(descriptor) + 13 + word as usize,
+        }
+    }
+}
+
+impl Bases {
+    ghost use Rattle.std.specs.Prelude.{◌≡◌, ◌<◌};
+    ghost use Rattle.table_words.specs.Places.{descriptor_at};
+
+    /// Where the words of this descriptor begin.
+    fn descriptor_at(&self, descriptor: u32) -> usize
+        requires { descriptor < self.now.descriptors }
+        ensures { result ≡ descriptor_at self.now descriptor }
+    {
+        self.descriptors + 77 * descriptor as usize
+    }
+}
