@@ -1,5 +1,5 @@
 -- Private loads.
-use Rattle.std.proofs.Common.{◌≡◌, ℕ, zero, suc, [], ◌-◌, ◌<◌, inl, inr, ⊎_elim, List, ◌∷◌, ◌++◌, length, Bool, true, false, refl, sym, ap, subst, ◌∙◌, arith, Option, Some, None, if◌then◌else◌}
+use Rattle.std.proofs.Common.{◌≡◌, ℕ, zero, suc, [], ◌-◌, ◌<◌, ◌≤◌, inl, inr, ⊎_elim, List, ◌∷◌, ◌++◌, length, Bool, true, false, refl, sym, ap, subst, ◌∙◌, arith, Option, Some, None, if◌then◌else◌}
 use Rattle.std.specs.Prelude.{◌==◌, ◌&&◌, ◌||◌, nat_lt, slice_index}
 use Rattle.std.specs.Option.{is_some}
 use Rattle.std.proofs.lemmas.Bool.Decides.{nat_tests}
@@ -53,6 +53,9 @@ some_none a e = cc
 true_false : true ≡ false → ⊥
 true_false e = cc
 
+not_past : (slot n : ℕ) → nat_lt slot n ≡ true → n ≤ slot → ⊥
+not_past slot n e past = grind (arith, nat_tests, e, past)
+
 -- a private load outside a run
 load_chosen : (m : Meaning) (l : Layout) (slot word : ℕ) (p : PartState) (x : Spot × Access) (b : Bool) → nat_lt slot (slot_count l m.fixed_slots) ≡ b
     → (if b then when (is_resting p.stage p.run && (nat_lt word 5 && (has p.nodes.free slot || has p.nodes.hand slot))) (spots.Cell (cell_of m.fixed_cells slot word)) Loads
@@ -69,12 +72,12 @@ load_outside : (m : Meaning) (l : Layout) (slot word : ℕ) (p : PartState) (x :
 load_outside m l slot word p x e = load_chosen m l slot word p x (nat_lt slot (slot_count l m.fixed_slots)) refl e
 
 load_inside : (m : Meaning) (l : Layout) (slot word : ℕ) (free : List ℕ) (q : RunState) (micro : Micro) (x : Spot × Access) → fill_load_ask m l slot word free q micro ≡ Some x
-    → IsPrivate m l slot word Loads x × (is_slot (make_slot q.made free) slot ≡ true)
+    → IsPrivate m l slot word Loads x × (is_slot (make_slot q.made free) slot ≡ true) × (nat_lt slot (slot_count l m.fixed_slots) ≡ true)
 load_inside m l slot word free q (micros.PrivateLoad cell log) x e =
     let t = tested (is_cell m l slot word && (is_slot (make_slot q.made free) slot && word == cell)) (spots.Cell (cell_of m.fixed_cells slot word)) Loads x e in
     let two = both_true (is_cell m l slot word) (is_slot (make_slot q.made free) slot && word == cell) t.0 in
     let b = both_true (nat_lt slot (slot_count l m.fixed_slots)) (nat_lt word 5) two.0 in
-    (of_cell m l slot word Loads x b.0 b.1 t.1, (both_true (is_slot (make_slot q.made free) slot) (word == cell) two.1).0)
+    (of_cell m l slot word Loads x b.0 b.1 t.1, (both_true (is_slot (make_slot q.made free) slot) (word == cell) two.1).0, b.0)
 load_inside m l slot word free q _ x e = absurd (some_none x e)
 
 module _ (m : Meaning) (l : Layout) (rs : List Request) (r : ℕ) (slot word : ℕ) (p : PartState) (x : Spot × Access) where
@@ -163,14 +166,19 @@ module _ (m : Meaning) (l : Layout) (slot word found : ℕ) (kept : Block) (p : 
   abbrev k : EventKind
   k = kinds.PrivateLoad slot word
 
-  pub may_take : Stands m l k p x → MayTake kept slot
-  may_take at = record {
+  pub may_take : kept.lists.room ≡ slot_count l m.fixed_slots → Stands m l k p x → MayTake kept slot
+  may_take room at = record {
     free = λ inside unmade. ⊎_elim
         (λ (none : p.run ≡ None). absurd (true_false (sym inside ∙ was.place.outside none)))
         (λ (h : IsOpenFor m l k p x).
         let q = h.open_run.run in
         ap (λ (y : PartState). has y.nodes.free slot) was.lists
         ∙ taken_free q.made p.nodes.free slot (sym (was.place.run q h.open_run.there).making ∙ unmade) (load_inside m l slot word p.nodes.free q (next_of m q) x h.asks_so).1) at;
+    outside = λ past. ⊎_elim
+        (λ (none : p.run ≡ None). was.place.outside none)
+        (λ (h : IsOpenFor m l k p x).
+        let q = h.open_run.run in let node = (load_inside m l slot word p.nodes.free q (next_of m q) x h.asks_so).2 in
+        absurd (not_past slot (slot_count l m.fixed_slots) node (subst (λ (n : ℕ). n ≤ slot) room past))) at;
   }
 
   -- outside a run
@@ -242,7 +250,7 @@ module _ {T : Type 0} (mean : T → Meaning) (s : T) (slot word found number : �
   before = was_part mean s (kinds.PrivateLoad slot word) found number kept old_table new_table me me' live made slots was
 
   pub takes_free : MayTake kept slot
-  takes_free = may_take (mean s) me.0.layout slot word found kept me.0.part made.met before stands
+  takes_free = may_take (mean s) me.0.layout slot word found kept me.0.part made.met before (was.of_table s live).room stands
 
   same_room : (b b' : Bool) → (if b then block_filling kept slot b' else record kept { lists = with_nodes kept.lists (nodes_looked me.0.layout kept.lists.part.nodes slot word found) }).lists.room ≡ kept.lists.room
   same_room true true = refl

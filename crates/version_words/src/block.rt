@@ -19,8 +19,21 @@ pub struct Block {
 }
 
 impl Block {
-    /// A word of an own slot was loaded. In a run it is a cell of the slot that a Make fills, which the first such load takes.
-    pub fn loaded(&mut self, layout: Layout, slot: u32, word: u32, found: u64)
+    /// A word of an own slot was loaded. Of a descriptor nothing is kept.
+    pub fn loaded(&mut self, layout: Layout, node_slots: u32, slot: u32, word: u32, found: u64)
+        requires own { MayTake self.old slot }
+        requires room { node_slots ≡ self.old.lists.room }
+        ensures { self.new ≡ block_looked layout self.old slot word found }
+    {
+        if slot < node_slots {
+            self.looked(layout, slot, word, found);
+        } else {
+            self.lists.has_nodes_in_hand();
+        }
+    }
+
+    /// A cell of an own slot was loaded. In a run it is one of the slot that a Make fills, which the first such load takes.
+    fn looked(&mut self, layout: Layout, slot: u32, word: u32, found: u64)
         requires { MayTake self.old slot }
         ensures { self.new ≡ block_looked layout self.old slot word found }
     {

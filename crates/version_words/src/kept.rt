@@ -4,7 +4,7 @@ ghost use Rattle.runner_steps.specs.Tests.{has};
 ghost use Rattle.runner_steps.specs.AfterOutside.{with_stage, collected, scanned, scan_one_after, advance_after, split_after, retire_after};
 ghost use Rattle.runner_steps.specs.Lists.{slot_taken, slot_made, slot_back, slot_retired, nodes_looked};
 ghost use Rattle.version_words.specs.RunnerState.{loaded_of, scanned_of, held_in, with_part, with_nodes};
-ghost use Rattle.version_words.specs.Room.{AreFew};
+ghost use Rattle.version_words.specs.Room.{AreBelow, AreFew};
 ghost use Rattle.machine_states.specs.First.{falling, first_part};
 
 use crate::descriptors::DescriptorLists;
@@ -258,6 +258,13 @@ impl Kept {
         ensures { self.new ≡ with_nodes self.old (slot_retired self.old.part.nodes slot epoch) }
     {
         self.nodes.retire(slot, epoch);
+    }
+
+    /// The slots in the hand are node slots.
+    pub fn has_nodes_in_hand(&self)
+        ensures { AreBelow self.now.room self.now.part.nodes.hand }
+    {
+        self.nodes.has_nodes_in_hand();
     }
 
     /// A cell of an own node slot was loaded outside a run.

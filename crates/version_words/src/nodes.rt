@@ -3,7 +3,7 @@ ghost use Rattle.std.specs.Prelude.{◌≡◌, ◌+◌, ◌-◌, ◌<◌, ◌≤
 ghost use Rattle.runner_steps.specs.Lists.{nodes_collected, slot_taken, slot_made, slot_back, slot_retired, slot_tested, nodes_looked, one_more};
 ghost use Rattle.runner_steps.specs.Tests.{has};
 ghost use Rattle.machine_states.specs.First.{falling};
-ghost use Rattle.version_words.specs.Room.{AreFew, first_nodes, nodes_are};
+ghost use Rattle.version_words.specs.Room.{AreBelow, AreFew, first_nodes, nodes_are};
 
 use crate::reserved::{falling, forget, has, remove, test_of, wait_over};
 use runner_steps::{Retired, Tested};
@@ -140,6 +140,13 @@ impl NodeLists {
             forget(&mut self.tests, test.slot);
             self.tests.push_reserved(test);
         }
+    }
+
+    /// The slots in the hand are node slots, by this type.
+    pub fn has_nodes_in_hand(&self)
+        ensures { AreBelow self.now.room self.now.lists.hand }
+    {
+        let _ = &self.hand;
     }
 
     /// After a private load outside a run: only the next cell of a slot in the hand counts.

@@ -49,7 +49,10 @@ impl<S: Structure> FlockTable<S> {
     {
         let spot = self.private_spot(slot, word);
         let found = self.load::<plays::PrivateLoad>(&mut runner.seat, spot);
-        runner.kept.loaded(self.setup.layout, slot, word, found);
+        let nodes = self.setup.node_slots;
+        runner
+            .kept
+            .loaded(self.setup.layout, nodes, slot, word, found);
         (runner, found)
     }
 

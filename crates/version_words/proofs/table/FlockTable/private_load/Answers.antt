@@ -1,5 +1,6 @@
 use Rattle.std.proofs.Common.{ap, sym, subst, ◌∙◌}
 use Rattle.runner_steps.specs.declared.event.EventKind.TheVariants.{PrivateLoad}
+use Rattle.table_words.specs.Places.{slot_count}
 use Rattle.version_words.specs.TableState.{IsOf}
 use Rattle.version_words.specs.declared.block.Block.{Block}
 use Rattle.version_words.specs.Kept.{IsKept, block_looked}
@@ -18,8 +19,8 @@ load-found-requires-clause-named g c =
     let next = subst (IsEnabled m (PrivateLoad c.args.slot c.args.word)) (sym c.runner.view_is) c.requires.next in
     λ κs lives. load_named m c.args.self.now r own c.args.slot c.args.word next c.private_spot-spot.result c.private_spot-spot.ensures
 
-pub loaded-requires : goal.loaded-requires
-loaded-requires g c =
+pub loaded-requires-clause-own : goal.loaded-requires-clause-own
+loaded-requires-clause-own g c =
     let m = g.S.Structure.meaning c.args.self.now.structure in
     let own = subst (λ r. IsOf c.args.self.now r) (sym c.runner.view_is) c.requires.own in
     let next = subst (IsEnabled m (PrivateLoad c.args.slot c.args.word)) (sym c.runner.view_is) c.requires.next in
@@ -29,6 +30,13 @@ loaded-requires g c =
     subst (λ (b : Block). MayTake b c.args.slot) (sym c.deref_mut.ensures.value)
     (takes_free mean c.args.self.now.structure c.args.slot c.args.word c.load-found.result c.runner.inside.number c.runner.inside.kept.value seat.table_id new.table_id seat.me new.me
     (ap (λ r. r.structure) c.runner.view_is ∙ c.requires.own.structure) made c.load-found.ensures.slots c.runner.invariant)
+
+pub loaded-requires-clause-room : goal.loaded-requires-clause-room
+loaded-requires-clause-room g c =
+    let s = c.args.self.now.structure in let m = g.S.Structure.meaning s in
+    let kept = c.runner.invariant.of_table s (ap (λ r. r.structure) c.runner.view_is ∙ c.requires.own.structure) in
+    let layout = ap (λ t. t.layout) c.self.view_is ∙ (sym c.requires.own.layout ∙ sym (ap (λ r. r.layout) c.runner.view_is)) in
+    c.self.invariant.node_slots ∙ ((λ i. slot_count (layout i) (g.S.Structure.meaning (c.self.view_is i).structure).fixed_slots) ∙ (sym kept.room ∙ ap (λ (b : Block). b.lists.room) (sym c.deref_mut.ensures.value)))
 
 pub invariant_of-runner : goal.invariant_of-runner
 invariant_of-runner g c =
