@@ -3,6 +3,7 @@ pub mod Shown
 pub mod Naming
 pub mod Private
 pub mod Bases
+pub mod StageFields
 pub mod Rule
 pub mod RunnerState
 pub mod TableState

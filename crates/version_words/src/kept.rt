@@ -1,14 +1,17 @@
 //! What a runner's code keeps of its part, in one block of memory.
 ghost use Rattle.std.specs.Prelude.{◌≡◌, ◌+◌, ◌<◌, ◌≤◌, ◌^◌, ℕ, IfOk, length, true, None, if◌then◌else◌};
+ghost use Rattle.runner_steps.specs.declared.event.EventKind.TheVariants as kinds;
 ghost use Rattle.runner_steps.specs.Tests.{has};
-ghost use Rattle.runner_steps.specs.AfterOutside.{with_stage, collected, scanned, scan_one_after, advance_after, split_after, retire_after};
+ghost use Rattle.runner_steps.specs.AfterOutside.{with_stage, collected, scan_one_after, advance_after, split_after, retire_after};
 ghost use Rattle.runner_steps.specs.Lists.{slot_taken, slot_made, slot_back, slot_retired, nodes_looked};
+ghost use Rattle.version_words.specs.Naming.{scan_of};
 ghost use Rattle.version_words.specs.RunnerState.{loaded_of, scanned_of, held_in, with_part, with_nodes};
 ghost use Rattle.version_words.specs.Room.{AreBelow, AreFew};
 ghost use Rattle.machine_states.specs.First.{falling, first_part};
 
 use crate::descriptors::DescriptorLists;
 use crate::nodes::NodeLists;
+use crate::stage_fields::StageFields;
 use runner_steps::{LAST_EPOCH, Stage};
 use std::alloc::{AllocError, Global};
 use std::marker::Model;
@@ -18,7 +21,7 @@ use table_words::Layout;
 /// have room for each slot of their kind, so that no step takes memory.
 #[derive(Drop)]
 pub struct Kept {
-    stage: Stage,
+    stage: StageFields,
     nodes: NodeLists,
     descriptors: DescriptorLists,
     splits: u32,
@@ -64,7 +67,7 @@ impl Kept {
         ensures room { IfOk result (λ x. x.room ≡ nodes.room) }
     {
         Ok(Kept {
-            stage: Stage::Idle,
+            stage: StageFields::idle(),
             nodes: NodeLists::new(alloc, nodes.first, nodes.count, nodes.room)?,
             descriptors: DescriptorLists::new(
                 alloc,
@@ -79,14 +82,14 @@ impl Kept {
     pub fn stage(&self) -> Stage
         ensures { result ≡ self.now.part.stage }
     {
-        self.stage
+        self.stage.get()
     }
 
     /// The epoch that was loaded, to be announced.
     pub fn loaded(&self) -> u64
         ensures { result ≡ loaded_of self.now.part.stage }
     {
-        match self.stage {
+        match self.stage.get() {
             Stage::Loaded(epoch) => epoch,
             _ => 0,
         }
@@ -96,7 +99,7 @@ impl Kept {
     pub fn scanned(&self) -> u64
         ensures { result ≡ scanned_of self.now.part.stage }
     {
-        match self.stage {
+        match self.stage.get() {
             Stage::Scanning {
                 epoch,
                 next: _,
@@ -151,7 +154,7 @@ impl Kept {
     pub fn set_stage(&mut self, stage: Stage)
         ensures { self.new ≡ with_part self.old (with_stage self.old.part stage) }
     {
-        self.stage = stage;
+        self.stage.set(stage);
     }
 
     /// A scan is over, and this epoch was reached.
@@ -160,35 +163,28 @@ impl Kept {
     {
         self.nodes.collect(epoch);
         self.descriptors.collect(epoch);
-        self.stage = Stage::Idle;
+        self.stage.set(Stage::Idle);
     }
 
-    /// After the last announcement the scan is over, unless an advance may be tried.
-    fn scan_on(&mut self, layout: Layout, epoch: u64, next: u32, clear: bool)
+    /// One more announcement was read, the one that came next. After the last one the scan is over, unless an advance may be tried.
+    pub fn scan_one(&mut self, layout: Layout, announcement: u32, found: u64)
         requires limits { layout.runners < 2 ^ 31 }
-        requires next { next ≤ layout.runners }
-        ensures { self.new ≡ with_part self.old (scanned layout self.old.part epoch next clear) }
-    {
-        if next == layout.runners && !(clear && epoch < LAST_EPOCH) {
-            self.collect(epoch);
-        } else {
-            self.stage = Stage::Scanning {
-                epoch,
-                next: next + 1,
-                clear,
-            };
-        }
-    }
-
-    /// One more announcement was read.
-    pub fn scan_one(&mut self, layout: Layout, found: u64)
-        requires { layout.runners < 2 ^ 31 }
+        requires next { scan_of self.old.part.stage ≡ kinds.ScanOne announcement }
         ensures { self.new ≡ with_part self.old (scan_one_after layout self.old.part self.old.part.stage found) }
     {
-        if let Stage::Scanning { epoch, next, clear } = self.stage {
-            if next <= layout.runners {
-                let still = clear && (found == 0 || found == epoch);
-                self.scan_on(layout, epoch, next, still);
+        if let Stage::Scanning {
+            epoch,
+            next: _,
+            clear,
+        } = self.stage.get()
+        {
+            if announcement <= layout.runners {
+                let idle = found == 0 || found == epoch;
+                if announcement == layout.runners && !(clear && idle && epoch < LAST_EPOCH) {
+                    self.collect(epoch);
+                } else {
+                    self.stage.go_on(announcement + 1, idle);
+                }
             }
         }
     }
@@ -201,7 +197,7 @@ impl Kept {
             epoch,
             next: _,
             clear: _,
-        } = self.stage
+        } = self.stage.get()
         {
             if epoch < LAST_EPOCH {
                 self.collect(epoch + 1);

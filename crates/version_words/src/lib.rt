@@ -26,6 +26,7 @@ mod runner;
 mod runs;
 mod scan;
 mod seats;
+mod stage_fields;
 mod table;
 mod view;
 mod words;

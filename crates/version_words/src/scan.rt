@@ -35,7 +35,10 @@ impl<S: Structure> FlockTable<S> {
         ensures event { Makes (S.meaning self.now.structure) (kinds.ScanOne announcement) result.1 runner result.0 }
     {
         let found = self.load::<plays::ScanOne>(&mut runner.seat, Spot::Announcement(announcement));
-        runner.kept.lists.scan_one(self.setup.layout, found);
+        runner
+            .kept
+            .lists
+            .scan_one(self.setup.layout, announcement, found);
         (runner, found)
     }
 
