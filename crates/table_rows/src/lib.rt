@@ -8,4 +8,4 @@
 mod rows;
 mod walks;
 
-pub use walks::{collect, crew, enter, entry, exit, fetch, gather, look, new_table, put};
+pub use walks::{collect, crew, enter, entry, exit, fetch, gather, look, new_table, put, slot_of};

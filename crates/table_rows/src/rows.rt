@@ -4,7 +4,9 @@ ghost use Rattle.runner_steps.specs.declared.stage.Stage.TheVariants as stages;
 ghost use Rattle.version_words.specs.TableState.{IsOf};
 ghost use Rattle.version_words.specs.Stages.{IsAt};
 
-use crate::walks::{collect, crew, enter, entry, exit, fetch, gather, look, new_table, put};
+use crate::walks::{
+    collect, crew, enter, entry, exit, fetch, gather, look, new_table, put, slot_of,
+};
 use interleave_core::Tray;
 use std::alloc::AllocError;
 use std::thread;
@@ -112,11 +114,12 @@ fn an_idle_worker_stores_into_a_free_descriptor_and_loads_it(
 ) -> Result<(), AllocError> {
     let (table, keeper) = new_table(rt.alloc())?;
     let (keeper, first, second) = crew(&table, rt.alloc(), keeper)?;
-    let first = put(&table, first, 0, 0, 9);
-    let second = put(&table, second, 1, 76, 5);
-    let (first, word) = fetch(&table, first, 0, 0);
-    let (second, other) = fetch(&table, second, 1, 76);
-    let (second, unstored) = fetch(&table, second, 1, 12);
+    let (slot, next) = (slot_of(&table, 0), slot_of(&table, 1));
+    let first = put(&table, first, 0, slot, 0, 9);
+    let second = put(&table, second, 1, next, 76, 5);
+    let (first, word) = fetch(&table, first, 0, slot, 0);
+    let (second, other) = fetch(&table, second, 1, next, 76);
+    let (second, unstored) = fetch(&table, second, 1, next, 12);
     assert!(&rt; word == 9 && other == 5 && unstored == 0);
     let (first, stamp) = entry(&table, first, 0);
     assert!(&rt; stamp == 0);

@@ -5,6 +5,8 @@ ghost use Rattle.runner_steps.specs.Outside.{last_epoch};
 ghost use Rattle.runner_steps.specs.AfterOutside.{is_clear};
 ghost use Rattle.version_words.specs.TableState.{IsOf};
 ghost use Rattle.table_words.specs.Limits.{IsWithinLimits};
+ghost use Rattle.table_words.specs.Places.{descriptor_count};
+ghost use Rattle.table_rows.specs.Slots.{slot_of};
 ghost use Rattle.version_words.specs.Stages.{IsAt, IsKeeper, HasJoined, HasFree};
 
 use interleave_core::Tray;
@@ -56,16 +58,26 @@ pub fn exit(table: &FlockTable<Tray>, runner: Runner<Tray>, epoch: u64) -> Runne
     table.idle(runner)
 }
 
-/// Stores a number into a word of an own free descriptor.
+/// The number of a descriptor among all slots: the node slots come first.
+pub fn slot_of(table: &FlockTable<Tray>, descriptor: u32) -> u32
+    requires limits { IsWithinLimits table.now.layout }
+    requires few { descriptor < descriptor_count table.now.layout }
+    ensures { result ≡ slot_of table.now.layout descriptor }
+{
+    slot_count(table.structure(), table.layout()) + descriptor
+}
+
+/// Stores a number into a word of an own free descriptor, whose slot is the given one.
 pub fn put(
     table: &FlockTable<Tray>,
     runner: Runner<Tray>,
     descriptor: u32,
+    slot: u32,
     word: u32,
     number: u64,
 ) -> Runner<Tray>
     requires own { IsOf table.now runner }
-    requires limits { IsWithinLimits table.now.layout }
+    requires slot { slot ≡ slot_of table.now.layout descriptor }
     requires at { IsAt runner stages.Idle None }
     requires free { HasFree runner descriptor }
     requires word { word < 77 }
@@ -74,19 +86,19 @@ pub fn put(
     ensures free { HasFree result descriptor }
     ensures number { result.number ≡ runner.number }
 {
-    let slots = slot_count(table.structure(), table.layout());
-    table.private_store(runner, slots + descriptor, word, number)
+    table.private_store(runner, slot, word, number)
 }
 
-/// Loads a word of an own free descriptor.
+/// Loads a word of an own free descriptor, whose slot is the given one.
 pub fn fetch(
     table: &FlockTable<Tray>,
     runner: Runner<Tray>,
     descriptor: u32,
+    slot: u32,
     word: u32,
 ) -> (Runner<Tray>, u64)
     requires own { IsOf table.now runner }
-    requires limits { IsWithinLimits table.now.layout }
+    requires slot { slot ≡ slot_of table.now.layout descriptor }
     requires at { IsAt runner stages.Idle None }
     requires free { HasFree runner descriptor }
     requires word { word < 77 }
@@ -95,8 +107,7 @@ pub fn fetch(
     ensures free { HasFree result.0 descriptor }
     ensures number { result.0.number ≡ runner.number }
 {
-    let slots = slot_count(table.structure(), table.layout());
-    table.private_load(runner, slots + descriptor, word)
+    table.private_load(runner, slot, word)
 }
 
 /// Loads a request's stamp word.

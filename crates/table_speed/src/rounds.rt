@@ -8,7 +8,7 @@ ghost use Rattle.version_words.specs.Stages.{IsAt, HasFree};
 use crate::kinds::Kind;
 use interleave_core::Tray;
 use std::alloc::{AllocError, Global};
-use table_rows::{collect, crew, enter, entry, exit, fetch, gather, look, new_table, put};
+use table_rows::{collect, crew, enter, entry, exit, fetch, gather, look, new_table, put, slot_of};
 use version_words::{FlockTable, Runner};
 
 /// Loads the stamp word of request 0, so many times, and adds up what was found.
@@ -67,10 +67,11 @@ fn load_own_words(
     ensures at { IsAt result.0 stages.Idle None }
     ensures number { result.0.number ≡ runner.number }
 {
+    let slot = slot_of(table, 0);
     let mut runner = runner;
     let mut sum = 0_u64;
     for _ in 0..rounds {
-        let (loaded, found) = fetch(table, runner, 0, 13);
+        let (loaded, found) = fetch(table, runner, 0, slot, 13);
         runner = loaded;
         sum = sum.wrapping_add(found);
     }
@@ -91,10 +92,11 @@ fn store_own_words(
     ensures at { IsAt result.0 stages.Idle None }
     ensures number { result.0.number ≡ runner.number }
 {
+    let slot = slot_of(table, 0);
     let mut runner = runner;
     let mut sum = 0_u64;
     for round in 0..rounds {
-        runner = put(table, runner, 0, 13, round as u64);
+        runner = put(table, runner, 0, slot, 13, round as u64);
         sum = sum.wrapping_add(round as u64);
     }
     (runner, sum)
