@@ -3,10 +3,13 @@
 
 Usage: bench/steps.py [PROGRAM]     (default: crates/table_speed/out/table_speed, made by `rt run` in crates/table_speed)
 
-It wants rustc. The plain program is built twice: as rustc builds it, which writes eight rounds of a short loop behind one another,
-and with no loop unrolled, as the proved program is built. Each kind is run at two numbers of rounds, several times by all programs in
-turn, which must print the same. Of each the least processor time is taken, and the difference of the two is told: what a process
-needs to begin and to end isn't counted.
+It wants rustc. The plain program is built three times. As rustc builds it, which writes eight rounds of a short loop behind one
+another; with no loop unrolled, as the proved program is built; and, unrolled or not as rustc likes, as a table for any sizes: in the
+first two each word stands at a place known when they are built, and in the third a step reads where the words are and where the group
+of its word begins, as on the shared table.
+
+Each kind is run at two numbers of rounds, several times by all programs in turn, which must print the same. Of each the least
+processor time is taken, and the difference of the two is told: what a process needs to begin and to end isn't counted.
 """
 import os
 import pathlib
@@ -56,13 +59,15 @@ def compare(programs: list[str], kind: str, steps: int) -> list[float]:
 def main() -> None:
     ours = sys.argv[1] if len(sys.argv) > 1 else str(TOP / "crates/table_speed/out/table_speed")
     with tempfile.TemporaryDirectory() as folder:
-        plain, rolled = (str(pathlib.Path(folder) / name) for name in ("plain", "rolled"))
+        plain, rolled, table = (str(pathlib.Path(folder) / name) for name in ("plain", "rolled", "table"))
         build = ["rustc", "-O", TOP / "bench/steps.rs", "-o"]
         subprocess.run([*build, plain], check=True)
         subprocess.run([*build, rolled, "-C", "llvm-args=-unroll-count=1"], check=True)
+        subprocess.run([*build, table, "--cfg", "table"], check=True)
         for kind, steps in steps_by_kind(ours):
-            a, b, c = compare([ours, plain, rolled], kind, steps)
-            print(f"{kind}: {a:.2f} ns a step; plain {b:.2f} ns, ratio {a / b:.2f}; plain, not unrolled {c:.2f} ns, ratio {a / c:.2f}", flush=True)
+            proved, *others = compare([ours, plain, rolled, table], kind, steps)
+            told = (f"{name} {time:.2f} ns, ratio {proved / time:.2f}" for name, time in zip(("plain", "not unrolled", "plain table"), others))
+            print(f"{kind}: {proved:.2f} ns a step; {'; '.join(told)}", flush=True)
 
 
 if __name__ == "__main__":

@@ -1,41 +1,71 @@
 // The same atomic operations as the program `table_speed` makes on the shared table, in plain Rust over a row of words: what its time is
 // compared with. Both add up what they find, and print the same line.
+//
+// Each word stands at a place that is known when this is built, and the row's pointer stays at hand. Built with `--cfg table` it is a table for
+// any sizes that threads may share: a step reads where the row is and where the group of its word begins.
+use std::hint::black_box;
 use std::sync::atomic::AtomicU64;
 use std::sync::atomic::Ordering::SeqCst;
 
-// Where the words stand: the epoch, the announcements of two workers and of the keeper, a request's stamp, a cell, and a word of the
-// first descriptor.
-const EPOCH: usize = 1;
-const ANNOUNCEMENTS: usize = 3;
-const RUNNERS: usize = 2;
-const STAMP: usize = 6;
-const CELL: usize = 9;
-const OWN: usize = 74;
+// How many runners announce, the keeper among them; the number of the first descriptor among all slots, and how many words it has.
+const RUNNERS: usize = 3;
+const SLOT: usize = 10;
+const DESCRIPTOR: usize = 77;
 const WORDS: usize = 369;
 
-// An entry and its end: the epoch of the entry.
-fn enter(words: &[AtomicU64]) -> u64 {
-    let loaded = words[EPOCH].load(SeqCst);
-    words[ANNOUNCEMENTS].store(loaded, SeqCst);
-    let epoch = words[EPOCH].load(SeqCst);
-    words[ANNOUNCEMENTS].store(0, SeqCst);
-    epoch
+struct Words {
+    words: &'static [AtomicU64],
+    entries: usize,
+    cells: usize,
+    descriptors: usize,
+    node_slots: usize,
 }
 
-// A scan: whether the epoch went on.
-fn scan(words: &[AtomicU64]) -> bool {
-    let epoch = words[EPOCH].load(SeqCst);
-    let mut clear = true;
-    for runner in 0..=RUNNERS {
-        let found = words[ANNOUNCEMENTS + runner].load(SeqCst);
-        clear = clear && (found == 0 || found == epoch);
+impl Words {
+    fn epoch(&self) -> &AtomicU64 {
+        &self.words[1]
     }
-    clear && epoch < 1 << 62 && words[EPOCH].compare_exchange(epoch, epoch + 1, SeqCst, SeqCst).is_ok()
-}
 
-fn store(words: &[AtomicU64], number: u64) -> u64 {
-    words[OWN].store(number, SeqCst);
-    number
+    fn announcement(&self, runner: usize) -> &AtomicU64 {
+        &self.words[3 + runner]
+    }
+
+    fn stamp(&self, request: usize) -> &AtomicU64 {
+        &self.words[self.entries + 2 * request]
+    }
+
+    fn cell(&self, place: usize) -> &AtomicU64 {
+        &self.words[self.cells + place]
+    }
+
+    fn own(&self, slot: usize, word: usize) -> &AtomicU64 {
+        &self.words[self.descriptors + DESCRIPTOR * (slot - self.node_slots) + word]
+    }
+
+    // An entry and its end: the epoch of the entry.
+    fn enter(&self) -> u64 {
+        let loaded = self.epoch().load(SeqCst);
+        self.announcement(0).store(loaded, SeqCst);
+        let epoch = self.epoch().load(SeqCst);
+        self.announcement(0).store(0, SeqCst);
+        epoch
+    }
+
+    // A scan: whether the epoch went on.
+    fn scan(&self) -> bool {
+        let epoch = self.epoch().load(SeqCst);
+        let mut clear = true;
+        for runner in 0..RUNNERS {
+            let found = self.announcement(runner).load(SeqCst);
+            clear = clear && (found == 0 || found == epoch);
+        }
+        clear && epoch < 1 << 62 && self.epoch().compare_exchange(epoch, epoch + 1, SeqCst, SeqCst).is_ok()
+    }
+
+    fn store(&self, number: u64) -> u64 {
+        self.own(SLOT, 13).store(number, SeqCst);
+        number
+    }
 }
 
 fn sum_of(rounds: u32, round: impl Fn(u32) -> u64) -> u64 {
@@ -46,21 +76,28 @@ fn sum_of(rounds: u32, round: impl Fn(u32) -> u64) -> u64 {
     sum
 }
 
+// The words of a table of the test structure with two workers.
+fn words() -> Words {
+    let words: Vec<AtomicU64> = (0..WORDS).map(|_| AtomicU64::new(0)).collect();
+    let words = Words { words: black_box(words.leak()), entries: 6, cells: 8, descriptors: 61, node_slots: SLOT };
+    words.epoch().store(1, SeqCst);
+    words.cell(1).store(1 << 32, SeqCst);
+    words
+}
+
 fn main() {
     let mut args = std::env::args().skip(1);
     let kind = args.next().expect("a kind of step");
     let rounds: u32 = args.next().expect("a number of rounds").parse().expect("a number");
-    let words: Vec<AtomicU64> = (0..WORDS).map(|_| AtomicU64::new(0)).collect();
-    words[EPOCH].store(1, SeqCst);
-    words[CELL].store(1 << 32, SeqCst);
-    let words = std::hint::black_box(words.as_slice());
+    let words = words();
+    let words = if cfg!(table) { black_box(&words) } else { &words };
     let (steps, sum) = match kind.as_str() {
-        "load_entry" => (1, sum_of(rounds, |_| words[STAMP].load(SeqCst))),
-        "load_cell" => (1, sum_of(rounds, |_| words[CELL].load(SeqCst))),
-        "private_load" => (1, sum_of(rounds, |_| words[OWN].load(SeqCst))),
-        "private_store" => (1, sum_of(rounds, |round| store(words, u64::from(round)))),
-        "enter" => (4, sum_of(rounds, |_| enter(words))),
-        "scan" => (5, sum_of(rounds, |_| u64::from(scan(words)))),
+        "load_entry" => (1, sum_of(rounds, |_| words.stamp(0).load(SeqCst))),
+        "load_cell" => (1, sum_of(rounds, |_| words.cell(1).load(SeqCst))),
+        "private_load" => (1, sum_of(rounds, |_| words.own(SLOT, 13).load(SeqCst))),
+        "private_store" => (1, sum_of(rounds, |round| words.store(u64::from(round)))),
+        "enter" => (4, sum_of(rounds, |_| words.enter())),
+        "scan" => (5, sum_of(rounds, |_| u64::from(words.scan()))),
         _ => panic!("no kind of step has this name"),
     };
     println!("{kind}: {rounds} rounds of {steps} steps, sum {sum}");

@@ -1,4 +1,7 @@
 //! Rounds of one kind of step, on a table of the test structure with two workers.
+//!
+//! Each kind's loop stands in a function of its own that is given the table, as in a thread. In one function with all that comes before and
+//! after, the loops' own counters would go through memory.
 ghost use Rattle.std.specs.Prelude.{◌≡◌, ◌<◌, length, None};
 ghost use Rattle.runner_steps.specs.declared.stage.Stage.TheVariants as stages;
 ghost use Rattle.table_words.specs.Limits.{IsWithinLimits};
@@ -12,6 +15,7 @@ use table_rows::{collect, crew, enter, entry, exit, fetch, gather, look, new_tab
 use version_words::{FlockTable, Runner};
 
 /// Loads the stamp word of request 0, so many times, and adds up what was found.
+#[inline(never)]
 fn load_entries(table: &FlockTable<Tray>, runner: Runner<Tray>, rounds: u32) -> (Runner<Tray>, u64)
     requires own { IsOf table.now runner }
     requires at { IsAt runner stages.Idle None }
@@ -31,6 +35,7 @@ fn load_entries(table: &FlockTable<Tray>, runner: Runner<Tray>, rounds: u32) -> 
 }
 
 /// Loads cell 1 in an entry, so many times, and adds up what was found.
+#[inline(never)]
 fn load_cells(
     table: &FlockTable<Tray>,
     runner: Runner<Tray>,
@@ -54,6 +59,7 @@ fn load_cells(
 }
 
 /// Loads a word of the own free descriptor 0, so many times, and adds up what was found.
+#[inline(never)]
 fn load_own_words(
     table: &FlockTable<Tray>,
     runner: Runner<Tray>,
@@ -79,6 +85,7 @@ fn load_own_words(
 }
 
 /// Stores into a word of the own free descriptor 0, so many times, and adds up what was stored.
+#[inline(never)]
 fn store_own_words(
     table: &FlockTable<Tray>,
     runner: Runner<Tray>,
@@ -103,6 +110,7 @@ fn store_own_words(
 }
 
 /// Enters and leaves, so many times, and adds up the epochs.
+#[inline(never)]
 fn enter_and_exit(
     table: &FlockTable<Tray>,
     runner: Runner<Tray>,
@@ -125,6 +133,7 @@ fn enter_and_exit(
 }
 
 /// Scans the announcements and advances the epoch, so many times, and counts the advances.
+#[inline(never)]
 fn scan(table: &FlockTable<Tray>, runner: Runner<Tray>, rounds: u32) -> (Runner<Tray>, u64)
     requires own { IsOf table.now runner }
     requires at { IsAt runner stages.Idle None }

@@ -47,9 +47,9 @@ impl<S: Structure> FlockTable<S> {
         ensures own { IsOf self.now result.0 }
         ensures event { Makes (S.meaning self.now.structure) (kinds.PrivateLoad slot word) result.1 runner result.0 }
     {
+        let nodes = self.setup.node_slots;
         let spot = self.private_spot(slot, word);
         let found = self.load::<plays::PrivateLoad>(&mut runner.seat, spot);
-        let nodes = self.setup.node_slots;
         runner
             .kept
             .loaded(self.setup.layout, nodes, slot, word, found);
