@@ -1,5 +1,5 @@
 -- The commit of a Retire.
-use Rattle.std.proofs.Common.{◌≡◌, ℕ, [], ◌+◌, List, ◌∷◌, ◌++◌, Bool, true, false, refl, sym, ap, subst, ◌∙◌, arith, Option, Some, None, if◌then◌else◌, length-append}
+use Rattle.std.proofs.Common.{◌≡◌, ℕ, [], ◌+◌, ◌<◌, List, ◌∷◌, ◌++◌, Bool, true, false, refl, sym, ap, subst, ◌∙◌, arith, Option, Some, None, if◌then◌else◌, length-append}
 use Rattle.std.specs.Prelude.{◌==◌}
 use Rattle.atomic_table.specs.Table.{Me}
 use Rattle.atomic_table.specs.Seated.{TableId}
@@ -30,13 +30,13 @@ use Rattle.version_words.specs.declared.view.View.{View}
 use Rattle.version_words.specs.declared.block.Block.{Block}
 use Rattle.version_words.specs.RunnerState.{RunnerState}
 use Rattle.version_words.specs.Room.{AreFew}
-use Rattle.version_words.specs.Place.{IsPlaced}
+use Rattle.version_words.specs.Place.{IsPlaced, next_log}
 use Rattle.version_words.specs.Kept.{IsKept, block_slot_retired}
 use Rattle.version_words.specs.Events.{met_by, Makes, seen_seat}
 use Rattle.version_words.proofs.Asked.{unless_gone}
 use Rattle.version_words.proofs.Keeps.{KeepsPart, was_part, then_kept}
 use Rattle.version_words.proofs.Epochs.{goes_epoch}
-use Rattle.version_words.proofs.Inside.{PlacesRun, goes_inside, over, places, step_is}
+use Rattle.version_words.proofs.Inside.{PlacesRun, goes_inside, log_low, over, places, step_is}
 use Rattle.version_words.proofs.Privates.{IsOpenFor, open_inside}
 
 some_none : {A : Type 0} → (a : A) → None ≡ Some a → ⊥
@@ -69,6 +69,13 @@ lists_after won n slot epoch = if won then slot_retired n slot epoch else n
 same_hand : (won : Bool) (n : NodesState) (slot epoch : ℕ) → (lists_after won n slot epoch).hand ≡ n.hand
 same_hand true n slot epoch = refl
 same_hand false n slot epoch = refl
+
+-- the log has a word for the commit
+pub retire_low : {T : Type 0} (mean : T → Meaning) (s : T) (slot number : ℕ) (kept : Block) (own_table : TableId) (me : Me Thunk (View T)) → me.0.structure ≡ Some s
+    → met_by (mean s) (seen_seat own_table me) kinds.RetireCommit ≡ Some (next_log me.0.part.run, Exchanges 0 (slot + 1)) → IsKept mean number kept me → kept.place.agreed < 64
+retire_low mean s slot number kept own_table me live next was =
+    let opens = retire_asked (mean s) me.0.layout me.0.requests me.0.number me.0.part (next_log me.0.part.run, Exchanges 0 (slot + 1)) next in
+    log_low (mean s) (seen_seat own_table me) kinds.RetireCommit (Exchanges 0 (slot + 1)) kept.place opens.open_run.run opens.open_run.there (was.place.run opens.open_run.run opens.open_run.there) next
 
 module _ {T : Type 0} (mean : T → Meaning) (s : T) (spot : Spot) (slot number : ℕ) (kept : Block) (own_table : TableId) (me : Me Thunk (View T)) (live : me.0.structure ≡ Some s)
     (next : met_by (mean s) (seen_seat own_table me) kinds.RetireCommit ≡ Some (spot, Exchanges 0 (slot + 1))) (was : IsKept mean number kept me)

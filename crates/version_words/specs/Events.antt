@@ -20,6 +20,7 @@ use Rattle.runner_steps.specs.After.{after, knows_also}
 use Rattle.machine_states.specs.First.{worker_part}
 use Rattle.version_words.specs.declared.view.View.{View}
 use Rattle.version_words.specs.Naming.{Naming, is_plain}
+use Rattle.version_words.specs.ReachedWith.{ReachedWith}
 use Rattle.version_words.specs.RunnerState.{RunnerState}
 use Rattle.version_words.specs.TableState.{TableState}
 
@@ -52,11 +53,13 @@ module _ {T : Type 0} (m : Meaning) where
     pub met : Spot × Access
     pub asked : met_by r kind ≡ Some met
 
-  -- the runner made this event, and found this number in its word; nothing of it changed but the part
+  -- the runner made this event, and found this number in its word; nothing of it changed but the part; and the machine reaches a state in
+  -- which it has that part and the word is what the event left there
   pub record Makes (kind : EventKind) (found : ℕ) (old new : RunnerState T) : Type 0 where
     pub met : Spot × Access
     pub asked : met_by old kind ≡ Some met
     pub made : new ≡ record old { part = after m old.layout old.number kind met.0 met.1 old.part found }
+    pub shown : ReachedWith m new.layout new.requests new.number new.part met.0 (written met.1 found)
 
   -- the runner made this event, whose exchange won or lost
   pub record Tries (kind : EventKind) (won : Bool) (old new : RunnerState T) : Type 0 where
@@ -87,6 +90,11 @@ module _ {T : Type 0} (m : Meaning) where
     pub agreed : ℕ
     pub event : Commits kind agreed won old new
     pub named : slot ≡ slot_named agreed
+
+  -- the keeper made the event Split, which finds 0: it split off a worker, and nothing of it changed but the part
+  pub record HasSplit (old new : RunnerState T) : Type 0 where
+    pub asked : met_by old kinds.Split ≡ Some (Seat, Loads)
+    pub made : new ≡ record old { part = after m old.layout old.number kinds.Split Seat Loads old.part 0 }
 
   -- a plain store doesn't tell what it found, and the part afterwards doesn't go by it
   pub record IsBlind (kind : EventKind) (x : Spot × Access) (r : RunnerState T) : Type 0 where

@@ -48,15 +48,11 @@ impl<S: Structure> FlockTable<S> {
         ensures own { IsOf self.now result.0 }
         ensures event { Tries (S.meaning self.now.structure) kinds.RetireCommit result.1 runner result.0 }
     {
+        let _ = &self.setup;
         let place = runner.kept.place;
         let spot = Spot::LogWord(place.descriptor, place.agreed);
         let proposal = slot as u64 + 1;
-        let found = self.exchange_in_room::<plays::RetireCommit>(
-            &mut runner.seat,
-            spot,
-            0,
-            proposal,
-        );
+        let found = self.exchange::<plays::RetireCommit>(&mut runner.seat, spot, 0, proposal);
         runner.kept.slot_retired(slot, found == 0);
         (runner, found == 0)
     }
