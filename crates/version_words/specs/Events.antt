@@ -1,10 +1,9 @@
 -- What contracts say of a step: it is one event of the machine on the own part.
-use Rattle.std.specs.Prelude.{◌≡◌, ℕ, ◌-◌, Bool, true, false, [], ◌∷◌, ◌==◌, Some}
+use Rattle.std.specs.Prelude.{◌≡◌, ℕ, Bool, true, false, [], ◌∷◌, ◌==◌, Some}
 use mathlib.Core.Option.{Option as Option_of, none, some}
 use Rattle.atomic_table.specs.Table.{Me, Step, step}
 use Rattle.atomic_table.specs.Seated.{TableId}
 use Rattle.section_body.specs.declared.thunk.Thunk.{Thunk}
-use Rattle.section_body.specs.Word.{value_of}
 use Rattle.table_words.specs.Access.{written}
 use Rattle.table_words.specs.Places.{address}
 use Rattle.table_words.specs.declared.spot.Spot.{Spot}
@@ -38,10 +37,6 @@ announcing thunk = some thunk
 abbrev pub wins : Access → ℕ → Bool
 wins (Exchanges old new) found = found == old
 wins _ found = false
-
--- the slot that a log word names
-abbrev pub slot_named : ℕ → ℕ
-slot_named word = value_of word - 1
 
 module _ {T : Type 0} (m : Meaning) where
   -- the word that this event of the runner meets, and what it does there; None where it isn't enabled
@@ -84,12 +79,6 @@ module _ {T : Type 0} (m : Meaning) where
     pub event : Makes kind found old new
     pub told : agreed ≡ written event.met.1 found
     pub first : won ≡ wins event.met.1 found
-
-  -- the runner made this event, which agrees on a slot; this is the slot that the agreed word names, and the event's exchange won or lost
-  pub record AgreesOn (kind : EventKind) (slot : ℕ) (won : Bool) (old new : RunnerState T) : Type 0 where
-    pub agreed : ℕ
-    pub event : Commits kind agreed won old new
-    pub named : slot ≡ slot_named agreed
 
   -- the keeper made the event Split, which finds 0: it split off a worker, and nothing of it changed but the part
   pub record HasSplit (old new : RunnerState T) : Type 0 where
