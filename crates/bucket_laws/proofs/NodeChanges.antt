@@ -20,16 +20,17 @@ nodes_from a b c e = record { head = a; key = b; value = c; next = e }
 pub nodes_same : (a b c e a' b' c' e' : ℕ → ℕ) → a ≡ a' → b ≡ b' → c ≡ c' → e ≡ e' → nodes_from a b c e ≡ nodes_from a' b' c' e'
 nodes_same a b c e a' b' c' e' p q r t = ap (λ z. nodes_from z b c e) p ∙ ap (λ z. nodes_from a' z c e) q ∙ ap (λ z. nodes_from a' b' z e) r ∙ ap (λ z. nodes_from a' b' c' z) t
 
-clip_same : (j n a b : ℕ) → (j < n → a ≡ b) → cond (nat_lt j n) a 0 ≡ cond (nat_lt j n) b 0
+-- a list of so many, read at a place, and 0 past its end
+pub clip_same : (j n a b : ℕ) → (j < n → a ≡ b) → cond (nat_lt j n) a 0 ≡ cond (nat_lt j n) b 0
 clip_same j n a b h = grind arith
 
-clip_to : (j n a c : ℕ) → (j < n → c ≡ a) → (n ≤ j → c ≡ 0) → c ≡ cond (nat_lt j n) a 0
+pub clip_to : (j n a c : ℕ) → (j < n → c ≡ a) → (n ≤ j → c ≡ 0) → c ≡ cond (nat_lt j n) a 0
 clip_to j n a c h g = grind arith
 
-clip_in : (j n a : ℕ) → j < n → cond (nat_lt j n) a 0 ≡ a
+pub clip_in : (j n a : ℕ) → j < n → cond (nat_lt j n) a 0 ≡ a
 clip_in j n a h = grind arith
 
-clip_out : (j n a : ℕ) → n ≤ j → cond (nat_lt j n) a 0 ≡ 0
+pub clip_out : (j n a : ℕ) → n ≤ j → cond (nat_lt j n) a 0 ≡ 0
 clip_out j n a h = grind arith
 
 module _ (buckets : ℕ) (bucket : ℕ → ℕ) (cells : Cells) where

@@ -1,5 +1,5 @@
 -- The hash table keeps what it keeps, by every move.
-use Rattle.std.proofs.Common.{◌≡◌, ◌≢◌, ℕ, suc, ◌+◌, ◌*◌, ◌<◌, ◌≤◌, Bool, true, false, cond, refl, sym, ap, ◌∙◌, subst, inl, inr, ⊎_elim, arith}
+use Rattle.std.proofs.Common.{◌≡◌, ◌≢◌, ℕ, suc, ◌+◌, ◌*◌, ◌<◌, ◌≤◌, Bool, true, false, refl, sym, ap, ◌∙◌, subst, inl, inr, ⊎_elim, arith}
 use Rattle.std.specs.Prelude.{◌==◌, ◌&&◌, ◌%◌, ◌⊎◌, nat_lt, Option, Some, None, [], ◌∷◌, ◌++◌, slice_get}
 use mathlib.Core.Logic.{dite}
 use native.Mathlib.Decide.{ℕ_discrete}
@@ -22,6 +22,7 @@ use Rattle.bucket_laws.specs.Walk.{Walk, start, cell_at, walk}
 use Rattle.bucket_laws.specs.Buckets.{Insert, Remove, form_of, nodes, Knows, IsWalked, walk_of, bounds, BucketsKept, table}
 use Rattle.bucket_laws.proofs.Elsewhere.{IsElsewhere, knows_on}
 use Rattle.bucket_laws.proofs.Forms.{step_in, no_take}
+use Rattle.bucket_laws.proofs.NodeChanges.{clip_same}
 use Rattle.bucket_laws.proofs.TableSteps.{quiet_kept, load_kept, make_kept, retire_kept}
 use Rattle.bucket_laws.proofs.TableStores.{table_store}
 use Rattle.bucket_laws.proofs.Walks.{knows_fed, walk_push, is_first, edition_kept}
@@ -211,9 +212,6 @@ module _ (buckets : ℕ) (bucket : ℕ → ℕ) (small : (key : ℕ) → bucket 
         live = kept.live;
         limbo = λ q y t retired recent leads. kept.limbo q y t retired recent (ap value_of (sym (same q 3 (retired_free (s.status q) y retired) (omega arith))) ∙ leads);
       }
-    where
-      clip_same : (j n a b : ℕ) → (j < n → a ≡ b) → cond (nat_lt j n) a 0 ≡ cond (nat_lt j n) b 0
-      clip_same j n a b h = grind arith
 
   -- a slot leaves limbo
   collect_kept : (t y : ℕ) → s.status t ≡ Retired y → y + 2 ≤ s.epoch → BucketsKept buckets bucket layout (with_status s t Free)

@@ -32,6 +32,7 @@ use Rattle.bucket_laws.specs.Buckets.{Read, Insert, Remove, Empty, form_of, body
 use Rattle.bucket_laws.proofs.Chain.{same_on}
 use Rattle.bucket_laws.proofs.Fit.{IsFit, fit_of, insert_operands, remove_operands}
 use Rattle.bucket_laws.proofs.Forms.{node_init, steps_of, no_take, load_step, store_step, make_step, answer_step}
+use Rattle.bucket_laws.proofs.NodeChanges.{clip_same}
 use Rattle.bucket_laws.proofs.TableGives.{reached, table_gives}
 use Rattle.bucket_laws.proofs.TableKeeps.{chains_agree, lock_at, table_keeps}
 use Rattle.bucket_laws.proofs.TableShape.{read_shaped, insert_shaped, remove_shaped}
@@ -286,9 +287,6 @@ contents_agree n n' on lookup contents keys values = record {
   pair = λ t on_t. ap lookup (keys t on_t) ∙ contents.pair t on_t ∙ ap Some (sym (values t on_t));
   slot = λ key value h. let there = contents.slot key value h in (there.0, there.1, keys there.0 there.1 ∙ there.2);
 }
-
-clip_same : (j n a b : ℕ) → (j < n → a ≡ b) → cond (nat_lt j n) a 0 ≡ cond (nat_lt j n) b 0
-clip_same j n a b h = grind arith
 
 module _ (buckets : ℕ) (bucket : ℕ → ℕ) (small : (key : ℕ) → bucket key < buckets) (layout : Layout) (limits : IsWithinLimits layout) where
   -- a change of a cell that is no head and in no node of a chain

@@ -1,7 +1,7 @@
 -- The hash table's sections, one after the other, do what the map does.
-use Rattle.std.proofs.Common.{◌≡◌, ◌≢◌, ℕ, zero, suc, ◌+◌, ◌*◌, ◌<◌, ◌≤◌, Bool, true, false, cond, refl, sym, ap, ◌∙◌, subst, ⊎_elim, arith}
+use Rattle.std.proofs.Common.{◌≡◌, ◌≢◌, ℕ, zero, suc, ◌+◌, ◌*◌, ◌<◌, Bool, true, false, refl, sym, ap, ◌∙◌, subst, ⊎_elim, arith}
 use Rattle.std.proofs.Math.Path.{fun_ext}
-use Rattle.std.specs.Prelude.{◌^◌, nat_lt, Option, Some, None, slice_index}
+use Rattle.std.specs.Prelude.{◌^◌, Option, Some, None, slice_index}
 use Rattle.std.specs.FinMap.{get}
 use mathlib.Core.Logic.{dite}
 use native.Mathlib.Decide.{ℕ_discrete}
@@ -27,6 +27,7 @@ use Rattle.bucket_laws.proofs.Chain.{insert, remove_first, remove_next, insert_c
 use Rattle.bucket_laws.proofs.Fit.{read_number, insert_number}
 use Rattle.bucket_laws.proofs.Forms.{step_in, stamp_step, answer_step, read_stores, insert_loads, remove_loads}
 use Rattle.bucket_laws.proofs.Maps.{read_reply, insert_reply, remove_reply, read_map, insert_map, remove_map}
+use Rattle.bucket_laws.proofs.NodeChanges.{clip_same, clip_to, clip_in, clip_out}
 use Rattle.bucket_laws.proofs.Sections.{fit, walk_at, read_knows, remove_knows, insert_head, insert_missing, remove_target, insert_remove, read_insert, read_remove}
 use Rattle.bucket_laws.proofs.TableGives.{target_on}
 use Rattle.bucket_laws.proofs.Walks.{bool_cases, head_is, reached_on}
@@ -51,18 +52,6 @@ true_false e e' = cc
 
 live_free : (x : Status) → x ≡ Live → x ≢ Free
 live_free x live free = cc
-
-clip_same : (j n a b : ℕ) → (j < n → a ≡ b) → cond (nat_lt j n) a 0 ≡ cond (nat_lt j n) b 0
-clip_same j n a b h = grind arith
-
-clip_to : (j n a c : ℕ) → (j < n → c ≡ a) → (n ≤ j → c ≡ 0) → c ≡ cond (nat_lt j n) a 0
-clip_to j n a c h g = grind arith
-
-clip_in : (j n a : ℕ) → j < n → cond (nat_lt j n) a 0 ≡ a
-clip_in j n a h = grind arith
-
-clip_out : (j n a : ℕ) → n ≤ j → cond (nat_lt j n) a 0 ≡ 0
-clip_out j n a h = grind arith
 
 module _ (buckets : ℕ) (bucket : ℕ → ℕ) (small : (key : ℕ) → bucket key < buckets) (layout : Layout) (limits : IsWithinLimits layout) (s : Scene) (pairs : Pairs) (d : ℕ) (x : Section)
     (before : StandsFor (table buckets bucket) layout s pairs) (stamp : AtStamp (table buckets bucket) s d x) where

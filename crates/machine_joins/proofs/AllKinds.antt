@@ -29,7 +29,7 @@ use Rattle.machine_joins.specs.Slots.{lists_of}
 use Rattle.machine_joins.specs.Joined.{IsTied, IsJoined}
 use Rattle.machine_joins.specs.Chunks.{IsOutsideChunk, IsLineChunk, IsInsideChunk, IsChunk}
 use Rattle.machine_joins.specs.Supplied.{comes_by, IsSupplied}
-use Rattle.machine_joins.proofs.Joining.{but_load, descriptor_same, still_tied, GoesBy, StaysAt, next, as_published, stays_joined}
+use Rattle.machine_joins.proofs.Joining.{copied, but_load, descriptor_same, still_tied, GoesBy, StaysAt, next, as_published, stays_joined}
 use Rattle.machine_joins.proofs.EntryKinds as entry
 use Rattle.machine_joins.proofs.OutsideKinds as outside
 use Rattle.machine_joins.proofs.StoreKinds as stores
@@ -128,21 +128,6 @@ module _ (m : Meaning) (l : Layout) (rs : List Request) (w : EpochState) (s : Si
     outside_goes kinds.EpochForRetire j u e = sections.retire_descriptor m l w s old r none _ x e
     outside_goes _ j u e = some_none x e
 
--- what is tied to a part hangs on no record, and not on whether the worker was joined
-copied : (m : Meaning) (l : Layout) (w : EpochState) (g : Spot → ℕ) (i : ℕ) (q : PartState) (records : RecordsState) (gone : Bool) → IsTied m l w g i q → IsTied m l w g i (record q { records = records; gone = gone })
-copied m l w g i q records gone t = record {
-  run_held = t.run_held;
-  run_opened = t.run_opened;
-  run_begins = t.run_begins;
-  run_made = t.run_made;
-  retire = t.retire;
-  published = t.published;
-  named = t.named;
-  reached = t.reached;
-  stored_free = t.stored_free;
-  stored = t.stored;
-}
-
 -- a join changes the keeper's records, and the worker makes no further step
 module _ (m : Meaning) (l : Layout) (w : EpochState) (s : Sight) (old : IsJoined m l w s) (r worker : ℕ) (other : worker ≢ r) (records : RecordsState) where
   abbrev seat : Spot → ℕ
@@ -155,7 +140,7 @@ module _ (m : Meaning) (l : Layout) (w : EpochState) (s : Sight) (old : IsJoined
   kept = next m l w s old r seat keeper
 
   keeper_tied : IsTied m l w seat r keeper
-  keeper_tied = copied m l w seat r (s.part r) records (s.part r).gone (still_tied m l w w s.word seat r (s.part r) (record {
+  keeper_tied = copied m l w seat r (s.part r) (s.part r).nodes records (s.part r).gone (still_tied m l w w s.word seat r (s.part r) (record {
     holds = λ t h. h;
     words = λ d j h. refl;
     hand = λ t h. h;
@@ -172,7 +157,7 @@ module _ (m : Meaning) (l : Layout) (w : EpochState) (s : Sight) (old : IsJoined
   worker_is = upd_else s.part r keeper worker other
 
   worker_tied : IsTied m l w seat worker (leaves (s.part worker))
-  worker_tied = copied m l w seat worker (s.part worker) (s.part worker).records true (subst (IsTied m l w seat worker) worker_is (keeper_joined.tied worker))
+  worker_tied = copied m l w seat worker (s.part worker) (s.part worker).nodes (s.part worker).records true (subst (IsTied m l w seat worker) worker_is (keeper_joined.tied worker))
 
   join_goes : StaysAt m l w (record { word = seat; part = upd (upd s.part r keeper) worker (leaves (s.part worker)) })
   join_goes = (

@@ -8,7 +8,7 @@ use Rattle.table_words.specs.Seen.{upd, put}
 use Rattle.section_body.specs.declared.thunk.Thunk.{Thunk}
 use Rattle.structure_laws.specs.Meaning.{Meaning}
 use Rattle.runner_steps.specs.declared.entries.Published.{Published}
-use Rattle.runner_steps.specs.State.{PartState}
+use Rattle.runner_steps.specs.State.{PartState, NodesState, RecordsState}
 use Rattle.runner_steps.specs.Tests.{has}
 use Rattle.runner_steps.specs.Outside.{descriptor_spot}
 use Rattle.epoch_core.specs.declared.location.Location.TheVariants.{Live, Hand}
@@ -82,6 +82,22 @@ descriptor_same f g same d j = section_same f g (but_entries f g same) d j
 -- the thunk in a descriptor's words hangs on its thunk words alone
 pub thunk_same : (f g : Spot → ℕ) (d : ℕ) → ((j : ℕ) → f (ThunkWord d j) ≡ g (ThunkWord d j)) → thunk_in f d ≡ thunk_in g d
 thunk_same f g d same = rw (same 0, same 1, same 2, same 3, same 4, same 5, same 6, same 7, same 8, same 9, same 10, same 11) refl
+
+-- what is tied to a part hangs on no list of node slots and on no record, and not on whether the worker was joined
+pub copied : (m : Meaning) (l : Layout) (w : EpochState) (g : Spot → ℕ) (i : ℕ) (q : PartState) (nodes : NodesState) (records : RecordsState) (gone : Bool)
+    → IsTied m l w g i q → IsTied m l w g i (record q { nodes = nodes; records = records; gone = gone })
+copied m l w g i q nodes records gone t = record {
+  run_held = t.run_held;
+  run_opened = t.run_opened;
+  run_begins = t.run_begins;
+  run_made = t.run_made;
+  retire = t.retire;
+  published = t.published;
+  named = t.named;
+  reached = t.reached;
+  stored_free = t.stored_free;
+  stored = t.stored;
+}
 
 module _ (m : Meaning) (l : Layout) where
   abbrev pub c : Counts

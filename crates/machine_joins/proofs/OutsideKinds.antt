@@ -40,7 +40,7 @@ use Rattle.machine_joins.specs.Supplied.{reaches_node, names_slot, comes_outside
 use Rattle.machine_joins.proofs.OutsideAsked as asked
 use Rattle.machine_joins.proofs.RunPlaces.{begins_unretired}
 use Rattle.machine_joins.proofs.Places.{has_append, names_it, has_times, hand_node}
-use Rattle.machine_joins.proofs.Joining.{IsSameBut, but_load, descriptor_same, thunk_same, still_tied, Goes, GoesBy, StaysAt, next, as_published, once, stages_stay, stays, goes_with}
+use Rattle.machine_joins.proofs.Joining.{copied, IsSameBut, but_load, descriptor_same, thunk_same, still_tied, Goes, GoesBy, StaysAt, next, as_published, once, stages_stay, stays, goes_with}
 use Rattle.machine_joins.proofs.CommitKinds.{row_else, row_named}
 use Rattle.machine_joins.proofs.Reaching.{may_hold}
 use Rattle.machine_joins.proofs.SlotKinds.{kept_place, other_place, hand_hand, back_lists}
@@ -71,28 +71,15 @@ module _ (m : Meaning) (l : Layout) (w : EpochState) (s : Sight) (old : IsJoined
 
   -- what is tied to a part in which tests and records alone have changed
   same_tied : (f : Spot → ℕ) → IsSameBut f s.word → (tests : List Tested) (records : RecordsState) → IsTied m l w f r (record p { nodes = record (p.nodes) { tests = tests }; records = records })
-  same_tied f same tests records =
-      let t = still_tied m l w w s.word f r p (record {
-        holds = λ t h. h;
-        words = λ d j h. same.thunk d j;
-        hand = λ t h. h;
-        retire = refl;
-        live = λ x e h. h;
-        entered = λ h. h;
-        stored = λ d j h. descriptor_same f s.word same d j;
-      }) (old.tied r) in
-      record {
-        run_held = t.run_held;
-        run_opened = t.run_opened;
-        run_begins = t.run_begins;
-        run_made = t.run_made;
-        retire = t.retire;
-        published = t.published;
-        named = t.named;
-        reached = t.reached;
-        stored_free = t.stored_free;
-        stored = t.stored;
-      }
+  same_tied f same tests records = copied m l w f r p (record (p.nodes) { tests = tests }) records p.gone (still_tied m l w w s.word f r p (record {
+    holds = λ t h. h;
+    words = λ d j h. same.thunk d j;
+    hand = λ t h. h;
+    retire = refl;
+    live = λ x e h. h;
+    entered = λ h. h;
+    stored = λ d j h. descriptor_same f s.word same d j;
+  }) (old.tied r))
 
   -- a load after which tests and records alone have changed
   notes : (a : Spot) (tests : List Tested) (records : RecordsState) → StaysAt m l w (next m l w s old r (put s.word a (s.word a)) (record p { nodes = record (p.nodes) { tests = tests }; records = records }))

@@ -158,10 +158,10 @@ module _ (m : Meaning) (laws : Laws m) (l : Layout) (limits : IsWithinLimits l) 
         (passes_are is_unlocked (agreement.Pass r) refl go.passes) go.enabled go.joined
         (epochs.after c g.epochs (epochs.Exit r)) go.joined_slots
         (leave_onward m l g.epochs s.part r (after m l r kinds.Idle x.0 x.1 p (s.word x.0)))
-        (λ d. refl) quiet.published
+        (λ d. refl) quiet.stay.published
         (thunks_after m l s r kinds.Idle x (outside_leaves m l rs r p x kinds.Idle refl
         (outside_asked m l rs g s left_sight r kinds.Idle x none asked)))
-        (λ i. (s.part i).reads.walk) quiet.walk quiet.made two
+        (λ i. (s.part i).reads.walk) quiet.stay.walk quiet.made two
 
     pub idle_whole : (pieces : Pieces m l g s left_sight r kinds.Idle x) → KeepsWhole m l g s left_sight r kinds.Idle x pieces
     idle_whole pieces = keeps_by m l g s left_sight r kinds.Idle x pieces [] (epochs.Exit r ∷ [])

@@ -199,7 +199,7 @@ module _ (m : Meaning) (l : Layout) (g : Beside) (s s' : Sight) (old : AreTied m
     live = λ n is. place n ∙ ap (collected false r epoch) (old.live n (was_live n is));
     is_live = λ n is. ap (λ (f : ℕ → Bool). f n) live' ∙ old.is_live n (live_was r epoch (was n) (sym (place n) ∙ is));
     within = λ n is. old.within n (was_used n is);
-    publisher = λ n is. quiet.published (g.publications.runner n) n (old.publisher n (was_live n is));
+    publisher = λ n is. quiet.stay.published (g.publications.runner n) n (old.publisher n (was_live n is));
     thunk = λ n is. old.thunk n (was_used n is) ∙ sym (thunks n);
     mine = λ i n entered has_it. let h = on.entries i n entered has_it in old.mine i n h.0 h.1;
     mine_held = λ i n entered has_it. let h = on.entries i n entered has_it in on.holds i (slot_of c n) entered (old.mine_held i n h.0 h.1);
@@ -239,7 +239,7 @@ module _ (m : Meaning) (laws : Laws m) (l : Layout) (limits : IsWithinLimits l) 
       let a' = agreement_schedules.after_all (rules_of m l) g.agreement es in
       let e' = epochs.after (counts_of m l) g.epochs v in
       let on = alone_onward m l (v ∷ []) g.epochs (alone, tt) go.enabled_slots s.part s'.part
-      (λ i d has_it. ap (λ xs. has xs d) (sym (quiet.mine i)) ∙ has_it) in
+      (λ i d has_it. ap (λ xs. has xs d) (sym (quiet.stay.mine i)) ∙ has_it) in
       let one = agreement_stands m laws l limits es (states_of g s) (made_of s)
       (append_are is_calm (frees ds) passes (frees_are is_calm (λ d. refl) ds)
       (passes_are is_calm (agreement.Pass r) refl go.passes)) go.enabled
@@ -251,7 +251,7 @@ module _ (m : Meaning) (laws : Laws m) (l : Layout) (limits : IsWithinLimits l) 
       let unlocked = append_are is_unlocked (frees ds) passes (frees_are is_unlocked (λ d. refl) ds)
       (passes_are is_unlocked (agreement.Pass r) refl go.passes) in
       parts_whole m laws l limits (led m l g r (frees ds) go.passes (v ∷ []) g.publications) s s' go.joined go.joined_slots tied
-      (λ i. (s.part i).reads.walk) quiet.walk quiet.made two
+      (λ i. (s.part i).reads.walk) quiet.stay.walk quiet.made two
       (named_onward m l g.epochs e' s.part s'.part a' go.joined.sound on
       (named_all (rules_of m l) g.agreement whole.sections.sound (IsHeldFor m l g.epochs s.part) whole.named es go.enabled
       (all_unlocked es unlocked)))

@@ -83,11 +83,15 @@ all_stay c (v ∷ fs) w ok sound leaves d =
     all_stay c fs (epochs.after c w v) ok.1 (epoch_keeping.keeps c w v ok.0 sound) leaves.1 d ∙ descriptors_stay c w v ok.0 sound leaves.0 d
 
 module _ (m : Meaning) (l : Layout) where
-  -- the parts have read the same outside runs, have published the same, and their Makes fill the same slots
-  pub record IsQuiet (s s' : Sight) : Type 0 where
+  -- the parts have read the same outside runs, and have published the same
+  pub record StayRead (s s' : Sight) : Type 0 where
     pub walk : (i : ℕ) → (s'.part i).reads.walk ≡ (s.part i).reads.walk
     pub mine : (i : ℕ) → (s'.part i).reads.published ≡ (s.part i).reads.published
     pub published : (i d : ℕ) → HasPublished m l (s.part i) d → HasPublished m l (s'.part i) d
+
+  -- and their Makes fill the same slots
+  pub record IsQuiet (s s' : Sight) : Type 0 where
+    pub stay : StayRead s s'
     pub made : (i : ℕ) (q : RunState) → (s'.part i).run ≡ Some q → q.made ≡ made_of s i
 
   -- a runner that the component has in a run is in one
@@ -146,17 +150,17 @@ module _ (m : Meaning) (laws : Laws m) (l : Layout) (limits : IsWithinLimits l) 
       let e = epoch_schedules.after_all c g.epochs fs in
       let uses = all_still (rules_of m l) g.agreement es still in
       let on : IsOnward m l g.epochs e s.part s'.part = alone_onward m l fs g.epochs alone ok' s.part s'.part
-      (λ i d has_it. ap (λ xs. has xs d) (sym (quiet.mine i)) ∙ has_it) in
+      (λ i d has_it. ap (λ xs. has xs d) (sym (quiet.stay.mine i)) ∙ has_it) in
       let one = agreement_stands m laws l limits es (states_of g s) (made_of s) (all_calm es still) ok (hands_of g.epochs s whole.slots)
       (stands_now g s whole) in
       let two = epochs_stand m laws l limits fs (record (states_of g s) { agreement = w }) (made_of s) alone ok' one in
-      let new = with_walk (record (states_of g s) { agreement = w; epochs = e }) (made_of s) (λ i. (s'.part i).reads.walk) quiet.walk two in
+      let new = with_walk (record (states_of g s) { agreement = w; epochs = e }) (made_of s) (λ i. (s'.part i).reads.walk) quiet.stay.walk two in
       record {
         sections = joined;
         slots = joined';
         tied = tied_onward m l g.agreement w g.epochs e g.publications s s' whole.tied on
             (λ d. ap (λ (f : ℕ → Bool). f d) uses.used) (λ d. ap (λ (f : ℕ → Bool). f d) uses.live)
-            (all_stay c fs g.epochs ok' whole.slots.sound leaves) quiet.published thunks;
+            (all_stay c fs g.epochs ok' whole.slots.sound leaves) quiet.stay.published thunks;
         kept = new.kept;
         held = new.held;
         filled = filled_other m laws l limits (states_of (record { agreement = w; epochs = e; publications = g.publications }) s')

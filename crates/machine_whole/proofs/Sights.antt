@@ -1,5 +1,5 @@
 -- What a step leaves of the sight.
-use Rattle.std.specs.Prelude.{Bool, true, false}
+use Rattle.std.specs.Prelude.{true, false}
 use Rattle.std.proofs.Common.{◌≡◌, ℕ, refl, sym, ap, ◌∙◌, subst, Some, None}
 use Rattle.table_words.specs.declared.layout.Layout.{Layout}
 use Rattle.table_words.specs.declared.spot.Spot.{Spot}
@@ -18,7 +18,7 @@ use Rattle.machine_joins.specs.Slots.{thunk_in}
 use Rattle.machine_joins.proofs.Joining.{thunk_same}
 use Rattle.machine_whole.specs.Whole.{HasPublished, made_in, made_of}
 use Rattle.machine_whole.proofs.Parts.{IsSamePart, is_making, inside_same, inside_made, is_other, outside_same, outside_made, noted_same}
-use Rattle.machine_whole.proofs.Quiet.{IsQuiet}
+use Rattle.machine_whole.proofs.Quiet.{StayRead, IsQuiet}
 use Rattle.machine_whole.proofs.Thunks.{LeavesThunks}
 
 module _ (m : Meaning) (l : Layout) (s : Sight) (r : ℕ) where
@@ -34,14 +34,20 @@ module _ (m : Meaning) (l : Layout) (s : Sight) (r : ℕ) where
   after_is (kinds.Join worker) x e = absurd (cc)
   after_is _ x e = refl
 
-  -- a part that is as before for the whole invariant
-  one_quiet : (word' : Spot → ℕ) (p' : PartState) → IsSamePart m l p p' → ((q : RunState) → p'.run ≡ Some q → q.made ≡ made_in p.run)
-      → IsQuiet m l s (record { word = word'; part = upd s.part r p' })
-  one_quiet word' p' same made = record {
+  -- a part that has read and published what it had
+  pub one_stays : (word' : Spot → ℕ) (p' : PartState) → IsSamePart m l p p' → StayRead m l s (record { word = word'; part = upd s.part r p' })
+  one_stays word' p' same = record {
     walk = upd_split s.part r p' (λ i y. y.reads.walk ≡ (s.part i).reads.walk) same.walk (λ i ne. refl);
     mine = upd_split s.part r p' (λ i y. y.reads.published ≡ (s.part i).reads.published) same.mine (λ i ne. refl);
     published = upd_split s.part r p' (λ i y. (d : ℕ) → HasPublished m l (s.part i) d → HasPublished m l y d) same.published
         (λ i ne d h. h);
+  }
+
+  -- a part that is as before for the whole invariant
+  one_quiet : (word' : Spot → ℕ) (p' : PartState) → IsSamePart m l p p' → ((q : RunState) → p'.run ≡ Some q → q.made ≡ made_in p.run)
+      → IsQuiet m l s (record { word = word'; part = upd s.part r p' })
+  one_quiet word' p' same made = record {
+    stay = one_stays word' p' same;
     made = upd_split s.part r p' (λ i y. (q : RunState) → y.run ≡ Some q → q.made ≡ made_of s i) made (λ i ne q is. ap made_in (sym is));
   }
 
@@ -71,9 +77,11 @@ module _ (m : Meaning) (l : Layout) (s : Sight) (r : ℕ) where
   -- a join changes nothing of that in the keeper's part, nor in the worker's
   pub join_quiet : (worker : ℕ) (x : Spot × Access) → p.run ≡ None → IsQuiet m l s (sight_after m l s r (kinds.Join worker) x)
   join_quiet worker x none = record {
-    walk = λ i. all (λ i y. y.reads.walk ≡ (s.part i).reads.walk) same.walk refl (λ i. refl) i;
-    mine = λ i. all (λ i y. y.reads.published ≡ (s.part i).reads.published) same.mine refl (λ i. refl) i;
-    published = λ i. all (λ i y. (d : ℕ) → HasPublished m l (s.part i) d → HasPublished m l y d) same.published (λ d h. h) (λ i d h. h) i;
+    stay = record {
+      walk = λ i. all (λ i y. y.reads.walk ≡ (s.part i).reads.walk) same.walk refl (λ i. refl) i;
+      mine = λ i. all (λ i y. y.reads.published ≡ (s.part i).reads.published) same.mine refl (λ i. refl) i;
+      published = λ i. all (λ i y. (d : ℕ) → HasPublished m l (s.part i) d → HasPublished m l y d) same.published (λ d h. h) (λ i d h. h) i;
+    };
     made = λ i. all (λ i y. (q : RunState) → y.run ≡ Some q → q.made ≡ made_of s i)
         (λ q e. absurd (let h = sym (ap (λ o. (after_by m l (kinds.Join worker) p o (s.word x.0)).run) none ∙ none) ∙ e in cc))
         (λ q e. ap made_in (sym e)) (λ i q e. ap made_in (sym e)) i;

@@ -32,26 +32,20 @@ use Rattle.machine_scenes.specs.Shown.{States, rules_of}
 use Rattle.machine_sections.proofs.LineAsked as asked_line
 use Rattle.machine_hands.specs.Hands.{Made}
 use Rattle.machine_whole.specs.Named.{AreNamed}
-use Rattle.machine_whole.specs.Whole.{Beside, states_of, made_in, made_of, IsHeldFor, HasPublished, IsWhole}
+use Rattle.machine_whole.specs.Whole.{Beside, states_of, made_in, made_of, IsHeldFor, IsWhole}
 use Rattle.machine_whole.proofs.Named.{named_all}
 use Rattle.machine_whole.proofs.Parts.{IsSamePart, inside_same, noted_same}
 use Rattle.machine_whole.proofs.Runs.{AllAre, InHands, Stands, is_calm, agreement_stands, passes_are}
 use Rattle.machine_whole.proofs.Ties.{IsOnward, named_onward, tied_onward}
-use Rattle.machine_whole.proofs.Quiet.{is_still, KeepsUse, all_still, all_stay, with_walk}
-use Rattle.machine_whole.proofs.Sights.{after_is, thunks_after}
+use Rattle.machine_whole.proofs.Quiet.{is_still, StayRead, KeepsUse, all_still, all_stay, with_walk}
+use Rattle.machine_whole.proofs.Sights.{after_is, one_stays, thunks_after}
 use Rattle.machine_whole.proofs.Thunks.{inside_leaves}
 use Rattle.machine_whole.proofs.Chunked.{is_unlocked, all_unlocked}
 use Rattle.machine_whole.proofs.Pieces.{Leads, led}
 
 module _ (m : Meaning) (l : Layout) where
-  -- the parts have read the same outside runs, and have published the same
-  pub record StayRead (s s' : Sight) : Type 0 where
-    pub walk : (i : ℕ) → (s'.part i).reads.walk ≡ (s.part i).reads.walk
-    pub mine : (i : ℕ) → (s'.part i).reads.published ≡ (s.part i).reads.published
-    pub published : (i d : ℕ) → HasPublished m l (s.part i) d → HasPublished m l (s'.part i) d
-
   -- nobody enters or leaves, or comes to hold something
-  same_onward : (e e' : EpochState) (s s' : Sight) → e'.stage ≡ e.stage → e'.holds ≡ e.holds → StayRead s s'
+  same_onward : (e e' : EpochState) (s s' : Sight) → e'.stage ≡ e.stage → e'.holds ≡ e.holds → StayRead m l s s'
       → IsOnward m l e e' s.part s'.part
   same_onward e e' s s' stage holds stay = record {
     entries = λ i d entered has_it. (
@@ -98,12 +92,7 @@ module _ (m : Meaning) (l : Layout) (s : Sight) (r : ℕ) (kind : EventKind) (x 
 
   -- it changes nothing of what runners have read outside runs and published
   pub stays_read : StayRead m l s s'
-  stays_read = subst (StayRead m l s) (sym (after_is m l s r kind x j)) (record {
-    walk = upd_split s.part r p' (λ i (y : PartState). y.reads.walk ≡ (s.part i).reads.walk) same.walk (λ i ne. refl);
-    mine = upd_split s.part r p' (λ i (y : PartState). y.reads.published ≡ (s.part i).reads.published) same.mine (λ i ne. refl);
-    published = upd_split s.part r p' (λ i (y : PartState). (d : ℕ) → HasPublished m l (s.part i) d → HasPublished m l y d) same.published
-        (λ i ne d h. h);
-  })
+  stays_read = subst (StayRead m l s) (sym (after_is m l s r kind x j)) (one_stays m l s r _ p' same)
     where
       p' : PartState
       p' = after m l r kind x.0 x.1 p (s.word x.0)

@@ -50,8 +50,9 @@ impl Block {
     pub fn stored(&mut self, layout: Layout, number: u64)
         ensures { self.new ≡ block_stored layout self.old number }
     {
-        let spent = Word::from_bits(number).version() == layout.version_max;
-        self.place.worn = self.place.worn || spent;
+        if Word::from_bits(number).version() == layout.version_max {
+            self.place.worn = true;
+        }
     }
 
     /// The commit of a Make won or lost.
