@@ -30,7 +30,7 @@ fn add_old(list: &mut Vec<u32>, limbo: &[Retired], epoch: u64)
 }
 
 /// The slots that have waited long enough go from limbo into the list.
-pub fn wait_over(list: &mut Vec<u32>, limbo: &mut Vec<Retired>, epoch: u64)
+fn move_old(list: &mut Vec<u32>, limbo: &mut Vec<Retired>, epoch: u64)
     requires { vec_len list.old + vec_len limbo.old ≤ vec_capacity list.old }
     ensures list { list.new.items ≡ list.old.items ++ slots_of (filter (is_old epoch) limbo.old.items) }
     ensures limbo { limbo.new.items ≡ filter (λ x. not (is_old epoch x)) limbo.old.items }
@@ -40,6 +40,20 @@ pub fn wait_over(list: &mut Vec<u32>, limbo: &mut Vec<Retired>, epoch: u64)
 {
     add_old(list, limbo, epoch);
     limbo.retain(|x| !is_old(epoch, x));
+}
+
+/// The slots that have waited long enough go from limbo into the list. Mostly none is in limbo, and nothing is written.
+pub fn wait_over(list: &mut Vec<u32>, limbo: &mut Vec<Retired>, epoch: u64)
+    requires { vec_len list.old + vec_len limbo.old ≤ vec_capacity list.old }
+    ensures list { list.new.items ≡ list.old.items ++ slots_of (filter (is_old epoch) limbo.old.items) }
+    ensures limbo { limbo.new.items ≡ filter (λ x. not (is_old epoch x)) limbo.old.items }
+    ensures sum { vec_len list.new + vec_len limbo.new ≡ vec_len list.old + vec_len limbo.old }
+    ensures room { vec_capacity list.new ≡ vec_capacity list.old }
+    ensures limbo_room { vec_capacity limbo.new ≡ vec_capacity limbo.old }
+{
+    if !limbo.is_empty() {
+        move_old(list, limbo, epoch);
+    }
 }
 
 /// A list of this many numbers from this one on, in falling order, with room for `room` of them.

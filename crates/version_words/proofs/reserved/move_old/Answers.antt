@@ -5,7 +5,7 @@ use Rattle.std.proofs.lemmas.Fn.{filter_same}
 use Rattle.std.proofs.lemmas.List.Filters.{length-filter_both}
 use Rattle.runner_steps.specs.declared.entries.Retired.{Retired}
 use Rattle.runner_steps.specs.Lists.{is_old, slots_of}
-use Rattle.version_words.proofs.reserved.wait_over.Goals as goal
+use Rattle.version_words.proofs.reserved.move_old.Goals as goal
 
 young : goal.returns-clause-limbo
 young c = filter_same _ _ _ (λ x b f' h. search rules) _ _ c.retain.ensures.filtered
