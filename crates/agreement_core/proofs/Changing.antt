@@ -174,6 +174,7 @@ module _ (c : CellRules) (w : AgreementState) (old : IsSound c w) (r : ℕ) (run
           };
           named = λ d' p lock is. inl (upd_else x.cells place p stored (λ e. not_both _ lock (ap c.is_lock e ∙ unlocked)));
           reopens = λ e. e;
+          done_most = λ most. most;
           kept_log = λ ne. absurd (ne store_open);
           kept_edge = λ ne. absurd (ne store_open);
           come = λ un' p h. inl (come_goes c s own.published (λ p' n e. let a : 1 ≡ 4 = ap phase (sym e ∙ next) in omega arith) p h);
@@ -286,6 +287,7 @@ module _ (c : CellRules) (w : AgreementState) (old : IsSound c w) (r : ℕ) (run
           };
           named = λ d' p is v. ⊎_elim (λ e. inl e) (λ e. inr (e, hold_open)) (new_lock d' p v);
           reopens = λ e. e;
+          done_most = λ most. most;
           kept_log = λ ne. absurd (ne hold_open);
           kept_edge = λ ne. absurd (ne hold_open);
           come = λ un' p h. inl (come_goes c s own.published (λ p' n e. not_both _ (ap gives_number (sym next ∙ e)) refl) p h);

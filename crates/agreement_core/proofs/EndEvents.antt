@@ -1,5 +1,5 @@
 -- A run begins, passes a check, sets the done word, releases a lock: each keeps the invariant.
-use Rattle.std.proofs.Common.{◌≡◌, ◌≢◌, ℕ, Bool, true, false, refl, sym, ap, ◌∙◌, subst, inl, ⊎_elim, arith}
+use Rattle.std.proofs.Common.{◌≡◌, ◌≢◌, ℕ, ◌≤◌, Bool, true, false, refl, sym, ap, ◌∙◌, subst, inl, ⊎_elim, arith}
 use Rattle.std.proofs.lemmas.Bool.{cases_lt, cases_eq}
 use mathlib.Core.Path.{fun_ext}
 use Rattle.section_body.specs.Update.{upd}
@@ -33,6 +33,9 @@ stop_is c d log m stop no_end = (grind arith, grind arith)
 some_done : (n : ℕ) → written_once n 1 ≢ 0
 some_done n e = grind arith
 
+one_done : (n : ℕ) → n ≤ 1 → written_once n 1 ≤ 1
+one_done n most = grind arith
+
 pub pass : (c : CellRules) (w : AgreementState) → IsSound c w → (r : ℕ) → Enabled c w (Pass r) → IsSound c (after w (Pass r))
 pass c w old r ok = pass_sound c w old r ok.0 ok.1 ok.2
 
@@ -60,6 +63,7 @@ run_alone c w old r d q' used running is run' =
       others = λ d' ne u. record { loaded = λ un p h. refl; locks = record { held = λ un p lock v. refl; named = λ p lock v. refl } };
       named = λ d' p lock v. inl refl;
       reopens = λ e. e;
+      done_most = λ most. most;
       kept_log = λ ne k. refl;
       kept_edge = λ ne. refl;
       come = λ un p h. inl h;
@@ -178,6 +182,7 @@ module _ (c : CellRules) (w : AgreementState) (old : IsSound c w) (r : ℕ) (run
     others = λ d' ne u. record { loaded = λ un p h. refl; locks = record { held = λ un p lock v. refl; named = λ p lock v. refl } };
     named = λ d' p lock v. inl refl;
     reopens = λ e. absurd (some_done s.done e);
+    done_most = one_done s.done;
     kept_log = λ ne k. refl;
     kept_edge = λ ne. refl;
     come = λ un p h. inl h;

@@ -109,6 +109,7 @@ module _ (c : CellRules) (w : AgreementState) (old : IsSound c w) (r : ℕ) (ok 
       (λ u. record {
         published = own.published;
         section = own.section;
+        done_most = own.done_most;
         open_live = own.open_live;
         over_done = λ is. done;
         over_unnamed = λ is. unnamed;

@@ -1,5 +1,5 @@
 -- The whole state after a change of the shared words, and after a step of one run.
-use Rattle.std.proofs.Common.{◌≡◌, ◌≢◌, ℕ, suc, ◌<◌, Bool, true, refl, sym, ap, ◌∙◌, subst, ⊎_elim}
+use Rattle.std.proofs.Common.{◌≡◌, ◌≢◌, ℕ, suc, ◌<◌, ◌≤◌, Bool, true, refl, sym, ap, ◌∙◌, subst, ⊎_elim}
 use Rattle.std.proofs.lemmas.Bool.{cases_eq}
 use Rattle.std.specs.Prelude.{◌⊎◌}
 use Rattle.section_body.specs.Update.{upd}
@@ -29,6 +29,7 @@ pub used_frame : (c : CellRules) (x x' : Shared) (live over : Bool) (d : ℕ) (s
 used_frame c x x' live over d s rises words leaves old = record {
   published = old.published;
   section = section_frame c d s old.published x x' rises words leaves old.section;
+  done_most = old.done_most;
   open_live = old.open_live;
   over_done = old.over_done;
   over_unnamed = λ is p lock v. old.over_unnamed is p lock (ap value_of (sym (leaves.locks.named p lock v)) ∙ v);
@@ -90,6 +91,8 @@ pub record RunMoves (c : CellRules) (w : AgreementState) (r d : ℕ) (x' : Share
       → (x'.cells p ≡ w.shared.cells p) ⊎ ((d' ≡ d) × ((w.section d).done ≡ 0))
   -- what is done stays as it is
   pub reopens : done ≡ 0 → (w.section d).done ≡ 0
+  -- and its done word is at most 1
+  pub done_most : (w.section d).done ≤ 1 → done ≤ 1
   pub kept_log : (w.section d).done ≢ 0 → (k : ℕ) → log k ≡ (w.section d).log k
   pub kept_edge : (w.section d).done ≢ 0 → edge ≡ (w.section d).edge
   pub come : done ≡ 0 → (p : ℕ) → HasCome (changed (w.section d) log done edge) p → HasCome (w.section d) p ⊎ IsAlone w d p
@@ -109,6 +112,7 @@ module _ (c : CellRules) (w : AgreementState) (r d : ℕ) (x' : Shared) (log : �
   own_used = record {
     published = was.published;
     section = m.section;
+    done_most = m.done_most was.done_most;
     open_live = λ un. was.open_live (m.reopens un);
     over_done = λ is e. was.over_done is (m.reopens e);
     over_unnamed = λ is p lock v. ⊎_elim (λ e. was.over_unnamed is p lock (ap value_of (sym e) ∙ v))

@@ -68,6 +68,7 @@ retire_descriptor c w old d ok =
           (λ u. record {
             published = own.published;
             section = own.section;
+            done_most = own.done_most;
             open_live = λ un. absurd (own.over_done ok.1 un);
             over_done = own.over_done;
             over_unnamed = own.over_unnamed;
@@ -225,6 +226,7 @@ module _ (c : CellRules) (w : AgreementState) (old : IsSound c w) (d lock word r
       subst (λ s. UsedIsSound c w'.shared (w'.live d) (w'.over d) d s) (sym section_here) (record {
         published = published;
         section = new_section;
+        done_most = let z : (w.section d).done ≡ 0 = ok.3 in omega arith;
         open_live = λ un. upd_here w.live d true;
         over_done = λ is. absurd (not_both _ is over);
         over_unnamed = λ is. absurd (not_both _ is over);

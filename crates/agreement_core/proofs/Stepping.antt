@@ -84,6 +84,7 @@ module _ (c : CellRules) (w : AgreementState) (old : IsSound c w) (r : ℕ) (run
         others = λ d' ne u. record { loaded = λ un p h. refl; locks = record { held = λ un p lock v. refl; named = λ p lock v. refl } };
         named = λ d' p lock v. inl refl;
         reopens = λ e. e;
+        done_most = λ most. most;
         kept_log = kept_log;
         kept_edge = kept_edge;
         come = come;

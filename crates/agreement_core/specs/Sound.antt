@@ -50,6 +50,8 @@ pub record FinishedAreSound (w : AgreementState) : Type 0 where
 pub record UsedIsSound (c : CellRules) (x : Shared) (live over : Bool) (d : ℕ) (s : Section) : Type 0 where
   pub published : IsPublishable c d s.lock s.word s.code s.slot
   pub section : SectionIsSound c x d s
+  -- its done word is 0 or 1
+  pub done_most : s.done ≤ 1
   -- it is retired only once it is done
   pub open_live : s.done ≡ 0 → live ≡ true
   -- after the end of a run it is done, and no lock names it

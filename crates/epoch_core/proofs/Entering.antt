@@ -33,6 +33,7 @@ enter_load c w r ok old =
       retire_live = grind arith;
       retire_once = grind arith;
       retire_holders = grind arith;
+      logged = λ d1 k1 out. let before = old.logged d1 k1 in grind arith;
     }
 
 pub announce : (c : Counts) (w : EpochState) (r : ℕ) (e : ℕ) → Enabled c w (Announce r e) → IsSound c w → IsSound c (after c w (Announce r e))
@@ -64,6 +65,7 @@ announce c w r e ok old =
       retire_live = grind arith;
       retire_once = grind arith;
       retire_holders = grind arith;
+      logged = λ d1 k1 out. let before = old.logged d1 k1 in grind arith;
     }
 
 pub enter_again : (c : Counts) (w : EpochState) (r : ℕ) → Enabled c w (EnterAgain r) → IsSound c w → IsSound c (after c w (EnterAgain r))
@@ -95,6 +97,7 @@ enter_again c w r ok old =
       retire_live = grind arith;
       retire_once = grind arith;
       retire_holders = grind arith;
+      logged = λ d1 k1 out. let before = old.logged d1 k1 in grind arith;
     }
 
 pub exit : (c : Counts) (w : EpochState) (r : ℕ) → Enabled c w (Exit r) → IsSound c w → IsSound c (after c w (Exit r))
@@ -126,4 +129,5 @@ exit c w r ok old =
       retire_live = grind arith;
       retire_once = grind arith;
       retire_holders = grind arith;
+      logged = λ d1 k1 out. let before = old.logged d1 k1 in grind arith;
     }

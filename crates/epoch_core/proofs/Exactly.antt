@@ -1,5 +1,5 @@
 -- Each event keeps the history exact.
-use Rattle.std.proofs.Common.{◌≡◌, ℕ, suc, ◌+◌, ◌<◌, Bool, true, false, List, [], ◌∷◌, length, arith}
+use Rattle.std.proofs.Common.{◌≡◌, ℕ, suc, Bool, true, false, List, [], ◌∷◌, length, arith}
 use Rattle.epoch_core.specs.declared.location.Location.{Location}
 use Rattle.epoch_core.specs.State.{Counts, Role, EpochState}
 use Rattle.epoch_core.specs.Events.{Event, EnterLoad, Announce, EnterAgain, Exit, ScanEpoch, ScanOne, ScanLast, Advance, Test, TakeSlot, MakeCommit, RetireEpoch, RetireCommit, WordCommit, StoreLog, Reach, Publish, RetireDescriptor, Enabled, after, slot_of}
@@ -7,14 +7,11 @@ use Rattle.epoch_core.specs.Sound.{IsSound}
 use Rattle.epoch_core.specs.Schedules.{IsFirst, first_state, AllEnabled, after_all}
 use Rattle.epoch_core.specs.History.{History, no_history, noted, noted_all, IsExact, is_out}
 use Rattle.epoch_core.proofs.Keeping.{keeps}
+use Rattle.epoch_core.proofs.NodeSlots.{out_before}
 use Rattle.std.proofs.Common.{cond}
-use Rattle.epoch_core.specs.Update.{upd, upd2}
+use Rattle.epoch_core.specs.Update.{upd2}
 use Rattle.epoch_core.specs.Moves.{written_once}
 use Rattle.epoch_core.specs.History.{with_won, agreed_slot, agreed_count, is_makes, is_retires}
-
--- a change at a node slot leaves a descriptor where it is
-out_before : (location : ℕ → Location) (nodes s d : ℕ) (x : Location) → s < nodes → is_out (upd location s x (nodes + d)) ≡ true → is_out (location (nodes + d)) ≡ true
-out_before location nodes s d x lt out = grind arith
 
 -- a Make's commit is noted where it won, and then its slot is the agreed one
 more_made : (made : ℕ → ℕ → List ℕ) (section : ℕ → ℕ) (log : ℕ → ℕ → ℕ) (makes : Bool) (d k s d' k' : ℕ) → (section d' ≡ section d → d' ≡ d)

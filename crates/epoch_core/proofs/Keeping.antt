@@ -61,6 +61,7 @@ first c location start =
       retire_live = grind arith;
       retire_once = grind arith;
       retire_holders = grind arith;
+      logged = λ d1 k1 out. tt;
     }
 
 -- so does every state that enabled events lead to

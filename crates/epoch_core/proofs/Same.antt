@@ -34,6 +34,7 @@ same_sound c w w' same old =
       retire_live = grind arith;
       retire_once = grind arith;
       retire_holders = grind arith;
+      logged = λ d1 k1 out. let before = old.logged d1 k1 in grind arith;
     }
 
 pub same_exact : (c : Counts) (w w' : EpochState) (h : History) → IsSame w w' → IsExact c w h → IsExact c w' h

@@ -69,6 +69,7 @@ scan_epoch c w r ok old =
       retire_live = grind arith;
       retire_once = grind arith;
       retire_holders = grind arith;
+      logged = λ d1 k1 out. let before = old.logged d1 k1 in grind arith;
     }
 
 pub scan_one : (c : Counts) (w : EpochState) (r : ℕ) (x : ℕ) (n : ℕ) (b : Bool) → Enabled c w (ScanOne r x n b) → IsSound c w → IsSound c (after c w (ScanOne r x n b))
@@ -101,6 +102,7 @@ scan_one c w r x n b ok old =
       retire_live = grind arith;
       retire_once = grind arith;
       retire_holders = grind arith;
+      logged = λ d1 k1 out. let before = old.logged d1 k1 in grind arith;
     }
 
 pub scan_last : (c : Counts) (w : EpochState) (r : ℕ) (x : ℕ) (n : ℕ) (b : Bool) → Enabled c w (ScanLast r x n b) → IsSound c w → IsSound c (after c w (ScanLast r x n b))
@@ -132,6 +134,7 @@ scan_last c w r x n b ok old =
       retire_live = grind arith;
       retire_once = grind arith;
       retire_holders = grind arith;
+      logged = λ d1 k1 out. let before = old.logged d1 k1 in grind arith;
     }
 
 pub advance : (c : Counts) (w : EpochState) (r : ℕ) (x : ℕ) (n : ℕ) → Enabled c w (Advance r x n) → IsSound c w → IsSound c (after c w (Advance r x n))
@@ -163,4 +166,5 @@ advance c w r x n ok old =
       retire_live = grind arith;
       retire_once = grind arith;
       retire_holders = grind arith;
+      logged = λ d1 k1 out. let before = old.logged d1 k1 in grind arith;
     }

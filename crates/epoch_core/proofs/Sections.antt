@@ -33,6 +33,7 @@ word_commit c w r d k v ok old =
       retire_live = grind arith;
       retire_once = grind arith;
       retire_holders = grind arith;
+      logged = λ d1 k1 out. let before = old.logged d1 k1 in grind arith;
     }
 
 pub store_log : (c : Counts) (w : EpochState) (r : ℕ) (d : ℕ) (k : ℕ) (v : ℕ) → Enabled c w (StoreLog r d k v) → IsSound c w → IsSound c (after c w (StoreLog r d k v))
@@ -64,6 +65,7 @@ store_log c w r d k v ok old =
       retire_live = grind arith;
       retire_once = grind arith;
       retire_holders = grind arith;
+      logged = λ d1 k1 out. let before = old.logged d1 k1 in grind arith;
     }
 
 pub reach : (c : Counts) (w : EpochState) (r : ℕ) (s : ℕ → Bool) → Enabled c w (Reach r s) → IsSound c w → IsSound c (after c w (Reach r s))
@@ -95,6 +97,7 @@ reach c w r s ok old =
       retire_live = grind arith;
       retire_once = grind arith;
       retire_holders = grind arith;
+      logged = λ d1 k1 out. let before = old.logged d1 k1 in grind arith;
     }
 
 pub publish : (c : Counts) (w : EpochState) (r : ℕ) (d : ℕ) (roles : ℕ → Role) → Enabled c w (Publish r d roles) → IsSound c w → IsSound c (after c w (Publish r d roles))
@@ -126,6 +129,7 @@ publish c w r d roles ok old =
       retire_live = grind arith;
       retire_once = grind arith;
       retire_holders = grind arith;
+      logged = λ d1 k1 out. let before = old.logged d1 k1 in grind arith;
     }
 
 pub retire_descriptor : (c : Counts) (w : EpochState) (r : ℕ) (d : ℕ) → Enabled c w (RetireDescriptor r d) → IsSound c w → IsSound c (after c w (RetireDescriptor r d))
@@ -157,4 +161,5 @@ retire_descriptor c w r d ok old =
       retire_live = grind arith;
       retire_once = grind arith;
       retire_holders = grind arith;
+      logged = λ d1 k1 out. let before = old.logged d1 k1 in grind arith;
     }

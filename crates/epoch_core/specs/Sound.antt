@@ -1,10 +1,11 @@
 -- The invariant of epochs and slots.
-use Rattle.std.specs.Prelude.{ℕ, ◌+◌, ◌<◌, ◌≤◌, ◌≡◌, Bool, true, false}
+use Rattle.std.specs.Prelude.{ℕ, suc, ◌+◌, ◌<◌, ◌≤◌, ◌≡◌, ◌⊎◌, Bool, true, false}
 use Rattle.epoch_core.specs.declared.stage.Stage.TheVariants.{Loaded, Scanning}
 use Rattle.epoch_core.specs.declared.location.Location.{Location}
 use Rattle.epoch_core.specs.declared.location.Location.TheVariants.{Fixed, Live, Hand, Free, Worn, Limbo}
-use Rattle.epoch_core.specs.State.{Counts, Retires, EpochState, last_epoch, is_entered, entry_of, is_announcing, IsPending, IsKept}
+use Rattle.epoch_core.specs.State.{Counts, Role, Agrees, Makes, Retires, EpochState, last_epoch, is_entered, entry_of, is_announcing, IsPending, IsKept}
 use Rattle.epoch_core.specs.Events.{slot_of}
+use Rattle.epoch_core.specs.History.{is_out}
 
 -- places for node slots alone
 abbrev pub is_for_nodes : Location → Bool
@@ -14,6 +15,13 @@ is_for_nodes (Worn r) = true
 is_for_nodes Live = false
 is_for_nodes (Free r) = false
 is_for_nodes (Limbo r y) = false
+
+-- what a log word may be where the section commits so: a Make's is 0 or the number plus one of a node slot, a Retire's is 0 or that of its
+-- slot, and any other word may stand where a loaded word is agreed
+abbrev pub IsLogged : Counts → Role → ℕ → Type 0
+IsLogged c Agrees word = Unit {0}
+IsLogged c Makes word = word ≤ c.nodes
+IsLogged c (Retires slot) word = (word ≡ 0) ⊎ (word ≡ suc slot)
 
 module _ (c : Counts) where
   -- what holds after every list of enabled events
@@ -57,3 +65,5 @@ module _ (c : Counts) where
     pub retire_once : (r r' : ℕ) → IsPending w r → IsPending w r' → (w.retire r).slot ≡ (w.retire r').slot
         → ((w.retire r).descriptor ≡ (w.retire r').descriptor) × ((w.retire r).index ≡ (w.retire r').index)
     pub retire_holders : (r r' : ℕ) → IsPending w r → w.holds r' ((w.retire r).slot) ≡ true → entry_of (w.stage r') ≤ (w.retire r).epoch
+    -- the log words of a section whose descriptor isn't free again are what their places allow
+    pub logged : (d k : ℕ) → is_out (w.location (slot_of c d)) ≡ true → IsLogged c (w.role d k) (w.log d k)

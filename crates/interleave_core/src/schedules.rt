@@ -6,6 +6,7 @@ ghost use Rattle.machine_states.specs.Schedules.{IsAfter};
 ghost use Rattle.machine_joins.specs.Descriptors.{DescriptorsSoundAfter};
 ghost use Rattle.machine_joins.specs.Epochs.{SoundAfter};
 ghost use Rattle.machine_whole.specs.After.{WholeAfter};
+ghost use Rattle.machine_whole.specs.LogWords.{LogWordsSayAfter};
 ghost use Rattle.machine_whole.specs.Rising.{RisesAfter};
 ghost use Rattle.interleave_core.specs.Enabled.{StopsNaming};
 
@@ -26,8 +27,9 @@ pub enum ScheduleError {
 }
 
 /// The machine after these events, from its first state on. Over every structure, whatever the events: its epochs, slots, descriptors and
-/// sections are sound, each event was exactly the events of its kind in agreement and in epochs and slots, and the next one leaves
-/// each cell as it is or raises its version by one. `NotEnabled` comes exactly where an event isn't enabled, and names the first.
+/// sections are sound, each event was exactly the events of its kind in agreement and in epochs and slots, log words and done words of runs
+/// are what they may be, and the next event leaves each cell as it is or raises its version by one. `NotEnabled` comes exactly where an event
+/// isn't enabled, and names the first.
 pub fn all_schedules<S: Structure>(
     alloc: Global,
     structure: S,
@@ -41,6 +43,7 @@ pub fn all_schedules<S: Structure>(
     ensures epochs { IfOk result (λ x. SoundAfter (S.meaning structure) layout requests.now events.now x.world) }
     ensures descriptors { IfOk result (λ x. DescriptorsSoundAfter (S.meaning structure) layout requests.now events.now x.world) }
     ensures whole { IfOk result (λ x. WholeAfter (S.meaning structure) layout requests.now events.now x.world) }
+    ensures logs { IfOk result (λ x. LogWordsSayAfter (S.meaning structure) layout requests.now events.now x.world) }
     ensures rises { IfOk result (λ x. RisesAfter (S.meaning structure) layout requests.now events.now x.world) }
     ensures structure { IfOk result (λ x. x.structure ≡ structure) }
     ensures layout { IfOk result (λ x. x.layout ≡ layout) }

@@ -7,6 +7,7 @@ mod Trails
 mod Lines
 mod Sections
 pub mod Lengths
+pub mod LogWords
 mod States
 mod Along
 mod Named

@@ -41,7 +41,7 @@ module _ (m : Meaning) (l : Layout) (a : AgreementState) (s : Sight) (joined : I
   run_is : (r : ℕ) (q : RunState) → (s.part r).run ≡ Some q → IsRunOf (a.run r) q
   run_is r q is = subst (ShowsRun (a.run r)) is (joined.tied r).run
 
-  run_used : (r : ℕ) (q : RunState) → (s.part r).run ≡ Some q → a.used q.descriptor ≡ true
+  pub run_used : (r : ℕ) (q : RunState) → (s.part r).run ≡ Some q → a.used q.descriptor ≡ true
   run_used r q is = let run = run_is r q is in ap a.used (sym run.descriptor) ∙ joined.sound.running_used r run.running
 
   run_log : (r k : ℕ) (q : RunState) → (s.part r).run ≡ Some q → k < length q.trail → slice_index q.trail k ≡ log_of m a s q.descriptor k

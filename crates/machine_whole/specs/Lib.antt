@@ -7,4 +7,5 @@ pub mod Along
 pub mod States
 pub mod After
 pub mod Lengths
+pub mod LogWords
 pub mod Rising

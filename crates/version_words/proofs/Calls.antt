@@ -21,7 +21,8 @@ use Rattle.machine_states.proofs.Steps.{asked_fits}
 use Rattle.version_words.specs.declared.view.View.{View}
 use Rattle.version_words.specs.declared.rule.Setup.{Setup}
 use Rattle.version_words.specs.Naming.{Naming, is_seat}
-use Rattle.version_words.specs.Rule.{Holds, stepped, Tells}
+use Rattle.version_words.specs.ReachedWith.{ReachedWith}
+use Rattle.version_words.specs.Rule.{Holds, IsTold, Tells}
 use Rattle.version_words.specs.RunnerState.{RunnerState}
 use Rattle.version_words.specs.TableState.{TableState, IsOf, IsBuilt}
 use Rattle.version_words.specs.Events.{IsNamed, IsBlind, Makes, Tries, Commits, wins, Announced, step_at, seen_seat}
@@ -84,30 +85,35 @@ module _ {T : Type 0} (mean : T → Meaning) (table : TableId) (key built : Setu
   )
 
   module _ (found : ℕ) (own_table' : TableId) (me' : Me Thunk (View T)) (same : own_table' ≡ own_table) (told : Tells mean naming made me found me') where
-    me_is : me' ≡ (stepped (mean built.structure) kind x.0 x.1 me.0 found, me.1)
-    me_is = told built.structure x own.structure named.asked
+    told_here : IsTold (mean built.structure) kind x me found me'
+    told_here = told built.structure x own.structure named.asked
 
     seen_is : seen_seat own_table' me' ≡ record (seen_seat own_table me) { part = after (mean built.structure) me.0.layout me.0.number kind x.0 x.1 me.0.part found }
-    seen_is = λ i. seen_seat (same i) (me_is i)
+    seen_is = λ i. seen_seat (same i) (told_here.view i)
 
     pub own_after : IsOf (seen_table table built) (seen_seat own_table' me')
     own_after = subst (λ (r : RunnerState T). IsOf (seen_table table built) r) (sym seen_is) (record { table = own.table; structure = own.structure; layout = own.layout; requests = own.requests })
 
     pub makes : Makes (mean built.structure) kind found (seen_seat own_table me) (seen_seat own_table' me')
-    makes = record { met = x; asked = named.asked; made = seen_is }
+    makes = record { met = x; asked = named.asked; made = seen_is; shown = told_here.shown }
 
     pub tries : (won : Bool) → won ≡ wins x.1 found → Tries (mean built.structure) kind won (seen_seat own_table me) (seen_seat own_table' me')
-    tries won is = record { found = found; event = record { met = x; asked = named.asked; made = seen_is }; told = is }
+    tries won is = record { found = found; event = record { met = x; asked = named.asked; made = seen_is; shown = told_here.shown }; told = is }
 
     pub commits : (agreed : ℕ) (won : Bool) → agreed ≡ written x.1 found → won ≡ wins x.1 found → Commits (mean built.structure) kind agreed won (seen_seat own_table me) (seen_seat own_table' me')
-    commits agreed won is first = record { found = found; event = record { met = x; asked = named.asked; made = seen_is }; told = is; first = first }
+    commits agreed won is first = record { found = found; event = record { met = x; asked = named.asked; made = seen_is; shown = told_here.shown }; told = is; first = first }
 
     -- whatever a plain store found
-    pub makes_any : IsBlind (mean built.structure) kind x (seen_seat own_table me) → (z : ℕ) → Makes (mean built.structure) kind z (seen_seat own_table me) (seen_seat own_table' me')
-    makes_any blind z = record { met = x; asked = named.asked; made = seen_is ∙ ap (λ (p : PartState). record (seen_seat own_table me) { part = p }) (blind.same found z) }
+    pub makes_any : (n : ℕ) → x.1 ≡ Stores n → IsBlind (mean built.structure) kind x (seen_seat own_table me) → (z : ℕ) → Makes (mean built.structure) kind z (seen_seat own_table me) (seen_seat own_table' me')
+    makes_any n is blind z = record {
+      met = x;
+      asked = named.asked;
+      made = seen_is ∙ ap (λ (p : PartState). record (seen_seat own_table me) { part = p }) (blind.same found z);
+      shown = subst (ReachedWith (mean built.structure) me'.0.layout me'.0.requests me'.0.number me'.0.part x.0) (ap (λ a. written a found) is ∙ sym (ap (λ a. written a z) is)) told_here.shown;
+    }
 
     pub same_slots : me'.1 ≡ me.1
-    same_slots = ap (λ (z : Me Thunk (View T)). z.1) me_is
+    same_slots = ap (λ (z : Me Thunk (View T)). z.1) told_here.view
 
 -- the same in terms of what contracts see of the table
 module _ {T : Type 0} (mean : T → Meaning) (table : TableId) (key built : Setup T) (ok : IsBuilt (mean built.structure) table key built) (own_table : TableId) (me : Me Thunk (View T)) (naming : Naming)
@@ -163,13 +169,13 @@ module _ {T : Type 0} (mean : T → Meaning) (table : TableId) (key built : Setu
         (subst (λ (a : ℕ). Commits (mean built.structure) (naming (mean built.structure) me.0.layout me.0.requests me.0.part (step table.slots a first second said)) agreed won r (seen_seat own_table' me')) (at_is ∙ ap (λ (z : Sizes). address z spot) ok.as_sized)
         (commits mean table key built ok own_table me own_here naming (step table.slots at first second said) (spot, access) (named_here at at_is) found own_table' me' same told agreed won is did))
 
-    pub event_stored : IsBlind (mean t.structure) (naming (mean t.structure) me.0.layout me.0.requests me.0.part (step_at (mean t.structure) t spot first second said)) (spot, access) r
+    pub event_stored : (n : ℕ) → access ≡ Stores n → IsBlind (mean t.structure) (naming (mean t.structure) me.0.layout me.0.requests me.0.part (step_at (mean t.structure) t spot first second said)) (spot, access) r
         → (z : ℕ) → Makes (mean t.structure) (naming (mean t.structure) me.0.layout me.0.requests me.0.part (step_at (mean t.structure) t spot first second said)) z r (seen_seat own_table' me')
-    event_stored = subst (λ (u : TableState T). IsBlind (mean u.structure) (naming (mean u.structure) me.0.layout me.0.requests me.0.part (step_at (mean u.structure) u spot first second said)) (spot, access) r
+    event_stored n is = subst (λ (u : TableState T). IsBlind (mean u.structure) (naming (mean u.structure) me.0.layout me.0.requests me.0.part (step_at (mean u.structure) u spot first second said)) (spot, access) r
         → (z : ℕ) → Makes (mean u.structure) (naming (mean u.structure) me.0.layout me.0.requests me.0.part (step_at (mean u.structure) u spot first second said)) z r (seen_seat own_table' me')) t_is
         (subst (λ (a : ℕ). IsBlind (mean built.structure) (naming (mean built.structure) me.0.layout me.0.requests me.0.part (step table.slots a first second said)) (spot, access) r
         → (z : ℕ) → Makes (mean built.structure) (naming (mean built.structure) me.0.layout me.0.requests me.0.part (step table.slots a first second said)) z r (seen_seat own_table' me')) (at_is ∙ ap (λ (z : Sizes). address z spot) ok.as_sized)
-        (makes_any mean table key built ok own_table me own_here naming (step table.slots at first second said) (spot, access) (named_here at at_is) found own_table' me' same told))
+        (makes_any mean table key built ok own_table me own_here naming (step table.slots at first second said) (spot, access) (named_here at at_is) found own_table' me' same told n is))
 
     pub slots_still : me'.1 ≡ me.1
     slots_still = same_slots mean table key built ok own_table me own_here naming _ (spot, access) (named_here at at_is) found own_table' me' same told

@@ -18,7 +18,7 @@ use Rattle.table_words.specs.declared.spot.Spot.{Spot}
 use Rattle.table_words.specs.declared.spot.Spot.TheVariants as spots
 use Rattle.table_words.specs.declared.access.Access.{Access}
 use Rattle.table_words.specs.declared.access.Access.TheVariants.{Exchanges}
-use Rattle.table_words.specs.Places.{address, descriptor_count}
+use Rattle.table_words.specs.Places.{address, descriptor_count, Fits}
 use Rattle.table_words.specs.Limits.{IsWithinLimits}
 use Rattle.std.proofs.Math.Nat.{mul-le-mul_left}
 use Rattle.std.proofs.lemmas.Bool.Decides.{nat_tests}
@@ -40,14 +40,14 @@ use Rattle.version_words.specs.declared.block.Block.{Block}
 use Rattle.version_words.specs.Naming.{load_of}
 use Rattle.version_words.specs.RunnerState.{RunnerState, told_part, told_published}
 use Rattle.version_words.specs.TableState.{TableState, IsOf}
-use Rattle.version_words.specs.Place.{IsPlaced, HasEpoch, is_ending}
+use Rattle.version_words.specs.Place.{IsPlaced, HasEpoch, is_ending, next_log}
 use Rattle.version_words.specs.Kept.{IsKept}
 use Rattle.version_words.specs.Events.{met_by, Makes, seen_seat}
 use Rattle.version_words.proofs.Splits.{learns}
 use Rattle.version_words.proofs.Asked.{unless_gone, tested}
 use Rattle.version_words.proofs.Keeps.{KeepsPart, no_epoch, was_part, then_kept}
 use Rattle.version_words.proofs.Epochs.{is_epoch, goes_epoch, ended_epoch, epoch_if}
-use Rattle.machine_states.proofs.Steps.{some_same}
+use Rattle.machine_states.proofs.Steps.{some_same, asked_fits}
 
 some_none : {A : Type 0} → (a : A) → None ≡ Some a → ⊥
 some_none a e = cc
@@ -587,6 +587,12 @@ may_release m r q place word new limits there h =
 -- a run is in progress where one of its steps is enabled
 pub has_run : {T : Type 0} (m : Meaning) (r : RunnerState T) (k : EventKind) (x : Spot × Access) → is_inner k ≡ true → met_by m r k ≡ Some x → (q : RunState) × (r.part.run ≡ Some q)
 has_run m r k x e h = let o = opened_run m r.layout r.requests r.number k r.part x e h in (o.run, o.there)
+
+-- a commit goes to a word of the log, which has 64
+pub log_low : {T : Type 0} (m : Meaning) (r : RunnerState T) (k : EventKind) (access : Access) (kept : RunPlace) (q : RunState) → r.part.run ≡ Some q → IsPlaced kept q → met_by m r k ≡ Some (next_log r.part.run, access) → kept.agreed < 64
+log_low m r k access kept q run placed h =
+    let fits = asked_fits m r.layout r.requests [] [] (record { runner = r.number; kind = k }) r.part (next_log r.part.run, access) h in
+    let low = (subst (λ (o : Option RunState). Fits (sizes_for m r.layout r.requests) (next_log o)) run fits).1 in let same = placed.agreed in omega (arith, low, same)
 
 -- what the code keeps after a load of a cell, in a run or outside
 module _ {T : Type 0} (mean : T → Meaning) (s : T) (place found number : ℕ) (kept : Block) (old_table new_table : TableId) (me me' : Me Thunk (View T)) (live : me.0.structure ≡ Some s)

@@ -8,7 +8,7 @@ use Rattle.structure_laws.specs.Meaning.{Meaning}
 use Rattle.runner_steps.specs.declared.event.EventKind.{EventKind}
 use Rattle.runner_steps.specs.State.{RunState, PartState}
 use Rattle.runner_steps.specs.declared.event.EventKind.TheVariants as kinds
-use Rattle.runner_steps.specs.After.{outside_after, after_by, stepped, after, knows_also}
+use Rattle.runner_steps.specs.After.{outside_after, stepped, after, knows_also}
 use Rattle.table_words.specs.declared.spot.Spot.TheVariants as spots
 use Rattle.table_words.specs.declared.access.Access.TheVariants.{Loads}
 use Rattle.machine_states.proofs.Steps.{some_same}
@@ -19,12 +19,11 @@ use Rattle.version_words.specs.Place.{HasPlace, HasEpoch, EndsSo}
 use Rattle.version_words.specs.Kept.{IsKept, IsOfTable}
 use Rattle.version_words.specs.Events.{IsEnabled, Makes, seen_seat}
 use Rattle.version_words.specs.Rule.{joining, splitting}
-use Rattle.version_words.proofs.SeatMoves.{split_asked}
 use Rattle.table_words.specs.declared.layout.Layout.{Layout}
 use Rattle.runner_steps.specs.AfterOutside.{split_after}
 use Rattle.std.specs.Prelude.{nat_lt, ◌+◌, if◌then◌else◌}
 use Rattle.version_words.proofs.Asked.{is_outer, in_no_run}
-use Rattle.version_words.proofs.Told.{told, told_outside, outer_runs, still_outside}
+use Rattle.version_words.proofs.Told.{told, told_outside, still_outside}
 
 some_none : {A : Type 0} → (a : A) → None ≡ Some a → ⊥
 some_none a e = cc
@@ -39,6 +38,30 @@ pub record KeepsPart (m : Meaning) (kept : Block) (p : PartState) : Type 0 where
 -- a runner in no run
 pub no_epoch : (m : Meaning) (epoch : ℕ) (o : Option RunState) → ((q : RunState) → o ≡ Some q → ⊥) → HasEpoch m epoch o
 no_epoch m epoch o none = record { opening = λ q e few. absurd (none q e); retiring = λ q slot log e at. absurd (none q e) }
+
+-- a runner in no run, before and after, whose view keeps all but what it knows
+module _ {T : Type 0} (mean : T → Meaning) (number : ℕ) (kept : Block) (me me' : Me Thunk (View T)) (view' : View T) (is : view' ≡ me'.0) (same_number : me.0.number ≡ view'.number) (same_layout : me.0.layout ≡ view'.layout)
+    (same_structure : me.0.structure ≡ view'.structure) (slots : me'.1 ≡ me.1) (was : IsKept mean number kept me) (rested : me.0.part.run ≡ None) (rests : view'.part.run ≡ None) where
+  none_runs : (q : RunState) → view'.part.run ≡ Some q → ⊥
+  none_runs q e = some_none q (sym rests ∙ e)
+
+  pub resting_kept : (lists : KeptState) → lists.room ≡ kept.lists.room → lists.part ≡ told_part view'.part → IsKept mean number (record kept { lists = lists }) me'
+  resting_kept lists room told_so = record {
+    same_number = was.same_number ∙ (same_number ∙ ap (λ (v : View T). v.number) is);
+    lists = told_so ∙ ap (λ (v : View T). told_part v.part) is;
+    place = subst (λ (v : View T). HasPlace kept.place v.part) is (record {
+      run = λ q e. absurd (none_runs q e);
+      rest = λ e. was.place.rest rested;
+      outside = λ e. was.place.outside rested;
+      in_hand = λ q slot e f. absurd (none_runs q e);
+    });
+    slots = slots ∙ was.slots;
+    of_table = λ t there. subst (λ (v : View T). IsOfTable (mean t) (record kept { lists = lists }) v) is (record {
+      room = room ∙ ((was.of_table t (same_structure ∙ (ap (λ (v : View T). v.structure) is ∙ there))).room ∙ ap (λ (l : Layout). slot_count l (mean t).fixed_slots) same_layout);
+      run = record { ending = λ q e. absurd (none_runs q e) };
+      epoch = no_epoch (mean t) kept.place.epoch view'.part.run none_runs;
+    });
+  }
 
 module _ {T : Type 0} (mean : T → Meaning) (s : T) (k : EventKind) (found number : ℕ) (kept : Block) (old_table new_table : TableId) (me me' : Me Thunk (View T)) (live : me.0.structure ≡ Some s)
     (made : Makes (mean s) k found (seen_seat old_table me) (seen_seat new_table me')) (slots : me'.1 ≡ me.1) (was : IsKept mean number kept me) where
@@ -78,28 +101,11 @@ module _ {T : Type 0} (mean : T → Meaning) (s : T) (k : EventKind) (found numb
     resting : me.0.part.run ≡ None
     resting = in_no_run (mean s) (seen_seat old_table me) k outer (record { met = made.met; asked = made.asked })
 
-    step_is : stepped (mean s) me.0.layout k me.0.part found ≡ outside_after (mean s) me.0.layout k me.0.part found
-    step_is = ap (λ (o : Option RunState). after_by (mean s) me.0.layout k me.0.part o found) resting
-
-    still : (stepped (mean s) me.0.layout k me.0.part found).run ≡ None
-    still = ap (λ (p : PartState). p.run) step_is ∙ (outer_runs (mean s) me.0.layout me.0.part found k outer ∙ resting)
-
-    no_run : (q : RunState) → (stepped (mean s) me.0.layout k me.0.part found).run ≡ Some q → ⊥
-    no_run q e = some_none q (sym still ∙ e)
-
     -- a step in no run
     pub outer_kept : (lists : KeptState) → lists.room ≡ kept.lists.room → lists.part ≡ told_part (outside_after (mean s) me.0.layout k me.0.part found) → IsKept mean number (record kept { lists = lists }) me'
-    outer_kept lists room is = then_kept (record kept { lists = lists }) room (record {
-      lists = is ∙ sym (ap told_part step_is);
-      place = record {
-        run = λ q e. absurd (no_run q e);
-        rest = λ none. was.place.rest resting;
-        outside = λ none. was.place.outside resting;
-        in_hand = λ q slot e f. absurd (no_run q e);
-      };
-      run = record { ending = λ q e. absurd (no_run q e) };
-      epoch = no_epoch (mean s) kept.place.epoch (stepped (mean s) me.0.layout k me.0.part found).run no_run;
-    })
+    outer_kept lists room is = resting_kept mean number kept me me' me'.0 refl (sym (ap (λ (r : RunnerState T). r.number) made.made)) (sym (ap (λ (r : RunnerState T). r.layout) made.made)) (sym (ap (λ (r : RunnerState T). r.structure) made.made))
+        slots was resting (ap (λ (p : PartState). p.run) part_is ∙ still_outside (mean s) me.0.layout me.0.part found me.0.number k made.met.0 made.met.1 outer resting) lists room
+        (is ∙ sym (ap told_part part_is ∙ told_outside (mean s) me.0.layout me.0.number k made.met.0 made.met.1 me.0.part found resting))
 
     -- a step in no run that leaves the lists
     pub idle_kept : told_part (outside_after (mean s) me.0.layout k me.0.part found) ≡ told_part me.0.part → IsKept mean number kept me'
@@ -113,51 +119,22 @@ module _ {T : Type 0} (mean : T → Meaning) (s : T) (k : EventKind) (found numb
 -- a keeper that joins a worker keeps what it has
 module _ {T : Type 0} (mean : T → Meaning) (s : T) (number : ℕ) (kept : Block) (own_table : TableId) (me me' : Me Thunk (View T)) (w : View T) (live : me.0.structure ≡ Some s)
     (enabled : IsEnabled (mean s) (kinds.Join w.number) (seen_seat own_table me)) (joins : me'.0 ≡ joining mean me.0 w me.0.structure) (slots : me'.1 ≡ me.1) (was : IsKept mean number kept me) where
-  abbrev p : PartState
-  p = me.0.part
-
   abbrev met : PartState
-  met = after (mean s) me.0.layout me.0.number (kinds.Join w.number) spots.Seat Loads p 0
+  met = after (mean s) me.0.layout me.0.number (kinds.Join w.number) spots.Seat Loads me.0.part 0
 
-  abbrev view' : View T
-  view' = record (me.0) { part = knows_also met w.part; joined = (w.number, w.part) ∷ me.0.joined }
-
-  view_is : view' ≡ me'.0
-  view_is = sym (joins ∙ ap (joining mean me.0 w) live)
-
-  rested : p.run ≡ None
-  rested = in_no_run (mean s) (seen_seat own_table me) (kinds.Join w.number) refl enabled
-
-  rests : met.run ≡ None
-  rests = still_outside (mean s) me.0.layout p 0 me.0.number (kinds.Join w.number) spots.Seat Loads refl rested
-
-  none_runs : (q : RunState) → met.run ≡ Some q → ⊥
-  none_runs q e = some_none q (sym rests ∙ e)
+  joined_rested : me.0.part.run ≡ None
+  joined_rested = in_no_run (mean s) (seen_seat own_table me) (kinds.Join w.number) refl enabled
 
   pub join_kept : IsKept mean number kept me'
-  join_kept = record {
-    same_number = was.same_number ∙ ap (λ (v : View T). v.number) view_is;
-    lists = was.lists ∙ (sym (told_outside (mean s) me.0.layout me.0.number (kinds.Join w.number) spots.Seat Loads p 0 rested) ∙ ap (λ (v : View T). told_part v.part) view_is);
-    place = subst (λ (v : View T). HasPlace kept.place v.part) view_is (record {
-      run = λ q e. absurd (none_runs q e);
-      rest = λ e. was.place.rest rested;
-      outside = λ e. was.place.outside rested;
-      in_hand = λ q slot e f. absurd (none_runs q e);
-    });
-    slots = slots ∙ was.slots;
-    of_table = λ t there. let same : me.0.structure ≡ Some t = ap (λ (v : View T). v.structure) view_is ∙ there in
-        subst (λ (v : View T). IsOfTable (mean t) kept v) view_is (record { room = (was.of_table t same).room; run = record { ending = λ q e. absurd (none_runs q e) }; epoch = no_epoch (mean t) kept.place.epoch met.run none_runs });
-  }
+  join_kept = resting_kept mean number kept me me' (record (me.0) { part = knows_also met w.part; joined = (w.number, w.part) ∷ me.0.joined }) (sym (joins ∙ ap (joining mean me.0 w) live)) refl refl refl slots was joined_rested
+      (still_outside (mean s) me.0.layout me.0.part 0 me.0.number (kinds.Join w.number) spots.Seat Loads refl joined_rested) kept.lists refl
+      (was.lists ∙ sym (told_outside (mean s) me.0.layout me.0.number (kinds.Join w.number) spots.Seat Loads me.0.part 0 joined_rested))
 
 -- a keeper that splits off a worker counts it
 module _ {T : Type 0} (mean : T → Meaning) (s : T) (number : ℕ) (kept : Block) (own_table : TableId) (me me' : Me Thunk (View T)) (live : me.0.structure ≡ Some s)
     (enabled : IsEnabled (mean s) kinds.Split (seen_seat own_table me)) (splits : me'.0 ≡ splitting mean me.0 me.0.structure) (slots : me'.1 ≡ me.1) (was : IsKept mean number kept me) where
-  splits_off : Makes (mean s) kinds.Split 0 (seen_seat own_table me) (seen_seat own_table me')
-  splits_off = record {
-    met = (spots.Seat, Loads);
-    asked = enabled.asked ∙ ap Some (split_asked (mean s) me.0.layout me.0.requests me.0.number me.0.part enabled.met enabled.asked).met;
-    made = ap (λ (v : View T). seen_seat own_table (v, me'.1)) (splits ∙ ap (splitting mean me.0) live);
-  }
+  split_rested : me.0.part.run ≡ None
+  split_rested = in_no_run (mean s) (seen_seat own_table me) kinds.Split refl enabled
 
   split_told : (b : Bool) → (if b then record (told_part me.0.part) { records = record ((told_part me.0.part).records) { splits = me.0.part.records.splits + 1 } } else told_part me.0.part)
       ≡ told_part (if b then record (me.0.part) { records = record (me.0.part.records) { splits = me.0.part.records.splits + 1 } } else me.0.part)
@@ -165,5 +142,7 @@ module _ {T : Type 0} (mean : T → Meaning) (s : T) (number : ℕ) (kept : Bloc
   split_told false = refl
 
   pub split_kept : (l : Layout) (lists : KeptState) → l ≡ me.0.layout → lists ≡ with_part kept.lists (split_after l kept.lists.part) → IsKept mean number (record kept { lists = lists }) me'
-  split_kept l lists same is = lists_kept mean s kinds.Split 0 number kept own_table own_table me me' live splits_off slots was refl lists (split_after me.0.layout)
-      (is ∙ ap (λ (z : Layout). with_part kept.lists (split_after z kept.lists.part)) same) (split_told (nat_lt me.0.part.records.splits me.0.layout.runners))
+  split_kept l lists same is = resting_kept mean number kept me me' (record (me.0) { part = after (mean s) me.0.layout me.0.number kinds.Split spots.Seat Loads me.0.part 0 }) (sym (splits ∙ ap (splitting mean me.0) live)) refl refl refl
+      slots was split_rested (still_outside (mean s) me.0.layout me.0.part 0 me.0.number kinds.Split spots.Seat Loads refl split_rested) lists (ap (λ k. k.room) is)
+      (ap (λ k. k.part) is ∙ (ap (λ (z : Layout). split_after z kept.lists.part) same ∙ (ap (split_after me.0.layout) was.lists
+      ∙ (split_told (nat_lt me.0.part.records.splits me.0.layout.runners) ∙ sym (told_outside (mean s) me.0.layout me.0.number kinds.Split spots.Seat Loads me.0.part 0 split_rested)))))

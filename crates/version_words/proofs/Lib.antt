@@ -8,6 +8,7 @@ pub mod Epochs
 pub mod Ties
 pub mod Calls
 pub mod Bounds
+pub mod Founds
 pub mod Begins
 pub mod SeatMoves
 pub mod SeatCalls

@@ -1,5 +1,5 @@
 -- The commit of a Make, and the load of the epoch for a retirement.
-use Rattle.std.proofs.Common.{◌≡◌, ℕ, [], ◌+◌, ⊎_elim, inl, inr, List, ◌∷◌, ◌++◌, Bool, true, false, refl, sym, ap, subst, ◌∙◌, arith, Option, Some, None, if◌then◌else◌, length-append}
+use Rattle.std.proofs.Common.{◌≡◌, ℕ, [], ◌+◌, ◌<◌, ◌^◌, ⊎_elim, inl, inr, List, ◌∷◌, ◌++◌, Bool, true, false, refl, sym, ap, subst, ◌∙◌, arith, Option, Some, None, if◌then◌else◌, length-append}
 use Rattle.std.specs.Prelude.{◌==◌, ◌&&◌}
 use Rattle.atomic_table.specs.Table.{Me}
 use Rattle.atomic_table.specs.Seated.{TableId}
@@ -13,7 +13,10 @@ use Rattle.table_words.specs.declared.spot.Spot.{Spot}
 use Rattle.table_words.specs.declared.spot.Spot.TheVariants as spots
 use Rattle.table_words.specs.declared.access.Access.{Access}
 use Rattle.table_words.specs.declared.access.Access.TheVariants.{Loads, Exchanges}
+use Rattle.table_words.specs.Access.{written}
+use Rattle.table_words.specs.Limits.{IsWithinLimits}
 use Rattle.structure_laws.specs.Meaning.{Meaning}
+use Rattle.structure_laws.specs.Laws.{Laws}
 use Rattle.runner_steps.specs.declared.event.EventKind.TheVariants as kinds
 use Rattle.runner_steps.specs.declared.entries.Published.{Published}
 use Rattle.runner_steps.specs.State.{RunState, PartState}
@@ -26,17 +29,21 @@ use Rattle.runner_steps.specs.Asks.{asks, ask_by, sizes_for}
 use Rattle.runner_steps.specs.AfterInRun.{goes_on, agrees, make_committed}
 use Rattle.runner_steps.specs.AfterOutside.{retire_after}
 use Rattle.runner_steps.specs.After.{after_by, stepped}
+use Rattle.machine_joins.proofs.RunPlaces.{next_in_line}
+use Rattle.machine_whole.specs.After.{AreAllowed}
 use Rattle.version_words.specs.declared.view.View.{View}
+use Rattle.version_words.specs.ReachedWith.{ReachedWith}
 use Rattle.version_words.specs.declared.block.Block.{Block}
 use Rattle.version_words.specs.RunnerState.{RunnerState, told_part, told_published, with_part}
 use Rattle.version_words.specs.TableState.{TableState}
-use Rattle.version_words.specs.Place.{IsPlaced}
+use Rattle.version_words.specs.Place.{IsPlaced, next_log}
 use Rattle.version_words.specs.Kept.{IsKept, block_made, block_retired}
 use Rattle.version_words.specs.Events.{met_by, IsEnabled, IsNamed, Makes, step_at, nothing, seen_seat}
 use Rattle.version_words.proofs.Asked.{unless_gone, tested}
 use Rattle.version_words.proofs.Keeps.{KeepsPart, no_epoch, was_part, then_kept}
 use Rattle.version_words.proofs.Epochs.{goes_epoch, loaded_epoch}
-use Rattle.version_words.proofs.Inside.{PlacesRun, goes_inside, over, places, step_is}
+use Rattle.version_words.proofs.Founds.{made_word, few_found}
+use Rattle.version_words.proofs.Inside.{PlacesRun, opened_all, goes_inside, log_low, over, places, step_is}
 use Rattle.version_words.proofs.Privates.{IsOpenFor, Stands, open_inside}
 use Rattle.version_words.proofs.OwnLoads.{goes_on_part}
 use Rattle.machine_states.proofs.Steps.{some_same}
@@ -59,6 +66,15 @@ slot_by q log (Some s) spot slot e =
 made_slot : (q : RunState) (micro : Micro) (spot : Spot) (slot : ℕ) → make_commit_ask q micro ≡ Some (spot, Exchanges 0 (slot + 1)) → q.made ≡ Some slot
 made_slot q (micros.MakeCommit log) spot slot e = slot_by q log q.made spot slot e
 made_slot q _ spot slot e = absurd (some_none (spot, Exchanges 0 (slot + 1)) e)
+
+-- and goes to the log word of the step at which the run is
+log_by : (q : RunState) (log : ℕ) (o : Option ℕ) (x : Spot × Access) → make_commit_to q log o ≡ Some x → x.0 ≡ spots.LogWord q.descriptor log
+log_by q log None x e = absurd (some_none x e)
+log_by q log (Some s) x e = ap (λ (y : Spot × Access). y.0) (sym (some_same (spots.LogWord q.descriptor log, Exchanges 0 (s + 1)) x e))
+
+made_log : (q : RunState) (micro : Micro) (x : Spot × Access) → make_commit_ask q micro ≡ Some x → (log : ℕ) × (micro ≡ micros.MakeCommit log) × (x.0 ≡ spots.LogWord q.descriptor log)
+made_log q (micros.MakeCommit log) x e = (log, refl, log_by q log q.made x e)
+made_log q _ x e = absurd (some_none x e)
 
 module _ (m : Meaning) (l : Layout) (rs : List Request) (r : ℕ) (p : PartState) (x : Spot × Access) where
   make_by : (o : Option RunState) → p.run ≡ o → ask_by m l rs r kinds.MakeCommit p o ≡ Some x → IsOpenFor m l kinds.MakeCommit p x
@@ -132,6 +148,13 @@ module _ {T : Type 0} (mean : T → Meaning) (s : T) (found number : ℕ) (kept 
       (epoch_part (mean s) me.0.layout found kept me.0.part made.met (was_part mean s kinds.EpochForRetire found number kept old_table new_table me me' live made slots was)
       (epoch_asked (mean s) me.0.layout me.0.requests me.0.number me.0.part made.met made.asked).1)
 
+-- the log has a word for the commit of a Make
+pub make_low : {T : Type 0} (mean : T → Meaning) (s : T) (slot number : ℕ) (kept : Block) (own_table : TableId) (me : Me Thunk (View T)) → met_by (mean s) (seen_seat own_table me) kinds.MakeCommit ≡ Some (next_log me.0.part.run, Exchanges 0 (slot + 1))
+    → IsKept mean number kept me → kept.place.agreed < 64
+make_low mean s slot number kept own_table me next was =
+    let opens = make_asked (mean s) me.0.layout me.0.requests me.0.number me.0.part (next_log me.0.part.run, Exchanges 0 (slot + 1)) next in
+    log_low (mean s) (seen_seat own_table me) kinds.MakeCommit (Exchanges 0 (slot + 1)) kept.place opens.open_run.run opens.open_run.there (was.place.run opens.open_run.run opens.open_run.there) next
+
 -- the commit of a Make
 module _ {T : Type 0} (mean : T → Meaning) (s : T) (spot : Spot) (slot number : ℕ) (kept : Block) (own_table : TableId) (me : Me Thunk (View T)) (live : me.0.structure ≡ Some s)
     (next : met_by (mean s) (seen_seat own_table me) kinds.MakeCommit ≡ Some (spot, Exchanges 0 (slot + 1))) (was : IsKept mean number kept me) where
@@ -187,6 +210,17 @@ module _ {T : Type 0} (mean : T → Meaning) (s : T) (spot : Spot) (slot number 
       epoch = goes_epoch (mean s) me.0.layout p.nodes.free q kinds.MakeCommit (spot, Exchanges 0 (slot + 1)) refl opens.asks_so opens.open_run.ready kept.place.epoch q' (q.trail ++ written_once found (slot + 1) ∷ []) refl refl;
     }
 
+    after_is : stepped (mean s) me.0.layout kinds.MakeCommit p found ≡ make_committed (mean s) me.0.layout p q (Some slot) found
+    after_is = step_is (mean s) me.0.layout kinds.MakeCommit p found opens.open_run ∙ ap (λ (o : Option ℕ). make_committed (mean s) me.0.layout p q o found) fills
+
     pub make_kept : IsKept mean number kept' me'
-    make_kept = then_kept mean s kinds.MakeCommit found number kept own_table new_table me me' live made slots was kept' refl
-        (subst (KeepsPart (mean s) kept') (sym (step_is (mean s) me.0.layout kinds.MakeCommit p found opens.open_run ∙ ap (λ (o : Option ℕ). make_committed (mean s) me.0.layout p q o found) fills)) part_made)
+    make_kept = then_kept mean s kinds.MakeCommit found number kept own_table new_table me me' live made slots was kept' refl (subst (KeepsPart (mean s) kept') (sym after_is) part_made)
+
+    -- the log word that it left names a node slot, so it found a number of 32 bits
+    pub make_found : Laws (mean s) → IsWithinLimits me'.0.layout → AreAllowed me'.0.requests → found < 2 ^ 32
+    make_found laws limits allowed =
+        let at = made_log q (next_of (mean s) q) (spot, Exchanges 0 (slot + 1)) opens.asks_so in
+        let runs : me'.0.part.run ≡ Some q' = ap (λ (r : RunnerState T). r.part.run) made.made ∙ ap (λ (y : PartState). y.run) after_is in
+        let left = subst (λ (x : Spot × Access). ReachedWith (mean s) me'.0.layout me'.0.requests me'.0.number me'.0.part x.0 (written x.1 found)) (some_same made.met (spot, Exchanges 0 (slot + 1)) (sym made.asked ∙ next)) made.shown in
+        few_found found (slot + 1) (made_word (mean s) laws me'.0.layout me'.0.requests me'.0.number me'.0.part spot (written_once found (slot + 1)) limits allowed left q' runs q.at at.0
+        (opened_all q opens.open_run.ready) (next_in_line (mean s) q (micros.MakeCommit at.0) refl at.1) at.2)

@@ -1,5 +1,5 @@
 -- A runner's code keeps the place of a run that is being opened.
-use Rattle.std.proofs.Common.{◌≡◌, ℕ, ◌+◌, ◌<◌, List, [], ◌∷◌, ◌++◌, length, Bool, true, false, refl, sym, ap, subst, ◌∙◌, arith, Option, Some, None, if◌then◌else◌, length-append, ne_eqb, suc, ◌-◌, ◌/◌}
+use Rattle.std.proofs.Common.{◌≡◌, ℕ, ◌+◌, ◌<◌, ◌≤◌, List, [], ◌∷◌, ◌++◌, length, Bool, true, false, refl, sym, ap, subst, ◌∙◌, arith, Option, Some, None, if◌then◌else◌, length-append, ne_eqb, suc, ◌-◌, ◌/◌}
 use Rattle.std.specs.Prelude.{◌%◌, ◌^◌, ◌==◌, nat_lt, slice_index}
 use Rattle.std.proofs.lemmas.Bool.Decides.{nat_tests}
 use Rattle.atomic_table.specs.Table.{Me}
@@ -11,8 +11,11 @@ use Rattle.table_words.specs.declared.spot.Spot.TheVariants as spots
 use Rattle.table_words.specs.declared.access.Access.{Access}
 use Rattle.table_words.specs.declared.access.Access.TheVariants.{Loads}
 use Rattle.table_words.specs.declared.sizes.Sizes.{Sizes}
+use Rattle.table_words.specs.Access.{written}
+use Rattle.table_words.specs.Limits.{IsWithinLimits}
 use Rattle.table_words.specs.Places.{address, descriptor_at}
 use Rattle.structure_laws.specs.Meaning.{Meaning}
+use Rattle.structure_laws.specs.Laws.{Laws}
 use Rattle.runner_steps.specs.declared.event.EventKind.TheVariants as kinds
 use Rattle.runner_steps.specs.State.{RunState, PartState}
 use Rattle.runner_steps.specs.Sections.{is_open_run, next_of}
@@ -22,15 +25,18 @@ use Rattle.runner_steps.specs.Asks.{ask_by, line_ask, sizes_for}
 use Rattle.runner_steps.specs.AfterOutside.{opened}
 use Rattle.runner_steps.specs.AfterInRun.{opened_more}
 use Rattle.runner_steps.specs.After.{line_after, after_by}
+use Rattle.machine_whole.specs.After.{AreAllowed}
 use Rattle.version_words.specs.declared.view.View.{View}
+use Rattle.version_words.specs.ReachedWith.{ReachedWith}
 use Rattle.version_words.specs.declared.place.RunPlace.{RunPlace}
 use Rattle.version_words.specs.declared.block.Block.{Block}
 use Rattle.version_words.specs.Naming.{open_of}
-use Rattle.version_words.specs.RunnerState.{KeptState, told_part}
+use Rattle.version_words.specs.RunnerState.{RunnerState, KeptState, told_part}
 use Rattle.version_words.specs.Place.{IsPlaced, HasPlace, HasEpoch, opened_of, opened_place, next_thunk_word}
 use Rattle.version_words.specs.Kept.{IsKept}
 use Rattle.version_words.specs.Events.{met_by, Makes, seen_seat}
 use Rattle.version_words.proofs.Asked.{unless_gone, tested}
+use Rattle.version_words.proofs.Founds.{done_word}
 use Rattle.version_words.proofs.Keeps.{KeepsPart, then_kept}
 use Rattle.version_words.proofs.Epochs.{loaded_epoch}
 use Rattle.machine_states.proofs.Steps.{some_same}
@@ -178,6 +184,20 @@ module _ {T : Type 0} (mean : T → Meaning) (s : T) (descriptor found number : 
   -- what the code keeps once the done word was loaded
   pub done_kept : Makes m kinds.LoadDone found (seen_seat old_table me) (seen_seat new_table me') → IsKept mean number (record kept { place = record (kept.place) { opened = 13; inside = true } }) me'
   done_kept made = done_by p.run refl made.met (unless_gone (sizes_for m l me.0.requests) p.gone (ask_by m l me.0.requests me.0.number kinds.LoadDone p p.run) made.met made.asked) made
+
+  done_found_by : Laws m → IsWithinLimits me'.0.layout → AreAllowed me'.0.requests → (made : Makes m kinds.LoadDone found (seen_seat old_table me) (seen_seat new_table me')) (o : Option RunState) → p.run ≡ o
+      → ask_by m l me.0.requests me.0.number kinds.LoadDone p o ≡ Some made.met → found ≤ 1
+  done_found_by laws limits allowed made None there e = absurd (some_none made.met e)
+  done_found_by laws limits allowed made (Some q) there e =
+      let o = done_opens q made.met (is_open_run q) e in
+      let step = ap (λ (o : Option RunState). after_by m l kinds.LoadDone p o found) there ∙ ap (λ (b : Bool). if b then line_after m l kinds.LoadDone p q (next_of m q) found else opened_more p q found) o.0 in
+      let runs : me'.0.part.run ≡ Some (record q { opened = q.opened ++ found ∷ [] }) = ap (λ (r : RunnerState T). r.part.run) made.made ∙ ap (λ (y : PartState). y.run) step in
+      let left = subst (λ (x : Spot × Access). ReachedWith m me'.0.layout me'.0.requests me'.0.number me'.0.part x.0 (written x.1 found)) (sym (tested (length q.opened == 12) (spots.DoneWord q.descriptor) Loads made.met o.1).1) made.shown in
+      done_word m laws me'.0.layout me'.0.requests me'.0.number me'.0.part (spots.DoneWord q.descriptor) found limits allowed left (record q { opened = q.opened ++ found ∷ [] }) runs refl
+
+  -- the done word is 0 or 1
+  pub done_found : Laws m → IsWithinLimits me'.0.layout → AreAllowed me'.0.requests → Makes m kinds.LoadDone found (seen_seat old_table me) (seen_seat new_table me') → found ≤ 1
+  done_found laws limits allowed made = done_found_by laws limits allowed made p.run refl (unless_gone (sizes_for m l me.0.requests) p.gone (ask_by m l me.0.requests me.0.number kinds.LoadDone p p.run) made.met made.asked)
 
   by_run : (o : Option RunState) → p.run ≡ o → met_by m (seen_seat old_table me) (open_of o descriptor) ≡ Some (spots.ThunkWord descriptor (opened_of o), Loads)
       → Makes m (open_of o descriptor) found (seen_seat old_table me) (seen_seat new_table me') → IsKept mean number kept' me'

@@ -1,5 +1,5 @@
 -- The commit of a Retire.
-use Rattle.std.proofs.Common.{◌≡◌, ℕ, [], ◌+◌, List, ◌∷◌, ◌++◌, Bool, true, false, refl, sym, ap, subst, ◌∙◌, arith, Option, Some, None, if◌then◌else◌, length-append}
+use Rattle.std.proofs.Common.{◌≡◌, ℕ, [], ◌+◌, ◌<◌, List, ◌∷◌, ◌++◌, Bool, true, false, refl, sym, ap, subst, ◌∙◌, arith, Option, Some, None, if◌then◌else◌, length-append}
 use Rattle.std.specs.Prelude.{◌==◌}
 use Rattle.atomic_table.specs.Table.{Me}
 use Rattle.atomic_table.specs.Seated.{TableId}
@@ -7,36 +7,43 @@ use Rattle.map_history.specs.declared.op.Request.{Request}
 use Rattle.section_body.specs.declared.thunk.Thunk.{Thunk}
 use Rattle.section_body.specs.declared.micro.Micro.{Micro}
 use Rattle.section_body.specs.declared.micro.Micro.TheVariants as micros
+use Rattle.section_body.specs.Line.{micro_at}
 use Rattle.section_body.specs.Run.{written_once}
 use Rattle.table_words.specs.declared.layout.Layout.{Layout}
 use Rattle.table_words.specs.declared.spot.Spot.{Spot}
 use Rattle.table_words.specs.declared.spot.Spot.TheVariants as spots
 use Rattle.table_words.specs.declared.access.Access.{Access}
 use Rattle.table_words.specs.declared.access.Access.TheVariants.{Exchanges}
+use Rattle.table_words.specs.Access.{written}
+use Rattle.table_words.specs.Limits.{IsWithinLimits}
 use Rattle.table_words.specs.Places.{slot_count}
 use Rattle.structure_laws.specs.Meaning.{Meaning}
+use Rattle.structure_laws.specs.Laws.{Laws}
 use Rattle.runner_steps.specs.declared.event.EventKind.TheVariants as kinds
 use Rattle.runner_steps.specs.State.{RunState, PartState, NodesState}
 use Rattle.runner_steps.specs.Tests.{has}
 use Rattle.runner_steps.specs.Lists.{slot_retired}
-use Rattle.runner_steps.specs.Sections.{is_open_run, next_of}
+use Rattle.runner_steps.specs.Sections.{is_open_run, next_of, line_of}
 use Rattle.runner_steps.specs.InRun.{retire_commit_ask}
 use Rattle.runner_steps.specs.Asks.{asks, ask_by, sizes_for}
 use Rattle.runner_steps.specs.AfterInRun.{agrees, retire_committed, retired_slot_of}
 use Rattle.runner_steps.specs.After.{stepped}
 use Rattle.machine_joins.proofs.RunPlaces.{next_in_line}
 use Rattle.machine_states.proofs.Steps.{some_same}
+use Rattle.machine_whole.specs.After.{AreAllowed}
 use Rattle.version_words.specs.declared.view.View.{View}
+use Rattle.version_words.specs.ReachedWith.{ReachedWith}
 use Rattle.version_words.specs.declared.block.Block.{Block}
 use Rattle.version_words.specs.RunnerState.{RunnerState}
 use Rattle.version_words.specs.Room.{AreFew}
-use Rattle.version_words.specs.Place.{IsPlaced}
+use Rattle.version_words.specs.Place.{IsPlaced, next_log}
 use Rattle.version_words.specs.Kept.{IsKept, block_slot_retired}
 use Rattle.version_words.specs.Events.{met_by, Makes, seen_seat}
 use Rattle.version_words.proofs.Asked.{unless_gone}
 use Rattle.version_words.proofs.Keeps.{KeepsPart, was_part, then_kept}
 use Rattle.version_words.proofs.Epochs.{goes_epoch}
-use Rattle.version_words.proofs.Inside.{PlacesRun, goes_inside, over, places, step_is}
+use Rattle.version_words.proofs.Founds.{retired_word, one_found}
+use Rattle.version_words.proofs.Inside.{PlacesRun, opened_all, goes_inside, log_low, over, places, step_is}
 use Rattle.version_words.proofs.Privates.{IsOpenFor, open_inside}
 
 some_none : {A : Type 0} → (a : A) → None ≡ Some a → ⊥
@@ -47,11 +54,11 @@ abbrev new_of : Access → ℕ
 new_of (Exchanges old new) = new
 new_of _ = 0
 
--- the step of the line that a commit of a Retire makes
-retires_next : (q : RunState) (micro : Micro) (spot : Spot) (slot : ℕ) → retire_commit_ask q micro ≡ Some (spot, Exchanges 0 (slot + 1)) → (log : ℕ) × (micro ≡ micros.RetireCommit slot log)
+-- the step of the line that a commit of a Retire makes, and the log word to which it goes
+retires_next : (q : RunState) (micro : Micro) (spot : Spot) (slot : ℕ) → retire_commit_ask q micro ≡ Some (spot, Exchanges 0 (slot + 1)) → (log : ℕ) × (micro ≡ micros.RetireCommit slot log) × (spot ≡ spots.LogWord q.descriptor log)
 retires_next q (micros.RetireCommit s log) spot slot e =
     let same = ap (λ (x : Spot × Access). new_of x.1) (some_same (spots.LogWord q.descriptor log, Exchanges 0 (s + 1)) (spot, Exchanges 0 (slot + 1)) e) in
-    (log, ap (λ (n : ℕ). micros.RetireCommit n log) (let is : s ≡ slot = omega (arith, same) in is))
+    (log, ap (λ (n : ℕ). micros.RetireCommit n log) (let is : s ≡ slot = omega (arith, same) in is), ap (λ (x : Spot × Access). x.0) (sym (some_same (spots.LogWord q.descriptor log, Exchanges 0 (s + 1)) (spot, Exchanges 0 (slot + 1)) e)))
 retires_next q _ spot slot e = absurd (some_none (spot, Exchanges 0 (slot + 1)) e)
 
 module _ (m : Meaning) (l : Layout) (rs : List Request) (r : ℕ) (p : PartState) (x : Spot × Access) where
@@ -70,6 +77,13 @@ same_hand : (won : Bool) (n : NodesState) (slot epoch : ℕ) → (lists_after wo
 same_hand true n slot epoch = refl
 same_hand false n slot epoch = refl
 
+-- the log has a word for the commit
+pub retire_low : {T : Type 0} (mean : T → Meaning) (s : T) (slot number : ℕ) (kept : Block) (own_table : TableId) (me : Me Thunk (View T))
+    → met_by (mean s) (seen_seat own_table me) kinds.RetireCommit ≡ Some (next_log me.0.part.run, Exchanges 0 (slot + 1)) → IsKept mean number kept me → kept.place.agreed < 64
+retire_low mean s slot number kept own_table me next was =
+    let opens = retire_asked (mean s) me.0.layout me.0.requests me.0.number me.0.part (next_log me.0.part.run, Exchanges 0 (slot + 1)) next in
+    log_low (mean s) (seen_seat own_table me) kinds.RetireCommit (Exchanges 0 (slot + 1)) kept.place opens.open_run.run opens.open_run.there (was.place.run opens.open_run.run opens.open_run.there) next
+
 module _ {T : Type 0} (mean : T → Meaning) (s : T) (spot : Spot) (slot number : ℕ) (kept : Block) (own_table : TableId) (me : Me Thunk (View T)) (live : me.0.structure ≡ Some s)
     (next : met_by (mean s) (seen_seat own_table me) kinds.RetireCommit ≡ Some (spot, Exchanges 0 (slot + 1))) (was : IsKept mean number kept me)
     (found : ℕ) (new_table : TableId) (me' : Me Thunk (View T)) (made : Makes (mean s) kinds.RetireCommit found (seen_seat own_table me) (seen_seat new_table me')) (slots : me'.1 ≡ me.1) where
@@ -82,7 +96,7 @@ module _ {T : Type 0} (mean : T → Meaning) (s : T) (spot : Spot) (slot number 
   abbrev q : RunState
   q = opens.open_run.run
 
-  retires : (log : ℕ) × (next_of (mean s) q ≡ micros.RetireCommit slot log)
+  retires : (log : ℕ) × (next_of (mean s) q ≡ micros.RetireCommit slot log) × (spot ≡ spots.LogWord q.descriptor log)
   retires = retires_next q (next_of (mean s) q) spot slot opens.asks_so
 
   abbrev placed : IsPlaced kept.place q
@@ -91,9 +105,12 @@ module _ {T : Type 0} (mean : T → Meaning) (s : T) (spot : Spot) (slot number 
   abbrev before : KeepsPart (mean s) kept p
   before = was_part mean s kinds.RetireCommit found number kept own_table new_table me me' live made slots was
 
+  here : micro_at (line_of (mean s) q) q.at ≡ micros.RetireCommit slot retires.0
+  here = next_in_line (mean s) q (micros.RetireCommit slot retires.0) refl retires.1
+
   -- the epoch that the code keeps is the one that the run loaded last
   loaded : kept.place.epoch ≡ q.word
-  loaded = before.epoch.retiring q slot retires.0 opens.open_run.there (next_in_line (mean s) q (micros.RetireCommit slot retires.0) refl retires.1)
+  loaded = before.epoch.retiring q slot retires.0 opens.open_run.there here
 
   abbrev part' : PartState
   part' = retire_committed (mean s) me.0.layout slot p q found
@@ -147,3 +164,11 @@ module _ {T : Type 0} (mean : T → Meaning) (s : T) (spot : Spot) (slot number 
   pub retire_kept : IsKept mean number kept' me'
   retire_kept = then_kept mean s kinds.RetireCommit found number kept own_table new_table me me' live made slots was kept' refl
       (subst (KeepsPart (mean s) kept') (sym after_is) part_retired)
+
+  -- the log word that it left is 0 or names the slot that the section retires, so it is known what it found
+  pub retire_found : Laws (mean s) → IsWithinLimits me'.0.layout → AreAllowed me'.0.requests → found ≡ (if found == 0 then 0 else slot + 1)
+  retire_found laws limits allowed =
+      let runs : me'.0.part.run ≡ Some q' = ap (λ (r : RunnerState T). r.part.run) made.made ∙ ap (λ (y : PartState). y.run) after_is in
+      let left = subst (λ (x : Spot × Access). ReachedWith (mean s) me'.0.layout me'.0.requests me'.0.number me'.0.part x.0 (written x.1 found)) (some_same made.met (spot, Exchanges 0 (slot + 1)) (sym made.asked ∙ next)) made.shown in
+      one_found found slot (retired_word (mean s) laws me'.0.layout me'.0.requests me'.0.number me'.0.part spot (written_once found (slot + 1)) limits allowed left q' runs q.at slot retires.0
+      (opened_all q opens.open_run.ready) here retires.2)

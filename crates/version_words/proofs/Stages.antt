@@ -29,7 +29,7 @@ use Rattle.runner_steps.specs.AfterOutside.{with_stage, collected, scanned, scan
 use Rattle.runner_steps.specs.After.{outside_after, after_by, stepped, counted, after, leaves}
 use Rattle.version_words.specs.RunnerState.{RunnerState}
 use Rattle.version_words.specs.TableState.{TableState, first_keeper}
-use Rattle.version_words.specs.Events.{met_by, IsEnabled, Makes, next_worker, joined_by}
+use Rattle.version_words.specs.Events.{met_by, IsEnabled, Makes, HasSplit, next_worker, joined_by}
 use Rattle.version_words.proofs.SeatMoves.{one_split, joins_none}
 use Rattle.version_words.specs.Naming.{load_of}
 use Rattle.version_words.specs.Stages.{IsAt, IsKeeper, HasJoined, stage_scanned, HasFree}
@@ -98,13 +98,13 @@ module _ {T : Type 0} (m : Meaning) (r : RunnerState T) where
       ∙ (let e : r.layout.runners == r.layout.runners && (nat_lt worker r.layout.runners && true) ≡ true = grind (arith, nat_tests, few) in e))) tt
 
 -- where a runner in no run is after a step: `goes` is what the step makes of the part but for its records
-module _ {T : Type 0} (m : Meaning) (k : EventKind) (found : ℕ) (r r' : RunnerState T) (made : Makes m k found r r') (resting : r.part.run ≡ None) where
+module _ {T : Type 0} (m : Meaning) (k : EventKind) (found : ℕ) (r r' : RunnerState T) (x : Spot × Access) (is : r' ≡ record r { part = after m r.layout r.number k x.0 x.1 r.part found }) (resting : r.part.run ≡ None) where
   abbrev next : PartState
   next = outside_after m r.layout k r.part found
 
-  made_at : (stage : Stage) (section : Option Published) → r.number ≤ r.layout.runners → next.gone ≡ false → next.run ≡ None → next.stage ≡ stage → next.published ≡ section → IsAt r' stage section
-  made_at stage section seated present none at published =
-      let is = made.made in let run = λ (o : Option RunState). after_by m r.layout k r.part o found in
+  moved_at : (stage : Stage) (section : Option Published) → r.number ≤ r.layout.runners → next.gone ≡ false → next.run ≡ None → next.stage ≡ stage → next.published ≡ section → IsAt r' stage section
+  moved_at stage section seated present none at published =
+      let run = λ (o : Option RunState). after_by m r.layout k r.part o found in
       record {
         present = ap (λ (y : RunnerState T). y.part.gone) is ∙ (ap (λ (o : Option RunState). (after_by m r.layout k r.part o found).gone) resting ∙ present);
         resting = ap (λ (y : RunnerState T). y.part.run) is ∙ (ap (λ (o : Option RunState). (after_by m r.layout k r.part o found).run) resting ∙ none);
@@ -112,6 +112,11 @@ module _ {T : Type 0} (m : Meaning) (k : EventKind) (found : ℕ) (r r' : Runner
         published = ap (λ (y : RunnerState T). y.part.published) is ∙ (ap (λ (o : Option RunState). (after_by m r.layout k r.part o found).published) resting ∙ published);
         seated = subst (λ (y : RunnerState T). y.number ≤ y.layout.runners) (sym is) seated;
       }
+
+made_at : {T : Type 0} (m : Meaning) (k : EventKind) (found : ℕ) (r r' : RunnerState T) (made : Makes m k found r r') → r.part.run ≡ None → (stage : Stage) (section : Option Published) → r.number ≤ r.layout.runners
+    → (outside_after m r.layout k r.part found).gone ≡ false → (outside_after m r.layout k r.part found).run ≡ None → (outside_after m r.layout k r.part found).stage ≡ stage
+    → (outside_after m r.layout k r.part found).published ≡ section → IsAt r' stage section
+made_at m k found r r' made resting = moved_at m k found r r' made.met made.made resting
 
 module _ {T : Type 0} (m : Meaning) (found : ℕ) (r r' : RunnerState T) (section : Option Published) where
   pub then_loaded : Makes m kinds.EnterLoad found r r' → IsAt r stages.Idle section → IsAt r' (stages.Loaded found) section
@@ -173,11 +178,11 @@ module _ {T : Type 0} (m : Meaning) (found : ℕ) (r r' : RunnerState T) (sectio
       (ap (λ (q : PartState). q.gone) part ∙ is.present) (ap (λ (q : PartState). q.run) part ∙ is.resting) (ap (λ (q : PartState). q.stage) part) (ap (λ (q : PartState). q.published) part ∙ is.published)
 
 -- a keeper that splits off a worker
-module _ {T : Type 0} (m : Meaning) (found : ℕ) (r r' : RunnerState T) (splits : ℕ) where
-  pub then_split : Makes m kinds.Split found r r' → IsKeeper r splits → splits < r.layout.runners → IsKeeper r' (splits + 1)
-  then_split made is few =
+module _ {T : Type 0} (m : Meaning) (r r' : RunnerState T) (splits : ℕ) where
+  pub then_split : HasSplit m r r' → IsKeeper r splits → splits < r.layout.runners → IsKeeper r' (splits + 1)
+  then_split split is few =
       let on : nat_lt r.part.records.splits r.layout.runners ≡ true = ap (λ n. nat_lt n r.layout.runners) is.as_many ∙ (let e : nat_lt splits r.layout.runners ≡ true = grind (arith, nat_tests, few) in e) in
-      let at = made_at m kinds.Split found r r' made is.resting r.part.stage r.part.published (omega (arith, is.number))
+      let at = moved_at m kinds.Split 0 r r' (spots.Seat, Loads) split.made is.resting r.part.stage r.part.published (omega (arith, is.number))
       (same (λ (q : PartState). q.gone) (nat_lt r.part.records.splits r.layout.runners) _ _ false is.present is.present)
       (same (λ (q : PartState). q.run) (nat_lt r.part.records.splits r.layout.runners) _ _ None is.resting is.resting)
       (same (λ (q : PartState). q.stage) (nat_lt r.part.records.splits r.layout.runners) _ _ r.part.stage refl refl)
@@ -185,8 +190,8 @@ module _ {T : Type 0} (m : Meaning) (found : ℕ) (r r' : RunnerState T) (splits
       record {
         present = at.present;
         resting = at.resting;
-        number = ap (λ (y : RunnerState T). y.number) made.made ∙ (is.number ∙ sym (ap (λ (y : RunnerState T). y.layout.runners) made.made));
-        as_many = ap (λ (y : RunnerState T). y.part.records.splits) made.made ∙ (one_split m r.layout r.number made.met.0 made.met.1 found r.part is.resting (omega (arith, few, is.as_many)) ∙ ap (λ n. n + 1) is.as_many);
+        number = ap (λ (y : RunnerState T). y.number) split.made ∙ (is.number ∙ sym (ap (λ (y : RunnerState T). y.layout.runners) split.made));
+        as_many = ap (λ (y : RunnerState T). y.part.records.splits) split.made ∙ (one_split m r.layout r.number spots.Seat Loads 0 r.part is.resting (omega (arith, few, is.as_many)) ∙ ap (λ n. n + 1) is.as_many);
       }
 
 pub first_is_keeper : {T : Type 0} (m : Meaning) (t : TableState T) (r : RunnerState T) → r ≡ first_keeper m t → IsKeeper r 0
@@ -254,10 +259,10 @@ splits_none m l r spot access found p none = let s = (stepped m l kinds.Split p 
     ∙ (ap (λ (o : Option RunState). (after_by m l kinds.Split p o found).records.joined) none
     ∙ same (λ (q : PartState). q.records.joined) (nat_lt p.records.splits l.runners) (record p { records = record (p.records) { splits = p.records.splits + 1 } }) p p.records.joined refl refl)
 
-pub split_joined : {T : Type 0} (m : Meaning) (found : ℕ) (r r' : RunnerState T) (splits count : ℕ) → Makes m kinds.Split found r r' → IsKeeper r splits → HasJoined r count → HasJoined r' count
-split_joined m found r r' splits count made is joined = record {
-  fresh = λ k past. ap (λ y. has y.part.records.joined k) made.made ∙ (ap (λ (xs : List ℕ). has xs k) (splits_none m r.layout r.number made.met.0 made.met.1 found r.part is.resting) ∙ joined.fresh k past);
-  parts = λ k few. ap (λ y. is_some (left_part y.joined k)) made.made ∙ joined.parts k few;
+pub split_joined : {T : Type 0} (m : Meaning) (r r' : RunnerState T) (splits count : ℕ) → HasSplit m r r' → IsKeeper r splits → HasJoined r count → HasJoined r' count
+split_joined m r r' splits count split is joined = record {
+  fresh = λ k past. ap (λ y. has y.part.records.joined k) split.made ∙ (ap (λ (xs : List ℕ). has xs k) (splits_none m r.layout r.number spots.Seat Loads 0 r.part is.resting) ∙ joined.fresh k past);
+  parts = λ k few. ap (λ y. is_some (left_part y.joined k)) split.made ∙ joined.parts k few;
 }
 
 pub first_joined_none : {T : Type 0} (m : Meaning) (t : TableState T) (r : RunnerState T) → r ≡ first_keeper m t → HasJoined r 0

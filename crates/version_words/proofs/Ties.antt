@@ -1,7 +1,7 @@
 -- A step at the table is one event of the machine.
-use Rattle.std.proofs.Common.{◌≡◌, ◌≢◌, ℕ, zero, suc, ◌+◌, List, [], ◌∷◌, Bool, true, false, length, set, sym, refl, ap, subst, ◌∙◌, ⊎_elim, arith, Some, None, slice_get, length-set}
+use Rattle.std.proofs.Common.{◌≡◌, ◌≢◌, ℕ, zero, suc, ◌+◌, ◌<◌, List, [], ◌∷◌, true, false, length, set, sym, refl, ap, subst, ◌∙◌, ⊎_elim, arith, Some, None, slice_get, length-set}
 use Rattle.std.specs.Prelude.{slice_index}
-use Rattle.std.proofs.lemmas.List.{set-get_or, get_or-set_other}
+use Rattle.std.proofs.lemmas.List.{set-get_or, get_or-set_same, get_or-set_other}
 use Rattle.std.proofs.lemmas.Option.{slice_get_within}
 use Rattle.std.specs.Option.{IsSome}
 use mathlib.Core.Option.{some, some-injective, some-ne-none}
@@ -16,6 +16,7 @@ use Rattle.table_words.specs.declared.access.Access.{Access}
 use Rattle.table_words.specs.declared.access.Access.TheVariants.{Stores}
 use Rattle.table_words.specs.Access.{written}
 use Rattle.table_words.specs.Places.{address}
+use Rattle.table_words.proofs.Seen.{within, seen_here}
 use Rattle.structure_laws.specs.Meaning.{Meaning}
 use Rattle.runner_steps.specs.declared.event.EventKind.{EventKind}
 use Rattle.runner_steps.specs.declared.event.EventKind.TheVariants as kinds
@@ -24,13 +25,14 @@ use Rattle.runner_steps.specs.State.{PartState}
 use Rattle.runner_steps.specs.Asks.{asks, sizes_for}
 use Rattle.runner_steps.specs.After.{after}
 use Rattle.machine_states.specs.World.{World, seat_of, is_join, settled_part, put_part, happens}
-use Rattle.machine_states.proofs.Steps.{goes, some_same}
-use Rattle.machine_states.proofs.Reached.{more_reached}
+use Rattle.machine_states.proofs.Steps.{goes, some_same, asked_fits}
+use Rattle.machine_states.proofs.Reached.{more_reached, reached_all}
 use Rattle.version_words.specs.declared.view.View.{View}
 use Rattle.machine_states.specs.Reached.{Reached}
 use Rattle.version_words.specs.Shown.{IsShown, left_part, part_at, joined_in}
 use Rattle.version_words.specs.Naming.{Naming, is_plain}
-use Rattle.version_words.specs.Rule.{IsSeatedAt, Holds, stepped, Tells}
+use Rattle.version_words.specs.ReachedWith.{ReachedWith}
+use Rattle.version_words.specs.Rule.{IsSeatedAt, Holds, stepped, IsTold, Tells}
 use Rattle.version_words.proofs.Lists.{get_here, get_else, inside}
 use Rattle.version_words.proofs.Splits.{is_split, kept_splits}
 
@@ -148,6 +150,18 @@ module _ {T : Type 0} (m : Meaning) (s : T) (l : Layout) (rs : List Request) whe
     pub reached_after : Reached m l rs world_after
     reached_after = more_reached m l rs h.world world_after event h.reached happened
 
+    -- in the state after the event the runner has the new part, and the word is what the event left there
+    pub seen_after : ReachedWith m l rs v.number next x.0 (written x.1 met)
+    seen_after =
+        let fits = asked_fits m l rs st.words h.world.parts event v.part x asked in
+        let room : at_of x.0 < length st.words = let low = within (sizes_for m l rs) x.0 fits in let all = (reached_all m l rs h.world h.reached).words in let same = ap length h.shown.words in omega (arith, low, all, same) in
+        record {
+          world = world_after;
+          reached = reached_after;
+          own = ap (slice_get world_after.parts) seat_is ∙ get_here h.world.parts id next (slice_get_within h.world.parts id v.part part_here);
+          word = seen_here (sizes_for m l rs) world_after.words x.0 fits ∙ get_or-set_same st.words (at_of x.0) (written x.1 met) 0 room;
+        }
+
     splits_after : is_split k ≡ false → (u : View T) → get_elem? (set st.views id view_after) 0 ≡ some u → u.part.records.splits + 1 ≡ length (set st.views id view_after)
     splits_after counted u e = ⊎_elim
         (λ (y : (0 ≡ id) × (view_after ≡ u)). ap (λ (z : View T). z.part.records.splits + 1) (sym y.1)
@@ -172,11 +186,11 @@ module _ {T : Type 0} (mean : T → Meaning) (naming : Naming) (step : Step Thun
 
   -- what a step tells is determined by the event
   tells : (found : ℕ) (x : Spot × Access) (w : View T) → me.0.structure ≡ Some s → asks (mean s) me.0.layout me.0.requests me.0.number (event_of (mean s)) me.0.part ≡ Some x
-      → w ≡ stepped (mean s) (event_of (mean s)) x.0 x.1 me.0 found → Tells mean naming step me found (w, me.1)
-  tells found x w live asked is t y live' asked' =
+      → IsTold (mean s) (event_of (mean s)) x me found (w, me.1) → Tells mean naming step me found (w, me.1)
+  tells found x w live asked told t y live' asked' =
       let same : s ≡ t = some_same s t (sym live ∙ live') in
       let met : x ≡ y = some_same x y (sym asked ∙ (ap (λ z. asks (mean z) me.0.layout me.0.requests me.0.number (event_of (mean z)) me.0.part) same ∙ asked')) in
-      ap (λ (z : View T). (z, me.1)) is ∙ (λ i. (stepped (mean (same i)) (event_of (mean (same i))) (met i).0 (met i).1 me.0 found, me.1))
+      subst (λ (z : T × (Spot × Access)). IsTold (mean z.0) (event_of (mean z.0)) z.1 me found (w, me.1)) (λ i. (same i, met i)) told
 
   module _ (l : Layout) (rs : List Request) (id : ℕ) (slots : ℕ) (x : Spot × Access) (live : me.0.structure ≡ Some s) (plain : is_plain (event_of (mean s)) ≡ true)
       (blank : (n : ℕ) → address (sizes_for (mean s) l rs) x.0 ≡ 0 → written x.1 n ≡ n) (asked : asks (mean s) me.0.layout me.0.requests me.0.number (event_of (mean s)) me.0.part ≡ Some x) where
@@ -194,7 +208,11 @@ module _ {T : Type 0} (mean : T → Meaning) (naming : Naming) (step : Step Thun
           tt,
           subst (λ (u : View T). Holds (mean s) s l rs (record { words = set st.words (address (sizes_for (mean s) l rs) x.0) (written x.1 found); homes = st.homes; views = set st.views id u })) view_is
               (holds_after (mean s) s l rs k id me.0 x live (no_join k plain) asked' st h here (no_split k plain) blank),
-          tells found x w live asked refl,
+          tells found x w live asked (record {
+            view = refl;
+            shown = subst (λ (y : Layout × List Request). ReachedWith (mean s) y.0 y.1 me.0.number (after (mean s) y.0 me.0.number k x.0 x.1 me.0.part found) x.0 (written x.1 found)) (λ i. (sym about.same_layout i, sym about.same_requests i))
+                (seen_after (mean s) s l rs k id me.0 x live (no_join k plain) asked' st h here);
+          }),
         )
 
     -- a plain store that makes this event, which doesn't go by the number found
@@ -204,10 +222,14 @@ module _ {T : Type 0} (mean : T → Meaning) (naming : Naming) (step : Step Thun
     stores n is blind st h homes here fits =
         let found : ℕ = slice_index st.words (address (sizes_for (mean s) l rs) x.0) in
         let made = steps st h homes here fits in
+        let told = made.4 s x live asked in
         let left : written x.1 found ≡ n = ap (λ a. written a found) is in (
           made.0,
           made.1,
           made.2,
           subst (λ (z : ℕ). Holds (mean s) s l rs (record { words = set st.words (address (sizes_for (mean s) l rs) x.0) z; homes = st.homes; views = set st.views id made.0 })) left made.3,
-          tells n x made.0 live asked (ap (λ p. record (me.0) { part = p }) (blind found n)),
+          tells n x made.0 live asked (record {
+            view = told.view ∙ ap (λ p. (record (me.0) { part = p }, me.1)) (blind found n);
+            shown = subst (ReachedWith (mean s) made.0.layout made.0.requests made.0.number made.0.part x.0) (ap (λ a. written a found) is ∙ sym (ap (λ a. written a n) is)) told.shown;
+          }),
         )

@@ -1,10 +1,9 @@
 -- What contracts say of a step: it is one event of the machine on the own part.
-use Rattle.std.specs.Prelude.{◌≡◌, ℕ, ◌-◌, Bool, true, false, [], ◌∷◌, ◌==◌, Some}
+use Rattle.std.specs.Prelude.{◌≡◌, ℕ, Bool, true, false, [], ◌∷◌, ◌==◌, Some}
 use mathlib.Core.Option.{Option as Option_of, none, some}
 use Rattle.atomic_table.specs.Table.{Me, Step, step}
 use Rattle.atomic_table.specs.Seated.{TableId}
 use Rattle.section_body.specs.declared.thunk.Thunk.{Thunk}
-use Rattle.section_body.specs.Word.{value_of}
 use Rattle.table_words.specs.Access.{written}
 use Rattle.table_words.specs.Places.{address}
 use Rattle.table_words.specs.declared.spot.Spot.{Spot}
@@ -20,6 +19,7 @@ use Rattle.runner_steps.specs.After.{after, knows_also}
 use Rattle.machine_states.specs.First.{worker_part}
 use Rattle.version_words.specs.declared.view.View.{View}
 use Rattle.version_words.specs.Naming.{Naming, is_plain}
+use Rattle.version_words.specs.ReachedWith.{ReachedWith}
 use Rattle.version_words.specs.RunnerState.{RunnerState}
 use Rattle.version_words.specs.TableState.{TableState}
 
@@ -38,10 +38,6 @@ abbrev pub wins : Access → ℕ → Bool
 wins (Exchanges old new) found = found == old
 wins _ found = false
 
--- the slot that a log word names
-abbrev pub slot_named : ℕ → ℕ
-slot_named word = value_of word - 1
-
 module _ {T : Type 0} (m : Meaning) where
   -- the word that this event of the runner meets, and what it does there; None where it isn't enabled
   abbrev pub met_by : RunnerState T → EventKind → Ask
@@ -52,11 +48,13 @@ module _ {T : Type 0} (m : Meaning) where
     pub met : Spot × Access
     pub asked : met_by r kind ≡ Some met
 
-  -- the runner made this event, and found this number in its word; nothing of it changed but the part
+  -- the runner made this event, and found this number in its word; nothing of it changed but the part; and the machine reaches a state in
+  -- which it has that part and the word is what the event left there
   pub record Makes (kind : EventKind) (found : ℕ) (old new : RunnerState T) : Type 0 where
     pub met : Spot × Access
     pub asked : met_by old kind ≡ Some met
     pub made : new ≡ record old { part = after m old.layout old.number kind met.0 met.1 old.part found }
+    pub shown : ReachedWith m new.layout new.requests new.number new.part met.0 (written met.1 found)
 
   -- the runner made this event, whose exchange won or lost
   pub record Tries (kind : EventKind) (won : Bool) (old new : RunnerState T) : Type 0 where
@@ -82,11 +80,10 @@ module _ {T : Type 0} (m : Meaning) where
     pub told : agreed ≡ written event.met.1 found
     pub first : won ≡ wins event.met.1 found
 
-  -- the runner made this event, which agrees on a slot; this is the slot that the agreed word names, and the event's exchange won or lost
-  pub record AgreesOn (kind : EventKind) (slot : ℕ) (won : Bool) (old new : RunnerState T) : Type 0 where
-    pub agreed : ℕ
-    pub event : Commits kind agreed won old new
-    pub named : slot ≡ slot_named agreed
+  -- the keeper made the event Split, which finds 0: it split off a worker, and nothing of it changed but the part
+  pub record HasSplit (old new : RunnerState T) : Type 0 where
+    pub asked : met_by old kinds.Split ≡ Some (Seat, Loads)
+    pub made : new ≡ record old { part = after m old.layout old.number kinds.Split Seat Loads old.part 0 }
 
   -- a plain store doesn't tell what it found, and the part afterwards doesn't go by it
   pub record IsBlind (kind : EventKind) (x : Spot × Access) (r : RunnerState T) : Type 0 where

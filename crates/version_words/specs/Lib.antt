@@ -1,6 +1,7 @@
 pub mod Room
 pub mod Shown
 pub mod Naming
+pub mod ReachedWith
 pub mod Private
 pub mod Rule
 pub mod RunnerState

@@ -6,11 +6,11 @@ use Rattle.atomic_table.specs.Table.{State, Me, Step}
 use Rattle.map_history.specs.declared.op.Request.{Request}
 use Rattle.section_body.specs.declared.thunk.Thunk.{Thunk}
 use Rattle.table_words.specs.declared.layout.Layout.{Layout}
-use Rattle.table_words.specs.Places.{slot_count}
 use Rattle.table_words.specs.declared.spot.Spot.{Spot}
 use Rattle.table_words.specs.declared.spot.Spot.TheVariants.{Seat}
 use Rattle.table_words.specs.declared.access.Access.{Access}
 use Rattle.table_words.specs.declared.access.Access.TheVariants.{Loads}
+use Rattle.table_words.specs.Access.{written}
 use Rattle.structure_laws.specs.Meaning.{Meaning}
 use Rattle.runner_steps.specs.declared.event.EventKind.{EventKind}
 use Rattle.runner_steps.specs.declared.event.EventKind.TheVariants as kinds
@@ -22,7 +22,7 @@ use Rattle.version_words.specs.declared.view.View.{View}
 use Rattle.machine_states.specs.Reached.{Reached}
 use Rattle.version_words.specs.Shown.{IsShown}
 use Rattle.version_words.specs.Naming.{Naming}
-use Rattle.version_words.specs.Room.{AreFew}
+use Rattle.version_words.specs.ReachedWith.{ReachedWith}
 
 -- the view is of this table, and its runner has this seat
 pub record IsSeatedAt {T : Type 0} (s : T) (l : Layout) (requests : List Request) (seat : ℕ) (t : T) (v : View T) : Type 0 where
@@ -48,16 +48,17 @@ module _ {T : Type 0} where
   abbrev pub stepped : Meaning → EventKind → Spot → Access → View T → ℕ → View T
   stepped m kind spot access v found = record v { part = after m v.layout v.number kind spot access v.part found }
 
+  -- the seat's view is the one after this event, which met this spot and found this number; and the machine reaches a state in which its
+  -- runner has that part and the word is what the event left there
+  pub record IsTold (m : Meaning) (kind : EventKind) (met : Spot × Access) (me : Me Thunk (View T)) (found : ℕ) (me' : Me Thunk (View T)) : Type 0 where
+    pub view : me' ≡ (stepped m kind met.0 met.1 me.0 found, me.1)
+    pub shown : ReachedWith m me'.0.layout me'.0.requests me'.0.number me'.0.part met.0 (written met.1 found)
+
   -- what a step tells its seat: it was the event of this name on the own part, and the word had this number
   abbrev pub Tells : (T → Meaning) → Naming → Step Thunk → Me Thunk (View T) → ℕ → Me Thunk (View T) → Type 0
   Tells mean naming step me found me' = (s : T) (x : Spot × Access) → me.0.structure ≡ Some s
       → asks (mean s) me.0.layout me.0.requests me.0.number (naming (mean s) me.0.layout me.0.requests me.0.part step) me.0.part ≡ Some x
-      → me' ≡ (stepped (mean s) (naming (mean s) me.0.layout me.0.requests me.0.part step) x.0 x.1 me.0 found, me.1)
-
-  -- the same, and the runner's lists of node slots have then no more entries than there are node slots
-  pub record TellsRoom (mean : T → Meaning) (naming : Naming) (step : Step Thunk) (me : Me Thunk (View T)) (found : ℕ) (me' : Me Thunk (View T)) : Type 0 where
-    pub tells : Tells mean naming step me found me'
-    pub room : (s : T) → me'.0.structure ≡ Some s → AreFew (slot_count me'.0.layout (mean s).fixed_slots) me'.0.part.nodes
+      → IsTold (mean s) (naming (mean s) me.0.layout me.0.requests me.0.part step) x me found me'
 
   -- the keeper's view once it has split off one more worker
   abbrev pub splitting : (T → Meaning) → View T → Option T → View T

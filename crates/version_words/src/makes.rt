@@ -1,43 +1,43 @@
 //! The commits of a Make and of a Retire, and the load of the epoch for a retirement.
-ghost use Rattle.std.specs.Prelude.{◌≡◌, ◌+◌, ◌-◌, Some};
-ghost use Rattle.section_body.specs.Word.{value_of};
+ghost use Rattle.std.specs.Prelude.{◌≡◌, ◌==◌, ◌<◌, ◌^◌, ◌+◌, Some, true, if◌then◌else◌};
 ghost use Rattle.table_words.specs.declared.access.Access.TheVariants.{Exchanges};
 ghost use Rattle.runner_steps.specs.declared.event.EventKind.TheVariants as kinds;
 ghost use Rattle.version_words.specs.Place.{next_log};
 ghost use Rattle.version_words.specs.TableState.{IsOf};
-ghost use Rattle.version_words.specs.Events.{met_by, IsEnabled, Makes, Tries, AgreesOn, slot_named};
+ghost use Rattle.version_words.specs.Events.{met_by, IsEnabled, Makes};
 
 use crate::plays;
-use crate::run_ends::agreed_on;
 use crate::runner::Runner;
 use crate::table::FlockTable;
 use runner_steps::Structure;
-use section_body::Word;
 use table_words::Spot;
 
-/// The slot that this log word names.
-fn slot_named(word: u64) -> u32
-    ensures { result ≡ slot_named word }
+/// The slot that is agreed on after an exchange that was to agree on this one and found this log word.
+fn agreed_slot(found: u64, slot: u32) -> u32
+    requires { found < 2 ^ 32 }
+    ensures found { found ≡ (if found == 0 then 0 else result + 1) }
+    ensures proposal { found == 0 ≡ true → result ≡ slot }
 {
-    let value = Word::from_bits(word).value();
-    if value == 0 { 0 } else { value - 1 }
+    if found == 0 { slot } else { (found - 1) as u32 }
 }
 
 impl<S: Structure> FlockTable<S> {
-    /// The next log word: the slot that the run's Make filled is agreed on, where it is still empty. The answer is the slot that the
-    /// agreed word names, and whether this exchange put it there.
+    /// The next log word: the slot that the run's Make filled is agreed on, where it is still empty. The answer is the agreed slot, and
+    /// whether this exchange put it there.
     pub fn make_commit(&self, mut runner: Runner<S>, slot: u32) -> (Runner<S>, u32, bool)
         requires own { IsOf self.now runner }
         requires next { met_by (S.meaning self.now.structure) runner kinds.MakeCommit ≡ Some (next_log runner.part.run, Exchanges 0 (slot + 1)) }
         ensures own { IsOf self.now result.0 }
-        ensures event { AgreesOn (S.meaning self.now.structure) kinds.MakeCommit result.1 result.2 runner result.0 }
+        ensures event { Makes (S.meaning self.now.structure) kinds.MakeCommit (if result.2 then 0 else result.1 + 1) runner result.0 }
+        ensures proposal { result.2 ≡ true → result.1 ≡ slot }
     {
+        let _ = &self.setup;
         let place = runner.kept.place;
         let spot = Spot::LogWord(place.descriptor, place.agreed);
         let proposal = slot as u64 + 1;
         let found = self.exchange::<plays::MakeCommit>(&mut runner.seat, spot, 0, proposal);
         runner.kept.made(slot, found == 0);
-        (runner, slot_named(agreed_on(found, proposal)), found == 0)
+        (runner, agreed_slot(found, slot), found == 0)
     }
 
     /// The next log word: the node slot that the run's Retire names is agreed on, where it is still empty. The answer is whether this exchange
@@ -46,17 +46,13 @@ impl<S: Structure> FlockTable<S> {
         requires own { IsOf self.now runner }
         requires next { met_by (S.meaning self.now.structure) runner kinds.RetireCommit ≡ Some (next_log runner.part.run, Exchanges 0 (slot + 1)) }
         ensures own { IsOf self.now result.0 }
-        ensures event { Tries (S.meaning self.now.structure) kinds.RetireCommit result.1 runner result.0 }
+        ensures event { Makes (S.meaning self.now.structure) kinds.RetireCommit (if result.1 then 0 else slot + 1) runner result.0 }
     {
+        let _ = &self.setup;
         let place = runner.kept.place;
         let spot = Spot::LogWord(place.descriptor, place.agreed);
         let proposal = slot as u64 + 1;
-        let found = self.exchange_in_room::<plays::RetireCommit>(
-            &mut runner.seat,
-            spot,
-            0,
-            proposal,
-        );
+        let found = self.exchange::<plays::RetireCommit>(&mut runner.seat, spot, 0, proposal);
         runner.kept.slot_retired(slot, found == 0);
         (runner, found == 0)
     }

@@ -1,5 +1,5 @@
 //! Steps that open a run.
-ghost use Rattle.std.specs.Prelude.{◌≡◌, ◌==◌, ◌<◌, not, ℕ, Some};
+ghost use Rattle.std.specs.Prelude.{◌≡◌, Some, if◌then◌else◌};
 ghost use Rattle.table_words.specs.declared.spot.Spot.TheVariants as spots;
 ghost use Rattle.table_words.specs.declared.access.Access.TheVariants.{Loads};
 ghost use Rattle.runner_steps.specs.declared.event.EventKind.TheVariants as kinds;
@@ -36,8 +36,9 @@ impl<S: Structure> FlockTable<S> {
         requires own { IsOf self.now runner }
         requires next { met_by (S.meaning self.now.structure) runner kinds.LoadDone ≡ Some (own_done runner.part.run, Loads) }
         ensures own { IsOf self.now result.0 }
-        ensures event { (found : ℕ) × Makes (S.meaning self.now.structure) kinds.LoadDone found runner result.0 × (result.1 ≡ not (found == 0)) }
+        ensures event { Makes (S.meaning self.now.structure) kinds.LoadDone (if result.1 then 1 else 0) runner result.0 }
     {
+        let _ = &self.setup;
         let spot = Spot::DoneWord(runner.kept.place.descriptor);
         let found = self.load::<plays::LoadDone>(&mut runner.seat, spot);
         runner.kept.place.opened = 13;

@@ -1,4 +1,5 @@
-//! What each step tells its runner: it was this event on the own part, and its word had this number.
+//! What each step tells its runner: it was this event on the own part, its word had this number, and the machine reaches a state in which the
+//! runner has the part after it and the word is what the event left there.
 //!
 //! A step can't be told a value, so where its event has an argument its name reads it off the part before, or off the number of
 //! the word that the step met.
@@ -24,17 +25,6 @@ impl<S: Structure, E: Named> Play<Thunk, View<S>> for Makes<S, E> {
     ghost use Rattle.version_words.specs.Rule.{Tells};
 
     ghost then = { Tells S.meaning E.naming };
-}
-
-/// A step that is the event of this name, after which the own lists of node slots are seen to be short.
-pub struct LeavesRoom<S, E> {
-    marker: PhantomData<(S, E)>,
-}
-
-impl<S: Structure, E: Named> Play<Thunk, View<S>> for LeavesRoom<S, E> {
-    ghost use Rattle.version_words.specs.Rule.{TellsRoom};
-
-    ghost then = { TellsRoom S.meaning E.naming };
 }
 
 pub struct EnterLoad;

@@ -8,7 +8,7 @@ ghost use Rattle.runner_steps.specs.declared.event.EventKind.TheVariants as kind
 ghost use Rattle.machine_states.specs.First.{keeper_part, worker_part};
 ghost use Rattle.version_words.specs.Place.{IsAtRest};
 ghost use Rattle.version_words.specs.TableState.{IsOf, IsNew, HasSmallValue, first_keeper, HasJoinedAll, IsClosing};
-ghost use Rattle.version_words.specs.Events.{IsEnabled, Makes, next_worker, joined_by};
+ghost use Rattle.version_words.specs.Events.{IsEnabled, HasSplit, next_worker, joined_by};
 
 use crate::block::Block;
 use crate::kept::{Kept, Share};
@@ -159,7 +159,7 @@ impl<S: Structure> FlockTable<S> {
         requires own { IsOf self.now keeper }
         requires next { IsEnabled (S.meaning self.now.structure) kinds.Split keeper }
         ensures own { IfOk result (λ x. IsOf self.now x.0 × IsOf self.now x.1) }
-        ensures event { IfOk result (λ x. Makes (S.meaning self.now.structure) kinds.Split 0 keeper x.0) }
+        ensures event { IfOk result (λ x. HasSplit (S.meaning self.now.structure) keeper x.0) }
         ensures worker { IfOk result (λ x. x.1 ≡ next_worker (S.meaning self.now.structure) keeper) }
         ensures err { IfErr result (λ e. e.0 ≡ keeper) }
     {

@@ -2,8 +2,6 @@
 ghost use Rattle.std.specs.Prelude.{◌≡◌, ℕ, ◌==◌, false};
 ghost use Rattle.table_words.specs.declared.access.Access.TheVariants.{Loads, Stores, Exchanges, Raises};
 ghost use Rattle.table_words.specs.Access.{written};
-ghost use Rattle.table_words.specs.Places.{slot_count};
-ghost use Rattle.version_words.specs.Room.{AreFew};
 ghost use Rattle.version_words.specs.Naming.{is_seat};
 ghost use Rattle.version_words.specs.TableState.{IsOf};
 ghost use Rattle.version_words.specs.Events.{Makes, Tries, Leaves, Commits, IsNamed, IsBlind, step_at, nothing, announcing, seen_seat};
@@ -86,29 +84,6 @@ impl<S: Structure> FlockTable<S> {
         self.table
             .shared
             .compare_exchange::<plays::Makes<S, E>>(seat, at, old, new)
-    }
-
-    /// An exchange that is the event of this name, after which the own lists of node slots have no more entries than there are node slots.
-    pub(crate) fn exchange_in_room<E: Named>(
-        &self,
-        seat: &mut Seat<Thunk, View<S>>,
-        spot: Spot,
-        old: u64,
-        new: u64,
-    ) -> u64
-        requires own { IsOf self.now (seen_seat seat.old.table_id seat.old.me) }
-        requires named { IsNamed (S.meaning self.now.structure) E.naming (seen_seat seat.old.table_id seat.old.me) (step_at (S.meaning self.now.structure) self.now spot old new nothing) (spot, Exchanges old new) }
-        requires apart { is_seat spot ≡ false }
-        ensures own { IsOf self.now (seen_seat seat.new.table_id seat.new.me) }
-        ensures event { Makes (S.meaning self.now.structure) (E.naming (S.meaning self.now.structure) seat.old.me.0.layout seat.old.me.0.requests seat.old.me.0.part (step_at (S.meaning self.now.structure) self.now spot old new nothing)) result (seen_seat seat.old.table_id seat.old.me) (seen_seat seat.new.table_id seat.new.me) }
-        ensures tries { Tries (S.meaning self.now.structure) (E.naming (S.meaning self.now.structure) seat.old.me.0.layout seat.old.me.0.requests seat.old.me.0.part (step_at (S.meaning self.now.structure) self.now spot old new nothing)) (result == old) (seen_seat seat.old.table_id seat.old.me) (seen_seat seat.new.table_id seat.new.me) }
-        ensures slots { seat.new.me.1 ≡ seat.old.me.1 }
-        ensures room { AreFew (slot_count self.now.layout (S.meaning self.now.structure).fixed_slots) seat.new.me.0.part.nodes }
-    {
-        let at = spot.address(self.setup.sizes);
-        self.table
-            .shared
-            .compare_exchange::<plays::LeavesRoom<S, E>>(seat, at, old, new)
     }
 
     /// An exchange that is the event of this name, and that announces this thunk.

@@ -5,7 +5,7 @@ use Rattle.runner_steps.specs.declared.event.Event.{Event}
 use Rattle.machine_states.specs.World.{happens}
 use Rattle.machine_states.proofs.Runs.{run_more}
 use Rattle.machine_joins.proofs.Reached.{sound_after, descriptors_after}
-use Rattle.machine_whole.proofs.After.{whole_after}
+use Rattle.machine_whole.proofs.After.{whole_after, log_words_after}
 use Rattle.machine_whole.proofs.Rising.{rises_after}
 use Rattle.interleave_core.proofs.Stops.{stops}
 use Rattle.interleave_core.proofs.schedules.all_schedules.Goals as goal
@@ -37,6 +37,11 @@ pub returns-clause-whole : goal.returns-clause-whole
 returns-clause-whole g c =
     let met = g.met.S.Structure g.world.𝓛 g.world.𝓜 g.world.𝓡 ((λ s allowed. allowed), (λ patient. patient), (λ alone. alone), (λ cuts. cuts)) in
     whole_after (g.S.Structure.meaning c.args.structure) (met.laws c.args.structure) c.args.layout c.args.requests.now c.args.events.now c.loop-at.machine.world
+
+pub returns-clause-logs : goal.returns-clause-logs
+returns-clause-logs g c =
+    let met = g.met.S.Structure g.world.𝓛 g.world.𝓜 g.world.𝓡 ((λ s allowed. allowed), (λ patient. patient), (λ alone. alone), (λ cuts. cuts)) in
+    log_words_after (g.S.Structure.meaning c.args.structure) (met.laws c.args.structure) c.args.layout c.args.requests.now c.args.events.now c.loop-at.machine.world
 
 pub returns-clause-rises : goal.returns-clause-rises
 returns-clause-rises g c =

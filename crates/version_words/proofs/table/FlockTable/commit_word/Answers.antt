@@ -1,9 +1,19 @@
-use Rattle.std.proofs.Common.{refl, sym, subst, ap, ◌+◌, ◌∙◌}
+use Rattle.std.proofs.Common.{refl, sym, subst, ap, ◌+◌, ◌∙◌, arith}
 use Rattle.runner_steps.specs.declared.event.EventKind.TheVariants.{Commit}
 use Rattle.version_words.specs.declared.block.Block.{Block}
+use Rattle.table_words.specs.declared.access.Access.TheVariants.{Exchanges}
+use Rattle.version_words.specs.Place.{next_log}
 use Rattle.version_words.specs.Kept.{IsKept}
-use Rattle.version_words.proofs.Inside.{commit_kept}
+use Rattle.version_words.proofs.Inside.{has_run, log_low, commit_kept}
 use Rattle.version_words.proofs.table.FlockTable.commit_word.Goals as goal
+
+pub overflow_add-place : goal.overflow_add-place
+overflow_add-place g c =
+    let m = g.S.Structure.meaning c.args.self.now.structure in let r = c.args.runner in
+    let run = has_run m r Commit (next_log r.part.run, Exchanges 0 c.args.word) refl c.requires.next in
+    let placed = c.runner.invariant.place.run run.0 (ap (λ y. y.part.run) c.runner.view_is ∙ run.1) in
+    let low = log_low m r Commit (Exchanges 0 c.args.word) c.runner.inside.kept.value.place run.0 run.1 placed c.requires.next in
+    let same = ap (λ (b : Block). b.place.agreed) c.deref.ensures in omega (arith, low, same)
 
 pub invariant_of-runner : goal.invariant_of-runner
 invariant_of-runner g c =

@@ -29,3 +29,14 @@ invariant_of-runner g c =
     let kept = opening_kept mean c.args.self.now.structure d found number block seat.table_id new.table_id seat.me new.me own.structure c.load-word.ensures.slots c.runner.invariant asked event in
     subst (λ (b : Block). IsKept mean number (record { lists = b.lists; place = c.opened.result }) new.me) (sym c.deref_mut.ensures.value)
     (subst (λ (k : RunPlace). IsKept mean number (record { lists = block.lists; place = k }) new.me) (sym (c.opened.ensures ∙ ap (λ (k : RunPlace). opened_place k d found) place_is)) kept)
+
+pub returns-clause-event : goal.returns-clause-event
+returns-clause-event g c =
+    let m = g.S.Structure.meaning c.args.self.now.structure in let seat = c.runner.inside.seat in let new = c.load-word.new.seat in
+    let d = c.args.descriptor in let found = c.load-word.result in let p = seat.me.0.part in
+    let own = subst (λ r. IsOf c.args.self.now r) (sym c.runner.view_is) c.requires.own in
+    let same_sizes : sizes_for m c.args.self.now.layout c.args.self.now.requests ≡ sizes_for m seat.me.0.layout seat.me.0.requests = (λ i. sizes_for m (sym own.layout i) (sym own.requests i)) in
+    let named = thunk_named (sizes_for m c.args.self.now.layout c.args.self.now.requests) (sizes_for m seat.me.0.layout seat.me.0.requests) c.runner.inside.kept.value.place p d c.next_thunk_word-index.result same_sizes c.runner.invariant.place
+    (c.next_thunk_word-index.ensures ∙ ap (λ (b : Block). next_thunk_word b.place) c.deref.ensures) in
+    subst (λ r. Makes m (open_of r.part.run d) found r (seen_seat new.table_id new.me)) c.runner.view_is
+    (subst (λ (k : EventKind). Makes m k found (seen_seat seat.table_id seat.me) (seen_seat new.table_id new.me)) named c.load-word.ensures.event)

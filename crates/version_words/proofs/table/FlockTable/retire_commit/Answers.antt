@@ -1,7 +1,7 @@
-use Rattle.std.proofs.Common.{◌≡◌, Some, ap, sym, subst, ◌∙◌, ◌+◌}
+use Rattle.std.proofs.Common.{◌≡◌, ℕ, ◌<◌, Some, ap, sym, subst, ◌∙◌, ◌+◌, if◌then◌else◌}
 use Rattle.std.specs.Prelude.{◌==◌}
-use Rattle.table_words.specs.declared.layout.Layout.{Layout}
-use Rattle.table_words.specs.Places.{slot_count}
+use Rattle.table_words.specs.Limits.{IsWithinLimits}
+use Rattle.table_words.specs.Access.{written}
 use Rattle.table_words.specs.declared.access.Access.TheVariants.{Exchanges}
 use Rattle.runner_steps.specs.declared.event.EventKind.TheVariants.{RetireCommit}
 use Rattle.runner_steps.specs.Lists.{slot_retired}
@@ -9,25 +9,50 @@ use Rattle.version_words.specs.declared.block.Block.{Block}
 use Rattle.version_words.specs.Room.{AreFew}
 use Rattle.version_words.specs.Place.{next_log}
 use Rattle.version_words.specs.Kept.{IsKept, block_slot_retired}
-use Rattle.version_words.specs.Events.{met_by, seen_seat}
-use Rattle.version_words.proofs.RetireSteps.{retire_room, retire_kept}
+use Rattle.version_words.specs.Events.{met_by, Makes, seen_seat}
+use Rattle.machine_whole.specs.After.{AreAllowed}
+use Rattle.version_words.proofs.Bounds.{few_seen}
+use Rattle.version_words.proofs.RetireSteps.{retire_low, retire_room, retire_kept, retire_found}
 use Rattle.version_words.proofs.table.FlockTable.retire_commit.Goals as goal
 
 pub slot_retired-requires-clause-room : goal.slot_retired-requires-clause-room
 slot_retired-requires-clause-room g c = λ won.
-    let mean = g.S.Structure.meaning in let s = c.args.self.now.structure in let seat = c.runner.inside.seat in let new = c.exchange_in_room-found.new.seat in let number = c.runner.inside.number in
-    let r = seen_seat seat.table_id seat.me in let found = c.exchange_in_room-found.result in let tells = c.exchange_in_room-found.ensures in
+    let mean = g.S.Structure.meaning in let s = c.args.self.now.structure in let seat = c.runner.inside.seat in let new = c.exchange-found.new.seat in let number = c.runner.inside.number in
+    let r = seen_seat seat.table_id seat.me in let found = c.exchange-found.result in let tells = c.exchange-found.ensures in
     let next = subst (λ r. met_by (mean s) r RetireCommit ≡ Some (next_log r.part.run, Exchanges 0 (c.args.slot + 1))) (sym c.runner.view_is) c.requires.next in
-    let few = subst (λ (l : Layout). AreFew (slot_count l (mean s).fixed_slots) new.me.0.part.nodes) (sym tells.own.layout) tells.room in
+    let met = g.met.S.Structure g.world.𝓛 g.world.𝓜 g.world.𝓡 ((λ s allowed. allowed), (λ patient. patient), (λ alone. alone), (λ cuts. cuts)) in
+    let limits = subst IsWithinLimits (sym (tells.own.layout ∙ ap (λ t. t.layout) (sym c.self.view_is))) c.self.invariant.limits in
+    let requests = subst AreAllowed (sym (tells.own.requests ∙ ap (λ t. t.requests) (sym c.self.view_is))) c.self.invariant.allowed in
+    let few = few_seen (mean s) (met.laws s) new.me.0.layout new.me.0.requests new.me.0.number new.me.0.part tells.event.met.0 (written tells.event.met.1 found) limits requests tells.event.shown in
     subst (λ (b : Block). AreFew b.lists.room (slot_retired b.lists.part.nodes c.args.slot b.place.epoch)) (sym c.deref_mut.ensures.value)
     (retire_room mean s (next_log r.part.run) c.args.slot number c.runner.inside.kept.value seat.table_id seat.me (ap (λ r. r.structure) c.runner.view_is ∙ c.requires.own.structure) next c.runner.invariant
     found new.table_id new.me tells.event tells.slots few won)
 
+pub slot_retired-requires-clause-few : goal.slot_retired-requires-clause-few
+slot_retired-requires-clause-few g c =
+    let mean = g.S.Structure.meaning in let s = c.args.self.now.structure in let seat = c.runner.inside.seat in
+    let next = subst (λ r. met_by (mean s) r RetireCommit ≡ Some (next_log r.part.run, Exchanges 0 (c.args.slot + 1))) (sym c.runner.view_is) c.requires.next in
+    subst (λ (b : Block). b.place.agreed < 64) (sym c.deref_mut.ensures.value)
+    (retire_low mean s c.args.slot c.runner.inside.number c.runner.inside.kept.value seat.table_id seat.me next c.runner.invariant)
+
 pub invariant_of-runner : goal.invariant_of-runner
 invariant_of-runner g c =
-    let mean = g.S.Structure.meaning in let s = c.args.self.now.structure in let seat = c.runner.inside.seat in let new = c.exchange_in_room-found.new.seat in let number = c.runner.inside.number in
-    let r = seen_seat seat.table_id seat.me in let found = c.exchange_in_room-found.result in
+    let mean = g.S.Structure.meaning in let s = c.args.self.now.structure in let seat = c.runner.inside.seat in let new = c.exchange-found.new.seat in let number = c.runner.inside.number in
+    let r = seen_seat seat.table_id seat.me in let found = c.exchange-found.result in
     let next = subst (λ r. met_by (mean s) r RetireCommit ≡ Some (next_log r.part.run, Exchanges 0 (c.args.slot + 1))) (sym c.runner.view_is) c.requires.next in
     subst (λ (b : Block). IsKept mean number b new.me) (sym (c.slot_retired.ensures ∙ ap (λ (b : Block). block_slot_retired b c.args.slot (found == 0)) c.deref_mut.ensures.value))
     (retire_kept mean s (next_log r.part.run) c.args.slot number c.runner.inside.kept.value seat.table_id seat.me (ap (λ r. r.structure) c.runner.view_is ∙ c.requires.own.structure) next c.runner.invariant
-    found new.table_id new.me c.exchange_in_room-found.ensures.event c.exchange_in_room-found.ensures.slots)
+    found new.table_id new.me c.exchange-found.ensures.event c.exchange-found.ensures.slots)
+
+pub returns-clause-event : goal.returns-clause-event
+returns-clause-event g c =
+    let mean = g.S.Structure.meaning in let s = c.args.self.now.structure in let seat = c.runner.inside.seat in let new = c.exchange-found.new.seat in let tells = c.exchange-found.ensures in
+    let r = seen_seat seat.table_id seat.me in let found = c.exchange-found.result in
+    let next = subst (λ r. met_by (mean s) r RetireCommit ≡ Some (next_log r.part.run, Exchanges 0 (c.args.slot + 1))) (sym c.runner.view_is) c.requires.next in
+    let met = g.met.S.Structure g.world.𝓛 g.world.𝓜 g.world.𝓡 ((λ s allowed. allowed), (λ patient. patient), (λ alone. alone), (λ cuts. cuts)) in
+    let limits = subst IsWithinLimits (sym (tells.own.layout ∙ ap (λ t. t.layout) (sym c.self.view_is))) c.self.invariant.limits in
+    let requests = subst AreAllowed (sym (tells.own.requests ∙ ap (λ t. t.requests) (sym c.self.view_is))) c.self.invariant.allowed in
+    let is = retire_found mean s (next_log r.part.run) c.args.slot c.runner.inside.number c.runner.inside.kept.value seat.table_id seat.me (ap (λ r. r.structure) c.runner.view_is ∙ c.requires.own.structure) next c.runner.invariant
+    found new.table_id new.me tells.event tells.slots (met.laws s) limits requests in
+    subst (λ r. Makes (mean s) RetireCommit (if found == 0 then 0 else c.args.slot + 1) r (seen_seat new.table_id new.me)) c.runner.view_is
+    (subst (λ (n : ℕ). Makes (mean s) RetireCommit n r (seen_seat new.table_id new.me)) is tells.event)

@@ -21,7 +21,7 @@ returns-clause-own g c = let t = c.self.inside in let seat = c.args.seat.now in
 pub returns-clause-event : goal.returns-clause-event
 returns-clause-event g c = let t = c.self.inside in let seat = c.args.seat.now in
     event_stored g.S.Structure.meaning t.table.shared.table_id t.table.shared.key t.setup c.self.invariant seat.table_id seat.me g.E.Named.naming c.args.spot (Stores c.args.number) c.args.number 0 nothing c.args.self.now c.self.view_is c.requires.own c.requires.named
-    c.args.number c.address-at.result c.address-at.ensures c.store.new.seat.table_id c.store.new.seat.me c.store.ensures.0 c.store.ensures.2 c.requires.blind
+    c.args.number c.address-at.result c.address-at.ensures c.store.new.seat.table_id c.store.new.seat.me c.store.ensures.0 c.store.ensures.2 c.args.number refl c.requires.blind
 
 pub returns-clause-slots : goal.returns-clause-slots
 returns-clause-slots g c = let t = c.self.inside in let seat = c.args.seat.now in
