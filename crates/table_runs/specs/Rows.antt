@@ -1,5 +1,5 @@
 -- Two workers at a table, each with a copy of its part.
-use Rattle.std.specs.Prelude.{◌≡◌, ◌≤◌, List, length}
+use Rattle.std.specs.Prelude.{◌≡◌, List, length}
 use Rattle.map_history.specs.declared.op.Request.{Request}
 use Rattle.table_words.specs.Limits.{IsWithinLimits}
 use Rattle.version_words.specs.RunnerState.{RunnerState}
@@ -18,5 +18,5 @@ pub record IsRow {T : Type 0} (t : TableState T) (keeper : RunnerState T) (first
   pub second_number : second.runner.number ≡ 1
   pub two : t.layout.runners ≡ 2
   pub limits : IsWithinLimits t.layout
-  pub few : length requests ≤ 131072
+  pub asked : length requests ≡ 2
   pub same : requests ≡ t.requests

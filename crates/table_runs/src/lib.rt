@@ -11,6 +11,7 @@ mod log_calls;
 mod own_calls;
 mod places;
 mod row;
+mod threads;
 
 pub use followed::Followed;
 pub use row::{Row, RowEnd, play};

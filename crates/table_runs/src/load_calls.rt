@@ -1,11 +1,11 @@
 //! Calls that load a word of a cell, of the clock, or of an opening.
-ghost use Rattle.std.specs.Prelude.{◌≡◌, ◌<◌, Some, IfOk, IfErr};
+ghost use Rattle.std.specs.Prelude.{◌≡◌, ◌<◌, Some, IfOk, IfErr, if◌then◌else◌};
 ghost use Rattle.table_words.specs.declared.access.Access.TheVariants.{Loads};
 ghost use Rattle.version_words.specs.TableState.{IsOf};
 ghost use Rattle.version_words.specs.Events.{met_by};
 ghost use Rattle.table_runs.specs.Copies.{IsFollowed};
 
-use crate::places::{is_load_of, is_open_of};
+use crate::places::{is_load_of, is_open_of, is_own_done};
 use runner_steps::{EventKind, Run, Structure};
 use table_words::Spot;
 use version_words::{FlockTable, Runner};
@@ -42,8 +42,23 @@ pub fn load_call<S: Structure>(
                 Err(runner)
             }
         }
+        (EventKind::LoadDone, Spot::DoneWord(_)) => {
+            if is_own_done(run, spot) {
+                let (runner, done) = table.load_done(runner);
+                Ok((runner, done_word(done)))
+            } else {
+                Err(runner)
+            }
+        }
         _ => Err(runner),
     }
+}
+
+/// The done word of a section that is done, or isn't.
+fn done_word(done: bool) -> u64
+    ensures { result ≡ if done then 1 else 0 }
+{
+    if done { 1 } else { 0 }
 }
 
 /// The call of an event of a run that loads this word of a nested lock or of the clock, with the word; the runner as it was for any

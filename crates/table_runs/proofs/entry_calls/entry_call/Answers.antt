@@ -7,3 +7,12 @@ returns-in-Announce-clause-followed g c = of_kind c.in-Announce.is (exactly _ _ 
 
 pub returns-in-Idle-clause-followed : goal.returns-in-Idle-clause-followed
 returns-in-Idle-clause-followed g c = of_kind c.in-Idle.is (exactly _ _ _ c.requires.worker _ _ (c.idle.ensures.event 0) refl)
+
+pub returns-in-EnterLoad-clause-followed : goal.returns-in-EnterLoad-clause-followed
+returns-in-EnterLoad-clause-followed g c = of_kind c.in-EnterLoad.is (exactly _ _ _ c.requires.worker _ _ c.enter_load.ensures.event refl)
+
+pub returns-in-EnterAgain-clause-followed : goal.returns-in-EnterAgain-clause-followed
+returns-in-EnterAgain-clause-followed g c = of_kind c.in-EnterAgain.is (exactly _ _ _ c.requires.worker _ _ c.enter_again.ensures.event refl)
+
+pub returns-in-LoadEntry-clause-followed : goal.returns-in-LoadEntry-clause-followed
+returns-in-LoadEntry-clause-followed g c = of_kind c.in-LoadEntry.is (exactly _ _ _ c.requires.worker _ _ c.load_entry.ensures.event refl)

@@ -10,3 +10,6 @@ returns-in-PrivateStore-clause-followed g c = of_kind c.in-PrivateStore.is (exac
 
 pub returns-in-Hold-clause-followed : goal.returns-in-Hold-clause-followed
 returns-in-Hold-clause-followed g c = of_told c.bits.ensures.number (of_kind c.in-Hold.is (exactly _ _ _ c.requires.worker _ _ c.hold-runner.ensures.event refl))
+
+pub returns-in-EpochForRetire-clause-followed : goal.returns-in-EpochForRetire-clause-followed
+returns-in-EpochForRetire-clause-followed g c = of_kind c.in-EpochForRetire.is (exactly _ _ _ c.requires.worker _ _ c.epoch_for_retire.ensures.event refl)
