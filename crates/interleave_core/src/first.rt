@@ -116,7 +116,7 @@ fn keeper_part<S: Structure>(
 
 /// The part of this worker.
 #[tactic(auto, using(machine_states::proofs::Firsts::nodes_below, machine_states::proofs::Firsts::sections_below))]
-fn worker_part<S: Structure>(
+pub fn worker_part<S: Structure>(
     alloc: Global,
     structure: &S,
     layout: Layout,

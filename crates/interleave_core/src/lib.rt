@@ -10,7 +10,7 @@ mod machine;
 mod schedules;
 mod tray;
 
-pub use first::first_words;
+pub use first::{first_words, worker_part};
 pub use laws::{events_are_local, moves_are_lawful};
 pub use machine::{Machine, StepError};
 pub use runner_steps::{Event, EventKind, Structure};

@@ -3,6 +3,8 @@ ghost use Rattle.std.specs.Prelude.{◌≡◌, ◌<◌, ◌≤◌, ◌+◌, ◌&
 ghost use Rattle.runner_steps.specs.declared.stage.Stage.TheVariants as stages;
 ghost use Rattle.runner_steps.specs.Outside.{last_epoch};
 ghost use Rattle.runner_steps.specs.AfterOutside.{is_clear};
+ghost use Rattle.structure_laws.specs.Tray.{tray};
+ghost use Rattle.machine_states.specs.First.{worker_part};
 ghost use Rattle.version_words.specs.TableState.{IsOf};
 ghost use Rattle.table_words.specs.Limits.{IsWithinLimits};
 ghost use Rattle.table_words.specs.Places.{descriptor_count};
@@ -195,6 +197,7 @@ fn split(
     ensures keeper { IfOk result (λ x. IsKeeper x.0 (number + 1) × HasJoined x.0 0) }
     ensures worker { IfOk result (λ x. IsAt x.1 stages.Idle None × (x.1.number ≡ number)) }
     ensures free { IfOk result (λ x. HasFree x.1 number) }
+    ensures part { IfOk result (λ x. x.1.part ≡ worker_part tray table.now.layout number) }
 {
     match table.runner(alloc, keeper) {
         Ok(both) => Ok(both),
@@ -256,6 +259,7 @@ pub fn crew(
     ensures workers { IfOk result (λ x. IsAt x.1 stages.Idle None × IsAt x.2 stages.Idle None) }
     ensures numbers { IfOk result (λ x. (x.1.number ≡ 0) × (x.2.number ≡ 1)) }
     ensures free { IfOk result (λ x. HasFree x.1 0 × HasFree x.2 1) }
+    ensures parts { IfOk result (λ x. (x.1.part ≡ worker_part tray table.now.layout 0) × (x.2.part ≡ worker_part tray table.now.layout 1)) }
 {
     let (keeper, first) = split(table, alloc, keeper, 0)?;
     let (keeper, second) = split(table, alloc, keeper, 1)?;

@@ -150,7 +150,7 @@ by_run : (m : Meaning) (l : Layout) (rs : List Request) (r : ℕ) (k : EventKind
 by_run m l rs r k p None x e h = absurd (some_none x (sym (not_outside m l rs r k p e) ∙ h))
 by_run m l rs r k p (Some q) x e h = (q, refl, open_by m l k p.nodes.free q x (is_open_run q) (no_opening k q e) h)
 
-opened_run : (m : Meaning) (l : Layout) (rs : List Request) (r : ℕ) (k : EventKind) (p : PartState) (x : Spot × Access) → is_inner k ≡ true → asks m l rs r k p ≡ Some x → HasOpenRun p
+pub opened_run : (m : Meaning) (l : Layout) (rs : List Request) (r : ℕ) (k : EventKind) (p : PartState) (x : Spot × Access) → is_inner k ≡ true → asks m l rs r k p ≡ Some x → HasOpenRun p
 opened_run m l rs r k p x e h = let b = by_run m l rs r k p p.run x e (unless_gone (sizes_for m l rs) p.gone (ask_by m l rs r k p p.run) x h) in record { run = b.0; there = b.1; ready = b.2 }
 
 pub step_is : (m : Meaning) (l : Layout) (k : EventKind) (p : PartState) (found : ℕ) (h : HasOpenRun p) → stepped m l k p found ≡ line_after m l k p h.run (next_of m h.run) found
@@ -497,7 +497,7 @@ asked_by : (m : Meaning) (l : Layout) (rs : List Request) (r : ℕ) (k : EventKi
 asked_by m l rs r k p o q x e there h = line_by m l k p.nodes.free q x (is_open_run q) (no_opening k q e) (sym (ap (ask_by m l rs r k p) there) ∙ h)
 
 -- what the step of a run asks that comes next
-line_asked : {T : Type 0} (m : Meaning) (r : RunnerState T) (k : EventKind) (q : RunState) (x : Spot × Access) → is_inner k ≡ true → r.part.run ≡ Some q → met_by m r k ≡ Some x
+pub line_asked : {T : Type 0} (m : Meaning) (r : RunnerState T) (k : EventKind) (q : RunState) (x : Spot × Access) → is_inner k ≡ true → r.part.run ≡ Some q → met_by m r k ≡ Some x
     → line_ask m r.layout k r.part.nodes.free q (next_of m q) ≡ Some x
 line_asked m r k q x e there h = asked_by m r.layout r.requests r.number k r.part r.part.run q x e there (unless_gone (sizes_for m r.layout r.requests) r.part.gone (ask_by m r.layout r.requests r.number k r.part r.part.run) x h)
 
