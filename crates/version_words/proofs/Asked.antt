@@ -20,7 +20,7 @@ use Rattle.runner_steps.specs.Sections.{is_open_run, next_of}
 use Rattle.runner_steps.specs.Outside.{Ask, when, enter_load_ask, announce_ask, enter_again_ask, scan_one_ask}
 use Rattle.runner_steps.specs.Asks.{fitting, sizes_for, asks, ask_by, outside_ask, line_ask, opening_ask}
 use Rattle.std.proofs.lemmas.Bool.Decides.{nat_tests}
-use Rattle.version_words.specs.Naming.{scan_of}
+use Rattle.runner_block.specs.Scans.{scan_of}
 use Rattle.version_words.specs.RunnerState.{RunnerState}
 use Rattle.version_words.specs.Events.{met_by, IsEnabled}
 use Rattle.machine_states.proofs.Steps.{some_same}

@@ -21,7 +21,7 @@ use Rattle.machine_whole.specs.Slots.{times_among}
 use Rattle.machine_whole.specs.Lengths.{entry_count}
 use Rattle.machine_whole.specs.After.{AreAllowed}
 use Rattle.machine_whole.proofs.After.{whole_after, short_after}
-use Rattle.version_words.specs.Room.{AreFew}
+use Rattle.runner_block.specs.Room.{AreFew}
 use Rattle.version_words.specs.ReachedWith.{ReachedWith}
 use Rattle.version_words.specs.TableState.{HasSmallValue}
 

@@ -23,8 +23,9 @@ use Rattle.runner_steps.specs.Lists.{descriptor_taken, section_published, cell_r
 use Rattle.runner_steps.specs.Outside.{hold_ask, is_ready, is_publishable, is_due}
 use Rattle.runner_steps.specs.AfterOutside.{hold_after}
 use Rattle.version_words.specs.declared.view.View.{View}
-use Rattle.version_words.specs.declared.block.Block.{Block}
-use Rattle.version_words.specs.RunnerState.{RunnerState, KeptState, held_in, told_part, told_published, with_part}
+use Rattle.runner_block.specs.declared.block.Block.{Block}
+use Rattle.runner_block.specs.Kept.{KeptState, held_in, with_part}
+use Rattle.version_words.specs.RunnerState.{RunnerState, told_part, told_published}
 use Rattle.runner_steps.specs.declared.entries.Published.{Published}
 use Rattle.version_words.specs.TableState.{TableState}
 use Rattle.version_words.specs.Naming.{hold_of}

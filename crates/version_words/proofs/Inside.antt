@@ -35,8 +35,8 @@ use Rattle.runner_steps.specs.AfterInRun.{opened_more, over_if, goes_on, agrees,
 use Rattle.runner_steps.specs.Lists.{cell_read, learned}
 use Rattle.runner_steps.specs.After.{line_after, after_by, stepped}
 use Rattle.version_words.specs.declared.view.View.{View}
-use Rattle.version_words.specs.declared.place.RunPlace.{RunPlace}
-use Rattle.version_words.specs.declared.block.Block.{Block}
+use Rattle.runner_block.specs.declared.place.RunPlace.{RunPlace}
+use Rattle.runner_block.specs.declared.block.Block.{Block}
 use Rattle.version_words.specs.Naming.{load_of}
 use Rattle.version_words.specs.RunnerState.{RunnerState, told_part, told_published}
 use Rattle.version_words.specs.TableState.{TableState, IsOf}

@@ -13,8 +13,9 @@ use Rattle.table_words.specs.declared.spot.Spot.TheVariants as spots
 use Rattle.table_words.specs.declared.access.Access.TheVariants.{Loads}
 use Rattle.machine_states.proofs.Steps.{some_same}
 use Rattle.version_words.specs.declared.view.View.{View}
-use Rattle.version_words.specs.declared.block.Block.{Block}
-use Rattle.version_words.specs.RunnerState.{RunnerState, KeptState, told_part, with_part}
+use Rattle.runner_block.specs.declared.block.Block.{Block}
+use Rattle.runner_block.specs.Kept.{KeptState, with_part}
+use Rattle.version_words.specs.RunnerState.{RunnerState, told_part}
 use Rattle.version_words.specs.Place.{HasPlace, HasEpoch, EndsSo}
 use Rattle.version_words.specs.Kept.{IsKept, IsOfTable}
 use Rattle.version_words.specs.Events.{IsEnabled, Makes, seen_seat}

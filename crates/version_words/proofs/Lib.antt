@@ -1,5 +1,4 @@
 pub mod Lists
-pub mod Rooms
 pub mod Splits
 pub mod Asked
 pub mod Told

@@ -33,11 +33,13 @@ use Rattle.machine_joins.proofs.RunPlaces.{next_in_line}
 use Rattle.machine_whole.specs.After.{AreAllowed}
 use Rattle.version_words.specs.declared.view.View.{View}
 use Rattle.version_words.specs.ReachedWith.{ReachedWith}
-use Rattle.version_words.specs.declared.block.Block.{Block}
-use Rattle.version_words.specs.RunnerState.{RunnerState, told_part, told_published, with_part}
+use Rattle.runner_block.specs.declared.block.Block.{Block}
+use Rattle.runner_block.specs.Kept.{with_part}
+use Rattle.version_words.specs.RunnerState.{RunnerState, told_part, told_published}
 use Rattle.version_words.specs.TableState.{TableState}
 use Rattle.version_words.specs.Place.{IsPlaced, next_log}
-use Rattle.version_words.specs.Kept.{IsKept, block_made, block_retired}
+use Rattle.runner_block.specs.Blocks.{block_made, block_retired}
+use Rattle.version_words.specs.Kept.{IsKept}
 use Rattle.version_words.specs.Events.{met_by, IsEnabled, IsNamed, Makes, step_at, nothing, seen_seat}
 use Rattle.version_words.proofs.Asked.{unless_gone, tested}
 use Rattle.version_words.proofs.Keeps.{KeepsPart, no_epoch, was_part, then_kept}

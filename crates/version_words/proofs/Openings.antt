@@ -28,11 +28,13 @@ use Rattle.runner_steps.specs.After.{line_after, after_by}
 use Rattle.machine_whole.specs.After.{AreAllowed}
 use Rattle.version_words.specs.declared.view.View.{View}
 use Rattle.version_words.specs.ReachedWith.{ReachedWith}
-use Rattle.version_words.specs.declared.place.RunPlace.{RunPlace}
-use Rattle.version_words.specs.declared.block.Block.{Block}
+use Rattle.runner_block.specs.declared.place.RunPlace.{RunPlace}
+use Rattle.runner_block.specs.declared.block.Block.{Block}
 use Rattle.version_words.specs.Naming.{open_of}
-use Rattle.version_words.specs.RunnerState.{RunnerState, KeptState, told_part}
-use Rattle.version_words.specs.Place.{IsPlaced, HasPlace, HasEpoch, opened_of, opened_place, next_thunk_word}
+use Rattle.runner_block.specs.Kept.{KeptState}
+use Rattle.version_words.specs.RunnerState.{RunnerState, told_part}
+use Rattle.runner_block.specs.Places.{opened_place, next_thunk_word}
+use Rattle.version_words.specs.Place.{IsPlaced, HasPlace, HasEpoch, opened_of}
 use Rattle.version_words.specs.Kept.{IsKept}
 use Rattle.version_words.specs.Events.{met_by, Makes, seen_seat}
 use Rattle.version_words.proofs.Asked.{unless_gone, tested}

@@ -32,14 +32,16 @@ use Rattle.runner_steps.specs.AfterOutside.{private_load_after}
 use Rattle.runner_steps.specs.After.{after_by, stepped}
 use Rattle.machine_states.proofs.Steps.{some_same, asked_fits}
 use Rattle.version_words.specs.declared.view.View.{View}
-use Rattle.version_words.specs.declared.place.RunPlace.{RunPlace}
-use Rattle.version_words.specs.declared.block.Block.{Block}
-use Rattle.version_words.specs.RunnerState.{RunnerState, with_nodes}
+use Rattle.runner_block.specs.declared.place.RunPlace.{RunPlace}
+use Rattle.runner_block.specs.declared.block.Block.{Block}
+use Rattle.runner_block.specs.Kept.{with_nodes}
+use Rattle.version_words.specs.RunnerState.{RunnerState}
 use Rattle.version_words.specs.TableState.{TableState, IsOf}
 use Rattle.version_words.specs.Private.{IsWithin, private_spot, slot_at, word_at}
 use Rattle.version_words.specs.Place.{IsPlaced, HasEpoch}
-use Rattle.version_words.specs.Kept.{IsKept, block_looked, block_filling}
-use Rattle.version_words.specs.Looks.{MayTake}
+use Rattle.runner_block.specs.Blocks.{block_looked, block_filling}
+use Rattle.version_words.specs.Kept.{IsKept}
+use Rattle.runner_block.specs.Looks.{MayTake}
 use Rattle.version_words.specs.Events.{met_by, IsEnabled, IsNamed, Makes, step_at, nothing, seen_seat}
 use Rattle.version_words.proofs.Asked.{unless_gone, tested}
 use Rattle.version_words.proofs.Keeps.{KeepsPart, no_epoch, was_part, then_kept}

@@ -32,11 +32,12 @@ use Rattle.runner_steps.specs.AfterOutside.{private_store_after}
 use Rattle.runner_steps.specs.After.{after_by, noted, stepped}
 use Rattle.machine_states.proofs.Steps.{asked_fits}
 use Rattle.version_words.specs.declared.view.View.{View}
-use Rattle.version_words.specs.declared.block.Block.{Block}
+use Rattle.runner_block.specs.declared.block.Block.{Block}
 use Rattle.version_words.specs.RunnerState.{RunnerState}
 use Rattle.version_words.specs.TableState.{TableState, IsOf}
 use Rattle.version_words.specs.Private.{IsWithin, private_spot, slot_at, word_at}
-use Rattle.version_words.specs.Kept.{IsKept, block_stored}
+use Rattle.runner_block.specs.Blocks.{block_stored}
+use Rattle.version_words.specs.Kept.{IsKept}
 use Rattle.version_words.specs.Events.{met_by, IsEnabled, IsNamed, IsBlind, Makes, step_at, nothing, seen_seat}
 use Rattle.version_words.proofs.Asked.{unless_gone, tested}
 use Rattle.version_words.proofs.Keeps.{KeepsPart, no_epoch, was_part, then_kept}

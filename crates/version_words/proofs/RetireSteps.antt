@@ -33,11 +33,12 @@ use Rattle.machine_states.proofs.Steps.{some_same}
 use Rattle.machine_whole.specs.After.{AreAllowed}
 use Rattle.version_words.specs.declared.view.View.{View}
 use Rattle.version_words.specs.ReachedWith.{ReachedWith}
-use Rattle.version_words.specs.declared.block.Block.{Block}
+use Rattle.runner_block.specs.declared.block.Block.{Block}
 use Rattle.version_words.specs.RunnerState.{RunnerState}
-use Rattle.version_words.specs.Room.{AreFew}
+use Rattle.runner_block.specs.Room.{AreFew}
 use Rattle.version_words.specs.Place.{IsPlaced, next_log}
-use Rattle.version_words.specs.Kept.{IsKept, block_slot_retired}
+use Rattle.runner_block.specs.Blocks.{block_slot_retired}
+use Rattle.version_words.specs.Kept.{IsKept}
 use Rattle.version_words.specs.Events.{met_by, Makes, seen_seat}
 use Rattle.version_words.proofs.Asked.{unless_gone}
 use Rattle.version_words.proofs.Keeps.{KeepsPart, was_part, then_kept}

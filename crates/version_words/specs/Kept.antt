@@ -1,16 +1,12 @@
 -- What a runner's type says of its fields, and how its block changes.
-use Rattle.std.specs.Prelude.{◌≡◌, ℕ, ◌+◌, [], Bool, true, false, ◌==◌, ◌||◌, Some, if◌then◌else◌}
+use Rattle.std.specs.Prelude.{◌≡◌, ℕ, [], Some}
 use Rattle.atomic_table.specs.Table.{Me}
 use Rattle.section_body.specs.declared.thunk.Thunk.{Thunk}
-use Rattle.section_body.specs.Word.{version_of}
-use Rattle.table_words.specs.declared.layout.Layout.{Layout}
 use Rattle.table_words.specs.Places.{slot_count}
 use Rattle.structure_laws.specs.Meaning.{Meaning}
-use Rattle.runner_steps.specs.Lists.{nodes_looked, slot_taken, slot_made, slot_back, slot_retired}
-use Rattle.runner_steps.specs.AfterOutside.{retire_after}
 use Rattle.version_words.specs.declared.view.View.{View}
-use Rattle.version_words.specs.declared.block.Block.{Block}
-use Rattle.version_words.specs.RunnerState.{told_part, with_part, with_nodes}
+use Rattle.runner_block.specs.declared.block.Block.{Block}
+use Rattle.version_words.specs.RunnerState.{told_part}
 use Rattle.version_words.specs.Place.{HasPlace, HasEpoch, EndsSo}
 
 -- the lists have room for each node slot of the table, and the place says whether a run is in progress and has the epoch for its retirement
@@ -26,36 +22,3 @@ pub record IsKept {T : Type 0} (mean : T → Meaning) (number : ℕ) (kept : Blo
   pub place : HasPlace kept.place me.0.part
   pub slots : me.1 ≡ []
   pub of_table : (s : T) → me.0.structure ≡ Some s → IsOfTable (mean s) kept me.0
-
--- the block after a private load in a run, of which a Make has its slot in the hand, or not yet
-abbrev pub block_filling : Block → ℕ → Bool → Block
-block_filling b slot true = b
-block_filling b slot false = record { lists = with_nodes b.lists (slot_taken b.lists.part.nodes slot); place = record (b.place) { making = true; worn = false } }
-
--- the block after a private load
-abbrev pub block_looked : Layout → Block → ℕ → ℕ → ℕ → Block
-block_looked l b slot word found = if b.place.inside then block_filling b slot b.place.making
-    else record b { lists = with_nodes b.lists (nodes_looked l b.lists.part.nodes slot word found) }
-
--- after a private store
-abbrev pub block_stored : Layout → Block → ℕ → Block
-block_stored l b number = record b { place = record (b.place) { worn = b.place.worn || version_of number == l.version_max } }
-
--- after the commit of a Make
-abbrev pub block_made : Block → ℕ → Bool → Block
-block_made b slot won = record {
-  lists = with_nodes b.lists (if won then slot_made b.lists.part.nodes slot else slot_back b.lists.part.nodes slot b.place.worn);
-  place = record (b.place) { agreed = b.place.agreed + 1; making = false; worn = false };
-}
-
--- after the load of the epoch for a retirement
-abbrev pub block_retired : Block → ℕ → Block
-block_retired b epoch = if b.place.inside then record b { place = record (b.place) { epoch = epoch } }
-    else record b { lists = with_part b.lists (retire_after b.lists.part b.lists.part.published epoch) }
-
--- after the commit of a retirement
-abbrev pub block_slot_retired : Block → ℕ → Bool → Block
-block_slot_retired b slot won = record {
-  lists = with_nodes b.lists (if won then slot_retired b.lists.part.nodes slot b.place.epoch else b.lists.part.nodes);
-  place = record (b.place) { agreed = b.place.agreed + 1 };
-}

@@ -1,16 +1,13 @@
-pub mod Room
 pub mod Shown
 pub mod Naming
 pub mod ReachedWith
 pub mod Private
 pub mod Bases
-pub mod StageFields
 pub mod Rule
 pub mod RunnerState
 pub mod TableState
 pub mod Events
 pub mod Place
 pub mod Kept
-pub mod Looks
 pub mod Closed
 pub mod Stages

@@ -10,8 +10,6 @@ use Rattle.table_words.specs.declared.spot.Spot.TheVariants.{Seat}
 use Rattle.structure_laws.specs.Meaning.{Meaning}
 use Rattle.runner_steps.specs.declared.event.EventKind.{EventKind}
 use Rattle.runner_steps.specs.declared.event.EventKind.TheVariants as kinds
-use Rattle.runner_steps.specs.declared.stage.Stage.{Stage}
-use Rattle.runner_steps.specs.declared.stage.Stage.TheVariants as stages
 use Rattle.runner_steps.specs.State.{RunState, PartState}
 
 -- which event a step is, by the part before it and the step's word and operands: a step can be told nothing else
@@ -27,11 +25,6 @@ is_plain _ = true
 abbrev pub is_seat : Spot → Bool
 is_seat Seat = true
 is_seat _ = false
-
--- a scan reads the announcement that comes next
-abbrev pub scan_of : Stage → EventKind
-scan_of (stages.Scanning epoch next clear) = kinds.ScanOne next
-scan_of _ = kinds.ScanOne 0
 
 -- a stamp word or a reply word is read, by its place among them
 abbrev pub entry_of : ℕ → EventKind

@@ -1,5 +1,5 @@
 -- What a runner's code keeps of a run in progress.
-use Rattle.std.specs.Prelude.{◌≡◌, ℕ, ◌+◌, ◌==◌, Bool, true, false, nat_lt, if◌then◌else◌, ◌<◌, ◌≤◌, ◌%◌, ◌^◌, length, slice_index, Option, Some, None}
+use Rattle.std.specs.Prelude.{◌≡◌, ℕ, Bool, true, false, ◌<◌, ◌≤◌, ◌%◌, ◌^◌, length, slice_index, Option, Some, None}
 use Rattle.std.specs.Option.{is_some}
 use Rattle.section_body.specs.declared.micro.Micro.{Micro}
 use Rattle.section_body.specs.declared.micro.Micro.TheVariants as micros
@@ -11,7 +11,7 @@ use Rattle.structure_laws.specs.Meaning.{Meaning}
 use Rattle.runner_steps.specs.State.{RunState, PartState}
 use Rattle.runner_steps.specs.Tests.{has}
 use Rattle.runner_steps.specs.Sections.{line_of, next_of}
-use Rattle.version_words.specs.declared.place.RunPlace.{RunPlace}
+use Rattle.runner_block.specs.declared.place.RunPlace.{RunPlace}
 
 -- it has the run's descriptor, how many words of the opening were loaded, the request that they name, how many words were agreed on, whether
 -- a Make has its slot in the hand, and whether a cell of that slot came to the greatest version
@@ -74,18 +74,3 @@ held_by_run (Some q) word = held_word q.descriptor word
 abbrev pub opened_of : Option RunState → ℕ
 opened_of None = 0
 opened_of (Some q) = length q.opened
-
--- the place after one more word of an opening, or after the first of a new one
-abbrev pub opened_place : RunPlace → ℕ → ℕ → RunPlace
-opened_place kept descriptor word = if nat_lt kept.opened 12
-    then record kept { descriptor = descriptor; opened = kept.opened + 1; request = if kept.opened == 1 then word % 2 ^ 32 else kept.request; inside = true }
-    else record { descriptor = descriptor; opened = 1; request = 0; agreed = 0; epoch = 0; inside = true; making = false; worn = false }
-
--- the thunk word that is loaded next: that of the opening, or the first one of a new run
-abbrev pub next_thunk_word : RunPlace → ℕ
-next_thunk_word kept = if nat_lt kept.opened 12 then kept.opened else 0
-
--- the place of a runner in no run
-pub record IsAtRest (kept : RunPlace) : Type 0 where
-  pub opened : kept.opened ≡ 13
-  pub outside : kept.inside ≡ false

@@ -1,13 +1,13 @@
 -- What contracts see of a runner.
-use Rattle.std.specs.Prelude.{ℕ, List, [], Bool, Option, Some, None, false, if◌then◌else◌}
+use Rattle.std.specs.Prelude.{ℕ, List, [], Option, Some, None, false}
 use Rattle.atomic_table.specs.Seated.{TableId}
 use Rattle.map_history.specs.declared.op.Request.{Request}
 use Rattle.table_words.specs.declared.layout.Layout.{Layout}
 use Rattle.runner_steps.specs.declared.stage.Stage.{Stage}
 use Rattle.runner_steps.specs.declared.stage.Stage.TheVariants as stages
 use Rattle.runner_steps.specs.declared.entries.Published.{Published}
-use Rattle.runner_steps.specs.State.{PartState, NodesState}
-use Rattle.runner_steps.specs.Lists.{no_reads, without}
+use Rattle.runner_steps.specs.State.{PartState}
+use Rattle.runner_steps.specs.Lists.{no_reads}
 
 -- a runner: its table, its number, what it is at and keeps, and of the keeper the parts of the workers that it joined, the last one first
 pub record RunnerState (T : Type 0) : Type 0 where
@@ -23,24 +23,6 @@ pub record RunnerState (T : Type 0) : Type 0 where
 abbrev pub entered_of : Stage → Option ℕ
 entered_of (stages.Entered g) = Some g
 entered_of _ = None
-
--- what a runner's code keeps of its part, and for how many node slots its lists have room
-pub record KeptState : Type 0 where
-  pub part : PartState
-  pub room : ℕ
-
--- another part in the same room
-abbrev pub with_part : KeptState → PartState → KeptState
-with_part kept p = record kept { part = p }
-
--- other lists of node slots
-abbrev pub with_nodes : KeptState → NodesState → KeptState
-with_nodes kept nodes = record kept { part = record (kept.part) { nodes = nodes } }
-
--- the section that is published with this descriptor, as the code keeps it
-abbrev pub published_as : Option ℕ → Option Published
-published_as None = None
-published_as (Some descriptor) = Some (record { descriptor = descriptor; walked = 0; over = false })
 
 abbrev pub told_published : Option Published → Option Published
 told_published None = None
@@ -58,21 +40,3 @@ told_part p = record {
   records = record { known = []; finished = []; events = 0; left = []; splits = p.records.splits; joined = [] };
   gone = false;
 }
-
--- the epoch that a runner loaded and has to announce
-abbrev pub loaded_of : Stage → ℕ
-loaded_of (stages.Loaded epoch) = epoch
-loaded_of _ = 0
-
--- the epoch for which a runner scans
-abbrev pub scanned_of : Stage → ℕ
-scanned_of (stages.Scanning epoch next clear) = epoch
-scanned_of _ = 0
-
--- of what the code keeps, after a section was published with this descriptor
-abbrev pub published_in : PartState → ℕ → PartState
-published_in p descriptor = record p { published = published_as (Some descriptor); descriptors = record (p.descriptors) { free = without p.descriptors.free descriptor } }
-
--- and after an exchange that was to publish it, which won or lost
-abbrev pub held_in : PartState → ℕ → Bool → PartState
-held_in p descriptor won = if won then published_in p descriptor else p

@@ -7,26 +7,19 @@
 #![tactic(auto)]
 
 mod bases;
-mod block;
-mod descriptors;
 mod entry;
 mod hold;
-mod kept;
 mod laws;
 mod makes;
-mod nodes;
 mod opening;
-mod place;
 mod plays;
 mod private;
-mod reserved;
 mod rule;
 mod run_ends;
 mod runner;
 mod runs;
 mod scan;
 mod seats;
-mod stage_fields;
 mod table;
 mod view;
 mod words;

@@ -260,7 +260,7 @@ impl Named for EpochForRetire {
 pub struct ScanOne;
 
 impl Named for ScanOne {
-    ghost use Rattle.version_words.specs.Naming.{scan_of};
+    ghost use Rattle.runner_block.specs.Scans.{scan_of};
 
     ghost naming = { λ m layout requests part step. scan_of part.stage };
 }

@@ -2,9 +2,9 @@
 ghost use Rattle.std.specs.Prelude.{◌≡◌, length};
 ghost use Rattle.version_words.specs.RunnerState.{entered_of};
 
-use crate::block::Block;
 use crate::view::View;
 use atomic_table::Seat;
+use runner_block::Block;
 use runner_steps::{Stage, Structure};
 use section_body::Thunk;
 use std::alloc::Global;

@@ -1,8 +1,8 @@
 use Rattle.std.proofs.Common.{refl, sym, subst, ap, ◌∙◌}
 use Rattle.runner_steps.specs.declared.event.EventKind.TheVariants.{Advance}
 use Rattle.runner_steps.specs.AfterOutside.{advance_after}
-use Rattle.version_words.specs.declared.block.Block.{Block}
-use Rattle.version_words.specs.RunnerState.{with_part}
+use Rattle.runner_block.specs.declared.block.Block.{Block}
+use Rattle.runner_block.specs.Kept.{with_part}
 use Rattle.version_words.specs.Kept.{IsKept}
 use Rattle.version_words.proofs.Told.{told_advance}
 use Rattle.version_words.proofs.Keeps.{lists_kept}

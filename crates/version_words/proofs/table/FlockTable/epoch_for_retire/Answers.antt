@@ -1,7 +1,8 @@
 use Rattle.std.proofs.Common.{ap, sym, subst, ◌∙◌}
 use Rattle.runner_steps.specs.declared.event.EventKind.TheVariants.{EpochForRetire}
-use Rattle.version_words.specs.declared.block.Block.{Block}
-use Rattle.version_words.specs.Kept.{IsKept, block_retired}
+use Rattle.runner_block.specs.declared.block.Block.{Block}
+use Rattle.runner_block.specs.Blocks.{block_retired}
+use Rattle.version_words.specs.Kept.{IsKept}
 use Rattle.version_words.specs.Events.{IsEnabled, seen_seat}
 use Rattle.version_words.proofs.MakeSteps.{epoch_named, epoch_kept}
 use Rattle.version_words.proofs.table.FlockTable.epoch_for_retire.Goals as goal

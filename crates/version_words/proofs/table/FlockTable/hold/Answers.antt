@@ -2,8 +2,8 @@ use Rattle.std.proofs.Common.{ap, sym, subst, ◌∙◌}
 use Rattle.std.specs.Prelude.{◌==◌}
 use Rattle.table_words.specs.Limits.{IsWithinLimits}
 use Rattle.runner_steps.specs.declared.event.EventKind.TheVariants.{Hold}
-use Rattle.version_words.specs.declared.block.Block.{Block}
-use Rattle.version_words.specs.RunnerState.{held_in, with_part}
+use Rattle.runner_block.specs.declared.block.Block.{Block}
+use Rattle.runner_block.specs.Kept.{held_in, with_part}
 use Rattle.version_words.specs.Kept.{IsKept}
 use Rattle.version_words.specs.Events.{IsEnabled, Makes, seen_seat}
 use Rattle.version_words.proofs.Holds.{can_publish, hold_event, hold_named, hold_kept, none_here}

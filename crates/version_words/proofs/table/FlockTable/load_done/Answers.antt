@@ -3,7 +3,7 @@ use Rattle.std.specs.Prelude.{◌==◌, not}
 use Rattle.table_words.specs.Limits.{IsWithinLimits}
 use Rattle.runner_steps.specs.declared.event.EventKind.TheVariants.{LoadDone}
 use Rattle.machine_whole.specs.After.{AreAllowed}
-use Rattle.version_words.specs.declared.block.Block.{Block}
+use Rattle.runner_block.specs.declared.block.Block.{Block}
 use Rattle.version_words.specs.Kept.{IsKept}
 use Rattle.version_words.specs.Events.{Makes, seen_seat}
 use Rattle.version_words.proofs.Founds.{done_is}

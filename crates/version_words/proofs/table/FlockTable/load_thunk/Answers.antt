@@ -3,11 +3,12 @@ use Rattle.table_words.specs.declared.spot.Spot.TheVariants.{ThunkWord}
 use Rattle.table_words.specs.declared.access.Access.TheVariants.{Loads}
 use Rattle.runner_steps.specs.declared.event.EventKind.{EventKind}
 use Rattle.runner_steps.specs.Asks.{sizes_for}
-use Rattle.version_words.specs.declared.block.Block.{Block}
-use Rattle.version_words.specs.declared.place.RunPlace.{RunPlace}
+use Rattle.runner_block.specs.declared.block.Block.{Block}
+use Rattle.runner_block.specs.declared.place.RunPlace.{RunPlace}
 use Rattle.version_words.specs.Naming.{open_of}
 use Rattle.version_words.specs.Kept.{IsKept}
-use Rattle.version_words.specs.Place.{opened_of, opened_place, next_thunk_word}
+use Rattle.runner_block.specs.Places.{opened_place, next_thunk_word}
+use Rattle.version_words.specs.Place.{opened_of}
 use Rattle.version_words.specs.TableState.{IsOf}
 use Rattle.version_words.specs.Events.{met_by, Makes, seen_seat}
 use Rattle.version_words.proofs.Openings.{opening_kept, thunk_named}

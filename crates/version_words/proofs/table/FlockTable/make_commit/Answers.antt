@@ -5,9 +5,10 @@ use Rattle.table_words.specs.declared.access.Access.TheVariants.{Exchanges}
 use Rattle.runner_steps.specs.declared.event.EventKind.TheVariants.{MakeCommit}
 use Rattle.runner_steps.specs.Tests.{has}
 use Rattle.machine_whole.specs.After.{AreAllowed}
-use Rattle.version_words.specs.declared.block.Block.{Block}
+use Rattle.runner_block.specs.declared.block.Block.{Block}
 use Rattle.version_words.specs.Place.{next_log}
-use Rattle.version_words.specs.Kept.{IsKept, block_made}
+use Rattle.runner_block.specs.Blocks.{block_made}
+use Rattle.version_words.specs.Kept.{IsKept}
 use Rattle.version_words.specs.Events.{met_by, Makes, seen_seat}
 use Rattle.version_words.proofs.MakeSteps.{in_hand, make_low, make_kept, make_found}
 use Rattle.version_words.proofs.table.FlockTable.make_commit.Goals as goal

@@ -2,9 +2,10 @@ use Rattle.std.proofs.Common.{ap, sym, subst, ◌∙◌}
 use Rattle.runner_steps.specs.declared.event.EventKind.TheVariants.{PrivateLoad}
 use Rattle.table_words.specs.Places.{slot_count}
 use Rattle.version_words.specs.TableState.{IsOf}
-use Rattle.version_words.specs.declared.block.Block.{Block}
-use Rattle.version_words.specs.Kept.{IsKept, block_looked}
-use Rattle.version_words.specs.Looks.{MayTake}
+use Rattle.runner_block.specs.declared.block.Block.{Block}
+use Rattle.runner_block.specs.Blocks.{block_looked}
+use Rattle.version_words.specs.Kept.{IsKept}
+use Rattle.runner_block.specs.Looks.{MayTake}
 use Rattle.version_words.specs.Events.{IsEnabled, Makes, seen_seat}
 use Rattle.version_words.proofs.OwnLoads.{load_within, load_event, load_named, load_kept, takes_free}
 use Rattle.version_words.proofs.table.FlockTable.private_load.Goals as goal

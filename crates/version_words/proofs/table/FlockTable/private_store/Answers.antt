@@ -1,8 +1,9 @@
 use Rattle.std.proofs.Common.{ap, ◌∙◌, ℕ, sym, subst}
 use Rattle.runner_steps.specs.declared.event.EventKind.TheVariants.{PrivateStore}
 use Rattle.version_words.specs.TableState.{IsOf}
-use Rattle.version_words.specs.declared.block.Block.{Block}
-use Rattle.version_words.specs.Kept.{IsKept, block_stored}
+use Rattle.runner_block.specs.declared.block.Block.{Block}
+use Rattle.runner_block.specs.Blocks.{block_stored}
+use Rattle.version_words.specs.Kept.{IsKept}
 use Rattle.version_words.specs.Events.{IsEnabled, Makes, seen_seat}
 use Rattle.version_words.proofs.Privates.{few_cells, store_event, store_named, store_kept}
 use Rattle.version_words.proofs.table.FlockTable.private_store.Goals as goal

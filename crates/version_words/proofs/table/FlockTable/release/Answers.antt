@@ -7,7 +7,7 @@ use Rattle.runner_steps.specs.declared.event.EventKind.TheVariants.{Release}
 use Rattle.std.specs.Prelude.{Option}
 use Rattle.runner_steps.specs.State.{RunState}
 use Rattle.std.proofs.Common.{false}
-use Rattle.version_words.specs.declared.block.Block.{Block}
+use Rattle.runner_block.specs.declared.block.Block.{Block}
 use Rattle.version_words.specs.Kept.{IsKept}
 use Rattle.version_words.specs.Place.{held_by_run}
 use Rattle.version_words.proofs.Inside.{may_release, has_run, ender_kept}

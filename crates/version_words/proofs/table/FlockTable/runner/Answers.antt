@@ -3,8 +3,8 @@ use Rattle.version_words.proofs.table.FlockTable.runner.Goals as goal
 use Rattle.std.proofs.Common.{ap, sym, subst, ◌∙◌}
 use Rattle.runner_steps.specs.declared.event.EventKind.TheVariants.{Split}
 use Rattle.runner_steps.specs.AfterOutside.{split_after}
-use Rattle.version_words.specs.declared.block.Block.{Block}
-use Rattle.version_words.specs.RunnerState.{with_part}
+use Rattle.runner_block.specs.declared.block.Block.{Block}
+use Rattle.runner_block.specs.Kept.{with_part}
 use Rattle.version_words.specs.Kept.{IsKept}
 use Rattle.version_words.specs.Events.{IsEnabled}
 use Rattle.version_words.proofs.Keeps.{split_kept}

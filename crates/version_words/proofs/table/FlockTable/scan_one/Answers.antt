@@ -2,8 +2,8 @@ use Rattle.std.proofs.Common.{refl, sym, subst, ap, ◌∙◌}
 use Rattle.runner_steps.specs.declared.event.EventKind.{EventKind}
 use Rattle.runner_steps.specs.declared.event.EventKind.TheVariants.{ScanOne}
 use Rattle.runner_steps.specs.AfterOutside.{scan_one_after}
-use Rattle.version_words.specs.declared.block.Block.{Block}
-use Rattle.version_words.specs.RunnerState.{with_part}
+use Rattle.runner_block.specs.declared.block.Block.{Block}
+use Rattle.runner_block.specs.Kept.{with_part}
 use Rattle.version_words.specs.Kept.{IsKept}
 use Rattle.version_words.specs.Events.{IsEnabled, Makes, seen_seat}
 use Rattle.version_words.proofs.Asked.{scan_named}

@@ -1,6 +1,6 @@
 use Rattle.std.proofs.Common.{refl, sym, subst, ap, ◌∙◌, false}
 use Rattle.runner_steps.specs.declared.event.EventKind.TheVariants.{SetDone}
-use Rattle.version_words.specs.declared.block.Block.{Block}
+use Rattle.runner_block.specs.declared.block.Block.{Block}
 use Rattle.version_words.specs.Kept.{IsKept}
 use Rattle.version_words.proofs.Inside.{ender_kept}
 use Rattle.version_words.proofs.table.FlockTable.set_done.Goals as goal

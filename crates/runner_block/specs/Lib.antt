@@ -1,0 +1,7 @@
+pub mod Room
+pub mod Kept
+pub mod Places
+pub mod Scans
+pub mod Blocks
+pub mod Looks
+pub mod StageFields

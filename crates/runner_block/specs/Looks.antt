@@ -1,0 +1,9 @@
+-- What a runner's block asks before a private load.
+use Rattle.std.specs.Prelude.{◌≡◌, ℕ, ◌≤◌, true, false}
+use Rattle.runner_steps.specs.Tests.{has}
+use Rattle.runner_block.specs.declared.block.Block.{Block}
+
+-- in a run a Make that has no slot takes a free one, and no descriptor's word is loaded
+pub record MayTake (b : Block) (slot : ℕ) : Type 0 where
+  pub free : b.place.inside ≡ true → b.place.making ≡ false → has b.lists.part.nodes.free slot ≡ true
+  pub outside : b.lists.room ≤ slot → b.place.inside ≡ false

@@ -1,0 +1,272 @@
+//! What a runner's code keeps of its part, in one block of memory.
+ghost use Rattle.std.specs.Prelude.{◌≡◌, ◌+◌, ◌<◌, ◌≤◌, ◌^◌, ℕ, IfOk, length, true, None, if◌then◌else◌};
+ghost use Rattle.runner_steps.specs.declared.event.EventKind.TheVariants as kinds;
+ghost use Rattle.runner_steps.specs.Tests.{has};
+ghost use Rattle.runner_steps.specs.AfterOutside.{with_stage, collected, scan_one_after, advance_after, split_after, retire_after};
+ghost use Rattle.runner_steps.specs.Lists.{slot_taken, slot_made, slot_back, slot_retired, nodes_looked};
+ghost use Rattle.runner_block.specs.Scans.{scan_of};
+ghost use Rattle.runner_block.specs.Kept.{loaded_of, scanned_of, held_in, with_part, with_nodes};
+ghost use Rattle.runner_block.specs.Room.{AreBelow, AreFew};
+ghost use Rattle.machine_states.specs.First.{falling, first_part};
+
+use crate::descriptors::DescriptorLists;
+use crate::nodes::NodeLists;
+use crate::stage_fields::StageFields;
+use runner_steps::{LAST_EPOCH, Stage};
+use std::alloc::{AllocError, Global};
+use std::marker::Model;
+use table_words::Layout;
+
+/// What a runner's code keeps of its part: its stage, its lists, and of the keeper how many workers were split off. The lists
+/// have room for each slot of their kind, so that no step takes memory.
+#[derive(Drop)]
+pub struct Kept {
+    stage: StageFields,
+    nodes: NodeLists,
+    descriptors: DescriptorLists,
+    splits: u32,
+}
+
+impl Model for Kept {
+    ghost use Rattle.std.specs.Prelude.{None, [], false};
+    ghost use Rattle.runner_steps.specs.Lists.{no_reads};
+    ghost use Rattle.runner_block.specs.Kept.{KeptState, published_as};
+
+    ghost Value = { KeptState };
+
+    ghost view = { λ a. record {
+      part = record {
+        stage = a.stage;
+        run = None;
+        published = published_as a.descriptors.published;
+        nodes = a.nodes.lists;
+        descriptors = record { free = a.descriptors.free; stored = []; limbo = a.descriptors.limbo };
+        reads = no_reads;
+        records = record { known = []; finished = []; events = 0; left = []; splits = a.splits; joined = [] };
+        gone = false;
+      };
+      room = a.nodes.room;
+    } };
+}
+
+/// What one kind of slot begins with: so many free slots from the first on, and room for so many.
+#[derive(Clone, Copy)]
+pub struct Share {
+    pub first: u32,
+    pub count: u32,
+    pub room: u32,
+}
+
+impl Kept {
+    /// A runner that has done nothing, with these node slots and these descriptors.
+    pub fn new(alloc: Global, nodes: Share, descriptors: Share) -> Result<Self, AllocError>
+        requires nodes { nodes.first + nodes.count ≤ nodes.room }
+        requires descriptors { descriptors.first + descriptors.count < 2 ^ 32 }
+        requires descriptor_room { descriptors.count ≤ descriptors.room }
+        ensures part { IfOk result (λ x. x.part ≡ first_part (falling nodes.first nodes.count) (falling descriptors.first descriptors.count)) }
+        ensures room { IfOk result (λ x. x.room ≡ nodes.room) }
+    {
+        Ok(Kept {
+            stage: StageFields::idle(),
+            nodes: NodeLists::new(alloc, nodes.first, nodes.count, nodes.room)?,
+            descriptors: DescriptorLists::new(
+                alloc,
+                descriptors.first,
+                descriptors.count,
+                descriptors.room,
+            )?,
+            splits: 0,
+        })
+    }
+
+    pub fn stage(&self) -> Stage
+        ensures { result ≡ self.now.part.stage }
+    {
+        self.stage.get()
+    }
+
+    /// The epoch that was loaded, to be announced.
+    pub fn loaded(&self) -> u64
+        ensures { result ≡ loaded_of self.now.part.stage }
+    {
+        match self.stage.get() {
+            Stage::Loaded(epoch) => epoch,
+            _ => 0,
+        }
+    }
+
+    /// The epoch for which the runner scans.
+    pub fn scanned(&self) -> u64
+        ensures { result ≡ scanned_of self.now.part.stage }
+    {
+        match self.stage.get() {
+            Stage::Scanning {
+                epoch,
+                next: _,
+                clear: _,
+            } => epoch,
+            _ => 0,
+        }
+    }
+
+    pub fn splits(&self) -> u32
+        ensures { result ≡ self.now.part.records.splits }
+    {
+        self.splits
+    }
+
+    pub fn free_nodes(&self) -> &[u32]
+        ensures { result.now ≡ self.now.part.nodes.free }
+    {
+        self.nodes.free()
+    }
+
+    pub fn hand(&self) -> &[u32]
+        ensures { result.now ≡ self.now.part.nodes.hand }
+    {
+        self.nodes.hand()
+    }
+
+    pub fn limbo_nodes(&self) -> u32
+        ensures { result ≡ length self.now.part.nodes.limbo }
+    {
+        self.nodes.limbo()
+    }
+
+    pub fn worn(&self) -> u32
+        ensures { result ≡ length self.now.part.nodes.worn }
+    {
+        self.nodes.worn()
+    }
+
+    pub fn free_descriptors(&self) -> &[u32]
+        ensures { result.now ≡ self.now.part.descriptors.free }
+    {
+        self.descriptors.free()
+    }
+
+    pub fn limbo_descriptors(&self) -> u32
+        ensures { result ≡ length self.now.part.descriptors.limbo }
+    {
+        self.descriptors.limbo()
+    }
+
+    pub fn set_stage(&mut self, stage: Stage)
+        ensures { self.new ≡ with_part self.old (with_stage self.old.part stage) }
+    {
+        self.stage.set(stage);
+    }
+
+    /// A scan is over, and this epoch was reached.
+    fn collect(&mut self, epoch: u64)
+        ensures { self.new ≡ with_part self.old (collected self.old.part epoch) }
+    {
+        self.nodes.collect(epoch);
+        self.descriptors.collect(epoch);
+        self.stage.set(Stage::Idle);
+    }
+
+    /// One more announcement was read, the one that came next. After the last one the scan is over, unless an advance may be tried.
+    pub fn scan_one(&mut self, layout: Layout, announcement: u32, found: u64)
+        requires limits { layout.runners < 2 ^ 31 }
+        requires next { scan_of self.old.part.stage ≡ kinds.ScanOne announcement }
+        ensures { self.new ≡ with_part self.old (scan_one_after layout self.old.part self.old.part.stage found) }
+    {
+        if let Stage::Scanning {
+            epoch,
+            next: _,
+            clear,
+        } = self.stage.get()
+        {
+            if announcement <= layout.runners {
+                let idle = found == 0 || found == epoch;
+                if announcement == layout.runners && !(clear && idle && epoch < LAST_EPOCH) {
+                    self.collect(epoch);
+                } else {
+                    self.stage.go_on(announcement + 1, idle);
+                }
+            }
+        }
+    }
+
+    /// The next epoch was reached.
+    pub fn advance(&mut self)
+        ensures { self.new ≡ with_part self.old (advance_after self.old.part self.old.part.stage) }
+    {
+        if let Stage::Scanning {
+            epoch,
+            next: _,
+            clear: _,
+        } = self.stage.get()
+        {
+            if epoch < LAST_EPOCH {
+                self.collect(epoch + 1);
+            }
+        }
+    }
+
+    /// One more worker was split off.
+    pub fn split(&mut self, layout: Layout)
+        ensures { self.new ≡ with_part self.old (split_after layout self.old.part) }
+    {
+        if self.splits < layout.runners {
+            self.splits += 1;
+        }
+    }
+
+    /// An exchange was to publish a section with this free descriptor, and won or lost.
+    pub fn hold(&mut self, descriptor: u32, won: bool)
+        requires own { has self.old.part.descriptors.free descriptor ≡ true }
+        requires none { self.old.part.published ≡ None }
+        ensures { self.new ≡ with_part self.old (held_in self.old.part descriptor won) }
+    {
+        if won {
+            self.descriptors.publish(descriptor);
+        }
+    }
+
+    /// The epoch was loaded to retire the published section.
+    pub fn retire(&mut self, epoch: u64)
+        ensures { self.new ≡ with_part self.old (retire_after self.old.part self.old.part.published epoch) }
+    {
+        self.descriptors.retire(epoch);
+    }
+
+    /// A Make takes a free slot into the hand.
+    pub fn take(&mut self, slot: u32)
+        requires { has self.old.part.nodes.free slot ≡ true }
+        ensures { self.new ≡ with_nodes self.old (slot_taken self.old.part.nodes slot) }
+    {
+        self.nodes.take(slot);
+    }
+
+    /// The slot in the hand that a Make filled is live, where its commit won; otherwise it comes back.
+    pub fn made(&mut self, slot: u32, won: bool, worn: bool)
+        requires { has self.old.part.nodes.hand slot ≡ true }
+        ensures { self.new ≡ with_nodes self.old (if won then slot_made self.old.part.nodes slot else slot_back self.old.part.nodes slot worn) }
+    {
+        self.nodes.made(slot, won, worn);
+    }
+
+    /// A node slot was retired with this epoch.
+    pub fn retire_slot(&mut self, slot: u32, epoch: u64)
+        requires { AreFew self.old.room (slot_retired self.old.part.nodes slot epoch) }
+        ensures { self.new ≡ with_nodes self.old (slot_retired self.old.part.nodes slot epoch) }
+    {
+        self.nodes.retire(slot, epoch);
+    }
+
+    /// The slots in the hand are node slots.
+    pub fn has_nodes_in_hand(&self)
+        ensures { AreBelow self.now.room self.now.part.nodes.hand }
+    {
+        self.nodes.has_nodes_in_hand();
+    }
+
+    /// A cell of an own node slot was loaded outside a run.
+    pub fn look(&mut self, layout: Layout, slot: u32, cell: u32, word: u64)
+        ensures { self.new ≡ with_nodes self.old (nodes_looked layout self.old.part.nodes slot cell word) }
+    {
+        self.nodes.look(layout, slot, cell, word);
+    }
+}

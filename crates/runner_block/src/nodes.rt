@@ -1,0 +1,175 @@
+//! The own node slots, as a runner's code keeps them.
+ghost use Rattle.std.specs.Prelude.{◌≡◌, ◌+◌, ◌-◌, ◌<◌, ◌≤◌, ◌^◌, IfOk, length, true, if◌then◌else◌};
+ghost use Rattle.runner_steps.specs.Lists.{nodes_collected, slot_taken, slot_made, slot_back, slot_retired, slot_tested, nodes_looked, one_more};
+ghost use Rattle.runner_steps.specs.Tests.{has};
+ghost use Rattle.machine_states.specs.First.{falling};
+ghost use Rattle.runner_block.specs.Room.{AreBelow, AreFew, first_nodes, nodes_are};
+
+use crate::reserved::{falling, forget, has, remove, test_of, wait_over};
+use runner_steps::{Retired, Tested};
+use section_body::Word;
+use std::alloc::{AllocError, Global};
+use std::marker::Model;
+use table_words::Layout;
+
+/// The lists of own node slots, and for how many slots they have room.
+#[derive(Drop)]
+pub struct NodeLists {
+    free: Vec<u32>,
+    hand: Vec<u32>,
+    tests: Vec<Tested>,
+    limbo: Vec<Retired>,
+    worn: Vec<u32>,
+    room: u32,
+}
+
+impl Model for NodeLists {
+    ghost use Rattle.std.specs.Prelude.{◌+◌, vec_len};
+    ghost use Rattle.std.specs.Vec.{vec_capacity};
+    ghost use Rattle.runner_block.specs.Room.{NodesKept, NodesFit};
+
+    ghost Value = { NodesKept };
+
+    ghost view = { λ a. record {
+      lists = record { free = a.free.items; hand = a.hand.items; tests = a.tests.items; limbo = a.limbo.items; worn = a.worn.items };
+      room = a.room;
+    } };
+
+    ghost invariant = { λ a. NodesFit a.room (vec_len a.free + vec_len a.hand + vec_len a.limbo + vec_len a.worn) (vec_capacity a.free) (vec_capacity a.hand) (vec_capacity a.tests) (vec_capacity a.limbo) (vec_capacity a.worn) (record { free = a.free.items; hand = a.hand.items; tests = a.tests.items; limbo = a.limbo.items; worn = a.worn.items }) };
+}
+
+impl NodeLists {
+    /// So many free slots from this one on, and room for `room` slots in each list.
+    pub fn new(alloc: Global, first: u32, count: u32, room: u32) -> Result<Self, AllocError>
+        requires room { first + count ≤ room }
+        requires few { room < 2 ^ 32 }
+        ensures { IfOk result (λ x. x ≡ first_nodes (falling first count) room) }
+    {
+        Ok(NodeLists {
+            free: falling(alloc, first, count, room)?,
+            hand: Vec::with_capacity(alloc, room as usize)?,
+            tests: Vec::with_capacity(alloc, room as usize)?,
+            limbo: Vec::with_capacity(alloc, room as usize)?,
+            worn: Vec::with_capacity(alloc, room as usize)?,
+            room,
+        })
+    }
+
+    pub fn free(&self) -> &[u32]
+        ensures { result.now ≡ self.now.lists.free }
+    {
+        &self.free
+    }
+
+    pub fn hand(&self) -> &[u32]
+        ensures { result.now ≡ self.now.lists.hand }
+    {
+        &self.hand
+    }
+
+    pub fn limbo(&self) -> u32
+        ensures { result ≡ length self.now.lists.limbo }
+    {
+        self.limbo.len() as u32
+    }
+
+    pub fn worn(&self) -> u32
+        ensures { result ≡ length self.now.lists.worn }
+    {
+        self.worn.len() as u32
+    }
+
+    /// The slots that have waited long enough go from limbo to the hand.
+    pub fn collect(&mut self, epoch: u64)
+        ensures { self.new ≡ nodes_are self.old (nodes_collected epoch self.old.lists) }
+    {
+        wait_over(&mut self.hand, &mut self.limbo, epoch);
+    }
+
+    /// A Make takes a free slot into the hand.
+    pub fn take(&mut self, slot: u32)
+        requires { has self.old.lists.free slot ≡ true }
+        ensures { self.new ≡ nodes_are self.old (slot_taken self.old.lists slot) }
+    {
+        remove(&mut self.free, slot);
+        self.hand.push_reserved(slot);
+    }
+
+    /// A slot that was live was retired with this epoch.
+    pub fn retire(&mut self, slot: u32, epoch: u64)
+        requires { AreFew self.old.room (slot_retired self.old.lists slot epoch) }
+        ensures { self.new ≡ nodes_are self.old (slot_retired self.old.lists slot epoch) }
+    {
+        self.limbo.push_reserved(Retired { slot, epoch });
+    }
+
+    /// A slot in the hand comes back to the free list, or to the worn list.
+    fn slot_back(&mut self, slot: u32, worn: bool)
+        requires { has self.old.lists.hand slot ≡ true }
+        ensures { self.new ≡ nodes_are self.old (slot_back self.old.lists slot worn) }
+    {
+        remove(&mut self.hand, slot);
+        forget(&mut self.tests, slot);
+        if worn {
+            self.worn.push_reserved(slot);
+        } else {
+            self.free.push_reserved(slot);
+        }
+    }
+
+    /// The slot in the hand that a Make filled is live, where its commit won; otherwise it comes back.
+    pub fn made(&mut self, slot: u32, won: bool, worn: bool)
+        requires { has self.old.lists.hand slot ≡ true }
+        ensures { self.new ≡ nodes_are self.old (if won then slot_made self.old.lists slot else slot_back self.old.lists slot worn) }
+    {
+        if won {
+            remove(&mut self.hand, slot);
+        } else {
+            self.slot_back(slot, worn);
+        }
+    }
+
+    /// One more cell of a slot in the hand was looked at: after the fifth it comes back.
+    fn slot_tested(&mut self, test: Tested)
+        requires { has self.old.lists.hand test.slot ≡ true }
+        ensures { self.new ≡ nodes_are self.old (slot_tested self.old.lists test) }
+    {
+        if test.cells == 5 {
+            self.slot_back(test.slot, test.worn);
+        } else {
+            forget(&mut self.tests, test.slot);
+            self.tests.push_reserved(test);
+        }
+    }
+
+    /// The slots in the hand are node slots, by this type.
+    pub fn has_nodes_in_hand(&self)
+        ensures { AreBelow self.now.room self.now.lists.hand }
+    {
+        let _ = &self.hand;
+    }
+
+    /// After a private load outside a run: only the next cell of a slot in the hand counts.
+    pub fn look(&mut self, layout: Layout, slot: u32, cell: u32, word: u64)
+        ensures { self.new ≡ nodes_are self.old (nodes_looked layout self.old.lists slot cell word) }
+    {
+        if has(&self.hand, slot) {
+            let test = test_of(&self.tests, slot);
+            if cell == test.cells && cell < 5 {
+                self.slot_tested(one_more(layout, test, word));
+            }
+        }
+    }
+}
+
+/// One more cell of a slot, with this word.
+fn one_more(layout: Layout, test: Tested, word: u64) -> Tested
+    requires { test.cells < 2 ^ 32 - 1 }
+    ensures { result ≡ one_more layout test word }
+{
+    Tested {
+        slot: test.slot,
+        cells: test.cells + 1,
+        worn: test.worn || Word::from_bits(word).version() == layout.version_max,
+    }
+}
