@@ -89,24 +89,14 @@ impl Kept {
     pub fn loaded(&self) -> u64
         ensures { result ≡ loaded_of self.now.part.stage }
     {
-        match self.stage.get() {
-            Stage::Loaded(epoch) => epoch,
-            _ => 0,
-        }
+        self.stage.loaded()
     }
 
     /// The epoch for which the runner scans.
     pub fn scanned(&self) -> u64
         ensures { result ≡ scanned_of self.now.part.stage }
     {
-        match self.stage.get() {
-            Stage::Scanning {
-                epoch,
-                next: _,
-                clear: _,
-            } => epoch,
-            _ => 0,
-        }
+        self.stage.scanned()
     }
 
     pub fn splits(&self) -> u32

@@ -1,6 +1,7 @@
 //! The stage of a runner, in fields of its own.
 ghost use Rattle.std.specs.Prelude.{◌≡◌};
 ghost use Rattle.runner_steps.specs.declared.stage.Stage.TheVariants as stages;
+ghost use Rattle.runner_block.specs.Kept.{loaded_of, scanned_of};
 ghost use Rattle.runner_block.specs.StageFields.{gone_on};
 
 use runner_steps::Stage;
@@ -59,6 +60,28 @@ impl StageFields {
                 next: self.next,
                 clear: self.clear,
             },
+        }
+    }
+
+    /// The epoch that was loaded, to be announced.
+    pub fn loaded(&self) -> u64
+        ensures { result ≡ loaded_of self.now }
+    {
+        if self.phase == Phase::Loaded {
+            self.epoch
+        } else {
+            0
+        }
+    }
+
+    /// The epoch for which the runner scans.
+    pub fn scanned(&self) -> u64
+        ensures { result ≡ scanned_of self.now }
+    {
+        if self.phase == Phase::Scanning {
+            self.epoch
+        } else {
+            0
         }
     }
 
