@@ -77,7 +77,9 @@ fn run_call<S: Structure>(
             Ok(told) => Ok(told),
             Err(runner) => inner_load_call(table, runner, kind, spot),
         },
-        Access::Exchanges(old, new) => match exchange_call(table, runner, kind, spot, old, new, run) {
+        Access::Exchanges(old, new) => match exchange_call(
+            table, runner, kind, spot, old, new, run,
+        ) {
             Ok(told) => Ok(told),
             Err(runner) => end_call(table, runner, kind, spot, access, run),
         },

@@ -80,15 +80,7 @@ pub fn bring_on<S: Structure>(
 {
     let cells = cells_of(alloc, &copy)?;
     after(
-        &mut copy,
-        alloc,
-        structure,
-        layout,
-        worker,
-        kind,
-        spot,
-        access,
-        told,
+        &mut copy, alloc, structure, layout, worker, kind, spot, access, told,
     )?;
     if is_untold(kind) {
         Ok(with_cells(copy, cells))

@@ -38,10 +38,10 @@ pub fn play<S: Structure>(
     for kind in kinds {
         let (next, told) = worker.step(table, alloc, requests, kind)?;
         worker = next;
-        match told {
-            None => break,
-            Some(number) => all_told.push(number)?,
-        }
+        let Some(number) = told else {
+            return Ok((worker, all_told));
+        };
+        all_told.push(number)?;
     }
     Ok((worker, all_told))
 }

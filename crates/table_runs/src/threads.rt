@@ -53,7 +53,10 @@ pub fn play_both<R: Threads + Sync>(
     alloc: Global,
     requests: &[Request],
     kinds: (&[EventKind], &[EventKind]),
-) -> (Result<(Followed<Tray>, Vec<u64>), AllocError>, Result<(Followed<Tray>, Vec<u64>), AllocError>)
+) -> (
+    Result<(Followed<Tray>, Vec<u64>), AllocError>,
+    Result<(Followed<Tray>, Vec<u64>), AllocError>,
+)
     requires own { IsOf table.now first.runner × IsOf table.now second.runner }
     requires limits { IsWithinLimits table.now.layout }
     requires few { length requests.now ≤ 131072 }
