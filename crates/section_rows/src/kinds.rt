@@ -66,25 +66,6 @@ pub fn opens(descriptor: u32) -> [EventKind; 13] {
     kinds
 }
 
-/// It agrees on a stamp.
-pub fn stamps() -> [EventKind; 3] {
-    [
-        EventKind::ClockLoad,
-        EventKind::StampExchange,
-        EventKind::ClockRaise,
-    ]
-}
-
-/// The steps behind a stamp: an exchange, the reply, the done word, and the release.
-pub fn ends() -> [EventKind; 4] {
-    [
-        EventKind::ExchangeCell,
-        EventKind::ReplyExchange,
-        EventKind::SetDone,
-        EventKind::Release,
-    ]
-}
-
 /// The steps of a section that stores a number, behind its opening.
 pub fn stores() -> [EventKind; 9] {
     [

@@ -1,5 +1,5 @@
 -- An event on a copy and on the part, which found the same word.
-use Rattle.std.proofs.Common.{◌≡◌, ℕ, ◌+◌, List, [], ◌∷◌, ◌++◌, Bool, true, false, refl, sym, ap, subst, ◌∙◌, Option, Some, None}
+use Rattle.std.proofs.Common.{◌≡◌, ℕ, ◌+◌, List, [], ◌∷◌, ◌++◌, Bool, true, false, refl, sym, ap, ◌∙◌, Option, Some, None}
 use Rattle.std.specs.Prelude.{◌==◌, ◌&&◌, ◌||◌, not, nat_lt, nat_le, if◌then◌else◌}
 use Rattle.std.proofs.lemmas.List.Folds.{list_any-append}
 use Rattle.section_body.specs.declared.micro.Micro.{Micro}
@@ -7,8 +7,6 @@ use Rattle.section_body.specs.declared.thunk.Thunk.{Thunk}
 use Rattle.section_body.specs.Line.{is_end}
 use Rattle.section_body.specs.Run.{written_once}
 use Rattle.table_words.specs.declared.layout.Layout.{Layout}
-use Rattle.table_words.specs.declared.spot.Spot.{Spot}
-use Rattle.table_words.specs.declared.access.Access.{Access}
 use Rattle.structure_laws.specs.Meaning.{Meaning}
 use Rattle.runner_steps.specs.declared.event.EventKind.{EventKind}
 use Rattle.runner_steps.specs.declared.event.EventKind.TheVariants as kinds
@@ -16,14 +14,14 @@ use Rattle.runner_steps.specs.declared.stage.Stage.{Stage}
 use Rattle.runner_steps.specs.declared.stage.Stage.TheVariants as stages
 use Rattle.runner_steps.specs.declared.entries.Published.{Published}
 use Rattle.runner_steps.specs.State.{RunState, PartState}
-use Rattle.runner_steps.specs.Sections.{is_open_run, next_of, thunk_of}
+use Rattle.runner_steps.specs.Sections.{is_open_run, next_of}
 use Rattle.runner_steps.specs.Tests.{has, has_pair}
-use Rattle.runner_steps.specs.Lists.{holds_named, cell_read}
+use Rattle.runner_steps.specs.Lists.{holds_named}
 use Rattle.runner_steps.specs.Outside.{last_epoch}
-use Rattle.runner_steps.specs.InRun.{stamp_after, last_clock}
-use Rattle.runner_steps.specs.AfterOutside.{with_stage, collected, scanned, scan_one_after, advance_after, split_after, retire_after, is_clear, hold_after}
-use Rattle.runner_steps.specs.AfterInRun.{opened_more, commit_after, lock_committed, word_committed, is_of_lock, fill_loaded, make_committed, lock_released, released_more, run_over, with_run, ended_more, place_of, stamp_agreed}
-use Rattle.runner_steps.specs.After.{outside_after, line_after, inside_after, after_by, stepped, noted, after}
+use Rattle.runner_steps.specs.InRun.{last_clock}
+use Rattle.runner_steps.specs.AfterOutside.{with_stage, collected, scanned, scan_one_after, advance_after, retire_after, is_clear, hold_after}
+use Rattle.runner_steps.specs.AfterInRun.{lock_committed, is_of_lock, fill_loaded, make_committed, ended_more, place_of}
+use Rattle.runner_steps.specs.After.{outside_after, line_after, after_by}
 use Rattle.table_runs.specs.Copies.{with_cells, IsCopied, is_untold}
 
 either : (a b c : Bool) → (a ≡ true → b ≡ true) → a || c ≡ true → b || c ≡ true

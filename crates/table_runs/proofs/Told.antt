@@ -18,11 +18,11 @@ use Rattle.runner_steps.specs.Lists.{lock_agreed, learned}
 use Rattle.runner_steps.specs.InRun.{commit_ask, outcome_commit_ask, stamp_exchange_ask, reply_exchange_ask, stamp_after, last_clock}
 use Rattle.runner_steps.specs.Asks.{line_ask}
 use Rattle.runner_steps.specs.AfterInRun.{agrees, goes_on, is_of_lock, reply_word_of, with_run}
-use Rattle.runner_steps.specs.After.{outside_after, line_after, after_by, stepped, counted, left_more, noted, after}
+use Rattle.runner_steps.specs.After.{line_after, after_by, stepped, counted, left_more, noted, after}
 use Rattle.machine_states.proofs.Steps.{some_same}
 use Rattle.version_words.specs.Naming.{load_of, open_of}
 use Rattle.version_words.specs.RunnerState.{RunnerState}
-use Rattle.version_words.specs.Events.{met_by, IsEnabled, Makes, Tries, IsMade, Leaves, Commits}
+use Rattle.version_words.specs.Events.{Makes, Tries, IsMade, Leaves, Commits}
 use Rattle.version_words.proofs.Asked.{in_no_run, tested}
 use Rattle.version_words.proofs.Inside.{HasOpenRun, is_inner, opened_run, line_asked, step_is}
 use Rattle.table_runs.specs.Copies.{with_cells, IsCopied, is_untold, is_load, brought_on, IsFollowed}

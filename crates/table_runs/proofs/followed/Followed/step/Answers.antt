@@ -1,6 +1,5 @@
 use Rattle.std.proofs.Common.{sym, ap, subst, ◌∙◌}
 use Rattle.version_words.specs.TableState.{IsOf}
-use Rattle.table_runs.specs.Followed.{FollowedState}
 use Rattle.table_runs.proofs.Asked.{runner_asks}
 use Rattle.table_runs.proofs.followed.Followed.step.Goals as goal
 
