@@ -60,19 +60,26 @@ fn has_agreed(part: &Part, trail: &[u64]) -> bool {
 }
 
 /// The kind of a run's step that has this name.
-fn kind_of(name: &str) -> EventKind {
+fn kind_of(name: &str) -> Option<EventKind> {
     match name {
-        "load" => EventKind::LoadCell(None),
-        "commit" => EventKind::Commit,
-        "make" => EventKind::MakeCommit,
-        "clock" => EventKind::ClockLoad,
-        "stamp" => EventKind::StampExchange,
-        "raise" => EventKind::ClockRaise,
-        "answer" => EventKind::ReplyExchange,
-        "done" => EventKind::SetDone,
-        "release" => EventKind::Release,
-        _ => EventKind::ExchangeCell,
+        "load" => Some(EventKind::LoadCell(None)),
+        "commit" => Some(EventKind::Commit),
+        "make" => Some(EventKind::MakeCommit),
+        "clock" => Some(EventKind::ClockLoad),
+        "stamp" => Some(EventKind::StampExchange),
+        "raise" => Some(EventKind::ClockRaise),
+        "store" => Some(EventKind::ExchangeCell),
+        "answer" => Some(EventKind::ReplyExchange),
+        "done" => Some(EventKind::SetDone),
+        "release" => Some(EventKind::Release),
+        _ => None,
     }
+}
+
+/// The worker and the kind of a step such as `1 load`.
+fn named(step: &str) -> Option<(&str, EventKind)> {
+    let (worker, name) = step.split_once(' ')?;
+    Some((worker, kind_of(name)?))
 }
 
 /// Makes one step of the first worker, or of the second one on a thread of its own, and says whether it was made.
@@ -102,12 +109,13 @@ fn turns<R: Threads + Sync>(
     let mut row = row;
     let mut all = true;
     for step in steps.split(", ") {
-        if let Some((worker, name)) = step.split_once(' ') {
-            let (next, made) = turn(rt, alloc, row, worker, kind_of(name))?;
-            row = next;
-            all = all && made;
-        } else {
-            all = false;
+        match named(step) {
+            None => all = false,
+            Some((worker, kind)) => {
+                let (next, made) = turn(rt, alloc, row, worker, kind)?;
+                row = next;
+                all = all && made;
+            }
         }
     }
     Ok((row, all))
