@@ -10,15 +10,20 @@ pub const FIRST: u64 = 4294967296;
 /// The first descriptor, behind the ten node slots of two workers and the keeper.
 const DESCRIPTORS: u32 = 10;
 
-/// A thunk behind the lock at place 0.
-pub fn thunk(form: u64, request: u32, operand: u64) -> Thunk {
+/// A thunk behind the lock at place 0, whose free word is the given one.
+pub fn thunk_behind(free: u64, form: u64, request: u32, operand: u64) -> Thunk {
     Thunk {
         form,
         request,
         lock: 0,
-        word: Word::from_bits(FIRST),
+        word: Word::from_bits(free),
         operands: [operand, 0, 0, 0, 0, 0, 0, 0],
     }
+}
+
+/// A thunk behind that lock as it is at first.
+pub fn thunk(form: u64, request: u32, operand: u64) -> Thunk {
+    thunk_behind(FIRST, form, request, operand)
 }
 
 /// A worker enters, and reads the lock.
@@ -99,6 +104,60 @@ pub fn fills(alloc: Global, slot: u32) -> Result<Vec<EventKind>, AllocError> {
         kinds.push(EventKind::PrivateStore { slot, word, number })?;
     }
     Ok(kinds)
+}
+
+/// All steps of a run of a section that makes a node in this slot.
+pub fn makes(alloc: Global, descriptor: u32, slot: u32) -> Result<Vec<EventKind>, AllocError> {
+    let mut kinds = Vec::from_slice(alloc, &opens(descriptor))?;
+    kinds.push(EventKind::LoadCell(None))?;
+    kinds.push(EventKind::Commit)?;
+    kinds.extend_from_slice(&fills(alloc, slot)?)?;
+    kinds.extend_from_slice(&[
+        EventKind::MakeCommit,
+        EventKind::ClockLoad,
+        EventKind::StampExchange,
+        EventKind::ClockRaise,
+        EventKind::ExchangeCell,
+        EventKind::ReplyExchange,
+        EventKind::SetDone,
+        EventKind::Release,
+    ])?;
+    Ok(kinds)
+}
+
+/// All steps of a run of a section that takes a node out and retires its slot.
+pub fn unlinks(alloc: Global, descriptor: u32) -> Result<Vec<EventKind>, AllocError> {
+    let mut kinds = Vec::from_slice(alloc, &opens(descriptor))?;
+    kinds.extend_from_slice(&[
+        EventKind::LoadCell(None),
+        EventKind::Commit,
+        EventKind::ClockLoad,
+        EventKind::StampExchange,
+        EventKind::ClockRaise,
+        EventKind::ExchangeCell,
+        EventKind::EpochForRetire,
+        EventKind::RetireCommit,
+        EventKind::ReplyExchange,
+        EventKind::SetDone,
+        EventKind::Release,
+    ])?;
+    Ok(kinds)
+}
+
+/// A worker retires the section that it published, and leaves.
+pub fn leaves() -> [EventKind; 2] {
+    [EventKind::EpochForRetire, EventKind::Idle]
+}
+
+/// A scan of the announcements of two workers and the keeper, with the advance.
+pub fn scans() -> [EventKind; 5] {
+    [
+        EventKind::ScanEpoch,
+        EventKind::ScanOne(0),
+        EventKind::ScanOne(1),
+        EventKind::ScanOne(2),
+        EventKind::Advance,
+    ]
 }
 
 /// The loads of the five cells of a node slot.

@@ -1,6 +1,9 @@
 //! Worked rows.
 
-use crate::kinds::{FIRST, cells_of, fills, looks, opens, prepares, publishes, runs, thunk};
+use crate::kinds::{
+    FIRST, cells_of, fills, leaves, looks, makes, opens, prepares, publishes, runs, scans, thunk,
+    thunk_behind, unlinks,
+};
 use runner_steps::{EventKind, Part};
 use section_body::{Outcome, Word};
 use std::alloc::{AllocError, Global};
@@ -11,6 +14,9 @@ use table_runs::{Row, RowEnd};
 const HELD: u64 = 8589934593;
 
 const RELEASED: u64 = 12884901888;
+
+/// The word that links node slot 0 at version 2.
+const LINKED: u64 = 8589934593;
 
 /// The word that holds value 7 at version 2.
 const SEVEN: u64 = 8589934599;
@@ -283,6 +289,58 @@ fn two_workers_make_one_node_and_the_losers_slot_comes_back(
             assert!(&rt;
                 end.words.cell(3).bits() == 8589934592 && end.words.cell(7).bits() == 8589934592
             );
+        }
+    }
+    Ok(())
+}
+
+/// Whether no slot is in this part's hand, and none in limbo.
+fn waits_for_nothing(part: &Part) -> bool {
+    part.nodes.hand.is_empty() && part.nodes.limbo.is_empty() && part.descriptors.limbo.is_empty()
+}
+
+/// A node that the first worker makes and the second one takes out and retires. Both leave, and the second one scans twice.
+fn made_and_retired<R: Threads + Sync>(
+    rt: &R,
+    alloc: Global,
+) -> Result<(bool, RowEnd), AllocError> {
+    let published = publishes(alloc, 0, thunk(102, 0, FIRST))?;
+    let make = makes(alloc, 0, 0)?;
+    let other = publishes(alloc, 1, thunk_behind(RELEASED, 103, 1, LINKED))?;
+    let unlink = unlinks(alloc, 1)?;
+    let row = Row::new(alloc)?;
+    let (row, before) = row.first(alloc, &published)?;
+    let (row, made) = row.first(alloc, &make)?;
+    let (row, left) = row.first(alloc, &leaves())?;
+    let (row, ready) = row.second(rt, alloc, &other)?;
+    let (row, unlinked) = row.second(rt, alloc, &unlink)?;
+    let (row, gone) = row.second(rt, alloc, &leaves())?;
+    let (row, once) = row.second(rt, alloc, &scans())?;
+    let (row, twice) = row.second(rt, alloc, &scans())?;
+    let (row, cells) = row.second(rt, alloc, &cells_of(0))?;
+    let sections = before.len() == 82 && made.len() == 33 && left.len() == 2;
+    let retired = ready.len() == 82 && unlinked.len() == 24 && gone.as_slice() == [1, 0].as_slice();
+    let scanned = once.as_slice() == [1, 0, 0, 0, 0].as_slice()
+        && twice.as_slice() == [2, 0, 0, 0, 0].as_slice();
+    let zeros = cells.as_slice() == [8589934592; 5].as_slice();
+    Ok((sections && retired && scanned && zeros, row.close()))
+}
+
+#[test]
+fn a_retired_node_is_free_again_after_two_epochs(rt: HostRuntime) -> Result<(), AllocError> {
+    match made_and_retired(&rt, rt.alloc()) {
+        Err(_) => assert!(&rt; false),
+        Ok((made, end)) => {
+            assert!(&rt; made);
+            assert!(&rt; end.words.cell(2).bits() == 12884901888);
+            assert!(&rt; end.words.cell(0).bits() == 21474836480);
+            assert!(&rt; ended(&end.second, &Outcome::Answered(17179869184), &[LINKED, 1]));
+            assert!(&rt; has_free(&end.first, &[1]) && has_free(&end.second, &[3, 2, 0]));
+            assert!(&rt; waits_for_nothing(&end.second));
+            assert!(&rt; has_none_published(&end.first, &[]));
+            assert!(&rt; has_none_published(&end.second, &[1]));
+            assert!(&rt; end.words.entry(0) == Some((2, FIRST)));
+            assert!(&rt; end.words.entry(1) == Some((4, 17179869184)));
         }
     }
     Ok(())
