@@ -38,7 +38,7 @@ module _ (m : Meaning) (l : Layout) (a : AgreementState) (s : Sight) (joined : I
   all : RunsAgree a
   all = agree (rules_of m l) a joined.sound
 
-  run_is : (r : ℕ) (q : RunState) → (s.part r).run ≡ Some q → IsRunOf (a.run r) q
+  pub run_is : (r : ℕ) (q : RunState) → (s.part r).run ≡ Some q → IsRunOf (a.run r) q
   run_is r q is = subst (ShowsRun (a.run r)) is (joined.tied r).run
 
   pub run_used : (r : ℕ) (q : RunState) → (s.part r).run ≡ Some q → a.used q.descriptor ≡ true

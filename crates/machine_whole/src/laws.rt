@@ -56,8 +56,9 @@ pub fn lists_are_short<S: Structure>(structure: &S)
 
 /// Where a runner runs a section, the section's done word is 0 or 1. Once the run has loaded its thunk and the done word, the log word of
 /// each Make of its line is 0 or the number plus one of a node slot, and that of each Retire is 0 or the number plus one of the slot that it
-/// retires. So it is in each state that meets the whole invariant, and in each one that the machine reaches.
-pub fn log_words_name_slots<S: Structure>(structure: &S)
+/// retires. The run has agreed on as many words as its line commits below where it stands, so its next commit goes to the log word behind
+/// those. So it is in each state that meets the whole invariant, and in each one that the machine reaches.
+pub fn log_words_follow_runs<S: Structure>(structure: &S)
     ensures whole { (layout : Layout) → WholeLogWordsSay (S.meaning structure.now) layout }
     ensures reached { (layout : Layout) (requests : List Request) (events : List Event) (w : World)
         → LogWordsSayAfter (S.meaning structure.now) layout requests events w }

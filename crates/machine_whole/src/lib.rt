@@ -4,6 +4,6 @@
 mod laws;
 
 pub use laws::{
-    histories_say_what_happened, lists_are_short, log_words_name_slots, reached_states_are_sound,
+    histories_say_what_happened, lists_are_short, log_words_follow_runs, reached_states_are_sound,
     steps_raise_versions, whole_states_are_sound,
 };

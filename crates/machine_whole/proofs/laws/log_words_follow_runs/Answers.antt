@@ -1,6 +1,6 @@
 use Rattle.machine_whole.proofs.After.{log_words_after}
 use Rattle.machine_whole.proofs.LogWords.{log_words_say}
-use Rattle.machine_whole.proofs.laws.log_words_name_slots.Goals as goal
+use Rattle.machine_whole.proofs.laws.log_words_follow_runs.Goals as goal
 
 pub returns-clause-whole : goal.returns-clause-whole
 returns-clause-whole g c = λ layout b s whole. log_words_say (g.S.Structure.meaning c.args.structure.now) layout b s whole
