@@ -1,13 +1,12 @@
 //! Whether what an event asks is what a call goes to.
 ghost use Rattle.std.specs.Prelude.{◌≡◌, ◌%◌, ◌^◌, true, slice_index, IfSome};
 ghost use Rattle.section_body.specs.Word.{next_word};
-ghost use Rattle.table_words.specs.declared.access.Access.TheVariants.{Exchanges};
 ghost use Rattle.version_words.specs.Naming.{load_of, open_of};
 ghost use Rattle.version_words.specs.Place.{next_log, own_done, own_stamp, own_reply, held_by_run, opened_of};
 
 use runner_steps::{EventKind, Part, Run};
 use section_body::{Place, Word};
-use table_words::{Access, Spot};
+use table_words::Spot;
 
 /// The run in progress, if any.
 pub fn run_of(part: &Part) -> &Option<Run>
@@ -89,16 +88,6 @@ pub fn is_own_reply(run: &Option<Run>, spot: Spot) -> bool
     match (run, spot) {
         (Some(run), Spot::Reply(request)) => request_of(run) == Some(request),
         _ => false,
-    }
-}
-
-/// What an exchange proposes, where it expects 0.
-pub fn proposal(access: Access) -> Option<u64>
-    ensures { IfSome result (λ word. access ≡ Exchanges 0 word) }
-{
-    match access {
-        Access::Exchanges(0, word) => Some(word),
-        _ => None,
     }
 }
 
