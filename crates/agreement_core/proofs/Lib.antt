@@ -24,6 +24,7 @@ pub mod Exactly
 pub mod Writing
 pub mod Recording
 pub mod Lasting
+pub mod Closing
 pub mod Continuing
 pub mod Answering
 pub mod PlainRuns

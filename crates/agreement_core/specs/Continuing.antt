@@ -21,3 +21,8 @@ pub record RecordsStand (w w' : AgreementState) : Type 0 where
 -- each section goes on whose descriptor isn't freed
 abbrev pub SectionsGoOn : AgreementState → AgreementState → Type 0
 SectionsGoOn w w' = (d : ℕ) → w.used d ≡ true → GoesOn (w.section d) (w'.section d)
+
+-- a stamp word and a reply word that isn't 0 stands
+pub record EntriesStand (w w' : AgreementState) : Type 0 where
+  pub stamp : (q : ℕ) → 0 < w.shared.stamp q → w'.shared.stamp q ≡ w.shared.stamp q
+  pub reply : (q : ℕ) → 0 < w.shared.reply q → w'.shared.reply q ≡ w.shared.reply q
