@@ -6,7 +6,7 @@ use Rattle.runner_steps.specs.declared.entries.Tested.{Tested}
 use Rattle.runner_steps.specs.State.{NodesState}
 use Rattle.runner_steps.specs.Tests.{has}
 use Rattle.runner_steps.specs.Lists.{without, is_old, slots_of}
-use Rattle.machine_whole.specs.Lengths.{entry_count}
+use Rattle.machine_invariant.specs.Lengths.{entry_count}
 
 -- the lists of own node slots, and for how many slots each has room
 pub record NodesKept : Type 0 where

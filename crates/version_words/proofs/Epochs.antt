@@ -15,7 +15,7 @@ use Rattle.runner_steps.specs.State.{RunState, PartState}
 use Rattle.runner_steps.specs.Sections.{is_open_run, next_of, thunk_of, line_of, setting_of}
 use Rattle.runner_steps.specs.Asks.{line_ask}
 use Rattle.runner_steps.specs.AfterInRun.{ended_more}
-use Rattle.machine_joins.proofs.RunPlaces.{no_retire_next, open_run}
+use Rattle.machine_epochs.proofs.RunPlaces.{no_retire_next, open_run}
 use Rattle.machine_states.proofs.Steps.{some_same}
 use Rattle.version_words.specs.Place.{HasEpoch}
 
