@@ -12,7 +12,7 @@ ghost use Rattle.interleave_core.specs.Enabled.{StopsNaming};
 
 use crate::machine::{Machine, StepError};
 use map_history::Request;
-use runner_steps::{Event, Structure};
+use runner_parts::{Event, Structure};
 use std::alloc::{AllocError, Global};
 use table_words::Layout;
 

@@ -11,11 +11,11 @@ use Rattle.table_words.specs.declared.access.Access.TheVariants.{Loads}
 use Rattle.table_words.specs.Access.{written}
 use Rattle.table_words.specs.Seen.{upd, put}
 use Rattle.structure_laws.specs.Meaning.{Meaning}
-use Rattle.runner_steps.specs.declared.event.EventKind.{EventKind}
-use Rattle.runner_steps.specs.declared.event.EventKind.TheVariants as kinds
-use Rattle.runner_steps.specs.State.{RunState, PartState}
+use Rattle.runner_parts.specs.declared.event.EventKind.{EventKind}
+use Rattle.runner_parts.specs.declared.event.EventKind.TheVariants as kinds
+use Rattle.runner_parts.specs.State.{RunState, PartState}
 use Rattle.runner_steps.specs.Sections.{is_open_run, next_of}
-use Rattle.runner_steps.specs.Tests.{has_pair}
+use Rattle.runner_parts.specs.Tests.{has_pair}
 use Rattle.runner_steps.specs.Outside.{join_ask}
 use Rattle.runner_steps.specs.AfterInRun.{opened_more}
 use Rattle.runner_steps.specs.Asks.{outside_ask, line_ask, opening_ask, ask_by, asks}

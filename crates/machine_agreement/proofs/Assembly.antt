@@ -9,8 +9,8 @@ use Rattle.table_words.specs.declared.spot.Spot.{Spot}
 use Rattle.table_words.specs.declared.spot.Spot.TheVariants as spots
 use Rattle.table_words.specs.Seen.{upd}
 use Rattle.structure_laws.specs.Meaning.{Meaning}
-use Rattle.runner_steps.specs.State.{RunState, PartState}
-use Rattle.runner_steps.specs.Tests.{has_pair}
+use Rattle.runner_parts.specs.State.{RunState, PartState}
+use Rattle.runner_parts.specs.Tests.{has_pair}
 use Rattle.runner_steps.specs.Sections.{thunk_of, line_of}
 use Rattle.agreement_core.specs.State.{CellRules, Shared, Section, Finished, AgreementState}
 use Rattle.agreement_core.specs.Events.{Event, Pass, after}

@@ -8,8 +8,8 @@ use Rattle.section_body.specs.Run.{written_once}
 use Rattle.table_words.specs.declared.spot.Spot.{Spot}
 use Rattle.table_words.specs.declared.spot.Spot.TheVariants as spots
 use Rattle.section_body.specs.Update.{upd}
-use Rattle.runner_steps.specs.State.{RunState}
-use Rattle.runner_steps.specs.Tests.{has_pair}
+use Rattle.runner_parts.specs.State.{RunState}
+use Rattle.runner_parts.specs.Tests.{has_pair}
 use Rattle.agreement_core.specs.State.{Shared, Section, Run, AgreementState, section_of}
 use Rattle.agreement_core.specs.Update.{upd2}
 use Rattle.agreement_core.specs.Checks.{came}

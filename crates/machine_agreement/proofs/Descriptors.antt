@@ -15,9 +15,9 @@ use Rattle.table_words.specs.declared.spot.Spot.TheVariants as spots
 use Rattle.table_words.specs.Seen.{put}
 use Rattle.table_words.specs.Seen as table
 use Rattle.structure_laws.specs.Meaning.{Meaning}
-use Rattle.runner_steps.specs.declared.entries.Published.{Published}
-use Rattle.runner_steps.specs.State.{RunState, PartState}
-use Rattle.runner_steps.specs.Tests.{has_pair}
+use Rattle.runner_parts.specs.declared.entries.Published.{Published}
+use Rattle.runner_parts.specs.State.{RunState, PartState}
+use Rattle.runner_parts.specs.Tests.{has_pair}
 use Rattle.runner_steps.specs.Sections.{thunk_of, line_of, settles, setting_of}
 use Rattle.runner_steps.specs.AfterOutside.{opened}
 use Rattle.agreement_core.specs.State.{CellRules, Shared, Section, Run, Finished, AgreementState}

@@ -5,7 +5,7 @@ use Rattle.std.proofs.lemmas.Bool.Decides.{nat_tests}
 use Rattle.section_body.specs.Update.{upd}
 use Rattle.table_words.specs.declared.layout.Layout.{Layout}
 use Rattle.structure_laws.specs.Meaning.{Meaning}
-use Rattle.runner_steps.specs.Tests.{has}
+use Rattle.runner_parts.specs.Tests.{has}
 use Rattle.agreement_core.specs.State.{Run, AgreementState}
 use Rattle.agreement_core.specs.Events as events
 use Rattle.machine_states.specs.Sight.{Sight}

@@ -9,10 +9,10 @@ use Rattle.table_words.specs.Access.{written}
 use Rattle.table_words.specs.Seen.{put}
 use Rattle.table_words.specs.Seen as table
 use Rattle.structure_laws.specs.Meaning.{Meaning}
-use Rattle.runner_steps.specs.declared.event.EventKind.{EventKind}
-use Rattle.runner_steps.specs.declared.entries.Published.{Published}
-use Rattle.runner_steps.specs.State.{PartState}
-use Rattle.runner_steps.specs.Tests.{has_pair}
+use Rattle.runner_parts.specs.declared.event.EventKind.{EventKind}
+use Rattle.runner_parts.specs.declared.entries.Published.{Published}
+use Rattle.runner_parts.specs.State.{PartState}
+use Rattle.runner_parts.specs.Tests.{has_pair}
 use Rattle.runner_steps.specs.After.{after, after_by, outside_after}
 use Rattle.agreement_core.specs.State.{Shared, Section, Run, Finished, AgreementState}
 use Rattle.agreement_core.specs.Events as events

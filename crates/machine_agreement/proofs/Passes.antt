@@ -11,7 +11,7 @@ use Rattle.section_body.specs.Run.{Setting, leaves, passed_checks, settled}
 use Rattle.table_words.specs.declared.layout.Layout.{Layout}
 use Rattle.structure_laws.specs.Meaning.{Meaning}
 use Rattle.runner_steps.specs.Sections.{setting_of, line_of, settles}
-use Rattle.runner_steps.specs.State.{RunState}
+use Rattle.runner_parts.specs.State.{RunState}
 use Rattle.agreement_core.specs.State.{CellRules, Section, Run, AgreementState, section_of}
 use Rattle.agreement_core.specs.Checks.{passes, came}
 use Rattle.agreement_core.specs.Events.{Pass, after}

@@ -20,12 +20,12 @@ use Rattle.table_words.specs.declared.access.Access.TheVariants.{Exchanges}
 use Rattle.table_words.specs.Seen.{put}
 use Rattle.table_words.specs.Seen as table
 use Rattle.structure_laws.specs.Meaning.{Meaning}
-use Rattle.runner_steps.specs.declared.event.EventKind.{EventKind}
-use Rattle.runner_steps.specs.declared.event.EventKind.TheVariants as kinds
-use Rattle.runner_steps.specs.State.{RunState, PartState}
-use Rattle.runner_steps.specs.Tests.{has_pair}
-use Rattle.runner_steps.specs.Lists.{cell_read}
-use Rattle.runner_steps.specs.declared.entries.Published.{Published}
+use Rattle.runner_parts.specs.declared.event.EventKind.{EventKind}
+use Rattle.runner_parts.specs.declared.event.EventKind.TheVariants as kinds
+use Rattle.runner_parts.specs.State.{RunState, PartState}
+use Rattle.runner_parts.specs.Tests.{has_pair}
+use Rattle.runner_parts.specs.Lists.{cell_read}
+use Rattle.runner_parts.specs.declared.entries.Published.{Published}
 use Rattle.runner_steps.specs.Sections.{thunk_of, is_open_run, next_of, line_of, settles}
 use Rattle.runner_steps.specs.Asks.{asks}
 use Rattle.runner_steps.specs.AfterInRun.{place_of, ended_more, run_over, over_if, finished_of}

@@ -20,11 +20,11 @@ use Rattle.table_words.specs.declared.access.Access.TheVariants.{Loads, Stores, 
 use Rattle.table_words.specs.Seen.{put}
 use Rattle.table_words.specs.Seen as table
 use Rattle.structure_laws.specs.Meaning.{Meaning}
-use Rattle.runner_steps.specs.declared.event.EventKind.{EventKind}
-use Rattle.runner_steps.specs.declared.event.EventKind.TheVariants as kinds
-use Rattle.runner_steps.specs.State.{RunState, RecordsState, PartState}
-use Rattle.runner_steps.specs.Tests.{has_pair}
-use Rattle.runner_steps.specs.Lists.{learned}
+use Rattle.runner_parts.specs.declared.event.EventKind.{EventKind}
+use Rattle.runner_parts.specs.declared.event.EventKind.TheVariants as kinds
+use Rattle.runner_parts.specs.State.{RunState, RecordsState, PartState}
+use Rattle.runner_parts.specs.Tests.{has_pair}
+use Rattle.runner_parts.specs.Lists.{learned}
 use Rattle.runner_steps.specs.Sections.{thunk_of, is_open_run, next_of}
 use Rattle.runner_steps.specs.InRun.{stamp_after, is_slot}
 use Rattle.runner_steps.specs.Asks.{asks}

@@ -9,11 +9,11 @@ use Rattle.section_body.specs.Memory.{cell_of}
 use Rattle.table_words.specs.declared.layout.Layout.{Layout}
 use Rattle.table_words.specs.Places.{slot_count}
 use Rattle.structure_laws.specs.Meaning.{Meaning}
-use Rattle.runner_steps.specs.declared.event.EventKind.{EventKind}
-use Rattle.runner_steps.specs.declared.event.EventKind.TheVariants as kinds
-use Rattle.runner_steps.specs.declared.entries.Published.{Published}
-use Rattle.runner_steps.specs.State.{RunState, PartState}
-use Rattle.runner_steps.specs.Lists.{is_old, slots_of}
+use Rattle.runner_parts.specs.declared.event.EventKind.{EventKind}
+use Rattle.runner_parts.specs.declared.event.EventKind.TheVariants as kinds
+use Rattle.runner_parts.specs.declared.entries.Published.{Published}
+use Rattle.runner_parts.specs.State.{RunState, PartState}
+use Rattle.runner_parts.specs.Lists.{is_old, slots_of}
 use Rattle.runner_steps.specs.Sections.{is_open_run, next_of}
 use Rattle.runner_steps.specs.AfterInRun.{ended_more}
 use Rattle.agreement_core.specs.State.{AgreementState}

@@ -7,9 +7,9 @@ use Rattle.table_words.specs.declared.layout.Layout.{Layout}
 use Rattle.table_words.specs.declared.spot.Spot.{Spot}
 use Rattle.table_words.specs.declared.spot.Spot.TheVariants.{Clock, Stamp, Reply, Cell, ThunkWord, DoneWord, LogWord}
 use Rattle.structure_laws.specs.Meaning.{Meaning}
-use Rattle.runner_steps.specs.declared.entries.Published.{Published}
-use Rattle.runner_steps.specs.State.{RunState, FinishedState, PartState}
-use Rattle.runner_steps.specs.Tests.{has_pair}
+use Rattle.runner_parts.specs.declared.entries.Published.{Published}
+use Rattle.runner_parts.specs.State.{RunState, FinishedState, PartState}
+use Rattle.runner_parts.specs.Tests.{has_pair}
 use Rattle.runner_steps.specs.Sections.{thunk_of, line_of, settles}
 use Rattle.runner_steps.specs.AfterInRun.{place_of}
 use Rattle.agreement_core.specs.State.{Section, Run, Finished, Shared, AgreementState}

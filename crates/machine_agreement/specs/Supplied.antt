@@ -8,12 +8,12 @@ use Rattle.section_body.specs.Memory.{cell_of}
 use Rattle.table_words.specs.declared.layout.Layout.{Layout}
 use Rattle.table_words.specs.declared.spot.Spot.TheVariants.{DoneWord, LogWord}
 use Rattle.structure_laws.specs.Meaning.{Meaning}
-use Rattle.runner_steps.specs.declared.event.EventKind.{EventKind}
-use Rattle.runner_steps.specs.declared.event.EventKind.TheVariants as kinds
-use Rattle.runner_steps.specs.declared.entries.Published.{Published}
-use Rattle.runner_steps.specs.State.{RunState}
-use Rattle.runner_steps.specs.Tests.{has}
-use Rattle.runner_steps.specs.Lists.{is_old, slots_of}
+use Rattle.runner_parts.specs.declared.event.EventKind.{EventKind}
+use Rattle.runner_parts.specs.declared.event.EventKind.TheVariants as kinds
+use Rattle.runner_parts.specs.declared.entries.Published.{Published}
+use Rattle.runner_parts.specs.State.{RunState}
+use Rattle.runner_parts.specs.Tests.{has}
+use Rattle.runner_parts.specs.Lists.{is_old, slots_of}
 use Rattle.runner_steps.specs.Sections.{is_open_run, next_of}
 use Rattle.agreement_core.specs.State.{AgreementState, section_of}
 use Rattle.agreement_core.specs.Events.{IsAlone, IsPrivateStore, IsPublishable}

@@ -12,10 +12,10 @@ use Rattle.table_words.specs.declared.access.Access.TheVariants.{Loads}
 use Rattle.table_words.specs.Access.{written}
 use Rattle.table_words.specs.Seen.{put}
 use Rattle.structure_laws.specs.Meaning.{Meaning}
-use Rattle.runner_steps.specs.declared.event.EventKind.{EventKind}
-use Rattle.runner_steps.specs.declared.event.EventKind.TheVariants as kinds
-use Rattle.runner_steps.specs.declared.entries.Published.{Published}
-use Rattle.runner_steps.specs.State.{RunState, PartState}
+use Rattle.runner_parts.specs.declared.event.EventKind.{EventKind}
+use Rattle.runner_parts.specs.declared.event.EventKind.TheVariants as kinds
+use Rattle.runner_parts.specs.declared.entries.Published.{Published}
+use Rattle.runner_parts.specs.State.{RunState, PartState}
 use Rattle.runner_steps.specs.Sections.{is_open_run, next_of}
 use Rattle.runner_steps.specs.Outside.{when}
 use Rattle.runner_steps.specs.InRun.{commit_ask, load_cell_ask, exchange_cell_ask, fill_load_ask, fill_store_ask, make_commit_ask, make_commit_to, retire_commit_ask, epoch_for_retire_ask, clock_load_ask, stamp_exchange_ask, clock_raise_ask, reply_exchange_ask, nested_load_ask, nested_hold_ask, outcome_load_ask, outcome_commit_ask, set_done_ask, release_ask}

@@ -15,15 +15,15 @@ use Rattle.table_words.specs.Access.{exchanged, written}
 use Rattle.table_words.specs.Places.{Fits}
 use Rattle.table_words.specs.Seen.{put}
 use Rattle.structure_laws.specs.Meaning.{Meaning}
-use Rattle.runner_steps.specs.declared.event.EventKind.TheVariants as kinds
-use Rattle.runner_steps.specs.declared.entries.Published.{Published}
-use Rattle.runner_steps.specs.State.{RunState, PartState, ReadsState, RecordsState}
-use Rattle.runner_steps.specs.Tests.{has}
+use Rattle.runner_parts.specs.declared.event.EventKind.TheVariants as kinds
+use Rattle.runner_parts.specs.declared.entries.Published.{Published}
+use Rattle.runner_parts.specs.State.{RunState, PartState, ReadsState, RecordsState}
+use Rattle.runner_parts.specs.Tests.{has}
 use Rattle.runner_steps.specs.Outside.{descriptor_spot}
 use Rattle.runner_steps.specs.Sections.{is_open_run, next_of}
 use Rattle.runner_steps.specs.Asks.{sizes_for}
 use Rattle.runner_steps.specs.InRun.{open_more_ask, load_done_ask, set_done_ask, release_ask}
-use Rattle.runner_steps.specs.Lists.{cell_read}
+use Rattle.runner_parts.specs.Lists.{cell_read}
 use Rattle.runner_steps.specs.AfterInRun.{over_if, ended_more, opened_more}
 use Rattle.epoch_core.specs.State.{EpochState, no_retire}
 use Rattle.epoch_core.specs.Events.{slot_of}

@@ -7,9 +7,9 @@ use Rattle.table_words.specs.declared.spot.Spot.TheVariants.{Epoch, Announcement
 use Rattle.table_words.specs.Access.{exchanged}
 use Rattle.table_words.specs.Seen.{upd, put}
 use Rattle.structure_laws.specs.Meaning.{Meaning}
-use Rattle.runner_steps.specs.declared.stage.Stage.{Stage}
-use Rattle.runner_steps.specs.declared.stage.Stage.TheVariants.{Idle, Loaded, Announced, Entered, Scanning}
-use Rattle.runner_steps.specs.State.{PartState}
+use Rattle.runner_parts.specs.declared.stage.Stage.{Stage}
+use Rattle.runner_parts.specs.declared.stage.Stage.TheVariants.{Idle, Loaded, Announced, Entered, Scanning}
+use Rattle.runner_parts.specs.State.{PartState}
 use Rattle.epoch_core.specs.declared.stage.Stage as component
 use Rattle.epoch_core.specs.declared.stage.Stage.TheVariants as points
 use Rattle.epoch_core.specs.Moves.{is_clear, is_over, advanced}

@@ -11,15 +11,15 @@ use Rattle.table_words.specs.declared.access.Access.{Access}
 use Rattle.table_words.specs.Access.{exchanged, written}
 use Rattle.table_words.specs.Seen.{upd, put}
 use Rattle.structure_laws.specs.Meaning.{Meaning}
-use Rattle.runner_steps.specs.declared.event.EventKind.{EventKind}
-use Rattle.runner_steps.specs.declared.event.EventKind.TheVariants as kinds
-use Rattle.runner_steps.specs.declared.stage.Stage.{Stage}
-use Rattle.runner_steps.specs.declared.stage.Stage.TheVariants.{Idle, Loaded, Announced, Entered, Scanning}
-use Rattle.runner_steps.specs.declared.entries.Retired.{Retired}
-use Rattle.runner_steps.specs.State.{PartState, RecordsState}
-use Rattle.runner_steps.specs.Tests.{has, last_stored}
+use Rattle.runner_parts.specs.declared.event.EventKind.{EventKind}
+use Rattle.runner_parts.specs.declared.event.EventKind.TheVariants as kinds
+use Rattle.runner_parts.specs.declared.stage.Stage.{Stage}
+use Rattle.runner_parts.specs.declared.stage.Stage.TheVariants.{Idle, Loaded, Announced, Entered, Scanning}
+use Rattle.runner_parts.specs.declared.entries.Retired.{Retired}
+use Rattle.runner_parts.specs.State.{PartState, RecordsState}
+use Rattle.runner_parts.specs.Tests.{has, last_stored}
 use Rattle.runner_steps.specs.Outside.{enter_load_ask, announce_ask, enter_again_ask, idle_ask, scan_one_ask, advance_ask}
-use Rattle.runner_steps.specs.Lists as lists
+use Rattle.runner_parts.specs.Lists as lists
 use Rattle.runner_steps.specs.After.{outside_after}
 use Rattle.runner_steps.specs.AfterOutside as outside
 use Rattle.epoch_core.specs.declared.stage.Stage as component

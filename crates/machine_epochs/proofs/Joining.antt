@@ -7,9 +7,9 @@ use Rattle.table_words.specs.declared.spot.Spot.TheVariants.{Epoch, Clock, Annou
 use Rattle.table_words.specs.Seen.{upd, put}
 use Rattle.section_body.specs.declared.thunk.Thunk.{Thunk}
 use Rattle.structure_laws.specs.Meaning.{Meaning}
-use Rattle.runner_steps.specs.declared.entries.Published.{Published}
-use Rattle.runner_steps.specs.State.{PartState, NodesState, RecordsState}
-use Rattle.runner_steps.specs.Tests.{has}
+use Rattle.runner_parts.specs.declared.entries.Published.{Published}
+use Rattle.runner_parts.specs.State.{PartState, NodesState, RecordsState}
+use Rattle.runner_parts.specs.Tests.{has}
 use Rattle.runner_steps.specs.Outside.{descriptor_spot}
 use Rattle.epoch_core.specs.declared.location.Location.TheVariants.{Live, Hand}
 use Rattle.epoch_core.specs.State.{Counts, EpochState, is_entered}

@@ -4,7 +4,7 @@ use Rattle.map_history.specs.declared.op.Request.{Request}
 use Rattle.table_words.specs.declared.layout.Layout.{Layout}
 use Rattle.table_words.specs.declared.spot.Spot.{Spot}
 use Rattle.structure_laws.specs.Meaning.{Meaning}
-use Rattle.runner_steps.specs.declared.event.Event.{Event}
+use Rattle.runner_parts.specs.declared.event.Event.{Event}
 use Rattle.epoch_core.specs.State.{EpochState}
 use Rattle.epoch_core.specs.Events as events
 use Rattle.epoch_core.specs.Schedules.{after_all}

@@ -10,14 +10,14 @@ use Rattle.table_words.specs.declared.access.Access.{Access}
 use Rattle.table_words.specs.Access.{written}
 use Rattle.table_words.specs.Seen.{upd, put}
 use Rattle.structure_laws.specs.Meaning.{Meaning}
-use Rattle.runner_steps.specs.declared.event.EventKind.{EventKind}
-use Rattle.runner_steps.specs.declared.event.EventKind.TheVariants as kinds
-use Rattle.runner_steps.specs.declared.stage.Stage.TheVariants.{Entered}
-use Rattle.runner_steps.specs.declared.entries.Tested.{Tested}
-use Rattle.runner_steps.specs.State.{RunState, PartState, NodesState, ReadsState, RecordsState}
-use Rattle.runner_steps.specs.Tests.{has}
+use Rattle.runner_parts.specs.declared.event.EventKind.{EventKind}
+use Rattle.runner_parts.specs.declared.event.EventKind.TheVariants as kinds
+use Rattle.runner_parts.specs.declared.stage.Stage.TheVariants.{Entered}
+use Rattle.runner_parts.specs.declared.entries.Tested.{Tested}
+use Rattle.runner_parts.specs.State.{RunState, PartState, NodesState, ReadsState, RecordsState}
+use Rattle.runner_parts.specs.Tests.{has}
 use Rattle.runner_steps.specs.Outside.{split_ask, entry_ask, read_ask, private_load_ask, open_ask}
-use Rattle.runner_steps.specs.Lists as lists
+use Rattle.runner_parts.specs.Lists as lists
 use Rattle.runner_steps.specs.AfterOutside as outside
 use Rattle.runner_steps.specs.After.{outside_after}
 use Rattle.epoch_core.specs.declared.location.Location.TheVariants.{Hand}

@@ -8,12 +8,12 @@ use Rattle.std.proofs.lemmas.List.Elements.{All-filter, All-weaker, All-push, Al
 use Rattle.table_words.specs.declared.layout.Layout.{Layout}
 use Rattle.table_words.specs.Places.{descriptor_count}
 use Rattle.structure_laws.specs.Meaning.{Meaning}
-use Rattle.runner_steps.specs.declared.stage.Stage.TheVariants.{Entered}
-use Rattle.runner_steps.specs.declared.entries.Published.{Published}
-use Rattle.runner_steps.specs.declared.entries.Retired.{Retired}
-use Rattle.runner_steps.specs.State.{RunState, PartState, RecordsState}
-use Rattle.runner_steps.specs.Tests.{has}
-use Rattle.runner_steps.specs.Lists as lists
+use Rattle.runner_parts.specs.declared.stage.Stage.TheVariants.{Entered}
+use Rattle.runner_parts.specs.declared.entries.Published.{Published}
+use Rattle.runner_parts.specs.declared.entries.Retired.{Retired}
+use Rattle.runner_parts.specs.State.{RunState, PartState, RecordsState}
+use Rattle.runner_parts.specs.Tests.{has}
+use Rattle.runner_parts.specs.Lists as lists
 use Rattle.runner_steps.specs.AfterOutside as outside
 use Rattle.epoch_core.specs.Lists.{times}
 use Rattle.machine_epochs.specs.Firsts.{owner_of}

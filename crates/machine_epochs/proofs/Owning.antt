@@ -13,11 +13,11 @@ use Rattle.table_words.specs.Access.{exchanged, written}
 use Rattle.table_words.specs.Places.{descriptor_count}
 use Rattle.table_words.specs.Seen.{upd, put}
 use Rattle.structure_laws.specs.Meaning.{Meaning}
-use Rattle.runner_steps.specs.declared.event.EventKind.{EventKind}
-use Rattle.runner_steps.specs.declared.event.EventKind.TheVariants as kinds
-use Rattle.runner_steps.specs.declared.stage.Stage.TheVariants.{Entered}
-use Rattle.runner_steps.specs.State.{RunState, PartState, RecordsState}
-use Rattle.runner_steps.specs.Tests.{has}
+use Rattle.runner_parts.specs.declared.event.EventKind.{EventKind}
+use Rattle.runner_parts.specs.declared.event.EventKind.TheVariants as kinds
+use Rattle.runner_parts.specs.declared.stage.Stage.TheVariants.{Entered}
+use Rattle.runner_parts.specs.State.{RunState, PartState, RecordsState}
+use Rattle.runner_parts.specs.Tests.{has}
 use Rattle.runner_steps.specs.Asks.{asks, ask_by, outside_ask}
 use Rattle.runner_steps.specs.After.{after, after_by, leaves, knows_also}
 use Rattle.epoch_core.specs.State.{is_entered, entry_of}

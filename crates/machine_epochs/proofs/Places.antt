@@ -8,11 +8,11 @@ use Rattle.table_words.specs.declared.spot.Spot.{Spot}
 use Rattle.table_words.specs.declared.spot.Spot.TheVariants.{ThunkWord, DoneWord, LogWord}
 use Rattle.table_words.specs.Seen.{put}
 use Rattle.structure_laws.specs.Meaning.{Meaning}
-use Rattle.runner_steps.specs.State.{RunState}
+use Rattle.runner_parts.specs.State.{RunState}
 use Rattle.runner_steps.specs.Sections.{thunk_of}
-use Rattle.runner_steps.specs.Tests.{has}
+use Rattle.runner_parts.specs.Tests.{has}
 use Rattle.runner_steps.specs.Outside.{descriptor_spot}
-use Rattle.runner_steps.specs.Lists.{named_by}
+use Rattle.runner_parts.specs.Lists.{named_by}
 use Rattle.epoch_core.specs.declared.location.Location.{Location}
 use Rattle.epoch_core.specs.declared.location.Location.TheVariants.{Fixed, Live, Hand, Free, Worn, Limbo}
 use Rattle.epoch_core.specs.State.{Counts, EpochState, Role, is_entered, entry_of, IsKept}

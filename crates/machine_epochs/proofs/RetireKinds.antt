@@ -16,11 +16,11 @@ use Rattle.table_words.specs.Access.{exchanged}
 use Rattle.table_words.specs.Places.{Fits}
 use Rattle.table_words.specs.Seen.{upd, put}
 use Rattle.structure_laws.specs.Meaning.{Meaning}
-use Rattle.runner_steps.specs.declared.event.EventKind.TheVariants as kinds
-use Rattle.runner_steps.specs.declared.entries.Retired.{Retired}
-use Rattle.runner_steps.specs.State.{RunState, PartState, RecordsState}
+use Rattle.runner_parts.specs.declared.event.EventKind.TheVariants as kinds
+use Rattle.runner_parts.specs.declared.entries.Retired.{Retired}
+use Rattle.runner_parts.specs.State.{RunState, PartState, RecordsState}
 use Rattle.runner_steps.specs.Sections.{thunk_of, is_open_run, line_of, next_of, setting_of}
-use Rattle.runner_steps.specs.Lists.{slot_retired}
+use Rattle.runner_parts.specs.Lists.{slot_retired}
 use Rattle.runner_steps.specs.Asks.{sizes_for}
 use Rattle.runner_steps.specs.InRun.{retire_commit_ask, epoch_for_retire_ask}
 use Rattle.runner_steps.specs.AfterInRun as runs

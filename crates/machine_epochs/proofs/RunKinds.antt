@@ -13,14 +13,14 @@ use Rattle.table_words.specs.declared.access.Access.TheVariants.{Loads}
 use Rattle.table_words.specs.Access.{written}
 use Rattle.table_words.specs.Seen.{upd, put}
 use Rattle.structure_laws.specs.Meaning.{Meaning}
-use Rattle.runner_steps.specs.declared.event.EventKind.{EventKind}
-use Rattle.runner_steps.specs.declared.event.EventKind.TheVariants as kinds
-use Rattle.runner_steps.specs.State.{RunState, PartState, DescriptorsState, ReadsState, RecordsState}
+use Rattle.runner_parts.specs.declared.event.EventKind.{EventKind}
+use Rattle.runner_parts.specs.declared.event.EventKind.TheVariants as kinds
+use Rattle.runner_parts.specs.State.{RunState, PartState, DescriptorsState, ReadsState, RecordsState}
 use Rattle.runner_steps.specs.Sections.{thunk_of, is_open_run, line_of, next_of, setting_of}
 use Rattle.runner_steps.specs.InRun.{load_cell_ask, exchange_cell_ask, nested_load_ask, nested_hold_ask, outcome_load_ask, clock_load_ask, stamp_exchange_ask, clock_raise_ask, reply_exchange_ask, stamp_after}
 use Rattle.runner_steps.specs.Outside.{descriptor_spot}
-use Rattle.runner_steps.specs.Tests.{has, last_stored}
-use Rattle.runner_steps.specs.Lists.{cell_read, learned}
+use Rattle.runner_parts.specs.Tests.{has, last_stored}
+use Rattle.runner_parts.specs.Lists.{cell_read, learned}
 use Rattle.runner_steps.specs.AfterInRun as runs
 use Rattle.runner_steps.specs.After.{line_after}
 use Rattle.epoch_core.specs.declared.location.Location.TheVariants.{Live, Hand}

@@ -10,7 +10,7 @@ use Rattle.section_body.specs.Run.{Setting, leaves, passed_checks, settled}
 use Rattle.section_lines.proofs.Ordered.{is_ordered}
 use Rattle.table_words.specs.declared.layout.Layout.{Layout}
 use Rattle.structure_laws.specs.Meaning.{Meaning}
-use Rattle.runner_steps.specs.State.{RunState}
+use Rattle.runner_parts.specs.State.{RunState}
 use Rattle.runner_steps.specs.Sections.{thunk_of, is_open_run, line_limit, line_of, next_of, setting_of}
 use Rattle.epoch_core.specs.State.{no_retire}
 use Rattle.machine_epochs.specs.Slots.{retire_before, retiring_of}

@@ -16,15 +16,15 @@ use Rattle.table_words.specs.declared.access.Access.TheVariants.{Exchanges}
 use Rattle.table_words.specs.Access.{written}
 use Rattle.table_words.specs.Seen.{upd, put}
 use Rattle.structure_laws.specs.Meaning.{Meaning}
-use Rattle.runner_steps.specs.declared.event.EventKind.TheVariants as kinds
-use Rattle.runner_steps.specs.declared.stage.Stage.TheVariants.{Entered}
-use Rattle.runner_steps.specs.declared.entries.Published.{Published}
-use Rattle.runner_steps.specs.declared.entries.Stored.{Stored}
-use Rattle.runner_steps.specs.State.{PartState, RecordsState}
-use Rattle.runner_steps.specs.Tests.{has, last_stored, is_some_of, are_stored, thunk_words, is_prepared}
+use Rattle.runner_parts.specs.declared.event.EventKind.TheVariants as kinds
+use Rattle.runner_parts.specs.declared.stage.Stage.TheVariants.{Entered}
+use Rattle.runner_parts.specs.declared.entries.Published.{Published}
+use Rattle.runner_parts.specs.declared.entries.Stored.{Stored}
+use Rattle.runner_parts.specs.State.{PartState, RecordsState}
+use Rattle.runner_parts.specs.Tests.{has, last_stored, is_some_of, are_stored, thunk_words, is_prepared}
 use Rattle.runner_steps.specs.Outside.{descriptor_spot, hold_ask, retire_ask}
 use Rattle.runner_steps.specs.Sections.{thunk_of}
-use Rattle.runner_steps.specs.Lists as lists
+use Rattle.runner_parts.specs.Lists as lists
 use Rattle.runner_steps.specs.AfterOutside as outside
 use Rattle.epoch_core.specs.declared.location.Location.{Location}
 use Rattle.epoch_core.specs.declared.location.Location.TheVariants.{Live, Hand, Free, Limbo}

@@ -17,11 +17,11 @@ use Rattle.table_words.specs.Access.{exchanged}
 use Rattle.table_words.specs.Places.{Fits}
 use Rattle.table_words.specs.Seen.{upd, put}
 use Rattle.structure_laws.specs.Meaning.{Meaning}
-use Rattle.runner_steps.specs.declared.event.EventKind.TheVariants as kinds
-use Rattle.runner_steps.specs.State.{RunState, PartState, RecordsState}
+use Rattle.runner_parts.specs.declared.event.EventKind.TheVariants as kinds
+use Rattle.runner_parts.specs.State.{RunState, PartState, RecordsState}
 use Rattle.runner_steps.specs.Sections.{thunk_of, is_open_run, next_of}
-use Rattle.runner_steps.specs.Tests.{has}
-use Rattle.runner_steps.specs.Lists.{without, slot_taken, slot_made, slot_back}
+use Rattle.runner_parts.specs.Tests.{has}
+use Rattle.runner_parts.specs.Lists.{without, slot_taken, slot_made, slot_back}
 use Rattle.runner_steps.specs.Asks.{sizes_for}
 use Rattle.runner_steps.specs.InRun.{last_of, make_slot, is_slot, fill_load_ask, fill_store_ask, make_commit_ask}
 use Rattle.runner_steps.specs.AfterInRun as runs

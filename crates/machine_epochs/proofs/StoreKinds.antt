@@ -12,11 +12,11 @@ use Rattle.table_words.specs.declared.access.Access.{Access}
 use Rattle.table_words.specs.Places.{Fits, slot_count}
 use Rattle.table_words.specs.Seen.{put}
 use Rattle.structure_laws.specs.Meaning.{Meaning}
-use Rattle.runner_steps.specs.declared.event.EventKind.TheVariants as kinds
-use Rattle.runner_steps.specs.declared.entries.Stored.{Stored}
-use Rattle.runner_steps.specs.State.{PartState, RecordsState}
-use Rattle.runner_steps.specs.Tests.{has, last_stored}
-use Rattle.runner_steps.specs.Lists.{descriptor_stored}
+use Rattle.runner_parts.specs.declared.event.EventKind.TheVariants as kinds
+use Rattle.runner_parts.specs.declared.entries.Stored.{Stored}
+use Rattle.runner_parts.specs.State.{PartState, RecordsState}
+use Rattle.runner_parts.specs.Tests.{has, last_stored}
+use Rattle.runner_parts.specs.Lists.{descriptor_stored}
 use Rattle.runner_steps.specs.Outside.{descriptor_spot, private_store_ask}
 use Rattle.runner_steps.specs.Asks.{sizes_for}
 use Rattle.epoch_core.specs.declared.location.Location.TheVariants.{Free}

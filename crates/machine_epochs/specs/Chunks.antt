@@ -5,14 +5,14 @@ use Rattle.section_body.specs.declared.micro.Micro.TheVariants as micros
 use Rattle.table_words.specs.declared.layout.Layout.{Layout}
 use Rattle.table_words.specs.Places.{slot_count}
 use Rattle.structure_laws.specs.Meaning.{Meaning}
-use Rattle.runner_steps.specs.declared.event.EventKind.{EventKind}
-use Rattle.runner_steps.specs.declared.event.EventKind.TheVariants as kinds
-use Rattle.runner_steps.specs.declared.stage.Stage.TheVariants.{Loaded, Scanning}
-use Rattle.runner_steps.specs.declared.entries.Published.{Published}
-use Rattle.runner_steps.specs.State.{RunState, PartState, NodesState}
+use Rattle.runner_parts.specs.declared.event.EventKind.{EventKind}
+use Rattle.runner_parts.specs.declared.event.EventKind.TheVariants as kinds
+use Rattle.runner_parts.specs.declared.stage.Stage.TheVariants.{Loaded, Scanning}
+use Rattle.runner_parts.specs.declared.entries.Published.{Published}
+use Rattle.runner_parts.specs.State.{RunState, PartState, NodesState}
 use Rattle.runner_steps.specs.Sections.{thunk_of, is_open_run, next_of}
-use Rattle.runner_steps.specs.Tests.{has, thunk_words}
-use Rattle.runner_steps.specs.Lists.{test_of, one_more}
+use Rattle.runner_parts.specs.Tests.{has, thunk_words}
+use Rattle.runner_parts.specs.Lists.{test_of, one_more}
 use Rattle.epoch_core.specs.State.{Role}
 use Rattle.epoch_core.specs.Events as events
 use Rattle.epoch_core.specs.Events.{Event}

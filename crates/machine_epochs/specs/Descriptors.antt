@@ -7,13 +7,13 @@ use Rattle.table_words.specs.declared.layout.Layout.{Layout}
 use Rattle.table_words.specs.declared.spot.Spot.TheVariants.{Epoch}
 use Rattle.table_words.specs.Places.{descriptor_count}
 use Rattle.structure_laws.specs.Meaning.{Meaning}
-use Rattle.runner_steps.specs.declared.stage.Stage.TheVariants.{Entered}
-use Rattle.runner_steps.specs.declared.entries.Retired.{Retired}
-use Rattle.runner_steps.specs.declared.entries.Published.{Published}
-use Rattle.runner_steps.specs.declared.event.Event.{Event}
-use Rattle.runner_steps.specs.State.{RunState, PartState}
+use Rattle.runner_parts.specs.declared.stage.Stage.TheVariants.{Entered}
+use Rattle.runner_parts.specs.declared.entries.Retired.{Retired}
+use Rattle.runner_parts.specs.declared.entries.Published.{Published}
+use Rattle.runner_parts.specs.declared.event.Event.{Event}
+use Rattle.runner_parts.specs.State.{RunState, PartState}
 use Rattle.runner_steps.specs.Sections.{line_of}
-use Rattle.runner_steps.specs.Tests.{has}
+use Rattle.runner_parts.specs.Tests.{has}
 use Rattle.epoch_core.specs.Lists.{times}
 use Rattle.machine_states.specs.World.{World}
 use Rattle.machine_states.specs.Schedules.{IsAfter}

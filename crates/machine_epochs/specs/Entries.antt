@@ -3,8 +3,8 @@ use Rattle.table_words.specs.declared.layout.Layout.{Layout}
 use Rattle.table_words.specs.Places.{slot_count, descriptor_count}
 use Rattle.table_words.specs.declared.spot.Spot.TheVariants.{Epoch, Announcement}
 use Rattle.structure_laws.specs.Meaning.{Meaning}
-use Rattle.runner_steps.specs.declared.stage.Stage as machine
-use Rattle.runner_steps.specs.declared.stage.Stage.TheVariants as stages
+use Rattle.runner_parts.specs.declared.stage.Stage as machine
+use Rattle.runner_parts.specs.declared.stage.Stage.TheVariants as stages
 use Rattle.epoch_core.specs.declared.stage.Stage.{Stage}
 use Rattle.epoch_core.specs.declared.stage.Stage.TheVariants.{Idle, Loaded, Announced, Entered, Scanning}
 use Rattle.epoch_core.specs.State.{Counts, EpochState}

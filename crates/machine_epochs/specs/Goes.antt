@@ -3,7 +3,7 @@ use Rattle.std.specs.Prelude.{ℕ, List}
 use Rattle.map_history.specs.declared.op.Request.{Request}
 use Rattle.table_words.specs.declared.layout.Layout.{Layout}
 use Rattle.structure_laws.specs.Meaning.{Meaning}
-use Rattle.runner_steps.specs.declared.event.EventKind.{EventKind}
+use Rattle.runner_parts.specs.declared.event.EventKind.{EventKind}
 use Rattle.epoch_core.specs.State.{EpochState}
 use Rattle.epoch_core.specs.Events.{Event}
 use Rattle.epoch_core.specs.Schedules.{first_state, AllEnabled, after_all}

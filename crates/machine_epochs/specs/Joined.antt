@@ -4,9 +4,9 @@ use Rattle.table_words.specs.declared.layout.Layout.{Layout}
 use Rattle.table_words.specs.declared.spot.Spot.{Spot}
 use Rattle.table_words.specs.declared.spot.Spot.TheVariants.{ThunkWord, LogWord}
 use Rattle.structure_laws.specs.Meaning.{Meaning}
-use Rattle.runner_steps.specs.declared.entries.Published.{Published}
-use Rattle.runner_steps.specs.State.{RunState, PartState}
-use Rattle.runner_steps.specs.Tests.{has, last_stored}
+use Rattle.runner_parts.specs.declared.entries.Published.{Published}
+use Rattle.runner_parts.specs.State.{RunState, PartState}
+use Rattle.runner_parts.specs.Tests.{has, last_stored}
 use Rattle.runner_steps.specs.Outside.{descriptor_spot}
 use Rattle.epoch_core.specs.declared.location.Location.TheVariants.{Live, Hand}
 use Rattle.epoch_core.specs.State.{EpochState, is_entered}

@@ -7,8 +7,8 @@ use Rattle.section_body.specs.Line.{micro_at}
 use Rattle.table_words.specs.declared.spot.Spot.{Spot}
 use Rattle.table_words.specs.declared.spot.Spot.TheVariants.{Epoch, Announcement, ThunkWord}
 use Rattle.structure_laws.specs.Meaning.{Meaning}
-use Rattle.runner_steps.specs.declared.entries.Retired.{Retired}
-use Rattle.runner_steps.specs.State.{RunState, PartState}
+use Rattle.runner_parts.specs.declared.entries.Retired.{Retired}
+use Rattle.runner_parts.specs.State.{RunState, PartState}
 use Rattle.runner_steps.specs.Sections.{thunk_of, line_of}
 use Rattle.epoch_core.specs.State.{EpochState, Retiring, no_retire}
 use Rattle.epoch_core.specs.Lists.{Entry, Lists}

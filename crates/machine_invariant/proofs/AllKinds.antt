@@ -10,9 +10,9 @@ use Rattle.table_words.specs.Places.{Fits}
 use Rattle.structure_laws.specs.Meaning.{Meaning}
 use Rattle.structure_laws.specs.Laws.{Laws}
 use Rattle.structure_laws.specs.Sections.{IsAllowed}
-use Rattle.runner_steps.specs.declared.event.EventKind.{EventKind}
-use Rattle.runner_steps.specs.declared.event.EventKind.TheVariants as kinds
-use Rattle.runner_steps.specs.State.{RunState, PartState}
+use Rattle.runner_parts.specs.declared.event.EventKind.{EventKind}
+use Rattle.runner_parts.specs.declared.event.EventKind.TheVariants as kinds
+use Rattle.runner_parts.specs.State.{RunState, PartState}
 use Rattle.runner_steps.specs.Sections.{is_open_run, next_of}
 use Rattle.runner_steps.specs.Asks.{line_ask, opening_ask, asks, sizes_for}
 use Rattle.machine_states.specs.World.{is_join}

@@ -11,10 +11,10 @@ use Rattle.structure_laws.specs.Meaning.{Meaning}
 use Rattle.structure_laws.specs.Laws.{Laws}
 use Rattle.structure_laws.specs.Sections.{IsAllowed}
 use Rattle.structure_laws.proofs.Changes.{upd_same, upd_other}
-use Rattle.runner_steps.specs.declared.event.EventKind.TheVariants as kinds
-use Rattle.runner_steps.specs.declared.entries.Published.{Published}
-use Rattle.runner_steps.specs.State.{ReadsState, PartState}
-use Rattle.runner_steps.specs.Tests.{has}
+use Rattle.runner_parts.specs.declared.event.EventKind.TheVariants as kinds
+use Rattle.runner_parts.specs.declared.entries.Published.{Published}
+use Rattle.runner_parts.specs.State.{ReadsState, PartState}
+use Rattle.runner_parts.specs.Tests.{has}
 use Rattle.runner_steps.specs.Outside.{idle_ask}
 use Rattle.runner_steps.specs.Asks.{asks}
 use Rattle.runner_steps.specs.After.{after_by, after}

@@ -14,7 +14,7 @@ use Rattle.table_words.proofs.Seen as words
 use Rattle.structure_laws.specs.Meaning.{Meaning}
 use Rattle.structure_laws.specs.Cells.{first_word}
 use Rattle.structure_laws.specs.Laws.{Laws}
-use Rattle.runner_steps.specs.State.{PartState}
+use Rattle.runner_parts.specs.State.{PartState}
 use Rattle.runner_steps.specs.Asks.{sizes_for}
 use Rattle.agreement_core.specs.Schedules as agreement_schedules
 use Rattle.epoch_core.specs.declared.location.Location.TheVariants.{Fixed, Free}

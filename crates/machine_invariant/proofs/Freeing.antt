@@ -12,13 +12,13 @@ use Rattle.table_words.specs.Limits.{IsWithinLimits}
 use Rattle.structure_laws.specs.Meaning.{Meaning}
 use Rattle.structure_laws.specs.Laws.{Laws}
 use Rattle.structure_laws.specs.Sections.{IsAllowed}
-use Rattle.runner_steps.specs.declared.entries.Retired.{Retired}
-use Rattle.runner_steps.specs.declared.event.EventKind.{EventKind}
-use Rattle.runner_steps.specs.declared.event.EventKind.TheVariants as kinds
-use Rattle.runner_steps.specs.State.{PartState}
-use Rattle.runner_steps.specs.Tests.{has}
-use Rattle.runner_steps.specs.Lists.{slots_of}
-use Rattle.runner_steps.specs.Lists as lists
+use Rattle.runner_parts.specs.declared.entries.Retired.{Retired}
+use Rattle.runner_parts.specs.declared.event.EventKind.{EventKind}
+use Rattle.runner_parts.specs.declared.event.EventKind.TheVariants as kinds
+use Rattle.runner_parts.specs.State.{PartState}
+use Rattle.runner_parts.specs.Tests.{has}
+use Rattle.runner_parts.specs.Lists.{slots_of}
+use Rattle.runner_parts.specs.Lists as lists
 use Rattle.runner_steps.specs.Asks.{asks}
 use Rattle.agreement_core.specs.State.{CellRules, AgreementState}
 use Rattle.agreement_core.specs.Events as agreement

@@ -6,9 +6,9 @@ use Rattle.std.proofs.lemmas.Bool.Decides.{nat_tests}
 use Rattle.std.proofs.lemmas.List.{length-map}
 use Rattle.table_words.specs.declared.layout.Layout.{Layout}
 use Rattle.structure_laws.specs.Meaning.{Meaning}
-use Rattle.runner_steps.specs.declared.entries.Retired.{Retired}
-use Rattle.runner_steps.specs.State.{NodesState}
-use Rattle.runner_steps.specs.Lists.{slots_of}
+use Rattle.runner_parts.specs.declared.entries.Retired.{Retired}
+use Rattle.runner_parts.specs.State.{NodesState}
+use Rattle.runner_parts.specs.Lists.{slots_of}
 use Rattle.epoch_core.specs.declared.location.Location.{Location}
 use Rattle.epoch_core.specs.Lists.{times}
 use Rattle.epoch_core.proofs.Times.{times-append}

@@ -5,12 +5,12 @@ use Rattle.std.proofs.Common.{◌≡◌, ℕ, ◌+◌, ◌<◌, ◌≤◌, List,
 use Rattle.std.proofs.lemmas.Bool.Decides.{nat_tests}
 use Rattle.table_words.specs.declared.layout.Layout.{Layout}
 use Rattle.structure_laws.specs.Meaning.{Meaning}
-use Rattle.runner_steps.specs.declared.event.EventKind.{EventKind}
-use Rattle.runner_steps.specs.declared.event.EventKind.TheVariants as kinds
-use Rattle.runner_steps.specs.declared.entries.Retired.{Retired}
-use Rattle.runner_steps.specs.Lists.{slots_of}
-use Rattle.runner_steps.specs.Lists as lists
-use Rattle.runner_steps.specs.Tests.{has}
+use Rattle.runner_parts.specs.declared.event.EventKind.{EventKind}
+use Rattle.runner_parts.specs.declared.event.EventKind.TheVariants as kinds
+use Rattle.runner_parts.specs.declared.entries.Retired.{Retired}
+use Rattle.runner_parts.specs.Lists.{slots_of}
+use Rattle.runner_parts.specs.Lists as lists
+use Rattle.runner_parts.specs.Tests.{has}
 use Rattle.epoch_core.specs.declared.location.Location.{Location}
 use Rattle.epoch_core.specs.declared.location.Location.TheVariants.{Live, Fixed, Hand, Free, Worn, Limbo}
 use Rattle.epoch_core.specs.State.{EpochState, IsKept, entry_of}

@@ -9,7 +9,7 @@ use Rattle.section_lines.specs.Line.{IsCounted}
 use Rattle.table_words.specs.declared.layout.Layout.{Layout}
 use Rattle.table_words.specs.declared.spot.Spot.TheVariants.{LogWord}
 use Rattle.structure_laws.specs.Meaning.{Meaning}
-use Rattle.runner_steps.specs.State.{RunState}
+use Rattle.runner_parts.specs.State.{RunState}
 use Rattle.runner_steps.specs.Sections.{thunk_of, line_of}
 use Rattle.epoch_core.specs.State.{Role, Retires}
 use Rattle.epoch_core.specs.Sound.{IsLogged}

@@ -7,7 +7,7 @@ use Rattle.section_body.specs.declared.thunk.Thunk.{Thunk}
 use Rattle.table_words.specs.declared.layout.Layout.{Layout}
 use Rattle.table_words.specs.declared.spot.Spot.TheVariants.{DoneWord, LogWord}
 use Rattle.structure_laws.specs.Meaning.{Meaning}
-use Rattle.runner_steps.specs.Tests.{has, is_prepared}
+use Rattle.runner_parts.specs.Tests.{has, is_prepared}
 use Rattle.runner_steps.specs.Outside.{descriptor_spot}
 use Rattle.epoch_core.specs.State.{EpochState}
 use Rattle.machine_states.specs.Sight.{Sight}

@@ -17,12 +17,12 @@ use Rattle.structure_laws.specs.Meaning.{Meaning}
 use Rattle.structure_laws.specs.Laws.{Laws}
 use Rattle.structure_laws.specs.Sections.{IsAllowed}
 use Rattle.structure_laws.proofs.Changes.{upd_same, upd_other}
-use Rattle.runner_steps.specs.declared.entries.Published.{Published}
-use Rattle.runner_steps.specs.declared.event.EventKind.{EventKind}
-use Rattle.runner_steps.specs.declared.event.EventKind.TheVariants as kinds
-use Rattle.runner_steps.specs.State.{PartState}
-use Rattle.runner_steps.specs.Tests.{has, thunk_words}
-use Rattle.runner_steps.specs.Lists.{descriptor_taken, cell_read, section_published}
+use Rattle.runner_parts.specs.declared.entries.Published.{Published}
+use Rattle.runner_parts.specs.declared.event.EventKind.{EventKind}
+use Rattle.runner_parts.specs.declared.event.EventKind.TheVariants as kinds
+use Rattle.runner_parts.specs.State.{PartState}
+use Rattle.runner_parts.specs.Tests.{has, thunk_words}
+use Rattle.runner_parts.specs.Lists.{descriptor_taken, cell_read, section_published}
 use Rattle.runner_steps.specs.Outside.{hold_ask}
 use Rattle.runner_steps.specs.Asks.{asks}
 use Rattle.runner_steps.specs.AfterOutside.{hold_after}

@@ -6,8 +6,8 @@ use Rattle.table_words.specs.Limits.{IsWithinLimits}
 use Rattle.structure_laws.specs.Scene.{Readings}
 use Rattle.structure_laws.specs.Meaning.{Meaning}
 use Rattle.structure_laws.specs.Laws.{Laws}
-use Rattle.runner_steps.specs.State.{RunState}
-use Rattle.runner_steps.specs.Tests.{has}
+use Rattle.runner_parts.specs.State.{RunState}
+use Rattle.runner_parts.specs.Tests.{has}
 use Rattle.agreement_core.specs.State.{CellRules, AgreementState}
 use Rattle.agreement_core.specs.Events as agreement
 use Rattle.agreement_core.specs.Schedules as agreement_schedules

@@ -11,7 +11,7 @@ use Rattle.section_lines.specs.Line.{phase}
 use Rattle.table_words.specs.declared.layout.Layout.{Layout}
 use Rattle.table_words.specs.declared.spot.Spot.TheVariants.{Stamp, Reply, DoneWord}
 use Rattle.structure_laws.specs.Meaning.{Meaning}
-use Rattle.runner_steps.specs.declared.entries.Published.{Published}
+use Rattle.runner_parts.specs.declared.entries.Published.{Published}
 use Rattle.epoch_core.specs.State.{EpochState, Role}
 use Rattle.epoch_core.specs.Events.{slot_of}
 use Rattle.epoch_core.specs.History as epochs

@@ -21,11 +21,11 @@ use Rattle.structure_laws.specs.Laws.{Laws}
 use Rattle.structure_laws.specs.Cells.{cell_of, IsLoadable}
 use Rattle.structure_laws.specs.Sections.{IsAllowed}
 use Rattle.structure_laws.proofs.Changes.{upd_same}
-use Rattle.runner_steps.specs.declared.event.EventKind.{EventKind}
-use Rattle.runner_steps.specs.declared.event.EventKind.TheVariants as kinds
-use Rattle.runner_steps.specs.State.{RunState, PartState}
-use Rattle.runner_steps.specs.Tests.{has, is_readable}
-use Rattle.runner_steps.specs.Lists.{named_by}
+use Rattle.runner_parts.specs.declared.event.EventKind.{EventKind}
+use Rattle.runner_parts.specs.declared.event.EventKind.TheVariants as kinds
+use Rattle.runner_parts.specs.State.{RunState, PartState}
+use Rattle.runner_parts.specs.Tests.{has, is_readable}
+use Rattle.runner_parts.specs.Lists.{named_by}
 use Rattle.runner_steps.specs.Asks.{asks, ask_by, outside_ask, line_ask, opening_ask}
 use Rattle.runner_steps.specs.AfterInRun.{is_of_lock}
 use Rattle.runner_steps.specs.Outside.{read_ask}

@@ -14,13 +14,13 @@ use Rattle.table_words.specs.declared.access.Access.{Access}
 use Rattle.table_words.specs.Limits.{IsWithinLimits}
 use Rattle.structure_laws.specs.Meaning.{Meaning}
 use Rattle.structure_laws.specs.Laws.{Laws}
-use Rattle.runner_steps.specs.declared.event.EventKind.{EventKind}
-use Rattle.runner_steps.specs.declared.event.EventKind.TheVariants as kinds
-use Rattle.runner_steps.specs.State.{RunState, PartState}
+use Rattle.runner_parts.specs.declared.event.EventKind.{EventKind}
+use Rattle.runner_parts.specs.declared.event.EventKind.TheVariants as kinds
+use Rattle.runner_parts.specs.State.{RunState, PartState}
 use Rattle.runner_steps.specs.Sections.{is_open_run, next_of}
 use Rattle.runner_steps.specs.AfterInRun.{place_of}
-use Rattle.runner_steps.specs.Lists.{named_by}
-use Rattle.runner_steps.specs.Tests.{has}
+use Rattle.runner_parts.specs.Lists.{named_by}
+use Rattle.runner_parts.specs.Tests.{has}
 use Rattle.runner_steps.specs.Asks.{asks}
 use Rattle.agreement_core.specs.State.{AgreementState}
 use Rattle.agreement_core.specs.Events as agreement

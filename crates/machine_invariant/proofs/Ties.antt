@@ -2,8 +2,8 @@
 use Rattle.std.proofs.Common.{◌≡◌, ℕ, true, sym, ap, ◌∙◌, List, [], ◌∷◌}
 use Rattle.table_words.specs.declared.layout.Layout.{Layout}
 use Rattle.structure_laws.specs.Meaning.{Meaning}
-use Rattle.runner_steps.specs.State.{PartState}
-use Rattle.runner_steps.specs.Tests.{has}
+use Rattle.runner_parts.specs.State.{PartState}
+use Rattle.runner_parts.specs.Tests.{has}
 use Rattle.agreement_core.specs.State.{AgreementState}
 use Rattle.epoch_core.specs.State.{Counts, EpochState, is_entered}
 use Rattle.epoch_core.specs.Events as epochs

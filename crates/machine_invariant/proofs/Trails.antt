@@ -9,8 +9,8 @@ use Rattle.section_body.proofs.ValueLemmas.{length-first_values, get_or-first_va
 use Rattle.table_words.specs.declared.layout.Layout.{Layout}
 use Rattle.table_words.specs.declared.spot.Spot.TheVariants.{Cell}
 use Rattle.structure_laws.specs.Meaning.{Meaning}
-use Rattle.runner_steps.specs.declared.entries.Published.{Published}
-use Rattle.runner_steps.specs.State.{RunState, FinishedState}
+use Rattle.runner_parts.specs.declared.entries.Published.{Published}
+use Rattle.runner_parts.specs.State.{RunState, FinishedState}
 use Rattle.agreement_core.specs.State.{AgreementState}
 use Rattle.agreement_core.specs.Sound.{IsOf}
 use Rattle.agreement_core.specs.Trails.{RunsAgree, HoldsNothing}

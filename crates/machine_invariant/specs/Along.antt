@@ -6,8 +6,8 @@ use Rattle.table_words.specs.declared.spot.Spot.{Spot}
 use Rattle.table_words.specs.declared.spot.Spot.TheVariants.{Cell}
 use Rattle.table_words.specs.declared.access.Access.{Access}
 use Rattle.structure_laws.specs.Meaning.{Meaning}
-use Rattle.runner_steps.specs.declared.event.EventKind.{EventKind}
-use Rattle.runner_steps.specs.declared.event.Event.{Event}
+use Rattle.runner_parts.specs.declared.event.EventKind.{EventKind}
+use Rattle.runner_parts.specs.declared.event.Event.{Event}
 use Rattle.runner_steps.specs.Asks.{asks}
 use Rattle.epoch_core.specs.State.{EpochState}
 use Rattle.epoch_core.specs.Events as epoch_events

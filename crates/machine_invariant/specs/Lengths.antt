@@ -4,9 +4,9 @@ use Rattle.map_history.specs.declared.op.Request.{Request}
 use Rattle.table_words.specs.Limits.{IsWithinLimits}
 use Rattle.table_words.specs.declared.layout.Layout.{Layout}
 use Rattle.structure_laws.specs.Meaning.{Meaning}
-use Rattle.runner_steps.specs.State.{NodesState}
+use Rattle.runner_parts.specs.State.{NodesState}
 use Rattle.epoch_core.specs.declared.location.Location.{Location}
-use Rattle.runner_steps.specs.declared.event.Event.{Event}
+use Rattle.runner_parts.specs.declared.event.Event.{Event}
 use Rattle.machine_states.specs.World.{World}
 use Rattle.machine_states.specs.Schedules.{IsAfter}
 use Rattle.machine_states.specs.Sight.{Sight, sight}

@@ -8,9 +8,9 @@ use Rattle.table_words.specs.Limits.{IsWithinLimits}
 use Rattle.table_words.specs.declared.layout.Layout.{Layout}
 use Rattle.table_words.specs.declared.spot.Spot.TheVariants.{DoneWord, LogWord}
 use Rattle.structure_laws.specs.Meaning.{Meaning}
-use Rattle.runner_steps.specs.State.{RunState}
+use Rattle.runner_parts.specs.State.{RunState}
 use Rattle.runner_steps.specs.Sections.{line_of}
-use Rattle.runner_steps.specs.declared.event.Event.{Event}
+use Rattle.runner_parts.specs.declared.event.Event.{Event}
 use Rattle.machine_states.specs.World.{World}
 use Rattle.machine_states.specs.Schedules.{IsAfter}
 use Rattle.machine_states.specs.Sight.{Sight, sight}

@@ -2,9 +2,9 @@
 use Rattle.std.specs.Prelude.{ℕ, ◌<◌, ◌≡◌, true, Option, Some, None}
 use Rattle.table_words.specs.declared.layout.Layout.{Layout}
 use Rattle.structure_laws.specs.Meaning.{Meaning}
-use Rattle.runner_steps.specs.declared.entries.Published.{Published}
-use Rattle.runner_steps.specs.State.{RunState, PartState}
-use Rattle.runner_steps.specs.Tests.{has}
+use Rattle.runner_parts.specs.declared.entries.Published.{Published}
+use Rattle.runner_parts.specs.State.{RunState, PartState}
+use Rattle.runner_parts.specs.Tests.{has}
 use Rattle.agreement_core.specs.State.{AgreementState}
 use Rattle.epoch_core.specs.declared.location.Location.TheVariants.{Live}
 use Rattle.epoch_core.specs.State.{EpochState, is_entered}

@@ -3,7 +3,7 @@ ghost use Rattle.std.specs.Prelude.{List};
 ghost use Rattle.map_history.specs.declared.op.Request.{Request};
 ghost use Rattle.table_words.specs.Limits.{IsWithinLimits};
 ghost use Rattle.table_words.specs.declared.layout.Layout.{Layout};
-ghost use Rattle.runner_steps.specs.declared.event.Event.{Event};
+ghost use Rattle.runner_parts.specs.declared.event.Event.{Event};
 ghost use Rattle.machine_states.specs.World.{World};
 ghost use Rattle.machine_invariant.specs.After.{WholeAfter};
 ghost use Rattle.machine_invariant.specs.Along.{BeginExact, StayExact};
@@ -12,7 +12,7 @@ ghost use Rattle.machine_invariant.specs.States.{WholeStatesAreSound};
 ghost use Rattle.machine_invariant.specs.Lengths.{ShortAfter, StandingListsAreShort, WholeListsAreShort};
 ghost use Rattle.machine_invariant.specs.LogWords.{LogWordsSayAfter, WholeLogWordsSay};
 
-use runner_steps::Structure;
+use runner_parts::Structure;
 
 /// Where the components go along with the machine's events, their histories say what happened: what the exchanges of cells, stamps and
 /// replies changed, and which commits of Makes and Retires won. At first nothing did.

@@ -9,10 +9,10 @@ use Rattle.table_words.specs.declared.spot.Spot.{Spot}
 use Rattle.table_words.specs.Places.{slot_count}
 use Rattle.structure_laws.specs.Meaning.{Meaning}
 use Rattle.structure_laws.specs.Laws.{Laws}
-use Rattle.runner_steps.specs.declared.entries.Retired.{Retired}
-use Rattle.runner_steps.specs.State.{PartState}
-use Rattle.runner_steps.specs.Tests.{has}
-use Rattle.runner_steps.specs.Lists.{slots_of}
+use Rattle.runner_parts.specs.declared.entries.Retired.{Retired}
+use Rattle.runner_parts.specs.State.{PartState}
+use Rattle.runner_parts.specs.Tests.{has}
+use Rattle.runner_parts.specs.Lists.{slots_of}
 use Rattle.machine_states.specs.World.{World, seat_of}
 use Rattle.machine_states.specs.Reached.{Reached}
 use Rattle.machine_states.specs.Sight.{sight, part_or_first}

@@ -15,7 +15,7 @@ use Rattle.table_words.specs.Places.{slot_count}
 use Rattle.table_words.specs.Seen.{seen}
 use Rattle.structure_laws.specs.Meaning.{Meaning}
 use Rattle.structure_laws.specs.Laws.{Laws}
-use Rattle.runner_steps.specs.State.{RunState, PartState}
+use Rattle.runner_parts.specs.State.{RunState, PartState}
 use Rattle.runner_steps.specs.Sections.{line_of}
 use Rattle.runner_steps.specs.Asks.{sizes_for}
 use Rattle.machine_states.specs.Sight.{sight, part_or_first}

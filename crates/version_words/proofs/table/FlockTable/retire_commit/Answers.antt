@@ -3,8 +3,8 @@ use Rattle.std.specs.Prelude.{◌==◌}
 use Rattle.table_words.specs.Limits.{IsWithinLimits}
 use Rattle.table_words.specs.Access.{written}
 use Rattle.table_words.specs.declared.access.Access.TheVariants.{Exchanges}
-use Rattle.runner_steps.specs.declared.event.EventKind.TheVariants.{RetireCommit}
-use Rattle.runner_steps.specs.Lists.{slot_retired}
+use Rattle.runner_parts.specs.declared.event.EventKind.TheVariants.{RetireCommit}
+use Rattle.runner_parts.specs.Lists.{slot_retired}
 use Rattle.runner_block.specs.declared.block.Block.{Block}
 use Rattle.runner_block.specs.Room.{AreFew}
 use Rattle.version_words.specs.Place.{next_log}

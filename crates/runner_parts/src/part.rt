@@ -20,7 +20,7 @@ pub struct Part {
 }
 
 impl Model for Part {
-    ghost use Rattle.runner_steps.specs.State.{PartState};
+    ghost use Rattle.runner_parts.specs.State.{PartState};
 
     ghost Value = { PartState };
 

@@ -17,7 +17,7 @@ pub struct Nodes {
 }
 
 impl Model for Nodes {
-    ghost use Rattle.runner_steps.specs.State.{NodesState};
+    ghost use Rattle.runner_parts.specs.State.{NodesState};
 
     ghost Value = { NodesState };
 
@@ -33,7 +33,7 @@ pub struct Descriptors {
 }
 
 impl Model for Descriptors {
-    ghost use Rattle.runner_steps.specs.State.{DescriptorsState};
+    ghost use Rattle.runner_parts.specs.State.{DescriptorsState};
 
     ghost Value = { DescriptorsState };
 
@@ -51,7 +51,7 @@ pub struct Reads {
 }
 
 impl Model for Reads {
-    ghost use Rattle.runner_steps.specs.State.{ReadsState};
+    ghost use Rattle.runner_parts.specs.State.{ReadsState};
 
     ghost Value = { ReadsState };
 
@@ -72,7 +72,7 @@ pub struct Records {
 }
 
 impl Model for Records {
-    ghost use Rattle.runner_steps.specs.State.{RecordsState};
+    ghost use Rattle.runner_parts.specs.State.{RecordsState};
 
     ghost Value = { RecordsState };
 

@@ -1,6 +1,6 @@
 use Rattle.std.proofs.Common.{◌≡◌, ◌+◌, drop}
-use Rattle.runner_steps.specs.Tests.{are_stored}
-use Rattle.runner_steps.proofs.stores.are_stored.Given as goal
+use Rattle.runner_parts.specs.Tests.{are_stored}
+use Rattle.runner_parts.proofs.stores.are_stored.Given as goal
 
 abbrev pub invariant-loop-number : goal.invariant-loop-number
 invariant-loop-number l = record {

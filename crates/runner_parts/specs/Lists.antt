@@ -3,10 +3,10 @@ use Rattle.std.specs.Prelude.{ℕ, ◌+◌, ◌-◌, List, [], ◌∷◌, ◌++�
 use Rattle.std.specs.List.{filter}
 use Rattle.section_body.specs.Word.{value_of, version_of, is_free}
 use Rattle.table_words.specs.declared.layout.Layout.{Layout}
-use Rattle.runner_steps.specs.declared.entries.Retired.{Retired}
-use Rattle.runner_steps.specs.declared.entries.Tested.{Tested}
-use Rattle.runner_steps.specs.State.{NodesState, DescriptorsState, ReadsState, RecordsState}
-use Rattle.runner_steps.specs.Tests.{has}
+use Rattle.runner_parts.specs.declared.entries.Retired.{Retired}
+use Rattle.runner_parts.specs.declared.entries.Tested.{Tested}
+use Rattle.runner_parts.specs.State.{NodesState, DescriptorsState, ReadsState, RecordsState}
+use Rattle.runner_parts.specs.Tests.{has}
 
 -- the list without this number
 abbrev pub without : List ℕ → ℕ → List ℕ

@@ -1,7 +1,7 @@
 use Rattle.std.proofs.Common.{get_or, sym, ap, ◌∙◌, arith}
-use Rattle.runner_steps.specs.Tests.{is_some_of}
-use Rattle.runner_steps.proofs.Latest.{stored_next, stored_end, false_first, true_first}
-use Rattle.runner_steps.proofs.stores.are_stored.Goals as goal
+use Rattle.runner_parts.specs.Tests.{is_some_of}
+use Rattle.runner_parts.proofs.Latest.{stored_next, stored_end, false_first, true_first}
+use Rattle.runner_parts.proofs.stores.are_stored.Goals as goal
 
 pub returns-then-not-is_some_of : goal.returns-then-not-is_some_of
 returns-then-not-is_some_of c =

@@ -1,7 +1,7 @@
 //! How a runner's lists change.
 ghost use Rattle.std.specs.Prelude.{◌≡◌, ◌==◌, ◌<◌, ◌-◌, ◌^◌, not, IfOk, OnOk};
 ghost use Rattle.std.specs.List.{filter};
-ghost use Rattle.runner_steps.specs.Lists.{without, named_by, is_old, slots_of, nodes_collected, descriptors_collected, test_of, tests_without, slot_back, slot_tested, one_more, nodes_looked, slot_taken, slot_made, slot_retired, descriptor_stored, descriptor_taken, descriptor_retired, cell_read, holds_named, walked, lock_agreed, section_published, learned};
+ghost use Rattle.runner_parts.specs.Lists.{without, named_by, is_old, slots_of, nodes_collected, descriptors_collected, test_of, tests_without, slot_back, slot_tested, one_more, nodes_looked, slot_taken, slot_made, slot_retired, descriptor_stored, descriptor_taken, descriptor_retired, cell_read, holds_named, walked, lock_agreed, section_published, learned};
 
 use crate::entries::{Known, Retired, Stored, Tested};
 use crate::knowledge::has;

@@ -1,6 +1,6 @@
 //! What was stored last into the words of a descriptor.
 ghost use Rattle.std.specs.Prelude.{◌≡◌, ◌<◌, ◌+◌, ◌^◌, None, length};
-ghost use Rattle.runner_steps.specs.Tests.{last_stored, is_some_of, are_stored, thunk_words, is_prepared};
+ghost use Rattle.runner_parts.specs.Tests.{last_stored, is_some_of, are_stored, thunk_words, is_prepared};
 
 use crate::entries::Stored;
 use section_body::Thunk;

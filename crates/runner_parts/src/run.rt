@@ -22,7 +22,7 @@ pub struct Run {
 }
 
 impl Model for Run {
-    ghost use Rattle.runner_steps.specs.State.{RunState};
+    ghost use Rattle.runner_parts.specs.State.{RunState};
 
     ghost Value = { RunState };
 
@@ -42,7 +42,7 @@ pub struct Finished {
 }
 
 impl Model for Finished {
-    ghost use Rattle.runner_steps.specs.State.{FinishedState};
+    ghost use Rattle.runner_parts.specs.State.{FinishedState};
 
     ghost Value = { FinishedState };
 

@@ -1,6 +1,6 @@
 //! What a runner can tell from what it keeps.
 ghost use Rattle.std.specs.Prelude.{◌≡◌, ◌<◌, ◌≤◌};
-ghost use Rattle.runner_steps.specs.Tests.{has, has_pair, is_walking, is_resting, is_outside, knows, is_answered, are_answered, is_next, is_readable, is_open};
+ghost use Rattle.runner_parts.specs.Tests.{has, has_pair, is_walking, is_resting, is_outside, knows, is_answered, are_answered, is_next, is_readable, is_open};
 ghost use Rattle.table_words.specs.Limits.{IsWithinLimits};
 
 use crate::entries::Known;
