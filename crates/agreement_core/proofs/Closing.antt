@@ -1,23 +1,28 @@
 -- What an event adds to the history belongs to an open section.
-use Rattle.std.proofs.Common.{◌≡◌, ◌≢◌, ℕ, suc, ◌<◌, ◌≤◌, Bool, true, false, refl, sym, ap, ◌∙◌, inl, inr, ⊎_elim, arith}
+use Rattle.std.proofs.Common.{◌≡◌, ◌≢◌, ℕ, suc, ◌<◌, ◌≤◌, Bool, true, false, refl, sym, ap, ◌∙◌, subst, inl, inr, ⊎_elim, arith}
 use Rattle.std.proofs.lemmas.Bool.{cases_lt, cases_eq}
 use Rattle.std.specs.Prelude.{◌⊎◌}
 use Rattle.section_body.specs.Update.{upd}
-use Rattle.section_body.specs.Line.{is_event}
+use Rattle.section_body.specs.Line.{is_event, is_commit}
+use Rattle.section_body.specs.Run.{written_once}
+use Rattle.section_body.specs.Word.{version_of}
 use Rattle.section_body.specs.declared.micro.Source.{Source}
 use Rattle.section_body.specs.declared.micro.Micro.{Micro}
 use Rattle.agreement_core.specs.State.{CellRules, Section, Run, AgreementState, section_of, IsOpen}
-use Rattle.agreement_core.specs.Checks.{is_stop, is_stamp_exchange, is_reply_exchange}
+use Rattle.agreement_core.specs.Checks.{is_stop, came, is_stamp_exchange, is_reply_exchange}
 use Rattle.agreement_core.specs.Events.{Event, Enabled, step_of, after}
-use Rattle.agreement_core.specs.Events.{Publish, Free, StampExchange, ExchangeCell, ReplyExchange}
-use Rattle.agreement_core.specs.Sound.{IsSound}
-use Rattle.agreement_core.specs.Continuing.{SectionsGoOn}
+use Rattle.agreement_core.specs.Events.{Publish, Free, StoreLog, StoreDone, Pass, SetDone, LoadCell, Commit, NestedLoad, NestedCommit, NestedHold, OutcomeLoad, OutcomeCommit, PrivateLoad, PrivateStore, MakeCommit, ClockLoad, StampExchange, ClockRaise, ExchangeCell, EpochForRetire, RetireCommit, ReplyExchange}
+use Rattle.section_lines.specs.Line.{IsCounted}
+use Rattle.agreement_core.specs.Sound.{IsOf, IsSound}
+use Rattle.agreement_core.specs.Late.{IsLate}
+use Rattle.agreement_core.specs.Continuing.{SectionsGoOn, DoneStand, EndsAreOld}
 use Rattle.agreement_core.specs.History.{History, noted, IsExact}
 use Rattle.agreement_core.specs.Closed.{IsClosed, ClosedStay, NumbersStay}
 use Rattle.agreement_core.proofs.Frame.{zero_unless, not_both}
 use Rattle.agreement_core.proofs.Committing.{upd_here, upd_else}
 use Rattle.agreement_core.proofs.Moving.{upd_split}
-use Rattle.agreement_core.proofs.Lines.{event_goes}
+use Rattle.agreement_core.proofs.Lines.{event_goes, pass_goes, passes_same}
+use Rattle.agreement_core.proofs.Late.{goes_section, agrees_section}
 use Rattle.agreement_core.proofs.LineEvents.{store_misses}
 use Rattle.agreement_core.proofs.Exactly.{won_not, two_split}
 use Rattle.agreement_core.proofs.Continuing.{goes_on_all}
@@ -108,6 +113,131 @@ module _ (c : CellRules) (w : AgreementState) (old : IsSound c w) (h : History) 
         (λ n ne closed. refl);
     closed = same_closed (ReplyExchange r reply) ok (λ d. refl) (λ d. refl);
   }
+
+-- once a section is done, its log and how far its runs have come stand
+module _ (c : CellRules) (w : AgreementState) (old : IsSound c w) where
+  -- one section changes: another one, or this one as little as a late run does
+  module _ (r : ℕ) (running : (w.run r).running ≡ true) (s' : Section)
+      (goes : (w.run r).at ≡ (section_of w r).edge → is_stop c ((w.run r).descriptor) ((section_of w r).log) (step_of w r) ≡ false)
+      (late : IsLate w r → (d : ℕ) → upd w.section ((w.run r).descriptor) s' d ≡ w.section d) where
+    by_run : (d : ℕ) → (w.section d).done ≢ 0 → upd w.section ((w.run r).descriptor) s' d ≡ w.section d
+    by_run d done = ⊎_elim (λ lt. late lt d)
+        (λ ge. let at : (w.run r).at ≡ (section_of w r).edge = let b = (old.runs r running).in_trail.behind in omega arith in
+        upd_else w.section ((w.run r).descriptor) d s' (λ e. not_both _
+        ((old.sections ((w.run r).descriptor) (old.running_used r running)).section.in_log.stops (subst (λ n. (w.section n).done ≢ 0) e done))
+        (ap (λ i. is_stop c ((w.run r).descriptor) ((section_of w r).log) ((section_of w r).code i)) (sym at) ∙ goes at)))
+        (cases_lt ((w.run r).at) ((section_of w r).edge))
+
+  -- an event of a run's line, by what it does to the section
+  module _ (r : ℕ) (running : (w.run r).running ≡ true) (event : is_event (step_of w r) ≡ true) where
+    going : (d : ℕ) → (w.section d).done ≢ 0
+        → upd w.section ((w.run r).descriptor) (came (section_of w r) (suc ((w.run r).at))) d ≡ w.section d
+    going = by_run r running _ (λ at. event_goes c _ _ _ event) (λ lt. goes_section c w old r running lt)
+
+    agreeing : (w.run r).ended ≡ false → (log proposal : ℕ) → log ≡ (section_of w r).slot ((w.run r).at) → is_commit (step_of w r) ≡ true
+        → (d : ℕ) → (w.section d).done ≢ 0
+        → upd w.section ((w.run r).descriptor) (came (record (section_of w r) {
+          log = upd ((section_of w r).log) log (written_once ((section_of w r).log log) proposal);
+        }) (suc ((w.run r).at))) d ≡ w.section d
+    agreeing ends log proposal here commit =
+        by_run r running _ (λ at. event_goes c _ _ _ event) (λ lt. agrees_section c w old r running lt ends log proposal here commit)
+
+  counted : (r : ℕ) → (w.run r).running ≡ true → IsCounted (section_of w r).code (section_of w r).slot
+  counted r running = (old.sections ((w.run r).descriptor) (old.running_used r running)).published.line.counted
+
+  pass_going : (r : ℕ) → Enabled c w (Pass r) → (d : ℕ) → (w.section d).done ≢ 0
+      → upd w.section ((w.run r).descriptor) (came (section_of w r) (suc ((w.run r).at))) d ≡ w.section d
+  pass_going r ok =
+      let q = w.run r in
+      let s = section_of w r in
+      let run = old.runs r ok.0 in
+      let line = (old.sections q.descriptor (old.running_used r ok.0)).published.line in
+      by_run r ok.0 _ (λ at. pass_goes c q.descriptor s.log (s.code q.at)
+      (sym (passes_same c s.lock s.code s.slot line q.descriptor q.at q.trail s.log
+      (λ k lt. run.in_trail.agreed k (let e = run.in_trail.counted in omega arith))) ∙ ok.2))
+      (λ lt. goes_section c w old r ok.0 lt)
+
+  -- the section as it was, of a done one
+  same_stand : (w' : AgreementState) → ((d : ℕ) → (w.section d).done ≢ 0 → w'.section d ≡ w.section d) → DoneStand w w'
+  same_stand w' same = record {
+    edge = λ d used done. ap (λ (s : Section). s.edge) (same d done);
+    log = λ d k used done. ap (λ (s : Section). s.log k) (same d done);
+  }
+
+  -- another descriptor's section changes
+  unused_stand : (w' : AgreementState) (d : ℕ) (s' : Section) → w'.section ≡ upd w.section d s' → w.used d ≡ false → DoneStand w w'
+  unused_stand w' d s' is unused =
+      let else : (d' : ℕ) → w.used d' ≡ true → w'.section d' ≡ w.section d' = λ d' used. ap (λ (f : ℕ → Section). f d') is
+      ∙ upd_else w.section d d' s' (λ e. not_both _ used (ap w.used e ∙ unused)) in
+      record {
+        edge = λ d' used done. ap (λ (s : Section). s.edge) (else d' used);
+        log = λ d' k used done. ap (λ (s : Section). s.log k) (else d' used);
+      }
+
+  pub done_stand : (e : Event) → Enabled c w e → DoneStand w (after w e)
+  done_stand (Publish d lock word request code slot) ok = unused_stand _ d _ refl ok.0
+  done_stand (StoreLog d log word) ok = unused_stand _ d _ refl ok
+  done_stand (StoreDone d word) ok = unused_stand _ d _ refl ok
+  done_stand (SetDone r) ok = record {
+    edge = λ d used done. upd_split w.section ((w.run r).descriptor) _ (λ d' s. s.edge ≡ (w.section d').edge) refl (λ d' ne. refl) d;
+    log = λ d k used done. upd_split w.section ((w.run r).descriptor) _ (λ d' s. s.log k ≡ (w.section d').log k) refl (λ d' ne. refl) d;
+  }
+  done_stand (Pass r) ok = same_stand _ (pass_going r ok)
+  done_stand (LoadCell r place log) ok = same_stand _ (going r (ok.0).running (ap is_event (ok.0).next))
+  done_stand (Commit r place log) ok = let at = ok in same_stand _ (agreeing r at.running (ap is_event at.next) at.going log _
+      ((counted r at.running).commit_log _ place log at.next) (ap is_commit at.next))
+  done_stand (NestedLoad r place log) ok = same_stand _ (going r ok.running (ap is_event ok.next))
+  done_stand (NestedCommit r place log) ok = let at = ok in same_stand _ (agreeing r at.running (ap is_event at.next) at.going log _
+      ((counted r at.running).nested_log _ place log at.next) (ap is_commit at.next))
+  done_stand (NestedHold r place free) ok = same_stand _ (going r ok.running (ap is_event ok.next))
+  done_stand (OutcomeLoad r place log) ok = same_stand _ (going r ok.running (ap is_event ok.next))
+  done_stand (OutcomeCommit r place log) ok = let at = ok in same_stand _ (agreeing r at.running (ap is_event at.next) at.going log _
+      ((counted r at.running).outcome_log _ place log at.next) (ap is_commit at.next))
+  done_stand (PrivateLoad r cell log place) ok = same_stand _ (going r ok.running (ap is_event ok.next))
+  done_stand (PrivateStore r cell log value place word) ok = same_stand _ (going r (ok.0).running (ap is_event (ok.0).next))
+  done_stand (MakeCommit r log proposal) ok = let at = ok.0 in same_stand _ (agreeing r at.running (ap is_event at.next) at.going log proposal
+      ((counted r at.running).make_log _ log at.next) (ap is_commit at.next))
+  done_stand (ClockLoad r) ok = same_stand _ (going r ok.running (ap is_event ok.next))
+  done_stand (StampExchange r) ok = same_stand _ (going r ok.running (ap is_event ok.next))
+  done_stand (ClockRaise r) ok = same_stand _ (going r ok.running (ap is_event ok.next))
+  done_stand (ExchangeCell r place log value) ok = same_stand _ (going r ok.running (ap is_event ok.next))
+  done_stand (EpochForRetire r slot log epoch) ok = same_stand _ (going r ok.running (ap is_event ok.next))
+  done_stand (RetireCommit r slot log) ok = let at = ok in same_stand _ (agreeing r at.running (ap is_event at.next) at.going log _
+      ((counted r at.running).retire_log _ slot log at.next) (ap is_commit at.next))
+  done_stand (ReplyExchange r reply) ok = same_stand _ (going r ok.running (ap is_event ok.next))
+  done_stand e ok = same_stand _ (λ d done. refl)
+
+  -- no section is published of which a run came to its end before: its lock would be past the free word
+  not_published : (d lock word request : ℕ) (code : ℕ → Micro) (slot : ℕ → ℕ) → Enabled c w (Publish d lock word request code slot)
+      → (d' r i : ℕ) → i < w.finishes r → IsOf (w.finished r i) ((after w (Publish d lock word request code slot)).section d') → d' ≢ d
+  not_published d lock word request code slot ok d' r i lt is here =
+      let at : (after w (Publish d lock word request code slot)).section d' ≡ _ =
+      ap (after w (Publish d lock word request code slot)).section here ∙ upd_here w.section d _ in
+      let same_lock : (w.finished r i).lock ≡ lock = is.lock ∙ ap (λ (s : Section). s.lock) at in
+      let same_word : (w.finished r i).word ≡ word = is.word ∙ ap (λ (s : Section). s.word) at in
+      let past = old.finished.past r i lt in
+      let stands : w.shared.cells ((w.finished r i).lock) ≡ (w.finished r i).word = ap w.shared.cells same_lock ∙ ok.1 ∙ sym same_word in
+      let less : version_of ((w.finished r i).word) < version_of ((w.finished r i).word)
+      = subst (λ n. version_of ((w.finished r i).word) < version_of n) stands past in omega arith
+
+  same_ends : (e : Event) → Enabled c w e → ((d : ℕ) → (after w e).used d ≡ true → w.used d ≡ true) → EndsAreOld w (after w e)
+  same_ends e ok used = record {
+    used = λ d r i lt u is. used d u;
+    same = λ d r i lt u is. let goes = goes_on_all c w e ok d (used d u) in record { lock = is.lock ∙ goes.lock; word = is.word ∙ goes.word };
+  }
+
+  pub ends_are_old : (e : Event) → Enabled c w e → EndsAreOld w (after w e)
+  ends_are_old (Publish d lock word request code slot) ok =
+      let e = Publish d lock word request code slot in
+      let else : (d' r i : ℕ) → i < w.finishes r → IsOf (w.finished r i) ((after w e).section d') → d' ≢ d
+      = not_published d lock word request code slot ok in
+      record {
+        used = λ d' r i lt u is. sym (upd_else w.used d d' true (else d' r i lt is)) ∙ u;
+        same = λ d' r i lt u is. let same = upd_else w.section d d' _ (else d' r i lt is) in
+            record { lock = is.lock ∙ ap (λ (s : Section). s.lock) same; word = is.word ∙ ap (λ (s : Section). s.word) same };
+      }
+  ends_are_old (Free d) ok = same_ends (Free d) ok (was_used w.used d)
+  ends_are_old e ok = same_ends e ok (λ d used. used)
 
 -- a publication has the next number
 publish_closed : (c : CellRules) (w : AgreementState) (h : History) (d lock word request : ℕ) (code : ℕ → Micro) (slot : ℕ → ℕ)

@@ -24,11 +24,11 @@ pub mod Exactly
 pub mod Writing
 pub mod Recording
 pub mod Lasting
-pub mod Closing
 pub mod Continuing
 pub mod Answering
 pub mod PlainRuns
 pub mod Late
+pub mod Closing
 pub mod HelpedLine
 pub mod Helping
 pub mod Standing

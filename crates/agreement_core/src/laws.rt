@@ -6,9 +6,9 @@ ghost use Rattle.agreement_core.specs.Sound.{IsOf, IsSound};
 ghost use Rattle.agreement_core.specs.Schedules.{IsFirst, first_state, AllEnabled, after_all};
 ghost use Rattle.agreement_core.specs.Trails.{RunsAgree, HoldsNothing};
 ghost use Rattle.agreement_core.specs.Rising.{RiseByOne, IsNotFuture};
-ghost use Rattle.agreement_core.specs.Continuing.{SectionsGoOn, RecordsStand, EntriesStand};
+ghost use Rattle.agreement_core.specs.Continuing.{SectionsGoOn, RecordsStand, EntriesStand, DoneStand, EndsAreOld};
 ghost use Rattle.agreement_core.specs.Standing.{CellsStand, LocksStand, TakesStand, IsDoneLate};
-ghost use Rattle.agreement_core.specs.Late.{stepper, IsLate, IsUnchanged, LocksStay};
+ghost use Rattle.agreement_core.specs.Late.{stepper, IsLate, IsUnchanged, LocksStay, LocksLeave};
 ghost use Rattle.agreement_core.specs.Frame.{IsSame};
 ghost use Rattle.section_body.specs.Run.{Run};
 ghost use Rattle.section_body.specs.declared.step.Step.{Step};
@@ -39,12 +39,14 @@ pub fn runs_agree()
 {}
 
 /// An agreed word stands until the section's descriptor is free again, and so does all else that the section is; a section
-/// that is done stays done. What is kept of a run that came to its end stands for good, and so does a stamp word and a reply
-/// word that isn't 0.
+/// that is done stays done, and its log and how far its runs have come stand. What is kept of a run that came to its end stands for
+/// good, and so does a stamp word and a reply word that isn't 0. A section of which a run came to its end isn't published again.
 pub fn agreed_words_stand()
     ensures entries { (w : AgreementState) (e : Event) → EntriesStand w (after w e) }
     ensures records { (w : AgreementState) (e : Event) → RecordsStand w (after w e) }
     ensures sections { (c : CellRules) (w : AgreementState) (e : Event) → Enabled c w e → SectionsGoOn w (after w e) }
+    ensures done { (c : CellRules) (w : AgreementState) (e : Event) → Enabled c w e → IsSound c w → DoneStand w (after w e) }
+    ensures ended { (c : CellRules) (w : AgreementState) (e : Event) → Enabled c w e → IsSound c w → EndsAreOld w (after w e) }
 {}
 
 /// A step of a run that is behind the furthest one of its section changes no cell, clock, stamp or reply, and nothing in any
@@ -67,12 +69,13 @@ pub fn loaded_cells_stand()
 {}
 
 /// A lock word that names a descriptor names a section that is published and isn't retired, with the held word of a lock of
-/// that section. A section is done only behind the exchanges of its line. No event changes a lock that an open section holds, so
-/// only a run that has set it done releases a lock.
+/// that section. A section is done only behind the exchanges of its line. A lock that names a section stands until a run of that
+/// section releases it. No event changes a lock that an open section holds, so only a run that has set it done releases a lock.
 pub fn locks_name_live_sections()
     ensures named { (c : CellRules) (w : AgreementState) → IsSound c w → LocksStand c w }
     ensures done { (c : CellRules) (w : AgreementState) (d : ℕ) → IsSound c w → w.used d ≡ true → (w.section d).done ≢ 0
         → IsDoneLate c w d }
+    ensures leave { (c : CellRules) (w : AgreementState) (e : Event) → Enabled c w e → IsSound c w → LocksLeave c w e (after w e) }
     ensures stay { (c : CellRules) (w : AgreementState) (e : Event) → Enabled c w e → IsSound c w → LocksStay c w (after w e) }
     ensures released { (c : CellRules) (w : AgreementState) (r place word : ℕ) → IsSound c w → Enabled c w (Release r place word)
         → (section_of w r).done ≢ 0 }
