@@ -1,0 +1,134 @@
+-- All facts hold of each state that the machine passes, and of each of its steps.
+use Rattle.std.proofs.Common.{◌≡◌, List, [], ◌∷◌, refl, sym, Option, Some, None}
+use Rattle.map_history.specs.declared.op.Request.{Request}
+use Rattle.table_words.specs.declared.layout.Layout.{Layout}
+use Rattle.table_words.specs.Limits.{IsWithinLimits}
+use Rattle.structure_laws.specs.Meaning.{Meaning}
+use Rattle.structure_laws.specs.Laws.{Laws}
+use Rattle.runner_parts.specs.declared.event.Event.{Event}
+use Rattle.agreement_core.specs.History as agreement_history
+use Rattle.epoch_core.specs.History as epoch_history
+use Rattle.machine_states.specs.World.{World, happens, then_run, run}
+use Rattle.machine_states.specs.First.{IsFirst}
+use Rattle.machine_states.specs.Sight.{Sight, sight, Steps}
+use Rattle.machine_states.specs.Sight as states
+use Rattle.machine_states.proofs.FirstSights as firsts
+use Rattle.machine_states.proofs.Sights.{some_none, happens_steps}
+use Rattle.machine_states.proofs.Steps.{some_same}
+use Rattle.machine_invariant.specs.Along.{Components, components_after, AreExact}
+use Rattle.machine_invariant.specs.After.{AreAllowed}
+use Rattle.machine_invariant.specs.Whole.{Beside, IsWhole}
+use Rattle.machine_invariant.proofs.Along.{exact_begins, exact_after}
+use Rattle.machine_invariant.proofs.AllKinds.{step_whole}
+use Rattle.machine_invariant.proofs.First.{first_beside, first_whole}
+use Rattle.machine_invariant.proofs.Following.{StepsWhole}
+use Rattle.machine_invariant.proofs.States.{with_histories, state_sound}
+use Rattle.machine_facts.specs.States.{NumberAlike, FactsStand}
+use Rattle.machine_facts.specs.Passed.{Leads, GoSoundly}
+use Rattle.machine_facts.specs.After.{FactsAfter}
+use Rattle.machine_facts.proofs.Going.{still_alike, moves}
+use Rattle.machine_facts.proofs.Words.{words_stand}
+use Rattle.machine_facts.proofs.Locks.{locks_stand}
+use Rattle.machine_facts.proofs.Once.{last_facts, each_once}
+
+module _ (m : Meaning) (laws : Laws m) (l : Layout) (limits : IsWithinLimits l) (rs : List Request) (allowed : AreAllowed rs) where
+  -- a state that meets the whole invariant, beside components whose histories say what happened
+  record Stands (s : Sight) (g : Beside) (changes : agreement_history.History) (wins : epoch_history.History) : Type 0 where
+    pub whole : IsWhole m l g s
+    pub exact : AreExact m l (with_histories g changes wins)
+    pub alike : NumberAlike (with_histories g changes wins)
+
+  facts_of : (s : Sight) (g : Beside) (changes : agreement_history.History) (wins : epoch_history.History) → Stands s g changes wins
+      → FactsStand m l s (with_histories g changes wins)
+  facts_of s g changes wins stands = record {
+    sound = state_sound m l g s stands.whole (with_histories g changes wins) refl refl stands.exact.changes stands.exact.wins;
+    exact = stands.exact;
+    numbers = stands.alike;
+  }
+
+  -- where a list of events leads
+  record Follows (w : World) (k : Components) (events : List Event) (v : World) : Type 0 where
+    pub components : Components
+    pub go : GoSoundly m l rs w k events v components
+
+  -- one step
+  module _ (w v : World) (e : Event) (g : Beside) (changes : agreement_history.History) (wins : epoch_history.History)
+      (stands : Stands (sight m l rs w) g changes wins) (goes : happens m l rs w e ≡ Some v)
+      (step : Steps m l rs (sight m l rs w) (sight m l rs v) e.runner e.kind) where
+    abbrev k : Components
+    k = with_histories g changes wins
+
+    one : StepsWhole m l rs g (sight m l rs w) (sight m l rs v) e.runner e.kind
+    one = step_whole m laws l limits rs allowed.few allowed.each g (sight m l rs w) (sight m l rs v) e.runner e.kind stands.whole step
+
+    abbrev j : Components
+    j = components_after m l k one.es one.vs
+
+    abbrev beside : Beside
+    beside = record { agreement = j.agreement; epochs = j.epochs; publications = one.publications }
+
+    stands_after : Stands (sight m l rs v) beside j.changes j.wins
+    stands_after = record {
+      whole = one.whole;
+      exact = exact_after m l k one.es one.vs (one.events changes wins).enabled (one.events changes wins).enabled_slots stands.exact;
+      alike = still_alike m l rs k (sight m l rs w) stands.whole.sections stands.exact stands.alike e.runner e.kind one.es one.vs (one.events changes wins);
+    }
+
+    leads : Leads m l rs w k e v j
+    leads = record {
+      happens = goes;
+      sections = one.es;
+      slots = one.vs;
+      events = one.events changes wins;
+      next = refl;
+      words = words_stand m l rs k (sight m l rs w) (sight m l rs v) stands.whole.sections stands.exact stands.alike e.runner e.kind step one.es one.vs
+          (one.events changes wins) one.whole.sections;
+      locks = locks_stand m l rs k (sight m l rs w) (sight m l rs v) stands.whole.sections e.runner e.kind one.es one.vs
+          (one.events changes wins) one.whole.sections;
+      moves = moves m l rs k (sight m l rs w) stands.whole.sections stands.exact stands.alike e.runner e.kind one.es one.vs (one.events changes wins);
+    }
+
+  then_follows : (o : Option World) (f : World → Option World) (v : World) {A : Type 0} → ((u : World) → o ≡ Some u → f u ≡ Some v → A)
+      → then_run o f ≡ Some v → A
+  then_follows None f v goes e = some_none v e
+  then_follows (Some u) f v goes e = goes u refl e
+
+  follow : (events : List Event) (w v : World) (g : Beside) (changes : agreement_history.History) (wins : epoch_history.History)
+      → states.IsWhole m l rs w → Stands (sight m l rs w) g changes wins → run m l rs w events ≡ Some v
+      → Follows w (with_histories g changes wins) events v
+  follow [] w v g changes wins all stands done = record {
+    components = with_histories g changes wins;
+    go = (sym (some_same w v done), refl, facts_of (sight m l rs w) g changes wins stands);
+  }
+  follow (e ∷ events) w v g changes wins all stands done =
+      then_follows (happens m l rs w e) (λ u. run m l rs u events) v (λ u goes rest.
+      let step = happens_steps m l rs w u e all goes in
+      let next = beside w u e g changes wins stands goes step.0 in
+      let after = j w u e g changes wins stands goes step.0 in
+      let more = follow events u v next after.changes after.wins step.1 (stands_after w u e g changes wins stands goes step.0) rest in
+      record {
+        components = more.components;
+        go = (facts_of (sight m l rs w) g changes wins stands, u, after, leads w u e g changes wins stands goes step.0, more.go);
+      }) done
+
+  -- at first
+  first_stands : (w : World) (first : IsFirst m l rs w)
+      → Stands (sight m l rs w) (first_beside m laws l limits rs w first) agreement_history.no_history epoch_history.no_history
+  first_stands w first = record {
+    whole = first_whole m laws l limits rs w first;
+    exact = exact_begins m l laws.first limits rs w first;
+    alike = record { published = refl; section = λ d. refl };
+  }
+
+pub facts_after : (m : Meaning) → Laws m → (l : Layout) (requests : List Request) (events : List Event) (w : World)
+    → FactsAfter m l requests events w
+facts_after m laws l requests events w limits allowed after =
+    let all = follow m laws l limits requests allowed events after.start w (first_beside m laws l limits requests after.start after.first)
+    agreement_history.no_history epoch_history.no_history (firsts.first_whole m l requests after.start after.first)
+    (first_stands m laws l limits requests allowed after.start after.first) after.runs in
+    record {
+      components = all.components;
+      through = all.go;
+      here = last_facts m l requests after.start _ events w all.components all.go;
+      once = each_once m l requests after.start _ events w all.components all.go refl;
+    }

@@ -1,0 +1,29 @@
+-- What is known after every list of events of the machine.
+use Rattle.std.specs.Prelude.{List}
+use Rattle.map_history.specs.declared.op.Request.{Request}
+use Rattle.table_words.specs.Limits.{IsWithinLimits}
+use Rattle.table_words.specs.declared.layout.Layout.{Layout}
+use Rattle.structure_laws.specs.Meaning.{Meaning}
+use Rattle.runner_parts.specs.declared.event.Event.{Event}
+use Rattle.machine_states.specs.World.{World}
+use Rattle.machine_states.specs.Schedules.{IsAfter}
+use Rattle.machine_states.specs.Sight.{sight}
+use Rattle.machine_invariant.specs.Along.{Components, first_components}
+use Rattle.machine_invariant.specs.After.{AreAllowed}
+use Rattle.machine_facts.specs.States.{FactsStand}
+use Rattle.machine_facts.specs.Passed.{GoSoundly}
+use Rattle.machine_facts.specs.Once.{EachSectionOnce}
+
+-- where these events lead from a first state of the machine to this one: the components go along, all facts hold of each state that is
+-- passed and of each step, so of this state, and each section that was published had its effects once
+pub record AreFactsAfter (m : Meaning) (l : Layout) (requests : List Request) (events : List Event) (w : World)
+    (after : IsAfter m l requests events w) : Type 0 where
+  pub components : Components
+  pub through : GoSoundly m l requests after.start (first_components m l (sight m l requests after.start)) events w components
+  pub here : FactsStand m l (sight m l requests w) components
+  pub once : EachSectionOnce m l requests after.start (first_components m l (sight m l requests after.start)) events w components
+
+-- so it is where the layout and the requests are within their limits
+abbrev pub FactsAfter : Meaning → Layout → List Request → List Event → World → Type 0
+FactsAfter m l requests events w = IsWithinLimits l → AreAllowed requests → (after : IsAfter m l requests events w)
+    → AreFactsAfter m l requests events w after

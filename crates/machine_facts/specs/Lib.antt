@@ -1,0 +1,5 @@
+pub mod Steps
+pub mod States
+pub mod Passed
+pub mod Once
+pub mod After
