@@ -5,7 +5,7 @@ out=$top/out
 
 # Says in one sentence that the program can't be run, and with what command it can. 70 is no status of the program.
 cannot() {
-  printf 'flock: the program cannot be run: %s; %s makes the proved one\n' "$1" "$top/prove" >&2
+  printf 'flock: the program cannot be run: %s; %q makes the proved one\n' "$1" "$top/prove" >&2
   exit 70
 }
 
