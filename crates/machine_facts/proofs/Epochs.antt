@@ -80,6 +80,7 @@ module _ (c : Counts) where
 
     moves_from : SlotsMove c w1 w' h h' → SlotsMove c w0 w' h h'
     moves_from x = record {
+      fixed = λ s is. x.fixed s (at s ∙ is);
       hand = λ s r is. ⊎_elim (λ e. inl e) (λ e. inr (⊎_elim (λ made. inl (made_from r s made)) (λ back. inr back) e)) (x.hand s r (at s ∙ is));
       live = λ s lt is. ⊎_elim (λ e. inl (sym (at s) ∙ e)) (λ made. inr (made.0, made_from made.0 s made.1)) (x.live s lt is);
       limbo = λ s r y lt is. ⊎_elim (λ e. inl (sym (at s) ∙ e)) (λ e. inr (retired_from r s y e)) (x.limbo s r y lt is);
@@ -102,6 +103,7 @@ module _ (c : Counts) where
   pub moves_all : (w : EpochState) (h : History) (es : List Event) → AllEnabled c w es → IsSound c w → IsExact c w h → IsChain es
       → SlotsMove c w (after_all c w es) h (noted_all c w h es)
   moves_all w h [] ok sound exact chain = record {
+    fixed = λ s is. is;
     hand = λ s r is. inl is;
     live = λ s lt is. inl is;
     limbo = λ s r y lt is. inl is;

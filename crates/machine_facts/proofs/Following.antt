@@ -1,5 +1,5 @@
 -- All facts hold of each state that the machine passes, and of each of its steps.
-use Rattle.std.proofs.Common.{◌≡◌, List, [], ◌∷◌, refl, sym, Option, Some, None}
+use Rattle.std.proofs.Common.{◌≡◌, List, [], ◌∷◌, refl, sym, Option, Some, None, ℕ, ◌<◌, ◌≤◌, subst}
 use Rattle.map_history.specs.declared.op.Request.{Request}
 use Rattle.table_words.specs.declared.layout.Layout.{Layout}
 use Rattle.table_words.specs.Limits.{IsWithinLimits}
@@ -7,7 +7,9 @@ use Rattle.structure_laws.specs.Meaning.{Meaning}
 use Rattle.structure_laws.specs.Laws.{Laws}
 use Rattle.runner_parts.specs.declared.event.Event.{Event}
 use Rattle.agreement_core.specs.History as agreement_history
+use Rattle.epoch_core.specs.declared.location.Location.TheVariants.{Fixed}
 use Rattle.epoch_core.specs.History as epoch_history
+use Rattle.epoch_core.specs.Freed.{SlotsMove}
 use Rattle.machine_states.specs.World.{World, happens, then_run, run}
 use Rattle.machine_states.specs.First.{IsFirst}
 use Rattle.machine_states.specs.Sight.{Sight, sight, Steps}
@@ -15,6 +17,8 @@ use Rattle.machine_states.specs.Sight as states
 use Rattle.machine_states.proofs.FirstSights as firsts
 use Rattle.machine_states.proofs.Sights.{some_none, happens_steps}
 use Rattle.machine_states.proofs.Steps.{some_same}
+use Rattle.machine_epochs.specs.Entries.{counts_of}
+use Rattle.machine_epochs.proofs.FirstJoin.{at_fixed}
 use Rattle.machine_invariant.specs.Along.{Components, components_after, AreExact}
 use Rattle.machine_invariant.specs.After.{AreAllowed}
 use Rattle.machine_invariant.specs.Whole.{Beside, IsWhole}
@@ -29,6 +33,7 @@ use Rattle.machine_facts.specs.After.{FactsAfter}
 use Rattle.machine_facts.proofs.Going.{still_alike, moves}
 use Rattle.machine_facts.proofs.Words.{words_stand}
 use Rattle.machine_facts.proofs.Locks.{locks_stand}
+use Rattle.machine_facts.proofs.Takes.{takes_held}
 use Rattle.machine_facts.proofs.Once.{last_facts, each_once}
 
 module _ (m : Meaning) (laws : Laws m) (l : Layout) (limits : IsWithinLimits l) (rs : List Request) (allowed : AreAllowed rs) where
@@ -37,6 +42,7 @@ module _ (m : Meaning) (laws : Laws m) (l : Layout) (limits : IsWithinLimits l) 
     pub whole : IsWhole m l g s
     pub exact : AreExact m l (with_histories g changes wins)
     pub alike : NumberAlike (with_histories g changes wins)
+    pub fixed : (t : ℕ) → t < m.fixed_slots → g.epochs.location t ≡ Fixed
 
   facts_of : (s : Sight) (g : Beside) (changes : agreement_history.History) (wins : epoch_history.History) → Stands s g changes wins
       → FactsStand m l s (with_histories g changes wins)
@@ -44,6 +50,10 @@ module _ (m : Meaning) (laws : Laws m) (l : Layout) (limits : IsWithinLimits l) 
     sound = state_sound m l g s stands.whole (with_histories g changes wins) refl refl stands.exact.changes stands.exact.wins;
     exact = stands.exact;
     numbers = stands.alike;
+    takes = takes_held m l g s stands.whole
+        (state_sound m l g s stands.whole (with_histories g changes wins) refl refl stands.exact.changes stands.exact.wins).slots.in_held;
+    fixed = stands.fixed;
+    done_most = λ d used. subst (λ n. n ≤ 1) ((stands.whole.sections.sections d).done) (stands.whole.sections.sound.sections d used).done_most;
   }
 
   -- where a list of events leads
@@ -67,11 +77,15 @@ module _ (m : Meaning) (laws : Laws m) (l : Layout) (limits : IsWithinLimits l) 
     abbrev beside : Beside
     beside = record { agreement = j.agreement; epochs = j.epochs; publications = one.publications }
 
+    moved : SlotsMove (counts_of m l) k.epochs j.epochs k.wins j.wins
+    moved = moves m l rs k (sight m l rs w) stands.whole.sections stands.exact stands.alike e.runner e.kind one.es one.vs (one.events changes wins)
+
     stands_after : Stands (sight m l rs v) beside j.changes j.wins
     stands_after = record {
       whole = one.whole;
       exact = exact_after m l k one.es one.vs (one.events changes wins).enabled (one.events changes wins).enabled_slots stands.exact;
       alike = still_alike m l rs k (sight m l rs w) stands.whole.sections stands.exact stands.alike e.runner e.kind one.es one.vs (one.events changes wins);
+      fixed = λ t low. moved.fixed t (stands.fixed t low);
     }
 
     leads : Leads m l rs w k e v j
@@ -85,7 +99,7 @@ module _ (m : Meaning) (laws : Laws m) (l : Layout) (limits : IsWithinLimits l) 
           (one.events changes wins) one.whole.sections;
       locks = locks_stand m l rs k (sight m l rs w) (sight m l rs v) stands.whole.sections e.runner e.kind one.es one.vs
           (one.events changes wins) one.whole.sections;
-      moves = moves m l rs k (sight m l rs w) stands.whole.sections stands.exact stands.alike e.runner e.kind one.es one.vs (one.events changes wins);
+      moves = moved;
     }
 
   then_follows : (o : Option World) (f : World → Option World) (v : World) {A : Type 0} → ((u : World) → o ≡ Some u → f u ≡ Some v → A)
@@ -118,6 +132,7 @@ module _ (m : Meaning) (laws : Laws m) (l : Layout) (limits : IsWithinLimits l) 
     whole = first_whole m laws l limits rs w first;
     exact = exact_begins m l laws.first limits rs w first;
     alike = record { published = refl; section = λ d. refl };
+    fixed = at_fixed m l;
   }
 
 pub facts_after : (m : Meaning) → Laws m → (l : Layout) (requests : List Request) (events : List Event) (w : World)

@@ -4,5 +4,6 @@ pub mod Chunks
 pub mod Going
 pub mod Words
 pub mod Locks
+pub mod Takes
 pub mod Once
 pub mod Following

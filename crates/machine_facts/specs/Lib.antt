@@ -1,4 +1,5 @@
 pub mod Steps
+pub mod Takes
 pub mod States
 pub mod Passed
 pub mod Once

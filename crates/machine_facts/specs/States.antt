@@ -1,10 +1,13 @@
 -- What is known of a state of the machine that its events reach, beside states and histories of the components.
-use Rattle.std.specs.Prelude.{◌≡◌, ℕ}
+use Rattle.std.specs.Prelude.{◌≡◌, ℕ, ◌<◌, ◌≤◌, true}
 use Rattle.table_words.specs.declared.layout.Layout.{Layout}
+use Rattle.table_words.specs.declared.spot.Spot.TheVariants.{DoneWord}
 use Rattle.structure_laws.specs.Meaning.{Meaning}
+use Rattle.epoch_core.specs.declared.location.Location.TheVariants.{Fixed}
 use Rattle.machine_states.specs.Sight.{Sight}
 use Rattle.machine_invariant.specs.Along.{Components, AreExact}
 use Rattle.machine_invariant.specs.States.{StateIsSound}
+use Rattle.machine_facts.specs.Takes.{TakesAreHeld}
 
 -- both histories give one number to one section
 pub record NumberAlike (k : Components) : Type 0 where
@@ -16,3 +19,9 @@ pub record FactsStand (m : Meaning) (l : Layout) (s : Sight) (k : Components) : 
   pub sound : StateIsSound m l s k
   pub exact : AreExact m l k
   pub numbers : NumberAlike k
+  -- publishers hold the descriptors that the locks of their Takes named
+  pub takes : TakesAreHeld m l k.agreement k.epochs.holds s
+  -- the structure's fixed slots are fixed, so they stand in nobody's lists
+  pub fixed : (t : ℕ) → t < m.fixed_slots → k.epochs.location t ≡ Fixed
+  -- the done word of a section is 0 or 1 until its descriptor is free again
+  pub done_most : (d : ℕ) → k.agreement.used d ≡ true → s.word (DoneWord d) ≤ 1
