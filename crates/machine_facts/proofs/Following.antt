@@ -1,5 +1,6 @@
 -- All facts hold of each state that the machine passes, and of each of its steps.
-use Rattle.std.proofs.Common.{◌≡◌, List, [], ◌∷◌, refl, sym, Option, Some, None, ℕ, ◌<◌, ◌≤◌, subst}
+use Rattle.std.proofs.Common.{◌≡◌, List, [], ◌∷◌, refl, sym, Option, Some, None, ℕ, ◌<◌, ◌≤◌, subst, ap, ◌∙◌, true}
+use Rattle.std.specs.Prelude.{slice_get}
 use Rattle.map_history.specs.declared.op.Request.{Request}
 use Rattle.table_words.specs.declared.layout.Layout.{Layout}
 use Rattle.table_words.specs.Limits.{IsWithinLimits}
@@ -15,18 +16,25 @@ use Rattle.machine_states.specs.First.{IsFirst}
 use Rattle.machine_states.specs.Sight.{Sight, sight, Steps}
 use Rattle.machine_states.specs.Sight as states
 use Rattle.machine_states.proofs.FirstSights as firsts
+use Rattle.machine_states.proofs.FirstSights.{first_parts}
+use Rattle.runner_parts.specs.State.{FinishedState, PartState}
+use Rattle.section_body.specs.Shape.{IsShaped}
+use Rattle.section_body.specs.declared.thunk.Thunk.{Thunk}
 use Rattle.machine_states.proofs.Sights.{some_none, happens_steps}
 use Rattle.machine_states.proofs.Steps.{some_same}
 use Rattle.machine_epochs.specs.Entries.{counts_of}
-use Rattle.machine_epochs.proofs.FirstJoin.{at_fixed}
+use Rattle.machine_epochs.proofs.FirstJoin.{at_fixed, each_part}
 use Rattle.machine_invariant.specs.Along.{Components, components_after, AreExact}
 use Rattle.machine_invariant.specs.After.{AreAllowed}
+use Rattle.machine_invariant.specs.States.{StateIsSound}
+use Rattle.machine_invariant.specs.Trails.{thunk_at}
 use Rattle.machine_invariant.specs.Whole.{Beside, IsWhole}
 use Rattle.machine_invariant.proofs.Along.{exact_begins, exact_after}
 use Rattle.machine_invariant.proofs.AllKinds.{step_whole}
 use Rattle.machine_invariant.proofs.First.{first_beside, first_whole}
 use Rattle.machine_invariant.proofs.Following.{StepsWhole}
 use Rattle.machine_invariant.proofs.States.{with_histories, state_sound}
+use Rattle.machine_facts.specs.Steps.{WordsStand}
 use Rattle.machine_facts.specs.States.{NumberAlike, FactsStand}
 use Rattle.machine_facts.specs.Passed.{Leads, GoSoundly}
 use Rattle.machine_facts.specs.After.{FactsAfter}
@@ -34,6 +42,8 @@ use Rattle.machine_facts.proofs.Going.{still_alike, moves}
 use Rattle.machine_facts.proofs.Words.{words_stand}
 use Rattle.machine_facts.proofs.Locks.{locks_stand}
 use Rattle.machine_facts.proofs.Takes.{takes_held}
+use Rattle.machine_facts.proofs.Outcomes.{OutcomesKept, outcomes_kept}
+use Rattle.machine_facts.proofs.Agreeing.{outcomes_agree}
 use Rattle.machine_facts.proofs.Once.{last_facts, each_once}
 
 module _ (m : Meaning) (laws : Laws m) (l : Layout) (limits : IsWithinLimits l) (rs : List Request) (allowed : AreAllowed rs) where
@@ -43,15 +53,24 @@ module _ (m : Meaning) (laws : Laws m) (l : Layout) (limits : IsWithinLimits l) 
     pub exact : AreExact m l (with_histories g changes wins)
     pub alike : NumberAlike (with_histories g changes wins)
     pub fixed : (t : ℕ) → t < m.fixed_slots → g.epochs.location t ≡ Fixed
+    pub outcomes : OutcomesKept m l g.agreement s
+
+  sound_of : (s : Sight) (g : Beside) (changes : agreement_history.History) (wins : epoch_history.History) → Stands s g changes wins
+      → StateIsSound m l s (with_histories g changes wins)
+  sound_of s g changes wins stands = state_sound m l g s stands.whole (with_histories g changes wins) refl refl stands.exact.changes stands.exact.wins
+
+  -- the body of each used descriptor's thunk has the shape
+  shaped : (s : Sight) (g : Beside) (whole : IsWhole m l g s) (d : ℕ) → g.agreement.used d ≡ true → IsShaped (m.body (thunk_at m g.agreement s d))
+  shaped s g whole d used = subst (λ (t : Thunk). IsShaped (m.body t)) (whole.tied.thunk d used) ((whole.kept.shaped d used).shape)
 
   facts_of : (s : Sight) (g : Beside) (changes : agreement_history.History) (wins : epoch_history.History) → Stands s g changes wins
       → FactsStand m l s (with_histories g changes wins)
   facts_of s g changes wins stands = record {
-    sound = state_sound m l g s stands.whole (with_histories g changes wins) refl refl stands.exact.changes stands.exact.wins;
+    sound = sound_of s g changes wins stands;
     exact = stands.exact;
     numbers = stands.alike;
-    takes = takes_held m l g s stands.whole
-        (state_sound m l g s stands.whole (with_histories g changes wins) refl refl stands.exact.changes stands.exact.wins).slots.in_held;
+    takes = takes_held m l g s stands.whole (sound_of s g changes wins stands).slots.in_held;
+    outcomes = outcomes_agree m l s (with_histories g changes wins) (sound_of s g changes wins stands) (shaped s g stands.whole) stands.outcomes;
     fixed = stands.fixed;
     done_most = λ d used. subst (λ n. n ≤ 1) ((stands.whole.sections.sections d).done) (stands.whole.sections.sound.sections d used).done_most;
   }
@@ -80,12 +99,24 @@ module _ (m : Meaning) (laws : Laws m) (l : Layout) (limits : IsWithinLimits l) 
     moved : SlotsMove (counts_of m l) k.epochs j.epochs k.wins j.wins
     moved = moves m l rs k (sight m l rs w) stands.whole.sections stands.exact stands.alike e.runner e.kind one.es one.vs (one.events changes wins)
 
+    exact_next : AreExact m l j
+    exact_next = exact_after m l k one.es one.vs (one.events changes wins).enabled (one.events changes wins).enabled_slots stands.exact
+
+    sound_next : StateIsSound m l (sight m l rs v) j
+    sound_next = state_sound m l beside (sight m l rs v) one.whole j refl refl exact_next.changes exact_next.wins
+
+    words : WordsStand k.agreement.used (sight m l rs w).word (sight m l rs v).word
+    words = words_stand m l rs k (sight m l rs w) (sight m l rs v) stands.whole.sections stands.exact stands.alike e.runner e.kind step one.es one.vs
+        (one.events changes wins) one.whole.sections
+
     stands_after : Stands (sight m l rs v) beside j.changes j.wins
     stands_after = record {
       whole = one.whole;
-      exact = exact_after m l k one.es one.vs (one.events changes wins).enabled (one.events changes wins).enabled_slots stands.exact;
+      exact = exact_next;
       alike = still_alike m l rs k (sight m l rs w) stands.whole.sections stands.exact stands.alike e.runner e.kind one.es one.vs (one.events changes wins);
       fixed = λ t low. moved.fixed t (stands.fixed t low);
+      outcomes = outcomes_kept m l rs k (sight m l rs w) (sight m l rs v) (sound_of (sight m l rs w) g changes wins stands) stands.exact stands.alike
+          e.runner e.kind step one.es one.vs (one.events changes wins) sound_next words stands.outcomes;
     }
 
     leads : Leads m l rs w k e v j
@@ -95,8 +126,7 @@ module _ (m : Meaning) (laws : Laws m) (l : Layout) (limits : IsWithinLimits l) 
       slots = one.vs;
       events = one.events changes wins;
       next = refl;
-      words = words_stand m l rs k (sight m l rs w) (sight m l rs v) stands.whole.sections stands.exact stands.alike e.runner e.kind step one.es one.vs
-          (one.events changes wins) one.whole.sections;
+      words = words;
       locks = locks_stand m l rs k (sight m l rs w) (sight m l rs v) stands.whole.sections e.runner e.kind one.es one.vs
           (one.events changes wins) one.whole.sections;
       moves = moved;
@@ -125,7 +155,18 @@ module _ (m : Meaning) (laws : Laws m) (l : Layout) (limits : IsWithinLimits l) 
         go = (facts_of (sight m l rs w) g changes wins stands, u, after, leads w u e g changes wins stands goes step.0, more.go);
       }) done
 
-  -- at first
+  -- at first no run came to its end
+  none_kept : (w : World) (first : IsFirst m l rs w) (r : ℕ) → ((sight m l rs w).part r).records.finished ≡ []
+  none_kept w first r = subst (λ (p : PartState). p.records.finished ≡ []) (sym (first_parts m l w.parts first.parts r))
+      (each_part m l (λ p. p.records.finished ≡ []) refl (λ n. refl) refl r)
+
+  not_kept : (w : World) (first : IsFirst m l rs w) (r i : ℕ) (f : FinishedState) → slice_get ((sight m l rs w).part r).records.finished i ≡ Some f
+      → {A : Type 0} → A
+  not_kept w first r i f at = none (ap (λ xs. slice_get xs i) (sym (none_kept w first r)) ∙ at)
+    where
+      none : {A : Type 0} → slice_get [] i ≡ Some f → A
+      none e = absurd (let no : ⊥ = cc in no)
+
   first_stands : (w : World) (first : IsFirst m l rs w)
       → Stands (sight m l rs w) (first_beside m laws l limits rs w first) agreement_history.no_history epoch_history.no_history
   first_stands w first = record {
@@ -133,6 +174,10 @@ module _ (m : Meaning) (laws : Laws m) (l : Layout) (limits : IsWithinLimits l) 
     exact = exact_begins m l laws.first limits rs w first;
     alike = record { published = refl; section = λ d. refl };
     fixed = at_fixed m l;
+    outcomes = record {
+      ended = λ r d f used x. not_kept w first r x.at f x.kept;
+      equal = λ r r' i i' f f' at at' lock word. not_kept w first r i f at;
+    };
   }
 
 pub facts_after : (m : Meaning) → Laws m → (l : Layout) (requests : List Request) (events : List Event) (w : World)

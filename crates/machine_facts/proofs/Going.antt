@@ -213,3 +213,19 @@ module _ (m : Meaning) (l : Layout) (rs : List Request) (k : Components) (s : Si
     where
       lasting : AllAre is_unfreeing are.heads → Lasts (rules_of m l) k.agreement j.agreement d
       lasting heads = lasts_all (rules_of m l) k.agreement es are.enabled joined.sound (heads_are is_unfreeing refl heads) d used
+
+  -- where the runner is in a run, no descriptor is freed
+  pub goes_inside : (q : RunState) → (s.part r).run ≡ Some q → (d : ℕ) → k.agreement.used d ≡ true → Lasts (rules_of m l) k.agreement j.agreement d
+  goes_inside q runs d used = ⊎_elim
+      (λ x. lasting (all_unfreeing are.heads x.lasting))
+      (λ other. ⊎_elim
+      (λ p. lasting (subst (AllAre is_unfreeing) (sym p.heads_are) (refl, (refl, tt))))
+      (λ f. absurd (some_run q (sym runs ∙ f.outside)))
+      other)
+      sort
+    where
+      lasting : AllAre is_unfreeing are.heads → Lasts (rules_of m l) k.agreement j.agreement d
+      lasting heads = lasts_all (rules_of m l) k.agreement es are.enabled joined.sound (heads_are is_unfreeing refl heads) d used
+
+      some_run : (q : RunState) → Some q ≡ None → ⊥
+      some_run q e = cc

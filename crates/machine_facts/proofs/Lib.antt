@@ -5,5 +5,8 @@ pub mod Going
 pub mod Words
 pub mod Locks
 pub mod Takes
+pub mod Records
+pub mod Outcomes
+pub mod Agreeing
 pub mod Once
 pub mod Following

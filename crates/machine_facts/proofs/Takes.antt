@@ -1,11 +1,9 @@
 -- What the whole invariant says of descriptors that the locks of Takes name.
-use Rattle.std.proofs.Common.{◌≡◌, ◌≢◌, ℕ, suc, ◌+◌, ◌<◌, ◌≤◌, Bool, true, length, Some, refl, sym, ap, ◌∙◌, subst, ⊎_elim, inl, inr, arith}
-use Rattle.std.specs.Prelude.{◌⊎◌}
+use Rattle.std.proofs.Common.{◌≡◌, ℕ, suc, ◌+◌, ◌<◌, true, sym, ap, ◌∙◌, subst, ⊎_elim, arith}
 use Rattle.std.proofs.lemmas.Bool.{cases_lt}
 use Rattle.section_body.specs.Line.{line, micro_at}
 use Rattle.section_body.specs.Word.{value_of}
 use Rattle.section_body.specs.declared.micro.Micro.{Micro}
-use Rattle.section_body.specs.declared.micro.Micro.TheVariants as micros
 use Rattle.section_lines.specs.Line.{IsCounted}
 use Rattle.table_words.specs.declared.layout.Layout.{Layout}
 use Rattle.structure_laws.specs.Meaning.{Meaning}
@@ -13,13 +11,11 @@ use Rattle.runner_parts.specs.declared.stage.Stage.TheVariants.{Entered}
 use Rattle.runner_parts.specs.Tests.{has}
 use Rattle.runner_steps.specs.Sections.{line_of}
 use Rattle.agreement_core.specs.State.{AgreementState}
-use Rattle.epoch_core.specs.State.{is_entered}
 use Rattle.machine_states.specs.Sight.{Sight}
-use Rattle.machine_epochs.specs.Entries.{stage_of}
 use Rattle.machine_epochs.proofs.Places.{run_thunk}
 use Rattle.machine_invariant.specs.Named.{IsLockCommit}
 use Rattle.machine_invariant.specs.Slots.{node_count, HeldStand}
-use Rattle.machine_invariant.specs.Trails.{step_at, log_of, thunk_at}
+use Rattle.machine_invariant.specs.Trails.{step_at, log_of}
 use Rattle.machine_invariant.specs.Whole.{Beside, IsWhole}
 use Rattle.machine_invariant.proofs.Asked.{entered_at}
 use Rattle.machine_invariant.proofs.Trails.{run_is, run_used}

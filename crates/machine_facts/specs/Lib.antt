@@ -1,5 +1,6 @@
 pub mod Steps
 pub mod Takes
+pub mod Outcomes
 pub mod States
 pub mod Passed
 pub mod Once
