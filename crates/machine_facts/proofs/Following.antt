@@ -13,6 +13,7 @@ use Rattle.epoch_core.specs.History as epoch_history
 use Rattle.epoch_core.specs.Freed.{SlotsMove}
 use Rattle.machine_states.specs.World.{World, happens, then_run, run}
 use Rattle.machine_states.specs.First.{IsFirst}
+use Rattle.machine_states.specs.Schedules.{IsAfter}
 use Rattle.machine_states.specs.Sight.{Sight, sight, Steps}
 use Rattle.machine_states.specs.Sight as states
 use Rattle.machine_states.proofs.FirstSights as firsts
@@ -24,7 +25,7 @@ use Rattle.machine_states.proofs.Sights.{some_none, happens_steps}
 use Rattle.machine_states.proofs.Steps.{some_same}
 use Rattle.machine_epochs.specs.Entries.{counts_of}
 use Rattle.machine_epochs.proofs.FirstJoin.{at_fixed, each_part}
-use Rattle.machine_invariant.specs.Along.{Components, components_after, AreExact}
+use Rattle.machine_invariant.specs.Along.{Components, first_components, components_after, AreExact}
 use Rattle.machine_invariant.specs.After.{AreAllowed}
 use Rattle.machine_invariant.specs.States.{StateIsSound}
 use Rattle.machine_invariant.specs.Trails.{thunk_at}
@@ -37,7 +38,7 @@ use Rattle.machine_invariant.proofs.States.{with_histories, state_sound}
 use Rattle.machine_facts.specs.Steps.{WordsStand}
 use Rattle.machine_facts.specs.States.{NumberAlike, FactsStand}
 use Rattle.machine_facts.specs.Passed.{Leads, GoSoundly}
-use Rattle.machine_facts.specs.After.{FactsAfter}
+use Rattle.machine_facts.specs.After.{AreFactsAfter, FactsAfter, AreFactsOfStep, StepFactsAfter}
 use Rattle.machine_facts.proofs.Going.{still_alike, moves}
 use Rattle.machine_facts.proofs.Words.{words_stand}
 use Rattle.machine_facts.proofs.Locks.{locks_stand}
@@ -77,8 +78,12 @@ module _ (m : Meaning) (laws : Laws m) (l : Layout) (limits : IsWithinLimits l) 
 
   -- where a list of events leads
   record Follows (w : World) (k : Components) (events : List Event) (v : World) : Type 0 where
-    pub components : Components
-    pub go : GoSoundly m l rs w k events v components
+    pub beside : Beside
+    pub changes : agreement_history.History
+    pub wins : epoch_history.History
+    pub stands : Stands (sight m l rs v) beside changes wins
+    pub all_words : states.IsWhole m l rs v
+    pub go : GoSoundly m l rs w k events v (with_histories beside changes wins)
 
   -- one step
   module _ (w v : World) (e : Event) (g : Beside) (changes : agreement_history.History) (wins : epoch_history.History)
@@ -141,7 +146,11 @@ module _ (m : Meaning) (laws : Laws m) (l : Layout) (limits : IsWithinLimits l) 
       → states.IsWhole m l rs w → Stands (sight m l rs w) g changes wins → run m l rs w events ≡ Some v
       → Follows w (with_histories g changes wins) events v
   follow [] w v g changes wins all stands done = record {
-    components = with_histories g changes wins;
+    beside = g;
+    changes = changes;
+    wins = wins;
+    stands = subst (λ (u : World). Stands (sight m l rs u) g changes wins) (some_same w v done) stands;
+    all_words = subst (λ (u : World). states.IsWhole m l rs u) (some_same w v done) all;
     go = (sym (some_same w v done), refl, facts_of (sight m l rs w) g changes wins stands);
   }
   follow (e ∷ events) w v g changes wins all stands done =
@@ -151,7 +160,11 @@ module _ (m : Meaning) (laws : Laws m) (l : Layout) (limits : IsWithinLimits l) 
       let after = j w u e g changes wins stands goes step.0 in
       let more = follow events u v next after.changes after.wins step.1 (stands_after w u e g changes wins stands goes step.0) rest in
       record {
-        components = more.components;
+        beside = more.beside;
+        changes = more.changes;
+        wins = more.wins;
+        stands = more.stands;
+        all_words = more.all_words;
         go = (facts_of (sight m l rs w) g changes wins stands, u, after, leads w u e g changes wins stands goes step.0, more.go);
       }) done
 
@@ -180,15 +193,37 @@ module _ (m : Meaning) (laws : Laws m) (l : Layout) (limits : IsWithinLimits l) 
     };
   }
 
+module _ (m : Meaning) (laws : Laws m) (l : Layout) (requests : List Request) (events : List Event) (w : World) (limits : IsWithinLimits l)
+    (allowed : AreAllowed requests) (after : IsAfter m l requests events w) where
+  all : Follows m laws l limits requests allowed after.start (first_components m l (sight m l requests after.start)) events w
+  all = follow m laws l limits requests allowed events after.start w (first_beside m laws l limits requests after.start after.first)
+      agreement_history.no_history epoch_history.no_history (firsts.first_whole m l requests after.start after.first)
+      (first_stands m laws l limits requests allowed after.start after.first) after.runs
+
+  reached : AreFactsAfter m l requests events w after
+  reached = record {
+    components = with_histories all.beside all.changes all.wins;
+    through = all.go;
+    here = facts_of m laws l limits requests allowed (sight m l requests w) all.beside all.changes all.wins all.stands;
+    once = each_once m l requests after.start _ events w (with_histories all.beside all.changes all.wins) all.go refl;
+  }
+
+  goes_on : (e : Event) (v : World) → happens m l requests w e ≡ Some v → AreFactsOfStep m l requests w e v
+  goes_on e v goes =
+      let step = happens_steps m l requests w v e all.all_words goes in
+      record {
+        before = with_histories all.beside all.changes all.wins;
+        after = j m laws l limits requests allowed w v e all.beside all.changes all.wins all.stands goes step.0;
+        there = facts_of m laws l limits requests allowed (sight m l requests w) all.beside all.changes all.wins all.stands;
+        leads = leads m laws l limits requests allowed w v e all.beside all.changes all.wins all.stands goes step.0;
+        here = facts_of m laws l limits requests allowed (sight m l requests v) _ _ _
+            (stands_after m laws l limits requests allowed w v e all.beside all.changes all.wins all.stands goes step.0);
+      }
+
 pub facts_after : (m : Meaning) → Laws m → (l : Layout) (requests : List Request) (events : List Event) (w : World)
     → FactsAfter m l requests events w
-facts_after m laws l requests events w limits allowed after =
-    let all = follow m laws l limits requests allowed events after.start w (first_beside m laws l limits requests after.start after.first)
-    agreement_history.no_history epoch_history.no_history (firsts.first_whole m l requests after.start after.first)
-    (first_stands m laws l limits requests allowed after.start after.first) after.runs in
-    record {
-      components = all.components;
-      through = all.go;
-      here = last_facts m l requests after.start _ events w all.components all.go;
-      once = each_once m l requests after.start _ events w all.components all.go refl;
-    }
+facts_after m laws l requests events w limits allowed after = reached m laws l requests events w limits allowed after
+
+pub step_facts_after : (m : Meaning) → Laws m → (l : Layout) (requests : List Request) (events : List Event) (w : World)
+    → StepFactsAfter m l requests events w
+step_facts_after m laws l requests events w limits allowed after = goes_on m laws l requests events w limits allowed after
