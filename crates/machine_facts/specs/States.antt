@@ -9,6 +9,7 @@ use Rattle.machine_invariant.specs.Along.{Components, AreExact}
 use Rattle.machine_invariant.specs.States.{StateIsSound}
 use Rattle.machine_facts.specs.Takes.{TakesAreHeld}
 use Rattle.machine_facts.specs.Outcomes.{OutcomesAgree}
+use Rattle.machine_facts.specs.Known.{KnownStand}
 
 -- both histories give one number to one section
 pub record NumberAlike (k : Components) : Type 0 where
@@ -24,6 +25,8 @@ pub record FactsStand (m : Meaning) (l : Layout) (s : Sight) (k : Components) : 
   pub takes : TakesAreHeld m l k.agreement k.epochs.holds s
   -- what is kept of runs that came to their end is what the plain run of the section's body gives
   pub outcomes : OutcomesAgree m l k.agreement s
+  -- what runners know of stamp and reply words stands
+  pub known : KnownStand s
   -- the structure's fixed slots are fixed, so they stand in nobody's lists
   pub fixed : (t : ℕ) → t < m.fixed_slots → k.epochs.location t ≡ Fixed
   -- the done word of a section is 0 or 1 until its descriptor is free again
