@@ -1,9 +1,9 @@
-mod Basics
-mod Asked
-mod Prepared
+pub mod Basics
+pub mod Asked
+pub mod Prepared
 mod Limbo
-mod Slots
-mod Trails
+pub mod Slots
+pub mod Trails
 mod Lines
 mod Sections
 pub mod Lengths
@@ -13,10 +13,10 @@ mod Along
 mod Named
 mod Runs
 mod Ties
-mod Parts
+pub mod Parts
 mod Quiet
-mod Thunks
-mod Sights
+pub mod Thunks
+pub mod Sights
 mod Chunked
 mod Reaching
 mod SuppliesSections
@@ -34,7 +34,7 @@ mod Walking
 mod Publishing
 mod SectionsRetired
 mod Freeing
-mod First
+pub mod First
 mod Following
 mod AllKinds
 pub mod After

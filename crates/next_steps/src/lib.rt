@@ -1,0 +1,5 @@
+//! The next step of each run is enabled.
+#![tactic(auto)]
+
+/// Nothing yet.
+pub fn nothing() {}
