@@ -8,7 +8,7 @@ use Rattle.std.proofs.lemmas.Nat.Bits.{bit_at-lt, bit_at_set_same, bit_at_set_ot
 use Rattle.map_history.specs.declared.op.Request.{Request}
 use Rattle.table_words.specs.declared.layout.Layout.{Layout}
 use Rattle.structure_laws.specs.Meaning.{Meaning}
-use Rattle.runner_steps.specs.State.{PartState}
+use Rattle.runner_parts.specs.State.{PartState}
 use Rattle.enabled_kinds.specs.May.{May, MayNot, AreEnabled}
 use Rattle.enabled_kinds.proofs.Asked.{not_both}
 use Rattle.enabled_kinds.proofs.Numbers.{few_kinds}

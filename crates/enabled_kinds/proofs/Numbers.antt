@@ -2,8 +2,8 @@
 use Rattle.std.specs.Prelude.{Bool, Option, Some, None}
 use Rattle.section_body.specs.declared.thunk.Thunk.{Thunk}
 use Rattle.std.proofs.Common.{◌≡◌, ◌≢◌, ◌<◌, ℕ, refl, arith}
-use Rattle.runner_steps.specs.declared.event.EventKind.{EventKind}
-use Rattle.runner_steps.specs.declared.event.EventKind.TheVariants as kinds
+use Rattle.runner_parts.specs.declared.event.EventKind.{EventKind}
+use Rattle.runner_parts.specs.declared.event.EventKind.TheVariants as kinds
 use Rattle.enabled_kinds.specs.Kinds.{kind_number, plain_kind, IsGiven}
 
 absent : {A : Type 0} (a : A) → None ≡ Some a → ⊥

@@ -17,10 +17,10 @@ use Rattle.table_words.specs.declared.access.Access.{Access}
 use Rattle.table_words.specs.declared.access.Access.TheVariants.{Loads, Stores}
 use Rattle.table_words.specs.Places.{fits, slot_count, descriptor_count}
 use Rattle.structure_laws.specs.Meaning.{Meaning}
-use Rattle.runner_steps.specs.declared.event.EventKind.{EventKind}
-use Rattle.runner_steps.specs.declared.event.EventKind.TheVariants as kinds
-use Rattle.runner_steps.specs.State.{RunState, PartState}
-use Rattle.runner_steps.specs.Tests.{has, is_resting}
+use Rattle.runner_parts.specs.declared.event.EventKind.{EventKind}
+use Rattle.runner_parts.specs.declared.event.EventKind.TheVariants as kinds
+use Rattle.runner_parts.specs.State.{RunState, PartState}
+use Rattle.runner_parts.specs.Tests.{has, is_resting}
 use Rattle.runner_steps.specs.Outside.{when, descriptor_spot, private_load_ask, private_store_ask}
 use Rattle.runner_steps.specs.Sections.{is_open_run, next_of}
 use Rattle.runner_steps.specs.InRun.{make_slot, is_slot, is_cell, can_raise, fill_load_ask, fill_store_ask}

@@ -14,11 +14,11 @@ use Rattle.table_words.specs.declared.access.Access.TheVariants.{Exchanges}
 use Rattle.table_words.specs.Limits.{IsWithinLimits}
 use Rattle.table_words.specs.Places.{fits, descriptor_count}
 use Rattle.structure_laws.specs.Meaning.{Meaning}
-use Rattle.runner_steps.specs.declared.event.EventKind.TheVariants as kinds
-use Rattle.runner_steps.specs.declared.entries.Stored.{Stored}
-use Rattle.runner_steps.specs.declared.entries.Known.{Known}
-use Rattle.runner_steps.specs.State.{PartState}
-use Rattle.runner_steps.specs.Tests.{has, is_walking, is_next, is_open, last_stored, is_some_of, are_stored, thunk_words, is_prepared, serves}
+use Rattle.runner_parts.specs.declared.event.EventKind.TheVariants as kinds
+use Rattle.runner_parts.specs.declared.entries.Stored.{Stored}
+use Rattle.runner_parts.specs.declared.entries.Known.{Known}
+use Rattle.runner_parts.specs.State.{PartState}
+use Rattle.runner_parts.specs.Tests.{has, is_walking, is_next, is_open, last_stored, is_some_of, are_stored, thunk_words, is_prepared, serves}
 use Rattle.runner_steps.specs.Outside.{is_due, is_publishable, is_ready}
 use Rattle.runner_steps.specs.Asks.{sizes_for}
 use Rattle.enabled_kinds.specs.Kinds.{IsGiven}

@@ -4,16 +4,15 @@ ghost use Rattle.std.specs.List.{list_any};
 ghost use Rattle.table_words.specs.Limits.{IsWithinLimits};
 ghost use Rattle.table_words.specs.Places.{slot_count, descriptor_count};
 ghost use Rattle.runner_steps.specs.Asks.{sizes_for};
-ghost use Rattle.runner_steps.specs.declared.event.EventKind.TheVariants as kinds;
-ghost use Rattle.runner_steps.specs.declared.stage.Stage.TheVariants.{Scanning};
-ghost use Rattle.runner_steps.specs.Tests.{last_stored};
+ghost use Rattle.runner_parts.specs.declared.event.EventKind.TheVariants as kinds;
+ghost use Rattle.runner_parts.specs.declared.stage.Stage.TheVariants.{Scanning};
+ghost use Rattle.runner_parts.specs.Tests.{last_stored};
 ghost use Rattle.enabled_kinds.specs.May.{is_enabled};
 ghost use Rattle.enabled_kinds.specs.Tried.{stored_thunk, or_zero};
 
 use map_history::Request;
-use runner_steps::{
-    EventKind, Part, Stage, Stored, Structure, last_stored, sizes_for, slot_count, thunk_of,
-};
+use runner_parts::{EventKind, Part, Stage, Stored, Structure, last_stored};
+use runner_steps::{asks, sizes_for, slot_count, thunk_of};
 use section_body::Thunk;
 use table_words::Layout;
 
@@ -30,8 +29,7 @@ pub fn may<S: Structure>(
     requires few { length requests.now ≤ 131072 }
     ensures { result ≡ is_enabled (S.meaning structure.now) layout requests.now runner part.now kind }
 {
-    part.asks(structure, layout, requests, runner, &kind)
-        .is_some()
+    asks(part, structure, layout, requests, runner, &kind).is_some()
 }
 
 /// Whether it may load the next announcement of its scan.

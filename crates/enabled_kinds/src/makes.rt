@@ -4,7 +4,8 @@ ghost use Rattle.table_words.specs.Limits.{IsWithinLimits};
 ghost use Rattle.runner_steps.specs.InRun.{make_slot};
 ghost use Rattle.enabled_kinds.specs.Tried.{made_load, made_store};
 
-use runner_steps::{EventKind, Part, Run, Structure, last_of, source_value};
+use runner_parts::{EventKind, Part, Run, Structure};
+use runner_steps::{is_open_run, last_of, next_of, source_value};
 use section_body::{Micro, Word};
 use table_words::Layout;
 
@@ -25,10 +26,10 @@ pub fn made_load<S: Structure>(part: &Part, structure: &S) -> Option<EventKind>
     let Some(run) = &part.run else {
         return None;
     };
-    if !run.is_open() {
+    if !is_open_run(run) {
         return None;
     }
-    match (make_slot(run, &part.nodes.free), run.next(structure)) {
+    match (make_slot(run, &part.nodes.free), next_of(run, structure)) {
         (Some(slot), Micro::PrivateLoad { cell, log: _ }) => {
             Some(EventKind::PrivateLoad { slot, word: cell })
         }
@@ -44,10 +45,10 @@ pub fn made_store<S: Structure>(part: &Part, structure: &S, layout: Layout) -> O
     let Some(run) = &part.run else {
         return None;
     };
-    if !run.is_open() {
+    if !is_open_run(run) {
         return None;
     }
-    match (run.made, run.next(structure)) {
+    match (run.made, next_of(run, structure)) {
         (
             Some(slot),
             Micro::PrivateStore {

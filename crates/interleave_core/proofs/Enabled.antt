@@ -6,8 +6,8 @@ use Rattle.std.proofs.lemmas.Nat.Bits.{bit_at-zero}
 use Rattle.map_history.specs.declared.op.Request.{Request}
 use Rattle.table_words.specs.declared.layout.Layout.{Layout}
 use Rattle.structure_laws.specs.Meaning.{Meaning}
-use Rattle.runner_steps.specs.declared.event.EventKind.{EventKind}
-use Rattle.runner_steps.specs.State.{PartState}
+use Rattle.runner_parts.specs.declared.event.EventKind.{EventKind}
+use Rattle.runner_parts.specs.State.{PartState}
 use Rattle.runner_steps.specs.Outside.{Ask}
 use Rattle.runner_steps.specs.Asks.{asks}
 use Rattle.enabled_kinds.specs.May.{May, AreEnabled}

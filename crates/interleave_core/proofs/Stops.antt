@@ -4,7 +4,7 @@ use Rattle.std.proofs.Common.{◌≡◌, ℕ, List, take, sym, subst, ◌∙◌,
 use Rattle.map_history.specs.declared.op.Request.{Request}
 use Rattle.table_words.specs.declared.layout.Layout.{Layout}
 use Rattle.structure_laws.specs.Meaning.{Meaning}
-use Rattle.runner_steps.specs.declared.event.Event.{Event}
+use Rattle.runner_parts.specs.declared.event.Event.{Event}
 use Rattle.interleave_core.specs.declared.schedules.ScheduleError.{ScheduleError}
 use Rattle.interleave_core.specs.declared.schedules.ScheduleError.TheVariants.{NotEnabled}
 use Rattle.machine_states.specs.World.{World, happens, run}

@@ -5,7 +5,7 @@ ghost use Rattle.table_words.specs.Places.{size};
 ghost use Rattle.structure_laws.specs.Cells.{first_word};
 ghost use Rattle.machine_states.specs.First.{falling, IsFilled, first_part, keeper_part, worker_part, workers};
 
-use runner_steps::{Descriptors, Nodes, Part, Reads, Records, Stage, Structure};
+use runner_parts::{Descriptors, Nodes, Part, Reads, Records, Stage, Structure};
 use section_body::{Place, Word};
 use std::alloc::{AllocError, Global};
 use table_words::{Layout, Sizes, Spot, set_word};

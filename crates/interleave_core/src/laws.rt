@@ -4,11 +4,11 @@ ghost use Rattle.map_history.specs.declared.op.Request.{Request};
 ghost use Rattle.table_words.specs.declared.layout.Layout.{Layout};
 ghost use Rattle.table_words.specs.Limits.{IsWithinLimits};
 ghost use Rattle.structure_laws.specs.Lawful.{Moves};
-ghost use Rattle.runner_steps.specs.declared.event.Event.{Event};
-ghost use Rattle.runner_steps.specs.declared.event.EventKind.TheVariants.{Join};
+ghost use Rattle.runner_parts.specs.declared.event.Event.{Event};
+ghost use Rattle.runner_parts.specs.declared.event.EventKind.TheVariants.{Join};
 ghost use Rattle.interleave_core.specs.Local.{joined_by, IsLocal, JoinsTwo};
 
-use runner_steps::Structure;
+use runner_parts::Structure;
 
 /// Every event but a join reads and changes one word and the stepping runner's part alone. A join changes no word, and of the
 /// parts only the keeper's and the worker's.

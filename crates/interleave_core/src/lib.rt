@@ -13,6 +13,6 @@ mod tray;
 pub use first::{first_words, worker_part};
 pub use laws::{events_are_local, moves_are_lawful};
 pub use machine::{Machine, StepError};
-pub use runner_steps::{Event, EventKind, Structure};
+pub use runner_parts::{Event, EventKind, Structure};
 pub use schedules::{ScheduleError, all_schedules};
 pub use tray::Tray;

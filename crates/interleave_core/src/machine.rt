@@ -5,8 +5,8 @@ ghost use Rattle.table_words.specs.Places.{size, address, Fits};
 ghost use Rattle.runner_steps.specs.After.{after, knows_also};
 ghost use Rattle.machine_states.specs.World.{happens, seat_of, settled_part, put_part};
 ghost use Rattle.std.specs.List.{list_any};
-ghost use Rattle.runner_steps.specs.State.{PartState};
-ghost use Rattle.runner_steps.specs.Tests.{has};
+ghost use Rattle.runner_parts.specs.State.{PartState};
+ghost use Rattle.runner_parts.specs.Tests.{has};
 ghost use Rattle.interleave_core.specs.Parts.{is_listed, owns};
 ghost use Rattle.machine_states.specs.First.{IsFirst};
 ghost use Rattle.machine_states.specs.Reached.{Reached};
@@ -19,7 +19,8 @@ use crate::first::{first_parts, first_words};
 use enabled_kinds::enabled;
 use map_history::Request;
 use part_steps::{after, part_copy};
-use runner_steps::{Event, EventKind, Nodes, Part, Records, Retired, Structure, sizes_for};
+use runner_parts::{Event, EventKind, Nodes, Part, Records, Retired, Structure};
+use runner_steps::{asks, sizes_for};
 use section_body::{Place, Word};
 use std::alloc::{AllocError, Global};
 use std::marker::Model;
@@ -173,7 +174,8 @@ impl<S: Structure> Machine<S> {
         }
         let sizes = sizes_for(&self.structure, self.layout, &self.requests);
         let part = &self.parts[seat];
-        let Some((spot, access)) = part.asks(
+        let Some((spot, access)) = asks(
+            part,
             &self.structure,
             self.layout,
             &self.requests,

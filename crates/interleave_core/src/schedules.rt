@@ -3,16 +3,16 @@ ghost use Rattle.std.specs.Prelude.{◌≡◌, ◌≤◌, ℕ, Some, None, Err, 
 ghost use Rattle.table_words.specs.Limits.{IsWithinLimits};
 ghost use Rattle.interleave_core.specs.declared.schedules.ScheduleError.TheVariants.{NotEnabled};
 ghost use Rattle.machine_states.specs.Schedules.{IsAfter};
-ghost use Rattle.machine_joins.specs.Descriptors.{DescriptorsSoundAfter};
-ghost use Rattle.machine_joins.specs.Epochs.{SoundAfter};
-ghost use Rattle.machine_whole.specs.After.{WholeAfter};
-ghost use Rattle.machine_whole.specs.LogWords.{LogWordsSayAfter};
-ghost use Rattle.machine_whole.specs.Rising.{RisesAfter};
+ghost use Rattle.machine_epochs.specs.Descriptors.{DescriptorsSoundAfter};
+ghost use Rattle.machine_epochs.specs.Epochs.{SoundAfter};
+ghost use Rattle.machine_invariant.specs.After.{WholeAfter};
+ghost use Rattle.machine_invariant.specs.LogWords.{LogWordsSayAfter};
+ghost use Rattle.machine_invariant.specs.Rising.{RisesAfter};
 ghost use Rattle.interleave_core.specs.Enabled.{StopsNaming};
 
 use crate::machine::{Machine, StepError};
 use map_history::Request;
-use runner_steps::{Event, Structure};
+use runner_parts::{Event, Structure};
 use std::alloc::{AllocError, Global};
 use table_words::Layout;
 

@@ -5,7 +5,7 @@ ghost use Rattle.section_body.specs.Word.{value_of};
 ghost use Rattle.structure_laws.proofs.TrayLaws.{tray_laws};
 
 use map_history::Op;
-use runner_steps::Structure;
+use runner_parts::Structure;
 use section_body::{Body, Init, Place, Step, Thunk, Value, Word};
 use structure_laws::tray_links;
 use table_words::Layout;

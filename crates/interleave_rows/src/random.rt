@@ -5,7 +5,8 @@ use crate::plain_runs::{PlainRun, plain_run};
 use crate::two_workers::{OWN, SECTIONS, TwoWorkers};
 use interleave_core::{EventKind, StepError};
 use map_history::{Op, Request};
-use runner_steps::{Finished, Part, last_of, thunk_words};
+use runner_parts::{Finished, Part, thunk_words};
+use runner_steps::last_of;
 use section_body::{Outcome, Thunk, Word};
 use std::alloc::{AllocError, Global};
 

@@ -4,7 +4,7 @@ ghost use Rattle.table_words.specs.Limits.{IsWithinLimits};
 
 use interleave_core::{Event, EventKind, Machine, ScheduleError, StepError, Tray, all_schedules};
 use map_history::{Op, Request};
-use runner_steps::{Part, thunk_words};
+use runner_parts::{Part, thunk_words};
 use section_body::{Outcome, Thunk, Word};
 use std::alloc::AllocError;
 use table_words::Layout;

@@ -3,7 +3,7 @@ ghost use Rattle.std.specs.Prelude.{◌≡◌, ◌≤◌, ◌<◌, length};
 
 use interleave_core::{Event, EventKind, Machine, StepError, Tray};
 use map_history::Request;
-use runner_steps::Part;
+use runner_parts::Part;
 use section_body::{Place, Word};
 use std::alloc::{AllocError, Global};
 use table_words::Layout;

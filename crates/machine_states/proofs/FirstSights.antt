@@ -9,7 +9,7 @@ use Rattle.table_words.specs.Places.{address, fits}
 use Rattle.table_words.specs.Seen.{seen}
 use Rattle.table_words.proofs.Seen as words
 use Rattle.structure_laws.specs.Meaning.{Meaning}
-use Rattle.runner_steps.specs.State.{PartState}
+use Rattle.runner_parts.specs.State.{PartState}
 use Rattle.runner_steps.specs.Asks.{sizes_for}
 use Rattle.machine_states.specs.World.{World}
 use Rattle.machine_states.specs.First.{IsFirst, first_part, keeper_part, worker_part, workers}

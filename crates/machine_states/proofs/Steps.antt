@@ -12,10 +12,10 @@ use Rattle.table_words.specs.Places.{size, address, Fits, fits}
 use Rattle.table_words.specs.Seen.{seen}
 use Rattle.table_words.proofs.Seen as words
 use Rattle.structure_laws.specs.Meaning.{Meaning}
-use Rattle.runner_steps.specs.declared.event.EventKind.{EventKind}
-use Rattle.runner_steps.specs.declared.event.EventKind.TheVariants as kinds
-use Rattle.runner_steps.specs.declared.event.Event.{Event}
-use Rattle.runner_steps.specs.State.{PartState}
+use Rattle.runner_parts.specs.declared.event.EventKind.{EventKind}
+use Rattle.runner_parts.specs.declared.event.EventKind.TheVariants as kinds
+use Rattle.runner_parts.specs.declared.event.Event.{Event}
+use Rattle.runner_parts.specs.State.{PartState}
 use Rattle.runner_steps.specs.Outside.{Ask}
 use Rattle.runner_steps.specs.Asks.{fitting, sizes_for, asks, ask_by}
 use Rattle.runner_steps.specs.After.{after}

@@ -9,9 +9,9 @@ use Rattle.table_words.specs.Places.{size, Fits}
 use Rattle.table_words.specs.Seen.{seen}
 use Rattle.structure_laws.specs.Meaning.{Meaning}
 use Rattle.structure_laws.specs.Cells.{first_word}
-use Rattle.runner_steps.specs.declared.stage.Stage.TheVariants as stages
-use Rattle.runner_steps.specs.State.{PartState}
-use Rattle.runner_steps.specs.Lists.{no_reads}
+use Rattle.runner_parts.specs.declared.stage.Stage.TheVariants as stages
+use Rattle.runner_parts.specs.State.{PartState}
+use Rattle.runner_parts.specs.Lists.{no_reads}
 use Rattle.runner_steps.specs.Asks.{sizes_for}
 use Rattle.machine_states.specs.World.{World}
 

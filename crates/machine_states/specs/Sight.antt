@@ -8,9 +8,9 @@ use Rattle.table_words.specs.Access.{written}
 use Rattle.table_words.specs.Places.{size, Fits}
 use Rattle.table_words.specs.Seen.{seen, upd, put}
 use Rattle.structure_laws.specs.Meaning.{Meaning}
-use Rattle.runner_steps.specs.declared.event.EventKind.{EventKind}
-use Rattle.runner_steps.specs.declared.event.EventKind.TheVariants as kinds
-use Rattle.runner_steps.specs.State.{PartState}
+use Rattle.runner_parts.specs.declared.event.EventKind.{EventKind}
+use Rattle.runner_parts.specs.declared.event.EventKind.TheVariants as kinds
+use Rattle.runner_parts.specs.State.{PartState}
 use Rattle.runner_steps.specs.Asks.{asks, sizes_for}
 use Rattle.runner_steps.specs.After.{after, leaves, knows_also}
 use Rattle.machine_states.specs.World.{World, seat_of}

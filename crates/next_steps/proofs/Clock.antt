@@ -14,14 +14,14 @@ use Rattle.table_words.specs.declared.access.Access.{Access}
 use Rattle.table_words.specs.Access.{written, exchanged}
 use Rattle.table_words.specs.Seen.{put}
 use Rattle.structure_laws.specs.Meaning.{Meaning}
-use Rattle.runner_steps.specs.declared.event.EventKind.{EventKind}
-use Rattle.runner_steps.specs.declared.event.EventKind.TheVariants as kinds
+use Rattle.runner_parts.specs.declared.event.EventKind.{EventKind}
+use Rattle.runner_parts.specs.declared.event.EventKind.TheVariants as kinds
 use Rattle.runner_steps.specs.InRun.{stamp_after}
 use Rattle.structure_laws.specs.Laws.{Laws}
 use Rattle.table_words.specs.Limits.{IsWithinLimits}
 use Rattle.table_words.specs.Places.{Fits}
 use Rattle.runner_steps.specs.Asks.{sizes_for}
-use Rattle.runner_steps.specs.State.{RunState}
+use Rattle.runner_parts.specs.State.{RunState}
 use Rattle.runner_steps.specs.Sections.{thunk_of, is_open_run, next_of}
 use Rattle.section_lines.specs.Line.{is_clock_raise}
 use Rattle.agreement_core.specs.Checks.{is_stamp_exchange}
@@ -29,11 +29,11 @@ use Rattle.machine_states.specs.World.{World}
 use Rattle.machine_states.specs.First.{IsFirst}
 use Rattle.machine_states.specs.Reached.{Reached}
 use Rattle.machine_states.specs.Sight.{Sight, sight, sight_after}
-use Rattle.machine_joins.proofs.RunPlaces.{is_of_end, next_in_line, open_run}
-use Rattle.machine_sections.proofs.LineAsked.{stamp_asked, clock_raise_asked}
-use Rattle.machine_whole.specs.After.{AreAllowed}
-use Rattle.machine_whole.specs.Whole.{Beside, IsWhole}
-use Rattle.machine_whole.proofs.First.{first_whole}
+use Rattle.machine_epochs.proofs.RunPlaces.{is_of_end, next_in_line, open_run}
+use Rattle.machine_agreement.proofs.LineAsked.{stamp_asked, clock_raise_asked}
+use Rattle.machine_invariant.specs.After.{AreAllowed}
+use Rattle.machine_invariant.specs.Whole.{Beside, IsWhole}
+use Rattle.machine_invariant.proofs.First.{first_whole}
 use Rattle.next_steps.specs.Rooms.{stamped, ClockIsSmall}
 use Rattle.next_steps.proofs.Touched.{raises_clock, stamps, asked_may, clock_same, stamp_same}
 use Rattle.next_steps.proofs.Reaching.{IsStep, reached_keeps}

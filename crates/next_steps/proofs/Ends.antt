@@ -13,14 +13,14 @@ use Rattle.table_words.specs.declared.access.Access.{Access}
 use Rattle.table_words.specs.Limits.{IsWithinLimits}
 use Rattle.structure_laws.specs.Meaning.{Meaning}
 use Rattle.structure_laws.specs.Laws.{Laws}
-use Rattle.runner_steps.specs.declared.stage.Stage.{Stage}
-use Rattle.runner_steps.specs.declared.stage.Stage.TheVariants as stages
-use Rattle.runner_steps.specs.declared.entries.Published.{Published}
-use Rattle.runner_steps.specs.declared.event.EventKind.{EventKind}
-use Rattle.runner_steps.specs.declared.event.EventKind.TheVariants as kinds
-use Rattle.runner_steps.specs.State.{RunState, PartState, RecordsState}
+use Rattle.runner_parts.specs.declared.stage.Stage.{Stage}
+use Rattle.runner_parts.specs.declared.stage.Stage.TheVariants as stages
+use Rattle.runner_parts.specs.declared.entries.Published.{Published}
+use Rattle.runner_parts.specs.declared.event.EventKind.{EventKind}
+use Rattle.runner_parts.specs.declared.event.EventKind.TheVariants as kinds
+use Rattle.runner_parts.specs.State.{RunState, PartState, RecordsState}
 use Rattle.runner_steps.specs.Sections.{thunk_of, is_open_run, line_of, next_of}
-use Rattle.runner_steps.specs.Lists.{cell_read}
+use Rattle.runner_parts.specs.Lists.{cell_read}
 use Rattle.runner_steps.specs.Outside.{last_epoch}
 use Rattle.runner_steps.specs.InRun.{last_clock}
 use Rattle.runner_steps.specs.Asks.{ask_by, asks, opening_ask, line_ask}
@@ -33,15 +33,15 @@ use Rattle.machine_states.specs.Reached.{Reached}
 use Rattle.machine_states.specs.Sight.{Sight, sight, sight_after}
 use Rattle.machine_states.proofs.Sights.{some_none, unless_gone, joins}
 use Rattle.machine_states.proofs.Steps.{some_same}
-use Rattle.machine_joins.proofs.InsideAsked as asked
-use Rattle.machine_joins.proofs.RunPlaces.{is_of_end, next_in_line, open_run}
-use Rattle.machine_joins.proofs.FirstJoin as FirstJoin
+use Rattle.machine_epochs.proofs.InsideAsked as asked
+use Rattle.machine_epochs.proofs.RunPlaces.{is_of_end, next_in_line, open_run}
+use Rattle.machine_epochs.proofs.FirstJoin as FirstJoin
 use Rattle.machine_states.proofs.FirstSights.{first_parts}
-use Rattle.machine_sections.proofs.RunPlaces.{not_ended}
-use Rattle.machine_sections.proofs.Ends.{at_end}
-use Rattle.machine_sections.proofs.Endings.{no_done}
-use Rattle.machine_whole.specs.After.{AreAllowed}
-use Rattle.machine_whole.specs.Whole.{Beside, IsWhole}
+use Rattle.machine_agreement.proofs.RunPlaces.{not_ended}
+use Rattle.machine_agreement.proofs.Ends.{at_end}
+use Rattle.machine_agreement.proofs.Endings.{no_done}
+use Rattle.machine_invariant.specs.After.{AreAllowed}
+use Rattle.machine_invariant.specs.Whole.{Beside, IsWhole}
 use Rattle.next_steps.proofs.Reaching.{IsStep, reached_keeps}
 use Rattle.next_steps.proofs.Parts.{each_part}
 

@@ -30,14 +30,14 @@ use Rattle.structure_laws.specs.Meaning.{Meaning}
 use Rattle.structure_laws.specs.Cells.{IsSafe, IsReader, IsKnown}
 use Rattle.structure_laws.specs.Shape.{Shaped}
 use Rattle.structure_laws.specs.Laws.{Laws}
-use Rattle.runner_steps.specs.declared.stage.Stage.{Stage}
-use Rattle.runner_steps.specs.declared.stage.Stage.TheVariants as stages
-use Rattle.runner_steps.specs.declared.entries.Published.{Published}
-use Rattle.runner_steps.specs.declared.event.EventKind.{EventKind}
-use Rattle.runner_steps.specs.declared.event.EventKind.TheVariants as kinds
-use Rattle.runner_steps.specs.State.{RunState, PartState, ReadsState}
-use Rattle.runner_steps.specs.Tests.{has, thunk_words}
-use Rattle.runner_steps.specs.Lists.{without, cell_read}
+use Rattle.runner_parts.specs.declared.stage.Stage.{Stage}
+use Rattle.runner_parts.specs.declared.stage.Stage.TheVariants as stages
+use Rattle.runner_parts.specs.declared.entries.Published.{Published}
+use Rattle.runner_parts.specs.declared.event.EventKind.{EventKind}
+use Rattle.runner_parts.specs.declared.event.EventKind.TheVariants as kinds
+use Rattle.runner_parts.specs.State.{RunState, PartState, ReadsState}
+use Rattle.runner_parts.specs.Tests.{has, thunk_words}
+use Rattle.runner_parts.specs.Lists.{without, cell_read}
 use Rattle.runner_steps.specs.Sections.{thunk_of, is_open_run, next_of}
 use Rattle.runner_steps.specs.Outside.{last_epoch}
 use Rattle.runner_steps.specs.InRun.{last_clock}
@@ -59,21 +59,21 @@ use Rattle.machine_states.specs.Reached.{Reached}
 use Rattle.machine_states.specs.Sight.{Sight, sight, sight_after}
 use Rattle.machine_states.proofs.Sights.{some_none, unless_gone, joins}
 use Rattle.machine_states.proofs.Updates.{upd_here}
-use Rattle.machine_joins.specs.Entries.{counts_of}
-use Rattle.machine_joins.specs.Slots.{thunk_in}
-use Rattle.machine_joins.proofs.Joining.{thunk_same}
-use Rattle.machine_joins.proofs.OutsideAsked.{HoldAsked, hold_asked, private_store_asked}
-use Rattle.machine_joins.proofs.Places.{free_descriptor, has_append}
-use Rattle.machine_joins.proofs.SectionKinds.{prepared_thunk}
+use Rattle.machine_epochs.specs.Entries.{counts_of}
+use Rattle.machine_epochs.specs.Slots.{thunk_in}
+use Rattle.machine_epochs.proofs.Joining.{thunk_same}
+use Rattle.machine_epochs.proofs.OutsideAsked.{HoldAsked, hold_asked, private_store_asked}
+use Rattle.machine_epochs.proofs.Places.{free_descriptor, has_append}
+use Rattle.machine_epochs.proofs.SectionKinds.{prepared_thunk}
 use Rattle.machine_scenes.specs.Shown.{section_with, scene_of}
 use Rattle.machine_scenes.proofs.Shown.{shown_open}
 use Rattle.machine_scenes.proofs.Links.{gives}
-use Rattle.machine_whole.specs.After.{AreAllowed}
-use Rattle.machine_whole.specs.Whole.{Beside, states_of, IsWhole}
-use Rattle.machine_whole.proofs.First.{first_beside, first_whole}
-use Rattle.machine_whole.proofs.Prepared.{done_is}
-use Rattle.machine_whole.proofs.Sights.{thunks_after}
-use Rattle.machine_whole.proofs.Thunks.{inside_leaves, is_private_store, outside_leaves, other_thunk}
+use Rattle.machine_invariant.specs.After.{AreAllowed}
+use Rattle.machine_invariant.specs.Whole.{Beside, states_of, IsWhole}
+use Rattle.machine_invariant.proofs.First.{first_beside, first_whole}
+use Rattle.machine_invariant.proofs.Prepared.{done_is}
+use Rattle.machine_invariant.proofs.Sights.{thunks_after}
+use Rattle.machine_invariant.proofs.Thunks.{inside_leaves, is_private_store, outside_leaves, other_thunk}
 use Rattle.next_steps.specs.Rooms.{cell_count, ThunkFits, ThunksFit}
 use Rattle.next_steps.proofs.Reaching.{IsStep, reached_keeps}
 use Rattle.next_steps.proofs.Parts.{each_part}

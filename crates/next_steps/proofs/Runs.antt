@@ -11,8 +11,8 @@ use Rattle.table_words.specs.declared.access.Access.{Access}
 use Rattle.table_words.specs.Places.{descriptor_count}
 use Rattle.structure_laws.specs.Meaning.{Meaning}
 use Rattle.structure_laws.specs.Shape.{Shaped}
-use Rattle.runner_steps.specs.declared.event.EventKind.{EventKind}
-use Rattle.runner_steps.specs.State.{RunState, PartState}
+use Rattle.runner_parts.specs.declared.event.EventKind.{EventKind}
+use Rattle.runner_parts.specs.State.{RunState, PartState}
 use Rattle.runner_steps.specs.Sections.{thunk_of, is_open_run, line_of, next_of}
 use Rattle.runner_steps.specs.Asks.{outside_ask, line_ask, opening_ask, ask_by, asks}
 use Rattle.agreement_core.specs.State.{AgreementState, Section, section_of}
@@ -21,11 +21,11 @@ use Rattle.agreement_core.specs.Runs.{RunIsSound}
 use Rattle.agreement_core.specs.Sound.{UsedIsSound}
 use Rattle.machine_states.specs.Sight.{Sight}
 use Rattle.machine_states.proofs.Sights.{some_none, unless_gone}
-use Rattle.machine_joins.specs.Slots.{thunk_in}
+use Rattle.machine_epochs.specs.Slots.{thunk_in}
 use Rattle.machine_scenes.specs.Shown.{rules_of}
-use Rattle.machine_sections.specs.Joined.{IsRunOf}
-use Rattle.machine_sections.proofs.RunPlaces.{run_here, used_here, opened_thunk, code_here, not_ended}
-use Rattle.machine_whole.specs.Whole.{Beside, IsWhole}
+use Rattle.machine_agreement.specs.Joined.{IsRunOf}
+use Rattle.machine_agreement.proofs.RunPlaces.{run_here, used_here, opened_thunk, code_here, not_ended}
+use Rattle.machine_invariant.specs.Whole.{Beside, IsWhole}
 
 -- an enabled event of a kind that comes in the line of a run alone
 pub record InLine (m : Meaning) (l : Layout) (kind : EventKind) (p : PartState) (x : Spot × Access) : Type 0 where

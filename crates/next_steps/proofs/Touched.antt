@@ -14,9 +14,9 @@ use Rattle.table_words.specs.Access.{written}
 use Rattle.table_words.specs.Places.{slot_count}
 use Rattle.table_words.specs.Seen.{put}
 use Rattle.structure_laws.specs.Meaning.{Meaning}
-use Rattle.runner_steps.specs.declared.event.EventKind.{EventKind}
-use Rattle.runner_steps.specs.declared.event.EventKind.TheVariants as kinds
-use Rattle.runner_steps.specs.State.{RunState, PartState}
+use Rattle.runner_parts.specs.declared.event.EventKind.{EventKind}
+use Rattle.runner_parts.specs.declared.event.EventKind.TheVariants as kinds
+use Rattle.runner_parts.specs.State.{RunState, PartState}
 use Rattle.runner_steps.specs.Sections.{thunk_of, is_open_run, next_of}
 use Rattle.runner_steps.specs.InRun.{load_cell_ask, nested_load_ask, outcome_load_ask}
 use Rattle.runner_steps.specs.Outside.{descriptor_spot, entry_spot}
@@ -24,8 +24,8 @@ use Rattle.runner_steps.specs.Asks.{outside_ask, line_ask, opening_ask, inside_a
 use Rattle.machine_states.proofs.Sights.{if_some, some_none, unless_gone}
 use Rattle.machine_states.proofs.Steps.{some_same}
 use Rattle.machine_states.proofs.Updates.{put_same}
-use Rattle.machine_joins.proofs.InsideAsked as inside
-use Rattle.machine_joins.proofs.OutsideAsked as outside
+use Rattle.machine_epochs.proofs.InsideAsked as inside
+use Rattle.machine_epochs.proofs.OutsideAsked as outside
 
 -- what a step on a word may change
 pub data Touched : Type 0 where

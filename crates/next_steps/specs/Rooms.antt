@@ -11,11 +11,11 @@ use Rattle.table_words.specs.declared.spot.Spot.{Spot}
 use Rattle.table_words.specs.declared.spot.Spot.TheVariants.{Clock, Stamp, Cell}
 use Rattle.structure_laws.specs.Meaning.{Meaning}
 use Rattle.runner_steps.specs.AfterInRun.{place_of}
-use Rattle.runner_steps.specs.Lists.{test_of}
-use Rattle.runner_steps.specs.State.{PartState}
-use Rattle.runner_steps.specs.Tests.{has}
+use Rattle.runner_parts.specs.Lists.{test_of}
+use Rattle.runner_parts.specs.State.{PartState}
+use Rattle.runner_parts.specs.Tests.{has}
 use Rattle.machine_states.specs.Sight.{Sight}
-use Rattle.machine_joins.specs.Slots.{thunk_in}
+use Rattle.machine_epochs.specs.Slots.{thunk_in}
 
 -- how many of the first requests have a stamp
 abbrev pub stamped : (Spot → ℕ) → ℕ → ℕ

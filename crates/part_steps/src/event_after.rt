@@ -12,7 +12,8 @@ use crate::line::{
     retire_committed, stamp_agreed,
 };
 use crate::outside::outside_after;
-use runner_steps::{EventKind, Left, Part, Records, Run, Structure};
+use runner_parts::{EventKind, Left, Part, Records, Run, Structure};
+use runner_steps::{is_open_run, next_of};
 use section_body::Micro;
 use std::alloc::{AllocError, Global};
 use table_words::{Access, Layout, Spot};
@@ -89,8 +90,8 @@ fn stepped<S: Structure>(
     match part.run.take() {
         None => outside_after(part, alloc, structure, layout, kind, found),
         Some(run) => {
-            if run.is_open() {
-                let micro = run.next(structure);
+            if is_open_run(run) {
+                let micro = next_of(run, structure);
                 line_after(part, alloc, run, structure, layout, kind, &micro, found)
             } else {
                 opened_more(part, run, found)

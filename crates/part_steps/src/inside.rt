@@ -5,12 +5,10 @@ ghost use Rattle.section_body.specs.Run.{written_once};
 ghost use Rattle.runner_steps.specs.Sections.{settles, outcome_of, next_of};
 ghost use Rattle.runner_steps.specs.AfterInRun.{goes_on, agrees, opened_more, cell_loaded, cell_exchanged, number_loaded, word_committed, lock_committed, fill_loaded, fill_stored, make_committed, retire_committed, stamp_agreed, clock_raised, reply_agreed, done_set, finished_of, over_if, run_over, released_more, lock_released, place_of, is_of_lock, commit_after, retired_slot_of, reply_word_of, ended_more};
 ghost use Rattle.runner_steps.specs.After.{line_after, inside_after};
-ghost use Rattle.runner_steps.specs.State.{PartState};
+ghost use Rattle.runner_parts.specs.State.{PartState};
 
-use runner_steps::{
-    EventKind, Finished, Part, Published, Run, Structure, is_end, leaves, reply_in, settled,
-    thunk_of,
-};
+use runner_parts::{EventKind, Finished, Part, Published, Run, Structure};
+use runner_steps::{is_end, leaves, reply_in, settled, thunk_of};
 use section_body::{Micro, Outcome, Place, Word, micro_at};
 use std::alloc::{AllocError, Global};
 use table_words::Layout;

@@ -5,7 +5,8 @@ ghost use Rattle.part_steps.specs.Parts.{slot_decided};
 ghost use Rattle.runner_steps.specs.AfterInRun.{with_run, opened_more, cell_loaded, cell_exchanged, number_loaded, word_committed, lock_committed, fill_loaded, fill_stored, make_committed, retire_committed, stamp_agreed, clock_raised, reply_agreed, done_set, run_over, released_more, lock_released, commit_after};
 
 use crate::inside::{agreed_on, agrees, finished_of, goes_on, is_of_lock, over_if};
-use runner_steps::{Part, Run, Structure, is_end, thunk_of};
+use runner_parts::{Part, Run, Structure};
+use runner_steps::{is_end, next_of, thunk_of};
 use section_body::{Micro, Place, Word};
 use std::alloc::{AllocError, Global};
 use table_words::Layout;
@@ -356,7 +357,7 @@ pub fn lock_released<S: Structure>(
 {
     part.reads.cell_read(place, found)?;
     run.ended += 1;
-    if is_end(&run.next(structure)) {
+    if is_end(&next_of(run, structure)) {
         run_over(part, alloc, run, structure, layout)
     } else {
         part.run = Some(run);

@@ -2,12 +2,11 @@
 ghost use Rattle.std.specs.Prelude.{◌≡◌, ◌≤◌, ◌<◌, ◌^◌, OnOk};
 ghost use Rattle.table_words.specs.Limits.{IsWithinLimits};
 ghost use Rattle.runner_steps.specs.AfterOutside.{with_stage, entered, collected, scanned, scan_one_after, advance_after, split_after, read_after, entry_after, private_load_after, private_store_after, hold_after, open_after, retire_after};
-ghost use Rattle.runner_steps.specs.Lists.{no_reads};
+ghost use Rattle.runner_parts.specs.Lists.{no_reads};
 ghost use Rattle.runner_steps.specs.After.{joins, outside_after};
 
-use runner_steps::{
-    EventKind, LAST_EPOCH, Part, Published, Reads, Run, Stage, Structure, slot_count,
-};
+use runner_parts::{EventKind, Part, Published, Reads, Run, Stage, Structure};
+use runner_steps::{LAST_EPOCH, slot_count};
 use section_body::{Place, Thunk};
 use std::alloc::{AllocError, Global};
 use table_words::Layout;

@@ -2,7 +2,7 @@
 use Rattle.std.specs.Prelude.{ℕ, ◌+◌, Bool, true, false, ◌==◌, ◌||◌, if◌then◌else◌}
 use Rattle.section_body.specs.Word.{version_of}
 use Rattle.table_words.specs.declared.layout.Layout.{Layout}
-use Rattle.runner_steps.specs.Lists.{nodes_looked, slot_taken, slot_made, slot_back, slot_retired}
+use Rattle.runner_parts.specs.Lists.{nodes_looked, slot_taken, slot_made, slot_back, slot_retired}
 use Rattle.runner_steps.specs.AfterOutside.{retire_after}
 use Rattle.runner_block.specs.declared.block.Block.{Block}
 use Rattle.runner_block.specs.Kept.{with_part, with_nodes}

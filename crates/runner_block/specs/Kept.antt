@@ -1,10 +1,10 @@
 -- What a runner's code keeps of its part.
 use Rattle.std.specs.Prelude.{ℕ, Bool, Option, Some, None, false, if◌then◌else◌}
-use Rattle.runner_steps.specs.declared.stage.Stage.{Stage}
-use Rattle.runner_steps.specs.declared.stage.Stage.TheVariants as stages
-use Rattle.runner_steps.specs.declared.entries.Published.{Published}
-use Rattle.runner_steps.specs.State.{PartState, NodesState}
-use Rattle.runner_steps.specs.Lists.{without}
+use Rattle.runner_parts.specs.declared.stage.Stage.{Stage}
+use Rattle.runner_parts.specs.declared.stage.Stage.TheVariants as stages
+use Rattle.runner_parts.specs.declared.entries.Published.{Published}
+use Rattle.runner_parts.specs.State.{PartState, NodesState}
+use Rattle.runner_parts.specs.Lists.{without}
 
 -- what a runner's code keeps of its part, and for how many node slots its lists have room
 pub record KeptState : Type 0 where

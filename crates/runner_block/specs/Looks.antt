@@ -1,6 +1,6 @@
 -- What a runner's block asks before a private load.
 use Rattle.std.specs.Prelude.{◌≡◌, ℕ, ◌≤◌, true, false}
-use Rattle.runner_steps.specs.Tests.{has}
+use Rattle.runner_parts.specs.Tests.{has}
 use Rattle.runner_block.specs.declared.block.Block.{Block}
 
 -- in a run a Make that has no slot takes a free one, and no descriptor's word is loaded

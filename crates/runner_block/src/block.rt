@@ -1,9 +1,9 @@
 //! What a runner's code keeps, in one block of memory.
 ghost use Rattle.std.specs.Prelude.{◌≡◌, ◌<◌, true, false};
-ghost use Rattle.runner_steps.specs.Tests.{has};
+ghost use Rattle.runner_parts.specs.Tests.{has};
 ghost use Rattle.runner_block.specs.Blocks.{block_looked, block_stored, block_made, block_slot_retired, block_retired};
 ghost use Rattle.runner_block.specs.Room.{AreFew};
-ghost use Rattle.runner_steps.specs.Lists.{slot_retired};
+ghost use Rattle.runner_parts.specs.Lists.{slot_retired};
 ghost use Rattle.runner_block.specs.Looks.{MayTake};
 
 use crate::kept::Kept;

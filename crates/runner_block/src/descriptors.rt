@@ -1,11 +1,11 @@
 //! The own descriptors, as a runner's code keeps them.
 ghost use Rattle.std.specs.Prelude.{◌≡◌, ◌+◌, ◌<◌, ◌≤◌, ◌^◌, IfOk, length, true, None};
-ghost use Rattle.runner_steps.specs.Tests.{has};
+ghost use Rattle.runner_parts.specs.Tests.{has};
 ghost use Rattle.machine_states.specs.First.{falling};
 ghost use Rattle.runner_block.specs.Room.{first_descriptors, sections_collected, section_held, section_retired};
 
 use crate::reserved::{falling, remove, wait_over};
-use runner_steps::Retired;
+use runner_parts::Retired;
 use std::alloc::{AllocError, Global};
 use std::marker::Model;
 

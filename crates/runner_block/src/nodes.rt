@@ -1,12 +1,12 @@
 //! The own node slots, as a runner's code keeps them.
 ghost use Rattle.std.specs.Prelude.{◌≡◌, ◌+◌, ◌-◌, ◌<◌, ◌≤◌, ◌^◌, IfOk, length, true, if◌then◌else◌};
-ghost use Rattle.runner_steps.specs.Lists.{nodes_collected, slot_taken, slot_made, slot_back, slot_retired, slot_tested, nodes_looked, one_more};
-ghost use Rattle.runner_steps.specs.Tests.{has};
+ghost use Rattle.runner_parts.specs.Lists.{nodes_collected, slot_taken, slot_made, slot_back, slot_retired, slot_tested, nodes_looked, one_more};
+ghost use Rattle.runner_parts.specs.Tests.{has};
 ghost use Rattle.machine_states.specs.First.{falling};
 ghost use Rattle.runner_block.specs.Room.{AreBelow, AreFew, first_nodes, nodes_are};
 
 use crate::reserved::{falling, forget, has, remove, test_of, wait_over};
-use runner_steps::{Retired, Tested};
+use runner_parts::{Retired, Tested};
 use section_body::Word;
 use std::alloc::{AllocError, Global};
 use std::marker::Model;

@@ -1,2 +1,1 @@
-mod Latest
 mod Lines

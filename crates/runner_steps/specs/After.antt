@@ -5,11 +5,11 @@ use Rattle.table_words.specs.declared.spot.Spot.{Spot}
 use Rattle.table_words.specs.declared.access.Access.{Access}
 use Rattle.table_words.specs.Access.{written}
 use Rattle.structure_laws.specs.Meaning.{Meaning}
-use Rattle.runner_steps.specs.declared.event.EventKind.{EventKind}
-use Rattle.runner_steps.specs.declared.event.EventKind.TheVariants as kinds
-use Rattle.runner_steps.specs.declared.stage.Stage.TheVariants as stages
+use Rattle.runner_parts.specs.declared.event.EventKind.{EventKind}
+use Rattle.runner_parts.specs.declared.event.EventKind.TheVariants as kinds
+use Rattle.runner_parts.specs.declared.stage.Stage.TheVariants as stages
 use Rattle.section_body.specs.declared.micro.Micro.{Micro}
-use Rattle.runner_steps.specs.State.{RunState, PartState, RecordsState}
+use Rattle.runner_parts.specs.State.{RunState, PartState, RecordsState}
 use Rattle.runner_steps.specs.Sections.{is_open_run, next_of}
 use Rattle.runner_steps.specs.AfterOutside.{with_stage, entered, scan_one_after, advance_after, split_after, read_after, entry_after, private_load_after, private_store_after, hold_after, open_after, retire_after}
 use Rattle.runner_steps.specs.AfterInRun.{opened_more, commit_after, cell_loaded, cell_exchanged, fill_loaded, fill_stored, make_committed, retire_committed, number_loaded, stamp_agreed, clock_raised, reply_agreed, lock_committed, done_set, lock_released, place_of, retired_slot_of, reply_word_of}

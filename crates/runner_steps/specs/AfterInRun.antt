@@ -7,11 +7,11 @@ use Rattle.section_body.specs.Line.{is_end}
 use Rattle.section_body.specs.Run.{written_once}
 use Rattle.table_words.specs.declared.layout.Layout.{Layout}
 use Rattle.structure_laws.specs.Meaning.{Meaning}
-use Rattle.runner_steps.specs.declared.entries.Published.{Published}
-use Rattle.runner_steps.specs.State.{RunState, FinishedState, PartState, NodesState}
+use Rattle.runner_parts.specs.declared.entries.Published.{Published}
+use Rattle.runner_parts.specs.State.{RunState, FinishedState, PartState, NodesState}
 use Rattle.runner_steps.specs.Sections.{thunk_of, next_of, settles, outcome_of, is_late}
 use Rattle.runner_steps.specs.InRun.{stamp_after, last_clock}
-use Rattle.runner_steps.specs.Lists.{cell_read, lock_agreed, slot_taken, slot_made, slot_back, slot_retired, learned}
+use Rattle.runner_parts.specs.Lists.{cell_read, lock_agreed, slot_taken, slot_made, slot_back, slot_retired, learned}
 
 -- the next place of the line, with this number to go by
 abbrev pub goes_on : Meaning → Layout → RunState → ℕ → RunState

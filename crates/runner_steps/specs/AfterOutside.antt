@@ -4,12 +4,12 @@ use Rattle.section_body.specs.declared.thunk.Thunk.{Thunk}
 use Rattle.table_words.specs.declared.layout.Layout.{Layout}
 use Rattle.table_words.specs.Places.{slot_count}
 use Rattle.structure_laws.specs.Meaning.{Meaning}
-use Rattle.runner_steps.specs.declared.stage.Stage.{Stage}
-use Rattle.runner_steps.specs.declared.stage.Stage.TheVariants as stages
-use Rattle.runner_steps.specs.declared.entries.Published.{Published}
-use Rattle.runner_steps.specs.State.{RunState, PartState}
+use Rattle.runner_parts.specs.declared.stage.Stage.{Stage}
+use Rattle.runner_parts.specs.declared.stage.Stage.TheVariants as stages
+use Rattle.runner_parts.specs.declared.entries.Published.{Published}
+use Rattle.runner_parts.specs.State.{RunState, PartState}
 use Rattle.runner_steps.specs.Outside.{last_epoch}
-use Rattle.runner_steps.specs.Lists.{nodes_collected, descriptors_collected, nodes_looked, descriptor_stored, descriptor_taken, descriptor_retired, no_reads, cell_read, holds_named, walked, section_published, learned}
+use Rattle.runner_parts.specs.Lists.{nodes_collected, descriptors_collected, nodes_looked, descriptor_stored, descriptor_taken, descriptor_retired, no_reads, cell_read, holds_named, walked, section_published, learned}
 
 abbrev pub with_stage : PartState → Stage → PartState
 with_stage p stage = record p { stage = stage }

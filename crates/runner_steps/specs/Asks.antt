@@ -5,10 +5,10 @@ use Rattle.table_words.specs.declared.layout.Layout.{Layout}
 use Rattle.table_words.specs.declared.sizes.Sizes.{Sizes}
 use Rattle.table_words.specs.Places.{fits, sizes_of}
 use Rattle.structure_laws.specs.Meaning.{Meaning}
-use Rattle.runner_steps.specs.declared.event.EventKind.{EventKind}
-use Rattle.runner_steps.specs.declared.event.EventKind.TheVariants as kinds
+use Rattle.runner_parts.specs.declared.event.EventKind.{EventKind}
+use Rattle.runner_parts.specs.declared.event.EventKind.TheVariants as kinds
 use Rattle.section_body.specs.declared.micro.Micro.{Micro}
-use Rattle.runner_steps.specs.State.{RunState, PartState}
+use Rattle.runner_parts.specs.State.{RunState, PartState}
 use Rattle.runner_steps.specs.Sections.{is_open_run, next_of}
 use Rattle.runner_steps.specs.Outside.{Ask, enter_load_ask, announce_ask, enter_again_ask, idle_ask, scan_one_ask, advance_ask, split_ask, join_ask, read_ask, entry_ask, private_load_ask, private_store_ask, hold_ask, open_ask, retire_ask}
 use Rattle.runner_steps.specs.InRun.{open_more_ask, load_done_ask, commit_ask, load_cell_ask, exchange_cell_ask, fill_load_ask, fill_store_ask, make_commit_ask, retire_commit_ask, epoch_for_retire_ask, clock_load_ask, stamp_exchange_ask, clock_raise_ask, reply_exchange_ask, nested_load_ask, nested_hold_ask, outcome_load_ask, outcome_commit_ask, set_done_ask, release_ask}

@@ -11,12 +11,12 @@ use Rattle.table_words.specs.declared.access.Access.{Access}
 use Rattle.table_words.specs.declared.access.Access.TheVariants.{Loads, Stores, Exchanges}
 use Rattle.table_words.specs.Places.{slot_count, descriptor_count}
 use Rattle.structure_laws.specs.Meaning.{Meaning}
-use Rattle.runner_steps.specs.declared.stage.Stage.{Stage}
-use Rattle.runner_steps.specs.declared.stage.Stage.TheVariants as stages
-use Rattle.runner_steps.specs.declared.entries.Published.{Published}
-use Rattle.runner_steps.specs.declared.entries.Known.{Known}
-use Rattle.runner_steps.specs.State.{PartState}
-use Rattle.runner_steps.specs.Tests.{has, is_walking, is_resting, is_outside, is_next, is_prepared, is_open, serves, is_readable}
+use Rattle.runner_parts.specs.declared.stage.Stage.{Stage}
+use Rattle.runner_parts.specs.declared.stage.Stage.TheVariants as stages
+use Rattle.runner_parts.specs.declared.entries.Published.{Published}
+use Rattle.runner_parts.specs.declared.entries.Known.{Known}
+use Rattle.runner_parts.specs.State.{PartState}
+use Rattle.runner_parts.specs.Tests.{has, is_walking, is_resting, is_outside, is_next, is_prepared, is_open, serves, is_readable}
 
 -- a word and what the step does with it; None where the event isn't enabled
 abbrev pub Ask : Type 0

@@ -11,7 +11,7 @@ use Rattle.section_body.specs.Line.{line, micro_at, next_micro}
 use Rattle.section_body.specs.Run.{Setting, leaves, settled}
 use Rattle.table_words.specs.declared.layout.Layout.{Layout}
 use Rattle.structure_laws.specs.Meaning.{Meaning}
-use Rattle.runner_steps.specs.State.{RunState}
+use Rattle.runner_parts.specs.State.{RunState}
 
 -- the thunk that these words hold
 abbrev pub thunk_of : List ℕ → Thunk

@@ -1,6 +1,6 @@
 //! Lists of steps.
 
-use runner_steps::{EventKind, thunk_words};
+use runner_parts::{EventKind, thunk_words};
 use section_body::{Thunk, Word};
 use std::alloc::{AllocError, Global};
 

@@ -4,7 +4,7 @@ use crate::kinds::{
     FIRST, cells_of, fills, leaves, looks, makes, opens, prepares, publishes, runs, scans, thunk,
     thunk_behind, unlinks,
 };
-use runner_steps::{EventKind, Part};
+use runner_parts::{EventKind, Part};
 use section_body::{Outcome, Word};
 use std::alloc::{AllocError, Global};
 use std::thread::Threads;

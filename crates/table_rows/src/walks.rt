@@ -1,6 +1,6 @@
 //! Steps in the order in which a runner makes them.
 ghost use Rattle.std.specs.Prelude.{◌≡◌, ◌<◌, ◌≤◌, ◌+◌, ◌&&◌, nat_lt, length, IfOk, None};
-ghost use Rattle.runner_steps.specs.declared.stage.Stage.TheVariants as stages;
+ghost use Rattle.runner_parts.specs.declared.stage.Stage.TheVariants as stages;
 ghost use Rattle.runner_steps.specs.Outside.{last_epoch};
 ghost use Rattle.runner_steps.specs.AfterOutside.{is_clear};
 ghost use Rattle.structure_laws.specs.Tray.{tray};

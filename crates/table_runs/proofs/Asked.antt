@@ -8,10 +8,10 @@ use Rattle.table_words.specs.declared.sizes.Sizes.{Sizes}
 use Rattle.table_words.specs.declared.spot.Spot.{Spot}
 use Rattle.table_words.specs.declared.access.Access.{Access}
 use Rattle.structure_laws.specs.Meaning.{Meaning}
-use Rattle.runner_steps.specs.declared.event.EventKind.{EventKind}
-use Rattle.runner_steps.specs.declared.event.EventKind.TheVariants as kinds
-use Rattle.runner_steps.specs.State.{RunState, PartState}
-use Rattle.runner_steps.specs.Tests.{has_pair, is_open}
+use Rattle.runner_parts.specs.declared.event.EventKind.{EventKind}
+use Rattle.runner_parts.specs.declared.event.EventKind.TheVariants as kinds
+use Rattle.runner_parts.specs.State.{RunState, PartState}
+use Rattle.runner_parts.specs.Tests.{has_pair, is_open}
 use Rattle.runner_steps.specs.Outside.{Ask, when, hold_ask, is_publishable, is_ready, is_due}
 use Rattle.runner_steps.specs.Asks.{outside_ask, ask_by, fitting, sizes_for, asks}
 use Rattle.version_words.specs.RunnerState.{RunnerState}

@@ -10,11 +10,11 @@ use Rattle.table_words.specs.declared.access.Access.{Access}
 use Rattle.table_words.specs.declared.access.Access.TheVariants.{Exchanges}
 use Rattle.table_words.specs.Access.{written}
 use Rattle.structure_laws.specs.Meaning.{Meaning}
-use Rattle.runner_steps.specs.declared.event.EventKind.{EventKind}
-use Rattle.runner_steps.specs.declared.event.EventKind.TheVariants as kinds
-use Rattle.runner_steps.specs.State.{RunState, PartState, RecordsState}
+use Rattle.runner_parts.specs.declared.event.EventKind.{EventKind}
+use Rattle.runner_parts.specs.declared.event.EventKind.TheVariants as kinds
+use Rattle.runner_parts.specs.State.{RunState, PartState, RecordsState}
 use Rattle.runner_steps.specs.Sections.{next_of, thunk_of}
-use Rattle.runner_steps.specs.Lists.{lock_agreed, learned}
+use Rattle.runner_parts.specs.Lists.{lock_agreed, learned}
 use Rattle.runner_steps.specs.InRun.{commit_ask, outcome_commit_ask, stamp_exchange_ask, reply_exchange_ask, stamp_after, last_clock}
 use Rattle.runner_steps.specs.Asks.{line_ask}
 use Rattle.runner_steps.specs.AfterInRun.{agrees, goes_on, is_of_lock, reply_word_of, with_run}

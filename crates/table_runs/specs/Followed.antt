@@ -1,6 +1,6 @@
 -- A worker with a copy of its part.
 use Rattle.std.specs.Prelude.{◌<◌}
-use Rattle.runner_steps.specs.State.{PartState}
+use Rattle.runner_parts.specs.State.{PartState}
 use Rattle.version_words.specs.RunnerState.{RunnerState}
 use Rattle.table_runs.specs.Copies.{IsCopied}
 

@@ -10,7 +10,7 @@ use crate::entry_calls::{entry_call, scan_call};
 use crate::load_calls::{inner_load_call, load_call};
 use crate::log_calls::{answer_call, log_call};
 use crate::own_calls::own_call;
-use runner_steps::{EventKind, Run, Structure};
+use runner_parts::{EventKind, Run, Structure};
 use section_body::Word;
 use table_words::{Access, Spot};
 use version_words::{FlockTable, Runner};

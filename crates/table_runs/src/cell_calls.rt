@@ -2,13 +2,13 @@
 ghost use Rattle.std.specs.Prelude.{◌≡◌, ◌<◌, Some, IfOk, IfErr};
 ghost use Rattle.table_words.specs.declared.spot.Spot.TheVariants.{Cell};
 ghost use Rattle.table_words.specs.declared.access.Access.TheVariants.{Exchanges};
-ghost use Rattle.runner_steps.specs.declared.event.EventKind.TheVariants as kinds;
+ghost use Rattle.runner_parts.specs.declared.event.EventKind.TheVariants as kinds;
 ghost use Rattle.version_words.specs.TableState.{IsOf};
 ghost use Rattle.version_words.specs.Events.{met_by};
 ghost use Rattle.table_runs.specs.Copies.{IsFollowed};
 
 use crate::places::{is_freed, is_held, is_own_done};
-use runner_steps::{EventKind, Run, Structure};
+use runner_parts::{EventKind, Run, Structure};
 use section_body::{Place, Word};
 use table_words::{Access, Spot};
 use version_words::{FlockTable, Runner};

@@ -4,7 +4,7 @@ ghost use Rattle.table_words.specs.Limits.{IsWithinLimits};
 ghost use Rattle.table_runs.specs.Copies.{is_untold, with_cells, brought_on};
 
 use part_steps::after;
-use runner_steps::{EventKind, Part, Reads, Structure};
+use runner_parts::{EventKind, Part, Reads, Structure};
 use section_body::{Place, Word};
 use std::alloc::{AllocError, Global};
 use table_words::{Access, Layout, Spot};

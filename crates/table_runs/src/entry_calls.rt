@@ -4,7 +4,7 @@ ghost use Rattle.version_words.specs.TableState.{IsOf};
 ghost use Rattle.version_words.specs.Events.{IsEnabled};
 ghost use Rattle.table_runs.specs.Copies.{IsFollowed};
 
-use runner_steps::{EventKind, Structure};
+use runner_parts::{EventKind, Structure};
 use version_words::{FlockTable, Runner};
 
 /// The call of an entry's step, with the number that it told; the runner as it was for any other kind.

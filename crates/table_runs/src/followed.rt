@@ -13,7 +13,8 @@ use crate::copy::bring_on;
 use crate::places::run_of;
 use interleave_core::worker_part;
 use map_history::Request;
-use runner_steps::{EventKind, Part, Structure};
+use runner_parts::{EventKind, Part, Structure};
+use runner_steps::asks;
 use std::alloc::{AllocError, Global};
 use std::marker::Model;
 use version_words::{FlockTable, Runner};
@@ -58,7 +59,7 @@ impl<S: Structure> Followed<S> {
         let worker = runner.number();
         let structure = table.structure();
         let layout = table.layout();
-        let Some((spot, access)) = copy.asks(structure, layout, requests, worker, kind) else {
+        let Some((spot, access)) = asks(&copy, structure, layout, requests, worker, kind) else {
             return Ok((Followed { runner, copy }, None));
         };
         match call(table, runner, kind, spot, access, run_of(&copy)) {

@@ -6,7 +6,7 @@ ghost use Rattle.version_words.specs.Events.{met_by};
 ghost use Rattle.table_runs.specs.Copies.{IsFollowed};
 
 use crate::places::{is_load_of, is_open_of, is_own_done};
-use runner_steps::{EventKind, Run, Structure};
+use runner_parts::{EventKind, Run, Structure};
 use table_words::Spot;
 use version_words::{FlockTable, Runner};
 

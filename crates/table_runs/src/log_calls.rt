@@ -7,7 +7,7 @@ ghost use Rattle.version_words.specs.Events.{met_by};
 ghost use Rattle.table_runs.specs.Copies.{IsFollowed};
 
 use crate::places::{is_next_log, is_own_reply, is_own_stamp};
-use runner_steps::{EventKind, Run, Structure};
+use runner_parts::{EventKind, Run, Structure};
 use section_body::Word;
 use table_words::Spot;
 use version_words::{FlockTable, Runner};

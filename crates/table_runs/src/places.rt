@@ -4,7 +4,7 @@ ghost use Rattle.section_body.specs.Word.{next_word};
 ghost use Rattle.version_words.specs.Naming.{load_of, open_of};
 ghost use Rattle.version_words.specs.Place.{next_log, own_done, own_stamp, own_reply, held_by_run, opened_of};
 
-use runner_steps::{EventKind, Part, Run};
+use runner_parts::{EventKind, Part, Run};
 use section_body::{Place, Word};
 use table_words::Spot;
 

@@ -10,7 +10,7 @@ use crate::followed::Followed;
 use crate::threads::{play_aside, play_both};
 use interleave_core::Tray;
 use map_history::{Op, Request};
-use runner_steps::{EventKind, Part, Structure};
+use runner_parts::{EventKind, Part, Structure};
 use std::alloc::{AllocError, Global};
 use std::thread::Threads;
 use table_rows::{crew, gather};

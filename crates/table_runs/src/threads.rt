@@ -7,7 +7,7 @@ use crate::followed::Followed;
 use crate::row::play;
 use interleave_core::Tray;
 use map_history::Request;
-use runner_steps::EventKind;
+use runner_parts::EventKind;
 use std::alloc::{AllocError, Global};
 use std::thread;
 use std::thread::Threads;

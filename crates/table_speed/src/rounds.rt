@@ -3,7 +3,7 @@
 //! Each kind's loop stands in a function of its own that is given the table, as in a thread. In one function with all that comes before and
 //! after, the loops' own counters would go through memory.
 ghost use Rattle.std.specs.Prelude.{◌≡◌, ◌<◌, length, None};
-ghost use Rattle.runner_steps.specs.declared.stage.Stage.TheVariants as stages;
+ghost use Rattle.runner_parts.specs.declared.stage.Stage.TheVariants as stages;
 ghost use Rattle.table_words.specs.Limits.{IsWithinLimits};
 ghost use Rattle.version_words.specs.TableState.{IsOf};
 ghost use Rattle.version_words.specs.Stages.{IsAt, HasFree};

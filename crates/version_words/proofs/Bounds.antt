@@ -9,18 +9,18 @@ use Rattle.table_words.specs.declared.spot.Spot.{Spot}
 use Rattle.table_words.specs.Places.{slot_count}
 use Rattle.structure_laws.specs.Meaning.{Meaning}
 use Rattle.structure_laws.specs.Laws.{Laws}
-use Rattle.runner_steps.specs.declared.entries.Retired.{Retired}
-use Rattle.runner_steps.specs.State.{PartState}
-use Rattle.runner_steps.specs.Tests.{has}
-use Rattle.runner_steps.specs.Lists.{slots_of}
+use Rattle.runner_parts.specs.declared.entries.Retired.{Retired}
+use Rattle.runner_parts.specs.State.{PartState}
+use Rattle.runner_parts.specs.Tests.{has}
+use Rattle.runner_parts.specs.Lists.{slots_of}
 use Rattle.machine_states.specs.World.{World, seat_of}
 use Rattle.machine_states.specs.Reached.{Reached}
 use Rattle.machine_states.specs.Sight.{sight, part_or_first}
-use Rattle.machine_joins.specs.Descriptors.{times_limbo}
-use Rattle.machine_whole.specs.Slots.{times_among}
-use Rattle.machine_whole.specs.Lengths.{entry_count}
-use Rattle.machine_whole.specs.After.{AreAllowed}
-use Rattle.machine_whole.proofs.After.{whole_after, short_after}
+use Rattle.machine_epochs.specs.Descriptors.{times_limbo}
+use Rattle.machine_invariant.specs.Slots.{times_among}
+use Rattle.machine_invariant.specs.Lengths.{entry_count}
+use Rattle.machine_invariant.specs.After.{AreAllowed}
+use Rattle.machine_invariant.proofs.After.{whole_after, short_after}
 use Rattle.runner_block.specs.Room.{AreFew}
 use Rattle.version_words.specs.ReachedWith.{ReachedWith}
 use Rattle.version_words.specs.TableState.{HasSmallValue}

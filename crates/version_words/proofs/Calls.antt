@@ -13,8 +13,8 @@ use Rattle.table_words.specs.Access.{written}
 use Rattle.table_words.specs.Places.{address, Fits}
 use Rattle.table_words.proofs.Seen.{within}
 use Rattle.structure_laws.specs.Meaning.{Meaning}
-use Rattle.runner_steps.specs.declared.event.EventKind.{EventKind}
-use Rattle.runner_steps.specs.State.{PartState}
+use Rattle.runner_parts.specs.declared.event.EventKind.{EventKind}
+use Rattle.runner_parts.specs.State.{PartState}
 use Rattle.runner_steps.specs.Asks.{sizes_for}
 use Rattle.runner_steps.specs.After.{after}
 use Rattle.machine_states.proofs.Steps.{asked_fits}

@@ -9,13 +9,13 @@ use Rattle.table_words.specs.declared.layout.Layout.{Layout}
 use Rattle.table_words.specs.declared.spot.Spot.{Spot}
 use Rattle.table_words.specs.declared.access.Access.{Access}
 use Rattle.structure_laws.specs.Meaning.{Meaning}
-use Rattle.runner_steps.specs.declared.event.EventKind.{EventKind}
-use Rattle.runner_steps.specs.declared.event.EventKind.TheVariants as kinds
-use Rattle.runner_steps.specs.State.{RunState, PartState}
+use Rattle.runner_parts.specs.declared.event.EventKind.{EventKind}
+use Rattle.runner_parts.specs.declared.event.EventKind.TheVariants as kinds
+use Rattle.runner_parts.specs.State.{RunState, PartState}
 use Rattle.runner_steps.specs.Sections.{is_open_run, next_of, thunk_of, line_of, setting_of}
 use Rattle.runner_steps.specs.Asks.{line_ask}
 use Rattle.runner_steps.specs.AfterInRun.{ended_more}
-use Rattle.machine_joins.proofs.RunPlaces.{no_retire_next, open_run}
+use Rattle.machine_epochs.proofs.RunPlaces.{no_retire_next, open_run}
 use Rattle.machine_states.proofs.Steps.{some_same}
 use Rattle.version_words.specs.Place.{HasEpoch}
 

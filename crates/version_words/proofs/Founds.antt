@@ -15,13 +15,13 @@ use Rattle.table_words.specs.Places.{slot_count}
 use Rattle.table_words.specs.Seen.{seen}
 use Rattle.structure_laws.specs.Meaning.{Meaning}
 use Rattle.structure_laws.specs.Laws.{Laws}
-use Rattle.runner_steps.specs.State.{RunState, PartState}
+use Rattle.runner_parts.specs.State.{RunState, PartState}
 use Rattle.runner_steps.specs.Sections.{line_of}
 use Rattle.runner_steps.specs.Asks.{sizes_for}
 use Rattle.machine_states.specs.Sight.{sight, part_or_first}
-use Rattle.machine_whole.specs.After.{AreAllowed}
-use Rattle.machine_whole.specs.LogWords.{LogWordsSay}
-use Rattle.machine_whole.proofs.After.{log_words_after}
+use Rattle.machine_invariant.specs.After.{AreAllowed}
+use Rattle.machine_invariant.specs.LogWords.{LogWordsSay}
+use Rattle.machine_invariant.proofs.After.{log_words_after}
 use Rattle.version_words.specs.ReachedWith.{ReachedWith}
 
 -- the table's node slots have numbers of 32 bits

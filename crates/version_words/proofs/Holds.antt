@@ -15,18 +15,18 @@ use Rattle.table_words.specs.declared.access.Access.TheVariants.{Exchanges}
 use Rattle.table_words.specs.Limits.{IsWithinLimits}
 use Rattle.table_words.specs.Places.{descriptor_count}
 use Rattle.structure_laws.specs.Meaning.{Meaning}
-use Rattle.runner_steps.specs.declared.event.EventKind.{EventKind}
-use Rattle.runner_steps.specs.declared.event.EventKind.TheVariants as kinds
-use Rattle.runner_steps.specs.State.{PartState}
-use Rattle.runner_steps.specs.Tests.{has, is_walking, is_open, is_prepared, has_pair}
-use Rattle.runner_steps.specs.Lists.{descriptor_taken, section_published, cell_read, holds_named}
+use Rattle.runner_parts.specs.declared.event.EventKind.{EventKind}
+use Rattle.runner_parts.specs.declared.event.EventKind.TheVariants as kinds
+use Rattle.runner_parts.specs.State.{PartState}
+use Rattle.runner_parts.specs.Tests.{has, is_walking, is_open, is_prepared, has_pair}
+use Rattle.runner_parts.specs.Lists.{descriptor_taken, section_published, cell_read, holds_named}
 use Rattle.runner_steps.specs.Outside.{hold_ask, is_ready, is_publishable, is_due}
 use Rattle.runner_steps.specs.AfterOutside.{hold_after}
 use Rattle.version_words.specs.declared.view.View.{View}
 use Rattle.runner_block.specs.declared.block.Block.{Block}
 use Rattle.runner_block.specs.Kept.{KeptState, held_in, with_part}
 use Rattle.version_words.specs.RunnerState.{RunnerState, told_part, told_published}
-use Rattle.runner_steps.specs.declared.entries.Published.{Published}
+use Rattle.runner_parts.specs.declared.entries.Published.{Published}
 use Rattle.version_words.specs.TableState.{TableState}
 use Rattle.version_words.specs.Naming.{hold_of}
 use Rattle.version_words.specs.Kept.{IsKept}

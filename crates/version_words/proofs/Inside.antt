@@ -23,16 +23,16 @@ use Rattle.table_words.specs.Limits.{IsWithinLimits}
 use Rattle.std.proofs.Math.Nat.{mul-le-mul_left}
 use Rattle.std.proofs.lemmas.Bool.Decides.{nat_tests}
 use Rattle.structure_laws.specs.Meaning.{Meaning}
-use Rattle.runner_steps.specs.declared.event.EventKind.{EventKind}
-use Rattle.runner_steps.specs.declared.event.EventKind.TheVariants as kinds
-use Rattle.runner_steps.specs.State.{RunState, PartState}
+use Rattle.runner_parts.specs.declared.event.EventKind.{EventKind}
+use Rattle.runner_parts.specs.declared.event.EventKind.TheVariants as kinds
+use Rattle.runner_parts.specs.State.{RunState, PartState}
 use Rattle.runner_steps.specs.Sections.{line_limit, is_open_run, next_of, thunk_of, line_of}
-use Rattle.runner_steps.specs.declared.entries.Published.{Published}
-use Rattle.runner_steps.specs.Tests.{has}
+use Rattle.runner_parts.specs.declared.entries.Published.{Published}
+use Rattle.runner_parts.specs.Tests.{has}
 use Rattle.runner_steps.specs.InRun.{stamp_after, last_clock, can_raise, can_hold, nested_hold_ask, release_ask}
 use Rattle.runner_steps.specs.Asks.{asks, sizes_for, ask_by, outside_ask, line_ask, opening_ask}
 use Rattle.runner_steps.specs.AfterInRun.{opened_more, over_if, goes_on, agrees, with_run, ended_more, run_over, lock_committed, word_committed, is_of_lock, place_of, reply_word_of}
-use Rattle.runner_steps.specs.Lists.{cell_read, learned}
+use Rattle.runner_parts.specs.Lists.{cell_read, learned}
 use Rattle.runner_steps.specs.After.{line_after, after_by, stepped}
 use Rattle.version_words.specs.declared.view.View.{View}
 use Rattle.runner_block.specs.declared.place.RunPlace.{RunPlace}

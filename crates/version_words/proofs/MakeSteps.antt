@@ -17,11 +17,11 @@ use Rattle.table_words.specs.Access.{written}
 use Rattle.table_words.specs.Limits.{IsWithinLimits}
 use Rattle.structure_laws.specs.Meaning.{Meaning}
 use Rattle.structure_laws.specs.Laws.{Laws}
-use Rattle.runner_steps.specs.declared.event.EventKind.TheVariants as kinds
-use Rattle.runner_steps.specs.declared.entries.Published.{Published}
-use Rattle.runner_steps.specs.State.{RunState, PartState}
-use Rattle.runner_steps.specs.Tests.{has, is_walking}
-use Rattle.runner_steps.specs.Lists.{slot_made, slot_back}
+use Rattle.runner_parts.specs.declared.event.EventKind.TheVariants as kinds
+use Rattle.runner_parts.specs.declared.entries.Published.{Published}
+use Rattle.runner_parts.specs.State.{RunState, PartState}
+use Rattle.runner_parts.specs.Tests.{has, is_walking}
+use Rattle.runner_parts.specs.Lists.{slot_made, slot_back}
 use Rattle.runner_steps.specs.Sections.{is_open_run, next_of}
 use Rattle.runner_steps.specs.Outside.{is_over}
 use Rattle.runner_steps.specs.InRun.{make_commit_ask, make_commit_to, epoch_for_retire_ask}
@@ -29,8 +29,8 @@ use Rattle.runner_steps.specs.Asks.{asks, ask_by, sizes_for}
 use Rattle.runner_steps.specs.AfterInRun.{goes_on, agrees, make_committed}
 use Rattle.runner_steps.specs.AfterOutside.{retire_after}
 use Rattle.runner_steps.specs.After.{after_by, stepped}
-use Rattle.machine_joins.proofs.RunPlaces.{next_in_line}
-use Rattle.machine_whole.specs.After.{AreAllowed}
+use Rattle.machine_epochs.proofs.RunPlaces.{next_in_line}
+use Rattle.machine_invariant.specs.After.{AreAllowed}
 use Rattle.version_words.specs.declared.view.View.{View}
 use Rattle.version_words.specs.ReachedWith.{ReachedWith}
 use Rattle.runner_block.specs.declared.block.Block.{Block}

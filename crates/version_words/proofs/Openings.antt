@@ -16,16 +16,16 @@ use Rattle.table_words.specs.Limits.{IsWithinLimits}
 use Rattle.table_words.specs.Places.{address, descriptor_at}
 use Rattle.structure_laws.specs.Meaning.{Meaning}
 use Rattle.structure_laws.specs.Laws.{Laws}
-use Rattle.runner_steps.specs.declared.event.EventKind.TheVariants as kinds
-use Rattle.runner_steps.specs.State.{RunState, PartState}
+use Rattle.runner_parts.specs.declared.event.EventKind.TheVariants as kinds
+use Rattle.runner_parts.specs.State.{RunState, PartState}
 use Rattle.runner_steps.specs.Sections.{is_open_run, next_of}
 use Rattle.runner_steps.specs.InRun.{open_more_ask, load_done_ask}
-use Rattle.runner_steps.specs.Tests.{has}
+use Rattle.runner_parts.specs.Tests.{has}
 use Rattle.runner_steps.specs.Asks.{ask_by, line_ask, sizes_for}
 use Rattle.runner_steps.specs.AfterOutside.{opened}
 use Rattle.runner_steps.specs.AfterInRun.{opened_more}
 use Rattle.runner_steps.specs.After.{line_after, after_by}
-use Rattle.machine_whole.specs.After.{AreAllowed}
+use Rattle.machine_invariant.specs.After.{AreAllowed}
 use Rattle.version_words.specs.declared.view.View.{View}
 use Rattle.version_words.specs.ReachedWith.{ReachedWith}
 use Rattle.runner_block.specs.declared.place.RunPlace.{RunPlace}

@@ -19,18 +19,18 @@ use Rattle.table_words.specs.Limits.{IsWithinLimits}
 use Rattle.table_words.specs.Places.{slot_count}
 use Rattle.structure_laws.specs.Meaning.{Meaning}
 use Rattle.structure_laws.specs.Laws.{Laws}
-use Rattle.runner_steps.specs.declared.event.EventKind.TheVariants as kinds
-use Rattle.runner_steps.specs.State.{RunState, PartState, NodesState}
-use Rattle.runner_steps.specs.Tests.{has}
-use Rattle.runner_steps.specs.Lists.{slot_retired}
+use Rattle.runner_parts.specs.declared.event.EventKind.TheVariants as kinds
+use Rattle.runner_parts.specs.State.{RunState, PartState, NodesState}
+use Rattle.runner_parts.specs.Tests.{has}
+use Rattle.runner_parts.specs.Lists.{slot_retired}
 use Rattle.runner_steps.specs.Sections.{is_open_run, next_of, line_of}
 use Rattle.runner_steps.specs.InRun.{retire_commit_ask}
 use Rattle.runner_steps.specs.Asks.{asks, ask_by, sizes_for}
 use Rattle.runner_steps.specs.AfterInRun.{agrees, retire_committed, retired_slot_of}
 use Rattle.runner_steps.specs.After.{stepped}
-use Rattle.machine_joins.proofs.RunPlaces.{next_in_line}
+use Rattle.machine_epochs.proofs.RunPlaces.{next_in_line}
 use Rattle.machine_states.proofs.Steps.{some_same}
-use Rattle.machine_whole.specs.After.{AreAllowed}
+use Rattle.machine_invariant.specs.After.{AreAllowed}
 use Rattle.version_words.specs.declared.view.View.{View}
 use Rattle.version_words.specs.ReachedWith.{ReachedWith}
 use Rattle.runner_block.specs.declared.block.Block.{Block}

@@ -20,10 +20,10 @@ use Rattle.table_words.specs.declared.access.Access.{Access}
 use Rattle.table_words.specs.declared.access.Access.TheVariants.{Loads}
 use Rattle.table_words.specs.Access.{written}
 use Rattle.structure_laws.specs.Meaning.{Meaning}
-use Rattle.runner_steps.specs.declared.event.EventKind.TheVariants as kinds
-use Rattle.runner_steps.specs.declared.event.Event.{Event}
-use Rattle.runner_steps.specs.State.{RunState, PartState}
-use Rattle.runner_steps.specs.Tests.{is_outside, has}
+use Rattle.runner_parts.specs.declared.event.EventKind.TheVariants as kinds
+use Rattle.runner_parts.specs.declared.event.Event.{Event}
+use Rattle.runner_parts.specs.State.{RunState, PartState}
+use Rattle.runner_parts.specs.Tests.{is_outside, has}
 use Rattle.runner_steps.specs.Asks.{asks}
 use Rattle.runner_steps.specs.After.{after_by, after, leaves, knows_also}
 use Rattle.machine_states.specs.World.{World, seat_of, knowing, settled_part, put_part, left_by, happens}

@@ -7,16 +7,16 @@ use Rattle.table_words.specs.declared.spot.Spot.{Spot}
 use Rattle.table_words.specs.declared.access.Access.{Access}
 use Rattle.table_words.specs.Access.{written}
 use Rattle.structure_laws.specs.Meaning.{Meaning}
-use Rattle.runner_steps.specs.declared.event.EventKind.{EventKind}
-use Rattle.runner_steps.specs.declared.event.EventKind.TheVariants as kinds
-use Rattle.runner_steps.specs.declared.stage.Stage.{Stage}
-use Rattle.runner_steps.specs.declared.stage.Stage.TheVariants as stages
-use Rattle.runner_steps.specs.declared.entries.Published.{Published}
-use Rattle.runner_steps.specs.State.{RunState, PartState, RecordsState}
+use Rattle.runner_parts.specs.declared.event.EventKind.{EventKind}
+use Rattle.runner_parts.specs.declared.event.EventKind.TheVariants as kinds
+use Rattle.runner_parts.specs.declared.stage.Stage.{Stage}
+use Rattle.runner_parts.specs.declared.stage.Stage.TheVariants as stages
+use Rattle.runner_parts.specs.declared.entries.Published.{Published}
+use Rattle.runner_parts.specs.State.{RunState, PartState, RecordsState}
 use Rattle.runner_steps.specs.Sections.{is_open_run, next_of, thunk_of}
 use Rattle.section_body.specs.Run.{written_once}
 use Rattle.runner_steps.specs.InRun.{stamp_after, last_clock}
-use Rattle.runner_steps.specs.Lists.{learned}
+use Rattle.runner_parts.specs.Lists.{learned}
 use Rattle.runner_steps.specs.AfterOutside.{scan_one_after, advance_after, retire_after}
 use Rattle.runner_steps.specs.AfterInRun.{goes_on, fill_loaded, make_committed, stamp_agreed}
 use Rattle.runner_steps.specs.After.{outside_after, line_after, after_by, stepped, left_more, noted, after}

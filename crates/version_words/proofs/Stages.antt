@@ -16,13 +16,13 @@ use Rattle.table_words.specs.declared.access.Access.TheVariants.{Loads, Stores, 
 use Rattle.table_words.specs.Places.{Fits, slot_count, descriptor_count}
 use Rattle.table_words.proofs.Seen.{fits_is}
 use Rattle.structure_laws.specs.Meaning.{Meaning}
-use Rattle.runner_steps.specs.declared.event.EventKind.{EventKind}
-use Rattle.runner_steps.specs.declared.event.EventKind.TheVariants as kinds
-use Rattle.runner_steps.specs.declared.stage.Stage.{Stage}
-use Rattle.runner_steps.specs.declared.stage.Stage.TheVariants as stages
-use Rattle.runner_steps.specs.declared.entries.Published.{Published}
-use Rattle.runner_steps.specs.Tests.{has, is_walking, is_resting, is_outside}
-use Rattle.runner_steps.specs.State.{RunState, PartState, RecordsState}
+use Rattle.runner_parts.specs.declared.event.EventKind.{EventKind}
+use Rattle.runner_parts.specs.declared.event.EventKind.TheVariants as kinds
+use Rattle.runner_parts.specs.declared.stage.Stage.{Stage}
+use Rattle.runner_parts.specs.declared.stage.Stage.TheVariants as stages
+use Rattle.runner_parts.specs.declared.entries.Published.{Published}
+use Rattle.runner_parts.specs.Tests.{has, is_walking, is_resting, is_outside}
+use Rattle.runner_parts.specs.State.{RunState, PartState, RecordsState}
 use Rattle.runner_steps.specs.Outside.{Ask, when, enter_load_ask, announce_ask, enter_again_ask, scan_one_ask, advance_ask, last_epoch, descriptor_spot}
 use Rattle.runner_steps.specs.Asks.{ask_by, outside_ask, fitting, sizes_for}
 use Rattle.runner_steps.specs.AfterOutside.{with_stage, collected, scanned, scan_one_after, advance_after, is_clear}

@@ -18,10 +18,10 @@ use Rattle.table_words.specs.Access.{written}
 use Rattle.table_words.specs.Places.{address}
 use Rattle.table_words.proofs.Seen.{within, seen_here}
 use Rattle.structure_laws.specs.Meaning.{Meaning}
-use Rattle.runner_steps.specs.declared.event.EventKind.{EventKind}
-use Rattle.runner_steps.specs.declared.event.EventKind.TheVariants as kinds
-use Rattle.runner_steps.specs.declared.event.Event.{Event}
-use Rattle.runner_steps.specs.State.{PartState}
+use Rattle.runner_parts.specs.declared.event.EventKind.{EventKind}
+use Rattle.runner_parts.specs.declared.event.EventKind.TheVariants as kinds
+use Rattle.runner_parts.specs.declared.event.Event.{Event}
+use Rattle.runner_parts.specs.State.{PartState}
 use Rattle.runner_steps.specs.Asks.{asks, sizes_for}
 use Rattle.runner_steps.specs.After.{after}
 use Rattle.machine_states.specs.World.{World, seat_of, is_join, settled_part, put_part, happens}

@@ -6,11 +6,11 @@ use Rattle.table_words.specs.declared.spot.Spot.{Spot}
 use Rattle.table_words.specs.declared.access.Access.{Access}
 use Rattle.table_words.specs.Access.{written}
 use Rattle.structure_laws.specs.Meaning.{Meaning}
-use Rattle.runner_steps.specs.declared.event.EventKind.{EventKind}
-use Rattle.runner_steps.specs.declared.event.EventKind.TheVariants as kinds
-use Rattle.runner_steps.specs.declared.stage.Stage.{Stage}
-use Rattle.runner_steps.specs.declared.stage.Stage.TheVariants as stages
-use Rattle.runner_steps.specs.State.{RunState, PartState}
+use Rattle.runner_parts.specs.declared.event.EventKind.{EventKind}
+use Rattle.runner_parts.specs.declared.event.EventKind.TheVariants as kinds
+use Rattle.runner_parts.specs.declared.stage.Stage.{Stage}
+use Rattle.runner_parts.specs.declared.stage.Stage.TheVariants as stages
+use Rattle.runner_parts.specs.State.{RunState, PartState}
 use Rattle.runner_steps.specs.Outside.{last_epoch}
 use Rattle.runner_steps.specs.AfterOutside.{with_stage, collected, scanned, is_clear, scan_one_after, advance_after}
 use Rattle.runner_steps.specs.After.{outside_after, after_by, stepped, after}

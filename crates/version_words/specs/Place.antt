@@ -8,8 +8,8 @@ use Rattle.section_body.specs.Line.{micro_at}
 use Rattle.table_words.specs.declared.spot.Spot.{Spot}
 use Rattle.table_words.specs.declared.spot.Spot.TheVariants as spots
 use Rattle.structure_laws.specs.Meaning.{Meaning}
-use Rattle.runner_steps.specs.State.{RunState, PartState}
-use Rattle.runner_steps.specs.Tests.{has}
+use Rattle.runner_parts.specs.State.{RunState, PartState}
+use Rattle.runner_parts.specs.Tests.{has}
 use Rattle.runner_steps.specs.Sections.{line_of, next_of}
 use Rattle.runner_block.specs.declared.place.RunPlace.{RunPlace}
 

@@ -5,7 +5,7 @@ use mathlib.Core.Option.{some}
 use lib.ListN.{get_elem?}
 use Rattle.table_words.specs.declared.layout.Layout.{Layout}
 use Rattle.structure_laws.specs.Meaning.{Meaning}
-use Rattle.runner_steps.specs.State.{PartState}
+use Rattle.runner_parts.specs.State.{PartState}
 use Rattle.runner_steps.specs.After.{leaves}
 use Rattle.machine_states.specs.World.{World}
 use Rattle.machine_states.specs.First.{worker_part}

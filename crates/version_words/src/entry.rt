@@ -1,13 +1,13 @@
 //! Steps by which a runner enters and leaves.
 ghost use Rattle.std.specs.Prelude.{◌≡◌, ℕ};
-ghost use Rattle.runner_steps.specs.declared.event.EventKind.TheVariants as kinds;
+ghost use Rattle.runner_parts.specs.declared.event.EventKind.TheVariants as kinds;
 ghost use Rattle.version_words.specs.TableState.{IsOf};
 ghost use Rattle.version_words.specs.Events.{IsEnabled, Makes};
 
 use crate::plays;
 use crate::runner::Runner;
 use crate::table::FlockTable;
-use runner_steps::{Stage, Structure};
+use runner_parts::{Stage, Structure};
 use table_words::Spot;
 
 impl<S: Structure> FlockTable<S> {

@@ -1,6 +1,6 @@
 //! The step that publishes a section.
 ghost use Rattle.std.specs.Prelude.{◌≡◌, ◌==◌};
-ghost use Rattle.runner_steps.specs.declared.event.EventKind.TheVariants as kinds;
+ghost use Rattle.runner_parts.specs.declared.event.EventKind.TheVariants as kinds;
 ghost use Rattle.version_words.specs.TableState.{IsOf};
 ghost use Rattle.version_words.specs.Events.{IsEnabled, Makes};
 
@@ -8,7 +8,7 @@ use crate::plays;
 use crate::run_ends::held_word;
 use crate::runner::Runner;
 use crate::table::FlockTable;
-use runner_steps::Structure;
+use runner_parts::Structure;
 use section_body::{Thunk, Word};
 use table_words::Spot;
 

@@ -2,7 +2,7 @@
 ghost use Rattle.version_words.specs.TableState.{AreShown};
 
 use crate::words::Words;
-use runner_steps::Structure;
+use runner_parts::Structure;
 
 /// The words of a closed table are those of a state of the machine that enabled events lead to.
 pub fn words_are_reached<S: Structure>(words: &Words<S>)

@@ -1,7 +1,7 @@
 //! The commits of a Make and of a Retire, and the load of the epoch for a retirement.
 ghost use Rattle.std.specs.Prelude.{◌≡◌, ◌==◌, ◌<◌, ◌^◌, ◌+◌, Some, true, if◌then◌else◌};
 ghost use Rattle.table_words.specs.declared.access.Access.TheVariants.{Exchanges};
-ghost use Rattle.runner_steps.specs.declared.event.EventKind.TheVariants as kinds;
+ghost use Rattle.runner_parts.specs.declared.event.EventKind.TheVariants as kinds;
 ghost use Rattle.version_words.specs.Place.{next_log};
 ghost use Rattle.version_words.specs.TableState.{IsOf};
 ghost use Rattle.version_words.specs.Events.{met_by, IsEnabled, Makes};
@@ -9,7 +9,7 @@ ghost use Rattle.version_words.specs.Events.{met_by, IsEnabled, Makes};
 use crate::plays;
 use crate::runner::Runner;
 use crate::table::FlockTable;
-use runner_steps::Structure;
+use runner_parts::Structure;
 use table_words::Spot;
 
 /// The slot that is agreed on after an exchange that was to agree on this one and found this log word.

@@ -2,7 +2,7 @@
 ghost use Rattle.std.specs.Prelude.{◌≡◌, Some, if◌then◌else◌};
 ghost use Rattle.table_words.specs.declared.spot.Spot.TheVariants as spots;
 ghost use Rattle.table_words.specs.declared.access.Access.TheVariants.{Loads};
-ghost use Rattle.runner_steps.specs.declared.event.EventKind.TheVariants as kinds;
+ghost use Rattle.runner_parts.specs.declared.event.EventKind.TheVariants as kinds;
 ghost use Rattle.version_words.specs.Naming.{open_of};
 ghost use Rattle.version_words.specs.Place.{opened_of, own_done};
 ghost use Rattle.version_words.specs.TableState.{IsOf};
@@ -11,7 +11,7 @@ ghost use Rattle.version_words.specs.Events.{met_by, Makes};
 use crate::plays;
 use crate::runner::Runner;
 use crate::table::FlockTable;
-use runner_steps::Structure;
+use runner_parts::Structure;
 use table_words::Spot;
 
 impl<S: Structure> FlockTable<S> {

@@ -1,7 +1,7 @@
 //! Steps on the words of own slots.
 ghost use Rattle.std.specs.Prelude.{◌≡◌, ℕ};
 ghost use Rattle.runner_steps.specs.Outside.{descriptor_spot};
-ghost use Rattle.runner_steps.specs.declared.event.EventKind.TheVariants as kinds;
+ghost use Rattle.runner_parts.specs.declared.event.EventKind.TheVariants as kinds;
 ghost use Rattle.version_words.specs.Private.{IsWithin, private_spot};
 ghost use Rattle.version_words.specs.TableState.{IsOf};
 ghost use Rattle.version_words.specs.Events.{IsEnabled, Makes};
@@ -9,7 +9,7 @@ ghost use Rattle.version_words.specs.Events.{IsEnabled, Makes};
 use crate::plays;
 use crate::runner::Runner;
 use crate::table::FlockTable;
-use runner_steps::Structure;
+use runner_parts::Structure;
 use table_words::Spot;
 
 /// A descriptor's word: the thunk words, the done word, the log.

@@ -4,7 +4,7 @@ use crate::bases::Bases;
 use crate::view::View;
 use atomic_table::TableRule;
 use map_history::Request;
-use runner_steps::Structure;
+use runner_parts::Structure;
 use section_body::Thunk;
 use std::marker::PhantomData;
 use table_words::Layout;

@@ -4,7 +4,7 @@ ghost use Rattle.section_body.specs.Word.{version_of, held_word, next_word};
 ghost use Rattle.section_body.specs.Run.{written_once};
 ghost use Rattle.table_words.specs.declared.spot.Spot.TheVariants as spots;
 ghost use Rattle.table_words.specs.declared.access.Access.TheVariants.{Loads, Exchanges};
-ghost use Rattle.runner_steps.specs.declared.event.EventKind.TheVariants as kinds;
+ghost use Rattle.runner_parts.specs.declared.event.EventKind.TheVariants as kinds;
 ghost use Rattle.version_words.specs.Place.{next_log, own_done, own_stamp, own_reply, held_by_run};
 ghost use Rattle.version_words.specs.TableState.{IsOf};
 ghost use Rattle.version_words.specs.Events.{met_by, IsMade, Leaves, Commits};
@@ -12,7 +12,7 @@ ghost use Rattle.version_words.specs.Events.{met_by, IsMade, Leaves, Commits};
 use crate::plays;
 use crate::runner::Runner;
 use crate::table::FlockTable;
-use runner_steps::Structure;
+use runner_parts::Structure;
 use section_body::{Place, Word};
 use table_words::Spot;
 

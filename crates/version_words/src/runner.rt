@@ -5,7 +5,7 @@ ghost use Rattle.version_words.specs.RunnerState.{entered_of};
 use crate::view::View;
 use atomic_table::Seat;
 use runner_block::Block;
-use runner_steps::{Stage, Structure};
+use runner_parts::{Stage, Structure};
 use section_body::Thunk;
 use std::alloc::Global;
 use std::marker::Model;

@@ -2,7 +2,7 @@
 ghost use Rattle.std.specs.Prelude.{◌≡◌, ◌<◌, Some, Bool};
 ghost use Rattle.table_words.specs.declared.spot.Spot.TheVariants as spots;
 ghost use Rattle.table_words.specs.declared.access.Access.TheVariants.{Loads, Exchanges, Raises};
-ghost use Rattle.runner_steps.specs.declared.event.EventKind.TheVariants as kinds;
+ghost use Rattle.runner_parts.specs.declared.event.EventKind.TheVariants as kinds;
 ghost use Rattle.version_words.specs.Naming.{load_of};
 ghost use Rattle.version_words.specs.TableState.{IsOf};
 ghost use Rattle.version_words.specs.Events.{met_by, IsEnabled, Makes, IsMade};
@@ -10,7 +10,7 @@ ghost use Rattle.version_words.specs.Events.{met_by, IsEnabled, Makes, IsMade};
 use crate::plays;
 use crate::runner::Runner;
 use crate::table::FlockTable;
-use runner_steps::Structure;
+use runner_parts::Structure;
 use section_body::{Place, Word};
 use table_words::Spot;
 

@@ -1,13 +1,13 @@
 //! Steps by which a runner scans the announcements and advances the epoch.
 ghost use Rattle.std.specs.Prelude.{◌≡◌};
-ghost use Rattle.runner_steps.specs.declared.event.EventKind.TheVariants as kinds;
+ghost use Rattle.runner_parts.specs.declared.event.EventKind.TheVariants as kinds;
 ghost use Rattle.version_words.specs.TableState.{IsOf};
 ghost use Rattle.version_words.specs.Events.{IsEnabled, Makes, Tries};
 
 use crate::plays;
 use crate::runner::Runner;
 use crate::table::FlockTable;
-use runner_steps::{Stage, Structure};
+use runner_parts::{Stage, Structure};
 use table_words::Spot;
 
 impl<S: Structure> FlockTable<S> {

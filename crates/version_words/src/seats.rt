@@ -4,7 +4,7 @@ ghost use Rattle.map_history.specs.declared.op.Request.{Request};
 ghost use Rattle.map_history.specs.Keys.{key_of};
 ghost use Rattle.table_words.specs.Limits.{IsWithinLimits};
 ghost use Rattle.table_words.specs.Places.{slot_count};
-ghost use Rattle.runner_steps.specs.declared.event.EventKind.TheVariants as kinds;
+ghost use Rattle.runner_parts.specs.declared.event.EventKind.TheVariants as kinds;
 ghost use Rattle.machine_states.specs.First.{keeper_part, worker_part};
 ghost use Rattle.runner_block.specs.Places.{IsAtRest};
 ghost use Rattle.version_words.specs.TableState.{IsOf, IsNew, HasSmallValue, first_keeper, HasJoinedAll, IsClosing};
@@ -20,7 +20,8 @@ use atomic_table::Table;
 use interleave_core::first_words;
 use map_history::{Op, Request};
 use runner_block::{Block, Kept, RunPlace, Share};
-use runner_steps::{Structure, sizes_for, slot_count};
+use runner_parts::Structure;
+use runner_steps::{sizes_for, slot_count};
 use std::alloc::{AllocError, Global};
 use table_words::Layout;
 

@@ -10,7 +10,7 @@ use crate::plays::{self, Named};
 use crate::rule::{Setup, Shows};
 use crate::view::View;
 use atomic_table::{Seat, Table};
-use runner_steps::Structure;
+use runner_parts::Structure;
 use section_body::Thunk;
 use std::alloc::Global;
 use std::marker::Model;

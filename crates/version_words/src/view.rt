@@ -1,7 +1,7 @@
 //! What a seat knows.
 
 use map_history::Request;
-use runner_steps::Part;
+use runner_parts::Part;
 use std::collections::LinkedList;
 use table_words::Layout;
 

@@ -5,7 +5,7 @@ ghost use Rattle.version_words.specs.TableState.{AreShown, word_of, HasWord, ent
 
 use crate::rule::Setup;
 use atomic_table::Closed;
-use runner_steps::Structure;
+use runner_parts::Structure;
 use section_body::{Place, Thunk, Word};
 use std::alloc::Global;
 use std::marker::Model;

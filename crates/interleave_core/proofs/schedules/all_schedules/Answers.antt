@@ -1,12 +1,12 @@
 use Rattle.std.proofs.Common.{take, get_or, length, refl, sym, ap, ◌∙◌, Err}
 use Rattle.std.proofs.lemmas.Option.{slice_get_read}
 use Rattle.std.proofs.lemmas.List.{take_more}
-use Rattle.runner_steps.specs.declared.event.Event.{Event}
+use Rattle.runner_parts.specs.declared.event.Event.{Event}
 use Rattle.machine_states.specs.World.{happens}
 use Rattle.machine_states.proofs.Runs.{run_more}
-use Rattle.machine_joins.proofs.Reached.{sound_after, descriptors_after}
-use Rattle.machine_whole.proofs.After.{whole_after, log_words_after}
-use Rattle.machine_whole.proofs.Rising.{rises_after}
+use Rattle.machine_epochs.proofs.Reached.{sound_after, descriptors_after}
+use Rattle.machine_invariant.proofs.After.{whole_after, log_words_after}
+use Rattle.machine_invariant.proofs.Rising.{rises_after}
 use Rattle.interleave_core.proofs.Stops.{stops}
 use Rattle.interleave_core.proofs.schedules.all_schedules.Goals as goal
 

@@ -1,5 +1,5 @@
 use Rattle.std.proofs.Common.{◌≡◌, None}
-use Rattle.runner_steps.specs.declared.stage.Stage.TheVariants as stages
+use Rattle.runner_parts.specs.declared.stage.Stage.TheVariants as stages
 use Rattle.version_words.specs.TableState.{IsOf}
 use Rattle.version_words.specs.Stages.{IsAt}
 use Rattle.table_speed.proofs.rounds.load_cells.Given as goal

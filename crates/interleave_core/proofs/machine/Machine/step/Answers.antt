@@ -7,7 +7,7 @@ use Rattle.table_words.specs.declared.access.Access.{Access}
 use Rattle.table_words.specs.Places.{Fits, address}
 use Rattle.table_words.specs.Seen.{seen}
 use Rattle.runner_steps.specs.Asks.{asks, sizes_for}
-use Rattle.runner_steps.specs.State.{PartState}
+use Rattle.runner_parts.specs.State.{PartState}
 use Rattle.machine_states.proofs.Steps.{asked_fits, not_none, lands, length_put, length_words}
 use Rattle.machine_states.specs.World.{World, seat_of, settled_part, put_part}
 use Rattle.enabled_kinds.specs.May.{AreEnabled}

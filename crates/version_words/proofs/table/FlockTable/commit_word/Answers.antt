@@ -1,5 +1,5 @@
 use Rattle.std.proofs.Common.{refl, sym, subst, ap, ◌+◌, ◌∙◌, arith}
-use Rattle.runner_steps.specs.declared.event.EventKind.TheVariants.{Commit}
+use Rattle.runner_parts.specs.declared.event.EventKind.TheVariants.{Commit}
 use Rattle.runner_block.specs.declared.block.Block.{Block}
 use Rattle.table_words.specs.declared.access.Access.TheVariants.{Exchanges}
 use Rattle.version_words.specs.Place.{next_log}

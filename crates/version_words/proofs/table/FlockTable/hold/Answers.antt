@@ -1,7 +1,7 @@
 use Rattle.std.proofs.Common.{ap, sym, subst, ◌∙◌}
 use Rattle.std.specs.Prelude.{◌==◌}
 use Rattle.table_words.specs.Limits.{IsWithinLimits}
-use Rattle.runner_steps.specs.declared.event.EventKind.TheVariants.{Hold}
+use Rattle.runner_parts.specs.declared.event.EventKind.TheVariants.{Hold}
 use Rattle.runner_block.specs.declared.block.Block.{Block}
 use Rattle.runner_block.specs.Kept.{held_in, with_part}
 use Rattle.version_words.specs.Kept.{IsKept}

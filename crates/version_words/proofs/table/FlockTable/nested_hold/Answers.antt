@@ -2,7 +2,7 @@ use Rattle.std.proofs.Common.{ℕ, ◌<◌, ◌^◌, ◌-◌, refl, sym, ap, sub
 use Rattle.table_words.specs.declared.spot.Spot.TheVariants.{Cell}
 use Rattle.table_words.specs.declared.access.Access.TheVariants.{Exchanges}
 use Rattle.table_words.specs.Limits.{IsWithinLimits}
-use Rattle.runner_steps.specs.declared.event.EventKind.TheVariants.{NestedHold}
+use Rattle.runner_parts.specs.declared.event.EventKind.TheVariants.{NestedHold}
 use Rattle.version_words.specs.Place.{held_by_run}
 use Rattle.version_words.proofs.Inside.{may_nest, has_run, quiet_kept}
 use Rattle.version_words.proofs.table.FlockTable.nested_hold.Goals as goal

@@ -1,5 +1,5 @@
 use Rattle.std.proofs.Common.{ap, sym, subst, ◌∙◌}
-use Rattle.runner_steps.specs.declared.event.EventKind.TheVariants.{PrivateLoad}
+use Rattle.runner_parts.specs.declared.event.EventKind.TheVariants.{PrivateLoad}
 use Rattle.table_words.specs.Places.{slot_count}
 use Rattle.version_words.specs.TableState.{IsOf}
 use Rattle.runner_block.specs.declared.block.Block.{Block}

@@ -3,9 +3,9 @@ use Rattle.section_body.specs.Word.{version_of, held_word, next_word}
 use Rattle.table_words.specs.declared.spot.Spot.TheVariants.{Cell}
 use Rattle.table_words.specs.declared.access.Access.TheVariants.{Exchanges}
 use Rattle.table_words.specs.Limits.{IsWithinLimits}
-use Rattle.runner_steps.specs.declared.event.EventKind.TheVariants.{Release}
+use Rattle.runner_parts.specs.declared.event.EventKind.TheVariants.{Release}
 use Rattle.std.specs.Prelude.{Option}
-use Rattle.runner_steps.specs.State.{RunState}
+use Rattle.runner_parts.specs.State.{RunState}
 use Rattle.std.proofs.Common.{false}
 use Rattle.runner_block.specs.declared.block.Block.{Block}
 use Rattle.version_words.specs.Kept.{IsKept}

@@ -3,15 +3,15 @@ use Rattle.std.specs.Prelude.{◌==◌}
 use Rattle.table_words.specs.Limits.{IsWithinLimits}
 use Rattle.table_words.specs.Access.{written}
 use Rattle.table_words.specs.declared.access.Access.TheVariants.{Exchanges}
-use Rattle.runner_steps.specs.declared.event.EventKind.TheVariants.{RetireCommit}
-use Rattle.runner_steps.specs.Lists.{slot_retired}
+use Rattle.runner_parts.specs.declared.event.EventKind.TheVariants.{RetireCommit}
+use Rattle.runner_parts.specs.Lists.{slot_retired}
 use Rattle.runner_block.specs.declared.block.Block.{Block}
 use Rattle.runner_block.specs.Room.{AreFew}
 use Rattle.version_words.specs.Place.{next_log}
 use Rattle.runner_block.specs.Blocks.{block_slot_retired}
 use Rattle.version_words.specs.Kept.{IsKept}
 use Rattle.version_words.specs.Events.{met_by, Makes, seen_seat}
-use Rattle.machine_whole.specs.After.{AreAllowed}
+use Rattle.machine_invariant.specs.After.{AreAllowed}
 use Rattle.version_words.proofs.Bounds.{few_seen}
 use Rattle.version_words.proofs.RetireSteps.{retire_low, retire_room, retire_kept, retire_found}
 use Rattle.version_words.proofs.table.FlockTable.retire_commit.Goals as goal

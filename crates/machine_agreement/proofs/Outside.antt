@@ -1,0 +1,112 @@
+-- The steps outside a run's line, joined.
+use Rattle.std.specs.Prelude.{Bool, true, slice_get}
+use Rattle.std.proofs.Common.{◌≡◌, ℕ, [], ◌∷◌, ◌++◌, length, sym, refl, ap, ◌∙◌, subst, Some, None}
+use Rattle.table_words.specs.declared.layout.Layout.{Layout}
+use Rattle.table_words.specs.declared.spot.Spot.{Spot}
+use Rattle.table_words.specs.declared.spot.Spot.TheVariants as spots
+use Rattle.table_words.specs.declared.access.Access.{Access}
+use Rattle.table_words.specs.Access.{written}
+use Rattle.table_words.specs.Seen.{put}
+use Rattle.table_words.specs.Seen as table
+use Rattle.structure_laws.specs.Meaning.{Meaning}
+use Rattle.runner_parts.specs.declared.event.EventKind.{EventKind}
+use Rattle.runner_parts.specs.declared.entries.Published.{Published}
+use Rattle.runner_parts.specs.State.{PartState}
+use Rattle.runner_parts.specs.Tests.{has_pair}
+use Rattle.runner_steps.specs.After.{after, after_by, outside_after}
+use Rattle.agreement_core.specs.State.{Shared, Section, Run, Finished, AgreementState}
+use Rattle.agreement_core.specs.Events as events
+use Rattle.agreement_core.specs.Events.{reads}
+use Rattle.machine_states.specs.Sight.{Sight}
+use Rattle.machine_states.proofs.Updates.{put_same}
+use Rattle.machine_agreement.specs.Joined.{ShowsRun, IsFinishOf, ShowsWords, ShowsSection, IsTied, IsJoinedToAgreement}
+use Rattle.machine_agreement.proofs.Frames.{tied_stays}
+use Rattle.machine_agreement.proofs.Components.{reads_own, reads_more}
+use Rattle.machine_agreement.specs.Goes.{Goes}
+use Rattle.machine_agreement.proofs.Assembly.{LeadBy, IsOtherStep, ThunksStay, leads_alone, plain_joined, plain_goes, thunks_kept}
+use Rattle.machine_agreement.proofs.LineKinds.{noting}
+
+module _ (m : Meaning) (l : Layout) where
+  -- the part after an event outside a run
+  pub after_outside : (r : ℕ) (kind : EventKind) (x : Spot × Access) (p : PartState) (found : ℕ) → p.run ≡ None
+      → after m l r kind x.0 x.1 p found ≡ noting l r kind x.0 (written x.1 found) (outside_after m l kind p found)
+  after_outside r kind x p found none = ap (noting l r kind x.0 (written x.1 found)) (ap (λ o. after_by m l kind p o found) none)
+
+  other_none : (w : AgreementState) (r : ℕ) → IsOtherStep m l w w r
+  other_none w r = record { others = λ i ne. refl; finishes = λ i ne. refl; finished = λ i k ne. refl; over = λ d e. e; seen = λ p word e. e }
+
+  pub lead_none : (w : AgreementState) → LeadBy m l [] w w
+  lead_none w = record { enabled = tt; there = refl }
+
+  -- what a part keeps that the component sees
+  pub record IsSamePart (p p' : PartState) : Type 0 where
+    pub run : p'.run ≡ p.run
+    pub published : (x : Published) → p'.published ≡ Some x → p.published ≡ Some x
+    pub finished : p'.records.finished ≡ p.records.finished
+    pub read : (place found : ℕ) → has_pair p'.reads.cells place found ≡ true → has_pair p.reads.cells place found ≡ true
+
+  -- the component's words are as before
+  pub record SameWords (word word' : Spot → ℕ) : Type 0 where
+    pub cells : (p : ℕ) → word' (spots.Cell p) ≡ word (spots.Cell p)
+    pub clock : word' spots.Clock ≡ word spots.Clock
+    pub stamp : (q : ℕ) → word' (spots.Stamp q) ≡ word (spots.Stamp q)
+    pub reply : (q : ℕ) → word' (spots.Reply q) ≡ word (spots.Reply q)
+    pub thunks : ThunksStay word word'
+    pub done : (d : ℕ) → word' (spots.DoneWord d) ≡ word (spots.DoneWord d)
+    pub log : (d k : ℕ) → word' (spots.LogWord d k) ≡ word (spots.LogWord d k)
+
+  -- a load changes no word
+  pub load_same : (word : Spot → ℕ) (a : Spot) → SameWords word (put word a (word a))
+  load_same word a = subst (SameWords word) (sym (put_same word a))
+      (record { cells = λ p. refl; clock = refl; stamp = λ q. refl; reply = λ q. refl; thunks = λ d j. refl; done = λ d. refl; log = λ d k. refl })
+
+  shows_same : (x : Shared) (word word' : Spot → ℕ) → SameWords word word' → ShowsWords x word → ShowsWords x word'
+  shows_same x word word' same old = record { cells = λ p. old.cells p ∙ sym (same.cells p); clock = old.clock ∙ sym same.clock; stamp = λ q. old.stamp q ∙ sym (same.stamp q); reply = λ q. old.reply q ∙ sym (same.reply q) }
+
+  section_same : (x : Section) (word word' : Spot → ℕ) (d : ℕ) → SameWords word word' → ShowsSection x word d → ShowsSection x word' d
+  section_same x word word' d same old = record { log = λ k. old.log k ∙ sym (same.log d k); done = old.done ∙ sym (same.done d) }
+
+  -- a part that keeps what the component sees is tied as before, with what else it has read
+  tied_same : (w w' : AgreementState) (word : Spot → ℕ) (r : ℕ) (p p' : PartState) → w'.run ≡ w.run → w'.finishes ≡ w.finishes → w'.finished ≡ w.finished → w'.over ≡ w.over
+      → p'.run ≡ p.run → ((x : Published) → p'.published ≡ Some x → p.published ≡ Some x) → p'.records.finished ≡ p.records.finished
+      → ((place found : ℕ) → has_pair p'.reads.cells place found ≡ true → w'.shared.seen place found ≡ true) → IsTied m l w word r p → IsTied m l w' word r p'
+  tied_same w w' word r p p' runs finishes finished over run published kept read tied = record {
+    run = subst (λ (f : ℕ → Run). ShowsRun (f r) p'.run) (sym runs) (subst (ShowsRun (w.run r)) (sym run) tied.run);
+    opened = λ q j e. tied.opened q j (sym run ∙ e);
+    begins = λ q e. tied.begins q (sym run ∙ e);
+    rests = λ q e. tied.rests q (sym run ∙ e);
+    released = λ q a e has. ap (λ (f : ℕ → Run). (f r).released a) runs ∙ tied.released q a (sym run ∙ e) has;
+    read = read;
+    finishes = ap (λ (f : ℕ → ℕ). f r) finishes ∙ (tied.finishes ∙ ap length (sym kept));
+    finished = λ i f e. subst (λ (y : Finished). IsFinishOf y f) (ap (λ (g : ℕ → ℕ → Finished). g r i) (sym finished)) (tied.finished i f (ap (λ xs. slice_get xs i) (sym kept) ∙ e));
+    over = λ x e done. ap (λ (f : ℕ → Bool). f x.descriptor) over ∙ tied.over x (published x e) done;
+  }
+
+  -- the same with other words of which the component's thunks are as before
+  pub tied_word : (w : AgreementState) (word word' : Spot → ℕ) (r : ℕ) (p : PartState) → ThunksStay word word' → IsTied m l w word r p → IsTied m l w word' r p
+  tied_word w word word' r p stay tied = tied_stays m l w w word word' r p refl refl (λ i. refl) (λ d e. e) (λ a b e. e) stay tied
+
+  module _ (w : AgreementState) (s : Sight) (old : IsJoinedToAgreement m l w s) (r : ℕ) where
+    -- a step that the component doesn't see
+    pub quiet_joined : (word' : Spot → ℕ) (p' : PartState) → SameWords s.word word' → IsSamePart (s.part r) p' → IsJoinedToAgreement m l w (record { word = word'; part = table.upd s.part r p' })
+    quiet_joined word' p' words same = plain_joined m l [] w w s r word' p' old (lead_none w) (other_none w r) (shows_same w.shared s.word word' words old.words)
+        (λ d. section_same (w.section d) s.word word' d words (old.sections d))
+        (thunks_kept m l w w s word' old refl (λ d. record { lock = refl; word = refl; request = refl; code = refl; slot = refl }) words.thunks) words.thunks
+        (tied_word w s.word word' r p' words.thunks (tied_same w w s.word r (s.part r) p' refl refl refl refl same.run same.published same.finished (λ a b has. (old.tied r).read a b (same.read a b has)) (old.tied r)))
+
+    pub quiet_goes : (word' : Spot → ℕ) (p' : PartState) → SameWords s.word word' → IsSamePart (s.part r) p' → Goes m l r [] w (record { word = word'; part = table.upd s.part r p' })
+    quiet_goes word' p' words same = record { next = w; leads = leads_alone m l r [] w w (lead_none w); joined = quiet_joined word' p' words same }
+
+    -- a cell is read
+    pub read_goes : (place : ℕ) (p' : PartState) → p'.run ≡ (s.part r).run → ((x : Published) → p'.published ≡ Some x → (s.part r).published ≡ Some x) → p'.records.finished ≡ (s.part r).records.finished
+        → p'.reads.cells ≡ (s.part r).reads.cells ++ (place, s.word (spots.Cell place)) ∷ [] → (word' : Spot → ℕ) → SameWords s.word word'
+        → Goes m l r (events.Read place ∷ []) w (record { word = word'; part = table.upd s.part r p' })
+    read_goes place p' run published finished cells word' words =
+        let w1 = reads w place in
+        plain_goes m l (events.Read place ∷ []) w w1 s r word' p' old (record { enabled = (tt, tt); there = refl })
+        (record { others = λ i ne. refl; finishes = λ i ne. refl; finished = λ i k ne. refl; over = λ d e. e; seen = (reads_own w r place).seen })
+        (let x = shows_same w.shared s.word word' words old.words in record { cells = x.cells; clock = x.clock; stamp = x.stamp; reply = x.reply })
+        (λ d. section_same (w.section d) s.word word' d words (old.sections d))
+        (thunks_kept m l w w1 s word' old refl (λ d. record { lock = refl; word = refl; request = refl; code = refl; slot = refl }) words.thunks) words.thunks
+        (tied_word w1 s.word word' r p' words.thunks (tied_same w w1 s.word r (s.part r) p' refl refl refl refl run published finished
+        (reads_more w place (s.word (spots.Cell place)) (s.part r).reads.cells p'.reads.cells (old.words.cells place) cells (λ a b has. (old.tied r).read a b has)) (old.tied r)))

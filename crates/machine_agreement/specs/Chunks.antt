@@ -1,0 +1,108 @@
+-- Which events of agreement a step of the machine is, by its kind.
+use Rattle.std.specs.Prelude.{◌≡◌, ◌≢◌, ◌⊎◌, ℕ, suc, ◌-◌, ◌==◌, nat_lt, List, [], ◌∷◌, map, Bool, true, false, Option, Some, None, if◌then◌else◌}
+use Rattle.std.specs.List.{filter}
+use Rattle.section_body.specs.declared.micro.Micro.TheVariants as micros
+use Rattle.section_body.specs.declared.micro.Source.{Source}
+use Rattle.section_body.specs.declared.thunk.Thunk.{Thunk}
+use Rattle.section_body.specs.Line.{line, micro_at, committed, is_end}
+use Rattle.section_body.specs.Memory.{cell_of}
+use Rattle.table_words.specs.declared.layout.Layout.{Layout}
+use Rattle.table_words.specs.Places.{slot_count}
+use Rattle.structure_laws.specs.Meaning.{Meaning}
+use Rattle.runner_parts.specs.declared.event.EventKind.{EventKind}
+use Rattle.runner_parts.specs.declared.event.EventKind.TheVariants as kinds
+use Rattle.runner_parts.specs.declared.entries.Published.{Published}
+use Rattle.runner_parts.specs.State.{RunState, PartState}
+use Rattle.runner_parts.specs.Lists.{is_old, slots_of}
+use Rattle.runner_steps.specs.Sections.{is_open_run, next_of}
+use Rattle.runner_steps.specs.AfterInRun.{ended_more}
+use Rattle.agreement_core.specs.State.{AgreementState}
+use Rattle.agreement_core.specs.Events.{Event}
+use Rattle.agreement_core.specs.Events as events
+use Rattle.machine_agreement.specs.Supplied.{collects}
+
+-- the publication of this thunk at this descriptor
+abbrev pub publication : Meaning → ℕ → Thunk → Event
+publication m d t = events.Publish d t.lock t.word t.request (micro_at (line (m.body t))) (committed (line (m.body t)))
+
+-- a store of this number into this word of a descriptor: the thunk words are no words of agreement
+abbrev pub stored : ℕ → ℕ → ℕ → List Event
+stored d word number = if nat_lt word 12 then [] else (
+    if word == 12 then events.StoreDone d number ∷ [] else events.StoreLog d (word - 13) number ∷ [])
+
+-- these descriptors become free, one after the other
+abbrev pub frees : List ℕ → List Event
+frees ds = map events.Free ds
+
+-- the descriptors that leave limbo become free, where a scan ends that collects for an epoch
+abbrev pub collected : Option ℕ → PartState → List Event
+collected None p = []
+collected (Some epoch) p = frees (slots_of (filter (is_old epoch) p.descriptors.limbo))
+
+module _ (m : Meaning) (l : Layout) (w : AgreementState) (r : ℕ) where
+  -- the events of a runner's step in no run, which found this word
+  abbrev pub IsOutsideChunk : EventKind → PartState → ℕ → List Event → Type 0
+  -- a publication is one where the lock stood free with the thunk's word; the lock is read in any case
+  IsOutsideChunk (kinds.Hold t d) p found heads = ((found ≡ t.word) × (heads ≡ events.Read t.lock ∷ publication m d t ∷ []))
+      ⊎ ((found ≢ t.word) × (heads ≡ events.Read t.lock ∷ []))
+  IsOutsideChunk kinds.EpochForRetire p found heads = (x : Published) × (p.published ≡ Some x)
+      × (heads ≡ events.RetireDescriptor x.descriptor ∷ [])
+  IsOutsideChunk (kinds.ScanOne n) p found heads = heads ≡ collected (collects l (kinds.ScanOne n) p.stage found) p
+  IsOutsideChunk kinds.Advance p found heads = heads ≡ collected (collects l kinds.Advance p.stage found) p
+  IsOutsideChunk (kinds.LoadCell (Some place)) p found heads = heads ≡ events.Read place ∷ []
+  IsOutsideChunk (kinds.LoadThunk (Some d)) p found heads = heads ≡ events.Open r d ∷ []
+  IsOutsideChunk (kinds.PrivateStore slot word number) p found heads = (w.used (slot - slot_count l m.fixed_slots) ≡ false)
+      × (heads ≡ stored (slot - slot_count l m.fixed_slots) word number)
+  IsOutsideChunk _ p found heads = heads ≡ []
+
+  -- the events of a step of a run's line, which found this word: by the step of the line before which the run stands; a cell that is
+  -- exchanged is read too
+  abbrev pub IsLineChunk : EventKind → RunState → ℕ → List Event → Type 0
+  IsLineChunk kinds.Commit q found heads = (place log : ℕ)
+      × (((next_of m q ≡ micros.Commit place log) × (heads ≡ events.Commit r place log ∷ []))
+      ⊎ ((next_of m q ≡ micros.NestedCommit place log) × (heads ≡ events.NestedCommit r place log ∷ [])))
+  IsLineChunk (kinds.LoadCell None) q found heads = (place log : ℕ) × (next_of m q ≡ micros.LoadCell place log)
+      × (heads ≡ events.LoadCell r place log ∷ [])
+  IsLineChunk kinds.ExchangeCell q found heads = (place log : ℕ) × (value : Source) × (next_of m q ≡ micros.ExchangeCell place log value)
+      × (heads ≡ events.Read place ∷ events.ExchangeCell r place log value ∷ [])
+  IsLineChunk (kinds.PrivateLoad slot cell) q found heads = (log : ℕ) × (next_of m q ≡ micros.PrivateLoad cell log)
+      × (heads ≡ events.PrivateLoad r cell log (cell_of m.fixed_cells slot cell) ∷ [])
+  IsLineChunk (kinds.PrivateStore slot cell number) q found heads = (log : ℕ) × (value : Source)
+      × (next_of m q ≡ micros.PrivateStore cell log value) × (q.made ≡ Some slot)
+      × (heads ≡ events.PrivateStore r cell log value (cell_of m.fixed_cells slot cell) number ∷ [])
+  IsLineChunk kinds.MakeCommit q found heads = (log slot : ℕ) × (next_of m q ≡ micros.MakeCommit log) × (q.made ≡ Some slot)
+      × (heads ≡ events.MakeCommit r log (suc slot) ∷ [])
+  IsLineChunk kinds.EpochForRetire q found heads = (slot log : ℕ) × (next_of m q ≡ micros.EpochForRetire slot log)
+      × (heads ≡ events.EpochForRetire r slot log found ∷ [])
+  IsLineChunk kinds.RetireCommit q found heads = (slot log : ℕ) × (next_of m q ≡ micros.RetireCommit slot log)
+      × (heads ≡ events.RetireCommit r slot log ∷ [])
+  IsLineChunk kinds.ClockLoad q found heads = (next_of m q ≡ micros.ClockLoad) × (heads ≡ events.ClockLoad r ∷ [])
+  IsLineChunk kinds.StampExchange q found heads = (next_of m q ≡ micros.StampExchange) × (heads ≡ events.StampExchange r ∷ [])
+  IsLineChunk kinds.ClockRaise q found heads = (next_of m q ≡ micros.ClockRaise) × (heads ≡ events.ClockRaise r ∷ [])
+  IsLineChunk kinds.ReplyExchange q found heads = (reply : ℕ) × (next_of m q ≡ micros.ReplyExchange reply)
+      × (heads ≡ events.ReplyExchange r reply ∷ [])
+  IsLineChunk kinds.NestedLoad q found heads = (place log : ℕ) × (next_of m q ≡ micros.NestedLoad place log)
+      × (heads ≡ events.NestedLoad r place log ∷ [])
+  IsLineChunk kinds.NestedHold q found heads = (place word : ℕ) × (next_of m q ≡ micros.NestedHold place word)
+      × (heads ≡ events.Read place ∷ events.NestedHold r place word ∷ [])
+  IsLineChunk kinds.OutcomeLoad q found heads = (place log : ℕ) × (next_of m q ≡ micros.OutcomeLoad place log)
+      × (heads ≡ events.OutcomeLoad r place log ∷ [])
+  IsLineChunk kinds.OutcomeCommit q found heads = (place log : ℕ) × (next_of m q ≡ micros.OutcomeCommit place log)
+      × (heads ≡ events.OutcomeCommit r place log ∷ [])
+  IsLineChunk kinds.SetDone q found heads = (next_of m q ≡ micros.SetDone) × (heads ≡ events.SetDone r ∷ [])
+  -- the run is over with the last of its releases
+  IsLineChunk kinds.Release q found heads = (place word : ℕ) × (next_of m q ≡ micros.Release place word)
+      × (((is_end (next_of m (ended_more q)) ≡ false) × (heads ≡ events.Read place ∷ events.Release r place word ∷ []))
+      ⊎ ((is_end (next_of m (ended_more q)) ≡ true)
+      × (heads ≡ events.Read place ∷ events.Release r place word ∷ events.Finish r ∷ [])))
+  IsLineChunk _ q found heads = heads ≡ []
+
+  -- the events of a step in a run: none where the run has still to load words of its thunk, or its done word
+  abbrev pub IsInsideChunk : Bool → EventKind → RunState → ℕ → List Event → Type 0
+  IsInsideChunk true kind q found heads = IsLineChunk kind q found heads
+  IsInsideChunk false kind q found heads = heads ≡ []
+
+  -- the events of this runner's step of this kind, which found this word, but for the checks that pass behind them
+  abbrev pub IsChunk : EventKind → PartState → Option RunState → ℕ → List Event → Type 0
+  IsChunk kind p None found heads = IsOutsideChunk kind p found heads
+  IsChunk kind p (Some q) found heads = IsInsideChunk (is_open_run q) kind q found heads

@@ -1,0 +1,54 @@
+-- What the join of sections needs of epochs and slots and of the structure's laws, step by step.
+use Rattle.std.specs.Prelude.{◌≡◌, ◌≢◌, ℕ, true, false, Some, None}
+use Rattle.std.specs.List.{filter}
+use Rattle.section_body.specs.declared.micro.Micro.TheVariants.{LoadCell}
+use Rattle.section_body.specs.declared.thunk.Thunk.{Thunk}
+use Rattle.section_body.specs.Line.{line, micro_at, committed}
+use Rattle.section_body.specs.Memory.{cell_of}
+use Rattle.table_words.specs.declared.layout.Layout.{Layout}
+use Rattle.table_words.specs.declared.spot.Spot.TheVariants.{DoneWord, LogWord}
+use Rattle.structure_laws.specs.Meaning.{Meaning}
+use Rattle.runner_parts.specs.declared.event.EventKind.{EventKind}
+use Rattle.runner_parts.specs.declared.event.EventKind.TheVariants as kinds
+use Rattle.runner_parts.specs.declared.entries.Published.{Published}
+use Rattle.runner_parts.specs.State.{RunState}
+use Rattle.runner_parts.specs.Tests.{has}
+use Rattle.runner_parts.specs.Lists.{is_old, slots_of}
+use Rattle.runner_steps.specs.Sections.{is_open_run, next_of}
+use Rattle.agreement_core.specs.State.{AgreementState, section_of}
+use Rattle.agreement_core.specs.Events.{IsAlone, IsPrivateStore, IsPublishable}
+use Rattle.machine_states.specs.Sight.{Sight}
+use Rattle.machine_epochs.specs.Slots.{thunk_in}
+pub use Rattle.machine_epochs.specs.ScanEnds.{scan_collects, advance_collects, collects}
+use Rattle.machine_scenes.specs.Shown.{rules_of}
+
+-- a retired descriptor that nobody runs
+pub record IsIdle (w : AgreementState) (d : ℕ) : Type 0 where
+  pub retired : w.live d ≡ false
+  pub unrun : (r : ℕ) → (w.run r).running ≡ true → (w.run r).descriptor ≢ d
+
+-- a descriptor whose words are those of this thunk, with no done and an empty log, may be published
+pub record MayPublish (m : Meaning) (l : Layout) (w : AgreementState) (s : Sight) (r : ℕ) (t : Thunk) (d : ℕ) : Type 0 where
+  pub words : thunk_in s.word d ≡ t
+  pub undone : s.word (DoneWord d) ≡ 0
+  pub unlogged : (k : ℕ) → s.word (LogWord d k) ≡ 0
+  pub publishable : IsPublishable (rules_of m l) d t.lock t.word (micro_at (line (m.body t))) (committed (line (m.body t)))
+  -- no other runner has published it
+  pub apart : (i : ℕ) (x : Published) → i ≢ r → (s.part i).published ≡ Some x → x.descriptor ≢ d
+
+module _ (m : Meaning) (l : Layout) where
+  -- what is needed for an event of this runner that found this word
+  pub record AgreementIsSupplied (w : AgreementState) (s : Sight) (r : ℕ) (kind : EventKind) (found : ℕ) : Type 0 where
+    -- a run that loads a cell at the edge of its open section: no other open section has come to the cell
+    pub alone : (q : RunState) (p k : ℕ) → (s.part r).run ≡ Some q → is_open_run q ≡ true → next_of m q ≡ LoadCell p k → (w.run r).at ≡ (section_of w r).edge → (section_of w r).done ≡ 0
+        → IsAlone w ((w.run r).descriptor) p
+    -- a Make's store into a cell of its slot
+    pub private : (q : RunState) (slot cell number : ℕ) → (s.part r).run ≡ Some q → kind ≡ kinds.PrivateStore slot cell number → IsPrivateStore (rules_of m l) w (cell_of m.fixed_cells slot cell) number
+    -- an own free descriptor isn't published; the own published one isn't retired; a held one is published
+    pub unused : (d : ℕ) → has (s.part r).descriptors.free d ≡ true → w.used d ≡ false
+    pub live : (x : Published) → (s.part r).published ≡ Some x → w.live x.descriptor ≡ true
+    pub used : (d : ℕ) → kind ≡ kinds.LoadThunk (Some d) → has (s.part r).reads.held d ≡ true → w.used d ≡ true
+    -- a section that is published now
+    pub publishes : (t : Thunk) (d : ℕ) → kind ≡ kinds.Hold t d → (s.part r).run ≡ None → found ≡ t.word → MayPublish m l w s r t d
+    -- the descriptors that leave limbo
+    pub idle : (epoch d : ℕ) → (s.part r).run ≡ None → collects l kind (s.part r).stage found ≡ Some epoch → has (slots_of (filter (is_old epoch) (s.part r).descriptors.limbo)) d ≡ true → IsIdle w d

@@ -1,0 +1,282 @@
+-- The kinds of step that change neither the epoch, nor an announcement, nor a stage.
+use Rattle.std.specs.Prelude.{cond, Bool, true, false}
+use Rattle.std.proofs.Common.{◌≡◌, ℕ, ◌-◌, List, refl, ap, subst, Option, Some, None}
+use Rattle.map_history.specs.declared.op.Request.{Request}
+use Rattle.section_body.specs.declared.micro.Micro.{Micro}
+use Rattle.section_body.specs.declared.micro.Micro.TheVariants as micros
+use Rattle.table_words.specs.declared.layout.Layout.{Layout}
+use Rattle.table_words.specs.declared.spot.Spot.{Spot}
+use Rattle.table_words.specs.declared.spot.Spot.TheVariants.{Seat, Epoch, Clock, Announcement, Stamp, Reply, Cell, ThunkWord, DoneWord, LogWord}
+use Rattle.table_words.specs.declared.access.Access.{Access}
+use Rattle.table_words.specs.declared.access.Access.TheVariants.{Loads}
+use Rattle.table_words.specs.Access.{written}
+use Rattle.table_words.specs.Seen.{put}
+use Rattle.structure_laws.specs.Meaning.{Meaning}
+use Rattle.runner_parts.specs.declared.event.EventKind.{EventKind}
+use Rattle.runner_parts.specs.declared.event.EventKind.TheVariants as kinds
+use Rattle.runner_parts.specs.declared.entries.Published.{Published}
+use Rattle.runner_parts.specs.State.{RunState, PartState}
+use Rattle.runner_steps.specs.Sections.{is_open_run, next_of}
+use Rattle.runner_steps.specs.Outside.{when}
+use Rattle.runner_steps.specs.InRun.{commit_ask, load_cell_ask, exchange_cell_ask, fill_load_ask, fill_store_ask, make_commit_ask, make_commit_to, retire_commit_ask, epoch_for_retire_ask, clock_load_ask, stamp_exchange_ask, clock_raise_ask, reply_exchange_ask, nested_load_ask, nested_hold_ask, outcome_load_ask, outcome_commit_ask, set_done_ask, release_ask}
+use Rattle.runner_steps.specs.Asks.{outside_ask, line_ask, opening_ask, ask_by}
+use Rattle.runner_steps.specs.AfterOutside.{retire_after}
+use Rattle.runner_steps.specs.AfterInRun.{fill_loaded, make_committed}
+use Rattle.runner_steps.specs.After.{outside_after, line_after, inside_after, after_by}
+use Rattle.machine_states.proofs.Sights.{if_some, some_none}
+use Rattle.machine_states.proofs.Steps.{some_same}
+use Rattle.machine_states.proofs.Updates.{put_same}
+
+-- whether this kind changes the epoch, an announcement or a stage
+abbrev pub is_entry : EventKind → Bool
+is_entry kinds.EnterLoad = true
+is_entry kinds.Announce = true
+is_entry kinds.EnterAgain = true
+is_entry kinds.Idle = true
+is_entry kinds.ScanEpoch = true
+is_entry (kinds.ScanOne n) = true
+is_entry kinds.Advance = true
+is_entry _ = false
+
+-- the epoch or an announcement
+abbrev is_entry_word : Spot → Bool
+is_entry_word Epoch = true
+is_entry_word (Announcement r) = true
+is_entry_word _ = false
+
+-- this step on this word leaves the epoch and the announcements as they were
+abbrev pub Quiet : Spot × Access → Type 0
+Quiet x = (f : Spot → ℕ) → (put f x.0 (written x.1 (f x.0)) Epoch ≡ f Epoch) × ((r : ℕ) → put f x.0 (written x.1 (f x.0)) (Announcement r) ≡ f (Announcement r))
+
+quiet_word : (a : Spot) (access : Access) → is_entry_word a ≡ false → Quiet (a, access)
+quiet_word Epoch access e = absurd (let x = e in cc)
+quiet_word (Announcement r) access e = absurd (let x = e in cc)
+quiet_word Seat access e = λ f. (refl, λ r. refl)
+quiet_word Clock access e = λ f. (refl, λ r. refl)
+quiet_word (Stamp q) access e = λ f. (refl, λ r. refl)
+quiet_word (Reply q) access e = λ f. (refl, λ r. refl)
+quiet_word (Cell p) access e = λ f. (refl, λ r. refl)
+quiet_word (ThunkWord d j) access e = λ f. (refl, λ r. refl)
+quiet_word (DoneWord d) access e = λ f. (refl, λ r. refl)
+quiet_word (LogWord d k) access e = λ f. (refl, λ r. refl)
+
+quiet_load : (a : Spot) → Quiet (a, Loads)
+quiet_load a f = (ap (λ (g : Spot → ℕ). g Epoch) (put_same f a), λ r. ap (λ (g : Spot → ℕ). g (Announcement r)) (put_same f a))
+
+of_word : (a : Spot) (access : Access) (x : Spot × Access) → is_entry_word a ≡ false → Some (a, access) ≡ Some x → Quiet x
+of_word a access x q e = subst Quiet (some_same _ _ e) (quiet_word a access q)
+
+when_word : (b : Bool) (a : Spot) (access : Access) (x : Spot × Access) → is_entry_word a ≡ false → when b a access ≡ Some x → Quiet x
+when_word b a access x q e = subst Quiet (if_some b _ _ e).1 (quiet_word a access q)
+
+when_load : (b : Bool) (a : Spot) (x : Spot × Access) → when b a Loads ≡ Some x → Quiet x
+when_load b a x e = subst Quiet (if_some b _ _ e).1 (quiet_load a)
+
+either_load : (c b b' : Bool) (a a' : Spot) (x : Spot × Access) → cond c (when b a Loads) (when b' a' Loads) ≡ Some x → Quiet x
+either_load true b b' a a' x e = when_load b a x e
+either_load false b b' a a' x e = when_load b' a' x e
+
+in_descriptor : (b c : Bool) (d word : ℕ) → is_entry_word (cond b (ThunkWord d word) (cond c (DoneWord d) (LogWord d (word - 13)))) ≡ false
+in_descriptor true c d word = refl
+in_descriptor false true d word = refl
+in_descriptor false false d word = refl
+
+module _ (m : Meaning) (l : Layout) (rs : List Request) where
+  quiet_outside : (r : ℕ) (kind : EventKind) (p : PartState) (x : Spot × Access) → is_entry kind ≡ false → outside_ask m l rs r kind p ≡ Some x → Quiet x
+  quiet_outside r kinds.EnterLoad p x k e = absurd (let y = k in cc)
+  quiet_outside r kinds.Announce p x k e = absurd (let y = k in cc)
+  quiet_outside r kinds.EnterAgain p x k e = absurd (let y = k in cc)
+  quiet_outside r kinds.Idle p x k e = absurd (let y = k in cc)
+  quiet_outside r kinds.ScanEpoch p x k e = absurd (let y = k in cc)
+  quiet_outside r (kinds.ScanOne n) p x k e = absurd (let y = k in cc)
+  quiet_outside r kinds.Advance p x k e = absurd (let y = k in cc)
+  quiet_outside r kinds.Split p x k e = when_load _ _ x e
+  quiet_outside r (kinds.Join worker) p x k e = when_load _ _ x e
+  quiet_outside r (kinds.LoadCell (Some place)) p x k e = when_load _ _ x e
+  quiet_outside r (kinds.LoadEntry request reply) p x k e = when_load _ _ x e
+  quiet_outside r (kinds.PrivateLoad slot word) p x k e = either_load _ _ _ _ _ x e
+  quiet_outside r (kinds.PrivateStore slot word number) p x k e = when_word _ _ _ x (in_descriptor _ _ _ _) e
+  quiet_outside r (kinds.Hold thunk d) p x k e = when_word _ _ _ x refl e
+  quiet_outside r (kinds.LoadThunk (Some d)) p x k e = when_load _ _ x e
+  quiet_outside r kinds.EpochForRetire p x k e = when_load _ _ x e
+  quiet_outside r _ p x k e = some_none x e
+
+module _ (l : Layout) (q : RunState) (x : Spot × Access) where
+  quiet_commit : (micro : Micro) → commit_ask q micro ≡ Some x → Quiet x
+  quiet_commit (micros.Commit place log) e = of_word _ _ x refl e
+  quiet_commit (micros.NestedCommit place log) e = of_word _ _ x refl e
+  quiet_commit _ e = some_none x e
+
+  quiet_load_cell : (micro : Micro) → load_cell_ask q micro ≡ Some x → Quiet x
+  quiet_load_cell (micros.LoadCell place log) e = of_word _ _ x refl e
+  quiet_load_cell _ e = some_none x e
+
+  quiet_exchange_cell : (micro : Micro) → exchange_cell_ask l q micro ≡ Some x → Quiet x
+  quiet_exchange_cell (micros.ExchangeCell place log value) e = when_word _ _ _ x refl e
+  quiet_exchange_cell _ e = some_none x e
+
+  quiet_fill_load : (m : Meaning) (slot word : ℕ) (free : List ℕ) (micro : Micro) → fill_load_ask m l slot word free q micro ≡ Some x → Quiet x
+  quiet_fill_load m slot word free (micros.PrivateLoad cell log) e = when_word _ _ _ x refl e
+  quiet_fill_load m slot word free _ e = some_none x e
+
+  quiet_fill_store : (m : Meaning) (slot word number : ℕ) (micro : Micro) → fill_store_ask m l slot word number q micro ≡ Some x → Quiet x
+  quiet_fill_store m slot word number (micros.PrivateStore cell log value) e = when_word _ _ _ x refl e
+  quiet_fill_store m slot word number _ e = some_none x e
+
+  quiet_make_commit_to : (log : ℕ) (o : Option ℕ) → make_commit_to q log o ≡ Some x → Quiet x
+  quiet_make_commit_to log None e = some_none x e
+  quiet_make_commit_to log (Some s) e = of_word _ _ x refl e
+
+  quiet_make_commit : (micro : Micro) → make_commit_ask q micro ≡ Some x → Quiet x
+  quiet_make_commit (micros.MakeCommit log) e = quiet_make_commit_to log q.made e
+  quiet_make_commit _ e = some_none x e
+
+  quiet_retire_commit : (micro : Micro) → retire_commit_ask q micro ≡ Some x → Quiet x
+  quiet_retire_commit (micros.RetireCommit slot log) e = of_word _ _ x refl e
+  quiet_retire_commit _ e = some_none x e
+
+  quiet_epoch_for_retire : (micro : Micro) → epoch_for_retire_ask q micro ≡ Some x → Quiet x
+  quiet_epoch_for_retire (micros.EpochForRetire slot log) e = when_load true _ x e
+  quiet_epoch_for_retire _ e = some_none x e
+
+  quiet_clock_load : (micro : Micro) → clock_load_ask q micro ≡ Some x → Quiet x
+  quiet_clock_load micros.ClockLoad e = of_word _ _ x refl e
+  quiet_clock_load _ e = some_none x e
+
+  quiet_stamp_exchange : (micro : Micro) → stamp_exchange_ask q micro ≡ Some x → Quiet x
+  quiet_stamp_exchange micros.StampExchange e = when_word _ _ _ x refl e
+  quiet_stamp_exchange _ e = some_none x e
+
+  quiet_clock_raise : (micro : Micro) → clock_raise_ask q micro ≡ Some x → Quiet x
+  quiet_clock_raise micros.ClockRaise e = of_word _ _ x refl e
+  quiet_clock_raise _ e = some_none x e
+
+  quiet_reply_exchange : (micro : Micro) → reply_exchange_ask q micro ≡ Some x → Quiet x
+  quiet_reply_exchange (micros.ReplyExchange reply) e = of_word _ _ x refl e
+  quiet_reply_exchange _ e = some_none x e
+
+  quiet_nested_load : (micro : Micro) → nested_load_ask q micro ≡ Some x → Quiet x
+  quiet_nested_load (micros.NestedLoad place log) e = of_word _ _ x refl e
+  quiet_nested_load _ e = some_none x e
+
+  quiet_nested_hold : (micro : Micro) → nested_hold_ask l q micro ≡ Some x → Quiet x
+  quiet_nested_hold (micros.NestedHold place word) e = when_word _ _ _ x refl e
+  quiet_nested_hold _ e = some_none x e
+
+  quiet_outcome_load : (micro : Micro) → outcome_load_ask q micro ≡ Some x → Quiet x
+  quiet_outcome_load (micros.OutcomeLoad place log) e = of_word _ _ x refl e
+  quiet_outcome_load _ e = some_none x e
+
+  quiet_outcome_commit : (micro : Micro) → outcome_commit_ask q micro ≡ Some x → Quiet x
+  quiet_outcome_commit (micros.OutcomeCommit place log) e = of_word _ _ x refl e
+  quiet_outcome_commit _ e = some_none x e
+
+  quiet_set_done : (micro : Micro) → set_done_ask q micro ≡ Some x → Quiet x
+  quiet_set_done micros.SetDone e = of_word _ _ x refl e
+  quiet_set_done _ e = some_none x e
+
+  quiet_release : (micro : Micro) → release_ask l q micro ≡ Some x → Quiet x
+  quiet_release (micros.Release place word) e = when_word _ _ _ x refl e
+  quiet_release _ e = some_none x e
+
+  quiet_line : (m : Meaning) (kind : EventKind) (free : List ℕ) (micro : Micro) → line_ask m l kind free q micro ≡ Some x → Quiet x
+  quiet_line m kinds.Commit free micro e = quiet_commit micro e
+  quiet_line m (kinds.LoadCell None) free micro e = quiet_load_cell micro e
+  quiet_line m kinds.ExchangeCell free micro e = quiet_exchange_cell micro e
+  quiet_line m (kinds.PrivateLoad slot word) free micro e = quiet_fill_load m slot word free micro e
+  quiet_line m (kinds.PrivateStore slot word number) free micro e = quiet_fill_store m slot word number micro e
+  quiet_line m kinds.MakeCommit free micro e = quiet_make_commit micro e
+  quiet_line m kinds.RetireCommit free micro e = quiet_retire_commit micro e
+  quiet_line m kinds.EpochForRetire free micro e = quiet_epoch_for_retire micro e
+  quiet_line m kinds.SetDone free micro e = quiet_set_done micro e
+  quiet_line m kinds.Release free micro e = quiet_release micro e
+  quiet_line m kinds.ClockLoad free micro e = quiet_clock_load micro e
+  quiet_line m kinds.StampExchange free micro e = quiet_stamp_exchange micro e
+  quiet_line m kinds.ClockRaise free micro e = quiet_clock_raise micro e
+  quiet_line m kinds.ReplyExchange free micro e = quiet_reply_exchange micro e
+  quiet_line m kinds.NestedLoad free micro e = quiet_nested_load micro e
+  quiet_line m kinds.NestedHold free micro e = quiet_nested_hold micro e
+  quiet_line m kinds.OutcomeLoad free micro e = quiet_outcome_load micro e
+  quiet_line m kinds.OutcomeCommit free micro e = quiet_outcome_commit micro e
+  quiet_line m _ free micro e = some_none x e
+
+  quiet_opening : (kind : EventKind) → opening_ask kind q ≡ Some x → Quiet x
+  quiet_opening (kinds.LoadThunk None) e = when_word _ _ _ x refl e
+  quiet_opening kinds.LoadDone e = when_word _ _ _ x refl e
+  quiet_opening _ e = some_none x e
+
+  quiet_inside : (m : Meaning) (kind : EventKind) (free : List ℕ) (b : Bool) → cond b (line_ask m l kind free q (next_of m q)) (opening_ask kind q) ≡ Some x → Quiet x
+  quiet_inside m kind free true e = quiet_line m kind free (next_of m q) e
+  quiet_inside m kind free false e = quiet_opening kind e
+
+-- in a run no kind changes an entry; outside, none but those that say so
+pub quiet_asks : (m : Meaning) (l : Layout) (rs : List Request) (r : ℕ) (kind : EventKind) (p : PartState) (o : Option RunState) (x : Spot × Access)
+    → is_entry kind ≡ false → ask_by m l rs r kind p o ≡ Some x → Quiet x
+quiet_asks m l rs r kind p None x k e = quiet_outside m l rs r kind p x k e
+quiet_asks m l rs r kind p (Some q) x k e = quiet_inside l q x m kind p.nodes.free (is_open_run q) e
+
+either_stage : (b : Bool) (p p' p'' : PartState) → p'.stage ≡ p.stage → p''.stage ≡ p.stage → (cond b p' p'').stage ≡ p.stage
+either_stage true p p' p'' e e' = e
+either_stage false p p' p'' e e' = e'
+
+-- the stage stays
+module _ (m : Meaning) (l : Layout) where
+  retired_stage : (p : PartState) (o : Option Published) (found : ℕ) → (retire_after p o found).stage ≡ p.stage
+  retired_stage p None found = refl
+  retired_stage p (Some x) found = refl
+
+  outside_stage : (kind : EventKind) (p : PartState) (found : ℕ) → is_entry kind ≡ false → (outside_after m l kind p found).stage ≡ p.stage
+  outside_stage kinds.EnterLoad p found k = absurd (let y = k in cc)
+  outside_stage kinds.Announce p found k = absurd (let y = k in cc)
+  outside_stage kinds.EnterAgain p found k = absurd (let y = k in cc)
+  outside_stage kinds.Idle p found k = absurd (let y = k in cc)
+  outside_stage kinds.ScanEpoch p found k = absurd (let y = k in cc)
+  outside_stage (kinds.ScanOne n) p found k = absurd (let y = k in cc)
+  outside_stage kinds.Advance p found k = absurd (let y = k in cc)
+  outside_stage kinds.Split p found k = either_stage _ p _ _ refl refl
+  outside_stage (kinds.Join worker) p found k = refl
+  outside_stage (kinds.LoadCell (Some place)) p found k = refl
+  outside_stage (kinds.LoadEntry request reply) p found k = refl
+  outside_stage (kinds.PrivateLoad slot word) p found k = refl
+  outside_stage (kinds.PrivateStore slot word number) p found k = refl
+  outside_stage (kinds.Hold thunk d) p found k = either_stage _ p _ _ refl refl
+  outside_stage (kinds.LoadThunk (Some d)) p found k = refl
+  outside_stage kinds.EpochForRetire p found k = retired_stage p p.published found
+  outside_stage _ p found k = refl
+
+  module _ (p : PartState) (q : RunState) (found : ℕ) where
+    filled_stage : (slot : ℕ) (o : Option ℕ) → (fill_loaded m l slot p q o found).stage ≡ p.stage
+    filled_stage slot None = refl
+    filled_stage slot (Some s) = refl
+
+    made_stage : (o : Option ℕ) → (make_committed m l p q o found).stage ≡ p.stage
+    made_stage None = refl
+    made_stage (Some s) = refl
+
+    line_stage : (kind : EventKind) (micro : Micro) → (line_after m l kind p q micro found).stage ≡ p.stage
+    line_stage kinds.Commit micro = either_stage _ p _ _ refl refl
+    line_stage (kinds.LoadCell place) micro = refl
+    line_stage kinds.ExchangeCell micro = refl
+    line_stage (kinds.PrivateLoad slot word) micro = filled_stage slot q.made
+    line_stage (kinds.PrivateStore slot word number) micro = refl
+    line_stage kinds.MakeCommit micro = made_stage q.made
+    line_stage kinds.RetireCommit micro = refl
+    line_stage kinds.EpochForRetire micro = refl
+    line_stage kinds.SetDone micro = refl
+    line_stage kinds.Release micro = either_stage _ p _ _ refl refl
+    line_stage kinds.ClockLoad micro = refl
+    line_stage kinds.StampExchange micro = either_stage _ p _ _ refl refl
+    line_stage kinds.ClockRaise micro = refl
+    line_stage kinds.ReplyExchange micro = refl
+    line_stage kinds.NestedLoad micro = refl
+    line_stage kinds.NestedHold micro = refl
+    line_stage kinds.OutcomeLoad micro = refl
+    line_stage kinds.OutcomeCommit micro = refl
+    line_stage _ micro = refl
+
+    inside_stage : (kind : EventKind) → (inside_after m l kind p q found).stage ≡ p.stage
+    inside_stage kind = either_stage (is_open_run q) p _ _ (line_stage kind (next_of m q)) refl
+
+  pub stage_kept : (kind : EventKind) (p : PartState) (o : Option RunState) (found : ℕ) → is_entry kind ≡ false → (after_by m l kind p o found).stage ≡ p.stage
+  stage_kept kind p None found k = outside_stage kind p found k
+  stage_kept kind p (Some q) found k = inside_stage p q found kind

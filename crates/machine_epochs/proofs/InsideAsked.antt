@@ -1,0 +1,130 @@
+-- What it says of a run that an event of its is enabled.
+use Rattle.std.specs.Prelude.{◌==◌, ◌&&◌, Bool, true, nat_lt, length}
+use Rattle.std.proofs.Common.{◌≡◌, ◌⊎◌, inl, inr, ℕ, ◌+◌, ◌<◌, List, refl, Option, Some, None}
+use Rattle.std.proofs.Common.{arith}
+use Rattle.std.proofs.lemmas.Bool.Decides.{nat_tests}
+use Rattle.section_body.specs.declared.micro.Source.{Source}
+use Rattle.section_body.specs.declared.micro.Micro.{Micro}
+use Rattle.section_body.specs.declared.micro.Micro.TheVariants as micros
+use Rattle.table_words.specs.declared.layout.Layout.{Layout}
+use Rattle.table_words.specs.declared.spot.Spot.{Spot}
+use Rattle.table_words.specs.declared.spot.Spot.TheVariants.{Epoch, Clock, Stamp, Reply, Cell, ThunkWord, DoneWord, LogWord}
+use Rattle.table_words.specs.declared.access.Access.{Access}
+use Rattle.table_words.specs.declared.access.Access.TheVariants.{Loads, Stores, Exchanges}
+use Rattle.table_words.specs.Places.{slot_count}
+use Rattle.structure_laws.specs.Meaning.{Meaning}
+use Rattle.runner_parts.specs.State.{RunState}
+use Rattle.runner_steps.specs.Sections.{thunk_of}
+use Rattle.runner_steps.specs.InRun.{open_more_ask, load_done_ask, commit_ask, load_cell_ask, exchange_cell_ask, make_slot, is_slot, fill_load_ask, fill_store_ask, make_commit_to, make_commit_ask, retire_commit_ask, epoch_for_retire_ask, clock_load_ask, last_clock, stamp_exchange_ask, clock_raise_ask, reply_exchange_ask, nested_load_ask, nested_hold_ask, outcome_load_ask, outcome_commit_ask, set_done_ask, release_ask}
+use Rattle.machine_states.proofs.Steps.{some_same}
+use Rattle.machine_states.proofs.Sights.{if_some, some_none}
+
+module _ (q : RunState) (x : Spot × Access) where
+  -- the step is one on this cell
+  pub record AtCell (micro : Micro) (P : ℕ → Micro → Type 0) : Type 0 where
+    pub place : ℕ
+    pub step : P place micro
+    pub access : Access
+    pub is : (Cell place, access) ≡ x
+
+  pub load_cell_asked : (micro : Micro) → load_cell_ask q micro ≡ Some x → AtCell micro (λ p μ. (log : ℕ) × (μ ≡ micros.LoadCell p log))
+  load_cell_asked (micros.LoadCell place log) e = record { place = place; step = (log, refl); access = Loads; is = some_same _ _ e }
+  load_cell_asked _ e = some_none x e
+
+  pub exchange_cell_asked : (l : Layout) (micro : Micro) → exchange_cell_ask l q micro ≡ Some x → AtCell micro (λ p μ. (log : ℕ) × (v : Source) × (μ ≡ micros.ExchangeCell p log v))
+  exchange_cell_asked l (micros.ExchangeCell place log v) e = record { place = place; step = (log, v, refl); access = _; is = (if_some _ _ _ e).1 }
+  exchange_cell_asked l _ e = some_none x e
+
+  pub nested_load_asked : (micro : Micro) → nested_load_ask q micro ≡ Some x → AtCell micro (λ p μ. (log : ℕ) × (μ ≡ micros.NestedLoad p log))
+  nested_load_asked (micros.NestedLoad place log) e = record { place = place; step = (log, refl); access = Loads; is = some_same _ _ e }
+  nested_load_asked _ e = some_none x e
+
+  pub nested_hold_asked : (l : Layout) (micro : Micro) → nested_hold_ask l q micro ≡ Some x → AtCell micro (λ p μ. (word : ℕ) × (μ ≡ micros.NestedHold p word))
+  nested_hold_asked l (micros.NestedHold place word) e = record { place = place; step = (word, refl); access = _; is = (if_some _ _ _ e).1 }
+  nested_hold_asked l _ e = some_none x e
+
+  pub outcome_load_asked : (micro : Micro) → outcome_load_ask q micro ≡ Some x → AtCell micro (λ p μ. (log : ℕ) × (μ ≡ micros.OutcomeLoad p log))
+  outcome_load_asked (micros.OutcomeLoad place log) e = record { place = place; step = (log, refl); access = Loads; is = some_same _ _ e }
+  outcome_load_asked _ e = some_none x e
+
+  pub release_asked : (l : Layout) (micro : Micro) → release_ask l q micro ≡ Some x → AtCell micro (λ p μ. (word : ℕ) × (μ ≡ micros.Release p word))
+  release_asked l (micros.Release place word) e = record { place = place; step = (word, refl); access = _; is = (if_some _ _ _ e).1 }
+  release_asked l _ e = some_none x e
+
+  pub clock_load_asked : (micro : Micro) → clock_load_ask q micro ≡ Some x → (micro ≡ micros.ClockLoad) × ((Clock, Loads) ≡ x)
+  clock_load_asked micros.ClockLoad e = (refl, some_same _ _ e)
+  clock_load_asked _ e = some_none x e
+
+  pub stamp_exchange_asked : (micro : Micro) → stamp_exchange_ask q micro ≡ Some x → (micro ≡ micros.StampExchange) × (nat_lt q.word last_clock ≡ true) × (access : Access) × ((Stamp (thunk_of q.opened).request, access) ≡ x)
+  stamp_exchange_asked micros.StampExchange e = let h = if_some _ _ _ e in (refl, h.0, _, h.1)
+  stamp_exchange_asked _ e = some_none x e
+
+  pub clock_raise_asked : (micro : Micro) → clock_raise_ask q micro ≡ Some x → (micro ≡ micros.ClockRaise) × (access : Access) × ((Clock, access) ≡ x)
+  clock_raise_asked micros.ClockRaise e = (refl, _, some_same _ _ e)
+  clock_raise_asked _ e = some_none x e
+
+  pub reply_exchange_asked : (micro : Micro) → reply_exchange_ask q micro ≡ Some x → (reply : ℕ) × (micro ≡ micros.ReplyExchange reply) × (access : Access) × ((Reply (thunk_of q.opened).request, access) ≡ x)
+  reply_exchange_asked (micros.ReplyExchange reply) e = (reply, refl, _, some_same _ _ e)
+  reply_exchange_asked _ e = some_none x e
+
+  -- the step agrees on a word at this place of the log
+  pub record AtLog (micro : Micro) (proposal : ℕ) (P : ℕ → Micro → Type 0) : Type 0 where
+    pub log : ℕ
+    pub step : P log micro
+    pub is : (LogWord q.descriptor log, Exchanges 0 proposal) ≡ x
+
+  pub commit_asked : (micro : Micro) → commit_ask q micro ≡ Some x → AtLog micro q.word (λ k μ. (place : ℕ) × ((μ ≡ micros.Commit place k) ⊎ (μ ≡ micros.NestedCommit place k)))
+  commit_asked (micros.Commit place log) e = record { log = log; step = (place, inl refl); is = some_same _ _ e }
+  commit_asked (micros.NestedCommit place log) e = record { log = log; step = (place, inr refl); is = some_same _ _ e }
+  commit_asked _ e = some_none x e
+
+  pub outcome_commit_asked : (micro : Micro) → outcome_commit_ask q micro ≡ Some x → AtLog micro q.word (λ k μ. (place : ℕ) × (μ ≡ micros.OutcomeCommit place k))
+  outcome_commit_asked (micros.OutcomeCommit place log) e = record { log = log; step = (place, refl); is = some_same _ _ e }
+  outcome_commit_asked _ e = some_none x e
+
+  make_asked : (o : Option ℕ) (log : ℕ) → make_commit_to q log o ≡ Some x → (slot : ℕ) × (o ≡ Some slot) × ((LogWord q.descriptor log, Exchanges 0 (slot + 1)) ≡ x)
+  make_asked None log e = some_none x e
+  make_asked (Some slot) log e = (slot, refl, some_same _ _ e)
+
+  pub make_commit_asked : (micro : Micro) → make_commit_ask q micro ≡ Some x → (slot : ℕ) × (q.made ≡ Some slot) × AtLog micro (slot + 1) (λ k μ. μ ≡ micros.MakeCommit k)
+  make_commit_asked (micros.MakeCommit log) e = let h = make_asked q.made log e in (h.0, h.1, record { log = log; step = refl; is = h.2 })
+  make_commit_asked _ e = some_none x e
+
+  pub retire_commit_asked : (micro : Micro) → retire_commit_ask q micro ≡ Some x → (slot : ℕ) × AtLog micro (slot + 1) (λ k μ. μ ≡ micros.RetireCommit slot k)
+  retire_commit_asked (micros.RetireCommit slot log) e = (slot, record { log = log; step = refl; is = some_same _ _ e })
+  retire_commit_asked _ e = some_none x e
+
+  pub epoch_for_retire_asked : (micro : Micro) → epoch_for_retire_ask q micro ≡ Some x → (slot log : ℕ) × (micro ≡ micros.EpochForRetire slot log) × ((Epoch, Loads) ≡ x)
+  epoch_for_retire_asked (micros.EpochForRetire slot log) e = (slot, log, refl, some_same _ _ e)
+  epoch_for_retire_asked _ e = some_none x e
+
+  cell_test : (slot n word cell : ℕ) (b : Bool) → ((nat_lt slot n && nat_lt word 5) && (b && word == cell)) ≡ true → (slot < n) × (b ≡ true)
+  cell_test slot n word cell b e = grind (arith, nat_tests)
+
+  -- a private load or store of a Make is one on a cell of a node slot
+  pub fill_load_asked : (m : Meaning) (l : Layout) (slot word : ℕ) (free : List ℕ) (micro : Micro) → fill_load_ask m l slot word free q micro ≡ Some x
+      → (cell log place : ℕ) × (micro ≡ micros.PrivateLoad cell log) × (slot < slot_count l m.fixed_slots) × (is_slot (make_slot q.made free) slot ≡ true) × ((Cell place, Loads) ≡ x)
+  fill_load_asked m l slot word free (micros.PrivateLoad cell log) e =
+      let h = if_some _ _ _ e in let t = cell_test slot (slot_count l m.fixed_slots) word cell (is_slot (make_slot q.made free) slot) h.0 in (cell, log, _, refl, t.0, t.1, h.1)
+  fill_load_asked m l slot word free _ e = some_none x e
+
+  pub fill_store_asked : (m : Meaning) (l : Layout) (slot word number : ℕ) (micro : Micro) → fill_store_ask m l slot word number q micro ≡ Some x
+      → (cell log place : ℕ) × (v : Source) × (micro ≡ micros.PrivateStore cell log v) × ((Cell place, Stores number) ≡ x)
+  fill_store_asked m l slot word number (micros.PrivateStore cell log v) e = let h = if_some _ _ _ e in (cell, log, _, v, refl, h.1)
+  fill_store_asked m l slot word number _ e = some_none x e
+
+  pub set_done_asked : (micro : Micro) → set_done_ask q micro ≡ Some x → (micro ≡ micros.SetDone) × ((DoneWord q.descriptor, Exchanges 0 1) ≡ x)
+  set_done_asked micros.SetDone e = (refl, some_same _ _ e)
+  set_done_asked _ e = some_none x e
+
+  below_test : (a b : ℕ) → nat_lt a b ≡ true → a < b
+  below_test a b e = grind (arith, nat_tests)
+
+  same_test : (a b : ℕ) → (a == b) ≡ true → a ≡ b
+  same_test a b e = grind (arith, nat_tests)
+
+  pub open_more_asked : open_more_ask q ≡ Some x → (length q.opened < 12) × ((ThunkWord q.descriptor (length q.opened), Loads) ≡ x)
+  open_more_asked e = let h = if_some _ _ _ e in (below_test _ _ h.0, h.1)
+
+  pub load_done_asked : load_done_ask q ≡ Some x → (length q.opened ≡ 12) × ((DoneWord q.descriptor, Loads) ≡ x)
+  load_done_asked e = let h = if_some _ _ _ e in (same_test _ _ h.0, h.1)

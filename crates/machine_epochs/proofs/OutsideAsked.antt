@@ -1,0 +1,178 @@
+-- What it says of a runner in no run that an event of its is enabled.
+use Rattle.std.specs.Prelude.{◌==◌, ◌&&◌, cond, Bool, true, false, nat_lt, nat_le, is_none, not, slice_get}
+use Rattle.std.proofs.Common.{◌≡◌, ℕ, ◌+◌, ◌-◌, ◌<◌, ◌≤◌, List, length, sym, refl, ap, subst, arith, Option, Some, None}
+use Rattle.std.proofs.lemmas.Bool.Decides.{nat_tests}
+use Rattle.map_history.specs.declared.op.Request.{Request}
+use Rattle.section_body.specs.declared.thunk.Thunk.{Thunk}
+use Rattle.section_body.specs.Word.{held_word, is_free, is_spent}
+use Rattle.table_words.specs.declared.layout.Layout.{Layout}
+use Rattle.table_words.specs.declared.spot.Spot.{Spot}
+use Rattle.table_words.specs.declared.spot.Spot.TheVariants.{Seat, Epoch, Announcement, Cell, ThunkWord}
+use Rattle.table_words.specs.Places.{slot_count, descriptor_count}
+use Rattle.table_words.specs.declared.access.Access.{Access}
+use Rattle.table_words.specs.declared.access.Access.TheVariants.{Loads, Stores, Exchanges}
+use Rattle.structure_laws.specs.Meaning.{Meaning}
+use Rattle.runner_parts.specs.declared.entries.Published.{Published}
+use Rattle.runner_parts.specs.declared.stage.Stage.{Stage}
+use Rattle.runner_parts.specs.declared.stage.Stage.TheVariants.{Idle, Loaded, Announced, Entered, Scanning}
+use Rattle.runner_parts.specs.State.{RunState, PartState}
+use Rattle.runner_parts.specs.Tests.{has, is_walking, is_prepared}
+use Rattle.runner_parts.specs.Tests as tests
+use Rattle.runner_steps.specs.Outside.{when, last_epoch, enter_load_ask, announce_ask, enter_again_ask, idle_ask, scan_one_ask, advance_ask, split_ask, entry_spot, entry_ask, read_ask, private_load_ask, descriptor_spot, private_store_ask, hold_ask, open_ask, is_over, retire_ask}
+use Rattle.machine_states.proofs.Steps.{some_same}
+use Rattle.machine_states.proofs.Sights.{if_some, some_none}
+
+pub walking : (stage : Stage) (run : Option RunState) → is_walking stage run ≡ true → (g : ℕ) × (stage ≡ Entered g) × (run ≡ None)
+walking (Entered g) None e = (g, refl, refl)
+walking _ _ e = absurd (let x = e in cc)
+
+pub enter_load_asked : (stage : Stage) (x : Spot × Access) → enter_load_ask stage ≡ Some x → (stage ≡ Idle) × ((Epoch, Loads) ≡ x)
+enter_load_asked Idle x e = (refl, some_same _ _ e)
+enter_load_asked _ x e = some_none x e
+
+pub announce_asked : (r : ℕ) (stage : Stage) (x : Spot × Access) → announce_ask r stage ≡ Some x → (n : ℕ) × (stage ≡ Loaded n) × ((Announcement r, Stores n) ≡ x)
+announce_asked r (Loaded n) x e = (n, refl, some_same _ _ e)
+announce_asked r _ x e = some_none x e
+
+pub enter_again_asked : (stage : Stage) (x : Spot × Access) → enter_again_ask stage ≡ Some x → (stage ≡ Announced) × ((Epoch, Loads) ≡ x)
+enter_again_asked Announced x e = (refl, some_same _ _ e)
+enter_again_asked _ x e = some_none x e
+
+both : (a b : Bool) → (a && b) ≡ true → (a ≡ true) × (b ≡ true)
+both true b e = (refl, e)
+both false b e = absurd (let x = e in cc)
+
+pub idle_asked : (r : ℕ) (p : PartState) (x : Spot × Access) → idle_ask r p ≡ Some x → (g : ℕ) × (p.stage ≡ Entered g) × (p.run ≡ None) × ((Announcement r, Stores 0) ≡ x)
+idle_asked r p x e =
+    let h = if_some _ _ x e in
+    let w = walking p.stage p.run (both _ _ h.0).0 in (w.0, w.1, w.2, h.1)
+
+next_test : (n next runners : ℕ) → (n == next && nat_le next runners) ≡ true → (n ≡ next) × (next ≤ runners)
+next_test n next runners e = grind (arith, nat_tests)
+
+pub scan_one_asked : (l : Layout) (n : ℕ) (stage : Stage) (x : Spot × Access) → scan_one_ask l n stage ≡ Some x
+    → (epoch : ℕ) × (clear : Bool) × (stage ≡ Scanning epoch n clear) × (n ≤ l.runners) × ((Announcement n, Loads) ≡ x)
+scan_one_asked l n (Scanning epoch next clear) x e =
+    let h = if_some _ _ x e in
+    let t = next_test n next l.runners h.0 in (epoch, clear, ap (λ k. Scanning epoch k clear) (sym t.0), subst (λ k. k ≤ l.runners) (sym t.0) t.1, h.1)
+scan_one_asked l n _ x e = some_none x e
+
+advance_test : (runners next epoch : ℕ) (clear : Bool) → (nat_lt runners next && (clear && nat_lt epoch last_epoch)) ≡ true → (runners < next) × (clear ≡ true) × (epoch < last_epoch)
+advance_test runners next epoch clear e = grind (arith, nat_tests)
+
+pub advance_asked : (l : Layout) (stage : Stage) (x : Spot × Access) → advance_ask l stage ≡ Some x
+    → (epoch next : ℕ) × (stage ≡ Scanning epoch next true) × (l.runners < next) × (epoch < last_epoch) × ((Epoch, Exchanges epoch (epoch + 1)) ≡ x)
+advance_asked l (Scanning epoch next clear) x e =
+    let h = if_some _ _ x e in
+    let t = advance_test l.runners next epoch clear h.0 in (epoch, next, ap (λ b. Scanning epoch next b) t.1, t.0, t.2, h.1)
+advance_asked l _ x e = some_none x e
+
+pub split_asked : (l : Layout) (r : ℕ) (p : PartState) (x : Spot × Access) → split_ask l r p ≡ Some x → (Seat, Loads) ≡ x
+split_asked l r p x e = (if_some _ _ x e).1
+
+pub entry_asked : (request : ℕ) (reply : Bool) (p : PartState) (x : Spot × Access) → entry_ask request reply p ≡ Some x → (entry_spot request reply, Loads) ≡ x
+entry_asked request reply p x e = (if_some _ _ x e).1
+
+pub read_asked : (m : Meaning) (place : ℕ) (p : PartState) (x : Spot × Access) → read_ask m place p ≡ Some x → (g : ℕ) × (p.stage ≡ Entered g) × ((Cell place, Loads) ≡ x)
+read_asked m place p x e =
+    let h = if_some _ _ x e in
+    let w = walking p.stage p.run (both _ _ h.0).0 in (w.0, w.1, h.1)
+
+load_of : (b b' c : Bool) (a a' : Spot) (x : Spot × Access) → cond c (when b a Loads) (when b' a' Loads) ≡ Some x → (spot : Spot) × ((spot, Loads) ≡ x)
+load_of b b' true a a' x e = (a, (if_some b _ x e).1)
+load_of b b' false a a' x e = (a', (if_some b' _ x e).1)
+
+pub private_load_asked : (m : Meaning) (l : Layout) (slot word : ℕ) (p : PartState) (x : Spot × Access) → private_load_ask m l slot word p ≡ Some x → (spot : Spot) × ((spot, Loads) ≡ x)
+private_load_asked m l slot word p x e = load_of _ _ (nat_lt slot (slot_count l m.fixed_slots)) _ _ x e
+
+store_test : (n slot : ℕ) (a b : Bool) → (nat_le n slot && (a && b)) ≡ true → b ≡ true
+store_test n slot a true e = refl
+store_test n slot true false e = grind (arith, nat_tests)
+store_test n slot false false e = grind (arith, nat_tests)
+
+-- a private store is one into a word of an own free descriptor
+pub private_store_asked : (m : Meaning) (l : Layout) (slot word number : ℕ) (p : PartState) (x : Spot × Access) → private_store_ask m l slot word number p ≡ Some x
+    → (has p.descriptors.free (slot - slot_count l m.fixed_slots) ≡ true) × ((descriptor_spot (slot - slot_count l m.fixed_slots) word, Stores number) ≡ x)
+private_store_asked m l slot word number p x e = let h = if_some _ _ x e in (store_test (slot_count l m.fixed_slots) slot _ _ h.0, h.1)
+
+-- what a publication needs
+pub record HoldAsked (m : Meaning) (l : Layout) (rs : List Request) (t : Thunk) (d : ℕ) (p : PartState) (x : Spot × Access) : Type 0 where
+  pub few : d < descriptor_count l
+  pub free : has p.descriptors.free d ≡ true
+  pub eight : length t.operands ≡ 8
+  pub prepared : is_prepared p.descriptors.stored d t ≡ true
+  pub entry : ℕ
+  pub entered : p.stage ≡ Entered entry
+  pub unpublished : p.published ≡ None
+  pub unheld : is_free t.word ≡ true
+  pub unspent : is_spent l.version_max t.word ≡ false
+  pub request : Request
+  pub of_request : slice_get rs t.request ≡ Some request
+  pub serves : m.fits l request.op p.reads.walk t ≡ true
+  pub is : (Cell t.lock, Exchanges t.word (held_word d t.word)) ≡ x
+
+lt_test : (a b : ℕ) → nat_lt a b ≡ true → a < b
+lt_test a b e = grind (arith, nat_tests)
+
+same_test : (a b : ℕ) → (a == b) ≡ true → a ≡ b
+same_test a b e = grind (arith, nat_tests)
+
+no_option : {A : Type 0} → (o : Option A) → is_none o ≡ true → o ≡ None
+no_option None e = refl
+no_option (Some y) e = absurd (let x = e in cc)
+
+not_so : (b : Bool) → not b ≡ true → b ≡ false
+not_so false e = refl
+not_so true e = absurd (let x = e in cc)
+
+-- what serves a request serves one that there is
+serves_some : (m : Meaning) (l : Layout) (walk : List (ℕ × ℕ)) (t : Thunk) (o : Option Request) → tests.serves m l walk t o ≡ true
+    → (q : Request) × (o ≡ Some q) × (m.fits l q.op walk t ≡ true)
+serves_some m l walk t None e = absurd (let x = e in cc)
+serves_some m l walk t (Some q) e = (q, refl, e)
+
+pub hold_asked : (m : Meaning) (l : Layout) (rs : List Request) (r : ℕ) (t : Thunk) (d : ℕ) (p : PartState) (x : Spot × Access) → hold_ask m l rs r t d p ≡ Some x → HoldAsked m l rs t d p x
+hold_asked m l rs r t d p x e =
+    let h = if_some _ _ x e in
+    let b = both _ _ h.0 in
+    let ready = both _ _ b.0 in
+    let own = both _ _ ready.1 in
+    let words = both _ _ own.1 in
+    let may = both _ _ b.1 in
+    let w = walking p.stage p.run may.0 in
+    let rest = both _ _ may.1 in
+    let due = both _ _ rest.1 in
+    let lock = both _ _ due.0 in
+    let request = serves_some m l p.reads.walk t (slice_get rs t.request) (both _ _ due.1).1 in
+    record {
+      few = lt_test _ _ ready.0;
+      free = own.0;
+      eight = same_test _ _ words.0;
+      prepared = words.1;
+      entry = w.0;
+      entered = w.1;
+      unpublished = no_option p.published rest.0;
+      unheld = lock.0;
+      unspent = not_so _ (both _ _ lock.1).0;
+      request = request.0;
+      of_request = request.1;
+      serves = request.2;
+      is = h.1;
+    }
+
+pub open_asked : (d : ℕ) (p : PartState) (x : Spot × Access) → open_ask d p ≡ Some x → (g : ℕ) × (p.stage ≡ Entered g) × (has p.reads.held d ≡ true) × ((ThunkWord d 0, Loads) ≡ x)
+open_asked d p x e =
+    let h = if_some _ _ x e in
+    let b = both _ _ h.0 in
+    let w = walking p.stage p.run b.0 in (w.0, w.1, b.1, h.1)
+
+over_some : (o : Option Published) → is_over o ≡ true → (y : Published) × (o ≡ Some y)
+over_some None e = absurd (let x = e in cc)
+over_some (Some y) e = (y, refl)
+
+pub retire_asked : (p : PartState) (x : Spot × Access) → retire_ask p ≡ Some x → (g : ℕ) × (y : Published) × (p.stage ≡ Entered g) × (p.published ≡ Some y) × ((Epoch, Loads) ≡ x)
+retire_asked p x e =
+    let h = if_some _ _ x e in
+    let b = both _ _ h.0 in
+    let w = walking p.stage p.run b.0 in
+    let o = over_some p.published b.1 in (w.0, o.0, w.1, o.1, h.1)

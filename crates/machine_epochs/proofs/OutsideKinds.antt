@@ -1,0 +1,289 @@
+-- The kinds of step outside a run that change no stage.
+use Rattle.std.specs.Prelude.{◌==◌, ◌&&◌, ◌||◌, cond, Bool, true, false, nat_lt, slice_index}
+use Rattle.std.proofs.Common.{◌≡◌, ℕ, zero, suc, ◌+◌, ◌<◌, ◌≤◌, List, [], ◌∷◌, ◌++◌, length, refl, sym, ap, ◌∙◌, subst, arith, Some, None}
+use Rattle.std.proofs.lemmas.Bool.Decides.{nat_tests}
+use Rattle.section_body.specs.declared.thunk.Thunk.{Thunk}
+use Rattle.table_words.specs.declared.layout.Layout.{Layout}
+use Rattle.table_words.specs.declared.spot.Spot.{Spot}
+use Rattle.table_words.specs.declared.spot.Spot.TheVariants.{Seat, Cell, ThunkWord}
+use Rattle.table_words.specs.declared.access.Access.{Access}
+use Rattle.table_words.specs.Access.{written}
+use Rattle.table_words.specs.Seen.{upd, put}
+use Rattle.structure_laws.specs.Meaning.{Meaning}
+use Rattle.runner_parts.specs.declared.event.EventKind.{EventKind}
+use Rattle.runner_parts.specs.declared.event.EventKind.TheVariants as kinds
+use Rattle.runner_parts.specs.declared.stage.Stage.TheVariants.{Entered}
+use Rattle.runner_parts.specs.declared.entries.Tested.{Tested}
+use Rattle.runner_parts.specs.State.{RunState, PartState, NodesState, ReadsState, RecordsState}
+use Rattle.runner_parts.specs.Tests.{has}
+use Rattle.runner_steps.specs.Outside.{split_ask, entry_ask, read_ask, private_load_ask, open_ask}
+use Rattle.runner_parts.specs.Lists as lists
+use Rattle.runner_steps.specs.AfterOutside as outside
+use Rattle.runner_steps.specs.After.{outside_after}
+use Rattle.epoch_core.specs.declared.location.Location.TheVariants.{Hand}
+use Rattle.epoch_core.specs.Moves.{tested}
+use Rattle.epoch_core.specs.State.{EpochState, no_retire, MayHold, is_entered}
+use Rattle.epoch_core.specs.Events as events
+use Rattle.epoch_core.specs.Events.{slot_of}
+use Rattle.epoch_core.specs.Sound.{is_for_nodes}
+use Rattle.epoch_core.specs.History.{is_out}
+use Rattle.epoch_core.specs.Lists.{Lists}
+use Rattle.machine_states.specs.Sight.{Sight}
+use Rattle.machine_states.proofs.Steps.{some_same}
+use Rattle.machine_states.proofs.Updates.{map_same, map_upd}
+use Rattle.machine_epochs.specs.Entries.{counts_of, stage_of}
+use Rattle.machine_epochs.specs.Roles.{role_at}
+use Rattle.machine_epochs.specs.Slots.{lists_of, retiring_of}
+use Rattle.machine_epochs.specs.Joined.{IsTied, IsJoinedToEpochs}
+use Rattle.machine_epochs.specs.Chunks.{is_last_look, IsOutsideChunk}
+use Rattle.machine_epochs.specs.Supplied.{reaches_node, names_slot, comes_outside}
+use Rattle.machine_epochs.proofs.OutsideAsked as asked
+use Rattle.machine_epochs.proofs.RunPlaces.{begins_unretired}
+use Rattle.machine_epochs.proofs.Places.{has_append, names_it, has_times, hand_node}
+use Rattle.machine_epochs.proofs.Joining.{copied, IsSameBut, but_load, descriptor_same, thunk_same, still_tied, Goes, GoesBy, StaysAt, next, as_published, once, stages_stay, stays, goes_with}
+use Rattle.machine_epochs.proofs.CommitKinds.{row_else, row_named}
+use Rattle.machine_epochs.proofs.Reaching.{may_hold}
+use Rattle.machine_epochs.proofs.SlotKinds.{kept_place, other_place, hand_hand, back_lists}
+
+-- a test of a slot is a test of that slot
+test_slot : (tests : List Tested) (slot : ℕ) → (lists.test_of tests slot).slot ≡ slot
+test_slot [] slot = refl
+test_slot (x ∷ xs) slot = by_test (x.slot == slot) refl (test_slot xs slot)
+  where
+    same : (a b : ℕ) → (a == b) ≡ true → a ≡ b
+    same a b h = grind (arith, nat_tests)
+
+    by_test : (b : Bool) → (x.slot == slot) ≡ b → (lists.test_of xs slot).slot ≡ slot → (cond b x (lists.test_of xs slot)).slot ≡ slot
+    by_test true e h = same x.slot slot e
+    by_test false e h = h
+
+first_true : (a b : Bool) → (a && b) ≡ true → a ≡ true
+first_true true b e = refl
+first_true false b e = absurd (let x = e in cc)
+
+module _ (m : Meaning) (l : Layout) (w : EpochState) (s : Sight) (old : IsJoinedToEpochs m l w s) (r : ℕ) (none : (s.part r).run ≡ None) where
+  abbrev p : PartState
+  p = s.part r
+
+  -- the state after a step of this kind on this word, with these records
+  abbrev pub Leads : EventKind → RecordsState → Spot × Access → Type 0
+  Leads kind records x = GoesBy m l (IsOutsideChunk m l r kind p (s.word x.0)) w (next m l w s old r (put s.word x.0 (written x.1 (s.word x.0))) (record (outside_after m l kind p (s.word x.0)) { records = records }))
+
+  -- what is tied to a part in which tests and records alone have changed
+  same_tied : (f : Spot → ℕ) → IsSameBut f s.word → (tests : List Tested) (records : RecordsState) → IsTied m l w f r (record p { nodes = record (p.nodes) { tests = tests }; records = records })
+  same_tied f same tests records = copied m l w f r p (record (p.nodes) { tests = tests }) records p.gone (still_tied m l w w s.word f r p (record {
+    holds = λ t h. h;
+    words = λ d j h. same.thunk d j;
+    hand = λ t h. h;
+    retire = refl;
+    live = λ x e h. h;
+    entered = λ h. h;
+    stored = λ d j h. descriptor_same f s.word same d j;
+  }) (old.tied r))
+
+  -- a load after which tests and records alone have changed
+  notes : (a : Spot) (tests : List Tested) (records : RecordsState) → StaysAt m l w (next m l w s old r (put s.word a (s.word a)) (record p { nodes = record (p.nodes) { tests = tests }; records = records }))
+  notes a tests records = stays m l w s old r _ p' (but_load s.word a) refl refl (as_published m l w s old r p' refl) (same_tied _ (but_load s.word a) tests records)
+    where
+      p' : PartState
+      p' = record p { nodes = record (p.nodes) { tests = tests }; records = records }
+
+  entered_at : (g : ℕ) → p.stage ≡ Entered g → is_entered (w.stage r) ≡ true
+  entered_at g e = ap is_entered (old.entries.stage r ∙ ap stage_of e)
+
+  unretired : w.retire r ≡ no_retire
+  unretired = (old.tied r).retire ∙ ap (retiring_of m) none
+
+  pub load_entry : (records : RecordsState) (request : ℕ) (reply : Bool) (x : Spot × Access) → entry_ask request reply p ≡ Some x → Leads (kinds.LoadEntry request reply) records x
+  load_entry records request reply x e = subst (Leads (kinds.LoadEntry request reply) records) (asked.entry_asked request reply p x e) (notes _ p.nodes.tests records)
+
+  pub split : (records : RecordsState) (x : Spot × Access) → split_ask l r p ≡ Some x → Leads kinds.Split records x
+  split records x e = subst (Leads kinds.Split records) (asked.split_asked l r p x e) (by_test (nat_lt p.records.splits l.runners))
+    where
+      by_test : (b : Bool) → StaysAt m l w (next m l w s old r (put s.word Seat (s.word Seat)) (record (cond b (record p { records = record (p.records) { splits = p.records.splits + 1 } }) p) { records = records }))
+      by_test true = notes Seat p.nodes.tests records
+      by_test false = notes Seat p.nodes.tests records
+
+  -- a run begins with the first word of a descriptor that the runner holds
+  pub load_thunk : (records : RecordsState) (d : ℕ) (x : Spot × Access) → open_ask d p ≡ Some x → Leads (kinds.LoadThunk (Some d)) records x
+  load_thunk records d x e =
+      let h = asked.open_asked d p x e in
+      let found = s.word (ThunkWord d 0) in
+      let begun : RunState = outside.opened d found in
+      let p' : PartState = record p { run = Some begun; records = records } in
+      subst (Leads (kinds.LoadThunk (Some d)) records) h.3 (stays m l w s old r _ p' (but_load s.word (ThunkWord d 0)) refl refl (as_published m l w s old r p' refl) (record {
+        run_held = λ q e'. ap (λ (a : RunState). w.holds r (slot_of (counts_of m l) a.descriptor)) (sym (some_same begun q e')) ∙ (old.tied r).named d (entered_at h.0 h.1) h.2;
+        run_opened = λ q j e' low low'. subst (λ (a : RunState). j < length a.opened → slice_index a.opened j ≡ put s.word (ThunkWord d 0) found (ThunkWord a.descriptor j)) (some_same begun q e') (first d j) low;
+        run_begins = λ q e' few. ap (λ (a : RunState). a.at) (sym (some_same begun q e'));
+        run_made = λ q t e' made. absurd (let y = ap (λ (a : RunState). a.made) (some_same begun q e') ∙ made in cc);
+        retire = unretired ∙ sym (begins_unretired m begun refl);
+        published = (old.tied r).published;
+        named = (old.tied r).named;
+        reached = (old.tied r).reached;
+        stored_free = (old.tied r).stored_free;
+        stored = λ d' j n free last. descriptor_same _ s.word (but_load s.word (ThunkWord d 0)) d' j ∙ (old.tied r).stored d' j n free last;
+      }))
+    where
+      here : (d v w : ℕ) → v ≡ cond (d == d) v w
+      here d v w = grind (arith, nat_tests)
+
+      first : (d j : ℕ) → j < 1 → slice_index (s.word (ThunkWord d 0) ∷ []) j ≡ put s.word (ThunkWord d 0) (s.word (ThunkWord d 0)) (ThunkWord d j)
+      first d zero low = here d (s.word (ThunkWord d 0)) (s.word (ThunkWord d 0))
+      first d (suc j) low = absurd (omega arith)
+
+  -- readings by which the runner comes to hold these slots
+  module _ (f : Spot → ℕ) (same : IsSameBut f s.word) (entered : is_entered (w.stage r) ≡ true) (comes : ℕ → Bool) (may : (t : ℕ) → comes t ≡ true → w.holds r t ≡ false → MayHold w r t) where
+    pub reads : (now : ReadsState) (records : RecordsState) → ((d : ℕ) → has now.held d ≡ true → (has p.reads.held d || comes (slot_of (counts_of m l) d)) ≡ true)
+        → ((t : ℕ) → t < (counts_of m l).nodes → m.reaches now.walk t ≡ true → (m.reaches p.reads.walk t || comes t) ≡ true)
+        → Goes m l (events.Reach r comes ∷ []) w (next m l w s old r f (record p { reads = now; records = records }))
+    reads now records named reached =
+        goes_with m l w s old r (events.Reach r comes ∷ []) ((entered, λ t h. may_hold (counts_of m l) w old.sound r t (may t h)), tt) f p'
+        (sym (map_same lists_of s.part r p' refl))
+        (record {
+          epoch = old.entries.epoch ∙ sym same.epoch;
+          announced = λ i. old.entries.announced i ∙ sym (same.announced i);
+          stage = stages_stay m l w s old r f p' refl;
+        })
+        (λ d k. old.log d k ∙ sym (same.log d k))
+        (λ d k high. same.log d k ∙ old.past d k high)
+        (λ d k out. old.roles d k out ∙ ap (λ (t : Thunk). role_at (m.body t) k) (sym (thunk_same f s.word d (same.thunk d))))
+        (once m l w s old r p' (as_published m l w s old r p' refl))
+        (record {
+          run_held = λ q e. absurd (let y = sym none ∙ e in cc);
+          run_opened = λ q j e low low'. absurd (let y = sym none ∙ e in cc);
+          run_begins = λ q e few. absurd (let y = sym none ∙ e in cc);
+          run_made = λ q t e made. absurd (let y = sym none ∙ e in cc);
+          retire = (old.tied r).retire;
+          published = (old.tied r).published;
+          named = λ d isin is_named. row_named r (has p.reads.held d) (comes (slot_of (counts_of m l) d)) (w.holds r (slot_of (counts_of m l) d)) ((old.tied r).named d entered) (named d is_named);
+          reached = λ t isin node is_there. row_named r (m.reaches p.reads.walk t) (comes t) (w.holds r t) ((old.tied r).reached t entered node) (reached t node is_there);
+          stored_free = (old.tied r).stored_free;
+          stored = λ d j n free last. descriptor_same f s.word same d j ∙ (old.tied r).stored d j n free last;
+        })
+        (λ i ne. record {
+          holds = λ t h. row_else w.holds r i t (λ u. w.holds r u || comes u) ne h;
+          words = λ d j h. same.thunk d j;
+          hand = λ t h. h;
+          retire = refl;
+          live = λ x e h. h;
+          entered = λ h. h;
+          stored = λ d j h. descriptor_same f s.word same d j;
+        })
+      where
+        p' : PartState
+        p' = record p { reads = now; records = records }
+
+  -- a cell is read outside a run
+  module _ (records : RecordsState) (place : ℕ) (x : Spot × Access) where
+    abbrev comes : ℕ → ℕ → Bool
+    comes found t = comes_outside m (counts_of m l) (kinds.LoadCell (Some place)) p found t
+
+    named_then : (found d : ℕ) (lock b : Bool) → has (p.reads.held ++ cond lock (lists.named_by found) []) d ≡ true → (has p.reads.held d || (b || (lock && names_slot (counts_of m l) found (slot_of (counts_of m l) d)))) ≡ true
+    named_then found d true b h = or_right (has p.reads.held d) b _ (sym (has_append p.reads.held (lists.named_by found) d ∙ ap (λ a. has p.reads.held d || a) (names_it (counts_of m l) found d)) ∙ h)
+      where
+        or_right : (a b c : Bool) → (a || c) ≡ true → (a || (b || c)) ≡ true
+        or_right a b c e = grind arith
+    named_then found d false b h = or_left (has p.reads.held d) (b || (false && names_slot (counts_of m l) found (slot_of (counts_of m l) d))) (sym (has_append p.reads.held [] d) ∙ h)
+      where
+        or_left : (a b : Bool) → (a || false) ≡ true → (a || b) ≡ true
+        or_left a b e = grind arith
+
+    reached_then : (t n : ℕ) (a b c : Bool) → t < n → b ≡ true → (a || ((nat_lt t n && b) || c)) ≡ true
+    reached_then t n a b c low e = grind (arith, nat_tests)
+
+    abbrev May : Spot × Access → Type 0
+    May y = (t : ℕ) → comes (s.word y.0) t ≡ true → w.holds r t ≡ false → MayHold w r t
+
+    pub load_cell : May x → read_ask m place p ≡ Some x → Leads (kinds.LoadCell (Some place)) records x
+    load_cell may e =
+        let h = asked.read_asked m place p x e in
+        let found = s.word (Cell place) in
+        subst (Leads (kinds.LoadCell (Some place)) records) h.2 (
+          _,
+          refl,
+          reads _ (but_load s.word (Cell place)) (entered_at h.0 h.1) (comes found) (subst May (sym h.2) may) (lists.walked p.reads (m.is_lock place) place found) records
+              (λ d is_named. named_then found d (m.is_lock place) (reaches_node m (counts_of m l) (p.reads.walk ++ (place, found) ∷ []) (slot_of (counts_of m l) d)) is_named)
+              (λ t node is_there. reached_then t (counts_of m l).nodes (m.reaches p.reads.walk t) (m.reaches (p.reads.walk ++ (place, found) ∷ []) t) (m.is_lock place && names_slot (counts_of m l) found t) node is_there),
+        )
+
+  -- a slot in the hand was looked at whole, and comes back
+  module _ (a : Spot) (t : ℕ) (worn : Bool) (in_hand : w.location t ≡ Hand r) (records : RecordsState) where
+    abbrev back : PartState
+    back = record p { nodes = lists.slot_back p.nodes t worn; records = records }
+
+    abbrev f : Spot → ℕ
+    f = put s.word a (s.word a)
+
+    same : IsSameBut f s.word
+    same = but_load s.word a
+
+    node : t < (counts_of m l).nodes
+    node = old.sound.for_nodes t (ap is_for_nodes in_hand)
+
+    descriptor_place : (d : ℕ) → upd w.location t (tested worn r) (slot_of (counts_of m l) d) ≡ w.location (slot_of (counts_of m l) d)
+    descriptor_place d = let low = node in other_place w.location t (slot_of (counts_of m l) d) (tested worn r) (λ e. absurd (omega arith))
+
+    comes_back : Goes m l (events.Test r t worn ∷ []) w (next m l w s old r f back)
+    comes_back =
+        goes_with m l w s old r (events.Test r t worn ∷ []) (in_hand, tt) f back
+        (ap (λ (x : Lists). upd (λ i. lists_of (s.part i)) r x) (back_lists p t worn) ∙ sym (map_upd lists_of s.part r back))
+        (record {
+          epoch = old.entries.epoch ∙ sym same.epoch;
+          announced = λ i. old.entries.announced i ∙ sym (same.announced i);
+          stage = stages_stay m l w s old r f back refl;
+        })
+        (λ d k. old.log d k ∙ sym (same.log d k))
+        (λ d k high. same.log d k ∙ old.past d k high)
+        (λ d k out. old.roles d k (ap is_out (sym (descriptor_place d)) ∙ out) ∙ ap (λ (u : Thunk). role_at (m.body u) k) (sym (thunk_same f s.word d (same.thunk d))))
+        (once m l w s old r back (as_published m l w s old r back refl))
+        (record {
+          run_held = λ q e. absurd (let y = sym none ∙ e in cc);
+          run_opened = λ q j e low low'. absurd (let y = sym none ∙ e in cc);
+          run_begins = λ q e few. absurd (let y = sym none ∙ e in cc);
+          run_made = λ q u e made. absurd (let y = sym none ∙ e in cc);
+          retire = (old.tied r).retire;
+          published = λ y e. descriptor_place y.descriptor ∙ (old.tied r).published y e;
+          named = (old.tied r).named;
+          reached = (old.tied r).reached;
+          stored_free = (old.tied r).stored_free;
+          stored = λ d j n free last. descriptor_same f s.word same d j ∙ (old.tied r).stored d j n free last;
+        })
+        (λ i ne. record {
+          holds = λ u h. h;
+          words = λ d j h. same.thunk d j;
+          hand = λ u h. kept_place w.location t u (tested worn r) (Hand r) (Hand i) in_hand (hand_hand r i ne) h;
+          retire = refl;
+          live = λ y e h. descriptor_place y.descriptor ∙ h;
+          entered = λ h. h;
+          stored = λ d j h. descriptor_same f s.word same d j;
+        })
+
+  -- a private load looks at a cell of a slot in the hand, or changes nothing
+  module _ (records : RecordsState) (slot word : ℕ) (a : Spot) where
+    abbrev looked : Tested
+    looked = lists.one_more l (lists.test_of p.nodes.tests slot) (s.word a)
+
+    -- it does, where this was the last look
+    abbrev Looks : Bool → NodesState → Type 0
+    Looks last nodes = GoesBy m l (λ es. es ≡ cond last (events.Test r slot looked.worn ∷ []) []) w (next m l w s old r (put s.word a (s.word a)) (record p { nodes = nodes; records = records }))
+
+    in_hand : has p.nodes.hand slot ≡ true → w.location looked.slot ≡ Hand r
+    in_hand e = ap w.location (test_slot p.nodes.tests slot) ∙ hand_node m l w s old r slot (below (counts_of m l).nodes slot (old.listed.hand_nodes r slot) (has_times p.nodes.hand slot e)) e
+      where
+        below : (n t : ℕ) {k : ℕ} → (n ≤ t → k ≡ 0) → 1 ≤ k → t < n
+        below n t h some = grind arith
+
+    whole : (b : Bool) → has p.nodes.hand slot ≡ true → Looks b (cond b (lists.slot_back p.nodes looked.slot looked.worn) (record (p.nodes) { tests = lists.tests_without p.nodes.tests looked.slot ++ looked ∷ [] }))
+    whole true e = (_, ap (λ t. events.Test r t looked.worn ∷ []) (test_slot p.nodes.tests slot), comes_back a looked.slot looked.worn (in_hand e) records)
+    whole false e = notes a _ records
+
+    looks : (b : Bool) → (has p.nodes.hand slot && (word == (lists.test_of p.nodes.tests slot).cells && nat_lt word 5)) ≡ b → Looks (b && looked.cells == 5) (cond b (lists.slot_tested p.nodes looked) p.nodes)
+    looks true e = whole (looked.cells == 5) (first_true _ _ e)
+    looks false e = notes a p.nodes.tests records
+
+    pub looks_at : Looks (is_last_look p.nodes slot word) (lists.nodes_looked l p.nodes slot word (s.word a))
+    looks_at = looks (has p.nodes.hand slot && (word == (lists.test_of p.nodes.tests slot).cells && nat_lt word 5)) refl
+
+  pub private_load : (records : RecordsState) (slot word : ℕ) (x : Spot × Access) → private_load_ask m l slot word p ≡ Some x → Leads (kinds.PrivateLoad slot word) records x
+  private_load records slot word x e = let h = asked.private_load_asked m l slot word p x e in
+      subst (Leads (kinds.PrivateLoad slot word) records) h.1 (looks_at records slot word h.0)

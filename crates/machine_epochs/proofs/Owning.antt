@@ -1,0 +1,180 @@
+-- What parts say of descriptors and limbo lists holds in every state that the machine reaches.
+use Rattle.std.specs.Prelude.{◌==◌, cond, Bool, true, false}
+use Rattle.std.proofs.Common.{◌≡◌, ◌≢◌, ℕ, ◌+◌, ◌<◌, ◌≤◌, List, refl, sym, ap, ◌∙◌, subst, arith, ⊎_elim, Option, Some, None}
+use Rattle.std.proofs.lemmas.Bool.{cases_eq}
+use Rattle.std.proofs.lemmas.Bool.Decides.{nat_tests}
+use Rattle.std.proofs.lemmas.List.Elements.{All-nil}
+use Rattle.map_history.specs.declared.op.Request.{Request}
+use Rattle.table_words.specs.declared.layout.Layout.{Layout}
+use Rattle.table_words.specs.declared.spot.Spot.{Spot}
+use Rattle.table_words.specs.declared.spot.Spot.TheVariants.{Epoch}
+use Rattle.table_words.specs.declared.access.Access.{Access}
+use Rattle.table_words.specs.Access.{exchanged, written}
+use Rattle.table_words.specs.Places.{descriptor_count}
+use Rattle.table_words.specs.Seen.{upd, put}
+use Rattle.structure_laws.specs.Meaning.{Meaning}
+use Rattle.runner_parts.specs.declared.event.EventKind.{EventKind}
+use Rattle.runner_parts.specs.declared.event.EventKind.TheVariants as kinds
+use Rattle.runner_parts.specs.declared.stage.Stage.TheVariants.{Entered}
+use Rattle.runner_parts.specs.State.{RunState, PartState, RecordsState}
+use Rattle.runner_parts.specs.Tests.{has}
+use Rattle.runner_steps.specs.Asks.{asks, ask_by, outside_ask}
+use Rattle.runner_steps.specs.After.{after, after_by, leaves, knows_also}
+use Rattle.epoch_core.specs.State.{is_entered, entry_of}
+use Rattle.epoch_core.specs.Lists.{times}
+use Rattle.machine_states.specs.World.{World}
+use Rattle.machine_states.specs.First.{IsFirst, first_part}
+use Rattle.machine_states.specs.Sight.{Sight, sight, parts_after, sight_after, Steps}
+use Rattle.machine_states.proofs.Updates.{upd_split}
+use Rattle.machine_states.proofs.FirstSights.{first_part_of, first_parts}
+use Rattle.machine_epochs.specs.Entries.{stage_of}
+use Rattle.machine_epochs.specs.Scans.{Found}
+use Rattle.section_body.specs.Line.{micro_at}
+use Rattle.section_body.specs.declared.micro.Micro.TheVariants.{RetireCommit}
+use Rattle.runner_steps.specs.Sections.{line_of}
+use Rattle.epoch_core.specs.State.{Retiring}
+use Rattle.machine_epochs.specs.Slots.{retire_before, retiring_of}
+use Rattle.machine_epochs.specs.Firsts.{owner_of}
+use Rattle.machine_epochs.specs.Descriptors.{DescriptorsAreSound}
+use Rattle.machine_epochs.proofs.OutsideAsked as asked
+use Rattle.machine_epochs.proofs.Elsewhere.{is_entry, quiet_asks}
+use Rattle.machine_epochs.proofs.Entries.{Entries, asks_by, asked_outside}
+use Rattle.machine_epochs.proofs.OwnDescriptors.{IsOwn, one_most, passes}
+use Rattle.machine_epochs.proofs.OwnKinds.{outside_own, inside_own}
+use Rattle.machine_epochs.proofs.FirstJoin.{each_part, own_free}
+
+-- so it is of every part
+abbrev pub Owns : Meaning → Layout → Sight → Type 0
+Owns m l s = (r : ℕ) → IsOwn m l (s.word Epoch) r (s.part r)
+
+-- what a part says hangs on no record, and not on whether the worker was joined
+copied : (m : Meaning) (l : Layout) (epoch r : ℕ) (p : PartState) (records : RecordsState) (gone : Bool) → IsOwn m l epoch r p → IsOwn m l epoch r (record p { records = records; gone = gone })
+copied m l epoch r p records gone o = record {
+  once = o.once;
+  descriptors_most = o.descriptors_most;
+  nodes_most = o.nodes_most;
+  retire_most = o.retire_most;
+  retire_least = o.retire_least;
+  run_begins = o.run_begins;
+  own_count = o.own_count;
+  own_late = o.own_late;
+}
+
+exchanged_most : (now x : ℕ) → now ≤ exchanged now x (x + 1)
+exchanged_most now x = grind (arith, nat_tests)
+
+module _ (m : Meaning) (l : Layout) (rs : List Request) (s : Sight) (r : ℕ) (x : Spot × Access) where
+  abbrev p : PartState
+  p = s.part r
+
+  abbrev Rises : Spot × Access → Type 0
+  Rises y = s.word Epoch ≤ put s.word y.0 (written y.1 (s.word y.0)) Epoch
+
+  rises_outside : (kind : EventKind) → is_entry kind ≡ true → outside_ask m l rs r kind p ≡ Some x → Rises x
+  rises_outside kinds.EnterLoad k e = subst Rises (asked.enter_load_asked p.stage x e).1 (omega arith)
+  rises_outside kinds.Announce k e = subst Rises (asked.announce_asked r p.stage x e).2 (omega arith)
+  rises_outside kinds.EnterAgain k e = subst Rises (asked.enter_again_asked p.stage x e).1 (omega arith)
+  rises_outside kinds.Idle k e = subst Rises (asked.idle_asked r p x e).3 (omega arith)
+  rises_outside kinds.ScanEpoch k e = subst Rises (asked.enter_load_asked p.stage x e).1 (omega arith)
+  rises_outside (kinds.ScanOne n) k e = subst Rises (asked.scan_one_asked l n p.stage x e).4 (omega arith)
+  rises_outside kinds.Advance k e = let h = asked.advance_asked l p.stage x e in subst Rises h.5 (exchanged_most (s.word Epoch) h.0)
+  rises_outside _ k e = absurd (let y = k in cc)
+
+  -- no step makes the epoch smaller
+  rises_by : (b : Bool) (kind : EventKind) → is_entry kind ≡ b → asks m l rs r kind p ≡ Some x → Rises x
+  rises_by true kind k e = rises_outside kind k (asked_outside m l rs s r x kind k e).1
+  rises_by false kind k e = let same = (quiet_asks m l rs r kind p p.run x k (asks_by m l rs r kind p x e) s.word).0 in omega arith
+
+  pub rises : (kind : EventKind) → asks m l rs r kind p ≡ Some x → Rises x
+  rises kind e = rises_by (is_entry kind) kind refl e
+
+  module _ (old : Owns m l s) (entered : (g : ℕ) → p.stage ≡ Entered g → g ≤ s.word Epoch) where
+    own_by : (kind : EventKind) (o : Option RunState) → p.run ≡ o → ask_by m l rs r kind p o ≡ Some x → (records : RecordsState) → IsOwn m l (s.word Epoch) r (record (after_by m l kind p o (s.word x.0)) { records = records })
+    own_by kind None at e records = outside_own m l rs (s.word Epoch) r p (old r) x (s.word x.0) (ap s.word) entered records at kind e
+    own_by kind (Some q) at e records = inside_own m l rs (s.word Epoch) r p (old r) x (s.word x.0) (ap s.word) entered records q at kind e
+
+    -- the stepping runner's part
+    own_after : (kind : EventKind) → asks m l rs r kind p ≡ Some x → IsOwn m l (s.word Epoch) r (after m l r kind x.0 x.1 p (s.word x.0))
+    own_after kind e = own_by kind p.run refl (asks_by m l rs r kind p x e) _
+
+    parts_own : (kind : EventKind) (p' : PartState) → IsOwn m l (s.word Epoch) r p' → (i : ℕ) → IsOwn m l (s.word Epoch) i (parts_after kind s.part r p' i)
+    parts_own (kinds.Join worker) p' own i =
+        upd_split (upd s.part r (knows_also p' (s.part worker))) worker (leaves (s.part worker)) (λ k q. IsOwn m l (s.word Epoch) k q) (copied m l (s.word Epoch) worker (s.part worker) (s.part worker).records true (old worker))
+        (λ k ne. upd_split s.part r (knows_also p' (s.part worker)) (λ j q. IsOwn m l (s.word Epoch) j q) (copied m l (s.word Epoch) r p' _ p'.gone own) (λ j ne'. old j) k) i
+    parts_own _ p' own i = upd_split s.part r p' (λ k q. IsOwn m l (s.word Epoch) k q) own (λ k ne. old k) i
+
+    owns_after : (kind : EventKind) → asks m l rs r kind p ≡ Some x → Owns m l (sight_after m l s r kind x)
+    owns_after kind e i = passes m l (s.word Epoch) i _ _ (rises kind e) (parts_own kind _ (own_after kind e) i)
+
+module _ (m : Meaning) (l : Layout) (rs : List Request) where
+  -- a step keeps it
+  pub owns_step : (found : Found) (s s' : Sight) (r : ℕ) (kind : EventKind) → Steps m l rs s s' r kind → Entries m l found s → Owns m l s → Owns m l s'
+  owns_step found s s' r kind step entries old = subst (Owns m l) (sym step.next) (owns_after m l rs s r step.ask old entered kind step.asked)
+    where
+      entered : (g : ℕ) → (s.part r).stage ≡ Entered g → g ≤ s.word Epoch
+      entered g e =
+          let at = entries.shows.stage r ∙ ap stage_of e in
+          subst (λ n. n ≤ s.word Epoch) (ap entry_of at) (subst (λ n. entry_of (entries.state.stage r) ≤ n) entries.shows.epoch (entries.sound.entered_most r (ap is_entered at)))
+
+  first_own : (epoch r : ℕ) (nodes descriptors : List ℕ) → ((d : ℕ) → d < descriptor_count l → times d descriptors ≡ cond (owner_of l.sections l.runners d == r) 1 0) → IsOwn m l epoch r (first_part nodes descriptors)
+  first_own epoch r nodes descriptors once = record {
+    once = λ d few. let o = once d few in omega arith;
+    descriptors_most = All-nil (λ x. x.epoch ≤ epoch);
+    nodes_most = All-nil (λ x. x.epoch ≤ epoch);
+    retire_most = omega arith;
+    retire_least = λ g at is. absurd (let y = at in cc);
+    run_begins = λ q e few. absurd (let y = e in cc);
+    own_count = λ g d at it. absurd (let y = at in cc);
+    own_late = λ g d at it. absurd (let y = at in cc);
+  }
+
+  -- so it is in the first state
+  pub first_owns : (w : World) → IsFirst m l rs w → Owns m l (sight m l rs w)
+  first_owns w start r = subst (IsOwn m l epoch r) (sym (first_parts m l w.parts start.parts r)) (of_first (first_part_of m l r) (own_free m l r) (shape r))
+    where
+      epoch : ℕ
+      epoch = (sight m l rs w).word Epoch
+
+      Shape : PartState → Type 0
+      Shape q = (nodes : List ℕ) × (descriptors : List ℕ) × (q ≡ first_part nodes descriptors)
+
+      shape : (i : ℕ) → Shape (first_part_of m l i)
+      shape i = each_part m l Shape (_, _, refl) (λ k. (_, _, refl)) (_, _, refl) i
+
+      of_first : (q : PartState) → ((d : ℕ) → d < descriptor_count l → times d q.descriptors.free ≡ cond (owner_of l.sections l.runners d == r) 1 0) → Shape q → IsOwn m l epoch r q
+      of_first q once is = subst (IsOwn m l epoch r) (sym is.2) (first_own epoch r is.0 is.1 (λ d few. sym (ap (λ (a : PartState). times d a.descriptors.free) is.2) ∙ once d few))
+
+-- what is said of descriptors follows
+module _ (m : Meaning) (l : Layout) (s : Sight) (own : Owns m l s) where
+  is_mine : (a b : ℕ) → 1 ≤ cond (a == b) 1 0 → a ≡ b
+  is_mine a b h = grind (arith, nat_tests)
+
+  not_mine : (a b : ℕ) → a ≢ b → ◌≡◌ {A = ℕ} (cond (a == b) 1 0) 0
+  not_mine a b ne = grind (arith, nat_tests)
+
+  unfree : (r i g d : ℕ) → (s.part r).stage ≡ Entered g → has (s.part r).reads.published d ≡ true → times d (s.part i).descriptors.free ≡ 0
+  unfree r i g d at it =
+      let c = (own r).own_count g d at it in
+      let count = c.1 in
+      let mine = (own r).once d c.0 in
+      let most = one_most (owner_of l.sections l.runners d == r) in
+      ⊎_elim
+      (λ same. ap (λ k. times d (s.part k).descriptors.free) same ∙ (let h : times d (s.part r).descriptors.free ≡ 0 = omega arith in h))
+      (λ other. let owner = is_mine (owner_of l.sections l.runners d) r (let h : 1 ≤ cond (owner_of l.sections l.runners d == r) 1 0 = omega arith in h) in
+      let his = (own i).once d c.0 in let none = not_mine (owner_of l.sections l.runners d) i (λ e. other (sym e ∙ owner)) in omega arith)
+      (cases_eq i r)
+
+  recent : (r g slot log : ℕ) (q : RunState) → (s.part r).stage ≡ Entered g → (s.part r).run ≡ Some q → micro_at (line_of m q) q.at ≡ RetireCommit slot log → (g ≤ q.word) × (q.word ≤ s.word Epoch)
+  recent r g slot log q stage run at =
+      let now : retiring_of m (s.part r).run ≡ retire_before q (RetireCommit slot log) = ap (retiring_of m) run ∙ ap (retire_before q) at in
+      (subst (λ (y : Retiring). g ≤ y.epoch) now ((own r).retire_least g stage (ap (λ (y : Retiring). y.loaded) now)), subst (λ (y : Retiring). y.epoch ≤ s.word Epoch) now (own r).retire_most)
+
+  pub descriptors_sound : DescriptorsAreSound m l s
+  descriptors_sound = record {
+    once = λ r. (own r).once;
+    descriptors_most = λ r. (own r).descriptors_most;
+    nodes_most = λ r. (own r).nodes_most;
+    own_unfree = unfree;
+    own_late = λ r. (own r).own_late;
+    retire_recent = recent;
+  }

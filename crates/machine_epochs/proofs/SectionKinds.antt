@@ -1,0 +1,434 @@
+-- The publication of a section, and the retirement of its descriptor.
+use Rattle.std.specs.Prelude.{◌==◌, ◌&&◌, ◌||◌, not, cond, ◌^◌, ◌%◌, Bool, true, false, nat_lt, replicate, slice_index}
+use Rattle.std.specs.List.{filter}
+use Rattle.std.proofs.Common.{◌≡◌, ◌≢◌, ℕ, zero, suc, ◌+◌, ◌-◌, ◌<◌, ◌≤◌, List, [], ◌∷◌, ◌++◌, length, map, refl, sym, ap, ◌∙◌, subst, arith, ◌⊎◌, ⊎_elim, inl, inr, Option, Some, None}
+use Rattle.std.proofs.lemmas.Bool.{cases_eq}
+use Rattle.std.proofs.lemmas.List.{length-replicate}
+use Rattle.std.proofs.lemmas.Bool.Decides.{nat_tests}
+use Rattle.map_history.specs.declared.op.Request.{Request}
+use Rattle.section_body.specs.declared.thunk.Thunk.{Thunk}
+use Rattle.section_body.specs.Word.{held_word}
+use Rattle.table_words.specs.declared.layout.Layout.{Layout}
+use Rattle.table_words.specs.declared.spot.Spot.{Spot}
+use Rattle.table_words.specs.declared.spot.Spot.TheVariants.{Epoch, Cell, ThunkWord, LogWord}
+use Rattle.table_words.specs.declared.access.Access.{Access}
+use Rattle.table_words.specs.declared.access.Access.TheVariants.{Exchanges}
+use Rattle.table_words.specs.Access.{written}
+use Rattle.table_words.specs.Seen.{upd, put}
+use Rattle.structure_laws.specs.Meaning.{Meaning}
+use Rattle.runner_parts.specs.declared.event.EventKind.TheVariants as kinds
+use Rattle.runner_parts.specs.declared.stage.Stage.TheVariants.{Entered}
+use Rattle.runner_parts.specs.declared.entries.Published.{Published}
+use Rattle.runner_parts.specs.declared.entries.Stored.{Stored}
+use Rattle.runner_parts.specs.State.{PartState, RecordsState}
+use Rattle.runner_parts.specs.Tests.{has, last_stored, is_some_of, are_stored, thunk_words, is_prepared}
+use Rattle.runner_steps.specs.Outside.{descriptor_spot, hold_ask, retire_ask}
+use Rattle.runner_steps.specs.Sections.{thunk_of}
+use Rattle.runner_parts.specs.Lists as lists
+use Rattle.runner_steps.specs.AfterOutside as outside
+use Rattle.epoch_core.specs.declared.location.Location.{Location}
+use Rattle.epoch_core.specs.declared.location.Location.TheVariants.{Live, Hand, Free, Limbo}
+use Rattle.epoch_core.specs.Update.{upd2, upd_row}
+use Rattle.epoch_core.specs.State.{EpochState, Role, MayHold, is_entered}
+use Rattle.epoch_core.specs.Events as events
+use Rattle.epoch_core.specs.Events.{slot_of}
+use Rattle.epoch_core.specs.History.{is_out}
+use Rattle.epoch_core.specs.Lists.{Entry, Lists}
+use Rattle.machine_states.specs.Sight.{Sight}
+use Rattle.machine_states.proofs.Steps.{some_same}
+use Rattle.machine_states.proofs.Updates.{map_upd}
+use Rattle.machine_epochs.specs.Entries.{counts_of, stage_of}
+use Rattle.machine_epochs.specs.Roles.{role_at}
+use Rattle.machine_epochs.specs.Slots.{entry_of, lists_of, thunk_in}
+use Rattle.machine_epochs.specs.Joined.{IsJoinedToEpochs}
+use Rattle.machine_epochs.specs.Chunks.{roles_of, IsOutsideChunk}
+use Rattle.machine_epochs.specs.Supplied.{names_slot, comes_outside}
+use Rattle.machine_epochs.proofs.OutsideAsked as asked
+use Rattle.machine_epochs.proofs.Places.{has_append, names_it, free_descriptor}
+use Rattle.machine_epochs.proofs.Joining.{but_cell, but_load, descriptor_same, Goes, GoesBy, next, once, stages_stay, goes_with}
+use Rattle.machine_epochs.proofs.SlotKinds.{other_place, this_place, kept_place, live_hand}
+use Rattle.machine_epochs.proofs.RetireKinds.{map_more}
+use Rattle.machine_epochs.proofs.OutsideKinds.{Leads, reads}
+
+-- each of these words was stored last at its place
+pub stored_index : (stored : List Stored) (d : ℕ) (ns : List ℕ) (word i : ℕ) → i < length ns → are_stored stored d word ns ≡ true → last_stored stored d (word + i) None ≡ Some (slice_index ns i)
+unfolding are_stored
+stored_index stored d [] word i low e = absurd (omega arith)
+stored_index stored d (n ∷ ns) word zero low e = ap (λ k. last_stored stored d k None) (let h : word + 0 ≡ word = omega arith in h) ∙ is_it (last_stored stored d word None) (first (is_some_of (last_stored stored d word None) n) _ e)
+  where
+    first : (a b : Bool) → (a && b) ≡ true → a ≡ true
+    first true b e = refl
+    first false b e = absurd (let x = e in cc)
+
+    same : (a b : ℕ) → (a == b) ≡ true → a ≡ b
+    same a b h = grind (arith, nat_tests)
+
+    is_it : (o : Option ℕ) → is_some_of o n ≡ true → o ≡ Some n
+    is_it None e = absurd (let x = e in cc)
+    is_it (Some k) e = ap (λ a. Some a) (same k n e)
+stored_index stored d (n ∷ ns) word (suc i) low e =
+    ap (λ k. last_stored stored d k None) (let h : word + suc i ≡ word + 1 + i = omega arith in h) ∙ stored_index stored d ns (word + 1) i (omega arith) (second (is_some_of (last_stored stored d word None) n) _ e)
+  where
+    second : (a b : Bool) → (a && b) ≡ true → b ≡ true
+    second true b e = e
+    second false b e = absurd (let x = e in cc)
+
+-- what was stored into other descriptors
+last_kept : (xs : List Stored) (d d' j : ℕ) (so_far : Option ℕ) → d' ≢ d → last_stored (filter (λ x. not (x.descriptor == d)) xs) d' j so_far ≡ last_stored xs d' j so_far
+last_kept [] d d' j so_far ne = refl
+last_kept (x ∷ xs) d d' j so_far ne = by_test (x.descriptor == d) refl (λ o. last_kept xs d d' j o ne)
+  where
+    others : (a b c : ℕ) (e : Bool) (o o' : Option ℕ) → (a == b) ≡ true → c ≢ b → cond (a == c && e) o o' ≡ o'
+    others a b c e o o' h ne = grind (arith, nat_tests)
+
+    by_test : (b : Bool) → (x.descriptor == d) ≡ b → ((o : Option ℕ) → last_stored (filter (λ y. not (y.descriptor == d)) xs) d' j o ≡ last_stored xs d' j o)
+        → last_stored (cond (not b) (x ∷ filter (λ y. not (y.descriptor == d)) xs) (filter (λ y. not (y.descriptor == d)) xs)) d' j so_far ≡ last_stored (x ∷ xs) d' j so_far
+    by_test true e rest = rest so_far ∙ ap (λ (o : Option ℕ). last_stored xs d' j o) (sym (others x.descriptor d d' (x.word == j) (Some x.number) so_far e ne))
+    by_test false e rest = rest _
+
+-- nothing is left that was stored into a descriptor that was taken
+last_taken : (xs : List Stored) (d j : ℕ) (so_far : Option ℕ) → last_stored (filter (λ x. not (x.descriptor == d)) xs) d j so_far ≡ so_far
+last_taken [] d j so_far = refl
+last_taken (x ∷ xs) d j so_far = by_test (x.descriptor == d) refl (λ o. last_taken xs d j o)
+  where
+    by_test : (b : Bool) → (x.descriptor == d) ≡ b → ((o : Option ℕ) → last_stored (filter (λ y. not (y.descriptor == d)) xs) d j o ≡ o)
+        → last_stored (cond (not b) (x ∷ filter (λ y. not (y.descriptor == d)) xs) (filter (λ y. not (y.descriptor == d)) xs)) d j so_far ≡ so_far
+    by_test true e rest = rest so_far
+    by_test false e rest = rest _ ∙ ap (λ b. cond (b && x.word == j) (Some x.number) so_far) e
+
+has_without : (xs : List ℕ) (d d' : ℕ) → d' ≢ d → has (lists.without xs d) d' ≡ has xs d'
+has_without [] d d' ne = refl
+has_without (x ∷ xs) d d' ne = by_test (x == d) refl (has_without xs d d' ne)
+  where
+    other : (a b c : ℕ) (e : Bool) → (a == b) ≡ true → c ≢ b → e ≡ (a == c || e)
+    other a b c e h ne = grind (arith, nat_tests)
+
+    by_test : (b : Bool) → (x == d) ≡ b → has (lists.without xs d) d' ≡ has xs d' → has (cond (not b) (x ∷ lists.without xs d) (lists.without xs d)) d' ≡ (x == d' || has xs d')
+    by_test true e rest = rest ∙ other x d d' (has xs d') e ne
+    by_test false e rest = ap (λ b. x == d' || b) rest
+
+pair_more : (holds : ℕ → ℕ → Bool) (r u i t : ℕ) → holds i t ≡ true → upd2 holds r u true i t ≡ true
+pair_more holds r u i t h = grind (arith, nat_tests)
+
+pair_here : (holds : ℕ → ℕ → Bool) (r u t : ℕ) → t ≡ u → upd2 holds r u true r t ≡ true
+pair_here holds r u t e = grind (arith, nat_tests)
+
+live_more : (f : ℕ → Location) (t i : ℕ) → f i ≡ Live → upd f t Live i ≡ Live
+live_more f t i e = grind (arith, nat_tests)
+
+row_other : (f : ℕ → ℕ → Role) (d i k : ℕ) (row : ℕ → Role) → i ≢ d → upd_row f d row i k ≡ f i k
+row_other f d i k row ne = grind (arith, nat_tests)
+
+row_here : (f : ℕ → ℕ → Role) (d i k : ℕ) (row : ℕ → Role) → i ≡ d → upd_row f d row i k ≡ row k
+row_here f d i k row e = grind (arith, nat_tests)
+
+same_word : (a b : ℕ) → (a == b) ≡ true → a ≡ b
+same_word a b e = grind (arith, nat_tests)
+
+other_word : (a b : ℕ) → (a == b) ≡ false → a ≢ b
+other_word a b e = grind (arith, nat_tests)
+
+free_live : (r : ℕ) → Free r ≡ Live → ⊥
+free_live r e = let x = e in cc
+
+free_not_hand : (r i : ℕ) → Free r ≡ Hand i → ⊥
+free_not_hand r i e = let x = e in cc
+
+slot_apart : (n d d' : ℕ) → d' ≢ d → n + d' ≢ n + d
+slot_apart n d d' ne e = ne (omega arith)
+
+pub log_spot : (d k : ℕ) → descriptor_spot d (13 + k) ≡ LogWord d k
+log_spot d k = rw (far k, near k, back k) refl
+  where
+    far : (k : ℕ) → nat_lt (13 + k) 12 ≡ false
+    far k = grind (arith, nat_tests)
+
+    near : (k : ℕ) → (13 + k == 12) ≡ false
+    near k = grind (arith, nat_tests)
+
+    back : (k : ℕ) → 13 + k - 13 ≡ k
+    back k = omega arith
+
+pub replicate_index : (n x i : ℕ) → i < n → slice_index (replicate n x) i ≡ x
+replicate_index zero x i low = absurd (omega arith)
+replicate_index (suc n) x zero low = refl
+replicate_index (suc n) x (suc i) low = replicate_index n x i (omega arith)
+
+eight : (xs : List ℕ) → length xs ≡ 8 → slice_index xs 0 ∷ slice_index xs 1 ∷ slice_index xs 2 ∷ slice_index xs 3 ∷ slice_index xs 4 ∷ slice_index xs 5 ∷ slice_index xs 6 ∷ slice_index xs 7 ∷ [] ≡ xs
+eight (a ∷ b ∷ c ∷ d ∷ e ∷ f ∷ g ∷ h ∷ []) n = refl
+eight (a ∷ b ∷ c ∷ d ∷ e ∷ f ∷ g ∷ h ∷ i ∷ xs) n = absurd (omega (arith, n))
+eight _ n = absurd (omega (arith, n))
+
+small : (n : ℕ) → n < 2 ^ 32 → n % 2 ^ 32 ≡ n
+small n h = grind arith
+
+-- a thunk with eight operands, whose request and lock are numbers of 32 bits, is the one that its words hold
+pub thunk_again : (t : Thunk) → length t.operands ≡ 8 → t.request < 2 ^ 32 → t.lock < 2 ^ 32 → thunk_of (thunk_words t) ≡ t
+thunk_again t given request lock = λ i. record {
+  form = t.form;
+  request = small t.request request i;
+  lock = small t.lock lock i;
+  word = t.word;
+  operands = eight t.operands given i;
+}
+
+-- a prepared descriptor has the thunk that the words hold which were stored
+module _ (m : Meaning) (l : Layout) (w : EpochState) (s : Sight) (old : IsJoinedToEpochs m l w s) (r : ℕ) (t : Thunk) (d : ℕ) (free : has (s.part r).descriptors.free d ≡ true)
+    (prepared : is_prepared (s.part r).descriptors.stored d t ≡ true) where
+  prepared_word : (j : ℕ) → j < 12 → s.word (descriptor_spot d j) ≡ slice_index (thunk_words t) j
+  prepared_word j low = (old.tied r).stored d j (slice_index (thunk_words t) j) free
+      (ap (λ n. last_stored (s.part r).descriptors.stored d n None) (let h : j ≡ 0 + j = omega arith in h)
+      ∙ stored_index (s.part r).descriptors.stored d (thunk_words t) 0 j low (left _ _ prepared))
+    where
+      left : (a b : Bool) → (a && b) ≡ true → a ≡ true
+      left true b e = refl
+      left false b e = absurd (let x = e in cc)
+
+  pub prepared_thunk : thunk_in s.word d ≡ thunk_of (thunk_words t)
+  prepared_thunk =
+      let word0 : s.word (ThunkWord d 0) ≡ slice_index (thunk_words t) 0 = prepared_word 0 (omega arith) in
+      let word1 : s.word (ThunkWord d 1) ≡ slice_index (thunk_words t) 1 = prepared_word 1 (omega arith) in
+      let word2 : s.word (ThunkWord d 2) ≡ slice_index (thunk_words t) 2 = prepared_word 2 (omega arith) in
+      let word3 : s.word (ThunkWord d 3) ≡ slice_index (thunk_words t) 3 = prepared_word 3 (omega arith) in
+      let word4 : s.word (ThunkWord d 4) ≡ slice_index (thunk_words t) 4 = prepared_word 4 (omega arith) in
+      let word5 : s.word (ThunkWord d 5) ≡ slice_index (thunk_words t) 5 = prepared_word 5 (omega arith) in
+      let word6 : s.word (ThunkWord d 6) ≡ slice_index (thunk_words t) 6 = prepared_word 6 (omega arith) in
+      let word7 : s.word (ThunkWord d 7) ≡ slice_index (thunk_words t) 7 = prepared_word 7 (omega arith) in
+      let word8 : s.word (ThunkWord d 8) ≡ slice_index (thunk_words t) 8 = prepared_word 8 (omega arith) in
+      let word9 : s.word (ThunkWord d 9) ≡ slice_index (thunk_words t) 9 = prepared_word 9 (omega arith) in
+      let word10 : s.word (ThunkWord d 10) ≡ slice_index (thunk_words t) 10 = prepared_word 10 (omega arith) in
+      let word11 : s.word (ThunkWord d 11) ≡ slice_index (thunk_words t) 11 = prepared_word 11 (omega arith) in
+      λ i. thunk_of (word0 i ∷ word1 i ∷ word2 i ∷ word3 i ∷ word4 i ∷ word5 i ∷ word6 i ∷ word7 i ∷ word8 i ∷ word9 i ∷ word10 i ∷ word11 i ∷ [])
+
+module _ (m : Meaning) (l : Layout) (w : EpochState) (s : Sight) (old : IsJoinedToEpochs m l w s) (r : ℕ) (none : (s.part r).run ≡ None) (t : Thunk) (d : ℕ) (records : RecordsState)
+    (v : ℕ) (entered : is_entered (w.stage r) ≡ true) where
+  abbrev p : PartState
+  p = s.part r
+
+  abbrev found : ℕ
+  found = s.word (Cell t.lock)
+
+  abbrev f : Spot → ℕ
+  f = put s.word (Cell t.lock) v
+
+  abbrev here : ℕ
+  here = slot_of (counts_of m l) d
+
+  -- the section is published
+  module _ (few : d < (counts_of m l).descriptors) (free : has (s.part r).descriptors.free d ≡ true) (prepared : is_prepared (s.part r).descriptors.stored d t ≡ true) (unpublished : (s.part r).published ≡ None) where
+    abbrev mine : Published
+    mine = record { descriptor = d; walked = length p.reads.walk; over = false }
+
+    abbrev holding : PartState
+    holding = record p { published = Some mine; descriptors = lists.descriptor_taken p.descriptors d; reads = lists.section_published (lists.cell_read p.reads t.lock found) d; records = records }
+
+    abbrev roles : ℕ → Role
+    roles = roles_of m (thunk_words t)
+
+    at_free : w.location here ≡ Free r
+    at_free = free_descriptor m l w s old r d few free
+
+    second : (a b : Bool) → (a && b) ≡ true → b ≡ true
+    second true b e = e
+    second false b e = absurd (let x = e in cc)
+
+    log_word : (k : ℕ) → k < 64 → s.word (LogWord d k) ≡ 0
+    log_word k low = ap s.word (sym (log_spot d k)) ∙ (old.tied r).stored d (13 + k) 0 free
+        (ap (λ n. last_stored p.descriptors.stored d n None) (let h : 13 + k ≡ 12 + (1 + k) = omega arith in h)
+        ∙ (stored_index p.descriptors.stored d (replicate 65 0) 12 (1 + k) (let h = length-replicate {A = ℕ} 65 0 in omega arith) (second _ _ prepared)
+        ∙ ap (λ n. Some n) (replicate_index 65 0 (1 + k) (omega arith))))
+
+    empty : (k : ℕ) → w.log d k ≡ 0
+    empty k = old.log d k ∙ ⊎_elim (λ low. log_word k low) (λ high. old.past d k high) (order k 64)
+      where
+        order : (a b : ℕ) → (a < b) ⊎ (b ≤ a)
+        order a b = search arith
+
+    named_by_it : (d' : ℕ) → has (p.reads.held ++ d ∷ []) d' ≡ true → upd2 w.holds r here true r (slot_of (counts_of m l) d') ≡ true
+    named_by_it d' e = ⊎_elim
+        (λ same. pair_here w.holds r here (slot_of (counts_of m l) d') (ap (slot_of (counts_of m l)) same))
+        (λ other. pair_more w.holds r here r (slot_of (counts_of m l) d') ((old.tied r).named d' entered (before d d' (has p.reads.held d') other (sym (has_append p.reads.held (d ∷ []) d') ∙ e))))
+        (cases_eq d' d)
+      where
+        before : (d d' : ℕ) (b : Bool) → d' ≢ d → (b || (d == d' || false)) ≡ true → b ≡ true
+        before d d' b ne e = grind (arith, nat_tests)
+
+    taken : (d' j n : ℕ) → last_stored (filter (λ x. not (x.descriptor == d)) p.descriptors.stored) d' j None ≡ Some n → (d' ≢ d) × (last_stored p.descriptors.stored d' j None ≡ Some n)
+    taken d' j n e = let ne : d' ≢ d = apart in (ne, sym (last_kept p.descriptors.stored d d' j None ne) ∙ e)
+      where
+        apart : d' ≢ d
+        apart same = let h = sym (last_taken p.descriptors.stored d j None) ∙ (ap (λ i. last_stored (filter (λ x. not (x.descriptor == d)) p.descriptors.stored) i j None) (sym same) ∙ e) in absurd (let x = h in cc)
+
+    -- nobody else has published it
+    not_published : (i : ℕ) (x : Published) → (s.part i).published ≡ Some x → x.descriptor ≢ d
+    not_published i x e same = free_live r (sym at_free ∙ (ap (λ n. w.location (slot_of (counts_of m l) n)) (sym same) ∙ (old.tied i).published x e))
+
+    alone : (i i' : ℕ) (x x' : Published) → (upd s.part r holding i).published ≡ Some x → (upd s.part r holding i').published ≡ Some x' → x.descriptor ≡ x'.descriptor → i ≡ i'
+    alone i i' x x' e e' same = ⊎_elim
+        (λ a. ⊎_elim (λ b. a ∙ sym b) (λ b. absurd (not_published i' x' (else i' b x' e') (sym same ∙ own i a x e))) (cases_eq i' r))
+        (λ a. ⊎_elim (λ b. absurd (not_published i x (else i a x e) (same ∙ own i' b x' e'))) (λ b. old.published_once i i' x x' (else i a x e) (else i' b x' e') same) (cases_eq i' r))
+        (cases_eq i r)
+      where
+        here_is : (g : ℕ → PartState) (q : PartState) (k j : ℕ) → k ≡ j → upd g j q k ≡ q
+        here_is g q k j e = grind (arith, nat_tests)
+
+        else_is : (g : ℕ → PartState) (q : PartState) (k j : ℕ) → k ≢ j → upd g j q k ≡ g k
+        else_is g q k j e = grind (arith, nat_tests)
+
+        own : (k : ℕ) → k ≡ r → (y : Published) → (upd s.part r holding k).published ≡ Some y → y.descriptor ≡ d
+        own k a y e = ap (λ (z : Published). z.descriptor) (sym (some_same mine y (sym (ap (λ (q : PartState). q.published) (here_is s.part holding k r a)) ∙ e)))
+
+        else : (k : ℕ) → k ≢ r → (y : Published) → (upd s.part r holding k).published ≡ Some y → (s.part k).published ≡ Some y
+        else k a y e = sym (ap (λ (q : PartState). q.published) (else_is s.part holding k r a)) ∙ e
+
+    publishes : Goes m l (events.Publish r d roles ∷ []) w (next m l w s old r f holding)
+    publishes =
+        goes_with m l w s old r (events.Publish r d roles ∷ []) ((entered, at_free, empty), tt) f holding
+        (sym (map_upd lists_of s.part r holding))
+        (record { epoch = old.entries.epoch; announced = old.entries.announced; stage = stages_stay m l w s old r f holding refl })
+        old.log old.past
+        (λ d' k out. ⊎_elim
+        (λ same. row_here w.role d d' k roles same ∙ (ap (λ (u : Thunk). role_at (m.body u) k) (sym (prepared_thunk m l w s old r t d free prepared)) ∙ ap (λ n. role_at (m.body (thunk_in s.word n)) k) (sym same)))
+        (λ other. row_other w.role d d' k roles other ∙ old.roles d' k (ap is_out (sym (other_place w.location here (slot_of (counts_of m l) d') Live (slot_apart (counts_of m l).nodes d d' other))) ∙ out))
+        (cases_eq d' d))
+        alone
+        (record {
+          run_held = λ q e. absurd (let y = sym none ∙ e in cc);
+          run_opened = λ q j e low low'. absurd (let y = sym none ∙ e in cc);
+          run_begins = λ q e low. absurd (let y = sym none ∙ e in cc);
+          run_made = λ q u e made. absurd (let y = sym none ∙ e in cc);
+          retire = (old.tied r).retire;
+          published = λ x e. this_place w.location here (slot_of (counts_of m l) x.descriptor) Live (ap (λ (y : Published). slot_of (counts_of m l) y.descriptor) (sym (some_same mine x e)));
+          named = λ d' isin is_named. named_by_it d' is_named;
+          reached = λ u isin node is_there. pair_more w.holds r here r u ((old.tied r).reached u entered node is_there);
+          stored_free = λ d' j n last. let k = taken d' j n last in has_without p.descriptors.free d d' k.0 ∙ (old.tied r).stored_free d' j n k.1;
+          stored = λ d' j n has_it last. let k = taken d' j n last in
+              descriptor_same f s.word (but_cell s.word t.lock v) d' j ∙ (old.tied r).stored d' j n ((old.tied r).stored_free d' j n k.1) k.1;
+        })
+        (λ i ne. record {
+          holds = λ u h. pair_more w.holds r here i u h;
+          words = λ d' j h. refl;
+          hand = λ u h. kept_place w.location here u Live (Free r) (Hand i) at_free (free_not_hand r i) h;
+          retire = refl;
+          live = λ x e h. live_more w.location here (slot_of (counts_of m l) x.descriptor) h;
+          entered = λ h. h;
+          stored = λ d' j h. descriptor_same f s.word (but_cell s.word t.lock v) d' j;
+        })
+
+  -- the lock was held, and the word that was found there may name a descriptor
+  loses : (found == t.word) ≡ false → ((u : ℕ) → comes_outside m (counts_of m l) (kinds.Hold t d) p found u ≡ true → w.holds r u ≡ false → MayHold w r u)
+      → Goes m l (events.Reach r (comes_outside m (counts_of m l) (kinds.Hold t d) p found) ∷ []) w (next m l w s old r f (record p { reads = lists.holds_named (lists.cell_read p.reads t.lock found) found; records = records }))
+  loses lost may =
+      reads m l w s old r none f (but_cell s.word t.lock v) entered (comes_outside m (counts_of m l) (kinds.Hold t d) p found) may
+      (lists.holds_named (lists.cell_read p.reads t.lock found) found) records
+      (λ d' e. sym (has_append p.reads.held (lists.named_by found) d' ∙ ap (λ b. has p.reads.held d' || b) (names_it (counts_of m l) found d' ∙ brought (slot_of (counts_of m l) d'))) ∙ e)
+      (λ u low is_there. ap (λ b. b || comes_outside m (counts_of m l) (kinds.Hold t d) p found u) is_there)
+    where
+      brought : (u : ℕ) → names_slot (counts_of m l) found u ≡ comes_outside m (counts_of m l) (kinds.Hold t d) p found u
+      brought u = ap (λ b. not b && names_slot (counts_of m l) found u) (sym lost)
+
+module _ (m : Meaning) (l : Layout) (w : EpochState) (s : Sight) (old : IsJoinedToEpochs m l w s) (r : ℕ) (none : (s.part r).run ≡ None) (records : RecordsState) (x : Spot × Access) where
+  abbrev now : PartState
+  now = s.part r
+
+  pub hold : (rs : List Request) (t : Thunk) (d : ℕ) → ((u : ℕ) → comes_outside m (counts_of m l) (kinds.Hold t d) now (s.word x.0) u ≡ true → w.holds r u ≡ false → MayHold w r u)
+      → hold_ask m l rs r t d now ≡ Some x → Leads m l w s old r none (kinds.Hold t d) records x
+  hold rs t d may e =
+      let h = asked.hold_asked m l rs r t d now x e in
+      let spot : Spot × Access = (Cell t.lock, Exchanges t.word (held_word d t.word)) in
+      let there : (u : ℕ) → comes_outside m (counts_of m l) (kinds.Hold t d) now (s.word (Cell t.lock)) u ≡ true → w.holds r u ≡ false → MayHold w r u = subst May (sym h.is) may in
+      subst (Leads m l w s old r none (kinds.Hold t d) records) h.is (by_test h spot (s.word (Cell t.lock) == t.word) refl there)
+    where
+      May : Spot × Access → Type 0
+      May y = (u : ℕ) → comes_outside m (counts_of m l) (kinds.Hold t d) now (s.word y.0) u ≡ true → w.holds r u ≡ false → MayHold w r u
+
+      won : ℕ → PartState
+      won found = record now {
+        published = Some (record { descriptor = d; walked = length now.reads.walk; over = false });
+        descriptors = lists.descriptor_taken now.descriptors d;
+        reads = lists.section_published (lists.cell_read now.reads t.lock found) d;
+      }
+
+      lost : ℕ → PartState
+      lost found = record now { reads = lists.holds_named (lists.cell_read now.reads t.lock found) found }
+
+      entered : (g : ℕ) → now.stage ≡ Entered g → is_entered (w.stage r) ≡ true
+      entered g e = ap is_entered (old.entries.stage r ∙ ap stage_of e)
+
+      by_test : asked.HoldAsked m l rs t d now x → (y : Spot × Access) (b : Bool) → (s.word (Cell t.lock) == t.word) ≡ b
+          → ((u : ℕ) → comes_outside m (counts_of m l) (kinds.Hold t d) now (s.word (Cell t.lock)) u ≡ true → w.holds r u ≡ false → MayHold w r u)
+          → GoesBy m l (IsOutsideChunk m l r (kinds.Hold t d) now (s.word (Cell t.lock))) w (next m l w s old r (put s.word (Cell t.lock) (written (Exchanges t.word (held_word d t.word)) (s.word (Cell t.lock)))) (record (cond b (won (s.word (Cell t.lock))) (lost (s.word (Cell t.lock)))) { records = records }))
+      by_test h y true is there = (_, inl (same_word _ _ is, refl), publishes m l w s old r none t d records _ (entered h.entry h.entered) h.few h.free h.prepared h.unpublished)
+      by_test h y false is there = (_, inr (other_word _ _ is, refl), loses m l w s old r none t d records _ (entered h.entry h.entered) is there)
+
+  -- the published section's descriptor goes into limbo
+  module _ (y : Published) (is_published : now.published ≡ Some y) (isin : is_entered (w.stage r) ≡ true) where
+    abbrev words : Spot → ℕ
+    words = put s.word Epoch (s.word Epoch)
+
+    abbrev retired : PartState
+    retired = record now { published = None; descriptors = lists.descriptor_retired now.descriptors y.descriptor (s.word Epoch); records = records }
+
+    abbrev place : Location
+    place = Limbo r w.epoch
+
+    abbrev slot : ℕ
+    slot = slot_of (counts_of m l) y.descriptor
+
+    at_live : w.location slot ≡ Live
+    at_live = (old.tied r).published y is_published
+
+    own_lists : record (lists_of now) { limbo_descriptors = map entry_of now.descriptors.limbo ++ record { slot = y.descriptor; epoch = w.epoch } ∷ [] } ≡ lists_of retired
+    own_lists = ap (λ n. record (lists_of now) { limbo_descriptors = map entry_of now.descriptors.limbo ++ record { slot = y.descriptor; epoch = n } ∷ [] }) old.entries.epoch
+        ∙ ap (λ (xs : List Entry). record (lists_of now) { limbo_descriptors = xs }) (sym (map_more now.descriptors.limbo (record { slot = y.descriptor; epoch = s.word Epoch })))
+
+    -- no other runner has published it
+    others_live : (i : ℕ) → i ≢ r → (z : Published) → (s.part i).published ≡ Some z → w.location (slot_of (counts_of m l) z.descriptor) ≡ Live → upd w.location slot place (slot_of (counts_of m l) z.descriptor) ≡ Live
+    others_live i ne z e live = other_place w.location slot (slot_of (counts_of m l) z.descriptor) place (slot_apart (counts_of m l).nodes y.descriptor z.descriptor (λ same. ne (old.published_once i r z y e is_published same))) ∙ live
+
+    out_before : (t : ℕ) → is_out (upd w.location slot place t) ≡ true → is_out (w.location t) ≡ true
+    out_before t out = ⊎_elim
+        (λ same. ap is_out (ap w.location same ∙ at_live))
+        (λ other. ap is_out (sym (other_place w.location slot t place other)) ∙ out)
+        (cases_eq t slot)
+
+    retires : Goes m l (events.RetireDescriptor r y.descriptor ∷ []) w (next m l w s old r words retired)
+    retires =
+        let same = but_load s.word Epoch in
+        goes_with m l w s old r (events.RetireDescriptor r y.descriptor ∷ []) ((isin, at_live), tt) words retired
+        (ap (λ (a : Lists). upd (λ i. lists_of (s.part i)) r a) own_lists ∙ sym (map_upd lists_of s.part r retired))
+        (record { epoch = old.entries.epoch; announced = old.entries.announced; stage = stages_stay m l w s old r words retired refl })
+        old.log old.past
+        (λ d' k out. old.roles d' k (out_before (slot_of (counts_of m l) d') out))
+        (once m l w s old r retired (λ z e. absurd (let a = e in cc)))
+        (record {
+          run_held = λ q e. absurd (let a = sym none ∙ e in cc);
+          run_opened = λ q j e low low'. absurd (let a = sym none ∙ e in cc);
+          run_begins = λ q e low. absurd (let a = sym none ∙ e in cc);
+          run_made = λ q u e made. absurd (let a = sym none ∙ e in cc);
+          retire = (old.tied r).retire;
+          published = λ z e. absurd (let a = e in cc);
+          named = (old.tied r).named;
+          reached = (old.tied r).reached;
+          stored_free = (old.tied r).stored_free;
+          stored = λ d' j n free last. descriptor_same words s.word same d' j ∙ (old.tied r).stored d' j n free last;
+        })
+        (λ i ne. record {
+          holds = λ u h. h;
+          words = λ d' j h. same.thunk d' j;
+          hand = λ u h. kept_place w.location slot u place Live (Hand i) at_live (live_hand i) h;
+          retire = refl;
+          live = λ z e h. others_live i ne z e h;
+          entered = λ h. h;
+          stored = λ d' j h. descriptor_same words s.word same d' j;
+        })
+
+  pub retire_descriptor : retire_ask now ≡ Some x → Leads m l w s old r none kinds.EpochForRetire records x
+  retire_descriptor e =
+      let h = asked.retire_asked now x e in
+      subst (Leads m l w s old r none kinds.EpochForRetire records) h.4 (
+        _,
+        (h.1, h.3, refl),
+        subst (λ (o : Option Published). Goes m l (events.RetireDescriptor r h.1.descriptor ∷ []) w (next m l w s old r (put s.word Epoch (s.word Epoch)) (record (outside.retire_after now o (s.word Epoch)) { records = records }))) (sym h.3)
+            (retires h.1 h.3 (ap is_entered (old.entries.stage r ∙ ap stage_of h.2))),
+      )

@@ -1,0 +1,230 @@
+-- Private stores into the words of own free descriptors.
+use Rattle.std.specs.Prelude.{◌==◌, ◌&&◌, cond, Bool, true, false, nat_lt}
+use Rattle.std.proofs.Common.{◌≡◌, ◌≢◌, ℕ, ◌-◌, ◌<◌, ◌≤◌, List, [], ◌∷◌, ◌++◌, refl, sym, ap, ◌∙◌, subst, arith, Option, Some, None}
+use Rattle.std.proofs.lemmas.Bool.Decides.{nat_tests}
+use Rattle.map_history.specs.declared.op.Request.{Request}
+use Rattle.section_body.specs.declared.thunk.Thunk.{Thunk}
+use Rattle.table_words.specs.declared.layout.Layout.{Layout}
+use Rattle.table_words.specs.declared.sizes.Sizes.{Sizes}
+use Rattle.table_words.specs.declared.spot.Spot.{Spot}
+use Rattle.table_words.specs.declared.spot.Spot.TheVariants.{Epoch, Announcement, ThunkWord, DoneWord, LogWord}
+use Rattle.table_words.specs.declared.access.Access.{Access}
+use Rattle.table_words.specs.Places.{Fits, slot_count}
+use Rattle.table_words.specs.Seen.{put}
+use Rattle.structure_laws.specs.Meaning.{Meaning}
+use Rattle.runner_parts.specs.declared.event.EventKind.TheVariants as kinds
+use Rattle.runner_parts.specs.declared.entries.Stored.{Stored}
+use Rattle.runner_parts.specs.State.{PartState, RecordsState}
+use Rattle.runner_parts.specs.Tests.{has, last_stored}
+use Rattle.runner_parts.specs.Lists.{descriptor_stored}
+use Rattle.runner_steps.specs.Outside.{descriptor_spot, private_store_ask}
+use Rattle.runner_steps.specs.Asks.{sizes_for}
+use Rattle.epoch_core.specs.declared.location.Location.TheVariants.{Free}
+use Rattle.epoch_core.specs.Update.{upd2}
+use Rattle.epoch_core.specs.State.{EpochState}
+use Rattle.epoch_core.specs.Events as events
+use Rattle.epoch_core.specs.Events.{slot_of}
+use Rattle.epoch_core.specs.Schedules.{AllEnabled, after_all}
+use Rattle.epoch_core.specs.History.{is_out}
+use Rattle.epoch_core.specs.Lists.{listed_all}
+use Rattle.machine_states.specs.Sight.{Sight}
+use Rattle.machine_states.proofs.Updates.{map_same}
+use Rattle.machine_epochs.specs.Entries.{counts_of}
+use Rattle.machine_epochs.specs.Roles.{role_at}
+use Rattle.machine_epochs.specs.Slots.{lists_of, thunk_in, ShowsEntries}
+use Rattle.machine_epochs.specs.Joined.{IsTied, IsJoinedToEpochs}
+use Rattle.machine_epochs.specs.Chunks.{stored}
+use Rattle.machine_epochs.proofs.OutsideAsked as asked
+use Rattle.machine_epochs.proofs.Places.{free_descriptor, held_unfree}
+use Rattle.machine_epochs.proofs.Joining.{thunk_same, IsElsewhere, Goes, GoesBy, next, as_published, once, stages_stay, goes_with}
+use Rattle.machine_epochs.proofs.OutsideKinds.{Leads}
+
+hits : (a b : Bool) (v x : ℕ) → cond a (cond b v x) x ≡ cond (a && b) v x
+hits true b v x = refl
+hits false b v x = refl
+
+hits_done : (d d' j word v x : ℕ) → (word == 12) ≡ true → (j == 12) ≡ true → cond (d' == d) v x ≡ cond (d' == d && j == word) v x
+hits_done d d' j word v x e e' = grind (arith, nat_tests)
+
+hits_log : (d d' j word v x : ℕ) → nat_lt word 12 ≡ false → (word == 12) ≡ false → nat_lt j 12 ≡ false → (j == 12) ≡ false
+    → cond (d' == d) (cond (j - 13 == word - 13) v x) x ≡ cond (d' == d && j == word) v x
+hits_log d d' j word v x e e1 e2 e3 = grind (arith, nat_tests)
+
+misses : (a : Bool) (j word v x : ℕ) → j ≢ word → x ≡ cond (a && j == word) v x
+misses a j word v x ne = grind (arith, nat_tests)
+
+apart_below : (j word : ℕ) → nat_lt word 12 ≡ true → nat_lt j 12 ≡ false → j ≢ word
+apart_below j word e e' = grind (arith, nat_tests)
+
+apart_above : (j word : ℕ) → nat_lt word 12 ≡ false → nat_lt j 12 ≡ true → j ≢ word
+apart_above j word e e' = grind (arith, nat_tests)
+
+apart_done : (j word : ℕ) → (word == 12) ≡ true → (j == 12) ≡ false → j ≢ word
+apart_done j word e e' = grind (arith, nat_tests)
+
+apart_log : (j word : ℕ) → (word == 12) ≡ false → (j == 12) ≡ true → j ≢ word
+apart_log j word e e' = grind (arith, nat_tests)
+
+-- a word of a descriptor, by its number
+abbrev spot_by : Bool → Bool → ℕ → ℕ → Spot
+spot_by b b' d word = cond b (ThunkWord d word) (cond b' (DoneWord d) (LogWord d (word - 13)))
+
+-- a store into a word of a descriptor is seen in that word and in no other of a descriptor
+module _ (f : Spot → ℕ) (d word v d' j : ℕ) where
+  abbrev Seen : Bool → Bool → Bool → Bool → Type 0
+  Seen b b' a a' = put f (spot_by b b' d word) v (spot_by a a' d' j) ≡ cond (d' == d && j == word) v (f (spot_by a a' d' j))
+
+  put_by : (b b' a a' : Bool) → nat_lt word 12 ≡ b → (word == 12) ≡ b' → nat_lt j 12 ≡ a → (j == 12) ≡ a' → Seen b b' a a'
+  put_by true b' true a' e e1 e2 e3 = hits (d' == d) (j == word) v (f (ThunkWord d' j))
+  put_by true b' false true e e1 e2 e3 = misses (d' == d) j word v _ (apart_below j word e e2)
+  put_by true b' false false e e1 e2 e3 = misses (d' == d) j word v _ (apart_below j word e e2)
+  put_by false true true a' e e1 e2 e3 = misses (d' == d) j word v _ (apart_above j word e e2)
+  put_by false false true a' e e1 e2 e3 = misses (d' == d) j word v _ (apart_above j word e e2)
+  put_by false true false true e e1 e2 e3 = hits_done d d' j word v (f (DoneWord d')) e1 e3
+  put_by false true false false e e1 e2 e3 = misses (d' == d) j word v _ (apart_done j word e1 e3)
+  put_by false false false true e e1 e2 e3 = misses (d' == d) j word v _ (apart_log j word e1 e3)
+  put_by false false false false e e1 e2 e3 = hits_log d d' j word v (f (LogWord d' (j - 13))) e e1 e2 e3
+
+  pub put_spot : put f (descriptor_spot d word) v (descriptor_spot d' j) ≡ cond (d' == d && j == word) v (f (descriptor_spot d' j))
+  put_spot = put_by (nat_lt word 12) (word == 12) (nat_lt j 12) (j == 12) refl refl refl refl
+
+-- what was stored last, after one more store
+last_push : (xs : List Stored) (x : Stored) (d j : ℕ) (so_far : Option ℕ) → last_stored (xs ++ x ∷ []) d j so_far ≡ cond (x.descriptor == d && x.word == j) (Some x.number) (last_stored xs d j so_far)
+last_push [] x d j so_far = refl
+last_push (y ∷ ys) x d j so_far = last_push ys x d j (cond (y.descriptor == d && y.word == j) (Some y.number) so_far)
+
+pair_test : (a b x y : ℕ) → (a == b && x == y) ≡ true → (a ≡ b) × (x ≡ y)
+pair_test a b x y e = grind (arith, nat_tests)
+
+pair_turned : (a b x y : ℕ) → (a == b && x == y) ≡ (b == a && y == x)
+pair_turned a b x y = grind (arith, nat_tests)
+
+some_number : (a b : ℕ) → Some a ≡ Some b → a ≡ b
+some_number a b e = cc
+
+module _ (m : Meaning) (l : Layout) (w : EpochState) (s : Sight) (old : IsJoinedToEpochs m l w s) (r : ℕ) (none : (s.part r).run ≡ None)
+    (d word number : ℕ) (few : d < (counts_of m l).descriptors) (free : has (s.part r).descriptors.free d ≡ true) (records : RecordsState) where
+  abbrev p : PartState
+  p = s.part r
+
+  abbrev p' : PartState
+  p' = record p { descriptors = descriptor_stored p.descriptors d word number; records = records }
+
+  abbrev xs : List Stored
+  xs = p.descriptors.stored
+
+  abbrev new : Stored
+  new = record { descriptor = d; word = word; number = number }
+
+  at_free : w.location (slot_of (counts_of m l) d) ≡ Free r
+  at_free = free_descriptor m l w s old r d few free
+
+  -- nobody holds it, and it is in no other free list
+  unheld : (i d' : ℕ) → w.holds i (slot_of (counts_of m l) d') ≡ true → d' ≢ d
+  unheld i d' h e = held_unfree m l w s old i r d (ap (λ n. w.holds i (slot_of (counts_of m l) n)) (sym e) ∙ h) few free
+
+  unlisted : (i d' : ℕ) → i ≢ r → has (s.part i).descriptors.free d' ≡ true → d' ≢ d
+  unlisted i d' ne h e = ne (owner i r (sym (free_descriptor m l w s old i d few (ap (has (s.part i).descriptors.free) (sym e) ∙ h)) ∙ at_free))
+    where
+      owner : (i r : ℕ) → Free i ≡ Free r → i ≡ r
+      owner i r e = cc
+
+  given_out : (d' : ℕ) → is_out (w.location (slot_of (counts_of m l) d')) ≡ true → d' ≢ d
+  given_out d' out e = let x = sym out ∙ ap is_out (ap (λ n. w.location (slot_of (counts_of m l) n)) e ∙ at_free) in absurd (cc)
+
+  -- the words after the store
+  module _ (f : Spot → ℕ) (spot : (d' j : ℕ) → f (descriptor_spot d' j) ≡ cond (d' == d && j == word) number (s.word (descriptor_spot d' j)))
+      (thunk : (d' j : ℕ) → d' ≢ d → f (ThunkWord d' j) ≡ s.word (ThunkWord d' j)) (epoch : f Epoch ≡ s.word Epoch) (announced : (i : ℕ) → f (Announcement i) ≡ s.word (Announcement i)) where
+    elsewhere : (d' j : ℕ) → d' ≢ d → f (descriptor_spot d' j) ≡ s.word (descriptor_spot d' j)
+    elsewhere d' j ne = spot d' j ∙ not_there d' d (j == word) number _ ne
+      where
+        not_there : (a b : ℕ) (c : Bool) (v x : ℕ) → a ≢ b → cond (a == b && c) v x ≡ x
+        not_there a b c v x ne = grind (arith, nat_tests)
+
+    last_is : (d' j n : ℕ) → last_stored (xs ++ new ∷ []) d' j None ≡ Some n → cond (d' == d && j == word) (Some number) (last_stored xs d' j None) ≡ Some n
+    last_is d' j n e = ap (λ b. cond b (Some number) (last_stored xs d' j None)) (pair_turned d' d j word) ∙ (sym (last_push xs new d' j None) ∙ e)
+
+    free_by : (b : Bool) (d' j n : ℕ) → (d' == d && j == word) ≡ b → cond b (Some number) (last_stored xs d' j None) ≡ Some n → has p.descriptors.free d' ≡ true
+    free_by true d' j n e last = ap (has p.descriptors.free) (pair_test d' d j word e).0 ∙ free
+    free_by false d' j n e last = (old.tied r).stored_free d' j n last
+
+    stored_by : (b : Bool) (d' j n : ℕ) → (d' == d && j == word) ≡ b → cond b (Some number) (last_stored xs d' j None) ≡ Some n → f (descriptor_spot d' j) ≡ n
+    stored_by true d' j n e last = spot d' j ∙ (ap (λ b. cond b number (s.word (descriptor_spot d' j))) e ∙ some_number number n last)
+    stored_by false d' j n e last = spot d' j ∙ (ap (λ b. cond b number (s.word (descriptor_spot d' j))) e ∙ (old.tied r).stored d' j n ((old.tied r).stored_free d' j n last) last)
+
+    stores : (es : List events.Event) → AllEnabled (counts_of m l) w es → (log : ℕ → ℕ → ℕ) → after_all (counts_of m l) w es ≡ record w { log = log }
+        → listed_all (counts_of m l) w (λ i. lists_of (s.part i)) es ≡ (λ i. lists_of (s.part i))
+        → ((d' k : ℕ) → log d' k ≡ f (LogWord d' k)) → ((d' k : ℕ) → 64 ≤ k → f (LogWord d' k) ≡ 0) → Goes m l es w (next m l w s old r f p')
+    stores es ok log is lists logs past =
+        goes_with m l w s old r es ok f p' (lists ∙ sym (map_same lists_of s.part r p' refl))
+        (subst (λ (v : EpochState). ShowsEntries v (next m l w s old r f p')) (sym is) (record {
+          epoch = old.entries.epoch ∙ sym epoch;
+          announced = λ i. old.entries.announced i ∙ sym (announced i);
+          stage = stages_stay m l w s old r f p' refl;
+        }))
+        (λ d' k. ap (λ (v : EpochState). v.log d' k) is ∙ logs d' k)
+        past
+        (λ d' k out. ap (λ (v : EpochState). v.role d' k) is ∙ roles d' k (ap (λ (v : EpochState). is_out (v.location (slot_of (counts_of m l) d'))) (sym is) ∙ out))
+        (once m l w s old r p' (as_published m l w s old r p' refl))
+        (subst (λ (v : EpochState). IsTied m l v f r p') (sym is) (record {
+          run_held = λ q e. absurd (let y = sym none ∙ e in cc);
+          run_opened = λ q j e low low'. absurd (let y = sym none ∙ e in cc);
+          run_begins = λ q e few. absurd (let y = sym none ∙ e in cc);
+          run_made = λ q t e made. absurd (let y = sym none ∙ e in cc);
+          retire = (old.tied r).retire;
+          published = (old.tied r).published;
+          named = (old.tied r).named;
+          reached = (old.tied r).reached;
+          stored_free = λ d' j n last. free_by (d' == d && j == word) d' j n refl (last_is d' j n last);
+          stored = λ d' j n has_it last. stored_by (d' == d && j == word) d' j n refl (last_is d' j n last);
+        }))
+        (λ i ne. subst (λ (v : EpochState). IsElsewhere m l w v s.word f i (s.part i)) (sym is) (record {
+          holds = λ t h. h;
+          words = λ d' j h. thunk d' j (unheld i d' h);
+          hand = λ t h. h;
+          retire = refl;
+          live = λ y e h. h;
+          entered = λ h. h;
+          stored = λ d' j h. elsewhere d' j (unlisted i d' ne h);
+        }))
+      where
+        roles : (d' k : ℕ) → is_out (w.location (slot_of (counts_of m l) d')) ≡ true → w.role d' k ≡ role_at (m.body (thunk_in f d')) k
+        roles d' k out = old.roles d' k out ∙ ap (λ (t : Thunk). role_at (m.body t) k) (sym (thunk_same f s.word d' (λ j. thunk d' j (given_out d' out))))
+
+  thunk_else : (a b j k v x : ℕ) → a ≢ b → cond (a == b) (cond (j == k) v x) x ≡ x
+  thunk_else a b j k v x ne = grind (arith, nat_tests)
+
+  log_past' : (b : Bool) (k k' v x : ℕ) → k < 64 → 64 ≤ k' → x ≡ 0 → cond b (cond (k' == k) v x) x ≡ 0
+  log_past' b k k' v x low high e = grind (arith, nat_tests)
+
+  -- the store, by the word that it meets
+  store_by : (b b' : Bool) (sizes : Sizes) → ((d' j : ℕ) → put s.word (spot_by b b' d word) number (descriptor_spot d' j) ≡ cond (d' == d && j == word) number (s.word (descriptor_spot d' j)))
+      → Fits sizes (spot_by b b' d word)
+      → GoesBy m l (λ es. es ≡ cond b [] (cond b' [] (events.StoreLog r d (word - 13) number ∷ []))) w (next m l w s old r (put s.word (spot_by b b' d word) number) p')
+  store_by true b' sizes spot fits = (_, refl, stores _ spot (λ d' j ne. thunk_else d' d j word number _ ne) refl (λ i. refl) [] tt w.log refl refl old.log old.past)
+  store_by false true sizes spot fits = (_, refl, stores _ spot (λ d' j ne. refl) refl (λ i. refl) [] tt w.log refl refl old.log old.past)
+  store_by false false sizes spot fits = (
+    _,
+    refl,
+    stores _ spot (λ d' j ne. refl) refl (λ i. refl) (events.StoreLog r d (word - 13) number ∷ []) (at_free, tt) (upd2 w.log d (word - 13) number) refl refl
+        (λ d' k i. cond (d' == d) (cond (k == word - 13) number (old.log d' k i)) (old.log d' k i))
+        (λ d' k high. log_past' (d' == d) (word - 13) k number _ fits.1 high (old.past d' k high)),
+  )
+
+  pub stores_there : (rs : List Request) → Fits (sizes_for m l rs) (descriptor_spot d word) → GoesBy m l (λ es. es ≡ stored r d word number) w (next m l w s old r (put s.word (descriptor_spot d word) number) p')
+  stores_there rs fits = store_by (nat_lt word 12) (word == 12) (sizes_for m l rs) (λ d' j. put_spot s.word d word number d' j) fits
+
+fits_few : (sizes : Sizes) (d word : ℕ) (b b' : Bool) → Fits sizes (spot_by b b' d word) → d < sizes.descriptors
+fits_few sizes d word true b' h = h.0
+fits_few sizes d word false true h = h
+fits_few sizes d word false false h = h.0
+
+module _ (m : Meaning) (l : Layout) (w : EpochState) (s : Sight) (old : IsJoinedToEpochs m l w s) (r : ℕ) (none : (s.part r).run ≡ None) where
+  pub private_store : (rs : List Request) (records : RecordsState) (slot word number : ℕ) (x : Spot × Access) → Fits (sizes_for m l rs) x.0
+      → private_store_ask m l slot word number (s.part r) ≡ Some x → Leads m l w s old r none (kinds.PrivateStore slot word number) records x
+  private_store rs records slot word number x fits e =
+      let h = asked.private_store_asked m l slot word number (s.part r) x e in
+      let d = slot - slot_count l m.fixed_slots in
+      let there : Fits (sizes_for m l rs) (descriptor_spot d word) = subst (λ (y : Spot × Access). Fits (sizes_for m l rs) y.0) (sym h.1) fits in
+      subst (Leads m l w s old r none (kinds.PrivateStore slot word number) records) h.1
+      (stores_there m l w s old r none d word number (fits_few (sizes_for m l rs) d word (nat_lt word 12) (word == 12) there) h.0 records rs there)

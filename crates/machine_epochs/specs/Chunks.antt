@@ -1,0 +1,92 @@
+-- Which events of epochs and slots a step of the machine is, by its kind.
+use Rattle.std.specs.Prelude.{ℕ, ◌+◌, ◌-◌, ◌≡◌, ◌≢◌, ◌⊎◌, Bool, true, false, ◌==◌, ◌&&◌, nat_lt, List, [], ◌∷◌, Option, Some, None, if◌then◌else◌}
+use Rattle.section_body.specs.declared.micro.Micro.{Micro}
+use Rattle.section_body.specs.declared.micro.Micro.TheVariants as micros
+use Rattle.table_words.specs.declared.layout.Layout.{Layout}
+use Rattle.table_words.specs.Places.{slot_count}
+use Rattle.structure_laws.specs.Meaning.{Meaning}
+use Rattle.runner_parts.specs.declared.event.EventKind.{EventKind}
+use Rattle.runner_parts.specs.declared.event.EventKind.TheVariants as kinds
+use Rattle.runner_parts.specs.declared.stage.Stage.TheVariants.{Loaded, Scanning}
+use Rattle.runner_parts.specs.declared.entries.Published.{Published}
+use Rattle.runner_parts.specs.State.{RunState, PartState, NodesState}
+use Rattle.runner_steps.specs.Sections.{thunk_of, is_open_run, next_of}
+use Rattle.runner_parts.specs.Tests.{has, thunk_words}
+use Rattle.runner_parts.specs.Lists.{test_of, one_more}
+use Rattle.epoch_core.specs.State.{Role}
+use Rattle.epoch_core.specs.Events as events
+use Rattle.epoch_core.specs.Events.{Event}
+use Rattle.machine_epochs.specs.Entries.{counts_of}
+use Rattle.machine_epochs.specs.Roles.{role_at}
+use Rattle.machine_epochs.specs.ScanEnds.{collects}
+use Rattle.machine_epochs.specs.Supplied.{comes_outside, comes_agreed}
+
+-- this cell is the next one to be looked at of a slot in the hand, and it is the fifth
+abbrev pub is_last_look : NodesState → ℕ → ℕ → Bool
+is_last_look n slot cell = let x = test_of n.tests slot in (has n.hand slot && (cell == x.cells && nat_lt cell 5)) && x.cells + 1 == 5
+
+-- the slot was looked at whole, of which a cell was found to have this word
+abbrev pub looked : Layout → ℕ → NodesState → ℕ → ℕ → ℕ → List Event
+looked l r n slot cell found = if is_last_look n slot cell then events.Test r slot (one_more l (test_of n.tests slot) found).worn ∷ [] else []
+
+-- a store of this number into this word of a descriptor: the thunk words and the done word are no words of epochs and slots
+abbrev pub stored : ℕ → ℕ → ℕ → ℕ → List Event
+stored r d word number = if nat_lt word 12 then [] else (if word == 12 then [] else events.StoreLog r d (word - 13) number ∷ [])
+
+-- the words commit what the body of the thunk does that they hold
+abbrev pub roles_of : Meaning → List ℕ → ℕ → Role
+roles_of m words index = role_at (m.body (thunk_of words)) index
+
+-- the runner comes to hold these slots, and commits the word of its run at this place of the log
+abbrev pub agreed_lock : ℕ → (ℕ → Bool) → RunState → ℕ → List Event
+agreed_lock r comes q log = events.Reach r comes ∷ events.WordCommit r q.descriptor log q.word ∷ []
+
+module _ (m : Meaning) (l : Layout) (r : ℕ) where
+  -- the events of a runner's step in no run, which found this word
+  abbrev pub IsOutsideChunk : EventKind → PartState → ℕ → List Event → Type 0
+  IsOutsideChunk kinds.EnterLoad p found es = es ≡ events.EnterLoad r ∷ []
+  IsOutsideChunk kinds.Announce p found es = (epoch : ℕ) × (p.stage ≡ Loaded epoch) × (es ≡ events.Announce r epoch ∷ [])
+  IsOutsideChunk kinds.EnterAgain p found es = es ≡ events.EnterAgain r ∷ []
+  IsOutsideChunk kinds.Idle p found es = es ≡ events.Exit r ∷ []
+  IsOutsideChunk kinds.ScanEpoch p found es = es ≡ events.ScanEpoch r ∷ []
+  -- the scan goes on, or ends with this announcement
+  IsOutsideChunk (kinds.ScanOne n) p found es = (epoch : ℕ) × (clear : Bool) × (p.stage ≡ Scanning epoch n clear)
+      × (((collects l (kinds.ScanOne n) p.stage found ≡ None) × (es ≡ events.ScanOne r epoch n clear ∷ []))
+      ⊎ ((collects l (kinds.ScanOne n) p.stage found ≡ Some epoch) × (es ≡ events.ScanLast r epoch n clear ∷ [])))
+  IsOutsideChunk kinds.Advance p found es = (epoch next : ℕ) × (p.stage ≡ Scanning epoch next true)
+      × (collects l kinds.Advance p.stage found ≡ Some (epoch + 1)) × (es ≡ events.Advance r epoch next ∷ [])
+  -- what the readings reach now, and the descriptor that a lock's word names
+  IsOutsideChunk (kinds.LoadCell (Some place)) p found es = es ≡ events.Reach r (comes_outside m (counts_of m l) (kinds.LoadCell (Some place)) p found) ∷ []
+  IsOutsideChunk (kinds.PrivateLoad slot cell) p found es = es ≡ looked l r p.nodes slot cell found
+  IsOutsideChunk (kinds.PrivateStore slot word number) p found es = es ≡ stored r (slot - slot_count l m.fixed_slots) word number
+  -- the section is published where the lock stood free with the thunk's word; otherwise the word that stood there may name a descriptor
+  IsOutsideChunk (kinds.Hold t d) p found es = ((found ≡ t.word) × (es ≡ events.Publish r d (roles_of m (thunk_words t)) ∷ []))
+      ⊎ ((found ≢ t.word) × (es ≡ events.Reach r (comes_outside m (counts_of m l) (kinds.Hold t d) p found) ∷ []))
+  IsOutsideChunk kinds.EpochForRetire p found es = (x : Published) × (p.published ≡ Some x) × (es ≡ events.RetireDescriptor r x.descriptor ∷ [])
+  IsOutsideChunk _ p found es = es ≡ []
+
+  -- the events of a step of a run's line, which found this word, where the run stands before this step of the line
+  abbrev pub IsLineChunk : EventKind → PartState → RunState → Micro → ℕ → List Event → Type 0
+  -- by the commit of a lock's word the runner comes to hold what the agreed word names
+  IsLineChunk kinds.Commit p q micro found es = (place log : ℕ) × (((micro ≡ micros.Commit place log) × (es ≡ events.WordCommit r q.descriptor log q.word ∷ []))
+      ⊎ ((micro ≡ micros.NestedCommit place log) × (es ≡ agreed_lock r (comes_agreed (counts_of m l) p q found) q log)))
+  IsLineChunk kinds.OutcomeCommit p q micro found es = (place log : ℕ) × (micro ≡ micros.OutcomeCommit place log)
+      × (es ≡ agreed_lock r (comes_agreed (counts_of m l) p q found) q log)
+  -- a Make takes its slot with its first private load
+  IsLineChunk (kinds.PrivateLoad slot cell) p q micro found es = ((q.made ≡ None) × (es ≡ events.TakeSlot r slot ∷ [])) ⊎ ((q.made ≡ Some slot) × (es ≡ []))
+  IsLineChunk kinds.MakeCommit p q micro found es = (log slot : ℕ) × (micro ≡ micros.MakeCommit log) × (q.made ≡ Some slot)
+      × (es ≡ events.MakeCommit r q.descriptor log slot q.worn ∷ [])
+  IsLineChunk kinds.EpochForRetire p q micro found es = (slot log : ℕ) × (micro ≡ micros.EpochForRetire slot log)
+      × (es ≡ events.RetireEpoch r q.descriptor log slot ∷ [])
+  IsLineChunk kinds.RetireCommit p q micro found es = (slot log : ℕ) × (micro ≡ micros.RetireCommit slot log) × (es ≡ events.RetireCommit r ∷ [])
+  IsLineChunk _ p q micro found es = es ≡ []
+
+  -- the events of a step in a run: none where the run has still to load words of its thunk, or its done word
+  abbrev pub IsInsideChunk : Bool → EventKind → PartState → RunState → ℕ → List Event → Type 0
+  IsInsideChunk true kind p q found es = IsLineChunk kind p q (next_of m q) found es
+  IsInsideChunk false kind p q found es = es ≡ []
+
+  -- the events of this runner's step of this kind, which found this word
+  abbrev pub IsChunk : EventKind → PartState → Option RunState → ℕ → List Event → Type 0
+  IsChunk kind p None found es = IsOutsideChunk kind p found es
+  IsChunk kind p (Some q) found es = IsInsideChunk (is_open_run q) kind p q found es

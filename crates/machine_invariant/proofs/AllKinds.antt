@@ -1,0 +1,173 @@
+-- Each step of the machine keeps the whole invariant.
+use Rattle.std.specs.Prelude.{All, Bool, true, false, if◌then◌else◌}
+use Rattle.std.proofs.Common.{◌≡◌, ℕ, ◌≤◌, List, [], ◌∷◌, length, sym, refl, ap, ◌∙◌, subst, Option, Some, None}
+use Rattle.map_history.specs.declared.op.Request.{Request}
+use Rattle.table_words.specs.declared.layout.Layout.{Layout}
+use Rattle.table_words.specs.declared.spot.Spot.{Spot}
+use Rattle.table_words.specs.declared.access.Access.{Access}
+use Rattle.table_words.specs.Limits.{IsWithinLimits}
+use Rattle.table_words.specs.Places.{Fits}
+use Rattle.structure_laws.specs.Meaning.{Meaning}
+use Rattle.structure_laws.specs.Laws.{Laws}
+use Rattle.structure_laws.specs.Sections.{IsAllowed}
+use Rattle.runner_parts.specs.declared.event.EventKind.{EventKind}
+use Rattle.runner_parts.specs.declared.event.EventKind.TheVariants as kinds
+use Rattle.runner_parts.specs.State.{RunState, PartState}
+use Rattle.runner_steps.specs.Sections.{is_open_run, next_of}
+use Rattle.runner_steps.specs.Asks.{line_ask, opening_ask, asks, sizes_for}
+use Rattle.machine_states.specs.World.{is_join}
+use Rattle.machine_states.specs.Sight.{Sight, sight_after, Steps}
+use Rattle.machine_states.proofs.Sights.{some_none}
+use Rattle.machine_epochs.specs.Entries.{counts_of}
+use Rattle.machine_agreement.proofs.LineAsked.{line_asked}
+use Rattle.machine_invariant.specs.Whole.{Beside, IsWhole}
+use Rattle.machine_invariant.proofs.Asked.{asked_by, line_heads, line_events}
+use Rattle.machine_invariant.proofs.SuppliesSlots.{HoldsMet, slots_met}
+use Rattle.machine_invariant.proofs.Meeting.{having_met, has_met}
+use Rattle.machine_invariant.proofs.Chunked.{is_plain_line}
+use Rattle.machine_invariant.proofs.Pieces.{Pieces, KeepsWhole, pieces}
+use Rattle.machine_invariant.proofs.Plain.{plain_whole, outside_whole, join_whole}
+use Rattle.machine_invariant.proofs.Taking.{has_named, is_taking, taking_lock, taking_whole}
+use Rattle.machine_invariant.proofs.Makes.{private_load_whole, private_store_whole, make_commit_whole}
+use Rattle.machine_invariant.proofs.Retires.{retire_commit_whole, epoch_for_retire_whole}
+use Rattle.machine_invariant.proofs.Entering.{enter_again_whole, idle_whole}
+use Rattle.machine_invariant.proofs.Walking.{load_cell_whole}
+use Rattle.machine_invariant.proofs.Publishing.{hold_whole}
+use Rattle.machine_invariant.proofs.Freeing.{scan_one_whole, advance_whole}
+use Rattle.machine_invariant.proofs.SectionsRetired.{section_retired_whole}
+use Rattle.machine_invariant.proofs.Following.{StepsWhole, assembled}
+
+-- a load of a cell outside a run
+abbrev is_read : EventKind → Bool
+is_read (kinds.LoadCell (Some place)) = true
+is_read _ = false
+
+module _ (m : Meaning) (laws : Laws m) (l : Layout) (limits : IsWithinLimits l) (rs : List Request) (few : length rs ≤ 131072)
+    (allowed : All (λ (q : Request). IsAllowed q.op) rs) (g : Beside) (s : Sight) (whole : IsWhole m l g s) (r : ℕ) (some : r ≤ l.runners)
+    (x : Spot × Access)
+    (fits : Fits (sizes_for m l rs) x.0) where
+  abbrev p : PartState
+  p = s.part r
+
+  abbrev here : EventKind → Sight
+  here kind = sight_after m l s r kind x
+
+  abbrev To : EventKind → Type 0
+  To kind = StepsWhole m l rs g s (here kind) r kind
+
+  -- where the step is on this word
+  abbrev step_of : (kind : EventKind) → asks m l rs r kind p ≡ Some x → Steps m l rs s (here kind) r kind
+  step_of kind asked = record { runner = some; ask = x; asked = asked; has_word = fits; next = refl }
+
+  no_read : (kind : EventKind) → is_read kind ≡ false → HoldsMet m l g s r kind
+  no_read kind other place t is low by = absurd (let clash : true ≡ false = sym (ap is_read is) ∙ other in cc)
+
+  -- a step before which nobody comes to hold anything
+  direct : (kind : EventKind) → asks m l rs r kind p ≡ Some x → is_read kind ≡ false
+      → ((parts : Pieces m l g s (here kind) r kind x) → KeepsWhole m l g s (here kind) r kind x parts) → To kind
+  direct kind asked other keeps =
+      let parts = pieces m laws l limits rs few allowed g s (here kind) whole r kind (step_of kind asked) (no_read kind other) in
+      assembled m l rs g s (here kind) r kind [] tt (step_of kind asked) parts (keeps parts)
+
+  -- the steps of a run
+  module _ (q : RunState) (is : p.run ≡ Some q) where
+    asked_inside : (kind : EventKind) → asks m l rs r kind p ≡ Some x
+        → (if is_open_run q then line_ask m l kind p.nodes.free q (next_of m q) else opening_ask kind q) ≡ Some x
+    asked_inside kind asked = asked_by m l r kind p rs x (Some q) is asked
+
+    plain : (kind : EventKind) → asks m l rs r kind p ≡ Some x → is_read kind ≡ false → is_join kind ≡ false → is_plain_line kind ≡ true
+        → To kind
+    plain kind asked other j is_plain = direct kind asked other (plain_whole m laws l limits rs g s whole r x kind asked q is j is_plain)
+
+    module _ (opened : is_open_run q ≡ true) where
+      -- a load of a lock's word for a Take
+      takes : (kind : EventKind) → asks m l rs r kind p ≡ Some x → is_read kind ≡ false → is_taking kind ≡ true → To kind
+      takes kind asked other taking =
+          let first = pieces m laws l limits rs few allowed g s (here kind) whole r kind (step_of kind asked) (no_read kind other) in
+          let line = line_heads m l r kind p q is opened (s.word x.0) g.agreement first.heads first.in_sections in
+          let had = has_named m laws l limits g s whole r q
+          (taking_lock m laws l limits rs g s whole r x q is opened kind (s.word x.0) first.heads taking line) in
+          let g' : Beside = record g { epochs = _ } in
+          let parts = pieces m laws l limits rs few allowed g' s (here kind) had.stands r kind (step_of kind asked)
+          (λ place t is low by. absurd (let clash : true ≡ false = sym (ap is_read is) ∙ other in cc)) in
+          assembled m l rs g s (here kind) r kind had.reaches had.enabled (step_of kind asked) parts
+          (taking_whole m laws l limits rs g' s had.stands r x q is opened kind asked taking had.held parts
+          (line_heads m l r kind p q is opened (s.word x.0) g.agreement parts.heads parts.in_sections)
+          (line_events m l r kind p q is opened (s.word x.0) parts.events parts.in_slots))
+
+      line : (kind : EventKind) → asks m l rs r kind p ≡ Some x → To kind
+      line (kinds.PrivateLoad slot cell) asked = direct (kinds.PrivateLoad slot cell) asked refl
+          (private_load_whole m laws l limits rs few allowed g s whole r x slot cell asked q is opened)
+      line (kinds.PrivateStore slot cell number) asked = direct (kinds.PrivateStore slot cell number) asked refl
+          (private_store_whole m laws l limits rs few allowed g s whole r x slot cell number asked q is opened)
+      line kinds.MakeCommit asked =
+          direct kinds.MakeCommit asked refl (make_commit_whole m laws l limits rs few allowed g s whole r x asked q is opened)
+      line kinds.RetireCommit asked =
+          direct kinds.RetireCommit asked refl (retire_commit_whole m laws l limits rs few allowed g s whole r x asked q is opened)
+      line kinds.EpochForRetire asked =
+          direct kinds.EpochForRetire asked refl (epoch_for_retire_whole m laws l limits rs few allowed g s whole r x asked q is opened)
+      line kinds.NestedLoad asked = takes kinds.NestedLoad asked refl refl
+      line kinds.OutcomeLoad asked = takes kinds.OutcomeLoad asked refl refl
+      line (kinds.LoadCell (Some place)) asked = some_none x (line_asked m l rs r (kinds.LoadCell (Some place)) p q x asked is opened)
+      line (kinds.Join worker) asked = direct (kinds.Join worker) asked refl (join_whole m laws l limits rs g s whole r x worker asked)
+      line kind asked = plain kind asked refl refl refl
+
+    module _ (unopened : is_open_run q ≡ false) where
+      asked_opening : (kind : EventKind) → asks m l rs r kind p ≡ Some x → opening_ask kind q ≡ Some x
+      asked_opening kind asked = ap (λ b. if b then line_ask m l kind p.nodes.free q (next_of m q) else opening_ask kind q) (sym unopened)
+          ∙ asked_inside kind asked
+
+      opening : (kind : EventKind) → asks m l rs r kind p ≡ Some x → To kind
+      opening (kinds.LoadThunk None) asked = plain (kinds.LoadThunk None) asked refl refl refl
+      opening kinds.LoadDone asked = plain kinds.LoadDone asked refl refl refl
+      opening kind asked = some_none x (asked_opening kind asked)
+
+    inside : (kind : EventKind) → asks m l rs r kind p ≡ Some x → To kind
+    inside kind asked = by (is_open_run q) refl
+      where
+        by : (b : Bool) → is_open_run q ≡ b → To kind
+        by true opened = line opened kind asked
+        by false unopened = opening unopened kind asked
+
+  -- the steps of a runner in no run
+  module _ (none : p.run ≡ None) where
+    -- a load of a cell, before which the runner comes to hold what it meets
+    reads_cell : (place : ℕ) → asks m l rs r (kinds.LoadCell (Some place)) p ≡ Some x → To (kinds.LoadCell (Some place))
+    reads_cell place asked =
+        let kind = kinds.LoadCell (Some place) in
+        let had = has_met m laws l limits rs few allowed g s whole r x kind asked in
+        let parts = pieces m laws l limits rs few allowed (having_met m l g r kind) s (here kind) had.whole r kind
+        (step_of kind asked) had.holds in
+        assembled m l rs g s (here kind) r kind ((r, slots_met m (counts_of m l) g.agreement.shared.cells place) ∷ []) had.enabled
+        (step_of kind asked) parts
+        (load_cell_whole m laws l limits rs few allowed (having_met m l g r kind) s had.whole r x place asked none had.holds parts)
+
+    outside : (kind : EventKind) → asks m l rs r kind p ≡ Some x → To kind
+    outside kinds.EnterAgain asked =
+        direct kinds.EnterAgain asked refl (enter_again_whole m laws l limits rs few allowed g s whole r x asked none)
+    outside kinds.Idle asked = direct kinds.Idle asked refl (idle_whole m laws l limits rs few allowed g s whole r x asked none)
+    outside (kinds.ScanOne n) asked =
+        direct (kinds.ScanOne n) asked refl (scan_one_whole m laws l limits rs few allowed g s whole r x n asked none)
+    outside kinds.Advance asked = direct kinds.Advance asked refl (advance_whole m laws l limits rs few allowed g s whole r x asked none)
+    outside (kinds.LoadCell (Some place)) asked = reads_cell place asked
+    outside (kinds.Hold t d) asked =
+        direct (kinds.Hold t d) asked refl (hold_whole m laws l limits rs few allowed g s whole r x t d asked none)
+    outside kinds.EpochForRetire asked =
+        direct kinds.EpochForRetire asked refl (section_retired_whole m laws l limits rs few allowed g s whole r x asked none)
+    outside (kinds.Join worker) asked = direct (kinds.Join worker) asked refl (join_whole m laws l limits rs g s whole r x worker asked)
+    outside kind asked = direct kind asked refl (outside_whole m laws l limits rs g s whole r x kind asked none refl)
+
+  at_once : (kind : EventKind) → asks m l rs r kind p ≡ Some x → To kind
+  at_once kind asked = by p.run refl
+    where
+      by : (o : Option RunState) → p.run ≡ o → To kind
+      by None none = outside none kind asked
+      by (Some q) is = inside q is kind asked
+
+-- each step of the machine keeps the whole invariant
+pub step_whole : (m : Meaning) → Laws m → (l : Layout) → IsWithinLimits l → (rs : List Request) → length rs ≤ 131072
+    → All (λ (q : Request). IsAllowed q.op) rs
+    → (g : Beside) (s s' : Sight) (r : ℕ) (kind : EventKind) → IsWhole m l g s → Steps m l rs s s' r kind → StepsWhole m l rs g s s' r kind
+step_whole m laws l limits rs few allowed g s s' r kind whole step =
+    subst (λ (t : Sight). StepsWhole m l rs g s t r kind) (sym step.next)
+    (at_once m laws l limits rs few allowed g s whole r step.runner step.ask step.has_word kind step.asked)

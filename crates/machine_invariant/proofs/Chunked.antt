@@ -1,0 +1,217 @@
+-- Of what sort the events are that a step of the machine is.
+use Rattle.std.specs.Prelude.{Bool, true, false, nat_lt, ◌==◌, ◌-◌, if◌then◌else◌}
+use Rattle.std.proofs.Common.{◌≡◌, ℕ, List, [], ◌∷◌, sym, refl, subst, ⊎_elim, Option, Some, None}
+use Rattle.section_body.specs.declared.micro.Micro.{Micro}
+use Rattle.table_words.specs.declared.layout.Layout.{Layout}
+use Rattle.table_words.specs.Places.{slot_count}
+use Rattle.structure_laws.specs.Meaning.{Meaning}
+use Rattle.runner_parts.specs.declared.event.EventKind.{EventKind}
+use Rattle.runner_parts.specs.declared.event.EventKind.TheVariants as kinds
+use Rattle.runner_parts.specs.State.{RunState, NodesState, PartState}
+use Rattle.runner_parts.specs.Lists.{test_of, one_more}
+use Rattle.runner_steps.specs.Sections.{is_open_run, next_of}
+use Rattle.agreement_core.specs.State.{AgreementState}
+use Rattle.agreement_core.specs.Events as agreement
+use Rattle.epoch_core.specs.Events as epochs
+use Rattle.machine_epochs.proofs.Reaching.{leaves_descriptors}
+use Rattle.machine_epochs.specs.Chunks as slots
+use Rattle.machine_scenes.specs.Kinds.{is_alone}
+use Rattle.machine_agreement.specs.Chunks as sections
+use Rattle.machine_invariant.specs.Named.{LoadsLock, LoadNoLock}
+use Rattle.machine_invariant.proofs.Runs.{AllAre}
+use Rattle.machine_invariant.proofs.Quiet.{is_still}
+
+-- no load of a lock's word for a Take
+abbrev pub is_unlocked : agreement.Event → Bool
+is_unlocked (agreement.NestedLoad r place log) = false
+is_unlocked (agreement.OutcomeLoad r place log) = false
+is_unlocked _ = true
+
+one_unlocked : (e : agreement.Event) → is_unlocked e ≡ true → (r p : ℕ) → LoadsLock e r p → ⊥
+one_unlocked e is r p (log, loads) = ⊎_elim (λ h. nested e r p log is h) (λ h. outcome e r p log is h) loads
+  where
+    nested : (e : agreement.Event) (r p log : ℕ) → is_unlocked e ≡ true → e ≡ agreement.NestedLoad r p log → ⊥
+    nested e r p log is h = let f : is_unlocked (agreement.NestedLoad r p log) ≡ true = subst (λ v. is_unlocked v ≡ true) h is in cc
+
+    outcome : (e : agreement.Event) (r p log : ℕ) → is_unlocked e ≡ true → e ≡ agreement.OutcomeLoad r p log → ⊥
+    outcome e r p log is h = let f : is_unlocked (agreement.OutcomeLoad r p log) ≡ true = subst (λ v. is_unlocked v ≡ true) h is in cc
+
+pub all_unlocked : (es : List agreement.Event) → AllAre is_unlocked es → LoadNoLock es
+all_unlocked [] are = tt
+all_unlocked (e ∷ es) are = (one_unlocked e are.0, all_unlocked es are.1)
+
+-- nothing is published, retired or freed by these, nor is a lock's word loaded for a Take
+pub record AreCalm (heads : List agreement.Event) : Type 0 where
+  pub still : AllAre is_still heads
+  pub unlocked : AllAre is_unlocked heads
+
+-- and by these nobody enters or leaves, no Make or Retire is concerned, and no descriptor goes anywhere
+pub record AreSteady (vs : List epochs.Event) : Type 0 where
+  pub alone : AllAre is_alone vs
+  pub leaves : AllAre leaves_descriptors vs
+
+none_calm : AreCalm []
+none_calm = record { still = tt; unlocked = tt }
+
+none_steady : AreSteady []
+none_steady = record { alone = tt; leaves = tt }
+
+one_calm : (e : agreement.Event) → is_still e ≡ true → is_unlocked e ≡ true → AreCalm (e ∷ [])
+one_calm e still unlocked = record { still = (still, tt); unlocked = (unlocked, tt) }
+
+read_calm : (place : ℕ) (e : agreement.Event) → is_still e ≡ true → is_unlocked e ≡ true → AreCalm (agreement.Read place ∷ e ∷ [])
+read_calm place e still unlocked = record { still = (refl, (still, tt)); unlocked = (refl, (unlocked, tt)) }
+
+one_steady : (v : epochs.Event) → is_alone v ≡ true → leaves_descriptors v ≡ true → AreSteady (v ∷ [])
+one_steady v alone leaves = record { alone = (alone, tt); leaves = (leaves, tt) }
+
+-- the steps in runs that concern no slot of a Make, no Retire, and load no lock's word
+abbrev pub is_plain_line : EventKind → Bool
+is_plain_line (kinds.PrivateLoad slot word) = false
+is_plain_line (kinds.PrivateStore slot word number) = false
+is_plain_line kinds.MakeCommit = false
+is_plain_line kinds.RetireCommit = false
+is_plain_line kinds.EpochForRetire = false
+is_plain_line kinds.NestedLoad = false
+is_plain_line kinds.OutcomeLoad = false
+is_plain_line _ = true
+
+module _ (m : Meaning) (l : Layout) (w : AgreementState) (r : ℕ) where
+  line_calm : (kind : EventKind) (q : RunState) (found : ℕ) (heads : List agreement.Event) → is_plain_line kind ≡ true
+      → sections.IsLineChunk m l w r kind q found heads → AreCalm heads
+  line_calm kinds.Commit q found heads plain chunk =
+      ⊎_elim (λ h. subst AreCalm (sym h.1) (one_calm _ refl refl)) (λ h. subst AreCalm (sym h.1) (one_calm _ refl refl)) chunk.2
+  line_calm (kinds.LoadCell None) q found heads plain chunk = subst AreCalm (sym chunk.3) (one_calm _ refl refl)
+  line_calm kinds.ExchangeCell q found heads plain chunk = subst AreCalm (sym chunk.4) (read_calm _ _ refl refl)
+  line_calm (kinds.PrivateLoad slot cell) q found heads plain chunk = absurd (cc)
+  line_calm (kinds.PrivateStore slot cell number) q found heads plain chunk = absurd (cc)
+  line_calm kinds.MakeCommit q found heads plain chunk = absurd (cc)
+  line_calm kinds.RetireCommit q found heads plain chunk = absurd (cc)
+  line_calm kinds.EpochForRetire q found heads plain chunk = absurd (cc)
+  line_calm kinds.NestedLoad q found heads plain chunk = absurd (cc)
+  line_calm kinds.OutcomeLoad q found heads plain chunk = absurd (cc)
+  line_calm kinds.ClockLoad q found heads plain chunk = subst AreCalm (sym chunk.1) (one_calm _ refl refl)
+  line_calm kinds.StampExchange q found heads plain chunk = subst AreCalm (sym chunk.1) (one_calm _ refl refl)
+  line_calm kinds.ClockRaise q found heads plain chunk = subst AreCalm (sym chunk.1) (one_calm _ refl refl)
+  line_calm kinds.ReplyExchange q found heads plain chunk = subst AreCalm (sym chunk.2) (one_calm _ refl refl)
+  line_calm kinds.NestedHold q found heads plain chunk = subst AreCalm (sym chunk.3) (read_calm _ _ refl refl)
+  line_calm kinds.OutcomeCommit q found heads plain chunk = subst AreCalm (sym chunk.3) (one_calm _ refl refl)
+  line_calm kinds.SetDone q found heads plain chunk = subst AreCalm (sym chunk.1) (one_calm _ refl refl)
+  line_calm kinds.Release q found heads plain chunk = ⊎_elim (λ h. subst AreCalm (sym h.1) (read_calm _ _ refl refl))
+      (λ h. subst AreCalm (sym h.1) (record { still = (refl, (refl, (refl, tt))); unlocked = (refl, (refl, (refl, tt))) })) chunk.3
+  line_calm _ q found heads plain chunk = subst AreCalm (sym chunk) none_calm
+
+  pub inside_calm : (kind : EventKind) (q : RunState) (found : ℕ) (heads : List agreement.Event) (b : Bool) → is_plain_line kind ≡ true
+      → sections.IsInsideChunk m l w r b kind q found heads → AreCalm heads
+  inside_calm kind q found heads true plain chunk = line_calm kind q found heads plain chunk
+  inside_calm kind q found heads false plain chunk = subst AreCalm (sym chunk) none_calm
+
+  reach_steady : (comes : ℕ → Bool) (q : RunState) (log : ℕ) → AreSteady (slots.agreed_lock r comes q log)
+  reach_steady comes q log = record { alone = (refl, (refl, tt)); leaves = (refl, (refl, tt)) }
+
+  line_steady : (kind : EventKind) (p : PartState) (q : RunState) (micro : Micro) (found : ℕ) (vs : List epochs.Event)
+      → is_plain_line kind ≡ true
+      → slots.IsLineChunk m l r kind p q micro found vs → AreSteady vs
+  line_steady kinds.Commit p q micro found vs plain chunk =
+      ⊎_elim (λ h. subst AreSteady (sym h.1) (one_steady _ refl refl)) (λ h. subst AreSteady (sym h.1) (reach_steady _ q _)) chunk.2
+  line_steady kinds.OutcomeCommit p q micro found vs plain chunk = subst AreSteady (sym chunk.3) (reach_steady _ q _)
+  line_steady (kinds.PrivateLoad slot cell) p q micro found vs plain chunk = absurd (cc)
+  line_steady kinds.MakeCommit p q micro found vs plain chunk = absurd (cc)
+  line_steady kinds.EpochForRetire p q micro found vs plain chunk = absurd (cc)
+  line_steady kinds.RetireCommit p q micro found vs plain chunk = absurd (cc)
+  line_steady _ p q micro found vs plain chunk = subst AreSteady (sym chunk) none_steady
+
+  pub inside_steady : (kind : EventKind) (p : PartState) (q : RunState) (found : ℕ) (vs : List epochs.Event) (b : Bool)
+      → is_plain_line kind ≡ true
+      → slots.IsInsideChunk m l r b kind p q found vs → AreSteady vs
+  inside_steady kind p q found vs true plain chunk = line_steady kind p q (next_of m q) found vs plain chunk
+  inside_steady kind p q found vs false plain chunk = subst AreSteady (sym chunk) none_steady
+
+-- the steps outside runs by which nobody enters, leaves, reads a cell, publishes, retires or may end a scan, but for joins
+abbrev pub is_plain_outside : EventKind → Bool
+is_plain_outside kinds.EnterAgain = false
+is_plain_outside kinds.Idle = false
+is_plain_outside (kinds.ScanOne n) = false
+is_plain_outside kinds.Advance = false
+is_plain_outside (kinds.LoadCell (Some place)) = false
+is_plain_outside (kinds.Hold thunk d) = false
+is_plain_outside kinds.EpochForRetire = false
+is_plain_outside (kinds.Join worker) = false
+is_plain_outside _ = true
+
+module _ (m : Meaning) (l : Layout) (w : AgreementState) (r : ℕ) where
+  stored_calm : (d word number : ℕ) → AreCalm (sections.stored d word number)
+  stored_calm d word number = by (nat_lt word 12) (word == 12)
+    where
+      by : (b b' : Bool) → AreCalm (if b then [] else (if b' then agreement.StoreDone d number ∷ [] else agreement.StoreLog d
+          (word - 13) number ∷ []))
+      by true b' = none_calm
+      by false true = one_calm _ refl refl
+      by false false = one_calm _ refl refl
+
+  pub outside_calm : (kind : EventKind) (p : PartState) (found : ℕ) (heads : List agreement.Event) → is_plain_outside kind ≡ true
+      → sections.IsOutsideChunk m l w r kind p found heads → AreCalm heads
+  outside_calm kinds.EnterAgain p found heads plain chunk = absurd (cc)
+  outside_calm kinds.Idle p found heads plain chunk = absurd (cc)
+  outside_calm (kinds.ScanOne n) p found heads plain chunk = absurd (cc)
+  outside_calm kinds.Advance p found heads plain chunk = absurd (cc)
+  outside_calm (kinds.LoadCell (Some place)) p found heads plain chunk = absurd (cc)
+  outside_calm (kinds.Hold thunk d) p found heads plain chunk = absurd (cc)
+  outside_calm kinds.EpochForRetire p found heads plain chunk = absurd (cc)
+  outside_calm (kinds.Join worker) p found heads plain chunk = absurd (cc)
+  outside_calm (kinds.LoadThunk (Some d)) p found heads plain chunk = subst AreCalm (sym chunk) (one_calm _ refl refl)
+  outside_calm (kinds.PrivateStore slot word number) p found heads plain chunk =
+      subst AreCalm (sym chunk.1) (stored_calm (slot - slot_count l m.fixed_slots) word number)
+  outside_calm _ p found heads plain chunk = subst AreCalm (sym chunk) none_calm
+
+  looked_steady : (n : NodesState) (slot cell found : ℕ) → AreSteady (slots.looked l r n slot cell found)
+  looked_steady n slot cell found = by (slots.is_last_look n slot cell)
+    where
+      by : (b : Bool) → AreSteady (if b then epochs.Test r slot (one_more l (test_of n.tests slot) found).worn ∷ [] else [])
+      by true = one_steady _ refl refl
+      by false = none_steady
+
+  stored_steady : (d word number : ℕ) → AreSteady (slots.stored r d word number)
+  stored_steady d word number = by (nat_lt word 12) (word == 12)
+    where
+      by : (b b' : Bool) → AreSteady (if b then [] else (if b' then [] else epochs.StoreLog r d (word - 13) number ∷ []))
+      by true b' = none_steady
+      by false true = none_steady
+      by false false = one_steady _ refl refl
+
+  pub outside_steady : (kind : EventKind) (p : PartState) (found : ℕ) (vs : List epochs.Event) → is_plain_outside kind ≡ true
+      → slots.IsOutsideChunk m l r kind p found vs → AreSteady vs
+  outside_steady kinds.EnterLoad p found vs plain chunk = subst AreSteady (sym chunk) (one_steady _ refl refl)
+  outside_steady kinds.Announce p found vs plain chunk = subst AreSteady (sym chunk.2) (one_steady _ refl refl)
+  outside_steady kinds.EnterAgain p found vs plain chunk = absurd (cc)
+  outside_steady kinds.Idle p found vs plain chunk = absurd (cc)
+  outside_steady kinds.ScanEpoch p found vs plain chunk = subst AreSteady (sym chunk) (one_steady _ refl refl)
+  outside_steady (kinds.ScanOne n) p found vs plain chunk = absurd (cc)
+  outside_steady kinds.Advance p found vs plain chunk = absurd (cc)
+  outside_steady (kinds.LoadCell (Some place)) p found vs plain chunk = absurd (cc)
+  outside_steady (kinds.Hold thunk d) p found vs plain chunk = absurd (cc)
+  outside_steady kinds.EpochForRetire p found vs plain chunk = absurd (cc)
+  outside_steady (kinds.Join worker) p found vs plain chunk = absurd (cc)
+  outside_steady (kinds.PrivateLoad slot cell) p found vs plain chunk = subst AreSteady (sym chunk) (looked_steady p.nodes slot cell found)
+  outside_steady (kinds.PrivateStore slot word number) p found vs plain chunk =
+      subst AreSteady (sym chunk) (stored_steady (slot - slot_count l m.fixed_slots) word number)
+  outside_steady _ p found vs plain chunk = subst AreSteady (sym chunk) none_steady
+
+  -- a join is no event of the components
+  pub join_calm : (worker : ℕ) (p : PartState) (o : Option RunState) (found : ℕ) (heads : List agreement.Event)
+      → sections.IsChunk m l w r (kinds.Join worker) p o found heads → AreCalm heads
+  join_calm worker p None found heads chunk = subst AreCalm (sym chunk) none_calm
+  join_calm worker p (Some q) found heads chunk = by (is_open_run q) chunk
+    where
+      by : (b : Bool) → sections.IsInsideChunk m l w r b (kinds.Join worker) q found heads → AreCalm heads
+      by true chunk = subst AreCalm (sym chunk) none_calm
+      by false chunk = subst AreCalm (sym chunk) none_calm
+
+  pub join_steady : (worker : ℕ) (p : PartState) (o : Option RunState) (found : ℕ) (vs : List epochs.Event)
+      → slots.IsChunk m l r (kinds.Join worker) p o found vs → AreSteady vs
+  join_steady worker p None found vs chunk = subst AreSteady (sym chunk) none_steady
+  join_steady worker p (Some q) found vs chunk = by (is_open_run q) chunk
+    where
+      by : (b : Bool) → slots.IsInsideChunk m l r b (kinds.Join worker) p q found vs → AreSteady vs
+      by true chunk = subst AreSteady (sym chunk) none_steady
+      by false chunk = subst AreSteady (sym chunk) none_steady

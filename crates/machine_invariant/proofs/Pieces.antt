@@ -1,0 +1,112 @@
+-- The components' events of one step of the machine, and what they lead to.
+use Rattle.std.specs.Prelude.{replicate, All}
+use Rattle.std.proofs.Common.{◌≡◌, ℕ, ◌≤◌, List, ◌++◌, length, sym, subst}
+use Rattle.map_history.specs.declared.op.Request.{Request}
+use Rattle.table_words.specs.declared.layout.Layout.{Layout}
+use Rattle.table_words.specs.declared.spot.Spot.{Spot}
+use Rattle.table_words.specs.declared.access.Access.{Access}
+use Rattle.table_words.specs.Limits.{IsWithinLimits}
+use Rattle.structure_laws.specs.Meaning.{Meaning}
+use Rattle.structure_laws.specs.Laws.{Laws}
+use Rattle.structure_laws.specs.Sections.{IsAllowed}
+use Rattle.runner_parts.specs.declared.event.EventKind.{EventKind}
+use Rattle.agreement_core.specs.State.{AgreementState}
+use Rattle.agreement_core.specs.Events as agreement
+use Rattle.agreement_core.specs.Schedules as agreement_schedules
+use Rattle.epoch_core.specs.Events as epochs
+use Rattle.epoch_core.specs.Schedules as epoch_schedules
+use Rattle.machine_states.specs.Sight.{Sight, Steps}
+use Rattle.machine_epochs.specs.Entries.{counts_of}
+use Rattle.machine_epochs.specs.Joined as joins
+use Rattle.machine_epochs.specs.Chunks as slots
+use Rattle.machine_epochs.proofs.AllKinds as joins_kinds
+use Rattle.machine_scenes.specs.Shown.{Publications, rules_of}
+use Rattle.machine_agreement.specs.Joined as sections
+use Rattle.machine_agreement.specs.Chunks as chunks
+use Rattle.machine_agreement.proofs.AllKinds as sections_kinds
+use Rattle.machine_invariant.specs.Whole.{Beside, IsWhole}
+use Rattle.machine_invariant.proofs.SuppliesSections.{sections_supplied}
+use Rattle.machine_invariant.proofs.SuppliesSlots.{HoldsMet, slots_supplied}
+
+module _ (m : Meaning) (l : Layout) where
+  -- the components' events of this runner's step of this kind on this word, and the states to which they lead
+  pub record Pieces (g : Beside) (s s' : Sight) (r : ℕ) (kind : EventKind) (x : Spot × Access) : Type 0 where
+    pub heads : List agreement.Event
+    pub in_sections : chunks.IsChunk m l g.agreement r kind (s.part r) (s.part r).run (s.word x.0) heads
+    pub passes : ℕ
+    pub enabled : agreement_schedules.AllEnabled (rules_of m l) g.agreement (heads ++ replicate passes (agreement.Pass r))
+    pub joined : sections.IsJoinedToAgreement m l (agreement_schedules.after_all (rules_of m l) g.agreement
+        (heads ++ replicate passes (agreement.Pass r))) s'
+    pub events : List epochs.Event
+    pub in_slots : slots.IsChunk m l r kind (s.part r) (s.part r).run (s.word x.0) events
+    pub enabled_slots : epoch_schedules.AllEnabled (counts_of m l) g.epochs events
+    pub joined_slots : joins.IsJoinedToEpochs m l (epoch_schedules.after_all (counts_of m l) g.epochs events) s'
+
+  -- the states after these events of agreement, so many checks that pass behind them, and these events of epochs and slots
+  abbrev pub led : Beside → ℕ → List agreement.Event → ℕ → List epochs.Event → Publications → Beside
+  led g r heads passes events p = record {
+    agreement = agreement_schedules.after_all (rules_of m l) g.agreement (heads ++ replicate passes (agreement.Pass r));
+    epochs = epoch_schedules.after_all (counts_of m l) g.epochs events;
+    publications = p;
+  }
+
+  -- the states to which a step's events lead meet the whole invariant
+  pub record KeepsWhole (g : Beside) (s s' : Sight) (r : ℕ) (kind : EventKind) (x : Spot × Access) (pieces : Pieces g s s' r kind x)
+      : Type 0 where
+    pub publications : Publications
+    pub whole : IsWhole m l (led g r pieces.heads pieces.passes pieces.events publications) s'
+
+  -- these events of the components may come, and lead to states that belong to this sight, with checks that pass behind those of agreement
+  pub record Leads (g : Beside) (s' : Sight) (r : ℕ) (heads : List agreement.Event) (events : List epochs.Event) : Type 0 where
+    pub passes : ℕ
+    pub enabled : agreement_schedules.AllEnabled (rules_of m l) g.agreement (heads ++ replicate passes (agreement.Pass r))
+    pub joined : sections.IsJoinedToAgreement m l (agreement_schedules.after_all (rules_of m l) g.agreement
+        (heads ++ replicate passes (agreement.Pass r))) s'
+    pub enabled_slots : epoch_schedules.AllEnabled (counts_of m l) g.epochs events
+    pub joined_slots : joins.IsJoinedToEpochs m l (epoch_schedules.after_all (counts_of m l) g.epochs events) s'
+
+  module _ (g : Beside) (s s' : Sight) (r : ℕ) (kind : EventKind) (x : Spot × Access) (pieces : Pieces g s s' r kind x)
+      (heads : List agreement.Event) (events : List epochs.Event) (same : pieces.heads ≡ heads) (same' : pieces.events ≡ events) where
+    -- a step's events, where it is known which they are
+    leads_of : Leads g s' r heads events
+    leads_of = record {
+      passes = pieces.passes;
+      enabled = subst (λ es. agreement_schedules.AllEnabled (rules_of m l) g.agreement
+          (es ++ replicate pieces.passes (agreement.Pass r))) same pieces.enabled;
+      joined = subst (λ es. sections.IsJoinedToAgreement m l (agreement_schedules.after_all (rules_of m l) g.agreement
+          (es ++ replicate pieces.passes (agreement.Pass r))) s') same pieces.joined;
+      enabled_slots = subst (λ es. epoch_schedules.AllEnabled (counts_of m l) g.epochs es) same' pieces.enabled_slots;
+      joined_slots = subst (λ es. joins.IsJoinedToEpochs m l (epoch_schedules.after_all (counts_of m l) g.epochs es) s') same' pieces.joined_slots;
+    }
+
+    -- the step keeps the whole invariant, where the states to which these events lead meet it
+    pub keeps_by : (p : Publications) → ((go : Leads g s' r heads events) → IsWhole m l (led g r heads go.passes events p) s')
+        → KeepsWhole g s s' r kind x pieces
+    unfolding leads_of
+    keeps_by p whole = record {
+      publications = p;
+      whole = subst (λ es. IsWhole m l (led g r es pieces.passes pieces.events p) s') (sym same)
+          (subst (λ vs. IsWhole m l (led g r heads pieces.passes vs p) s') (sym same') (whole leads_of));
+    }
+
+module _ (m : Meaning) (laws : Laws m) (l : Layout) (limits : IsWithinLimits l) (rs : List Request) (few : length rs ≤ 131072)
+    (allowed : All (λ (q : Request). IsAllowed q.op) rs) (g : Beside) (s s' : Sight) (whole : IsWhole m l g s) (r : ℕ)
+    (kind : EventKind) where
+  -- each step of the machine has such events, where the runner holds what it meets
+  pub pieces : (step : Steps m l rs s s' r kind) → HoldsMet m l g s r kind → Pieces m l g s s' r kind step.ask
+  pieces step met =
+      let e = joins_kinds.joined_step m l rs g.epochs s s' r kind step whole.slots
+      (slots_supplied m laws l limits rs few allowed g s whole r kind step.ask step.asked met) in
+      let a = sections_kinds.step_goes m l rs g.agreement s whole.sections r s' kind step
+      (sections_supplied m laws l limits rs few allowed g s whole r kind step.ask step.asked e.0 e.1 e.2.enabled) in
+      record {
+        heads = a.0;
+        in_sections = a.1;
+        passes = a.2.leads.passes;
+        enabled = a.2.leads.enabled;
+        joined = subst (λ (w : AgreementState). sections.IsJoinedToAgreement m l w s') (sym a.2.leads.there) a.2.joined;
+        events = e.0;
+        in_slots = e.1;
+        enabled_slots = e.2.enabled;
+        joined_slots = e.2.joined;
+      }

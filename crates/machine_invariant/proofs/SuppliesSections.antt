@@ -1,0 +1,229 @@
+-- The whole invariant supplies what the join of sections asks for, step by step.
+use Rattle.std.specs.Prelude.{◌*◌, ◌^◌, Bool, true, false, slice_get, All, if◌then◌else◌}
+use Rattle.std.specs.List.{filter}
+use Rattle.std.proofs.Common.{◌≡◌, ◌≢◌, ℕ, suc, ◌<◌, ◌≤◌, List, length, refl, sym, ap, ◌∙◌, subst, arith, Option, Some, None}
+use Rattle.std.proofs.lemmas.Option.{slice_get_within, get_or_from_slice_get}
+use Rattle.std.proofs.lemmas.List.Elements.{All-get_or}
+use Rattle.map_history.specs.declared.op.Request.{Request}
+use Rattle.section_body.specs.declared.micro.Micro.TheVariants as micros
+use Rattle.section_body.specs.declared.thunk.Thunk.{Thunk}
+use Rattle.section_body.specs.Word.{next_word}
+use Rattle.section_body.specs.Line.{line, micro_at, committed}
+use Rattle.section_body.specs.Memory.{cell_of}
+use Rattle.section_body.specs.Run.{source_value}
+use Rattle.table_words.specs.declared.layout.Layout.{Layout}
+use Rattle.table_words.specs.declared.spot.Spot.{Spot}
+use Rattle.table_words.specs.declared.spot.Spot.TheVariants as spots
+use Rattle.table_words.specs.declared.access.Access.{Access}
+use Rattle.table_words.specs.Limits.{IsWithinLimits}
+use Rattle.table_words.specs.Places.{Fits, descriptor_count}
+use Rattle.structure_laws.specs.Meaning.{Meaning}
+use Rattle.structure_laws.specs.Laws.{Laws}
+use Rattle.structure_laws.specs.Sections.{IsAllowed}
+use Rattle.runner_parts.specs.declared.event.EventKind.{EventKind}
+use Rattle.runner_parts.specs.declared.event.EventKind.TheVariants as kinds
+use Rattle.runner_parts.specs.declared.entries.Published.{Published}
+use Rattle.runner_parts.specs.State.{RunState, PartState}
+use Rattle.runner_parts.specs.Tests.{has}
+use Rattle.runner_parts.specs.Lists.{is_old, slots_of}
+use Rattle.runner_steps.specs.Asks.{asks, ask_by, sizes_for, line_ask, opening_ask}
+use Rattle.runner_steps.specs.InRun.{is_slot, can_raise}
+use Rattle.runner_steps.specs.Outside.{hold_ask, open_ask}
+use Rattle.runner_steps.specs.Sections.{is_open_run, next_of}
+use Rattle.agreement_core.specs.State.{AgreementState, section_of}
+use Rattle.agreement_core.specs.Events.{IsAlone, IsPrivateStore, IsPublishable}
+use Rattle.epoch_core.specs.declared.location.Location.TheVariants.{Live, Hand, Free}
+use Rattle.epoch_core.specs.Events.{Event, slot_of}
+use Rattle.epoch_core.specs.Schedules.{AllEnabled}
+use Rattle.epoch_core.specs.Sound.{is_for_nodes}
+use Rattle.epoch_core.specs.History.{is_out}
+use Rattle.machine_states.specs.Sight.{Sight}
+use Rattle.machine_states.proofs.Sights.{unless_gone, some_none}
+use Rattle.machine_epochs.specs.Entries.{counts_of}
+use Rattle.machine_epochs.specs.ScanEnds.{collects}
+use Rattle.machine_epochs.specs.Chunks.{IsChunk}
+use Rattle.machine_epochs.proofs.OutsideAsked as outside
+use Rattle.machine_epochs.proofs.RunPlaces.{open_run}
+use Rattle.machine_epochs.proofs.Places.{free_descriptor, held_out}
+use Rattle.machine_scenes.specs.Shown.{rules_of}
+use Rattle.machine_scenes.specs.Supplied.{SuppliesAgreement}
+use Rattle.machine_scenes.proofs.Supplies.{supplies_agreement}
+use Rattle.machine_agreement.specs.Joined.{IsRunOf, ShowsRun}
+use Rattle.machine_agreement.specs.Supplied as supplied
+use Rattle.machine_agreement.proofs.LineAsked as asked_line
+use Rattle.machine_agreement.proofs.RunPlaces.{run_here, before}
+use Rattle.machine_slots.proofs.Locks.{locks_free}
+use Rattle.machine_slots.proofs.Stores.{private_store_is}
+use Rattle.machine_invariant.specs.Whole.{Beside, states_of, made_in, made_of, IsWhole}
+use Rattle.machine_invariant.proofs.Basics.{not_both, by_bool, below_test, same_test}
+use Rattle.machine_invariant.proofs.Asked.{source_same, entered_at}
+use Rattle.machine_invariant.proofs.Prepared.{thunk_is, done_is, log_is}
+use Rattle.machine_invariant.proofs.Limbo.{chunk_collects, leaves_unlive, leaves_unheld}
+
+some_product : (a b n k : ℕ) → a ≤ n → b ≤ k → a * b ≤ n * k
+some_product a b n k h h' = grind arith
+
+-- every descriptor's link is a value
+few_links : (l : Layout) → IsWithinLimits l → (d : ℕ) → d < descriptor_count l → suc d < 2 ^ 32
+few_links l limits d few =
+    let product = some_product l.sections l.runners 1024 16 limits.few_sections limits.few_runners in
+    let runners = limits.few_runners in omega arith
+
+module _ (m : Meaning) (l : Layout) (rs : List Request) (r : ℕ) (p : PartState) (x : Spot × Access) where
+  -- a run begins only outside a run
+  open_outside : (run : Option RunState) (d : ℕ) → ask_by m l rs r (kinds.LoadThunk (Some d)) p run ≡ Some x → open_ask d p ≡ Some x
+  open_outside None d e = e
+  open_outside (Some q) d e = by (is_open_run q) e
+    where
+      by : (b : Bool)
+          → (if b then line_ask m l (kinds.LoadThunk (Some d)) p.nodes.free q (next_of m q) else opening_ask (kinds.LoadThunk (Some d)) q)
+          ≡ Some x → open_ask d p ≡ Some x
+      by true e = some_none x e
+      by false e = some_none x e
+
+module _ (m : Meaning) (laws : Laws m) (l : Layout) (limits : IsWithinLimits l) (rs : List Request) (few : length rs ≤ 131072)
+    (allowed : All (λ (q : Request). IsAllowed q.op) rs) (g : Beside) (s : Sight) (whole : IsWhole m l g s) (r : ℕ) (kind : EventKind)
+    (x : Spot × Access) (asked : asks m l rs r kind (s.part r) ≡ Some x) where
+  abbrev p : PartState
+  p = s.part r
+
+  abbrev a : AgreementState
+  a = g.agreement
+
+  abbrev slot : ℕ → ℕ
+  slot d = slot_of (counts_of m l) d
+
+  abbrev supplies : SuppliesAgreement m l (counts_of m l) (states_of g s)
+  supplies = supplies_agreement m laws l limits (counts_of m l) refl (states_of g s) whole.kept
+
+  -- the runner's run
+  module _ (q : RunState) (is : (s.part r).run ≡ Some q) where
+    abbrev here : IsRunOf (a.run r) q
+    here = run_here m l a s whole.sections r q is
+
+    alone : (place log : ℕ) → is_open_run q ≡ true → next_of m q ≡ micros.LoadCell place log → (a.run r).at ≡ (section_of a r).edge
+        → IsAlone a ((a.run r).descriptor) place
+    alone place log opened next at = supplies.alone r place log
+        (before m l a s whole.sections r q is (open_run q opened) (micros.LoadCell place log) refl refl next) at
+
+    own_slot : (made : Option ℕ) (t : ℕ) → is_slot made t ≡ true → made ≡ Some t
+    own_slot None t e = absurd (let no = e in cc)
+    own_slot (Some u) t e = ap (λ k. Some k) (same_test u t e)
+
+    -- a Make's store into a cell of its slot
+    private_in : (t cell number : ℕ) → kind ≡ kinds.PrivateStore t cell number → (b : Bool) → is_open_run q ≡ b
+        → IsPrivateStore (rules_of m l) a (cell_of m.fixed_cells t cell) number
+    private_in t cell number is_store false closed =
+        let inside = asked_line.inside_asked m l rs r kind p q x asked is in
+        some_none x (ap (λ k. opening_ask k q) (sym is_store)
+        ∙ (ap (λ b. if b then line_ask m l kind p.nodes.free q (next_of m q) else opening_ask kind q) (sym closed) ∙ inside))
+    private_in t cell number is_store true opened =
+        let asked_store = ap (λ k. asks m l rs r k p) (sym is_store) ∙ asked in
+        let h = asked_line.fill_store_asked q x m l t cell number (next_of m q)
+        (asked_line.line_asked m l rs r (kinds.PrivateStore t cell number) p q x asked_store is opened) in
+        let mine : made_of s r ≡ Some t = ap made_in is ∙ own_slot q.made t h.3 in
+        let in_hand : g.epochs.location t ≡ Hand r = (whole.slots.tied r).run_made q t is (own_slot q.made t h.3) in
+        private_store_is m laws l limits (counts_of m l) refl (states_of g s) whole.kept
+        (locks_free m laws l limits (counts_of m l) refl (states_of g s) whole.kept whole.held)
+        (made_of s) whole.filled r cell h.0 t number h.1
+        (before m l a s whole.sections r q is (open_run q opened) (micros.PrivateStore cell h.0 h.1) refl refl h.2) mine in_hand
+        (whole.slots.sound.for_nodes t (ap is_for_nodes in_hand))
+        (h.5 ∙ (ap (λ n. next_word n (source_value q.trail h.1)) (sym here.word) ∙ ap (next_word ((a.run r).word))
+        (sym (source_same (a.run r) q here h.1))))
+        (below_test _ _ (ap (can_raise l) here.word ∙ h.4))
+
+  unused : (d : ℕ) → has p.descriptors.free d ≡ true → a.used d ≡ false
+  unused d free = by_bool (a.used d) (λ used.
+      not_both used (whole.tied.used d ∙ ap is_out (free_descriptor m l g.epochs s whole.slots r d (whole.tied.within d used) free)))
+
+  live : (y : Published) → p.published ≡ Some y → a.live y.descriptor ≡ true
+  live y is = whole.tied.is_live y.descriptor ((whole.slots.tied r).published y is)
+
+  used : (d : ℕ) → kind ≡ kinds.LoadThunk (Some d) → has p.reads.held d ≡ true → a.used d ≡ true
+  used d is held =
+      let h = outside.open_asked d p x (open_outside m l rs r p x p.run d
+      (ap (λ k. ask_by m l rs r k p p.run) (sym is) ∙ (unless_gone _ p.gone _ x asked).1)) in
+      whole.tied.used d ∙ held_out m l g.epochs s whole.slots r (slot d)
+      ((whole.slots.tied r).named d (entered_at m l g.epochs s whole.slots r h.0 h.1) held)
+
+  pub request_allowed : (n : ℕ) (q : Request) → slice_get rs n ≡ Some q → IsAllowed q.op
+  request_allowed n q is = subst (λ (q : Request). IsAllowed q.op) (get_or_from_slice_get rs n q q is)
+      (All-get_or (λ (q : Request). IsAllowed q.op) rs n q (slice_get_within rs n q is) allowed)
+
+  -- what a Hold asks for may be published
+  pub hold_publishable : (t : Thunk) (d : ℕ) → hold_ask m l rs r t d p ≡ Some x
+      → IsPublishable (rules_of m l) d t.lock t.word (micro_at (line (m.body t))) (committed (line (m.body t)))
+  hold_publishable t d e =
+      let h = outside.hold_asked m l rs r t d p x e in
+      supplies.publishable r d h.request.op t (entered_at m l g.epochs s whole.slots r h.entry h.entered)
+      (request_allowed t.request h.request h.of_request) h.serves
+      h.unheld h.unspent (few_links l limits d h.few)
+
+  -- a section that is published now
+  pub publishes : (t : Thunk) (d : ℕ) → kind ≡ kinds.Hold t d → p.run ≡ None → supplied.MayPublish m l a s r t d
+  publishes t d is none =
+      let e = unless_gone (sizes_for m l rs) p.gone (ask_by m l rs r kind p p.run) x asked in
+      let holds : hold_ask m l rs r t d p ≡ Some x =
+      ap (λ k. ask_by m l rs r k p None) (sym is) ∙ (ap (ask_by m l rs r kind p) (sym none) ∙ e.1) in
+      let h = outside.hold_asked m l rs r t d p x holds in
+      let request = slice_get_within rs t.request h.request h.of_request in
+      let lock : Fits (sizes_for m l rs) (spots.Cell t.lock) = subst (λ (y : Spot × Access). Fits (sizes_for m l rs) y.0) (sym h.is) e.2 in
+      record {
+        words = thunk_is m l g.epochs s whole.slots r t d h.free h.prepared h.eight (omega arith) (few_places t.lock lock);
+        undone = done_is m l g.epochs s whole.slots r t d h.free h.prepared;
+        unlogged = log_is m l g.epochs s whole.slots r t d h.free h.prepared;
+        publishable = hold_publishable t d holds;
+        apart = λ i y other is_published same.
+            let free = free_descriptor m l g.epochs s whole.slots r d h.few h.free in
+            let there = (whole.slots.tied i).published y is_published in
+            free_live r (sym free ∙ (ap (λ n. g.epochs.location (slot n)) (sym same) ∙ there));
+      }
+    where
+      few_places : (lock : ℕ) → lock < (sizes_for m l rs).cells → lock < 2 ^ 32
+      few_places lock inside = let nodes = limits.few_nodes in let runners = limits.few_runners in let few_cells = laws.first.few_cells in
+          let few_slots = laws.first.few_slots in omega (arith, inside, nodes, runners, few_cells, few_slots)
+
+      free_live : (r : ℕ) → Free r ≡ Live → ⊥
+      free_live r e = cc
+
+  -- a descriptor that leaves limbo
+  idle : (es : List Event) → IsChunk m l r kind p p.run (s.word x.0) es → AllEnabled (counts_of m l) g.epochs es → (epoch d : ℕ)
+      → p.run ≡ None
+      → collects l kind p.stage (s.word x.0) ≡ Some epoch → has (slots_of (filter (is_old epoch) p.descriptors.limbo)) d ≡ true
+      → supplied.IsIdle a d
+  idle es chunk enabled epoch d none is leaves = record { retired = by_bool (a.live d) retired; unrun = unrun }
+    where
+      few_used : a.used d ≡ true → d < (counts_of m l).descriptors
+      few_used used = whole.tied.within d used
+
+      retired : a.live d ≡ true → ⊥
+      retired live = leaves_unlive m l g.epochs s whole.slots r epoch d (few_used (whole.sections.sound.live_used d live)) leaves
+          (whole.tied.live d live)
+
+      held_by : (i : ℕ) (run : Option RunState) → (s.part i).run ≡ run → (a.run i).running ≡ true → (a.run i).descriptor ≡ d
+          → g.epochs.holds i (slot d) ≡ true
+      held_by i None at running same = not_both running (subst (ShowsRun (a.run i)) at (whole.sections.tied i).run)
+      held_by i (Some q) at running same =
+          let shown = subst (ShowsRun (a.run i)) at (whole.sections.tied i).run in
+          ap (λ n. g.epochs.holds i (slot n)) (sym same ∙ shown.descriptor) ∙ (whole.slots.tied i).run_held q at
+
+      unrun : (i : ℕ) → (a.run i).running ≡ true → (a.run i).descriptor ≢ d
+      unrun i running same =
+          let few = few_used (ap a.used (sym same) ∙ whole.sections.sound.running_used i running) in
+          let outside_chunk = subst (λ (run : Option RunState). IsChunk m l r kind p run (s.word x.0) es) none chunk in
+          leaves_unheld m l g.epochs s whole.slots r epoch d few leaves
+          (chunk_collects m l g.epochs s whole.slots r kind (s.word x.0) epoch es outside_chunk enabled is) i
+          (held_by i (s.part i).run refl running same)
+
+  -- all of it, where these are the step's events of epochs and slots
+  pub sections_supplied : (es : List Event) → IsChunk m l r kind p p.run (s.word x.0) es → AllEnabled (counts_of m l) g.epochs es
+      → supplied.AgreementIsSupplied m l a s r kind (s.word x.0)
+  sections_supplied es chunk enabled = record {
+    alone = λ q place log is opened next at undone. alone q is place log opened next at;
+    private = λ q t cell number is is_store. private_in q is t cell number is_store (is_open_run q) refl;
+    unused = unused;
+    live = live;
+    used = used;
+    publishes = λ t d is none same. publishes t d is none;
+    idle = λ epoch d none is leaves. idle es chunk enabled epoch d none is leaves;
+  }

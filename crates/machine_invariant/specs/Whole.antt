@@ -1,0 +1,79 @@
+-- The machine's state beside states of agreement and of epochs and slots, all joined.
+use Rattle.std.specs.Prelude.{ℕ, ◌<◌, ◌≡◌, true, Option, Some, None}
+use Rattle.table_words.specs.declared.layout.Layout.{Layout}
+use Rattle.structure_laws.specs.Meaning.{Meaning}
+use Rattle.runner_parts.specs.declared.entries.Published.{Published}
+use Rattle.runner_parts.specs.State.{RunState, PartState}
+use Rattle.runner_parts.specs.Tests.{has}
+use Rattle.agreement_core.specs.State.{AgreementState}
+use Rattle.epoch_core.specs.declared.location.Location.TheVariants.{Live}
+use Rattle.epoch_core.specs.State.{EpochState, is_entered}
+use Rattle.epoch_core.specs.Events.{slot_of}
+use Rattle.epoch_core.specs.History.{is_out}
+use Rattle.machine_states.specs.Sight.{Sight}
+use Rattle.machine_epochs.specs.Entries.{counts_of}
+use Rattle.machine_epochs.specs.Slots.{thunk_in}
+use Rattle.machine_epochs.specs.Joined as joins
+use Rattle.machine_scenes.specs.Shown.{Publications, States}
+use Rattle.machine_scenes.specs.Kept.{IsKept}
+use Rattle.machine_agreement.specs.Joined as sections
+use Rattle.machine_slots.specs.Hands.{Made, LocksAreHeld, SlotsAreFilled}
+use Rattle.machine_invariant.specs.Named.{AreNamed}
+
+-- what stands beside the machine's state: the components' states, and what was published
+pub record Beside : Type 0 where
+  pub agreement : AgreementState
+  pub epochs : EpochState
+  pub publications : Publications
+
+-- these, with what the runners have read outside their runs
+abbrev pub states_of : Beside → Sight → States
+states_of g s = record { agreement = g.agreement; epochs = g.epochs; publications = g.publications; walk = λ r. (s.part r).reads.walk }
+
+-- the slot that a run's Make fills
+abbrev pub made_in : Option RunState → Option ℕ
+made_in None = None
+made_in (Some q) = q.made
+
+-- by runner
+abbrev pub made_of : Sight → Made
+made_of s r = made_in (s.part r).run
+
+module _ (m : Meaning) (l : Layout) where
+  -- whoever is entered and has published a section with the one descriptor in this entry holds the other descriptor
+  abbrev pub IsHeldFor : EpochState → (ℕ → PartState) → ℕ → ℕ → Type 0
+  IsHeldFor e part d d' = (r : ℕ) → is_entered (e.stage r) ≡ true → has (part r).reads.published d ≡ true
+      → e.holds r (slot_of (counts_of m l) d') ≡ true
+
+  -- the runner has published the section that this descriptor has, and hasn't retired it
+  abbrev pub HasPublished : PartState → ℕ → Type 0
+  HasPublished p d = (x : Published) × (p.published ≡ Some x) × (x.descriptor ≡ d)
+
+  -- what the components say of descriptors belongs together
+  pub record AreTied (g : Beside) (s : Sight) : Type 0 where
+    -- a descriptor is used where it was given out, and its section isn't retired where it is live; all these are the table's
+    pub used : (d : ℕ) → g.agreement.used d ≡ is_out (g.epochs.location (slot_of (counts_of m l) d))
+    pub live : (d : ℕ) → g.agreement.live d ≡ true → g.epochs.location (slot_of (counts_of m l) d) ≡ Live
+    pub is_live : (d : ℕ) → g.epochs.location (slot_of (counts_of m l) d) ≡ Live → g.agreement.live d ≡ true
+    pub within : (d : ℕ) → g.agreement.used d ≡ true → d < (counts_of m l).descriptors
+    -- a section that isn't retired is its publisher's
+    pub publisher : (d : ℕ) → g.agreement.live d ≡ true → HasPublished (s.part (g.publications.runner d)) d
+    -- the thunk of a used descriptor stands in its words
+    pub thunk : (d : ℕ) → g.agreement.used d ≡ true → g.publications.thunk d ≡ thunk_in s.word d
+    -- an entered runner is the publisher of what it published in this entry, and holds it
+    pub mine : (r d : ℕ) → is_entered (g.epochs.stage r) ≡ true → has (s.part r).reads.published d ≡ true → g.publications.runner d ≡ r
+    pub mine_held : (r d : ℕ) → is_entered (g.epochs.stage r) ≡ true → has (s.part r).reads.published d ≡ true
+        → g.epochs.holds r (slot_of (counts_of m l) d) ≡ true
+
+  -- the machine's whole invariant
+  pub record IsWhole (g : Beside) (s : Sight) : Type 0 where
+    -- the components' states belong to the machine's
+    pub sections : sections.IsJoinedToAgreement m l g.agreement s
+    pub slots : joins.IsJoinedToEpochs m l g.epochs s
+    -- they belong together, and show a lawful scene
+    pub tied : AreTied g s
+    pub kept : IsKept m l (counts_of m l) (states_of g s)
+    -- who holds the slots of locks and the descriptors that locks named, and what stands in the slots that Makes fill
+    pub held : LocksAreHeld m (counts_of m l) (states_of g s)
+    pub filled : SlotsAreFilled m (counts_of m l) (states_of g s) (made_of s)
+    pub named : AreNamed (IsHeldFor g.epochs s.part) g.agreement

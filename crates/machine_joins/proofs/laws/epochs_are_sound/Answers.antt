@@ -1,5 +1,0 @@
-use Rattle.machine_joins.proofs.Reached.{sound_after}
-use Rattle.machine_joins.proofs.laws.epochs_are_sound.Goals as goal
-
-pub returns : goal.returns
-returns g c = sound_after (g.S.Structure.meaning c.args.structure.now)

@@ -1,5 +1,0 @@
-use Rattle.machine_joins.proofs.FirstJoin.{first_joined}
-use Rattle.machine_joins.proofs.laws.first_slots_are_joined.Goals as goal
-
-pub returns : goal.returns
-returns g c = λ layout requests. first_joined (g.S.Structure.meaning c.args.structure.now) layout requests

@@ -1,5 +1,0 @@
-use Rattle.machine_joins.proofs.Collecting.{reached_collects}
-use Rattle.machine_joins.proofs.laws.scans_collect.Goals as goal
-
-pub returns : goal.returns
-returns g c = reached_collects (g.S.Structure.meaning c.args.structure.now)

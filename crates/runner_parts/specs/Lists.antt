@@ -1,0 +1,107 @@
+-- How a runner's lists change.
+use Rattle.std.specs.Prelude.{ℕ, ◌+◌, ◌-◌, List, [], ◌∷◌, ◌++◌, Bool, true, false, not, ◌==◌, ◌&&◌, ◌||◌, nat_lt, nat_le, map, if◌then◌else◌}
+use Rattle.std.specs.List.{filter}
+use Rattle.section_body.specs.Word.{value_of, version_of, is_free}
+use Rattle.table_words.specs.declared.layout.Layout.{Layout}
+use Rattle.runner_parts.specs.declared.entries.Retired.{Retired}
+use Rattle.runner_parts.specs.declared.entries.Tested.{Tested}
+use Rattle.runner_parts.specs.State.{NodesState, DescriptorsState, ReadsState, RecordsState}
+use Rattle.runner_parts.specs.Tests.{has}
+
+-- the list without this number
+abbrev pub without : List ℕ → ℕ → List ℕ
+without xs x = filter (λ y. not (y == x)) xs
+
+-- the descriptor that a lock's word names, if any
+abbrev pub named_by : ℕ → List ℕ
+named_by word = if is_free word then [] else (value_of word - 1) ∷ []
+
+-- retired long enough ago to be used again: two epochs before this one
+abbrev pub is_old : ℕ → Retired → Bool
+is_old epoch x = nat_le (x.epoch + 2) epoch
+
+abbrev pub slots_of : List Retired → List ℕ
+slots_of xs = map (λ x. x.slot) xs
+
+-- the slots that have waited long enough go from limbo to the hand
+abbrev pub nodes_collected : ℕ → NodesState → NodesState
+nodes_collected epoch n = record n { hand = n.hand ++ slots_of (filter (is_old epoch) n.limbo); limbo = filter (λ x. not (is_old epoch x)) n.limbo }
+
+-- the descriptors that have waited long enough go from limbo to the free list
+abbrev pub descriptors_collected : ℕ → DescriptorsState → DescriptorsState
+descriptors_collected epoch d = record d { free = d.free ++ slots_of (filter (is_old epoch) d.limbo); limbo = filter (λ x. not (is_old epoch x)) d.limbo }
+
+-- how far the slot's cells have been looked at
+abbrev pub test_of : List Tested → ℕ → Tested
+test_of [] slot = record { slot = slot; cells = 0; worn = false }
+test_of (x ∷ xs) slot = if x.slot == slot then x else test_of xs slot
+
+abbrev pub tests_without : List Tested → ℕ → List Tested
+tests_without xs slot = filter (λ x. not (x.slot == slot)) xs
+
+-- a slot comes back to the free list, or to the worn list
+abbrev pub slot_back : NodesState → ℕ → Bool → NodesState
+slot_back n slot true = record n { hand = without n.hand slot; tests = tests_without n.tests slot; worn = n.worn ++ slot ∷ [] }
+slot_back n slot false = record n { hand = without n.hand slot; tests = tests_without n.tests slot; free = n.free ++ slot ∷ [] }
+
+-- a slot in the hand of which one more cell was looked at: after the fifth it comes back
+abbrev pub slot_tested : NodesState → Tested → NodesState
+slot_tested n x = if x.cells == 5 then slot_back n x.slot x.worn else record n { tests = tests_without n.tests x.slot ++ x ∷ [] }
+
+-- one more cell of a slot, with this word
+abbrev pub one_more : Layout → Tested → ℕ → Tested
+one_more l x word = record { slot = x.slot; cells = x.cells + 1; worn = x.worn || version_of word == l.version_max }
+
+-- after a private load outside a run: only the next of the five cells of a slot in the hand counts
+abbrev pub nodes_looked : Layout → NodesState → ℕ → ℕ → ℕ → NodesState
+nodes_looked l n slot cell word = let x = test_of n.tests slot in
+    if has n.hand slot && (cell == x.cells && nat_lt cell 5) then slot_tested n (one_more l x word) else n
+
+-- a Make takes the last free slot into the hand
+abbrev pub slot_taken : NodesState → ℕ → NodesState
+slot_taken n slot = record n { free = without n.free slot; hand = n.hand ++ slot ∷ [] }
+
+-- a made slot leaves the hand for good
+abbrev pub slot_made : NodesState → ℕ → NodesState
+slot_made n slot = record n { hand = without n.hand slot }
+
+abbrev pub slot_retired : NodesState → ℕ → ℕ → NodesState
+slot_retired n slot epoch = record n { limbo = n.limbo ++ record { slot = slot; epoch = epoch } ∷ [] }
+
+abbrev pub descriptor_stored : DescriptorsState → ℕ → ℕ → ℕ → DescriptorsState
+descriptor_stored d descriptor word number = record d { stored = d.stored ++ record { descriptor = descriptor; word = word; number = number } ∷ [] }
+
+-- a published descriptor leaves the free list, and what was stored into it is forgotten
+abbrev pub descriptor_taken : DescriptorsState → ℕ → DescriptorsState
+descriptor_taken d descriptor = record d { free = without d.free descriptor; stored = filter (λ x. not (x.descriptor == descriptor)) d.stored }
+
+abbrev pub descriptor_retired : DescriptorsState → ℕ → ℕ → DescriptorsState
+descriptor_retired d descriptor epoch = record d { limbo = d.limbo ++ record { slot = descriptor; epoch = epoch } ∷ [] }
+
+-- nothing has been read yet
+abbrev pub no_reads : ReadsState
+no_reads = record { walk = []; cells = []; held = []; published = [] }
+
+-- one more cell was read
+abbrev pub cell_read : ReadsState → ℕ → ℕ → ReadsState
+cell_read s place word = record s { cells = s.cells ++ (place, word) ∷ [] }
+
+-- the descriptor that this word names, if any, is held from now on
+abbrev pub holds_named : ReadsState → ℕ → ReadsState
+holds_named s word = record s { held = s.held ++ named_by word }
+
+-- a cell was read outside a run; a lock's word gives a descriptor to hold
+abbrev pub walked : ReadsState → Bool → ℕ → ℕ → ReadsState
+walked s lock place word = record s { walk = s.walk ++ (place, word) ∷ []; cells = s.cells ++ (place, word) ∷ []; held = s.held ++ (if lock then named_by word else []) }
+
+-- a lock word was agreed on in a run of this descriptor: it gives a descriptor to hold where the section is the runner's own
+abbrev pub lock_agreed : ReadsState → ℕ → ℕ → ReadsState
+lock_agreed s descriptor word = if has s.published descriptor then holds_named s word else s
+
+-- a section was published
+abbrev pub section_published : ReadsState → ℕ → ReadsState
+section_published s descriptor = record s { held = s.held ++ descriptor ∷ []; published = s.published ++ descriptor ∷ [] }
+
+-- a stamp or reply word was read: it is known where it isn't 0
+abbrev pub learned : RecordsState → ℕ → Bool → ℕ → RecordsState
+learned s request reply number = if number == 0 then s else record s { known = s.known ++ record { request = request; reply = reply; number = number } ∷ [] }

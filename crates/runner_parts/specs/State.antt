@@ -1,0 +1,71 @@
+-- What contracts see of a runner's part.
+use Rattle.std.specs.Prelude.{ℕ, List, Bool, Option}
+use Rattle.section_body.specs.declared.outcome.Outcome.{Outcome}
+use Rattle.runner_parts.specs.declared.stage.Stage.{Stage}
+use Rattle.runner_parts.specs.declared.entries.Retired.{Retired}
+use Rattle.runner_parts.specs.declared.entries.Tested.{Tested}
+use Rattle.runner_parts.specs.declared.entries.Stored.{Stored}
+use Rattle.runner_parts.specs.declared.entries.Known.{Known}
+use Rattle.runner_parts.specs.declared.entries.Published.{Published}
+use Rattle.runner_parts.specs.declared.entries.Left.{Left}
+
+-- a run in progress
+pub record RunState : Type 0 where
+  pub descriptor : ℕ
+  pub opened : List ℕ
+  pub at : ℕ
+  pub word : ℕ
+  pub trail : List ℕ
+  pub made : Option ℕ
+  pub worn : Bool
+  pub ended : ℕ
+
+-- a section that was run to its end
+pub record FinishedState : Type 0 where
+  pub descriptor : ℕ
+  pub lock : ℕ
+  pub word : ℕ
+  pub outcome : Outcome
+  pub trail : List ℕ
+  pub late : Bool
+
+-- the own node slots
+pub record NodesState : Type 0 where
+  pub free : List ℕ
+  pub hand : List ℕ
+  pub tests : List Tested
+  pub limbo : List Retired
+  pub worn : List ℕ
+
+-- the own descriptors
+pub record DescriptorsState : Type 0 where
+  pub free : List ℕ
+  pub stored : List Stored
+  pub limbo : List Retired
+
+-- what was read since the runner entered
+pub record ReadsState : Type 0 where
+  pub walk : List (ℕ × ℕ)
+  pub cells : List (ℕ × ℕ)
+  pub held : List ℕ
+  pub published : List ℕ
+
+-- what a runner keeps for good
+pub record RecordsState : Type 0 where
+  pub known : List Known
+  pub finished : List FinishedState
+  pub events : ℕ
+  pub left : List Left
+  pub splits : ℕ
+  pub joined : List ℕ
+
+-- what one runner is at and keeps
+pub record PartState : Type 0 where
+  pub stage : Stage
+  pub run : Option RunState
+  pub published : Option Published
+  pub nodes : NodesState
+  pub descriptors : DescriptorsState
+  pub reads : ReadsState
+  pub records : RecordsState
+  pub gone : Bool

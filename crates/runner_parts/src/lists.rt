@@ -1,0 +1,80 @@
+//! The lists of a runner.
+
+use crate::entries::{Known, Left, Retired, Stored, Tested};
+use crate::run::Finished;
+use section_body::{Place, Word};
+use std::marker::Model;
+
+/// The own node slots: the free ones, those in the hand with how far their cells were looked at, those in limbo, and the worn
+/// ones. A Make takes the slot at the end of the free list, and a slot that comes back is put there.
+#[derive(Drop)]
+pub struct Nodes {
+    pub free: Vec<u32>,
+    pub hand: Vec<u32>,
+    pub tests: Vec<Tested>,
+    pub limbo: Vec<Retired>,
+    pub worn: Vec<u32>,
+}
+
+impl Model for Nodes {
+    ghost use Rattle.runner_parts.specs.State.{NodesState};
+
+    ghost Value = { NodesState };
+
+    ghost view = { λ a. record { free = a.free.items; hand = a.hand.items; tests = a.tests.items; limbo = a.limbo.items; worn = a.worn.items } };
+}
+
+/// The own descriptors: the free ones with what was stored into them, in the order of the stores, and those in limbo.
+#[derive(Drop)]
+pub struct Descriptors {
+    pub free: Vec<u32>,
+    pub stored: Vec<Stored>,
+    pub limbo: Vec<Retired>,
+}
+
+impl Model for Descriptors {
+    ghost use Rattle.runner_parts.specs.State.{DescriptorsState};
+
+    ghost Value = { DescriptorsState };
+
+    ghost view = { λ a. record { free = a.free.items; stored = a.stored.items; limbo = a.limbo.items } };
+}
+
+/// What a runner has read since it entered: the loads outside a run, all loads and exchanges of cells, the descriptors that it
+/// holds, and the descriptors of the sections that it published.
+#[derive(Drop)]
+pub struct Reads {
+    pub walk: Vec<(Place, Word)>,
+    pub cells: Vec<(Place, Word)>,
+    pub held: Vec<u32>,
+    pub published: Vec<u32>,
+}
+
+impl Model for Reads {
+    ghost use Rattle.runner_parts.specs.State.{ReadsState};
+
+    ghost Value = { ReadsState };
+
+    ghost view = { λ a. record { walk = a.walk.items; cells = a.cells.items; held = a.held.items; published = a.published.items } };
+}
+
+/// What a runner keeps for good: the stamp and reply words that it knows, the sections that it ran to their ends, how many
+/// steps it has made; and of the keeper what its steps since the last join left, in order, how many workers were split off,
+/// and which were joined.
+#[derive(Drop)]
+pub struct Records {
+    pub known: Vec<Known>,
+    pub finished: Vec<Finished>,
+    pub events: u64,
+    pub left: Vec<Left>,
+    pub splits: u32,
+    pub joined: Vec<u32>,
+}
+
+impl Model for Records {
+    ghost use Rattle.runner_parts.specs.State.{RecordsState};
+
+    ghost Value = { RecordsState };
+
+    ghost view = { λ a. record { known = a.known.items; finished = a.finished.items; events = a.events; left = a.left.items; splits = a.splits; joined = a.joined.items } };
+}

@@ -1,0 +1,300 @@
+//! How a runner's lists change.
+ghost use Rattle.std.specs.Prelude.{◌≡◌, ◌==◌, ◌<◌, ◌-◌, ◌^◌, not, IfOk, OnOk};
+ghost use Rattle.std.specs.List.{filter};
+ghost use Rattle.runner_parts.specs.Lists.{without, named_by, is_old, slots_of, nodes_collected, descriptors_collected, test_of, tests_without, slot_back, slot_tested, one_more, nodes_looked, slot_taken, slot_made, slot_retired, descriptor_stored, descriptor_taken, descriptor_retired, cell_read, holds_named, walked, lock_agreed, section_published, learned};
+
+use crate::entries::{Known, Retired, Stored, Tested};
+use crate::knowledge::has;
+use crate::lists::{Descriptors, Nodes, Reads, Records};
+use section_body::{Place, Word};
+use std::alloc::{AllocError, Global};
+use table_words::Layout;
+
+/// The list without this number.
+fn without(alloc: Global, numbers: &[u32], number: u32) -> Result<Vec<u32>, AllocError>
+    ensures { IfOk result (λ v. v.items ≡ without numbers.now number) }
+{
+    numbers
+        .iter()
+        .copied()
+        .filter(|x| !(*x == number))
+        .collect(alloc)
+}
+
+/// Whether a slot was retired long enough ago to be used again: two epochs before this one.
+fn is_old(epoch: u64, retired: &Retired) -> bool
+    ensures { result ≡ is_old epoch retired.now }
+{
+    epoch >= 2 && retired.epoch <= epoch - 2
+}
+
+/// The slots that have waited long enough.
+fn old_slots(alloc: Global, limbo: &[Retired], epoch: u64) -> Result<Vec<u32>, AllocError>
+    ensures { IfOk result (λ v. v.items ≡ slots_of (filter (is_old epoch) limbo.now)) }
+{
+    limbo
+        .iter()
+        .filter(|x| is_old(epoch, *x))
+        .map(|x| x.slot)
+        .collect(alloc)
+}
+
+/// The slots that have still to wait.
+fn young(alloc: Global, limbo: &[Retired], epoch: u64) -> Result<Vec<Retired>, AllocError>
+    ensures { IfOk result (λ v. v.items ≡ filter (λ x. not (is_old epoch x)) limbo.now) }
+{
+    limbo
+        .iter()
+        .copied()
+        .filter(|x| !is_old(epoch, x))
+        .collect(alloc)
+}
+
+/// How far the slot's cells have been looked at.
+fn test_of(tests: &[Tested], slot: u32) -> Tested
+    ensures { result ≡ test_of tests.now slot }
+{
+    for test in tests {
+        if test.slot == slot {
+            return *test;
+        }
+    }
+    Tested {
+        slot,
+        cells: 0,
+        worn: false,
+    }
+}
+
+/// The tests of the other slots.
+fn tests_without(alloc: Global, tests: &[Tested], slot: u32) -> Result<Vec<Tested>, AllocError>
+    ensures { IfOk result (λ v. v.items ≡ tests_without tests.now slot) }
+{
+    tests
+        .iter()
+        .copied()
+        .filter(|x| !(x.slot == slot))
+        .collect(alloc)
+}
+
+impl Nodes {
+    /// The slots that have waited long enough go from limbo to the hand.
+    pub fn collect(&mut self, alloc: Global, epoch: u64) -> Result<(), AllocError>
+        ensures { OnOk result (self.new ≡ nodes_collected epoch self.old) }
+    {
+        let old = old_slots(alloc, &self.limbo, epoch)?;
+        self.limbo = young(alloc, &self.limbo, epoch)?;
+        self.hand.extend_from_slice(&old)?;
+        Ok(())
+    }
+
+    /// A slot in the hand comes back to the free list, or to the worn list.
+    pub fn slot_back(&mut self, alloc: Global, slot: u32, worn: bool) -> Result<(), AllocError>
+        ensures { OnOk result (self.new ≡ slot_back self.old slot worn) }
+    {
+        self.hand = without(alloc, &self.hand, slot)?;
+        self.tests = tests_without(alloc, &self.tests, slot)?;
+        if worn {
+            self.worn.push(slot)?;
+        } else {
+            self.free.push(slot)?;
+        }
+        Ok(())
+    }
+
+    /// One more cell of a slot in the hand was looked at: after the fifth it comes back.
+    fn slot_tested(&mut self, alloc: Global, test: Tested) -> Result<(), AllocError>
+        ensures { OnOk result (self.new ≡ slot_tested self.old test) }
+    {
+        if test.cells == 5 {
+            self.slot_back(alloc, test.slot, test.worn)
+        } else {
+            self.tests = tests_without(alloc, &self.tests, test.slot)?;
+            self.tests.push(test)?;
+            Ok(())
+        }
+    }
+
+    /// After a private load outside a run: only the next cell of a slot in the hand counts.
+    pub fn looked(
+        &mut self,
+        alloc: Global,
+        layout: Layout,
+        slot: u32,
+        cell: u32,
+        word: u64,
+    ) -> Result<(), AllocError>
+        ensures { OnOk result (self.new ≡ nodes_looked layout self.old slot cell word) }
+    {
+        let test = test_of(&self.tests, slot);
+        if has(&self.hand, slot) && cell == test.cells && cell < 5 {
+            self.slot_tested(alloc, one_more(layout, test, word))
+        } else {
+            Ok(())
+        }
+    }
+
+    /// A Make takes a free slot into the hand.
+    pub fn take(&mut self, alloc: Global, slot: u32) -> Result<(), AllocError>
+        ensures { OnOk result (self.new ≡ slot_taken self.old slot) }
+    {
+        self.free = without(alloc, &self.free, slot)?;
+        self.hand.push(slot)?;
+        Ok(())
+    }
+
+    /// A made slot leaves the hand for good.
+    pub fn made(&mut self, alloc: Global, slot: u32) -> Result<(), AllocError>
+        ensures { OnOk result (self.new ≡ slot_made self.old slot) }
+    {
+        self.hand = without(alloc, &self.hand, slot)?;
+        Ok(())
+    }
+
+    pub fn retire(&mut self, slot: u32, epoch: u64) -> Result<(), AllocError>
+        ensures { OnOk result (self.new ≡ slot_retired self.old slot epoch) }
+    {
+        self.limbo.push(Retired { slot, epoch })?;
+        Ok(())
+    }
+}
+
+/// One more cell of a slot, with this word.
+fn one_more(layout: Layout, test: Tested, word: u64) -> Tested
+    requires { test.cells < 2 ^ 32 - 1 }
+    ensures { result ≡ one_more layout test word }
+{
+    Tested {
+        slot: test.slot,
+        cells: test.cells + 1,
+        worn: test.worn || Word::from_bits(word).version() == layout.version_max,
+    }
+}
+
+impl Descriptors {
+    /// The descriptors that have waited long enough go from limbo to the free list.
+    pub fn collect(&mut self, alloc: Global, epoch: u64) -> Result<(), AllocError>
+        ensures { OnOk result (self.new ≡ descriptors_collected epoch self.old) }
+    {
+        let old = old_slots(alloc, &self.limbo, epoch)?;
+        self.limbo = young(alloc, &self.limbo, epoch)?;
+        self.free.extend_from_slice(&old)?;
+        Ok(())
+    }
+
+    pub fn store(&mut self, descriptor: u32, word: u32, number: u64) -> Result<(), AllocError>
+        ensures { OnOk result (self.new ≡ descriptor_stored self.old descriptor word number) }
+    {
+        self.stored.push(Stored {
+            descriptor,
+            word,
+            number,
+        })?;
+        Ok(())
+    }
+
+    /// A published descriptor leaves the free list, and what was stored into it is forgotten.
+    pub fn take(&mut self, alloc: Global, descriptor: u32) -> Result<(), AllocError>
+        ensures { OnOk result (self.new ≡ descriptor_taken self.old descriptor) }
+    {
+        self.free = without(alloc, &self.free, descriptor)?;
+        self.stored = stored_without(alloc, &self.stored, descriptor)?;
+        Ok(())
+    }
+
+    pub fn retire(&mut self, descriptor: u32, epoch: u64) -> Result<(), AllocError>
+        ensures { OnOk result (self.new ≡ descriptor_retired self.old descriptor epoch) }
+    {
+        self.limbo.push(Retired {
+            slot: descriptor,
+            epoch,
+        })?;
+        Ok(())
+    }
+}
+
+/// What was stored into the other descriptors.
+fn stored_without(
+    alloc: Global,
+    stored: &[Stored],
+    descriptor: u32,
+) -> Result<Vec<Stored>, AllocError>
+    ensures { IfOk result (λ v. v.items ≡ filter (λ x. not (x.descriptor == descriptor)) stored.now) }
+{
+    stored
+        .iter()
+        .copied()
+        .filter(|x| !(x.descriptor == descriptor))
+        .collect(alloc)
+}
+
+impl Reads {
+    /// One more cell was read.
+    pub fn cell_read(&mut self, place: Place, word: u64) -> Result<(), AllocError>
+        ensures { OnOk result (self.new ≡ cell_read self.old place word) }
+    {
+        self.cells.push((place, Word::from_bits(word)))?;
+        Ok(())
+    }
+
+    /// The descriptor that this word names, if any, is held from now on.
+    pub fn hold_named(&mut self, word: u64) -> Result<(), AllocError>
+        ensures { OnOk result (self.new ≡ holds_named self.old word) }
+    {
+        let value = Word::from_bits(word).value();
+        if value != 0 {
+            self.held.push(value - 1)?;
+        }
+        Ok(())
+    }
+
+    /// A cell was read outside a run; a lock's word gives a descriptor to hold.
+    pub fn walk_to(&mut self, lock: bool, place: Place, word: u64) -> Result<(), AllocError>
+        ensures { OnOk result (self.new ≡ walked self.old lock place word) }
+    {
+        self.walk.push((place, Word::from_bits(word)))?;
+        self.cells.push((place, Word::from_bits(word)))?;
+        let value = Word::from_bits(word).value();
+        if lock && value != 0 {
+            self.held.push(value - 1)?;
+        }
+        Ok(())
+    }
+
+    /// A lock word was agreed on in a run of this descriptor: it gives a descriptor to hold where the section is the
+    /// runner's own.
+    pub fn lock_agreed(&mut self, descriptor: u32, word: u64) -> Result<(), AllocError>
+        ensures { OnOk result (self.new ≡ lock_agreed self.old descriptor word) }
+    {
+        if has(&self.published, descriptor) {
+            self.hold_named(word)
+        } else {
+            Ok(())
+        }
+    }
+
+    /// A section was published.
+    pub fn publish(&mut self, descriptor: u32) -> Result<(), AllocError>
+        ensures { OnOk result (self.new ≡ section_published self.old descriptor) }
+    {
+        self.held.push(descriptor)?;
+        self.published.push(descriptor)?;
+        Ok(())
+    }
+}
+
+impl Records {
+    /// A stamp or reply word was read: it is known where it isn't 0.
+    pub fn learn(&mut self, request: u32, reply: bool, number: u64) -> Result<(), AllocError>
+        ensures { OnOk result (self.new ≡ learned self.old request reply number) }
+    {
+        if number != 0 {
+            self.known.push(Known {
+                request,
+                reply,
+                number,
+            })?;
+        }
+        Ok(())
+    }
+}

@@ -1,0 +1,73 @@
+//! What was stored last into the words of a descriptor.
+ghost use Rattle.std.specs.Prelude.{◌≡◌, ◌<◌, ◌+◌, ◌^◌, None, length};
+ghost use Rattle.runner_parts.specs.Tests.{last_stored, is_some_of, are_stored, thunk_words, is_prepared};
+
+use crate::entries::Stored;
+use section_body::Thunk;
+
+/// What was stored last into this word of the descriptor, if anything was.
+pub fn last_stored(stored: &[Stored], descriptor: u32, word: u32) -> Option<u64>
+    ensures { result ≡ last_stored stored.now descriptor word None }
+{
+    let mut last = None;
+    for x in stored {
+        if x.descriptor == descriptor && x.word == word {
+            last = Some(x.number);
+        }
+    }
+    last
+}
+
+/// Whether it is this number.
+fn is_some_of(last: Option<u64>, number: u64) -> bool
+    ensures { result ≡ is_some_of last number }
+{
+    match last {
+        None => false,
+        Some(stored) => stored == number,
+    }
+}
+
+/// Whether these numbers were stored last into the descriptor's words, from this one on.
+fn are_stored(stored: &[Stored], descriptor: u32, from: u32, numbers: &[u64]) -> bool
+    requires { from + length numbers.now < 2 ^ 32 }
+    ensures { result ≡ are_stored stored.now descriptor from numbers.now }
+{
+    let mut word = from;
+    for number in numbers {
+        if !is_some_of(last_stored(stored, descriptor, word), *number) {
+            return false;
+        }
+        word += 1;
+    }
+    true
+}
+
+/// The thunk words of a descriptor.
+pub fn thunk_words(thunk: &Thunk) -> [u64; 12]
+    ensures { result ≡ thunk_words thunk.now }
+{
+    let rest = thunk.operands;
+    [
+        thunk.form,
+        thunk.request as u64,
+        thunk.lock as u64,
+        thunk.word.bits(),
+        rest[0],
+        rest[1],
+        rest[2],
+        rest[3],
+        rest[4],
+        rest[5],
+        rest[6],
+        rest[7],
+    ]
+}
+
+/// Whether the descriptor's words were stored with this thunk, no done, and an empty log.
+pub fn is_prepared(stored: &[Stored], descriptor: u32, thunk: &Thunk) -> bool
+    ensures { result ≡ is_prepared stored.now descriptor thunk.now }
+{
+    are_stored(stored, descriptor, 0, &thunk_words(thunk))
+        && are_stored(stored, descriptor, 12, &[0; 65])
+}

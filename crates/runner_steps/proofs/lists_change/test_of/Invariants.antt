@@ -1,6 +1,0 @@
-use Rattle.std.proofs.Common.{◌≡◌, drop}
-use Rattle.runner_steps.specs.Lists.{test_of}
-use Rattle.runner_steps.proofs.lists_change.test_of.Given as goal
-
-abbrev pub invariant-loop-test : goal.invariant-loop-test
-invariant-loop-test l = test_of (drop l.test-index l.tests) l.slot ≡ test_of l.tests l.slot
