@@ -19,7 +19,7 @@ pub mod Thunks
 pub mod Sights
 mod Chunked
 mod Reaching
-mod SuppliesSections
+pub mod SuppliesSections
 mod SuppliesSlots
 mod Meeting
 mod Pieces

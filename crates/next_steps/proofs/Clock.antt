@@ -1,10 +1,9 @@
 -- The clock is no more than the number of stamped requests.
-use Rattle.std.specs.Prelude.{◌==◌, ◌/◌, ◌*◌, ◌^◌, cond, max, nat_lt, Bool, true, false, if◌then◌else◌}
-use Rattle.std.proofs.Common.{◌≡◌, ◌≢◌, ℕ, zero, suc, ◌+◌, ◌<◌, ◌≤◌, List, length, sym, refl, ap, ◌∙◌, subst, arith, ⊎_elim, Option, Some, None}
+use Rattle.std.specs.Prelude.{◌==◌, ◌/◌, cond, max, Bool, true, false}
+use Rattle.std.proofs.Common.{◌≡◌, ◌≢◌, ℕ, zero, suc, ◌+◌, ◌<◌, ◌≤◌, List, length, sym, refl, ap, ◌∙◌, subst, arith, ⊎_elim, Some}
 use Rattle.std.proofs.lemmas.Bool.Decides.{nat_tests}
 use Rattle.std.proofs.lemmas.Bool.{cases_eq}
 use Rattle.map_history.specs.declared.op.Request.{Request}
-use Rattle.section_body.specs.Run.{written_once}
 use Rattle.section_body.specs.declared.micro.Micro.{Micro}
 use Rattle.section_body.specs.declared.micro.Micro.TheVariants as micros
 use Rattle.table_words.specs.declared.layout.Layout.{Layout}
@@ -92,9 +91,9 @@ module _ (f : Spot → ℕ) (n req c : ℕ) (low : req < n) (clock : f Clock ≤
       let count = stamped_more f word' n req low e (λ z. let y : stamp_after c ≡ 0 = sym is ∙ (sym (mine req refl) ∙ z) in omega arith) other in (
         (let a = clock in omega arith),
         (λ q. ⊎_elim
-        (λ same. subst (λ a. a / 2 ≤ stamped word' n) (sym (mine q same ∙ is)) (let h = half c in omega arith))
-        (λ ne. subst (λ a. a / 2 ≤ stamped word' n) (sym (other q ne)) (let h = stamps q in omega arith))
-        (cases_eq q req)),
+            (λ same. subst (λ a. a / 2 ≤ stamped word' n) (sym (mine q same ∙ is)) (let h = half c in omega arith))
+            (λ ne. subst (λ a. a / 2 ≤ stamped word' n) (sym (other q ne)) (let h = stamps q in omega arith))
+            (cases_eq q req)),
       )
 
   old_stamp : f (Stamp req) ≢ 0 → (word' Clock ≤ stamped word' n) × ((q : ℕ) → word' (Stamp q) / 2 ≤ stamped word' n)

@@ -1,12 +1,11 @@
 -- A run in progress has a step that comes next.
-use Rattle.std.specs.Prelude.{◌==◌, ◌||◌, ◌&&◌, not, nat_lt, nat_le, cond, slice_index_or, Bool, true, false, if◌then◌else◌}
-use Rattle.std.proofs.Common.{◌≡◌, ◌≢◌, ℕ, zero, suc, ◌+◌, ◌<◌, ◌≤◌, List, [], ◌∷◌, ◌++◌, length, length-append, take, sym, refl, ap, ◌∙◌, subst, arith, Option, Some, None}
-use Rattle.std.proofs.lemmas.Bool.Decides.{nat_tests}
+use Rattle.std.specs.Prelude.{◌==◌, ◌&&◌, not, nat_lt, nat_le, cond, slice_index_or, Bool, true, false, if◌then◌else◌}
+use Rattle.std.proofs.Common.{◌≡◌, ℕ, zero, suc, ◌+◌, ◌≤◌, List, [], ◌∷◌, ◌++◌, length, length-append, take, sym, refl, ap, ◌∙◌, subst, arith, Option, Some, None}
 use Rattle.map_history.specs.declared.op.Request.{Request}
 use Rattle.section_body.specs.declared.micro.Micro.{Micro}
 use Rattle.section_body.specs.declared.micro.Micro.TheVariants as micros
 use Rattle.section_body.specs.declared.thunk.Thunk.{Thunk}
-use Rattle.section_body.specs.Line.{is_event, is_end, micro_at, releases, ending, next_micro}
+use Rattle.section_body.specs.Line.{is_event, is_end, micro_at, releases, ending}
 use Rattle.table_words.specs.declared.layout.Layout.{Layout}
 use Rattle.table_words.specs.declared.spot.Spot.{Spot}
 use Rattle.table_words.specs.declared.access.Access.{Access}
@@ -18,19 +17,19 @@ use Rattle.runner_parts.specs.declared.stage.Stage.TheVariants as stages
 use Rattle.runner_parts.specs.declared.entries.Published.{Published}
 use Rattle.runner_parts.specs.declared.event.EventKind.{EventKind}
 use Rattle.runner_parts.specs.declared.event.EventKind.TheVariants as kinds
-use Rattle.runner_parts.specs.State.{RunState, PartState, RecordsState}
+use Rattle.runner_parts.specs.State.{RunState, PartState}
 use Rattle.runner_steps.specs.Sections.{thunk_of, is_open_run, line_of, next_of}
 use Rattle.runner_parts.specs.Lists.{cell_read}
 use Rattle.runner_steps.specs.Outside.{last_epoch}
 use Rattle.runner_steps.specs.InRun.{last_clock}
-use Rattle.runner_steps.specs.Asks.{ask_by, asks, opening_ask, line_ask}
+use Rattle.runner_steps.specs.Asks.{ask_by, opening_ask, line_ask}
 use Rattle.runner_steps.specs.AfterInRun as inside
 use Rattle.runner_steps.specs.AfterOutside as outside
-use Rattle.runner_steps.specs.After.{line_after, inside_after, outside_after, after_by}
+use Rattle.runner_steps.specs.After.{line_after, outside_after, after_by}
 use Rattle.machine_states.specs.World.{World}
 use Rattle.machine_states.specs.First.{IsFirst}
 use Rattle.machine_states.specs.Reached.{Reached}
-use Rattle.machine_states.specs.Sight.{Sight, sight, sight_after}
+use Rattle.machine_states.specs.Sight.{Sight, sight}
 use Rattle.machine_states.proofs.Sights.{some_none, unless_gone, joins}
 use Rattle.machine_states.proofs.Steps.{some_same}
 use Rattle.machine_epochs.proofs.InsideAsked as asked

@@ -1,11 +1,7 @@
 -- The numbers that the thunks of published sections give are the table's.
-use Rattle.std.specs.Prelude.{◌==◌, ◌||◌, ◌&&◌, ◌-◌, ◌*◌, ◌%◌, ◌^◌, ◌⊎◌, not, nat_lt, nat_le, cond, slice_get, Bool, true, false, if◌then◌else◌}
-use Rattle.std.proofs.Common.{◌≡◌, ◌≢◌, ℕ, zero, suc, ◌+◌, ◌<◌, ◌≤◌, List, [], ◌∷◌, ◌++◌, length, inl, inr, ⊎_elim, sym, refl, ap, ◌∙◌, subst, arith, Option, Some, None}
+use Rattle.std.specs.Prelude.{◌==◌, ◌||◌, ◌&&◌, ◌*◌, ◌⊎◌, not, nat_lt, nat_le, cond, Bool, true, false, if◌then◌else◌}
+use Rattle.std.proofs.Common.{◌≡◌, ◌≢◌, ℕ, ◌+◌, ◌<◌, ◌≤◌, List, [], ◌∷◌, ◌++◌, inr, ⊎_elim, sym, refl, ap, ◌∙◌, subst, arith, Option, Some, None}
 use Rattle.std.proofs.lemmas.Bool.Decides.{nat_tests}
-use Rattle.std.proofs.lemmas.Bool.{cases_eq}
-use Rattle.std.proofs.lemmas.Option.{slice_get_within}
-use Rattle.std.proofs.lemmas.Grind.{common_steps}
-use Rattle.map_history.specs.declared.op.Request.{Request}
 use Rattle.section_body.specs.declared.micro.Micro.{Micro}
 use Rattle.section_body.specs.declared.micro.Micro.TheVariants as micros
 use Rattle.section_body.specs.declared.step.Step.{Step}
@@ -17,17 +13,12 @@ use Rattle.section_lines.proofs.Ordered.{is_ordered}
 use Rattle.section_lines.proofs.Phases.{is_in_phases}
 use Rattle.section_lines.proofs.Resolved.{is_resolved}
 use Rattle.table_words.specs.declared.layout.Layout.{Layout}
-use Rattle.table_words.specs.declared.spot.Spot.{Spot}
-use Rattle.table_words.specs.declared.spot.Spot.TheVariants as spots
-use Rattle.table_words.specs.declared.access.Access.{Access}
-use Rattle.table_words.specs.Access.{written}
-use Rattle.table_words.specs.Seen.{put}
 use Rattle.table_words.specs.Places.{slot_count, descriptor_count}
 use Rattle.table_words.specs.Limits.{IsWithinLimits}
 use Rattle.structure_laws.specs.Scene.{Readings, Free, Live, Retired, Scene}
 use Rattle.structure_laws.specs.Scene as scenes
 use Rattle.structure_laws.specs.Meaning.{Meaning}
-use Rattle.structure_laws.specs.Cells.{IsSafe, IsReader, IsKnown}
+use Rattle.structure_laws.specs.Cells.{IsSafe, IsKnown}
 use Rattle.structure_laws.specs.Shape.{Shaped}
 use Rattle.structure_laws.specs.Laws.{Laws}
 use Rattle.runner_parts.specs.declared.stage.Stage.{Stage}
@@ -35,54 +26,36 @@ use Rattle.runner_parts.specs.declared.stage.Stage.TheVariants as stages
 use Rattle.runner_parts.specs.declared.entries.Published.{Published}
 use Rattle.runner_parts.specs.declared.event.EventKind.{EventKind}
 use Rattle.runner_parts.specs.declared.event.EventKind.TheVariants as kinds
-use Rattle.runner_parts.specs.State.{RunState, PartState, ReadsState}
-use Rattle.runner_parts.specs.Tests.{has, thunk_words}
-use Rattle.runner_parts.specs.Lists.{without, cell_read}
-use Rattle.runner_steps.specs.Sections.{thunk_of, is_open_run, next_of}
+use Rattle.runner_parts.specs.State.{RunState, PartState}
+use Rattle.runner_parts.specs.Tests.{has}
+use Rattle.runner_parts.specs.Lists.{without}
+use Rattle.runner_steps.specs.Sections.{is_open_run, next_of}
 use Rattle.runner_steps.specs.Outside.{last_epoch}
 use Rattle.runner_steps.specs.InRun.{last_clock}
-use Rattle.runner_steps.specs.Asks.{ask_by, asks, outside_ask, inside_ask, line_ask, opening_ask}
 use Rattle.runner_steps.specs.AfterInRun as inside
 use Rattle.runner_steps.specs.AfterInRun.{place_of}
 use Rattle.runner_steps.specs.AfterOutside as outside
-use Rattle.runner_steps.specs.After.{line_after, inside_after, outside_after, after_by, after}
-use Rattle.agreement_core.specs.State.{AgreementState}
+use Rattle.runner_steps.specs.After.{line_after, inside_after, outside_after}
 use Rattle.epoch_core.specs.declared.location.Location.{Location}
 use Rattle.epoch_core.specs.declared.location.Location.TheVariants as locations
 use Rattle.epoch_core.specs.Events.{slot_of}
 use Rattle.epoch_core.specs.History.{is_out}
 use Rattle.epoch_core.specs.Sound.{is_for_nodes}
 use Rattle.epoch_core.specs.Lists.{times, in_free}
-use Rattle.machine_states.specs.World.{World}
-use Rattle.machine_states.specs.First.{IsFirst}
-use Rattle.machine_states.specs.Reached.{Reached}
-use Rattle.machine_states.specs.Sight.{Sight, sight, sight_after}
-use Rattle.machine_states.proofs.Sights.{some_none, unless_gone, joins}
-use Rattle.machine_states.proofs.Updates.{upd_here}
+use Rattle.machine_states.specs.Sight.{Sight}
 use Rattle.machine_epochs.specs.Entries.{counts_of}
-use Rattle.machine_epochs.specs.Slots.{thunk_in}
-use Rattle.machine_epochs.proofs.Joining.{thunk_same}
-use Rattle.machine_epochs.proofs.OutsideAsked.{HoldAsked, hold_asked, private_store_asked}
 use Rattle.machine_epochs.proofs.Places.{free_descriptor, has_append}
-use Rattle.machine_epochs.proofs.SectionKinds.{prepared_thunk}
 use Rattle.machine_scenes.specs.Shown.{section_with, scene_of}
 use Rattle.machine_scenes.proofs.Shown.{shown_open}
 use Rattle.machine_scenes.proofs.Links.{gives}
-use Rattle.machine_invariant.specs.After.{AreAllowed}
 use Rattle.machine_invariant.specs.Whole.{Beside, states_of, IsWhole}
-use Rattle.machine_invariant.proofs.First.{first_beside, first_whole}
-use Rattle.machine_invariant.proofs.Prepared.{done_is}
-use Rattle.machine_invariant.proofs.Sights.{thunks_after}
-use Rattle.machine_invariant.proofs.Thunks.{inside_leaves, is_private_store, outside_leaves, other_thunk}
-use Rattle.next_steps.specs.Rooms.{cell_count, ThunkFits, ThunksFit}
-use Rattle.next_steps.proofs.Reaching.{IsStep, reached_keeps}
-use Rattle.next_steps.proofs.Parts.{each_part}
+use Rattle.next_steps.specs.Rooms.{cell_count}
 
 pub clash : {A : Type 0} {b : Bool} → b ≡ true → b ≡ false → A
 clash e e' = absurd (cc)
 
 -- a number that a list doesn't have
-unlisted : (xs : List ℕ) (d : ℕ) → has xs d ≡ false → times d xs ≡ 0
+pub unlisted : (xs : List ℕ) (d : ℕ) → has xs d ≡ false → times d xs ≡ 0
 unlisted [] d e = refl
 unlisted (x ∷ xs) d e = by (x == d) (has xs d) refl e (unlisted xs d)
   where

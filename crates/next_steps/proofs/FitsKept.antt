@@ -1,21 +1,12 @@
 -- Each step keeps it that the numbers which thunks of published sections give are the table's.
-use Rattle.std.specs.Prelude.{◌==◌, ◌||◌, ◌&&◌, ◌-◌, ◌*◌, ◌%◌, ◌^◌, ◌⊎◌, not, nat_lt, nat_le, cond, slice_get, Bool, true, false, if◌then◌else◌}
-use Rattle.std.proofs.Common.{◌≡◌, ◌≢◌, ℕ, zero, suc, ◌+◌, ◌<◌, ◌≤◌, List, [], ◌∷◌, ◌++◌, length, inl, inr, ⊎_elim, sym, refl, ap, ◌∙◌, subst, arith, Option, Some, None}
+use Rattle.std.specs.Prelude.{◌==◌, ◌-◌, ◌%◌, ◌^◌, false}
+use Rattle.std.proofs.Common.{◌≡◌, ◌≢◌, ℕ, ◌<◌, List, length, ⊎_elim, sym, refl, ap, ◌∙◌, subst, arith, Option, Some, None}
 use Rattle.std.proofs.lemmas.Bool.Decides.{nat_tests}
 use Rattle.std.proofs.lemmas.Bool.{cases_eq}
 use Rattle.std.proofs.lemmas.Option.{slice_get_within}
 use Rattle.std.proofs.lemmas.Grind.{common_steps}
 use Rattle.map_history.specs.declared.op.Request.{Request}
-use Rattle.section_body.specs.declared.micro.Micro.{Micro}
-use Rattle.section_body.specs.declared.micro.Micro.TheVariants as micros
-use Rattle.section_body.specs.declared.step.Step.{Step}
 use Rattle.section_body.specs.declared.thunk.Thunk.{Thunk}
-use Rattle.section_body.specs.Line.{line, micro_at, is_end}
-use Rattle.section_lines.proofs.Sources.{of_load, of_take}
-use Rattle.section_lines.specs.Line.{phase}
-use Rattle.section_lines.proofs.Ordered.{is_ordered}
-use Rattle.section_lines.proofs.Phases.{is_in_phases}
-use Rattle.section_lines.proofs.Resolved.{is_resolved}
 use Rattle.table_words.specs.declared.layout.Layout.{Layout}
 use Rattle.table_words.specs.declared.spot.Spot.{Spot}
 use Rattle.table_words.specs.declared.spot.Spot.TheVariants as spots
@@ -24,59 +15,35 @@ use Rattle.table_words.specs.Access.{written}
 use Rattle.table_words.specs.Seen.{put}
 use Rattle.table_words.specs.Places.{slot_count, descriptor_count}
 use Rattle.table_words.specs.Limits.{IsWithinLimits}
-use Rattle.structure_laws.specs.Scene.{Readings, Free, Live, Retired, Scene}
-use Rattle.structure_laws.specs.Scene as scenes
 use Rattle.structure_laws.specs.Meaning.{Meaning}
-use Rattle.structure_laws.specs.Cells.{IsSafe, IsReader, IsKnown}
-use Rattle.structure_laws.specs.Shape.{Shaped}
 use Rattle.structure_laws.specs.Laws.{Laws}
-use Rattle.runner_parts.specs.declared.stage.Stage.{Stage}
-use Rattle.runner_parts.specs.declared.stage.Stage.TheVariants as stages
-use Rattle.runner_parts.specs.declared.entries.Published.{Published}
 use Rattle.runner_parts.specs.declared.event.EventKind.{EventKind}
 use Rattle.runner_parts.specs.declared.event.EventKind.TheVariants as kinds
-use Rattle.runner_parts.specs.State.{RunState, PartState, ReadsState}
+use Rattle.runner_parts.specs.State.{RunState, PartState}
 use Rattle.runner_parts.specs.Tests.{has, thunk_words}
-use Rattle.runner_parts.specs.Lists.{without, cell_read}
-use Rattle.runner_steps.specs.Sections.{thunk_of, is_open_run, next_of}
-use Rattle.runner_steps.specs.Outside.{last_epoch}
-use Rattle.runner_steps.specs.InRun.{last_clock}
-use Rattle.runner_steps.specs.Asks.{ask_by, asks, outside_ask, inside_ask, line_ask, opening_ask}
-use Rattle.runner_steps.specs.AfterInRun as inside
-use Rattle.runner_steps.specs.AfterInRun.{place_of}
+use Rattle.runner_steps.specs.Sections.{thunk_of}
+use Rattle.runner_steps.specs.Asks.{ask_by}
 use Rattle.runner_steps.specs.AfterOutside as outside
-use Rattle.runner_steps.specs.After.{line_after, inside_after, outside_after, after_by, after}
-use Rattle.agreement_core.specs.State.{AgreementState}
-use Rattle.epoch_core.specs.declared.location.Location.{Location}
-use Rattle.epoch_core.specs.declared.location.Location.TheVariants as locations
-use Rattle.epoch_core.specs.Events.{slot_of}
-use Rattle.epoch_core.specs.History.{is_out}
-use Rattle.epoch_core.specs.Sound.{is_for_nodes}
-use Rattle.epoch_core.specs.Lists.{times, in_free}
+use Rattle.runner_steps.specs.After.{after_by, after}
 use Rattle.machine_states.specs.World.{World}
 use Rattle.machine_states.specs.First.{IsFirst}
 use Rattle.machine_states.specs.Reached.{Reached}
 use Rattle.machine_states.specs.Sight.{Sight, sight, sight_after}
-use Rattle.machine_states.proofs.Sights.{some_none, unless_gone, joins}
+use Rattle.machine_states.proofs.Sights.{unless_gone, joins}
 use Rattle.machine_states.proofs.Updates.{upd_here}
-use Rattle.machine_epochs.specs.Entries.{counts_of}
 use Rattle.machine_epochs.specs.Slots.{thunk_in}
 use Rattle.machine_epochs.proofs.Joining.{thunk_same}
 use Rattle.machine_epochs.proofs.OutsideAsked.{HoldAsked, hold_asked, private_store_asked}
-use Rattle.machine_epochs.proofs.Places.{free_descriptor, has_append}
 use Rattle.machine_epochs.proofs.SectionKinds.{prepared_thunk}
-use Rattle.machine_scenes.specs.Shown.{section_with, scene_of}
-use Rattle.machine_scenes.proofs.Shown.{shown_open}
-use Rattle.machine_scenes.proofs.Links.{gives}
 use Rattle.machine_invariant.specs.After.{AreAllowed}
-use Rattle.machine_invariant.specs.Whole.{Beside, states_of, IsWhole}
 use Rattle.machine_invariant.proofs.First.{first_beside, first_whole}
 use Rattle.machine_invariant.proofs.Prepared.{done_is}
 use Rattle.machine_invariant.proofs.Sights.{thunks_after}
-use Rattle.machine_invariant.proofs.Thunks.{inside_leaves, is_private_store, outside_leaves, other_thunk}
-use Rattle.next_steps.specs.Rooms.{cell_count, ThunkFits, ThunksFit}
+use Rattle.machine_invariant.proofs.Thunks.{inside_leaves, outside_leaves, other_thunk}
+use Rattle.next_steps.specs.Rooms.{ThunkFits, ThunksFit}
 use Rattle.next_steps.proofs.Reaching.{IsStep, reached_keeps}
 use Rattle.next_steps.proofs.Parts.{each_part}
+use Rattle.next_steps.proofs.Runs.{OutOfRun, out_of_run}
 use Rattle.next_steps.proofs.Fits.{clash, open_fits, used_here, LeavesFree, by_same, inside_free, publishes_at, outside_free}
 
 module _ (m : Meaning) (laws : Laws m) (l : Layout) (limits : IsWithinLimits l) (rs : List Request) (s s' : Sight) (r : ℕ) where
@@ -135,19 +102,14 @@ module _ (m : Meaning) (laws : Laws m) (l : Layout) (limits : IsWithinLimits l) 
     abbrev hold : EventKind
     hold = kinds.Hold t d
 
-    outside_run : (o : Option RunState) → p.run ≡ o → ask_by m l rs r hold p o ≡ Some st.step.ask → p.run ≡ None
-    outside_run None is e = is
-    outside_run (Some q) is e = by (is_open_run q) e
-      where
-        by : (b : Bool) → (if b then line_ask m l hold p.nodes.free q (next_of m q) else opening_ask hold q) ≡ Some st.step.ask → p.run ≡ None
-        by true e = some_none st.step.ask e
-        by false e = some_none st.step.ask e
+    out : OutOfRun m l rs r hold p st.step.ask
+    out = out_of_run m l rs r hold p st.step.ask (λ q. refl) (λ q. refl) st.step.asked
 
     none : p.run ≡ None
-    none = outside_run p.run refl (asked hold st)
+    none = out.none
 
     holds : HoldAsked m l rs t d p st.step.ask
-    holds = hold_asked m l rs r t d p st.step.ask (ap (ask_by m l rs r hold p) (sym none) ∙ asked hold st)
+    holds = hold_asked m l rs r t d p st.step.ask out.asked
 
     -- it was free with its owner, so the exchange won
     free_after : (s'.part r).descriptors.free ≡ (outside.hold_after t d p (found hold st)).descriptors.free
@@ -157,7 +119,7 @@ module _ (m : Meaning) (laws : Laws m) (l : Layout) (limits : IsWithinLimits l) 
 
     thunk_now : thunk_in s'.word d ≡ thunk_of (thunk_words t)
     thunk_now =
-        let leaves = outside_leaves m l rs r p st.step.ask hold refl (ap (ask_by m l rs r hold p) (sym none) ∙ asked hold st) in
+        let leaves = outside_leaves m l rs r p st.step.ask hold refl out.asked in
         subst (λ (y : Sight). thunk_in y.word d ≡ thunk_in s.word d) (sym st.step.next) (thunks_after m l s r hold st.step.ask leaves d)
         ∙ prepared_thunk m l st.beside.epochs s st.whole.slots r t d holds.free holds.prepared
 

@@ -6,3 +6,14 @@ mod Clock
 mod Ends
 mod Fits
 mod FitsKept
+mod Tests
+mod Releases
+mod Standing
+mod Filling
+mod RoomParts
+mod SlotFrames
+mod RoomsKept
+mod RoomsReached
+mod Lines
+pub mod Enabled
+pub mod GoingOn

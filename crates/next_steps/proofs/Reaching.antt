@@ -10,7 +10,6 @@ use Rattle.runner_parts.specs.declared.event.EventKind.{EventKind}
 use Rattle.machine_states.specs.World.{World, happens}
 use Rattle.machine_states.specs.First.{IsFirst}
 use Rattle.machine_states.specs.Reached.{Reached}
-use Rattle.machine_states.specs.Schedules.{IsAfter}
 use Rattle.machine_states.specs.Sight.{Sight, sight, Steps}
 use Rattle.machine_states.specs.Sight as states
 use Rattle.machine_states.proofs.Reached.{first_reached, more_reached, reached_has, reached_all}

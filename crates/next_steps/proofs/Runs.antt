@@ -1,10 +1,8 @@
 -- What the whole invariant says of a run that has loaded its thunk and its done word.
 use Rattle.std.specs.Prelude.{Bool, true, false, if◌then◌else◌}
-use Rattle.std.proofs.Common.{◌≡◌, ℕ, ◌<◌, ◌≤◌, List, length, sym, refl, ap, ◌∙◌, subst, arith, Option, Some, None}
+use Rattle.std.proofs.Common.{◌≡◌, ℕ, ◌<◌, List, length, sym, refl, ◌∙◌, subst, Option, Some, None}
 use Rattle.map_history.specs.declared.op.Request.{Request}
-use Rattle.section_body.specs.Line.{line, micro_at, committed}
-use Rattle.section_body.specs.declared.step.Step.{Step}
-use Rattle.section_body.specs.declared.thunk.Thunk.{Thunk}
+use Rattle.section_body.specs.Line.{line, micro_at}
 use Rattle.table_words.specs.declared.layout.Layout.{Layout}
 use Rattle.table_words.specs.declared.spot.Spot.{Spot}
 use Rattle.table_words.specs.declared.access.Access.{Access}
@@ -21,10 +19,9 @@ use Rattle.agreement_core.specs.Runs.{RunIsSound}
 use Rattle.agreement_core.specs.Sound.{UsedIsSound}
 use Rattle.machine_states.specs.Sight.{Sight}
 use Rattle.machine_states.proofs.Sights.{some_none, unless_gone}
-use Rattle.machine_epochs.specs.Slots.{thunk_in}
 use Rattle.machine_scenes.specs.Shown.{rules_of}
 use Rattle.machine_agreement.specs.Joined.{IsRunOf}
-use Rattle.machine_agreement.proofs.RunPlaces.{run_here, used_here, opened_thunk, code_here, not_ended}
+use Rattle.machine_agreement.proofs.RunPlaces.{run_here, used_here, opened_thunk, code_here}
 use Rattle.machine_invariant.specs.Whole.{Beside, IsWhole}
 
 -- an enabled event of a kind that comes in the line of a run alone
@@ -47,6 +44,25 @@ in_line m l rs r kind p x outside opening asked = by_run p.run refl (unless_gone
             → (if b then line_ask m l kind p.nodes.free q (next_of m q) else opening_ask kind q) ≡ Some x → InLine m l kind p x
         by_open true is_open e = record { run = q; runs = is; opened = is_open; asked = e }
         by_open false is_open e = some_none x (sym (opening q) ∙ e)
+
+-- an enabled event of a kind that comes in no run
+pub record OutOfRun (m : Meaning) (l : Layout) (rs : List Request) (r : ℕ) (kind : EventKind) (p : PartState) (x : Spot × Access) : Type 0 where
+  pub none : p.run ≡ None
+  pub asked : outside_ask m l rs r kind p ≡ Some x
+
+pub out_of_run : (m : Meaning) (l : Layout) (rs : List Request) (r : ℕ) (kind : EventKind) (p : PartState) (x : Spot × Access)
+    → ((q : RunState) → line_ask m l kind p.nodes.free q (next_of m q) ≡ None) → ((q : RunState) → opening_ask kind q ≡ None)
+    → asks m l rs r kind p ≡ Some x → OutOfRun m l rs r kind p x
+out_of_run m l rs r kind p x line opening asked = by_run p.run refl (unless_gone _ p.gone _ x asked).1
+  where
+    by_run : (o : Option RunState) → p.run ≡ o → ask_by m l rs r kind p o ≡ Some x → OutOfRun m l rs r kind p x
+    by_run None is e = record { none = is; asked = e }
+    by_run (Some q) is e = by_open (is_open_run q) e
+      where
+        by_open : (b : Bool) → (if b then line_ask m l kind p.nodes.free q (next_of m q) else opening_ask kind q) ≡ Some x
+            → OutOfRun m l rs r kind p x
+        by_open true e = some_none x (sym (line q) ∙ e)
+        by_open false e = some_none x (sym (opening q) ∙ e)
 
 module _ (m : Meaning) (l : Layout) (g : Beside) (s : Sight) (whole : IsWhole m l g s) (r : ℕ) (q : RunState) (is : (s.part r).run ≡ Some q) where
   abbrev pub section : Section

@@ -19,7 +19,7 @@ use Rattle.runner_parts.specs.declared.event.EventKind.TheVariants as kinds
 use Rattle.runner_parts.specs.State.{RunState, PartState}
 use Rattle.runner_steps.specs.Sections.{thunk_of, is_open_run, next_of}
 use Rattle.runner_steps.specs.InRun.{load_cell_ask, nested_load_ask, outcome_load_ask}
-use Rattle.runner_steps.specs.Outside.{descriptor_spot, entry_spot}
+use Rattle.runner_steps.specs.Outside.{descriptor_spot}
 use Rattle.runner_steps.specs.Asks.{outside_ask, line_ask, opening_ask, inside_ask, ask_by, asks}
 use Rattle.machine_states.proofs.Sights.{if_some, some_none, unless_gone}
 use Rattle.machine_states.proofs.Steps.{some_same}

@@ -1,5 +1,5 @@
 -- Which event a run makes next.
-use Rattle.std.specs.Prelude.{ℕ, zero, suc, Bool, true, is_some, nat_lt, length, Option, Some, None, if◌then◌else◌}
+use Rattle.std.specs.Prelude.{ℕ, zero, Bool, true, is_some, nat_lt, length, Option, Some, None, if◌then◌else◌}
 use Rattle.section_body.specs.declared.micro.Micro.{Micro}
 use Rattle.section_body.specs.declared.micro.Micro.TheVariants as micros
 use Rattle.section_body.specs.Word.{next_word}

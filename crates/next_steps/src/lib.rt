@@ -1,5 +1,8 @@
-//! The next step of each run is enabled.
+//! The next step of each run is enabled, in every state that the machine reaches, and the numbers that it asks for fit their words.
+//!
+//! The definitions stand in specs: `Steps` is which event a run makes next, `Rooms` what fits, `Enabled` that the next event is enabled.
 #![tactic(auto)]
 
-/// Nothing yet.
-pub fn nothing() {}
+mod laws;
+
+pub use laws::{clocks_are_small, next_steps_are_enabled, published_thunks_fit, slots_have_room};
