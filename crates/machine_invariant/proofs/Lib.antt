@@ -5,19 +5,20 @@ mod Limbo
 pub mod Slots
 pub mod Trails
 mod Lines
-mod Sections
+pub mod Sections
+pub mod Unwon
 pub mod Lengths
 pub mod LogWords
-mod States
-mod Along
+pub mod States
+pub mod Along
 mod Named
-mod Runs
+pub mod Runs
 mod Ties
 pub mod Parts
-mod Quiet
+pub mod Quiet
 pub mod Thunks
 pub mod Sights
-mod Chunked
+pub mod Chunked
 mod Reaching
 pub mod SuppliesSections
 mod SuppliesSlots
@@ -35,7 +36,7 @@ mod Publishing
 mod SectionsRetired
 mod Freeing
 pub mod First
-mod Following
-mod AllKinds
+pub mod Following
+pub mod AllKinds
 pub mod After
 pub mod Rising
