@@ -119,7 +119,7 @@ module _ (m : Meaning) (laws : Laws m) (l : Layout) (limits : IsWithinLimits l) 
   scene = scene_of m (counts_of m l) (states_of g s)
 
   -- a safe slot is one of the table's
-  safe_within : (t : ℕ) → IsSafe scene t → t < slot_count l m.fixed_slots
+  pub safe_within : (t : ℕ) → IsSafe scene t → t < slot_count l m.fixed_slots
   safe_within t safe = whole.kept.lawful.sound.within t (⊎_elim (λ e. live e) (λ h. retired h.0 h.1) safe)
     where
       live : scene.status t ≡ Live → scene.status t ≢ Free

@@ -15,5 +15,7 @@ mod SlotFrames
 mod RoomsKept
 mod RoomsReached
 mod Lines
+mod PartNumbers
+mod Numbers
 pub mod Enabled
 pub mod GoingOn

@@ -1,6 +1,6 @@
 -- How the room of a runner's slots changes with its part, where the words are these.
-use Rattle.std.specs.Prelude.{◌==◌, ◌||◌, ◌&&◌, ◌⊎◌, nat_lt, Bool, true, false, if◌then◌else◌}
-use Rattle.std.proofs.Common.{◌≡◌, ◌≢◌, ℕ, ◌<◌, ◌≤◌, List, [], ◌∷◌, ◌++◌, inl, inr, ⊎_elim, sym, refl, ap, ◌∙◌, subst, arith, Some}
+use Rattle.std.specs.Prelude.{◌==◌, ◌||◌, ◌&&◌, nat_lt, Bool, true, false, if◌then◌else◌}
+use Rattle.std.proofs.Common.{◌≡◌, ◌≢◌, ℕ, ◌<◌, ◌≤◌, List, [], ◌∷◌, ◌++◌, ⊎_elim, sym, refl, ap, ◌∙◌, subst, arith, Some}
 use Rattle.std.proofs.lemmas.Bool.Decides.{nat_tests}
 use Rattle.std.proofs.lemmas.Bool.{cases_eq}
 use Rattle.section_body.specs.Memory.{cell_of}
@@ -16,7 +16,7 @@ use Rattle.runner_parts.specs.Lists.{without, test_of, tests_without, slot_back,
 use Rattle.runner_steps.specs.AfterOutside as outside
 use Rattle.machine_epochs.proofs.Places.{has_append}
 use Rattle.next_steps.specs.Rooms.{CellHasRoom, MakeHasRoom, SlotsHaveRoom}
-use Rattle.next_steps.proofs.Tests.{without_has, without_not, test_slot, tests_without_other, tests_without_own, tests_push_own, tests_push_other}
+use Rattle.next_steps.proofs.Tests.{without_has, without_not, either_has, test_slot, tests_without_other, tests_without_own, tests_push_own, tests_push_other}
 
 clash : {A : Type 0} {b : Bool} → b ≡ true → b ≡ false → A
 clash e e' = absurd (cc)
@@ -33,14 +33,6 @@ same_nodes n = record { free = refl; hand = refl; tests = refl }
 -- the part is in no Make
 pub record MakesNone (p : PartState) : Type 0 where
   pub never : (q : RunState) (t : ℕ) → p.run ≡ Some q → q.made ≡ Some t → ⊥
-
-either_has : (xs ys : List ℕ) (t : ℕ) → has (xs ++ ys) t ≡ true → (has xs t ≡ true) ⊎ (has ys t ≡ true)
-either_has xs ys t e = by (has xs t) (has ys t) refl refl (sym (has_append xs ys t) ∙ e)
-  where
-    by : (a b : Bool) → has xs t ≡ a → has ys t ≡ b → (a || b) ≡ true → (has xs t ≡ true) ⊎ (has ys t ≡ true)
-    by true b one two h = inl one
-    by false true one two h = inr two
-    by false false one two h = absurd (let z = h in cc)
 
 first_no : (xs ys : List ℕ) (t : ℕ) → has (xs ++ ys) t ≡ false → has xs t ≡ false
 first_no xs ys t e = by (has xs t) refl

@@ -1,12 +1,13 @@
 -- Lists of numbers, and how far slots have been looked at, after a change.
 use Rattle.std.specs.Prelude.{◌==◌, ◌||◌, ◌-◌, not, cond, slice_index, Bool, true, false, if◌then◌else◌}
-use Rattle.std.proofs.Common.{◌≡◌, ◌≢◌, ℕ, ◌<◌, List, [], ◌∷◌, ◌++◌, length, sym, refl, ap, ◌∙◌, arith, Some, None}
+use Rattle.std.proofs.Common.{◌⊎◌, inl, inr, ◌≡◌, ◌≢◌, ℕ, ◌<◌, List, [], ◌∷◌, ◌++◌, length, sym, refl, ap, ◌∙◌, arith, Some, None}
 use Rattle.std.proofs.lemmas.Bool.Decides.{nat_tests}
 use Rattle.std.proofs.lemmas.List.Folds.{list_any_at}
 use Rattle.runner_parts.specs.declared.entries.Tested.{Tested}
 use Rattle.runner_parts.specs.Tests.{has}
 use Rattle.runner_parts.specs.Lists.{without, test_of, tests_without}
 use Rattle.runner_steps.specs.InRun.{last_of, is_slot}
+use Rattle.machine_epochs.proofs.Places.{has_append}
 
 equal_test : (a b : ℕ) → a ≡ b → (a == b) ≡ true
 equal_test a b e = grind (arith, nat_tests)
@@ -106,3 +107,12 @@ push_other (y ∷ xs) x t ne = ap (λ (z : Tested). if y.slot == t then y else z
 
 pub tests_push_other : (xs : List Tested) (x : Tested) (t : ℕ) → t ≢ x.slot → test_of (tests_without xs x.slot ++ x ∷ []) t ≡ test_of xs t
 tests_push_other xs x t ne = push_other (tests_without xs x.slot) x t ne ∙ tests_without_other xs x.slot t ne
+
+-- a number of two lists is one of the first or of the second
+pub either_has : (xs ys : List ℕ) (t : ℕ) → has (xs ++ ys) t ≡ true → (has xs t ≡ true) ⊎ (has ys t ≡ true)
+either_has xs ys t e = by (has xs t) (has ys t) refl refl (sym (has_append xs ys t) ∙ e)
+  where
+    by : (a b : Bool) → has xs t ≡ a → has ys t ≡ b → (a || b) ≡ true → (has xs t ≡ true) ⊎ (has ys t ≡ true)
+    by true b one two h = inl one
+    by false true one two h = inr two
+    by false false one two h = absurd (let z = h in cc)

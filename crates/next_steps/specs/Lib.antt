@@ -1,3 +1,4 @@
 pub mod Steps
 pub mod Rooms
+pub mod Numbers
 pub mod Enabled

@@ -8,6 +8,7 @@ ghost use Rattle.machine_states.specs.Reached.{Reached};
 ghost use Rattle.machine_states.specs.Sight.{sight};
 ghost use Rattle.machine_invariant.specs.After.{AreAllowed};
 ghost use Rattle.next_steps.specs.Rooms.{ClockIsSmall, RoomsStand, ThunksFit};
+ghost use Rattle.next_steps.specs.Numbers.{NumbersFit};
 ghost use Rattle.next_steps.specs.Enabled.{NextIsEnabled, RunsGoOn};
 
 use runner_parts::Structure;
@@ -52,6 +53,16 @@ pub fn slots_have_room<S: Structure>(structure: &S)
     ensures { (layout : Layout) (requests : List Request) (w : World) → IsWithinLimits layout → AreAllowed requests
         → Reached (S.meaning structure.now) layout requests w
         → RoomsStand (S.meaning structure.now) layout (sight (S.meaning structure.now) layout requests w) }
+{
+    let _ = structure;
+}
+
+/// In every state that the machine reaches, the numbers that the runners keep are the table's: own descriptors, places that were read since
+/// they entered, and, of an entered runner, the descriptors that it holds and the slots that its readings reach.
+pub fn numbers_are_the_tables<S: Structure>(structure: &S)
+    ensures { (layout : Layout) (requests : List Request) (w : World) → IsWithinLimits layout → AreAllowed requests
+        → Reached (S.meaning structure.now) layout requests w
+        → NumbersFit (S.meaning structure.now) layout (sight (S.meaning structure.now) layout requests w) }
 {
     let _ = structure;
 }

@@ -5,4 +5,7 @@
 
 mod laws;
 
-pub use laws::{clocks_are_small, next_steps_are_enabled, published_thunks_fit, slots_have_room};
+pub use laws::{
+    clocks_are_small, next_steps_are_enabled, numbers_are_the_tables, published_thunks_fit,
+    slots_have_room,
+};
