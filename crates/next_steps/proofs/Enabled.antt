@@ -1,5 +1,5 @@
 -- In every reached state the next step of a run is enabled.
-use Rattle.std.specs.Prelude.{◌⊎◌, ◌==◌, ◌&&◌, ◌*◌, ◌/◌, not, nat_lt, is_some, slice_index, Bool, true, false, if◌then◌else◌}
+use Rattle.std.specs.Prelude.{◌⊎◌, ◌==◌, ◌&&◌, ◌*◌, not, nat_lt, is_some, slice_index, Bool, true, false, if◌then◌else◌}
 use Rattle.std.proofs.Common.{◌≡◌, ◌≢◌, ℕ, zero, suc, ◌+◌, ◌<◌, ◌≤◌, List, length, inl, inr, ⊎_elim, sym, refl, ap, ◌∙◌, subst, arith, Option, Some, None}
 use Rattle.std.proofs.lemmas.Bool.Decides.{nat_tests}
 use Rattle.map_history.specs.declared.op.Request.{Request}
@@ -19,7 +19,7 @@ use Rattle.table_words.specs.declared.sizes.Sizes.{Sizes}
 use Rattle.table_words.specs.declared.spot.Spot.{Spot}
 use Rattle.table_words.specs.declared.spot.Spot.TheVariants as spots
 use Rattle.table_words.specs.declared.access.Access.{Access}
-use Rattle.table_words.specs.declared.access.Access.TheVariants.{Loads, Stores, Exchanges, Raises}
+use Rattle.table_words.specs.declared.access.Access.TheVariants.{Loads, Exchanges}
 use Rattle.table_words.specs.Limits.{IsWithinLimits}
 use Rattle.table_words.specs.Places.{fits, slot_count, descriptor_count}
 use Rattle.structure_laws.specs.Meaning.{Meaning}
@@ -29,7 +29,7 @@ use Rattle.runner_parts.specs.declared.event.EventKind.TheVariants as kinds
 use Rattle.runner_parts.specs.State.{RunState, PartState}
 use Rattle.runner_parts.specs.Tests.{has}
 use Rattle.runner_steps.specs.Sections.{thunk_of, is_open_run, line_of, next_of}
-use Rattle.runner_steps.specs.InRun.{can_hold, make_slot, is_slot, last_clock, stamp_after, make_commit_to}
+use Rattle.runner_steps.specs.InRun.{can_hold, make_slot, is_slot, last_clock, make_commit_to}
 use Rattle.runner_steps.specs.AfterInRun.{place_of}
 use Rattle.runner_steps.specs.Outside.{Ask, when}
 use Rattle.runner_steps.specs.Asks.{line_ask, inside_ask, opening_ask, ask_by, fitting, sizes_for}
@@ -47,9 +47,9 @@ use Rattle.machine_invariant.specs.After.{AreAllowed}
 use Rattle.machine_invariant.specs.Whole.{Beside, made_in, IsWhole}
 use Rattle.machine_invariant.specs.LogWords.{commits_to}
 use Rattle.machine_invariant.proofs.After.{reached_whole}
-use Rattle.next_steps.specs.Steps.{slot_in, kind_at, opening_kind, has_slot}
+use Rattle.next_steps.specs.Steps.{slot_in, kind_at, ask_at, opening_kind, opened_next, has_slot}
 use Rattle.next_steps.specs.Rooms.{ClockIsSmall, cell_count, ThunkFits, ThunksFit, filling, RoomsStand}
-use Rattle.next_steps.specs.Enabled.{IsEnabled, IsInTable, NextIsEnabled}
+use Rattle.next_steps.specs.Enabled.{Meets, IsInTable, NextIsEnabled}
 use Rattle.next_steps.proofs.Tests.{last_listed}
 use Rattle.next_steps.proofs.Runs.{section, run, here, used, few_descriptors, section_sound, run_sound, code}
 use Rattle.next_steps.proofs.Clock.{stamped_few, clock_word, reached_small}
@@ -110,8 +110,8 @@ module _ (m : Meaning) (laws : Laws m) (l : Layout) (limits : IsWithinLimits l) 
 
   -- an event that is asked for, on a word of the table, is enabled
   enabled_by : (kind : EventKind) (x : Spot × Access) → p.gone ≡ false → inside_ask m l kind p.nodes.free q ≡ Some x → fits sizes x.0 ≡ true
-      → IsEnabled m l rs r p kind
-  enabled_by kind x there asked fit = (x, by p.gone there (ap (ask_by m l rs r kind p) is ∙ asked))
+      → Meets m l rs r p kind x
+  enabled_by kind x there asked fit = by p.gone there (ap (ask_by m l rs r kind p) is ∙ asked)
     where
       fitted : (a : Ask) → a ≡ Some x → fitting sizes a ≡ Some x
       fitted None e = none_some e
@@ -124,7 +124,7 @@ module _ (m : Meaning) (laws : Laws m) (l : Layout) (limits : IsWithinLimits l) 
       by false e asked = fitted (ask_by m l rs r kind p p.run) asked
 
   -- the opening
-  opening_enabled : p.gone ≡ false → length q.opened < 13 → IsEnabled m l rs r p (opening_kind q)
+  opening_enabled : p.gone ≡ false → length q.opened < 13 → Meets m l rs r p (opening_kind q) (opened_next q)
   opening_enabled there low = by (nat_lt (length q.opened) 12) refl
     where
       closed : (n : ℕ) (b : Bool) → n < 13 → (n == 13 && b) ≡ false
@@ -136,7 +136,8 @@ module _ (m : Meaning) (laws : Laws m) (l : Layout) (limits : IsWithinLimits l) 
       last : (n : ℕ) → n < 13 → nat_lt n 12 ≡ false → n ≡ 12
       last n low e = grind (arith, nat_tests)
 
-      by : (b : Bool) → nat_lt (length q.opened) 12 ≡ b → IsEnabled m l rs r p (if b then kinds.LoadThunk None else kinds.LoadDone)
+      by : (b : Bool) → nat_lt (length q.opened) 12 ≡ b → Meets m l rs r p (if b then kinds.LoadThunk None else kinds.LoadDone)
+          (if b then (spots.ThunkWord q.descriptor (length q.opened), Loads) else (spots.DoneWord q.descriptor, Loads))
       by true e = enabled_by (kinds.LoadThunk None) (spots.ThunkWord q.descriptor (length q.opened), Loads) there
           (opens (kinds.LoadThunk None) _ (asks_when _ _ _ e))
           (both_tests _ _ (below_test q.descriptor (descriptor_count l) descriptor) e)
@@ -157,9 +158,8 @@ module _ (m : Meaning) (laws : Laws m) (l : Layout) (limits : IsWithinLimits l) 
 
     -- a step that is asked for, on a word of the table
     record Goes (kind : EventKind) (micro : Micro) : Type 0 where
-      ask : Spot × Access
-      asked : line_ask m l kind p.nodes.free q micro ≡ Some ask
-      fit : fits sizes ask.0 ≡ true
+      asked : line_ask m l kind p.nodes.free q micro ≡ Some (ask_at m p q micro)
+      fit : fits sizes ((ask_at m p q micro).0) ≡ true
 
     module _ (micro : Micro) (ahead : next_of m q ≡ micro) where
       line_at : is_of_end micro ≡ false → micro_at (line_of m q) q.at ≡ micro
@@ -272,7 +272,6 @@ module _ (m : Meaning) (laws : Laws m) (l : Layout) (limits : IsWithinLimits l) 
           let slot = slot_in (make_slot q.made p.nodes.free) in
           let mine = own (make_slot q.made p.nodes.free) refl the_slot in
           let five = low_cell (m.body t) (shape m l g s whole r q is all) q.at cell k at_load in record {
-            ask = (spots.Cell (cell_of m.fixed_cells slot cell), Loads);
             asked = asks_when _ _ _ (both_tests _ _
                 (both_tests _ _ (below_test slot (slot_count l m.fixed_slots) mine.1) (below_test cell 5 five))
                 (both_tests _ _ mine.0 (same_test cell)));
@@ -299,7 +298,6 @@ module _ (m : Meaning) (laws : Laws m) (l : Layout) (limits : IsWithinLimits l) 
           let next : make.next ≡ cell = some_same make.next cell (sym make.at ∙ ap filling at_store) in
           let room : version_of q.word < l.version_max = subst (λ n. version_of n < l.version_max) (sym word) (make.room cell (omega arith) five) in
           let same : slot_in q.made ≡ slot = ap slot_in made in record {
-            ask = (spots.Cell (cell_of m.fixed_cells (slot_in q.made) cell), Stores (next_word q.word (source_value q.trail v)));
             asked = asks_when _ _ _ (both_tests _ _
                 (both_tests _ _ (below_test (slot_in q.made) (slot_count l m.fixed_slots) (subst (λ n. n < slot_count l m.fixed_slots) (sym same) low))
                 (below_test cell 5 five))
@@ -317,8 +315,7 @@ module _ (m : Meaning) (laws : Laws m) (l : Layout) (limits : IsWithinLimits l) 
         let before = (ordered m l g s whole r q is all).make_before q.at k at in
         let made = stored_made before.0 4 k before.1 (let e = before.2 in omega arith) before.3
         ((is_counted (m.body t) (shape m l g s whole r q is all).short).make_log q.at k at) in record {
-          ask = (spots.LogWord q.descriptor k, Exchanges 0 (made.0 + 1));
-          asked = ap (make_commit_to q k) made.1;
+          asked = ap (make_commit_to q k) made.1 ∙ ap (λ (o : Option ℕ). Some (spots.LogWord q.descriptor k, Exchanges 0 (slot_in o + 1))) (sym made.1);
           fit = log_fit (micros.MakeCommit k) ahead refl k refl;
         }
 
@@ -328,7 +325,6 @@ module _ (m : Meaning) (laws : Laws m) (l : Layout) (limits : IsWithinLimits l) 
         let read = clock_word m l g s whole r q is opened ahead in
         let clock = known.clock.clock in
         let most = stamped_few s.word (length rs) in record {
-          ask = (spots.Stamp t.request, Exchanges 0 (stamp_after q.word));
           asked = asks_when _ _ _ (below_test q.word last_clock (omega arith));
           fit = below_test t.request (length rs) fits_here.request;
         }
@@ -336,72 +332,61 @@ module _ (m : Meaning) (laws : Laws m) (l : Layout) (limits : IsWithinLimits l) 
     -- the step that comes next
     next_goes : (micro : Micro) → next_of m q ≡ micro → has_slot p q micro ≡ true → Goes (kind_at p q micro) micro
     next_goes (micros.LoadCell place log) ahead has = record {
-      ask = (spots.Cell place, Loads);
       asked = refl;
       fit = cell_fit (micros.LoadCell place log) ahead refl;
     }
     next_goes (micros.Commit place log) ahead has = record {
-      ask = (spots.LogWord q.descriptor log, Exchanges 0 q.word);
       asked = refl;
       fit = log_fit (micros.Commit place log) ahead refl log refl;
     }
     next_goes (micros.NestedLoad place log) ahead has = record {
-      ask = (spots.Cell place, Loads);
       asked = refl;
       fit = cell_fit (micros.NestedLoad place log) ahead refl;
     }
     next_goes (micros.NestedCommit place log) ahead has = record {
-      ask = (spots.LogWord q.descriptor log, Exchanges 0 q.word);
       asked = refl;
       fit = log_fit (micros.NestedCommit place log) ahead refl log refl;
     }
     next_goes (micros.NestedHold place word) ahead has =
         let lock : IsLockWith m t place word = inr (q.at, line_at (micros.NestedHold place word) ahead refl) in record {
-          ask = (spots.Cell place, Exchanges word (held_word q.descriptor word));
           asked = asks_when _ _ _ (hold_test word (lock_room (micros.NestedHold place word) ahead place word lock));
           fit = cell_fit (micros.NestedHold place word) ahead refl;
         }
     next_goes (micros.OutcomeLoad place log) ahead has = record {
-      ask = (spots.Cell place, Loads);
       asked = refl;
       fit = cell_fit (micros.OutcomeLoad place log) ahead refl;
     }
     next_goes (micros.OutcomeCommit place log) ahead has = record {
-      ask = (spots.LogWord q.descriptor log, Exchanges 0 q.word);
       asked = refl;
       fit = log_fit (micros.OutcomeCommit place log) ahead refl log refl;
     }
     next_goes (micros.PrivateLoad cell log) ahead has = load_goes cell log ahead has
     next_goes (micros.PrivateStore cell log value) ahead has = store_goes cell log value ahead
     next_goes (micros.MakeCommit log) ahead has = commit_goes log ahead
-    next_goes micros.ClockLoad ahead has = record { ask = (spots.Clock, Loads); asked = refl; fit = refl }
+    next_goes micros.ClockLoad ahead has = record { asked = refl; fit = refl }
     next_goes micros.StampExchange ahead has = stamp_goes ahead
-    next_goes micros.ClockRaise ahead has = record { ask = (spots.Clock, Raises (q.word / 2)); asked = refl; fit = refl }
+    next_goes micros.ClockRaise ahead has = record { asked = refl; fit = refl }
     next_goes (micros.ExchangeCell place log value) ahead has =
         let old = slice_index q.trail log in record {
-          ask = (spots.Cell place, Exchanges old (next_word old (source_value q.trail value)));
           asked = asks_when _ _ _ (below_test (version_of old) l.version_max
               (stored_room place log value (line_at (micros.ExchangeCell place log value) ahead refl)));
           fit = cell_fit (micros.ExchangeCell place log value) ahead refl;
         }
-    next_goes (micros.EpochForRetire slot log) ahead has = record { ask = (spots.Epoch, Loads); asked = refl; fit = refl }
+    next_goes (micros.EpochForRetire slot log) ahead has = record { asked = refl; fit = refl }
     next_goes (micros.RetireCommit slot log) ahead has = record {
-      ask = (spots.LogWord q.descriptor log, Exchanges 0 (slot + 1));
       asked = refl;
       fit = log_fit (micros.RetireCommit slot log) ahead refl log refl;
     }
     next_goes (micros.ReplyExchange reply) ahead has = record {
-      ask = (spots.Reply t.request, Exchanges 0 reply);
       asked = refl;
       fit = below_test t.request (length rs) fits_here.request;
     }
-    next_goes micros.SetDone ahead has = record { ask = (spots.DoneWord q.descriptor, Exchanges 0 1); asked = refl; fit = done_fit }
+    next_goes micros.SetDone ahead has = record { asked = refl; fit = done_fit }
     next_goes (micros.Release place word) ahead has =
         let lock = released_lock m l rs g s whole r q is opened place word ahead in
         let room = lock_room (micros.Release place word) ahead place word lock in
         let held = held_word q.descriptor word in
         let risen = version_held q.descriptor word (section_sound m l g s whole r q is).published.link in record {
-          ask = (spots.Cell place, Exchanges held (next_word held 0));
           asked = asks_when _ _ _ (both_tests _ _ (hold_test word room) (below_test (version_of held) l.version_max (omega arith)));
           fit = below_test place (cell_count m l) (lock_fit (micros.Release place word) ahead place word lock);
         }
@@ -411,10 +396,11 @@ module _ (m : Meaning) (laws : Laws m) (l : Layout) (limits : IsWithinLimits l) 
     next_goes (micros.CheckFree place log word) ahead has = absurd (let z = sym (next_no_check m q) ∙ ap is_check ahead in cc)
     next_goes (micros.CheckHeld place log word) ahead has = absurd (let z = sym (next_no_check m q) ∙ ap is_check ahead in cc)
 
-    inside_enabled : p.gone ≡ false → has_slot p q (next_of m q) ≡ true → IsEnabled m l rs r p (kind_at p q (next_of m q))
+    inside_enabled : p.gone ≡ false → has_slot p q (next_of m q) ≡ true
+        → Meets m l rs r p (kind_at p q (next_of m q)) (ask_at m p q (next_of m q))
     inside_enabled there has =
         let goes = next_goes (next_of m q) refl has in
-        enabled_by (kind_at p q (next_of m q)) goes.ask there
+        enabled_by (kind_at p q (next_of m q)) (ask_at m p q (next_of m q)) there
         (ap (λ b. if b then line_ask m l (kind_at p q (next_of m q)) p.nodes.free q (next_of m q) else opening_ask (kind_at p q (next_of m q)) q) opened
         ∙ goes.asked) goes.fit
 

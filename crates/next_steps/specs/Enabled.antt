@@ -12,13 +12,14 @@ use Rattle.runner_parts.specs.State.{RunState, PartState}
 use Rattle.runner_steps.specs.Asks.{asks}
 use Rattle.runner_steps.specs.Sections.{thunk_of, is_open_run, next_of}
 use Rattle.machine_states.specs.Sight.{Sight}
-use Rattle.machine_states.specs.World.{World, seat_of, happens}
+use Rattle.machine_states.specs.World.{World, seat_of}
+use Rattle.machine_states.specs.World as machine
 use Rattle.next_steps.specs.Rooms.{ThunkFits}
-use Rattle.next_steps.specs.Steps.{opening_kind, kind_at, next_kind, has_slot}
+use Rattle.next_steps.specs.Steps.{opening_kind, opened_next, kind_at, ask_at, next_kind, next_ask, has_slot}
 
--- the runner's event of this kind is enabled
-abbrev pub IsEnabled : Meaning → Layout → List Request → ℕ → PartState → EventKind → Type 0
-IsEnabled m l requests r p kind = (x : Spot × Access) × (asks m l requests r kind p ≡ Some x)
+-- the runner's event of this kind is enabled, and meets this word in this way
+abbrev pub Meets : Meaning → Layout → List Request → ℕ → PartState → EventKind → Spot × Access → Type 0
+Meets m l requests r p kind x = asks m l requests r kind p ≡ Some x
 
 -- a run in progress is one of the table's descriptors and loads thirteen words; once it has, its thunk and its body's line are within the
 -- table, the body has the shape, and no place of the line and no number of exchanges at the end is refused
@@ -34,12 +35,19 @@ pub record IsInTable (m : Meaning) (l : Layout) (requests : List Request) (q : R
 pub record NextIsEnabled (m : Meaning) (l : Layout) (requests : List Request) (s : Sight) : Type 0 where
   pub runs : (r : ℕ) (q : RunState) → (s.part r).run ≡ Some q → IsInTable m l requests q
   pub opening : (r : ℕ) (q : RunState) → (s.part r).gone ≡ false → (s.part r).run ≡ Some q → length q.opened < 13
-      → IsEnabled m l requests r (s.part r) (opening_kind q)
+      → Meets m l requests r (s.part r) (opening_kind q) (opened_next q)
   pub inside : (r : ℕ) (q : RunState) → (s.part r).gone ≡ false → (s.part r).run ≡ Some q → length q.opened ≡ 13
-      → has_slot (s.part r) q (next_of m q) ≡ true → IsEnabled m l requests r (s.part r) (kind_at (s.part r) q (next_of m q))
+      → has_slot (s.part r) q (next_of m q) ≡ true
+      → Meets m l requests r (s.part r) (kind_at (s.part r) q (next_of m q)) (ask_at m (s.part r) q (next_of m q))
 
--- so the machine can make the event
+-- an event of a runner that has this part in this state: it is enabled and meets this word, and the machine can make it
+pub record CanMake (m : Meaning) (l : Layout) (requests : List Request) (w : World) (r : ℕ) (p : PartState) (kind : EventKind)
+    (x : Spot × Access) : Type 0 where
+  pub meets : Meets m l requests r p kind x
+  pub next : World
+  pub happens : machine.happens m l requests w (record { runner = r; kind = kind }) ≡ Some next
+
+-- so the next event of each run can be made
 abbrev pub RunsGoOn : Meaning → Layout → List Request → World → Type 0
 RunsGoOn m l requests w = (r : ℕ) (p : PartState) (q : RunState) → slice_get w.parts (seat_of l r) ≡ Some p → p.gone ≡ false
-    → p.run ≡ Some q → has_slot p q (next_of m q) ≡ true
-    → (v : World) × (happens m l requests w (record { runner = r; kind = next_kind m p q }) ≡ Some v)
+    → p.run ≡ Some q → has_slot p q (next_of m q) ≡ true → CanMake m l requests w r p (next_kind m p q) (next_ask m p q)
