@@ -19,3 +19,4 @@ mod PartNumbers
 mod Numbers
 pub mod Enabled
 pub mod GoingOn
+pub mod Stages

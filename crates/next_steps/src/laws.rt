@@ -10,6 +10,7 @@ ghost use Rattle.machine_invariant.specs.After.{AreAllowed};
 ghost use Rattle.next_steps.specs.Rooms.{ClockIsSmall, RoomsStand, ThunksFit};
 ghost use Rattle.next_steps.specs.Numbers.{NumbersFit};
 ghost use Rattle.next_steps.specs.Enabled.{NextIsEnabled, RunsGoOn};
+ghost use Rattle.next_steps.specs.Stages.{MayOpen, ThenOpened, MayStep, CommitsBehind, ThenStepped};
 
 use runner_parts::Structure;
 
@@ -63,6 +64,23 @@ pub fn numbers_are_the_tables<S: Structure>(structure: &S)
     ensures { (layout : Layout) (requests : List Request) (w : World) → IsWithinLimits layout → AreAllowed requests
         → Reached (S.meaning structure.now) layout requests w
         → NumbersFit (S.meaning structure.now) layout (sight (S.meaning structure.now) layout requests w) }
+{
+    let _ = structure;
+}
+
+/// What a caller may do with a runner that is in a run, by its part in a state that the machine reaches. In the opening it may make the next load,
+/// which adds the word that it finds. From then on it may make the step that stands next, but where a Make is to take a slot and has none; a commit
+/// goes to the log word behind the words that were agreed on; and behind the step the part is the one that the step leaves.
+pub fn runs_may_be_followed<S: Structure>(structure: &S)
+    ensures opening { (layout : Layout) (requests : List Request) → IsWithinLimits layout → AreAllowed requests
+        → MayOpen (S.meaning structure.now) layout requests }
+    ensures opened { (layout : Layout) (requests : List Request) → ThenOpened (S.meaning structure.now) layout requests }
+    ensures step { (layout : Layout) (requests : List Request) → IsWithinLimits layout → AreAllowed requests
+        → MayStep (S.meaning structure.now) layout requests }
+    ensures commits { (layout : Layout) (requests : List Request) → IsWithinLimits layout → AreAllowed requests
+        → CommitsBehind (S.meaning structure.now) layout requests }
+    ensures behind { (layout : Layout) (requests : List Request) → IsWithinLimits layout → AreAllowed requests
+        → ThenStepped (S.meaning structure.now) layout requests }
 {
     let _ = structure;
 }

@@ -1,6 +1,7 @@
 //! The next step of each run is enabled, in every state that the machine reaches, and the numbers that it asks for fit their words.
 //!
-//! The definitions stand in specs: `Steps` is which event a run makes next, `Rooms` what fits, `Enabled` that the next event is enabled.
+//! The definitions stand in specs: `Steps` is which event a run makes next, `Rooms` and `Numbers` what fits, `Enabled` that the next
+//! event is enabled, and `Stages` what a caller may do in a run and what its part is then.
 #![tactic(auto)]
 
 mod laws;
