@@ -1,5 +1,5 @@
 //! The laws of histories, each on a contract.
-ghost use Rattle.std.specs.Prelude.{◌≡◌, ◌≢◌, ◌⊎◌, ◌↔◌, ℕ, List, map, All, Contains};
+ghost use Rattle.std.specs.Prelude.{◌≡◌, ◌≢◌, ◌⊎◌, ◌↔◌, ℕ, suc, List, length, All, Contains};
 ghost use Rattle.std.specs.FinMap.{empty};
 ghost use Rattle.map_history.specs.declared.op.Op.{Op};
 ghost use Rattle.map_history.specs.History.{IsLegalFrom};
@@ -18,6 +18,7 @@ pub fn replays_are_legal()
 /// becomes the map after its operation, although the entry isn't the last one.
 pub fn entries_are_put_in()
     ensures entries { (e x : Stamped) (history : List Stamped) → Contains (put_in e history) x ↔ ((x ≡ e) ⊎ Contains history x) }
+    ensures count { (e : Stamped) (history : List Stamped) → length (put_in e history) ≡ suc (length history) }
     ensures order { (e : Stamped) (history : List Stamped) → All (λ x. x.number ≢ e.number) history → IsInOrder history
         → IsInOrder (put_in e history) }
     ensures map { (e : Stamped) (history : List Stamped) → IsLastOnItsKeys e history

@@ -1,0 +1,6 @@
+pub mod Events
+pub mod Frame
+pub mod Legal
+pub mod Schedules
+pub mod Sound
+pub mod State
