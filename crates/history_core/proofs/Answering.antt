@@ -1,16 +1,9 @@
 -- Each event keeps the invariant: replies, done words, and what is known.
-use Rattle.std.proofs.Common.{◌≡◌, ◌≢◌, ℕ, zero, suc, ◌+◌, ◌*◌, ◌<◌, ◌≤◌, Bool, true, false, cond, refl, sym, ap, ◌∙◌, subst, inl, inr, ⊎_elim, arith}
-use Rattle.std.specs.Prelude.{◌/◌, ◌==◌, ◌⊎◌, max}
-use mathlib.Core.Logic.{dite}
-use native.Mathlib.Decide.{ℕ_discrete}
-use Rattle.map_history.specs.declared.op.Op.{Op}
-use Rattle.map_history.specs.Keys.{DependsOn, HaveNoCommonKey}
-use Rattle.section_body.specs.Update.{upd}
-use Rattle.section_body.specs.Run.{written_once}
+use Rattle.std.proofs.Common.{◌≡◌, ◌≢◌, ℕ, ◌≤◌, true, arith}
+use Rattle.std.specs.Prelude.{◌⊎◌}
 use Rattle.history_core.specs.State.{Requests, HistoryState}
-use Rattle.history_core.specs.Events.{Publish, Over, LoadClock, RaiseClock, WriteReply, SetDone, Learn, Free, IsAlone, MayPublish, MayLoad, IsOver, MayFree, after}
+use Rattle.history_core.specs.Events.{WriteReply, SetDone, Learn, after}
 use Rattle.history_core.specs.Sound.{SectionsAreSound, StampsAreSound, ClockIsSound, OrderIsSound}
-use Rattle.history_core.proofs.Changes.{upd_same, upd_other}
 
 module _ (c : Requests) (w : HistoryState) where
   pub write_sections : (d : ℕ) → w.used d ≡ true → 3 ≤ w.stage d → SectionsAreSound c w → StampsAreSound c w → ClockIsSound c w → OrderIsSound c w → SectionsAreSound c (after c w (WriteReply d))
@@ -138,4 +131,3 @@ module _ (c : Requests) (w : HistoryState) where
     saw = grind arith;
     traces = grind arith;
   }
-

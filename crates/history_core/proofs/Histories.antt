@@ -1,6 +1,6 @@
 -- Each event but a stamp keeps what is said of the history.
-use Rattle.std.proofs.Common.{◌≡◌, ◌≢◌, ℕ, zero, suc, ◌<◌, ◌≤◌, true, false, cond, refl, sym, ap, ◌∙◌, subst, arith}
-use Rattle.std.specs.Prelude.{◌==◌, max, Contains}
+use Rattle.std.proofs.Common.{◌≡◌, ℕ, zero, suc, ◌≤◌, true, false, refl, sym, ap, ◌∙◌, subst, arith}
+use Rattle.std.specs.Prelude.{max, Contains}
 use mathlib.Core.Logic.{dite}
 use native.Mathlib.Decide.{ℕ_discrete}
 use Rattle.map_history.specs.Words.{word_of}
@@ -25,7 +25,7 @@ module _ (c : Requests) (w : HistoryState) (h : HistoryIsSound c w) where
     answers = λ map e x used far at same. dite (ℕ_discrete e d)
         (λ own. let none = upd_same w.stage d e 0 own in absurd (omega arith))
         (λ other. upd_other w.answer d e answer other ∙ h.answers map e x (sym (upd_other w.used d e true other) ∙ used)
-          (subst (λ stage. 2 ≤ stage) (upd_other w.stage d e 0 other) far) at (same ∙ upd_other w.request d e n other));
+        (subst (λ stage. 2 ≤ stage) (upd_other w.stage d e 0 other) far) at (same ∙ upd_other w.request d e n other));
     replies = h.replies;
   }
 
@@ -56,7 +56,7 @@ module _ (c : Requests) (w : HistoryState) (h : HistoryIsSound c w) where
     replies = λ map x at some. dite (ℕ_discrete x.number (w.request d))
         (λ own. upd_same w.reply (w.request d) x.number _ own ∙ by_word map x at own (w.reply (w.request d)) refl)
         (λ other. let still = upd_other w.reply (w.request d) x.number (written_once (w.reply (w.request d)) (w.answer d)) other in
-          still ∙ h.replies map x at (λ none. some (still ∙ none)));
+        still ∙ h.replies map x at (λ none. some (still ∙ none)));
   }
     where
       kept : (word answer : ℕ) → written_once (suc word) answer ≡ suc word

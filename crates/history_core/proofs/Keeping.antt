@@ -1,10 +1,10 @@
 -- Each event keeps the invariant, and so does each list of enabled events.
-use Rattle.std.proofs.Common.{◌≡◌, ◌≢◌, ℕ, zero, suc, ◌≤◌, Bool, true, false, cond, List, [], ◌∷◌, refl, sym, ap, ◌∙◌, subst, arith}
-use Rattle.std.specs.Prelude.{◌==◌, Contains}
+use Rattle.std.proofs.Common.{◌≡◌, ℕ, suc, Bool, true, false, cond, List, [], ◌∷◌, refl, arith}
+use Rattle.std.specs.Prelude.{◌==◌}
 use Rattle.section_body.specs.Update.{upd}
 use Rattle.history_core.specs.State.{Requests, HistoryState}
 use Rattle.history_core.specs.Events.{Event, Publish, Over, LoadClock, StampExchange, RaiseClock, WriteReply, SetDone, Learn, Free, stamped, MayStamp, Enabled, after}
-use Rattle.history_core.specs.Sound.{SectionsAreSound, StampsAreSound, ClockIsSound, OrderIsSound, HistoryIsSound, IsSound}
+use Rattle.history_core.specs.Sound.{SectionsAreSound, StampsAreSound, ClockIsSound, IsSound}
 use Rattle.history_core.specs.Schedules.{first_state, AllEnabled, after_all}
 use Rattle.history_core.proofs.Publishing.{publish_sections, publish_stamps, publish_clock, publish_order, over_sections, over_stamps, over_clock, over_order, free_sections, free_stamps, free_clock, free_order}
 use Rattle.history_core.proofs.Running.{load_sections, load_stamps, load_clock, load_order, raise_sections, raise_stamps, raise_clock, raise_order}

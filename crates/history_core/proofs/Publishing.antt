@@ -1,14 +1,11 @@
 -- Each event keeps the invariant: publications, the ends of runs, and descriptors that are free again.
-use Rattle.std.proofs.Common.{◌≡◌, ◌≢◌, ℕ, zero, suc, ◌+◌, ◌*◌, ◌<◌, ◌≤◌, Bool, true, false, cond, refl, sym, ap, ◌∙◌, subst, inl, inr, ⊎_elim, arith}
-use Rattle.std.specs.Prelude.{◌/◌, ◌==◌, ◌⊎◌, max}
+use Rattle.std.proofs.Common.{◌≡◌, ◌≢◌, ℕ, suc, false, cond, sym, ap, ◌∙◌, arith}
+use Rattle.std.specs.Prelude.{◌==◌}
 use mathlib.Core.Logic.{dite}
 use native.Mathlib.Decide.{ℕ_discrete}
-use Rattle.map_history.specs.declared.op.Op.{Op}
-use Rattle.map_history.specs.Keys.{DependsOn, HaveNoCommonKey}
 use Rattle.section_body.specs.Update.{upd}
-use Rattle.section_body.specs.Run.{written_once}
 use Rattle.history_core.specs.State.{Requests, HistoryState}
-use Rattle.history_core.specs.Events.{Publish, Over, LoadClock, RaiseClock, WriteReply, SetDone, Learn, Free, IsAlone, MayPublish, MayLoad, IsOver, MayFree, after}
+use Rattle.history_core.specs.Events.{Publish, Over, Free, MayPublish, IsOver, MayFree, after}
 use Rattle.history_core.specs.Sound.{SectionsAreSound, StampsAreSound, ClockIsSound, OrderIsSound}
 use Rattle.history_core.proofs.Changes.{upd_same, upd_other}
 
@@ -111,7 +108,7 @@ module _ (c : Requests) (w : HistoryState) where
   by_still : (d : ℕ) → StampsAreSound c w → (k e : ℕ) → upd w.by (w.request d) (cond (w.by (w.request d) == suc d) 0 (w.by (w.request d))) k ≡ suc e → (w.by k ≡ suc e) × (e ≢ d)
   by_still d stamps k e is = dite (ℕ_discrete k (w.request d)) (λ same. here (sym (upd_same w.by (w.request d) k _ same) ∙ is) same)
       (λ other. let before = sym (upd_other w.by (w.request d) k _ other) ∙ is in
-        (before, λ same. other (sym (stamps.by_section k d (before ∙ ap suc same)).1)))
+      (before, λ same. other (sym (stamps.by_section k d (before ∙ ap suc same)).1)))
     where
       chosen : (a b e : ℕ) → cond (a == suc b) 0 a ≡ suc e → (a ≡ suc e) × (e ≢ b)
       chosen a b e is = grind arith
@@ -150,4 +147,3 @@ module _ (c : Requests) (w : HistoryState) where
     saw = grind arith;
     traces = grind arith;
   }
-

@@ -1,16 +1,13 @@
 -- Each event keeps the invariant: the clock is loaded and raised.
-use Rattle.std.proofs.Common.{◌≡◌, ◌≢◌, ℕ, zero, suc, ◌+◌, ◌*◌, ◌<◌, ◌≤◌, Bool, true, false, cond, refl, sym, ap, ◌∙◌, subst, inl, inr, ⊎_elim, arith}
-use Rattle.std.specs.Prelude.{◌/◌, ◌==◌, ◌⊎◌, max}
+use Rattle.std.proofs.Common.{◌≡◌, ◌≢◌, ℕ, zero, suc, ◌≤◌, true, refl, sym, ap, subst, arith}
+use Rattle.std.specs.Prelude.{◌/◌, max}
 use mathlib.Core.Logic.{dite}
 use native.Mathlib.Decide.{ℕ_discrete}
-use Rattle.map_history.specs.declared.op.Op.{Op}
-use Rattle.map_history.specs.Keys.{DependsOn, HaveNoCommonKey}
+use Rattle.map_history.specs.Keys.{DependsOn}
 use Rattle.section_body.specs.Update.{upd}
-use Rattle.section_body.specs.Run.{written_once}
 use Rattle.history_core.specs.State.{Requests, HistoryState}
-use Rattle.history_core.specs.Events.{Publish, Over, LoadClock, RaiseClock, WriteReply, SetDone, Learn, Free, IsAlone, MayPublish, MayLoad, IsOver, MayFree, after}
+use Rattle.history_core.specs.Events.{LoadClock, RaiseClock, MayLoad, after}
 use Rattle.history_core.specs.Sound.{SectionsAreSound, StampsAreSound, ClockIsSound, OrderIsSound}
-use Rattle.history_core.proofs.Changes.{upd_same, upd_other}
 
 module _ (c : Requests) (w : HistoryState) where
   pub load_sections : (r d : ℕ) → MayLoad c w d → SectionsAreSound c w → StampsAreSound c w → ClockIsSound c w → OrderIsSound c w → SectionsAreSound c (after c w (LoadClock r d))
@@ -52,17 +49,17 @@ module _ (c : Requests) (w : HistoryState) where
       → upd w.stage d (max (w.stage d) 1) (upd w.run r d r') ≡ 1 → w.stamp k ≢ 0 → DependsOn (c.op k) key → DependsOn (c.op (w.request (upd w.run r d r'))) key → w.stamp k / 2 ≤ upd w.hand r w.clock r'
   load_keys r d may sections stamps clock map r' k key ready at stamped a b = dite (ℕ_discrete r' r)
       (λ same.
-        let here : upd w.run r d r' ≡ d = grind arith in
-        let low : w.stage d ≤ 1 = grind arith in
-        let up = passed_clock d may stamps clock map low k key stamped a (subst (λ e. DependsOn (c.op (w.request e)) key) here b) in
-        grind arith)
+      let here : upd w.run r d r' ≡ d = grind arith in
+      let low : w.stage d ≤ 1 = grind arith in
+      let up = passed_clock d may stamps clock map low k key stamped a (subst (λ e. DependsOn (c.op (w.request e)) key) here b) in
+      grind arith)
       (λ other.
-        let here : upd w.run r d r' ≡ w.run r' = grind arith in
-        let before : w.loaded r' ≡ true = grind arith in
-        let run = sections.running r' before in
-        let far : w.stage (w.run r') ≡ 1 = grind arith in
-        let up = clock.keys map r' k key before far stamped a (subst (λ e. DependsOn (c.op (w.request e)) key) here b) in
-        grind arith)
+      let here : upd w.run r d r' ≡ w.run r' = grind arith in
+      let before : w.loaded r' ≡ true = grind arith in
+      let run = sections.running r' before in
+      let far : w.stage (w.run r') ≡ 1 = grind arith in
+      let up = clock.keys map r' k key before far stamped a (subst (λ e. DependsOn (c.op (w.request e)) key) here b) in
+      grind arith)
 
   pub load_clock : (r d : ℕ) → MayLoad c w d → SectionsAreSound c w → StampsAreSound c w → ClockIsSound c w → OrderIsSound c w → ClockIsSound c (after c w (LoadClock r d))
   load_clock r d may sections stamps clock order = record {
@@ -125,4 +122,3 @@ module _ (c : Requests) (w : HistoryState) where
     saw = grind arith;
     traces = grind arith;
   }
-

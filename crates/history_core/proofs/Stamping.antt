@@ -1,16 +1,15 @@
 -- Each event keeps the invariant: a run tries to write the stamp of its section's request.
-use Rattle.std.proofs.Common.{◌≡◌, ◌≢◌, ℕ, zero, suc, ◌+◌, ◌*◌, ◌<◌, ◌≤◌, Bool, true, false, cond, length, refl, sym, ap, ◌∙◌, subst, inl, inr, ⊎_elim, arith}
-use Rattle.std.specs.Prelude.{◌/◌, ◌==◌, ◌⊎◌, max, All, Contains}
+use Rattle.std.proofs.Common.{◌≡◌, ◌≢◌, ℕ, suc, ◌<◌, ◌≤◌, Bool, true, false, length, refl, sym, ap, ◌∙◌, subst, inl, inr, ⊎_elim, arith}
+use Rattle.std.specs.Prelude.{◌/◌, ◌⊎◌, max, Contains}
 use mathlib.Core.Logic.{dite}
 use native.Mathlib.Decide.{ℕ_discrete}
-use Rattle.map_history.specs.declared.op.Op.{Op}
 use Rattle.map_history.specs.Keys.{DependsOn, HaveNoCommonKey}
 use Rattle.map_history.specs.Replay.{reply_of, map_after}
 use Rattle.map_history.specs.Words.{word_of}
 use Rattle.section_body.specs.Update.{upd}
-use Rattle.history_orders.specs.Stamped.{Stamped, turn_of, is_earlier, map_of, IsReplayed, put_in, IsLastOnItsKeys, IsHistoryOf}
+use Rattle.history_orders.specs.Stamped.{Stamped, turn_of, is_earlier, put_in, IsLastOnItsKeys, IsHistoryOf}
 use Rattle.history_core.specs.State.{Requests, HistoryState}
-use Rattle.history_core.specs.Events.{StampExchange, stamp_by, entry_by, stamped, IsAlone, MayStamp, after}
+use Rattle.history_core.specs.Events.{stamp_by, entry_by, stamped, MayStamp}
 use Rattle.history_core.specs.Sound.{SectionsAreSound, StampsAreSound, ClockIsSound, OrderIsSound, HistoryIsSound}
 use Rattle.history_orders.proofs.Turns.{before_by_stamp}
 use Rattle.history_orders.proofs.Entries.{map-put_in, replayed-put_in, order-put_in, in-put_in, put_in-contains, length-put_in, all_of}
@@ -89,8 +88,8 @@ module _ (c : Requests) (w : HistoryState) where
       dite (ℕ_discrete k (w.request (w.run r)))
       (λ same. absurd (may.alone map lead.stage (w.run r') apart run.0 (omega arith) (omega arith) key (subst (λ n. DependsOn (c.op n) key) same a) b))
       (λ other.
-        let still = upd_other w.stamp (w.request (w.run r)) k (stamp_by (w.hand r)) other in
-        subst (λ stamp. stamp / 2 ≤ w.hand r') (sym still) (clock.keys map r' k key before far (λ none. some (still ∙ none)) a b))
+      let still = upd_other w.stamp (w.request (w.run r)) k (stamp_by (w.hand r)) other in
+      subst (λ stamp. stamp / 2 ≤ w.hand r') (sym still) (clock.keys map r' k key before far (λ none. some (still ∙ none)) a b))
 
   half_stamped : (r : ℕ) → IsLead r → ClockIsSound c w → (k : ℕ) → upd w.stamp (w.request (w.run r)) (stamp_by (w.hand r)) k / 2 ≤ suc (length w.history)
   half_stamped r lead clock k =
@@ -118,20 +117,20 @@ module _ (c : Requests) (w : HistoryState) where
       → (upd w.stamp (w.request (w.run r)) (stamp_by (w.hand r)) k ≢ 0) × (upd w.stamp (w.request (w.run r)) (stamp_by (w.hand r)) k / 2 < upd w.stamp (w.request (w.run r)) (stamp_by (w.hand r)) n / 2)
   saw_stamped r lead clock order n k some saw = dite (ℕ_discrete n (w.request (w.run r)))
       (λ same.
-        let knew = ap (λ saw. saw k) (sym (upd_same w.saw (w.request (w.run r)) n (w.knew (w.run r)) same)) ∙ saw in
-        let before = order.knew (w.run r) k lead.used knew in
-        let still = upd_other w.stamp (w.request (w.run r)) k (stamp_by (w.hand r)) (λ e. before.0 (ap w.stamp e ∙ lead.unstamped)) in
-        let now = upd_same w.stamp (w.request (w.run r)) n (stamp_by (w.hand r)) same in
-        let low = before.1 in
-        let hand = (clock.hand r lead.loaded).0 in
-        (λ none. before.0 (sym still ∙ none), omega arith))
+      let knew = ap (λ saw. saw k) (sym (upd_same w.saw (w.request (w.run r)) n (w.knew (w.run r)) same)) ∙ saw in
+      let before = order.knew (w.run r) k lead.used knew in
+      let still = upd_other w.stamp (w.request (w.run r)) k (stamp_by (w.hand r)) (λ e. before.0 (ap w.stamp e ∙ lead.unstamped)) in
+      let now = upd_same w.stamp (w.request (w.run r)) n (stamp_by (w.hand r)) same in
+      let low = before.1 in
+      let hand = (clock.hand r lead.loaded).0 in
+      (λ none. before.0 (sym still ∙ none), omega arith))
       (λ other.
-        let known = ap (λ saw. saw k) (sym (upd_other w.saw (w.request (w.run r)) n (w.knew (w.run r)) other)) ∙ saw in
-        let own = upd_other w.stamp (w.request (w.run r)) n (stamp_by (w.hand r)) other in
-        let before = order.saw n k (λ none. some (own ∙ none)) known in
-        let still = upd_other w.stamp (w.request (w.run r)) k (stamp_by (w.hand r)) (λ e. before.0 (ap w.stamp e ∙ lead.unstamped)) in
-        let low = before.1 in
-        (λ none. before.0 (sym still ∙ none), omega arith))
+      let known = ap (λ saw. saw k) (sym (upd_other w.saw (w.request (w.run r)) n (w.knew (w.run r)) other)) ∙ saw in
+      let own = upd_other w.stamp (w.request (w.run r)) n (stamp_by (w.hand r)) other in
+      let before = order.saw n k (λ none. some (own ∙ none)) known in
+      let still = upd_other w.stamp (w.request (w.run r)) k (stamp_by (w.hand r)) (λ e. before.0 (ap w.stamp e ∙ lead.unstamped)) in
+      let low = before.1 in
+      (λ none. before.0 (sym still ∙ none), omega arith))
 
   pub stamped_order : (r : ℕ) → IsLead r → StampsAreSound c w → ClockIsSound c w → OrderIsSound c w → OrderIsSound c (stamped c w r)
   stamped_order r lead stamps clock order = record {
@@ -167,8 +166,8 @@ module _ (c : Requests) (w : HistoryState) where
     all = λ k some. dite (ℕ_discrete k (w.request (w.run r)))
         (λ same. (entry r, put_in-contains (entry r) (entry r) w.history (inl refl), sym same))
         (λ other.
-          let there = h.history.all k (λ none. some (upd_other w.stamp (w.request (w.run r)) k (stamp_by (w.hand r)) other ∙ none)) in
-          (there.0, put_in-contains (entry r) there.0 w.history (inr there.1), there.2));
+        let there = h.history.all k (λ none. some (upd_other w.stamp (w.request (w.run r)) k (stamp_by (w.hand r)) other ∙ none)) in
+        (there.0, put_in-contains (entry r) there.0 w.history (inr there.1), there.2));
   }
 
   pub stamped_history : (r : ℕ) → IsLead r → MayStamp c w r → StampsAreSound c w → ClockIsSound c w → HistoryIsSound c w → HistoryIsSound c (stamped c w r)
@@ -178,15 +177,15 @@ module _ (c : Requests) (w : HistoryState) where
     pairs = λ map. ap (λ pairs. map_after pairs (c.op (w.request (w.run r)))) (h.pairs map) ∙ sym (map-put_in (entry r) w.history (last r lead clock h map));
     answers = λ map d x used far at same. ⊎_elim
         (λ new. dite (ℕ_discrete d (w.run r))
-          (λ own. ap w.answer own ∙ may.answers map lead.stage ∙ ap (λ x. word_of x.reply) (sym new))
-          (λ other.
-            let before : 2 ≤ w.stage d = subst (λ stage. 2 ≤ stage) (upd_other w.stage (w.run r) d (max (w.stage (w.run r)) 2) other) far in
-            absurd ((stamps.stamped d used before).0 (ap w.stamp (sym same ∙ ap (λ x. x.number) new) ∙ lead.unstamped))))
+        (λ own. ap w.answer own ∙ may.answers map lead.stage ∙ ap (λ x. word_of x.reply) (sym new))
+        (λ other.
+        let before : 2 ≤ w.stage d = subst (λ stage. 2 ≤ stage) (upd_other w.stage (w.run r) d (max (w.stage (w.run r)) 2) other) far in
+        absurd ((stamps.stamped d used before).0 (ap w.stamp (sym same ∙ ap (λ x. x.number) new) ∙ lead.unstamped))))
         (λ old. dite (ℕ_discrete d (w.run r))
-          (λ own. absurd (apart r lead h x old (same ∙ ap w.request own)))
-          (λ other.
-            let before : 2 ≤ w.stage d = subst (λ stage. 2 ≤ stage) (upd_other w.stage (w.run r) d (max (w.stage (w.run r)) 2) other) far in
-            h.answers map d x used before old same))
+        (λ own. absurd (apart r lead h x old (same ∙ ap w.request own)))
+        (λ other.
+        let before : 2 ≤ w.stage d = subst (λ stage. 2 ≤ stage) (upd_other w.stage (w.run r) d (max (w.stage (w.run r)) 2) other) far in
+        h.answers map d x used before old same))
         (in-put_in (entry r) x w.history at);
     replies = λ map x at some. ⊎_elim
         (λ new. absurd (some (ap w.reply (ap (λ x. x.number) new) ∙ lead.unanswered)))

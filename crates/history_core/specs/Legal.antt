@@ -1,5 +1,5 @@
 -- What the invariant says of the history, of the clock, and to whoever knows a request's words.
-use Rattle.std.specs.Prelude.{ℕ, suc, ◌/◌, ◌<◌, ◌≤◌, ◌≡◌, ◌≢◌, ◌⊎◌, true, false, List, Some, length, slice_get, Contains}
+use Rattle.std.specs.Prelude.{ℕ, suc, ◌/◌, ◌<◌, ◌≤◌, ◌≡◌, ◌≢◌, ◌⊎◌, true, List, Some, length, slice_get, Contains}
 use Rattle.std.specs.FinMap.{empty}
 use Rattle.map_history.specs.History.{IsLegalFrom}
 use Rattle.map_history.specs.Replay.{map_after_all}

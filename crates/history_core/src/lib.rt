@@ -6,4 +6,8 @@
 
 mod laws;
 
-pub use laws::{events_keep_the_invariant, schedules_meet_the_invariant};
+pub use laws::{
+    a_history_is_made, changes_elsewhere_keep_the_invariant, closed_histories_are_answered,
+    events_keep_the_invariant, histories_are_legal, schedules_meet_the_invariant,
+    the_clock_bounds_the_stamps, what_is_known_stands, words_stand,
+};
