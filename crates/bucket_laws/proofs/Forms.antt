@@ -6,7 +6,7 @@ use Rattle.section_body.specs.declared.value.Value.{Value}
 use Rattle.section_body.specs.declared.value.Value.TheVariants.{Const, Made}
 use Rattle.section_body.specs.declared.value.Init.{Init}
 use Rattle.section_body.specs.declared.step.Step.{Step}
-use Rattle.section_body.specs.declared.step.Step.TheVariants.{Load, Take, Make, Stamp, Store, Retire, Answer}
+use Rattle.section_body.specs.declared.step.Step.TheVariants.{Load, Want, Take, Make, Stamp, Store, Retire, Answer}
 use Rattle.section_body.specs.declared.thunk.Thunk.{Thunk}
 use Rattle.bucket_laws.specs.Buckets.{Form, Read, Insert, Remove, Empty, form_of, body_of}
 
@@ -82,6 +82,12 @@ store_in Empty t j r v h = absurd (empty_step t j (Store r v) h)
 abbrev pub node_init : Thunk → Init
 node_init t = record { cells = Const 0 ∷ Const (operand t 1) ∷ Const (operand t 2) ∷ Const (operand t 3) ∷ Const 0 ∷ [] }
 
+want_in : (f : Form) (t : Thunk) (j r w : ℕ) → StepIs f t j (Want r w) → (r ≡ 0) × (w ≡ operand t 0)
+want_in Read t j r w h = (grind arith, grind arith)
+want_in Insert t j r w h = (grind arith, grind arith)
+want_in Remove t j r w h = (grind arith, grind arith)
+want_in Empty t j r w h = absurd (grind arith)
+
 make_in : (f : Form) (t : Thunk) (j r : ℕ) (init : Init) → StepIs f t j (Make init r) → (f ≡ Insert) × (j ≡ 5) × (r ≡ 2) × (init ≡ node_init t)
 make_in Read t j r init h = absurd (grind arith)
 make_in Insert t j r init h = (refl, grind arith, grind arith, grind arith)
@@ -118,6 +124,9 @@ module _ (t : Thunk) where
 
   pub store_step : (j r : ℕ) (v : Value) → slice_get (bucket_steps t) j ≡ Some (Store r v) → StoreCase (form_of t) t j r v
   store_step j r v h = store_in (form_of t) t j r v (by_form j (Store r v) h)
+
+  pub want_step : (j r w : ℕ) → slice_get (bucket_steps t) j ≡ Some (Want r w) → (r ≡ 0) × (w ≡ operand t 0)
+  want_step j r w h = want_in (form_of t) t j r w (by_form j (Want r w) h)
 
   pub make_step : (j r : ℕ) (init : Init) → slice_get (bucket_steps t) j ≡ Some (Make init r) → (form_of t ≡ Insert) × (j ≡ 5) × (r ≡ 2) × (init ≡ node_init t)
   make_step j r init h = make_in (form_of t) t j r init (by_form j (Make init r) h)

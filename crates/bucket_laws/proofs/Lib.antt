@@ -5,6 +5,7 @@ pub mod Forms
 pub mod Maps
 pub mod NodeChanges
 pub mod Places
+pub mod Planner
 pub mod Sections
 pub mod TableGives
 pub mod TableKeeps

@@ -22,7 +22,7 @@ same_keys q k = grind arith
 get_inserted : (pairs : Pairs) (key value q : ℕ) → get (insert pairs key value) q ≡ upd (get pairs) key (Some value) q
 get_inserted pairs key value q = get-insert nat_cmp_total pairs key value q ∙ ap (λ b. cond b (Some value) (get pairs q)) (same_keys q key)
 
-get_removed : (pairs : Pairs) (key q : ℕ) → get (remove pairs key) q ≡ upd (get pairs) key None q
+pub get_removed : (pairs : Pairs) (key q : ℕ) → get (remove pairs key) q ≡ upd (get pairs) key None q
 get_removed pairs key q = get-remove nat_cmp_total pairs key q ∙ ap (λ b. cond b None (get pairs q)) (same_keys q key)
 
 is_there : (pairs : Pairs) (key value : ℕ) → get pairs key ≡ Some value → contains_key pairs key ≡ true

@@ -1,24 +1,26 @@
 -- The hash table gives the core what it relies on.
 use Rattle.std.proofs.Common.{◌≡◌, ◌≢◌, ℕ, suc, ◌+◌, ◌*◌, ◌<◌, ◌≤◌, Bool, true, false, cond, refl, sym, ap, ◌∙◌, subst, inl, inr, ⊎_elim, arith}
-use Rattle.std.specs.Prelude.{◌==◌, ◌&&◌, ◌||◌, ◌⊎◌, Some, None, [], ◌∷◌, slice_get}
+use Rattle.std.specs.Prelude.{◌==◌, ◌&&◌, ◌||◌, ◌⊎◌, ◌-◌, ◌/◌, ◌%◌, nat_lt, Some, None, [], ◌∷◌, slice_get}
 use Rattle.std.specs.List.{list_any}
 use Rattle.map_history.specs.declared.op.Op.{Op}
 use Rattle.map_history.specs.Keys.{key_of, DependsOn}
-use Rattle.section_body.specs.Word.{value_of}
+use Rattle.section_body.specs.Word.{value_of, next_word}
 use Rattle.section_body.specs.Bucket.{bucket_lock, bucket_head, operand}
 use Rattle.section_body.specs.declared.value.Value.{Value}
 use Rattle.section_body.specs.declared.step.Step.TheVariants.{Load, Fresh, Store}
 use Rattle.table_words.specs.declared.layout.Layout.{Layout}
-use Rattle.structure_laws.specs.Scene.{Readings, Section, Status, Free, Live, Retired, Scene}
-use Rattle.structure_laws.specs.Sections.{Here, IsStep, Holds, Settled}
+use Rattle.section_body.specs.Update.{upd}
+use Rattle.structure_laws.specs.Scene.{Cells, Readings, Section, Status, Free, Live, Retired, Scene}
+use Rattle.structure_laws.specs.Sections.{value_in, Here, IsStep, Holds, Settled}
 use Rattle.structure_laws.specs.Cells.{InUse, Links, IsSafe}
 use Rattle.structure_laws.specs.Sound.{Sound}
 use Rattle.structure_laws.specs.Gives.{Gives}
+use Rattle.structure_laws.proofs.Changes.{upd_other}
 use Rattle.bucket_laws.specs.Walk.{cell_at}
-use Rattle.bucket_laws.specs.Buckets.{Insert, Remove, form_of, is_link_place, BucketsKept, table}
-use Rattle.bucket_laws.proofs.Forms.{step_in, load_step, retire_step}
+use Rattle.bucket_laws.specs.Buckets.{Insert, Remove, form_of, is_link_place, guard_of, BucketsKept, table}
+use Rattle.bucket_laws.proofs.Forms.{step_in, load_step, remove_stores, retire_step}
 use Rattle.bucket_laws.proofs.Sections.{fit, one_bucket, insert_head, remove_target}
-use Rattle.bucket_laws.proofs.Places.{lt_true, head_link, node_link, guard_low, guard_node}
+use Rattle.bucket_laws.proofs.Places.{lt_true, lt_of, head_link, node_link, guard_low, guard_node}
 
 true_false : {b : Bool} → b ≡ true → b ≡ false → ⊥
 true_false e e' = cc
@@ -49,6 +51,30 @@ reached is_link [] t h = absurd (cc)
 reached is_link (reading ∷ readings) t h = or_cases (is_link reading.0 && (value_of reading.1 == suc t)) (list_any (λ reading. is_link reading.0 && (value_of reading.1 == suc t)) readings) h
     (λ a. let both = both_true _ _ a in (0, reading.0, reading.1, refl, both.0, equal_of _ _ both.1))
     (λ b. let later = reached is_link readings t b in (suc later.0, later.1, later.2, later.3, later.4, later.5))
+
+-- a lock is no cell of a node
+no_lock : (buckets t p : ℕ) → (nat_lt p (3 * buckets) && (p % 3 == 0)) ≡ true → p ≡ 3 * buckets + 5 * t + 1 → ⊥
+no_lock buckets t p lock same = let low = lt_of p (3 * buckets) (both_true _ _ lock).0 in omega arith
+
+-- a place behind the fixed cells whose node has its key at a cell of this slot is a cell of this slot
+own_cell : (buckets t i q : ℕ) → i < 5 → 3 * buckets ≤ q → 3 * buckets + 5 * t + i ≡ 3 * buckets + 5 * ((q - 3 * buckets) / 5) + 1
+    → (j : ℕ) × (j < 5) × (q ≡ 3 * buckets + 5 * t + j)
+own_cell buckets t i q low high same = ((q - 3 * buckets) % 5, omega arith, omega arith)
+
+-- a change of another place than the key of the place's node leaves the guard of the place
+guard_stays : (buckets : ℕ) (bucket : ℕ → ℕ) (cells : Cells) (p w q : ℕ) → (3 * buckets ≤ q → cell_at buckets bucket ((q - 3 * buckets) / 5) 1 ≢ p)
+    → guard_of buckets bucket (upd cells p w) q ≡ guard_of buckets bucket cells q
+guard_stays buckets bucket cells p w q other = ⊎_elim
+    (λ low. fixed (nat_lt q (3 * buckets)) (lt_true q (3 * buckets) low) _ _)
+    (λ high. ap (λ word. cond (nat_lt q (3 * buckets)) (q - q % 3) (bucket_lock (bucket (value_of word)))) (upd_other cells p (cell_at buckets bucket ((q - 3 * buckets) / 5) 1) w (other high)))
+    (split q (3 * buckets))
+  where
+    split : (a b : ℕ) → (a < b) ⊎ (b ≤ a)
+    split a b = search arith
+
+    fixed : (b : Bool) → b ≡ true → (x y : ℕ) → cond b (q - q % 3) x ≡ cond b (q - q % 3) y
+    fixed true e x y = refl
+    fixed false e x y = absurd (cc)
 
 module _ (buckets : ℕ) (bucket : ℕ → ℕ) (small : (key : ℕ) → bucket key < buckets) (layout : Layout) (s : Scene) (sound : Sound (table buckets bucket) layout s) (kept : BucketsKept buckets bucket layout s) where
   -- a head leads into its chain
@@ -134,6 +160,31 @@ module _ (buckets : ℕ) (bucket : ℕ → ℕ) (small : (key : ℕ) → bucket 
       (kept.linked d x here remove.0 (let past = remove_settled x remove.0 settled in omega arith))))
       (load_step x.thunk j p r load)
 
+  -- a Store is to an edition or a link, so it leaves each key, and with it each guard
+  steady_guard_store : (d j p q r : ℕ) (x : Section) (v : Value) → Here s d x → IsStep (table buckets bucket) x x.at (Store r v) → IsStep (table buckets bucket) x j (Load p r)
+      → (table buckets bucket).guard (upd s.cells p (next_word (x.reg r) (value_in x.reg v))) q ≡ (table buckets bucket).guard s.cells q
+  steady_guard_store d j p q r x v here store load =
+      let t = (q - 3 * buckets) / 5 in
+      let key = 3 * buckets + 5 * t + 1 in
+      let lock = lock_of d x here in
+      let low = small (key_of x.op) in
+      guard_stays buckets bucket s.cells p (next_word (x.reg r) (value_in x.reg v)) q (λ high same.
+      ⊎_elim (λ edition. let at = edition.2 in no_fixed p key (omega arith) (omega arith) same)
+      (⊎_elim (λ insert. let at = insert.3 in no_fixed p key (omega arith) (omega arith) same)
+      (λ remove. ⊎_elim (λ head. let at = remove.3 ∙ head in no_fixed p key (omega arith) (omega arith) same)
+      (λ node. no_key node.0 t (same ∙ remove.3 ∙ node.2))
+      (kept.linked d x here remove.0 (store_late x r v remove.0 store))))
+      (load_step x.thunk j p r load))
+    where
+      no_fixed : (p key : ℕ) → p < 3 * buckets → 3 * buckets ≤ key → key ≡ p → ⊥
+      no_fixed p key low high same = omega arith
+
+      no_key : (u t : ℕ) → 3 * buckets + 5 * t + 1 ≡ 3 * buckets + 5 * u + 3 → ⊥
+      no_key u t same = omega arith
+
+      store_late : (x : Section) (r : ℕ) (v : Value) → form_of x.thunk ≡ Remove → IsStep (table buckets bucket) x x.at (Store r v) → 3 ≤ x.at
+      store_late x r v form store = ⊎_elim (λ six. let at = six.0 in omega arith) (λ seven. let at = seven.0 in omega arith) (remove_stores x.thunk x.at r v form store)
+
   pub table_gives : Gives (table buckets bucket) layout s
   table_gives = record {
     guarded = guarded;
@@ -142,6 +193,9 @@ module _ (buckets : ℕ) (bucket : ℕ → ℕ) (small : (key : ℕ) → bucket 
     steady_store = λ d j p q r x v here store load. refl;
     steady_lock = λ p q w lock. refl;
     steady_hand = λ t i q w free low other. refl;
+    steady_guard_store = steady_guard_store;
+    steady_guard_lock = λ p q w lock. guard_stays buckets bucket s.cells p w q (λ high same. absurd (no_lock buckets ((q - 3 * buckets) / 5) p lock (sym same)));
+    steady_guard_hand = λ t i q w free low other. guard_stays buckets bucket s.cells (cell_at buckets bucket t i) w q (λ high same. other (own_cell buckets t i q low high (sym same)));
     live = λ p t used links. kept.on_live t (used_leads p t used links);
     limbo = λ q y t i retired recent low links.
         let cell : i ≡ 3 = node_link buckets q i low links.0 in

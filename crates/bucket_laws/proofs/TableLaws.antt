@@ -290,13 +290,14 @@ contents_agree n n' on lookup contents keys values = record {
 
 module _ (buckets : ℕ) (bucket : ℕ → ℕ) (small : (key : ℕ) → bucket key < buckets) (layout : Layout) (limits : IsWithinLimits layout) where
   -- a change of a cell that is no head and in no node of a chain
-  change_stands : (s : Scene) (pairs : Pairs) (p w : ℕ) (stands : BucketsStand buckets bucket s.cells pairs) → ((i : ℕ) → i < buckets → bucket_head i ≢ p) → ((u k : ℕ) → stands.on u ≡ true → 1 ≤ k → k ≤ 3 → cell_at buckets bucket u k ≢ p)
-      → BucketsStand buckets bucket (upd s.cells p w) pairs
+  change_stands : (s : Scene) (pairs : Pairs) (p w : ℕ) (stands : BucketsStand buckets bucket (slot_count layout 0) s.cells pairs) → ((i : ℕ) → i < buckets → bucket_head i ≢ p) → ((u k : ℕ) → stands.on u ≡ true → 1 ≤ k → k ≤ 3 → cell_at buckets bucket u k ≢ p)
+      → BucketsStand buckets bucket (slot_count layout 0) (upd s.cells p w) pairs
   change_stands s pairs p w stands heads cells =
       let same : (u k : ℕ) → stands.on u ≡ true → 1 ≤ k → k ≤ 3 → value_of (upd s.cells p w (cell_at buckets bucket u k)) ≡ value_of (s.cells (cell_at buckets bucket u k)) = λ u k on low high. ap value_of (upd_other s.cells p (cell_at buckets bucket u k) w (cells u k on low high)) in
       record {
         on = stands.on;
         rank = stands.rank;
+        within = stands.within;
         chains = chains_agree bucket (nodes buckets bucket s.cells) (nodes buckets bucket (upd s.cells p w)) stands.on stands.rank stands.chains
             (λ i. clip_same i buckets (value_of (upd s.cells p w (bucket_head i))) (value_of (s.cells (bucket_head i))) (λ low. ap value_of (upd_other s.cells p (bucket_head i) w (heads i low))))
             (λ u on. same u 1 on (omega arith) (omega arith)) (λ u on. same u 3 on (omega arith) (omega arith));
@@ -382,10 +383,11 @@ module _ (buckets : ℕ) (bucket : ℕ → ℕ) (small : (key : ℕ) → bucket 
       not_retired : (t y : ℕ) → cond (nat_lt t 0) Live Free ≡ Retired y → ⊥
       not_retired t y h = grind arith
 
-  first_stands : (s : Scene) → IsFirst (table buckets bucket) s → BucketsStand buckets bucket s.cells empty
+  first_stands : (s : Scene) → IsFirst (table buckets bucket) s → BucketsStand buckets bucket (slot_count layout 0) s.cells empty
   first_stands s first = record {
     on = λ t. false;
     rank = λ t. 0;
+    within = λ t on. absurd (false_true on);
     chains = first_chains s first;
     contents = record { pair = λ t on. absurd (false_true on); slot = λ key value h. absurd (none_some (sym (get-empty nat_cmp key) ∙ h)) };
   }
@@ -471,7 +473,7 @@ quotient_12 : (n : ℕ) → n < 2 ^ 32 → n / 2 ^ (32 - 12) < 2 ^ 12
 quotient_12 n low = omega arith
 
 -- the hash function leads to a bucket
-bucket_small : (bits key : ℕ) → bits ≤ 12 → bucket_index key bits < 2 ^ bits
+pub bucket_small : (bits key : ℕ) → bits ≤ 12 → bucket_index key bits < 2 ^ bits
 bucket_small bits key few = let low = remainder_small (key * 2654435769) in
     each_bits (λ bits. bucket_index key bits < 2 ^ bits) (omega arith) (quotient_1 (key * 2654435769 % 2 ^ 32) low) (quotient_2 (key * 2654435769 % 2 ^ 32) low) (quotient_3 (key * 2654435769 % 2 ^ 32) low) (quotient_4 (key * 2654435769 % 2 ^ 32) low) (quotient_5 (key * 2654435769 % 2 ^ 32) low) (quotient_6 (key * 2654435769 % 2 ^ 32) low) (quotient_7 (key * 2654435769 % 2 ^ 32) low) (quotient_8 (key * 2654435769 % 2 ^ 32) low) (quotient_9 (key * 2654435769 % 2 ^ 32) low) (quotient_10 (key * 2654435769 % 2 ^ 32) low) (quotient_11 (key * 2654435769 % 2 ^ 32) low) (quotient_12 (key * 2654435769 % 2 ^ 32) low) bits few
 

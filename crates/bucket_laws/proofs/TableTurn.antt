@@ -15,6 +15,7 @@ use Rattle.section_body.specs.declared.value.Value.TheVariants.{Const, Made}
 use Rattle.section_body.specs.declared.step.Step.TheVariants.{Answer}
 use Rattle.table_words.specs.declared.layout.Layout.{Layout}
 use Rattle.table_words.specs.Limits.{IsWithinLimits}
+use Rattle.table_words.specs.Places.{slot_count}
 use Rattle.structure_laws.specs.Scene.{Cells, Section, Status, Free, Live, Scene}
 use Rattle.structure_laws.specs.Sections.{Here, IsStep, value_in}
 use Rattle.structure_laws.specs.InTurn.{StandsFor, AtStamp, AfterStores}
@@ -50,6 +51,13 @@ none_is (Some v) f = absurd (f v refl)
 true_false : {b : Bool} → b ≡ true → b ≡ false → ⊥
 true_false e e' = cc
 
+-- one more slot that is within the bound, and one less
+pub upd_within : (n : ℕ) (on : ℕ → Bool) (t u : ℕ) → t < n → ((u : ℕ) → on u ≡ true → u < n) → upd on t true u ≡ true → u < n
+upd_within n on t u low within h = dite (ℕ_discrete u t) (λ e. omega arith) (λ ne. within u (sym (upd_other on t u true ne) ∙ h))
+
+pub upd_on : (on : ℕ → Bool) (t u : ℕ) → upd on t false u ≡ true → on u ≡ true
+upd_on on t u h = dite (ℕ_discrete u t) (λ e. absurd (true_false h (upd_same on t u false e))) (λ ne. sym (upd_other on t u false ne) ∙ h)
+
 live_free : (x : Status) → x ≡ Live → x ≢ Free
 live_free x live free = cc
 
@@ -58,7 +66,7 @@ module _ (buckets : ℕ) (bucket : ℕ → ℕ) (small : (key : ℕ) → bucket 
   abbrev kept : BucketsKept buckets bucket layout s
   kept = before.kept
 
-  abbrev stands : BucketsStand buckets bucket s.cells pairs
+  abbrev stands : BucketsStand buckets bucket (slot_count layout 0) s.cells pairs
   stands = before.stands
 
   abbrev now : Nodes
@@ -136,15 +144,16 @@ module _ (buckets : ℕ) (bucket : ℕ → ℕ) (small : (key : ℕ) → bucket 
         ⊎_elim (λ edition. first (let at = edition.2 in omega arith)) (λ link. second link.2) (remove_loads x.thunk j p r form load))
 
     -- a section that reads alone
-    read_stands : form_of x.thunk ≡ Read → x.at ≡ 2 → BucketsStand buckets bucket after (map_after pairs x.op)
+    read_stands : form_of x.thunk ≡ Read → x.at ≡ 2 → BucketsStand buckets bucket (slot_count layout 0) after (map_after pairs x.op)
     read_stands form at =
         let fits = fit buckets bucket layout s before.sound kept d x here in
         let same : s.cells ≡ after = fun_ext (λ p. sym (stores.same p (λ i j r v store load. read_stores x.thunk i r v form store))) in
         let looks = read_looks form at in
-        subst (λ cells. BucketsStand buckets bucket cells (map_after pairs x.op)) same
+        subst (λ cells. BucketsStand buckets bucket (slot_count layout 0) cells (map_after pairs x.op)) same
         (record {
           on = stands.on;
           rank = stands.rank;
+          within = stands.within;
           chains = stands.chains;
           contents = contents_same now stands.on (get pairs) (get (map_after pairs x.op)) stands.contents (read_map pairs x.op own_walk.value own_walk.found (sym fits.form ∙ read_number x.thunk form) looks.0 looks.1);
         })
@@ -157,7 +166,7 @@ module _ (buckets : ℕ) (bucket : ℕ → ℕ) (small : (key : ℕ) → bucket 
         (λ high. upd_other now.head own j link (λ e. let low = small (key_of x.op) in omega arith) ∙ clip_out j buckets (value_of (s.cells (bucket_head j))) high))
 
     -- a new node at the head
-    insert_stands : form_of x.thunk ≡ Insert → x.at ≡ 6 → BucketsStand buckets bucket after (map_after pairs x.op)
+    insert_stands : form_of x.thunk ≡ Insert → x.at ≡ 6 → BucketsStand buckets bucket (slot_count layout 0) after (map_after pairs x.op)
     insert_stands form at =
         let fits = fit buckets bucket layout s before.sound kept d x here in
         let made = kept.made d x here form (omega arith) (omega arith) in
@@ -184,6 +193,7 @@ module _ (buckets : ℕ) (bucket : ℕ → ℕ) (small : (key : ℕ) → bucket 
         record {
           on = upd stands.on t true;
           rank = upd stands.rank t top.0;
+          within = λ u on. upd_within (slot_count layout 0) stands.on t u within stands.within on;
           chains = subst (λ n. Chains bucket n (upd stands.on t true) (upd stands.rank t top.0)) same
               (insert bucket now stands.on stands.rank stands.chains own t top.0 out (ap bucket key) first top.1 new);
           contents = contents_same then_nodes (upd stands.on t true) (upd (get pairs) (now.key t) (Some (now.value t))) (get (map_after pairs x.op))
@@ -201,7 +211,7 @@ module _ (buckets : ℕ) (bucket : ℕ → ℕ) (small : (key : ℕ) → bucket 
         top_of (suc t) e = (suc (stands.rank t), λ u on of. let lower = stands.chains.head_top own t u e on of in omega arith)
 
     -- a node taken out
-    remove_stands : form_of x.thunk ≡ Remove → x.at ≡ 5 → BucketsStand buckets bucket after (map_after pairs x.op)
+    remove_stands : form_of x.thunk ≡ Remove → x.at ≡ 5 → BucketsStand buckets bucket (slot_count layout 0) after (map_after pairs x.op)
     remove_stands form at =
         let target = remove_target buckets bucket layout s before.sound kept d x here form (omega arith) (omega arith) in
         let fits = fit buckets bucket layout s before.sound kept d x here in
@@ -236,10 +246,11 @@ module _ (buckets : ℕ) (bucket : ℕ → ℕ) (small : (key : ℕ) → bucket 
         target.link
       where
         finish : form_of x.thunk ≡ Remove → now.key (operand x.thunk 2) ≡ key_of x.op → stands.on (operand x.thunk 2) ≡ true → (n : Nodes) → n ≡ then_nodes → n.key ≡ now.key → n.value ≡ now.value
-            → Chains bucket n (upd stands.on (operand x.thunk 2) false) stands.rank → BucketsStand buckets bucket after (map_after pairs x.op)
+            → Chains bucket n (upd stands.on (operand x.thunk 2) false) stands.rank → BucketsStand buckets bucket (slot_count layout 0) after (map_after pairs x.op)
         finish form key on n same keys values chains = record {
           on = upd stands.on (operand x.thunk 2) false;
           rank = stands.rank;
+          within = λ u on. stands.within u (upd_on stands.on (operand x.thunk 2) u on);
           chains = subst (λ n. Chains bucket n (upd stands.on (operand x.thunk 2) false) stands.rank) same chains;
           contents = contents_same then_nodes (upd stands.on (operand x.thunk 2) false) (upd (get pairs) (now.key (operand x.thunk 2)) None) (get (map_after pairs x.op))
               (subst (λ n. Contents n (upd stands.on (operand x.thunk 2) false) (upd (get pairs) (now.key (operand x.thunk 2)) None)) same
@@ -247,5 +258,5 @@ module _ (buckets : ℕ) (bucket : ℕ → ℕ) (small : (key : ℕ) → bucket 
               (λ q. ap (λ k. upd (get pairs) k None q) key ∙ remove_map pairs x.op ((fit buckets bucket layout s before.sound kept d x here).remove form).1.0 q);
         }
 
-    pub table_stores : BucketsStand buckets bucket after (map_after pairs x.op)
+    pub table_stores : BucketsStand buckets bucket (slot_count layout 0) after (map_after pairs x.op)
     table_stores = ⊎_elim (λ read. read_stands read.0 read.1) (⊎_elim (λ insert. insert_stands insert.0 insert.1) (λ remove. remove_stands remove.0 remove.1)) (stamp_step x.thunk x.at stamp.stamp)

@@ -142,10 +142,12 @@ module _ (buckets : ℕ) (bucket : ℕ → ℕ) where
         ⊎ ((d : ℕ) × (x : Section) × (s.section d ≡ Some x) × (form_of x.thunk ≡ Remove) × (7 ≤ x.at) × (x.at ≤ 8) × (operand x.thunk 2 ≡ t))
     pub limbo : (q y t : ℕ) → s.status q ≡ Retired y → s.epoch ≤ y + 1 → value_of (s.cells (cell_at buckets bucket q 3)) ≡ suc t → (s.status t ≡ Live) ⊎ ((z : ℕ) × (s.status t ≡ Retired z) × (y ≤ z))
 
-  -- the chains end, no slot stands twice, keys differ and belong to their bucket; and the pairs are the map's
-  pub record BucketsStand (cells : Cells) (pairs : Pairs) : Type 0 where
+  -- the chains end, no slot stands twice, keys differ and belong to their bucket; the slots in chains are among the memory's, of
+  -- which there are so many; and the pairs are the map's
+  pub record BucketsStand (slots : ℕ) (cells : Cells) (pairs : Pairs) : Type 0 where
     pub on : ℕ → Bool
     pub rank : ℕ → ℕ
+    pub within : (t : ℕ) → on t ≡ true → t < slots
     pub chains : Chains bucket (nodes cells) on rank
     pub contents : Contents (nodes cells) on (get pairs)
 
@@ -165,7 +167,7 @@ module _ (buckets : ℕ) (bucket : ℕ → ℕ) where
     fits = λ layout op readings thunk. fits_walk buckets bucket op (walk_of layout op readings) thunk;
     is_link = λ cells place. is_link_place place;
     guard = guard_of;
-    stands = λ layout cells pairs. BucketsStand cells pairs;
+    stands = λ layout cells pairs. BucketsStand (slot_count layout 0) cells pairs;
     walked = λ layout op readings. LinksWithin layout readings;
     kept = λ layout s. BucketsKept layout s;
   }

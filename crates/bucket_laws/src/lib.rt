@@ -6,4 +6,4 @@
 
 mod laws;
 
-pub use laws::buckets_meet_the_laws;
+pub use laws::{buckets_meet_the_laws, buckets_meet_the_planners_laws};

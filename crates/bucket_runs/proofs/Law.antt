@@ -28,6 +28,7 @@ use Rattle.bucket_laws.proofs.Fit.{IsFit, fit_of, insert_operands, remove_operan
 use Rattle.bucket_laws.proofs.Maps.{read_reply, insert_reply, remove_reply, read_map, insert_map, remove_map}
 use Rattle.bucket_laws.proofs.NodeChanges.{head_changed, next_changed, none_changed}
 use Rattle.bucket_laws.proofs.TableKeeps.{chains_agree}
+use Rattle.bucket_laws.proofs.TableTurn.{upd_within, upd_on}
 use Rattle.bucket_laws.proofs.Walks.{wanted_eq, head_is, reached_on, knows_fed, is_first, edition_kept}
 use Rattle.bucket_runs.specs.Runs.{cells_of, HasSmallNumbers, AreRead, bucket, HasContents, IsWalked, IsUnspent, IsOut, DoesTheOperation, RunsDoTheOperations}
 use Rattle.bucket_runs.proofs.Forms.{filled_cells, inserted_cells, removed_cells, read_run, insert_run, remove_run}
@@ -178,11 +179,11 @@ module _ (bits : ℕ) (cells : ℕ → ℕ) (few : bits ≤ 12) where
         go true e later = later (one_fed w reading.0 reading.1 (wanted_eq (next_place w w.stage) reading.0 e) (read 0 reading.0 reading.1 refl) known)
         go false e later = known
 
-module _ (bits request : ℕ) (memory : PlainMemory) (pairs : Pairs) (op : Op) (thunk : Thunk) (contents : HasContents bits memory pairs) (numbers : HasSmallNumbers op) (walked : IsWalked bits memory op thunk) (unspent : IsUnspent bits memory thunk) where
+module _ (bits slots request : ℕ) (memory : PlainMemory) (pairs : Pairs) (op : Op) (thunk : Thunk) (contents : HasContents bits slots memory pairs) (numbers : HasSmallNumbers op) (walked : IsWalked bits memory op thunk) (unspent : IsUnspent bits memory thunk) where
   abbrev cells : ℕ → ℕ
   cells = cells_of memory
 
-  abbrev stands : BucketsStand (2 ^ bits) (bucket bits) cells pairs
+  abbrev stands : BucketsStand (2 ^ bits) (bucket bits) slots cells pairs
   stands = contents.stands
 
   abbrev here : Nodes
@@ -239,7 +240,7 @@ module _ (bits request : ℕ) (memory : PlainMemory) (pairs : Pairs) (op : Op) (
   looks_missing e = missing_is (known.2 e)
 
   abbrev Does : List Step → Type 0
-  Does steps = DoesTheOperation bits pairs op (plain_run steps request memory [])
+  Does steps = DoesTheOperation bits slots pairs op (plain_run steps request memory [])
 
   -- a body that reads alone
   read_case : form_for op x.found ≡ 1 → Does (bucket_steps thunk)
@@ -248,16 +249,17 @@ module _ (bits request : ℕ) (memory : PlainMemory) (pairs : Pairs) (op : Op) (
       let ends = read_run (plain_setting (read_steps thunk) [] memory) cells memory.clock (slice_index memory.stamps request) (slice_index memory.replies request) thunk wanted in
       subst Does (sym (read_body thunk (fit.form ∙ form) small)) (record {
         answer = ends.answered ∙ ap (λ n. Some (Answered n)) (ap (λ ns. slice_index ns 1) fit.operands ∙ read_reply pairs op x x.found form looks_found looks_missing);
-        contents = subst (λ f. BucketsStand (2 ^ bits) (bucket bits) f (map_after pairs op)) (sym ends.left) (record {
+        contents = subst (λ f. BucketsStand (2 ^ bits) (bucket bits) slots f (map_after pairs op)) (sym ends.left) (record {
           on = stands.on;
           rank = stands.rank;
+          within = stands.within;
           chains = stands.chains;
           contents = contents_same here stands.on (get pairs) (get (map_after pairs op)) stands.contents (read_map pairs op x.value x.found form looks_found looks_missing);
         });
       })
 
   -- a new node at the head
-  module _ (form : form_for op x.found ≡ 2) (free : IsOut bits memory pairs contents) where
+  module _ (form : form_for op x.found ≡ 2) (free : IsOut bits slots memory pairs contents) where
     abbrev t : ℕ
     t = slice_index memory.free 0
 
@@ -403,13 +405,14 @@ module _ (bits request : ℕ) (memory : PlainMemory) (pairs : Pairs) (op : Op) (
         ∙ none_changed (2 ^ bits) (bucket bits) (upd filled (thunk.lock + 2) link_word) (thunk.lock + 1) edition_word
         (λ j low e. (let at = edition_place in omega arith)) (λ u k low high e. (let at = edition_place in let l = own_low in omega arith))))
 
-    stands_after : BucketsStand (2 ^ bits) (bucket bits) after (map_after pairs op)
+    stands_after : BucketsStand (2 ^ bits) (bucket bits) slots after (map_after pairs op)
     stands_after =
         let out = free.out in
         let top = top_of (made.head own) refl in
         record {
           on = upd stands.on t true;
           rank = upd stands.rank t top.0;
+          within = λ u on. upd_within slots stands.on t u free.within stands.within on;
           chains = subst (λ n. Chains (bucket bits) n (upd stands.on t true) (upd stands.rank t top.0)) nodes_after
               (insert (bucket bits) made stands.on stands.rank chains_made own t top.0 out (ap (bucket bits) key_is) first top.1 new_key);
           contents = contents_same (nodes (2 ^ bits) (bucket bits) after) (upd stands.on t true) (upd (get pairs) (made.key t) (Some (made.value t))) (get (map_after pairs op))
@@ -427,7 +430,7 @@ module _ (bits request : ℕ) (memory : PlainMemory) (pairs : Pairs) (op : Op) (
         (low_stays (thunk.lock + 2) (let at = fit.lock in let low = own_low in omega arith)) (low_stays (thunk.lock + 1) (let at = fit.lock in let low = own_low in omega arith)) (λ e. omega arith) in
         subst Does (sym (insert_body thunk (fit.form ∙ form) fits)) (record {
           answer = ends.answered ∙ ap (λ n. Some (Answered n)) (insert_reply pairs op x.found form none);
-          contents = subst (λ f. BucketsStand (2 ^ bits) (bucket bits) f (map_after pairs op)) (sym (ends.left ∙ written)) stands_after;
+          contents = subst (λ f. BucketsStand (2 ^ bits) (bucket bits) slots f (map_after pairs op)) (sym (ends.left ∙ written)) stands_after;
         })
 
   -- a node taken out
@@ -456,7 +459,7 @@ module _ (bits request : ℕ) (memory : PlainMemory) (pairs : Pairs) (op : Op) (
     place_small : operand thunk 1 < 2 ^ 32
     place_small = subst (λ n. n < 2 ^ 32) (sym removal.1.1) (⊎_elim
         (λ head. (let low = own_low in let most = few in omega arith))
-        (λ node. (let w = contents.within node.0 node.1.0 in let f = contents.fixed in let p = contents.places in let at = node.2 in omega arith))
+        (λ node. (let w = stands.within node.0 node.1.0 in let f = contents.room in let p = contents.places in let at = node.2 in omega arith))
         found.0.0)
 
     removal_fits : fits_remove thunk ≡ true
@@ -484,10 +487,11 @@ module _ (bits request : ℕ) (memory : PlainMemory) (pairs : Pairs) (op : Op) (
     edition_none = none_changed (2 ^ bits) (bucket bits) (upd cells (operand thunk 1) new_link) (thunk.lock + 1) new_edition
         (λ j low e. (let at = edition_place in omega arith)) (λ u k low high e. (let at = edition_place in let l = own_low in omega arith))
 
-    finish : (n : Nodes) → n ≡ nodes (2 ^ bits) (bucket bits) left → n.key ≡ here.key → n.value ≡ here.value → Chains (bucket bits) n (upd stands.on x.slot false) stands.rank → BucketsStand (2 ^ bits) (bucket bits) left (map_after pairs op)
+    finish : (n : Nodes) → n ≡ nodes (2 ^ bits) (bucket bits) left → n.key ≡ here.key → n.value ≡ here.value → Chains (bucket bits) n (upd stands.on x.slot false) stands.rank → BucketsStand (2 ^ bits) (bucket bits) slots left (map_after pairs op)
     finish n same keys values chains = record {
       on = upd stands.on x.slot false;
       rank = stands.rank;
+      within = λ u on. stands.within u (upd_on stands.on x.slot u on);
       chains = subst (λ n. Chains (bucket bits) n (upd stands.on x.slot false) stands.rank) same chains;
       contents = contents_same (nodes (2 ^ bits) (bucket bits) left) (upd stands.on x.slot false) (upd (get pairs) (here.key x.slot) None) (get (map_after pairs op))
           (subst (λ n. Contents n (upd stands.on x.slot false) (upd (get pairs) (here.key x.slot) None)) same
@@ -495,7 +499,7 @@ module _ (bits request : ℕ) (memory : PlainMemory) (pairs : Pairs) (op : Op) (
           (λ q. ap (λ k. upd (get pairs) k None q) found.1 ∙ remove_map pairs op removal.1.0 q);
     }
 
-    stands_left : BucketsStand (2 ^ bits) (bucket bits) left (map_after pairs op)
+    stands_left : BucketsStand (2 ^ bits) (bucket bits) slots left (map_after pairs op)
     stands_left = ⊎_elim
         (λ head.
         let at : operand thunk 1 ≡ bucket_head own = removal.1.1 ∙ head in
@@ -518,16 +522,16 @@ module _ (bits request : ℕ) (memory : PlainMemory) (pairs : Pairs) (op : Op) (
         exchanges_write cells (operand thunk 1) (thunk.lock + 1) (cells (operand thunk 1)) new_link (cells (thunk.lock + 1)) new_edition refl refl edition_apart in
         subst Does (sym (remove_body thunk (fit.form ∙ form) removal_fits)) (record {
           answer = ends.answered ∙ ap (λ n. Some (Answered n)) (remove_reply pairs op x.value removal.1.0 (looks_found removal.0));
-          contents = subst (λ f. BucketsStand (2 ^ bits) (bucket bits) f (map_after pairs op)) (sym (ends.left ∙ written)) stands_left;
+          contents = subst (λ f. BucketsStand (2 ^ bits) (bucket bits) slots f (map_after pairs op)) (sym (ends.left ∙ written)) stands_left;
         })
 
 pub runs_do_the_operations : RunsDoTheOperations
-runs_do_the_operations bits request memory pairs op thunk contents numbers walked unspent free =
+runs_do_the_operations bits slots request memory pairs op thunk contents numbers walked unspent free =
     let walked_found = (walk (2 ^ bits) (bucket bits) walked.bounds op start walked.readings).found in
-    let form = (fit bits request memory pairs op thunk contents numbers walked unspent).form in
+    let form = (fit bits slots request memory pairs op thunk contents numbers walked unspent).form in
     ⊎_elim
-    (λ one. read_case bits request memory pairs op thunk contents numbers walked unspent one)
+    (λ one. read_case bits slots request memory pairs op thunk contents numbers walked unspent one)
     (λ more. ⊎_elim
-    (λ two. insert_case bits request memory pairs op thunk contents numbers walked unspent two (free (form ∙ two)))
-    (λ three. remove_case bits request memory pairs op thunk contents numbers walked unspent three) more)
+    (λ two. insert_case bits slots request memory pairs op thunk contents numbers walked unspent two (free (form ∙ two)))
+    (λ three. remove_case bits slots request memory pairs op thunk contents numbers walked unspent three) more)
     (form_cases op walked_found)

@@ -5,7 +5,7 @@ use Rattle.map_history.specs.declared.op.Op.TheVariants.{Get, Ins, Del}
 use Rattle.map_history.specs.Replay.{Pairs, reply_of, map_after}
 use Rattle.map_history.specs.Words.{word_of}
 use Rattle.section_body.specs.Word.{version_of}
-use Rattle.section_body.specs.Memory.{PlainMemory, cell_of}
+use Rattle.section_body.specs.Memory.{PlainMemory}
 use Rattle.section_body.specs.Bucket.{bucket_index, bucket_steps, operand}
 use Rattle.section_body.specs.Run.{Run}
 use Rattle.section_body.specs.Plain.{plain_run}
@@ -34,15 +34,15 @@ module _ (bits : ℕ) where
   abbrev pub bucket : ℕ → ℕ
   bucket key = bucket_index key bits
 
-  -- a plain memory whose contents, in 2 ^ bits buckets, are this map
-  pub record HasContents (memory : PlainMemory) (pairs : Pairs) : Type 0 where
+  -- a plain memory with so many node slots, whose contents, in 2 ^ bits buckets, are this map
+  pub record HasContents (slots : ℕ) (memory : PlainMemory) (pairs : Pairs) : Type 0 where
     pub few : bits ≤ 12
     pub fixed : memory.fixed_cells ≡ 3 * 2 ^ bits
     -- each cell has a place
     pub places : length memory.cells ≤ 2 ^ 32
-    pub stands : BucketsStand (2 ^ bits) bucket (cells_of memory) pairs
-    -- the slots in the chains are there
-    pub within : (t : ℕ) → stands.on t ≡ true → cell_of memory.fixed_cells t 4 < length memory.cells
+    -- the slots' cells are there
+    pub room : 3 * 2 ^ bits + 5 * slots ≤ length memory.cells
+    pub stands : BucketsStand (2 ^ bits) bucket slots (cells_of memory) pairs
 
   -- a thunk with the operands of the operation's walk over this memory
   pub record IsWalked (memory : PlainMemory) (op : Op) (thunk : Thunk) : Type 0 where
@@ -57,19 +57,20 @@ module _ (bits : ℕ) where
     pub head : thunk.form ≡ 2 → version_of (cells_of memory (thunk.lock + 2)) ≢ memory.version_max
     pub link : thunk.form ≡ 3 → version_of (cells_of memory (operand thunk 1)) ≢ memory.version_max
 
-  -- the slot of the Make, the first free one, stands in no chain and has a link
-  pub record IsOut (memory : PlainMemory) (pairs : Pairs) (contents : HasContents memory pairs) : Type 0 where
+  -- the slot of the Make, the first free one, is one of the memory's, stands in no chain and has a link
+  pub record IsOut (slots : ℕ) (memory : PlainMemory) (pairs : Pairs) (contents : HasContents slots memory pairs) : Type 0 where
+    pub within : slice_index memory.free 0 < slots
     pub out : contents.stands.on (slice_index memory.free 0) ≡ false
     pub linked : suc (slice_index memory.free 0) < 2 ^ 32
 
   -- a run answers with the map's reply and leaves the map after the operation
-  pub record DoesTheOperation (pairs : Pairs) (op : Op) (run : Run) : Type 0 where
+  pub record DoesTheOperation (slots : ℕ) (pairs : Pairs) (op : Op) (run : Run) : Type 0 where
     pub answer : run.outcome ≡ Some (Answered (word_of (reply_of pairs op)))
-    pub contents : BucketsStand (2 ^ bits) bucket run.cells (map_after pairs op)
+    pub contents : BucketsStand (2 ^ bits) bucket slots run.cells (map_after pairs op)
 
 -- the plain run of the body for an operation does the operation
 abbrev pub RunsDoTheOperations : Type 0
-RunsDoTheOperations = (bits request : ℕ) (memory : PlainMemory) (pairs : Pairs) (op : Op) (thunk : Thunk)
-    → (contents : HasContents bits memory pairs) → HasSmallNumbers op → IsWalked bits memory op thunk → IsUnspent bits memory thunk
-    → (thunk.form ≡ 2 → IsOut bits memory pairs contents)
-    → DoesTheOperation bits pairs op (plain_run (bucket_steps thunk) request memory [])
+RunsDoTheOperations = (bits slots request : ℕ) (memory : PlainMemory) (pairs : Pairs) (op : Op) (thunk : Thunk)
+    → (contents : HasContents bits slots memory pairs) → HasSmallNumbers op → IsWalked bits memory op thunk → IsUnspent bits memory thunk
+    → (thunk.form ≡ 2 → IsOut bits slots memory pairs contents)
+    → DoesTheOperation bits slots pairs op (plain_run (bucket_steps thunk) request memory [])

@@ -1,7 +1,9 @@
 // Worked rows, and each call once.
+ghost use Rattle.std.specs.Prelude.{◌≡◌};
+
 use crate::{
-    Body, Init, Micro, Misshape, Place, Source, Step, Steps, Thunk, Trail, Value, Word,
-    bucket_body, bucket_of, cost, micro_at,
+    Body, Gate, Init, Micro, Misshape, Pass, Place, Source, Step, StepKind, Steps, Thunk, Trail,
+    Value, Word, bucket_body, bucket_of, cost, micro_at,
 };
 
 /// A thunk of the hash table's bucket 0, whose edition is as at first.
@@ -178,4 +180,52 @@ fn steps_are_counted(rt: HostRuntime) {
     steps.tick();
     steps.tick();
     assert_eq!(rt; steps.count, 2);
+}
+
+/// A gate that counts in 64 bits, and halts at its ask with this number and at each later one.
+#[derive(Debug, Drop)]
+struct HaltAt {
+    at: u64,
+    asks: u64,
+    halts: u64,
+}
+
+impl Gate for HaltAt {
+    ghost halts = { λ gate. gate.halts };
+
+    ghost asks = { λ gate. gate.asks };
+
+    fn after(&mut self, _kind: StepKind) -> Pass {
+        self.asks = self.asks.saturating_add(1);
+        if self.asks < self.at {
+            return Pass::Go;
+        }
+        self.halts = self.halts.saturating_add(1);
+        Pass::Halt
+    }
+}
+
+/// Whether the gate halts after two steps.
+fn halts_after_two<G: Gate>(gate: &mut G) -> bool {
+    let _first = gate.after(StepKind::LoadCell);
+    gate.after(StepKind::Commit) == Pass::Halt
+}
+
+#[test]
+fn a_gate_counts_in_64_bits(rt: HostRuntime) {
+    let mut gate = HaltAt {
+        at: 2,
+        asks: 0,
+        halts: 0,
+    };
+    assert!(rt; halts_after_two(&mut gate));
+    assert_eq!(rt; gate.asks, 2);
+    assert_eq!(rt; gate.halts, 1);
+    let mut worn = HaltAt {
+        at: u64::MAX,
+        asks: u64::MAX,
+        halts: u64::MAX,
+    };
+    assert!(rt; halts_after_two(&mut worn));
+    assert_eq!(rt; worn.halts, u64::MAX);
 }

@@ -27,6 +27,11 @@ module _ (m : Meaning) where
         → m.is_link (upd s.cells p (next_word (x.reg r) (value_in x.reg v))) q ≡ m.is_link s.cells q
     pub steady_lock : (p q w : ℕ) → m.is_lock p ≡ true → m.is_link (upd s.cells p w) q ≡ m.is_link s.cells q
     pub steady_hand : (t i q w : ℕ) → s.status t ≡ Free → i < 5 → (IsCellOf m t q → ⊥) → m.is_link (upd s.cells (cell_of m t i) w) q ≡ m.is_link s.cells q
+    -- nor does one change the lock that guards a place elsewhere
+    pub steady_guard_store : (d j p q r : ℕ) (x : Section) (v : Value) → Here s d x → IsStep m x x.at (Store r v) → IsStep m x j (Load p r)
+        → m.guard (upd s.cells p (next_word (x.reg r) (value_in x.reg v))) q ≡ m.guard s.cells q
+    pub steady_guard_lock : (p q w : ℕ) → m.is_lock p ≡ true → m.guard (upd s.cells p w) q ≡ m.guard s.cells q
+    pub steady_guard_hand : (t i q w : ℕ) → s.status t ≡ Free → i < 5 → (IsCellOf m t q → ⊥) → m.guard (upd s.cells (cell_of m t i) w) q ≡ m.guard s.cells q
     -- a fixed cell or a live slot links live slots alone
     pub live : (p t : ℕ) → InUse m s p → Links m s p t → s.status t ≡ Live
     -- a slot that was retired a short while ago links only slots that are live or were retired in no earlier epoch

@@ -10,3 +10,4 @@ pub mod Gives
 pub mod Laws
 pub mod Lawful
 pub mod Tray
+pub mod Planner
