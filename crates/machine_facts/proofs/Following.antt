@@ -76,6 +76,7 @@ module _ (m : Meaning) (laws : Laws m) (l : Layout) (limits : IsWithinLimits l) 
     takes = takes_held m l g s stands.whole (sound_of s g changes wins stands).slots.in_held;
     outcomes = outcomes_agree m l s (with_histories g changes wins) (sound_of s g changes wins stands) (shaped s g stands.whole) stands.outcomes;
     known = stands.known;
+    stored = λ r d i number free last. (stands.whole.slots.tied r).stored d i number free last;
     fixed = stands.fixed;
     done_most = λ d used. subst (λ n. n ≤ 1) ((stands.whole.sections.sections d).done) (stands.whole.sections.sound.sections d used).done_most;
   }
