@@ -128,15 +128,7 @@ module _ (m : Meaning) (l : Layout) (rs : List Request) (r : ℕ) (f : Spot → 
   outside_knows (kinds.LoadEntry request reply) p asked = entry_knows p request reply (entry_asked request reply p x asked)
   outside_knows (kinds.Hold thunk d) p asked = same_if (found == thunk.word) word' p _ _ (inl refl) (inl refl)
   outside_knows kinds.EpochForRetire p asked = retire_knows p p.published
-  outside_knows kinds.EnterLoad p asked = inl refl
-  outside_knows kinds.Announce p asked = inl refl
-  outside_knows kinds.EnterAgain p asked = inl refl
-  outside_knows kinds.Idle p asked = inl refl
-  outside_knows kinds.ScanEpoch p asked = inl refl
-  outside_knows (kinds.Join worker) p asked = inl refl
   outside_knows (kinds.LoadCell (Some place)) p asked = inl refl
-  outside_knows (kinds.PrivateLoad slot word) p asked = inl refl
-  outside_knows (kinds.PrivateStore slot word number) p asked = inl refl
   outside_knows (kinds.LoadThunk (Some d)) p asked = inl refl
   outside_knows _ p asked = inl refl
 
@@ -182,18 +174,6 @@ module _ (m : Meaning) (l : Layout) (rs : List Request) (r : ℕ) (f : Spot → 
     line_knows kinds.StampExchange micro asked = stamp_knows micro asked
     line_knows kinds.ReplyExchange micro asked = reply_knows micro asked
     line_knows kinds.Release micro asked = released_knows (record p { reads = cell_read p.reads (inside.place_of micro) found }) (inside.ended_more q) refl
-    line_knows (kinds.LoadCell place) micro asked = inl refl
-    line_knows kinds.ExchangeCell micro asked = inl refl
-    line_knows (kinds.PrivateStore slot word number) micro asked = inl refl
-    line_knows kinds.RetireCommit micro asked = inl refl
-    line_knows kinds.EpochForRetire micro asked = inl refl
-    line_knows kinds.SetDone micro asked = inl refl
-    line_knows kinds.ClockLoad micro asked = inl refl
-    line_knows kinds.ClockRaise micro asked = inl refl
-    line_knows kinds.NestedLoad micro asked = inl refl
-    line_knows kinds.NestedHold micro asked = inl refl
-    line_knows kinds.OutcomeLoad micro asked = inl refl
-    line_knows kinds.OutcomeCommit micro asked = inl refl
     line_knows _ micro asked = inl refl
 
     inside_knows : (kind : EventKind) → inside_ask m l kind p.nodes.free q ≡ Some x → K p (inside_after m l kind p q found)
