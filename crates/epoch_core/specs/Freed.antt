@@ -1,6 +1,6 @@
 -- What an event adds to the history, and where it moves the slots.
 use Rattle.std.specs.Prelude.{ℕ, ◌<◌, ◌≤◌, ◌≡◌, ◌≢◌, ◌⊎◌, true, [], ◌∷◌}
-use Rattle.epoch_core.specs.declared.location.Location.TheVariants.{Live, Hand, Free, Worn, Limbo}
+use Rattle.epoch_core.specs.declared.location.Location.TheVariants.{Fixed, Live, Hand, Free, Worn, Limbo}
 use Rattle.epoch_core.specs.State.{Counts, Retires, EpochState}
 use Rattle.epoch_core.specs.Events.{slot_of}
 use Rattle.epoch_core.specs.History.{History, is_out}
@@ -26,6 +26,8 @@ pub record IsRetired (w w' : EpochState) (h h' : History) (runner slot epoch : �
 module _ (c : Counts) where
   -- where an event moves the node slots
   pub record SlotsMove (w w' : EpochState) (h h' : History) : Type 0 where
+    -- a fixed slot stays so
+    pub fixed : (s : ℕ) → w.location s ≡ Fixed → w'.location s ≡ Fixed
     -- a slot in a hand stays there, comes to be live by a commit that won, or goes back to that runner's free or worn list
     pub hand : (s r : ℕ) → w.location s ≡ Hand r → (w'.location s ≡ Hand r) ⊎ (IsMade w w' h h' r s
         ⊎ ((w'.location s ≡ Free r) ⊎ (w'.location s ≡ Worn r)))

@@ -1,0 +1,12 @@
+pub mod Agreement
+pub mod Epochs
+pub mod Chunks
+pub mod Going
+pub mod Words
+pub mod Locks
+pub mod Takes
+pub mod Records
+pub mod Outcomes
+pub mod Agreeing
+pub mod Once
+pub mod Following

@@ -1,0 +1,7 @@
+pub mod Steps
+pub mod Takes
+pub mod Outcomes
+pub mod States
+pub mod Passed
+pub mod Once
+pub mod After
