@@ -1,12 +1,12 @@
 mod Touched
-mod Reaching
-mod Parts
-mod Runs
+pub mod Reaching
+pub mod Parts
+pub mod Runs
 mod Clock
 mod Ends
-mod Fits
+pub mod Fits
 mod FitsKept
-mod Tests
+pub mod Tests
 mod Releases
 mod Standing
 mod Filling
@@ -16,7 +16,7 @@ mod RoomsKept
 mod RoomsReached
 mod Lines
 mod PartNumbers
-mod Numbers
+pub mod Numbers
 pub mod Enabled
 pub mod GoingOn
 pub mod Stages

@@ -31,7 +31,7 @@ use Rattle.machine_invariant.specs.After.{AreAllowed}
 use Rattle.machine_invariant.specs.LogWords.{commits_to}
 use Rattle.machine_invariant.proofs.After.{log_words_after}
 use Rattle.next_steps.specs.Steps.{slot_in, kind_at, ask_at, opening_kind, opened_next, has_slot}
-use Rattle.next_steps.specs.Enabled.{Meets, NextIsEnabled}
+use Rattle.next_steps.specs.Enabled.{Meets, IsInTable, NextIsEnabled}
 use Rattle.next_steps.specs.Stages.{IsInRun, filling_slot, nodes_taking, unfilled, run_behind, nodes_behind, reads_behind, published_behind, finished_behind, IsBehind, ThenOpened, ThenStepped}
 use Rattle.next_steps.proofs.Lines.{next_no_check}
 use Rattle.next_steps.proofs.Enabled.{IsKnown, next_enabled, reached_known}
@@ -55,6 +55,9 @@ module _ (m : Meaning) (laws : Laws m) (l : Layout) (limits : IsWithinLimits l) 
 
     runs : (s.part r).run ≡ Some q
     runs = ap (λ (y : PartState). y.run) seen ∙ is.running
+
+    pub in_table : IsInTable m l rs q
+    in_table = enabled.runs r q runs
 
     pub may_open : length q.opened < 13 → Meets m l rs r p (opening_kind q) (opened_next q)
     may_open low = subst (λ (y : PartState). Meets m l rs r y (opening_kind q) (opened_next q)) seen (enabled.opening r q there runs low)

@@ -21,7 +21,7 @@ use Rattle.machine_states.specs.World.{World, seat_of}
 use Rattle.machine_states.specs.Reached.{Reached}
 use Rattle.machine_invariant.specs.LogWords.{commits_to}
 use Rattle.next_steps.specs.Steps.{slot_in, kind_at, ask_at, opening_kind, opened_next, has_slot}
-use Rattle.next_steps.specs.Enabled.{Meets}
+use Rattle.next_steps.specs.Enabled.{Meets, IsInTable}
 
 -- a runner with this part, which wasn't joined and is in this run, in a state that the machine reaches
 pub record IsInRun (m : Meaning) (l : Layout) (requests : List Request) (r : ℕ) (p : PartState) (q : RunState) : Type 0 where
@@ -112,6 +112,10 @@ pub record IsBehind (m : Meaning) (l : Layout) (p : PartState) (q : RunState) (m
   pub present : p'.gone ≡ p.gone
 
 module _ (m : Meaning) (l : Layout) (requests : List Request) where
+  -- such a run is in the table, and open once it has loaded its thunk and its done word
+  abbrev pub RunsAreInTable : Type 0
+  RunsAreInTable = (r : ℕ) (p : PartState) (q : RunState) → IsInRun m l requests r p q → IsInTable m l requests q
+
   -- the next load of the opening is enabled, and adds what it found
   abbrev pub MayOpen : Type 0
   MayOpen = (r : ℕ) (p : PartState) (q : RunState) → IsInRun m l requests r p q → length q.opened < 13

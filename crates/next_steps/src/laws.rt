@@ -10,7 +10,7 @@ ghost use Rattle.machine_invariant.specs.After.{AreAllowed};
 ghost use Rattle.next_steps.specs.Rooms.{ClockIsSmall, RoomsStand, ThunksFit};
 ghost use Rattle.next_steps.specs.Numbers.{NumbersFit};
 ghost use Rattle.next_steps.specs.Enabled.{NextIsEnabled, RunsGoOn};
-ghost use Rattle.next_steps.specs.Stages.{MayOpen, ThenOpened, MayStep, CommitsBehind, ThenStepped};
+ghost use Rattle.next_steps.specs.Stages.{RunsAreInTable, MayOpen, ThenOpened, MayStep, CommitsBehind, ThenStepped};
 
 use runner_parts::Structure;
 
@@ -68,10 +68,13 @@ pub fn numbers_are_the_tables<S: Structure>(structure: &S)
     let _ = structure;
 }
 
-/// What a caller may do with a runner that is in a run, by its part in a state that the machine reaches. In the opening it may make the next load,
+/// What a caller may do with a runner that is in a run, by its part in a state that the machine reaches. The run's descriptor, its thunk and its
+/// body's line are within the table, and the body has the shape. In the opening it may make the next load,
 /// which adds the word that it finds. From then on it may make the step that stands next, but where a Make is to take a slot and has none; a commit
 /// goes to the log word behind the words that were agreed on; and behind the step the part is the one that the step leaves.
 pub fn runs_may_be_followed<S: Structure>(structure: &S)
+    ensures known { (layout : Layout) (requests : List Request) → IsWithinLimits layout → AreAllowed requests
+        → RunsAreInTable (S.meaning structure.now) layout requests }
     ensures opening { (layout : Layout) (requests : List Request) → IsWithinLimits layout → AreAllowed requests
         → MayOpen (S.meaning structure.now) layout requests }
     ensures opened { (layout : Layout) (requests : List Request) → ThenOpened (S.meaning structure.now) layout requests }

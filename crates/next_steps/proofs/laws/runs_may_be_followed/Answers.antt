@@ -1,4 +1,4 @@
-use Rattle.next_steps.proofs.Stages.{may_open, then_opened, may_step, commits_behind, then_stepped}
+use Rattle.next_steps.proofs.Stages.{in_table, may_open, then_opened, may_step, commits_behind, then_stepped}
 use Rattle.next_steps.proofs.laws.runs_may_be_followed.Goals as goal
 
 pub returns-clause-opening : goal.returns-clause-opening
@@ -23,3 +23,8 @@ pub returns-clause-behind : goal.returns-clause-behind
 returns-clause-behind g c = λ layout requests limits allowed.
     let met = g.met.S.Structure g.world.𝓛 g.world.𝓜 g.world.𝓡 ((λ s allowed. allowed), (λ patient. patient), (λ alone. alone), (λ cuts. cuts)) in
     then_stepped (g.S.Structure.meaning c.args.structure.now) (met.laws c.args.structure.now) layout limits requests allowed
+
+pub returns-clause-known : goal.returns-clause-known
+returns-clause-known g c = λ layout requests limits allowed r p q is.
+    let met = g.met.S.Structure g.world.𝓛 g.world.𝓜 g.world.𝓡 ((λ s allowed. allowed), (λ patient. patient), (λ alone. alone), (λ cuts. cuts)) in
+    in_table (g.S.Structure.meaning c.args.structure.now) (met.laws c.args.structure.now) layout limits requests allowed r p q is
