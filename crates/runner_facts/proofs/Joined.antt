@@ -26,13 +26,13 @@ use Rattle.machine_states.proofs.Updates.{upd_here, upd_else}
 use Rattle.machine_epochs.proofs.FirstJoin as FirstJoin
 use Rattle.machine_invariant.specs.After.{AreAllowed}
 use Rattle.machine_invariant.proofs.Sights.{after_is}
-use Rattle.next_steps.proofs.Fits.{clash}
 use Rattle.next_steps.proofs.Reaching.{IsStep, reached_keeps}
 use Rattle.next_steps.proofs.Tests.{either_has}
 use Rattle.next_steps.proofs.Runs.{out_of_run}
 use Rattle.runner_facts.specs.Facts.{JoinedAreGone}
 use Rattle.runner_facts.proofs.Keeping.{Keeps, inside_keeps, outside_keeps}
 use Rattle.runner_facts.proofs.Counts.{may_hold}
+use Rattle.machine_invariant.proofs.Basics.{not_both}
 
 left_joined : (z : RecordsState) (kind : EventKind) (spot : Spot) (n : ℕ) → (left_more z kind spot n).joined ≡ z.joined
 left_joined z (kinds.Join worker) spot n = refl
@@ -144,6 +144,6 @@ pub reached_joined : (m : Meaning) → Laws m → (l : Layout) → IsWithinLimit
     → Reached m l rs w → JoinedAreGone l (sight m l rs w)
 reached_joined m laws l limits rs allowed w reached =
     reached_keeps m laws l limits rs allowed (JoinedAreGone l)
-    (λ v start worker has_it. clash has_it (subst (λ (p : PartState). has p.records.joined worker ≡ false) (sym (first_parts m l v.parts start.parts l.runners))
+    (λ v start worker has_it. not_both has_it (subst (λ (p : PartState). has p.records.joined worker ≡ false) (sym (first_parts m l v.parts start.parts l.runners))
     (FirstJoin.each_part m l (λ p. has p.records.joined worker ≡ false) refl (λ k. refl) refl l.runners)))
     (λ s s' r kind st old. gone_kept m l rs s s' r kind st old) w reached
