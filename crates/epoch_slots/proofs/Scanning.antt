@@ -116,7 +116,7 @@ module _ {T : Type 0} (m : Meaning) where
               number = ap (λ (y : RunnerState T). y.number) made.made;
               known = known_made m (kinds.ScanOne next) found r r' made at.resting nothing ∙ ap (λ (p : PartState). p.records.known) part;
               finished = finished_made m (kinds.ScanOne next) found r r' made at.resting nothing ∙ ap (λ (p : PartState). p.records.finished) part;
-              shown = record { spot = made.met.0; number = _; shown = made.shown };
+              shown = record { world = made.shown.world; reached = made.shown.reached; own = made.shown.own };
             }
 
         module _ (may : (clear && is_clear epoch found) && nat_lt epoch last_epoch ≡ true) where
@@ -154,5 +154,5 @@ module _ {T : Type 0} (m : Meaning) where
                     ∙ (known_made m (kinds.ScanOne next) found r r' made at.resting scanning ∙ ap (λ (p : PartState). p.records.known) part));
                 finished = finished_made m kinds.Advance tried.found r' r'' tried.event past.resting advancing ∙ (ap (λ (p : PartState). p.records.finished) over
                     ∙ (finished_made m (kinds.ScanOne next) found r r' made at.resting scanning ∙ ap (λ (p : PartState). p.records.finished) part));
-                shown = record { spot = tried.event.met.0; number = _; shown = tried.event.shown };
+                shown = record { world = tried.event.shown.world; reached = tried.event.shown.reached; own = tried.event.shown.own };
               }
