@@ -82,8 +82,8 @@ module _ (m : Meaning) (l : Layout) (rs : List Request) (w : AgreementState) (s 
     line_goes _ x open_q u e k = some_none x k
 
     -- a run that has still to load words of its thunk
-    after_opening : (kind : EventKind) (x : Spot × Access) → is_open_run q ≡ false → after m l r kind x.0 x.1 p (s.word x.0) ≡ noting l r kind x.0 (written x.1 (s.word x.0)) (opened_more p q (s.word x.0))
-    after_opening kind x unopened = ap (noting l r kind x.0 (written x.1 (s.word x.0)))
+    after_opening : (kind : EventKind) (x : Spot × Access) → is_open_run q ≡ false → after m l r kind x.0 x.1 p (s.word x.0) ≡ noting l r kind x.0 x.1 (s.word x.0) (opened_more p q (s.word x.0))
+    after_opening kind x unopened = ap (noting l r kind x.0 x.1 (s.word x.0))
         (ap (λ o. after_by m l kind p o (s.word x.0)) at ∙ ap (λ b. if b then line_after m l kind p q (next_of m q) (s.word x.0) else opened_more p q (s.word x.0)) unopened)
 
     opens : (kind : EventKind) (a : Spot) → length q.opened < 13 → (length q.opened < 12 → s.word a ≡ s.word (spots.ThunkWord q.descriptor (length q.opened)))

@@ -97,7 +97,7 @@ module _ (m : Meaning) (l : Layout) (rs : List Request) (w : AgreementState) (s 
 
   -- the sight after it
   abbrev pub sight_of : EventKind → Spot × Access → Sight
-  sight_of kind x = record { word = word_of x; part = table.upd s.part r (noting l r kind x.0 (written x.1 (s.word x.0)) (outside_after m l kind p (s.word x.0))) }
+  sight_of kind x = record { word = word_of x; part = table.upd s.part r (noting l r kind x.0 x.1 (s.word x.0) (outside_after m l kind p (s.word x.0))) }
 
   -- the step leads to a joined state, by the events of its kind
   abbrev pub To : EventKind → Spot × Access → Type 0
@@ -106,12 +106,12 @@ module _ (m : Meaning) (l : Layout) (rs : List Request) (w : AgreementState) (s 
   loads : (a : Spot) (x : Spot × Access) → (a, Loads) ≡ x → SameWords m l s.word (word_of x)
   loads a x e = subst (λ (y : Spot × Access). SameWords m l s.word (word_of y)) e (load_same m l s.word a)
 
-  quiet : (kind : EventKind) (x : Spot × Access) → IsOutsideChunk m l w r kind p (s.word x.0) [] → SameWords m l s.word (word_of x) → IsSamePart m l p (noting l r kind x.0 (written x.1 (s.word x.0)) (outside_after m l kind p (s.word x.0))) → To kind x
+  quiet : (kind : EventKind) (x : Spot × Access) → IsOutsideChunk m l w r kind p (s.word x.0) [] → SameWords m l s.word (word_of x) → IsSamePart m l p (noting l r kind x.0 x.1 (s.word x.0) (outside_after m l kind p (s.word x.0))) → To kind x
   quiet kind x none_of words same = ([], none_of, quiet_goes m l w s old r (word_of x) _ words same)
 
   noted_part : (kind : EventKind) (x : Spot × Access) (stage : Stage) (nodes : NodesState) (records : RecordsState) → records.finished ≡ p.records.finished
-      → IsSamePart m l p (noting l r kind x.0 (written x.1 (s.word x.0)) (record p { stage = stage; nodes = nodes; records = records }))
-  noted_part kind x stage nodes records e = same_part m l p stage nodes p.descriptors (noted l r kind x.0 (written x.1 (s.word x.0)) records) (ends l r kind x.0 (written x.1 (s.word x.0)) records p.records e)
+      → IsSamePart m l p (noting l r kind x.0 x.1 (s.word x.0) (record p { stage = stage; nodes = nodes; records = records }))
+  noted_part kind x stage nodes records e = same_part m l p stage nodes p.descriptors (noted l r kind x.0 x.1 (s.word x.0) records) (ends l r kind x.0 (written x.1 (s.word x.0)) records p.records e)
 
   pub enter_load : (x : Spot × Access) → outside_ask m l rs r kinds.EnterLoad p ≡ Some x → To kinds.EnterLoad x
   enter_load x e = let h = asked.enter_load_asked p.stage x e in quiet kinds.EnterLoad x refl (loads spots.Epoch x h.1) (noted_part kinds.EnterLoad x (stages.Loaded (s.word x.0)) p.nodes p.records refl)
@@ -211,11 +211,11 @@ module _ (m : Meaning) (l : Layout) (rs : List Request) (w : AgreementState) (s 
         let same = equal found t.word e in
         let may = supplied same in
         let after : outside.hold_after t d p found ≡ record p {
-          published = Some (record { descriptor = d; walked = length p.reads.walk; over = false });
+          published = Some (published_by t d p);
           descriptors = lists.descriptor_taken p.descriptors d;
           reads = lists.section_published (lists.cell_read p.reads t.lock found) d;
         } = ap (λ b. if b then record p {
-          published = Some (record { descriptor = d; walked = length p.reads.walk; over = false });
+          published = Some (published_by t d p);
           descriptors = lists.descriptor_taken p.descriptors d;
           reads = lists.section_published (lists.cell_read p.reads t.lock found) d;
         } else record p { reads = lists.holds_named (lists.cell_read p.reads t.lock found) found }) e in
@@ -226,12 +226,12 @@ module _ (m : Meaning) (l : Layout) (rs : List Request) (w : AgreementState) (s 
               (subst (λ n. Goes m l r (events.Read t.lock ∷ publication m d t ∷ []) w (record {
                 word = put s.word (spots.Cell t.lock) n;
                 part = table.upd s.part r (noting l r (kinds.Hold t d) (spots.Cell t.lock) (written (Exchanges t.word (held_word d t.word)) found) (record p {
-                  published = Some (record { descriptor = d; walked = length p.reads.walk; over = false });
+                  published = Some (published_by t d p);
                   descriptors = lists.descriptor_taken p.descriptors d;
                   reads = lists.section_published (lists.cell_read p.reads t.lock found) d;
                 }));
               })) (sym new)
-              (descriptors.publishes m l w s old r d t _ none unused same may.words may.publishable may.undone may.unlogged may.apart none (λ y e. ap (λ (z : Published). z.over) (let both : record { descriptor = d; walked = length p.reads.walk; over = false } ≡ y = cc in sym both))
+              (descriptors.publishes m l w s old r d t _ none unused same may.words may.publishable may.undone may.unlogged may.apart none (λ y e. ap (λ (z : Published). z.over) (let both : published_by t d p ≡ y = cc in sym both))
               (noted_finished l r (kinds.Hold t d) (spots.Cell t.lock) (written (Exchanges t.word (held_word d t.word)) found) p.records) refl)),
         )
       where
@@ -242,7 +242,7 @@ module _ (m : Meaning) (l : Layout) (rs : List Request) (w : AgreementState) (s 
     lost e =
         let after : outside.hold_after t d p found ≡ record p { reads = lists.holds_named (lists.cell_read p.reads t.lock found) found }
         = ap (λ b. if b then record p {
-          published = Some (record { descriptor = d; walked = length p.reads.walk; over = false });
+          published = Some (published_by t d p);
           descriptors = lists.descriptor_taken p.descriptors d;
           reads = lists.section_published (lists.cell_read p.reads t.lock found) d;
         } else record p { reads = lists.holds_named (lists.cell_read p.reads t.lock found) found }) e in
@@ -270,11 +270,11 @@ module _ (m : Meaning) (l : Layout) (rs : List Request) (w : AgreementState) (s 
   -- a scan goes on, or is over and the descriptors that have waited long enough are free
   collect_goes : (kind : EventKind) (x : Spot × Access) (epoch : ℕ) → SameWords m l s.word (word_of x)
       → ((d : ℕ) → has (lists.slots_of (filter (lists.is_old epoch) p.descriptors.limbo)) d ≡ true → IsIdle w d)
-      → Goes m l r (collected (Some epoch) p) w (record { word = word_of x; part = table.upd s.part r (noting l r kind x.0 (written x.1 (s.word x.0)) (outside.collected p epoch)) })
+      → Goes m l r (collected (Some epoch) p) w (record { word = word_of x; part = table.upd s.part r (noting l r kind x.0 x.1 (s.word x.0) (outside.collected p epoch)) })
   collect_goes kind x epoch words idle =
       let free = freed m l s (lists.slots_of (filter (lists.is_old epoch) p.descriptors.limbo)) w old idle in
-      let joined = quiet_joined m l free.next s free.joined r (word_of x) (noting l r kind x.0 (written x.1 (s.word x.0)) (outside.collected p epoch)) words
-      (same_part m l p stages.Idle (lists.nodes_collected epoch p.nodes) (lists.descriptors_collected epoch p.descriptors) (noted l r kind x.0 (written x.1 (s.word x.0)) p.records) (noted_finished l r kind x.0 (written x.1 (s.word x.0)) p.records)) in
+      let joined = quiet_joined m l free.next s free.joined r (word_of x) (noting l r kind x.0 x.1 (s.word x.0) (outside.collected p epoch)) words
+      (same_part m l p stages.Idle (lists.nodes_collected epoch p.nodes) (lists.descriptors_collected epoch p.descriptors) (noted l r kind x.0 x.1 (s.word x.0) p.records) (noted_finished l r kind x.0 (written x.1 (s.word x.0)) p.records)) in
       record { next = free.next; leads = leads_alone m l r (collected (Some epoch) p) w free.next free.leads; joined = joined }
 
   pub scan_one : (n : ℕ) (x : Spot × Access) → outside_ask m l rs r (kinds.ScanOne n) p ≡ Some x
@@ -289,7 +289,7 @@ module _ (m : Meaning) (l : Layout) (rs : List Request) (w : AgreementState) (s 
       let over = n == l.runners && not (clear && nat_lt h.0 last_epoch) in (
         collected (if over then Some h.0 else None) p,
         ap (λ o. collected o p) (sym collect),
-        subst (λ (q : PartState). Goes m l r (collected (if over then Some h.0 else None) p) w (record { word = word_of x; part = table.upd s.part r (noting l r (kinds.ScanOne n) x.0 (written x.1 found) q) })) (sym after)
+        subst (λ (q : PartState). Goes m l r (collected (if over then Some h.0 else None) p) w (record { word = word_of x; part = table.upd s.part r (noting l r (kinds.ScanOne n) x.0 x.1 found q) })) (sym after)
             (over_or_on n x (loads (spots.Announcement n) x h.4) h.0 clear (n == l.runners && not (clear && nat_lt h.0 last_epoch)) (λ is d old. idle h.0 d (collect ∙ ap (λ b. if b then Some h.0 else None) is) old)),
       )
     where
@@ -298,7 +298,7 @@ module _ (m : Meaning) (l : Layout) (rs : List Request) (w : AgreementState) (s 
 
       over_or_on : (n : ℕ) (x : Spot × Access) → SameWords m l s.word (word_of x) → (epoch : ℕ) (clear b : Bool)
           → (b ≡ true → (d : ℕ) → has (lists.slots_of (filter (lists.is_old epoch) p.descriptors.limbo)) d ≡ true → IsIdle w d)
-          → Goes m l r (collected (if b then Some epoch else None) p) w (record { word = word_of x; part = table.upd s.part r (noting l r (kinds.ScanOne n) x.0 (written x.1 (s.word x.0)) (if b then outside.collected p epoch else outside.with_stage p (stages.Scanning epoch (n + 1) clear))) })
+          → Goes m l r (collected (if b then Some epoch else None) p) w (record { word = word_of x; part = table.upd s.part r (noting l r (kinds.ScanOne n) x.0 x.1 (s.word x.0) (if b then outside.collected p epoch else outside.with_stage p (stages.Scanning epoch (n + 1) clear))) })
       over_or_on n x words epoch clear true idle = collect_goes (kinds.ScanOne n) x epoch words (idle refl)
       over_or_on n x words epoch clear false idle = quiet_goes m l w s old r (word_of x) _ words (noted_part (kinds.ScanOne n) x (stages.Scanning epoch (n + 1) clear) p.nodes p.records refl)
 
@@ -312,7 +312,7 @@ module _ (m : Meaning) (l : Layout) (rs : List Request) (w : AgreementState) (s 
       let collect : advance_collects p.stage ≡ Some (h.0 + 1) = ap advance_collects h.2 ∙ ap (λ b. if b then Some (h.0 + 1) else None) tried in (
         collected (Some (h.0 + 1)) p,
         ap (λ o. collected o p) (sym collect),
-        subst (λ (q : PartState). Goes m l r (collected (Some (h.0 + 1)) p) w (record { word = word_of x; part = table.upd s.part r (noting l r kinds.Advance x.0 (written x.1 (s.word x.0)) q) })) (sym after)
+        subst (λ (q : PartState). Goes m l r (collected (Some (h.0 + 1)) p) w (record { word = word_of x; part = table.upd s.part r (noting l r kinds.Advance x.0 x.1 (s.word x.0) q) })) (sym after)
             (collect_goes kinds.Advance x (h.0 + 1) (subst (λ (y : Spot × Access). SameWords m l s.word (word_of y)) h.5
             (record { cells = λ i. refl; clock = refl; stamp = λ i. refl; reply = λ i. refl; thunks = λ d j. refl; done = λ d. refl; log = λ d k. refl })) (λ d old. idle (h.0 + 1) d collect old)),
       )

@@ -190,7 +190,7 @@ module _ (m : Meaning) (l : Layout) (epoch r : ℕ) (p : PartState) (old : IsOwn
   -- a section is published
   module _ (d : ℕ) (few : d < descriptor_count l) (free : has p.descriptors.free d ≡ true) (unpublished : p.published ≡ None) (place found : ℕ) where
     abbrev mine : Published
-    mine = record { descriptor = d; walked = length p.reads.walk; over = false }
+    mine = published_by t d p
 
     abbrev holding : PartState
     holding = record p { published = Some mine; descriptors = lists.descriptor_taken p.descriptors d; reads = lists.section_published (lists.cell_read p.reads place found) d; records = records }

@@ -129,7 +129,7 @@ module _ (m : Meaning) (l : Layout) (rs : List Request) (epoch r : ℕ) (p : Par
     stores d word number = idles m l epoch r p (record p { descriptors = lists.descriptor_stored p.descriptors d word number; records = records }) (record { free = refl; limbo = refl; published = λ d. refl; nodes = refl }) (λ g d at it. (at, it)) none old
 
     holds : (t : Thunk) (d : ℕ) → asked.HoldAsked m l rs t d p x → (b : Bool) → Own (cond b (record p {
-      published = Some (record { descriptor = d; walked = length p.reads.walk; over = false });
+      published = Some (published_by t d p);
       descriptors = lists.descriptor_taken p.descriptors d;
       reads = lists.section_published (lists.cell_read p.reads t.lock found) d;
     }) (record p { reads = lists.holds_named (lists.cell_read p.reads t.lock found) found }))

@@ -217,7 +217,7 @@ module _ (m : Meaning) (l : Layout) (w : EpochState) (s : Sight) (old : IsJoined
   -- the section is published
   module _ (few : d < (counts_of m l).descriptors) (free : has (s.part r).descriptors.free d ≡ true) (prepared : is_prepared (s.part r).descriptors.stored d t ≡ true) (unpublished : (s.part r).published ≡ None) where
     abbrev mine : Published
-    mine = record { descriptor = d; walked = length p.reads.walk; over = false }
+    mine = published_by t d p
 
     abbrev holding : PartState
     holding = record p { published = Some mine; descriptors = lists.descriptor_taken p.descriptors d; reads = lists.section_published (lists.cell_read p.reads t.lock found) d; records = records }
@@ -344,7 +344,7 @@ module _ (m : Meaning) (l : Layout) (w : EpochState) (s : Sight) (old : IsJoined
 
       won : ℕ → PartState
       won found = record now {
-        published = Some (record { descriptor = d; walked = length now.reads.walk; over = false });
+        published = Some (published_by t d now);
         descriptors = lists.descriptor_taken now.descriptors d;
         reads = lists.section_published (lists.cell_read now.reads t.lock found) d;
       }

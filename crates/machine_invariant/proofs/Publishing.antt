@@ -68,7 +68,7 @@ use Rattle.machine_invariant.proofs.Outside.{outside_asked, outside_heads, outsi
 -- a runner's part after a publication
 abbrev published_part : Thunk → ℕ → PartState → ℕ → PartState
 published_part t d p found = record p {
-  published = Some (record { descriptor = d; walked = length p.reads.walk; over = false });
+  published = Some (published_by t d p);
   descriptors = descriptor_taken p.descriptors d;
   reads = section_published (cell_read p.reads t.lock found) d;
 }

@@ -100,7 +100,7 @@ hold_named m s r t d free held few same is enabled = record {
 -- the part after an exchange that won, and after one that lost
 abbrev part_won : Thunk → ℕ → ℕ → PartState → PartState
 part_won t d found p = record p {
-  published = Some (record { descriptor = d; walked = length p.reads.walk; over = false });
+  published = Some (published_by t d p);
   descriptors = descriptor_taken p.descriptors d;
   reads = section_published (cell_read p.reads t.lock found) d;
 }

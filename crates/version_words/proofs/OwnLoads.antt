@@ -184,9 +184,9 @@ module _ (m : Meaning) (l : Layout) (slot word found : ℕ) (kept : Block) (p : 
   }
 
   -- outside a run
-  looked_part : p.run ≡ None → KeepsPart m (block_looked l kept slot word found) (private_load_after l slot word p found)
+  looked_part : p.run ≡ None → KeepsPart m (block_looked l kept slot word found) (private_load_after m l slot word p found)
   looked_part none =
-      let p' = private_load_after l slot word p found in
+      let p' = private_load_after m l slot word p found in
       let kept' : Block = record kept { lists = with_nodes kept.lists (nodes_looked l kept.lists.part.nodes slot word found) } in
       subst (λ (b : Bool). KeepsPart m (if b then block_filling kept slot kept.place.making else kept') p') (sym (was.place.outside none)) (record {
         lists = ap (λ (y : PartState). record y { nodes = nodes_looked l y.nodes slot word found }) was.lists;
