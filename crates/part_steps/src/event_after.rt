@@ -90,8 +90,8 @@ fn stepped<S: Structure>(
     match part.run.take() {
         None => outside_after(part, alloc, structure, layout, kind, found),
         Some(run) => {
-            if is_open_run(run) {
-                let micro = next_of(run, structure);
+            if is_open_run(&run) {
+                let micro = next_of(&run, structure);
                 line_after(part, alloc, run, structure, layout, kind, &micro, found)
             } else {
                 opened_more(part, run, found)

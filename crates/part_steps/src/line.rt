@@ -357,7 +357,7 @@ pub fn lock_released<S: Structure>(
 {
     part.reads.cell_read(place, found)?;
     run.ended += 1;
-    if is_end(&next_of(run, structure)) {
+    if is_end(&next_of(&run, structure)) {
         run_over(part, alloc, run, structure, layout)
     } else {
         part.run = Some(run);
