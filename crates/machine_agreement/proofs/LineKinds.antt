@@ -20,7 +20,7 @@ use Rattle.runner_parts.specs.State.{RunState, RecordsState, PartState}
 use Rattle.runner_parts.specs.Tests.{has_pair}
 use Rattle.runner_steps.specs.Sections.{is_open_run, next_of}
 use Rattle.runner_steps.specs.AfterInRun.{opened_more}
-use Rattle.runner_steps.specs.After.{after, after_by, line_after, noted, left_more, counted}
+use Rattle.runner_steps.specs.After.{after, after_by, line_after, noted, left_more, tallied}
 use Rattle.agreement_core.specs.State.{CellRules, AgreementState, section_of}
 use Rattle.agreement_core.specs.Events as events
 use Rattle.agreement_core.specs.Events.{IsBefore, IsAlone, goes_on, agrees, with_cell, reads}
@@ -40,16 +40,16 @@ left_finished s (kinds.Join worker) spot n = refl
 left_finished s _ spot n = refl
 
 -- what is noted of a step keeps what came to its end
-pub noted_finished : (l : Layout) (r : ℕ) (kind : EventKind) (spot : Spot) (n : ℕ) (s : RecordsState) → (noted l r kind spot n s).finished ≡ s.finished
-noted_finished l r kind spot n s = by (r == l.runners)
+pub noted_finished : (l : Layout) (r : ℕ) (kind : EventKind) (spot : Spot) (access : Access) (n : ℕ) (s : RecordsState) → (noted l r kind spot access n s).finished ≡ s.finished
+noted_finished l r kind spot access n s = by (r == l.runners)
   where
-    by : (b : Bool) → (if b then left_more (record s { events = counted s.events }) kind spot n else record s { events = counted s.events }).finished ≡ s.finished
-    by true = left_finished (record s { events = counted s.events }) kind spot n
+    by : (b : Bool) → (if b then left_more (tallied access n s) kind spot (written access n) else tallied access n s).finished ≡ s.finished
+    by true = left_finished (tallied access n s) kind spot (written access n)
     by false = refl
 
 -- a part with its step noted
-abbrev pub noting : Layout → ℕ → EventKind → Spot → ℕ → PartState → PartState
-noting l r kind spot n p = record p { records = noted l r kind spot n p.records }
+abbrev pub noting : Layout → ℕ → EventKind → Spot → Access → ℕ → PartState → PartState
+noting l r kind spot access n p = record p { records = noted l r kind spot access n p.records }
 
 module _ (m : Meaning) (l : Layout) where
   -- the part after an event of an open run that stands before this step
@@ -84,7 +84,7 @@ module _ (m : Meaning) (l : Layout) where
         subst (λ (p : PartState). Goes m l r heads w (record { word = word_after x; part = upd s.part r p })) (sym (after_line r kind x (s.part r) (s.word x.0) q micro is opened next))
         (line_goes m l heads w w1 s r q q1 (word_after x) (noting l r kind x.0 x.1 (s.word x.0) pp) old is all leads step run1 (ended ∙ going) descriptor same_words
         (places.code_here m l w s old r q is all)
-        (record { run = own.run; published = own.published; finished = noted_finished l r kind x.0 (written x.1 (s.word x.0)) pp.records ∙ own.finished })
+        (record { run = own.run; published = own.published; finished = noted_finished l r kind x.0 x.1 (s.word x.0) pp.records ∙ own.finished })
         words sections thunks read)
 
     -- one event of the component

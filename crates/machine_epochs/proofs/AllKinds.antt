@@ -121,7 +121,7 @@ module _ (m : Meaning) (l : Layout) (rs : List Request) (w : EpochState) (s : Si
     outside_goes (kinds.Join worker) j u e = absurd (let y = j in cc)
     outside_goes (kinds.LoadCell (Some place)) j u e = outside.load_cell m l w s old r none _ place x (λ t. may_by (kinds.LoadCell (Some place)) u None none t) e
     outside_goes (kinds.LoadEntry request reply) j u e = outside.load_entry m l w s old r none _ request reply x e
-    outside_goes (kinds.PrivateLoad slot word) j u e = outside.private_load m l w s old r none _ slot word x e
+    outside_goes (kinds.PrivateLoad slot word) j u e = stores.private_load m l w s old r none rs _ slot word x fits e
     outside_goes (kinds.PrivateStore slot word number) j u e = stores.private_store m l w s old r none rs _ slot word number x fits e
     outside_goes (kinds.Hold thunk d) j u e = sections.hold m l w s old r none _ x rs thunk d (λ t. may_by (kinds.Hold thunk d) u None none t) e
     outside_goes (kinds.LoadThunk (Some d)) j u e = outside.load_thunk m l w s old r none _ d x e

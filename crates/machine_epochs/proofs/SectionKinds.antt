@@ -49,6 +49,7 @@ use Rattle.machine_epochs.proofs.Joining.{but_cell, but_load, descriptor_same, G
 use Rattle.machine_epochs.proofs.SlotKinds.{other_place, this_place, kept_place, live_hand}
 use Rattle.machine_epochs.proofs.RetireKinds.{map_more}
 use Rattle.machine_epochs.proofs.OutsideKinds.{Leads, reads}
+use Rattle.runner_steps.specs.AfterOutside.{published_by}
 
 -- each of these words was stored last at its place
 pub stored_index : (stored : List Stored) (d : ℕ) (ns : List ℕ) (word i : ℕ) → i < length ns → are_stored stored d word ns ≡ true → last_stored stored d (word + i) None ≡ Some (slice_index ns i)

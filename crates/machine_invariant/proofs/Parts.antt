@@ -23,6 +23,7 @@ use Rattle.runner_steps.specs.AfterOutside as outside
 use Rattle.runner_steps.specs.After.{outside_after, line_after, inside_after, after_by, after}
 use Rattle.machine_states.proofs.Steps.{some_same}
 use Rattle.machine_invariant.specs.Whole.{HasPublished, made_in}
+use Rattle.table_words.specs.Places.{slot_count}
 
 -- no entry, no load of a cell, no publication and no retirement
 abbrev pub is_other : EventKind → Bool
@@ -144,7 +145,7 @@ module _ (m : Meaning) (l : Layout) where
     outside_same kinds.Split is = split_same
     outside_same (kinds.Join worker) is = by_reads p _ refl refl refl
     outside_same (kinds.LoadEntry request reply) is = by_reads p _ refl refl refl
-    outside_same (kinds.PrivateLoad slot word) is = by_reads p _ refl refl refl
+    outside_same (kinds.PrivateLoad slot word) is = if_same (nat_lt slot (slot_count l m.fixed_slots)) p _ _ (by_reads p _ refl refl refl) (by_reads p _ refl refl refl)
     outside_same (kinds.PrivateStore slot word number) is = by_reads p _ refl refl refl
     outside_same (kinds.LoadThunk (Some d)) is = by_reads p _ refl refl refl
     outside_same kinds.EnterAgain is = absurd (cc)
@@ -238,7 +239,7 @@ module _ (m : Meaning) (l : Layout) where
     outside_made (kinds.Join worker) = as_before _ refl
     outside_made (kinds.LoadCell (Some place)) = as_before _ refl
     outside_made (kinds.LoadEntry request reply) = as_before _ refl
-    outside_made (kinds.PrivateLoad slot word) = as_before _ refl
+    outside_made (kinds.PrivateLoad slot word) = if_nothing (nat_lt slot (slot_count l m.fixed_slots)) _ _ (as_before _ refl) (as_before _ refl)
     outside_made (kinds.PrivateStore slot word number) = as_before _ refl
     outside_made (kinds.Hold thunk d) = if_nothing (found == thunk.word) _ _ (as_before _ refl) (as_before _ refl)
     outside_made (kinds.LoadThunk (Some d)) = record { nothing = λ q' e. sym (ap made_in e) }

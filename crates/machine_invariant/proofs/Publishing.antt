@@ -25,7 +25,7 @@ use Rattle.runner_parts.specs.Tests.{has, thunk_words}
 use Rattle.runner_parts.specs.Lists.{descriptor_taken, cell_read, section_published}
 use Rattle.runner_steps.specs.Outside.{hold_ask}
 use Rattle.runner_steps.specs.Asks.{asks}
-use Rattle.runner_steps.specs.AfterOutside.{hold_after}
+use Rattle.runner_steps.specs.AfterOutside.{hold_after, published_by}
 use Rattle.runner_steps.specs.After.{after_by, after}
 use Rattle.agreement_core.specs.State.{AgreementState}
 use Rattle.agreement_core.specs.Sound.{IsSound}
