@@ -1,7 +1,7 @@
 #!/usr/bin/env python3
 """Figures of the built program, side by side with a plain Rust program in one run.
 
-Usage: bench/run.py [PROGRAM]     (default: crates/flock/out/flock, made by `rt run` in crates/flock)
+Usage: bench/run.py [PROGRAM]     (default: crates/flock/out/flock, which ./prove makes)
 
 It wants rustc. Each text is run several times by both; the least wall time and the greatest peak memory are told.
 """

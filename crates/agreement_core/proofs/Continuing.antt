@@ -7,7 +7,7 @@ use Rattle.agreement_core.specs.Update.{upd2}
 use Rattle.agreement_core.specs.Checks.{came}
 use Rattle.agreement_core.specs.Events.{Event, Enabled, after}
 use Rattle.agreement_core.specs.Events.{Publish, RetireDescriptor, Free, StoreLog, StoreDone, Read, Open, Pass, SetDone, Release, Finish, LoadCell, Commit, NestedLoad, NestedCommit, NestedHold, OutcomeLoad, OutcomeCommit, PrivateLoad, PrivateStore, MakeCommit, ClockLoad, StampExchange, ClockRaise, ExchangeCell, EpochForRetire, RetireCommit, ReplyExchange}
-use Rattle.agreement_core.specs.Continuing.{GoesOn, SectionsGoOn, RecordsStand}
+use Rattle.agreement_core.specs.Continuing.{GoesOn, SectionsGoOn, RecordsStand, EntriesStand}
 use Rattle.agreement_core.proofs.Frame.{not_both}
 use Rattle.agreement_core.proofs.Committing.{upd_else}
 use Rattle.agreement_core.proofs.Moving.{upd_split}
@@ -128,3 +128,14 @@ kept_same finishes finished r new r' i lt = grind arith
 pub records_stand : (w : AgreementState) (e : Event) → RecordsStand w (after w e)
 records_stand w (Finish r) = record { more = kept_more w.finishes r; same = kept_same w.finishes w.finished r _ }
 records_stand w e = none_kept w (after w e) refl refl
+
+pub entries_stand : (w : AgreementState) (e : Event) → EntriesStand w (after w e)
+entries_stand w (StampExchange r) = record {
+  stamp = λ q some. stays w.shared.stamp ((section_of w r).request) _ q some;
+  reply = λ q some. refl;
+}
+entries_stand w (ReplyExchange r reply) = record {
+  stamp = λ q some. refl;
+  reply = λ q some. stays w.shared.reply ((section_of w r).request) _ q some;
+}
+entries_stand w e = record { stamp = λ q some. refl; reply = λ q some. refl }

@@ -96,7 +96,7 @@ pub end_is : (m : Micro) → is_end m ≡ true → m ≡ micros.End
 end_is micros.End e = refl
 end_is m e = grind arith
 
-check_phase : (m : Micro) → is_check m ≡ true → phase m ≡ 1
+pub check_phase : (m : Micro) → is_check m ≡ true → phase m ≡ 1
 check_phase m e = grind arith
 
 late_phase : (m : Micro) → phase m ≤ 1 → (is_exchange m ≡ false) × (is_stamp_exchange m ≡ false) × (is_reply_exchange m ≡ false)

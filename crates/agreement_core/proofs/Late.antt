@@ -1,7 +1,7 @@
 -- Late runs change nothing; nobody changes a lock that an open section holds.
-use Rattle.std.proofs.Common.{◌≡◌, ℕ, suc, ◌/◌, ◌<◌, ◌≤◌, true, false, refl, sym, ap, ◌∙◌, subst, ⊎_elim, arith, Option, Some, None}
+use Rattle.std.proofs.Common.{◌≡◌, ℕ, suc, ◌/◌, ◌<◌, ◌≤◌, true, false, refl, sym, ap, ◌∙◌, subst, inl, inr, ⊎_elim, arith, Option, Some, None}
 use Rattle.std.proofs.lemmas.Bool.{cases_eq}
-use Rattle.std.specs.Prelude.{max}
+use Rattle.std.specs.Prelude.{max, ◌⊎◌}
 use mathlib.Core.Path.{fun_ext}
 use Rattle.section_body.specs.Update.{upd}
 use Rattle.section_body.specs.Run.{written_once}
@@ -14,7 +14,7 @@ use Rattle.agreement_core.specs.Checks.{came, exchanged, is_stamp_exchange, is_r
 use Rattle.agreement_core.specs.Events.{Event, Enabled, after, agrees}
 use Rattle.agreement_core.specs.Events.{Publish, RetireDescriptor, Free, StoreLog, StoreDone, Read, Open, Pass, SetDone, Release, Finish, LoadCell, Commit, NestedLoad, NestedCommit, NestedHold, OutcomeLoad, OutcomeCommit, PrivateLoad, PrivateStore, MakeCommit, ClockLoad, StampExchange, ClockRaise, ExchangeCell, EpochForRetire, RetireCommit, ReplyExchange}
 use Rattle.agreement_core.specs.Sound.{UsedIsSound, IsSound}
-use Rattle.agreement_core.specs.Late.{stepper, IsLate, IsUnchanged, LocksStay}
+use Rattle.agreement_core.specs.Late.{IsReleaseOf, LocksLeave, stepper, IsLate, IsUnchanged, LocksStay}
 use Rattle.agreement_core.proofs.Frame.{not_both}
 use Rattle.agreement_core.proofs.Committing.{upd_else}
 use Rattle.agreement_core.proofs.Changing.{exchange_fails, upd_found}
@@ -49,10 +49,10 @@ module _ (c : CellRules) (w : AgreementState) (old : IsSound c w) (r : ℕ) (run
   same_edge : (log : ℕ → ℕ) → log ≡ s.log → came (record s { log = log }) (suc q.at) ≡ s
   same_edge log same = λ i. record s { log = same i; edge = late_edge s.edge q.at late i }
 
-  goes_section : (d : ℕ) → upd w.section q.descriptor (came s (suc q.at)) d ≡ w.section d
+  pub goes_section : (d : ℕ) → upd w.section q.descriptor (came s (suc q.at)) d ≡ w.section d
   goes_section = upd_same_at w.section q.descriptor (came s (suc q.at)) (same_edge s.log refl)
 
-  agrees_section : q.ended ≡ false → (log proposal : ℕ) → log ≡ s.slot q.at → is_commit (s.code q.at) ≡ true
+  pub agrees_section : q.ended ≡ false → (log proposal : ℕ) → log ≡ s.slot q.at → is_commit (s.code q.at) ≡ true
       → (d : ℕ) → upd w.section q.descriptor (came (record s { log = upd s.log log (written_once (s.log log) proposal) })
       (suc q.at)) d ≡ w.section d
   agrees_section going log proposal here commit = upd_same_at w.section q.descriptor _
@@ -218,30 +218,50 @@ module _ (c : CellRules) where
       (cases_eq (w.shared.cells place) old))
       (λ ne. upd_else w.shared.cells place p _ ne) (cases_eq p place)
 
-  pub locks_stay : (w : AgreementState) (e : Event) → Enabled c w e → IsSound c w → LocksStay c w (after w e)
-  locks_stay w (Publish d0 lock word request code slot) ok old d p is_open lock' names = lock_else w lock word d p (held_word d0 word)
-      (free_value word ok.2.free) ok.1 names
-  locks_stay w (Release r place word) ok old d p is_open lock names =
+  -- a release of this lock, or of another word
+  release_leaves : (w : AgreementState) (r place word : ℕ) → Enabled c w (Release r place word) → IsSound c w → (d p : ℕ)
+      → value_of (w.shared.cells p) ≡ suc d
+      → ((after w (Release r place word)).shared.cells p ≡ w.shared.cells p) ⊎ IsReleaseOf w (Release r place word) d p
+  release_leaves w r place word ok old d p names =
       let d0 = (w.run r).descriptor in
       let o = own_line w old r ok.0 in
-      exchange_else w place (held_word d0 word) _ p (λ e is.
+      ⊎_elim
+      (λ e. ⊎_elim
+      (λ is.
       let z : suc d ≡ suc d0 = sym names ∙ ap (λ n. value_of (w.shared.cells n)) e ∙ ap value_of is ∙ value_held d0 word o.published.link in
-      let same : d ≡ d0 = omega arith in
-      (old.runs r ok.0).in_trail.ended_done ok.1 (subst (λ n. (w.section n).done ≡ 0) same is_open.undone))
-  locks_stay w (NestedHold r place free) ok old d p is_open lock names =
+      inr (r, word, ap (λ n. Release r n word) (sym e), ok.0, (let same : d0 ≡ d = omega arith in same)))
+      (λ ne. inl (exchange_else w place (held_word d0 word) _ p (λ e' is. ne is)))
+      (cases_eq (w.shared.cells place) (held_word d0 word)))
+      (λ ne. inl (exchange_else w place (held_word d0 word) _ p (λ e is. ne e)))
+      (cases_eq p place)
+
+  pub locks_leave : (w : AgreementState) (e : Event) → Enabled c w e → IsSound c w → LocksLeave c w e (after w e)
+  locks_leave w (Publish d0 lock word request code slot) ok old d p lock' names = inl (lock_else w lock word d p (held_word d0 word)
+      (free_value word ok.2.free) ok.1 names)
+  locks_leave w (Release r place word) ok old d p lock names = release_leaves w r place word ok old d p names
+  locks_leave w (NestedHold r place free) ok old d p lock names =
       let o = own_line w old r ok.running in
       let s = section_of w r in
-      exchange_else w place free _ p (λ e is.
+      inl (exchange_else w place free _ p (λ e is.
       let z : suc d ≡ 0 = sym names ∙ ap (λ n. value_of (w.shared.cells n)) e ∙ ap value_of is
       ∙ free_value free (hold_free c s.lock s.code s.slot o.published.line ((w.run r).at) place free ok.next) in
-      omega arith)
-  locks_stay w (PrivateStore r cell log value place word) ok old d p is_open lock names =
-      upd_else w.shared.cells place p word (λ e. let z : suc d ≡ 0 = sym names ∙ ap (λ n. value_of (w.shared.cells n)) e
-      ∙ ok.1.free_before (ap c.is_lock (sym e) ∙ lock) in omega arith)
-  locks_stay w (ExchangeCell r place log value) ok old d p is_open lock names =
+      omega arith))
+  locks_leave w (PrivateStore r cell log value place word) ok old d p lock names =
+      inl (upd_else w.shared.cells place p word (λ e. let z : suc d ≡ 0 = sym names ∙ ap (λ n. value_of (w.shared.cells n)) e
+      ∙ ok.1.free_before (ap c.is_lock (sym e) ∙ lock) in omega arith))
+  locks_leave w (ExchangeCell r place log value) ok old d p lock names =
       let o = own_line w old r ok.running in
       let s = section_of w r in
-      upd_else w.shared.cells place p _
+      inl (upd_else w.shared.cells place p _
       (λ e. not_both _ lock (ap c.is_lock e ∙ exchange_unlocked c s.lock s.code s.slot o.published.line
-      ((w.run r).at) place log value ok.next))
-  locks_stay w e ok old d p is_open lock names = refl
+      ((w.run r).at) place log value ok.next)))
+  locks_leave w e ok old d p lock names = inl refl
+
+  -- only a run that has set its section done releases a lock
+  pub locks_stay : (w : AgreementState) (e : Event) → Enabled c w e → IsSound c w → LocksStay c w (after w e)
+  locks_stay w e ok old d p is_open lock names = ⊎_elim (λ same. same)
+      (λ release.
+      let (r, word, is, running, of_section) = release in
+      let enabled = subst (Enabled c w) is ok in
+      absurd ((old.runs r running).in_trail.ended_done enabled.1 (subst (λ n. (w.section n).done ≡ 0) (sym of_section) is_open.undone)))
+      (locks_leave w e ok old d p lock names)

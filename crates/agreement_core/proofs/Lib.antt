@@ -28,6 +28,7 @@ pub mod Continuing
 pub mod Answering
 pub mod PlainRuns
 pub mod Late
+pub mod Closing
 pub mod HelpedLine
 pub mod Helping
 pub mod Standing

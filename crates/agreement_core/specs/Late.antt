@@ -1,8 +1,8 @@
 -- What late runs change, and what nobody changes in an open section.
-use Rattle.std.specs.Prelude.{ℕ, suc, ◌<◌, ◌≡◌, true, Option, Some, None}
+use Rattle.std.specs.Prelude.{ℕ, suc, ◌<◌, ◌≡◌, ◌⊎◌, true, Option, Some, None}
 use Rattle.section_body.specs.Word.{value_of}
 use Rattle.agreement_core.specs.State.{CellRules, AgreementState, section_of, IsOpen}
-use Rattle.agreement_core.specs.Events.{Event, LoadCell, Commit, NestedLoad, NestedCommit, NestedHold, OutcomeLoad, OutcomeCommit, PrivateLoad, MakeCommit, ClockLoad, StampExchange, ClockRaise, ExchangeCell, EpochForRetire, RetireCommit, ReplyExchange}
+use Rattle.agreement_core.specs.Events.{Event, Release, LoadCell, Commit, NestedLoad, NestedCommit, NestedHold, OutcomeLoad, OutcomeCommit, PrivateLoad, MakeCommit, ClockLoad, StampExchange, ClockRaise, ExchangeCell, EpochForRetire, RetireCommit, ReplyExchange}
 
 -- the runner of a step of a line, but for the private store of a cell of its own slot
 abbrev pub stepper : Event → Option ℕ
@@ -39,3 +39,12 @@ pub record IsUnchanged (w w' : AgreementState) : Type 0 where
 -- the locks that open sections hold stand
 abbrev pub LocksStay : CellRules → AgreementState → AgreementState → Type 0
 LocksStay c w w' = (d p : ℕ) → IsOpen w d → c.is_lock p ≡ true → value_of (w.shared.cells p) ≡ suc d → w'.shared.cells p ≡ w.shared.cells p
+
+-- the event releases this lock, in a run of the section that this descriptor has
+abbrev pub IsReleaseOf : AgreementState → Event → ℕ → ℕ → Type 0
+IsReleaseOf w e d p = (r word : ℕ) × (e ≡ Release r p word) × ((w.run r).running ≡ true) × ((w.run r).descriptor ≡ d)
+
+-- a lock that names a section stands, or a run of that section releases it
+abbrev pub LocksLeave : CellRules → AgreementState → Event → AgreementState → Type 0
+LocksLeave c w e w' = (d p : ℕ) → c.is_lock p ≡ true → value_of (w.shared.cells p) ≡ suc d
+    → (w'.shared.cells p ≡ w.shared.cells p) ⊎ IsReleaseOf w e d p

@@ -13,5 +13,6 @@ pub mod Late
 pub mod Continuing
 pub mod Frame
 pub mod History
+pub mod Closed
 pub mod PlainRuns
 pub mod Helped

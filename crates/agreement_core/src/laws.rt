@@ -6,15 +6,16 @@ ghost use Rattle.agreement_core.specs.Sound.{IsOf, IsSound};
 ghost use Rattle.agreement_core.specs.Schedules.{IsFirst, first_state, AllEnabled, after_all};
 ghost use Rattle.agreement_core.specs.Trails.{RunsAgree, HoldsNothing};
 ghost use Rattle.agreement_core.specs.Rising.{RiseByOne, IsNotFuture};
-ghost use Rattle.agreement_core.specs.Continuing.{SectionsGoOn, RecordsStand};
+ghost use Rattle.agreement_core.specs.Continuing.{SectionsGoOn, RecordsStand, EntriesStand, DoneStand, EndsAreOld};
 ghost use Rattle.agreement_core.specs.Standing.{CellsStand, LocksStand, TakesStand, IsDoneLate};
-ghost use Rattle.agreement_core.specs.Late.{stepper, IsLate, IsUnchanged, LocksStay};
+ghost use Rattle.agreement_core.specs.Late.{stepper, IsLate, IsUnchanged, LocksStay, LocksLeave};
 ghost use Rattle.agreement_core.specs.Frame.{IsSame};
 ghost use Rattle.section_body.specs.Run.{Run};
 ghost use Rattle.section_body.specs.declared.step.Step.{Step};
 ghost use Rattle.agreement_core.specs.PlainRuns.{IsOfBody, chosen, IsOver, start_over, FollowsPlainRun};
 ghost use Rattle.agreement_core.specs.Helped.{IsHelped};
 ghost use Rattle.agreement_core.specs.History.{History, no_history, noted, noted_all, IsExact, HasAnswered, HasLeft, HappenedOnce, NothingHappened, Lasts};
+ghost use Rattle.agreement_core.specs.Closed.{ClosedStay, NumbersStay};
 
 /// Every enabled event leads from a state that meets the invariant to one that meets it.
 pub fn events_keep_the_invariant()
@@ -38,10 +39,14 @@ pub fn runs_agree()
 {}
 
 /// An agreed word stands until the section's descriptor is free again, and so does all else that the section is; a section
-/// that is done stays done. What is kept of a run that came to its end stands for good.
+/// that is done stays done, and its log and how far its runs have come stand. What is kept of a run that came to its end stands for
+/// good, and so does a stamp word and a reply word that isn't 0. A section of which a run came to its end isn't published again.
 pub fn agreed_words_stand()
+    ensures entries { (w : AgreementState) (e : Event) → EntriesStand w (after w e) }
     ensures records { (w : AgreementState) (e : Event) → RecordsStand w (after w e) }
     ensures sections { (c : CellRules) (w : AgreementState) (e : Event) → Enabled c w e → SectionsGoOn w (after w e) }
+    ensures done { (c : CellRules) (w : AgreementState) (e : Event) → Enabled c w e → IsSound c w → DoneStand w (after w e) }
+    ensures ended { (c : CellRules) (w : AgreementState) (e : Event) → Enabled c w e → IsSound c w → EndsAreOld w (after w e) }
 {}
 
 /// A step of a run that is behind the furthest one of its section changes no cell, clock, stamp or reply, and nothing in any
@@ -64,12 +69,13 @@ pub fn loaded_cells_stand()
 {}
 
 /// A lock word that names a descriptor names a section that is published and isn't retired, with the held word of a lock of
-/// that section. A section is done only behind the exchanges of its line. No event changes a lock that an open section holds, so
-/// only a run that has set it done releases a lock.
+/// that section. A section is done only behind the exchanges of its line. A lock that names a section stands until a run of that
+/// section releases it. No event changes a lock that an open section holds, so only a run that has set it done releases a lock.
 pub fn locks_name_live_sections()
     ensures named { (c : CellRules) (w : AgreementState) → IsSound c w → LocksStand c w }
     ensures done { (c : CellRules) (w : AgreementState) (d : ℕ) → IsSound c w → w.used d ≡ true → (w.section d).done ≢ 0
         → IsDoneLate c w d }
+    ensures leave { (c : CellRules) (w : AgreementState) (e : Event) → Enabled c w e → IsSound c w → LocksLeave c w e (after w e) }
     ensures stay { (c : CellRules) (w : AgreementState) (e : Event) → Enabled c w e → IsSound c w → LocksStay c w (after w e) }
     ensures released { (c : CellRules) (w : AgreementState) (r place word : ℕ) → IsSound c w → Enabled c w (Release r place word)
         → (section_of w r).done ≢ 0 }
@@ -108,10 +114,16 @@ pub fn effects_happen_once()
         → HasLeft (w.section d) → NothingHappened h (h.section d) }
 {}
 
-/// What was changed stays: an event adds to the history, and changes nothing that stands in it.
+/// What was changed stays: an event adds to the history, and changes nothing that stands in it. It adds only to what open
+/// sections changed, so nothing to what was changed by a section that is done, or whose descriptor is free again. Each section has
+/// its own number: a publication gives the next one.
 pub fn the_history_lasts()
-    ensures { (c : CellRules) (w : AgreementState) (h : History) (e : Event) → Enabled c w e → IsSound c w → IsExact w h
+    ensures stays { (c : CellRules) (w : AgreementState) (h : History) (e : Event) → Enabled c w e → IsSound c w → IsExact w h
         → Lasts h (noted w h e) }
+    ensures closed { (c : CellRules) (w : AgreementState) (h : History) (e : Event) → Enabled c w e → IsSound c w → IsExact w h
+        → ClosedStay w (after w e) h (noted w h e) }
+    ensures numbers { (c : CellRules) (w : AgreementState) (h : History) (e : Event) → Enabled c w e
+        → NumbersStay w (after w e) h (noted w h e) }
 {}
 
 /// A state that differs in no field meets the invariant and keeps the history exact.

@@ -6,6 +6,7 @@ pub mod Keeping
 pub mod Reusing
 pub mod Exactly
 pub mod Lasting
+pub mod Freeing
 pub mod Same
 pub mod Times
 pub mod Collecting

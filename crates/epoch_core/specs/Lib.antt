@@ -10,5 +10,6 @@ pub mod Lists
 pub mod Follows
 pub mod Commits
 pub mod History
+pub mod Freed
 pub mod Starts
 pub mod Round

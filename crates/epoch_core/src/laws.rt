@@ -13,6 +13,7 @@ ghost use Rattle.epoch_core.specs.Reuse.{HeldAreSafe, LeavesLate, LeavesNothingO
 ghost use Rattle.epoch_core.specs.Follows.{MayFollow};
 ghost use Rattle.epoch_core.specs.Commits.{MakeGoesOn, RetireGoesOn};
 ghost use Rattle.epoch_core.specs.History.{History, no_history, noted, noted_all, IsExact, Lasts};
+ghost use Rattle.epoch_core.specs.Freed.{FreedStay, SlotsMove};
 
 /// Every enabled event leads from a state that meets the invariant to one that meets it.
 pub fn events_keep_the_invariant()
@@ -83,8 +84,15 @@ pub fn commits_are_won_once()
         → IsExact c (after_all c (first_state location) es) (noted_all c (first_state location) no_history es) }
 {}
 
-/// What was won stays won: an event adds to the history, and changes nothing that stands in it.
+/// What was won stays won: an event adds to the history, and changes nothing that stands in it. It adds nothing to what was won for
+/// a section whose descriptor is free again. A slot comes to be live only from a hand, by one commit of a Make that won, and goes
+/// into limbo only from live, by one commit of a Retire that won; a slot that leaves a hand otherwise goes back to that runner's
+/// free or worn list.
 pub fn the_history_lasts()
-    ensures { (c : Counts) (w : EpochState) (h : History) (e : Event) → Enabled c w e → IsSound c w → IsExact c w h
+    ensures stays { (c : Counts) (w : EpochState) (h : History) (e : Event) → Enabled c w e → IsSound c w → IsExact c w h
         → Lasts h (noted w h e) }
+    ensures freed { (c : Counts) (w : EpochState) (h : History) (e : Event) → Enabled c w e → IsSound c w
+        → FreedStay c w (after c w e) h (noted w h e) }
+    ensures moves { (c : Counts) (w : EpochState) (h : History) (e : Event) → Enabled c w e → IsSound c w → IsExact c w h
+        → SlotsMove c w (after c w e) h (noted w h e) }
 {}

@@ -10,7 +10,7 @@ use Rattle.map_history.specs.Requests.{AreInOrder}
 use Rattle.map_history.specs.History.{IsLegalFrom}
 use Rattle.map_history.specs.Replay.{Pairs, map_after, map_after_all}
 use Rattle.report_text.specs.Entries.{Entered, entered_of, entered_in, turn_of_entered, answered_by, op_of_entered, AreLegal}
-use Rattle.report_text.specs.Ranks.{comes_before}
+use Rattle.history_orders.specs.Turns.{comes_before}
 use Rattle.flock_tool.specs.Serve.{ops_of, entries_of, size_of}
 use Rattle.flock_tool.proofs.Rows.{All-none, All-cons}
 use Rattle.flock_tool.proofs.Served.{to_come, length-entries_of}

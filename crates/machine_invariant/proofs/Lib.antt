@@ -1,23 +1,24 @@
-mod Basics
-mod Asked
+pub mod Basics
+pub mod Asked
 mod Prepared
 mod Limbo
-mod Slots
-mod Trails
+pub mod Slots
+pub mod Trails
 mod Lines
-mod Sections
+pub mod Sections
+pub mod Unwon
 pub mod Lengths
 pub mod LogWords
-mod States
-mod Along
+pub mod States
+pub mod Along
 mod Named
-mod Runs
+pub mod Runs
 mod Ties
-mod Parts
-mod Quiet
-mod Thunks
-mod Sights
-mod Chunked
+pub mod Parts
+pub mod Quiet
+pub mod Thunks
+pub mod Sights
+pub mod Chunked
 mod Reaching
 mod SuppliesSections
 mod SuppliesSlots
@@ -34,8 +35,8 @@ mod Walking
 mod Publishing
 mod SectionsRetired
 mod Freeing
-mod First
-mod Following
-mod AllKinds
+pub mod First
+pub mod Following
+pub mod AllKinds
 pub mod After
 pub mod Rising

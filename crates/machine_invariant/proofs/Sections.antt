@@ -1,13 +1,14 @@
 -- What agreement says of the machine's sections.
-use Rattle.std.proofs.Common.{◌≡◌, ◌≢◌, ℕ, suc, ◌-◌, ◌<◌, true, cond, List, [], ◌∷◌, length, Some, refl, sym, ap, ◌∙◌, subst, inl, inr}
+use Rattle.std.proofs.Common.{◌≡◌, ◌≢◌, ℕ, suc, ◌-◌, ◌<◌, ◌≤◌, true, cond, List, [], ◌∷◌, length, Some, refl, sym, ap, ◌∙◌, subst, inl, inr}
 use Rattle.std.proofs.Common.{⊎_elim, arith}
 use Rattle.std.specs.Prelude.{◌⊎◌}
 use mathlib.Core.Path.{fun_ext}
-use Rattle.section_body.specs.Line.{line, is_check, is_end, is_commit}
+use Rattle.section_body.specs.Line.{line, micro_at, is_check, is_end, is_commit}
 use Rattle.section_body.specs.Shape.{IsShaped}
 use Rattle.section_body.specs.declared.thunk.Thunk.{Thunk}
+use Rattle.section_body.specs.declared.micro.Micro.{Micro}
 use Rattle.section_body.specs.declared.micro.Micro.TheVariants.{MakeCommit, RetireCommit}
-use Rattle.section_lines.specs.Line.{phase}
+use Rattle.section_lines.specs.Line.{phase, IsCounted}
 use Rattle.table_words.specs.declared.layout.Layout.{Layout}
 use Rattle.table_words.specs.declared.spot.Spot.TheVariants.{Stamp, Reply, DoneWord}
 use Rattle.structure_laws.specs.Meaning.{Meaning}
@@ -21,7 +22,7 @@ use Rattle.agreement_core.specs.PlainRuns.{IsOfBody}
 use Rattle.agreement_core.specs.History.{History, written, IsExact, HasAnswered, HasLeft, HappenedOnce, NothingHappened}
 use Rattle.agreement_core.proofs.Standing.{agree, not_future, cells_stand, locks_stand, takes_stand, done_late, holds_nothing}
 use Rattle.agreement_core.proofs.PlainRuns.{follows_plain_run, starts_over}
-use Rattle.agreement_core.proofs.Lasting.{answered_or_left, before_end, happened, nothing}
+use Rattle.agreement_core.proofs.Lasting.{answered_or_left, before_end, happened, nothing, check_phase}
 use Rattle.machine_states.specs.Sight.{Sight}
 use Rattle.machine_epochs.specs.Entries.{counts_of}
 use Rattle.machine_epochs.specs.Joined as slots
@@ -33,6 +34,7 @@ use Rattle.machine_invariant.specs.Slots.{CommitsAreWonOnce}
 use Rattle.machine_invariant.specs.Sections.{IsAnswered, IsLeft, EffectsComeOnce, LawsHold, SectionsAreSound}
 use Rattle.machine_invariant.proofs.Slots.{commits_won}
 use Rattle.machine_invariant.proofs.Lines.{lines_same, follows_same}
+use Rattle.machine_invariant.proofs.Unwon.{none_made, none_retired, empty_of}
 use Rattle.machine_invariant.proofs.Trails.{trails_agree, locks_name, cells_past}
 
 agreed_one : (word : ℕ) → 0 < word → epochs.agreed_slot word ≡ (word - 1) ∷ []
@@ -149,6 +151,26 @@ module _ (m : Meaning) (l : Layout) (a : AgreementState) (s : Sight) (joined : I
         (retire_role (m.body (thunk_at m a s d)) before.0 t k (sym (is.code before.0) ∙ before.2))
         ∙ counted_one _ (agreed_on d i k x (ap is_commit code) (omega arith) here))
 
+    -- a section that left stands at a check, before its Makes and Retires
+    unwon : (d k : ℕ) → IsLeft m a s d → (wins.made (wins.section d) k ≡ []) × (wins.retired (wins.section d) k ≡ [])
+    unwon d k x =
+        let is = of_thunk d x.used in
+        let own = joined.sound.sections d x.used in
+        let in_line = own.published.line in
+        let body = m.body (thunk_at m a s d) in
+        let counted : IsCounted (micro_at (line body)) ((a.section d).slot) =
+        subst (λ (code : ℕ → Micro). IsCounted code ((a.section d).slot)) (fun_ext is.code) in_line.counted in
+        let early : (i : ℕ) → i < (a.section d).edge → phase (micro_at (line body) i) ≤ 1 = λ i lt.
+        let one = check_phase _ (left d x).check in
+        let rises = in_line.in_phases.phases i ((a.section d).edge) (let z = lt in omega arith) in
+        let here = ap phase (is.code i) in omega arith in
+        let empty : (j : ℕ) → (a.section d).slot ((a.section d).edge) ≤ j → log_of m a s d j ≡ 0 = λ j le.
+        sym ((joined.sections d).log j) ∙ own.section.in_log.empty j le in
+        let out = sym (tie d) ∙ x.used in (
+          won.made d k out ∙ none_made body ((a.section d).slot) counted ((a.section d).edge) early (log_of m a s d) empty k,
+          empty_of _ (won.retired d k out ∙ none_retired body ((a.section d).slot) counted ((a.section d).edge) early (log_of m a s d) empty k),
+        )
+
     effects_once : EffectsComeOnce m a s changes wins
     effects_once = record {
       over = over;
@@ -165,6 +187,8 @@ module _ (m : Meaning) (l : Layout) (a : AgreementState) (s : Sight) (joined : I
       unmoved = λ d i x. (none d x).moved i;
       unstamped = λ d x. (none d x).stamp;
       unreplied = λ d x. (none d x).reply;
+      unmade = λ d k x. (unwon d k x).0;
+      unretired = λ d k x. (unwon d k x).1;
       stamps = λ q. exact.stamps q ∙ ap written (joined.words.stamp q);
       replies = λ q. exact.replies q ∙ ap written (joined.words.reply q);
     }

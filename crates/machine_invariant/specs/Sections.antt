@@ -53,6 +53,9 @@ module _ (m : Meaning) (a : AgreementState) (s : Sight) where
     pub unmoved : (d i : ℕ) → IsLeft d → changes.moved (changes.section d) i ≡ []
     pub unstamped : (d : ℕ) → IsLeft d → changes.stamped (changes.section d) ≡ []
     pub unreplied : (d : ℕ) → IsLeft d → changes.replied (changes.section d) ≡ []
+    -- and it committed no Make and no Retire
+    pub unmade : (d k : ℕ) → IsLeft d → wins.made (wins.section d) k ≡ []
+    pub unretired : (d k : ℕ) → IsLeft d → wins.retired (wins.section d) k ≡ []
     -- each stamp word and each reply word that isn't 0 was written once
     pub stamps : (q : ℕ) → changes.stamps q ≡ written (s.word (Stamp q))
     pub replies : (q : ℕ) → changes.replies q ≡ written (s.word (Reply q))

@@ -8,7 +8,7 @@ use Rattle.map_history.specs.declared.op.Entry.{Entry}
 use Rattle.map_history.specs.declared.op.Request.{Request}
 use Rattle.map_history.specs.History.{Answered, IsLegalFrom}
 use Rattle.map_history.specs.Replay.{map_after_all}
-use Rattle.report_text.specs.Ranks.{Turn, comes_before}
+use Rattle.history_orders.specs.Turns.{Turn, comes_before}
 
 -- a served request with its number and its entry
 pub record Entered : Type 0 where

@@ -1,5 +1,6 @@
--- How many atomic steps one run of a body makes that leaves at no exit.
-use Rattle.std.specs.Prelude.{ℕ, ◌+◌, List, count_by, sum_by}
+-- How many atomic steps one run of a body makes.
+use Rattle.std.specs.Prelude.{ℕ, ◌+◌, List, count_by, sum_by, take, length}
+use Rattle.section_body.specs.Line.{line, is_event, ending}
 use Rattle.section_body.specs.Shape.{is_take}
 use Rattle.section_body.specs.declared.step.Step.{Step}
 use Rattle.section_body.specs.declared.step.Step.TheVariants.{Load, Want, Fresh, Take, Make, Stamp, Store, Retire, Answer}
@@ -23,3 +24,8 @@ step_cost (Answer reply) = 1
 -- the opening, the steps, and the end: the done word, each nested lock and the outer one
 abbrev pub cost_of : List Step → ℕ
 cost_of body = opening_cost + sum_by step_cost body + (1 + (count_by is_take body + 1))
+
+-- how many atomic steps on shared words a run makes, by its line, that comes to this place of it and no further: the opening, those
+-- below the place, and the end of a section with this outer lock and free word
+abbrev pub steps_to : List Step → ℕ → ℕ → ℕ → ℕ
+steps_to body at lock word = opening_cost + (count_by is_event (take at (line body)) + length (ending (line body) at lock word))

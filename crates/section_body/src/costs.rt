@@ -1,7 +1,8 @@
 //! What one run of a body costs.
-ghost use Rattle.std.specs.Prelude.{◌≡◌, ◌≤◌, length, sum_by, count_by};
+ghost use Rattle.std.specs.Prelude.{◌≡◌, ◌≤◌, ℕ, length, sum_by, count_by};
 ghost use Rattle.section_body.specs.Shape.{is_take};
-ghost use Rattle.section_body.specs.Cost.{step_cost, cost_of};
+ghost use Rattle.section_body.specs.Cost.{step_cost, cost_of, steps_to};
+ghost use Rattle.section_body.specs.Line.{line};
 
 use crate::body::Body;
 use crate::step::Step;
@@ -43,9 +44,12 @@ fn take_count(steps: &[Step]) -> u64
     steps.iter().filter(|step| step.is_take()).count() as u64
 }
 
-/// The number of atomic steps of one run that leaves at no exit, with its opening and its end.
+/// The number of atomic steps of one run that leaves at no exit, with its opening and its end. That is the number of events of
+/// the run by its line, and no run that comes to any place of the line makes more.
 pub fn cost(body: &Body) -> u64
-    ensures { result ≡ cost_of body.now }
+    ensures exact { result ≡ cost_of body.now }
+    ensures whole { (lock word : ℕ) → steps_to body.now (length (line body.now)) lock word ≡ result }
+    ensures most { (at lock word : ℕ) → steps_to body.now at lock word ≤ result }
 {
     let steps = body.steps.as_slice();
     let releases = take_count(steps) + 1;

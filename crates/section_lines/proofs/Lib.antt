@@ -11,3 +11,4 @@ pub mod Runs
 pub mod Progress
 pub mod Moves
 pub mod Fills
+pub mod Resting

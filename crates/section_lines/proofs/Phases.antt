@@ -50,7 +50,7 @@ sole p (first ∷ steps) one = by (p first) refl (sole p steps)
         only zero other here passes = let same : first ≡ other = cc in absurd (let f = sym is ∙ (ap p same ∙ passes) in cc)
         only (suc i) other here passes = ap suc (rest.only i other here passes)
 
-is_the_stamp : (step : Step) → shape.is_stamp step ≡ true → step ≡ Stamp
+pub is_the_stamp : (step : Step) → shape.is_stamp step ≡ true → step ≡ Stamp
 is_the_stamp (Load place into) e = cc
 is_the_stamp (Want reg word) e = cc
 is_the_stamp (Fresh reg) e = cc

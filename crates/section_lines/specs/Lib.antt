@@ -1,3 +1,4 @@
 pub mod Line
 pub mod Runs
 pub mod Progress
+pub mod Rests

@@ -1,0 +1,4 @@
+pub mod Completing
+pub mod Finishing
+pub mod Moving
+pub mod Stores

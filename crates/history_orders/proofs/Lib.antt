@@ -1,0 +1,4 @@
+pub mod Entries
+pub mod Replays
+pub mod Turns
+pub mod Unique

@@ -1,0 +1,10 @@
+-- What orders the requests that have a stamp.
+use Rattle.std.specs.Prelude.{ℕ, ◌==◌, Bool, ◌&&◌, ◌||◌, nat_lt}
+
+-- a request's turn: its stamp, and its number
+abbrev pub Turn : Type 0
+Turn = ℕ × ℕ
+
+-- by the stamp, and at equal stamps by the number
+abbrev pub comes_before : Turn → Turn → Bool
+comes_before a b = nat_lt a.0 b.0 || (a.0 == b.0 && nat_lt a.1 b.1)

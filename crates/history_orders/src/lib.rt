@@ -1,0 +1,9 @@
+//! Histories of requests by their stamps: their order, their replay, and where a new entry goes.
+//!
+//! The definitions stand in specs: `Turns` is the order, `Stamped` histories and their replay. `laws` has each law on a
+//! contract.
+#![tactic(auto)]
+
+mod laws;
+
+pub use laws::{a_history_is_one, entries_are_put_in, replays_are_legal};
