@@ -5,7 +5,7 @@ out=$top/out
 
 # Says in one sentence that the program can't be run, and with what command it can. 70 is no status of the program.
 cannot() {
-  printf 'flock: the program cannot be run: %s; %s makes the proved one\n' "$1" "$top/prove" >&2
+  printf 'flock: the program cannot be run: %s; %q makes the proved one\n' "$1" "$top/prove" >&2
   exit 70
 }
 
@@ -55,7 +55,7 @@ folders_of_program() {
 # One sum of all that the program is built from, but for the toolchain.
 sum_of_program() {
   {
-    lines_of_program
+    lines_of_program | LC_ALL=C sort
     cat "$top/HANDLES" 2> /dev/null
     # shellcheck disable=SC2046
     (cd "$top" && find $(folders_of_program) -type f -print0 | LC_ALL=C sort -z | xargs -0 sha256sum)
@@ -80,13 +80,14 @@ built() {
   printf '%s\n' "$at/flock"
 }
 
-# Keeps a program that was built so of the files with this sum, in place of those that were built so before.
+# Keeps a program that was built so of the files with this sum, in place of those that were built so before; where another command has kept the
+# same meanwhile, that one stays.
 keep() {
   local room
+  built "$1" "$2" > /dev/null && return
   room=$(mktemp -d "$out/new-XXXXXX") || return 1
   cp "$3" "$room/flock" && chmod 755 "$room" "$room/flock" && toolchain > "$room/toolchain" || return 1
   rm -rf "$out/$1"-*
-  # Where another command has kept the same meanwhile, that one serves as well.
   mv -T "$room" "$out/$1-$2" 2> /dev/null || rm -rf "$room"
   [ -x "$out/$1-$2/flock" ]
 }

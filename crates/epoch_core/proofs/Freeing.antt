@@ -30,10 +30,12 @@ won_is found x y xs none one = (grind arith, grind arith)
 
 module _ (c : Counts) (w : EpochState) (h : History) where
   -- an event that moves no node slot and adds nothing
-  still_moves : (e : Event) → ((s : ℕ) → s < c.nodes → (after c w e).location s ≡ w.location s)
+  still_moves : (e : Event) → ((s : ℕ) → w.location s ≡ Fixed → (after c w e).location s ≡ Fixed)
+      → ((s : ℕ) → s < c.nodes → (after c w e).location s ≡ w.location s)
       → ((s r : ℕ) → w.location s ≡ Hand r → (after c w e).location s ≡ Hand r)
       → (noted w h e).made ≡ h.made → (noted w h e).retired ≡ h.retired → SlotsMove c w (after c w e) h (noted w h e)
-  still_moves e same hand made_same retired_same = record {
+  still_moves e fixed same hand made_same retired_same = record {
+    fixed = fixed;
     hand = λ s r at. inl (hand s r at);
     live = λ s lt at. inl (sym (same s lt) ∙ at);
     limbo = λ s r y lt at. inl (sym (same s lt) ∙ at);
@@ -67,6 +69,7 @@ module _ (c : Counts) (w : EpochState) (h : History) where
       → ((s : ℕ) → (node : Bool) × ((after c w e).location s ≡ collected node r epoch (w.location s)))
       → (noted w h e).made ≡ h.made → (noted w h e).retired ≡ h.retired → SlotsMove c w (after c w e) h (noted w h e)
   collect_moves e r epoch all made_same retired_same = record {
+    fixed = λ s at. let x = all s in x.1 ∙ ap (collected x.0 r epoch) at;
     hand = λ s r' at. let x = all s in inl (x.1 ∙ collected_hand x.0 r epoch r' (w.location s) at);
     live = λ s lt at. let x = all s in inl (collected_live x.0 r epoch (w.location s) (sym x.1 ∙ at));
     limbo = λ s r' y lt at. let x = all s in inl (collected_limbo x.0 r epoch r' y (w.location s) (sym x.1 ∙ at));
@@ -76,6 +79,7 @@ module _ (c : Counts) (w : EpochState) (h : History) where
 
   test_moves : (r s : ℕ) (b : Bool) → Enabled c w (Test r s b) → SlotsMove c w (after c w (Test r s b)) h (noted w h (Test r s b))
   test_moves r s b ok = record {
+    fixed = grind arith;
     hand = grind arith;
     live = grind arith;
     limbo = grind arith;
@@ -85,6 +89,7 @@ module _ (c : Counts) (w : EpochState) (h : History) where
 
   take_moves : (r s : ℕ) → Enabled c w (TakeSlot r s) → SlotsMove c w (after c w (TakeSlot r s)) h (noted w h (TakeSlot r s))
   take_moves r s ok = record {
+    fixed = grind arith;
     hand = grind arith;
     live = grind arith;
     limbo = grind arith;
@@ -110,6 +115,7 @@ module _ (c : Counts) (w : EpochState) (h : History) where
         one = grind arith;
       } in
       record {
+        fixed = λ t at. ⊎_elim (λ e. absurd (let no : Fixed ≡ Hand r = sym at ∙ ap w.location e ∙ ok.2 in cc)) (λ ne. else t ne ∙ at) (cases_eq t s);
         hand = λ t r' at. ⊎_elim
             (λ e. let same : Hand r' ≡ Hand r = sym at ∙ ap w.location e ∙ ok.2 in ⊎_elim
             (λ z. let owner : r' ≡ r = cc in inr (inl (subst (λ n. IsMade w (after c w (MakeCommit r d k s b)) h (noted w h (MakeCommit r d k s b)) n t)
@@ -162,6 +168,9 @@ module _ (c : Counts) (w : EpochState) (h : History) where
       let out = kept_out (w.location (slot_of c x.descriptor)) _ (sound.held r (slot_of c x.descriptor) (sound.retire_held r ok)) in
       let here = exact.retired x.descriptor x.index out in
       record {
+        fixed = λ t at. ⊎_elim
+            (λ z. ⊎_elim (λ e. absurd (let no : Fixed ≡ Live = sym at ∙ ap w.location e ∙ live z in cc)) (λ ne. else t ne ∙ at) (cases_eq t x.slot))
+            (λ ne. unmoved t ne ∙ at) (cases_eq (w.log x.descriptor x.index) 0);
         hand = λ t r' at. ⊎_elim
             (λ z. ⊎_elim (λ e. absurd (let now = live z in grind arith)) (λ ne. inl (else t ne ∙ at)) (cases_eq t x.slot))
             (λ ne. inl (unmoved t ne ∙ at)) (cases_eq (w.log x.descriptor x.index) 0);
@@ -221,9 +230,9 @@ module _ (c : Counts) (w : EpochState) (h : History) where
   moves (RetireCommit r) ok sound exact = retire_moves r ok exact sound
   moves (ScanLast r x n b) ok sound exact = collect_moves (ScanLast r x n b) r x (λ s. (nat_lt s c.nodes, refl)) refl refl
   moves (Advance r x n) ok sound exact = collect_moves (Advance r x n) r (x + 1) (λ s. (nat_lt s c.nodes, refl)) refl refl
-  moves (Publish r d roles) ok sound exact = still_moves (Publish r d roles) (λ s lt. grind arith) (λ s r' at. grind arith) refl refl
-  moves (RetireDescriptor r d) ok sound exact = still_moves (RetireDescriptor r d) (λ s lt. grind arith) (λ s r' at. grind arith) refl refl
-  moves e ok sound exact = still_moves e (λ s lt. refl) (λ s r at. at) refl refl
+  moves (Publish r d roles) ok sound exact = still_moves (Publish r d roles) (λ s at. grind arith) (λ s lt. grind arith) (λ s r' at. grind arith) refl refl
+  moves (RetireDescriptor r d) ok sound exact = still_moves (RetireDescriptor r d) (λ s at. grind arith) (λ s lt. grind arith) (λ s r' at. grind arith) refl refl
+  moves e ok sound exact = still_moves e (λ s at. at) (λ s lt. refl) (λ s r at. at) refl refl
 
   -- a descriptor is where it was, or was out and is out, or was in limbo
   abbrev StaysOut : (ℕ → Location) → Type 0

@@ -1,7 +1,7 @@
 -- An entry is put into a history.
-use Rattle.std.proofs.Common.{◌≡◌, ◌≢◌, zero, suc, Bool, true, false, IsTrue, cond, List, [], ◌∷◌, refl, sym, ap, ◌∙◌, subst, inl, inr, ⊎_elim, arith}
-use Rattle.std.specs.Prelude.{◌⊎◌, All, Contains}
-use Rattle.std.proofs.lemmas.List.Elements.{All-cons, All-head, All-tail, All-nil, All-weaker}
+use Rattle.std.proofs.Common.{◌≡◌, ◌≢◌, zero, suc, Bool, true, false, IsTrue, cond, List, [], ◌∷◌, length, refl, sym, ap, ◌∙◌, subst, inl, inr, ⊎_elim, arith}
+use Rattle.std.specs.Prelude.{◌⊎◌, All, Contains, slice_index_or}
+use Rattle.std.proofs.lemmas.List.Elements.{Contains-get_or, All-cons, All-head, All-tail, All-nil, All-weaker}
 use Rattle.std.proofs.lemmas.List.Kept.{AllPairs-cons}
 use Rattle.map_history.specs.Keys.{HaveNoCommonKey}
 use Rattle.map_history.specs.Replay.{reply_of, map_after}
@@ -113,3 +113,11 @@ put_in-contains e x (y ∷ ys) at =
     (⊎_elim (λ same. contains_behind y x (put_in e ys) (put_in-contains e x ys (inl same)))
     (λ there. ⊎_elim (contains_front y x (put_in e ys)) (λ behind. contains_behind y x (put_in e ys) (put_in-contains e x ys (inr behind))) (contains_cases y x ys there)) at))
     (bool_cases (is_earlier y e))
+
+pub length-put_in : (e : Stamped) (xs : List Stamped) → length (put_in e xs) ≡ suc (length xs)
+length-put_in e [] = refl
+length-put_in e (x ∷ xs) = ⊎_elim (λ h. ap length (put_first e x xs h)) (λ h. ap length (put_behind e x xs h) ∙ ap suc (length-put_in e xs)) (bool_cases (is_earlier x e))
+
+-- what holds of each entry, said of the list
+pub all_of : (P : Stamped → Type 0) (xs : List Stamped) → ((x : Stamped) → Contains xs x → P x) → All P xs
+all_of P xs each k d within = each (slice_index_or xs k d) (Contains-get_or xs k d within)

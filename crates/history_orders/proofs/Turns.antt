@@ -19,3 +19,7 @@ before_from a b stamps numbers = grind (arith, nat_tests)
 -- of two different numbers one comes before the other
 pub before_either : (a b : Turn) → a.1 ≢ b.1 → comes_before a b ≡ false → comes_before b a ≡ true
 before_either a b apart after = grind (arith, nat_tests)
+
+-- by the stamps alone
+pub before_by_stamp : (a b : Turn) → a.0 < b.0 → comes_before a b ≡ true
+before_by_stamp a b lower = grind (arith, nat_tests)

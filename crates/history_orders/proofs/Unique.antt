@@ -1,6 +1,7 @@
 -- Two histories of one list of requests and stamp words are one.
-use Rattle.std.proofs.Common.{◌≡◌, ℕ, true, true≢false, List, [], ◌∷◌, refl, sym, ap, ◌∙◌, subst, ⊎_elim}
-use Rattle.std.specs.Prelude.{Contains}
+use Rattle.std.proofs.Common.{◌≡◌, ℕ, true, true≢false, List, [], ◌∷◌, refl, sym, ap, ◌∙◌, subst, ⊎_elim, arith}
+use Rattle.std.specs.Prelude.{◌⊎◌, ◌<◌, Some, Contains, get_or, slice_get}
+use Rattle.std.proofs.lemmas.Option.{slice_get_within, get_or_from_slice_get}
 use Rattle.std.proofs.lemmas.List.Elements.{All-contains}
 use Rattle.map_history.specs.declared.op.Op.{Op}
 use Rattle.map_history.specs.Replay.{reply_of}
@@ -83,3 +84,28 @@ unique op stamp a b of_a of_b replayed_a replayed_b = same_histories a b of_a.or
             op = of_a.ops e at ∙ ap op (sym there.2) ∙ sym (of_b.ops there.0 there.1);
           },
         )
+
+-- no request stands twice
+pub once : (op : ℕ → Op) (stamp : ℕ → ℕ) (history : List Stamped) → IsHistoryOf op stamp history → (i j : ℕ) (a b : Stamped)
+    → slice_get history i ≡ Some a → slice_get history j ≡ Some b → a.number ≡ b.number → i ≡ j
+once op stamp history of i j a b here there number =
+    ⊎_elim (λ lt. absurd (twice i j a b lt here there (same_turn a b (at i a here) (at j b there) number)))
+    (⊎_elim (λ same. same) (λ gt. absurd (twice j i b a gt there here (same_turn b a (at j b there) (at i a here) (sym number)))))
+    (compare_places i j)
+  where
+    compare_places : (i j : ℕ) → (i < j) ⊎ (i ≡ j) ⊎ (j < i)
+    compare_places i j = search arith
+
+    at : (i : ℕ) (a : Stamped) → slice_get history i ≡ Some a → Contains history a
+    at i a here = (i, slice_get_within history i a here, get_or_from_slice_get history i a a here)
+
+    same_turn : (a b : Stamped) → Contains history a → Contains history b → a.number ≡ b.number → turn_of a ≡ turn_of b
+    same_turn a b at_a at_b number = let stamps = of.stamps a at_a ∙ ap stamp number ∙ sym (of.stamps b at_b) in λ k. (stamps k, number k)
+
+    twice : (i j : ℕ) (a b : Stamped) → i < j → slice_get history i ≡ Some a → slice_get history j ≡ Some b → turn_of a ≡ turn_of b → ⊥
+    twice i j a b lt here there same =
+        let before = of.order i j a lt (slice_get_within history j b there) in
+        let first = get_or_from_slice_get history i a a here in
+        let second = get_or_from_slice_get history j b a there in
+        let now : is_earlier b a ≡ true = subst (λ x. is_earlier x a ≡ true) second (subst (λ x. is_earlier (get_or history j a) x ≡ true) first before) in
+        true≢false (sym now ∙ ap (λ turn. comes_before turn (turn_of a)) (sym same) ∙ before_itself (turn_of a))

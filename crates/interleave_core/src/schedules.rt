@@ -9,6 +9,7 @@ ghost use Rattle.machine_epochs.specs.Epochs.{SoundAfter};
 ghost use Rattle.machine_invariant.specs.After.{WholeAfter};
 ghost use Rattle.machine_invariant.specs.LogWords.{LogWordsSayAfter};
 ghost use Rattle.machine_invariant.specs.Rising.{RisesAfter};
+ghost use Rattle.machine_facts.specs.After.{FactsAfter, StepFactsAfter};
 ghost use Rattle.interleave_core.specs.Enabled.{StopsNaming};
 
 use crate::machine::{Machine, StepError};
@@ -29,8 +30,9 @@ pub enum ScheduleError {
 
 /// The machine after these events, from its first state on. Over every structure, whatever the events: its epochs, slots, descriptors and
 /// sections are sound, each event was exactly the events of its kind in agreement and in epochs and slots, log words and done words of runs
-/// are what they may be, and the next event leaves each cell as it is or raises its version by one. `NotEnabled` comes exactly where an event
-/// isn't enabled, and names the first.
+/// are what they may be, and the next event leaves each cell as it is or raises its version by one. Each section that was published had its
+/// effects once, for good, or none; outcomes that were kept agree; publishers hold what the locks of their Takes named; and the next event
+/// leaves the words that stand. `NotEnabled` comes exactly where an event isn't enabled, and names the first.
 pub fn all_schedules<S: Structure>(
     alloc: Global,
     structure: S,
@@ -46,6 +48,8 @@ pub fn all_schedules<S: Structure>(
     ensures whole { IfOk result (λ x. WholeAfter (S.meaning structure) layout requests.now events.now x.world) }
     ensures logs { IfOk result (λ x. LogWordsSayAfter (S.meaning structure) layout requests.now events.now x.world) }
     ensures rises { IfOk result (λ x. RisesAfter (S.meaning structure) layout requests.now events.now x.world) }
+    ensures facts { IfOk result (λ x. FactsAfter (S.meaning structure) layout requests.now events.now x.world) }
+    ensures steps { IfOk result (λ x. StepFactsAfter (S.meaning structure) layout requests.now events.now x.world) }
     ensures structure { IfOk result (λ x. x.structure ≡ structure) }
     ensures layout { IfOk result (λ x. x.layout ≡ layout) }
     ensures requests { IfOk result (λ x. x.requests ≡ requests.now) }

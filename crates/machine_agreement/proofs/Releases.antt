@@ -50,7 +50,7 @@ use Rattle.machine_agreement.proofs.Ends as ends
 use Rattle.machine_agreement.proofs.LineKinds.{noting, noted_finished, after_line, all}
 
 -- what stands in a list with one more at its end
-get_more : {A : Type 0} (xs : List A) (f g : A) (i : ℕ) → slice_get (xs ++ f ∷ []) i ≡ Some g → ((i < length xs) × (slice_get xs i ≡ Some g)) ⊎ ((i ≡ length xs) × (f ≡ g))
+pub get_more : {A : Type 0} (xs : List A) (f g : A) (i : ℕ) → slice_get (xs ++ f ∷ []) i ≡ Some g → ((i < length xs) × (slice_get xs i ≡ Some g)) ⊎ ((i ≡ length xs) × (f ≡ g))
 get_more [] f g zero e = inr (refl, cc)
 get_more [] f g (suc i) e = cc
 get_more (x ∷ xs) f g zero e = inl (omega arith, e)

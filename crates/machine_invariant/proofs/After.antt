@@ -14,6 +14,7 @@ use Rattle.machine_states.specs.Schedules.{IsAfter}
 use Rattle.machine_states.specs.Sight.{sight}
 use Rattle.machine_states.proofs.FirstSights as firsts
 use Rattle.machine_invariant.specs.Along.{Components}
+use Rattle.machine_invariant.specs.Whole.{Beside, IsWhole}
 use Rattle.machine_invariant.specs.After.{AreAllowed, WholeAfter}
 use Rattle.machine_invariant.specs.Lengths.{ShortAfter}
 use Rattle.machine_invariant.specs.LogWords.{LogWordsSayAfter}
@@ -39,6 +40,12 @@ module _ (m : Meaning) (laws : Laws m) (l : Layout) (limits : IsWithinLimits l) 
       events after.start w (first_beside m laws l limits requests after.start after.first)
       agreement_history.no_history epoch_history.no_history (firsts.first_whole m l requests after.start after.first)
       (first_whole m laws l limits requests after.start after.first) refl after.runs
+
+-- each state that the machine reaches meets the whole invariant, beside some states of the components
+pub reached_whole : (m : Meaning) → Laws m → (l : Layout) (requests : List Request) (events : List Event) (w : World) → IsWithinLimits l
+    → AreAllowed requests → IsAfter m l requests events w → (g : Beside) × IsWhole m l g (sight m l requests w)
+reached_whole m laws l requests events w limits allowed after =
+    let all = followed m laws l limits requests allowed events w after in (all.beside, all.whole)
 
 pub whole_after : (m : Meaning) → Laws m → (l : Layout) (requests : List Request) (events : List Event) (w : World)
     → WholeAfter m l requests events w

@@ -31,7 +31,7 @@ module _ (m : Meaning) (l : Layout) where
     wins = epoch_exactly.exact_first (counts_of m l) _ (first_is m l);
   }
 
-  exact_after : (k : Components) (es : List agreement_events.Event) (vs : List epoch_events.Event)
+  pub exact_after : (k : Components) (es : List agreement_events.Event) (vs : List epoch_events.Event)
       → agreement_schedules.AllEnabled (rules_of m l) k.agreement es → epoch_schedules.AllEnabled (counts_of m l) k.epochs vs
       → AreExact m l k → AreExact m l (components_after m l k es vs)
   exact_after k es vs enabled enabled_slots old = record {

@@ -1,6 +1,6 @@
 pub mod Basics
 pub mod Asked
-mod Prepared
+pub mod Prepared
 mod Limbo
 pub mod Slots
 pub mod Trails
@@ -20,7 +20,7 @@ pub mod Thunks
 pub mod Sights
 pub mod Chunked
 mod Reaching
-mod SuppliesSections
+pub mod SuppliesSections
 mod SuppliesSlots
 mod Meeting
 mod Pieces

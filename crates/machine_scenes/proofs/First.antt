@@ -79,7 +79,7 @@ module _ (m : Meaning) (laws : Laws m) (layout : Layout) (limits : IsWithinLimit
     unused_free (locations.Worn r) is ne = cc
     unused_free (locations.Limbo r y) is ne = cc
 
-    status_first : (t : ℕ) → status_of c location t ≡ cond (nat_lt t m.fixed_slots) Live Free
+    pub status_first : (t : ℕ) → status_of c location t ≡ cond (nat_lt t m.fixed_slots) Live Free
     status_first t = ⊎_elim
         (λ lt. fixed t (first.epochs.for_nodes t (ap is_for_nodes (first.fixed t lt))) lt (status_at (location t))
         (ap status_at (first.fixed t lt)))

@@ -18,7 +18,7 @@ use Rattle.section_lines.proofs.Sources.{of_load, of_make, of_retire}
 use Rattle.section_lines.proofs.Ordered.{fill_of, fills}
 
 -- from a step's beginning on that step is come to
-passed_from : (body : List Step) (edge n : ℕ) → n ≤ length body → begins body n ≤ edge → n ≤ passed_steps body edge
+pub passed_from : (body : List Step) (edge n : ℕ) → n ≤ length body → begins body n ≤ edge → n ≤ passed_steps body edge
 passed_from body edge n within from = ⊎_elim
     (λ low.
     let s = stands body edge low in

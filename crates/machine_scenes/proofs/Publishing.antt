@@ -46,7 +46,7 @@ module _ (m : Meaning) (laws : Laws m) (layout : Layout) (limits : IsWithinLimit
   abbrev p' : Publications
   p' = publishes p d r op thunk readings
 
-  abbrev more : ℕ → Option scenes.Section
+  abbrev pub more : ℕ → Option scenes.Section
   more i = shown m p' (upd w.used d true) (upd w.section d new) i
 
   -- the new section stands at its beginning
@@ -82,7 +82,7 @@ module _ (m : Meaning) (laws : Laws m) (layout : Layout) (limits : IsWithinLimit
           ap (λ o. of o t a u x) e ∙ (ap (λ t. of o' t a u x) f
           ∙ (ap (λ a. of o' t' a u x) g ∙ (ap (λ u. of o' t' a' u x) h ∙ ap (of o' t' a' u') k)))
 
-  sections_publish : ◌≡◌ {A = ℕ → Option scenes.Section} more (upd all d (Some (opened op thunk readings)))
+  pub sections_publish : ◌≡◌ {A = ℕ → Option scenes.Section} more (upd all d (Some (opened op thunk readings)))
   sections_publish = fun_ext at
     where
       at : (i : ℕ) → more i ≡ upd all d (Some (opened op thunk readings)) i

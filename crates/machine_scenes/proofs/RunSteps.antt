@@ -328,7 +328,7 @@ module _ (m : Meaning) (laws : Laws m) (layout : Layout) (limits : IsWithinLimit
         (λ at. lead_store place log value is at (is_open (ap is_event is) at))
 
     -- where a run stops, a settled section is at its end
-    ends : is_stop (rules_of m layout) d s.log (s.code s.edge) ≡ true → Settled m at_now → Ended m at_now
+    pub ends : is_stop (rules_of m layout) d s.log (s.code s.edge) ≡ true → Settled m at_now → Ended m at_now
     ends stop settled = by_stop (s.code s.edge) (sym ((of_thunks d (used m layout p w old of_thunks r running going)).code s.edge)) stop
       where
         neither : (x : Micro) → is_stop (rules_of m layout) d s.log x ≡ true → (is_check x ≡ true) ⊎ (x ≡ micros.End)

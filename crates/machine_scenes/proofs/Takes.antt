@@ -26,7 +26,7 @@ use Rattle.machine_scenes.specs.Shown.{Publications, AreOfThunks, rules_of}
 use Rattle.machine_scenes.proofs.Shown.{shown, shown_some}
 
 -- before a step's beginning that step isn't come to
-passed_below : (body : List Step) (edge n : ℕ) → n ≤ length body → edge < begins body n → passed_steps body edge < n
+pub passed_below : (body : List Step) (edge n : ℕ) → n ≤ length body → edge < begins body n → passed_steps body edge < n
 passed_below body edge zero within low = absurd (omega arith)
 passed_below body edge (suc n) within low =
     let step = step_at body n (omega arith) in let next = begins_next body n step.0 step.1 in

@@ -44,7 +44,8 @@ impl DescriptorLists {
     }
 
     pub fn free(&self) -> &[u32]
-        ensures { result.now ≡ self.now.free }
+        ensures list { result.now ≡ self.now.free }
+        ensures few { length result.now < 2 ^ 32 }
     {
         &self.free
     }

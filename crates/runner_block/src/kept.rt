@@ -107,13 +107,15 @@ impl Kept {
     }
 
     pub fn free_nodes(&self) -> &[u32]
-        ensures { result.now ≡ self.now.part.nodes.free }
+        ensures list { result.now ≡ self.now.part.nodes.free }
+        ensures few { length result.now < 2 ^ 32 }
     {
         self.nodes.free()
     }
 
     pub fn hand(&self) -> &[u32]
-        ensures { result.now ≡ self.now.part.nodes.hand }
+        ensures list { result.now ≡ self.now.part.nodes.hand }
+        ensures few { length result.now < 2 ^ 32 }
     {
         self.nodes.hand()
     }
@@ -131,7 +133,8 @@ impl Kept {
     }
 
     pub fn free_descriptors(&self) -> &[u32]
-        ensures { result.now ≡ self.now.part.descriptors.free }
+        ensures list { result.now ≡ self.now.part.descriptors.free }
+        ensures few { length result.now < 2 ^ 32 }
     {
         self.descriptors.free()
     }

@@ -56,13 +56,15 @@ impl NodeLists {
     }
 
     pub fn free(&self) -> &[u32]
-        ensures { result.now ≡ self.now.lists.free }
+        ensures list { result.now ≡ self.now.lists.free }
+        ensures few { length result.now < 2 ^ 32 }
     {
         &self.free
     }
 
     pub fn hand(&self) -> &[u32]
-        ensures { result.now ≡ self.now.lists.hand }
+        ensures list { result.now ≡ self.now.lists.hand }
+        ensures few { length result.now < 2 ^ 32 }
     {
         &self.hand
     }

@@ -43,7 +43,7 @@ module _ {T : Type 0} (m : Meaning) (r : RunnerState T) where
   asked_is k x present resting e h = ap (λ (g : Bool). if g then None else fitting (sizes_for m r.layout r.requests) (ask_by m r.layout r.requests r.number k r.part r.part.run)) present
       ∙ fitted_some (sizes_for m r.layout r.requests) _ x (ap (ask_by m r.layout r.requests r.number k r.part) resting ∙ e) h
 
-  enabled : (k : EventKind) (x : Spot × Access) → r.part.gone ≡ false → r.part.run ≡ None → outside_ask m r.layout r.requests r.number k r.part ≡ Some x → Fits (sizes_for m r.layout r.requests) x.0 → IsEnabled m k r
+  pub enabled : (k : EventKind) (x : Spot × Access) → r.part.gone ≡ false → r.part.run ≡ None → outside_ask m r.layout r.requests r.number k r.part ≡ Some x → Fits (sizes_for m r.layout r.requests) x.0 → IsEnabled m k r
   enabled k x present resting e h = record { met = x; asked = asked_is k x present resting e h }
 
   -- an entered runner may load a fixed cell

@@ -1,6 +1,9 @@
 //! What the types of this crate say, as contracts.
+ghost use Rattle.table_words.specs.Limits.{IsWithinLimits};
+ghost use Rattle.machine_invariant.specs.After.{AreAllowed};
 ghost use Rattle.version_words.specs.TableState.{AreShown};
 
+use crate::table::FlockTable;
 use crate::words::Words;
 use runner_parts::Structure;
 
@@ -9,4 +12,13 @@ pub fn words_are_reached<S: Structure>(words: &Words<S>)
     ensures { AreShown (S.meaning words.now.structure) words.now.layout words.now.requests words.now.words }
 {
     let _ = &words.closed;
+}
+
+/// What every table has: its layout is within the limits, and its requests are allowed. So what is proved of the states that the machine
+/// reaches within these limits holds of the state that a step shows.
+pub fn table_is_allowed<S: Structure>(table: &FlockTable<S>)
+    ensures limits { IsWithinLimits table.now.layout }
+    ensures requests { AreAllowed table.now.requests }
+{
+    let _ = &table.setup;
 }

@@ -24,7 +24,7 @@ mod table;
 mod view;
 mod words;
 
-pub use laws::words_are_reached;
+pub use laws::{table_is_allowed, words_are_reached};
 pub use runner::Runner;
 pub use table::FlockTable;
 pub use words::Words;

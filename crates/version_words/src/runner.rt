@@ -1,5 +1,5 @@
 //! A seat with what its thread keeps.
-ghost use Rattle.std.specs.Prelude.{◌≡◌, length};
+ghost use Rattle.std.specs.Prelude.{◌≡◌, ◌<◌, ◌^◌, length};
 ghost use Rattle.version_words.specs.RunnerState.{entered_of};
 
 use crate::view::View;
@@ -56,20 +56,23 @@ impl<S: Structure> Runner<S> {
     }
 
     pub fn free_nodes(&self) -> &[u32]
-        ensures { result.now ≡ self.now.part.nodes.free }
+        ensures list { result.now ≡ self.now.part.nodes.free }
+        ensures few { length result.now < 2 ^ 32 }
     {
         self.kept.lists.free_nodes()
     }
 
     pub fn free_descriptors(&self) -> &[u32]
-        ensures { result.now ≡ self.now.part.descriptors.free }
+        ensures list { result.now ≡ self.now.part.descriptors.free }
+        ensures few { length result.now < 2 ^ 32 }
     {
         self.kept.lists.free_descriptors()
     }
 
     /// The node slots in the own hand, in the order in which they came.
     pub fn hand(&self) -> &[u32]
-        ensures { result.now ≡ self.now.part.nodes.hand }
+        ensures list { result.now ≡ self.now.part.nodes.hand }
+        ensures few { length result.now < 2 ^ 32 }
     {
         self.kept.lists.hand()
     }

@@ -7,6 +7,7 @@ use Rattle.machine_states.proofs.Runs.{run_more}
 use Rattle.machine_epochs.proofs.Reached.{sound_after, descriptors_after}
 use Rattle.machine_invariant.proofs.After.{whole_after, log_words_after}
 use Rattle.machine_invariant.proofs.Rising.{rises_after}
+use Rattle.machine_facts.proofs.Following.{facts_after, step_facts_after}
 use Rattle.interleave_core.proofs.Stops.{stops}
 use Rattle.interleave_core.proofs.schedules.all_schedules.Goals as goal
 
@@ -47,6 +48,16 @@ pub returns-clause-rises : goal.returns-clause-rises
 returns-clause-rises g c =
     let met = g.met.S.Structure g.world.𝓛 g.world.𝓜 g.world.𝓡 ((λ s allowed. allowed), (λ patient. patient), (λ alone. alone), (λ cuts. cuts)) in
     rises_after (g.S.Structure.meaning c.args.structure) (met.laws c.args.structure) c.args.layout c.args.requests.now c.args.events.now c.loop-at.machine.world
+
+pub returns-clause-facts : goal.returns-clause-facts
+returns-clause-facts g c =
+    let met = g.met.S.Structure g.world.𝓛 g.world.𝓜 g.world.𝓡 ((λ s allowed. allowed), (λ patient. patient), (λ alone. alone), (λ cuts. cuts)) in
+    facts_after (g.S.Structure.meaning c.args.structure) (met.laws c.args.structure) c.args.layout c.args.requests.now c.args.events.now c.loop-at.machine.world
+
+pub returns-clause-steps : goal.returns-clause-steps
+returns-clause-steps g c =
+    let met = g.met.S.Structure g.world.𝓛 g.world.𝓜 g.world.𝓡 ((λ s allowed. allowed), (λ patient. patient), (λ alone. alone), (λ cuts. cuts)) in
+    step_facts_after (g.S.Structure.meaning c.args.structure) (met.laws c.args.structure) c.args.layout c.args.requests.now c.args.events.now c.loop-at.machine.world
 
 pub returns-in-Err-NotEnabled-clause-not_enabled : goal.returns-in-Err-NotEnabled-clause-not_enabled
 returns-in-Err-NotEnabled-clause-not_enabled g c =

@@ -1,0 +1,4 @@
+pub mod Outside
+mod Scanning
+mod Looking
+mod Collecting

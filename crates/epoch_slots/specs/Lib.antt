@@ -1,0 +1,4 @@
+pub mod Entries
+pub mod Reserves
+pub mod Collects
+pub mod Hands

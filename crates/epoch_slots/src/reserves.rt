@@ -1,0 +1,69 @@
+//! The test whether enough own slots are free.
+ghost use Rattle.std.specs.Prelude.{◌≡◌, ◌≤◌, ◌<◌, IfOk, IfErr, length};
+ghost use Rattle.epoch_slots.specs.Reserves.{free_of, counts_of};
+
+use runner_parts::Structure;
+use version_words::Runner;
+
+/// The two kinds of slots that a runner owns.
+#[derive(Clone, Copy, Debug, PartialEq, Eq)]
+pub enum Kind {
+    /// A slot of five cells, which a Make fills.
+    Node,
+    /// A slot of thunk words, a done word and a log, with which a section is published.
+    Descriptor,
+}
+
+/// How many slots of a kind a runner had, where fewer were free than it asked for.
+#[derive(Clone, Copy, Debug, PartialEq, Eq)]
+pub struct Short {
+    /// Of which slots.
+    pub kind: Kind,
+    /// How many are free.
+    pub free: u32,
+    /// How many were retired and wait until nobody can hold them.
+    pub limbo: u32,
+    /// How many have a cell at the greatest version and aren't used again.
+    pub worn: u32,
+}
+
+/// The counts of the runner's own slots of this kind.
+fn counts<S: Structure>(runner: &Runner<S>, kind: Kind) -> Short
+    ensures { result ≡ counts_of runner.now kind }
+{
+    match kind {
+        Kind::Node => Short {
+            kind,
+            free: runner.free_nodes().len() as u32,
+            limbo: runner.limbo_nodes(),
+            worn: runner.worn(),
+        },
+        Kind::Descriptor => Short {
+            kind,
+            free: runner.free_descriptors().len() as u32,
+            limbo: runner.limbo_descriptors(),
+            worn: 0,
+        },
+    }
+}
+
+/// The runner, if at least `n` of its own slots of this kind are free; else the runner and the counts. Nothing changes, and no step is
+/// made.
+pub fn reserve<S: Structure>(
+    runner: Runner<S>,
+    kind: Kind,
+    n: u32,
+) -> Result<Runner<S>, (Runner<S>, Short)>
+    ensures same { IfOk result (λ x. x ≡ runner) }
+    ensures enough { IfOk result (λ x. n ≤ length (free_of runner kind)) }
+    ensures err { IfErr result (λ e. e.0 ≡ runner) }
+    ensures few { IfErr result (λ e. length (free_of runner kind) < n) }
+    ensures counts { IfErr result (λ e. e.1 ≡ counts_of runner kind) }
+{
+    let counts = counts(&runner, kind);
+    if counts.free < n {
+        Err((runner, counts))
+    } else {
+        Ok(runner)
+    }
+}

@@ -1,0 +1,10 @@
+pub mod Answering
+pub mod Changes
+pub mod Consequences
+pub mod Histories
+pub mod Keeping
+pub mod Making
+pub mod Publishing
+pub mod Running
+pub mod Stamping
+pub mod Standing

@@ -1,0 +1,13 @@
+pub mod Agreement
+pub mod Epochs
+pub mod Chunks
+pub mod Going
+pub mod Words
+pub mod Locks
+pub mod Takes
+pub mod Records
+pub mod Outcomes
+pub mod Agreeing
+pub mod Known
+pub mod Once
+pub mod Following

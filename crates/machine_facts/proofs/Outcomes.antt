@@ -1,0 +1,272 @@
+-- The outcomes of runs that came to their end agree.
+use Rattle.std.specs.Prelude.{true, slice_get, replicate}
+use Rattle.std.proofs.Common.{◌≡◌, ◌≢◌, ℕ, zero, suc, ◌<◌, List, [], ◌∷◌, ◌++◌, length, sym, ap, ◌∙◌, subst, inl, inr, ⊎_elim, arith, Option, Some}
+use Rattle.std.specs.Prelude.{◌⊎◌}
+use Rattle.std.proofs.lemmas.Bool.{cases_eq}
+use Rattle.std.proofs.lemmas.Bool.Decides.{nat_tests}
+use Rattle.map_history.specs.declared.op.Request.{Request}
+use Rattle.section_body.specs.Line.{line, micro_at}
+use Rattle.section_body.specs.Run.{leaves}
+use Rattle.section_body.specs.declared.outcome.Outcome.{Outcome}
+use Rattle.section_body.specs.declared.thunk.Thunk.{Thunk}
+use Rattle.table_words.specs.declared.layout.Layout.{Layout}
+use Rattle.table_words.specs.Seen.{upd}
+use Rattle.structure_laws.specs.Meaning.{Meaning}
+use Rattle.runner_parts.specs.declared.event.EventKind.{EventKind}
+use Rattle.runner_parts.specs.declared.event.EventKind.TheVariants as kinds
+use Rattle.runner_parts.specs.State.{RunState, FinishedState, PartState}
+use Rattle.runner_steps.specs.Sections.{thunk_of, is_open_run, setting_of, outcome_or, reply_in}
+use Rattle.runner_steps.specs.AfterInRun.{ended_more, finished_of}
+use Rattle.runner_steps.specs.After.{after, stepped, leaves as leaves_part, knows_also}
+use Rattle.agreement_core.specs.State.{AgreementState}
+use Rattle.agreement_core.specs.Events as agreement
+use Rattle.agreement_core.specs.Schedules as agreement_schedules
+use Rattle.machine_states.specs.Sight.{Sight, Steps, parts_after}
+use Rattle.machine_states.proofs.Updates.{upd_here, upd_else}
+use Rattle.machine_epochs.proofs.Joining.{thunk_same}
+use Rattle.machine_scenes.specs.Shown.{rules_of}
+use Rattle.machine_agreement.specs.Chunks as sections
+use Rattle.machine_agreement.specs.Joined.{IsJoinedToAgreement, IsRunOf}
+use Rattle.machine_agreement.proofs.LineKinds.{noted_finished}
+use Rattle.machine_agreement.proofs.Releases.{get_more}
+use Rattle.machine_agreement.proofs.RunPlaces.{run_here, used_here, opened_thunk}
+use Rattle.machine_invariant.specs.Along.{Components, components_after, AreEventsOf, AreExact}
+use Rattle.machine_invariant.specs.States.{StateIsSound}
+use Rattle.machine_invariant.specs.Trails.{thunk_at, step_at, IsEndOf}
+use Rattle.machine_facts.specs.Steps.{WordsStand}
+use Rattle.machine_facts.specs.States.{NumberAlike}
+use Rattle.machine_facts.proofs.Agreement.{Lasts, ends_all}
+use Rattle.machine_facts.proofs.Going.{goes, goes_inside}
+use Rattle.machine_facts.proofs.Records.{stepped_same}
+
+-- how runs of the section end that this descriptor has, by these agreed words: at the check at which they rest, or with the body's answer
+abbrev pub end_of : Meaning → Layout → AgreementState → Sight → ℕ → List ℕ → Outcome
+end_of m l a s d trail = outcome_or (leaves (setting_of l d) trail (step_at m a s d ((a.section d).edge))) (reply_in (m.body (thunk_at m a s d)))
+
+-- what is kept of each run is how its section's runs end, and equal for all runs of one section
+pub record OutcomesKept (m : Meaning) (l : Layout) (a : AgreementState) (s : Sight) : Type 0 where
+  pub ended : (r d : ℕ) (f : FinishedState) → a.used d ≡ true → IsEndOf m a s r d f → f.outcome ≡ end_of m l a s d f.trail
+  pub equal : (r r' i i' : ℕ) (f f' : FinishedState) → slice_get (s.part r).records.finished i ≡ Some f
+      → slice_get (s.part r').records.finished i' ≡ Some f' → f.lock ≡ f'.lock → f.word ≡ f'.word → f.outcome ≡ f'.outcome
+
+open_length : (q : RunState) → is_open_run q ≡ true → length q.opened ≡ 13
+open_length q e = grind (arith, nat_tests)
+
+within : {A : Type 0} (xs : List A) (i : ℕ) (x : A) → slice_get xs i ≡ Some x → i < length xs
+within [] i x e = absurd (let no : ⊥ = cc in no)
+within (y ∷ xs) zero x e = omega arith
+within (y ∷ xs) (suc i) x e = let low = within xs i x e in omega arith
+
+module _ (m : Meaning) (l : Layout) (rs : List Request) (k : Components) (s s' : Sight) (sound : StateIsSound m l s k) (exact : AreExact m l k)
+    (alike : NumberAlike k) (r : ℕ) (kind : EventKind) (step : Steps m l rs s s' r kind)
+    (es : List agreement.Event) (vs : List _) (are : AreEventsOf m l rs k s r kind es vs) (sound' : StateIsSound m l s' (components_after m l k es vs))
+    (words : WordsStand k.agreement.used s.word s'.word) (old : OutcomesKept m l k.agreement s) where
+  abbrev j : Components
+  j = components_after m l k es vs
+
+  joined : IsJoinedToAgreement m l k.agreement s
+  joined = sound.sections.joined
+
+  joined' : IsJoinedToAgreement m l j.agreement s'
+  joined' = sound'.sections.joined
+
+  -- the runner's run is over by this step, and this is kept of it
+  record IsNew (r1 : ℕ) (f : FinishedState) : Type 0 where
+    pub run : RunState
+    pub own : r1 ≡ r
+    pub runs : (s.part r).run ≡ Some run
+    pub release : kind ≡ kinds.Release
+    pub open_run : is_open_run run ≡ true
+    pub is : finished_of m l (ended_more run) ≡ f
+
+  part1 : PartState
+  part1 = after m l r kind step.ask.0 step.ask.1 (s.part r) (s.word step.ask.0)
+
+  -- the parts after the step
+  by_part : (Q : List FinishedState → Type 0) (r1 : ℕ) → Q (s'.part r1).records.finished
+      → Q (s.part r1).records.finished ⊎ ((r1 ≡ r) × Q part1.records.finished)
+  unfolding part1
+  by_part Q r1 q = at_kind kind (subst (λ (t : Sight). Q (t.part r1).records.finished) step.next q)
+    where
+      own : (i : ℕ) → Q (upd s.part r part1 i).records.finished
+          → Q (s.part i).records.finished ⊎ ((i ≡ r) × Q part1.records.finished)
+      own i q = ⊎_elim
+          (λ e. inr (e, subst (λ (p : PartState). Q p.records.finished) (ap (upd s.part r part1) e ∙ upd_here s.part r part1) q))
+          (λ ne. inl (subst (λ (p : PartState). Q p.records.finished) (upd_else s.part r part1 i ne) q))
+          (cases_eq i r)
+
+      joining : (worker : ℕ) → Q (upd (upd s.part r (knows_also part1 (s.part worker))) worker (leaves_part (s.part worker)) r1).records.finished
+          → Q (s.part r1).records.finished ⊎ ((r1 ≡ r) × Q part1.records.finished)
+      joining worker q = ⊎_elim
+          (λ e. inl (subst (λ n. Q (s.part n).records.finished) (sym e) (subst (λ (p : PartState). Q p.records.finished)
+          (ap (upd (upd s.part r (knows_also part1 (s.part worker))) worker (leaves_part (s.part worker))) e
+          ∙ upd_here (upd s.part r (knows_also part1 (s.part worker))) worker (leaves_part (s.part worker))) q)))
+          (λ ne. ⊎_elim
+          (λ e. inr (
+            e,
+            subst (λ (p : PartState). Q p.records.finished) (upd_else (upd s.part r (knows_also part1 (s.part worker))) worker (leaves_part (s.part worker)) r1 ne
+                ∙ (ap (upd s.part r (knows_also part1 (s.part worker))) e ∙ upd_here s.part r (knows_also part1 (s.part worker)))) q,
+          ))
+          (λ ne'. inl (subst (λ (p : PartState). Q p.records.finished) (upd_else (upd s.part r (knows_also part1 (s.part worker))) worker (leaves_part (s.part worker)) r1 ne
+          ∙ upd_else s.part r (knows_also part1 (s.part worker)) r1 ne') q))
+          (cases_eq r1 r))
+          (cases_eq r1 worker)
+
+      at_kind : (kind' : EventKind) → Q (parts_after kind' s.part r part1 r1).records.finished
+          → Q (s.part r1).records.finished ⊎ ((r1 ≡ r) × Q part1.records.finished)
+      at_kind (kinds.Join worker) q = joining worker q
+      at_kind kind' q = own r1 q
+
+  -- what a runner keeps after the step it kept before, or it is of the run that is over
+  entry : (r1 i : ℕ) (f : FinishedState) → slice_get (s'.part r1).records.finished i ≡ Some f
+      → (slice_get (s.part r1).records.finished i ≡ Some f) ⊎ IsNew r1 f
+  unfolding part1
+  entry r1 i f at = ⊎_elim (λ before. inl before) (λ own. by_step own.0 own.1)
+      (by_part (λ xs. slice_get xs i ≡ Some f) r1 at)
+    where
+      noted : part1.records.finished ≡ (stepped m l kind (s.part r) (s.word step.ask.0)).records.finished
+      noted = noted_finished l r kind step.ask.0 _ (stepped m l kind (s.part r) (s.word step.ask.0)).records
+
+      by_step : r1 ≡ r → slice_get part1.records.finished i ≡ Some f → (slice_get (s.part r1).records.finished i ≡ Some f) ⊎ IsNew r1 f
+      by_step own at1 = ⊎_elim
+          (λ same. inl (ap (λ n. slice_get (s.part n).records.finished i) own ∙ (ap (λ xs. slice_get xs i) (sym (noted ∙ same)) ∙ at1)))
+          (λ x. ⊎_elim
+          (λ before. inl (ap (λ n. slice_get (s.part n).records.finished i) own ∙ before.1))
+          (λ now. inr (record { run = x.0; own = own; runs = x.1; release = x.2.release; open_run = x.2.open_run; is = now.1 }))
+          (get_more (s.part r).records.finished (finished_of m l (ended_more x.0)) f i (ap (λ xs. slice_get xs i) (sym (noted ∙ x.2.more)) ∙ at1)))
+          (stepped_same m l kind (s.part r) (s.word step.ask.0))
+
+  -- the thunk of a used descriptor stands
+  thunk_stands : (d : ℕ) → k.agreement.used d ≡ true → thunk_at m j.agreement s' d ≡ thunk_at m k.agreement s d
+  thunk_stands d used = thunk_same s'.word s.word d (λ i. words.thunk d i used)
+
+  -- and where its section is done, so does the furthest place of its runs
+  edge_stands : (d : ℕ) → k.agreement.used d ≡ true → (k.agreement.section d).done ≢ 0 → (j.agreement.section d).edge ≡ (k.agreement.section d).edge
+  edge_stands d used done = ⊎_elim (λ lasts. lasts.edge done) (λ same. ap (λ x. x.edge) same)
+      (goes m l rs k s joined exact alike r kind es vs are d used)
+
+  end_stands : (d : ℕ) (trail : List ℕ) → k.agreement.used d ≡ true → (k.agreement.section d).done ≢ 0
+      → end_of m l j.agreement s' d trail ≡ end_of m l k.agreement s d trail
+  end_stands d trail used done =
+      ap (λ (t : Thunk). outcome_or (leaves (setting_of l d) trail (micro_at (line (m.body t)) ((j.agreement.section d).edge))) (reply_in (m.body t)))
+      (thunk_stands d used)
+      ∙ ap (λ e. outcome_or (leaves (setting_of l d) trail (micro_at (line (m.body (thunk_at m k.agreement s d))) e))
+      (reply_in (m.body (thunk_at m k.agreement s d)))) (edge_stands d used done)
+
+  -- what was kept before
+  ended_before : (r1 d i : ℕ) (f : FinishedState) → j.agreement.used d ≡ true → slice_get (s.part r1).records.finished i ≡ Some f
+      → f.lock ≡ (thunk_at m j.agreement s' d).lock → f.word ≡ (thunk_at m j.agreement s' d).word → f.outcome ≡ end_of m l j.agreement s' d f.trail
+  ended_before r1 d i f used at lock word =
+      let kept = (joined.tied r1).finished i f at in
+      let is' = joined'.thunks d used in
+      let low : i < k.agreement.finishes r1 = subst (λ n. i < n) (sym (joined.tied r1).finishes) (within (s.part r1).records.finished i f at) in
+      let there = ends_all (rules_of m l) k.agreement es are.enabled joined.sound d r1 i low used
+      (record { lock = kept.lock ∙ (lock ∙ sym is'.lock); word = kept.word ∙ (word ∙ sym is'.word) }) in
+      let is = joined.thunks d there.used in
+      let end : IsEndOf m k.agreement s r1 d f = record {
+        at = i;
+        kept = at;
+        lock = sym kept.lock ∙ (there.of_section.lock ∙ is.lock);
+        word = sym kept.word ∙ (there.of_section.word ∙ is.word);
+      } in
+      let done : (k.agreement.section d).done ≢ 0 = λ z. sound.sections.in_trails.done r1 d f there.used end (sym (joined.sections d).done ∙ z) in
+      old.ended r1 d f there.used end ∙ sym (end_stands d f.trail there.used done)
+
+  -- a run that is over with the step
+  module _ (r1 : ℕ) (f : FinishedState) (new : IsNew r1 f) where
+    abbrev q : RunState
+    q = new.run
+
+    lasts : Lasts (rules_of m l) k.agreement j.agreement q.descriptor
+    lasts = goes_inside m l rs k s joined exact alike r kind es vs are q new.runs q.descriptor (used_here m l k.agreement s joined r q new.runs)
+
+    used_q : k.agreement.used q.descriptor ≡ true
+    used_q = used_here m l k.agreement s joined r q new.runs
+
+    opened : thunk_at m k.agreement s q.descriptor ≡ thunk_of q.opened
+    opened = opened_thunk m l k.agreement s joined r q new.runs (open_length q new.open_run)
+
+    -- it has set the done word, and stands at the edge
+    ended : (k.agreement.run r).ended ≡ true
+    ended = released (subst (λ (o : Option RunState). sections.IsChunk m l k.agreement r kind (s.part r) o (s.word are.ask.0) are.heads) new.runs are.in_sections)
+      where
+        by_heads : (place word : ℕ) (rest : List agreement.Event) → are.heads ≡ agreement.Read place ∷ agreement.Release r place word ∷ rest
+            → (k.agreement.run r).ended ≡ true
+        by_heads place word rest is = (subst (agreement_schedules.AllEnabled (rules_of m l) k.agreement) (are.all_heads ∙ ap (λ hs. hs ++ replicate are.passes (agreement.Pass r)) is) are.enabled).1.0.1
+
+        at_release : (kind' : EventKind) → kind' ≡ kinds.Release → sections.IsLineChunk m l k.agreement r kind' q (s.word are.ask.0) are.heads
+            → (k.agreement.run r).ended ≡ true
+        at_release kinds.Release is chunk = ⊎_elim (λ h. by_heads chunk.0 chunk.1 [] h.1)
+            (λ h. by_heads chunk.0 chunk.1 (agreement.Finish r ∷ []) h.1) chunk.3
+        at_release kind' is chunk = absurd (let no : ⊥ = cc in no)
+
+        released : sections.IsInsideChunk m l k.agreement r (is_open_run q) kind q (s.word are.ask.0) are.heads → (k.agreement.run r).ended ≡ true
+        released chunk = at_release kind new.release (subst (λ b. sections.IsInsideChunk m l k.agreement r b kind q (s.word are.ask.0) are.heads) new.open_run chunk)
+
+    run_is : IsRunOf (k.agreement.run r) q
+    run_is = run_here m l k.agreement s joined r q new.runs
+
+    done_q : (k.agreement.section q.descriptor).done ≢ 0
+    done_q = subst (λ d. (k.agreement.section d).done ≢ 0) run_is.descriptor ((joined.sound.runs r run_is.running).in_trail.ended_done ended)
+
+    edge_q : (k.agreement.section q.descriptor).edge ≡ q.at
+    edge_q = sym (subst (λ d. (k.agreement.run r).at ≡ (k.agreement.section d).edge) run_is.descriptor ((joined.sound.runs r run_is.running).in_trail.ended_edge ended))
+        ∙ run_is.at
+
+    -- what is kept of it is of its section
+    new_lock : f.lock ≡ (thunk_at m j.agreement s' q.descriptor).lock
+    new_lock = ap (λ (x : FinishedState). x.lock) (sym new.is) ∙ ap (λ (t : Thunk). t.lock) (sym opened ∙ sym (thunk_stands q.descriptor used_q))
+
+    new_word : f.word ≡ (thunk_at m j.agreement s' q.descriptor).word
+    new_word = ap (λ (x : FinishedState). x.word) (sym new.is) ∙ ap (λ (t : Thunk). t.word) (sym opened ∙ sym (thunk_stands q.descriptor used_q))
+
+    new_ended : f.outcome ≡ end_of m l j.agreement s' q.descriptor f.trail
+    new_ended = subst (λ (x : FinishedState). x.outcome ≡ end_of m l j.agreement s' q.descriptor x.trail) new.is
+        (ap (λ e. outcome_or (leaves (setting_of l q.descriptor) q.trail (micro_at (line (m.body (thunk_of q.opened))) e)) (reply_in (m.body (thunk_of q.opened))))
+        (sym edge_q)
+        ∙ (ap (λ (t : Thunk). outcome_or (leaves (setting_of l q.descriptor) q.trail (micro_at (line (m.body t)) ((k.agreement.section q.descriptor).edge)))
+        (reply_in (m.body t))) (sym opened)
+        ∙ sym (end_stands q.descriptor q.trail used_q done_q)))
+
+    -- no other descriptor has it
+    one_descriptor : (d : ℕ) → j.agreement.used d ≡ true → f.lock ≡ (thunk_at m j.agreement s' d).lock → f.word ≡ (thunk_at m j.agreement s' d).word
+        → q.descriptor ≡ d
+    one_descriptor d used lock word =
+        let is = joined'.thunks d used in
+        let is_q = joined'.thunks q.descriptor lasts.used in
+        joined'.sound.single q.descriptor d lasts.used used (is_q.lock ∙ (sym new_lock ∙ (lock ∙ sym is.lock))) (is_q.word ∙ (sym new_word ∙ (word ∙ sym is.word)))
+
+  ended_after : (r1 d : ℕ) (f : FinishedState) → j.agreement.used d ≡ true → IsEndOf m j.agreement s' r1 d f → f.outcome ≡ end_of m l j.agreement s' d f.trail
+  ended_after r1 d f used x = ⊎_elim
+      (λ before. ended_before r1 d x.at f used before x.lock x.word)
+      (λ new. subst (λ n. f.outcome ≡ end_of m l j.agreement s' n f.trail) (one_descriptor r1 f new d used x.lock x.word) (new_ended r1 f new))
+      (entry r1 x.at f x.kept)
+
+  -- two kept runs of one section, of which the one is over with the step
+  equal_new : (r1 r2 i i' : ℕ) (f f' : FinishedState) → IsNew r1 f → slice_get (s'.part r1).records.finished i ≡ Some f
+      → slice_get (s'.part r2).records.finished i' ≡ Some f' → f.lock ≡ f'.lock → f.word ≡ f'.word → f.outcome ≡ f'.outcome
+  equal_new r1 r2 i i' f f' new at at' lock word =
+      let d = new.run.descriptor in
+      let used = (lasts r1 f new).used in
+      let here : IsEndOf m j.agreement s' r1 d f = record { at = i; kept = at; lock = new_lock r1 f new; word = new_word r1 f new } in
+      let there : IsEndOf m j.agreement s' r2 d f' = record {
+        at = i';
+        kept = at';
+        lock = sym lock ∙ new_lock r1 f new;
+        word = sym word ∙ new_word r1 f new;
+      } in
+      ended_after r1 d f used here ∙ (ap (end_of m l j.agreement s' d) (sound'.sections.in_trails.equal r1 r2 i i' f f' at at' lock word)
+      ∙ sym (ended_after r2 d f' used there))
+
+  equal_after : (r1 r2 i i' : ℕ) (f f' : FinishedState) → slice_get (s'.part r1).records.finished i ≡ Some f
+      → slice_get (s'.part r2).records.finished i' ≡ Some f' → f.lock ≡ f'.lock → f.word ≡ f'.word → f.outcome ≡ f'.outcome
+  equal_after r1 r2 i i' f f' at at' lock word = ⊎_elim
+      (λ before. ⊎_elim
+      (λ before'. old.equal r1 r2 i i' f f' before before' lock word)
+      (λ new'. sym (equal_new r2 r1 i' i f' f new' at' at (sym lock) (sym word)))
+      (entry r2 i' f' at'))
+      (λ new. equal_new r1 r2 i i' f f' new at at' lock word)
+      (entry r1 i f at)
+
+  pub outcomes_kept : OutcomesKept m l j.agreement s'
+  outcomes_kept = record { ended = ended_after; equal = equal_after }

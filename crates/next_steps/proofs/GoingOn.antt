@@ -1,0 +1,69 @@
+-- In every reached state the machine can make the next event of a run.
+use Rattle.std.specs.Prelude.{◌==◌, ◌&&◌, ◌⊎◌, slice_get, Bool, true, false, if◌then◌else◌}
+use Rattle.std.proofs.Common.{◌≡◌, ℕ, ◌<◌, ◌≤◌, List, length, ⊎_elim, sym, ap, ◌∙◌, subst, arith, Some}
+use Rattle.std.proofs.lemmas.Bool.Decides.{nat_tests}
+use Rattle.map_history.specs.declared.op.Request.{Request}
+use Rattle.table_words.specs.declared.layout.Layout.{Layout}
+use Rattle.table_words.specs.declared.spot.Spot.{Spot}
+use Rattle.table_words.specs.declared.access.Access.{Access}
+use Rattle.table_words.specs.Limits.{IsWithinLimits}
+use Rattle.structure_laws.specs.Meaning.{Meaning}
+use Rattle.structure_laws.specs.Laws.{Laws}
+use Rattle.runner_parts.specs.declared.event.EventKind.{EventKind}
+use Rattle.runner_parts.specs.State.{RunState, PartState}
+use Rattle.runner_steps.specs.Sections.{is_open_run, next_of}
+use Rattle.machine_states.specs.World.{World, seat_of, acted, acts}
+use Rattle.machine_states.specs.Reached.{Reached}
+use Rattle.machine_states.specs.Sight.{sight, part_or_first}
+use Rattle.machine_invariant.specs.After.{AreAllowed}
+use Rattle.next_steps.specs.Steps.{opening_kind, opened_next, kind_at, ask_at, next_kind, next_ask, has_slot}
+use Rattle.next_steps.specs.Enabled.{Meets, NextIsEnabled, CanMake, RunsGoOn}
+use Rattle.next_steps.proofs.Enabled.{reached_enabled}
+
+module _ (m : Meaning) (l : Layout) (rs : List Request) (w : World) (enabled : NextIsEnabled m l rs (sight m l rs w)) where
+  -- an enabled event is one that the machine can make
+  makes : (r : ℕ) (p : PartState) (kind : EventKind) (x : Spot × Access) → slice_get w.parts (seat_of l r) ≡ Some p → Meets m l rs r p kind x
+      → CanMake m l rs w r p kind x
+  makes r p kind x at meets = record {
+    meets = meets;
+    next = _;
+    happens = ap (acts m l rs w r kind) at ∙ ap (acted m l rs w r kind p) meets;
+  }
+
+  module _ (r : ℕ) (p : PartState) (q : RunState) (at : slice_get w.parts (seat_of l r) ≡ Some p) (there : p.gone ≡ false) (is : p.run ≡ Some q) where
+    seen : (sight m l rs w).part r ≡ p
+    seen = ap part_or_first at
+
+    there' : ((sight m l rs w).part r).gone ≡ false
+    there' = ap (λ (y : PartState). y.gone) seen ∙ there
+
+    is' : ((sight m l rs w).part r).run ≡ Some q
+    is' = ap (λ (y : PartState). y.run) seen ∙ is
+
+    closed : (n : ℕ) (b : Bool) → n < 13 → (n == 13 && b) ≡ false
+    closed n b low = grind (arith, nat_tests)
+
+    order : (n : ℕ) → n ≤ 13 → (n < 13) ⊎ (n ≡ 13)
+    order n le = search arith
+
+    by_open : (b : Bool) → is_open_run q ≡ b
+        → CanMake m l rs w r p (if b then kind_at p q (next_of m q) else opening_kind q) (if b then ask_at m p q (next_of m q) else opened_next q)
+        → CanMake m l rs w r p (next_kind m p q) (next_ask m p q)
+    by_open b e goes = subst (λ (c : Bool). CanMake m l rs w r p (if c then kind_at p q (next_of m q) else opening_kind q)
+        (if c then ask_at m p q (next_of m q) else opened_next q)) (sym e) goes
+
+    go_on : has_slot p q (next_of m q) ≡ true → CanMake m l rs w r p (next_kind m p q) (next_ask m p q)
+    go_on has = ⊎_elim
+        (λ low. by_open false (closed (length q.opened) _ low)
+        (makes r p (opening_kind q) (opened_next q) at
+        (subst (λ (y : PartState). Meets m l rs r y (opening_kind q) (opened_next q)) seen (enabled.opening r q there' is' low))))
+        (λ all. by_open true ((enabled.runs r q is').goes all)
+        (makes r p (kind_at p q (next_of m q)) (ask_at m p q (next_of m q)) at
+        (subst (λ (y : PartState). Meets m l rs r y (kind_at y q (next_of m q)) (ask_at m y q (next_of m q))) seen
+        (enabled.inside r q there' is' all (ap (λ (y : PartState). has_slot y q (next_of m q)) seen ∙ has)))))
+        (order (length q.opened) (enabled.runs r q is').most)
+
+pub reached_goes_on : (m : Meaning) → Laws m → (l : Layout) → IsWithinLimits l → (rs : List Request) → AreAllowed rs → (w : World)
+    → Reached m l rs w → RunsGoOn m l rs w
+reached_goes_on m laws l limits rs allowed w reached r p q at there is has =
+    go_on m l rs w (reached_enabled m laws l limits rs allowed w reached) r p q at there is has

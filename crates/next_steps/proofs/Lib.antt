@@ -1,0 +1,22 @@
+mod Touched
+pub mod Reaching
+pub mod Parts
+pub mod Runs
+mod Clock
+mod Ends
+pub mod Fits
+mod FitsKept
+pub mod Tests
+mod Releases
+mod Standing
+mod Filling
+mod RoomParts
+mod SlotFrames
+mod RoomsKept
+mod RoomsReached
+mod Lines
+mod PartNumbers
+pub mod Numbers
+pub mod Enabled
+pub mod GoingOn
+pub mod Stages

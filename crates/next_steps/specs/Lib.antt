@@ -1,0 +1,5 @@
+pub mod Steps
+pub mod Rooms
+pub mod Numbers
+pub mod Enabled
+pub mod Stages

@@ -1,0 +1,155 @@
+-- What each step leaves of a runner's part: whom it has joined, whether it goes on, and how many own descriptors it has.
+use Rattle.std.specs.Prelude.{◌==◌, ◌&&◌, not, nat_lt, nat_le, cond, Bool, true, false, if◌then◌else◌}
+use Rattle.std.specs.List.{filter}
+use Rattle.std.proofs.Common.{◌≡◌, ℕ, suc, ◌+◌, List, [], ◌∷◌, ◌++◌, length, length-append, refl, ap, arith, Option, Some, None}
+use Rattle.std.proofs.lemmas.List.{length-map}
+use Rattle.std.proofs.lemmas.List.Filters.{length-filter_both}
+use Rattle.section_body.specs.Line.{is_end}
+use Rattle.section_body.specs.declared.micro.Micro.{Micro}
+use Rattle.section_body.specs.declared.thunk.Thunk.{Thunk}
+use Rattle.table_words.specs.declared.layout.Layout.{Layout}
+use Rattle.structure_laws.specs.Meaning.{Meaning}
+use Rattle.runner_parts.specs.declared.entries.Published.{Published}
+use Rattle.runner_parts.specs.declared.stage.Stage.{Stage}
+use Rattle.runner_parts.specs.declared.stage.Stage.TheVariants as stages
+use Rattle.runner_parts.specs.declared.event.EventKind.{EventKind}
+use Rattle.runner_parts.specs.declared.event.EventKind.TheVariants as kinds
+use Rattle.runner_parts.specs.State.{RunState, RecordsState, PartState}
+use Rattle.runner_parts.specs.Lists.{without, is_old, slots_of, learned}
+use Rattle.runner_steps.specs.Sections.{is_open_run, next_of}
+use Rattle.runner_steps.specs.Outside.{last_epoch}
+use Rattle.runner_steps.specs.InRun.{last_clock}
+use Rattle.runner_steps.specs.AfterInRun as inside
+use Rattle.runner_steps.specs.AfterOutside as outside
+use Rattle.runner_steps.specs.After.{line_after, inside_after, outside_after}
+use Rattle.epoch_core.specs.Lists.{times}
+use Rattle.machine_states.specs.World.{is_join}
+use Rattle.runner_facts.specs.Facts.{published_count, descriptors_of}
+
+pub record Keeps (p p' : PartState) : Type 0 where
+  pub joined : p'.records.joined ≡ p.records.joined
+  pub gone : p'.gone ≡ p.gone
+  pub count : descriptors_of p' ≡ descriptors_of p
+
+learned_joined : (z : RecordsState) (request : ℕ) (reply : Bool) (n : ℕ) → (learned z request reply n).joined ≡ z.joined
+learned_joined z request reply n = by (n == 0)
+  where
+    by : (b : Bool) → (if b then z else record z { known = z.known ++ record { request = request; reply = reply; number = n } ∷ [] }).joined ≡ z.joined
+    by true = refl
+    by false = refl
+
+over_count : (o : Option Published) (d : ℕ) → published_count (inside.over_if o d) ≡ published_count o
+over_count None d = refl
+over_count (Some x) d = refl
+
+-- a list without a number is shorter by as often as that stood in it
+without_length : (xs : List ℕ) (d : ℕ) → length (without xs d) + times d xs ≡ length xs
+without_length [] d = refl
+without_length (x ∷ xs) d = by (x == d) (without_length xs d)
+  where
+    by : (b : Bool) → length (without xs d) + times d xs ≡ length xs
+        → length (if not b then x ∷ without xs d else without xs d) + cond b (1 + times d xs) (times d xs) ≡ suc (length xs)
+    by true rest = omega arith
+    by false rest = omega arith
+
+module _ (m : Meaning) (l : Layout) (p : PartState) where
+  keeps : (p' : PartState) → p'.records.joined ≡ p.records.joined → p'.gone ≡ p.gone → descriptors_of p' ≡ descriptors_of p → Keeps p p'
+  keeps p' joined gone count = record { joined = joined; gone = gone; count = count }
+
+  either : (b : Bool) (y z : PartState) → Keeps p y → Keeps p z → Keeps p (if b then y else z)
+  either true y z one two = one
+  either false y z one two = two
+
+  same : Keeps p p
+  same = keeps p refl refl refl
+
+  module _ (q : RunState) (found : ℕ) where
+    fill_keeps : (slot : ℕ) (made : Option ℕ) → Keeps p (inside.fill_loaded m l slot p q made found)
+    fill_keeps slot None = keeps _ refl refl refl
+    fill_keeps slot (Some t) = keeps _ refl refl refl
+
+    make_keeps : (made : Option ℕ) → Keeps p (inside.make_committed m l p q made found)
+    make_keeps None = same
+    make_keeps (Some t) = keeps _ refl refl refl
+
+    over_keeps : (place : ℕ) → Keeps p (inside.lock_released m l place p q found)
+    over_keeps place = either (is_end (next_of m (inside.ended_more q))) _ _
+        (keeps _ refl refl (ap (λ n. length p.descriptors.free + (length p.descriptors.limbo + n)) (over_count p.published q.descriptor)))
+        (keeps _ refl refl refl)
+
+    line_keeps : (kind : EventKind) (micro : Micro) → Keeps p (line_after m l kind p q micro found)
+    line_keeps kinds.Commit micro = either (inside.is_of_lock micro) _ _ (keeps _ refl refl refl) (keeps _ refl refl refl)
+    line_keeps (kinds.LoadCell place) micro = keeps _ refl refl refl
+    line_keeps kinds.ExchangeCell micro = keeps _ refl refl refl
+    line_keeps (kinds.PrivateLoad slot word) micro = fill_keeps slot q.made
+    line_keeps (kinds.PrivateStore slot word number) micro = keeps _ refl refl refl
+    line_keeps kinds.MakeCommit micro = make_keeps q.made
+    line_keeps kinds.RetireCommit micro = keeps _ refl refl refl
+    line_keeps kinds.EpochForRetire micro = keeps _ refl refl refl
+    line_keeps kinds.SetDone micro = keeps _ refl refl refl
+    line_keeps kinds.Release micro = over_keeps (inside.place_of micro)
+    line_keeps kinds.ClockLoad micro = keeps _ refl refl refl
+    line_keeps kinds.StampExchange micro = either (nat_lt q.word last_clock) _ _ (keeps _ (learned_joined p.records _ false _) refl refl) same
+    line_keeps kinds.ClockRaise micro = keeps _ refl refl refl
+    line_keeps kinds.ReplyExchange micro = keeps _ (learned_joined p.records _ true _) refl refl
+    line_keeps kinds.NestedLoad micro = keeps _ refl refl refl
+    line_keeps kinds.NestedHold micro = keeps _ refl refl refl
+    line_keeps kinds.OutcomeLoad micro = keeps _ refl refl refl
+    line_keeps kinds.OutcomeCommit micro = keeps _ refl refl refl
+    line_keeps _ micro = same
+
+    pub inside_keeps : (kind : EventKind) → Keeps p (inside_after m l kind p q found)
+    inside_keeps kind = either (is_open_run q) _ _ (line_keeps kind (next_of m q)) (keeps _ refl refl refl)
+
+  -- the end of a scan moves descriptors from limbo to the free list
+  collected_keeps : (epoch : ℕ) → Keeps p (outside.collected p epoch)
+  collected_keeps epoch = keeps (outside.collected p epoch) refl refl
+      (let all = length-filter_both (is_old epoch) (λ x. not (is_old epoch x)) (λ x. refl) p.descriptors.limbo in
+      let free = length-append p.descriptors.free (slots_of (filter (is_old epoch) p.descriptors.limbo)) in
+      let slots : length (slots_of (filter (is_old epoch) p.descriptors.limbo)) ≡ length (filter (is_old epoch) p.descriptors.limbo)
+      = length-map (filter (is_old epoch) p.descriptors.limbo) (λ x. x.slot) in omega arith)
+
+  module _ (found : ℕ) where
+    scan_keeps : (stage : Stage) → Keeps p (outside.scan_one_after l p stage found)
+    scan_keeps (stages.Scanning x next clear) = either (nat_le next l.runners) _ _
+        (either (next == l.runners && not ((clear && outside.is_clear x found) && nat_lt x last_epoch)) _ _ (collected_keeps x) (keeps _ refl refl refl)) same
+    scan_keeps _ = same
+
+    advance_keeps : (stage : Stage) → Keeps p (outside.advance_after p stage)
+    advance_keeps (stages.Scanning x next clear) = either (nat_lt x last_epoch) _ _ (collected_keeps (x + 1)) same
+    advance_keeps _ = same
+
+    retire_keeps : (o : Option Published) → p.published ≡ o → Keeps p (outside.retire_after p o found)
+    retire_keeps None is = same
+    retire_keeps (Some x) is = keeps (outside.retire_after p (Some x) found) refl refl
+        (let more = length-append p.descriptors.limbo (record { slot = x.descriptor; epoch = found } ∷ []) in
+        let one = ap published_count is in omega arith)
+
+    hold_keeps : (t : Thunk) (d : ℕ) → times d p.descriptors.free ≡ 1 → p.published ≡ None → Keeps p (outside.hold_after t d p found)
+    hold_keeps t d once none = either (found == t.word) _ _
+        (keeps _ refl refl (let less = without_length p.descriptors.free d in let zero = ap published_count none in omega arith))
+        (keeps _ refl refl refl)
+
+    -- a publication is one of an own free descriptor, with no other section published
+    abbrev pub MayHold : EventKind → Type 0
+    MayHold (kinds.Hold t d) = (times d p.descriptors.free ≡ 1) × (p.published ≡ None)
+    MayHold _ = Unit {0}
+
+    pub outside_keeps : (kind : EventKind) → is_join kind ≡ false → MayHold kind → Keeps p (outside_after m l kind p found)
+    outside_keeps kinds.EnterLoad h may = keeps _ refl refl refl
+    outside_keeps kinds.Announce h may = keeps _ refl refl refl
+    outside_keeps kinds.EnterAgain h may = keeps _ refl refl refl
+    outside_keeps kinds.Idle h may = keeps _ refl refl refl
+    outside_keeps kinds.ScanEpoch h may = keeps _ refl refl refl
+    outside_keeps (kinds.ScanOne n) h may = scan_keeps p.stage
+    outside_keeps kinds.Advance h may = advance_keeps p.stage
+    outside_keeps kinds.Split h may = either (nat_lt p.records.splits l.runners) _ _ (keeps _ refl refl refl) same
+    outside_keeps (kinds.Join worker) h may = absurd (let z = h in cc)
+    outside_keeps (kinds.LoadCell (Some place)) h may = keeps _ refl refl refl
+    outside_keeps (kinds.LoadEntry request reply) h may = keeps _ (learned_joined p.records request reply found) refl refl
+    outside_keeps (kinds.PrivateLoad slot word) h may = keeps _ refl refl refl
+    outside_keeps (kinds.PrivateStore slot word number) h may = keeps _ refl refl refl
+    outside_keeps (kinds.Hold t d) h may = hold_keeps t d may.0 may.1
+    outside_keeps (kinds.LoadThunk (Some d)) h may = keeps _ refl refl refl
+    outside_keeps kinds.EpochForRetire h may = retire_keeps p.published refl
+    outside_keeps _ h may = same

@@ -1,0 +1,5 @@
+mod Walks
+mod Limbo
+mod Keeping
+mod Counts
+mod Joined

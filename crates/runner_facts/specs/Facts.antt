@@ -1,0 +1,38 @@
+-- What holds of the runners' parts in each reached state, beside their slots and sections.
+use Rattle.std.specs.Prelude.{ℕ, ◌+◌, ◌<◌, ◌≡◌, true, length, Option, Some, None}
+use Rattle.map_history.specs.declared.op.Op.{Op}
+use Rattle.table_words.specs.declared.layout.Layout.{Layout}
+use Rattle.table_words.specs.declared.spot.Spot.TheVariants.{DoneWord}
+use Rattle.structure_laws.specs.Meaning.{Meaning}
+use Rattle.structure_laws.specs.Sections.{IsAllowed}
+use Rattle.runner_parts.specs.declared.entries.Published.{Published}
+use Rattle.runner_parts.specs.declared.stage.Stage.TheVariants.{Entered}
+use Rattle.runner_parts.specs.Lists.{slots_of}
+use Rattle.runner_parts.specs.State.{PartState}
+use Rattle.runner_parts.specs.Tests.{has}
+use Rattle.machine_states.specs.Sight.{Sight}
+
+-- the readings of an entered runner are as the structure's walks may take them, for each operation within the limits
+abbrev pub WalksStand : Meaning → Layout → Sight → Type 0
+WalksStand m l s = (r entry : ℕ) (op : Op) → (s.part r).stage ≡ Entered entry → IsAllowed op → m.walked l op (s.part r).reads.walk
+
+-- the section of a descriptor that waits in limbo is done
+abbrev pub LimboIsDone : Sight → Type 0
+LimboIsDone s = (r d : ℕ) → has (slots_of (s.part r).descriptors.limbo) d ≡ true → s.word (DoneWord d) ≡ 1
+
+-- a worker that the keeper has joined makes no further step
+abbrev pub JoinedAreGone : Layout → Sight → Type 0
+JoinedAreGone l s = (worker : ℕ) → has (s.part l.runners).records.joined worker ≡ true → (s.part worker).gone ≡ true
+
+-- how many own descriptors are free, wait in limbo, or are published
+abbrev pub published_count : Option Published → ℕ
+published_count None = 0
+published_count (Some x) = 1
+
+abbrev pub descriptors_of : PartState → ℕ
+descriptors_of p = length p.descriptors.free + (length p.descriptors.limbo + published_count p.published)
+
+-- a worker has its own descriptors still, and the keeper one for each worker
+pub record DescriptorsAreKept (l : Layout) (s : Sight) : Type 0 where
+  pub worker : (r : ℕ) → r < l.runners → descriptors_of (s.part r) ≡ l.sections
+  pub keeper : descriptors_of (s.part l.runners) ≡ l.runners

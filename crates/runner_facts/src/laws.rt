@@ -1,0 +1,49 @@
+//! What is known of the runners' parts, each on a contract.
+ghost use Rattle.std.specs.Prelude.{List};
+ghost use Rattle.map_history.specs.declared.op.Request.{Request};
+ghost use Rattle.table_words.specs.Limits.{IsWithinLimits};
+ghost use Rattle.table_words.specs.declared.layout.Layout.{Layout};
+ghost use Rattle.machine_states.specs.World.{World};
+ghost use Rattle.machine_states.specs.Reached.{Reached};
+ghost use Rattle.machine_states.specs.Sight.{sight};
+ghost use Rattle.machine_invariant.specs.After.{AreAllowed};
+ghost use Rattle.runner_facts.specs.Facts.{DescriptorsAreKept, JoinedAreGone, LimboIsDone, WalksStand};
+
+use runner_parts::Structure;
+
+/// In every state that the machine reaches, the readings of an entered runner are as the structure's walks may take them, whatever the cells
+/// hold by now, for each operation within the limits.
+pub fn walks_stand<S: Structure>(structure: &S)
+    ensures { (layout : Layout) (requests : List Request) (w : World) → IsWithinLimits layout → AreAllowed requests
+        → Reached (S.meaning structure.now) layout requests w
+        → WalksStand (S.meaning structure.now) layout (sight (S.meaning structure.now) layout requests w) }
+{
+    let _ = structure;
+}
+
+/// In every state that the machine reaches, the section of a descriptor that waits in a limbo list is done.
+pub fn limbo_is_done<S: Structure>(structure: &S)
+    ensures { (layout : Layout) (requests : List Request) (w : World) → IsWithinLimits layout → AreAllowed requests
+        → Reached (S.meaning structure.now) layout requests w → LimboIsDone (sight (S.meaning structure.now) layout requests w) }
+{
+    let _ = structure;
+}
+
+/// In every state that the machine reaches, each worker's descriptors are as many as the layout gives it, free, in limbo or published, and the
+/// keeper's as many as there are workers.
+pub fn descriptors_are_kept<S: Structure>(structure: &S)
+    ensures { (layout : Layout) (requests : List Request) (w : World) → IsWithinLimits layout → AreAllowed requests
+        → Reached (S.meaning structure.now) layout requests w
+        → DescriptorsAreKept layout (sight (S.meaning structure.now) layout requests w) }
+{
+    let _ = structure;
+}
+
+/// In every state that the machine reaches, a worker that the keeper has joined makes no further step.
+pub fn joined_workers_are_gone<S: Structure>(structure: &S)
+    ensures { (layout : Layout) (requests : List Request) (w : World) → IsWithinLimits layout → AreAllowed requests
+        → Reached (S.meaning structure.now) layout requests w
+        → JoinedAreGone layout (sight (S.meaning structure.now) layout requests w) }
+{
+    let _ = structure;
+}

@@ -1,0 +1,8 @@
+//! What holds of the runners' parts in every state that the machine reaches, beside their slots and sections.
+//!
+//! The definitions stand in specs.
+#![tactic(auto)]
+
+mod laws;
+
+pub use laws::{descriptors_are_kept, joined_workers_are_gone, limbo_is_done, walks_stand};
