@@ -18,7 +18,7 @@ use Rattle.machine_states.specs.Sight.{Sight, sight, Steps}
 use Rattle.machine_states.specs.Sight as states
 use Rattle.machine_states.proofs.FirstSights as firsts
 use Rattle.machine_states.proofs.FirstSights.{first_parts}
-use Rattle.runner_parts.specs.State.{FinishedState, PartState}
+use Rattle.runner_parts.specs.State.{PartState}
 use Rattle.section_body.specs.Shape.{IsShaped}
 use Rattle.section_body.specs.declared.thunk.Thunk.{Thunk}
 use Rattle.machine_states.proofs.Sights.{some_none, happens_steps}
@@ -47,12 +47,13 @@ use Rattle.machine_facts.proofs.Outcomes.{OutcomesKept, outcomes_kept}
 use Rattle.machine_facts.proofs.Agreeing.{outcomes_agree}
 use Rattle.machine_facts.specs.Known.{KnownStand}
 use Rattle.machine_facts.proofs.Known.{known_stand}
-use Rattle.machine_facts.proofs.Once.{last_facts, each_once}
+use Rattle.machine_facts.proofs.Once.{each_once}
 
 module _ (m : Meaning) (laws : Laws m) (l : Layout) (limits : IsWithinLimits l) (rs : List Request) (allowed : AreAllowed rs) where
   -- a state that meets the whole invariant, beside components whose histories say what happened
   record Stands (s : Sight) (g : Beside) (changes : agreement_history.History) (wins : epoch_history.History) : Type 0 where
     pub whole : IsWhole m l g s
+    pub requests : g.publications.requests ≡ rs
     pub exact : AreExact m l (with_histories g changes wins)
     pub alike : NumberAlike (with_histories g changes wins)
     pub fixed : (t : ℕ) → t < m.fixed_slots → g.epochs.location t ≡ Fixed
@@ -98,7 +99,7 @@ module _ (m : Meaning) (laws : Laws m) (l : Layout) (limits : IsWithinLimits l) 
     k = with_histories g changes wins
 
     one : StepsWhole m l rs g (sight m l rs w) (sight m l rs v) e.runner e.kind
-    one = step_whole m laws l limits rs allowed.few allowed.each g (sight m l rs w) (sight m l rs v) e.runner e.kind stands.whole step
+    one = step_whole m laws l limits rs allowed.in_order.few allowed.each g (sight m l rs w) (sight m l rs v) e.runner e.kind stands.whole stands.requests step
 
     abbrev j : Components
     j = components_after m l k one.es one.vs
@@ -122,6 +123,7 @@ module _ (m : Meaning) (laws : Laws m) (l : Layout) (limits : IsWithinLimits l) 
     stands_after : Stands (sight m l rs v) beside j.changes j.wins
     stands_after = record {
       whole = one.whole;
+      requests = one.requests ∙ stands.requests;
       exact = exact_next;
       alike = still_alike m l rs k (sight m l rs w) stands.whole.sections stands.exact stands.alike e.runner e.kind one.es one.vs (one.events changes wins);
       fixed = λ t low. moved.fixed t (stands.fixed t low);
@@ -193,6 +195,7 @@ module _ (m : Meaning) (laws : Laws m) (l : Layout) (limits : IsWithinLimits l) 
       → Stands (sight m l rs w) (first_beside m laws l limits rs w first) agreement_history.no_history epoch_history.no_history
   first_stands w first = record {
     whole = first_whole m laws l limits rs w first;
+    requests = refl;
     exact = exact_begins m l laws.first limits rs w first;
     alike = record { published = refl; section = λ d. refl };
     fixed = at_fixed m l;

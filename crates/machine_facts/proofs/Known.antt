@@ -1,6 +1,6 @@
 -- What runners know of stamp and reply words stands.
-use Rattle.std.specs.Prelude.{◌==◌, ◌&&◌, not, nat_lt, nat_le, Bool, true, false, cond, slice_get, if◌then◌else◌}
-use Rattle.std.proofs.Common.{◌≡◌, ◌≢◌, ℕ, zero, suc, ◌+◌, ◌*◌, List, [], ◌∷◌, ◌++◌, refl, sym, ap, ◌∙◌, subst, inl, inr, ⊎_elim, arith, Option, Some, None}
+use Rattle.std.specs.Prelude.{◌==◌, ◌&&◌, not, nat_lt, nat_le, Bool, true, false, slice_get, if◌then◌else◌}
+use Rattle.std.proofs.Common.{◌≡◌, ◌≢◌, ℕ, zero, suc, List, [], ◌∷◌, ◌++◌, refl, sym, ap, ◌∙◌, subst, inl, inr, ⊎_elim, arith, Option, Some, None}
 use Rattle.std.specs.Prelude.{◌⊎◌}
 use Rattle.std.proofs.lemmas.Bool.{cases_eq}
 use Rattle.std.proofs.lemmas.Bool.Decides.{nat_tests}
@@ -13,7 +13,7 @@ use Rattle.table_words.specs.declared.layout.Layout.{Layout}
 use Rattle.table_words.specs.declared.spot.Spot.{Spot}
 use Rattle.table_words.specs.declared.spot.Spot.TheVariants as spots
 use Rattle.table_words.specs.declared.access.Access.{Access}
-use Rattle.table_words.specs.declared.access.Access.TheVariants.{Loads, Exchanges}
+use Rattle.table_words.specs.declared.access.Access.TheVariants.{Loads}
 use Rattle.table_words.specs.Access.{written}
 use Rattle.table_words.specs.Seen.{upd, put}
 use Rattle.structure_laws.specs.Meaning.{Meaning}
@@ -31,7 +31,7 @@ use Rattle.runner_steps.specs.Outside.{last_epoch, entry_spot}
 use Rattle.runner_steps.specs.Asks.{asks, outside_ask, inside_ask, line_ask, opening_ask}
 use Rattle.runner_steps.specs.AfterInRun as inside
 use Rattle.runner_steps.specs.AfterOutside as outside
-use Rattle.runner_steps.specs.After.{outside_after, line_after, inside_after, after_by, stepped, after, counted, left_more, noted, leaves, knows_also}
+use Rattle.runner_steps.specs.After.{outside_after, line_after, inside_after, after_by, stepped, after, left_more, tallied, noted, leaves, knows_also}
 use Rattle.machine_states.specs.Sight.{Sight, Steps, parts_after}
 use Rattle.machine_states.proofs.Sights.{if_some, some_none}
 use Rattle.machine_states.proofs.Steps.{some_same}
@@ -40,6 +40,7 @@ use Rattle.machine_epochs.proofs.OutsideAsked.{entry_asked}
 use Rattle.machine_invariant.proofs.Asked.{asked_by}
 use Rattle.machine_facts.specs.Steps.{WordsStand}
 use Rattle.machine_facts.specs.Known.{KnownStand}
+use Rattle.table_words.specs.Places.{slot_count}
 
 -- the runner knows the same, or one entry more, which isn't 0 and stands in these words
 pub record Learns (word : Spot → ℕ) (p p' : PartState) : Type 0 where
@@ -126,6 +127,7 @@ module _ (m : Meaning) (l : Layout) (rs : List Request) (r : ℕ) (f : Spot → 
   outside_knows kinds.Advance p asked = advance_knows p p.stage
   outside_knows kinds.Split p asked = same_if (nat_lt p.records.splits l.runners) word' p _ _ (inl refl) (inl refl)
   outside_knows (kinds.LoadEntry request reply) p asked = entry_knows p request reply (entry_asked request reply p x asked)
+  outside_knows (kinds.PrivateLoad slot word) p asked = same_if (nat_lt slot (slot_count l m.fixed_slots)) word' p _ _ (inl refl) (inl refl)
   outside_knows (kinds.Hold thunk d) p asked = same_if (found == thunk.word) word' p _ _ (inl refl) (inl refl)
   outside_knows kinds.EpochForRetire p asked = retire_knows p p.published
   outside_knows (kinds.LoadCell (Some place)) p asked = inl refl
@@ -195,11 +197,11 @@ left_known : (s : RecordsState) (kind : EventKind) (spot : Spot) (n : ℕ) → (
 left_known s (kinds.Join worker) spot n = refl
 left_known s _ spot n = refl
 
-noted_known : (l : Layout) (r : ℕ) (kind : EventKind) (spot : Spot) (n : ℕ) (s : RecordsState) → (noted l r kind spot n s).known ≡ s.known
-noted_known l r kind spot n s = by (r == l.runners)
+noted_known : (l : Layout) (r : ℕ) (kind : EventKind) (spot : Spot) (access : Access) (n : ℕ) (s : RecordsState) → (noted l r kind spot access n s).known ≡ s.known
+noted_known l r kind spot access n s = by (r == l.runners)
   where
-    by : (b : Bool) → (if b then left_more (record s { events = counted s.events }) kind spot n else record s { events = counted s.events }).known ≡ s.known
-    by true = left_known (record s { events = counted s.events }) kind spot n
+    by : (b : Bool) → (if b then left_more (tallied access n s) kind spot (written access n) else tallied access n s).known ≡ s.known
+    by true = left_known (tallied access n s) kind spot (written access n)
     by false = refl
 
 -- an entry of two lists is of the one or of the other
@@ -252,7 +254,7 @@ module _ (m : Meaning) (l : Layout) (rs : List Request) (s s' : Sight) (r : ℕ)
       (stepped_knows m l rs r s.word step.ask kind (s.part r) step.asked)
     where
       noted' : part1.records.known ≡ (stepped m l kind (s.part r) found_here).records.known
-      noted' = noted_known l r kind step.ask.0 (written step.ask.1 found_here) (stepped m l kind (s.part r) found_here).records
+      noted' = noted_known l r kind step.ask.0 step.ask.1 found_here (stepped m l kind (s.part r) found_here).records
 
   all : (r1 i : ℕ) (x : Known) → slice_get (s'.part r1).records.known i ≡ Some x → Stands s'.word x
   unfolding part1

@@ -19,6 +19,7 @@ use Rattle.runner_steps.specs.Outside.{last_epoch}
 use Rattle.runner_steps.specs.AfterInRun as inside
 use Rattle.runner_steps.specs.AfterOutside as outside
 use Rattle.runner_steps.specs.After.{outside_after, line_after, inside_after, after_by, stepped}
+use Rattle.table_words.specs.Places.{slot_count}
 
 -- the runs that came to their end are the same
 abbrev pub Same : PartState → PartState → Type 0
@@ -55,6 +56,7 @@ module _ (m : Meaning) (l : Layout) where
   outside_same kinds.Advance p found = advance_same p p.stage
   outside_same kinds.Split p found = if_same (nat_lt p.records.splits l.runners) p _ _ refl refl
   outside_same (kinds.LoadEntry request reply) p found = learned_same p.records request reply found
+  outside_same (kinds.PrivateLoad slot word) p found = if_same (nat_lt slot (slot_count l m.fixed_slots)) p _ _ refl refl
   outside_same (kinds.Hold thunk d) p found = if_same (found == thunk.word) p _ _ refl refl
   outside_same kinds.EpochForRetire p found = retire_same p p.published found
   outside_same (kinds.LoadCell (Some place)) p found = refl
