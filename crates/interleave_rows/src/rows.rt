@@ -1,5 +1,6 @@
 //! Worked rows.
 ghost use Rattle.std.specs.Prelude.{◌≤◌};
+ghost use Rattle.map_history.specs.Requests.{AreInOrder};
 ghost use Rattle.table_words.specs.Limits.{IsWithinLimits};
 
 use interleave_core::{Event, EventKind, Machine, ScheduleError, StepError, Tray, all_schedules};
@@ -40,12 +41,32 @@ fn thunk(form: u64, request: u32, operand: u64) -> Thunk {
 }
 
 /// Two requests in each of two traces.
-fn requests() -> [Request; 4] {
-    [0, 1, 2, 3].map(|number| Request {
-        trace: number / 2,
-        number,
-        op: Op::Get(1),
-    })
+fn requests() -> [Request; 4]
+    ensures { AreInOrder result 64 }
+{
+    let op = Op::Get(1);
+    [
+        Request {
+            trace: 0,
+            number: 0,
+            op,
+        },
+        Request {
+            trace: 0,
+            number: 1,
+            op,
+        },
+        Request {
+            trace: 1,
+            number: 2,
+            op,
+        },
+        Request {
+            trace: 1,
+            number: 3,
+            op,
+        },
+    ]
 }
 
 /// Makes this step, and says whether it was enabled.
