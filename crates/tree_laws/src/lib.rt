@@ -6,4 +6,4 @@
 
 mod laws;
 
-pub use laws::tree_first_memory;
+pub use laws::{tree_begins, tree_first_memory};
