@@ -25,7 +25,7 @@ at_end AtNext h = absurd (cc)
 at_end AtLock h = absurd (cc)
 at_end Refused h = absurd (cc)
 
-same_list : (xs ys : List ℕ) → same_numbers xs ys ≡ true → xs ≡ ys
+pub same_list : (xs ys : List ℕ) → same_numbers xs ys ≡ true → xs ≡ ys
 same_list [] [] h = refl
 same_list [] (y ∷ ys) h = absurd (cc)
 same_list (x ∷ xs) [] h = absurd (cc)

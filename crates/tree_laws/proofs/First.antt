@@ -1,15 +1,13 @@
 -- The first memory: the root over the two sentinels.
-use Rattle.std.proofs.Common.{◌≡◌, ◌≢◌, ℕ, zero, suc, ◌+◌, ◌<◌, ◌≤◌, Bool, true, false, cond, refl, sym, ap, ◌∙◌, inl, inr, arith}
-use Rattle.std.specs.Prelude.{◌⊎◌, ◌*◌, ◌^◌, nat_lt, Some, None}
-use Rattle.std.specs.FinMap.{get, empty, get-empty}
+use Rattle.std.proofs.Common.{◌≡◌, ◌≢◌, ℕ, zero, suc, ◌<◌, ◌≤◌, Bool, true, false, cond, refl, sym, ap, ◌∙◌, inl, inr, arith}
+use Rattle.std.specs.Prelude.{◌⊎◌, nat_lt, Some, None}
+use Rattle.std.specs.FinMap.{empty, get-empty}
 use Rattle.std.specs.Ordering.{nat_cmp}
 use Rattle.section_body.specs.Word.{value_of, pack}
 use Rattle.table_words.specs.declared.layout.Layout.{Layout}
-use Rattle.table_words.specs.Limits.{IsWithinLimits}
 use Rattle.table_words.specs.Places.{slot_count}
 use Rattle.structure_laws.specs.Scene.{Readings, Section, Free, Live, Retired, Scene}
 use Rattle.structure_laws.specs.Laws.{IsFirst}
-use Rattle.tree_bodies.specs.Tree.{key_cell, left_of, right_of, mark_of}
 use Rattle.tree_laws.specs.Search.{Nodes, Covers, IsInner, IsLeaf, low, high, key_end, SearchTree, HasSentinels}
 use Rattle.tree_laws.specs.Leaves.{first_value, nodes, IsTrail, TreeStands, TreeKept, tree}
 

@@ -2,6 +2,8 @@
 ghost use Rattle.std.specs.Prelude.{◌≡◌, true, false, ℕ};
 ghost use Rattle.std.specs.FinMap.{empty};
 ghost use Rattle.table_words.specs.declared.layout.Layout.{Layout};
+ghost use Rattle.table_words.specs.Limits.{IsWithinLimits};
+ghost use Rattle.structure_laws.specs.Shape.{ShapeLaw};
 ghost use Rattle.structure_laws.specs.Scene.{Cells, Scene};
 ghost use Rattle.structure_laws.specs.Laws.{IsFirst, FirstMemory};
 ghost use Rattle.tree_laws.specs.Leaves.{tree};
@@ -17,4 +19,10 @@ pub fn tree_first_memory()
 pub fn tree_begins()
     ensures begins { (layout : Layout) (s : Scene) → IsFirst tree s → tree.kept layout s }
     ensures empty { (layout : Layout) (s : Scene) → IsFirst tree s → tree.stands layout s.cells empty }
+{}
+
+/// A thunk that fits the readings of an entered runner, for an operation within the limits, has a body that may run: its locks are
+/// different locks that the readings give, free and not spent as read, and its loads are of cells of nodes that they give.
+pub fn tree_bodies_are_shaped()
+    ensures { (layout : Layout) → IsWithinLimits layout → ShapeLaw tree layout }
 {}

@@ -1,0 +1,87 @@
+-- The steps of the tree's bodies, found by their kind.
+use Rattle.std.proofs.Common.{◌≡◌, ℕ, ◌+◌, arith}
+use Rattle.std.specs.Prelude.{◌*◌, ◌^◌, ◌⊎◌, Some, slice_get}
+use Rattle.section_body.specs.Bucket.{operand}
+use Rattle.section_body.specs.declared.value.Value.{Value}
+use Rattle.section_body.specs.declared.value.Value.TheVariants.{Const, Of, Made}
+use Rattle.section_body.specs.declared.value.Init.{Init}
+use Rattle.section_body.specs.declared.step.Step.{Step}
+use Rattle.section_body.specs.declared.step.Step.TheVariants.{Load, Want, Fresh, Take, Make, Store, Answer}
+use Rattle.section_body.specs.declared.thunk.Thunk.{Thunk}
+use Rattle.tree_bodies.specs.Tree.{lock_of, mark_of, leaf_init, inner_init, parent_in, sibling_of, look_steps, insert_steps, delete_steps}
+
+module _ (t : Thunk) where
+  abbrev pub IsLook : ℕ → Step → Type 0
+  IsLook j step = slice_get (look_steps t) j ≡ Some step
+
+  abbrev pub IsInsert : ℕ → Step → Type 0
+  IsInsert j step = slice_get (insert_steps t) j ≡ Some step
+
+  abbrev pub IsDelete : ℕ → Step → Type 0
+  IsDelete j step = slice_get (delete_steps t) j ≡ Some step
+
+  -- the loads of the three forms; the first two are the same for the forms 11 and 12 but for their places in the body
+  pub look_load : (j p r : ℕ) → IsLook j (Load p r) → ((j ≡ 0) × (r ≡ 0) × (p ≡ operand t 0)) ⊎ ((j ≡ 2) × (r ≡ 1) × (p ≡ t.lock + 4))
+  look_load j p r h = grind arith
+
+  pub insert_load : (j p r : ℕ) → IsInsert j (Load p r) → ((j ≡ 0) × (r ≡ 0) × (p ≡ operand t 0)) ⊎ ((j ≡ 3) × (r ≡ 1) × (p ≡ t.lock + 4))
+  insert_load j p r h = grind arith
+
+  pub delete_load : (j p r : ℕ) → IsDelete j (Load p r) → ((j ≡ 0) × (r ≡ 0) × (p ≡ operand t 0)) ⊎ ((j ≡ 3) × (r ≡ 1) × (p ≡ t.lock + 4))
+      ⊎ ((j ≡ 6) × (r ≡ 2) × (p ≡ operand t 4)) ⊎ ((j ≡ 8) × (r ≡ 3) × (p ≡ sibling_of t)) ⊎ ((j ≡ 9) × (r ≡ 4) × (p ≡ mark_of (parent_in t)))
+  delete_load j p r h = grind arith
+
+  pub delete_store : (j r : ℕ) (v : Value) → IsDelete j (Store r v) → ((j ≡ 13) × (r ≡ 4) × (v ≡ Const 1)) ⊎ ((j ≡ 14) × (r ≡ 0) × (v ≡ Of 3))
+  delete_store j r v h = grind arith
+
+  pub look_want : (j r w : ℕ) → IsLook j (Want r w) → ((j ≡ 1) × (r ≡ 0)) ⊎ ((j ≡ 3) × (r ≡ 1))
+  look_want j r w h = grind arith
+
+  pub insert_want : (j r w : ℕ) → IsInsert j (Want r w) → ((j ≡ 1) × (r ≡ 0)) ⊎ ((j ≡ 4) × (r ≡ 1))
+  insert_want j r w h = grind arith
+
+  pub delete_want : (j r w : ℕ) → IsDelete j (Want r w) → ((j ≡ 1) × (r ≡ 0)) ⊎ ((j ≡ 4) × (r ≡ 1)) ⊎ ((j ≡ 7) × (r ≡ 2)) ⊎ ((j ≡ 10) × (r ≡ 4))
+  delete_want j r w h = grind arith
+
+  pub insert_fresh : (j r : ℕ) → IsInsert j (Fresh r) → (j ≡ 2) × (r ≡ 0)
+  insert_fresh j r h = (grind arith, grind arith)
+
+  pub delete_fresh : (j r : ℕ) → IsDelete j (Fresh r) → ((j ≡ 2) × (r ≡ 0)) ⊎ ((j ≡ 11) × (r ≡ 4))
+  delete_fresh j r h = grind arith
+
+  pub delete_take : (j l w : ℕ) → IsDelete j (Take l w) → (j ≡ 5) × (l ≡ lock_of (parent_in t)) × (w ≡ operand t 3)
+  delete_take j l w h = (grind arith, grind arith, grind arith)
+
+  pub insert_make : (j r : ℕ) (init : Init) → IsInsert j (Make init r) → ((j ≡ 5) × (r ≡ 2) × (init ≡ leaf_init t)) ⊎ ((j ≡ 6) × (r ≡ 3) × (init ≡ inner_init t))
+  insert_make j r init h = grind arith
+
+  pub insert_store : (j r : ℕ) (v : Value) → IsInsert j (Store r v) → (j ≡ 8) × (r ≡ 0) × (v ≡ Made 3)
+  insert_store j r v h = (grind arith, grind arith, grind arith)
+
+  -- steps that a form doesn't have
+  pub look_fresh : (j r : ℕ) → IsLook j (Fresh r) → ⊥
+  look_fresh j r h = grind arith
+
+  pub look_take : (j l w : ℕ) → IsLook j (Take l w) → ⊥
+  look_take j l w h = grind arith
+
+  pub look_make : (j r : ℕ) (init : Init) → IsLook j (Make init r) → ⊥
+  look_make j r init h = grind arith
+
+  pub look_store : (j r : ℕ) (v : Value) → IsLook j (Store r v) → ⊥
+  look_store j r v h = grind arith
+
+  pub insert_take : (j l w : ℕ) → IsInsert j (Take l w) → ⊥
+  insert_take j l w h = grind arith
+
+  pub delete_make : (j r : ℕ) (init : Init) → IsDelete j (Make init r) → ⊥
+  delete_make j r init h = grind arith
+
+  pub look_answer : (j n : ℕ) → IsLook j (Answer n) → n ≡ operand t 3
+  look_answer j n h = grind arith
+
+  pub insert_answer : (j n : ℕ) → IsInsert j (Answer n) → n ≡ 1 * 2 ^ 32
+  insert_answer j n h = grind arith
+
+  pub delete_answer : (j n : ℕ) → IsDelete j (Answer n) → n ≡ 4 * 2 ^ 32
+  delete_answer j n h = grind arith
