@@ -4,3 +4,4 @@ pub mod Forms
 pub mod BodyShapes
 pub mod Fit
 pub mod TreeShape
+pub mod Removal

@@ -1,5 +1,6 @@
 -- A search tree by sides: its linked nodes, each with the keys that its place covers. Of each fact both sides are one case.
-use Rattle.std.specs.Prelude.{ℕ, suc, ◌<◌, ◌≤◌, ◌≡◌, ◌≢◌, ◌⊎◌, Bool, true, false, cond, not, ◌&&◌, ◌==◌, Option, Some}
+use Rattle.std.specs.Prelude.{ℕ, suc, ◌<◌, ◌≤◌, ◌≡◌, ◌≢◌, ◌⊎◌, Bool, true, false, cond, not, ◌&&◌, ◌==◌, Option, None, Some}
+use Rattle.section_body.specs.Update.{upd}
 
 -- the values of the nodes' cells; true is the left side, and the right link of a leaf is its value
 pub record Nodes : Type 0 where
@@ -87,3 +88,38 @@ same_side false b = not b
 -- one link of a node changes
 abbrev pub with_child : Nodes → Bool → ℕ → ℕ → Nodes
 with_child n b s link = record n { child = λ d t. cond (same_side d b && (t == s)) link (n.child d t) }
+
+-- a removal: below node a, on its side d, stands the inner node p; its child on side e is b, which stays, and its other child is the leaf l
+pub record IsRemoval (n : Nodes) (c : Covers) (d e : Bool) (a p b l : ℕ) : Type 0 where
+  pub above : c.linked a ≡ true
+  pub above_inner : IsInner n a
+  pub parent : n.child d a ≡ suc p
+  pub parent_inner : IsInner n p
+  pub stays : n.child e p ≡ suc b
+  pub goes : n.child (not e) p ≡ suc l
+  pub leaf : IsLeaf n l
+
+-- bounds after a removal: those of linked nodes that were the key of p are p's own
+abbrev pub grown : (ℕ → Bool) → (ℕ → ℕ) → ℕ → ℕ → ℕ → ℕ → ℕ
+grown linked bound key own p = upd (λ s. cond (linked s && (bound s == key)) own (bound s)) p own
+
+-- the sibling takes the place of p, whose keys are shared among those below it
+abbrev pub removed : Nodes → Covers → ℕ → ℕ → ℕ → ℕ → Covers
+removed n c a p b l = record {
+  linked = upd (upd c.linked p false) l false;
+  lo = grown c.linked c.lo (n.key p) (c.lo p) p;
+  hi = grown c.linked c.hi (n.key p) (c.hi p) p;
+  up = upd c.up b a;
+}
+
+-- after a removal the memory is a search tree without the leaf's pair
+pub record RemovalKeeps (n : Nodes) (c : Covers) (d : Bool) (a p b l : ℕ) : Type 0 where
+  pub tree : SearchTree (with_child n d a (suc b)) (removed n c a p b l)
+  pub contents : (lookup : ℕ → Option ℕ) → 3 ≤ l → Contents n c lookup
+      → Contents (with_child n d a (suc b)) (removed n c a p b l) (upd lookup (n.key l) None)
+  -- what is still linked covers no less than before
+  pub lo : (s : ℕ) → (removed n c a p b l).lo s ≤ c.lo s
+  pub hi : (s : ℕ) → c.hi s ≤ (removed n c a p b l).hi s
+
+abbrev pub RemovalLaw : Type 0
+RemovalLaw = (n : Nodes) (c : Covers) (d e : Bool) (a p b l : ℕ) → SearchTree n c → IsRemoval n c d e a p b l → RemovalKeeps n c d a p b l

@@ -6,6 +6,7 @@ ghost use Rattle.table_words.specs.Limits.{IsWithinLimits};
 ghost use Rattle.structure_laws.specs.Shape.{ShapeLaw};
 ghost use Rattle.structure_laws.specs.Scene.{Cells, Scene};
 ghost use Rattle.structure_laws.specs.Laws.{IsFirst, FirstMemory};
+ghost use Rattle.tree_laws.specs.Search.{RemovalLaw};
 ghost use Rattle.tree_laws.specs.Leaves.{tree};
 
 /// The tree's first memory is a structure's: its locks are free, and its links lead to the fixed slots. No lock is a link.
@@ -25,4 +26,10 @@ pub fn tree_begins()
 /// different locks that the readings give, free and not spent as read, and its loads are of cells of nodes that they give.
 pub fn tree_bodies_are_shaped()
     ensures { (layout : Layout) → IsWithinLimits layout → ShapeLaw tree layout }
+{}
+
+/// In a search tree a leaf is taken out together with its parent, whose other child takes the parent's place: the
+/// linked nodes are a search tree again, with the same pairs but the leaf's, on whichever sides both links stand.
+pub fn removals_keep_the_tree()
+    ensures { RemovalLaw }
 {}

@@ -6,4 +6,4 @@
 
 mod laws;
 
-pub use laws::{tree_begins, tree_bodies_are_shaped, tree_first_memory};
+pub use laws::{removals_keep_the_tree, tree_begins, tree_bodies_are_shaped, tree_first_memory};
