@@ -5,3 +5,5 @@ pub mod BodyShapes
 pub mod Fit
 pub mod TreeShape
 pub mod Removal
+pub mod Insertion
+pub mod Views

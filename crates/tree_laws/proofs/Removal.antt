@@ -1,11 +1,11 @@
 -- A removal keeps the search tree, on either side of both nodes.
-use Rattle.std.proofs.Common.{◌≡◌, ◌≢◌, ℕ, zero, suc, ◌+◌, ◌*◌, ◌<◌, ◌≤◌, Bool, true, false, cond, refl, sym, ap, ◌∙◌, subst, inl, inr, ⊎_elim, arith}
+use Rattle.std.proofs.Common.{◌≡◌, ◌≢◌, ℕ, suc, ◌<◌, ◌≤◌, Bool, true, false, cond, refl, sym, ap, ◌∙◌, subst, inl, inr, ⊎_elim, arith}
 use Rattle.std.specs.Prelude.{◌==◌, ◌&&◌, ◌⊎◌, not, Option, Some, None}
 use mathlib.Core.Logic.{dite}
 use native.Mathlib.Decide.{ℕ_discrete}
 use Rattle.section_body.specs.Update.{upd}
 use Rattle.structure_laws.proofs.Changes.{upd_same, upd_other}
-use Rattle.tree_laws.specs.Search.{Nodes, Covers, IsInner, IsLeaf, low, high, key_end, AreApart, SearchTree, Contents, same_side, with_child, IsRemoval, grown, removed, RemovalKeeps}
+use Rattle.tree_laws.specs.Search.{Nodes, Covers, IsInner, IsLeaf, low, high, key_end, SearchTree, Contents, same_side, with_child, IsRemoval, grown, removed, RemovalKeeps}
 
 still : (f : ℕ → Bool) (p l s : ℕ) → upd (upd f p false) l false s ≡ true → (f s ≡ true) × (s ≢ p) × (s ≢ l)
 still f p l s h = (grind arith, λ e. grind arith, λ e. grind arith)
@@ -32,23 +32,23 @@ grown_falls f bound m p x le = grind arith
 grown_rises : (f : ℕ → Bool) (bound : ℕ → ℕ) (m p x : ℕ) → m ≤ bound p → bound x ≤ grown f bound m (bound p) p x
 grown_rises f bound m p x le = grind arith
 
-suc_eq : {x y : ℕ} → suc x ≡ suc y → x ≡ y
+pub suc_eq : {x y : ℕ} → suc x ≡ suc y → x ≡ y
 suc_eq e = omega arith
 
 -- a link is the changed one, or as it was
-sides : (b d : Bool) → ((b ≡ d) × (same_side b d ≡ true)) ⊎ ((b ≢ d) × (same_side b d ≡ false))
+pub sides : (b d : Bool) → ((b ≡ d) × (same_side b d ≡ true)) ⊎ ((b ≢ d) × (same_side b d ≡ false))
 sides true true = inl (refl, refl)
 sides false false = inl (refl, refl)
 sides true false = inr (λ e. cc, refl)
 sides false true = inr (λ e. cc, refl)
 
-split : (f : Bool → ℕ → ℕ) (d : Bool) (a v : ℕ) (b : Bool) (s : ℕ) → ((b ≡ d) × (s ≡ a) × (cond (same_side b d && (s == a)) v (f b s) ≡ v)) ⊎ (((b ≡ d) → s ≢ a) × (cond (same_side b d && (s == a)) v (f b s) ≡ f b s))
+pub split : (f : Bool → ℕ → ℕ) (d : Bool) (a v : ℕ) (b : Bool) (s : ℕ) → ((b ≡ d) × (s ≡ a) × (cond (same_side b d && (s == a)) v (f b s) ≡ v)) ⊎ (((b ≡ d) → s ≢ a) × (cond (same_side b d && (s == a)) v (f b s) ≡ f b s))
 split f d a v b s = ⊎_elim
     (λ h. dite (ℕ_discrete s a) (λ e. inl (h.0, e, (let q = h.1 in grind arith))) (λ ne. inr (λ q. ne, (let q = h.1 in grind arith))))
     (λ h. inr (λ q e. h.0 q, (let q = h.1 in grind arith)))
     (sides b d)
 
-other_side : (c e : Bool) → (c ≡ e) ⊎ (c ≡ not e)
+pub other_side : (c e : Bool) → (c ≡ e) ⊎ (c ≡ not e)
 other_side true true = inl refl
 other_side false false = inl refl
 other_side true false = inr refl

@@ -123,3 +123,57 @@ pub record RemovalKeeps (n : Nodes) (c : Covers) (d : Bool) (a p b l : ℕ) : Ty
 
 abbrev pub RemovalLaw : Type 0
 RemovalLaw = (n : Nodes) (c : Covers) (d e : Bool) (a p b l : ℕ) → SearchTree n c → IsRemoval n c d e a p b l → RemovalKeeps n c d a p b l
+
+-- which key the new inner node has, by the side of the new leaf: the greater of both leaves' keys
+abbrev pub AreOrdered : Bool → ℕ → ℕ → ℕ → Type 0
+AreOrdered true key old new = (new < old) × (key ≡ old)
+AreOrdered false key old new = (old < new) × (key ≡ new)
+
+-- an insertion: below node a, on its side d, stands the leaf l; the node t, not linked yet, is over the new leaf f on its side h and over l
+-- on the other; the key of f is one that l covers
+pub record IsInsertion (n : Nodes) (c : Covers) (d h : Bool) (a l t f : ℕ) : Type 0 where
+  pub above : c.linked a ≡ true
+  pub above_inner : IsInner n a
+  pub old : n.child d a ≡ suc l
+  pub old_leaf : IsLeaf n l
+  pub inner_out : c.linked t ≡ false
+  pub leaf_out : c.linked f ≡ false
+  pub differ : t ≢ f
+  pub new_side : n.child h t ≡ suc f
+  pub old_side : n.child (not h) t ≡ suc l
+  pub new_leaf : IsLeaf n f
+  pub from : c.lo l ≤ n.key f
+  pub before : n.key f < c.hi l
+  pub ordered : AreOrdered h (n.key t) (n.key l) (n.key f)
+
+-- three values of a function change, the last one first
+abbrev pub thrice : {A : Type 0} → (ℕ → A) → ℕ → A → ℕ → A → ℕ → A → ℕ → A
+thrice g f x l y t z = upd (upd (upd g f x) l y) t z
+
+-- the new node takes the place of l, and shares its keys among both leaves
+abbrev pub inserted : Nodes → Covers → Bool → ℕ → ℕ → ℕ → ℕ → Covers
+inserted n c h a l t f = record {
+  linked = thrice c.linked f true l true t true;
+  lo = thrice c.lo f (cond h (c.lo l) (n.key t)) l (cond h (n.key t) (c.lo l)) t (c.lo l);
+  hi = thrice c.hi f (cond h (n.key t) (c.hi l)) l (cond h (c.hi l) (n.key t)) t (c.hi l);
+  up = thrice c.up f t l t t a;
+}
+
+-- after an insertion the memory is a search tree with the new leaf's pair
+pub record InsertionKeeps (n : Nodes) (c : Covers) (d h : Bool) (a l t f : ℕ) : Type 0 where
+  pub tree : SearchTree (with_child n d a (suc t)) (inserted n c h a l t f)
+  pub contents : (lookup : ℕ → Option ℕ) → 3 ≤ f → Contents n c lookup
+      → Contents (with_child n d a (suc t)) (inserted n c h a l t f) (upd lookup (n.key f) (Some (n.child false f)))
+
+abbrev pub InsertionLaw : Type 0
+InsertionLaw = (n : Nodes) (c : Covers) (d h : Bool) (a l t f : ℕ) → SearchTree n c → IsInsertion n c d h a l t f → InsertionKeeps n c d h a l t f
+
+-- two views of one memory as a search tree agree on what is linked, and on what a linked node's place covers
+pub record ViewsAgree (c c' : Covers) : Type 0 where
+  pub linked : (s : ℕ) → c.linked s ≡ c'.linked s
+  pub lo : (s : ℕ) → c.linked s ≡ true → c'.lo s ≡ c.lo s
+  pub hi : (s : ℕ) → c.linked s ≡ true → c'.hi s ≡ c.hi s
+  pub up : (s : ℕ) → c.linked s ≡ true → s ≢ 0 → c'.up s ≡ c.up s
+
+abbrev pub ViewLaw : Type 0
+ViewLaw = (n : Nodes) (c c' : Covers) → SearchTree n c → SearchTree n c' → ViewsAgree c c'

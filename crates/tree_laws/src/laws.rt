@@ -6,7 +6,7 @@ ghost use Rattle.table_words.specs.Limits.{IsWithinLimits};
 ghost use Rattle.structure_laws.specs.Shape.{ShapeLaw};
 ghost use Rattle.structure_laws.specs.Scene.{Cells, Scene};
 ghost use Rattle.structure_laws.specs.Laws.{IsFirst, FirstMemory};
-ghost use Rattle.tree_laws.specs.Search.{RemovalLaw};
+ghost use Rattle.tree_laws.specs.Search.{InsertionLaw, RemovalLaw, ViewLaw};
 ghost use Rattle.tree_laws.specs.Leaves.{tree};
 
 /// The tree's first memory is a structure's: its locks are free, and its links lead to the fixed slots. No lock is a link.
@@ -32,4 +32,16 @@ pub fn tree_bodies_are_shaped()
 /// linked nodes are a search tree again, with the same pairs but the leaf's, on whichever sides both links stand.
 pub fn removals_keep_the_tree()
     ensures { RemovalLaw }
+{}
+
+/// In a search tree a leaf gives its place to a new inner node over it and a new leaf, whose key the old leaf's place
+/// covers: the linked nodes are a search tree again, with the same pairs and the new leaf's, on whichever sides both stand.
+pub fn insertions_keep_the_tree()
+    ensures { InsertionLaw }
+{}
+
+/// One memory is a search tree in one way: two views of it agree on the linked nodes, their parents and the keys that
+/// their places cover.
+pub fn views_of_a_tree_agree()
+    ensures { ViewLaw }
 {}

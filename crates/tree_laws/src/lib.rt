@@ -6,4 +6,4 @@
 
 mod laws;
 
-pub use laws::{removals_keep_the_tree, tree_begins, tree_bodies_are_shaped, tree_first_memory};
+pub use laws::{insertions_keep_the_tree, removals_keep_the_tree, tree_begins, tree_bodies_are_shaped, tree_first_memory, views_of_a_tree_agree};
