@@ -202,7 +202,7 @@ module _ (t : Thunk) where
       (λ b. (delete_loaded i r (inl (let at = b.0 in omega arith, b.1)), subst (SetBefore (delete_steps t) i) (sym b.2) (delete_loaded i 3 (inr (inr (inr (inl (let at = b.0 in omega arith, refl))))))))
       (delete_store t i r v (at_step (delete_steps t) i step (Store r v) e h)))
     where
-      wants : (r w : ℕ) → ((i ≡ 1) × (r ≡ 0)) ⊎ ((i ≡ 4) × (r ≡ 1)) ⊎ ((i ≡ 7) × (r ≡ 2)) ⊎ ((i ≡ 10) × (r ≡ 4)) → ((1 ≤ i) × (r ≡ 0)) ⊎ ((4 ≤ i) × (r ≡ 1)) ⊎ ((7 ≤ i) × (r ≡ 2)) ⊎ ((9 ≤ i) × (r ≡ 3)) ⊎ ((10 ≤ i) × (r ≡ 4))
+      wants : (r w : ℕ) → ((i ≡ 1) × (r ≡ 0) × (w ≡ operand t 1)) ⊎ ((i ≡ 4) × (r ≡ 1) × (w ≡ operand t 2)) ⊎ ((i ≡ 7) × (r ≡ 2) × (w ≡ operand t 5)) ⊎ ((i ≡ 10) × (r ≡ 4) × (w ≡ operand t 6)) → ((1 ≤ i) × (r ≡ 0)) ⊎ ((4 ≤ i) × (r ≡ 1)) ⊎ ((7 ≤ i) × (r ≡ 2)) ⊎ ((9 ≤ i) × (r ≡ 3)) ⊎ ((10 ≤ i) × (r ≡ 4))
       wants r w (inl a) = inl (let at = a.0 in omega arith, a.1)
       wants r w (inr (inl a)) = inr (inl (let at = a.0 in omega arith, a.1))
       wants r w (inr (inr (inl a))) = inr (inr (inl (let at = a.0 in omega arith, a.1)))

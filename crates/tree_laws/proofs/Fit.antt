@@ -7,7 +7,7 @@ use Rattle.section_body.specs.declared.thunk.Thunk.{Thunk}
 use Rattle.structure_laws.proofs.Changes.{equal_of, both_true}
 use Rattle.bucket_laws.specs.Walk.{is_del}
 use Rattle.bucket_laws.proofs.Fit.{same_list}
-use Rattle.tree_bodies.specs.Tree.{Look, Insert, Delete, Empty, fits_look, fits_insert, fits_delete, form_of}
+use Rattle.tree_bodies.specs.Tree.{Form, Look, Insert, Delete, Empty, fits_look, fits_insert, fits_delete, form_of}
 use Rattle.tree_laws.specs.Walk.{Stage, AtRoot, AtLeft, AtKey, AtRight, AtValue, AtGrandLock, AtGrandMark, AtLock, AtMark, AtEnd, Refused, Walk, is_end, form_for, reply_for, look_operands, operands_for, lock_for, word_for, fits_walk}
 
 at_end : (stage : Stage) → is_end stage ≡ true → stage ≡ AtEnd
@@ -113,3 +113,41 @@ is_delete t form fits = go (t.form == 11) (fits_look t) (t.form == 12) (fits_ins
     go false p false q true true h h' h2 h3 = refl
     go false p false q true false h h' h2 h3 = absurd (false_true h3)
     go false p false q false r h h' h2 h3 = absurd (false_true h2)
+
+-- the number of each form
+form_number : (a p b q c r : Bool) (f : Form) → cond a (cond p Look Empty) (cond b (cond q Insert Empty) (cond c (cond r Delete Empty) Empty)) ≡ f
+    → ((f ≡ Look) → a ≡ true) × ((f ≡ Insert) → b ≡ true) × ((f ≡ Delete) → c ≡ true)
+form_number true true b q c r f h = (λ e. refl, λ e. absurd (cc), λ e. absurd (cc))
+form_number true false b q c r f h = (λ e. refl, λ e. absurd (cc), λ e. absurd (cc))
+form_number false p true true c r f h = (λ e. absurd (cc), λ e. refl, λ e. absurd (cc))
+form_number false p true false c r f h = (λ e. absurd (cc), λ e. refl, λ e. absurd (cc))
+form_number false p false q true true f h = (λ e. absurd (cc), λ e. absurd (cc), λ e. refl)
+form_number false p false q true false f h = (λ e. absurd (cc), λ e. absurd (cc), λ e. refl)
+form_number false p false q false r f h = (λ e. absurd (cc), λ e. absurd (cc), λ e. absurd (cc))
+
+pub numbers_of : (t : Thunk) (f : Form) → form_of t ≡ f → ((f ≡ Look) → t.form ≡ 11) × ((f ≡ Insert) → t.form ≡ 12) × ((f ≡ Delete) → t.form ≡ 13)
+numbers_of t f h =
+    let number = form_number (t.form == 11) (fits_look t) (t.form == 12) (fits_insert t) (t.form == 13) (fits_delete t) f h in
+    (λ e. equal_of t.form 11 (number.0 e), λ e. equal_of t.form 12 (number.1 e), λ e. equal_of t.form 13 (number.2 e))
+
+-- an operation by its form
+pub inserts : (op : Op) (found : Bool) → form_for op found ≡ 12 → (key value : ℕ) × (op ≡ Ins key value) × (found ≡ false)
+inserts (Get key) found h = absurd (omega arith)
+inserts (Ins key value) true h = absurd (omega arith)
+inserts (Ins key value) false h = (key, value, refl, refl)
+inserts (Del key) true h = absurd (omega arith)
+inserts (Del key) false h = absurd (omega arith)
+
+pub deletes : (op : Op) (found : Bool) → form_for op found ≡ 13 → (key : ℕ) × (op ≡ Del key) × (found ≡ true)
+deletes (Get key) found h = absurd (omega arith)
+deletes (Ins key value) true h = absurd (omega arith)
+deletes (Ins key value) false h = absurd (omega arith)
+deletes (Del key) true h = (key, refl, refl)
+deletes (Del key) false h = absurd (omega arith)
+
+pub look_outer : (op : Op) (found : Bool) → form_for op found ≡ 11 → (is_del op && found) ≡ false
+look_outer (Get key) found h = refl
+look_outer (Ins key value) true h = refl
+look_outer (Ins key value) false h = absurd (omega arith)
+look_outer (Del key) true h = absurd (omega arith)
+look_outer (Del key) false h = refl

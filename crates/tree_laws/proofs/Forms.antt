@@ -34,13 +34,14 @@ module _ (t : Thunk) where
   pub delete_store : (j r : ℕ) (v : Value) → IsDelete j (Store r v) → ((j ≡ 13) × (r ≡ 4) × (v ≡ Const 1)) ⊎ ((j ≡ 14) × (r ≡ 0) × (v ≡ Of 3))
   delete_store j r v h = grind arith
 
-  pub look_want : (j r w : ℕ) → IsLook j (Want r w) → ((j ≡ 1) × (r ≡ 0)) ⊎ ((j ≡ 3) × (r ≡ 1))
+  pub look_want : (j r w : ℕ) → IsLook j (Want r w) → ((j ≡ 1) × (r ≡ 0) × (w ≡ operand t 1)) ⊎ ((j ≡ 3) × (r ≡ 1) × (w ≡ operand t 2))
   look_want j r w h = grind arith
 
-  pub insert_want : (j r w : ℕ) → IsInsert j (Want r w) → ((j ≡ 1) × (r ≡ 0)) ⊎ ((j ≡ 4) × (r ≡ 1))
+  pub insert_want : (j r w : ℕ) → IsInsert j (Want r w) → ((j ≡ 1) × (r ≡ 0) × (w ≡ operand t 1)) ⊎ ((j ≡ 4) × (r ≡ 1) × (w ≡ operand t 2))
   insert_want j r w h = grind arith
 
-  pub delete_want : (j r w : ℕ) → IsDelete j (Want r w) → ((j ≡ 1) × (r ≡ 0)) ⊎ ((j ≡ 4) × (r ≡ 1)) ⊎ ((j ≡ 7) × (r ≡ 2)) ⊎ ((j ≡ 10) × (r ≡ 4))
+  pub delete_want : (j r w : ℕ) → IsDelete j (Want r w) → ((j ≡ 1) × (r ≡ 0) × (w ≡ operand t 1)) ⊎ ((j ≡ 4) × (r ≡ 1) × (w ≡ operand t 2))
+      ⊎ ((j ≡ 7) × (r ≡ 2) × (w ≡ operand t 5)) ⊎ ((j ≡ 10) × (r ≡ 4) × (w ≡ operand t 6))
   delete_want j r w h = grind arith
 
   pub insert_fresh : (j r : ℕ) → IsInsert j (Fresh r) → (j ≡ 2) × (r ≡ 0)

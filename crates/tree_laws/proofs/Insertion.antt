@@ -250,9 +250,11 @@ module _ (n : Nodes) (g : Covers) (d h : Bool) (a l t f : ℕ) (sh : SearchTree 
       (⊎_elim (λ at. subst (λ x. HasParent x (after.up x)) (sym at) (subst (HasParent f) (sym up_f) (links t (inl refl), inner_new t t_inner, (h, same_links h t t_not_a ∙ is.new_side))))
       (⊎_elim (λ at. subst (λ x. HasParent x (after.up x)) (sym at) (subst (HasParent l) (sym up_l) (links t (inl refl), inner_new t t_inner, (not h, same_links (not h) t t_not_a ∙ is.old_side))))
       (λ st. subst (HasParent x) (sym (up_old x st.1 st.2 st.3)) (
-      let child = sh.up_child x st.0 some in
-      (links (g.up x) (inr (inr (sh.up_linked x st.0 some))), inner_new (g.up x) (sh.up_inner x st.0 some),
-      (child.0, ⊎_elim (λ o. absurd (st.2 (suc_eq (sym child.1 ∙ ap (λ c. n.child c (g.up x)) o.0 ∙ ap (n.child d) o.1 ∙ is.old)))) (λ o. o.1 ∙ child.1) (split n.child d a (suc t) child.0 (g.up x))))))))
+      let child = sh.up_child x st.0 some in (
+        links (g.up x) (inr (inr (sh.up_linked x st.0 some))),
+        inner_new (g.up x) (sh.up_inner x st.0 some),
+        (child.0, ⊎_elim (λ o. absurd (st.2 (suc_eq (sym child.1 ∙ ap (λ c. n.child c (g.up x)) o.0 ∙ ap (n.child d) o.1 ∙ is.old)))) (λ o. o.1 ∙ child.1) (split n.child d a (suc t) child.0 (g.up x))),
+      )))))
       (which x i)
 
   -- a leaf after it: one of both, inside the place of l, or another as it was

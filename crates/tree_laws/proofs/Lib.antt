@@ -7,3 +7,4 @@ pub mod TreeShape
 pub mod Removal
 pub mod Insertion
 pub mod Views
+pub mod Planning

@@ -9,7 +9,7 @@ use Rattle.structure_laws.specs.Scene.{Readings}
 use Rattle.structure_laws.proofs.Changes.{value_small}
 use Rattle.bucket_laws.specs.Walk.{Bounds, is_del, is_wanted}
 use Rattle.bucket_laws.proofs.Walks.{wanted_eq}
-use Rattle.tree_bodies.specs.Tree.{lock_of, left_of, right_of, child_of, slot_in}
+use Rattle.tree_bodies.specs.Tree.{lock_of, left_of, right_of, mark_of, child_of, slot_in}
 use Rattle.tree_laws.specs.Walk.{Stage, AtRoot, AtLeft, AtKey, AtRight, AtValue, AtGrandLock, AtGrandMark, AtLock, AtMark, AtEnd, Refused, step_to, Walk, start, node_of, wanted_at, followed, after_leaf, is_ready, at_key, fed, walk}
 use Rattle.tree_laws.specs.Leaves.{is_left_place, is_right_place, shows_inner, shows_link}
 
@@ -57,6 +57,20 @@ is_locked Refused = false
 abbrev ended : Bool → Bool → Bool → Stage
 ended true del deep = cond del (cond deep AtGrandLock Refused) AtValue
 ended false del deep = AtLock
+
+-- it has loaded the last lock but one, or a removal both of the grandparent's words
+abbrev pub is_marked : Stage → Bool
+is_marked AtRoot = false
+is_marked AtLeft = false
+is_marked AtKey = false
+is_marked AtRight = false
+is_marked AtValue = false
+is_marked AtGrandLock = false
+is_marked AtGrandMark = false
+is_marked AtLock = true
+is_marked AtMark = true
+is_marked AtEnd = true
+is_marked Refused = false
 
 some_eq : (a b : ℕ) → Some a ≡ Some b → a ≡ b
 some_eq a b e = cc
@@ -148,6 +162,10 @@ module _ (all : Readings) where
       -- the last lock was read, free and not spent
       pub lock_read : is_locked w.stage ≡ true → IsAmong (lock_of w.last.from) w.lock
       pub lock_ready : is_locked w.stage ≡ true → is_ready b w.lock ≡ true
+      -- so were the marks; a value is read only for an operation that is no removal
+      pub valued : w.stage ≡ AtValue → is_del op ≡ false
+      pub grand_mark_read : is_marked w.stage ≡ true → is_del op ≡ true → w.found ≡ true → IsAmong (mark_of w.grand.from) w.grand_mark
+      pub mark_read : w.stage ≡ AtEnd → IsAmong (mark_of w.last.from) w.mark
       pub key_small : w.key < 2 ^ 32
       pub value_low : w.value < 2 ^ 32
 
@@ -168,6 +186,9 @@ module _ (all : Readings) where
       deep = λ late. absurd (no_late late);
       lock_read = λ locked. absurd (no_locked locked);
       lock_ready = λ locked. absurd (no_locked locked);
+      valued = λ e. absurd (no_value (sym at ∙ e));
+      grand_mark_read = λ marked. absurd (no_mark marked);
+      mark_read = λ e. absurd (no_end (sym at ∙ e));
       key_small = key;
       value_low = value;
     }
@@ -183,6 +204,15 @@ module _ (all : Readings) where
 
         no_locked : is_locked w.stage ≡ true → ⊥
         no_locked locked = false_true (ap is_locked (sym at) ∙ locked)
+
+        no_mark : is_marked w.stage ≡ true → ⊥
+        no_mark marked = false_true (ap is_marked (sym at) ∙ marked)
+
+        no_value : Refused ≡ AtValue → ⊥
+        no_value e = cc
+
+        no_end : Refused ≡ AtEnd → ⊥
+        no_end e = cc
 
         no_root : Refused ≡ AtRoot → ⊥
         no_root e = cc
@@ -217,6 +247,9 @@ module _ (all : Readings) where
           deep = λ late. absurd (cc);
           lock_read = λ locked. absurd (cc);
           lock_ready = λ locked. absurd (cc);
+          valued = λ e. absurd (cc);
+          grand_mark_read = λ l. absurd (cc);
+          mark_read = λ e. absurd (cc);
           key_small = key;
           value_low = value;
         }
@@ -230,8 +263,8 @@ module _ (all : Readings) where
     reads_leaf : (w : Walk) (found : Bool) (key : ℕ) → Reads w → is_past w.stage ≡ true → key < 2 ^ 32 → Reads (record w { stage = after_leaf op w.deep found; key = key; found = found })
     reads_leaf w found key reads past small = go found (is_del op) w.deep refl refl
       where
-        late : (stage : Stage) (found : Bool) → is_past stage ≡ true → is_late stage ≡ true → is_locked stage ≡ false → (is_del op ≡ true → found ≡ true → w.deep ≡ true) → Reads (record w { stage = stage; key = key; found = found })
-        late stage found is_in is_out unlocked deep = record {
+        late : (stage : Stage) (found : Bool) → is_past stage ≡ true → is_late stage ≡ true → is_locked stage ≡ false → (is_del op ≡ true → found ≡ true → w.deep ≡ true) → (stage ≡ AtValue → is_del op ≡ false) → (is_marked stage ≡ true → found ≡ false) → (stage ≡ AtEnd → ⊥) → Reads (record w { stage = stage; key = key; found = found })
+        late stage found is_in is_out unlocked deep value marked ended = record {
           last_from = reads.last_from;
           grand_from = reads.grand_from;
           some = λ p. reads.some past;
@@ -246,6 +279,9 @@ module _ (all : Readings) where
           deep = λ l. deep;
           lock_read = λ l. absurd (key_late (sym unlocked ∙ l));
           lock_ready = λ l. absurd (key_late (sym unlocked ∙ l));
+          valued = value;
+          grand_mark_read = λ m del f. absurd (key_late (sym (marked m) ∙ f));
+          mark_read = λ e. absurd (ended e);
           key_small = small;
           value_low = reads.value_low;
         }
@@ -264,17 +300,18 @@ module _ (all : Readings) where
             no_del e = cc
 
             by : (found del deep : Bool) → is_del op ≡ del → w.deep ≡ deep → Reads (record w { stage = ended found del deep; key = key; found = found })
-            by true true true is_it is_deep = late AtGrandLock true refl refl refl (λ d f. is_deep)
+            by true true true is_it is_deep = late AtGrandLock true refl refl refl (λ d f. is_deep) (λ e. absurd (cc)) (λ m. absurd (cc)) (λ e. cc)
             by true true false is_it is_deep = refused (record w { stage = Refused; key = key; found = true }) refl reads.last_from reads.grand_from small reads.value_low
-            by true false deep is_it is_deep = late AtValue true refl refl refl (λ d f. absurd (no_del (sym is_it ∙ d)))
-            by false del deep is_it is_deep = late AtLock false refl refl refl (λ d f. absurd (no_del f))
+            by true false deep is_it is_deep = late AtValue true refl refl refl (λ d f. absurd (no_del (sym is_it ∙ d))) (λ e. is_it) (λ m. absurd (cc)) (λ e. cc)
+            by false del deep is_it is_deep = late AtLock false refl refl refl (λ d f. absurd (no_del f)) (λ e. absurd (cc)) (λ m. refl) (λ e. cc)
 
     -- a later stage with the same links
     reads_on : (w : Walk) (stage : Stage) (left value grand_lock grand_mark lock mark : ℕ) → Reads w → is_past w.stage ≡ true → is_past stage ≡ true
         → (stage ≡ AtKey → IsAmong (left_of (node_of w)) left) → (stage ≡ AtRight → shows_inner all (left_of (node_of w)) ≡ true) → (is_late stage ≡ true → is_late w.stage ≡ true)
-        → (is_locked stage ≡ true → IsAmong (lock_of w.last.from) lock × (is_ready b lock ≡ true)) → value < 2 ^ 32
+        → (is_locked stage ≡ true → IsAmong (lock_of w.last.from) lock × (is_ready b lock ≡ true)) → (stage ≡ AtValue → ⊥)
+        → (is_marked stage ≡ true → is_del op ≡ true → w.found ≡ true → IsAmong (mark_of w.grand.from) grand_mark) → (stage ≡ AtEnd → IsAmong (mark_of w.last.from) mark) → value < 2 ^ 32
         → Reads (record w { stage = stage; left = left; value = value; grand_lock = grand_lock; grand_mark = grand_mark; lock = lock; mark = mark })
-    reads_on w stage left value grand_lock grand_mark lock mark reads past past' key right late locked small = record {
+    reads_on w stage left value grand_lock grand_mark lock mark reads past past' key right late locked valued marked ended small = record {
       last_from = reads.last_from;
       grand_from = reads.grand_from;
       some = λ p. reads.some past;
@@ -289,6 +326,9 @@ module _ (all : Readings) where
       deep = λ l. reads.deep (late l);
       lock_read = λ l. (locked l).0;
       lock_ready = λ l. (locked l).1;
+      valued = λ e. absurd (valued e);
+      grand_mark_read = marked;
+      mark_read = ended;
       key_small = reads.key_small;
       value_low = small;
     }
@@ -301,11 +341,12 @@ module _ (all : Readings) where
 
     -- a lock or a mark that was read: the walk goes on, or is refused
     reads_tested : (w : Walk) (passes : Bool) (stage : Stage) (grand_lock grand_mark lock mark : ℕ) → Reads w → is_past w.stage ≡ true → is_late w.stage ≡ true → is_late stage ≡ true → is_past stage ≡ true
-        → (passes ≡ true → is_locked stage ≡ true → IsAmong (lock_of w.last.from) lock × (is_ready b lock ≡ true))
+        → (passes ≡ true → is_locked stage ≡ true → IsAmong (lock_of w.last.from) lock × (is_ready b lock ≡ true)) → (stage ≡ AtValue → ⊥)
+        → (is_marked stage ≡ true → is_del op ≡ true → w.found ≡ true → IsAmong (mark_of w.grand.from) grand_mark) → (stage ≡ AtEnd → IsAmong (mark_of w.last.from) mark)
         → Reads (record w { stage = cond passes stage Refused; grand_lock = grand_lock; grand_mark = grand_mark; lock = lock; mark = mark })
-    reads_tested w true stage grand_lock grand_mark lock mark reads past late late' past' locked = reads_on w stage w.left w.value grand_lock grand_mark lock mark reads past past'
-        (λ e. absurd (false_true (ap is_late (sym e) ∙ late'))) (λ e. absurd (false_true (ap is_late (sym e) ∙ late'))) (λ l. late) (locked refl) reads.value_low
-    reads_tested w false stage grand_lock grand_mark lock mark reads past late late' past' locked =
+    reads_tested w true stage grand_lock grand_mark lock mark reads past late late' past' locked valued marked ended = reads_on w stage w.left w.value grand_lock grand_mark lock mark reads past past'
+        (λ e. absurd (false_true (ap is_late (sym e) ∙ late'))) (λ e. absurd (false_true (ap is_late (sym e) ∙ late'))) (λ l. late) (locked refl) valued marked ended reads.value_low
+    reads_tested w false stage grand_lock grand_mark lock mark reads past late late' past' locked valued marked ended =
         refused (record w { stage = Refused; grand_lock = grand_lock; grand_mark = grand_mark; lock = lock; mark = mark }) refl reads.last_from reads.grand_from reads.key_small reads.value_low
 
     reads_key : (w : Walk) (leaf less : Bool) (word : ℕ) → Reads w → w.stage ≡ AtKey → (value_of w.left == 0) ≡ leaf → Reads (at_key b op w leaf less word)
@@ -330,6 +371,9 @@ module _ (all : Readings) where
           deep = λ l. absurd (cc);
           lock_read = λ l. absurd (cc);
           lock_ready = λ l. absurd (cc);
+          valued = λ e. absurd (cc);
+          grand_mark_read = λ l. absurd (cc);
+          mark_read = λ e. absurd (cc);
           key_small = value_small word;
           value_low = reads.value_low;
         }
@@ -339,16 +383,17 @@ module _ (all : Readings) where
         (subst (λ p. IsAmong p word) (sym (some_eq (left_of 0) p want)) among) (shows_left 0)
         (λ deep. absurd (false_true (sym (reads.shallow at) ∙ deep))) reads.key_small reads.value_low
     reads_fed w AtLeft p word reads at want among = reads_on w AtKey word w.value w.grand_lock w.grand_mark w.lock w.mark reads (ap is_past at) refl
-        (λ e. subst (λ p. IsAmong p word) (sym (some_eq (left_of (node_of w)) p want)) among) (λ e. absurd (cc)) (λ l. absurd (cc)) (λ l. absurd (cc)) reads.value_low
+        (λ e. subst (λ p. IsAmong p word) (sym (some_eq (left_of (node_of w)) p want)) among) (λ e. absurd (cc)) (λ l. absurd (cc)) (λ l. absurd (cc)) (λ e. cc) (λ m. absurd (cc)) (λ e. absurd (cc)) reads.value_low
     reads_fed w AtKey p word reads at want among = reads_key w (value_of w.left == 0) (nat_lt (key_of op) (value_of word)) word reads at refl
     reads_fed w AtRight p word reads at want among = reads_followed w false word reads (ap is_past at) (subst (λ p. IsAmong p word) (sym (some_eq (right_of (node_of w)) p want)) among) (shows_right (node_of w) (reads.inner at))
-    reads_fed w AtValue p word reads at want among = reads_on w AtLock w.left (value_of word) w.grand_lock w.grand_mark w.lock w.mark reads (ap is_past at) refl (λ e. absurd (cc)) (λ e. absurd (cc)) (λ l. ap is_late at) (λ l. absurd (cc)) (value_small word)
-    reads_fed w AtGrandLock p word reads at want among = reads_tested w (is_ready b word) AtGrandMark word w.grand_mark w.lock w.mark reads (ap is_past at) (ap is_late at) refl refl (λ t l. absurd (cc))
-    reads_fed w AtGrandMark p word reads at want among = reads_tested w (value_of word == 0) AtLock w.grand_lock word w.lock w.mark reads (ap is_past at) (ap is_late at) refl refl (λ t l. absurd (cc))
+    reads_fed w AtValue p word reads at want among = reads_on w AtLock w.left (value_of word) w.grand_lock w.grand_mark w.lock w.mark reads (ap is_past at) refl (λ e. absurd (cc)) (λ e. absurd (cc)) (λ l. ap is_late at) (λ l. absurd (cc)) (λ e. cc) (λ m del f. absurd (false_true (sym (reads.valued at) ∙ del))) (λ e. absurd (cc)) (value_small word)
+    reads_fed w AtGrandLock p word reads at want among = reads_tested w (is_ready b word) AtGrandMark word w.grand_mark w.lock w.mark reads (ap is_past at) (ap is_late at) refl refl (λ t l. absurd (cc)) (λ e. cc) (λ m. absurd (cc)) (λ e. absurd (cc))
+    reads_fed w AtGrandMark p word reads at want among = reads_tested w (value_of word == 0) AtLock w.grand_lock word w.lock w.mark reads (ap is_past at) (ap is_late at) refl refl (λ t l. absurd (cc)) (λ e. cc) (λ m del f. subst (λ p. IsAmong p word) (sym (some_eq (mark_of w.grand.from) p want)) among) (λ e. absurd (cc))
     reads_fed w AtLock p word reads at want among = reads_tested w (is_ready b word) AtMark w.grand_lock w.grand_mark word w.mark reads (ap is_past at) (ap is_late at) refl refl
-        (λ t l. (subst (λ p. IsAmong p word) (sym (some_eq (lock_of w.last.from) p want)) among, t))
+        (λ t l. (subst (λ p. IsAmong p word) (sym (some_eq (lock_of w.last.from) p want)) among, t)) (λ e. cc) (λ m. reads.grand_mark_read (ap is_marked at)) (λ e. absurd (cc))
     reads_fed w AtMark p word reads at want among = reads_tested w (value_of word == 0) AtEnd w.grand_lock w.grand_mark w.lock word reads (ap is_past at) (ap is_late at) refl refl
-        (λ t l. (reads.lock_read (ap is_locked at), reads.lock_ready (ap is_locked at)))
+        (λ t l. (reads.lock_read (ap is_locked at), reads.lock_ready (ap is_locked at))) (λ e. cc) (λ m. reads.grand_mark_read (ap is_marked at))
+        (λ e. subst (λ p. IsAmong p word) (sym (some_eq (mark_of w.last.from) p want)) among)
     reads_fed w AtEnd p word reads at want among = absurd (none_some p want)
     reads_fed w Refused p word reads at want among = absurd (none_some p want)
 
@@ -381,6 +426,9 @@ module _ (all : Readings) where
       deep = λ late. absurd (cc);
       lock_read = λ locked. absurd (cc);
       lock_ready = λ locked. absurd (cc);
+      valued = λ e. absurd (cc);
+      grand_mark_read = λ l. absurd (cc);
+      mark_read = λ e. absurd (cc);
       key_small = omega arith;
       value_low = omega arith;
     })

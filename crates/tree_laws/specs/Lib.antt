@@ -1,3 +1,4 @@
 pub mod Search
 pub mod Walk
 pub mod Leaves
+pub mod Planned

@@ -8,6 +8,7 @@ ghost use Rattle.structure_laws.specs.Scene.{Cells, Scene};
 ghost use Rattle.structure_laws.specs.Laws.{IsFirst, FirstMemory};
 ghost use Rattle.tree_laws.specs.Search.{InsertionLaw, RemovalLaw, ViewLaw};
 ghost use Rattle.tree_laws.specs.Leaves.{tree};
+ghost use Rattle.tree_laws.specs.Planned.{MakesAdd, WantsAreRead};
 
 /// The tree's first memory is a structure's: its locks are free, and its links lead to the fixed slots. No lock is a link.
 pub fn tree_first_memory()
@@ -44,4 +45,11 @@ pub fn insertions_keep_the_tree()
 /// their places cover.
 pub fn views_of_a_tree_agree()
     ensures { ViewLaw }
+{}
+
+/// A word that a body on the tree wants was read in its cell; and a body that makes nodes is for an insertion, and answers
+/// that the pair is new.
+pub fn tree_wants_what_was_read()
+    ensures wants_read { (layout : Layout) → WantsAreRead layout }
+    ensures makes_add { (layout : Layout) → MakesAdd layout }
 {}
