@@ -6,7 +6,7 @@ use Rattle.map_history.specs.declared.op.Op.{Op}
 use Rattle.map_history.specs.Keys.{key_of}
 use Rattle.section_body.specs.Word.{value_of}
 use Rattle.structure_laws.specs.Scene.{Readings}
-use Rattle.structure_laws.proofs.Changes.{value_small}
+use Rattle.structure_laws.proofs.Changes.{equal_of, value_small}
 use Rattle.bucket_laws.specs.Walk.{Bounds, is_del, is_wanted}
 use Rattle.bucket_laws.proofs.Walks.{wanted_eq}
 use Rattle.tree_bodies.specs.Tree.{lock_of, left_of, right_of, mark_of, child_of, slot_in}
@@ -166,6 +166,9 @@ module _ (all : Readings) where
       pub valued : w.stage ≡ AtValue → is_del op ≡ false
       pub grand_mark_read : is_marked w.stage ≡ true → is_del op ≡ true → w.found ≡ true → IsAmong (mark_of w.grand.from) w.grand_mark
       pub mark_read : w.stage ≡ AtEnd → IsAmong (mark_of w.last.from) w.mark
+      -- and a walk that ended saw no mark
+      pub unmarked : w.stage ≡ AtEnd → value_of w.mark ≡ 0
+      pub grand_unmarked : is_marked w.stage ≡ true → is_del op ≡ true → w.found ≡ true → value_of w.grand_mark ≡ 0
       pub key_small : w.key < 2 ^ 32
       pub value_low : w.value < 2 ^ 32
 
@@ -189,6 +192,8 @@ module _ (all : Readings) where
       valued = λ e. absurd (no_value (sym at ∙ e));
       grand_mark_read = λ marked. absurd (no_mark marked);
       mark_read = λ e. absurd (no_end (sym at ∙ e));
+      unmarked = λ e. absurd (no_end (sym at ∙ e));
+      grand_unmarked = λ marked. absurd (no_mark marked);
       key_small = key;
       value_low = value;
     }
@@ -250,6 +255,8 @@ module _ (all : Readings) where
           valued = λ e. absurd (cc);
           grand_mark_read = λ l. absurd (cc);
           mark_read = λ e. absurd (cc);
+          unmarked = λ e. absurd (cc);
+          grand_unmarked = λ l. absurd (cc);
           key_small = key;
           value_low = value;
         }
@@ -282,6 +289,8 @@ module _ (all : Readings) where
           valued = value;
           grand_mark_read = λ m del f. absurd (key_late (sym (marked m) ∙ f));
           mark_read = λ e. absurd (ended e);
+          unmarked = λ e. absurd (ended e);
+          grand_unmarked = λ m del f. absurd (key_late (sym (marked m) ∙ f));
           key_small = small;
           value_low = reads.value_low;
         }
@@ -309,7 +318,7 @@ module _ (all : Readings) where
     reads_on : (w : Walk) (stage : Stage) (left value grand_lock grand_mark lock mark : ℕ) → Reads w → is_past w.stage ≡ true → is_past stage ≡ true
         → (stage ≡ AtKey → IsAmong (left_of (node_of w)) left) → (stage ≡ AtRight → shows_inner all (left_of (node_of w)) ≡ true) → (is_late stage ≡ true → is_late w.stage ≡ true)
         → (is_locked stage ≡ true → IsAmong (lock_of w.last.from) lock × (is_ready b lock ≡ true)) → (stage ≡ AtValue → ⊥)
-        → (is_marked stage ≡ true → is_del op ≡ true → w.found ≡ true → IsAmong (mark_of w.grand.from) grand_mark) → (stage ≡ AtEnd → IsAmong (mark_of w.last.from) mark) → value < 2 ^ 32
+        → (is_marked stage ≡ true → is_del op ≡ true → w.found ≡ true → IsAmong (mark_of w.grand.from) grand_mark × (value_of grand_mark ≡ 0)) → (stage ≡ AtEnd → IsAmong (mark_of w.last.from) mark × (value_of mark ≡ 0)) → value < 2 ^ 32
         → Reads (record w { stage = stage; left = left; value = value; grand_lock = grand_lock; grand_mark = grand_mark; lock = lock; mark = mark })
     reads_on w stage left value grand_lock grand_mark lock mark reads past past' key right late locked valued marked ended small = record {
       last_from = reads.last_from;
@@ -327,8 +336,10 @@ module _ (all : Readings) where
       lock_read = λ l. (locked l).0;
       lock_ready = λ l. (locked l).1;
       valued = λ e. absurd (valued e);
-      grand_mark_read = marked;
-      mark_read = ended;
+      grand_mark_read = λ m del f. (marked m del f).0;
+      mark_read = λ e. (ended e).0;
+      unmarked = λ e. (ended e).1;
+      grand_unmarked = λ m del f. (marked m del f).1;
       key_small = reads.key_small;
       value_low = small;
     }
@@ -342,10 +353,11 @@ module _ (all : Readings) where
     -- a lock or a mark that was read: the walk goes on, or is refused
     reads_tested : (w : Walk) (passes : Bool) (stage : Stage) (grand_lock grand_mark lock mark : ℕ) → Reads w → is_past w.stage ≡ true → is_late w.stage ≡ true → is_late stage ≡ true → is_past stage ≡ true
         → (passes ≡ true → is_locked stage ≡ true → IsAmong (lock_of w.last.from) lock × (is_ready b lock ≡ true)) → (stage ≡ AtValue → ⊥)
-        → (is_marked stage ≡ true → is_del op ≡ true → w.found ≡ true → IsAmong (mark_of w.grand.from) grand_mark) → (stage ≡ AtEnd → IsAmong (mark_of w.last.from) mark)
+        → (passes ≡ true → is_marked stage ≡ true → is_del op ≡ true → w.found ≡ true → IsAmong (mark_of w.grand.from) grand_mark × (value_of grand_mark ≡ 0))
+        → (passes ≡ true → stage ≡ AtEnd → IsAmong (mark_of w.last.from) mark × (value_of mark ≡ 0))
         → Reads (record w { stage = cond passes stage Refused; grand_lock = grand_lock; grand_mark = grand_mark; lock = lock; mark = mark })
     reads_tested w true stage grand_lock grand_mark lock mark reads past late late' past' locked valued marked ended = reads_on w stage w.left w.value grand_lock grand_mark lock mark reads past past'
-        (λ e. absurd (false_true (ap is_late (sym e) ∙ late'))) (λ e. absurd (false_true (ap is_late (sym e) ∙ late'))) (λ l. late) (locked refl) valued marked ended reads.value_low
+        (λ e. absurd (false_true (ap is_late (sym e) ∙ late'))) (λ e. absurd (false_true (ap is_late (sym e) ∙ late'))) (λ l. late) (locked refl) valued (marked refl) (ended refl) reads.value_low
     reads_tested w false stage grand_lock grand_mark lock mark reads past late late' past' locked valued marked ended =
         refused (record w { stage = Refused; grand_lock = grand_lock; grand_mark = grand_mark; lock = lock; mark = mark }) refl reads.last_from reads.grand_from reads.key_small reads.value_low
 
@@ -374,6 +386,8 @@ module _ (all : Readings) where
           valued = λ e. absurd (cc);
           grand_mark_read = λ l. absurd (cc);
           mark_read = λ e. absurd (cc);
+          unmarked = λ e. absurd (cc);
+          grand_unmarked = λ l. absurd (cc);
           key_small = value_small word;
           value_low = reads.value_low;
         }
@@ -387,13 +401,13 @@ module _ (all : Readings) where
     reads_fed w AtKey p word reads at want among = reads_key w (value_of w.left == 0) (nat_lt (key_of op) (value_of word)) word reads at refl
     reads_fed w AtRight p word reads at want among = reads_followed w false word reads (ap is_past at) (subst (λ p. IsAmong p word) (sym (some_eq (right_of (node_of w)) p want)) among) (shows_right (node_of w) (reads.inner at))
     reads_fed w AtValue p word reads at want among = reads_on w AtLock w.left (value_of word) w.grand_lock w.grand_mark w.lock w.mark reads (ap is_past at) refl (λ e. absurd (cc)) (λ e. absurd (cc)) (λ l. ap is_late at) (λ l. absurd (cc)) (λ e. cc) (λ m del f. absurd (false_true (sym (reads.valued at) ∙ del))) (λ e. absurd (cc)) (value_small word)
-    reads_fed w AtGrandLock p word reads at want among = reads_tested w (is_ready b word) AtGrandMark word w.grand_mark w.lock w.mark reads (ap is_past at) (ap is_late at) refl refl (λ t l. absurd (cc)) (λ e. cc) (λ m. absurd (cc)) (λ e. absurd (cc))
-    reads_fed w AtGrandMark p word reads at want among = reads_tested w (value_of word == 0) AtLock w.grand_lock word w.lock w.mark reads (ap is_past at) (ap is_late at) refl refl (λ t l. absurd (cc)) (λ e. cc) (λ m del f. subst (λ p. IsAmong p word) (sym (some_eq (mark_of w.grand.from) p want)) among) (λ e. absurd (cc))
+    reads_fed w AtGrandLock p word reads at want among = reads_tested w (is_ready b word) AtGrandMark word w.grand_mark w.lock w.mark reads (ap is_past at) (ap is_late at) refl refl (λ t l. absurd (cc)) (λ e. cc) (λ t m. absurd (cc)) (λ t e. absurd (cc))
+    reads_fed w AtGrandMark p word reads at want among = reads_tested w (value_of word == 0) AtLock w.grand_lock word w.lock w.mark reads (ap is_past at) (ap is_late at) refl refl (λ t l. absurd (cc)) (λ e. cc) (λ t m del f. (subst (λ p. IsAmong p word) (sym (some_eq (mark_of w.grand.from) p want)) among, equal_of (value_of word) 0 t)) (λ t e. absurd (cc))
     reads_fed w AtLock p word reads at want among = reads_tested w (is_ready b word) AtMark w.grand_lock w.grand_mark word w.mark reads (ap is_past at) (ap is_late at) refl refl
-        (λ t l. (subst (λ p. IsAmong p word) (sym (some_eq (lock_of w.last.from) p want)) among, t)) (λ e. cc) (λ m. reads.grand_mark_read (ap is_marked at)) (λ e. absurd (cc))
+        (λ t l. (subst (λ p. IsAmong p word) (sym (some_eq (lock_of w.last.from) p want)) among, t)) (λ e. cc) (λ t m del f. (reads.grand_mark_read (ap is_marked at) del f, reads.grand_unmarked (ap is_marked at) del f)) (λ t e. absurd (cc))
     reads_fed w AtMark p word reads at want among = reads_tested w (value_of word == 0) AtEnd w.grand_lock w.grand_mark w.lock word reads (ap is_past at) (ap is_late at) refl refl
-        (λ t l. (reads.lock_read (ap is_locked at), reads.lock_ready (ap is_locked at))) (λ e. cc) (λ m. reads.grand_mark_read (ap is_marked at))
-        (λ e. subst (λ p. IsAmong p word) (sym (some_eq (mark_of w.last.from) p want)) among)
+        (λ t l. (reads.lock_read (ap is_locked at), reads.lock_ready (ap is_locked at))) (λ e. cc) (λ t m del f. (reads.grand_mark_read (ap is_marked at) del f, reads.grand_unmarked (ap is_marked at) del f))
+        (λ t e. (subst (λ p. IsAmong p word) (sym (some_eq (mark_of w.last.from) p want)) among, equal_of (value_of word) 0 t))
     reads_fed w AtEnd p word reads at want among = absurd (none_some p want)
     reads_fed w Refused p word reads at want among = absurd (none_some p want)
 
@@ -429,6 +443,8 @@ module _ (all : Readings) where
       valued = λ e. absurd (cc);
       grand_mark_read = λ l. absurd (cc);
       mark_read = λ e. absurd (cc);
+      unmarked = λ e. absurd (cc);
+      grand_unmarked = λ l. absurd (cc);
       key_small = omega arith;
       value_low = omega arith;
     })

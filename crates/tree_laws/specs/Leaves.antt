@@ -104,6 +104,9 @@ module _ (n : Nodes) (c : Covers) (once : ℕ → Bool) (key : ℕ) where
     pub from : IsPassed step.from
     pub inner : IsInner n step.from
     pub some : 0 < value_of step.word
+    -- it is the link on the key's side
+    pub is_left : step.side ≡ true → key < n.key step.from
+    pub is_right : step.side ≡ false → n.key step.from ≤ key
     pub to : IsPassed (step_to step)
     pub left : step.side ≡ true → IsInner n (step_to step) → n.key (step_to step) < n.key step.from
     pub right : step.side ≡ false → IsInner n (step_to step) → n.key step.from < n.key (step_to step)
