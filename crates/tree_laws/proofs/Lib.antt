@@ -8,3 +8,4 @@ pub mod Removal
 pub mod Insertion
 pub mod Views
 pub mod Planning
+pub mod Landing
