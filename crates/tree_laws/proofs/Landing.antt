@@ -1,5 +1,5 @@
 -- Where an open section's walk has ended: its parent is linked and covers the key, and so does its leaf, as long as the mark and the link stand.
-use Rattle.std.proofs.Common.{◌≡◌, ℕ, suc, ◌<◌, ◌≤◌, Bool, true, false, refl, sym, ap, ◌∙◌, arith}
+use Rattle.std.proofs.Common.{inl, ⊎_elim, ◌≡◌, ℕ, suc, ◌<◌, ◌≤◌, Bool, true, false, refl, sym, ap, ◌∙◌, arith}
 use Rattle.map_history.specs.Keys.{key_of}
 use Rattle.section_body.specs.Word.{value_of}
 use Rattle.table_words.specs.declared.layout.Layout.{Layout}
@@ -7,12 +7,14 @@ use Rattle.structure_laws.specs.Scene.{Section, Scene}
 use Rattle.structure_laws.specs.Sections.{Here}
 use Rattle.structure_laws.specs.Cells.{IsSafe}
 use Rattle.structure_laws.specs.Sound.{Sound}
-use Rattle.tree_bodies.specs.Tree.{slot_in}
+use Rattle.bucket_laws.proofs.TableGives.{reached}
+use Rattle.tree_bodies.specs.Tree.{mark_of, slot_in}
 use Rattle.tree_laws.specs.Search.{Nodes, IsInner, low, high}
-use Rattle.tree_laws.specs.Walk.{Walk, AtRoot, AtEnd, Refused, Step, step_to, step_place}
-use Rattle.tree_laws.specs.Leaves.{nodes, bounds, walk_of, IsPassed, IsFollowed, IsWalk, TreeKept, tree}
+use Rattle.tree_laws.specs.Walk.{node_of, Walk, AtRoot, AtEnd, Refused, Step, step_to, step_place}
+use Rattle.tree_laws.specs.Leaves.{is_link_in, shows_link, nodes, bounds, walk_of, IsPassed, IsFollowed, IsWalk, TreeKept, tree}
 use Rattle.tree_laws.proofs.Fit.{IsFit, fit_of}
-use Rattle.tree_laws.proofs.WalkReads.{is_past, Reads, walk_reads}
+use Rattle.tree_laws.proofs.Shown.{shown_now}
+use Rattle.tree_laws.proofs.WalkReads.{IsFrom, is_past, Reads, walk_reads}
 
 module _ (layout : Layout) (s : Scene) (sound : Sound tree layout s) (kept : TreeKept layout s) (d : ℕ) (x : Section) (here : Here s d x) where
   abbrev w : Walk
@@ -68,3 +70,19 @@ module _ (layout : Layout) (s : Scene) (sound : Sound tree layout s) (kept : Tre
           → (kept.covers.lo (step_to step) ≤ key) × (key < kept.covers.hi (step_to step))
       by true lo hi left right covers = let less = left refl in (omega arith, omega arith)
       by false lo hi left right covers = let less = right refl in (omega arith, omega arith)
+
+  -- a slot that the readings give is safe
+  from_safe : (t : ℕ) → IsFrom x.readings t → IsSafe s t
+  from_safe t from = ⊎_elim (λ fixed. inl (sound.fixed t fixed))
+      (λ gives. let by = reached (shows_link x.readings) x.readings t gives in (sound.published d x here).safe by.0 by.1 by.2 t by.3 (link_now by.1 by.4) by.5) from
+    where
+      link_now : (p : ℕ) → shows_link x.readings p ≡ true → is_link_in s.cells p ≡ true
+      link_now p shown = shown_now s.cells x.readings (kept.published d x here) p shown
+
+  -- a section that changes nothing, or puts a leaf in, past its Wants: its link and its mark stand as they were read
+  module _ (link : s.cells (step_place w.last) ≡ w.last.word) (mark : s.cells (mark_of w.last.from) ≡ w.mark) where
+    parent_linked : (kept.covers.linked w.last.from ≡ true) × (kept.covers.lo w.last.from ≤ key) × (key < kept.covers.hi w.last.from)
+    parent_linked = on_path w.last.from last.from (from_safe w.last.from reads.last_from) last.inner (ap value_of mark ∙ reads.unmarked fit.stage)
+
+    leaf_linked : (kept.covers.linked (node_of w) ≡ true) × (kept.covers.up (node_of w) ≡ w.last.from) × (kept.covers.lo (node_of w) ≤ key) × (key < kept.covers.hi (node_of w))
+    leaf_linked = onward w.last last parent_linked.0 (ap value_of link)

@@ -9,3 +9,4 @@ pub mod Insertion
 pub mod Views
 pub mod Planning
 pub mod Landing
+pub mod Shown

@@ -1,7 +1,6 @@
 -- A thunk that fits an entered runner's readings has a body of the shape of a body, whose places the readings give.
 use Rattle.std.proofs.Common.{◌≡◌, ◌≢◌, ℕ, zero, suc, ◌+◌, ◌*◌, ◌<◌, ◌≤◌, Bool, true, false, cond, refl, sym, ap, ◌∙◌, subst, inl, inr, ⊎_elim, arith}
-use Rattle.std.specs.Prelude.{◌==◌, ◌&&◌, ◌||◌, not, ◌-◌, ◌/◌, ◌%◌, ◌^◌, ◌⊎◌, nat_lt, Some, List, [], ◌∷◌, slice_get, slice_index, length}
-use Rattle.std.specs.List.{list_any}
+use Rattle.std.specs.Prelude.{◌==◌, ◌&&◌, ◌||◌, not, ◌-◌, ◌%◌, ◌^◌, ◌⊎◌, nat_lt, Some, List, [], ◌∷◌, slice_get, slice_index, length}
 use Rattle.map_history.specs.declared.op.Op.{Op}
 use Rattle.map_history.specs.declared.op.Op.TheVariants.{Ins, Del}
 use Rattle.map_history.specs.Keys.{key_of, value_given}
@@ -23,26 +22,21 @@ use Rattle.structure_laws.specs.Sections.{IsAllowed, IsSmall}
 use Rattle.structure_laws.specs.Cells.{IsKnown, IsSafe}
 use Rattle.structure_laws.specs.Sound.{Sound}
 use Rattle.structure_laws.specs.Shape.{Shaped}
-use Rattle.structure_laws.proofs.Changes.{value_small, both_true, or_cases, equal_of}
+use Rattle.structure_laws.proofs.Changes.{value_small, both_true}
 use Rattle.bucket_laws.specs.Walk.{is_del}
 use Rattle.bucket_laws.proofs.TableGives.{reached}
 use Rattle.tree_bodies.specs.Tree.{lock_of, left_of, right_of, mark_of, child_of, slot_in, Look, Insert, Delete, leaf_with, inner_with, parent_in, is_left, is_right, sibling_of, look_steps, insert_steps, delete_steps, form_of, body_of, tree_steps}
 use Rattle.tree_laws.specs.Search.{IsInner}
 use Rattle.tree_laws.specs.Walk.{Walk, AtRoot, AtEnd, Refused, step_place, step_to, form_for, insert_operands, delete_operands, operands_for}
-use Rattle.tree_laws.specs.Leaves.{is_lock_place, is_left_place, is_right_place, is_link_in, shows_inner, shows_link, nodes, bounds, walk_of, IsFollowed, IsWalk, TreeKept, tree}
+use Rattle.tree_laws.specs.Leaves.{is_lock_place, shows_link, nodes, bounds, walk_of, IsFollowed, IsWalk, TreeKept, tree}
 use Rattle.tree_laws.proofs.BodyShapes.{look_shaped, insert_shaped, delete_shaped}
 use Rattle.tree_laws.proofs.Fit.{IsFit, fit_of, cases, look_numbers, reply_some, is_look, is_insert, is_delete}
 use Rattle.tree_laws.proofs.Forms.{look_load, insert_load, delete_load, look_take, look_make, look_store, look_answer, insert_take, insert_make, insert_store, insert_answer, delete_take, delete_make, delete_store, delete_answer}
+use Rattle.tree_laws.proofs.Shown.{lt_test, shown_now}
 use Rattle.tree_laws.proofs.WalkReads.{is_past, is_late, is_locked, both, eq_test, IsFrom, Reads, walk_reads}
 
 small_is : (n : ℕ) → n < 2 ^ 32 → is_small n ≡ true
 small_is n low = grind arith
-
-lt_test : (a b : ℕ) → a < b → nat_lt a b ≡ true
-lt_test a b low = grind arith
-
-below_of : (a b : ℕ) → nat_lt a b ≡ true → a < b
-below_of a b h = grind arith
 
 or_left : (a b : Bool) → a ≡ true → (a || b) ≡ true
 or_left a b h = grind arith
@@ -56,13 +50,6 @@ not_true false h = refl
 
 eq_false : (a b : ℕ) → a ≢ b → (a == b) ≡ false
 eq_false a b ne = grind arith
-
--- the reading that passes a test
-some_of : (test : ℕ × ℕ → Bool) (readings : Readings) → list_any test readings ≡ true → (i p w : ℕ) × (slice_get readings i ≡ Some (p, w)) × (test (p, w) ≡ true)
-some_of test [] h = absurd (cc)
-some_of test (reading ∷ readings) h = or_cases (test reading) (list_any test readings) h
-    (λ here. (0, reading.0, reading.1, refl, here))
-    (λ there. let later = some_of test readings there in (suc later.0, later.1, later.2, later.3, later.4))
 
 -- cells of a node by their number
 cell_unlocked : (t k : ℕ) → 1 ≤ k → k < 5 → is_lock_place (cell_of 0 t k) ≡ false
@@ -141,28 +128,11 @@ module _ (layout : Layout) (limits : IsWithinLimits layout) (s : Scene) (sound :
   abbrev parent : ℕ
   parent = w.last.from
 
-  -- a place that the readings show to be a link is one
-  link_now : (p : ℕ) → shows_link readings p ≡ true → is_link_in s.cells p ≡ true
-  link_now p shown = or_cases (is_left_place p) (is_right_place p && shows_inner readings (p - 1)) shown
-      (λ left. or_left (is_left_place p) (is_right_place p && nat_lt 0 (value_of (s.cells (p - 1)))) left)
-      (λ right. or_right (is_left_place p) (is_right_place p && nat_lt 0 (value_of (s.cells (p - 1)))) (let sides = both_true _ _ right in both _ _ sides.0 (inner sides.0 sides.1)))
-    where
-      before : p % 5 ≡ 3 → p - 1 ≡ 0 + 5 * (p / 5) + 2
-      before rest = omega arith
-
-      inner : is_right_place p ≡ true → shows_inner readings (p - 1) ≡ true → nat_lt 0 (value_of (s.cells (p - 1))) ≡ true
-      inner right shows =
-          let by = some_of (λ reading. reading.0 == p - 1 && nat_lt 0 (value_of reading.1)) readings shows in
-          let test = both_true _ _ by.4 in
-          let place : p - 1 ≡ left_of (p / 5) = before (equal_of (p % 5) 3 right) in
-          let now = (kept.readers r readings reader).inner by.0 (p / 5) by.2 (subst (λ q. slice_get readings by.0 ≡ Some (q, by.2)) (equal_of by.1 (p - 1) test.0 ∙ place) by.3) (below_of 0 (value_of by.2) test.1) in
-          lt_test 0 (value_of (s.cells (p - 1))) (subst (λ q. 0 < value_of (s.cells q)) (sym place) now)
-
   -- a slot that the readings give is a node slot
   within : (t : ℕ) → IsFrom readings t → t < slot_count layout 3
   within t from = ⊎_elim (λ fixed. omega arith)
       (λ gives. let by = reached (shows_link readings) readings t gives in
-      sound.within t (used ((sound.readers r readings reader).safe by.0 by.1 by.2 t by.3 (link_now by.1 by.4) by.5))) from
+      sound.within t (used ((sound.readers r readings reader).safe by.0 by.1 by.2 t by.3 (shown_now s.cells readings (kept.readers r readings reader) by.1 by.4) by.5))) from
     where
       live_free : s.status t ≡ Live → s.status t ≢ Free
       live_free live free = cc
