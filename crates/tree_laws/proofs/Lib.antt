@@ -8,5 +8,5 @@ pub mod Removal
 pub mod Insertion
 pub mod Views
 pub mod Planning
-pub mod Landing
+pub mod Landed
 pub mod Shown

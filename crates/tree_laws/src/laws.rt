@@ -8,6 +8,7 @@ ghost use Rattle.structure_laws.specs.Scene.{Cells, Scene};
 ghost use Rattle.structure_laws.specs.Laws.{IsFirst, FirstMemory};
 ghost use Rattle.tree_laws.specs.Search.{InsertionLaw, RemovalLaw, ViewLaw};
 ghost use Rattle.tree_laws.specs.Leaves.{tree};
+ghost use Rattle.tree_laws.specs.Landing.{LandingLaw};
 ghost use Rattle.tree_laws.specs.Planned.{MakesAdd, WantsAreRead};
 
 /// The tree's first memory is a structure's: its locks are free, and its links lead to the fixed slots. No lock is a link.
@@ -52,4 +53,10 @@ pub fn views_of_a_tree_agree()
 pub fn tree_wants_what_was_read()
     ensures wants_read { (layout : Layout) → WantsAreRead layout }
     ensures makes_add { (layout : Layout) → MakesAdd layout }
+{}
+
+/// As long as the link to the walk's last node and its parent's mark stand as a section's publisher read them, both nodes
+/// are linked, and their places cover the section's key: a walk without a lock ends on the key's path.
+pub fn walks_land_on_the_path()
+    ensures { (layout : Layout) → LandingLaw layout }
 {}

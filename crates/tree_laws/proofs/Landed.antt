@@ -12,6 +12,7 @@ use Rattle.tree_bodies.specs.Tree.{mark_of, slot_in}
 use Rattle.tree_laws.specs.Search.{Nodes, IsInner, low, high}
 use Rattle.tree_laws.specs.Walk.{node_of, Walk, AtRoot, AtEnd, Refused, Step, step_to, step_place}
 use Rattle.tree_laws.specs.Leaves.{is_link_in, shows_link, nodes, bounds, walk_of, IsPassed, IsFollowed, IsWalk, TreeKept, tree}
+use Rattle.tree_laws.specs.Landing.{HasLanded}
 use Rattle.tree_laws.proofs.Fit.{IsFit, fit_of}
 use Rattle.tree_laws.proofs.Shown.{shown_now}
 use Rattle.tree_laws.proofs.WalkReads.{IsFrom, is_past, Reads, walk_reads}
@@ -86,3 +87,10 @@ module _ (layout : Layout) (s : Scene) (sound : Sound tree layout s) (kept : Tre
 
     leaf_linked : (kept.covers.linked (node_of w) ≡ true) × (kept.covers.up (node_of w) ≡ w.last.from) × (kept.covers.lo (node_of w) ≤ key) × (key < kept.covers.hi (node_of w))
     leaf_linked = onward w.last last parent_linked.0 (ap value_of link)
+
+    pub has_landed : HasLanded kept.covers key w
+    has_landed = record {
+      parent = record { linked = parent_linked.0; lo = parent_linked.1; hi = parent_linked.2 };
+      node = record { linked = leaf_linked.0; lo = leaf_linked.2; hi = leaf_linked.3 };
+      up = leaf_linked.1;
+    }
