@@ -1,7 +1,6 @@
 -- Each step keeps the joint states and the history joined.
 use Rattle.std.proofs.Common.{◌≡◌, ◌≢◌, ℕ, suc, ◌<◌, ◌≤◌, Bool, true, false, List, [], ◌∷◌, refl, sym, ap, ◌∙◌, subst, arith}
-use Rattle.std.specs.Prelude.{◌==◌, ◌&&◌, not}
-use Rattle.std.proofs.lemmas.Bool.Decides.{nat_tests}
+use Rattle.std.specs.Prelude.{◌&&◌, not}
 use Rattle.map_history.specs.declared.op.Op.{Op}
 use Rattle.section_body.specs.Update.{upd}
 use Rattle.section_body.specs.Run.{written_once}
@@ -41,9 +40,10 @@ use Rattle.machine_history.specs.Steps as steps
 use Rattle.machine_history.specs.Laws.{AreAllClosed, IsJoined, FirstIsJoined, StepsKeepJoined, SchedulesKeepJoined, JoinedStands}
 use Rattle.machine_history.specs.Laws as laws_of
 use Rattle.machine_history.proofs.Tying.{GoesOn}
-use Rattle.machine_history.proofs.Quiet.{true_false, goes_by, quiet, not_loaded}
+use Rattle.machine_scenes.proofs.Links.{true_false}
+use Rattle.machine_history.proofs.Quiet.{goes_by, quiet, not_loaded}
 use Rattle.machine_history.proofs.Ranked.{may_load, load_tied, may_stamp, stamp_tied, stamp_pairs, may_raise, raise_tied, may_write, reply_tied}
-use Rattle.machine_history.proofs.Supplying.{stop_stage}
+use Rattle.machine_history.proofs.Supplying.{done_true, stop_stage}
 use Rattle.machine_history.proofs.Others.{open_tied, finish_tied, release_tied, same_tied, unused_tied, free_tied, done_tied, publish_tied}
 
 check_rank : (x : Micro) → is_check x ≡ true → rank x ≡ 0
@@ -51,9 +51,6 @@ check_rank x check = grind arith
 
 stop_rank : (c : CellRules) (d : ℕ) (log : ℕ → ℕ) (x : Micro) → is_stop c d log x ≡ true → rank x ≡ 0
 stop_rank c d log x stop = grind arith
-
-done_true : (n : ℕ) → n ≢ 0 → not (n == 0) ≡ true
-done_true n some = grind (arith, nat_tests)
 
 module _ (m : Meaning) (laws : Laws m) (layout : Layout) (limits : IsWithinLimits layout) (c : Counts) (nodes : c.nodes ≡ slots m layout) (requests : Requests)
     (same_map : requests.is_map ≡ m.is_map) (h : HistoryStates) (joined : IsJoined m layout c requests h) where

@@ -28,10 +28,11 @@ use Rattle.history_core.specs.Sound.{IsSound}
 use Rattle.machine_scenes.specs.Shown.{States, publishes}
 use Rattle.machine_scenes.specs.Steps as scenes
 use Rattle.machine_scenes.specs.Kept.{IsKept}
+use Rattle.machine_scenes.proofs.Links.{true_false}
 use Rattle.machine_history.specs.Tied.{rank, is_loading, SectionIsTied, RunIsTied, AreTied}
 use Rattle.machine_history.specs.Steps.{MayPublish}
 use Rattle.machine_history.proofs.Tying.{loads, line_at}
-use Rattle.machine_history.proofs.Quiet.{true_false, exchange_is, false_of}
+use Rattle.machine_history.proofs.Quiet.{exchange_is, false_of}
 use Rattle.machine_history.proofs.Supplying.{load_place, done_false}
 
 not_running : (running ended loading : Bool) → running ≡ false → (running && (not ended && loading)) ≡ false

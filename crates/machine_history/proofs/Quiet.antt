@@ -14,11 +14,9 @@ use Rattle.history_core.specs.State.{Requests, HistoryState}
 use Rattle.machine_scenes.specs.Shown.{States}
 use Rattle.machine_scenes.specs.Kept.{IsKept}
 use Rattle.machine_scenes.proofs.Shown.{upd_found}
+use Rattle.machine_scenes.proofs.Links.{true_false}
 use Rattle.machine_history.specs.Tied.{rank, AreTied}
 use Rattle.machine_history.proofs.Tying.{HasWords, GoesOn, line_at, goes_on_tied}
-
-pub true_false : {b : Bool} → b ≡ true → b ≡ false → ⊥
-true_false e e' = cc
 
 pub exchange_is : (x : Micro) → is_stamp_exchange x ≡ true → x ≡ micros.StampExchange
 exchange_is x is = grind arith

@@ -35,10 +35,11 @@ use Rattle.machine_scenes.proofs.Running.{event_open}
 use Rattle.machine_scenes.proofs.Shown.{upd_found}
 use Rattle.machine_memory.specs.Memory.{MemoryStands}
 use Rattle.machine_memory.proofs.Steps.{stamps_answer}
+use Rattle.machine_scenes.proofs.Links.{true_false}
 use Rattle.machine_history.specs.Tied.{rank, is_loading, SectionIsTied, RunIsTied, AreTied}
 use Rattle.machine_history.proofs.Ranks.{rank_rises}
 use Rattle.machine_history.proofs.Tying.{HasSections, line_at, whole_at, goes_on_tied}
-use Rattle.machine_history.proofs.Quiet.{true_false, goes_by, not_loaded, next_other}
+use Rattle.machine_history.proofs.Quiet.{goes_by, not_loaded, next_other}
 use Rattle.machine_history.proofs.Supplying.{tie, load_place, used_of, done_false, far_by, low_by, undone_of, alone, load_edge, stamp_edge}
 
 past : (n : ℕ) → 2 ≤ n → max n 2 ≡ n

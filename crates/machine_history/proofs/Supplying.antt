@@ -27,7 +27,7 @@ use Rattle.machine_memory.proofs.Steps.{stamps_apart}
 use Rattle.machine_history.specs.Tied.{rank, SectionIsTied, AreTied}
 use Rattle.machine_history.proofs.Tying.{line_at}
 
-done_true : (n : ℕ) → n ≢ 0 → not (n == 0) ≡ true
+pub done_true : (n : ℕ) → n ≢ 0 → not (n == 0) ≡ true
 done_true n some = grind (arith, nat_tests)
 
 pub done_false : (n : ℕ) → n ≡ 0 → not (n == 0) ≡ false

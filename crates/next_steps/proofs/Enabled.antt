@@ -436,4 +436,4 @@ reached_known m laws l limits rs allowed w reached =
 pub reached_enabled : (m : Meaning) → Laws m → (l : Layout) → IsWithinLimits l → (rs : List Request) → AreAllowed rs → (w : World)
     → Reached m l rs w → NextIsEnabled m l rs (sight m l rs w)
 reached_enabled m laws l limits rs allowed w reached =
-    next_enabled m laws l limits rs allowed.few (sight m l rs w) (reached_known m laws l limits rs allowed w reached)
+    next_enabled m laws l limits rs allowed.in_order.few (sight m l rs w) (reached_known m laws l limits rs allowed w reached)

@@ -291,7 +291,7 @@ module _ (m : Meaning) (l : Layout) (d : ℕ) (p : PartState) where
     outside_free (kinds.Join worker) h = by_same _ refl
     outside_free (kinds.LoadCell (Some place)) h = by_same _ refl
     outside_free (kinds.LoadEntry request reply) h = by_same _ refl
-    outside_free (kinds.PrivateLoad slot word) h = by_same _ refl
+    outside_free (kinds.PrivateLoad slot word) h = if_free (nat_lt slot (slot_count l m.fixed_slots)) _ _ (by_same _ refl) (by_same _ refl)
     outside_free (kinds.PrivateStore slot word number) h = by_same _ refl
     outside_free (kinds.Hold t d') h = hold_free t d' (not_at d' h)
       where

@@ -29,7 +29,7 @@ use Rattle.runner_parts.specs.declared.event.EventKind.{EventKind}
 use Rattle.runner_parts.specs.declared.event.EventKind.TheVariants as kinds
 use Rattle.runner_parts.specs.State.{RunState, PartState}
 use Rattle.runner_parts.specs.Tests.{has, is_resting}
-use Rattle.runner_parts.specs.Lists.{test_of, slot_made, slot_back}
+use Rattle.runner_parts.specs.Lists.{test_of, slot_made, slot_back, nodes_looked, descriptor_stored}
 use Rattle.runner_steps.specs.Sections.{thunk_of, is_open_run, line_of, next_of, setting_of}
 use Rattle.runner_steps.specs.InRun.{is_slot, make_slot}
 use Rattle.runner_steps.specs.Outside.{last_epoch, private_load_ask, when, descriptor_spot}
@@ -472,11 +472,7 @@ module _ (m : Meaning) (laws : Laws m) (l : Layout) (limits : IsWithinLimits l) 
     look_step : (slot cell : ℕ) (st : IsStep m l rs s s' r (kinds.PrivateLoad slot cell))
         → private_load_ask m l slot cell p ≡ Some st.step.ask
         → SlotsHaveRoom m l s'.word (outside_after m l (kinds.PrivateLoad slot cell) p (s.word st.step.ask.0))
-    look_step slot cell st e = looked_room m l s'.word p slot cell (s.word st.step.ask.0) (outside_words (kinds.PrivateLoad slot cell) st e)
-        (λ hand low. let met = place hand in
-        let stands = cell_stands m laws l limits rs allowed s s' r r slot cell (inr hand) low (kinds.PrivateLoad slot cell) st (λ store. not_both store refl) in
-        let found = ap s.word (sym met) ∙ sym stands in (found, subst (λ n. version_of n ≤ l.version_max) (ap s.word met) (version_most m l st.beside s st.whole (cell_of m.fixed_cells slot cell))))
-        (outside_after m l (kinds.PrivateLoad slot cell) p (s.word st.step.ask.0)) refl (makes_none (kinds.PrivateLoad slot cell) (s.word st.step.ask.0))
+    look_step slot cell st e = by (nat_lt slot (slot_count l m.fixed_slots)) (makes_none (kinds.PrivateLoad slot cell) (s.word st.step.ask.0))
       where
         below_test : (a b : ℕ) → a < b → nat_lt a b ≡ true
         below_test a b h = grind (arith, nat_tests)
@@ -490,6 +486,29 @@ module _ (m : Meaning) (laws : Laws m) (l : Layout) (limits : IsWithinLimits l) 
             then when (is_resting p.stage p.run && (nat_lt cell 5 && (has p.nodes.free slot || has p.nodes.hand slot))) (spots.Cell (cell_of m.fixed_cells slot cell)) Loads
             else when (is_resting p.stage p.run && has p.descriptors.free (slot - slot_count l m.fixed_slots)) (descriptor_spot (slot - slot_count l m.fixed_slots) cell) Loads)
             (sym test) ∙ e)).1
+
+        found : ℕ
+        found = s.word st.step.ask.0
+
+        words : SlotsHaveRoom m l s'.word p
+        words = outside_words (kinds.PrivateLoad slot cell) st e
+
+        finds : has p.nodes.hand slot ≡ true → cell < 5
+            → (found ≡ s'.word (spots.Cell (cell_of m.fixed_cells slot cell))) × (version_of found ≤ l.version_max)
+        finds hand low =
+            let met = place hand in
+            let stands = cell_stands m laws l limits rs allowed s s' r r slot cell (inr hand) low (kinds.PrivateLoad slot cell) st
+            (λ store. not_both store refl) in (
+              ap s.word (sym met) ∙ sym stands,
+              subst (λ n. version_of n ≤ l.version_max) (ap s.word met) (version_most m l st.beside s st.whole (cell_of m.fixed_cells slot cell)),
+            )
+
+        by : (b : Bool) → MakesNone (if b then record p { nodes = nodes_looked l p.nodes slot cell found }
+            else record p { descriptors = descriptor_stored p.descriptors (slot - slot_count l m.fixed_slots) cell found })
+            → SlotsHaveRoom m l s'.word (if b then record p { nodes = nodes_looked l p.nodes slot cell found }
+            else record p { descriptors = descriptor_stored p.descriptors (slot - slot_count l m.fixed_slots) cell found })
+        by true none = looked_room m l s'.word p slot cell found words finds _ refl none
+        by false none = kept_room m l s'.word p _ (same_nodes p.nodes) none words
 
     either_room : (b : Bool) (y z : PartState) → (MakesNone y → SlotsHaveRoom m l s'.word y) → (MakesNone z → SlotsHaveRoom m l s'.word z)
         → MakesNone (if b then y else z) → SlotsHaveRoom m l s'.word (if b then y else z)
