@@ -1,4 +1,4 @@
-use Rattle.std.proofs.Common.{◌≡◌, ◌<◌, ℕ, sym, ap, subst, ◌∙◌, []}
+use Rattle.std.proofs.Common.{◌<◌, ℕ, sym, ap, subst, ◌∙◌, []}
 use Rattle.table_words.specs.declared.layout.Layout.{Layout}
 use Rattle.runner_parts.specs.State.{PartState}
 use Rattle.machine_states.specs.First.{worker_part}
