@@ -20,6 +20,7 @@ use Rattle.runner_parts.specs.State.{RunState}
 use Rattle.runner_steps.specs.Sections.{next_of}
 use Rattle.runner_steps.specs.Asks.{sizes_for}
 use Rattle.runner_steps.specs.AfterInRun.{agrees}
+use Rattle.machine_states.proofs.Steps.{some_same}
 use Rattle.machine_invariant.specs.After.{AreAllowed}
 use Rattle.version_words.specs.RunnerState.{RunnerState}
 use Rattle.version_words.specs.TableState.{TableState, IsOf}
@@ -52,19 +53,12 @@ module _ {T : Type 0} (m : Meaning) (laws : Laws m) (t : TableState T) (limits :
           (may_make m laws t limits allowed r own q may.running (micros.NestedCommit place log) ahead refl)
       by _ loaded ahead = absurd (let z = loaded in cc)
 
-  some_is : (x y : Spot × Access) → Some x ≡ Some y → x ≡ y
-  some_is x y e = ap (λ (o : Option (Spot × Access)). of o) e
-    where
-      of : Option (Spot × Access) → Spot × Access
-      of None = x
-      of (Some z) = z
-
   pub then_committed : (proposal : ℕ) (q : RunState) → MayCommit m r proposal q → (agreed : ℕ) (won : Bool) (r' : RunnerState T)
       → Commits m kinds.Commit agreed won r r' → HasCommitted m agreed won r r' q
   then_committed proposal q may agreed won r' made = by may.micro may.loaded may.next
     where
       met_is : made.event.met ≡ (next_log r.part.run, Exchanges 0 proposal)
-      met_is = some_is made.event.met (next_log r.part.run, Exchanges 0 proposal) (sym made.event.asked ∙ may_commit proposal q may)
+      met_is = some_same made.event.met (next_log r.part.run, Exchanges 0 proposal) (sym made.event.asked ∙ may_commit proposal q may)
 
       log_is : made.event.met ≡ (LogWord q.descriptor (length q.trail), Exchanges 0 q.word)
       log_is = met_is ∙ (λ i. (next_log (may.running.inside.running i), Exchanges 0 (may.word i)))

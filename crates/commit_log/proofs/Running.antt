@@ -1,5 +1,5 @@
 -- A runner in a run may make the step that stands next, and is behind it then.
-use Rattle.std.proofs.Common.{◌≡◌, ℕ, ◌+◌, ◌++◌, List, [], ◌∷◌, length, Bool, true, false, refl, sym, ap, subst, ◌∙◌, Option, Some, None}
+use Rattle.std.proofs.Common.{◌≡◌, ℕ, zero, suc, ◌+◌, ◌++◌, List, [], ◌∷◌, length, Bool, true, false, refl, sym, ap, subst, ◌∙◌, arith, Option, Some, None}
 use Rattle.std.specs.Prelude.{if◌then◌else◌, ◌||◌, ◌==◌}
 use Rattle.section_body.specs.declared.micro.Micro.{Micro}
 use Rattle.section_body.specs.declared.micro.Micro.TheVariants as micros
@@ -15,16 +15,18 @@ use Rattle.structure_laws.specs.Laws.{Laws}
 use Rattle.runner_parts.specs.State.{RunState, PartState}
 use Rattle.runner_steps.specs.Sections.{next_of}
 use Rattle.runner_steps.specs.InRun.{make_slot, stamp_after}
+use Rattle.runner_steps.specs.Asks.{line_ask}
+use Rattle.machine_agreement.proofs.LineAsked.{line_asked}
 use Rattle.runner_steps.specs.AfterInRun.{goes_on, agrees, ended_more}
 use Rattle.machine_invariant.specs.After.{AreAllowed}
 use Rattle.machine_invariant.specs.LogWords.{commits_to}
 use Rattle.next_steps.specs.Steps.{slot_in, kind_at, ask_at, has_slot}
 use Rattle.next_steps.specs.Stages.{filling_slot, unfilled, run_behind, IsBehind}
-use Rattle.next_steps.proofs.Stages.{may_step, commits_behind, then_stepped}
+use Rattle.next_steps.proofs.Stages.{in_table, may_step, commits_behind, then_stepped}
 use Rattle.version_words.specs.RunnerState.{RunnerState}
 use Rattle.version_words.specs.TableState.{TableState, IsOf}
 use Rattle.version_words.specs.Events.{met_by, Makes}
-use Rattle.commit_log.specs.Runs.{IsRunning, Stepped}
+use Rattle.commit_log.specs.Runs.{IsRunning, Stepped, Ran}
 
 -- what the opening of a run loaded
 abbrev opened_in : Option RunState → List ℕ
@@ -67,6 +69,17 @@ module _ (m : Meaning) (l : Layout) (p : PartState) (q : RunState) (found : ℕ)
   opened_stays micros.SetDone after e = sym (ap opened_in e)
   opened_stays (micros.Release place word) after e = released (is_end (next_of m (ended_more q))) after e
 
+-- one step, and more
+module _ {T : Type 0} (m : Meaning) where
+  pub ran_one : (q : RunState) (micro : Micro) (found : ℕ) (a b : RunnerState T) → Stepped m q micro found a b → Ran m 1 a b
+  ran_one q micro found a b step = (b, q, micro, found, step, refl)
+
+  pub ran_more : (n k : ℕ) (a b c : RunnerState T) → Ran m n a b → Ran m k b c → Ran m (n + k) a c
+  ran_more zero k a b c one two = let e : k ≡ 0 + k = omega arith in
+      subst (λ i. Ran m i a c) e (subst (λ (x : RunnerState T). Ran m k x c) one two)
+  ran_more (suc n) k a b c one two = let e : suc (n + k) ≡ suc n + k = omega arith in
+      subst (λ i. Ran m i a c) e (one.0, one.1, one.2, one.3, one.4, ran_more n k one.0 b c one.5 two)
+
 -- a runner is in one run
 pub one_run : {T : Type 0} (m : Meaning) (r : RunnerState T) (q p : RunState) → IsRunning m r q → IsRunning m r p → q ≡ p
 one_run m r q p one two = ap (λ (o : Option RunState). of o) (sym one.inside.running ∙ two.inside.running)
@@ -86,6 +99,12 @@ module _ {T : Type 0} (m : Meaning) (laws : Laws m) (t : TableState T) (limits :
   -- the step that stands next may be made
   pub may_make : has_slot r.part q micro ≡ true → met_by m r (kind_at r.part q micro) ≡ Some (ask_at m r.part q micro)
   may_make has = may_step m laws r.layout within r.requests few r.number r.part q is.inside is.opened micro ahead has
+
+  -- so the machine's rule for a line has this word for it
+  pub asked_there : has_slot r.part q micro ≡ true → line_ask m r.layout (kind_at r.part q micro) r.part.nodes.free q micro ≡ Some (ask_at m r.part q micro)
+  asked_there has = ap (λ (x : Micro). line_ask m r.layout (kind_at r.part q micro) r.part.nodes.free q x) (sym ahead)
+      ∙ line_asked m r.layout r.requests r.number (kind_at r.part q micro) r.part q (ask_at m r.part q micro) (may_make has) is.inside.running
+      ((in_table m laws r.layout within r.requests few r.number r.part q is.inside).goes is.opened)
 
   -- a commit goes behind the words that were agreed on
   pub goes_behind : (k : ℕ) → commits_to micro ≡ Some k → k ≡ length q.trail
