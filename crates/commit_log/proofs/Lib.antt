@@ -2,3 +2,4 @@ pub mod Asked
 pub mod Running
 pub mod Next
 pub mod Committing
+pub mod Halting

@@ -1,5 +1,5 @@
 -- A store in a run.
-use Rattle.std.proofs.Common.{◌≡◌, ◌≢◌, ℕ, ◌+◌, ◌-◌, ◌*◌, ◌/◌, ◌^◌, ◌<◌, Bool, true, false, refl, sym, ap, subst, ◌∙◌, arith, slice_index, Option, Some}
+use Rattle.std.proofs.Common.{◌≡◌, ◌≢◌, ℕ, ◌+◌, ◌-◌, ◌*◌, ◌/◌, ◌^◌, ◌<◌, Bool, true, false, refl, sym, ap, subst, ◌∙◌, arith, slice_index, eq-eqb, Option, Some}
 use Rattle.std.specs.Prelude.{◌==◌, if◌then◌else◌, nat_lt}
 use Rattle.std.proofs.lemmas.Bool.Decides.{nat_tests}
 use Rattle.section_body.specs.declared.micro.Micro.TheVariants.{ExchangeCell}
@@ -51,9 +51,12 @@ module _ {T : Type 0} (m : Meaning) (laws : Laws m) (t : TableState T) (limits :
   gone : (found : ℕ) → exchanged found old (next_word old value) ≢ old
   gone found = by (found == old) refl
     where
+      differs : (found == old) ≡ false → found ≢ old
+      differs e same = let a : (found == old) ≡ true = eq-eqb found old same in absurd (cc)
+
       by : (b : Bool) → (found == old) ≡ b → (if b then next_word old value else found) ≢ old
       by true e = moved
-      by false e same = grind (nat_tests, e, same)
+      by false e = differs e
 
   pub then_stored : (found : ℕ) (r' : RunnerState T) → Makes m kinds.ExchangeCell found r r' → HasStored m place old value r r' q
   then_stored found r' made =
