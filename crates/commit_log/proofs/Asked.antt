@@ -1,6 +1,5 @@
 -- Asking on.
-use Rattle.std.proofs.Common.{◌≡◌, ℕ, ◌+◌, ◌-◌, ◌^◌, ◌≤◌, Bool, true, false, refl, sym, subst, ap, ◌∙◌, arith}
-use Rattle.std.specs.Prelude.{min, nat_le, if◌then◌else◌}
+use Rattle.std.proofs.Common.{◌≡◌, ℕ, ◌+◌, ◌-◌, ◌^◌, ◌≤◌, Bool, true, refl, subst, ap, ◌∙◌, arith}
 use Rattle.fault_count.specs.Rose.{Rose}
 use Rattle.commit_log.specs.Asked.{counted_on, IsAsked}
 

@@ -1,10 +1,8 @@
 -- The commit of a loaded word.
-use Rattle.std.proofs.Common.{◌≡◌, ℕ, ◌+◌, length, Bool, true, false, refl, sym, ap, subst, ◌∙◌, cond, Option, Some, None}
-use Rattle.std.specs.Prelude.{◌==◌}
+use Rattle.std.proofs.Common.{◌≡◌, ℕ, length, Bool, true, refl, sym, ap, ◌∙◌, Option, Some}
 use Rattle.section_body.specs.declared.micro.Micro.{Micro}
 use Rattle.section_body.specs.declared.micro.Micro.TheVariants as micros
 use Rattle.section_body.specs.Run.{written_once}
-use Rattle.table_words.specs.declared.layout.Layout.{Layout}
 use Rattle.table_words.specs.declared.spot.Spot.{Spot}
 use Rattle.table_words.specs.declared.spot.Spot.TheVariants.{LogWord}
 use Rattle.table_words.specs.declared.access.Access.{Access}
@@ -14,7 +12,6 @@ use Rattle.table_words.specs.Access.{written}
 use Rattle.table_words.specs.Seen.{seen}
 use Rattle.structure_laws.specs.Meaning.{Meaning}
 use Rattle.structure_laws.specs.Laws.{Laws}
-use Rattle.runner_parts.specs.declared.event.EventKind.{EventKind}
 use Rattle.runner_parts.specs.declared.event.EventKind.TheVariants as kinds
 use Rattle.runner_parts.specs.State.{RunState}
 use Rattle.runner_steps.specs.Sections.{next_of}
@@ -24,9 +21,8 @@ use Rattle.machine_states.proofs.Steps.{some_same}
 use Rattle.machine_invariant.specs.After.{AreAllowed}
 use Rattle.version_words.specs.RunnerState.{RunnerState}
 use Rattle.version_words.specs.TableState.{TableState, IsOf}
-use Rattle.version_words.specs.Events.{met_by, wins, Makes, Commits}
+use Rattle.version_words.specs.Events.{met_by, wins, Commits}
 use Rattle.version_words.specs.Place.{next_log}
-use Rattle.next_steps.specs.Steps.{kind_at, ask_at, has_slot}
 use Rattle.commit_log.specs.Runs.{IsRunning, Stepped}
 use Rattle.commit_log.specs.Committed.{commits_loaded, MayCommit, HasCommitted}
 use Rattle.commit_log.proofs.Running.{may_make, goes_behind, then_made}

@@ -1,5 +1,5 @@
 -- A gate's halt behind one of several steps.
-use Rattle.std.proofs.Common.{◌≡◌, ℕ, ◌+◌, ◌≤◌, true, false, arith}
+use Rattle.std.proofs.Common.{ℕ, ◌+◌, ◌≤◌, true, false, arith}
 use Rattle.structure_laws.specs.Meaning.{Meaning}
 use Rattle.section_body.specs.declared.micro.Micro.{Micro}
 use Rattle.runner_parts.specs.State.{RunState}

@@ -1,5 +1,5 @@
 -- Where a run stands behind a step of its line.
-use Rattle.std.proofs.Common.{◌≡◌, ℕ, suc, ◌+◌, Bool, true, false, refl, sym, ap, subst, ◌∙◌, cond, add-one}
+use Rattle.std.proofs.Common.{◌≡◌, Bool, true, false, refl, ap, ◌∙◌, cond}
 use Rattle.std.specs.Prelude.{not, ◌&&◌, slice_index_or}
 use Rattle.section_body.specs.declared.micro.Micro.{Micro}
 use Rattle.section_body.specs.declared.micro.Micro.TheVariants.{End}

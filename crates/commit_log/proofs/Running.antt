@@ -1,27 +1,23 @@
 -- A runner in a run may make the step that stands next, and is behind it then.
-use Rattle.std.proofs.Common.{◌≡◌, ℕ, zero, suc, ◌+◌, ◌++◌, List, [], ◌∷◌, length, Bool, true, false, refl, sym, ap, subst, ◌∙◌, arith, Option, Some, None}
-use Rattle.std.specs.Prelude.{if◌then◌else◌, ◌||◌, ◌==◌}
+use Rattle.std.proofs.Common.{◌≡◌, ℕ, zero, suc, ◌+◌, List, [], length, Bool, true, false, refl, sym, ap, subst, ◌∙◌, arith, Option, Some, None}
+use Rattle.std.specs.Prelude.{if◌then◌else◌}
 use Rattle.section_body.specs.declared.micro.Micro.{Micro}
 use Rattle.section_body.specs.declared.micro.Micro.TheVariants as micros
 use Rattle.section_body.specs.Line.{is_end}
-use Rattle.section_body.specs.Run.{written_once, source_value}
-use Rattle.section_body.specs.Word.{version_of, next_word}
 use Rattle.table_words.specs.declared.layout.Layout.{Layout}
 use Rattle.table_words.specs.Limits.{IsWithinLimits}
-use Rattle.table_words.specs.declared.spot.Spot.{Spot}
-use Rattle.table_words.specs.declared.access.Access.{Access}
 use Rattle.structure_laws.specs.Meaning.{Meaning}
 use Rattle.structure_laws.specs.Laws.{Laws}
 use Rattle.runner_parts.specs.State.{RunState, PartState}
 use Rattle.runner_steps.specs.Sections.{next_of}
-use Rattle.runner_steps.specs.InRun.{make_slot, stamp_after}
+use Rattle.runner_steps.specs.InRun.{make_slot}
 use Rattle.runner_steps.specs.Asks.{line_ask}
 use Rattle.machine_agreement.proofs.LineAsked.{line_asked}
-use Rattle.runner_steps.specs.AfterInRun.{goes_on, agrees, ended_more}
+use Rattle.runner_steps.specs.AfterInRun.{goes_on, ended_more}
 use Rattle.machine_invariant.specs.After.{AreAllowed}
 use Rattle.machine_invariant.specs.LogWords.{commits_to}
 use Rattle.next_steps.specs.Steps.{slot_in, kind_at, ask_at, has_slot}
-use Rattle.next_steps.specs.Stages.{filling_slot, unfilled, run_behind, IsBehind}
+use Rattle.next_steps.specs.Stages.{filling_slot, run_behind, IsBehind}
 use Rattle.next_steps.proofs.Stages.{in_table, may_step, commits_behind, then_stepped}
 use Rattle.version_words.specs.RunnerState.{RunnerState}
 use Rattle.version_words.specs.TableState.{TableState, IsOf}
@@ -114,7 +110,7 @@ module _ {T : Type 0} (m : Meaning) (laws : Laws m) (t : TableState T) (limits :
   then_made has found r' event =
       let made = ap (λ (y : RunnerState T). y.part) event.made in
       let behind : IsBehind m r.layout r.part q micro found r'.part = subst (λ (p : PartState). IsBehind m r.layout r.part q micro found p) (sym made)
-          (then_stepped m laws r.layout within r.requests few r.number r.part q micro event.met found is.inside is.opened ahead has) in
+      (then_stepped m laws r.layout within r.requests few r.number r.part q micro event.met found is.inside is.opened ahead has) in
       record {
         running = is;
         next = ahead;

@@ -1,18 +1,15 @@
 -- A load in a run.
-use Rattle.std.proofs.Common.{◌≡◌, ℕ, ◌+◌, Bool, refl, sym, ap, subst, ◌∙◌, add-one, Option, Some}
-use Rattle.section_body.specs.declared.micro.Micro.{Micro}
+use Rattle.std.proofs.Common.{◌≡◌, ℕ, ◌+◌, Bool, refl, ap, subst, ◌∙◌, add-one, Option, Some}
 use Rattle.section_body.specs.declared.micro.Micro.TheVariants.{LoadCell, Commit}
 use Rattle.section_body.specs.Line.{micro_at}
 use Rattle.section_lines.proofs.Ordered.{is_ordered}
-use Rattle.table_words.specs.declared.spot.Spot.{Spot}
 use Rattle.table_words.specs.declared.spot.Spot.TheVariants.{Cell}
-use Rattle.table_words.specs.declared.access.Access.{Access}
 use Rattle.table_words.specs.declared.access.Access.TheVariants.{Loads}
 use Rattle.table_words.specs.Limits.{IsWithinLimits}
 use Rattle.structure_laws.specs.Meaning.{Meaning}
 use Rattle.structure_laws.specs.Laws.{Laws}
 use Rattle.runner_parts.specs.State.{RunState}
-use Rattle.runner_steps.specs.Sections.{thunk_of, line_of, next_of}
+use Rattle.runner_steps.specs.Sections.{thunk_of, line_of}
 use Rattle.runner_steps.specs.AfterInRun.{goes_on, agrees}
 use Rattle.machine_epochs.proofs.RunPlaces.{next_in_line}
 use Rattle.machine_invariant.specs.After.{AreAllowed}

@@ -28,10 +28,11 @@ commit-runner-requires-clause-next g c κs within =
     let m = g.S.Structure.meaning c.args.table.now.structure in
     let laws = met.laws c.args.table.now.structure in
     let may = c.requires.next.1 in
-    let load = loads m laws c.args.table.now c.table_is_allowed.ensures.limits c.table_is_allowed.ensures.requests _ c.requires.own _ _ may _ _ c.load_cell-runner.ensures.event in
-    (goes_on m c.args.runner.layout c.requires.next.0 c.load_cell-runner.result.1,
-    subst (λ n. MayCommit m c.load_cell-runner.result.0 n (goes_on m c.args.runner.layout c.requires.next.0 c.load_cell-runner.result.1)) (sym c.bits.ensures.number)
-    (commit_next m laws c.args.table.now c.table_is_allowed.ensures.limits c.table_is_allowed.ensures.requests _ c.requires.own _ _ may _ _ load))
+    let load = loads m laws c.args.table.now c.table_is_allowed.ensures.limits c.table_is_allowed.ensures.requests _ c.requires.own _ _ may _ _ c.load_cell-runner.ensures.event in (
+      goes_on m c.args.runner.layout c.requires.next.0 c.load_cell-runner.result.1,
+      subst (λ n. MayCommit m c.load_cell-runner.result.0 n (goes_on m c.args.runner.layout c.requires.next.0 c.load_cell-runner.result.1)) (sym c.bits.ensures.number)
+          (commit_next m laws c.args.table.now c.table_is_allowed.ensures.limits c.table_is_allowed.ensures.requests _ c.requires.own _ _ may _ _ load),
+    )
 
 pub returns-then-not-passes-2-clause-halted : goal.returns-then-not-passes-2-clause-halted
 returns-then-not-passes-2-clause-halted g c =
