@@ -160,8 +160,8 @@ module _ {T : Type 0} (m : Meaning) where
         let wide = ap (λ (l : Layout). slot_count l m.fixed_slots) so.rest.layout in
         let within : nat_lt slot (slot_count r.layout m.fixed_slots) ≡ true = grind (arith, nat_tests, low, wide) in
         let part : ◌≡◌ {A = PartState} (outside_after m r.layout (kinds.PrivateLoad slot cell) r.part word) (record (r.part) { nodes = nodes_looked r.layout r.part.nodes slot cell word }) =
-            ap (λ (b : Bool). if b then record (r.part) { nodes = nodes_looked r.layout r.part.nodes slot cell word }
-            else record (r.part) { descriptors = descriptor_stored r.part.descriptors (slot - slot_count r.layout m.fixed_slots) cell word }) within in
+        ap (λ (b : Bool). if b then record (r.part) { nodes = nodes_looked r.layout r.part.nodes slot cell word }
+        else record (r.part) { descriptors = descriptor_stored r.part.descriptors (slot - slot_count r.layout m.fixed_slots) cell word }) within in
         let f = λ (w : ℕ). version_of w == old.layout.version_max in
         let nothing : NotesNothing (kinds.PrivateLoad slot cell) = record { known = λ s access found spot. refl; finished = λ s access found spot. refl } in
         let resting = so.at.resting in
