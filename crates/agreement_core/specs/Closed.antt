@@ -3,7 +3,8 @@ use Rattle.std.specs.Prelude.{ℕ, suc, ◌≤◌, ◌≡◌, ◌≢◌, ◌⊎�
 use Rattle.agreement_core.specs.State.{AgreementState, IsOpen}
 use Rattle.agreement_core.specs.History.{History}
 
--- no open section has this number: its section is done, or its descriptor is free again, or it isn't published yet
+-- no open section has this number: its section is done, or its descriptor is free again, or it
+-- isn't published yet
 abbrev pub IsClosed : AgreementState → History → ℕ → Type 0
 IsClosed w h n = (d : ℕ) → IsOpen w d → h.section d ≢ n
 
@@ -15,8 +16,10 @@ pub record ClosedStay (w w' : AgreementState) (h h' : History) : Type 0 where
   -- and a published section that isn't open is never open again
   pub closed : (n : ℕ) → n ≤ h.published → IsClosed w h n → IsClosed w' h' n
 
--- an event publishes no section, or one, under the next number; the sections of the other used descriptors keep their numbers
+-- an event publishes no section, or one, under the next number; the sections of the other used
+-- descriptors keep their numbers
 pub record NumbersStay (w w' : AgreementState) (h h' : History) : Type 0 where
   pub next : (h'.published ≡ h.published)
-      ⊎ ((h'.published ≡ suc h.published) × ((d : ℕ) × (w.used d ≡ false) × (w'.used d ≡ true) × (h'.section d ≡ suc h.published)))
+      ⊎ ((h'.published ≡ suc h.published) × ((d : ℕ) × (w.used d ≡ false) × (w'.used d ≡ true)
+      × (h'.section d ≡ suc h.published)))
   pub same : (d : ℕ) → w.used d ≡ true → h'.section d ≡ h.section d

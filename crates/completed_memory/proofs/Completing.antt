@@ -16,13 +16,13 @@ use Rattle.completed_memory.specs.Pending.{Marks, AreMarked, StillStores, IsPend
 use Rattle.completed_memory.proofs.Stores.{apart_stores}
 use Rattle.completed_memory.proofs.Finishing.{at_place, Finished, finish}
 
-true_false : true ≡ false → ⊥
+pub true_false : true ≡ false → ⊥
 true_false e = cc
 
-some_none : {A : Type 0} {a : A} → Some a ≡ None → ⊥
+pub some_none : {A : Type 0} {a : A} → Some a ≡ None → ⊥
 some_none e = cc
 
-some_inj : {A : Type 0} {a b : A} → Some a ≡ Some b → a ≡ b
+pub some_inj : {A : Type 0} {a b : A} → Some a ≡ Some b → a ≡ b
 some_inj e = cc
 
 bool_cases : (b : Bool) → (b ≡ true) ⊎ (b ≡ false)

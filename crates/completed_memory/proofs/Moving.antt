@@ -1,6 +1,6 @@
 -- What becomes of the completed memory, over every structure that meets the laws.
 use Rattle.std.proofs.Common.{◌≡◌, ◌≢◌, ℕ, ◌+◌, ◌*◌, ◌<◌, ◌≤◌, true, false, length, refl, sym, ap, ◌∙◌, subst, ⊎_elim, arith}
-use Rattle.std.specs.Prelude.{Some, None}
+use Rattle.std.specs.Prelude.{Some}
 use Rattle.std.specs.FinMap.{empty}
 use mathlib.Core.Path.{fun_ext}
 use mathlib.Core.Logic.{dite}
@@ -29,16 +29,7 @@ use Rattle.completed_memory.specs.Pending.{Marks, HasCome, AreMarked, StillStore
 use Rattle.completed_memory.specs.Moves.{StandsCompleted, LeavesStores, IsAtStamp, MemoryMoves}
 use Rattle.completed_memory.proofs.Stores.{compare_places, past_loads, come_settled, passed_none, next_store, other_stores, apart_stores}
 use Rattle.completed_memory.proofs.Finishing.{Finished, finish}
-use Rattle.completed_memory.proofs.Completing.{Completion, completion, same_cells}
-
-true_false : true ≡ false → ⊥
-true_false e = cc
-
-some_none : {A : Type 0} {a : A} → Some a ≡ None → ⊥
-some_none e = cc
-
-some_inj : {A : Type 0} {a b : A} → Some a ≡ Some b → a ≡ b
-some_inj e = cc
+use Rattle.completed_memory.proofs.Completing.{true_false, some_none, some_inj, Completion, completion, same_cells}
 
 live_free : (x : Status) → x ≡ Live → x ≡ Free → ⊥
 live_free x live free = cc

@@ -4,7 +4,6 @@ use Rattle.std.specs.Prelude.{◌==◌, ◌&&◌, ◌||◌, nat_lt, not}
 use Rattle.std.specs.List.{filter, list_all}
 use Rattle.std.proofs.lemmas.Bool.Decides.{nat_tests}
 use Rattle.table_words.specs.declared.layout.Layout.{Layout}
-use Rattle.table_words.specs.declared.spot.Spot.{Spot}
 use Rattle.table_words.specs.Limits.{IsWithinLimits}
 use Rattle.table_words.specs.Places.{slot_count}
 use Rattle.structure_laws.specs.Meaning.{Meaning}
@@ -21,7 +20,6 @@ use Rattle.machine_invariant.specs.After.{AreAllowed}
 use Rattle.machine_invariant.specs.Slots.{times_among}
 use Rattle.machine_invariant.proofs.After.{whole_after}
 use Rattle.version_words.specs.RunnerState.{RunnerState}
-use Rattle.version_words.specs.ReachedWith.{ReachedWith}
 use Rattle.version_words.specs.Events.{Makes}
 use Rattle.epoch_slots.specs.Entries.{KeepsOwn}
 use Rattle.epoch_slots.specs.Collects.{unworn, worn_out, come_back, IsTidy, IsShown, Scans, Advances, AreTested, HasScanned, EndsScan, Collects}
@@ -43,10 +41,10 @@ member_stands t (x ∷ xs) is = stands_once t x xs (x == t) refl is (member_stan
 -- the slots in a runner's hand are node slots, each once, in every state that the machine reaches
 pub hand_is_own : {T : Type 0} (m : Meaning) → Laws m → (r : RunnerState T) → IsWithinLimits r.layout → AreAllowed r.requests → IsShown m r → HandIsOwn m r
 hand_is_own m laws r limits allowed is =
-    let world = is.shown.world in
-    let sound = whole_after m laws r.layout r.requests is.shown.reached.events world limits allowed is.shown.reached.after in
+    let world = is.world in
+    let sound = whole_after m laws r.layout r.requests is.reached.events world limits allowed is.reached.after in
     let nodes = sound.sound.slots.in_nodes in
-    let part : (sight m r.layout r.requests world).part r.number ≡ r.part = ap part_or_first is.shown.own in
+    let part : (sight m r.layout r.requests world).part r.number ≡ r.part = ap part_or_first is.own in
     record {
       once = λ t. let a = subst (λ (p : PartState). times_among p.nodes t ≤ 1) part (nodes.once r.number t) in omega (arith, a);
       within = λ t has_it. nodes.within r.number t (subst (λ (p : PartState). 1 ≤ times_among p.nodes t) (sym part) (let a = member_stands t r.part.nodes.hand has_it in omega (arith, a)));

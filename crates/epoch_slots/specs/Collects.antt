@@ -1,8 +1,7 @@
 -- What a scan of the announcements finds, and what comes out of limbo.
-use Rattle.std.specs.Prelude.{◌≡◌, ℕ, ◌+◌, List, [], ◌∷◌, ◌++◌, Bool, true, false, not, ◌==◌, ◌&&◌, nat_lt, length, None}
+use Rattle.std.specs.Prelude.{◌≡◌, ℕ, ◌+◌, List, [], ◌∷◌, ◌++◌, Bool, true, false, not, ◌==◌, ◌&&◌, nat_lt, length, None, Some, slice_get}
 use Rattle.std.specs.List.{filter, list_any, list_all}
 use Rattle.section_body.specs.Word.{version_of}
-use Rattle.table_words.specs.declared.spot.Spot.{Spot}
 use Rattle.structure_laws.specs.Meaning.{Meaning}
 use Rattle.runner_parts.specs.declared.event.EventKind.TheVariants as kinds
 use Rattle.runner_parts.specs.declared.stage.Stage.TheVariants as stages
@@ -11,7 +10,8 @@ use Rattle.runner_parts.specs.Lists.{is_old, slots_of, nodes_collected, descript
 use Rattle.runner_steps.specs.Outside.{last_epoch}
 use Rattle.runner_steps.specs.AfterOutside.{is_clear}
 use Rattle.version_words.specs.RunnerState.{RunnerState}
-use Rattle.version_words.specs.ReachedWith.{ReachedWith}
+use Rattle.machine_states.specs.World.{World, seat_of}
+use Rattle.machine_states.specs.Reached.{Reached}
 use Rattle.version_words.specs.Events.{Makes, Tries}
 use Rattle.version_words.specs.Stages.{IsAt}
 use Rattle.epoch_slots.specs.Entries.{KeepsOwn}
@@ -47,9 +47,9 @@ module _ {T : Type 0} where
   module _ (m : Meaning) where
     -- the machine reaches a state in which the runner has this part
     pub record IsShown (r : RunnerState T) : Type 0 where
-      pub spot : Spot
-      pub number : ℕ
-      pub shown : ReachedWith m r.layout r.requests r.number r.part spot number
+      pub world : World
+      pub reached : Reached m r.layout r.requests world
+      pub own : slice_get world.parts (seat_of r.layout r.number) ≡ Some r.part
 
     -- the announcements from this one on are loaded, one after the other, and hold this
     abbrev pub Scans : ℕ → List ℕ → RunnerState T → RunnerState T → Type 0

@@ -87,6 +87,7 @@ fn first_part(alloc: Global, nodes: Vec<u32>, descriptors: Vec<u32>) -> Part
             known: Vec::new(alloc),
             finished: Vec::new(alloc),
             events: 0,
+            won: 0,
             left: Vec::new(alloc),
             splits: 0,
             joined: Vec::new(alloc),

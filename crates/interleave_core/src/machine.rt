@@ -1,5 +1,6 @@
 //! The pure machine.
 ghost use Rattle.std.specs.Prelude.{◌≡◌, ◌≤◌, ◌<◌, ◌+◌, ◌↔◌, ℕ, Some, None, Err, OnOk, OnErr, IfOk, length, vec_len, slice_get, slice_set, ◌++◌, ◌==◌, not};
+ghost use Rattle.map_history.specs.Requests.{AreInOrder};
 ghost use Rattle.table_words.specs.Limits.{IsWithinLimits};
 ghost use Rattle.table_words.specs.Places.{size, address, Fits};
 ghost use Rattle.runner_steps.specs.After.{after, knows_also};
@@ -212,7 +213,8 @@ impl<S: Structure> Machine<S> {
         Ok(())
     }
 
-    /// The first state of the machine, which keeps the list of requests.
+    /// The first state of the machine, which keeps the list of requests. These are numbered from 0 in order, in traces that never fall
+    /// along the list and are below 64, with keys up to 4,294,967,293.
     pub fn new(
         alloc: Global,
         structure: S,
@@ -220,7 +222,7 @@ impl<S: Structure> Machine<S> {
         requests: &[Request],
     ) -> Result<Machine<S>, AllocError>
         requires limits { IsWithinLimits layout }
-        requires few { length requests.now ≤ 131072 }
+        requires ordered { AreInOrder requests.now 64 }
         ensures first { IfOk result (λ x. IsFirst (S.meaning structure) layout requests.now x.world) }
         ensures reached { IfOk result (λ x. Reached (S.meaning structure) layout requests.now x.world) }
         ensures structure { IfOk result (λ x. x.structure ≡ structure) }

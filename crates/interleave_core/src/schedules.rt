@@ -1,5 +1,6 @@
 //! The machine after a list of events.
 ghost use Rattle.std.specs.Prelude.{◌≡◌, ◌≤◌, ℕ, Some, None, Err, IfOk, length, take, slice_get};
+ghost use Rattle.map_history.specs.Requests.{AreInOrder};
 ghost use Rattle.table_words.specs.Limits.{IsWithinLimits};
 ghost use Rattle.interleave_core.specs.declared.schedules.ScheduleError.TheVariants.{NotEnabled};
 ghost use Rattle.machine_states.specs.Schedules.{IsAfter};
@@ -40,7 +41,7 @@ pub fn all_schedules<S: Structure>(
     events: &[Event],
 ) -> Result<Machine<S>, ScheduleError>
     requires limits { IsWithinLimits layout }
-    requires few { length requests.now ≤ 131072 }
+    requires ordered { AreInOrder requests.now 64 }
     ensures ok { IfOk result (λ x. IsAfter (S.meaning structure) layout requests.now events.now x.world) }
     ensures epochs { IfOk result (λ x. SoundAfter (S.meaning structure) layout requests.now events.now x.world) }
     ensures descriptors { IfOk result (λ x. DescriptorsSoundAfter (S.meaning structure) layout requests.now events.now x.world) }

@@ -1,5 +1,6 @@
 //! Random schedules of two workers and the keeper, against the plain runs of the sections that they publish.
 ghost use Rattle.std.specs.Prelude.{◌≤◌, length};
+ghost use Rattle.map_history.specs.Requests.{AreInOrder};
 
 use crate::plain_runs::{PlainRun, plain_run};
 use crate::two_workers::{OWN, SECTIONS, TwoWorkers};
@@ -422,17 +423,93 @@ fn begins(runner: u32) -> Worker {
     }
 }
 
-/// Requests in two traces.
-fn requests(alloc: Global) -> Result<Vec<Request>, AllocError> {
-    let mut requests = Vec::new(alloc);
-    for number in 0..2 * OWN {
-        requests.push(Request {
-            trace: number / OWN,
-            number,
-            op: Op::Get(1),
-        })?;
-    }
-    Ok(requests)
+/// Eight requests in each of two traces.
+fn requests() -> [Request; 16]
+    ensures { AreInOrder result 64 }
+{
+    let op = Op::Get(1);
+    [
+        Request {
+            trace: 0,
+            number: 0,
+            op,
+        },
+        Request {
+            trace: 0,
+            number: 1,
+            op,
+        },
+        Request {
+            trace: 0,
+            number: 2,
+            op,
+        },
+        Request {
+            trace: 0,
+            number: 3,
+            op,
+        },
+        Request {
+            trace: 0,
+            number: 4,
+            op,
+        },
+        Request {
+            trace: 0,
+            number: 5,
+            op,
+        },
+        Request {
+            trace: 0,
+            number: 6,
+            op,
+        },
+        Request {
+            trace: 0,
+            number: 7,
+            op,
+        },
+        Request {
+            trace: 1,
+            number: 8,
+            op,
+        },
+        Request {
+            trace: 1,
+            number: 9,
+            op,
+        },
+        Request {
+            trace: 1,
+            number: 10,
+            op,
+        },
+        Request {
+            trace: 1,
+            number: 11,
+            op,
+        },
+        Request {
+            trace: 1,
+            number: 12,
+            op,
+        },
+        Request {
+            trace: 1,
+            number: 13,
+            op,
+        },
+        Request {
+            trace: 1,
+            number: 14,
+            op,
+        },
+        Request {
+            trace: 1,
+            number: 15,
+            op,
+        },
+    ]
 }
 
 /// The section that the worker has just published, with its plain run from the words that stand now.
@@ -505,7 +582,7 @@ fn at_end(machine: &TwoWorkers, sections: &[Section], events: u32, agrees: bool)
 
 /// A schedule of so many events from the first state on, with numbers from this seed.
 fn schedule(alloc: Global, requests: &[Request], seed: u64) -> Result<Seen, AllocError>
-    requires { length requests.now ≤ 131072 }
+    requires { AreInOrder requests.now 64 }
 {
     let mut machine = TwoWorkers::new(alloc, requests)?;
     let mut workers = [begins(0), begins(1)];
@@ -530,8 +607,7 @@ fn schedule(alloc: Global, requests: &[Request], seed: u64) -> Result<Seen, Allo
 
 #[test]
 fn random_schedules_agree_with_the_plain_runs(rt: HostRuntime) -> Result<(), AllocError> {
-    let requests = requests(rt.alloc())?;
-    assert!(rt; requests.len() <= 131072);
+    let requests = requests();
     for seed in 0..SCHEDULES {
         let seen = schedule(rt.alloc(), &requests, seed)?;
         assert!(rt; seen.events == EVENTS);

@@ -1,5 +1,6 @@
 //! Worked rows.
 ghost use Rattle.std.specs.Prelude.{◌≤◌};
+ghost use Rattle.map_history.specs.Requests.{AreInOrder};
 ghost use Rattle.table_words.specs.Limits.{IsWithinLimits};
 
 use interleave_core::{Event, EventKind, Machine, ScheduleError, StepError, Tray, all_schedules};
@@ -40,12 +41,32 @@ fn thunk(form: u64, request: u32, operand: u64) -> Thunk {
 }
 
 /// Two requests in each of two traces.
-fn requests() -> [Request; 4] {
-    [0, 1, 2, 3].map(|number| Request {
-        trace: number / 2,
-        number,
-        op: Op::Get(1),
-    })
+fn requests() -> [Request; 4]
+    ensures { AreInOrder result 64 }
+{
+    let op = Op::Get(1);
+    [
+        Request {
+            trace: 0,
+            number: 0,
+            op,
+        },
+        Request {
+            trace: 0,
+            number: 1,
+            op,
+        },
+        Request {
+            trace: 1,
+            number: 2,
+            op,
+        },
+        Request {
+            trace: 1,
+            number: 3,
+            op,
+        },
+    ]
 }
 
 /// Makes this step, and says whether it was enabled.
@@ -296,6 +317,52 @@ fn idle_enables_five_kinds(rt: HostRuntime) -> Result<(), AllocError> {
         _ => 0,
     };
     assert_eq!(rt; kinds, 1 | 1 << 4 | 1 << 11 | 1 << 12 | 1 << 26);
+    Ok(())
+}
+
+#[test]
+fn requests_are_published_once_and_in_their_order(rt: HostRuntime) -> Result<(), AllocError> {
+    let requests = requests();
+    let mut machine = Machine::new(rt.alloc(), Tray, layout(2), &requests)?;
+    let second = thunk(101, 1, 7);
+    assert!(rt; prepares(&mut machine, 0, 0, &second));
+    assert!(rt;
+        !goes(
+            &mut machine,
+            0,
+            EventKind::Hold {
+                thunk: second,
+                descriptor: 0
+            }
+        )
+    );
+    assert!(rt; goes(&mut machine, 0, EventKind::Idle));
+    assert!(rt; publishes(&mut machine, 0, 1, thunk(101, 0, 7)));
+    assert_eq!(rt; runs(&mut machine, 0, 1), 22);
+    assert!(rt; goes(&mut machine, 0, EventKind::EpochForRetire));
+    assert!(rt; goes(&mut machine, 0, EventKind::Idle));
+    let word = Word::from_bits(12884901888);
+    let again = Thunk {
+        word,
+        ..thunk(101, 0, 7)
+    };
+    assert!(rt; prepares(&mut machine, 0, 0, &again));
+    assert!(rt;
+        !goes(
+            &mut machine,
+            0,
+            EventKind::Hold {
+                thunk: again,
+                descriptor: 0
+            }
+        )
+    );
+    assert!(rt; goes(&mut machine, 0, EventKind::Idle));
+    let next = Thunk {
+        word,
+        ..thunk(101, 1, 7)
+    };
+    assert!(rt; publishes(&mut machine, 0, 0, next));
     Ok(())
 }
 

@@ -1,5 +1,6 @@
 //! The machine with two workers and the keeper.
 ghost use Rattle.std.specs.Prelude.{◌≡◌, ◌≤◌, ◌<◌, length};
+ghost use Rattle.map_history.specs.Requests.{AreInOrder};
 
 use interleave_core::{Event, EventKind, Machine, StepError, Tray};
 use map_history::Request;
@@ -25,7 +26,7 @@ pub struct TwoWorkers {
 impl TwoWorkers {
     /// The first state.
     pub fn new(alloc: Global, requests: &[Request]) -> Result<TwoWorkers, AllocError>
-        requires { length requests.now ≤ 131072 }
+        requires { AreInOrder requests.now 64 }
     {
         let layout = Layout {
             runners: 2,

@@ -139,7 +139,7 @@ module _ (m : Meaning) (l : Layout) (rs : List Request) (w : AgreementState) (s 
             events.SetDone r ∷ [],
             (next, refl),
             subst (λ (p : PartState). Goes m l r (events.SetDone r ∷ []) w (record { word = word'; part = table.upd s.part r p })) (sym (after_line m l r kinds.SetDone x (s.part r) found q micros.SetDone is opened next))
-                (plain_goes m l (events.SetDone r ∷ []) w w1 s r word' (noting l r kinds.SetDone (spots.DoneWord q.descriptor) (exchanged found 0 1) (done_set (s.part r) q)) old
+                (plain_goes m l (events.SetDone r ∷ []) w w1 s r word' (noting l r kinds.SetDone (spots.DoneWord q.descriptor) (Exchanges 0 1) found (done_set (s.part r) q)) old
                 (one m l rs w s old r q is opened (events.SetDone r) (run_here.running, run_here.ended ∙ ap (nat_le 1) going, stops none))
                 (record { others = λ i ne. upd_else w.run r _ i ne; finishes = λ i ne. refl; finished = λ i k ne. refl; over = λ d e. e; seen = λ p word e. e })
                 (let y = old.words in record { cells = y.cells; clock = y.clock; stamp = y.stamp; reply = y.reply })
@@ -152,8 +152,8 @@ module _ (m : Meaning) (l : Layout) (rs : List Request) (w : AgreementState) (s 
                   rests = λ k e all. let same : q1 ≡ k = cc in subst (λ (y : RunState). settles m l y ≡ y) same (rests_more ((old.tied r).rests q is long));
                   released = λ k place e has. let same : q1 ≡ k = cc in absurd (none_yet place going (subst (λ (y : RunState). has_released (line_of m y) y.at ((thunk_of y.opened).lock) ((thunk_of y.opened).word) y.ended place ≡ true) (sym same) has));
                   read = (old.tied r).read;
-                  finishes = (old.tied r).finishes ∙ ap length (sym (noted_finished l r kinds.SetDone (spots.DoneWord q.descriptor) (exchanged found 0 1) (s.part r).records));
-                  finished = λ i f e. (old.tied r).finished i f (ap (λ xs. slice_get xs i) (sym (noted_finished l r kinds.SetDone (spots.DoneWord q.descriptor) (exchanged found 0 1) (s.part r).records)) ∙ e);
+                  finishes = (old.tied r).finishes ∙ ap length (sym (noted_finished l r kinds.SetDone (spots.DoneWord q.descriptor) (Exchanges 0 1) found (s.part r).records));
+                  finished = λ i f e. (old.tied r).finished i f (ap (λ xs. slice_get xs i) (sym (noted_finished l r kinds.SetDone (spots.DoneWord q.descriptor) (Exchanges 0 1) found (s.part r).records)) ∙ e);
                   over = (old.tied r).over;
                 })),
           )

@@ -20,7 +20,7 @@ use Rattle.runner_parts.specs.State.{RunState, RecordsState, PartState}
 use Rattle.runner_parts.specs.Tests.{has_pair}
 use Rattle.runner_steps.specs.Sections.{is_open_run, next_of}
 use Rattle.runner_steps.specs.AfterInRun.{opened_more}
-use Rattle.runner_steps.specs.After.{after, after_by, line_after, noted, left_more, counted}
+use Rattle.runner_steps.specs.After.{after, after_by, line_after, noted, left_more, tallied}
 use Rattle.agreement_core.specs.State.{CellRules, AgreementState, section_of}
 use Rattle.agreement_core.specs.Events as events
 use Rattle.agreement_core.specs.Events.{IsBefore, IsAlone, goes_on, agrees, with_cell, reads}
@@ -40,22 +40,22 @@ left_finished s (kinds.Join worker) spot n = refl
 left_finished s _ spot n = refl
 
 -- what is noted of a step keeps what came to its end
-pub noted_finished : (l : Layout) (r : ℕ) (kind : EventKind) (spot : Spot) (n : ℕ) (s : RecordsState) → (noted l r kind spot n s).finished ≡ s.finished
-noted_finished l r kind spot n s = by (r == l.runners)
+pub noted_finished : (l : Layout) (r : ℕ) (kind : EventKind) (spot : Spot) (access : Access) (n : ℕ) (s : RecordsState) → (noted l r kind spot access n s).finished ≡ s.finished
+noted_finished l r kind spot access n s = by (r == l.runners)
   where
-    by : (b : Bool) → (if b then left_more (record s { events = counted s.events }) kind spot n else record s { events = counted s.events }).finished ≡ s.finished
-    by true = left_finished (record s { events = counted s.events }) kind spot n
+    by : (b : Bool) → (if b then left_more (tallied access n s) kind spot (written access n) else tallied access n s).finished ≡ s.finished
+    by true = left_finished (tallied access n s) kind spot (written access n)
     by false = refl
 
 -- a part with its step noted
-abbrev pub noting : Layout → ℕ → EventKind → Spot → ℕ → PartState → PartState
-noting l r kind spot n p = record p { records = noted l r kind spot n p.records }
+abbrev pub noting : Layout → ℕ → EventKind → Spot → Access → ℕ → PartState → PartState
+noting l r kind spot access n p = record p { records = noted l r kind spot access n p.records }
 
 module _ (m : Meaning) (l : Layout) where
   -- the part after an event of an open run that stands before this step
   pub after_line : (r : ℕ) (kind : EventKind) (x : Spot × Access) (p : PartState) (found : ℕ) (q : RunState) (micro : Micro) → p.run ≡ Some q → is_open_run q ≡ true → next_of m q ≡ micro
-      → after m l r kind x.0 x.1 p found ≡ noting l r kind x.0 (written x.1 found) (line_after m l kind p q micro found)
-  after_line r kind x p found q micro is opened next = ap (noting l r kind x.0 (written x.1 found))
+      → after m l r kind x.0 x.1 p found ≡ noting l r kind x.0 x.1 found (line_after m l kind p q micro found)
+  after_line r kind x p found q micro is opened next = ap (noting l r kind x.0 x.1 found)
       (ap (λ o. after_by m l kind p o found) is
       ∙ (ap (λ b. if b then line_after m l kind p q (next_of m q) found else opened_more p q found) opened
       ∙ ap (λ k. line_after m l kind p q k found) next))
@@ -82,9 +82,9 @@ module _ (m : Meaning) (l : Layout) where
         let going = places.not_ended m l w s old r q is all (ap is_event (next_in_line m q micro inner next) ∙ event) in
         let pp = line_after m l kind (s.part r) q micro (s.word x.0) in
         subst (λ (p : PartState). Goes m l r heads w (record { word = word_after x; part = upd s.part r p })) (sym (after_line r kind x (s.part r) (s.word x.0) q micro is opened next))
-        (line_goes m l heads w w1 s r q q1 (word_after x) (noting l r kind x.0 (written x.1 (s.word x.0)) pp) old is all leads step run1 (ended ∙ going) descriptor same_words
+        (line_goes m l heads w w1 s r q q1 (word_after x) (noting l r kind x.0 x.1 (s.word x.0) pp) old is all leads step run1 (ended ∙ going) descriptor same_words
         (places.code_here m l w s old r q is all)
-        (record { run = own.run; published = own.published; finished = noted_finished l r kind x.0 (written x.1 (s.word x.0)) pp.records ∙ own.finished })
+        (record { run = own.run; published = own.published; finished = noted_finished l r kind x.0 x.1 (s.word x.0) pp.records ∙ own.finished })
         words sections thunks read)
 
     -- one event of the component

@@ -5,7 +5,6 @@ use Rattle.table_words.specs.declared.layout.Layout.{Layout}
 use Rattle.table_words.specs.declared.spot.Spot.{Spot}
 use Rattle.table_words.specs.declared.spot.Spot.TheVariants as spots
 use Rattle.table_words.specs.declared.access.Access.{Access}
-use Rattle.table_words.specs.Access.{written}
 use Rattle.table_words.specs.Seen.{put}
 use Rattle.table_words.specs.Seen as table
 use Rattle.structure_laws.specs.Meaning.{Meaning}
@@ -29,8 +28,8 @@ use Rattle.machine_agreement.proofs.LineKinds.{noting}
 module _ (m : Meaning) (l : Layout) where
   -- the part after an event outside a run
   pub after_outside : (r : ℕ) (kind : EventKind) (x : Spot × Access) (p : PartState) (found : ℕ) → p.run ≡ None
-      → after m l r kind x.0 x.1 p found ≡ noting l r kind x.0 (written x.1 found) (outside_after m l kind p found)
-  after_outside r kind x p found none = ap (noting l r kind x.0 (written x.1 found)) (ap (λ o. after_by m l kind p o found) none)
+      → after m l r kind x.0 x.1 p found ≡ noting l r kind x.0 x.1 found (outside_after m l kind p found)
+  after_outside r kind x p found none = ap (noting l r kind x.0 x.1 found) (ap (λ o. after_by m l kind p o found) none)
 
   other_none : (w : AgreementState) (r : ℕ) → IsOtherStep m l w w r
   other_none w r = record { others = λ i ne. refl; finishes = λ i ne. refl; finished = λ i k ne. refl; over = λ d e. e; seen = λ p word e. e }

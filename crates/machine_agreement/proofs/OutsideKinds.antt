@@ -1,7 +1,7 @@
 -- The kinds of step outside a run, joined.
 use Rattle.std.specs.Prelude.{◌==◌, ◌&&◌, not, Bool, true, false, nat_le, nat_lt, if◌then◌else◌}
 use Rattle.std.specs.List.{filter}
-use Rattle.std.proofs.Common.{◌≡◌, ◌≢◌, ℕ, ◌+◌, ◌-◌, ◌<◌, ◌≤◌, List, [], ◌∷◌, ◌++◌, length, sym, refl, ap, ◌∙◌, subst, arith, inl, inr, Option, Some, None}
+use Rattle.std.proofs.Common.{◌≡◌, ◌≢◌, ℕ, ◌+◌, ◌-◌, ◌<◌, ◌≤◌, List, [], ◌∷◌, ◌++◌, sym, refl, ap, ◌∙◌, subst, arith, inl, inr, Option, Some, None}
 use Rattle.std.proofs.lemmas.Bool.Decides.{nat_tests}
 use Rattle.map_history.specs.declared.op.Request.{Request}
 use Rattle.section_body.specs.Word.{held_word}
@@ -42,6 +42,7 @@ use Rattle.machine_agreement.proofs.LineKinds.{noting, noted_finished}
 use Rattle.machine_agreement.proofs.Outside.{IsSamePart, SameWords, load_same, quiet_joined, quiet_goes, read_goes}
 use Rattle.machine_agreement.proofs.Descriptors as descriptors
 use Rattle.machine_agreement.proofs.Freeing.{freed}
+use Rattle.runner_steps.specs.AfterOutside.{published_by}
 
 -- a part that differs in what the component doesn't see
 pub same_part : (m : Meaning) (l : Layout) (p : PartState) (stage : Stage) (nodes : NodesState) (descriptors : DescriptorsState) (records : RecordsState) → records.finished ≡ p.records.finished
@@ -49,8 +50,8 @@ pub same_part : (m : Meaning) (l : Layout) (p : PartState) (stage : Stage) (node
 same_part m l p stage nodes descriptors records finished = record { run = refl; published = λ x e. e; finished = finished; read = λ a b e. e }
 
 -- what is noted of a step, of records whose ends are as before
-ends : (l : Layout) (r : ℕ) (kind : EventKind) (spot : Spot) (n : ℕ) (records before : RecordsState) → records.finished ≡ before.finished → (noted l r kind spot n records).finished ≡ before.finished
-ends l r kind spot n records before e = noted_finished l r kind spot n records ∙ e
+ends : (l : Layout) (r : ℕ) (kind : EventKind) (spot : Spot) (access : Access) (n : ℕ) (records before : RecordsState) → records.finished ≡ before.finished → (noted l r kind spot access n records).finished ≡ before.finished
+ends l r kind spot access n records before e = noted_finished l r kind spot access n records ∙ e
 
 split_finished : (l : Layout) (p : PartState) → (outside.split_after l p).records.finished ≡ p.records.finished
 split_finished l p = by (nat_lt p.records.splits l.runners)
@@ -59,15 +60,15 @@ split_finished l p = by (nat_lt p.records.splits l.runners)
     by true = refl
     by false = refl
 
-split_part : (m : Meaning) (l : Layout) (r : ℕ) (p : PartState) (spot : Spot) (n : ℕ) → IsSamePart m l p (noting l r kinds.Split spot n (outside.split_after l p))
-split_part m l r p spot n = by (nat_lt p.records.splits l.runners)
+split_part : (m : Meaning) (l : Layout) (r : ℕ) (p : PartState) (spot : Spot) (access : Access) (n : ℕ) → IsSamePart m l p (noting l r kinds.Split spot access n (outside.split_after l p))
+split_part m l r p spot access n = by (nat_lt p.records.splits l.runners)
   where
     abbrev_of : Bool → PartState
     abbrev_of b = if b then record p { records = record (p.records) { splits = p.records.splits + 1 } } else p
 
-    by : (b : Bool) → IsSamePart m l p (noting l r kinds.Split spot n (if b then record p { records = record (p.records) { splits = p.records.splits + 1 } } else p))
-    by true = record { run = refl; published = λ x e. e; finished = noted_finished l r kinds.Split spot n (record (p.records) { splits = p.records.splits + 1 }); read = λ a b e. e }
-    by false = record { run = refl; published = λ x e. e; finished = noted_finished l r kinds.Split spot n p.records; read = λ a b e. e }
+    by : (b : Bool) → IsSamePart m l p (noting l r kinds.Split spot access n (if b then record p { records = record (p.records) { splits = p.records.splits + 1 } } else p))
+    by true = record { run = refl; published = λ x e. e; finished = noted_finished l r kinds.Split spot access n (record (p.records) { splits = p.records.splits + 1 }); read = λ a b e. e }
+    by false = record { run = refl; published = λ x e. e; finished = noted_finished l r kinds.Split spot access n p.records; read = λ a b e. e }
 
 learned_finished : (records : RecordsState) (request : ℕ) (reply : Bool) (n : ℕ) → (lists.learned records request reply n).finished ≡ records.finished
 learned_finished records request reply n = by (n == 0)
@@ -97,7 +98,7 @@ module _ (m : Meaning) (l : Layout) (rs : List Request) (w : AgreementState) (s 
 
   -- the sight after it
   abbrev pub sight_of : EventKind → Spot × Access → Sight
-  sight_of kind x = record { word = word_of x; part = table.upd s.part r (noting l r kind x.0 (written x.1 (s.word x.0)) (outside_after m l kind p (s.word x.0))) }
+  sight_of kind x = record { word = word_of x; part = table.upd s.part r (noting l r kind x.0 x.1 (s.word x.0) (outside_after m l kind p (s.word x.0))) }
 
   -- the step leads to a joined state, by the events of its kind
   abbrev pub To : EventKind → Spot × Access → Type 0
@@ -106,12 +107,12 @@ module _ (m : Meaning) (l : Layout) (rs : List Request) (w : AgreementState) (s 
   loads : (a : Spot) (x : Spot × Access) → (a, Loads) ≡ x → SameWords m l s.word (word_of x)
   loads a x e = subst (λ (y : Spot × Access). SameWords m l s.word (word_of y)) e (load_same m l s.word a)
 
-  quiet : (kind : EventKind) (x : Spot × Access) → IsOutsideChunk m l w r kind p (s.word x.0) [] → SameWords m l s.word (word_of x) → IsSamePart m l p (noting l r kind x.0 (written x.1 (s.word x.0)) (outside_after m l kind p (s.word x.0))) → To kind x
+  quiet : (kind : EventKind) (x : Spot × Access) → IsOutsideChunk m l w r kind p (s.word x.0) [] → SameWords m l s.word (word_of x) → IsSamePart m l p (noting l r kind x.0 x.1 (s.word x.0) (outside_after m l kind p (s.word x.0))) → To kind x
   quiet kind x none_of words same = ([], none_of, quiet_goes m l w s old r (word_of x) _ words same)
 
   noted_part : (kind : EventKind) (x : Spot × Access) (stage : Stage) (nodes : NodesState) (records : RecordsState) → records.finished ≡ p.records.finished
-      → IsSamePart m l p (noting l r kind x.0 (written x.1 (s.word x.0)) (record p { stage = stage; nodes = nodes; records = records }))
-  noted_part kind x stage nodes records e = same_part m l p stage nodes p.descriptors (noted l r kind x.0 (written x.1 (s.word x.0)) records) (ends l r kind x.0 (written x.1 (s.word x.0)) records p.records e)
+      → IsSamePart m l p (noting l r kind x.0 x.1 (s.word x.0) (record p { stage = stage; nodes = nodes; records = records }))
+  noted_part kind x stage nodes records e = same_part m l p stage nodes p.descriptors (noted l r kind x.0 x.1 (s.word x.0) records) (ends l r kind x.0 x.1 (s.word x.0) records p.records e)
 
   pub enter_load : (x : Spot × Access) → outside_ask m l rs r kinds.EnterLoad p ≡ Some x → To kinds.EnterLoad x
   enter_load x e = let h = asked.enter_load_asked p.stage x e in quiet kinds.EnterLoad x refl (loads spots.Epoch x h.1) (noted_part kinds.EnterLoad x (stages.Loaded (s.word x.0)) p.nodes p.records refl)
@@ -125,7 +126,7 @@ module _ (m : Meaning) (l : Layout) (rs : List Request) (w : AgreementState) (s 
 
   pub enter_again : (x : Spot × Access) → outside_ask m l rs r kinds.EnterAgain p ≡ Some x → To kinds.EnterAgain x
   enter_again x e = let h = asked.enter_again_asked p.stage x e in quiet kinds.EnterAgain x refl (loads spots.Epoch x h.1)
-      (record { run = refl; published = λ y e. e; finished = noted_finished l r kinds.EnterAgain x.0 (written x.1 (s.word x.0)) p.records; read = λ a b e. absurd (let no = e in cc) })
+      (record { run = refl; published = λ y e. e; finished = noted_finished l r kinds.EnterAgain x.0 x.1 (s.word x.0) p.records; read = λ a b e. absurd (let no = e in cc) })
 
   pub exit : (x : Spot × Access) → outside_ask m l rs r kinds.Idle p ≡ Some x → To kinds.Idle x
   exit x e = let h = asked.idle_asked r p x e in
@@ -136,7 +137,7 @@ module _ (m : Meaning) (l : Layout) (rs : List Request) (w : AgreementState) (s 
   scan_epoch x e = let h = asked.enter_load_asked p.stage x e in quiet kinds.ScanEpoch x refl (loads spots.Epoch x h.1) (noted_part kinds.ScanEpoch x (stages.Scanning (s.word x.0) 0 true) p.nodes p.records refl)
 
   pub split : (x : Spot × Access) → outside_ask m l rs r kinds.Split p ≡ Some x → To kinds.Split x
-  split x e = quiet kinds.Split x refl (loads spots.Seat x (asked.split_asked l r p x e)) (split_part m l r p x.0 (written x.1 (s.word x.0)))
+  split x e = quiet kinds.Split x refl (loads spots.Seat x (asked.split_asked l r p x e)) (split_part m l r p x.0 x.1 (s.word x.0))
 
   pub load_entry : (request : ℕ) (reply : Bool) (x : Spot × Access) → outside_ask m l rs r (kinds.LoadEntry request reply) p ≡ Some x → To (kinds.LoadEntry request reply) x
   load_entry request reply x e = quiet (kinds.LoadEntry request reply) x refl (loads _ x (asked.entry_asked request reply p x e))
@@ -144,14 +145,20 @@ module _ (m : Meaning) (l : Layout) (rs : List Request) (w : AgreementState) (s 
 
   pub private_load : (slot word : ℕ) (x : Spot × Access) → outside_ask m l rs r (kinds.PrivateLoad slot word) p ≡ Some x → To (kinds.PrivateLoad slot word) x
   private_load slot word x e = let h = asked.private_load_asked m l slot word p x e in
-      quiet (kinds.PrivateLoad slot word) x refl (loads h.0 x h.1) (noted_part (kinds.PrivateLoad slot word) x p.stage (lists.nodes_looked l p.nodes slot word (s.word x.0)) p.records refl)
+      quiet (kinds.PrivateLoad slot word) x refl (loads h.0 x h.1) (looked_part (nat_lt slot (slot_count l m.fixed_slots)))
+    where
+      looked_part : (b : Bool) → IsSamePart m l p (noting l r (kinds.PrivateLoad slot word) x.0 x.1 (s.word x.0)
+          (if b then record p { nodes = lists.nodes_looked l p.nodes slot word (s.word x.0) } else record p { descriptors = lists.descriptor_stored p.descriptors (slot - slot_count l m.fixed_slots) word (s.word x.0) }))
+      looked_part true = noted_part (kinds.PrivateLoad slot word) x p.stage (lists.nodes_looked l p.nodes slot word (s.word x.0)) p.records refl
+      looked_part false = same_part m l p p.stage p.nodes (lists.descriptor_stored p.descriptors (slot - slot_count l m.fixed_slots) word (s.word x.0))
+          (noted l r (kinds.PrivateLoad slot word) x.0 x.1 (s.word x.0) p.records) (noted_finished l r (kinds.PrivateLoad slot word) x.0 x.1 (s.word x.0) p.records)
 
   pub load_cell : (place : ℕ) (x : Spot × Access) → outside_ask m l rs r (kinds.LoadCell (Some place)) p ≡ Some x → To (kinds.LoadCell (Some place)) x
   load_cell place x e = let h = asked.read_asked m place p x e in
       subst (To (kinds.LoadCell (Some place))) h.2 (
         events.Read place ∷ [],
         refl,
-        read_goes m l w s old r place _ refl (λ y e. e) (noted_finished l r (kinds.LoadCell (Some place)) (spots.Cell place) (s.word (spots.Cell place)) p.records) refl
+        read_goes m l w s old r place _ refl (λ y e. e) (noted_finished l r (kinds.LoadCell (Some place)) (spots.Cell place) Loads (s.word (spots.Cell place)) p.records) refl
             (word_of (spots.Cell place, Loads)) (load_same m l s.word (spots.Cell place)),
       )
 
@@ -161,7 +168,7 @@ module _ (m : Meaning) (l : Layout) (rs : List Request) (w : AgreementState) (s 
       subst (To (kinds.LoadThunk (Some d))) h.3 (
         events.Open r d ∷ [],
         refl,
-        descriptors.run_begins m l w s old r d _ none (used h.2) refl refl (noted_finished l r (kinds.LoadThunk (Some d)) (spots.ThunkWord d 0) (s.word (spots.ThunkWord d 0)) p.records) refl
+        descriptors.run_begins m l w s old r d _ none (used h.2) refl refl (noted_finished l r (kinds.LoadThunk (Some d)) (spots.ThunkWord d 0) Loads (s.word (spots.ThunkWord d 0)) p.records) refl
             (word_of (spots.ThunkWord d 0, Loads)) (load_same m l s.word (spots.ThunkWord d 0)),
       )
 
@@ -174,9 +181,9 @@ module _ (m : Meaning) (l : Layout) (rs : List Request) (w : AgreementState) (s 
       subst (To kinds.EpochForRetire) h.4 (
         events.RetireDescriptor h.1.descriptor ∷ [],
         (h.1, h.3, refl),
-        subst (λ (q : PartState). Goes m l r (events.RetireDescriptor h.1.descriptor ∷ []) w (record { word = word_of (spots.Epoch, Loads); part = table.upd s.part r (noting l r kinds.EpochForRetire spots.Epoch found q) })) (sym after)
+        subst (λ (q : PartState). Goes m l r (events.RetireDescriptor h.1.descriptor ∷ []) w (record { word = word_of (spots.Epoch, Loads); part = table.upd s.part r (noting l r kinds.EpochForRetire spots.Epoch Loads found q) })) (sym after)
             (descriptors.retired m l w s old r h.1.descriptor _ (word_of (spots.Epoch, Loads)) (load_same m l s.word spots.Epoch) (live h.1 h.3)
-            ((old.tied r).over h.1 h.3 (over_of p.published h.1 (retire_over p x e) h.3)) refl refl (noted_finished l r kinds.EpochForRetire spots.Epoch found p.records) refl),
+            ((old.tied r).over h.1 h.3 (over_of p.published h.1 (retire_over p x e) h.3)) refl refl (noted_finished l r kinds.EpochForRetire spots.Epoch Loads found p.records) refl),
       )
 
   -- a private store into a word of an own free descriptor
@@ -196,7 +203,7 @@ module _ (m : Meaning) (l : Layout) (rs : List Request) (w : AgreementState) (s 
       let h = asked.private_store_asked m l slot word number p x e in
       let d = slot - slot_count l m.fixed_slots in
       subst (To (kinds.PrivateStore slot word number)) h.1
-      (stored d word number, (unused d h.0, refl), store_at d word number _ (unused d h.0) refl refl (noted_finished l r (kinds.PrivateStore slot word number) (descriptor_spot d word) number p.records) refl)
+      (stored d word number, (unused d h.0, refl), store_at d word number _ (unused d h.0) refl refl (noted_finished l r (kinds.PrivateStore slot word number) (descriptor_spot d word) (Stores number) (s.word (descriptor_spot d word)) p.records) refl)
 
   -- a publication: where the lock was free, the section is published, otherwise its word is read
   module _ (t : Thunk) (d : ℕ) (unused : w.used d ≡ false) (supplied : s.word (spots.Cell t.lock) ≡ t.word → MayPublish m l w s r t d) where
@@ -211,28 +218,28 @@ module _ (m : Meaning) (l : Layout) (rs : List Request) (w : AgreementState) (s 
         let same = equal found t.word e in
         let may = supplied same in
         let after : outside.hold_after t d p found ≡ record p {
-          published = Some (record { descriptor = d; walked = length p.reads.walk; over = false });
+          published = Some (published_by t d p);
           descriptors = lists.descriptor_taken p.descriptors d;
           reads = lists.section_published (lists.cell_read p.reads t.lock found) d;
         } = ap (λ b. if b then record p {
-          published = Some (record { descriptor = d; walked = length p.reads.walk; over = false });
+          published = Some (published_by t d p);
           descriptors = lists.descriptor_taken p.descriptors d;
           reads = lists.section_published (lists.cell_read p.reads t.lock found) d;
         } else record p { reads = lists.holds_named (lists.cell_read p.reads t.lock found) found }) e in
         let new : written (Exchanges t.word (held_word d t.word)) found ≡ held_word d t.word = ap (λ b. if b then held_word d t.word else found) e in (
           events.Read t.lock ∷ publication m d t ∷ [],
           inl (same, refl),
-          subst (λ (q : PartState). Goes m l r (events.Read t.lock ∷ publication m d t ∷ []) w (record { word = word_of hold; part = table.upd s.part r (noting l r (kinds.Hold t d) (spots.Cell t.lock) (written (Exchanges t.word (held_word d t.word)) found) q) })) (sym after)
+          subst (λ (q : PartState). Goes m l r (events.Read t.lock ∷ publication m d t ∷ []) w (record { word = word_of hold; part = table.upd s.part r (noting l r (kinds.Hold t d) (spots.Cell t.lock) (Exchanges t.word (held_word d t.word)) found q) })) (sym after)
               (subst (λ n. Goes m l r (events.Read t.lock ∷ publication m d t ∷ []) w (record {
                 word = put s.word (spots.Cell t.lock) n;
-                part = table.upd s.part r (noting l r (kinds.Hold t d) (spots.Cell t.lock) (written (Exchanges t.word (held_word d t.word)) found) (record p {
-                  published = Some (record { descriptor = d; walked = length p.reads.walk; over = false });
+                part = table.upd s.part r (noting l r (kinds.Hold t d) (spots.Cell t.lock) (Exchanges t.word (held_word d t.word)) found (record p {
+                  published = Some (published_by t d p);
                   descriptors = lists.descriptor_taken p.descriptors d;
                   reads = lists.section_published (lists.cell_read p.reads t.lock found) d;
                 }));
               })) (sym new)
-              (descriptors.publishes m l w s old r d t _ none unused same may.words may.publishable may.undone may.unlogged may.apart none (λ y e. ap (λ (z : Published). z.over) (let both : record { descriptor = d; walked = length p.reads.walk; over = false } ≡ y = cc in sym both))
-              (noted_finished l r (kinds.Hold t d) (spots.Cell t.lock) (written (Exchanges t.word (held_word d t.word)) found) p.records) refl)),
+              (descriptors.publishes m l w s old r d t _ none unused same may.words may.publishable may.undone may.unlogged may.apart none (λ y e. ap (λ (z : Published). z.over) (let both : published_by t d p ≡ y = cc in sym both))
+              (noted_finished l r (kinds.Hold t d) (spots.Cell t.lock) (Exchanges t.word (held_word d t.word)) found p.records) refl)),
         )
       where
         equal : (a b : ℕ) → (a == b) ≡ true → a ≡ b
@@ -242,15 +249,15 @@ module _ (m : Meaning) (l : Layout) (rs : List Request) (w : AgreementState) (s 
     lost e =
         let after : outside.hold_after t d p found ≡ record p { reads = lists.holds_named (lists.cell_read p.reads t.lock found) found }
         = ap (λ b. if b then record p {
-          published = Some (record { descriptor = d; walked = length p.reads.walk; over = false });
+          published = Some (published_by t d p);
           descriptors = lists.descriptor_taken p.descriptors d;
           reads = lists.section_published (lists.cell_read p.reads t.lock found) d;
         } else record p { reads = lists.holds_named (lists.cell_read p.reads t.lock found) found }) e in
         let same : written (Exchanges t.word (held_word d t.word)) found ≡ found = ap (λ b. if b then held_word d t.word else found) e in (
           events.Read t.lock ∷ [],
           inr (differ found t.word e, refl),
-          subst (λ (q : PartState). Goes m l r (events.Read t.lock ∷ []) w (record { word = word_of hold; part = table.upd s.part r (noting l r (kinds.Hold t d) (spots.Cell t.lock) (written (Exchanges t.word (held_word d t.word)) found) q) })) (sym after)
-              (read_goes m l w s old r t.lock _ refl (λ y e. e) (noted_finished l r (kinds.Hold t d) (spots.Cell t.lock) (written (Exchanges t.word (held_word d t.word)) found) p.records) refl (word_of hold)
+          subst (λ (q : PartState). Goes m l r (events.Read t.lock ∷ []) w (record { word = word_of hold; part = table.upd s.part r (noting l r (kinds.Hold t d) (spots.Cell t.lock) (Exchanges t.word (held_word d t.word)) found q) })) (sym after)
+              (read_goes m l w s old r t.lock _ refl (λ y e. e) (noted_finished l r (kinds.Hold t d) (spots.Cell t.lock) (Exchanges t.word (held_word d t.word)) found p.records) refl (word_of hold)
               (subst (λ n. SameWords m l s.word (put s.word (spots.Cell t.lock) n)) (sym same) (load_same m l s.word (spots.Cell t.lock)))),
         )
       where
@@ -270,11 +277,11 @@ module _ (m : Meaning) (l : Layout) (rs : List Request) (w : AgreementState) (s 
   -- a scan goes on, or is over and the descriptors that have waited long enough are free
   collect_goes : (kind : EventKind) (x : Spot × Access) (epoch : ℕ) → SameWords m l s.word (word_of x)
       → ((d : ℕ) → has (lists.slots_of (filter (lists.is_old epoch) p.descriptors.limbo)) d ≡ true → IsIdle w d)
-      → Goes m l r (collected (Some epoch) p) w (record { word = word_of x; part = table.upd s.part r (noting l r kind x.0 (written x.1 (s.word x.0)) (outside.collected p epoch)) })
+      → Goes m l r (collected (Some epoch) p) w (record { word = word_of x; part = table.upd s.part r (noting l r kind x.0 x.1 (s.word x.0) (outside.collected p epoch)) })
   collect_goes kind x epoch words idle =
       let free = freed m l s (lists.slots_of (filter (lists.is_old epoch) p.descriptors.limbo)) w old idle in
-      let joined = quiet_joined m l free.next s free.joined r (word_of x) (noting l r kind x.0 (written x.1 (s.word x.0)) (outside.collected p epoch)) words
-      (same_part m l p stages.Idle (lists.nodes_collected epoch p.nodes) (lists.descriptors_collected epoch p.descriptors) (noted l r kind x.0 (written x.1 (s.word x.0)) p.records) (noted_finished l r kind x.0 (written x.1 (s.word x.0)) p.records)) in
+      let joined = quiet_joined m l free.next s free.joined r (word_of x) (noting l r kind x.0 x.1 (s.word x.0) (outside.collected p epoch)) words
+      (same_part m l p stages.Idle (lists.nodes_collected epoch p.nodes) (lists.descriptors_collected epoch p.descriptors) (noted l r kind x.0 x.1 (s.word x.0) p.records) (noted_finished l r kind x.0 x.1 (s.word x.0) p.records)) in
       record { next = free.next; leads = leads_alone m l r (collected (Some epoch) p) w free.next free.leads; joined = joined }
 
   pub scan_one : (n : ℕ) (x : Spot × Access) → outside_ask m l rs r (kinds.ScanOne n) p ≡ Some x
@@ -289,7 +296,7 @@ module _ (m : Meaning) (l : Layout) (rs : List Request) (w : AgreementState) (s 
       let over = n == l.runners && not (clear && nat_lt h.0 last_epoch) in (
         collected (if over then Some h.0 else None) p,
         ap (λ o. collected o p) (sym collect),
-        subst (λ (q : PartState). Goes m l r (collected (if over then Some h.0 else None) p) w (record { word = word_of x; part = table.upd s.part r (noting l r (kinds.ScanOne n) x.0 (written x.1 found) q) })) (sym after)
+        subst (λ (q : PartState). Goes m l r (collected (if over then Some h.0 else None) p) w (record { word = word_of x; part = table.upd s.part r (noting l r (kinds.ScanOne n) x.0 x.1 found q) })) (sym after)
             (over_or_on n x (loads (spots.Announcement n) x h.4) h.0 clear (n == l.runners && not (clear && nat_lt h.0 last_epoch)) (λ is d old. idle h.0 d (collect ∙ ap (λ b. if b then Some h.0 else None) is) old)),
       )
     where
@@ -298,7 +305,7 @@ module _ (m : Meaning) (l : Layout) (rs : List Request) (w : AgreementState) (s 
 
       over_or_on : (n : ℕ) (x : Spot × Access) → SameWords m l s.word (word_of x) → (epoch : ℕ) (clear b : Bool)
           → (b ≡ true → (d : ℕ) → has (lists.slots_of (filter (lists.is_old epoch) p.descriptors.limbo)) d ≡ true → IsIdle w d)
-          → Goes m l r (collected (if b then Some epoch else None) p) w (record { word = word_of x; part = table.upd s.part r (noting l r (kinds.ScanOne n) x.0 (written x.1 (s.word x.0)) (if b then outside.collected p epoch else outside.with_stage p (stages.Scanning epoch (n + 1) clear))) })
+          → Goes m l r (collected (if b then Some epoch else None) p) w (record { word = word_of x; part = table.upd s.part r (noting l r (kinds.ScanOne n) x.0 x.1 (s.word x.0) (if b then outside.collected p epoch else outside.with_stage p (stages.Scanning epoch (n + 1) clear))) })
       over_or_on n x words epoch clear true idle = collect_goes (kinds.ScanOne n) x epoch words (idle refl)
       over_or_on n x words epoch clear false idle = quiet_goes m l w s old r (word_of x) _ words (noted_part (kinds.ScanOne n) x (stages.Scanning epoch (n + 1) clear) p.nodes p.records refl)
 
@@ -312,7 +319,7 @@ module _ (m : Meaning) (l : Layout) (rs : List Request) (w : AgreementState) (s 
       let collect : advance_collects p.stage ≡ Some (h.0 + 1) = ap advance_collects h.2 ∙ ap (λ b. if b then Some (h.0 + 1) else None) tried in (
         collected (Some (h.0 + 1)) p,
         ap (λ o. collected o p) (sym collect),
-        subst (λ (q : PartState). Goes m l r (collected (Some (h.0 + 1)) p) w (record { word = word_of x; part = table.upd s.part r (noting l r kinds.Advance x.0 (written x.1 (s.word x.0)) q) })) (sym after)
+        subst (λ (q : PartState). Goes m l r (collected (Some (h.0 + 1)) p) w (record { word = word_of x; part = table.upd s.part r (noting l r kinds.Advance x.0 x.1 (s.word x.0) q) })) (sym after)
             (collect_goes kinds.Advance x (h.0 + 1) (subst (λ (y : Spot × Access). SameWords m l s.word (word_of y)) h.5
             (record { cells = λ i. refl; clock = refl; stamp = λ i. refl; reply = λ i. refl; thunks = λ d j. refl; done = λ d. refl; log = λ d k. refl })) (λ d old. idle (h.0 + 1) d collect old)),
       )

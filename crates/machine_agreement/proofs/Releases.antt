@@ -235,7 +235,7 @@ module _ (m : Meaning) (l : Layout) (rs : List Request) (w : AgreementState) (s 
     read = reads_more w p found (s.part r).reads.cells _ (old.words.cells p) refl (λ a b has. (old.tied r).read a b has)
 
     abbrev noted_of : PartState → PartState
-    noted_of y = noting l r kinds.Release (spots.Cell p) new y
+    noted_of y = noting l r kinds.Release (spots.Cell p) (Exchanges held (next_word held 0)) found y
 
     goes_on_tied : IsTied m l w1 word' r (noted_of (record read_part { run = Some q1 }))
     goes_on_tied = record {
@@ -245,8 +245,8 @@ module _ (m : Meaning) (l : Layout) (rs : List Request) (w : AgreementState) (s 
       rests = λ k e all. let same : q1 ≡ k = cc in subst (λ (y : RunState). settles m l y ≡ y) same (ap (λ (y : RunState). ended_more y) ((old.tied r).rests q is long));
       released = λ k a e has. let same : q1 ≡ k = cc in released_now a (subst (λ (y : RunState). has_released (line_of m y) y.at ((thunk_of y.opened).lock) ((thunk_of y.opened).word) y.ended a ≡ true) (sym same) has);
       read = read;
-      finishes = (old.tied r).finishes ∙ ap length (sym (noted_finished l r kinds.Release (spots.Cell p) new (s.part r).records));
-      finished = λ i f e. (old.tied r).finished i f (ap (λ xs. slice_get xs i) (sym (noted_finished l r kinds.Release (spots.Cell p) new (s.part r).records)) ∙ e);
+      finishes = (old.tied r).finishes ∙ ap length (sym (noted_finished l r kinds.Release (spots.Cell p) (Exchanges held (next_word held 0)) found (s.part r).records));
+      finished = λ i f e. (old.tied r).finished i f (ap (λ xs. slice_get xs i) (sym (noted_finished l r kinds.Release (spots.Cell p) (Exchanges held (next_word held 0)) found (s.part r).records)) ∙ e);
       over = (old.tied r).over;
     }
 
@@ -307,7 +307,7 @@ module _ (m : Meaning) (l : Layout) (rs : List Request) (w : AgreementState) (s 
 
       over_tied : IsTied m l w2 word' r (noted_of (run_over m l read_part q1))
       over_tied =
-          let finished = noted_finished l r kinds.Release (spots.Cell p) new (run_over m l read_part q1).records in
+          let finished = noted_finished l r kinds.Release (spots.Cell p) (Exchanges held (next_word held 0)) found (run_over m l read_part q1).records in
           record {
             run = ap (λ (y : Run). y.running) (upd_here w1.run r _);
             opened = λ k j e low more. absurd (let none = e in cc);

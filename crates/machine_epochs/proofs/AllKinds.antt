@@ -52,7 +52,7 @@ module _ (m : Meaning) (l : Layout) (rs : List Request) (w : EpochState) (s : Si
 
   -- the runner's records after a step of this kind that led to this part
   abbrev records_of : EventKind → PartState → RecordsState
-  records_of kind p' = noted l r kind x.0 (written x.1 found) p'.records
+  records_of kind p' = noted l r kind x.0 x.1 found p'.records
 
   -- events of which this holds lead to a joined state, if a step of this kind leads to this part
   abbrev To : (List Event → Type 0) → EventKind → PartState → Type 0
@@ -121,7 +121,7 @@ module _ (m : Meaning) (l : Layout) (rs : List Request) (w : EpochState) (s : Si
     outside_goes (kinds.Join worker) j u e = absurd (let y = j in cc)
     outside_goes (kinds.LoadCell (Some place)) j u e = outside.load_cell m l w s old r none _ place x (λ t. may_by (kinds.LoadCell (Some place)) u None none t) e
     outside_goes (kinds.LoadEntry request reply) j u e = outside.load_entry m l w s old r none _ request reply x e
-    outside_goes (kinds.PrivateLoad slot word) j u e = outside.private_load m l w s old r none _ slot word x e
+    outside_goes (kinds.PrivateLoad slot word) j u e = stores.private_load m l w s old r none rs _ slot word x fits e
     outside_goes (kinds.PrivateStore slot word number) j u e = stores.private_store m l w s old r none rs _ slot word number x fits e
     outside_goes (kinds.Hold thunk d) j u e = sections.hold m l w s old r none _ x rs thunk d (λ t. may_by (kinds.Hold thunk d) u None none t) e
     outside_goes (kinds.LoadThunk (Some d)) j u e = outside.load_thunk m l w s old r none _ d x e
@@ -183,7 +183,7 @@ module _ (m : Meaning) (l : Layout) (rs : List Request) (w : EpochState) (s : Si
       let asked = by_run (s.part r).run refl (unless_gone (sizes_for m l rs) (s.part r).gone _ x e).1 in
       let other : worker ≢ r = below_other worker l.runners r is_his.1 is_his.0 in
       subst (λ (y : Spot × Access). GoesBy m l (IsChunk m l r (kinds.Join worker) (s.part r) (s.part r).run (s.word y.0)) w (sight_after m l s r (kinds.Join worker) y)) asked.1
-      (subst (λ (o : Option RunState). GoesBy m l (IsChunk m l r (kinds.Join worker) (s.part r) o (s.word Seat)) w (record { word = put s.word Seat (s.word Seat); part = upd (upd s.part r (knows_also (record (after_by m l (kinds.Join worker) (s.part r) o (s.word Seat)) { records = noted l r (kinds.Join worker) Seat (s.word Seat) (after_by m l (kinds.Join worker) (s.part r) o (s.word Seat)).records }) (s.part worker))) worker (leaves (s.part worker)) }))
+      (subst (λ (o : Option RunState). GoesBy m l (IsChunk m l r (kinds.Join worker) (s.part r) o (s.word Seat)) w (record { word = put s.word Seat (s.word Seat); part = upd (upd s.part r (knows_also (record (after_by m l (kinds.Join worker) (s.part r) o (s.word Seat)) { records = noted l r (kinds.Join worker) Seat Loads (s.word Seat) (after_by m l (kinds.Join worker) (s.part r) o (s.word Seat)).records }) (s.part worker))) worker (leaves (s.part worker)) }))
       (sym asked.0) (join_goes m l w s old r worker other _))
     where
       by_run : (o : Option RunState) → (s.part r).run ≡ o → ask_by m l rs r (kinds.Join worker) (s.part r) o ≡ Some x → ((s.part r).run ≡ None) × ((Seat, Loads) ≡ x)

@@ -9,7 +9,6 @@ use Rattle.table_words.specs.declared.layout.Layout.{Layout}
 use Rattle.table_words.specs.declared.spot.Spot.{Spot}
 use Rattle.table_words.specs.declared.spot.Spot.TheVariants.{Announcement}
 use Rattle.table_words.specs.declared.access.Access.{Access}
-use Rattle.table_words.specs.Access.{written}
 use Rattle.table_words.specs.Seen.{upd}
 use Rattle.structure_laws.specs.Meaning.{Meaning}
 use Rattle.runner_parts.specs.declared.stage.Stage.{Stage}
@@ -79,9 +78,9 @@ module _ (m : Meaning) (l : Layout) (rs : List Request) (w v : World) (whole : I
   own_part kind h none is =
       let x = (steps kind h).ask in
       let found = s.word x.0 in (
-        noted l r kind x.0 (written x.1 found) (outside_after m l kind p found).records,
+        noted l r kind x.0 x.1 found (outside_after m l kind p found).records,
         ap (λ (t : Sight). t.part r) (steps kind h).next ∙ (ap (λ (g : ℕ → PartState). g r) is ∙ (upd_here s.part r _
-            ∙ ap (λ (o : Option RunState). record (after_by m l kind p o found) { records = noted l r kind x.0 (written x.1 found) (after_by m l kind p o found).records }) none)),
+            ∙ ap (λ (o : Option RunState). record (after_by m l kind p o found) { records = noted l r kind x.0 x.1 found (after_by m l kind p o found).records }) none)),
       )
 
   module _ (k e n : ℕ) (clear : Bool) (stage : p.stage ≡ Scanning e n clear) (h : Goes (kinds.ScanOne k)) where

@@ -237,7 +237,7 @@ module _ (m : Meaning) (l : Layout) where
   outside_stage (kinds.Join worker) p found k = refl
   outside_stage (kinds.LoadCell (Some place)) p found k = refl
   outside_stage (kinds.LoadEntry request reply) p found k = refl
-  outside_stage (kinds.PrivateLoad slot word) p found k = refl
+  outside_stage (kinds.PrivateLoad slot word) p found k = either_stage _ p _ _ refl refl
   outside_stage (kinds.PrivateStore slot word number) p found k = refl
   outside_stage (kinds.Hold thunk d) p found k = either_stage _ p _ _ refl refl
   outside_stage (kinds.LoadThunk (Some d)) p found k = refl

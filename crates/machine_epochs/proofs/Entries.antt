@@ -230,7 +230,7 @@ module _ (m : Meaning) (l : Layout) (rs : List Request) where
         subst (λ (o : Option RunState). Entries m l found' (record {
           word = put s.word x.0 (written x.1 (s.word x.0));
           part = upd s.part r
-              (record (after_by m l kind (s.part r) o (s.word x.0)) { records = noted l r kind x.0 (written x.1 (s.word x.0)) (after_by m l kind (s.part r) o (s.word x.0)).records });
+              (record (after_by m l kind (s.part r) o (s.word x.0)) { records = noted l r kind x.0 x.1 (s.word x.0) (after_by m l kind (s.part r) o (s.word x.0)).records });
         })) (sym none) (goes _)
 
     entry_goes : (kind : EventKind) → r ≤ l.runners → asks m l rs r kind (s.part r) ≡ Some x → Entries m l (found_more found s r kind) (sight_after m l s r kind x)

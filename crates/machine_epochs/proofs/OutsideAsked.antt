@@ -1,6 +1,6 @@
 -- What it says of a runner in no run that an event of its is enabled.
-use Rattle.std.specs.Prelude.{◌==◌, ◌&&◌, cond, Bool, true, false, nat_lt, nat_le, is_none, not, slice_get}
-use Rattle.std.proofs.Common.{◌≡◌, ℕ, ◌+◌, ◌-◌, ◌<◌, ◌≤◌, List, length, sym, refl, ap, subst, arith, Option, Some, None}
+use Rattle.std.specs.Prelude.{◌==◌, ◌&&◌, ◌⊎◌, cond, Bool, true, false, nat_lt, nat_le, is_none, not, slice_get}
+use Rattle.std.proofs.Common.{◌≡◌, ℕ, ◌+◌, ◌-◌, ◌<◌, ◌≤◌, List, length, sym, refl, ap, subst, inl, inr, arith, Option, Some, None}
 use Rattle.std.proofs.lemmas.Bool.Decides.{nat_tests}
 use Rattle.map_history.specs.declared.op.Request.{Request}
 use Rattle.section_body.specs.declared.thunk.Thunk.{Thunk}
@@ -84,6 +84,17 @@ load_of b b' false a a' x e = (a', (if_some b' _ x e).1)
 
 pub private_load_asked : (m : Meaning) (l : Layout) (slot word : ℕ) (p : PartState) (x : Spot × Access) → private_load_ask m l slot word p ≡ Some x → (spot : Spot) × ((spot, Loads) ≡ x)
 private_load_asked m l slot word p x e = load_of _ _ (nat_lt slot (slot_count l m.fixed_slots)) _ _ x e
+
+load_cases : (b a t c : Bool) (n n' : Spot) (x : Spot × Access) (c' : Bool) → c ≡ c' → cond c' (when b n Loads) (when (a && t) n' Loads) ≡ Some x
+    → ((c ≡ true) × (spot : Spot) × ((spot, Loads) ≡ x)) ⊎ ((c ≡ false) × (t ≡ true) × ((n', Loads) ≡ x))
+load_cases b a t c n n' x true is e = inl (is, n, (if_some b _ x e).1)
+load_cases b a t c n n' x false is e = let h = if_some (a && t) _ x e in inr (is, (both a t h.0).1, h.1)
+
+-- a private load is one of a cell of a node slot, or of a word of an own free descriptor
+pub private_load_cases : (m : Meaning) (l : Layout) (slot word : ℕ) (p : PartState) (x : Spot × Access) → private_load_ask m l slot word p ≡ Some x
+    → ((nat_lt slot (slot_count l m.fixed_slots) ≡ true) × (spot : Spot) × ((spot, Loads) ≡ x))
+    ⊎ ((nat_lt slot (slot_count l m.fixed_slots) ≡ false) × (has p.descriptors.free (slot - slot_count l m.fixed_slots) ≡ true) × ((descriptor_spot (slot - slot_count l m.fixed_slots) word, Loads) ≡ x))
+private_load_cases m l slot word p x e = load_cases _ _ _ (nat_lt slot (slot_count l m.fixed_slots)) _ _ x _ refl e
 
 store_test : (n slot : ℕ) (a b : Bool) → (nat_le n slot && (a && b)) ≡ true → b ≡ true
 store_test n slot a true e = refl

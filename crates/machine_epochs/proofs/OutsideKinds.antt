@@ -1,12 +1,14 @@
 -- The kinds of step outside a run that change no stage.
-use Rattle.std.specs.Prelude.{◌==◌, ◌&&◌, ◌||◌, cond, Bool, true, false, nat_lt, slice_index}
-use Rattle.std.proofs.Common.{◌≡◌, ℕ, zero, suc, ◌+◌, ◌<◌, ◌≤◌, List, [], ◌∷◌, ◌++◌, length, refl, sym, ap, ◌∙◌, subst, arith, Some, None}
+use Rattle.std.specs.Prelude.{◌==◌, ◌&&◌, ◌||◌, cond, if◌then◌else◌, Bool, true, false, nat_lt, slice_index}
+use Rattle.std.proofs.Common.{◌≡◌, ℕ, zero, suc, ◌+◌, ◌-◌, ◌<◌, ◌≤◌, List, [], ◌∷◌, ◌++◌, length, refl, sym, ap, ◌∙◌, subst, arith, Some, None}
 use Rattle.std.proofs.lemmas.Bool.Decides.{nat_tests}
 use Rattle.section_body.specs.declared.thunk.Thunk.{Thunk}
 use Rattle.table_words.specs.declared.layout.Layout.{Layout}
 use Rattle.table_words.specs.declared.spot.Spot.{Spot}
 use Rattle.table_words.specs.declared.spot.Spot.TheVariants.{Seat, Cell, ThunkWord}
 use Rattle.table_words.specs.declared.access.Access.{Access}
+use Rattle.table_words.specs.declared.access.Access.TheVariants.{Loads}
+use Rattle.table_words.specs.Places.{slot_count}
 use Rattle.table_words.specs.Access.{written}
 use Rattle.table_words.specs.Seen.{upd, put}
 use Rattle.structure_laws.specs.Meaning.{Meaning}
@@ -16,7 +18,7 @@ use Rattle.runner_parts.specs.declared.stage.Stage.TheVariants.{Entered}
 use Rattle.runner_parts.specs.declared.entries.Tested.{Tested}
 use Rattle.runner_parts.specs.State.{RunState, PartState, NodesState, ReadsState, RecordsState}
 use Rattle.runner_parts.specs.Tests.{has}
-use Rattle.runner_steps.specs.Outside.{split_ask, entry_ask, read_ask, private_load_ask, open_ask}
+use Rattle.runner_steps.specs.Outside.{split_ask, entry_ask, read_ask, open_ask}
 use Rattle.runner_parts.specs.Lists as lists
 use Rattle.runner_steps.specs.AfterOutside as outside
 use Rattle.runner_steps.specs.After.{outside_after}
@@ -27,7 +29,7 @@ use Rattle.epoch_core.specs.Events as events
 use Rattle.epoch_core.specs.Events.{slot_of}
 use Rattle.epoch_core.specs.Sound.{is_for_nodes}
 use Rattle.epoch_core.specs.History.{is_out}
-use Rattle.epoch_core.specs.Lists.{Lists}
+use Rattle.epoch_core.specs.Lists.{Lists, times}
 use Rattle.machine_states.specs.Sight.{Sight}
 use Rattle.machine_states.proofs.Steps.{some_same}
 use Rattle.machine_states.proofs.Updates.{map_same, map_upd}
@@ -35,7 +37,7 @@ use Rattle.machine_epochs.specs.Entries.{counts_of, stage_of}
 use Rattle.machine_epochs.specs.Roles.{role_at}
 use Rattle.machine_epochs.specs.Slots.{lists_of, retiring_of}
 use Rattle.machine_epochs.specs.Joined.{IsTied, IsJoinedToEpochs}
-use Rattle.machine_epochs.specs.Chunks.{is_last_look, IsOutsideChunk}
+use Rattle.machine_epochs.specs.Chunks.{is_last_look, looked as looked_events, IsOutsideChunk}
 use Rattle.machine_epochs.specs.Supplied.{reaches_node, names_slot, comes_outside}
 use Rattle.machine_epochs.proofs.OutsideAsked as asked
 use Rattle.machine_epochs.proofs.RunPlaces.{begins_unretired}
@@ -284,6 +286,21 @@ module _ (m : Meaning) (l : Layout) (w : EpochState) (s : Sight) (old : IsJoined
     pub looks_at : Looks (is_last_look p.nodes slot word) (lists.nodes_looked l p.nodes slot word (s.word a))
     looks_at = looks (has p.nodes.hand slot && (word == (lists.test_of p.nodes.tests slot).cells && nat_lt word 5)) refl
 
-  pub private_load : (records : RecordsState) (slot word : ℕ) (x : Spot × Access) → private_load_ask m l slot word p ≡ Some x → Leads (kinds.PrivateLoad slot word) records x
-  private_load records slot word x e = let h = asked.private_load_asked m l slot word p x e in
-      subst (Leads (kinds.PrivateLoad slot word) records) h.1 (looks_at records slot word h.0)
+  -- a private load of a cell of a node slot
+  pub node_load : (records : RecordsState) (slot word : ℕ) (a : Spot) → nat_lt slot (slot_count l m.fixed_slots) ≡ true → Leads (kinds.PrivateLoad slot word) records (a, Loads)
+  node_load records slot word a low =
+      subst (λ (b : Bool). GoesBy m l (λ es. es ≡ looked_events l r p.nodes slot word (s.word a)) w (next m l w s old r (put s.word a (s.word a))
+      (record (if b then record p { nodes = lists.nodes_looked l p.nodes slot word (s.word a) } else record p { descriptors = lists.descriptor_stored p.descriptors (slot - slot_count l m.fixed_slots) word (s.word a) }) { records = records })))
+      (sym low) (looks_at records slot word a)
+
+  -- a slot that is no node slot is in no hand, so to look at its words is not to look at a node slot
+  pub unlooked : (slot word found : ℕ) → nat_lt slot (slot_count l m.fixed_slots) ≡ false → [] ≡ looked_events l r p.nodes slot word found
+  unlooked slot word found high = ap (λ (b : Bool). if (b && (word == (lists.test_of p.nodes.tests slot).cells && nat_lt word 5)) && (lists.test_of p.nodes.tests slot).cells + 1 == 5 then events.Test r slot (lists.one_more l (lists.test_of p.nodes.tests slot) found).worn ∷ [] else [])
+      (sym (unhanded (has p.nodes.hand slot) (has_times p.nodes.hand slot)))
+    where
+      unhanded : (b : Bool) → (b ≡ true → 1 ≤ times slot p.nodes.hand) → b ≡ false
+      unhanded true some = absurd (none_of (slot_count l m.fixed_slots) slot high (old.listed.hand_nodes r slot) (some refl))
+        where
+          none_of : (n t : ℕ) {k : ℕ} → nat_lt t n ≡ false → (n ≤ t → k ≡ 0) → 1 ≤ k → ⊥
+          none_of n t e h some = grind (arith, nat_tests)
+      unhanded false some = refl

@@ -20,6 +20,8 @@ use Rattle.machine_epochs.specs.Firsts.{owner_of}
 use Rattle.machine_epochs.specs.Slots.{retiring_of}
 use Rattle.machine_epochs.proofs.Places.{has_append, has_times}
 use Rattle.machine_epochs.specs.Descriptors.{times_limbo, times_published, times_with}
+use Rattle.runner_steps.specs.AfterOutside.{published_by}
+use Rattle.section_body.specs.declared.thunk.Thunk.{Thunk}
 
 -- the Retire at which an entered runner's run is has an epoch that is no earlier than the runner's entry
 abbrev pub IsRecent : Meaning → PartState → Type 0
@@ -188,12 +190,12 @@ module _ (m : Meaning) (l : Layout) (epoch r : ℕ) (p : PartState) (old : IsOwn
   }
 
   -- a section is published
-  module _ (d : ℕ) (few : d < descriptor_count l) (free : has p.descriptors.free d ≡ true) (unpublished : p.published ≡ None) (place found : ℕ) where
+  module _ (d : ℕ) (few : d < descriptor_count l) (free : has p.descriptors.free d ≡ true) (unpublished : p.published ≡ None) (t : Thunk) (found : ℕ) where
     abbrev mine : Published
-    mine = record { descriptor = d; walked = length p.reads.walk; over = false }
+    mine = published_by t d p
 
     abbrev holding : PartState
-    holding = record p { published = Some mine; descriptors = lists.descriptor_taken p.descriptors d; reads = lists.section_published (lists.cell_read p.reads place found) d; records = records }
+    holding = record p { published = Some mine; descriptors = lists.descriptor_taken p.descriptors d; reads = lists.section_published (lists.cell_read p.reads t.lock found) d; records = records }
 
     before : (d' : ℕ) → times_published d' p.published ≡ 0
     before d' = ap (times_published d') unpublished

@@ -1,6 +1,6 @@
 -- Every kind of step keeps what a part says of its descriptors and limbo lists.
 use Rattle.std.specs.Prelude.{◌==◌, ◌&&◌, ◌||◌, cond, Bool, true, false, nat_lt, nat_le, slice_index_or, All}
-use Rattle.std.proofs.Common.{◌≡◌, ℕ, ◌+◌, ◌<◌, ◌≤◌, List, [], ◌∷◌, ◌++◌, length, refl, sym, ap, ◌∙◌, subst, arith, ⊎_elim, Option, Some, None}
+use Rattle.std.proofs.Common.{◌≡◌, ℕ, ◌+◌, ◌-◌, ◌<◌, ◌≤◌, List, [], ◌∷◌, ◌++◌, length, refl, sym, ap, ◌∙◌, subst, arith, ⊎_elim, Option, Some, None}
 use Rattle.std.proofs.lemmas.List.Elements.{All-push}
 use Rattle.map_history.specs.declared.op.Request.{Request}
 use Rattle.section_body.specs.declared.thunk.Thunk.{Thunk}
@@ -38,6 +38,8 @@ use Rattle.machine_epochs.proofs.OutsideAsked as asked
 use Rattle.machine_epochs.proofs.InsideAsked as inside
 use Rattle.machine_epochs.proofs.RunPlaces.{next_in_line, open_run, goes_on_unretired, begins_unretired}
 use Rattle.machine_epochs.proofs.OwnDescriptors.{IsOwn, IsRecent, IsSameLists, stays, idles, collects, publishes, retires}
+use Rattle.runner_steps.specs.AfterOutside.{published_by}
+use Rattle.table_words.specs.Places.{slot_count}
 
 -- whether a runner at this stage is entered
 abbrev is_in : Stage → Bool
@@ -128,12 +130,16 @@ module _ (m : Meaning) (l : Layout) (rs : List Request) (epoch r : ℕ) (p : Par
     stores : (d word number : ℕ) → Own (record p { descriptors = lists.descriptor_stored p.descriptors d word number })
     stores d word number = idles m l epoch r p (record p { descriptors = lists.descriptor_stored p.descriptors d word number; records = records }) (record { free = refl; limbo = refl; published = λ d. refl; nodes = refl }) (λ g d at it. (at, it)) none old
 
+    looks : (slot word : ℕ) (b : Bool) → Own (cond b (record p { nodes = lists.nodes_looked l p.nodes slot word found }) (record p { descriptors = lists.descriptor_stored p.descriptors (slot - slot_count l m.fixed_slots) word found }))
+    looks slot word true = unmoved _ (looked_limbo l p.nodes slot word found) p.reads refl
+    looks slot word false = stores _ word found
+
     holds : (t : Thunk) (d : ℕ) → asked.HoldAsked m l rs t d p x → (b : Bool) → Own (cond b (record p {
-      published = Some (record { descriptor = d; walked = length p.reads.walk; over = false });
+      published = Some (published_by t d p);
       descriptors = lists.descriptor_taken p.descriptors d;
       reads = lists.section_published (lists.cell_read p.reads t.lock found) d;
     }) (record p { reads = lists.holds_named (lists.cell_read p.reads t.lock found) found }))
-    holds t d h true = publishes m l epoch r p old none records d h.few h.free h.unpublished t.lock found
+    holds t d h true = publishes m l epoch r p old none records d h.few h.free h.unpublished t found
     holds t d h false = unmoved p.nodes refl _ refl
 
     opens : (d : ℕ) → Own (outside.open_after d p found)
@@ -161,7 +167,7 @@ module _ (m : Meaning) (l : Layout) (rs : List Request) (epoch r : ℕ) (p : Par
     outside_own (kinds.Join worker) e = alike
     outside_own (kinds.LoadCell (Some place)) e = unmoved p.nodes refl _ refl
     outside_own (kinds.LoadEntry request reply) e = alike
-    outside_own (kinds.PrivateLoad slot word) e = unmoved _ (looked_limbo l p.nodes slot word found) p.reads refl
+    outside_own (kinds.PrivateLoad slot word) e = looks slot word _
     outside_own (kinds.PrivateStore slot word number) e = stores _ word number
     outside_own (kinds.Hold thunk d) e = holds thunk d (asked.hold_asked m l rs r thunk d p x e) _
     outside_own (kinds.LoadThunk (Some d)) e = opens d

@@ -49,6 +49,7 @@ use Rattle.machine_epochs.proofs.Joining.{but_cell, but_load, descriptor_same, G
 use Rattle.machine_epochs.proofs.SlotKinds.{other_place, this_place, kept_place, live_hand}
 use Rattle.machine_epochs.proofs.RetireKinds.{map_more}
 use Rattle.machine_epochs.proofs.OutsideKinds.{Leads, reads}
+use Rattle.runner_steps.specs.AfterOutside.{published_by}
 
 -- each of these words was stored last at its place
 pub stored_index : (stored : List Stored) (d : ℕ) (ns : List ℕ) (word i : ℕ) → i < length ns → are_stored stored d word ns ≡ true → last_stored stored d (word + i) None ≡ Some (slice_index ns i)
@@ -217,7 +218,7 @@ module _ (m : Meaning) (l : Layout) (w : EpochState) (s : Sight) (old : IsJoined
   -- the section is published
   module _ (few : d < (counts_of m l).descriptors) (free : has (s.part r).descriptors.free d ≡ true) (prepared : is_prepared (s.part r).descriptors.stored d t ≡ true) (unpublished : (s.part r).published ≡ None) where
     abbrev mine : Published
-    mine = record { descriptor = d; walked = length p.reads.walk; over = false }
+    mine = published_by t d p
 
     abbrev holding : PartState
     holding = record p { published = Some mine; descriptors = lists.descriptor_taken p.descriptors d; reads = lists.section_published (lists.cell_read p.reads t.lock found) d; records = records }
@@ -344,7 +345,7 @@ module _ (m : Meaning) (l : Layout) (w : EpochState) (s : Sight) (old : IsJoined
 
       won : ℕ → PartState
       won found = record now {
-        published = Some (record { descriptor = d; walked = length now.reads.walk; over = false });
+        published = Some (published_by t d now);
         descriptors = lists.descriptor_taken now.descriptors d;
         reads = lists.section_published (lists.cell_read now.reads t.lock found) d;
       }

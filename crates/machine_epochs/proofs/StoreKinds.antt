@@ -1,6 +1,6 @@
--- Private stores into the words of own free descriptors.
-use Rattle.std.specs.Prelude.{◌==◌, ◌&&◌, cond, Bool, true, false, nat_lt}
-use Rattle.std.proofs.Common.{◌≡◌, ◌≢◌, ℕ, ◌-◌, ◌<◌, ◌≤◌, List, [], ◌∷◌, ◌++◌, refl, sym, ap, ◌∙◌, subst, arith, Option, Some, None}
+-- Private stores into the words of own free descriptors, and private loads of these.
+use Rattle.std.specs.Prelude.{◌==◌, ◌&&◌, cond, if◌then◌else◌, Bool, true, false, nat_lt}
+use Rattle.std.proofs.Common.{◌≡◌, ◌≢◌, ℕ, ◌-◌, ◌<◌, ◌≤◌, List, [], ◌∷◌, ◌++◌, refl, sym, ap, ◌∙◌, subst, ⊎_elim, arith, Option, Some, None}
 use Rattle.std.proofs.lemmas.Bool.Decides.{nat_tests}
 use Rattle.map_history.specs.declared.op.Request.{Request}
 use Rattle.section_body.specs.declared.thunk.Thunk.{Thunk}
@@ -16,8 +16,8 @@ use Rattle.runner_parts.specs.declared.event.EventKind.TheVariants as kinds
 use Rattle.runner_parts.specs.declared.entries.Stored.{Stored}
 use Rattle.runner_parts.specs.State.{PartState, RecordsState}
 use Rattle.runner_parts.specs.Tests.{has, last_stored}
-use Rattle.runner_parts.specs.Lists.{descriptor_stored}
-use Rattle.runner_steps.specs.Outside.{descriptor_spot, private_store_ask}
+use Rattle.runner_parts.specs.Lists.{nodes_looked, descriptor_stored}
+use Rattle.runner_steps.specs.Outside.{descriptor_spot, private_load_ask, private_store_ask}
 use Rattle.runner_steps.specs.Asks.{sizes_for}
 use Rattle.epoch_core.specs.declared.location.Location.TheVariants.{Free}
 use Rattle.epoch_core.specs.Update.{upd2}
@@ -33,11 +33,11 @@ use Rattle.machine_epochs.specs.Entries.{counts_of}
 use Rattle.machine_epochs.specs.Roles.{role_at}
 use Rattle.machine_epochs.specs.Slots.{lists_of, thunk_in, ShowsEntries}
 use Rattle.machine_epochs.specs.Joined.{IsTied, IsJoinedToEpochs}
-use Rattle.machine_epochs.specs.Chunks.{stored}
+use Rattle.machine_epochs.specs.Chunks.{looked, stored}
 use Rattle.machine_epochs.proofs.OutsideAsked as asked
 use Rattle.machine_epochs.proofs.Places.{free_descriptor, held_unfree}
-use Rattle.machine_epochs.proofs.Joining.{thunk_same, IsElsewhere, Goes, GoesBy, next, as_published, once, stages_stay, goes_with}
-use Rattle.machine_epochs.proofs.OutsideKinds.{Leads}
+use Rattle.machine_epochs.proofs.Joining.{but_load, thunk_same, IsElsewhere, Goes, GoesBy, next, as_published, once, stages_stay, goes_with}
+use Rattle.machine_epochs.proofs.OutsideKinds.{Leads, node_load, unlooked}
 
 hits : (a b : Bool) (v x : ℕ) → cond a (cond b v x) x ≡ cond (a && b) v x
 hits true b v x = refl
@@ -214,6 +214,15 @@ module _ (m : Meaning) (l : Layout) (w : EpochState) (s : Sight) (old : IsJoined
   pub stores_there : (rs : List Request) → Fits (sizes_for m l rs) (descriptor_spot d word) → GoesBy m l (λ es. es ≡ stored r d word number) w (next m l w s old r (put s.word (descriptor_spot d word) number) p')
   stores_there rs fits = store_by (nat_lt word 12) (word == 12) (sizes_for m l rs) (λ d' j. put_spot s.word d word number d' j) fits
 
+  -- what is found there is known as what was stored there
+  pub loads_there : number ≡ s.word (descriptor_spot d word) → Goes m l [] w (next m l w s old r (put s.word (descriptor_spot d word) (s.word (descriptor_spot d word))) p')
+  loads_there found =
+      let a = descriptor_spot d word in
+      let same = but_load s.word a in
+      stores (put s.word a (s.word a))
+      (λ d' j. subst (λ n. put s.word a n (descriptor_spot d' j) ≡ cond (d' == d && j == word) number (s.word (descriptor_spot d' j))) found (put_spot s.word d word number d' j))
+      (λ d' j ne. same.thunk d' j) same.epoch same.announced [] tt w.log refl refl (λ d' k. old.log d' k ∙ sym (same.log d' k)) (λ d' k high. same.log d' k ∙ old.past d' k high)
+
 fits_few : (sizes : Sizes) (d word : ℕ) (b b' : Bool) → Fits sizes (spot_by b b' d word) → d < sizes.descriptors
 fits_few sizes d word true b' h = h.0
 fits_few sizes d word false true h = h
@@ -228,3 +237,20 @@ module _ (m : Meaning) (l : Layout) (w : EpochState) (s : Sight) (old : IsJoined
       let there : Fits (sizes_for m l rs) (descriptor_spot d word) = subst (λ (y : Spot × Access). Fits (sizes_for m l rs) y.0) (sym h.1) fits in
       subst (Leads m l w s old r none (kinds.PrivateStore slot word number) records) h.1
       (stores_there m l w s old r none d word number (fits_few (sizes_for m l rs) d word (nat_lt word 12) (word == 12) there) h.0 records rs there)
+
+  -- a private load of a cell of a node slot, or of a word of an own free descriptor
+  pub private_load : (rs : List Request) (records : RecordsState) (slot word : ℕ) (x : Spot × Access) → Fits (sizes_for m l rs) x.0
+      → private_load_ask m l slot word (s.part r) ≡ Some x → Leads m l w s old r none (kinds.PrivateLoad slot word) records x
+  private_load rs records slot word x fits e = ⊎_elim
+      (λ node. subst (Leads m l w s old r none (kinds.PrivateLoad slot word) records) node.2 (node_load m l w s old r none records slot word node.1 node.0))
+      (λ own.
+      let d = slot - slot_count l m.fixed_slots in
+      let a = descriptor_spot d word in
+      let there : Fits (sizes_for m l rs) a = subst (λ (y : Spot × Access). Fits (sizes_for m l rs) y.0) (sym own.2) fits in
+      let few = fits_few (sizes_for m l rs) d word (nat_lt word 12) (word == 12) there in
+      let p = s.part r in
+      subst (Leads m l w s old r none (kinds.PrivateLoad slot word) records) own.2
+      (subst (λ (b : Bool). GoesBy m l (λ es. es ≡ looked l r p.nodes slot word (s.word a)) w (next m l w s old r (put s.word a (s.word a))
+      (record (if b then record p { nodes = nodes_looked l p.nodes slot word (s.word a) } else record p { descriptors = descriptor_stored p.descriptors d word (s.word a) }) { records = records })))
+      (sym own.0) ([], unlooked m l w s old r none slot word (s.word a) own.0, loads_there m l w s old r none d word (s.word a) few own.1 records refl)))
+      (asked.private_load_cases m l slot word (s.part r) x e)

@@ -18,7 +18,7 @@ use Rattle.machine_states.specs.Sight.{Sight, sight, Steps}
 use Rattle.machine_states.specs.Sight as states
 use Rattle.machine_states.proofs.FirstSights as firsts
 use Rattle.machine_states.proofs.FirstSights.{first_parts}
-use Rattle.runner_parts.specs.State.{FinishedState, PartState}
+use Rattle.runner_parts.specs.State.{PartState}
 use Rattle.section_body.specs.Shape.{IsShaped}
 use Rattle.section_body.specs.declared.thunk.Thunk.{Thunk}
 use Rattle.machine_states.proofs.Sights.{some_none, happens_steps}
@@ -45,16 +45,20 @@ use Rattle.machine_facts.proofs.Locks.{locks_stand}
 use Rattle.machine_facts.proofs.Takes.{takes_held}
 use Rattle.machine_facts.proofs.Outcomes.{OutcomesKept, outcomes_kept}
 use Rattle.machine_facts.proofs.Agreeing.{outcomes_agree}
-use Rattle.machine_facts.proofs.Once.{last_facts, each_once}
+use Rattle.machine_facts.specs.Known.{KnownStand}
+use Rattle.machine_facts.proofs.Known.{known_stand}
+use Rattle.machine_facts.proofs.Once.{each_once}
 
 module _ (m : Meaning) (laws : Laws m) (l : Layout) (limits : IsWithinLimits l) (rs : List Request) (allowed : AreAllowed rs) where
   -- a state that meets the whole invariant, beside components whose histories say what happened
   record Stands (s : Sight) (g : Beside) (changes : agreement_history.History) (wins : epoch_history.History) : Type 0 where
     pub whole : IsWhole m l g s
+    pub requests : g.publications.requests ≡ rs
     pub exact : AreExact m l (with_histories g changes wins)
     pub alike : NumberAlike (with_histories g changes wins)
     pub fixed : (t : ℕ) → t < m.fixed_slots → g.epochs.location t ≡ Fixed
     pub outcomes : OutcomesKept m l g.agreement s
+    pub known : KnownStand s
 
   sound_of : (s : Sight) (g : Beside) (changes : agreement_history.History) (wins : epoch_history.History) → Stands s g changes wins
       → StateIsSound m l s (with_histories g changes wins)
@@ -72,6 +76,8 @@ module _ (m : Meaning) (laws : Laws m) (l : Layout) (limits : IsWithinLimits l) 
     numbers = stands.alike;
     takes = takes_held m l g s stands.whole (sound_of s g changes wins stands).slots.in_held;
     outcomes = outcomes_agree m l s (with_histories g changes wins) (sound_of s g changes wins stands) (shaped s g stands.whole) stands.outcomes;
+    known = stands.known;
+    stored = λ r d i number free last. (stands.whole.slots.tied r).stored d i number free last;
     fixed = stands.fixed;
     done_most = λ d used. subst (λ n. n ≤ 1) ((stands.whole.sections.sections d).done) (stands.whole.sections.sound.sections d used).done_most;
   }
@@ -93,7 +99,7 @@ module _ (m : Meaning) (laws : Laws m) (l : Layout) (limits : IsWithinLimits l) 
     k = with_histories g changes wins
 
     one : StepsWhole m l rs g (sight m l rs w) (sight m l rs v) e.runner e.kind
-    one = step_whole m laws l limits rs allowed.few allowed.each g (sight m l rs w) (sight m l rs v) e.runner e.kind stands.whole step
+    one = step_whole m laws l limits rs allowed.in_order.few allowed.each g (sight m l rs w) (sight m l rs v) e.runner e.kind stands.whole stands.requests step
 
     abbrev j : Components
     j = components_after m l k one.es one.vs
@@ -117,11 +123,13 @@ module _ (m : Meaning) (laws : Laws m) (l : Layout) (limits : IsWithinLimits l) 
     stands_after : Stands (sight m l rs v) beside j.changes j.wins
     stands_after = record {
       whole = one.whole;
+      requests = one.requests ∙ stands.requests;
       exact = exact_next;
       alike = still_alike m l rs k (sight m l rs w) stands.whole.sections stands.exact stands.alike e.runner e.kind one.es one.vs (one.events changes wins);
       fixed = λ t low. moved.fixed t (stands.fixed t low);
       outcomes = outcomes_kept m l rs k (sight m l rs w) (sight m l rs v) (sound_of (sight m l rs w) g changes wins stands) stands.exact stands.alike
           e.runner e.kind step one.es one.vs (one.events changes wins) sound_next words stands.outcomes;
+      known = known_stand m l rs (sight m l rs w) (sight m l rs v) e.runner e.kind step k.agreement.used words stands.known;
     }
 
     leads : Leads m l rs w k e v j
@@ -168,28 +176,36 @@ module _ (m : Meaning) (laws : Laws m) (l : Layout) (limits : IsWithinLimits l) 
         go = (facts_of (sight m l rs w) g changes wins stands, u, after, leads w u e g changes wins stands goes step.0, more.go);
       }) done
 
-  -- at first no run came to its end
+  -- at first no run came to its end, and no runner knows a stamp or a reply
   none_kept : (w : World) (first : IsFirst m l rs w) (r : ℕ) → ((sight m l rs w).part r).records.finished ≡ []
   none_kept w first r = subst (λ (p : PartState). p.records.finished ≡ []) (sym (first_parts m l w.parts first.parts r))
       (each_part m l (λ p. p.records.finished ≡ []) refl (λ n. refl) refl r)
 
-  not_kept : (w : World) (first : IsFirst m l rs w) (r i : ℕ) (f : FinishedState) → slice_get ((sight m l rs w).part r).records.finished i ≡ Some f
-      → {A : Type 0} → A
-  not_kept w first r i f at = none (ap (λ xs. slice_get xs i) (sym (none_kept w first r)) ∙ at)
+  none_known : (w : World) (first : IsFirst m l rs w) (r : ℕ) → ((sight m l rs w).part r).records.known ≡ []
+  none_known w first r = subst (λ (p : PartState). p.records.known ≡ []) (sym (first_parts m l w.parts first.parts r))
+      (each_part m l (λ p. p.records.known ≡ []) refl (λ n. refl) refl r)
+
+  no_entry : {B A : Type 0} (xs : List B) (i : ℕ) (x : B) → xs ≡ [] → slice_get xs i ≡ Some x → A
+  no_entry xs i x none at = absurd (nothing (ap (λ ys. slice_get ys i) (sym none) ∙ at))
     where
-      none : {A : Type 0} → slice_get [] i ≡ Some f → A
-      none e = absurd (let no : ⊥ = cc in no)
+      nothing : slice_get [] i ≡ Some x → ⊥
+      nothing e = cc
 
   first_stands : (w : World) (first : IsFirst m l rs w)
       → Stands (sight m l rs w) (first_beside m laws l limits rs w first) agreement_history.no_history epoch_history.no_history
   first_stands w first = record {
     whole = first_whole m laws l limits rs w first;
+    requests = refl;
     exact = exact_begins m l laws.first limits rs w first;
     alike = record { published = refl; section = λ d. refl };
     fixed = at_fixed m l;
     outcomes = record {
-      ended = λ r d f used x. not_kept w first r x.at f x.kept;
-      equal = λ r r' i i' f f' at at' lock word. not_kept w first r i f at;
+      ended = λ r d f used x. no_entry _ x.at f (none_kept w first r) x.kept;
+      equal = λ r r' i i' f f' at at' lock word. no_entry _ i f (none_kept w first r) at;
+    };
+    known = record {
+      some = λ r i x at. no_entry _ i x (none_known w first r) at;
+      stands = λ r i x at. no_entry _ i x (none_known w first r) at;
     };
   }
 

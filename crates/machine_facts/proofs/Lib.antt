@@ -8,5 +8,6 @@ pub mod Takes
 pub mod Records
 pub mod Outcomes
 pub mod Agreeing
+pub mod Known
 pub mod Once
 pub mod Following

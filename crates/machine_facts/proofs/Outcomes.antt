@@ -125,7 +125,7 @@ module _ (m : Meaning) (l : Layout) (rs : List Request) (k : Components) (s s' :
       (by_part (λ xs. slice_get xs i ≡ Some f) r1 at)
     where
       noted : part1.records.finished ≡ (stepped m l kind (s.part r) (s.word step.ask.0)).records.finished
-      noted = noted_finished l r kind step.ask.0 _ (stepped m l kind (s.part r) (s.word step.ask.0)).records
+      noted = noted_finished l r kind step.ask.0 step.ask.1 (s.word step.ask.0) (stepped m l kind (s.part r) (s.word step.ask.0)).records
 
       by_step : r1 ≡ r → slice_get part1.records.finished i ≡ Some f → (slice_get (s.part r1).records.finished i ≡ Some f) ⊎ IsNew r1 f
       by_step own at1 = ⊎_elim

@@ -19,6 +19,7 @@ use Rattle.runner_steps.specs.Outside.{last_epoch}
 use Rattle.runner_steps.specs.AfterInRun as inside
 use Rattle.runner_steps.specs.AfterOutside as outside
 use Rattle.runner_steps.specs.After.{outside_after, line_after, inside_after, after_by, stepped}
+use Rattle.table_words.specs.Places.{slot_count}
 
 -- the runs that came to their end are the same
 abbrev pub Same : PartState → PartState → Type 0
@@ -55,17 +56,10 @@ module _ (m : Meaning) (l : Layout) where
   outside_same kinds.Advance p found = advance_same p p.stage
   outside_same kinds.Split p found = if_same (nat_lt p.records.splits l.runners) p _ _ refl refl
   outside_same (kinds.LoadEntry request reply) p found = learned_same p.records request reply found
+  outside_same (kinds.PrivateLoad slot word) p found = if_same (nat_lt slot (slot_count l m.fixed_slots)) p _ _ refl refl
   outside_same (kinds.Hold thunk d) p found = if_same (found == thunk.word) p _ _ refl refl
   outside_same kinds.EpochForRetire p found = retire_same p p.published found
-  outside_same kinds.EnterLoad p found = refl
-  outside_same kinds.Announce p found = refl
-  outside_same kinds.EnterAgain p found = refl
-  outside_same kinds.Idle p found = refl
-  outside_same kinds.ScanEpoch p found = refl
-  outside_same (kinds.Join worker) p found = refl
   outside_same (kinds.LoadCell (Some place)) p found = refl
-  outside_same (kinds.PrivateLoad slot word) p found = refl
-  outside_same (kinds.PrivateStore slot word number) p found = refl
   outside_same (kinds.LoadThunk (Some d)) p found = refl
   outside_same _ p found = refl
 
@@ -111,18 +105,6 @@ module _ (m : Meaning) (l : Layout) where
         (λ x. inr (record { release = refl; open_run = opened; over = x.0; more = x.1 }))
         (λ same. inl same)
         (released_same (record p { reads = cell_read p.reads (inside.place_of micro) found }) (inside.ended_more q))
-    line_same (kinds.LoadCell place) micro opened = inl refl
-    line_same kinds.ExchangeCell micro opened = inl refl
-    line_same (kinds.PrivateStore slot word number) micro opened = inl refl
-    line_same kinds.RetireCommit micro opened = inl refl
-    line_same kinds.EpochForRetire micro opened = inl refl
-    line_same kinds.SetDone micro opened = inl refl
-    line_same kinds.ClockLoad micro opened = inl refl
-    line_same kinds.ClockRaise micro opened = inl refl
-    line_same kinds.NestedLoad micro opened = inl refl
-    line_same kinds.NestedHold micro opened = inl refl
-    line_same kinds.OutcomeLoad micro opened = inl refl
-    line_same kinds.OutcomeCommit micro opened = inl refl
     line_same _ micro opened = inl refl
 
     inside_same : (kind : EventKind) → Same p (inside_after m l kind p q found) ⊎ Ends p q kind (inside_after m l kind p q found)

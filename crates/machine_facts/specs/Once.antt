@@ -22,18 +22,25 @@ pub record IsSection (k : Components) (d n : ℕ) : Type 0 where
   pub number : k.changes.section d ≡ n
 
 module _ (m : Meaning) (a : AgreementState) (s : Sight) where
-  -- the effects of the section with this number, which this descriptor has in this state, in these histories
+  -- the effects of the section with this number, which this descriptor has in this state, in these
+  -- histories
   pub record EffectsAreOnce (d n : ℕ) (k : Components) : Type 0 where
     -- a section that is done has answered or left
     pub over : s.word (DoneWord d) ≢ 0 → IsAnswered m a s d ⊎ IsLeft m a s d
-    -- where it answered, each Store moved its cell in one event, from the agreed word to the new one
-    pub stored : (i place log : ℕ) (value : Source) → IsAnswered m a s d → step_at m a s d i ≡ ExchangeCell place log value
-        → k.changes.moved n i ≡ record { place = place; old = log_of m a s d log; new = stored_word (log_of m a s d) log value } ∷ []
+    -- where it answered, each Store moved its cell in one event, from the agreed word to the new
+    -- one
+    pub stored : (i place log : ℕ) (value : Source) → IsAnswered m a s d
+        → step_at m a s d i ≡ ExchangeCell place log value
+        → k.changes.moved n i
+        ≡ record { place = place; old = log_of m a s d log; new = stored_word (log_of m a s d) log value } ∷ []
     -- its request's stamp and reply were each written by one event
-    pub stamped : IsAnswered m a s d → k.changes.stamps (thunk_at m a s d).request ≡ s.word (Stamp (thunk_at m a s d).request) ∷ []
-    pub replied : IsAnswered m a s d → k.changes.replies (thunk_at m a s d).request ≡ s.word (Reply (thunk_at m a s d).request) ∷ []
+    pub stamped : IsAnswered m a s d
+        → k.changes.stamps (thunk_at m a s d).request ≡ s.word (Stamp (thunk_at m a s d).request) ∷ []
+    pub replied : IsAnswered m a s d
+        → k.changes.replies (thunk_at m a s d).request ≡ s.word (Reply (thunk_at m a s d).request) ∷ []
     -- each Make was won by one commit, with the agreed slot, and each Retire by one, with one epoch
-    pub made : (i log : ℕ) → IsAnswered m a s d → step_at m a s d i ≡ MakeCommit log → k.wins.made n log ≡ (log_of m a s d log - 1) ∷ []
+    pub made : (i log : ℕ) → IsAnswered m a s d → step_at m a s d i ≡ MakeCommit log
+        → k.wins.made n log ≡ (log_of m a s d log - 1) ∷ []
     pub retired : (i slot log : ℕ) → IsAnswered m a s d → step_at m a s d i ≡ RetireCommit slot log
         → (epoch : ℕ) × (k.wins.retired n log ≡ epoch ∷ [])
     -- where it left, it had none of these effects
@@ -49,24 +56,25 @@ module _ (m : Meaning) (a : AgreementState) (s : Sight) where
     pub made_once : (log : ℕ) → length (k.wins.made n log) ≤ 1
     pub retired_once : (log : ℕ) → length (k.wins.retired n log) ≤ 1
 
-module _ (m : Meaning) (l : Layout) (requests : List Request) (w : World) (k : Components) (events : List Event) (w' : World) (k' : Components)
-  where
-    -- the last state that the events pass in which the section with this number is in its descriptor: the one to which they lead, or the one
-    -- before the event that frees the descriptor, and there it is done
-    pub record LastState (n : ℕ) : Type 0 where
-      pub front : List Event
-      pub back : List Event
-      pub whole : events ≡ front ++ back
-      pub world : World
-      pub components : Components
-      pub before : GoSoundly m l requests w k front world components
-      pub after : GoSoundly m l requests world components back w' k'
-      pub descriptor : ℕ
-      pub is : IsSection components descriptor n
-      pub last : (back ≡ []) ⊎ ((sight m l requests world).word (DoneWord descriptor) ≢ 0)
-      -- what the histories say of it at the end
-      pub effects : EffectsAreOnce m components.agreement (sight m l requests world) descriptor n k'
+module _ (m : Meaning) (l : Layout) (requests : List Request) (w : World) (k : Components)
+    (events : List Event) (w' : World) (k' : Components) where
+  -- the last state that the events pass in which the section with this number is in its
+  -- descriptor: the one to which they lead, or the one before the event that frees the
+  -- descriptor, and there it is done
+  pub record LastState (n : ℕ) : Type 0 where
+    pub front : List Event
+    pub back : List Event
+    pub whole : events ≡ front ++ back
+    pub world : World
+    pub components : Components
+    pub before : GoSoundly m l requests w k front world components
+    pub after : GoSoundly m l requests world components back w' k'
+    pub descriptor : ℕ
+    pub is : IsSection components descriptor n
+    pub last : (back ≡ []) ⊎ ((sight m l requests world).word (DoneWord descriptor) ≢ 0)
+    -- what the histories say of it at the end
+    pub effects : EffectsAreOnce m components.agreement (sight m l requests world) descriptor n k'
 
-    -- so it is for each section that was published
-    abbrev pub EachSectionOnce : Type 0
-    EachSectionOnce = (n : ℕ) → 1 ≤ n → n ≤ k'.changes.published → LastState n
+  -- so it is for each section that was published
+  abbrev pub EachSectionOnce : Type 0
+  EachSectionOnce = (n : ℕ) → 1 ≤ n → n ≤ k'.changes.published → LastState n

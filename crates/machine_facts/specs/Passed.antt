@@ -15,7 +15,8 @@ use Rattle.machine_facts.specs.Steps.{WordsStand, LocksStand}
 use Rattle.machine_facts.specs.States.{FactsStand}
 
 module _ (m : Meaning) (l : Layout) (requests : List Request) where
-  -- an event leads from the one state to the other; the components go along by exactly the events of its kind
+  -- an event leads from the one state to the other; the components go along by exactly the events
+  -- of its kind
   pub record Leads (w : World) (k : Components) (e : Event) (v : World) (j : Components) : Type 0 where
     pub happens : happens m l requests w e ≡ Some v
     pub sections : List agreement.Event
@@ -24,11 +25,13 @@ module _ (m : Meaning) (l : Layout) (requests : List Request) where
     pub next : j ≡ components_after m l k sections slots
     -- the words that stand
     pub words : WordsStand k.agreement.used (sight m l requests w).word (sight m l requests v).word
-    pub locks : LocksStand m ((sight m l requests w).part e.runner) e.kind (sight m l requests w).word (sight m l requests v).word
+    pub locks : LocksStand m ((sight m l requests w).part e.runner) e.kind
+        (sight m l requests w).word (sight m l requests v).word
     -- where the node slots go, and which commits win
     pub moves : SlotsMove (counts_of m l) k.epochs j.epochs k.wins j.wins
 
-  -- these events lead from the one state to the other, and all facts hold of each state that they pass
+  -- these events lead from the one state to the other, and all facts hold of each state that they
+  -- pass
   abbrev pub GoSoundly : World → Components → List Event → World → Components → Type 0
   GoSoundly w k [] w' k' = (w' ≡ w) × (k' ≡ k) × FactsStand m l (sight m l requests w) k
   GoSoundly w k (e ∷ events) w' k' = FactsStand m l (sight m l requests w) k

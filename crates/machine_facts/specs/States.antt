@@ -1,14 +1,18 @@
--- What is known of a state of the machine that its events reach, beside states and histories of the components.
-use Rattle.std.specs.Prelude.{◌≡◌, ℕ, ◌<◌, ◌≤◌, true}
+-- What is known of a state of the machine that its events reach, beside states and histories of the
+-- components.
+use Rattle.std.specs.Prelude.{◌≡◌, ℕ, ◌<◌, ◌≤◌, true, Some, None}
 use Rattle.table_words.specs.declared.layout.Layout.{Layout}
 use Rattle.table_words.specs.declared.spot.Spot.TheVariants.{DoneWord}
 use Rattle.structure_laws.specs.Meaning.{Meaning}
+use Rattle.runner_parts.specs.Tests.{has, last_stored}
+use Rattle.runner_steps.specs.Outside.{descriptor_spot}
 use Rattle.epoch_core.specs.declared.location.Location.TheVariants.{Fixed}
 use Rattle.machine_states.specs.Sight.{Sight}
 use Rattle.machine_invariant.specs.Along.{Components, AreExact}
 use Rattle.machine_invariant.specs.States.{StateIsSound}
 use Rattle.machine_facts.specs.Takes.{TakesAreHeld}
 use Rattle.machine_facts.specs.Outcomes.{OutcomesAgree}
+use Rattle.machine_facts.specs.Known.{KnownStand}
 
 -- both histories give one number to one section
 pub record NumberAlike (k : Components) : Type 0 where
@@ -24,6 +28,13 @@ pub record FactsStand (m : Meaning) (l : Layout) (s : Sight) (k : Components) : 
   pub takes : TakesAreHeld m l k.agreement k.epochs.holds s
   -- what is kept of runs that came to their end is what the plain run of the section's body gives
   pub outcomes : OutcomesAgree m l k.agreement s
+  -- what runners know of stamp and reply words stands
+  pub known : KnownStand s
+  -- what a runner stored last into a word of an own free descriptor, since that came into its free
+  -- list, stands there
+  pub stored : (r d i number : ℕ) → has (s.part r).descriptors.free d ≡ true
+      → last_stored (s.part r).descriptors.stored d i None ≡ Some number
+      → s.word (descriptor_spot d i) ≡ number
   -- the structure's fixed slots are fixed, so they stand in nobody's lists
   pub fixed : (t : ℕ) → t < m.fixed_slots → k.epochs.location t ≡ Fixed
   -- the done word of a section is 0 or 1 until its descriptor is free again

@@ -1,4 +1,5 @@
--- The descriptors that locks of Takes name are held by the publishers of the sections that take them.
+-- The descriptors that locks of Takes name are held by the publishers of the sections that take
+-- them.
 use Rattle.std.specs.Prelude.{◌≡◌, ℕ, suc, ◌+◌, ◌<◌, Bool, true, length, Some}
 use Rattle.section_body.specs.Line.{micro_at}
 use Rattle.section_body.specs.Word.{value_of}
@@ -25,7 +26,8 @@ module _ (m : Meaning) (a : AgreementState) (s : Sight) where
     pub commits : IsLockCommit (step_at m a s d at) log
     pub names : value_of (log_of m a s d log) ≡ suc named
 
-  -- a run of this section has loaded a word for a Take that names a descriptor, and hasn't committed it
+  -- a run of this section has loaded a word for a Take that names a descriptor, and hasn't
+  -- committed it
   pub record LoadedName (d named : ℕ) : Type 0 where
     pub runner : ℕ
     pub run : RunState
@@ -37,14 +39,20 @@ module _ (m : Meaning) (a : AgreementState) (s : Sight) where
     pub names : value_of run.word ≡ suc named
 
 -- `holds` says which runner holds which slot
-pub record TakesAreHeld (m : Meaning) (l : Layout) (a : AgreementState) (holds : ℕ → ℕ → Bool) (s : Sight) : Type 0 where
-  -- an entered runner that published the section in this entry holds the descriptor, whoever committed or loaded the word
-  pub agreed : (r g d named : ℕ) → (s.part r).stage ≡ Entered g → has (s.part r).reads.published d ≡ true → AgreedName m a s d named
+pub record TakesAreHeld (m : Meaning) (l : Layout) (a : AgreementState) (holds : ℕ → ℕ → Bool)
+    (s : Sight) : Type 0 where
+  -- an entered runner that published the section in this entry holds the descriptor, whoever
+  -- committed or loaded the word
+  pub agreed : (r g d named : ℕ) → (s.part r).stage ≡ Entered g
+      → has (s.part r).reads.published d ≡ true → AgreedName m a s d named
       → holds r (node_count m l + named) ≡ true
-  pub loaded : (r g d named : ℕ) → (s.part r).stage ≡ Entered g → has (s.part r).reads.published d ≡ true → LoadedName m a s d named
+  pub loaded : (r g d named : ℕ) → (s.part r).stage ≡ Entered g
+      → has (s.part r).reads.published d ≡ true → LoadedName m a s d named
       → holds r (node_count m l + named) ≡ true
   -- so it is in nobody's free list
-  pub agreed_unfree : (r r' g d named : ℕ) → (s.part r).stage ≡ Entered g → has (s.part r).reads.published d ≡ true → AgreedName m a s d named
+  pub agreed_unfree : (r r' g d named : ℕ) → (s.part r).stage ≡ Entered g
+      → has (s.part r).reads.published d ≡ true → AgreedName m a s d named
       → named < descriptor_count l → times named (s.part r').descriptors.free ≡ 0
-  pub loaded_unfree : (r r' g d named : ℕ) → (s.part r).stage ≡ Entered g → has (s.part r).reads.published d ≡ true → LoadedName m a s d named
+  pub loaded_unfree : (r r' g d named : ℕ) → (s.part r).stage ≡ Entered g
+      → has (s.part r).reads.published d ≡ true → LoadedName m a s d named
       → named < descriptor_count l → times named (s.part r').descriptors.free ≡ 0

@@ -8,17 +8,21 @@ ghost use Rattle.machine_facts.specs.After.{FactsAfter, StepFactsAfter};
 
 use runner_parts::Structure;
 
-/// Over every structure, after every list of events of the machine, each enabled where it is made: all facts hold of each state that
-/// the events pass, and of each step; and each section that was published had its effects once, for good, or none.
+/// Over every structure, after every list of events of the machine, each enabled where it is made:
+/// all facts hold of each state that the events pass, and of each step; and each section that was
+/// published had its effects once, for good, or none.
 pub fn reached_states_show_facts<S: Structure>(structure: &S)
-    ensures { (layout : Layout) (requests : List Request) (events : List Event) (w : World) → FactsAfter (S.meaning structure.now) layout requests events w }
+    ensures { (layout : Layout) (requests : List Request) (events : List Event) (w : World)
+        → FactsAfter (S.meaning structure.now) layout requests events w }
 {
     let _ = structure;
 }
 
-/// In each state that the machine reaches, all facts hold of each step that an enabled event makes, and of the state behind it.
+/// In each state that the machine reaches, all facts hold of each step that an enabled event makes,
+/// and of the state behind it.
 pub fn steps_show_facts<S: Structure>(structure: &S)
-    ensures { (layout : Layout) (requests : List Request) (events : List Event) (w : World) → StepFactsAfter (S.meaning structure.now) layout requests events w }
+    ensures { (layout : Layout) (requests : List Request) (events : List Event) (w : World)
+        → StepFactsAfter (S.meaning structure.now) layout requests events w }
 {
     let _ = structure;
 }

@@ -36,10 +36,10 @@ module _ (m : Meaning) (laws : Laws m) (l : Layout) (limits : IsWithinLimits l) 
       → Follows m l requests after.start (begun after.start after.first) events w
   followed allowed events w after =
       follows m l requests
-      (λ g s s' r kind whole step. step_whole m laws l limits requests allowed.few allowed.each g s s' r kind whole step)
+      (λ g s s' r kind whole of step. step_whole m laws l limits requests allowed.in_order.few allowed.each g s s' r kind whole of step)
       events after.start w (first_beside m laws l limits requests after.start after.first)
       agreement_history.no_history epoch_history.no_history (firsts.first_whole m l requests after.start after.first)
-      (first_whole m laws l limits requests after.start after.first) after.runs
+      (first_whole m laws l limits requests after.start after.first) refl after.runs
 
 -- each state that the machine reaches meets the whole invariant, beside some states of the components
 pub reached_whole : (m : Meaning) → Laws m → (l : Layout) (requests : List Request) (events : List Event) (w : World) → IsWithinLimits l

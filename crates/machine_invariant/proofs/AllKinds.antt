@@ -43,7 +43,7 @@ is_read (kinds.LoadCell (Some place)) = true
 is_read _ = false
 
 module _ (m : Meaning) (laws : Laws m) (l : Layout) (limits : IsWithinLimits l) (rs : List Request) (few : length rs ≤ 131072)
-    (allowed : All (λ (q : Request). IsAllowed q.op) rs) (g : Beside) (s : Sight) (whole : IsWhole m l g s) (r : ℕ) (some : r ≤ l.runners)
+    (allowed : All (λ (q : Request). IsAllowed q.op) rs) (g : Beside) (s : Sight) (whole : IsWhole m l g s) (of : g.publications.requests ≡ rs) (r : ℕ) (some : r ≤ l.runners)
     (x : Spot × Access)
     (fits : Fits (sizes_for m l rs) x.0) where
   abbrev p : PartState
@@ -151,7 +151,7 @@ module _ (m : Meaning) (laws : Laws m) (l : Layout) (limits : IsWithinLimits l) 
     outside kinds.Advance asked = direct kinds.Advance asked refl (advance_whole m laws l limits rs few allowed g s whole r x asked none)
     outside (kinds.LoadCell (Some place)) asked = reads_cell place asked
     outside (kinds.Hold t d) asked =
-        direct (kinds.Hold t d) asked refl (hold_whole m laws l limits rs few allowed g s whole r x t d asked none)
+        direct (kinds.Hold t d) asked refl (hold_whole m laws l limits rs few allowed g s whole of r x t d asked none)
     outside kinds.EpochForRetire asked =
         direct kinds.EpochForRetire asked refl (section_retired_whole m laws l limits rs few allowed g s whole r x asked none)
     outside (kinds.Join worker) asked = direct (kinds.Join worker) asked refl (join_whole m laws l limits rs g s whole r x worker asked)
@@ -167,7 +167,8 @@ module _ (m : Meaning) (laws : Laws m) (l : Layout) (limits : IsWithinLimits l) 
 -- each step of the machine keeps the whole invariant
 pub step_whole : (m : Meaning) → Laws m → (l : Layout) → IsWithinLimits l → (rs : List Request) → length rs ≤ 131072
     → All (λ (q : Request). IsAllowed q.op) rs
-    → (g : Beside) (s s' : Sight) (r : ℕ) (kind : EventKind) → IsWhole m l g s → Steps m l rs s s' r kind → StepsWhole m l rs g s s' r kind
-step_whole m laws l limits rs few allowed g s s' r kind whole step =
+    → (g : Beside) (s s' : Sight) (r : ℕ) (kind : EventKind) → IsWhole m l g s → g.publications.requests ≡ rs → Steps m l rs s s' r kind
+    → StepsWhole m l rs g s s' r kind
+step_whole m laws l limits rs few allowed g s s' r kind whole of step =
     subst (λ (t : Sight). StepsWhole m l rs g s t r kind) (sym step.next)
-    (at_once m laws l limits rs few allowed g s whole r step.runner step.ask step.has_word kind step.asked)
+    (at_once m laws l limits rs few allowed g s whole of r step.runner step.ask step.has_word kind step.asked)

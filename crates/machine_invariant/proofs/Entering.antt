@@ -127,7 +127,7 @@ module _ (m : Meaning) (laws : Laws m) (l : Layout) (limits : IsWithinLimits l) 
     enter_again_whole pieces = keeps_by m l g s entered_sight r kinds.EnterAgain x pieces [] (epochs.EnterAgain r ∷ [])
         (outside_heads m l rs g s entered_sight r kinds.EnterAgain x none pieces)
         (outside_events m l rs g s entered_sight r kinds.EnterAgain x none pieces)
-        g.publications enter_again
+        g.publications refl enter_again
 
   -- a runner that leaves has no section that isn't retired
   module _ (asked : asks m l rs r kinds.Idle p ≡ Some x) (none : p.run ≡ None) where
@@ -166,4 +166,4 @@ module _ (m : Meaning) (laws : Laws m) (l : Layout) (limits : IsWithinLimits l) 
     pub idle_whole : (pieces : Pieces m l g s left_sight r kinds.Idle x) → KeepsWhole m l g s left_sight r kinds.Idle x pieces
     idle_whole pieces = keeps_by m l g s left_sight r kinds.Idle x pieces [] (epochs.Exit r ∷ [])
         (outside_heads m l rs g s left_sight r kinds.Idle x none pieces) (outside_events m l rs g s left_sight r kinds.Idle x none pieces)
-        g.publications leave
+        g.publications refl leave

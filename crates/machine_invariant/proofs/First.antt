@@ -40,8 +40,9 @@ use Rattle.machine_invariant.proofs.Basics.{not_both}
 use Rattle.machine_invariant.proofs.Named.{named_first}
 
 -- nothing is published at first
-abbrev pub no_publications : Publications
-no_publications = record {
+abbrev pub no_publications : List Request → Publications
+no_publications rs = record {
+  requests = rs;
   runner = λ d. 0;
   op = λ d. Get 0;
   thunk = λ d. record { form = 0; request = 0; lock = 0; word = 0; operands = [] };
@@ -61,7 +62,7 @@ module _ (m : Meaning) (laws : Laws m) (l : Layout) (limits : IsWithinLimits l) 
   first_beside = record {
     agreement = agreement_schedules.first_state (λ p. s.word (Cell p));
     epochs = epoch_schedules.first_state (first_place m l);
-    publications = no_publications;
+    publications = no_publications rs;
   }
 
   first_cell : (p : ℕ) → s.word (Cell p) ≡ first_word m p
@@ -85,11 +86,11 @@ module _ (m : Meaning) (laws : Laws m) (l : Layout) (limits : IsWithinLimits l) 
       (joins.each_part m l (λ p. p.reads.walk ≡ []) refl (λ k. refl) refl r)
 
   -- the states beside it are the first ones of machine_scenes
-  same_states : scenes.first_states m (first_place m l) no_publications ≡ states_of first_beside s
+  same_states : scenes.first_states m (first_place m l) (no_publications rs) ≡ states_of first_beside s
   same_states = λ i. record {
     agreement = agreement_schedules.first_state (λ p. sym (first_cell p) i);
     epochs = epoch_schedules.first_state (first_place m l);
-    publications = no_publications;
+    publications = no_publications rs;
     walk = λ r. sym (first_walk r) i;
   }
 
@@ -123,12 +124,13 @@ module _ (m : Meaning) (laws : Laws m) (l : Layout) (limits : IsWithinLimits l) 
       within = λ d used. not_both used refl;
       publisher = λ d live. not_both live refl;
       thunk = λ d used. not_both used refl;
+      op = λ d used. not_both used refl;
       mine = λ r d entered. not_both entered refl;
       mine_held = λ r d entered. not_both entered refl;
     };
-    kept = subst (IsKept m l c) same_states (first_kept m laws l limits c refl (first_place m l) first_scene no_publications);
-    held = subst (LocksAreHeld m c) same_states (first_held m c (first_place m l) no_publications);
+    kept = subst (IsKept m l c) same_states (first_kept m laws l limits c refl (first_place m l) first_scene (no_publications rs));
+    held = subst (LocksAreHeld m c) same_states (first_held m c (first_place m l) (no_publications rs));
     filled = subst (λ (j : States). SlotsAreFilled m c j (made_of s)) same_states
-        (first_filled m c (first_place m l) no_publications (made_of s));
+        (first_filled m c (first_place m l) (no_publications rs) (made_of s));
     named = named_first (IsHeldFor m l first_beside.epochs s.part) (λ p. s.word (Cell p));
   }

@@ -1,6 +1,6 @@
 -- The components go along with every list of the machine's events, and the whole invariant with them.
 use Rattle.std.specs.Prelude.{◌++◌, replicate, Bool, Option, Some, None}
-use Rattle.std.proofs.Common.{◌≡◌, ℕ, List, [], ◌∷◌, sym, refl, subst}
+use Rattle.std.proofs.Common.{◌≡◌, ℕ, List, [], ◌∷◌, sym, refl, subst, ◌∙◌}
 use Rattle.map_history.specs.declared.op.Request.{Request}
 use Rattle.table_words.specs.declared.layout.Layout.{Layout}
 use Rattle.structure_laws.specs.Meaning.{Meaning}
@@ -46,6 +46,8 @@ module _ (m : Meaning) (l : Layout) (rs : List Request) where
     pub es : List agreement.Event
     pub vs : List epochs.Event
     pub publications : Publications
+    -- of the same requests
+    pub requests : publications.requests ≡ g.publications.requests
     pub events : (changes : agreement_history.History) (wins : epoch_history.History)
         → AreEventsOf m l rs (with_histories g changes wins) s r kind es vs
     pub whole : IsWhole m l (record {
@@ -68,6 +70,7 @@ module _ (m : Meaning) (l : Layout) (rs : List Request) where
         es = es;
         vs = vs;
         publications = keeps.publications;
+        requests = keeps.requests;
         events = λ changes wins. record {
           ask = step.ask;
           asked = step.asked;
@@ -97,8 +100,9 @@ module _ (m : Meaning) (l : Layout) (rs : List Request) where
     pub wins : epoch_history.History
     pub along : GoAlong m l rs w k es v (with_histories beside changes wins)
     pub whole : IsWhole m l beside (sight m l rs v)
+    pub requests : beside.publications.requests ≡ rs
 
-  module _ (each : (g : Beside) (s s' : Sight) (r : ℕ) (kind : EventKind) → IsWhole m l g s → Steps m l rs s s' r kind
+  module _ (each : (g : Beside) (s s' : Sight) (r : ℕ) (kind : EventKind) → IsWhole m l g s → g.publications.requests ≡ rs → Steps m l rs s s' r kind
       → StepsWhole g s s' r kind) where
     then_follows : (o : Option World) (f : World → Option World) (v : World) {A : Type 0} → ((u : World) → o ≡ Some u → f u ≡ Some v → A)
         → then_run o f ≡ Some v → A
@@ -106,25 +110,27 @@ module _ (m : Meaning) (l : Layout) (rs : List Request) where
     then_follows (Some u) f v goes e = goes u refl e
 
     pub follows : (es : List Event) (w v : World) (g : Beside) (changes : agreement_history.History) (wins : epoch_history.History)
-        → states.IsWhole m l rs w → IsWhole m l g (sight m l rs w) → run m l rs w es ≡ Some v
+        → states.IsWhole m l rs w → IsWhole m l g (sight m l rs w) → g.publications.requests ≡ rs → run m l rs w es ≡ Some v
         → Follows w (with_histories g changes wins) es v
-    follows [] w v g changes wins all whole done = record {
+    follows [] w v g changes wins all whole of done = record {
       beside = g;
       changes = changes;
       wins = wins;
       along = (sym (some_same w v done), refl);
       whole = subst (λ (u : World). IsWhole m l g (sight m l rs u)) (some_same w v done) whole;
+      requests = of;
     }
-    follows (e ∷ es) w v g changes wins all whole done = then_follows (happens m l rs w e) (λ u. run m l rs u es) v (λ u goes rest.
+    follows (e ∷ es) w v g changes wins all whole of done = then_follows (happens m l rs w e) (λ u. run m l rs u es) v (λ u goes rest.
         let step = happens_steps m l rs w u e all goes in
-        let one = each g (sight m l rs w) (sight m l rs u) e.runner e.kind whole step.0 in
+        let one = each g (sight m l rs w) (sight m l rs u) e.runner e.kind whole of step.0 in
         let k = components_after m l (with_histories g changes wins) one.es one.vs in
         let g' : Beside = record { agreement = k.agreement; epochs = k.epochs; publications = one.publications } in
-        let more = follows es u v g' k.changes k.wins step.1 one.whole rest in
+        let more = follows es u v g' k.changes k.wins step.1 one.whole (one.requests ∙ of) rest in
         record {
           beside = more.beside;
           changes = more.changes;
           wins = more.wins;
           along = (u, goes, one.es, one.vs, one.events changes wins, more.along);
           whole = more.whole;
+          requests = more.requests;
         }) done

@@ -199,8 +199,9 @@ module _ (m : Meaning) (l : Layout) (g : Beside) (s s' : Sight) (old : AreTied m
     live = λ n is. place n ∙ ap (collected false r epoch) (old.live n (was_live n is));
     is_live = λ n is. ap (λ (f : ℕ → Bool). f n) live' ∙ old.is_live n (live_was r epoch (was n) (sym (place n) ∙ is));
     within = λ n is. old.within n (was_used n is);
-    publisher = λ n is. quiet.stay.published (g.publications.runner n) n (old.publisher n (was_live n is));
+    publisher = λ n is. quiet.stay.published (g.publications.runner n) n (g.publications.thunk n) (old.publisher n (was_live n is));
     thunk = λ n is. old.thunk n (was_used n is) ∙ sym (thunks n);
+    op = λ n is. old.op n (was_used n is);
     mine = λ i n entered has_it. let h = on.entries i n entered has_it in old.mine i n h.0 h.1;
     mine_held = λ i n entered has_it. let h = on.entries i n entered has_it in on.holds i (slot_of c n) entered (old.mine_held i n h.0 h.1);
   }
@@ -283,10 +284,10 @@ module _ (m : Meaning) (laws : Laws m) (l : Layout) (limits : IsWithinLimits l) 
         let heads = outside_heads m l rs g s scan_sight r scan x none pieces in
         let events = outside_events m l rs g s scan_sight r scan x none pieces in ⊎_elim
         (λ goes. keeps_by m l g s scan_sight r scan x pieces [] (epochs.ScanOne r events.0 n events.1 ∷ [])
-        (heads ∙ ap (λ o. chunks.collected o p) goes.0) goes.1 g.publications (scan_on _ refl refl))
+        (heads ∙ ap (λ o. chunks.collected o p) goes.0) goes.1 g.publications refl (scan_on _ refl refl))
         (λ ends. keeps_by m l g s scan_sight r scan x pieces (chunks.collected (Some events.0) p)
         (epochs.ScanLast r events.0 n events.1 ∷ [])
-        (heads ∙ ap (λ o. chunks.collected o p) ends.0) ends.1 g.publications
+        (heads ∙ ap (λ o. chunks.collected o p) ends.0) ends.1 g.publications refl
         (collect_whole scan_sight (outside_quiet m l s r scan x none refl refl) scan_thunks events.0
         (epochs.ScanLast r events.0 n events.1) refl (λ i. refl)))
         events.3
@@ -303,7 +304,7 @@ module _ (m : Meaning) (laws : Laws m) (l : Layout) (limits : IsWithinLimits l) 
         let events = outside_events m l rs g s advance_sight r kinds.Advance x none pieces in
         keeps_by m l g s advance_sight r kinds.Advance x pieces (chunks.collected (Some (events.0 + 1)) p)
         (epochs.Advance r events.0 events.1 ∷ [])
-        (heads ∙ ap (λ o. chunks.collected o p) events.3) events.4 g.publications
+        (heads ∙ ap (λ o. chunks.collected o p) events.3) events.4 g.publications refl
         (collect_whole advance_sight (outside_quiet m l s r kinds.Advance x none refl refl)
         (thunks_after m l s r kinds.Advance x (outside_leaves m l rs r p x kinds.Advance refl
         (outside_asked m l rs g s advance_sight r kinds.Advance x none asked)))

@@ -148,11 +148,11 @@ module _ (m : Meaning) (laws : Laws m) (l : Layout) (limits : IsWithinLimits l) 
         let stay = stays_read m l s r load x refl q is opened in
         let thunks = thunks_stay m l s r load x refl q is opened rs asked in
         ⊎_elim
-        (λ first. keeps_by m l g s loaded r load x pieces (loads heads.0 ∷ []) (epochs.TakeSlot r slot ∷ []) heads.2 first.1 g.publications
+        (λ first. keeps_by m l g s loaded r load x pieces (loads heads.0 ∷ []) (epochs.TakeSlot r slot ∷ []) heads.2 first.1 g.publications refl
         (λ go. line_whole m laws l limits g s loaded whole stay thunks r (loads heads.0) (epochs.TakeSlot r slot ∷ []) go
         refl (record { used = refl; live = refl }) (refl, tt) refl refl
         (load_stands heads.0 (epochs.TakeSlot r slot ∷ []) go (inl first.0) (refl, tt))))
-        (λ again. keeps_by m l g s loaded r load x pieces (loads heads.0 ∷ []) [] heads.2 again.1 g.publications
+        (λ again. keeps_by m l g s loaded r load x pieces (loads heads.0 ∷ []) [] heads.2 again.1 g.publications refl
         (λ go. line_whole m laws l limits g s loaded whole stay thunks r (loads heads.0) [] go
         refl (record { used = refl; live = refl }) tt refl refl
         (load_stands heads.0 [] go (inr again.0) tt)))
@@ -210,7 +210,7 @@ module _ (m : Meaning) (laws : Laws m) (l : Layout) (limits : IsWithinLimits l) 
         let stay = stays_read m l s r store x refl q is opened in
         let thunks = thunks_stay m l s r store x refl q is opened rs asked in
         keeps_by m l g s stored r store x pieces (stores heads.0 heads.1 ∷ []) [] heads.4
-        (line_events m l r store (s.part r) q is opened (s.word x.0) pieces.events pieces.in_slots) g.publications
+        (line_events m l r store (s.part r) q is opened (s.word x.0) pieces.events pieces.in_slots) g.publications refl
         (λ go. line_whole m laws l limits g s stored whole stay thunks r (stores heads.0 heads.1) [] go
         refl (record { used = refl; live = refl }) tt refl refl
         (store_stands heads.0 heads.1 heads.2 heads.3 go))
@@ -266,7 +266,7 @@ module _ (m : Meaning) (laws : Laws m) (l : Layout) (limits : IsWithinLimits l) 
         ∙ (ap (λ k. epochs.MakeCommit r q.descriptor k events.1 q.worn ∷ []) (one_log events.0 log (next_of m q) events.2 heads.2)
         ∙ (ap (λ t. epochs.MakeCommit r q.descriptor log t q.worn ∷ []) (some_same events.1 slot (sym events.3 ∙ heads.3))
         ∙ ap (λ d. epochs.MakeCommit r d log slot q.worn ∷ []) (sym (run_here m l g.agreement s whole.sections r q is).descriptor))) in
-        keeps_by m l g s committed r kinds.MakeCommit x pieces (commits log slot ∷ []) (takes log slot ∷ []) heads.4 taken g.publications
+        keeps_by m l g s committed r kinds.MakeCommit x pieces (commits log slot ∷ []) (takes log slot ∷ []) heads.4 taken g.publications refl
         (λ go. line_whole m laws l limits g s committed whole stay thunks r (commits log slot) (takes log slot ∷ []) go
         refl (record { used = refl; live = refl }) (refl, tt) refl refl
         (commit_stands log slot heads.3 go))

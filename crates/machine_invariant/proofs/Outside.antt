@@ -41,6 +41,7 @@ use Rattle.machine_invariant.proofs.Chunked.{is_unlocked, all_unlocked}
 use Rattle.machine_invariant.proofs.Parts.{outside_made}
 use Rattle.machine_invariant.proofs.Sights.{after_is}
 use Rattle.machine_invariant.proofs.Pieces.{Pieces}
+use Rattle.section_body.specs.declared.thunk.Thunk.{Thunk}
 
 -- a descriptor's place, where one has changed
 module _ (c : Counts) (f : ℕ → Location) (d n : ℕ) (v : Location) where
@@ -80,9 +81,9 @@ module _ (m : Meaning) (l : Layout) where
 
   -- what was published stays so, where it is the same in the runner's part
   pub published_after : (part : ℕ → PartState) (r : ℕ) (p' : PartState) → p'.published ≡ (part r).published
-      → (i d : ℕ) → HasPublished m l (part i) d → HasPublished m l (upd part r p' i) d
-  published_after part r p' kept = upd_split part r p' (λ i y. (d : ℕ) → HasPublished m l (part i) d → HasPublished m l y d)
-      (λ d h. (h.0, kept ∙ h.1, h.2)) (λ i ne d h. h)
+      → (i d : ℕ) (t : Thunk) → HasPublished m l (part i) d t → HasPublished m l (upd part r p' i) d t
+  published_after part r p' kept = upd_split part r p' (λ i y. (d : ℕ) (t : Thunk) → HasPublished m l (part i) d t → HasPublished m l y d t)
+      (λ d t h. (h.0, kept ∙ h.1, h.2, h.3)) (λ i ne d t h. h)
 
 module _ (m : Meaning) (laws : Laws m) (l : Layout) (limits : IsWithinLimits l) where
   abbrev c : Counts
@@ -116,7 +117,7 @@ module _ (m : Meaning) (laws : Laws m) (l : Layout) (limits : IsWithinLimits l) 
       → sections.IsJoinedToAgreement m l (agreement_schedules.after_all (rules_of m l) g.agreement es) s'
       → (e' : EpochState) → joins.IsJoinedToEpochs m l e' s' → IsOnward m l g.epochs e' s.part s'.part
       → ((d : ℕ) → e'.location (slot_of c d) ≡ g.epochs.location (slot_of c d))
-      → ((i d : ℕ) → HasPublished m l (s.part i) d → HasPublished m l (s'.part i) d)
+      → ((i d : ℕ) (t : Thunk) → HasPublished m l (s.part i) d t → HasPublished m l (s'.part i) d t)
       → ((d : ℕ) → thunk_in s'.word d ≡ thunk_in s.word d)
       → (walk : ℕ → Readings) → ((i : ℕ) → (s'.part i).reads.walk ≡ walk i)
       → ((i : ℕ) (q : RunState) → (s'.part i).run ≡ Some q → q.made ≡ made_of s i)

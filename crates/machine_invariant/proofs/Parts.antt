@@ -23,6 +23,8 @@ use Rattle.runner_steps.specs.AfterOutside as outside
 use Rattle.runner_steps.specs.After.{outside_after, line_after, inside_after, after_by, after}
 use Rattle.machine_states.proofs.Steps.{some_same}
 use Rattle.machine_invariant.specs.Whole.{HasPublished, made_in}
+use Rattle.table_words.specs.Places.{slot_count}
+use Rattle.section_body.specs.declared.thunk.Thunk.{Thunk}
 
 -- no entry, no load of a cell, no publication and no retirement
 abbrev pub is_other : EventKind → Bool
@@ -43,15 +45,15 @@ module _ (m : Meaning) (l : Layout) where
   pub record IsSamePart (p p' : PartState) : Type 0 where
     pub walk : p'.reads.walk ≡ p.reads.walk
     pub mine : p'.reads.published ≡ p.reads.published
-    pub published : (d : ℕ) → HasPublished m l p d → HasPublished m l p' d
+    pub published : (d : ℕ) (t : Thunk) → HasPublished m l p d t → HasPublished m l p' d t
 
   part_same : (p : PartState) → IsSamePart p p
-  part_same p = record { walk = refl; mine = refl; published = λ d h. h }
+  part_same p = record { walk = refl; mine = refl; published = λ d t h. h }
 
   -- a part with these reads, and what it published as before
   by_reads : (p p' : PartState) → p'.reads.walk ≡ p.reads.walk → p'.reads.published ≡ p.reads.published → p'.published ≡ p.published
       → IsSamePart p p'
-  by_reads p p' walk mine published = record { walk = walk; mine = mine; published = λ d h. (h.0, published ∙ h.1, h.2) }
+  by_reads p p' walk mine published = record { walk = walk; mine = mine; published = λ d t h. (h.0, published ∙ h.1, h.2, h.3) }
 
   if_same : (b : Bool) (p x y : PartState) → IsSamePart p x → IsSamePart p y → IsSamePart p (if b then x else y)
   if_same true p x y one two = one
@@ -65,10 +67,11 @@ module _ (m : Meaning) (l : Layout) where
       by true = (refl, refl)
       by false = (refl, refl)
 
-  over_published : (p : PartState) (o : Option Published) (descriptor d : ℕ) → p.published ≡ o → HasPublished m l p d
-      → (x : Published) × (inside.over_if o descriptor ≡ Some x) × (x.descriptor ≡ d)
-  over_published p None descriptor d is h = absurd (let e = sym is ∙ h.1 in cc)
-  over_published p (Some x) descriptor d is h = (_, refl, ap (λ (y : Published). y.descriptor) (some_same x h.0 (sym is ∙ h.1)) ∙ h.2)
+  over_published : (p : PartState) (o : Option Published) (descriptor d : ℕ) (t : Thunk) → p.published ≡ o → HasPublished m l p d t
+      → (x : Published) × (inside.over_if o descriptor ≡ Some x) × (x.descriptor ≡ d) × (x.thunk ≡ t)
+  over_published p None descriptor d t is h = absurd (let e = sym is ∙ h.1 in cc)
+  over_published p (Some x) descriptor d t is h = let same = some_same x h.0 (sym is ∙ h.1) in
+      (_, refl, ap (λ (y : Published). y.descriptor) same ∙ h.2, ap (λ (y : Published). y.thunk) same ∙ h.3)
 
   module _ (p : PartState) (q : RunState) (found : ℕ) where
     outcome_same : IsSamePart p (inside.lock_committed m l p q found)
@@ -90,7 +93,7 @@ module _ (m : Meaning) (l : Layout) where
 
     release_same : (place : ℕ) → IsSamePart p (inside.lock_released m l place p q found)
     release_same place = if_same (is_end (next_of m (inside.ended_more q))) p _ _
-        (record { walk = refl; mine = refl; published = λ d h. over_published p p.published q.descriptor d refl h })
+        (record { walk = refl; mine = refl; published = λ d t h. over_published p p.published q.descriptor d t refl h })
         (by_reads p _ refl refl refl)
 
     line_same : (kind : EventKind) (micro : Micro) → IsSamePart p (line_after m l kind p q micro found)
@@ -144,7 +147,7 @@ module _ (m : Meaning) (l : Layout) where
     outside_same kinds.Split is = split_same
     outside_same (kinds.Join worker) is = by_reads p _ refl refl refl
     outside_same (kinds.LoadEntry request reply) is = by_reads p _ refl refl refl
-    outside_same (kinds.PrivateLoad slot word) is = by_reads p _ refl refl refl
+    outside_same (kinds.PrivateLoad slot word) is = if_same (nat_lt slot (slot_count l m.fixed_slots)) p _ _ (by_reads p _ refl refl refl) (by_reads p _ refl refl refl)
     outside_same (kinds.PrivateStore slot word number) is = by_reads p _ refl refl refl
     outside_same (kinds.LoadThunk (Some d)) is = by_reads p _ refl refl refl
     outside_same kinds.EnterAgain is = absurd (cc)
@@ -238,7 +241,7 @@ module _ (m : Meaning) (l : Layout) where
     outside_made (kinds.Join worker) = as_before _ refl
     outside_made (kinds.LoadCell (Some place)) = as_before _ refl
     outside_made (kinds.LoadEntry request reply) = as_before _ refl
-    outside_made (kinds.PrivateLoad slot word) = as_before _ refl
+    outside_made (kinds.PrivateLoad slot word) = if_nothing (nat_lt slot (slot_count l m.fixed_slots)) _ _ (as_before _ refl) (as_before _ refl)
     outside_made (kinds.PrivateStore slot word number) = as_before _ refl
     outside_made (kinds.Hold thunk d) = if_nothing (found == thunk.word) _ _ (as_before _ refl) (as_before _ refl)
     outside_made (kinds.LoadThunk (Some d)) = record { nothing = λ q' e. sym (ap made_in e) }

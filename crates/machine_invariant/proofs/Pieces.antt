@@ -54,6 +54,8 @@ module _ (m : Meaning) (l : Layout) where
   pub record KeepsWhole (g : Beside) (s s' : Sight) (r : ℕ) (kind : EventKind) (x : Spot × Access) (pieces : Pieces g s s' r kind x)
       : Type 0 where
     pub publications : Publications
+    -- of the same requests
+    pub requests : publications.requests ≡ g.publications.requests
     pub whole : IsWhole m l (led g r pieces.heads pieces.passes pieces.events publications) s'
 
   -- these events of the components may come, and lead to states that belong to this sight, with checks that pass behind those of agreement
@@ -80,11 +82,12 @@ module _ (m : Meaning) (l : Layout) where
     }
 
     -- the step keeps the whole invariant, where the states to which these events lead meet it
-    pub keeps_by : (p : Publications) → ((go : Leads g s' r heads events) → IsWhole m l (led g r heads go.passes events p) s')
+    pub keeps_by : (p : Publications) → p.requests ≡ g.publications.requests → ((go : Leads g s' r heads events) → IsWhole m l (led g r heads go.passes events p) s')
         → KeepsWhole g s s' r kind x pieces
     unfolding leads_of
-    keeps_by p whole = record {
+    keeps_by p same_requests whole = record {
       publications = p;
+      requests = same_requests;
       whole = subst (λ es. IsWhole m l (led g r es pieces.passes pieces.events p) s') (sym same)
           (subst (λ vs. IsWhole m l (led g r heads pieces.passes vs p) s') (sym same') (whole leads_of));
     }

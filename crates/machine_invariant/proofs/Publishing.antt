@@ -1,5 +1,5 @@
 -- A runner that tries to publish a section keeps the whole invariant.
-use Rattle.std.specs.Prelude.{replicate, ◌==◌, ◌||◌, Bool, true, false, All, if◌then◌else◌}
+use Rattle.std.specs.Prelude.{replicate, slice_get, ◌==◌, ◌||◌, Bool, true, false, All, if◌then◌else◌}
 use Rattle.std.proofs.Common.{◌≡◌, ◌≢◌, ◌⊎◌, inl, inr, ℕ, ◌<◌, ◌≤◌, List, [], ◌∷◌, ◌++◌, length, sym, refl, ap, ◌∙◌, subst, arith, ⊎_elim}
 use Rattle.std.proofs.Common.{Some, None}
 use Rattle.std.proofs.lemmas.Bool.{cases_eq}
@@ -25,7 +25,7 @@ use Rattle.runner_parts.specs.Tests.{has, thunk_words}
 use Rattle.runner_parts.specs.Lists.{descriptor_taken, cell_read, section_published}
 use Rattle.runner_steps.specs.Outside.{hold_ask}
 use Rattle.runner_steps.specs.Asks.{asks}
-use Rattle.runner_steps.specs.AfterOutside.{hold_after}
+use Rattle.runner_steps.specs.AfterOutside.{hold_after, published_by}
 use Rattle.runner_steps.specs.After.{after_by, after}
 use Rattle.agreement_core.specs.State.{AgreementState}
 use Rattle.agreement_core.specs.Sound.{IsSound}
@@ -68,7 +68,7 @@ use Rattle.machine_invariant.proofs.Outside.{outside_asked, outside_heads, outsi
 -- a runner's part after a publication
 abbrev published_part : Thunk → ℕ → PartState → ℕ → PartState
 published_part t d p found = record p {
-  published = Some (record { descriptor = d; walked = length p.reads.walk; over = false });
+  published = Some (published_by t d p);
   descriptors = descriptor_taken p.descriptors d;
   reads = section_published (cell_read p.reads t.lock found) d;
 }
@@ -87,7 +87,7 @@ hold_won t d p found e = by (found == t.word) (equal found t.word e) _
 -- otherwise nothing is
 hold_lost : (m : Meaning) (l : Layout) (t : Thunk) (d : ℕ) (p : PartState) (found : ℕ) → found ≢ t.word
     → IsSamePart m l p (hold_after t d p found)
-hold_lost m l t d p found ne = by (found == t.word) (other found t.word ne) _ (record { walk = refl; mine = refl; published = λ n h. h })
+hold_lost m l t d p found ne = by (found == t.word) (other found t.word ne) _ (record { walk = refl; mine = refl; published = λ n u h. h })
   where
     other : (a b : ℕ) → a ≢ b → (a == b) ≡ false
     other a b ne = grind (arith, nat_tests)
@@ -137,15 +137,31 @@ module _ (m : Meaning) (l : Layout) (g : Beside) (s : Sight) (old : AreTied m l 
 
   module _ (op : Op) (t : Thunk) (walk : Readings) (word' : Spot → ℕ) (a' : AgreementState)
       (used' : (n : ℕ) → a'.used n ≡ upd g.agreement.used d true n) (live' : (n : ℕ) → a'.live n ≡ upd g.agreement.live d true n)
-      (unpublished : (s.part r).published ≡ None) (own : Published) (own_is : p'.published ≡ Some own) (own_d : own.descriptor ≡ d)
-      (thunks : (n : ℕ) → thunk_in word' n ≡ thunk_in s.word n) (thunk_d : thunk_in s.word d ≡ t) where
-    publisher_after : (n : ℕ) → a'.live n ≡ true → HasPublished m l (upd s.part r p' (upd g.publications.runner d r n)) n
+      (unpublished : (s.part r).published ≡ None) (own : Published) (own_is : p'.published ≡ Some own) (own_d : own.descriptor ≡ d) (own_t : own.thunk ≡ t)
+      (thunks : (n : ℕ) → thunk_in word' n ≡ thunk_in s.word n) (thunk_d : thunk_in s.word d ≡ t)
+      (asked : Request) (of_request : slice_get g.publications.requests t.request ≡ Some asked) (of_op : asked.op ≡ op) where
+    op_after : (n : ℕ) → a'.used n ≡ true → (q : Request) × (slice_get g.publications.requests (upd g.publications.thunk d t n).request ≡ Some q) × (q.op ≡ upd g.publications.op d op n)
+    op_after n is = ⊎_elim
+        (λ same. (
+          asked,
+          ap (λ (u : Thunk). slice_get g.publications.requests u.request) (upd_same g.publications.thunk d n t same) ∙ of_request,
+          of_op ∙ sym (upd_same g.publications.op d n op same),
+        ))
+        (λ ne. let h = old.op n (sym (used' n ∙ upd_other g.agreement.used d n true ne) ∙ is) in (
+          h.0,
+          ap (λ (u : Thunk). slice_get g.publications.requests u.request) (upd_other g.publications.thunk d n t ne) ∙ h.1,
+          h.2 ∙ sym (upd_other g.publications.op d n op ne),
+        ))
+        (cases_eq n d)
+
+    publisher_after : (n : ℕ) → a'.live n ≡ true → HasPublished m l (upd s.part r p' (upd g.publications.runner d r n)) n (upd g.publications.thunk d t n)
     publisher_after n is = ⊎_elim
         (λ same. (
           own,
           ap (λ (y : PartState). y.published) (ap (upd s.part r p') (upd_same g.publications.runner d n r same)
               ∙ upd_same s.part r r p' refl) ∙ own_is,
           own_d ∙ sym same,
+          own_t ∙ sym (upd_same g.publications.thunk d n t same),
         ))
         (λ ne. let h = old.publisher n (sym (live' n ∙ upd_other g.agreement.live d n true ne) ∙ is) in
         let apart : g.publications.runner n ≢ r = λ same. some_none h.0
@@ -154,6 +170,7 @@ module _ (m : Meaning) (l : Layout) (g : Beside) (s : Sight) (old : AreTied m l 
           ap (λ (y : PartState). y.published) (ap (upd s.part r p') (upd_other g.publications.runner d n r ne)
               ∙ upd_other s.part r _ p' apart) ∙ h.1,
           h.2,
+          h.3 ∙ sym (upd_other g.publications.thunk d n t ne),
         ))
         (cases_eq n d)
 
@@ -182,6 +199,7 @@ module _ (m : Meaning) (l : Layout) (g : Beside) (s : Sight) (old : AreTied m l 
           (λ ne. upd_other g.publications.thunk d n t ne
           ∙ (old.thunk n (sym (used' n ∙ upd_other g.agreement.used d n true ne) ∙ is) ∙ sym (thunks n)))
           (cases_eq n d);
+      op = op_after;
       mine = λ i n entered has_it. ⊎_elim
           (λ this. upd_same g.publications.runner d n r this.1 ∙ sym this.0)
           (λ other. upd_other g.publications.runner d n r other.0 ∙ old.mine i n entered other.1)
@@ -203,7 +221,7 @@ module _ (m : Meaning) (l : Layout) (g : Beside) (s : Sight) (old : AreTied m l 
       (had_published i n entered has_it))
 
 module _ (m : Meaning) (laws : Laws m) (l : Layout) (limits : IsWithinLimits l) (rs : List Request) (few : length rs ≤ 131072)
-    (allowed : All (λ (q : Request). IsAllowed q.op) rs) (g : Beside) (s : Sight) (whole : IsWhole m l g s) (r : ℕ)
+    (allowed : All (λ (q : Request). IsAllowed q.op) rs) (g : Beside) (s : Sight) (whole : IsWhole m l g s) (of : g.publications.requests ≡ rs) (r : ℕ)
     (x : Spot × Access) where
   abbrev p : PartState
   p = s.part r
@@ -299,7 +317,8 @@ module _ (m : Meaning) (laws : Laws m) (l : Layout) (limits : IsWithinLimits l) 
           (roles_of m (thunk_words t)) won_part mine asked_hold.few asked_hold.free
           op t p.reads.walk hold_sight.word (agreement_schedules.after_all (rules_of m l) g.agreement (heads ++ passes))
           (λ n. ap (λ (f : ℕ → Bool). f n) uses.used) (λ n. ap (λ (f : ℕ → Bool). f n) uses.live)
-          asked_hold.unpublished _ (ap (λ (y : PartState). y.published) won_is) refl thunks thunk_d in
+          asked_hold.unpublished _ (ap (λ (y : PartState). y.published) won_is) refl refl thunks thunk_d
+          asked_hold.request (ap (λ (qs : List Request). slice_get qs t.request) of ∙ asked_hold.of_request) refl in
           let named = named_all (rules_of m l) g.agreement whole.sections.sound
           (IsHeldFor m l (epochs.after (counts_of m l) g.epochs (epochs.Publish r d (roles_of m (thunk_words t)))) hold_sight.part)
           (named_published m l g s whole.tied whole.slots r d (roles_of m (thunk_words t)) won_part mine asked_hold.few asked_hold.free
@@ -317,12 +336,12 @@ module _ (m : Meaning) (laws : Laws m) (l : Layout) (limits : IsWithinLimits l) 
     hold_whole pieces = ⊎_elim
         (λ in_heads. ⊎_elim
         (λ in_events. keeps_by m l g s hold_sight r kind x pieces
-        (agreement.Read t.lock ∷ publication m d t ∷ []) publish in_heads.1 in_events.1 _ (won in_heads.0))
+        (agreement.Read t.lock ∷ publication m d t ∷ []) publish in_heads.1 in_events.1 (publishes g.publications d r (outside.hold_asked m l rs r t d p x asks_hold).request.op t p.reads.walk) refl (won in_heads.0))
         (λ in_events. absurd (in_events.0 in_heads.0))
         (outside_events m l rs g s hold_sight r kind x none pieces))
         (λ in_heads. ⊎_elim
         (λ in_events. absurd (in_heads.0 in_events.0))
-        (λ in_events. keeps_by m l g s hold_sight r kind x pieces (agreement.Read t.lock ∷ []) reach in_heads.1 in_events.1 g.publications
+        (λ in_events. keeps_by m l g s hold_sight r kind x pieces (agreement.Read t.lock ∷ []) reach in_heads.1 in_events.1 g.publications refl
         (lost in_heads.0))
         (outside_events m l rs g s hold_sight r kind x none pieces))
         (outside_heads m l rs g s hold_sight r kind x none pieces)

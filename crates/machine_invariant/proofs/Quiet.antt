@@ -31,6 +31,7 @@ use Rattle.machine_invariant.specs.Named.{AreNamed}
 use Rattle.machine_invariant.specs.Whole.{Beside, states_of, made_in, made_of, IsHeldFor, HasPublished, IsWhole}
 use Rattle.machine_invariant.proofs.Runs.{AllAre, is_calm, InHands, Stands, agreement_stands, epochs_stand, filled_other}
 use Rattle.machine_invariant.proofs.Ties.{IsOnward, alone_onward, named_onward, tied_onward}
+use Rattle.section_body.specs.declared.thunk.Thunk.{Thunk}
 
 -- an event of agreement that publishes, retires and frees nothing, and has nothing to do with a Make's slot or a Retire
 abbrev pub is_still : agreement.Event → Bool
@@ -87,7 +88,7 @@ module _ (m : Meaning) (l : Layout) where
   pub record StayRead (s s' : Sight) : Type 0 where
     pub walk : (i : ℕ) → (s'.part i).reads.walk ≡ (s.part i).reads.walk
     pub mine : (i : ℕ) → (s'.part i).reads.published ≡ (s.part i).reads.published
-    pub published : (i d : ℕ) → HasPublished m l (s.part i) d → HasPublished m l (s'.part i) d
+    pub published : (i d : ℕ) (t : Thunk) → HasPublished m l (s.part i) d t → HasPublished m l (s'.part i) d t
 
   -- and their Makes fill the same slots
   pub record IsQuiet (s s' : Sight) : Type 0 where

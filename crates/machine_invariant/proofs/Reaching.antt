@@ -54,6 +54,7 @@ module _ (m : Meaning) (laws : Laws m) (l : Layout) (limits : IsWithinLimits l) 
         is_live = whole.tied.is_live;
         within = whole.tied.within;
         publisher = whole.tied.publisher;
+        op = whole.tied.op;
         thunk = whole.tied.thunk;
         mine = whole.tied.mine;
         mine_held = λ r d entered mine. still_held r (slot_of (counts_of m l) d) (whole.tied.mine_held r d entered mine);

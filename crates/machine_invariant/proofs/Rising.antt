@@ -193,24 +193,24 @@ module _ (m : Meaning) (l : Layout) (requests : List Request) where
       chunk_rises (with_histories g agreement_history.no_history epoch_history.no_history) s s' r kind step.es step.vs whole.sections.sound
       (step.events agreement_history.no_history epoch_history.no_history) whole.sections step.whole.sections
 
-  module _ (each : (g : Beside) (s s' : Sight) (r : ℕ) (kind : EventKind) → IsWhole m l g s → Steps m l requests s s' r kind
+  module _ (each : (g : Beside) (s s' : Sight) (r : ℕ) (kind : EventKind) → IsWhole m l g s → g.publications.requests ≡ requests → Steps m l requests s s' r kind
       → StepsWhole m l requests g s s' r kind) where
     -- so each event does that is enabled in a state of the machine which meets the whole invariant, where each step keeps this
     steps_rise : (g : Beside) (w : World) → states.IsWhole m l requests w → IsWhole m l g (sight m l requests w)
-        → StepsRise m l requests w
-    steps_rise g w all whole e v goes =
+        → g.publications.requests ≡ requests → StepsRise m l requests w
+    steps_rise g w all whole of e v goes =
         let step = happens_steps m l requests w v e all goes in
         step_rises g (sight m l requests w) (sight m l requests v) e.runner e.kind whole
-        (each g (sight m l requests w) (sight m l requests v) e.runner e.kind whole step.0)
+        (each g (sight m l requests w) (sight m l requests v) e.runner e.kind whole of step.0)
 
     -- there are states of the components beside which the machine's state meets the whole invariant
     abbrev Stands : World → Type 0
-    Stands w = (g : Beside) × states.IsWhole m l requests w × IsWhole m l g (sight m l requests w)
+    Stands w = (g : Beside) × states.IsWhole m l requests w × IsWhole m l g (sight m l requests w) × (g.publications.requests ≡ requests)
 
     next_stands : (w v : World) (e : Event) → Stands w → happens m l requests w e ≡ Some v → Stands v
-    next_stands w v e (g, all, whole) goes =
+    next_stands w v e (g, all, whole, of) goes =
         let step = happens_steps m l requests w v e all goes in
-        let one = each g (sight m l requests w) (sight m l requests v) e.runner e.kind whole step.0 in (
+        let one = each g (sight m l requests w) (sight m l requests v) e.runner e.kind whole of step.0 in (
           record {
             agreement = after_all (rules_of m l) g.agreement one.es;
             epochs = epoch_schedules.after_all (counts_of m l) g.epochs one.vs;
@@ -218,20 +218,21 @@ module _ (m : Meaning) (l : Layout) (requests : List Request) where
           },
           step.1,
           one.whole,
+          one.requests ∙ of,
         )
 
     -- and so it is after whatever events
     rise_after : (events : List Event) (g : Beside) (w v : World) → states.IsWhole m l requests w → IsWhole m l g (sight m l requests w)
-        → run m l requests w events ≡ Some v → StepsRise m l requests v
-    rise_after events g w v all whole runs =
-        let there : Stands v = run_has m l requests Stands next_stands events w v (g, all, whole) runs in
-        steps_rise there.0 v there.1 there.2
+        → g.publications.requests ≡ requests → run m l requests w events ≡ Some v → StepsRise m l requests v
+    rise_after events g w v all whole of runs =
+        let there : Stands v = run_has m l requests Stands next_stands events w v (g, all, whole, of) runs in
+        steps_rise there.0 v there.1 there.2 there.3
 
 -- each event that is enabled in a state that the machine reaches raises each version by one at most
 pub rises_after : (m : Meaning) → Laws m → (l : Layout) (requests : List Request) (events : List Event) (w : World)
     → RisesAfter m l requests events w
 rises_after m laws l requests events w limits allowed after =
     rise_after m l requests
-    (λ g s s' r kind whole step. step_whole m laws l limits requests allowed.few allowed.each g s s' r kind whole step)
+    (λ g s s' r kind whole of step. step_whole m laws l limits requests allowed.in_order.few allowed.each g s s' r kind whole of step)
     events (first_beside m laws l limits requests after.start after.first) after.start w
-    (firsts.first_whole m l requests after.start after.first) (first_whole m laws l limits requests after.start after.first) after.runs
+    (firsts.first_whole m l requests after.start after.first) (first_whole m laws l limits requests after.start after.first) refl after.runs

@@ -29,7 +29,7 @@ use Rattle.machine_epochs.specs.Joined as slots
 use Rattle.machine_epochs.proofs.Roles.{make_role, retire_role}
 use Rattle.machine_scenes.specs.Shown.{rules_of, IsOfThunk}
 use Rattle.machine_agreement.specs.Joined.{IsJoinedToAgreement}
-use Rattle.machine_invariant.specs.Trails.{thunk_at, step_at, log_of}
+use Rattle.machine_invariant.specs.Trails.{thunk_at, step_at, log_of, PublishedStand}
 use Rattle.machine_invariant.specs.Slots.{CommitsAreWonOnce}
 use Rattle.machine_invariant.specs.Sections.{IsAnswered, IsLeft, EffectsComeOnce, LawsHold, SectionsAreSound}
 use Rattle.machine_invariant.proofs.Slots.{commits_won}
@@ -200,13 +200,14 @@ pub sections_sound : (m : Meaning) (l : Layout) (a : AgreementState) (e : EpochS
     → ((d : ℕ) → a.used d ≡ epochs.is_out (e.location (slot_of (counts_of m l) d)))
     → ((d : ℕ) → a.used d ≡ true → (t : Thunk) × IsOfThunk m (a.section d) t × IsShaped (m.body t))
     → ((d : ℕ) → a.live d ≡ true → (r : ℕ) × (x : Published) × ((s.part r).published ≡ Some x) × (x.descriptor ≡ d))
-    → SectionsAreSound m l a s changes wins
-sections_sound m l a e s joined with_slots changes exact wins wins_exact tie shaped publishers = record {
+    → PublishedStand m a s → SectionsAreSound m l a s changes wins
+sections_sound m l a e s joined with_slots changes exact wins wins_exact tie shaped publishers published = record {
   joined = joined;
   exact = exact;
   laws = laws_hold m l a s joined changes exact shaped;
   in_trails = trails_agree m l a s joined;
   in_locks = locks_name m l a s joined publishers;
+  in_published = published;
   in_cells = cells_past m l a s joined;
   in_effects = effects_once m l a s joined changes exact e wins (commits_won m l e s with_slots wins wins_exact) tie;
 }

@@ -66,12 +66,12 @@ module _ (m : Meaning) (l : Layout) (g : Beside) (s : Sight) (old : AreTied m l 
         other same = let h = sym alive ∙ (live' n ∙ upd_same g.agreement.live d n false same) in cc
 
     -- a section that isn't retired has another publisher
-    publisher_stays : (n : ℕ) → a'.live n ≡ true → HasPublished m l (upd s.part r p' (g.publications.runner n)) n
+    publisher_stays : (n : ℕ) → a'.live n ≡ true → HasPublished m l (upd s.part r p' (g.publications.runner n)) n (g.publications.thunk n)
     publisher_stays n alive =
         let h = still_live n alive in let there = old.publisher n h.1 in
         let apart : g.publications.runner n ≢ r = λ same. h.0 (sym there.2
         ∙ ap (λ (z : Published). z.descriptor) (some_same there.0 y (sym there.1 ∙ (ap (λ i. (s.part i).published) same ∙ is)))) in
-        (there.0, ap (λ (z : PartState). z.published) (upd_other s.part r _ p' apart) ∙ there.1, there.2)
+        (there.0, ap (λ (z : PartState). z.published) (upd_other s.part r _ p' apart) ∙ there.1, there.2, there.3)
 
     tied_retired : g.epochs.location (slot_of c d) ≡ Live → IsOnward m l g.epochs after_retirement s.part (upd s.part r p')
         → ((n : ℕ) → thunk_in word' n ≡ thunk_in s.word n)
@@ -92,6 +92,7 @@ module _ (m : Meaning) (l : Layout) (g : Beside) (s : Sight) (old : AreTied m l 
       within = λ n used. old.within n (sym (used' n) ∙ used);
       publisher = publisher_stays;
       thunk = λ n used. old.thunk n (sym (used' n) ∙ used) ∙ sym (thunks n);
+      op = λ n used. old.op n (sym (used' n) ∙ used);
       mine = λ i n entered has_it. let h = on.entries i n entered has_it in old.mine i n h.0 h.1;
       mine_held = λ i n entered has_it. let h = on.entries i n entered has_it in on.holds i (slot_of c n) entered
           (old.mine_held i n h.0 h.1);
@@ -167,4 +168,4 @@ module _ (m : Meaning) (laws : Laws m) (l : Layout) (limits : IsWithinLimits l) 
         keeps_by m l g s retired_sight r kinds.EpochForRetire x pieces (agreement.RetireDescriptor heads.0.descriptor ∷ [])
         (epochs.RetireDescriptor r heads.0.descriptor ∷ []) heads.2
         (events.2 ∙ ap (λ (z : Published). epochs.RetireDescriptor r z.descriptor ∷ []) same)
-        g.publications (retire heads.0 heads.1)
+        g.publications refl (retire heads.0 heads.1)

@@ -20,6 +20,7 @@ use Rattle.machine_invariant.specs.Whole.{HasPublished, made_in, made_of}
 use Rattle.machine_invariant.proofs.Parts.{IsSamePart, is_making, inside_same, inside_made, is_other, outside_same, outside_made, noted_same}
 use Rattle.machine_invariant.proofs.Quiet.{StayRead, IsQuiet}
 use Rattle.machine_invariant.proofs.Thunks.{LeavesThunks}
+use Rattle.section_body.specs.declared.thunk.Thunk.{Thunk}
 
 module _ (m : Meaning) (l : Layout) (s : Sight) (r : ℕ) where
   abbrev p : PartState
@@ -39,8 +40,8 @@ module _ (m : Meaning) (l : Layout) (s : Sight) (r : ℕ) where
   one_stays word' p' same = record {
     walk = upd_split s.part r p' (λ i y. y.reads.walk ≡ (s.part i).reads.walk) same.walk (λ i ne. refl);
     mine = upd_split s.part r p' (λ i y. y.reads.published ≡ (s.part i).reads.published) same.mine (λ i ne. refl);
-    published = upd_split s.part r p' (λ i y. (d : ℕ) → HasPublished m l (s.part i) d → HasPublished m l y d) same.published
-        (λ i ne d h. h);
+    published = upd_split s.part r p' (λ i y. (d : ℕ) (t : Thunk) → HasPublished m l (s.part i) d t → HasPublished m l y d t) same.published
+        (λ i ne d t h. h);
   }
 
   -- a part that is as before for the whole invariant
@@ -80,7 +81,7 @@ module _ (m : Meaning) (l : Layout) (s : Sight) (r : ℕ) where
     stay = record {
       walk = λ i. all (λ i y. y.reads.walk ≡ (s.part i).reads.walk) same.walk refl (λ i. refl) i;
       mine = λ i. all (λ i y. y.reads.published ≡ (s.part i).reads.published) same.mine refl (λ i. refl) i;
-      published = λ i. all (λ i y. (d : ℕ) → HasPublished m l (s.part i) d → HasPublished m l y d) same.published (λ d h. h) (λ i d h. h) i;
+      published = λ i. all (λ i y. (d : ℕ) (t : Thunk) → HasPublished m l (s.part i) d t → HasPublished m l y d t) same.published (λ d t h. h) (λ i d t h. h) i;
     };
     made = λ i. all (λ i y. (q : RunState) → y.run ≡ Some q → q.made ≡ made_of s i)
         (λ q e. absurd (let h = sym (ap (λ o. (after_by m l (kinds.Join worker) p o (s.word x.0)).run) none ∙ none) ∙ e in cc))

@@ -1,5 +1,5 @@
 -- The whole invariant gives all that is known of a state.
-use Rattle.std.proofs.Common.{◌≡◌, sym, subst}
+use Rattle.std.proofs.Common.{◌≡◌, sym, subst, ℕ, ◌∙◌, ap, true, Some}
 use Rattle.table_words.specs.declared.layout.Layout.{Layout}
 use Rattle.structure_laws.specs.Meaning.{Meaning}
 use Rattle.epoch_core.specs.State.{EpochState}
@@ -13,12 +13,30 @@ use Rattle.machine_invariant.specs.Along.{Components}
 use Rattle.machine_invariant.specs.States.{StateIsSound}
 use Rattle.machine_invariant.proofs.Slots.{slots_sound}
 use Rattle.machine_invariant.proofs.Sections.{sections_sound}
+use Rattle.runner_parts.specs.declared.entries.Published.{Published}
+use Rattle.machine_invariant.specs.Trails.{PublishedStand}
+use Rattle.machine_states.proofs.Steps.{some_same}
+use Rattle.epoch_core.specs.History.{is_out}
 
 -- the components' states with these histories
 abbrev pub with_histories : Beside → agreement_history.History → epoch_history.History → Components
 with_histories g changes wins = record { agreement = g.agreement; changes = changes; epochs = g.epochs; wins = wins }
 
 module _ (m : Meaning) (l : Layout) (g : Beside) (s : Sight) (whole : IsWhole m l g s) where
+  -- what a runner has published is the section in its descriptor, which is live
+  published_stand : PublishedStand m g.agreement s
+  published_stand = record {
+    used = λ r x is. used r x is;
+    thunk = λ r x is.
+        let there = whole.tied.publisher x.descriptor (whole.tied.is_live x.descriptor ((whole.slots.tied r).published x is)) in
+        let one = whole.slots.published_once r (g.publications.runner x.descriptor) x there.0 is there.1 (sym there.2) in
+        let same : x ≡ there.0 = some_same x there.0 (sym is ∙ (ap (λ i. (s.part i).published) one ∙ there.1)) in
+        sym (whole.tied.thunk x.descriptor (used r x is)) ∙ (sym there.3 ∙ ap (λ (y : Published). y.thunk) (sym same));
+  }
+    where
+      used : (r : ℕ) (x : Published) → (s.part r).published ≡ Some x → g.agreement.used x.descriptor ≡ true
+      used r x is = whole.tied.used x.descriptor ∙ ap is_out ((whole.slots.tied r).published x is)
+
   sound_with : (changes : agreement_history.History) → agreement_history.IsExact g.agreement changes
       → (wins : epoch_history.History) → epoch_history.IsExact (counts_of m l) g.epochs wins
       → StateIsSound m l s (with_histories g changes wins)
@@ -26,7 +44,7 @@ module _ (m : Meaning) (l : Layout) (g : Beside) (s : Sight) (whole : IsWhole m 
     slots = slots_sound m l g.epochs s whole.slots wins won;
     sections = sections_sound m l g.agreement g.epochs s whole.sections whole.slots changes exact wins won whole.tied.used
         (λ d used. (g.publications.thunk d, whole.kept.thunks d used, (whole.kept.shaped d used).shape))
-        (λ d live. let p = whole.tied.publisher d live in (g.publications.runner d, p.0, p.1, p.2));
+        (λ d live. let p = whole.tied.publisher d live in (g.publications.runner d, p.0, p.1, p.2)) published_stand;
     used = whole.tied.used;
     live = whole.tied.live;
     is_live = whole.tied.is_live;

@@ -250,6 +250,7 @@ module _ (m : Meaning) (laws : Laws m) (l : Layout) (limits : IsWithinLimits l) 
           let enabled = subst (λ hs. agreement_schedules.AllEnabled (rules_of m l) a (hs ++ passes)) heads pieces.enabled in
           record {
             publications = g.publications;
+            requests = refl;
             whole = quiet_whole m laws l limits g s (sight_after m l s r kind x) whole
                 (inside_quiet m l s r kind x q is (taking_join kind taking) (taking_making kind taking))
                 (λ d used. thunks_after m l s r kind x (inside_leaves m l q x kind p.nodes.free

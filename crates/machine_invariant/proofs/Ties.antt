@@ -21,6 +21,7 @@ use Rattle.machine_invariant.specs.Named.{AreNamed}
 use Rattle.machine_invariant.specs.Whole.{IsHeldFor, HasPublished, AreTied}
 use Rattle.machine_invariant.proofs.Named.{named_more}
 use Rattle.machine_invariant.proofs.Runs.{AllAre}
+use Rattle.section_body.specs.declared.thunk.Thunk.{Thunk}
 
 module _ (m : Meaning) (l : Layout) where
   abbrev c : Counts
@@ -58,7 +59,7 @@ module _ (m : Meaning) (l : Layout) where
       → AreTied m l (record { agreement = a; epochs = e; publications = p }) s → IsOnward e e' s.part s'.part
       → ((d : ℕ) → a'.used d ≡ a.used d) → ((d : ℕ) → a'.live d ≡ a.live d)
       → ((d : ℕ) → e'.location (slot_of c d) ≡ e.location (slot_of c d))
-      → ((i d : ℕ) → HasPublished m l (s.part i) d → HasPublished m l (s'.part i) d)
+      → ((i d : ℕ) (t : Thunk) → HasPublished m l (s.part i) d t → HasPublished m l (s'.part i) d t)
       → ((d : ℕ) → a.used d ≡ true → thunk_in s'.word d ≡ thunk_in s.word d)
       → AreTied m l (record { agreement = a'; epochs = e'; publications = p }) s'
   tied_onward a a' e e' p s s' old on used live places published thunks = record {
@@ -66,8 +67,9 @@ module _ (m : Meaning) (l : Layout) where
     live = λ d is. places d ∙ old.live d (sym (live d) ∙ is);
     is_live = λ d is. live d ∙ old.is_live d (sym (places d) ∙ is);
     within = λ d is. old.within d (sym (used d) ∙ is);
-    publisher = λ d is. published (p.runner d) d (old.publisher d (sym (live d) ∙ is));
+    publisher = λ d is. published (p.runner d) d (p.thunk d) (old.publisher d (sym (live d) ∙ is));
     thunk = λ d is. let was = sym (used d) ∙ is in old.thunk d was ∙ sym (thunks d was);
+    op = λ d is. old.op d (sym (used d) ∙ is);
     mine = λ i d entered has_it. let h = on.entries i d entered has_it in old.mine i d h.0 h.1;
     mine_held = λ i d entered has_it. let h = on.entries i d entered has_it in on.holds i _ entered (old.mine_held i d h.0 h.1);
   }

@@ -121,4 +121,4 @@ module _ (m : Meaning) (laws : Laws m) (l : Layout) (limits : IsWithinLimits l) 
     pub load_cell_whole : (pieces : Pieces m l g s read_sight r kind x) → KeepsWhole m l g s read_sight r kind x pieces
     load_cell_whole pieces = keeps_by m l g s read_sight r kind x pieces (agreement.Read place ∷ []) reach
         (outside_heads m l rs g s read_sight r kind x none pieces) (outside_events m l rs g s read_sight r kind x none pieces)
-        g.publications load_cell
+        g.publications refl load_cell

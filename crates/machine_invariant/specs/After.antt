@@ -1,6 +1,7 @@
 -- What holds after every list of events of the machine.
-use Rattle.std.specs.Prelude.{◌≤◌, List, All, length}
+use Rattle.std.specs.Prelude.{List, All}
 use Rattle.map_history.specs.declared.op.Request.{Request}
+use Rattle.map_history.specs.Requests.{AreInOrder}
 use Rattle.table_words.specs.declared.layout.Layout.{Layout}
 use Rattle.table_words.specs.Limits.{IsWithinLimits}
 use Rattle.structure_laws.specs.Meaning.{Meaning}
@@ -12,9 +13,10 @@ use Rattle.machine_states.specs.Sight.{sight}
 use Rattle.machine_invariant.specs.Along.{Components, first_components, GoAlong}
 use Rattle.machine_invariant.specs.States.{StateIsSound}
 
--- there are at most 131,072 requests, and each one's keys and value are within the limits
+-- the requests are at most 131,072, numbered by their index, in traces that never fall along the list and are below 64, and each one's
+-- keys and value are within the limits
 pub record AreAllowed (requests : List Request) : Type 0 where
-  pub few : length requests ≤ 131072
+  pub in_order : AreInOrder requests 64
   pub each : All (λ (request : Request). IsAllowed request.op) requests
 
 -- where these events, each enabled where it is made, lead from a first state of the machine to this one, the components go along with

@@ -19,7 +19,7 @@ use Rattle.agreement_core.specs.History.{History, written, IsExact, HasAnswered,
 use Rattle.machine_states.specs.Sight.{Sight}
 use Rattle.machine_scenes.specs.Shown.{rules_of}
 use Rattle.machine_agreement.specs.Joined.{IsJoinedToAgreement}
-use Rattle.machine_invariant.specs.Trails.{thunk_at, step_at, log_of, TrailsAgree, LocksNameSections, CellsArePast}
+use Rattle.machine_invariant.specs.Trails.{thunk_at, step_at, log_of, TrailsAgree, LocksNameSections, PublishedStand, CellsArePast}
 
 module _ (m : Meaning) (a : AgreementState) (s : Sight) where
   -- a section that is done and answered: its runs came to the end of its line; and one that left at a check
@@ -86,5 +86,6 @@ module _ (m : Meaning) (l : Layout) (a : AgreementState) (s : Sight) where
     pub laws : LawsHold changes
     pub in_trails : TrailsAgree m a s
     pub in_locks : LocksNameSections m a s
+    pub in_published : PublishedStand m a s
     pub in_cells : CellsArePast m a s l.version_max
     pub in_effects : EffectsComeOnce m a s changes wins

@@ -73,6 +73,11 @@ module _ (m : Meaning) (a : AgreementState) (s : Sight) where
     pub unnamed : (r d p : ℕ) (f : FinishedState) → a.used d ≡ true → IsEndOf r d f → m.is_lock p ≡ true
         → value_of (s.word (Cell p)) ≢ suc d
 
+  -- what a runner has published and hasn't retired is a section in its descriptor, whose words hold the thunk of its publication
+  pub record PublishedStand : Type 0 where
+    pub used : (r : ℕ) (x : Published) → (s.part r).published ≡ Some x → a.used x.descriptor ≡ true
+    pub thunk : (r : ℕ) (x : Published) → (s.part r).published ≡ Some x → thunk_at x.descriptor ≡ x.thunk
+
   -- words of cells
   pub record CellsArePast (version_max : ℕ) : Type 0 where
     pub positive : (p : ℕ) → 0 < version_of (s.word (Cell p))

@@ -1,5 +1,7 @@
 -- The machine's state beside states of agreement and of epochs and slots, all joined.
-use Rattle.std.specs.Prelude.{ℕ, ◌<◌, ◌≡◌, true, Option, Some, None}
+use Rattle.std.specs.Prelude.{ℕ, ◌<◌, ◌≡◌, true, Option, Some, None, slice_get}
+use Rattle.map_history.specs.declared.op.Request.{Request}
+use Rattle.section_body.specs.declared.thunk.Thunk.{Thunk}
 use Rattle.table_words.specs.declared.layout.Layout.{Layout}
 use Rattle.structure_laws.specs.Meaning.{Meaning}
 use Rattle.runner_parts.specs.declared.entries.Published.{Published}
@@ -45,9 +47,9 @@ module _ (m : Meaning) (l : Layout) where
   IsHeldFor e part d d' = (r : ℕ) → is_entered (e.stage r) ≡ true → has (part r).reads.published d ≡ true
       → e.holds r (slot_of (counts_of m l) d') ≡ true
 
-  -- the runner has published the section that this descriptor has, and hasn't retired it
-  abbrev pub HasPublished : PartState → ℕ → Type 0
-  HasPublished p d = (x : Published) × (p.published ≡ Some x) × (x.descriptor ≡ d)
+  -- the runner has published the section of this thunk that this descriptor has, and hasn't retired it
+  abbrev pub HasPublished : PartState → ℕ → Thunk → Type 0
+  HasPublished p d t = (x : Published) × (p.published ≡ Some x) × (x.descriptor ≡ d) × (x.thunk ≡ t)
 
   -- what the components say of descriptors belongs together
   pub record AreTied (g : Beside) (s : Sight) : Type 0 where
@@ -57,9 +59,12 @@ module _ (m : Meaning) (l : Layout) where
     pub is_live : (d : ℕ) → g.epochs.location (slot_of (counts_of m l) d) ≡ Live → g.agreement.live d ≡ true
     pub within : (d : ℕ) → g.agreement.used d ≡ true → d < (counts_of m l).descriptors
     -- a section that isn't retired is its publisher's
-    pub publisher : (d : ℕ) → g.agreement.live d ≡ true → HasPublished (s.part (g.publications.runner d)) d
+    pub publisher : (d : ℕ) → g.agreement.live d ≡ true → HasPublished (s.part (g.publications.runner d)) d (g.publications.thunk d)
     -- the thunk of a used descriptor stands in its words
     pub thunk : (d : ℕ) → g.agreement.used d ≡ true → g.publications.thunk d ≡ thunk_in s.word d
+    -- its request is one of the requests, of the published operation
+    pub op : (d : ℕ) → g.agreement.used d ≡ true → (q : Request) × (slice_get g.publications.requests (g.publications.thunk d).request ≡ Some q)
+        × (q.op ≡ g.publications.op d)
     -- an entered runner is the publisher of what it published in this entry, and holds it
     pub mine : (r d : ℕ) → is_entered (g.epochs.stage r) ≡ true → has (s.part r).reads.published d ≡ true → g.publications.runner d ≡ r
     pub mine_held : (r d : ℕ) → is_entered (g.epochs.stage r) ≡ true → has (s.part r).reads.published d ≡ true

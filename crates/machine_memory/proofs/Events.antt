@@ -1,6 +1,6 @@
 -- Each event of agreement keeps the completed memory, or leads its map on.
 use Rattle.std.proofs.Common.{◌≡◌, ◌≢◌, ℕ, Bool, true, false, refl, sym, ap, ◌∙◌, subst, ⊎_elim, arith}
-use Rattle.std.specs.Prelude.{Option, Some, None}
+use Rattle.std.specs.Prelude.{Option, None}
 use Rattle.std.proofs.lemmas.Bool.{cases_eq}
 use Rattle.std.proofs.lemmas.Option.{slice_get_within, slice_get_cases}
 use mathlib.Core.Logic.{dite}
@@ -41,22 +41,14 @@ use Rattle.machine_scenes.proofs.Shown.{shown_unused, shown_done}
 use Rattle.machine_scenes.proofs.Running.{own, event_open, pass_open, within_shown, late_agreed}
 use Rattle.machine_scenes.proofs.RunSteps.{ends}
 use Rattle.machine_scenes.proofs.Events.{stops_of}
+use Rattle.machine_scenes.proofs.Links.{true_false}
 use Rattle.machine_memory.specs.Memory.{passed_stamp, marks_of, pairs_after, MemoryStands}
 use Rattle.machine_memory.proofs.Marks.{is_early}
-use Rattle.machine_memory.proofs.Leaving.{Keep, completed_on}
+use Rattle.machine_memory.proofs.Leaving.{some_none, some_inj, Keep, completed_on}
 use Rattle.machine_memory.proofs.Standing.{are_marked}
 use Rattle.machine_memory.proofs.Runs.{there, marks_same, run_memory, early_leads, raise_leads, epoch_leads, reply_leads}
 use Rattle.machine_memory.proofs.Changing.{still, lock_exchanged}
 use Rattle.machine_memory.proofs.Stamps.{stamp_memory, store_memory}
-
-true_false : {b : Bool} → b ≡ true → b ≡ false → ⊥
-true_false e e' = cc
-
-some_none : {A : Type 0} {a : A} → Some a ≡ None → ⊥
-some_none e = cc
-
-some_inj : {A : Type 0} {a b : A} → Some a ≡ Some b → a ≡ b
-some_inj e = cc
 
 check_early : (x : Micro) → is_check x ≡ true → is_early x ≡ true
 check_early x check = grind arith

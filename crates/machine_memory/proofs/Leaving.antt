@@ -1,6 +1,6 @@
 -- Changes of a scene that leave the remaining Stores of its stamped sections.
 use Rattle.std.proofs.Common.{◌≡◌, ◌≢◌, ℕ, true, false, sym, ap, ◌∙◌, subst, ⊎_elim}
-use Rattle.std.specs.Prelude.{◌⊎◌, Some}
+use Rattle.std.specs.Prelude.{◌⊎◌, Some, None}
 use mathlib.Core.Logic.{dite}
 use native.Mathlib.Decide.{ℕ_discrete}
 use Rattle.section_body.specs.Update.{upd}
@@ -12,14 +12,15 @@ use Rattle.structure_laws.specs.Scene.{Cells, Section, Scene, passed}
 use Rattle.structure_laws.specs.Meaning.{Meaning}
 use Rattle.structure_laws.specs.Sections.{Here, IsStep}
 use Rattle.structure_laws.proofs.Changes.{upd_same, upd_other}
+use Rattle.machine_scenes.proofs.Links.{true_false}
 use Rattle.completed_memory.specs.Pending.{Marks, StillStores, IsPending, IsCompleted}
 use Rattle.completed_memory.proofs.Stores.{passed_some, passed_none}
 
-some_inj : {A : Type 0} {a b : A} → Some a ≡ Some b → a ≡ b
+pub some_inj : {A : Type 0} {a b : A} → Some a ≡ Some b → a ≡ b
 some_inj e = cc
 
-true_false : true ≡ false → ⊥
-true_false e = cc
+pub some_none : {A : Type 0} {a : A} → Some a ≡ None → ⊥
+some_none e = cc
 
 module _ (m : Meaning) (layout : Layout) where
   -- each remaining Store of the one scene remains in the other
@@ -64,7 +65,7 @@ module _ (m : Meaning) (layout : Layout) where
   pub keep_on : (s s' : Scene) (stamped stamped' : Marks) (d : ℕ) (x y : Section) → Here s d x → ((e : ℕ) → s'.section e ≡ upd s.section d (Some y) e) → ((e : ℕ) → stamped' e ≡ stamped e)
       → (stamped d ≡ false) ⊎ Turns x y → Keep s s' stamped stamped'
   keep_on s s' stamped stamped' d x y here sections marks turns e z p w there mark a = dite (ℕ_discrete e d)
-      (λ same. ⊎_elim (λ unmarked. absurd (true_false (sym mark ∙ ap stamped same ∙ unmarked)))
+      (λ same. ⊎_elim (λ unmarked. absurd (true_false mark (ap stamped same ∙ unmarked)))
       (λ turn. (
         y,
         sections e ∙ upd_same s.section d e (Some y) same,
@@ -76,7 +77,7 @@ module _ (m : Meaning) (layout : Layout) where
   pub keep_back : (s s' : Scene) (stamped stamped' : Marks) (d : ℕ) (x y : Section) → Here s d x → ((e : ℕ) → s'.section e ≡ upd s.section d (Some y) e) → ((e : ℕ) → stamped' e ≡ stamped e)
       → (stamped d ≡ false) ⊎ Turns x y → Keep s' s stamped' stamped
   keep_back s s' stamped stamped' d x y here sections marks turns e z p w there mark a = dite (ℕ_discrete e d)
-      (λ same. ⊎_elim (λ unmarked. absurd (true_false (sym mark ∙ marks e ∙ ap stamped same ∙ unmarked)))
+      (λ same. ⊎_elim (λ unmarked. absurd (true_false mark (marks e ∙ ap stamped same ∙ unmarked)))
       (λ turn. (
         x,
         ap s.section same ∙ here,

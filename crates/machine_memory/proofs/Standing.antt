@@ -16,15 +16,13 @@ use Rattle.completed_memory.specs.Moves.{StandsCompleted}
 use Rattle.machine_scenes.specs.Shown.{Publications, States, scene_of, sections_of}
 use Rattle.machine_scenes.specs.Kept.{IsKept}
 use Rattle.machine_scenes.proofs.Shown.{IsShown, shown_some, shown_unused}
+use Rattle.machine_scenes.proofs.Links.{true_false}
 use Rattle.machine_memory.specs.Memory.{marks_of, MemoryStands}
 use Rattle.machine_memory.proofs.Marks.{passed_at, passed_behind, come_stamp, passed_stamp_step}
 
 -- a bound on descriptors
 pub limit : ℕ
 limit = 2 ^ 32
-
-true_false : true ≡ false → ⊥
-true_false e = cc
 
 module _ (m : Meaning) (layout : Layout) (c : Counts) (j : States) (kept : IsKept m layout c j) where
   abbrev a : AgreementState
@@ -51,7 +49,7 @@ module _ (m : Meaning) (layout : Layout) (c : Counts) (j : States) (kept : IsKep
       let is = is_shown d x here in
       subst (Unstamped m) (sym is.same) (λ n stamp. ⊎_elim (λ past.
       let at = passed_stamp_step (body d) ((a.section d).edge) n stamp past in
-      absurd (true_false (sym (passed_behind ((a.section d).code) ((a.section d).edge) at.0 at.1 ((kept.thunks d is.used).code at.0 ∙ at.2)) ∙ unmarked)))
+      absurd (true_false (passed_behind ((a.section d).code) ((a.section d).edge) at.0 at.1 ((kept.thunks d is.used).code at.0 ∙ at.2)) unmarked))
       (λ le. le) (cases_lt n (passed_steps (body d) ((a.section d).edge))))
 
   pub are_marked : AreMarked m (scene_of m c j) (marks_of a)

@@ -43,19 +43,14 @@ use Rattle.machine_scenes.proofs.Running.{own, event_open, within_shown, late_ag
 use Rattle.machine_scenes.proofs.JointSteps.{hand_status}
 use Rattle.machine_scenes.proofs.Publishing.{sections_publish}
 use Rattle.machine_scenes.proofs.First.{status_first}
+use Rattle.machine_scenes.proofs.Links.{true_false}
 use Rattle.machine_memory.specs.Memory.{passed_stamp, marks_of, pairs_after, is_of_stamp, MemoryStands, FirstMemoryStands, StepsKeepMemory, StampsAnswer, StampsApart, ClosedMemoryStands}
-use Rattle.machine_memory.proofs.Leaving.{Keep, completed_on}
+use Rattle.machine_memory.proofs.Leaving.{some_none, Keep, completed_on}
 use Rattle.machine_memory.proofs.Standing.{whole}
 use Rattle.machine_memory.proofs.Runs.{marks_same, run_memory, retire_leads}
 use Rattle.machine_memory.proofs.Changing.{by_moves, by_memory, from_scene, still}
 use Rattle.machine_memory.proofs.Stamps.{stamp_here, at_stamp}
 use Rattle.machine_memory.proofs.Events.{plain_memory, early_commit}
-
-some_none : {A : Type 0} {a : A} → Some a ≡ None → ⊥
-some_none e = cc
-
-true_false : {b : Bool} → b ≡ true → b ≡ false → ⊥
-true_false e e' = cc
 
 equal_of : (a b : ℕ) → (a == b) ≡ true → a ≡ b
 equal_of a b is = grind (arith, nat_tests)

@@ -1,6 +1,7 @@
 -- The scene that the states of agreement and of epochs and slots show to a structure's laws.
-use Rattle.std.specs.Prelude.{ℕ, ◌≡◌, Bool, true, ◌==◌, ◌&&◌, nat_lt, cond, Option, Some, None}
+use Rattle.std.specs.Prelude.{ℕ, ◌≡◌, List, Bool, true, ◌==◌, ◌&&◌, nat_lt, cond, Option, Some, None}
 use Rattle.map_history.specs.declared.op.Op.{Op}
+use Rattle.map_history.specs.declared.op.Request.{Request}
 use Rattle.section_body.specs.Update.{upd}
 use Rattle.section_body.specs.declared.thunk.Thunk.{Thunk}
 use Rattle.section_body.specs.Line.{line, micro_at, committed}
@@ -14,8 +15,10 @@ use Rattle.epoch_core.specs.declared.location.Location.{Location}
 use Rattle.epoch_core.specs.declared.location.Location.TheVariants as locations
 use Rattle.epoch_core.specs.State.{Counts, EpochState, is_entered}
 
--- by descriptor: who published the section that was last published there, its operation and thunk, and what its publisher had read by then
+-- the requests; and by descriptor who published the section that was last published there, its operation and thunk, and what its
+-- publisher had read by then
 pub record Publications : Type 0 where
+  pub requests : List Request
   pub runner : ℕ → ℕ
   pub op : ℕ → Op
   pub thunk : ℕ → Thunk
@@ -86,5 +89,5 @@ AreOfThunks m p a = (d : ℕ) → a.used d ≡ true → IsOfThunk m (a.section d
 
 -- this runner, which has read these, publishes a section of this operation and thunk
 abbrev pub publishes : Publications → ℕ → ℕ → Op → Thunk → Readings → Publications
-publishes p d r op thunk readings = record
+publishes p d r op thunk readings = record p
     { runner = upd p.runner d r; op = upd p.op d op; thunk = upd p.thunk d thunk; readings = upd p.readings d readings }

@@ -40,7 +40,7 @@ first_part nodes descriptors = record {
   nodes = record { free = nodes; hand = []; tests = []; limbo = []; worn = [] };
   descriptors = record { free = descriptors; stored = []; limbo = [] };
   reads = no_reads;
-  records = record { known = []; finished = []; events = 0; left = []; splits = 0; joined = [] };
+  records = record { known = []; finished = []; events = 0; won = 0; left = []; splits = 0; joined = [] };
   gone = false;
 }
 

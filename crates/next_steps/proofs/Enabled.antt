@@ -62,6 +62,7 @@ use Rattle.next_steps.proofs.Filling.{low_cell, fill_log}
 use Rattle.next_steps.proofs.RoomsKept.{made_hand}
 use Rattle.next_steps.proofs.RoomsReached.{reached_rooms}
 use Rattle.next_steps.proofs.Lines.{next_no_check, shape, ordered, run_open, log_low}
+use Rattle.machine_invariant.proofs.Basics.{both_hold}
 
 below_test : (a b : ℕ) → a < b → nat_lt a b ≡ true
 below_test a b h = grind (arith, nat_tests)
@@ -72,9 +73,6 @@ same_test a = grind (arith, nat_tests)
 -- a cell of a slot of the table is one of the table's
 cell_low : (first slots t i : ℕ) → t < slots → i < 5 → first + 5 * t + i < first + 5 * slots
 cell_low first slots t i low five = omega arith
-
-both_tests : (a b : Bool) → a ≡ true → b ≡ true → (a && b) ≡ true
-both_tests a b e e' = rw (e, e') refl
 
 asks_when : (test : Bool) (a : Spot) (access : Access) → test ≡ true → when test a access ≡ Some (a, access)
 asks_when test a access e = rw e refl
@@ -140,7 +138,7 @@ module _ (m : Meaning) (laws : Laws m) (l : Layout) (limits : IsWithinLimits l) 
           (if b then (spots.ThunkWord q.descriptor (length q.opened), Loads) else (spots.DoneWord q.descriptor, Loads))
       by true e = enabled_by (kinds.LoadThunk None) (spots.ThunkWord q.descriptor (length q.opened), Loads) there
           (opens (kinds.LoadThunk None) _ (asks_when _ _ _ e))
-          (both_tests _ _ (below_test q.descriptor (descriptor_count l) descriptor) e)
+          (both_hold _ _ (below_test q.descriptor (descriptor_count l) descriptor) e)
       by false e = enabled_by kinds.LoadDone (spots.DoneWord q.descriptor, Loads) there
           (opens kinds.LoadDone _ (asks_when _ _ _ (ap (λ n. n == 12) (last (length q.opened) low e))))
           (below_test q.descriptor (descriptor_count l) descriptor)
@@ -172,7 +170,7 @@ module _ (m : Meaning) (laws : Laws m) (l : Layout) (limits : IsWithinLimits l) 
 
       -- a commit
       log_fit : is_of_end micro ≡ false → (k : ℕ) → commits_to micro ≡ Some k → fits sizes (spots.LogWord q.descriptor k) ≡ true
-      log_fit inner k commits = both_tests _ _ (below_test q.descriptor (descriptor_count l) descriptor)
+      log_fit inner k commits = both_hold _ _ (below_test q.descriptor (descriptor_count l) descriptor)
           (below_test k 64 (log_low m l g s whole r q is all q.at k micro (line_at inner) commits))
 
       -- a lock of the section: a word in the table, and room for two versions
@@ -187,7 +185,7 @@ module _ (m : Meaning) (laws : Laws m) (l : Layout) (limits : IsWithinLimits l) 
     done_fit = below_test q.descriptor (descriptor_count l) descriptor
 
     hold_test : (word : ℕ) → suc (suc (version_of word)) ≤ l.version_max → can_hold l q.descriptor word ≡ true
-    hold_test word room = both_tests _ _ (below_test q.descriptor (descriptor_count l) descriptor) (below_test (version_of word) l.version_max (omega arith))
+    hold_test word room = both_hold _ _ (below_test q.descriptor (descriptor_count l) descriptor) (below_test (version_of word) l.version_max (omega arith))
 
     -- the agreed word of a Store's register passed its check
     module _ (place k : ℕ) (v : Source) (at : micro_at (line_of m q) q.at ≡ micros.ExchangeCell place k v) where
@@ -272,9 +270,9 @@ module _ (m : Meaning) (laws : Laws m) (l : Layout) (limits : IsWithinLimits l) 
           let slot = slot_in (make_slot q.made p.nodes.free) in
           let mine = own (make_slot q.made p.nodes.free) refl the_slot in
           let five = low_cell (m.body t) (shape m l g s whole r q is all) q.at cell k at_load in record {
-            asked = asks_when _ _ _ (both_tests _ _
-                (both_tests _ _ (below_test slot (slot_count l m.fixed_slots) mine.1) (below_test cell 5 five))
-                (both_tests _ _ mine.0 (same_test cell)));
+            asked = asks_when _ _ _ (both_hold _ _
+                (both_hold _ _ (below_test slot (slot_count l m.fixed_slots) mine.1) (below_test cell 5 five))
+                (both_hold _ _ mine.0 (same_test cell)));
             fit = below_test (cell_of m.fixed_cells slot cell) (cell_count m l) (cell_low m.fixed_cells (slot_count l m.fixed_slots) slot cell mine.1 five);
           }
 
@@ -298,11 +296,11 @@ module _ (m : Meaning) (laws : Laws m) (l : Layout) (limits : IsWithinLimits l) 
           let next : make.next ≡ cell = some_same make.next cell (sym make.at ∙ ap filling at_store) in
           let room : version_of q.word < l.version_max = subst (λ n. version_of n < l.version_max) (sym word) (make.room cell (omega arith) five) in
           let same : slot_in q.made ≡ slot = ap slot_in made in record {
-            asked = asks_when _ _ _ (both_tests _ _
-                (both_tests _ _ (below_test (slot_in q.made) (slot_count l m.fixed_slots) (subst (λ n. n < slot_count l m.fixed_slots) (sym same) low))
+            asked = asks_when _ _ _ (both_hold _ _
+                (both_hold _ _ (below_test (slot_in q.made) (slot_count l m.fixed_slots) (subst (λ n. n < slot_count l m.fixed_slots) (sym same) low))
                 (below_test cell 5 five))
-                (both_tests _ _ (ap (λ (o : Option ℕ). is_slot o (slot_in o)) made ∙ same_test slot)
-                (both_tests _ _ (same_test cell) (both_tests _ _ (below_test (version_of q.word) l.version_max room)
+                (both_hold _ _ (ap (λ (o : Option ℕ). is_slot o (slot_in o)) made ∙ same_test slot)
+                (both_hold _ _ (same_test cell) (both_hold _ _ (below_test (version_of q.word) l.version_max room)
                 (same_test (next_word q.word (source_value q.trail v)))))));
             fit = below_test (cell_of m.fixed_cells (slot_in q.made) cell) (cell_count m l)
                 (cell_low m.fixed_cells (slot_count l m.fixed_slots) (slot_in q.made) cell (subst (λ n. n < slot_count l m.fixed_slots) (sym same) low) five);
@@ -387,7 +385,7 @@ module _ (m : Meaning) (laws : Laws m) (l : Layout) (limits : IsWithinLimits l) 
         let room = lock_room (micros.Release place word) ahead place word lock in
         let held = held_word q.descriptor word in
         let risen = version_held q.descriptor word (section_sound m l g s whole r q is).published.link in record {
-          asked = asks_when _ _ _ (both_tests _ _ (hold_test word room) (below_test (version_of held) l.version_max (omega arith)));
+          asked = asks_when _ _ _ (both_hold _ _ (hold_test word room) (below_test (version_of held) l.version_max (omega arith)));
           fit = below_test place (cell_count m l) (lock_fit (micros.Release place word) ahead place word lock);
         }
     next_goes micros.End ahead has = absurd (let z = sym ((known.next r q is).next all) ∙ ap is_end ahead in cc)
@@ -438,4 +436,4 @@ reached_known m laws l limits rs allowed w reached =
 pub reached_enabled : (m : Meaning) → Laws m → (l : Layout) → IsWithinLimits l → (rs : List Request) → AreAllowed rs → (w : World)
     → Reached m l rs w → NextIsEnabled m l rs (sight m l rs w)
 reached_enabled m laws l limits rs allowed w reached =
-    next_enabled m laws l limits rs allowed.few (sight m l rs w) (reached_known m laws l limits rs allowed w reached)
+    next_enabled m laws l limits rs allowed.in_order.few (sight m l rs w) (reached_known m laws l limits rs allowed w reached)

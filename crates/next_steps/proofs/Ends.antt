@@ -10,6 +10,7 @@ use Rattle.table_words.specs.declared.layout.Layout.{Layout}
 use Rattle.table_words.specs.declared.spot.Spot.{Spot}
 use Rattle.table_words.specs.declared.access.Access.{Access}
 use Rattle.table_words.specs.Limits.{IsWithinLimits}
+use Rattle.table_words.specs.Places.{slot_count}
 use Rattle.structure_laws.specs.Meaning.{Meaning}
 use Rattle.structure_laws.specs.Laws.{Laws}
 use Rattle.runner_parts.specs.declared.stage.Stage.{Stage}
@@ -299,7 +300,7 @@ module _ (m : Meaning) (l : Layout) (p : PartState) (none : p.run ≡ None) (fou
   outside_next (kinds.Join worker) = no_run _ refl
   outside_next (kinds.LoadCell (Some place)) = no_run _ refl
   outside_next (kinds.LoadEntry request reply) = no_run _ refl
-  outside_next (kinds.PrivateLoad slot word) = no_run _ refl
+  outside_next (kinds.PrivateLoad slot word) = if_next m (nat_lt slot (slot_count l m.fixed_slots)) _ _ (no_run _ refl) (no_run _ refl)
   outside_next (kinds.PrivateStore slot word number) = no_run _ refl
   outside_next (kinds.Hold thunk d) = if_next m (found == thunk.word) _ _ (no_run _ refl) (no_run _ refl)
   outside_next (kinds.LoadThunk (Some d)) = begun_next d

@@ -50,9 +50,7 @@ use Rattle.machine_scenes.proofs.Shown.{shown_open}
 use Rattle.machine_scenes.proofs.Links.{gives}
 use Rattle.machine_invariant.specs.Whole.{Beside, states_of, IsWhole}
 use Rattle.next_steps.specs.Rooms.{cell_count}
-
-pub clash : {A : Type 0} {b : Bool} → b ≡ true → b ≡ false → A
-clash e e' = absurd (cc)
+use Rattle.machine_invariant.proofs.Basics.{not_both}
 
 -- a number that a list doesn't have
 pub unlisted : (xs : List ℕ) (d : ℕ) → has xs d ≡ false → times d xs ≡ 0
@@ -176,9 +174,9 @@ module _ (m : Meaning) (laws : Laws m) (l : Layout) (limits : IsWithinLimits l) 
       self r = grind (arith, nat_tests)
 
       out : (p : Location) → g.epochs.location at ≡ p → is_out p ≡ true
-      out locations.Fixed e = clash (ap is_for_nodes e) beyond
-      out (locations.Hand r) e = clash (ap is_for_nodes e) beyond
-      out (locations.Worn r) e = clash (ap is_for_nodes e) beyond
+      out locations.Fixed e = not_both (ap is_for_nodes e) beyond
+      out (locations.Hand r) e = not_both (ap is_for_nodes e) beyond
+      out (locations.Worn r) e = not_both (ap is_for_nodes e) beyond
       out locations.Live e = refl
       out (locations.Limbo r y) e = refl
       out (locations.Free r) e = absurd (
@@ -293,7 +291,7 @@ module _ (m : Meaning) (l : Layout) (d : ℕ) (p : PartState) where
     outside_free (kinds.Join worker) h = by_same _ refl
     outside_free (kinds.LoadCell (Some place)) h = by_same _ refl
     outside_free (kinds.LoadEntry request reply) h = by_same _ refl
-    outside_free (kinds.PrivateLoad slot word) h = by_same _ refl
+    outside_free (kinds.PrivateLoad slot word) h = if_free (nat_lt slot (slot_count l m.fixed_slots)) _ _ (by_same _ refl) (by_same _ refl)
     outside_free (kinds.PrivateStore slot word number) h = by_same _ refl
     outside_free (kinds.Hold t d') h = hold_free t d' (not_at d' h)
       where

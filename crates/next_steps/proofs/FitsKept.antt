@@ -44,7 +44,8 @@ use Rattle.next_steps.specs.Rooms.{ThunkFits, ThunksFit}
 use Rattle.next_steps.proofs.Reaching.{IsStep, reached_keeps}
 use Rattle.next_steps.proofs.Parts.{each_part}
 use Rattle.next_steps.proofs.Runs.{OutOfRun, out_of_run}
-use Rattle.next_steps.proofs.Fits.{clash, open_fits, used_here, LeavesFree, by_same, inside_free, publishes_at, outside_free}
+use Rattle.next_steps.proofs.Fits.{open_fits, used_here, LeavesFree, by_same, inside_free, publishes_at, outside_free}
+use Rattle.machine_invariant.proofs.Basics.{not_both}
 
 module _ (m : Meaning) (laws : Laws m) (l : Layout) (limits : IsWithinLimits l) (rs : List Request) (s s' : Sight) (r : ℕ) where
   abbrev p : PartState
@@ -67,7 +68,7 @@ module _ (m : Meaning) (laws : Laws m) (l : Layout) (limits : IsWithinLimits l) 
     thunk_by (kinds.PrivateStore slot word number) same None e d unfree =
         let h = private_store_asked m l slot word number p x e in
         let d1 = slot - slot_count l m.fixed_slots in
-        let ne : d ≢ d1 = λ here. clash (ap (has p.descriptors.free) here ∙ h.0) unfree in
+        let ne : d ≢ d1 = λ here. not_both (ap (has p.descriptors.free) here ∙ h.0) unfree in
         thunk_same (put s.word x.0 (written x.1 (s.word x.0))) s.word d (λ j.
         subst (λ (y : Spot × Access). put s.word y.0 (written y.1 (s.word y.0)) (spots.ThunkWord d j) ≡ s.word (spots.ThunkWord d j)) h.1
         (other_thunk s.word d1 word number d j ne))
@@ -157,7 +158,7 @@ module _ (m : Meaning) (laws : Laws m) (l : Layout) (limits : IsWithinLimits l) 
 pub first_fits : (m : Meaning) (laws : Laws m) (l : Layout) (limits : IsWithinLimits l) (rs : List Request) (w : World)
     → IsFirst m l rs w → ThunksFit m l rs (sight m l rs w)
 first_fits m laws l limits rs w start d few unfree =
-    clash (used_here m laws l limits (first_beside m laws l limits rs w start) (sight m l rs w)
+    not_both (used_here m laws l limits (first_beside m laws l limits rs w start) (sight m l rs w)
     (first_whole m laws l limits rs w start) d few unfree) refl
 
 pub reached_fits : (m : Meaning) → Laws m → (l : Layout) → IsWithinLimits l → (rs : List Request) → AreAllowed rs → (w : World)

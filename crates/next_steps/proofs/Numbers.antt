@@ -34,8 +34,9 @@ use Rattle.machine_invariant.proofs.Asked.{entered_at}
 use Rattle.next_steps.specs.Numbers.{PartFits, NumbersFit}
 use Rattle.next_steps.proofs.Reaching.{IsStep, reached_keeps}
 use Rattle.next_steps.proofs.Parts.{each_part}
-use Rattle.next_steps.proofs.Fits.{clash, safe_within}
+use Rattle.next_steps.proofs.Fits.{safe_within}
 use Rattle.next_steps.proofs.PartNumbers.{inside_fits, outside_fits}
+use Rattle.machine_invariant.proofs.Basics.{not_both}
 
 abbrev PartsFit : Meaning → Layout → Sight → Type 0
 PartsFit m l s = (r : ℕ) → PartFits m l (s.part r)
@@ -95,10 +96,10 @@ module _ (m : Meaning) (l : Layout) (rs : List Request) (w : World) (start : IsF
   first_parts_fit : PartsFit m l (sight m l rs w)
   first_parts_fit r = record {
     free = first_free r;
-    limbo = λ d e. absurd (let none = first_of (λ p. has (slots_of p.descriptors.limbo) d ≡ false) refl (λ k. refl) refl r in clash e none);
+    limbo = λ d e. absurd (let none = first_of (λ p. has (slots_of p.descriptors.limbo) d ≡ false) refl (λ k. refl) refl r in not_both e none);
     published = λ x e. some_none x (sym (first_of (λ p. p.published ≡ None) refl (λ k. refl) refl r) ∙ e);
-    read = λ place word e. clash e (first_of (λ p. has_pair p.reads.cells place word ≡ false) refl (λ k. refl) refl r);
-    walked = λ place word e. clash e (first_of (λ p. has_pair p.reads.walk place word ≡ false) refl (λ k. refl) refl r);
+    read = λ place word e. not_both e (first_of (λ p. has_pair p.reads.cells place word ≡ false) refl (λ k. refl) refl r);
+    walked = λ place word e. not_both e (first_of (λ p. has_pair p.reads.walk place word ≡ false) refl (λ k. refl) refl r);
   }
 
 module _ (m : Meaning) (laws : Laws m) (l : Layout) (limits : IsWithinLimits l) (g : Beside) (s : Sight) (whole : IsWhole m l g s) where

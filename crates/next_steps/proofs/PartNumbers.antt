@@ -11,7 +11,7 @@ use Rattle.table_words.specs.declared.layout.Layout.{Layout}
 use Rattle.table_words.specs.declared.spot.Spot.{Spot}
 use Rattle.table_words.specs.declared.spot.Spot.TheVariants as spots
 use Rattle.table_words.specs.declared.access.Access.{Access}
-use Rattle.table_words.specs.Places.{Fits, descriptor_count}
+use Rattle.table_words.specs.Places.{Fits, slot_count, descriptor_count}
 use Rattle.structure_laws.specs.Meaning.{Meaning}
 use Rattle.runner_parts.specs.declared.entries.Published.{Published}
 use Rattle.runner_parts.specs.declared.entries.Retired.{Retired}
@@ -266,7 +266,8 @@ module _ (m : Meaning) (l : Layout) (p : PartState) (old : PartFits m l p) where
     outside_fits rs r (kinds.LoadCell (Some place)) x fit e = let h = outside_asked.read_asked m place p x e in
         walk_fits place (subst (λ (y : Spot × Access). Fits (sizes_for m l rs) y.0) (sym h.2) fit)
     outside_fits rs r (kinds.LoadEntry request reply) x fit e = by_fields _ refl refl refl refl refl
-    outside_fits rs r (kinds.PrivateLoad slot word) x fit e = by_fields _ refl refl refl refl refl
+    outside_fits rs r (kinds.PrivateLoad slot word) x fit e = if_fits (nat_lt slot (slot_count l m.fixed_slots)) _ _ (by_fields _ refl refl refl refl refl)
+        (by_fields _ refl refl refl refl refl)
     outside_fits rs r (kinds.PrivateStore slot word number) x fit e = by_fields _ refl refl refl refl refl
     outside_fits rs r (kinds.Hold t d) x fit e = let h = outside_asked.hold_asked m l rs r t d p x e in
         hold_fits t d (subst (λ (y : Spot × Access). Fits (sizes_for m l rs) y.0) (sym h.is) fit) h.few

@@ -17,9 +17,7 @@ use Rattle.runner_steps.specs.AfterOutside as outside
 use Rattle.machine_epochs.proofs.Places.{has_append}
 use Rattle.next_steps.specs.Rooms.{CellHasRoom, MakeHasRoom, SlotsHaveRoom}
 use Rattle.next_steps.proofs.Tests.{without_has, without_not, either_has, test_slot, tests_without_other, tests_without_own, tests_push_own, tests_push_other}
-
-clash : {A : Type 0} {b : Bool} → b ≡ true → b ≡ false → A
-clash e e' = absurd (cc)
+use Rattle.machine_invariant.proofs.Basics.{not_both}
 
 -- the slots that Makes may take or look at, and what was looked at, are the same
 pub record SameNodes (n n' : NodesState) : Type 0 where
@@ -38,7 +36,7 @@ first_no : (xs ys : List ℕ) (t : ℕ) → has (xs ++ ys) t ≡ false → has x
 first_no xs ys t e = by (has xs t) refl
   where
     by : (b : Bool) → has xs t ≡ b → b ≡ false
-    by true one = clash (has_append xs ys t ∙ ap (λ b. b || has ys t) one) e
+    by true one = not_both (has_append xs ys t ∙ ap (λ b. b || has ys t) one) e
     by false one = refl
 
 one_has : (a t : ℕ) → has (a ∷ []) t ≡ true → t ≡ a
@@ -126,7 +124,7 @@ module _ (m : Meaning) (l : Layout) (word : Spot → ℕ) where
         old.looked t i hand (ap (λ (y : Tested). y.worn) (sym entry) ∙ unworn) (subst (λ (y : Tested). i < y.cells) entry low) five)
         (cases_eq t x.slot);
     unlooked = λ t no_hand. ⊎_elim
-        (λ same. clash (ap (has p.nodes.hand) same ∙ own) no_hand)
+        (λ same. not_both (ap (has p.nodes.hand) same ∙ own) no_hand)
         (λ ne. ap (λ (y : Tested). y.cells) (tests_push_other p.nodes.tests x t ne) ∙ old.unlooked t no_hand)
         (cases_eq t x.slot);
     unlooked_made = λ q t at made. absurd (none.never q t at made);

@@ -29,7 +29,7 @@ use Rattle.runner_parts.specs.declared.event.EventKind.{EventKind}
 use Rattle.runner_parts.specs.declared.event.EventKind.TheVariants as kinds
 use Rattle.runner_parts.specs.State.{RunState, PartState}
 use Rattle.runner_parts.specs.Tests.{has, is_resting}
-use Rattle.runner_parts.specs.Lists.{test_of, slot_made, slot_back}
+use Rattle.runner_parts.specs.Lists.{test_of, slot_made, slot_back, nodes_looked, descriptor_stored}
 use Rattle.runner_steps.specs.Sections.{thunk_of, is_open_run, line_of, next_of, setting_of}
 use Rattle.runner_steps.specs.InRun.{is_slot, make_slot}
 use Rattle.runner_steps.specs.Outside.{last_epoch, private_load_ask, when, descriptor_spot}
@@ -57,11 +57,12 @@ use Rattle.next_steps.specs.Rooms.{filling, CellHasRoom, MakeHasRoom, SlotsHaveR
 use Rattle.next_steps.proofs.Reaching.{IsStep}
 use Rattle.next_steps.proofs.Parts.{each_part}
 use Rattle.next_steps.proofs.Tests.{last_listed}
-use Rattle.next_steps.proofs.Fits.{clash, unlisted}
+use Rattle.next_steps.proofs.Fits.{unlisted}
 use Rattle.next_steps.proofs.Standing.{IsOwn, own_node, cell_stands}
 use Rattle.next_steps.proofs.Filling.{store_next, rests_behind, fills_slot, in_no_make}
 use Rattle.next_steps.proofs.RoomParts.{SameNodes, same_nodes, MakesNone, kept_room, collected_room, back_room, looked_room, taken_room, going_room, made_room}
 use Rattle.next_steps.proofs.SlotFrames.{inside_slots, outside_slots}
+use Rattle.machine_invariant.proofs.Basics.{not_both}
 
 module _ (m : Meaning) (l : Layout) (g : Beside) (s : Sight) (whole : IsWhole m l g s) where
   -- the slot that a Make fills is in the hand, and not free
@@ -128,8 +129,8 @@ module _ (m : Meaning) (laws : Laws m) (l : Layout) (limits : IsWithinLimits l) 
   making_fills _ h = refl
 
   storing_fills : (kind : EventKind) → fills_slot kind ≡ false → is_private_store m l kind ≡ true → ⊥
-  storing_fills (kinds.PrivateStore slot word number) h e = clash e h
-  storing_fills _ h e = clash e refl
+  storing_fills (kinds.PrivateStore slot word number) h e = not_both e h
+  storing_fills _ h e = not_both e refl
 
   none_some : {A : Type 0} {n : ℕ} {o : Option ℕ} → o ≡ None → o ≡ Some n → A
   none_some e e' = absurd (cc)
@@ -201,7 +202,7 @@ module _ (m : Meaning) (laws : Laws m) (l : Layout) (limits : IsWithinLimits l) 
             store = (is_ordered (m.body (thunk_of q.opened))).fill_next q.at cell h.0 here
 
             words : SlotsHaveRoom m l s'.word p
-            words = same_words (kinds.PrivateLoad slot cell) st (λ z. clash z refl)
+            words = same_words (kinds.PrivateLoad slot cell) st (λ z. not_both z refl)
 
             found : ℕ
             found = s.word st.step.ask.0
@@ -257,7 +258,7 @@ module _ (m : Meaning) (laws : Laws m) (l : Layout) (limits : IsWithinLimits l) 
             subst (λ (o : Option ℕ). SlotsHaveRoom m l s'.word (inside.make_committed m l p q o (s.word st.step.ask.0))) (sym h.3) (by h.1 h.3 (s.word st.step.ask.0 == 0))
           where
             words : SlotsHaveRoom m l s'.word p
-            words = same_words kinds.MakeCommit st (λ z. clash z refl)
+            words = same_words kinds.MakeCommit st (λ z. not_both z refl)
 
             found : ℕ
             found = s.word st.step.ask.0
@@ -384,7 +385,7 @@ module _ (m : Meaning) (laws : Laws m) (l : Layout) (limits : IsWithinLimits l) 
 
   opens : (b : Bool) (y z : PartState) → b ≡ true → SlotsHaveRoom m l s'.word y → SlotsHaveRoom m l s'.word (if b then y else z)
   opens true y z e h = h
-  opens false y z e h = clash e refl
+  opens false y z e h = not_both e refl
 
   -- a step of a run
   module _ (old : SlotsHaveRoom m l s.word p) (q : RunState) (is : p.run ≡ Some q) where
@@ -453,7 +454,7 @@ module _ (m : Meaning) (laws : Laws m) (l : Layout) (limits : IsWithinLimits l) 
                 (λ held. ne (hand_same i r (sym (hand_node m l st.beside.epochs s st.whole.slots i t node held)
                 ∙ hand_node m l st.beside.epochs s st.whole.slots r t node (ap (has p.nodes.hand) (sym same) ∙ hand))))
                 own
-    store_apart i t j ne own five kind st store met = clash store refl
+    store_apart i t j ne own five kind st store met = not_both store refl
 
   -- a step outside a run
   module _ (old : SlotsHaveRoom m l s.word p) (none : p.run ≡ None) where
@@ -462,7 +463,7 @@ module _ (m : Meaning) (laws : Laws m) (l : Layout) (limits : IsWithinLimits l) 
         (λ t j own five. cell_stands m laws l limits rs allowed s s' r r t j own five (kinds.PrivateStore slot word number) st (λ store met.
         let h = private_store_asked m l slot word number p st.step.ask e in
         absurd (descriptor_no_cell _ word _ (ap (λ (y : Spot × Access). y.0) h.1 ∙ met)))) old
-    outside_words kind st e = same_words old kind st (λ store. clash store refl)
+    outside_words kind st e = same_words old kind st (λ store. not_both store refl)
 
     makes_none : (kind : EventKind) (found : ℕ) → MakesNone (outside_after m l kind p found)
     makes_none kind found = record { never = λ q t at made. none_some ((outside_made m l p none found kind).nothing q at) made }
@@ -471,11 +472,7 @@ module _ (m : Meaning) (laws : Laws m) (l : Layout) (limits : IsWithinLimits l) 
     look_step : (slot cell : ℕ) (st : IsStep m l rs s s' r (kinds.PrivateLoad slot cell))
         → private_load_ask m l slot cell p ≡ Some st.step.ask
         → SlotsHaveRoom m l s'.word (outside_after m l (kinds.PrivateLoad slot cell) p (s.word st.step.ask.0))
-    look_step slot cell st e = looked_room m l s'.word p slot cell (s.word st.step.ask.0) (outside_words (kinds.PrivateLoad slot cell) st e)
-        (λ hand low. let met = place hand in
-        let stands = cell_stands m laws l limits rs allowed s s' r r slot cell (inr hand) low (kinds.PrivateLoad slot cell) st (λ store. clash store refl) in
-        let found = ap s.word (sym met) ∙ sym stands in (found, subst (λ n. version_of n ≤ l.version_max) (ap s.word met) (version_most m l st.beside s st.whole (cell_of m.fixed_cells slot cell))))
-        (outside_after m l (kinds.PrivateLoad slot cell) p (s.word st.step.ask.0)) refl (makes_none (kinds.PrivateLoad slot cell) (s.word st.step.ask.0))
+    look_step slot cell st e = by (nat_lt slot (slot_count l m.fixed_slots)) (makes_none (kinds.PrivateLoad slot cell) (s.word st.step.ask.0))
       where
         below_test : (a b : ℕ) → a < b → nat_lt a b ≡ true
         below_test a b h = grind (arith, nat_tests)
@@ -489,6 +486,29 @@ module _ (m : Meaning) (laws : Laws m) (l : Layout) (limits : IsWithinLimits l) 
             then when (is_resting p.stage p.run && (nat_lt cell 5 && (has p.nodes.free slot || has p.nodes.hand slot))) (spots.Cell (cell_of m.fixed_cells slot cell)) Loads
             else when (is_resting p.stage p.run && has p.descriptors.free (slot - slot_count l m.fixed_slots)) (descriptor_spot (slot - slot_count l m.fixed_slots) cell) Loads)
             (sym test) ∙ e)).1
+
+        found : ℕ
+        found = s.word st.step.ask.0
+
+        words : SlotsHaveRoom m l s'.word p
+        words = outside_words (kinds.PrivateLoad slot cell) st e
+
+        finds : has p.nodes.hand slot ≡ true → cell < 5
+            → (found ≡ s'.word (spots.Cell (cell_of m.fixed_cells slot cell))) × (version_of found ≤ l.version_max)
+        finds hand low =
+            let met = place hand in
+            let stands = cell_stands m laws l limits rs allowed s s' r r slot cell (inr hand) low (kinds.PrivateLoad slot cell) st
+            (λ store. not_both store refl) in (
+              ap s.word (sym met) ∙ sym stands,
+              subst (λ n. version_of n ≤ l.version_max) (ap s.word met) (version_most m l st.beside s st.whole (cell_of m.fixed_cells slot cell)),
+            )
+
+        by : (b : Bool) → MakesNone (if b then record p { nodes = nodes_looked l p.nodes slot cell found }
+            else record p { descriptors = descriptor_stored p.descriptors (slot - slot_count l m.fixed_slots) cell found })
+            → SlotsHaveRoom m l s'.word (if b then record p { nodes = nodes_looked l p.nodes slot cell found }
+            else record p { descriptors = descriptor_stored p.descriptors (slot - slot_count l m.fixed_slots) cell found })
+        by true none = looked_room m l s'.word p slot cell found words finds _ refl none
+        by false none = kept_room m l s'.word p _ (same_nodes p.nodes) none words
 
     either_room : (b : Bool) (y z : PartState) → (MakesNone y → SlotsHaveRoom m l s'.word y) → (MakesNone z → SlotsHaveRoom m l s'.word z)
         → MakesNone (if b then y else z) → SlotsHaveRoom m l s'.word (if b then y else z)

@@ -29,9 +29,9 @@ use Rattle.machine_invariant.specs.Whole.{Beside, states_of, IsWhole}
 use Rattle.machine_invariant.proofs.First.{first_beside, first_whole}
 use Rattle.next_steps.specs.Rooms.{RoomsStand}
 use Rattle.next_steps.proofs.Reaching.{reached_keeps}
-use Rattle.next_steps.proofs.Fits.{clash}
 use Rattle.next_steps.proofs.Standing.{own_node, own_free}
 use Rattle.next_steps.proofs.RoomsKept.{rooms_kept}
+use Rattle.machine_invariant.proofs.Basics.{not_both}
 
 module _ (m : Meaning) (laws : Laws m) (l : Layout) (limits : IsWithinLimits l) (rs : List Request) (w : World) (start : IsFirst m l rs w) where
   abbrev s : Sight
@@ -80,7 +80,7 @@ module _ (m : Meaning) (laws : Laws m) (l : Layout) (limits : IsWithinLimits l) 
     free = λ t j own five. subst (λ n. version_of n < l.version_max) (sym (first_cell i t j own five))
         (let some = limits.some_versions in let one = first_version in omega arith);
     made = λ q t is made. some_none q (sym (no_run i) ∙ is);
-    looked = λ t j own. clash own (no_hand i t);
+    looked = λ t j own. not_both own (no_hand i t);
     unlooked = λ t none. no_tests i t;
     unlooked_made = λ q t is made. no_tests i t;
   }

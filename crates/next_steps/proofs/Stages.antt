@@ -45,7 +45,7 @@ module _ (m : Meaning) (laws : Laws m) (l : Layout) (limits : IsWithinLimits l) 
     known = reached_known m laws l limits rs allowed is.world is.reached
 
     enabled : NextIsEnabled m l rs s
-    enabled = next_enabled m laws l limits rs allowed.few s known
+    enabled = next_enabled m laws l limits rs allowed.in_order.few s known
 
     seen : s.part r ≡ p
     seen = ap part_or_first is.own
@@ -117,7 +117,7 @@ module _ (m : Meaning) (l : Layout) (r : ℕ) (p : PartState) (q : RunState) (ru
         nodes = h.nodes;
         reads = h.reads;
         published = h.published;
-        finished = noted_finished l r kind x.0 (written x.1 found) (after_by m l kind p p.run found).records ∙ h.finished;
+        finished = noted_finished l r kind x.0 x.1 found (after_by m l kind p p.run found).records ∙ h.finished;
         descriptors = h.descriptors;
         stage = h.stage;
         present = h.present;

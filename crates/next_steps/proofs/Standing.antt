@@ -188,7 +188,7 @@ module _ (m : Meaning) (laws : Laws m) (l : Layout) (limits : IsWithinLimits l) 
       let walk = (s.part r).reads.walk in
       let low = own_node m laws l limits g s st.whole i t own in
       let free = own_free m laws l limits g s st.whole i t own in
-      let op = request_allowed m laws l limits rs allowed.few allowed.each g s st.whole r (kinds.Hold thunk d) st.step.ask st.step.asked
+      let op = request_allowed m laws l limits rs allowed.in_order.few allowed.each g s st.whole r (kinds.Hold thunk d) st.step.ask st.step.asked
       thunk.request h.request h.of_request in
       let shaped = (laws.over l limits).shape (scene_of m (counts_of m l) j0) st.whole.kept.lawful.sound st.whole.kept.lawful.kept r walk h.request.op thunk
       (ap (λ (b : Bool). cond b (Some walk) None) entered) op h.serves in

@@ -26,6 +26,7 @@ use Rattle.machine_states.proofs.Steps.{some_same}
 use Rattle.machine_states.proofs.Updates.{put_same}
 use Rattle.machine_epochs.proofs.InsideAsked as inside
 use Rattle.machine_epochs.proofs.OutsideAsked as outside
+use Rattle.machine_invariant.proofs.Basics.{not_both}
 
 -- what a step on a word may change
 pub data Touched : Type 0 where
@@ -191,27 +192,24 @@ not_cell : (f : Spot → ℕ) (a : Spot) (v p : ℕ) → (changed a ≡ ACell �
 not_cell f (spots.Cell p') v p ne = absurd (ne refl)
 not_cell f _ v p ne = refl
 
-clash : {A : Type 0} {b : Bool} → b ≡ true → b ≡ false → A
-clash e e' = absurd (cc)
-
 module _ (f : Spot → ℕ) (a : Spot) (kind : EventKind) where
   pub clock_same : (access : Access) → raises_clock kind ≡ false → May kind (a, access)
       → put f a (written access (f a)) spots.Clock ≡ f spots.Clock
   clock_same Loads never h = ap (λ (g : Spot → ℕ). g spots.Clock) (put_same f a)
-  clock_same (Stores number) never h = not_clock f a _ (λ e. clash (sym (ap (may kind) e) ∙ h) never)
-  clock_same (Exchanges old new) never h = not_clock f a _ (λ e. clash (sym (ap (may kind) e) ∙ h) never)
-  clock_same (Raises number) never h = not_clock f a _ (λ e. clash (sym (ap (may kind) e) ∙ h) never)
+  clock_same (Stores number) never h = not_clock f a _ (λ e. not_both (sym (ap (may kind) e) ∙ h) never)
+  clock_same (Exchanges old new) never h = not_clock f a _ (λ e. not_both (sym (ap (may kind) e) ∙ h) never)
+  clock_same (Raises number) never h = not_clock f a _ (λ e. not_both (sym (ap (may kind) e) ∙ h) never)
 
   pub stamp_same : (access : Access) (q : ℕ) → stamps kind ≡ false → May kind (a, access)
       → put f a (written access (f a)) (spots.Stamp q) ≡ f (spots.Stamp q)
   stamp_same Loads q never h = ap (λ (g : Spot → ℕ). g (spots.Stamp q)) (put_same f a)
-  stamp_same (Stores number) q never h = not_stamp f a _ q (λ e. clash (sym (ap (may kind) e) ∙ h) never)
-  stamp_same (Exchanges old new) q never h = not_stamp f a _ q (λ e. clash (sym (ap (may kind) e) ∙ h) never)
-  stamp_same (Raises number) q never h = not_stamp f a _ q (λ e. clash (sym (ap (may kind) e) ∙ h) never)
+  stamp_same (Stores number) q never h = not_stamp f a _ q (λ e. not_both (sym (ap (may kind) e) ∙ h) never)
+  stamp_same (Exchanges old new) q never h = not_stamp f a _ q (λ e. not_both (sym (ap (may kind) e) ∙ h) never)
+  stamp_same (Raises number) q never h = not_stamp f a _ q (λ e. not_both (sym (ap (may kind) e) ∙ h) never)
 
   pub cell_same : (access : Access) (p : ℕ) → changes_cells kind ≡ false → May kind (a, access)
       → put f a (written access (f a)) (spots.Cell p) ≡ f (spots.Cell p)
   cell_same Loads p never h = ap (λ (g : Spot → ℕ). g (spots.Cell p)) (put_same f a)
-  cell_same (Stores number) p never h = not_cell f a _ p (λ e. clash (sym (ap (may kind) e) ∙ h) never)
-  cell_same (Exchanges old new) p never h = not_cell f a _ p (λ e. clash (sym (ap (may kind) e) ∙ h) never)
-  cell_same (Raises number) p never h = not_cell f a _ p (λ e. clash (sym (ap (may kind) e) ∙ h) never)
+  cell_same (Stores number) p never h = not_cell f a _ p (λ e. not_both (sym (ap (may kind) e) ∙ h) never)
+  cell_same (Exchanges old new) p never h = not_cell f a _ p (λ e. not_both (sym (ap (may kind) e) ∙ h) never)
+  cell_same (Raises number) p never h = not_cell f a _ p (λ e. not_both (sym (ap (may kind) e) ∙ h) never)

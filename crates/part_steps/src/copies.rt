@@ -91,6 +91,7 @@ fn records_copy(alloc: Global, records: &Records) -> Result<Records, AllocError>
         known: Vec::from_slice(alloc, &records.known)?,
         finished: all_finished_copy(alloc, &records.finished)?,
         events: records.events,
+        won: records.won,
         left: Vec::from_slice(alloc, &records.left)?,
         splits: records.splits,
         joined: Vec::from_slice(alloc, &records.joined)?,

@@ -1,9 +1,9 @@
 //! The part after an event.
 ghost use Rattle.std.specs.Prelude.{◌≡◌, ◌<◌, length, OnOk};
 ghost use Rattle.table_words.specs.Limits.{IsWithinLimits};
-ghost use Rattle.table_words.specs.Access.{written};
+ghost use Rattle.table_words.specs.Access.{written, wins};
 ghost use Rattle.runner_steps.specs.AfterInRun.{with_run};
-ghost use Rattle.runner_steps.specs.After.{line_after, stepped, counted, left_more, noted, after};
+ghost use Rattle.runner_steps.specs.After.{line_after, stepped, counted, left_more, tallied, noted, after};
 
 use crate::inside::{place_of, reply_word_of, retired_slot_of};
 use crate::line::{
@@ -124,7 +124,18 @@ fn left_more(
     Ok(())
 }
 
-/// One more step was made, which left this number at this spot.
+/// One more step was made, which found this number; it is counted among those that won where it changed its word by an
+/// exchange or a raise.
+fn tally(records: &mut Records, access: Access, found: u64)
+    ensures { records.new ≡ tallied access found records.old }
+{
+    records.events = counted(records.events);
+    if access.wins(found) {
+        records.won = counted(records.won);
+    }
+}
+
+/// One more step was made, which found this number at this spot.
 fn note(
     records: &mut Records,
     alloc: Global,
@@ -132,13 +143,14 @@ fn note(
     runner: u32,
     kind: &EventKind,
     spot: Spot,
-    number: u64,
+    access: Access,
+    found: u64,
 ) -> Result<(), AllocError>
-    ensures { OnOk result (records.new ≡ noted layout runner kind.now spot number records.old) }
+    ensures { OnOk result (records.new ≡ noted layout runner kind.now spot access found records.old) }
 {
-    records.events = counted(records.events);
+    tally(records, access, found);
     if runner == layout.runners {
-        left_more(records, alloc, kind, spot, number)
+        left_more(records, alloc, kind, spot, access.written(found))
     } else {
         Ok(())
     }
@@ -167,6 +179,7 @@ pub fn after<S: Structure>(
         runner,
         kind,
         spot,
-        access.written(found),
+        access,
+        found,
     )
 }

@@ -142,9 +142,8 @@ pub fn over_if(published: Option<Published>, descriptor: u32) -> Option<Publishe
     match published {
         None => None,
         Some(section) => Some(Published {
-            descriptor: section.descriptor,
-            walked: section.walked,
             over: section.over || section.descriptor == descriptor,
+            ..section
         }),
     }
 }

@@ -1,7 +1,7 @@
 //! What an event outside a run makes of the part.
 ghost use Rattle.std.specs.Prelude.{◌≡◌, ◌≤◌, ◌<◌, ◌^◌, OnOk};
 ghost use Rattle.table_words.specs.Limits.{IsWithinLimits};
-ghost use Rattle.runner_steps.specs.AfterOutside.{with_stage, entered, collected, scanned, scan_one_after, advance_after, split_after, read_after, entry_after, private_load_after, private_store_after, hold_after, open_after, retire_after};
+ghost use Rattle.runner_steps.specs.AfterOutside.{with_stage, entered, collected, scanned, scan_one_after, advance_after, split_after, read_after, entry_after, private_load_after, private_store_after, published_by, hold_after, open_after, retire_after};
 ghost use Rattle.runner_parts.specs.Lists.{no_reads};
 ghost use Rattle.runner_steps.specs.After.{joins, outside_after};
 
@@ -120,6 +120,27 @@ fn read<S: Structure>(
     part.reads.walk_to(structure.is_lock(place), place, found)
 }
 
+/// A cell of a node slot was looked at, or a word of an own free descriptor is known, since nobody else stores there.
+fn looked<S: Structure>(
+    part: &mut Part,
+    alloc: Global,
+    structure: &S,
+    layout: Layout,
+    slot: u32,
+    word: u32,
+    found: u64,
+) -> Result<(), AllocError>
+    requires { IsWithinLimits layout }
+    ensures { OnOk result (part.new ≡ private_load_after (S.meaning structure.now) layout slot word part.old found) }
+{
+    let slots = slot_count(structure, layout);
+    if slot < slots {
+        part.nodes.looked(alloc, layout, slot, word, found)
+    } else {
+        part.descriptors.store(slot - slots, word, found)
+    }
+}
+
 fn stored<S: Structure>(
     part: &mut Part,
     structure: &S,
@@ -150,7 +171,9 @@ fn held(
         part.descriptors.take(alloc, descriptor)?;
         part.published = Some(Published {
             descriptor,
+            thunk: *thunk,
             walked: part.reads.walk.len(),
+            known: part.records.known.len(),
             over: false,
         });
         part.reads.publish(descriptor)
@@ -226,7 +249,7 @@ pub fn outside_after<S: Structure>(
             .records
             .learn(*request, *reply, found),
         EventKind::PrivateLoad { slot, word } => {
-            return part.nodes.looked(alloc, layout, *slot, *word, found);
+            return looked(part, alloc, structure, layout, *slot, *word, found);
         }
         EventKind::PrivateStore { slot, word, number } => {
             return stored(part, structure, layout, *slot, *word, *number);

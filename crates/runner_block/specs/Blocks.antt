@@ -1,5 +1,5 @@
 -- How a runner's block changes.
-use Rattle.std.specs.Prelude.{ℕ, ◌+◌, Bool, true, false, ◌==◌, ◌||◌, if◌then◌else◌}
+use Rattle.std.specs.Prelude.{ℕ, ◌+◌, Bool, true, false, ◌==◌, ◌||◌, nat_lt, if◌then◌else◌}
 use Rattle.section_body.specs.Word.{version_of}
 use Rattle.table_words.specs.declared.layout.Layout.{Layout}
 use Rattle.runner_parts.specs.Lists.{nodes_looked, slot_taken, slot_made, slot_back, slot_retired}
@@ -12,10 +12,14 @@ abbrev pub block_filling : Block → ℕ → Bool → Block
 block_filling b slot true = b
 block_filling b slot false = record { lists = with_nodes b.lists (slot_taken b.lists.part.nodes slot); place = record (b.place) { making = true; worn = false } }
 
+-- the block after a private load outside a run: of a descriptor nothing is kept
+abbrev pub block_found : Layout → Block → ℕ → ℕ → ℕ → Bool → Block
+block_found l b slot word found true = record b { lists = with_nodes b.lists (nodes_looked l b.lists.part.nodes slot word found) }
+block_found l b slot word found false = b
+
 -- the block after a private load
 abbrev pub block_looked : Layout → Block → ℕ → ℕ → ℕ → Block
-block_looked l b slot word found = if b.place.inside then block_filling b slot b.place.making
-    else record b { lists = with_nodes b.lists (nodes_looked l b.lists.part.nodes slot word found) }
+block_looked l b slot word found = if b.place.inside then block_filling b slot b.place.making else block_found l b slot word found (nat_lt slot b.lists.room)
 
 -- after a private store
 abbrev pub block_stored : Layout → Block → ℕ → Block

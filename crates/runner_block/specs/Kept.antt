@@ -1,5 +1,6 @@
 -- What a runner's code keeps of its part.
-use Rattle.std.specs.Prelude.{ℕ, Bool, Option, Some, None, false, if◌then◌else◌}
+use Rattle.std.specs.Prelude.{ℕ, [], Bool, Option, Some, None, false, if◌then◌else◌}
+use Rattle.section_body.specs.declared.thunk.Thunk.{Thunk}
 use Rattle.runner_parts.specs.declared.stage.Stage.{Stage}
 use Rattle.runner_parts.specs.declared.stage.Stage.TheVariants as stages
 use Rattle.runner_parts.specs.declared.entries.Published.{Published}
@@ -19,10 +20,14 @@ with_part kept p = record kept { part = p }
 abbrev pub with_nodes : KeptState → NodesState → KeptState
 with_nodes kept nodes = record kept { part = record (kept.part) { nodes = nodes } }
 
+-- the thunk of a published section isn't kept
+abbrev pub no_thunk : Thunk
+no_thunk = record { form = 0; request = 0; lock = 0; word = 0; operands = [] }
+
 -- the section that is published with this descriptor, as the code keeps it
 abbrev pub published_as : Option ℕ → Option Published
 published_as None = None
-published_as (Some descriptor) = Some (record { descriptor = descriptor; walked = 0; over = false })
+published_as (Some descriptor) = Some (record { descriptor = descriptor; thunk = no_thunk; walked = 0; known = 0; over = false })
 
 -- the epoch that a runner loaded and has to announce
 abbrev pub loaded_of : Stage → ℕ

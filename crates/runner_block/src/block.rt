@@ -27,14 +27,13 @@ impl Block {
     {
         if slot < node_slots {
             self.looked(layout, slot, word, found);
-        } else {
-            self.lists.has_nodes_in_hand();
         }
     }
 
     /// A cell of an own slot was loaded. In a run it is one of the slot that a Make fills, which the first such load takes.
     fn looked(&mut self, layout: Layout, slot: u32, word: u32, found: u64)
-        requires { MayTake self.old slot }
+        requires own { MayTake self.old slot }
+        requires node { slot < self.old.lists.room }
         ensures { self.new ≡ block_looked layout self.old slot word found }
     {
         if !self.place.inside {

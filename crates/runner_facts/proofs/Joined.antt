@@ -6,6 +6,7 @@ use Rattle.std.proofs.lemmas.Bool.{cases_eq}
 use Rattle.map_history.specs.declared.op.Request.{Request}
 use Rattle.table_words.specs.declared.layout.Layout.{Layout}
 use Rattle.table_words.specs.declared.spot.Spot.{Spot}
+use Rattle.table_words.specs.declared.access.Access.{Access}
 use Rattle.table_words.specs.Access.{written}
 use Rattle.table_words.specs.Limits.{IsWithinLimits}
 use Rattle.table_words.specs.Seen.{upd}
@@ -16,7 +17,7 @@ use Rattle.runner_parts.specs.declared.event.EventKind.TheVariants as kinds
 use Rattle.runner_parts.specs.State.{RunState, RecordsState, PartState}
 use Rattle.runner_parts.specs.Tests.{has}
 use Rattle.runner_steps.specs.Asks.{ask_by}
-use Rattle.runner_steps.specs.After.{after_by, after, counted, left_more, noted, knows_also, leaves}
+use Rattle.runner_steps.specs.After.{after_by, after, left_more, tallied, noted, knows_also, leaves}
 use Rattle.machine_states.specs.World.{World, is_join}
 use Rattle.machine_states.specs.Reached.{Reached}
 use Rattle.machine_states.specs.Sight.{Sight, sight}
@@ -26,23 +27,24 @@ use Rattle.machine_states.proofs.Updates.{upd_here, upd_else}
 use Rattle.machine_epochs.proofs.FirstJoin as FirstJoin
 use Rattle.machine_invariant.specs.After.{AreAllowed}
 use Rattle.machine_invariant.proofs.Sights.{after_is}
-use Rattle.next_steps.proofs.Fits.{clash}
 use Rattle.next_steps.proofs.Reaching.{IsStep, reached_keeps}
 use Rattle.next_steps.proofs.Tests.{either_has}
 use Rattle.next_steps.proofs.Runs.{out_of_run}
 use Rattle.runner_facts.specs.Facts.{JoinedAreGone}
 use Rattle.runner_facts.proofs.Keeping.{Keeps, inside_keeps, outside_keeps}
 use Rattle.runner_facts.proofs.Counts.{may_hold}
+use Rattle.machine_invariant.proofs.Basics.{not_both}
 
 left_joined : (z : RecordsState) (kind : EventKind) (spot : Spot) (n : ℕ) → (left_more z kind spot n).joined ≡ z.joined
 left_joined z (kinds.Join worker) spot n = refl
 left_joined z _ spot n = refl
 
-noted_joined : (l : Layout) (r : ℕ) (kind : EventKind) (spot : Spot) (n : ℕ) (z : RecordsState) → (noted l r kind spot n z).joined ≡ z.joined
-noted_joined l r kind spot n z = by (r == l.runners)
+noted_joined : (l : Layout) (r : ℕ) (kind : EventKind) (spot : Spot) (access : Access) (n : ℕ) (z : RecordsState)
+    → (noted l r kind spot access n z).joined ≡ z.joined
+noted_joined l r kind spot access n z = by (r == l.runners)
   where
-    by : (b : Bool) → (if b then left_more (record z { events = counted z.events }) kind spot n else record z { events = counted z.events }).joined ≡ z.joined
-    by true = left_joined (record z { events = counted z.events }) kind spot n
+    by : (b : Bool) → (if b then left_more (tallied access n z) kind spot (written access n) else tallied access n z).joined ≡ z.joined
+    by true = left_joined (tallied access n z) kind spot (written access n)
     by false = refl
 
 -- what two parts have that are alike for this
@@ -70,7 +72,7 @@ module _ (m : Meaning) (l : Layout) (rs : List Request) (s s' : Sight) (r : ℕ)
 
     own_alike : Alike p p'
     own_alike = record {
-      joined = noted_joined l r kind st.step.ask.0 (written st.step.ask.1 found) (after_by m l kind p p.run found).records ∙ keeps.joined;
+      joined = noted_joined l r kind st.step.ask.0 st.step.ask.1 found (after_by m l kind p p.run found).records ∙ keeps.joined;
       gone = keeps.gone;
     }
 
@@ -107,7 +109,7 @@ module _ (m : Meaning) (l : Layout) (rs : List Request) (s s' : Sight) (r : ℕ)
 
     -- the keeper has joined this worker besides
     keeper_joined : keeper.records.joined ≡ p.records.joined ++ worker ∷ []
-    keeper_joined = noted_joined l r join st.step.ask.0 (written st.step.ask.1 (s.word st.step.ask.0)) (after_by m l join p p.run (s.word st.step.ask.0)).records
+    keeper_joined = noted_joined l r join st.step.ask.0 st.step.ask.1 (s.word st.step.ask.0) (after_by m l join p p.run (s.word st.step.ask.0)).records
         ∙ ap (λ (o : Option RunState). (after_by m l join p o (s.word st.step.ask.0)).records.joined) outside
 
     keeper_gone : keeper.gone ≡ p.gone
@@ -144,6 +146,6 @@ pub reached_joined : (m : Meaning) → Laws m → (l : Layout) → IsWithinLimit
     → Reached m l rs w → JoinedAreGone l (sight m l rs w)
 reached_joined m laws l limits rs allowed w reached =
     reached_keeps m laws l limits rs allowed (JoinedAreGone l)
-    (λ v start worker has_it. clash has_it (subst (λ (p : PartState). has p.records.joined worker ≡ false) (sym (first_parts m l v.parts start.parts l.runners))
+    (λ v start worker has_it. not_both has_it (subst (λ (p : PartState). has p.records.joined worker ≡ false) (sym (first_parts m l v.parts start.parts l.runners))
     (FirstJoin.each_part m l (λ p. has p.records.joined worker ≡ false) refl (λ k. refl) refl l.runners)))
     (λ s s' r kind st old. gone_kept m l rs s s' r kind st old) w reached

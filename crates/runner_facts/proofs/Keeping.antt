@@ -8,6 +8,7 @@ use Rattle.section_body.specs.Line.{is_end}
 use Rattle.section_body.specs.declared.micro.Micro.{Micro}
 use Rattle.section_body.specs.declared.thunk.Thunk.{Thunk}
 use Rattle.table_words.specs.declared.layout.Layout.{Layout}
+use Rattle.table_words.specs.Places.{slot_count}
 use Rattle.structure_laws.specs.Meaning.{Meaning}
 use Rattle.runner_parts.specs.declared.entries.Published.{Published}
 use Rattle.runner_parts.specs.declared.stage.Stage.{Stage}
@@ -147,7 +148,8 @@ module _ (m : Meaning) (l : Layout) (p : PartState) where
     outside_keeps (kinds.Join worker) h may = absurd (let z = h in cc)
     outside_keeps (kinds.LoadCell (Some place)) h may = keeps _ refl refl refl
     outside_keeps (kinds.LoadEntry request reply) h may = keeps _ (learned_joined p.records request reply found) refl refl
-    outside_keeps (kinds.PrivateLoad slot word) h may = keeps _ refl refl refl
+    outside_keeps (kinds.PrivateLoad slot word) h may = either (nat_lt slot (slot_count l m.fixed_slots)) _ _ (keeps _ refl refl refl)
+        (keeps _ refl refl refl)
     outside_keeps (kinds.PrivateStore slot word number) h may = keeps _ refl refl refl
     outside_keeps (kinds.Hold t d) h may = hold_keeps t d may.0 may.1
     outside_keeps (kinds.LoadThunk (Some d)) h may = keeps _ refl refl refl

@@ -68,6 +68,7 @@ slot_made n slot = record n { hand = without n.hand slot }
 abbrev pub slot_retired : NodesState → ℕ → ℕ → NodesState
 slot_retired n slot epoch = record n { limbo = n.limbo ++ record { slot = slot; epoch = epoch } ∷ [] }
 
+-- this number was stored into a word of an own free descriptor, or found there
 abbrev pub descriptor_stored : DescriptorsState → ℕ → ℕ → ℕ → DescriptorsState
 descriptor_stored d descriptor word number = record d { stored = d.stored ++ record { descriptor = descriptor; word = word; number = number } ∷ [] }
 

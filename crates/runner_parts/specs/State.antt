@@ -55,6 +55,7 @@ pub record RecordsState : Type 0 where
   pub known : List Known
   pub finished : List FinishedState
   pub events : ℕ
+  pub won : ℕ
   pub left : List Left
   pub splits : ℕ
   pub joined : List ℕ

@@ -53,7 +53,7 @@ abbrev pub is_next : Layout → ℕ → List Request → List Known → Option R
 is_next l r requests known None = false
 is_next l r requests known (Some q) = q.trace % l.runners == r && (not (is_answered known q.number) && are_answered known q.trace q.number requests)
 
--- what was stored last into this word of a descriptor, if anything was
+-- what was stored or found last in this word of a descriptor, if anything was
 abbrev pub last_stored : List Stored → ℕ → ℕ → Option ℕ → Option ℕ
 last_stored [] descriptor word so_far = so_far
 last_stored (x ∷ xs) descriptor word so_far = last_stored xs descriptor word (cond (x.descriptor == descriptor && x.word == word) (Some x.number) so_far)
@@ -72,7 +72,7 @@ are_stored stored descriptor word (x ∷ xs) = is_some_of (last_stored stored de
 abbrev pub thunk_words : Thunk → List ℕ
 thunk_words t = let o = slice_index t.operands in t.form ∷ t.request ∷ t.lock ∷ t.word ∷ o 0 ∷ o 1 ∷ o 2 ∷ o 3 ∷ o 4 ∷ o 5 ∷ o 6 ∷ o 7 ∷ []
 
--- the descriptor's words were stored with this thunk, no done, and an empty log
+-- the descriptor's words were stored or found with this thunk, no done, and an empty log
 abbrev pub is_prepared : List Stored → ℕ → Thunk → Bool
 is_prepared stored descriptor t = are_stored stored descriptor 0 (thunk_words t) && are_stored stored descriptor 12 (replicate 65 0)
 

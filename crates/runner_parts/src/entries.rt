@@ -1,5 +1,6 @@
 //! The entries of a runner's lists.
 
+use section_body::Thunk;
 use table_words::Spot;
 
 /// A slot in limbo, with the epoch that was loaded for its retirement.
@@ -18,7 +19,7 @@ pub struct Tested {
     pub worn: bool,
 }
 
-/// What was stored into a word of an own free descriptor.
+/// What was stored into a word of an own free descriptor, or found there.
 #[derive(Clone, Copy, Debug, PartialEq, Eq)]
 pub struct Stored {
     pub descriptor: u32,
@@ -34,12 +35,14 @@ pub struct Known {
     pub number: u64,
 }
 
-/// The section that a runner published last and hasn't retired: its descriptor, how many readings the runner had when it
-/// published it, and whether the runner has run it to its end.
+/// The section that a runner published last and hasn't retired: its descriptor and its thunk, how many readings the runner
+/// had and how many stamp and reply words it knew when it published it, and whether the runner has run it to its end.
 #[derive(Clone, Copy, Debug, PartialEq, Eq)]
 pub struct Published {
     pub descriptor: u32,
+    pub thunk: Thunk,
     pub walked: usize,
+    pub known: usize,
     pub over: bool,
 }
 

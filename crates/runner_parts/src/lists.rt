@@ -59,13 +59,14 @@ impl Model for Reads {
 }
 
 /// What a runner keeps for good: the stamp and reply words that it knows, the sections that it ran to their ends, how many
-/// steps it has made; and of the keeper what its steps since the last join left, in order, how many workers were split off,
+/// steps it has made and how many of these were exchanges or raises that changed their word; and of the keeper what its steps since the last join left, in order, how many workers were split off,
 /// and which were joined.
 #[derive(Drop)]
 pub struct Records {
     pub known: Vec<Known>,
     pub finished: Vec<Finished>,
     pub events: u64,
+    pub won: u64,
     pub left: Vec<Left>,
     pub splits: u32,
     pub joined: Vec<u32>,
@@ -76,5 +77,5 @@ impl Model for Records {
 
     ghost Value = { RecordsState };
 
-    ghost view = { λ a. record { known = a.known.items; finished = a.finished.items; events = a.events; left = a.left.items; splits = a.splits; joined = a.joined.items } };
+    ghost view = { λ a. record { known = a.known.items; finished = a.finished.items; events = a.events; won = a.won; left = a.left.items; splits = a.splits; joined = a.joined.items } };
 }

@@ -1,11 +1,11 @@
-//! What was stored last into the words of a descriptor.
+//! What was stored or found last in the words of a descriptor.
 ghost use Rattle.std.specs.Prelude.{◌≡◌, ◌<◌, ◌+◌, ◌^◌, None, length};
 ghost use Rattle.runner_parts.specs.Tests.{last_stored, is_some_of, are_stored, thunk_words, is_prepared};
 
 use crate::entries::Stored;
 use section_body::Thunk;
 
-/// What was stored last into this word of the descriptor, if anything was.
+/// What was stored or found last in this word of the descriptor, if anything was.
 pub fn last_stored(stored: &[Stored], descriptor: u32, word: u32) -> Option<u64>
     ensures { result ≡ last_stored stored.now descriptor word None }
 {
@@ -28,7 +28,7 @@ fn is_some_of(last: Option<u64>, number: u64) -> bool
     }
 }
 
-/// Whether these numbers were stored last into the descriptor's words, from this one on.
+/// Whether these numbers were stored or found last in the descriptor's words, from this one on.
 fn are_stored(stored: &[Stored], descriptor: u32, from: u32, numbers: &[u64]) -> bool
     requires { from + length numbers.now < 2 ^ 32 }
     ensures { result ≡ are_stored stored.now descriptor from numbers.now }
@@ -64,7 +64,7 @@ pub fn thunk_words(thunk: &Thunk) -> [u64; 12]
     ]
 }
 
-/// Whether the descriptor's words were stored with this thunk, no done, and an empty log.
+/// Whether the descriptor's words were stored or found with this thunk, no done, and an empty log.
 pub fn is_prepared(stored: &[Stored], descriptor: u32, thunk: &Thunk) -> bool
     ensures { result ≡ is_prepared stored.now descriptor thunk.now }
 {

@@ -3,7 +3,7 @@ use Rattle.std.specs.Prelude.{ℕ, ◌+◌, [], ◌∷◌, ◌++◌, true, ◌==
 use Rattle.table_words.specs.declared.layout.Layout.{Layout}
 use Rattle.table_words.specs.declared.spot.Spot.{Spot}
 use Rattle.table_words.specs.declared.access.Access.{Access}
-use Rattle.table_words.specs.Access.{written}
+use Rattle.table_words.specs.Access.{written, wins}
 use Rattle.structure_laws.specs.Meaning.{Meaning}
 use Rattle.runner_parts.specs.declared.event.EventKind.{EventKind}
 use Rattle.runner_parts.specs.declared.event.EventKind.TheVariants as kinds
@@ -31,7 +31,7 @@ outside_after m l kinds.Split p found = split_after l p
 outside_after m l (kinds.Join worker) p found = joins p worker
 outside_after m l (kinds.LoadCell (Some place)) p found = read_after m place p found
 outside_after m l (kinds.LoadEntry request reply) p found = entry_after request reply p found
-outside_after m l (kinds.PrivateLoad slot word) p found = private_load_after l slot word p found
+outside_after m l (kinds.PrivateLoad slot word) p found = private_load_after m l slot word p found
 outside_after m l (kinds.PrivateStore slot word number) p found = private_store_after m l slot word number p
 outside_after m l (kinds.Hold thunk d) p found = hold_after thunk d p found
 outside_after m l (kinds.LoadThunk (Some d)) p found = open_after d p found
@@ -82,13 +82,17 @@ abbrev pub left_more : RecordsState → EventKind → Spot → ℕ → RecordsSt
 left_more s (kinds.Join worker) spot number = record s { left = [] }
 left_more s _ spot number = record s { left = s.left ++ record { spot = spot; number = number } ∷ [] }
 
--- one more step was made, which left this number at this spot
-abbrev pub noted : Layout → ℕ → EventKind → Spot → ℕ → RecordsState → RecordsState
-noted l r kind spot number s = if r == l.runners then left_more (record s { events = counted s.events }) kind spot number else record s { events = counted s.events }
+-- one more step was made, which found this number; it is counted among those that won where it changed its word by an exchange or a raise
+abbrev pub tallied : Access → ℕ → RecordsState → RecordsState
+tallied access found s = record s { events = counted s.events; won = (if wins access found then counted s.won else s.won) }
+
+-- one more step was made, which found this number at this spot
+abbrev pub noted : Layout → ℕ → EventKind → Spot → Access → ℕ → RecordsState → RecordsState
+noted l r kind spot access found s = if r == l.runners then left_more (tallied access found s) kind spot (written access found) else tallied access found s
 
 -- the stepping runner's part after the event, which met this spot and found this word
 abbrev pub after : Meaning → Layout → ℕ → EventKind → Spot → Access → PartState → ℕ → PartState
-after m l r kind spot access p found = let p' = stepped m l kind p found in record p' { records = noted l r kind spot (written access found) p'.records }
+after m l r kind spot access p found = let p' = stepped m l kind p found in record p' { records = noted l r kind spot access found p'.records }
 
 -- the part of a worker that was joined
 abbrev pub leaves : PartState → PartState

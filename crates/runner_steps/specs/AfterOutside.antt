@@ -49,17 +49,24 @@ read_after m place p found = record p { reads = walked p.reads (m.is_lock place)
 abbrev pub entry_after : ℕ → Bool → PartState → ℕ → PartState
 entry_after request reply p found = record p { records = learned p.records request reply found }
 
-abbrev pub private_load_after : Layout → ℕ → ℕ → PartState → ℕ → PartState
-private_load_after l slot word p found = record p { nodes = nodes_looked l p.nodes slot word found }
+-- a cell of a node slot was looked at, or a word of an own free descriptor is known, since nobody else stores there
+abbrev pub private_load_after : Meaning → Layout → ℕ → ℕ → PartState → ℕ → PartState
+private_load_after m l slot word p found = if nat_lt slot (slot_count l m.fixed_slots)
+    then record p { nodes = nodes_looked l p.nodes slot word found }
+    else record p { descriptors = descriptor_stored p.descriptors (slot - slot_count l m.fixed_slots) word found }
 
 abbrev pub private_store_after : Meaning → Layout → ℕ → ℕ → ℕ → PartState → PartState
 private_store_after m l slot word number p = record p { descriptors = descriptor_stored p.descriptors (slot - slot_count l m.fixed_slots) word number }
+
+-- the section with this thunk as it is published in this descriptor
+abbrev pub published_by : Thunk → ℕ → PartState → Published
+published_by t d p = record { descriptor = d; thunk = t; walked = length p.reads.walk; known = length p.records.known; over = false }
 
 -- where the lock was free, the section is published; otherwise the descriptor stays free
 abbrev pub hold_after : Thunk → ℕ → PartState → ℕ → PartState
 hold_after t d p found = if found == t.word
     then record p {
-      published = Some (record { descriptor = d; walked = length p.reads.walk; over = false });
+      published = Some (published_by t d p);
       descriptors = descriptor_taken p.descriptors d;
       reads = section_published (cell_read p.reads t.lock found) d;
     }

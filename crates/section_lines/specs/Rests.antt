@@ -26,7 +26,8 @@ pub record RestsAt (s : Setting) (trail : List ℕ) (ms : List Micro) : Type 0 w
   pub goes : (at : ℕ) → is_check (micro_at ms at) ≡ true → leaves s trail (micro_at ms at) ≡ None
       → settled s trail ms at ≡ settled s trail ms (suc at)
   pub stays : (at : ℕ) → is_check (micro_at ms at) ≡ false → settled s trail ms at ≡ at
-  pub leaves : (at : ℕ) (outcome : Outcome) → leaves s trail (micro_at ms at) ≡ Some outcome → settled s trail ms at ≡ at
+  pub leaves : (at : ℕ) (outcome : Outcome) → leaves s trail (micro_at ms at) ≡ Some outcome
+      → settled s trail ms at ≡ at
 
 -- where a run rests that came to step n of a body, with these words agreed
 abbrev pub rests : Setting → List ℕ → List Step → ℕ → ℕ
@@ -35,13 +36,16 @@ rests s trail body n = settled s trail (line body) (begins body n)
 -- where it rests at each step, and what it would have to release there
 pub record Rests (s : Setting) (trail : List ℕ) (body : List Step) : Type 0 where
   -- before a step that isn't a check alone
-  pub before : (n : ℕ) (step : Step) → IsStep body n step → is_test step ≡ false → rests s trail body n ≡ begins body n
+  pub before : (n : ℕ) (step : Step) → IsStep body n step → is_test step ≡ false
+      → rests s trail body n ≡ begins body n
   -- a check alone that passes plays no part
   pub behind : (n : ℕ) (step : Step) → IsStep body n step → is_test step ≡ true
-      → leaves s trail (micro_at (line body) (begins body n)) ≡ None → rests s trail body n ≡ rests s trail body (suc n)
+      → leaves s trail (micro_at (line body) (begins body n)) ≡ None
+      → rests s trail body n ≡ rests s trail body (suc n)
   -- at one that doesn't pass it rests, to leave
   pub at : (n : ℕ) (step : Step) (outcome : Outcome) → IsStep body n step
-      → leaves s trail (micro_at (line body) (begins body n)) ≡ Some outcome → rests s trail body n ≡ begins body n
+      → leaves s trail (micro_at (line body) (begins body n)) ≡ Some outcome
+      → rests s trail body n ≡ begins body n
   -- behind the last step it rests at the line's end
   pub end : rests s trail body (length body) ≡ length (line body)
   -- within a step it has the locks of the Takes before that step, and at the end all

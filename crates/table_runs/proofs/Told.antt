@@ -8,7 +8,7 @@ use Rattle.table_words.specs.declared.spot.Spot.{Spot}
 use Rattle.table_words.specs.declared.spot.Spot.TheVariants as spots
 use Rattle.table_words.specs.declared.access.Access.{Access}
 use Rattle.table_words.specs.declared.access.Access.TheVariants.{Exchanges}
-use Rattle.table_words.specs.Access.{written}
+use Rattle.table_words.specs.Access.{written, wins}
 use Rattle.structure_laws.specs.Meaning.{Meaning}
 use Rattle.runner_parts.specs.declared.event.EventKind.{EventKind}
 use Rattle.runner_parts.specs.declared.event.EventKind.TheVariants as kinds
@@ -18,14 +18,14 @@ use Rattle.runner_parts.specs.Lists.{lock_agreed, learned}
 use Rattle.runner_steps.specs.InRun.{commit_ask, outcome_commit_ask, stamp_exchange_ask, reply_exchange_ask, stamp_after, last_clock}
 use Rattle.runner_steps.specs.Asks.{line_ask}
 use Rattle.runner_steps.specs.AfterInRun.{agrees, goes_on, is_of_lock, reply_word_of, with_run}
-use Rattle.runner_steps.specs.After.{line_after, after_by, stepped, counted, left_more, noted, after}
+use Rattle.runner_steps.specs.After.{line_after, after_by, stepped, counted, left_more, tallied, noted, after}
 use Rattle.machine_states.proofs.Steps.{some_same}
 use Rattle.version_words.specs.Naming.{load_of, open_of}
 use Rattle.version_words.specs.RunnerState.{RunnerState}
 use Rattle.version_words.specs.Events.{Makes, Tries, IsMade, Leaves, Commits}
 use Rattle.version_words.proofs.Asked.{in_no_run, tested}
 use Rattle.version_words.proofs.Inside.{HasOpenRun, is_inner, opened_run, line_asked, step_is}
-use Rattle.table_runs.specs.Copies.{with_cells, IsCopied, is_untold, is_load, brought_on, IsFollowed}
+use Rattle.table_runs.specs.Copies.{with_cells, apart, IsCopied, is_untold, is_load, brought_on, IsFollowed}
 use Rattle.table_runs.proofs.Steps.{by_copied, untold_copied}
 
 no_load : {A : Type 0} → false ≡ true → A
@@ -34,12 +34,16 @@ no_load e = absurd (let no : false ≡ true → ⊥ = λ h. cc in no e)
 some_none : {A : Type 0} → (a : A) → None ≡ Some a → ⊥
 some_none a e = cc
 
--- one more step was made
-abbrev pub counts : PartState → PartState
-counts p = record p { records = record (p.records) { events = counted p.records.events } }
+-- one more step was made, and so many have won
+abbrev pub counts : PartState → ℕ → PartState
+counts p won = record p { records = record (p.records) { events = counted p.records.events; won = won } }
 
-counts_copied : (p p' : PartState) → IsCopied p p' → IsCopied (counts p) (counts p')
-counts_copied p p' is = record { cells = is.cells; same = ap counts is.same; read = is.read }
+counts_copied : (p p' : PartState) (won won' : ℕ) → IsCopied p p' → IsCopied (counts p won) (counts p' won')
+counts_copied p p' won won' is = record { cells = is.cells; won = won'; same = ap (λ (q : PartState). counts q won') is.same; read = is.read }
+
+-- how many have won after a step that found this number
+abbrev won_after : Access → ℕ → PartState → ℕ
+won_after access found p = if wins access found then counted p.records.won else p.records.won
 
 same_either : (w : ℕ) (c : Bool) → cond c w w ≡ w
 same_either w true = refl
@@ -90,22 +94,26 @@ open_told (Some q) descriptor = refl
 
 module _ {T : Type 0} (m : Meaning) (old new : RunnerState T) (worker : old.number < old.layout.runners) where
   -- a worker's step is counted, and nothing else is noted
-  noted_is : (k : EventKind) (spot : Spot) (number : ℕ) (s : RecordsState) → noted old.layout old.number k spot number s ≡ record s { events = counted s.events }
-  noted_is k spot number s = ap (λ (b : Bool). if b then left_more (record s { events = counted s.events }) k spot number else record s { events = counted s.events })
+  noted_is : (k : EventKind) (spot : Spot) (access : Access) (found : ℕ) (s : RecordsState) → noted old.layout old.number k spot access found s ≡ tallied access found s
+  noted_is k spot access found s = ap (λ (b : Bool). if b then left_more (tallied access found s) k spot (written access found) else tallied access found s)
       (ne_eqb old.number old.layout.runners (λ e. omega (arith, worker, e)))
 
-  after_is : (k : EventKind) (spot : Spot) (access : Access) (p : PartState) (found : ℕ) → after m old.layout old.number k spot access p found ≡ counts (stepped m old.layout k p found)
-  after_is k spot access p found = let p' = stepped m old.layout k p found in ap (λ (s : RecordsState). record p' { records = s }) (noted_is k spot (written access found) p'.records)
+  after_is : (k : EventKind) (spot : Spot) (access : Access) (p : PartState) (found : ℕ) → after m old.layout old.number k spot access p found ≡ counts (stepped m old.layout k p found) (won_after access found (stepped m old.layout k p found))
+  after_is k spot access p found = let p' = stepped m old.layout k p found in ap (λ (s : RecordsState). record p' { records = s }) (noted_is k spot access found p'.records)
 
-  brought_is : (k : EventKind) (spot : Spot) (access : Access) (copy : PartState) (told : ℕ) → is_untold k ≡ false → brought_on m old.layout old.number k spot access copy told ≡ counts (stepped m old.layout k copy told)
+  brought_is : (k : EventKind) (spot : Spot) (access : Access) (copy : PartState) (told : ℕ) → is_untold k ≡ false → brought_on m old.layout old.number k spot access copy told
+      ≡ counts (stepped m old.layout k copy told) (won_after access told (stepped m old.layout k copy told))
   brought_is k spot access copy told e = let next = after m old.layout old.number k spot access copy told in
       ap (λ (b : Bool). if b then with_cells next copy.reads.cells else next) e ∙ after_is k spot access copy told
 
   stepped_copied : (k : EventKind) (copy : PartState) (found : ℕ) → IsCopied copy old.part → IsCopied (stepped m old.layout k copy found) (stepped m old.layout k old.part found)
-  stepped_copied k copy found is = subst (λ (p : PartState). IsCopied (stepped m old.layout k copy found) (stepped m old.layout k p found)) (sym is.same) (by_copied copy is.cells is.read m old.layout found k copy.run)
+  stepped_copied k copy found is = subst (λ (p : PartState). IsCopied (stepped m old.layout k copy found) (stepped m old.layout k p found)) (sym is.same) (by_copied copy is.cells is.won is.read m old.layout found k copy.run)
 
   module _ (k : EventKind) (found : ℕ) (made : Makes m k found old new) where
-    part_is : new.part ≡ counts (stepped m old.layout k old.part found)
+    abbrev won_now : ℕ
+    won_now = won_after made.met.1 found (stepped m old.layout k old.part found)
+
+    part_is : new.part ≡ counts (stepped m old.layout k old.part found) won_now
     part_is = ap (λ (r : RunnerState T). r.part) made.made ∙ after_is k made.met.0 made.met.1 old.part found
 
     -- the number told is as good as the one found
@@ -115,7 +123,8 @@ module _ {T : Type 0} (m : Meaning) (old new : RunnerState T) (worker : old.numb
       event = made;
       loaded = loaded;
       copied = λ copy spot access is. subst (λ (p : PartState). IsCopied p new.part) (sym (brought_is k spot access copy told is_told))
-          (subst (IsCopied (counts (stepped m old.layout k copy told))) (sym (part_is ∙ ap counts same)) (counts_copied _ _ (stepped_copied k copy told is)));
+          (subst (IsCopied (counts (stepped m old.layout k copy told) (won_after access told (stepped m old.layout k copy told)))) (sym (part_is ∙ ap (λ (q : PartState). counts q won_now) same))
+          (counts_copied _ _ _ won_now (stepped_copied k copy told is)));
     }
 
     -- the number found is told
@@ -138,12 +147,13 @@ module _ {T : Type 0} (m : Meaning) (old new : RunnerState T) (worker : old.numb
 
       brought_untold : (told : ℕ) (copy : PartState) (is : IsCopied copy old.part) (spot : Spot) (access : Access) → is_untold k ≡ true
           → brought_on m old.layout old.number k spot access copy told ≡ counts (with_cells (line_after m old.layout k copy opens.run (next_of m opens.run) told) copy.reads.cells)
+          (won_after access told (line_after m old.layout k copy opens.run (next_of m opens.run) told))
       brought_untold told copy is spot access hidden = let next = after m old.layout old.number k spot access copy told in
           ap (λ (b : Bool). if b then with_cells next copy.reads.cells else next) hidden
-          ∙ ap (λ (p : PartState). with_cells p copy.reads.cells) (after_is k spot access copy told ∙ ap counts (open_step copy is told))
+          ∙ ap (λ (p : PartState). with_cells p copy.reads.cells) (after_is k spot access copy told ∙ ap (λ (q : PartState). counts q (won_after access told q)) (open_step copy is told))
 
-      left_untold : (copy : PartState) (is : IsCopied copy old.part) → new.part ≡ counts (line_after m old.layout k (with_cells copy is.cells) opens.run (next_of m opens.run) found)
-      left_untold copy is = part_is ∙ ap counts (step_is m old.layout k old.part found opens ∙ ap (λ (p : PartState). line_after m old.layout k p opens.run (next_of m opens.run) found) is.same)
+      left_untold : (copy : PartState) (is : IsCopied copy old.part) → new.part ≡ counts (line_after m old.layout k (apart copy is.cells is.won) opens.run (next_of m opens.run) found) won_now
+      left_untold copy is = part_is ∙ ap (λ (q : PartState). counts q won_now) (step_is m old.layout k old.part found opens ∙ ap (λ (p : PartState). line_after m old.layout k p opens.run (next_of m opens.run) found) is.same)
 
       -- whatever is told, where the copy has read nothing
       untold : (told : ℕ) → is_untold k ≡ true → (is_load k ≡ true → told ≡ found) → IsFollowed m k told old new
@@ -153,8 +163,9 @@ module _ {T : Type 0} (m : Meaning) (old new : RunnerState T) (worker : old.numb
         loaded = loaded;
         copied = λ copy spot access is.
             subst (λ (p : PartState). IsCopied p new.part) (sym (brought_untold told copy is spot access hidden))
-            (subst (IsCopied (counts (with_cells (line_after m old.layout k copy opens.run (next_of m opens.run) told) copy.reads.cells))) (sym (left_untold copy is))
-            (counts_copied _ _ (untold_copied copy is.cells is.read m old.layout found told opens.run (next_of m opens.run) k hidden)));
+            (subst (IsCopied (counts (with_cells (line_after m old.layout k copy opens.run (next_of m opens.run) told) copy.reads.cells)
+                (won_after access told (line_after m old.layout k copy opens.run (next_of m opens.run) told)))) (sym (left_untold copy is))
+            (counts_copied _ _ _ won_now (untold_copied copy is.cells is.won is.read m old.layout found told opens.run (next_of m opens.run) k hidden)));
       }
 
   -- a word is agreed on

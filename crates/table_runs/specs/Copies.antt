@@ -16,10 +16,15 @@ use Rattle.version_words.specs.Events.{Makes}
 abbrev pub with_cells : PartState → List (ℕ × ℕ) → PartState
 with_cells p cells = record p { reads = record (p.reads) { cells = cells } }
 
--- the part is the copy, but that it may have read more cells
+-- and with another count of the steps that won
+abbrev pub apart : PartState → List (ℕ × ℕ) → ℕ → PartState
+apart p cells won = record p { reads = record (p.reads) { cells = cells }; records = record (p.records) { won = won } }
+
+-- the part is the copy, but that it may have read more cells, and counts the steps that won, which not each call tells
 pub record IsCopied (copy part : PartState) : Type 0 where
   pub cells : List (ℕ × ℕ)
-  pub same : part ≡ with_cells copy cells
+  pub won : ℕ
+  pub same : part ≡ apart copy cells won
   pub read : (place word : ℕ) → has_pair copy.reads.cells place word ≡ true → has_pair cells place word ≡ true
 
 -- a call of this kind changes a cell and doesn't tell what it found there

@@ -1,7 +1,7 @@
 //! Two workers at a table of the test structure, each with a copy of its part.
 ghost use Rattle.std.specs.Prelude.{◌≡◌, ◌≤◌, IfOk, All, length};
 ghost use Rattle.map_history.specs.declared.op.Request.{Request};
-ghost use Rattle.map_history.specs.Keys.{key_of};
+ghost use Rattle.map_history.specs.Requests.{AreInOrder};
 ghost use Rattle.table_words.specs.Limits.{IsWithinLimits};
 ghost use Rattle.version_words.specs.TableState.{IsOf};
 ghost use Rattle.table_runs.specs.Rows.{IsRow};
@@ -69,7 +69,7 @@ pub struct RowEnd {
 
 /// One request in each of two traces.
 fn two_requests() -> [Request; 2]
-    ensures keys { All (λ (request : Request). key_of request.op ≤ 4294967293) result }
+    ensures ordered { AreInOrder result 64 }
 {
     let first = Request {
         trace: 0,

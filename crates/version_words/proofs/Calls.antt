@@ -9,7 +9,7 @@ use Rattle.table_words.specs.declared.spot.Spot.{Spot}
 use Rattle.table_words.specs.declared.spot.Spot.TheVariants as spots
 use Rattle.table_words.specs.declared.access.Access.{Access}
 use Rattle.table_words.specs.declared.access.Access.TheVariants.{Stores}
-use Rattle.table_words.specs.Access.{written}
+use Rattle.table_words.specs.Access.{written, wins}
 use Rattle.table_words.specs.Places.{address, Fits}
 use Rattle.table_words.proofs.Seen.{within}
 use Rattle.structure_laws.specs.Meaning.{Meaning}
@@ -21,11 +21,11 @@ use Rattle.machine_states.proofs.Steps.{asked_fits}
 use Rattle.version_words.specs.declared.view.View.{View}
 use Rattle.version_words.specs.declared.rule.Setup.{Setup}
 use Rattle.version_words.specs.Naming.{Naming, is_seat}
-use Rattle.version_words.specs.ReachedWith.{ReachedWith}
+use Rattle.version_words.proofs.Shows.{blind_shown}
 use Rattle.version_words.specs.Rule.{Holds, IsTold, Tells}
 use Rattle.version_words.specs.RunnerState.{RunnerState}
 use Rattle.version_words.specs.TableState.{TableState, IsOf, IsBuilt}
-use Rattle.version_words.specs.Events.{IsNamed, IsBlind, Makes, Tries, Commits, wins, Announced, step_at, seen_seat}
+use Rattle.version_words.specs.Events.{IsNamed, IsBlind, Makes, Tries, Commits, Announced, step_at, seen_seat}
 use Rattle.version_words.proofs.Ties.{steps, stores}
 
 true_false : true ≡ false → ⊥
@@ -109,7 +109,7 @@ module _ {T : Type 0} (mean : T → Meaning) (table : TableId) (key built : Setu
       met = x;
       asked = named.asked;
       made = seen_is ∙ ap (λ (p : PartState). record (seen_seat own_table me) { part = p }) (blind.same found z);
-      shown = subst (ReachedWith (mean built.structure) me'.0.layout me'.0.requests me'.0.number me'.0.part x.0) (ap (λ a. written a found) is ∙ sym (ap (λ a. written a z) is)) told_here.shown;
+      shown = blind_shown (mean built.structure) me'.0.layout me'.0.requests me'.0.number kind me.0.part me'.0.part x found told_here.shown n is z;
     }
 
     pub same_slots : me'.1 ≡ me.1

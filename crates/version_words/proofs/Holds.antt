@@ -21,7 +21,7 @@ use Rattle.runner_parts.specs.State.{PartState}
 use Rattle.runner_parts.specs.Tests.{has, is_walking, is_open, is_prepared, has_pair}
 use Rattle.runner_parts.specs.Lists.{descriptor_taken, section_published, cell_read, holds_named}
 use Rattle.runner_steps.specs.Outside.{hold_ask, is_ready, is_publishable, is_due}
-use Rattle.runner_steps.specs.AfterOutside.{hold_after}
+use Rattle.runner_steps.specs.AfterOutside.{hold_after, published_by}
 use Rattle.version_words.specs.declared.view.View.{View}
 use Rattle.runner_block.specs.declared.block.Block.{Block}
 use Rattle.runner_block.specs.Kept.{KeptState, held_in, with_part}
@@ -100,7 +100,7 @@ hold_named m s r t d free held few same is enabled = record {
 -- the part after an exchange that won, and after one that lost
 abbrev part_won : Thunk → ℕ → ℕ → PartState → PartState
 part_won t d found p = record p {
-  published = Some (record { descriptor = d; walked = length p.reads.walk; over = false });
+  published = Some (published_by t d p);
   descriptors = descriptor_taken p.descriptors d;
   reads = section_published (cell_read p.reads t.lock found) d;
 }

@@ -10,6 +10,7 @@ pub mod Bounds
 pub mod Founds
 pub mod Begins
 pub mod SeatMoves
+pub mod Shows
 pub mod SeatCalls
 pub mod Stages
 pub mod Inside

@@ -49,6 +49,7 @@ use Rattle.version_words.proofs.Inside.{PlacesRun, opened_all, goes_inside, log_
 use Rattle.version_words.proofs.Privates.{IsOpenFor, Stands, open_inside}
 use Rattle.version_words.proofs.OwnLoads.{goes_on_part}
 use Rattle.machine_states.proofs.Steps.{some_same}
+use Rattle.version_words.proofs.Shows.{seen_then}
 
 some_none : {A : Type 0} → (a : A) → None ≡ Some a → ⊥
 some_none a e = cc
@@ -223,6 +224,6 @@ module _ {T : Type 0} (mean : T → Meaning) (s : T) (spot : Spot) (slot number 
     make_found laws limits allowed =
         let at = made_log q (next_of (mean s) q) (spot, Exchanges 0 (slot + 1)) opens.asks_so in
         let runs : me'.0.part.run ≡ Some q' = ap (λ (r : RunnerState T). r.part.run) made.made ∙ ap (λ (y : PartState). y.run) after_is in
-        let left = subst (λ (x : Spot × Access). ReachedWith (mean s) me'.0.layout me'.0.requests me'.0.number me'.0.part x.0 (written x.1 found)) (some_same made.met (spot, Exchanges 0 (slot + 1)) (sym made.asked ∙ next)) made.shown in
+        let left = subst (λ (x : Spot × Access). ReachedWith (mean s) me'.0.layout me'.0.requests me'.0.number me'.0.part x.0 (written x.1 found)) (some_same made.met (spot, Exchanges 0 (slot + 1)) (sym made.asked ∙ next)) (seen_then _ _ _ _ _ _ _ _ _ made.shown) in
         few_found found (slot + 1) (made_word (mean s) laws me'.0.layout me'.0.requests me'.0.number me'.0.part spot (written_once found (slot + 1)) limits allowed left q' runs q.at at.0
         (opened_all q opens.open_run.ready) (next_in_line (mean s) q (micros.MakeCommit at.0) refl at.1) at.2)

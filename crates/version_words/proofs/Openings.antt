@@ -42,6 +42,7 @@ use Rattle.version_words.proofs.Founds.{done_word}
 use Rattle.version_words.proofs.Keeps.{KeepsPart, then_kept}
 use Rattle.version_words.proofs.Epochs.{loaded_epoch}
 use Rattle.machine_states.proofs.Steps.{some_same}
+use Rattle.version_words.proofs.Shows.{seen_then}
 
 some_none : {A : Type 0} → (a : A) → None ≡ Some a → ⊥
 some_none a e = cc
@@ -194,7 +195,7 @@ module _ {T : Type 0} (mean : T → Meaning) (s : T) (descriptor found number : 
       let o = done_opens q made.met (is_open_run q) e in
       let step = ap (λ (o : Option RunState). after_by m l kinds.LoadDone p o found) there ∙ ap (λ (b : Bool). if b then line_after m l kinds.LoadDone p q (next_of m q) found else opened_more p q found) o.0 in
       let runs : me'.0.part.run ≡ Some (record q { opened = q.opened ++ found ∷ [] }) = ap (λ (r : RunnerState T). r.part.run) made.made ∙ ap (λ (y : PartState). y.run) step in
-      let left = subst (λ (x : Spot × Access). ReachedWith m me'.0.layout me'.0.requests me'.0.number me'.0.part x.0 (written x.1 found)) (sym (tested (length q.opened == 12) (spots.DoneWord q.descriptor) Loads made.met o.1).1) made.shown in
+      let left = subst (λ (x : Spot × Access). ReachedWith m me'.0.layout me'.0.requests me'.0.number me'.0.part x.0 (written x.1 found)) (sym (tested (length q.opened == 12) (spots.DoneWord q.descriptor) Loads made.met o.1).1) (seen_then _ _ _ _ _ _ _ _ _ made.shown) in
       done_word m laws me'.0.layout me'.0.requests me'.0.number me'.0.part (spots.DoneWord q.descriptor) found limits allowed left (record q { opened = q.opened ++ found ∷ [] }) runs refl
 
   -- the done word is 0 or 1

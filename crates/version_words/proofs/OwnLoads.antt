@@ -1,6 +1,6 @@
 -- Private loads.
 use Rattle.std.proofs.Common.{◌≡◌, ℕ, zero, suc, [], ◌-◌, ◌<◌, ◌≤◌, inl, inr, ⊎_elim, List, ◌∷◌, ◌++◌, length, Bool, true, false, refl, sym, ap, subst, ◌∙◌, arith, Option, Some, None, if◌then◌else◌}
-use Rattle.std.specs.Prelude.{◌==◌, ◌&&◌, ◌||◌, nat_lt, slice_index}
+use Rattle.std.specs.Prelude.{◌==◌, ◌&&◌, ◌||◌, nat_lt, slice_index, ◌-◌}
 use Rattle.std.specs.Option.{is_some}
 use Rattle.std.proofs.lemmas.Bool.Decides.{nat_tests}
 use Rattle.atomic_table.specs.Table.{Me}
@@ -22,7 +22,7 @@ use Rattle.runner_parts.specs.declared.event.EventKind.{EventKind}
 use Rattle.runner_parts.specs.declared.event.EventKind.TheVariants as kinds
 use Rattle.runner_parts.specs.State.{RunState, PartState}
 use Rattle.runner_parts.specs.Tests.{has, is_resting}
-use Rattle.runner_parts.specs.Lists.{slot_taken, nodes_looked}
+use Rattle.runner_parts.specs.Lists.{slot_taken, nodes_looked, descriptor_stored}
 use Rattle.runner_steps.specs.Sections.{is_open_run, next_of}
 use Rattle.runner_steps.specs.Outside.{when, descriptor_spot, private_load_ask}
 use Rattle.runner_steps.specs.InRun.{is_cell, is_slot, make_slot, fill_load_ask}
@@ -34,12 +34,12 @@ use Rattle.machine_states.proofs.Steps.{some_same, asked_fits}
 use Rattle.version_words.specs.declared.view.View.{View}
 use Rattle.runner_block.specs.declared.place.RunPlace.{RunPlace}
 use Rattle.runner_block.specs.declared.block.Block.{Block}
-use Rattle.runner_block.specs.Kept.{with_nodes}
-use Rattle.version_words.specs.RunnerState.{RunnerState}
+use Rattle.runner_block.specs.Kept.{KeptState}
+use Rattle.version_words.specs.RunnerState.{RunnerState, told_part}
 use Rattle.version_words.specs.TableState.{TableState, IsOf}
 use Rattle.version_words.specs.Private.{IsWithin, private_spot, slot_at, word_at}
 use Rattle.version_words.specs.Place.{IsPlaced, HasEpoch}
-use Rattle.runner_block.specs.Blocks.{block_looked, block_filling}
+use Rattle.runner_block.specs.Blocks.{block_looked, block_filling, block_found}
 use Rattle.version_words.specs.Kept.{IsKept}
 use Rattle.runner_block.specs.Looks.{MayTake}
 use Rattle.version_words.specs.Events.{met_by, IsEnabled, IsNamed, Makes, step_at, nothing, seen_seat}
@@ -184,21 +184,28 @@ module _ (m : Meaning) (l : Layout) (slot word found : ℕ) (kept : Block) (p : 
   }
 
   -- outside a run
-  looked_part : p.run ≡ None → KeepsPart m (block_looked l kept slot word found) (private_load_after l slot word p found)
-  looked_part none =
-      let p' = private_load_after l slot word p found in
-      let kept' : Block = record kept { lists = with_nodes kept.lists (nodes_looked l kept.lists.part.nodes slot word found) } in
-      subst (λ (b : Bool). KeepsPart m (if b then block_filling kept slot kept.place.making else kept') p') (sym (was.place.outside none)) (record {
-        lists = ap (λ (y : PartState). record y { nodes = nodes_looked l y.nodes slot word found }) was.lists;
+  looked_part : kept.lists.room ≡ slot_count l m.fixed_slots → p.run ≡ None → KeepsPart m (block_looked l kept slot word found) (private_load_after m l slot word p found)
+  looked_part room none =
+      subst (λ (b : Bool). KeepsPart m (if b then block_filling kept slot kept.place.making else block_found l kept slot word found (nat_lt slot kept.lists.room)) (private_load_after m l slot word p found)) (sym (was.place.outside none))
+      (subst (λ (n : ℕ). KeepsPart m (block_found l kept slot word found (nat_lt slot n)) (private_load_after m l slot word p found)) (sym room) (by (nat_lt slot (slot_count l m.fixed_slots))))
+    where
+      in_place : (p' : PartState) → p'.run ≡ p.run → (kept' : KeptState) → kept'.part ≡ told_part p' → KeepsPart m (record kept { lists = kept' }) p'
+      in_place p' same kept' told = record {
+        lists = told;
         place = record {
-          run = λ q e. absurd (some_none q (sym none ∙ e));
+          run = λ q e. absurd (some_none q (sym (same ∙ none) ∙ e));
           rest = λ e. was.place.rest none;
           outside = λ e. was.place.outside none;
-          in_hand = λ q s e f. absurd (some_none q (sym none ∙ e));
+          in_hand = λ q s e f. absurd (some_none q (sym (same ∙ none) ∙ e));
         };
-        run = record { ending = λ q e. absurd (some_none q (sym none ∙ e)) };
-        epoch = no_epoch m kept.place.epoch p.run (λ q e. some_none q (sym none ∙ e));
-      })
+        run = record { ending = λ q e. absurd (some_none q (sym (same ∙ none) ∙ e)) };
+        epoch = no_epoch m kept.place.epoch p'.run (λ q e. some_none q (sym (same ∙ none) ∙ e));
+      }
+
+      by : (b : Bool) → KeepsPart m (block_found l kept slot word found b)
+          (if b then record p { nodes = nodes_looked l p.nodes slot word found } else record p { descriptors = descriptor_stored p.descriptors (slot - slot_count l m.fixed_slots) word found })
+      by true = in_place (record p { nodes = nodes_looked l p.nodes slot word found }) refl _ (ap (λ (y : PartState). record y { nodes = nodes_looked l y.nodes slot word found }) was.lists)
+      by false = in_place (record p { descriptors = descriptor_stored p.descriptors (slot - slot_count l m.fixed_slots) word found }) refl kept.lists was.lists
 
   module _ (h : IsOpenFor m l k p x) where
     abbrev q : RunState
@@ -233,14 +240,14 @@ module _ (m : Meaning) (l : Layout) (slot word found : ℕ) (kept : Block) (p : 
         (goes_epoch m l p.nodes.free q k x refl h.asks_so h.open_run.ready kept.place.epoch (goes_on m l q found) q.trail refl refl)
 
     in_run_by : (b : Bool) → kept.place.inside ≡ b
-        → KeepsPart m (if b then block_filling kept slot kept.place.making else record kept { lists = with_nodes kept.lists (nodes_looked l kept.lists.part.nodes slot word found) }) (fill_loaded m l slot p q q.made found)
+        → KeepsPart m (if b then block_filling kept slot kept.place.making else block_found l kept slot word found (nat_lt slot kept.lists.room)) (fill_loaded m l slot p q q.made found)
     in_run_by true e = filling_part q.made kept.place.making refl refl
     in_run_by false e = absurd (goes_inside m l kept p q k x was h.open_run.there refl h.asks_so e)
 
   -- the block after the load is that of the part
-  pub load_part : Stands m l k p x → KeepsPart m (block_looked l kept slot word found) (stepped m l k p found)
-  load_part at = ⊎_elim
-      (λ (none : p.run ≡ None). subst (KeepsPart m (block_looked l kept slot word found)) (sym (ap (λ (o : Option RunState). after_by m l k p o found) none)) (looked_part none))
+  pub load_part : kept.lists.room ≡ slot_count l m.fixed_slots → Stands m l k p x → KeepsPart m (block_looked l kept slot word found) (stepped m l k p found)
+  load_part room at = ⊎_elim
+      (λ (none : p.run ≡ None). subst (KeepsPart m (block_looked l kept slot word found)) (sym (ap (λ (o : Option RunState). after_by m l k p o found) none)) (looked_part room none))
       (λ (h : IsOpenFor m l k p x). subst (KeepsPart m (block_looked l kept slot word found)) (sym (step_is m l k p found h.open_run)) (in_run_by h kept.place.inside refl)) at
 
 module _ {T : Type 0} (mean : T → Meaning) (s : T) (slot word found number : ℕ) (kept : Block) (old_table new_table : TableId) (me me' : Me Thunk (View T)) (live : me.0.structure ≡ Some s)
@@ -254,11 +261,12 @@ module _ {T : Type 0} (mean : T → Meaning) (s : T) (slot word found number : �
   pub takes_free : MayTake kept slot
   takes_free = may_take (mean s) me.0.layout slot word found kept me.0.part made.met before (was.of_table s live).room stands
 
-  same_room : (b b' : Bool) → (if b then block_filling kept slot b' else record kept { lists = with_nodes kept.lists (nodes_looked me.0.layout kept.lists.part.nodes slot word found) }).lists.room ≡ kept.lists.room
-  same_room true true = refl
-  same_room true false = refl
-  same_room false b' = refl
+  same_room : (b b' b'' : Bool) → (if b then block_filling kept slot b' else block_found me.0.layout kept slot word found b'').lists.room ≡ kept.lists.room
+  same_room true true b'' = refl
+  same_room true false b'' = refl
+  same_room false b' true = refl
+  same_room false b' false = refl
 
   pub load_kept : IsKept mean number (block_looked me.0.layout kept slot word found) me'
-  load_kept = then_kept mean s (kinds.PrivateLoad slot word) found number kept old_table new_table me me' live made slots was (block_looked me.0.layout kept slot word found) (same_room kept.place.inside kept.place.making)
-      (load_part (mean s) me.0.layout slot word found kept me.0.part made.met before stands)
+  load_kept = then_kept mean s (kinds.PrivateLoad slot word) found number kept old_table new_table me me' live made slots was (block_looked me.0.layout kept slot word found) (same_room kept.place.inside kept.place.making (nat_lt slot kept.lists.room))
+      (load_part (mean s) me.0.layout slot word found kept me.0.part made.met before (was.of_table s live).room stands)

@@ -212,7 +212,7 @@ module _ {T : Type 0} (m : Meaning) (t : TableState T) (r : RunnerState T) (own 
     stored_here a b = subst (λ (k : EventKind). stepped m r.layout k r.part a ≡ stepped m r.layout k r.part b) (sym store_name) (stored_alike m r.layout slot word number r.part enabled.met asked.1 a b)
 
     pub store_blind : IsBlind m (kinds.PrivateStore (slot_at m r.layout r.requests at) (word_at m r.layout r.requests at) number) (spot, Stores number) r
-    store_blind = record { same = λ found other. ap (λ (q : PartState). record q { records = noted r.layout r.number (kinds.PrivateStore (slot_at m r.layout r.requests at) (word_at m r.layout r.requests at) number) spot number q.records }) (stored_here found other) }
+    store_blind = record { same = λ found other. ap (λ (q : PartState). record q { records = noted r.layout r.number (kinds.PrivateStore (slot_at m r.layout r.requests at) (word_at m r.layout r.requests at) number) spot (Stores number) found q.records }) (stored_here found other) }
 
 -- what the code keeps after such a store
 module _ {T : Type 0} (mean : T → Meaning) (s : T) (slot word number found own_number : ℕ) (kept : Block) (old_table new_table : TableId) (me me' : Me Thunk (View T)) (live : me.0.structure ≡ Some s)

@@ -46,6 +46,7 @@ use Rattle.version_words.proofs.Epochs.{goes_epoch}
 use Rattle.version_words.proofs.Founds.{retired_word, one_found}
 use Rattle.version_words.proofs.Inside.{PlacesRun, opened_all, goes_inside, log_low, over, places, step_is}
 use Rattle.version_words.proofs.Privates.{IsOpenFor, open_inside}
+use Rattle.version_words.proofs.Shows.{seen_then}
 
 some_none : {A : Type 0} → (a : A) → None ≡ Some a → ⊥
 some_none a e = cc
@@ -170,6 +171,6 @@ module _ {T : Type 0} (mean : T → Meaning) (s : T) (spot : Spot) (slot number 
   pub retire_found : Laws (mean s) → IsWithinLimits me'.0.layout → AreAllowed me'.0.requests → found ≡ (if found == 0 then 0 else slot + 1)
   retire_found laws limits allowed =
       let runs : me'.0.part.run ≡ Some q' = ap (λ (r : RunnerState T). r.part.run) made.made ∙ ap (λ (y : PartState). y.run) after_is in
-      let left = subst (λ (x : Spot × Access). ReachedWith (mean s) me'.0.layout me'.0.requests me'.0.number me'.0.part x.0 (written x.1 found)) (some_same made.met (spot, Exchanges 0 (slot + 1)) (sym made.asked ∙ next)) made.shown in
+      let left = subst (λ (x : Spot × Access). ReachedWith (mean s) me'.0.layout me'.0.requests me'.0.number me'.0.part x.0 (written x.1 found)) (some_same made.met (spot, Exchanges 0 (slot + 1)) (sym made.asked ∙ next)) (seen_then _ _ _ _ _ _ _ _ _ made.shown) in
       one_found found slot (retired_word (mean s) laws me'.0.layout me'.0.requests me'.0.number me'.0.part spot (written_once found (slot + 1)) limits allowed left q' runs q.at slot retires.0
       (opened_all q opens.open_run.ready) here retires.2)

@@ -18,7 +18,6 @@ use Rattle.table_words.specs.declared.spot.Spot.{Spot}
 use Rattle.table_words.specs.declared.spot.Spot.TheVariants.{Seat}
 use Rattle.table_words.specs.declared.access.Access.{Access}
 use Rattle.table_words.specs.declared.access.Access.TheVariants.{Loads}
-use Rattle.table_words.specs.Access.{written}
 use Rattle.structure_laws.specs.Meaning.{Meaning}
 use Rattle.runner_parts.specs.declared.event.EventKind.TheVariants as kinds
 use Rattle.runner_parts.specs.declared.event.Event.{Event}
@@ -89,7 +88,7 @@ joined_more (v ∷ vs) w h = refl
 -- a split makes one more split
 pub one_split : (m : Meaning) (l : Layout) (r : ℕ) (spot : Spot) (access : Access) (found : ℕ) (p : PartState) → p.run ≡ None → p.records.splits < l.runners → (after m l r kinds.Split spot access p found).records.splits ≡ p.records.splits + 1
 one_split m l r spot access found p none few =
-    notes l r kinds.Split spot (written access found) (after_by m l kinds.Split p p.run found).records
+    notes l r kinds.Split spot access found (after_by m l kinds.Split p p.run found).records
     ∙ (ap (λ (o : Option RunState). (after_by m l kinds.Split p o found).records.splits) none
     ∙ ap (λ (b : Bool). (if b then record p { records = record (p.records) { splits = p.records.splits + 1 } } else p).records.splits) (let e : nat_lt p.records.splits l.runners ≡ true = grind (arith, nat_tests, few) in e))
 

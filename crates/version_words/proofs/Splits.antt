@@ -47,8 +47,8 @@ leaves_more : (s : RecordsState) (k : EventKind) (spot : Spot) (number : ℕ) �
 leaves_more s (kinds.Join worker) spot number = refl
 leaves_more s _ spot number = refl
 
-pub notes : (l : Layout) (r : ℕ) (k : EventKind) (spot : Spot) (number : ℕ) (s : RecordsState) → (noted l r k spot number s).splits ≡ s.splits
-notes l r k spot number s = known_chosen (r == l.runners) _ _ s.splits (leaves_more _ k spot number) refl
+pub notes : (l : Layout) (r : ℕ) (k : EventKind) (spot : Spot) (access : Access) (found : ℕ) (s : RecordsState) → (noted l r k spot access found s).splits ≡ s.splits
+notes l r k spot access found s = known_chosen (r == l.runners) _ _ s.splits (leaves_more _ k spot (written access found)) refl
 
 scans : (l : Layout) (p : PartState) (stage : Stage) (found : ℕ) → splits (scan_one_after l p stage found) ≡ splits p
 scans l p (stages.Scanning x next clear) found = chosen (nat_le next l.runners) _ p (splits p) (chosen _ _ _ (splits p) refl refl) refl
@@ -70,6 +70,7 @@ module _ (m : Meaning) (l : Layout) where
   outside (kinds.LoadCell (Some place)) p found e = refl
   outside (kinds.LoadCell None) p found e = refl
   outside (kinds.LoadEntry request reply) p found e = learns p.records request reply found
+  outside (kinds.PrivateLoad slot word) p found e = chosen _ _ _ (splits p) refl refl
   outside (kinds.Hold thunk d) p found e = chosen _ _ _ (splits p) refl refl
   outside (kinds.LoadThunk (Some d)) p found e = refl
   outside (kinds.LoadThunk None) p found e = refl
@@ -102,4 +103,4 @@ module _ (m : Meaning) (l : Layout) where
   by_run k p (Some q) found e = chosen (is_open_run q) _ _ (splits p) (inside k p q (next_of m q) found) refl
 
   pub kept_splits : (r : ℕ) (k : EventKind) (spot : Spot) (access : Access) (p : PartState) (found : ℕ) → is_split k ≡ false → (after m l r k spot access p found).records.splits ≡ p.records.splits
-  kept_splits r k spot access p found e = notes l r k spot (written access found) (stepped m l k p found).records ∙ by_run k p p.run found e
+  kept_splits r k spot access p found e = notes l r k spot access found (stepped m l k p found).records ∙ by_run k p p.run found e

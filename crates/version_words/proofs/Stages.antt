@@ -26,7 +26,7 @@ use Rattle.runner_parts.specs.State.{RunState, PartState, RecordsState}
 use Rattle.runner_steps.specs.Outside.{Ask, when, enter_load_ask, announce_ask, enter_again_ask, scan_one_ask, advance_ask, last_epoch, descriptor_spot}
 use Rattle.runner_steps.specs.Asks.{ask_by, outside_ask, fitting, sizes_for}
 use Rattle.runner_steps.specs.AfterOutside.{with_stage, collected, scanned, scan_one_after, advance_after, is_clear}
-use Rattle.runner_steps.specs.After.{outside_after, after_by, stepped, counted, after, leaves}
+use Rattle.runner_steps.specs.After.{outside_after, after_by, stepped, after, leaves, tallied}
 use Rattle.version_words.specs.RunnerState.{RunnerState}
 use Rattle.version_words.specs.TableState.{TableState, first_keeper}
 use Rattle.version_words.specs.Events.{met_by, IsEnabled, Makes, HasSplit, next_worker, joined_by}
@@ -211,7 +211,7 @@ kept_joined false s t joined one two = two
 
 lists_joined : (m : Meaning) (l : Layout) (r worker : ℕ) (p : PartState) → p.run ≡ None → (after m l r (kinds.Join worker) spots.Seat Loads p 0).records.joined ≡ p.records.joined ++ worker ∷ []
 lists_joined m l r worker p none = let s = (stepped m l (kinds.Join worker) p 0).records in
-    kept_joined (r == l.runners) _ (record s { events = counted s.events }) s.joined refl refl ∙ ap (λ (o : Option RunState). (after_by m l (kinds.Join worker) p o 0).records.joined) none
+    kept_joined (r == l.runners) _ (tallied Loads 0 s) s.joined refl refl ∙ ap (λ (o : Option RunState). (after_by m l (kinds.Join worker) p o 0).records.joined) none
 
 -- a keeper that joins a worker
 module _ {T : Type 0} (m : Meaning) (keeper worker r' : RunnerState T) (splits count : ℕ) (joins : r' ≡ joined_by m worker keeper) where
@@ -255,7 +255,7 @@ module _ (l : Layout) (epoch next : ℕ) (clear : Bool) (found : ℕ) where
 -- a split joins no one
 splits_none : (m : Meaning) (l : Layout) (r : ℕ) (spot : Spot) (access : Access) (found : ℕ) (p : PartState) → p.run ≡ None → (after m l r kinds.Split spot access p found).records.joined ≡ p.records.joined
 splits_none m l r spot access found p none = let s = (stepped m l kinds.Split p found).records in
-    kept_joined (r == l.runners) _ (record s { events = counted s.events }) s.joined refl refl
+    kept_joined (r == l.runners) _ (tallied access found s) s.joined refl refl
     ∙ (ap (λ (o : Option RunState). (after_by m l kinds.Split p o found).records.joined) none
     ∙ same (λ (q : PartState). q.records.joined) (nat_lt p.records.splits l.runners) (record p { records = record (p.records) { splits = p.records.splits + 1 } }) p p.records.joined refl refl)
 
@@ -319,10 +319,14 @@ module _ {T : Type 0} (m : Meaning) (found : ℕ) (r r' : RunnerState T) (sectio
   still_free_stored number d made free = still_free (kinds.PrivateStore slot word number) d made refl free
 
   pub then_loaded_word : Makes m (kinds.PrivateLoad slot word) found r r' → IsAt r' stages.Idle section
-  then_loaded_word made = made_at m (kinds.PrivateLoad slot word) found r r' made is.resting stages.Idle section is.seated is.present is.resting is.at is.published
+  then_loaded_word made = let node = nat_lt slot (slot_count r.layout m.fixed_slots) in
+      made_at m (kinds.PrivateLoad slot word) found r r' made is.resting stages.Idle section is.seated
+      (same (λ (q : PartState). q.gone) node _ _ false is.present is.present) (same (λ (q : PartState). q.run) node _ _ None is.resting is.resting)
+      (same (λ (q : PartState). q.stage) node _ _ stages.Idle is.at is.at) (same (λ (q : PartState). q.published) node _ _ section is.published is.published)
 
   pub still_free_loaded : (d : ℕ) → Makes m (kinds.PrivateLoad slot word) found r r' → HasFree r d → HasFree r' d
-  still_free_loaded d made free = still_free (kinds.PrivateLoad slot word) d made refl free
+  still_free_loaded d made free = still_free (kinds.PrivateLoad slot word) d made
+      (same (λ (q : PartState). q.descriptors.free) (nat_lt slot (slot_count r.layout m.fixed_slots)) _ _ r.part.descriptors.free refl refl) free
 
 -- a new worker has its first descriptor
 pub first_free : {T : Type 0} (m : Meaning) (keeper r : RunnerState T) (n : ℕ) → r ≡ next_worker m keeper → keeper.layout.sections ≡ 1 → keeper.part.records.splits ≡ n → n < keeper.layout.runners → HasFree r n

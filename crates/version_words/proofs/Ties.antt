@@ -31,10 +31,11 @@ use Rattle.version_words.specs.declared.view.View.{View}
 use Rattle.machine_states.specs.Reached.{Reached}
 use Rattle.version_words.specs.Shown.{IsShown, left_part, part_at, joined_in}
 use Rattle.version_words.specs.Naming.{Naming, is_plain}
-use Rattle.version_words.specs.ReachedWith.{ReachedWith}
+use Rattle.version_words.specs.ReachedWith.{ReachedBy}
 use Rattle.version_words.specs.Rule.{IsSeatedAt, Holds, stepped, IsTold, Tells}
 use Rattle.version_words.proofs.Lists.{get_here, get_else, inside}
 use Rattle.version_words.proofs.Splits.{is_split, kept_splits}
+use Rattle.version_words.proofs.Shows.{blind_shown}
 
 some_spent : {A : Type 0} {a : A} → Some a ≡ None → ⊥
 some_spent e = cc
@@ -150,13 +151,19 @@ module _ {T : Type 0} (m : Meaning) (s : T) (l : Layout) (rs : List Request) whe
     pub reached_after : Reached m l rs world_after
     reached_after = more_reached m l rs h.world world_after event h.reached happened
 
-    -- in the state after the event the runner has the new part, and the word is what the event left there
-    pub seen_after : ReachedWith m l rs v.number next x.0 (written x.1 met)
+    -- before the event the runner has the old part, and the word is what it finds; in the state after it the runner has the new part, and the
+    -- word is what the event left there
+    pub seen_after : ReachedBy m l rs v.number k v.part next x met
     seen_after =
         let fits = asked_fits m l rs st.words h.world.parts event v.part x asked in
         let room : at_of x.0 < length st.words = let low = within (sizes_for m l rs) x.0 fits in let all = (reached_all m l rs h.world h.reached).words in let same = ap length h.shown.words in omega (arith, low, all, same) in
         record {
+          before = h.world;
+          was_reached = h.reached;
+          was_own = ap (slice_get h.world.parts) seat_is ∙ part_here;
+          was_found = λ told. seen_here (sizes_for m l rs) h.world.words x.0 fits ∙ ap (λ ws. slice_index ws (at_of x.0)) h.shown.words;
           world = world_after;
+          happened = happened;
           reached = reached_after;
           own = ap (slice_get world_after.parts) seat_is ∙ get_here h.world.parts id next (slice_get_within h.world.parts id v.part part_here);
           word = seen_here (sizes_for m l rs) world_after.words x.0 fits ∙ get_or-set_same st.words (at_of x.0) (written x.1 met) 0 room;
@@ -210,7 +217,7 @@ module _ {T : Type 0} (mean : T → Meaning) (naming : Naming) (step : Step Thun
               (holds_after (mean s) s l rs k id me.0 x live (no_join k plain) asked' st h here (no_split k plain) blank),
           tells found x w live asked (record {
             view = refl;
-            shown = subst (λ (y : Layout × List Request). ReachedWith (mean s) y.0 y.1 me.0.number (after (mean s) y.0 me.0.number k x.0 x.1 me.0.part found) x.0 (written x.1 found)) (λ i. (sym about.same_layout i, sym about.same_requests i))
+            shown = subst (λ (y : Layout × List Request). ReachedBy (mean s) y.0 y.1 me.0.number k me.0.part (after (mean s) y.0 me.0.number k x.0 x.1 me.0.part found) x found) (λ i. (sym about.same_layout i, sym about.same_requests i))
                 (seen_after (mean s) s l rs k id me.0 x live (no_join k plain) asked' st h here);
           }),
         )
@@ -230,6 +237,6 @@ module _ {T : Type 0} (mean : T → Meaning) (naming : Naming) (step : Step Thun
           subst (λ (z : ℕ). Holds (mean s) s l rs (record { words = set st.words (address (sizes_for (mean s) l rs) x.0) z; homes = st.homes; views = set st.views id made.0 })) left made.3,
           tells n x made.0 live asked (record {
             view = told.view ∙ ap (λ p. (record (me.0) { part = p }, me.1)) (blind found n);
-            shown = subst (ReachedWith (mean s) made.0.layout made.0.requests made.0.number made.0.part x.0) (ap (λ a. written a found) is ∙ sym (ap (λ a. written a n) is)) told.shown;
+            shown = blind_shown (mean s) made.0.layout made.0.requests made.0.number (event_of (mean s)) me.0.part made.0.part x found told.shown n is n;
           }),
         )

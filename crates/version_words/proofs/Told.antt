@@ -4,7 +4,6 @@ use Rattle.std.proofs.Common.{◌≡◌, ℕ, ◌+◌, [], Bool, true, false, re
 use Rattle.table_words.specs.declared.layout.Layout.{Layout}
 use Rattle.table_words.specs.declared.spot.Spot.{Spot}
 use Rattle.table_words.specs.declared.access.Access.{Access}
-use Rattle.table_words.specs.Access.{written}
 use Rattle.structure_laws.specs.Meaning.{Meaning}
 use Rattle.runner_parts.specs.declared.event.EventKind.{EventKind}
 use Rattle.runner_parts.specs.declared.event.EventKind.TheVariants as kinds
@@ -18,14 +17,15 @@ use Rattle.version_words.specs.RunnerState.{RunnerState, told_part}
 use Rattle.version_words.specs.Events.{Makes}
 use Rattle.version_words.proofs.Asked.{is_outer, in_no_run}
 use Rattle.version_words.proofs.Splits.{notes}
+use Rattle.table_words.specs.Places.{slot_count}
 
 false_true : false ≡ true → ⊥
 false_true e = cc
 
 module _ (m : Meaning) (l : Layout) (r : ℕ) (k : EventKind) (spot : Spot) (access : Access) (p : PartState) (found : ℕ) where
   pub told : told_part (after m l r k spot access p found) ≡ told_part (stepped m l k p found)
-  told = ap (λ (z : ℕ). record (told_part (stepped m l k p found)) { records = record { known = []; finished = []; events = 0; left = []; splits = z; joined = [] } })
-      (notes l r k spot (written access found) (stepped m l k p found).records)
+  told = ap (λ (z : ℕ). record (told_part (stepped m l k p found)) { records = record { known = []; finished = []; events = 0; won = 0; left = []; splits = z; joined = [] } })
+      (notes l r k spot access found (stepped m l k p found).records)
 
   -- after an event in no run
   pub told_outside : p.run ≡ None → told_part (after m l r k spot access p found) ≡ told_part (outside_after m l k p found)
@@ -68,6 +68,7 @@ module _ (m : Meaning) (l : Layout) (p : PartState) (found : ℕ) where
   outer_runs (kinds.ScanOne n) e = scan_runs l p p.stage found
   outer_runs kinds.Advance e = advance_runs p p.stage
   outer_runs kinds.Split e = run_chosen (nat_lt p.records.splits l.runners) (record p { records = record (p.records) { splits = p.records.splits + 1 } }) p p.run refl refl
+  outer_runs (kinds.PrivateLoad slot word) e = run_chosen (nat_lt slot (slot_count l m.fixed_slots)) _ _ p.run refl refl
   outer_runs (kinds.Hold thunk d) e = run_chosen (found == thunk.word) _ _ p.run refl refl
   outer_runs (kinds.LoadCell o) e = absurd (false_true e)
   outer_runs (kinds.LoadThunk o) e = absurd (false_true e)

@@ -1,15 +1,15 @@
 -- What contracts say of a step: it is one event of the machine on the own part.
-use Rattle.std.specs.Prelude.{◌≡◌, ℕ, Bool, true, false, [], ◌∷◌, ◌==◌, Some}
+use Rattle.std.specs.Prelude.{◌≡◌, ℕ, Bool, true, [], ◌∷◌, Some}
 use mathlib.Core.Option.{Option as Option_of, none, some}
 use Rattle.atomic_table.specs.Table.{Me, Step, step}
 use Rattle.atomic_table.specs.Seated.{TableId}
 use Rattle.section_body.specs.declared.thunk.Thunk.{Thunk}
-use Rattle.table_words.specs.Access.{written}
+use Rattle.table_words.specs.Access.{written, wins}
 use Rattle.table_words.specs.Places.{address}
 use Rattle.table_words.specs.declared.spot.Spot.{Spot}
 use Rattle.table_words.specs.declared.spot.Spot.TheVariants.{Seat}
 use Rattle.table_words.specs.declared.access.Access.{Access}
-use Rattle.table_words.specs.declared.access.Access.TheVariants.{Loads, Exchanges}
+use Rattle.table_words.specs.declared.access.Access.TheVariants.{Loads}
 use Rattle.structure_laws.specs.Meaning.{Meaning}
 use Rattle.runner_parts.specs.declared.event.EventKind.{EventKind}
 use Rattle.runner_parts.specs.declared.event.EventKind.TheVariants as kinds
@@ -19,7 +19,7 @@ use Rattle.runner_steps.specs.After.{after, knows_also}
 use Rattle.machine_states.specs.First.{worker_part}
 use Rattle.version_words.specs.declared.view.View.{View}
 use Rattle.version_words.specs.Naming.{Naming, is_plain}
-use Rattle.version_words.specs.ReachedWith.{ReachedWith}
+use Rattle.version_words.specs.ReachedWith.{ReachedBy}
 use Rattle.version_words.specs.RunnerState.{RunnerState}
 use Rattle.version_words.specs.TableState.{TableState}
 
@@ -33,11 +33,6 @@ nothing = none
 abbrev pub announcing : Thunk → Announced
 announcing thunk = some thunk
 
--- the exchange finds the number that it expects
-abbrev pub wins : Access → ℕ → Bool
-wins (Exchanges old new) found = found == old
-wins _ found = false
-
 module _ {T : Type 0} (m : Meaning) where
   -- the word that this event of the runner meets, and what it does there; None where it isn't enabled
   abbrev pub met_by : RunnerState T → EventKind → Ask
@@ -49,12 +44,13 @@ module _ {T : Type 0} (m : Meaning) where
     pub asked : met_by r kind ≡ Some met
 
   -- the runner made this event, and found this number in its word; nothing of it changed but the part; and the machine reaches a state in
-  -- which it has that part and the word is what the event left there
+  -- which it has the part before and the word is that number, and by this event one in which it has the part after and the word is what the
+  -- event left there
   pub record Makes (kind : EventKind) (found : ℕ) (old new : RunnerState T) : Type 0 where
     pub met : Spot × Access
     pub asked : met_by old kind ≡ Some met
     pub made : new ≡ record old { part = after m old.layout old.number kind met.0 met.1 old.part found }
-    pub shown : ReachedWith m new.layout new.requests new.number new.part met.0 (written met.1 found)
+    pub shown : ReachedBy m new.layout new.requests new.number kind old.part new.part met found
 
   -- the runner made this event, whose exchange won or lost
   pub record Tries (kind : EventKind) (won : Bool) (old new : RunnerState T) : Type 0 where

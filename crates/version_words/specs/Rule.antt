@@ -10,7 +10,6 @@ use Rattle.table_words.specs.declared.spot.Spot.{Spot}
 use Rattle.table_words.specs.declared.spot.Spot.TheVariants.{Seat}
 use Rattle.table_words.specs.declared.access.Access.{Access}
 use Rattle.table_words.specs.declared.access.Access.TheVariants.{Loads}
-use Rattle.table_words.specs.Access.{written}
 use Rattle.structure_laws.specs.Meaning.{Meaning}
 use Rattle.runner_parts.specs.declared.event.EventKind.{EventKind}
 use Rattle.runner_parts.specs.declared.event.EventKind.TheVariants as kinds
@@ -22,7 +21,7 @@ use Rattle.version_words.specs.declared.view.View.{View}
 use Rattle.machine_states.specs.Reached.{Reached}
 use Rattle.version_words.specs.Shown.{IsShown}
 use Rattle.version_words.specs.Naming.{Naming}
-use Rattle.version_words.specs.ReachedWith.{ReachedWith}
+use Rattle.version_words.specs.ReachedWith.{ReachedBy}
 
 -- the view is of this table, and its runner has this seat
 pub record IsSeatedAt {T : Type 0} (s : T) (l : Layout) (requests : List Request) (seat : ℕ) (t : T) (v : View T) : Type 0 where
@@ -49,10 +48,10 @@ module _ {T : Type 0} where
   stepped m kind spot access v found = record v { part = after m v.layout v.number kind spot access v.part found }
 
   -- the seat's view is the one after this event, which met this spot and found this number; and the machine reaches a state in which its
-  -- runner has that part and the word is what the event left there
+  -- runner has the part before and the word is that number, and by this event one in which it has the part after and the word is what was left
   pub record IsTold (m : Meaning) (kind : EventKind) (met : Spot × Access) (me : Me Thunk (View T)) (found : ℕ) (me' : Me Thunk (View T)) : Type 0 where
     pub view : me' ≡ (stepped m kind met.0 met.1 me.0 found, me.1)
-    pub shown : ReachedWith m me'.0.layout me'.0.requests me'.0.number me'.0.part met.0 (written met.1 found)
+    pub shown : ReachedBy m me'.0.layout me'.0.requests me'.0.number kind me.0.part me'.0.part met found
 
   -- what a step tells its seat: it was the event of this name on the own part, and the word had this number
   abbrev pub Tells : (T → Meaning) → Naming → Step Thunk → Me Thunk (View T) → ℕ → Me Thunk (View T) → Type 0

@@ -8,6 +8,7 @@ use Rattle.runner_parts.specs.declared.stage.Stage.TheVariants as stages
 use Rattle.runner_parts.specs.declared.entries.Published.{Published}
 use Rattle.runner_parts.specs.State.{PartState}
 use Rattle.runner_parts.specs.Lists.{no_reads}
+use Rattle.runner_block.specs.Kept.{published_as}
 
 -- a runner: its table, its number, what it is at and keeps, and of the keeper the parts of the workers that it joined, the last one first
 pub record RunnerState (T : Type 0) : Type 0 where
@@ -26,7 +27,7 @@ entered_of _ = None
 
 abbrev pub told_published : Option Published → Option Published
 told_published None = None
-told_published (Some x) = Some (record { descriptor = x.descriptor; walked = 0; over = false })
+told_published (Some x) = published_as (Some x.descriptor)
 
 -- of a part, what the runner's code keeps
 abbrev pub told_part : PartState → PartState
@@ -37,6 +38,6 @@ told_part p = record {
   nodes = p.nodes;
   descriptors = record (p.descriptors) { stored = [] };
   reads = no_reads;
-  records = record { known = []; finished = []; events = 0; left = []; splits = p.records.splits; joined = [] };
+  records = record { known = []; finished = []; events = 0; won = 0; left = []; splits = p.records.splits; joined = [] };
   gone = false;
 }

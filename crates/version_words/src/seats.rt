@@ -1,7 +1,7 @@
 //! How runners are made and joined, and how a table begins and ends.
 ghost use Rattle.std.specs.Prelude.{◌≡◌, ◌≤◌, ◌<◌, IfOk, IfErr, length, All};
 ghost use Rattle.map_history.specs.declared.op.Request.{Request};
-ghost use Rattle.map_history.specs.Keys.{key_of};
+ghost use Rattle.map_history.specs.Requests.{AreInOrder};
 ghost use Rattle.table_words.specs.Limits.{IsWithinLimits};
 ghost use Rattle.table_words.specs.Places.{slot_count};
 ghost use Rattle.runner_parts.specs.declared.event.EventKind.TheVariants as kinds;
@@ -116,7 +116,8 @@ fn values_fit(requests: &[Request])
 }
 
 impl<S: Structure> FlockTable<S> {
-    /// The table in its first state, and the keeper.
+    /// The table in its first state, and the keeper. The requests are numbered from 0 in order, in traces that never fall along the list
+    /// and are below 64, with keys up to 4,294,967,293.
     pub fn new(
         alloc: Global,
         structure: S,
@@ -124,8 +125,7 @@ impl<S: Structure> FlockTable<S> {
         requests: &[Request],
     ) -> Result<(FlockTable<S>, Runner<S>), AllocError>
         requires limits { IsWithinLimits layout }
-        requires few { length requests.now ≤ 131072 }
-        requires keys { All (λ (request : Request). key_of request.op ≤ 4294967293) requests.now }
+        requires ordered { AreInOrder requests.now 64 }
         ensures table { IfOk result (λ x. IsNew structure layout requests.now x.0) }
         ensures own { IfOk result (λ x. IsOf x.0 x.1) }
         ensures keeper { IfOk result (λ x. x.1 ≡ first_keeper (S.meaning structure) x.0) }

@@ -11,7 +11,7 @@ use Rattle.interleave_core.proofs.machine.Machine.new.Goals as goal
 pub invariant_of-result : goal.invariant_of-result
 invariant_of-result g c =
     let m = g.S.Structure.meaning c.args.structure in
-    let few = c.requires.few in
+    let few = c.requires.ordered.few in
     let same = ap length c.in_ok-requests.ensures.items in
     let sizes_is : c.sizes_for-sizes.result ≡ sizes_for m c.args.layout c.in_ok-requests.requests.items =
     c.sizes_for-sizes.ensures ∙ ap (λ (rs : List Request). sizes_for m c.args.layout rs) (sym c.in_ok-requests.ensures.items) in

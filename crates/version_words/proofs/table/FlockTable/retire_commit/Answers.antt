@@ -15,6 +15,7 @@ use Rattle.machine_invariant.specs.After.{AreAllowed}
 use Rattle.version_words.proofs.Bounds.{few_seen}
 use Rattle.version_words.proofs.RetireSteps.{retire_low, retire_room, retire_kept, retire_found}
 use Rattle.version_words.proofs.table.FlockTable.retire_commit.Goals as goal
+use Rattle.version_words.proofs.Shows.{seen_then}
 
 pub slot_retired-requires-clause-room : goal.slot_retired-requires-clause-room
 slot_retired-requires-clause-room g c = λ won.
@@ -24,7 +25,7 @@ slot_retired-requires-clause-room g c = λ won.
     let met = g.met.S.Structure g.world.𝓛 g.world.𝓜 g.world.𝓡 ((λ s allowed. allowed), (λ patient. patient), (λ alone. alone), (λ cuts. cuts)) in
     let limits = subst IsWithinLimits (sym (tells.own.layout ∙ ap (λ t. t.layout) (sym c.self.view_is))) c.self.invariant.limits in
     let requests = subst AreAllowed (sym (tells.own.requests ∙ ap (λ t. t.requests) (sym c.self.view_is))) c.self.invariant.allowed in
-    let few = few_seen (mean s) (met.laws s) new.me.0.layout new.me.0.requests new.me.0.number new.me.0.part tells.event.met.0 (written tells.event.met.1 found) limits requests tells.event.shown in
+    let few = few_seen (mean s) (met.laws s) new.me.0.layout new.me.0.requests new.me.0.number new.me.0.part tells.event.met.0 (written tells.event.met.1 found) limits requests (seen_then _ _ _ _ _ _ _ _ _ tells.event.shown) in
     subst (λ (b : Block). AreFew b.lists.room (slot_retired b.lists.part.nodes c.args.slot b.place.epoch)) (sym c.deref_mut.ensures.value)
     (retire_room mean s (next_log r.part.run) c.args.slot number c.runner.inside.kept.value seat.table_id seat.me (ap (λ r. r.structure) c.runner.view_is ∙ c.requires.own.structure) next c.runner.invariant
     found new.table_id new.me tells.event tells.slots few won)
