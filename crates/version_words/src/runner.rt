@@ -1,6 +1,5 @@
 //! A seat with what its thread keeps.
-ghost use Rattle.std.specs.Prelude.{◌≡◌, ◌<◌, ◌^◌, length, Some};
-ghost use Rattle.runner_parts.specs.State.{RunState};
+ghost use Rattle.std.specs.Prelude.{◌≡◌, ◌<◌, ◌^◌, length};
 ghost use Rattle.version_words.specs.RunnerState.{entered_of};
 
 use crate::view::View;
@@ -44,13 +43,6 @@ impl<S: Structure> Runner<S> {
         ensures { result ≡ self.now.number }
     {
         self.number
-    }
-
-    /// The descriptor of the section that the runner's run is of, where it is in one.
-    pub fn descriptor(&self) -> u32
-        ensures { (q : RunState) → self.now.part.run ≡ Some q → result ≡ q.descriptor }
-    {
-        self.kept.place.descriptor
     }
 
     /// The epoch with which the runner is entered, if it is.
