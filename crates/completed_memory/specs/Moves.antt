@@ -42,24 +42,32 @@ module _ (m : Meaning) where
   pub record MemoryMoves (layout : Layout) : Type 0 where
     -- at first it stands for the empty map
     pub first : (s : Scene) → IsFirst m s → StandsCompleted layout s (λ d. false) empty
-    -- a section gets its stamp: its Answer is the map's reply, and the map goes on to the one after its operation
-    pub answers : (s : Scene) (stamped : Marks) (pairs : Pairs) (d : ℕ) (x : Section) → StandsCompleted layout s stamped pairs
+    -- a section gets its stamp: its Answer is the map's reply, and the map goes on to the one after
+    -- its operation
+    pub answers : (s : Scene) (stamped : Marks) (pairs : Pairs) (d : ℕ) (x : Section)
+        → StandsCompleted layout s stamped pairs
         → IsAtStamp s stamped d x → m.is_map ≡ true → (j n : ℕ) → IsStep m x j (Answer n) → n ≡ word_of (reply_of pairs x.op)
-    pub stamps : (s : Scene) (stamped : Marks) (pairs : Pairs) (d : ℕ) (x : Section) → StandsCompleted layout s stamped pairs
+    pub stamps : (s : Scene) (stamped : Marks) (pairs : Pairs) (d : ℕ) (x : Section)
+        → StandsCompleted layout s stamped pairs
         → IsAtStamp s stamped d x → StandsCompleted layout s (upd stamped d true) (map_after pairs x.op)
     -- what leaves the remaining Stores leaves the map
-    pub leaves : (s s' : Scene) (stamped stamped' : Marks) (pairs : Pairs) (count : ℕ) → StandsCompleted layout s stamped pairs
-        → IsLawful m layout s' → AreMarked m s' stamped' → AreBelow m count s' → LeavesStores s s' stamped stamped'
+    pub leaves : (s s' : Scene) (stamped stamped' : Marks) (pairs : Pairs) (count : ℕ)
+        → StandsCompleted layout s stamped pairs
+        → IsLawful m layout s' → AreMarked m s' stamped' → AreBelow m count s'
+        → LeavesStores s s' stamped stamped'
         → StandsCompleted layout s' stamped' pairs
     -- so does the next Store of a stamped section
-    pub store : (s : Scene) (stamped : Marks) (pairs : Pairs) (d j p r : ℕ) (x : Section) (v : Value) → StandsCompleted layout s stamped pairs
+    pub store : (s : Scene) (stamped : Marks) (pairs : Pairs) (d j p r : ℕ) (x : Section) (v : Value)
+        → StandsCompleted layout s stamped pairs
         → Here s d x → stamped d ≡ true → IsStep m x x.at (Store r v) → IsStep m x j (Load p r)
         → StandsCompleted layout (with_cell (passes s d x) p (next_word (x.reg r) (value_in x.reg v))) stamped pairs
     -- and a change of a lock, or of a cell of a slot in a hand
-    pub lock : (s : Scene) (stamped : Marks) (pairs : Pairs) (p w : ℕ) → StandsCompleted layout s stamped pairs → m.is_lock p ≡ true
+    pub lock : (s : Scene) (stamped : Marks) (pairs : Pairs) (p w : ℕ)
+        → StandsCompleted layout s stamped pairs → m.is_lock p ≡ true
         → IsLawful m layout (with_cell s p w) → StandsCompleted layout (with_cell s p w) stamped pairs
     pub hand : (s : Scene) (stamped : Marks) (pairs : Pairs) (t i w : ℕ) → StandsCompleted layout s stamped pairs → s.status t ≡ Free → i < 5
-        → IsLawful m layout (with_cell s (cell_of m t i) w) → StandsCompleted layout (with_cell s (cell_of m t i) w) stamped pairs
+        → IsLawful m layout (with_cell s (cell_of m t i) w)
+        → StandsCompleted layout (with_cell s (cell_of m t i) w) stamped pairs
     -- where nothing is pending, the cells stand for the map
     pub settled : (s : Scene) (stamped : Marks) (pairs : Pairs) → StandsCompleted layout s stamped pairs
         → ((p word : ℕ) → IsPending m s stamped p word → ⊥) → m.stands layout s.cells pairs

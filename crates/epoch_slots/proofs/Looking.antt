@@ -19,7 +19,8 @@ use Rattle.runner_parts.specs.declared.event.EventKind.TheVariants as kinds
 use Rattle.runner_parts.specs.declared.stage.Stage.TheVariants as stages
 use Rattle.runner_parts.specs.State.{NodesState, PartState}
 use Rattle.runner_parts.specs.Tests.{has, is_resting}
-use Rattle.runner_parts.specs.Lists.{without, test_of, tests_without, slot_back, slot_tested, one_more, nodes_looked}
+use Rattle.runner_parts.specs.Lists.{without, test_of, tests_without, slot_back, slot_tested, one_more, nodes_looked, descriptor_stored}
+use Rattle.runner_steps.specs.After.{outside_after}
 use Rattle.runner_steps.specs.Outside.{when, descriptor_spot}
 use Rattle.epoch_core.specs.Lists.{times}
 use Rattle.version_words.specs.RunnerState.{RunnerState}
@@ -153,26 +154,32 @@ module _ {T : Type 0} (m : Meaning) where
         either_true true = refl
         either_true false = refl
 
-    pub looks_on : (word : ℕ) (r' : RunnerState T) → Makes m (kinds.PrivateLoad slot cell) word r r' → IsLookedAt m slot (cell + 1) old r'
-    looks_on word r' made =
+    pub looks_on : slot < slot_count old.layout m.fixed_slots → (word : ℕ) (r' : RunnerState T) → Makes m (kinds.PrivateLoad slot cell) word r r'
+        → IsLookedAt m slot (cell + 1) old r'
+    looks_on low word r' made =
+        let wide = ap (λ (l : Layout). slot_count l m.fixed_slots) so.rest.layout in
+        let within : nat_lt slot (slot_count r.layout m.fixed_slots) ≡ true = grind (arith, nat_tests, low, wide) in
+        let part : ◌≡◌ {A = PartState} (outside_after m r.layout (kinds.PrivateLoad slot cell) r.part word) (record (r.part) { nodes = nodes_looked r.layout r.part.nodes slot cell word }) =
+        ap (λ (b : Bool). if b then record (r.part) { nodes = nodes_looked r.layout r.part.nodes slot cell word }
+        else record (r.part) { descriptors = descriptor_stored r.part.descriptors (slot - slot_count r.layout m.fixed_slots) cell word }) within in
         let f = λ (w : ℕ). version_of w == old.layout.version_max in
-        let nothing : NotesNothing (kinds.PrivateLoad slot cell) = record { known = λ s spot n. refl; finished = λ s spot n. refl } in
+        let nothing : NotesNothing (kinds.PrivateLoad slot cell) = record { known = λ s access found spot. refl; finished = λ s access found spot. refl } in
         let resting = so.at.resting in
         record {
           words = so.words ++ word ∷ [];
           count = length-append so.words (word ∷ []) ∙ (let e = so.count in omega (arith, e));
           looks = looks_more so.words slot 0 word old r r' so.looks (subst (λ n. Makes m (kinds.PrivateLoad slot n) word r r') (let a = so.count in let e : cell ≡ 0 + length so.words = omega (arith, a) in e) made);
           nodes = nodes_made m (kinds.PrivateLoad slot cell) word r r' made resting
-              ∙ ((λ i. nodes_looked (so.rest.layout i) (so.nodes i) slot cell word)
+              ∙ (ap (λ (p : PartState). p.nodes) part ∙ (λ i. nodes_looked (so.rest.layout i) (so.nodes i) slot cell word)
               ∙ (look_next old.layout old.part.nodes slot word (list_any f so.words) hand cell none few (λ e. none_left f so.words (so.count ∙ e))
               ∙ ap (looked old.part.nodes slot (cell + 1)) (sym (any_more f so.words word))));
           at = then_loaded_word m word r r' None slot cell so.at made;
           rest = record {
             number = ap (λ (y : RunnerState T). y.number) made.made ∙ so.rest.number;
             layout = ap (λ (y : RunnerState T). y.layout) made.made ∙ so.rest.layout;
-            descriptors = descriptors_made m (kinds.PrivateLoad slot cell) word r r' made resting ∙ so.rest.descriptors;
-            known = known_made m (kinds.PrivateLoad slot cell) word r r' made resting nothing ∙ so.rest.known;
-            finished = finished_made m (kinds.PrivateLoad slot cell) word r r' made resting nothing ∙ so.rest.finished;
+            descriptors = descriptors_made m (kinds.PrivateLoad slot cell) word r r' made resting ∙ (ap (λ (p : PartState). p.descriptors) part ∙ so.rest.descriptors);
+            known = known_made m (kinds.PrivateLoad slot cell) word r r' made resting nothing ∙ (ap (λ (p : PartState). p.records.known) part ∙ so.rest.known);
+            finished = finished_made m (kinds.PrivateLoad slot cell) word r r' made resting nothing ∙ (ap (λ (p : PartState). p.records.finished) part ∙ so.rest.finished);
           };
         }
 

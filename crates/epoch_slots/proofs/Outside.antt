@@ -2,11 +2,12 @@
 use Rattle.std.proofs.Common.{◌≡◌, ℕ, ap, ◌∙◌, refl, Bool, true, false, Option, None}
 use Rattle.std.specs.Prelude.{◌==◌, if◌then◌else◌}
 use Rattle.table_words.specs.declared.spot.Spot.{Spot}
+use Rattle.table_words.specs.declared.access.Access.{Access}
 use Rattle.table_words.specs.Access.{written}
 use Rattle.structure_laws.specs.Meaning.{Meaning}
 use Rattle.runner_parts.specs.declared.event.EventKind.{EventKind}
 use Rattle.runner_parts.specs.State.{RunState, PartState, NodesState, DescriptorsState, ReadsState, RecordsState}
-use Rattle.runner_steps.specs.After.{outside_after, after_by, counted, left_more}
+use Rattle.runner_steps.specs.After.{outside_after, after_by, left_more, tallied}
 use Rattle.version_words.specs.RunnerState.{RunnerState}
 use Rattle.version_words.specs.Events.{Makes}
 use Rattle.epoch_slots.specs.Entries.{KeepsOwn}
@@ -17,8 +18,8 @@ either f false s t a one two = two
 
 -- what is noted of a step of this kind changes neither what is known nor what was run to its end
 pub record NotesNothing (k : EventKind) : Type 0 where
-  pub known : (s : RecordsState) (spot : Spot) (n : ℕ) → (left_more (record s { events = counted s.events }) k spot n).known ≡ s.known
-  pub finished : (s : RecordsState) (spot : Spot) (n : ℕ) → (left_more (record s { events = counted s.events }) k spot n).finished ≡ s.finished
+  pub known : (s : RecordsState) (access : Access) (found : ℕ) (spot : Spot) → (left_more (tallied access found s) k spot (written access found)).known ≡ s.known
+  pub finished : (s : RecordsState) (access : Access) (found : ℕ) (spot : Spot) → (left_more (tallied access found s) k spot (written access found)).finished ≡ s.finished
 
 module _ {T : Type 0} (m : Meaning) (k : EventKind) (found : ℕ) (r r' : RunnerState T) (made : Makes m k found r r') (resting : r.part.run ≡ None) where
   abbrev next : PartState
@@ -40,14 +41,14 @@ module _ {T : Type 0} (m : Meaning) (k : EventKind) (found : ℕ) (r r' : Runner
 
   pub known_made : NotesNothing k → r'.part.records.known ≡ next.records.known
   known_made nothing = ap (λ (y : RunnerState T). y.part.records.known) made.made
-      ∙ (either (λ s. s.known) (r.number == r.layout.runners) (left_more (record before { events = counted before.events }) k made.met.0 (written made.met.1 found))
-      (record before { events = counted before.events }) before.known (nothing.known before made.met.0 (written made.met.1 found)) refl
+      ∙ (either (λ s. s.known) (r.number == r.layout.runners) (left_more (tallied made.met.1 found before) k made.met.0 (written made.met.1 found))
+      (tallied made.met.1 found before) before.known (nothing.known before made.met.1 found made.met.0) refl
       ∙ ap (λ (o : Option RunState). (after_by m r.layout k r.part o found).records.known) resting)
 
   pub finished_made : NotesNothing k → r'.part.records.finished ≡ next.records.finished
   finished_made nothing = ap (λ (y : RunnerState T). y.part.records.finished) made.made
-      ∙ (either (λ s. s.finished) (r.number == r.layout.runners) (left_more (record before { events = counted before.events }) k made.met.0 (written made.met.1 found))
-      (record before { events = counted before.events }) before.finished (nothing.finished before made.met.0 (written made.met.1 found)) refl
+      ∙ (either (λ s. s.finished) (r.number == r.layout.runners) (left_more (tallied made.met.1 found before) k made.met.0 (written made.met.1 found))
+      (tallied made.met.1 found before) before.finished (nothing.finished before made.met.1 found made.met.0) refl
       ∙ ap (λ (o : Option RunState). (after_by m r.layout k r.part o found).records.finished) resting)
 
   -- where the step makes nothing of the own slots and of the records

@@ -91,7 +91,7 @@ module _ {T : Type 0} (m : Meaning) where
             each = length-append so.found (found ∷ []) ∙ (let e = so.each in omega (arith, e));
             told = ap (λ b. b && is_clear epoch found) so.told ∙ sym (clear_more epoch so.found found);
             at = subst (λ (y : Stage). IsAt r' y None) (scanned_more r.layout epoch next clear found low) (then_scanned m found r r' None epoch next clear made so.at (omega (arith, low)));
-            keeps = own_kept_on old r r' so.keeps (own_kept m (kinds.ScanOne next) found r r' made so.at.resting (record { known = λ s spot n. refl; finished = λ s spot n. refl })
+            keeps = own_kept_on old r r' so.keeps (own_kept m (kinds.ScanOne next) found r r' made so.at.resting (record { known = λ s access found spot. refl; finished = λ s access found spot. refl })
                 (ap (λ (p : PartState). p.nodes) part) (ap (λ (p : PartState). p.descriptors) part) (ap (λ (p : PartState). p.records) part));
           }
 
@@ -103,7 +103,7 @@ module _ {T : Type 0} (m : Meaning) where
         pub ends_without : (clear && is_clear epoch found) && nat_lt epoch last_epoch ≡ false → EndsScan m next epoch clear r r'
         ends_without over =
             let part : scan_one_after r.layout r.part r.part.stage found ≡ collected r.part epoch = ap (λ (y : Stage). scan_one_after r.layout r.part y found) at.at ∙ part_over r.layout r.part epoch next clear found here over in
-            let nothing : NotesNothing (kinds.ScanOne next) = record { known = λ s spot n. refl; finished = λ s spot n. refl } in
+            let nothing : NotesNothing (kinds.ScanOne next) = record { known = λ s access found spot. refl; finished = λ s access found spot. refl } in
             record {
               found = found;
               reached = epoch;
@@ -136,8 +136,8 @@ module _ {T : Type 0} (m : Meaning) where
               ap (λ (y : Stage). scan_one_after r.layout r.part y found) at.at ∙ part_on r.layout r.part epoch next clear found here may in
               let on : nat_lt epoch last_epoch ≡ true = grind (arith, nat_tests, low) in
               let over : advance_after r'.part r'.part.stage ≡ collected r'.part (epoch + 1) = ap (advance_after r'.part) past.at ∙ ap (λ (b : Bool). if b then collected r'.part (epoch + 1) else r'.part) on in
-              let scanning : NotesNothing (kinds.ScanOne next) = record { known = λ s spot n. refl; finished = λ s spot n. refl } in
-              let advancing : NotesNothing kinds.Advance = record { known = λ s spot n. refl; finished = λ s spot n. refl } in
+              let scanning : NotesNothing (kinds.ScanOne next) = record { known = λ s access found spot. refl; finished = λ s access found spot. refl } in
+              let advancing : NotesNothing kinds.Advance = record { known = λ s access found spot. refl; finished = λ s access found spot. refl } in
               record {
                 found = found;
                 reached = epoch + 1;

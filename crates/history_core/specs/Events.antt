@@ -10,10 +10,12 @@ use Rattle.history_core.specs.State.{Requests, HistoryState}
 
 -- what may happen; `r` is the runner, `d` a descriptor, `n` a request
 pub data Event : Type 0 where
-  -- a worker publishes a section for a request, which gives this answer; later a run of its own has come to the section's end
+  -- a worker publishes a section for a request, which gives this answer; later a run of its own has
+  -- come to the section's end
   Publish : (r d n answer : ℕ) → Event
   Over : (r : ℕ) → Event
-  -- a run loads the clock for its section, and tries to write the stamp; some run raises the clock, writes the reply, sets the section done
+  -- a run loads the clock for its section, and tries to write the stamp; some run raises the clock,
+  -- writes the reply, sets the section done
   LoadClock : (r d : ℕ) → Event
   StampExchange : (r : ℕ) → Event
   RaiseClock : (d : ℕ) → Event
@@ -79,7 +81,8 @@ module _ (c : Requests) where
   abbrev pub IsAlone : HistoryState → ℕ → Type 0
   IsAlone w d = (e : ℕ) → e ≢ d → w.used e ≡ true → 1 ≤ w.stage e → w.stage e ≤ 2 → HaveNoCommonKey (c.op (w.request d)) (c.op (w.request e))
 
-  -- a worker may publish its next request: it knows both words of the earlier ones of the trace, and not of this one
+  -- a worker may publish its next request: it knows both words of the earlier ones of the trace,
+  -- and not of this one
   pub record MayPublish (w : HistoryState) (r d n answer : ℕ) : Type 0 where
     pub unused : w.used d ≡ false
     pub idle : w.published r ≡ 0
@@ -88,19 +91,23 @@ module _ (c : Requests) where
     pub earlier : (k : ℕ) → k < n → c.trace k ≡ c.trace n → w.known r k ≡ true
     pub positive : 0 < answer
 
-  -- a run may load the clock: its section hasn't left, and where it is the first to come so far, it is alone on its keys
+  -- a run may load the clock: its section hasn't left, and where it is the first to come so far, it
+  -- is alone on its keys
   pub record MayLoad (w : HistoryState) (d : ℕ) : Type 0 where
     pub used : w.used d ≡ true
     pub going : w.stage d ≡ 0 → w.done d ≡ false
     pub alone : c.is_map ≡ true → w.stage d ≤ 1 → IsAlone w d
 
-  -- a run that has loaded the clock may try to stamp; the first one is alone on its keys, and its section answers what the map does
+  -- a run that has loaded the clock may try to stamp; the first one is alone on its keys, and its
+  -- section answers what the map does
   pub record MayStamp (w : HistoryState) (r : ℕ) : Type 0 where
     pub loaded : w.loaded r ≡ true
     pub alone : c.is_map ≡ true → w.stage (w.run r) ≡ 1 → IsAlone w (w.run r)
-    pub answers : c.is_map ≡ true → w.stage (w.run r) ≡ 1 → w.answer (w.run r) ≡ word_of (reply_of w.pairs (c.op (w.request (w.run r))))
+    pub answers : c.is_map ≡ true → w.stage (w.run r) ≡ 1
+        → w.answer (w.run r) ≡ word_of (reply_of w.pairs (c.op (w.request (w.run r))))
 
-  -- the worker's own run of the section that it published has come to its end: it is done, and where its request was stamped, the worker
+  -- the worker's own run of the section that it published has come to its end: it is done, and
+  -- where its request was stamped, the worker
   -- knows both words
   pub record IsOver (w : HistoryState) (r : ℕ) : Type 0 where
     pub section : ℕ
@@ -108,7 +115,8 @@ module _ (c : Requests) where
     pub done : w.done section ≡ true
     pub knows : 2 ≤ w.stage section → w.known r (w.request section) ≡ true
 
-  -- a descriptor may be free again: its section is done, its worker has run it to its end, and no run of it is on the way
+  -- a descriptor may be free again: its section is done, its worker has run it to its end, and no
+  -- run of it is on the way
   pub record MayFree (w : HistoryState) (d : ℕ) : Type 0 where
     pub used : w.used d ≡ true
     pub done : w.done d ≡ true

@@ -12,24 +12,31 @@ module _ (c : Requests) (w : HistoryState) where
   pub record HistoryIsLegal : Type 0 where
     -- its entries are the requests whose stamp word isn't 0, by stamp and then by number
     pub history : IsHistoryOf c.op w.stamp w.history
-    -- a plain map that serves them in this order gives their replies, and is the map for which the completed memory stands
+    -- a plain map that serves them in this order gives their replies, and is the map for which the
+    -- completed memory stands
     pub legal : c.is_map ≡ true → IsLegalFrom empty (oldest_first w.history)
     pub map : c.is_map ≡ true → w.pairs ≡ map_after_all empty (ops_of w.history)
-    -- what the section of a stamped request answers is the reply at its place, and so is each reply word that isn't 0
-    pub answers : c.is_map ≡ true → (d : ℕ) (e : Stamped) → w.used d ≡ true → 2 ≤ w.stage d → Contains w.history e → e.number ≡ w.request d → w.answer d ≡ word_of e.reply
-    pub replies : c.is_map ≡ true → (e : Stamped) → Contains w.history e → w.reply e.number ≢ 0 → w.reply e.number ≡ word_of e.reply
+    -- what the section of a stamped request answers is the reply at its place, and so is each reply
+    -- word that isn't 0
+    pub answers : c.is_map ≡ true → (d : ℕ) (e : Stamped) → w.used d ≡ true → 2 ≤ w.stage d
+        → Contains w.history e → e.number ≡ w.request d → w.answer d ≡ word_of e.reply
+    pub replies : c.is_map ≡ true → (e : Stamped) → Contains w.history e → w.reply e.number ≢ 0
+        → w.reply e.number ≡ word_of e.reply
     pub stamped : (n : ℕ) → w.reply n ≢ 0 → w.stamp n ≢ 0
     -- stamps rise along a trace, and no request is stamped before the earlier ones of its trace
-    pub rising : (k n : ℕ) → k < n → c.trace k ≡ c.trace n → w.stamp n ≢ 0 → (w.stamp k ≢ 0) × (w.stamp k < w.stamp n)
+    pub rising : (k n : ℕ) → k < n → c.trace k ≡ c.trace n → w.stamp n ≢ 0
+        → (w.stamp k ≢ 0) × (w.stamp k < w.stamp n)
     -- it is the only history of these words
-    pub only : c.is_map ≡ true → (history : List Stamped) → IsHistoryOf c.op w.stamp history → IsReplayed history → history ≡ w.history
+    pub only : c.is_map ≡ true → (history : List Stamped) → IsHistoryOf c.op w.stamp history
+        → IsReplayed history → history ≡ w.history
 
   -- the clock against the stamps
   pub record ClockStands : Type 0 where
     -- at least half of a section's stamp, once its clock is raised
     pub raised : (d : ℕ) → w.used d ≡ true → 3 ≤ w.stage d → w.stamp (w.request d) / 2 ≤ w.clock
     -- a section that is done has left before its stamp, or has raised the clock
-    pub done : (d : ℕ) → w.used d ≡ true → w.done d ≡ true → (w.stage d ≡ 0) ⊎ (w.stamp (w.request d) / 2 ≤ w.clock)
+    pub done : (d : ℕ) → w.used d ≡ true → w.done d ≡ true
+        → (w.stage d ≡ 0) ⊎ (w.stamp (w.request d) / 2 ≤ w.clock)
     -- at most the number of stamped requests, and so is half of each stamp
     pub small : w.clock ≤ length w.history
     pub half : (n : ℕ) → w.stamp n / 2 ≤ length w.history
@@ -51,21 +58,28 @@ module _ (c : Requests) (w : HistoryState) where
   pub record KnowledgeStands : Type 0 where
     -- who knows both words of a request knows its place, and the reply there
     pub known : (r n : ℕ) → w.known r n ≡ true → (w.stamp n ≢ 0) × (w.reply n ≢ 0) × IsPlaced n
-    -- a section's stamp is above those of all that its publisher knew when it published it; this stands when the descriptor is free again
-    pub knew : (d n : ℕ) → w.used d ≡ true → 2 ≤ w.stage d → w.knew d n ≡ true → (w.stamp n ≢ 0) × (w.stamp n < w.stamp (w.request d))
+    -- a section's stamp is above those of all that its publisher knew when it published it; this
+    -- stands when the descriptor is free again
+    pub knew : (d n : ℕ) → w.used d ≡ true → 2 ≤ w.stage d → w.knew d n ≡ true
+        → (w.stamp n ≢ 0) × (w.stamp n < w.stamp (w.request d))
     pub saw : (n k : ℕ) → w.stamp n ≢ 0 → w.saw n k ≡ true → (w.stamp k ≢ 0) × (w.stamp k < w.stamp n)
-    -- each stamped request is known to its worker, or is that of the section which the worker has published and not yet run to its end
-    pub told : (n : ℕ) → w.stamp n ≢ 0 → (w.known (c.worker n) n ≡ true) ⊎ ((d : ℕ) × (w.published (c.worker n) ≡ suc d) × (w.request d ≡ n))
+    -- each stamped request is known to its worker, or is that of the section which the worker has
+    -- published and not yet run to its end
+    pub told : (n : ℕ) → w.stamp n ≢ 0
+        → (w.known (c.worker n) n ≡ true) ⊎ ((d : ℕ) × (w.published (c.worker n) ≡ suc d) × (w.request d ≡ n))
 
-  -- where every section is done, each stamped request has its reply word, which is the reply at its place
+  -- where every section is done, each stamped request has its reply word, which is the reply at its
+  -- place
   pub record IsClosed : Type 0 where
     pub replied : (n : ℕ) → w.stamp n ≢ 0 → w.reply n ≢ 0
-    pub replies : c.is_map ≡ true → (e : Stamped) → Contains w.history e → w.reply e.number ≡ word_of e.reply
+    pub replies : c.is_map ≡ true → (e : Stamped) → Contains w.history e
+        → w.reply e.number ≡ word_of e.reply
 
   abbrev pub AreAllDone : Type 0
   AreAllDone = (d : ℕ) → w.used d ≡ true → w.done d ≡ true
 
--- what an event leaves for good: stamps, replies, what is known, and each entry of the history; and the clock never falls
+-- what an event leaves for good: stamps, replies, what is known, and each entry of the history; and
+-- the clock never falls
 pub record WordsStand (w w' : HistoryState) : Type 0 where
   pub stamps : (n : ℕ) → w.stamp n ≢ 0 → w'.stamp n ≡ w.stamp n
   pub replies : (n : ℕ) → w.reply n ≢ 0 → w'.reply n ≡ w.reply n

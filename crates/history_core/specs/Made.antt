@@ -15,7 +15,8 @@ asked n = cond (n == 0) (Ins 7 1) (cond (n == 1) (Ins 9 1) (Del 9))
 abbrev pub two_workers : Requests
 two_workers = record { is_map = true; op = asked; trace = λ n. cond (n == 0) 0 1; worker = λ n. cond (n == 0) 0 1 }
 
--- worker 0 publishes, loads the clock, and pauses. Worker 1 serves its first request, and stamps its second. Then worker 0 goes on
+-- worker 0 publishes, loads the clock, and pauses. Worker 1 serves its first request, and stamps
+-- its second. Then worker 0 goes on
 abbrev pub interleaved : List Event
 interleaved =
     Publish 0 0 0 (word_of New) ∷ LoadClock 0 0

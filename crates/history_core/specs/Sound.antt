@@ -12,9 +12,11 @@ module _ (c : Requests) (w : HistoryState) where
     pub positive : (d : ℕ) → w.used d ≡ true → 0 < w.answer d
     -- a section is done only before its clock is loaded or behind its reply
     pub ended : (d : ℕ) → w.used d ≡ true → w.done d ≡ true → (w.stage d ≡ 0) ⊎ (w.stage d ≡ 4)
-    -- a worker's published section is for a request of its own, and each open section is its worker's published one
+    -- a worker's published section is for a request of its own, and each open section is its
+    -- worker's published one
     pub owned : (r d : ℕ) → w.published r ≡ suc d → (w.used d ≡ true) × (c.worker (w.request d) ≡ r)
-    pub published : (d : ℕ) → w.used d ≡ true → w.done d ≡ false → w.published (c.worker (w.request d)) ≡ suc d
+    pub published : (d : ℕ) → w.used d ≡ true → w.done d ≡ false
+        → w.published (c.worker (w.request d)) ≡ suc d
     -- a run that has loaded the clock is of a section that has come so far
     pub running : (r : ℕ) → w.loaded r ≡ true → (w.used (w.run r) ≡ true) × (1 ≤ w.stage (w.run r))
 
@@ -23,10 +25,13 @@ module _ (c : Requests) (w : HistoryState) where
     -- the request of an open section has no stamp before it comes to its own
     pub fresh : (d : ℕ) → w.used d ≡ true → w.done d ≡ false → w.stage d ≤ 1 → w.stamp (w.request d) ≡ 0
     -- who has stamped what
-    pub stamped : (d : ℕ) → w.used d ≡ true → 2 ≤ w.stage d → (w.stamp (w.request d) ≢ 0) × (w.by (w.request d) ≡ suc d)
-    pub by_section : (n d : ℕ) → w.by n ≡ suc d → (w.used d ≡ true) × (w.request d ≡ n) × (2 ≤ w.stage d)
+    pub stamped : (d : ℕ) → w.used d ≡ true → 2 ≤ w.stage d
+        → (w.stamp (w.request d) ≢ 0) × (w.by (w.request d) ≡ suc d)
+    pub by_section : (n d : ℕ) → w.by n ≡ suc d
+        → (w.used d ≡ true) × (w.request d ≡ n) × (2 ≤ w.stage d)
     -- a stamped request is known to its worker, or is that of the section that its worker has published
-    pub told : (n : ℕ) → w.stamp n ≢ 0 → w.known (c.worker n) n ≡ false → (w.by n ≢ 0) × (w.published (c.worker n) ≡ w.by n)
+    pub told : (n : ℕ) → w.stamp n ≢ 0 → w.known (c.worker n) n ≡ false
+        → (w.by n ≢ 0) × (w.published (c.worker n) ≡ w.by n)
     -- replies are those of stamped requests, and what is known stands
     pub replied : (n : ℕ) → w.reply n ≢ 0 → w.stamp n ≢ 0
     pub answered : (d : ℕ) → w.used d ≡ true → 4 ≤ w.stage d → w.reply (w.request d) ≢ 0
@@ -43,8 +48,10 @@ module _ (c : Requests) (w : HistoryState) where
     pub above : (d : ℕ) → w.used d ≡ true → 2 ≤ w.stage d → w.floor d < w.stamp (w.request d) / 2
     -- a run's loaded clock is between
     pub hand : (r : ℕ) → w.loaded r ≡ true → (w.floor (w.run r) ≤ w.hand r) × (w.hand r ≤ w.clock)
-    -- and is half of the stamp of each request with a key in common, or above, as long as its own one isn't stamped
-    pub keys : c.is_map ≡ true → (r n key : ℕ) → w.loaded r ≡ true → w.stage (w.run r) ≡ 1 → w.stamp n ≢ 0
+    -- and is half of the stamp of each request with a key in common, or above, as long as its own
+    -- one isn't stamped
+    pub keys : c.is_map ≡ true → (r n key : ℕ) → w.loaded r ≡ true → w.stage (w.run r) ≡ 1
+        → w.stamp n ≢ 0
         → DependsOn (c.op n) key → DependsOn (c.op (w.request (w.run r))) key → w.stamp n / 2 ≤ w.hand r
     -- clock and stamps are no greater than the number of stamped requests lets them be
     pub small : w.clock ≤ length w.history
@@ -52,22 +59,30 @@ module _ (c : Requests) (w : HistoryState) where
 
   -- what comes after what
   pub record OrderIsSound : Type 0 where
-    -- the earlier requests of a section's trace, and what its publisher knew, were stamped by its publication
-    pub prior : (d n : ℕ) → w.used d ≡ true → n < w.request d → c.trace n ≡ c.trace (w.request d) → (w.stamp n ≢ 0) × (w.stamp n / 2 ≤ w.floor d)
-    pub knew : (d n : ℕ) → w.used d ≡ true → w.knew d n ≡ true → (w.stamp n ≢ 0) × (w.stamp n / 2 ≤ w.floor d)
+    -- the earlier requests of a section's trace, and what its publisher knew, were stamped by its
+    -- publication
+    pub prior : (d n : ℕ) → w.used d ≡ true → n < w.request d → c.trace n ≡ c.trace (w.request d)
+        → (w.stamp n ≢ 0) × (w.stamp n / 2 ≤ w.floor d)
+    pub knew : (d n : ℕ) → w.used d ≡ true → w.knew d n ≡ true
+        → (w.stamp n ≢ 0) × (w.stamp n / 2 ≤ w.floor d)
     -- a stamp is above those of all that the publisher of its section knew
-    pub saw : (n k : ℕ) → w.stamp n ≢ 0 → w.saw n k ≡ true → (w.stamp k ≢ 0) × (w.stamp k / 2 < w.stamp n / 2)
+    pub saw : (n k : ℕ) → w.stamp n ≢ 0 → w.saw n k ≡ true
+        → (w.stamp k ≢ 0) × (w.stamp k / 2 < w.stamp n / 2)
     -- stamps rise along a trace
-    pub traces : (k n : ℕ) → k < n → c.trace k ≡ c.trace n → w.stamp n ≢ 0 → (w.stamp k ≢ 0) × (w.stamp k < w.stamp n)
+    pub traces : (k n : ℕ) → k < n → c.trace k ≡ c.trace n → w.stamp n ≢ 0
+        → (w.stamp k ≢ 0) × (w.stamp k < w.stamp n)
 
   -- the history
   pub record HistoryIsSound : Type 0 where
     pub history : IsHistoryOf c.op w.stamp w.history
-    -- of a map: its replies are those of the replay, and so are the sections' answers and the reply words
+    -- of a map: its replies are those of the replay, and so are the sections' answers and the reply
+    -- words
     pub replayed : c.is_map ≡ true → IsReplayed w.history
     pub pairs : c.is_map ≡ true → w.pairs ≡ map_of w.history
-    pub answers : c.is_map ≡ true → (d : ℕ) (e : Stamped) → w.used d ≡ true → 2 ≤ w.stage d → Contains w.history e → e.number ≡ w.request d → w.answer d ≡ word_of e.reply
-    pub replies : c.is_map ≡ true → (e : Stamped) → Contains w.history e → w.reply e.number ≢ 0 → w.reply e.number ≡ word_of e.reply
+    pub answers : c.is_map ≡ true → (d : ℕ) (e : Stamped) → w.used d ≡ true → 2 ≤ w.stage d
+        → Contains w.history e → e.number ≡ w.request d → w.answer d ≡ word_of e.reply
+    pub replies : c.is_map ≡ true → (e : Stamped) → Contains w.history e → w.reply e.number ≢ 0
+        → w.reply e.number ≡ word_of e.reply
 
   -- what holds after every list of enabled events
   pub record IsSound : Type 0 where

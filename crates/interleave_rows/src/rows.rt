@@ -321,6 +321,52 @@ fn idle_enables_five_kinds(rt: HostRuntime) -> Result<(), AllocError> {
 }
 
 #[test]
+fn requests_are_published_once_and_in_their_order(rt: HostRuntime) -> Result<(), AllocError> {
+    let requests = requests();
+    let mut machine = Machine::new(rt.alloc(), Tray, layout(2), &requests)?;
+    let second = thunk(101, 1, 7);
+    assert!(rt; prepares(&mut machine, 0, 0, &second));
+    assert!(rt;
+        !goes(
+            &mut machine,
+            0,
+            EventKind::Hold {
+                thunk: second,
+                descriptor: 0
+            }
+        )
+    );
+    assert!(rt; goes(&mut machine, 0, EventKind::Idle));
+    assert!(rt; publishes(&mut machine, 0, 1, thunk(101, 0, 7)));
+    assert_eq!(rt; runs(&mut machine, 0, 1), 22);
+    assert!(rt; goes(&mut machine, 0, EventKind::EpochForRetire));
+    assert!(rt; goes(&mut machine, 0, EventKind::Idle));
+    let word = Word::from_bits(12884901888);
+    let again = Thunk {
+        word,
+        ..thunk(101, 0, 7)
+    };
+    assert!(rt; prepares(&mut machine, 0, 0, &again));
+    assert!(rt;
+        !goes(
+            &mut machine,
+            0,
+            EventKind::Hold {
+                thunk: again,
+                descriptor: 0
+            }
+        )
+    );
+    assert!(rt; goes(&mut machine, 0, EventKind::Idle));
+    let next = Thunk {
+        word,
+        ..thunk(101, 1, 7)
+    };
+    assert!(rt; publishes(&mut machine, 0, 0, next));
+    Ok(())
+}
+
+#[test]
 fn a_number_is_stored_once_and_a_late_helper_changes_nothing(
     rt: HostRuntime,
 ) -> Result<(), AllocError> {

@@ -290,7 +290,7 @@ module _ (m : Meaning) (l : Layout) (w : EpochState) (s : Sight) (old : IsJoined
   pub node_load : (records : RecordsState) (slot word : ℕ) (a : Spot) → nat_lt slot (slot_count l m.fixed_slots) ≡ true → Leads (kinds.PrivateLoad slot word) records (a, Loads)
   node_load records slot word a low =
       subst (λ (b : Bool). GoesBy m l (λ es. es ≡ looked_events l r p.nodes slot word (s.word a)) w (next m l w s old r (put s.word a (s.word a))
-          (record (if b then record p { nodes = lists.nodes_looked l p.nodes slot word (s.word a) } else record p { descriptors = lists.descriptor_stored p.descriptors (slot - slot_count l m.fixed_slots) word (s.word a) }) { records = records })))
+      (record (if b then record p { nodes = lists.nodes_looked l p.nodes slot word (s.word a) } else record p { descriptors = lists.descriptor_stored p.descriptors (slot - slot_count l m.fixed_slots) word (s.word a) }) { records = records })))
       (sym low) (looks_at records slot word a)
 
   -- a slot that is no node slot is in no hand, so to look at its words is not to look at a node slot

@@ -251,6 +251,6 @@ module _ (m : Meaning) (l : Layout) (w : EpochState) (s : Sight) (old : IsJoined
       let p = s.part r in
       subst (Leads m l w s old r none (kinds.PrivateLoad slot word) records) own.2
       (subst (λ (b : Bool). GoesBy m l (λ es. es ≡ looked l r p.nodes slot word (s.word a)) w (next m l w s old r (put s.word a (s.word a))
-          (record (if b then record p { nodes = nodes_looked l p.nodes slot word (s.word a) } else record p { descriptors = descriptor_stored p.descriptors d word (s.word a) }) { records = records })))
+      (record (if b then record p { nodes = nodes_looked l p.nodes slot word (s.word a) } else record p { descriptors = descriptor_stored p.descriptors d word (s.word a) }) { records = records })))
       (sym own.0) ([], unlooked m l w s old r none slot word (s.word a) own.0, loads_there m l w s old r none d word (s.word a) few own.1 records refl)))
       (asked.private_load_cases m l slot word (s.part r) x e)

@@ -22,14 +22,16 @@ abbrev pub AreAllClosed : HistoryStates → Type 0
 AreAllClosed h = (d : ℕ) → IsOpen h.joint.agreement d → ⊥
 
 module _ (m : Meaning) (layout : Layout) (c : Counts) (requests : Requests) where
-  -- the joint states are kept, the history is sound, the two are tied, and the completed memory stands for the history's map
+  -- the joint states are kept, the history is sound, the two are tied, and the completed memory
+  -- stands for the history's map
   pub record IsJoined (h : HistoryStates) : Type 0 where
     pub kept : IsKept m layout c h.joint
     pub sound : IsSound requests h.history
     pub tied : AreTied requests h.joint h.history
     pub memory : MemoryStands m layout c h.joint h.history.pairs
 
-  -- what they say: the history is legal, the completed memory stands for its final map, what is known stands, and where no section is
+  -- what they say: the history is legal, the completed memory stands for its final map, what is
+  -- known stands, and where no section is
   -- open each stamped request has its reply and the cells themselves stand for that map
   pub record HistoryStands (h : HistoryStates) : Type 0 where
     pub legal : HistoryIsLegal requests h.history
@@ -60,12 +62,14 @@ module _ (m : Meaning) (layout : Layout) where
 
   abbrev pub StepsKeepJoined : Type 0
   StepsKeepJoined = (c : Counts) → c.nodes ≡ slots m layout → (requests : Requests) → requests.is_map ≡ m.is_map → (h : HistoryStates) (step : Step)
-      → Enabled m layout c requests h step → IsJoined m layout c requests h → IsJoined m layout c requests (after m layout c requests h step)
+      → Enabled m layout c requests h step → IsJoined m layout c requests h
+      → IsJoined m layout c requests (after m layout c requests h step)
 
   -- so after every list of enabled steps they are joined, and the history stands
   abbrev pub SchedulesKeepJoined : Type 0
   SchedulesKeepJoined = (c : Counts) → c.nodes ≡ slots m layout → (requests : Requests) → requests.is_map ≡ m.is_map → (location : ℕ → Location) → IsFirst m c location → (p : Publications)
-      → (steps : List Step) → AllEnabled m layout c requests (first location p) steps → IsJoined m layout c requests (after_all m layout c requests (first location p) steps)
+      → (steps : List Step) → AllEnabled m layout c requests (first location p) steps
+      → IsJoined m layout c requests (after_all m layout c requests (first location p) steps)
 
   abbrev pub JoinedStands : Type 0
   JoinedStands = (c : Counts) → c.nodes ≡ slots m layout → (requests : Requests) → (h : HistoryStates) → IsJoined m layout c requests h → HistoryStands m layout c requests h

@@ -19,10 +19,12 @@ pub record HistoryStates : Type 0 where
   pub joint : States
   pub history : HistoryState
 
--- a joint step; a publication with what its section answers; a worker's own run has come to its section's end; a runner comes to know a request
+-- a joint step; a publication with what its section answers; a worker's own run has come to its
+-- section's end; a runner comes to know a request
 pub data Step : Type 0 where
   Joint : (step : scenes.Step) → Step
-  Publish : (r d lock word request : ℕ) (code : ℕ → Micro) (slot : ℕ → ℕ) (op : Op) (thunk : Thunk) (answer : ℕ) → Step
+  Publish : (r d lock word request : ℕ) (code : ℕ → Micro) (slot : ℕ → ℕ) (op : Op) (thunk : Thunk) (answer : ℕ)
+      → Step
   Over : (r : ℕ) → Step
   Learn : (r n : ℕ) → Step
 
@@ -52,7 +54,8 @@ module _ (m : Meaning) (layout : Layout) (c : Counts) (requests : Requests) wher
   after h (Over r) = record h { history = history.after requests h.history (history.Over r) }
   after h (Learn r n) = record h { history = history.after requests h.history (history.Learn r n) }
 
-  -- what a step that frees a descriptor asks for: it is used, and its worker has run its section to its end
+  -- what a step that frees a descriptor asks for: it is used, and its worker has run its section to
+  -- its end
   abbrev pub MayFree : HistoryStates → scenes.Step → Type 0
   MayFree h (scenes.Agreement (agreement.Free d)) = (h.history.used d ≡ true) × (h.history.published (requests.worker (h.history.request d)) ≢ suc d)
   MayFree h _ = Unit {0}
@@ -63,7 +66,8 @@ module _ (m : Meaning) (layout : Layout) (c : Counts) (requests : Requests) wher
     pub idle : h.history.published r ≡ 0
     pub own : requests.worker request ≡ r
     pub unknown : h.history.known r request ≡ false
-    pub earlier : (k : ℕ) → k < request → requests.trace k ≡ requests.trace request → h.history.known r k ≡ true
+    pub earlier : (k : ℕ) → k < request → requests.trace k ≡ requests.trace request
+        → h.history.known r k ≡ true
     pub operation : requests.op request ≡ op
     pub answers : (i : ℕ) × (code i ≡ micros.ReplyExchange answer)
 

@@ -42,6 +42,7 @@ pub record AreTied (c : Requests) (j : States) (w : HistoryState) : Type 0 where
   pub stamp : (n : ℕ) → w.stamp n ≡ j.agreement.shared.stamp n
   pub reply : (n : ℕ) → w.reply n ≡ j.agreement.shared.reply n
   pub used : (d : ℕ) → w.used d ≡ j.agreement.used d
-  pub sections : (d : ℕ) → j.agreement.used d ≡ true → SectionIsTied c j.publications w d (j.agreement.section d)
+  pub sections : (d : ℕ) → j.agreement.used d ≡ true
+      → SectionIsTied c j.publications w d (j.agreement.section d)
   pub loaded : (r : ℕ) → w.loaded r ≡ is_loading j.agreement r
   pub runs : (r : ℕ) → is_loading j.agreement r ≡ true → RunIsTied w r (j.agreement.run r)

@@ -83,7 +83,7 @@ module _ (m : Meaning) (laws : Laws m) (l : Layout) (limits : IsWithinLimits l) 
       → ((d : ℕ) → g.agreement.used d ≡ true → thunk_in s'.word d ≡ thunk_in s.word d) → KeepsWhole m l g s s' r kind x pieces
   calm_whole calm steady quiet thunks = record {
     publications = g.publications;
-      requests = refl;
+    requests = refl;
     whole = quiet_whole m laws l limits g s s' whole quiet thunks es (calm_heads calm).still pieces.enabled pieces.joined
         (named_calm (calm_heads calm))
         pieces.events steady.alone steady.leaves pieces.enabled_slots pieces.joined_slots;

@@ -39,7 +39,8 @@ abbrev pub pairs_after : States → Step → Pairs → Pairs
 pairs_after j (Agreement (agreement.StampExchange r)) pairs = cond (is_furthest j.agreement r) (map_after pairs (j.publications.op (descriptor_of j r))) pairs
 pairs_after j step pairs = pairs
 
--- the section stands at its Stamp: its furthest runs are before the load of the clock, the exchange of the stamp, or the raise
+-- the section stands at its Stamp: its furthest runs are before the load of the clock, the exchange
+-- of the stamp, or the raise
 abbrev pub is_of_stamp : Micro → Bool
 is_of_stamp micros.ClockLoad = true
 is_of_stamp micros.StampExchange = true
@@ -62,13 +63,16 @@ module _ (m : Meaning) (layout : Layout) where
   -- a step leads it on as said
   abbrev pub StepsKeepMemory : Type 0
   StepsKeepMemory = (c : Counts) → c.nodes ≡ slots m layout → (j : States) (step : Step) (pairs : Pairs) → Enabled m layout c j step → IsKept m layout c j
-      → MemoryStands m layout c j pairs → MemoryStands m layout c (after m layout c j step) (pairs_after j step pairs)
+      → MemoryStands m layout c j pairs
+      → MemoryStands m layout c (after m layout c j step) (pairs_after j step pairs)
 
   -- a section of which a run is the first at the exchange of the stamp answers what that map does
   abbrev pub StampsAnswer : Type 0
   StampsAnswer = (c : Counts) → c.nodes ≡ slots m layout → (j : States) (r : ℕ) (pairs : Pairs) → IsKept m layout c j → MemoryStands m layout c j pairs
-      → m.is_map ≡ true → agreement.IsBefore j.agreement r micros.StampExchange → is_furthest j.agreement r ≡ true
-      → (i n : ℕ) → (section_of j.agreement r).code i ≡ micros.ReplyExchange n → n ≡ word_of (reply_of pairs (j.publications.op (descriptor_of j r)))
+      → m.is_map ≡ true → agreement.IsBefore j.agreement r micros.StampExchange
+      → is_furthest j.agreement r ≡ true
+      → (i n : ℕ) → (section_of j.agreement r).code i ≡ micros.ReplyExchange n
+      → n ≡ word_of (reply_of pairs (j.publications.op (descriptor_of j r)))
 
   -- two open sections that stand at their Stamps have no key in common
   abbrev pub StampsApart : Type 0

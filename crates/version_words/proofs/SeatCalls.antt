@@ -1,6 +1,6 @@
 -- What splitting, joining and closing owe to the table, over plain values.
-use Rattle.std.proofs.Common.{◌≡◌, ℕ, suc, ◌<◌, List, [], ◌∷◌, ◌++◌, set, sym, refl, ap, subst, ◌∙◌, arith, Some}
-use Rattle.std.specs.Prelude.{slice_index}
+use Rattle.std.proofs.Common.{◌≡◌, ℕ, suc, ◌<◌, List, [], ◌∷◌, ◌++◌, set, sym, refl, ap, subst, ◌∙◌, arith, Some, true, false, Bool}
+use Rattle.std.specs.Prelude.{slice_index, ◌==◌, if◌then◌else◌}
 use Rattle.std.specs.Option.{IsSome}
 use mathlib.Core.Option.{some}
 use lib.ListN.{get_elem?}
@@ -18,7 +18,7 @@ use Rattle.runner_parts.specs.declared.event.EventKind.{EventKind}
 use Rattle.runner_parts.specs.declared.event.EventKind.TheVariants as kinds
 use Rattle.runner_parts.specs.State.{PartState}
 use Rattle.runner_steps.specs.Asks.{asks}
-use Rattle.runner_steps.specs.After.{after, knows_also}
+use Rattle.runner_steps.specs.After.{after, knows_also, leaves}
 use Rattle.machine_states.specs.World.{seat_of}
 use Rattle.machine_states.specs.First.{worker_part}
 use Rattle.version_words.specs.declared.view.View.{View}
@@ -26,11 +26,30 @@ use Rattle.version_words.specs.declared.rule.Setup.{Setup}
 use Rattle.version_words.specs.Shown.{left_part, part_at, joined_in}
 use Rattle.version_words.specs.Rule.{Holds, splitting, split_off, joining, spent}
 use Rattle.version_words.specs.RunnerState.{RunnerState}
-use Rattle.version_words.specs.TableState.{TableState, WordsState, IsOf, IsBuilt, HasJoinedAll, IsClosing}
+use Rattle.version_words.specs.TableState.{TableState, WordsState, IsOf, IsBuilt, HasJoinedAll, IsClosing, AreShown}
 use Rattle.version_words.specs.Events.{met_by, IsEnabled, seen_seat}
 use Rattle.version_words.proofs.Begins.{keeper_seat}
 use Rattle.version_words.proofs.Calls.{seen_table}
 use Rattle.version_words.proofs.SeatMoves.{split_asked, splits_hold, join_asked, joins_hold, first_joined}
+
+-- a worker that the keeper keeps as joined makes no further step
+left_gone : (xs : List (ℕ × PartState)) (worker : ℕ) → IsSome (left_part xs worker) → (p : PartState) × (left_part xs worker ≡ Some p) × (p.gone ≡ true)
+left_gone [] worker there = absurd (let no : false ≡ true → ⊥ = λ e. cc in no there)
+left_gone (x ∷ xs) worker there = by (x.0 == worker) (left_gone xs worker) there
+  where
+    by : (b : Bool) → (IsSome (left_part xs worker) → (p : PartState) × (left_part xs worker ≡ Some p) × (p.gone ≡ true))
+        → IsSome (if b then Some (leaves x.1) else left_part xs worker) → (p : PartState) × ((if b then Some (leaves x.1) else left_part xs worker) ≡ Some p) × (p.gone ≡ true)
+    by true rest there = (leaves x.1, refl, refl)
+    by false rest there = rest there
+
+-- so the words that are closed are those of a state in which each worker was joined
+closed_shown : {T : Type 0} (m : Meaning) (t : TableState T) (keeper : RunnerState T) (w : WordsState T) → IsClosing m t keeper w → HasJoinedAll t keeper → AreShown m t.layout t.requests w.words
+closed_shown m t keeper w closing all = record {
+  world = closing.world;
+  reached = closing.reached;
+  words = closing.words;
+  gone = λ worker few. let left = left_gone keeper.joined worker (all.joined worker few) in (left.0, closing.worker_parts worker few ∙ left.1, left.2);
+}
 
 module _ {T : Type 0} (mean : T → Meaning) (table : TableId) (key built : Setup T) (ok : IsBuilt (mean built.structure) table key built) (own_table : TableId) (me : Me Thunk (View T))
     (t : TableState T) (r : RunnerState T) (t_is : seen_table table built ≡ t) (r_is : seen_seat own_table me ≡ r) (own : IsOf t r) where
@@ -147,3 +166,9 @@ module _ {T : Type 0} (mean : T → Meaning) (table : TableId) (key built : Setu
     closes all = subst (λ (u : TableState T). IsClosing (mean u.structure) u r words_closed) t_is
         (subst (λ (y : RunnerState T). IsClosing (mean s) (seen_table table built) y words_closed) r_is
         (closed_here (subst (λ (u : TableState T). HasJoinedAll u (seen_seat own_table me)) (sym t_is) (subst (HasJoinedAll t) (sym r_is) all))))
+
+    -- the words are those of a state in which each worker was joined
+    pub shown_closed : HasJoinedAll t r → AreShown (mean s) l rs held
+    shown_closed all =
+        let joined = subst (λ (u : TableState T). HasJoinedAll u (seen_seat own_table me)) (sym t_is) (subst (HasJoinedAll t) (sym r_is) all) in
+        closed_shown (mean s) (seen_table table built) (seen_seat own_table me) words_closed (closed_here joined) joined

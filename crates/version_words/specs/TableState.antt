@@ -1,5 +1,5 @@
 -- What contracts see of a table, and of the words of a closed one.
-use Rattle.std.specs.Prelude.{◌≡◌, ℕ, ◌<◌, ◌^◌, suc, List, Option, Some, slice_get, [], None, ◌==◌, if◌then◌else◌}
+use Rattle.std.specs.Prelude.{◌≡◌, ℕ, ◌<◌, ◌^◌, suc, true, List, Option, Some, slice_get, [], None, ◌==◌, if◌then◌else◌}
 use Rattle.std.specs.Option.{IsSome}
 use Rattle.atomic_table.specs.Seated.{TableId}
 use Rattle.map_history.specs.declared.op.Op.{Op}
@@ -11,6 +11,7 @@ use Rattle.table_words.specs.declared.spot.Spot.{Spot}
 use Rattle.table_words.specs.Places.{size, slot_count, Fits}
 use Rattle.table_words.specs.Seen.{seen}
 use Rattle.structure_laws.specs.Meaning.{Meaning}
+use Rattle.runner_parts.specs.State.{PartState}
 use Rattle.runner_steps.specs.Asks.{sizes_for}
 use Rattle.machine_states.specs.World.{World}
 use Rattle.machine_states.specs.First.{keeper_part}
@@ -50,11 +51,12 @@ pub record WordsState (T : Type 0) : Type 0 where
   pub requests : List Request
   pub words : List ℕ
 
--- the words are those of a state of the machine that enabled events lead to
+-- the words are those of a state of the machine that enabled events lead to, in which each worker was joined and makes no further step
 pub record AreShown (m : Meaning) (l : Layout) (requests : List Request) (held : List ℕ) : Type 0 where
   pub world : World
   pub reached : Reached m l requests world
   pub words : world.words ≡ held
+  pub gone : (worker : ℕ) → worker < l.runners → (p : PartState) × (slice_get world.parts (suc worker) ≡ Some p) × (p.gone ≡ true)
 
 -- the word at this spot
 abbrev pub word_of : {T : Type 0} → Meaning → WordsState T → Spot → ℕ

@@ -7,9 +7,12 @@ use crate::table::FlockTable;
 use crate::words::Words;
 use runner_parts::Structure;
 
-/// The words of a closed table are those of a state of the machine that enabled events lead to.
+/// The words of a closed table are those of a state of the machine that enabled events lead to, in which each worker was joined. The
+/// layout is within the limits, and the requests are allowed.
 pub fn words_are_reached<S: Structure>(words: &Words<S>)
-    ensures { AreShown (S.meaning words.now.structure) words.now.layout words.now.requests words.now.words }
+    ensures shown { AreShown (S.meaning words.now.structure) words.now.layout words.now.requests words.now.words }
+    ensures limits { IsWithinLimits words.now.layout }
+    ensures requests { AreAllowed words.now.requests }
 {
     let _ = &words.closed;
 }

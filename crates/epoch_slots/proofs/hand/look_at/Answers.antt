@@ -8,5 +8,5 @@ private_load-looked-requires-clause-next g c κs within =
 pub loop-cell-preserved : goal.loop-cell-preserved
 loop-cell-preserved g c = record {
   own = c.private_load-looked.ensures.own;
-  looked = looks_on _ _ _ _ _ c.loop-cell.invariant.looked c.loop-cell-test.true c.requires.in_hand c.requires.tests _ _ c.private_load-looked.ensures.event;
+  looked = looks_on _ _ _ _ _ c.loop-cell.invariant.looked c.loop-cell-test.true c.requires.in_hand c.requires.tests c.requires.within _ _ c.private_load-looked.ensures.event;
 }

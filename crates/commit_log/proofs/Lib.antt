@@ -1,0 +1,5 @@
+pub mod Asked
+pub mod Running
+pub mod Next
+pub mod Committing
+pub mod Halting

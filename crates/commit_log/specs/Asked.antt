@@ -1,0 +1,16 @@
+-- What comes between two steps of a run.
+use Rattle.std.specs.Prelude.{◌≡◌, ℕ, ◌+◌, ◌-◌, ◌^◌, ◌≤◌, min, Bool, true, false}
+use Rattle.fault_count.specs.Rose.{Rose}
+
+-- a count after so many more, which stands still at the last number of 64 bits
+abbrev pub counted_on : ℕ → ℕ → ℕ
+counted_on count n = min (count + n) (2 ^ 64 - 1)
+
+-- so many steps were counted, and a gate was asked after each, which let the runner go on, or halted it after the last one. The
+-- numbers are the gate's halts, its asks, and the steps, before and after
+pub record IsAsked (n : ℕ) (going : Bool) (halts halts' asks asks' steps steps' : ℕ) : Type 0 where
+  pub counted : steps' ≡ counted_on steps n
+  pub asked : asks' ≡ counted_on asks n
+  pub never_falls : halts ≤ halts'
+  pub went : going ≡ true → halts' ≡ halts
+  pub halted : going ≡ false → Rose halts halts'

@@ -1,0 +1,4 @@
+pub mod Runs
+pub mod Committed
+pub mod Asked
+pub mod Halted

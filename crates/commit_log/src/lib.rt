@@ -1,0 +1,13 @@
+//! Steps of a run, and the commit of a word that the run has loaded.
+//!
+//! The thread that runs a section goes through its body's line step by step, and so does each one that helps it. What they load
+//! differs; what they go by is the word that was agreed on: the first one that an exchange put into the section's log
+//! (Ben-David, Blelloch, Wei, *Lock-free locks revisited*, 2022). `commit` is that exchange for a loaded word, and
+//! `between` is what comes between two steps: the step is counted, and a gate is asked.
+#![tactic(auto)]
+
+mod between;
+mod commits;
+
+pub use between::{NeverHalts, passes};
+pub use commits::commit;

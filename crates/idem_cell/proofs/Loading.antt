@@ -1,0 +1,56 @@
+-- A load in a run.
+use Rattle.std.proofs.Common.{◌≡◌, ℕ, ◌+◌, Bool, refl, ap, subst, ◌∙◌, add-one, Option, Some}
+use Rattle.section_body.specs.declared.micro.Micro.TheVariants.{LoadCell, Commit}
+use Rattle.section_body.specs.Line.{micro_at}
+use Rattle.section_lines.proofs.Ordered.{is_ordered}
+use Rattle.table_words.specs.declared.spot.Spot.TheVariants.{Cell}
+use Rattle.table_words.specs.declared.access.Access.TheVariants.{Loads}
+use Rattle.table_words.specs.Limits.{IsWithinLimits}
+use Rattle.structure_laws.specs.Meaning.{Meaning}
+use Rattle.structure_laws.specs.Laws.{Laws}
+use Rattle.runner_parts.specs.State.{RunState}
+use Rattle.runner_steps.specs.Sections.{thunk_of, line_of}
+use Rattle.runner_steps.specs.AfterInRun.{goes_on, agrees}
+use Rattle.machine_epochs.proofs.RunPlaces.{next_in_line}
+use Rattle.machine_invariant.specs.After.{AreAllowed}
+use Rattle.version_words.specs.RunnerState.{RunnerState}
+use Rattle.version_words.specs.TableState.{TableState, IsOf}
+use Rattle.version_words.specs.Events.{met_by, Makes}
+use Rattle.version_words.specs.Naming.{load_of}
+use Rattle.commit_log.specs.Runs.{IsRunning, Stepped}
+use Rattle.commit_log.specs.Committed.{MayCommit, HasCommitted}
+use Rattle.commit_log.proofs.Running.{may_make, then_made}
+use Rattle.commit_log.proofs.Next.{settled_next}
+use Rattle.idem_cell.specs.Loaded.{MayLoad, HasLoaded}
+
+module _ {T : Type 0} (m : Meaning) (laws : Laws m) (t : TableState T) (limits : IsWithinLimits t.layout) (allowed : AreAllowed t.requests) (r : RunnerState T) (own : IsOf t r) (place : ℕ) (q : RunState) (may : MayLoad m r place q) where
+  pub may_load : met_by m r (load_of r.part.run place) ≡ Some (Cell place, Loads)
+  may_load = ap (λ (o : Option RunState). met_by m r (load_of o place)) may.running.inside.running
+      ∙ may_make m laws t limits allowed r own q may.running (LoadCell place may.log) may.next refl
+
+  pub loads : (found : ℕ) (r' : RunnerState T) → Makes m (load_of r.part.run place) found r r' → Stepped m q (LoadCell place may.log) found r r'
+  loads found r' made = then_made m laws t limits allowed r own q may.running (LoadCell place may.log) may.next refl found r'
+      (subst (λ (o : Option RunState). Makes m (load_of o place) found r r') may.running.inside.running made)
+
+  -- behind it stands its commit
+  pub commit_next : (found : ℕ) (r' : RunnerState T) → Stepped m q (LoadCell place may.log) found r r' → MayCommit m r' found (goes_on m r.layout q found)
+  commit_next found r' step = record {
+    running = step.goes_on (goes_on m r.layout q found) step.behind.run;
+    micro = Commit place may.log;
+    next = settled_next m r.layout (record q { at = q.at + 1; word = found }) (Commit place may.log)
+        (ap (micro_at (line_of m q)) (add-one q.at) ∙ (is_ordered (m.body (thunk_of q.opened))).load_next q.at place may.log (next_in_line m q (LoadCell place may.log) refl may.next)) refl;
+    loaded = refl;
+    word = refl;
+  }
+
+  pub then_loaded : (found : ℕ) (middle : RunnerState T) → Stepped m q (LoadCell place may.log) found r middle → (agreed : ℕ) (first : Bool) (r' : RunnerState T)
+      → HasCommitted m agreed first middle r' (goes_on m r.layout q found) → HasLoaded m place agreed r r' q
+  then_loaded found middle step agreed first r' committed = record {
+    log = may.log;
+    found = found;
+    first = first;
+    middle = middle;
+    load = step;
+    commit = committed;
+    goes_on = subst (λ l. IsRunning m r' (agrees m l (goes_on m r.layout q found) agreed)) (ap (λ (y : RunnerState T). y.layout) step.event.made) committed.goes_on;
+  }

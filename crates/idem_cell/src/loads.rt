@@ -1,0 +1,63 @@
+//! The load of a cell.
+ghost use Rattle.std.specs.Prelude.{IfSome, IfNone, true};
+ghost use Rattle.runner_parts.specs.State.{RunState};
+ghost use Rattle.version_words.specs.TableState.{IsOf};
+ghost use Rattle.commit_log.specs.Runs.{IsRunning};
+ghost use Rattle.commit_log.specs.Asked.{IsAsked};
+ghost use Rattle.commit_log.specs.Halted.{IsHalted};
+ghost use Rattle.idem_cell.specs.Loaded.{MayLoad, HasLoaded};
+
+use commit_log::{NeverHalts, commit, passes};
+use runner_parts::Structure;
+use section_body::{Gate, Place, StepKind, Steps, Word};
+use version_words::{FlockTable, Runner, table_is_allowed};
+
+/// Loads the cell and agrees on its word, in two steps. Answers the agreed word: the first one that a run of the section committed
+/// here, which may be older than the one in the cell.
+///
+/// The runner has to be in a run whose next step loads this cell. There is no refusal, and no memory is taken (Ben-David, Blelloch,
+/// Wei, 2022).
+pub fn load<S: Structure>(
+    table: &FlockTable<S>,
+    runner: Runner<S>,
+    place: Place,
+) -> (Runner<S>, Word)
+    requires own { IsOf table.now runner }
+    requires next { (q : RunState) × MayLoad (S.meaning table.now.structure) runner place q }
+    ensures own { IsOf table.now result.0 }
+    ensures loaded { (q : RunState) → IsRunning (S.meaning table.now.structure) runner q → HasLoaded (S.meaning table.now.structure) place result.1 runner result.0 q }
+{
+    let mut gate = NeverHalts::new();
+    let mut steps = Steps::<()>::new();
+    match load_gated(table, runner, place, &mut gate, &mut steps) {
+        (runner, Some(word)) => (runner, word),
+        _ => unreachable!(),
+    }
+}
+
+/// The same, counting each step and asking the gate after it. None where it halted the runner.
+pub fn load_gated<S: Structure, G: Gate, L>(
+    table: &FlockTable<S>,
+    runner: Runner<S>,
+    place: Place,
+    gate: &mut G,
+    steps: &mut Steps<L>,
+) -> (Runner<S>, Option<Word>)
+    requires own { IsOf table.now runner }
+    requires next { (q : RunState) × MayLoad (S.meaning table.now.structure) runner place q }
+    ensures own { IsOf table.now result.0 }
+    ensures loaded { IfSome result.1 (λ word. (q : RunState) → IsRunning (S.meaning table.now.structure) runner q → HasLoaded (S.meaning table.now.structure) place word runner result.0 q) }
+    ensures asked { IfSome result.1 (λ word. IsAsked 2 true (G.halts gate.old) (G.halts gate.new) (G.asks gate.old) (G.asks gate.new) steps.old.count steps.new.count) }
+    ensures halted { IfNone result.1 (IsHalted (S.meaning table.now.structure) 2 runner result.0 (G.halts gate.old) (G.halts gate.new) (G.asks gate.old) (G.asks gate.new) steps.old.count steps.new.count) }
+{
+    table_is_allowed(table);
+    let (runner, word) = table.load_cell(runner, place);
+    if !passes(gate, steps, StepKind::LoadCell) {
+        return (runner, None);
+    }
+    let (runner, agreed, _) = commit(table, runner, word.bits());
+    if !passes(gate, steps, StepKind::Commit) {
+        return (runner, None);
+    }
+    (runner, Some(Word::from_bits(agreed)))
+}
