@@ -28,7 +28,7 @@ some_of test (reading ∷ readings) h = or_cases (test reading) (list_any test r
     (λ here. (0, reading.0, reading.1, refl, here))
     (λ there. let later = some_of test readings there in (suc later.0, later.1, later.2, later.3, later.4))
 
-module _ (cells : Cells) (readings : Readings) (read : IsAsRead (nodes cells) cells readings) where
+module _ (cells : Cells) (readings : Readings) (read : IsAsRead (nodes cells) readings) where
   -- a place that the readings show to be a link is one
   pub shown_now : (p : ℕ) → shows_link readings p ≡ true → is_link_in cells p ≡ true
   shown_now p shown = or_cases (is_left_place p) (is_right_place p && shows_inner readings (p - 1)) shown

@@ -83,7 +83,7 @@ pub record TreeWalked (layout : Layout) (readings : Readings) : Type 0 where
   pub marks : (i t w : ℕ) → slice_get readings i ≡ Some (mark_of t, w) → shows_inner readings (left_of t) ≡ true → value_of w ≤ 1
 
 -- what was read of a node stands there: whether it is a leaf, its key, and of a leaf its value
-pub record IsAsRead (n : Nodes) (cells : Cells) (readings : Readings) : Type 0 where
+pub record IsAsRead (n : Nodes) (readings : Readings) : Type 0 where
   pub inner : (i t w : ℕ) → slice_get readings i ≡ Some (left_of t, w) → 0 < value_of w → IsInner n t
   pub leaf : (i t w : ℕ) → slice_get readings i ≡ Some (left_of t, w) → value_of w ≡ 0 → IsLeaf n t
   pub key : (i t w : ℕ) → slice_get readings i ≡ Some (key_cell t, w) → value_of w ≡ n.key t
@@ -233,8 +233,8 @@ pub record TreeKept (layout : Layout) (s : Scene) : Type 0 where
   pub new_inner : (d : ℕ) (x : Section) → s.section d ≡ Some x → HasInner x → IsNewInner s once x
   pub taken : (d : ℕ) (x : Section) → s.section d ≡ Some x → HasTaken x → IsTaken s covers once x
   -- what the readings of entered runners and of open sections say of the present cells, and their walks
-  pub readers : (r : ℕ) (readings : Readings) → s.reader r ≡ Some readings → IsAsRead (nodes s.cells) s.cells readings
-  pub published : (d : ℕ) (x : Section) → s.section d ≡ Some x → IsAsRead (nodes s.cells) s.cells x.readings
+  pub readers : (r : ℕ) (readings : Readings) → s.reader r ≡ Some readings → IsAsRead (nodes s.cells) readings
+  pub published : (d : ℕ) (x : Section) → s.section d ≡ Some x → IsAsRead (nodes s.cells) x.readings
   pub walks : (r : ℕ) (readings : Readings) (op : Op) → s.reader r ≡ Some readings → key_of op < 4294967294
       → IsWalk (nodes s.cells) covers once (key_of op) (walk_of layout op readings)
   pub sections : (d : ℕ) (x : Section) → s.section d ≡ Some x
