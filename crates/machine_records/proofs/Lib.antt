@@ -1,2 +1,4 @@
 pub mod First
 pub mod Supplying
+pub mod Telling
+pub mod Steps

@@ -3,6 +3,7 @@ ghost use Rattle.std.specs.Prelude.{List};
 ghost use Rattle.map_history.specs.declared.op.Request.{Request};
 ghost use Rattle.table_words.specs.declared.layout.Layout.{Layout};
 ghost use Rattle.machine_records.specs.Supplies.{FirstIsKept, HoldsAreDue, OperationsAreAsked, FreesAreOver, KnownHaveWords};
+ghost use Rattle.machine_records.specs.Told.{FirstIsTold, StepsTellRuns};
 
 use runner_parts::Structure;
 
@@ -44,3 +45,14 @@ pub fn frees_are_over<S: Structure>(structure: &S)
 pub fn known_have_words()
     ensures { KnownHaveWords }
 {}
+
+/// Each runner knows the stamp word and the reply word of its run's request once the run has passed the exchange of that word: so it is in
+/// the first state, and each step keeps it.
+pub fn runs_are_told<S: Structure>(structure: &S)
+    ensures first { (layout : Layout) (requests : List Request)
+        → FirstIsTold (S.meaning structure.now) layout requests }
+    ensures steps { (layout : Layout) (requests : List Request)
+        → StepsTellRuns (S.meaning structure.now) layout requests }
+{
+    let _ = structure;
+}
