@@ -14,7 +14,7 @@ use Rattle.machine_states.proofs.FirstSights.{first_parts}
 use Rattle.machine_epochs.proofs.FirstJoin.{each_part}
 use Rattle.machine_facts.specs.Known.{KnownStand}
 use Rattle.machine_records.specs.Kept.{link_of}
-use Rattle.machine_records.specs.Supplies.{FirstIsKept, KnownHaveWords}
+use Rattle.machine_records.specs.Supplies.{FirstIsKept}
 
 pub first_kept : (m : Meaning) (l : Layout) (rs : List Request) → FirstIsKept m l rs
 first_kept m l rs w first = record {
@@ -54,16 +54,7 @@ entry_of (x ∷ xs) n reply e = by (x.request == n && cond reply x.reply (not x.
     by false is rest e = let h = rest e in record { place = suc h.place; entry = h.entry; at = h.at; request = h.request; is = h.is }
 
 -- a known word stands, and isn't 0
-word_of_known : (s : Sight) → KnownStand s → (r n : ℕ) (reply : Bool) → knows (s.part r).records.known n reply ≡ true → s.word (entry_spot n reply) ≢ 0
+pub word_of_known : (s : Sight) → KnownStand s → (r n : ℕ) (reply : Bool) → knows (s.part r).records.known n reply ≡ true → s.word (entry_spot n reply) ≢ 0
 word_of_known s stand r n reply e none =
     let h = entry_of (s.part r).records.known n reply e in
     stand.some r h.place h.entry h.at (sym (stand.stands r h.place h.entry h.at) ∙ (ap s.word (λ i. entry_spot (h.request i) (h.is i)) ∙ none))
-
-pub known_words : KnownHaveWords
-known_words s w stand kept r n known =
-    let h = both (knows (s.part r).records.known n false) (knows (s.part r).records.known n true) (sym (kept.known r n) ∙ known) in
-    (word_of_known s stand r n false h.0, word_of_known s stand r n true h.1)
-  where
-    both : (a b : Bool) → (a && b) ≡ true → (a ≡ true) × (b ≡ true)
-    both true b e = (refl, e)
-    both false b e = absurd (let x = e in cc)

@@ -2,3 +2,4 @@ pub mod First
 pub mod Supplying
 pub mod Telling
 pub mod Steps
+pub mod Ending

@@ -1,27 +1,32 @@
 -- What the machine's states supply to the history's events, by what runners keep.
-use Rattle.std.specs.Prelude.{ℕ, suc, ◌<◌, ◌≡◌, ◌≢◌, true, false, List, Some}
+use Rattle.std.specs.Prelude.{ℕ, suc, ◌<◌, ◌≤◌, ◌≡◌, ◌≢◌, true, false, List, Some}
 use Rattle.map_history.specs.declared.op.Request.{Request}
 use Rattle.map_history.specs.Requests.{AreInOrder}
 use Rattle.section_body.specs.declared.thunk.Thunk.{Thunk}
 use Rattle.table_words.specs.declared.layout.Layout.{Layout}
 use Rattle.table_words.specs.declared.spot.Spot.{Spot}
-use Rattle.table_words.specs.declared.spot.Spot.TheVariants.{Stamp, Reply}
 use Rattle.table_words.specs.declared.access.Access.{Access}
 use Rattle.table_words.specs.Places.{descriptor_count}
 use Rattle.structure_laws.specs.Meaning.{Meaning}
 use Rattle.runner_parts.specs.declared.event.EventKind.TheVariants.{Hold}
 use Rattle.runner_parts.specs.Lists.{slots_of}
-use Rattle.runner_parts.specs.Tests.{has}
+use Rattle.runner_parts.specs.Tests.{has, is_answered}
+use Rattle.runner_parts.specs.State.{RunState}
+use Rattle.runner_steps.specs.Sections.{is_open_run}
 use Rattle.runner_steps.specs.Asks.{asks}
 use Rattle.history_core.specs.State.{Requests, HistoryState}
 use Rattle.history_core.specs.Schedules.{first_state}
+use Rattle.history_core.specs.Sound.{IsSound}
+use Rattle.history_core.specs.Events.{Learn, Over, Enabled}
 use Rattle.machine_states.specs.World.{World}
 use Rattle.machine_states.specs.First.{IsFirst}
 use Rattle.machine_states.specs.Sight.{Sight, sight}
-use Rattle.machine_invariant.specs.Whole.{Beside, IsWhole}
+use Rattle.machine_invariant.specs.Whole.{Beside, states_of, IsWhole}
 use Rattle.machine_facts.specs.Known.{KnownStand}
 use Rattle.machine_records.specs.Requests.{requests_of}
+use Rattle.machine_history.specs.Tied.{AreTied}
 use Rattle.machine_records.specs.Kept.{AreKept}
+use Rattle.machine_records.specs.Told.{RunsAreTold}
 
 -- what the history asks for where this runner publishes a section for this request: it has none that
 -- it hasn't run to its end, the request is its own, and it knows both words of the earlier requests
@@ -63,7 +68,16 @@ module _ (m : Meaning) (l : Layout) (requests : List Request) where
       → has (slots_of (s.part r).descriptors.limbo) d ≡ true
       → IsOverFor w g d
 
--- both words of a request that a runner knows are there
-abbrev pub KnownHaveWords : Type 0
-KnownHaveWords = (s : Sight) (w : HistoryState) → KnownStand s → AreKept s w → (r n : ℕ)
-    → w.known r n ≡ true → (s.word (Stamp n) ≢ 0) × (s.word (Reply n) ≢ 0)
+-- a runner that has both words of a request in its records may come to know it
+abbrev pub AnsweredAreLearned : Meaning → Layout → Type 0
+AnsweredAreLearned m l = (c : Requests) (g : Beside) (s : Sight) (w : HistoryState) → IsWhole m l g s → AreTied c (states_of g s) w
+    → KnownStand s → (r n : ℕ) → is_answered (s.part r).records.known n ≡ true
+    → Enabled c w (Learn r n)
+
+-- a worker whose own run of the section that it has published has set the done word may have come to
+-- the section's end: it knows both words of its request where this was stamped
+abbrev pub EndsAreOver : Meaning → Layout → Type 0
+EndsAreOver m l = (c : Requests) (g : Beside) (s : Sight) (w : HistoryState) → IsWhole m l g s → AreTied c (states_of g s) w
+    → IsSound c w → AreKept s w → RunsAreTold m s
+    → (r : ℕ) (q : RunState) → (s.part r).run ≡ Some q → is_open_run q ≡ true → 1 ≤ q.ended
+    → w.published r ≡ suc q.descriptor → Enabled c w (Over r)

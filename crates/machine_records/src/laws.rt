@@ -2,7 +2,7 @@
 ghost use Rattle.std.specs.Prelude.{List};
 ghost use Rattle.map_history.specs.declared.op.Request.{Request};
 ghost use Rattle.table_words.specs.declared.layout.Layout.{Layout};
-ghost use Rattle.machine_records.specs.Supplies.{FirstIsKept, HoldsAreDue, OperationsAreAsked, FreesAreOver, KnownHaveWords};
+ghost use Rattle.machine_records.specs.Supplies.{FirstIsKept, HoldsAreDue, OperationsAreAsked, FreesAreOver, AnsweredAreLearned, EndsAreOver};
 ghost use Rattle.machine_records.specs.Told.{FirstIsTold, StepsTellRuns};
 
 use runner_parts::Structure;
@@ -41,10 +41,21 @@ pub fn frees_are_over<S: Structure>(structure: &S)
     let _ = structure;
 }
 
-/// Who knows a request finds its stamp word and its reply word, which aren't 0.
-pub fn known_have_words()
-    ensures { KnownHaveWords }
-{}
+/// In a state that meets the whole invariant and is tied to the history's, a runner that has both words of a request in its records may
+/// come to know it: the words are there.
+pub fn answered_are_learned<S: Structure>(structure: &S)
+    ensures { (layout : Layout) → AnsweredAreLearned (S.meaning structure.now) layout }
+{
+    let _ = structure;
+}
+
+/// In such a state, a worker whose own run of the section that it has published has set the done word may have come to the section's end: the
+/// section is done, and the worker knows both words of its request where this was stamped.
+pub fn ends_are_over<S: Structure>(structure: &S)
+    ensures { (layout : Layout) → EndsAreOver (S.meaning structure.now) layout }
+{
+    let _ = structure;
+}
 
 /// Each runner knows the stamp word and the reply word of its run's request once the run has passed the exchange of that word: so it is in
 /// the first state, and each step keeps it.

@@ -8,5 +8,6 @@
 mod laws;
 
 pub use laws::{
-    first_is_kept, frees_are_over, holds_are_due, known_have_words, operations_are_asked,
+    answered_are_learned, ends_are_over, first_is_kept, frees_are_over, holds_are_due,
+    operations_are_asked, runs_are_told,
 };
