@@ -3,3 +3,4 @@ pub mod Supplying
 pub mod Telling
 pub mod Steps
 pub mod Ending
+pub mod Parts

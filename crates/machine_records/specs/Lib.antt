@@ -2,3 +2,4 @@ pub mod Requests
 pub mod Kept
 pub mod Supplies
 pub mod Told
+pub mod Keeping
