@@ -4,3 +4,4 @@ pub mod Telling
 pub mod Steps
 pub mod Ending
 pub mod Parts
+pub mod Keeping

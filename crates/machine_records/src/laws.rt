@@ -3,6 +3,7 @@ ghost use Rattle.std.specs.Prelude.{List};
 ghost use Rattle.map_history.specs.declared.op.Request.{Request};
 ghost use Rattle.table_words.specs.declared.layout.Layout.{Layout};
 ghost use Rattle.machine_records.specs.Supplies.{FirstIsKept, HoldsAreDue, OperationsAreAsked, FreesAreOver, AnsweredAreLearned, EndsAreOver};
+ghost use Rattle.machine_records.specs.Keeping.{StepsAreKept, EndsAreOwn, PublicationsAreKept};
 ghost use Rattle.machine_records.specs.Told.{FirstIsTold, StepsTellRuns};
 
 use runner_parts::Structure;
@@ -64,6 +65,26 @@ pub fn runs_are_told<S: Structure>(structure: &S)
         → FirstIsTold (S.meaning structure.now) layout requests }
     ensures steps { (layout : Layout) (requests : List Request)
         → StepsTellRuns (S.meaning structure.now) layout requests }
+{
+    let _ = structure;
+}
+
+/// A step that publishes nothing is these events of the history: its runner's own run has come to its section's end, where the runner has
+/// no such section then and had one before, and the runner comes to know each request of which it then has both words. They lead to what
+/// runners keep behind the step. Where the end comes, the runner was in its own run of that section, which had set the done word.
+pub fn steps_are_kept<S: Structure>(structure: &S)
+    ensures steps { (layout : Layout) (requests : List Request)
+        → StepsAreKept (S.meaning structure.now) layout requests }
+    ensures ends { (layout : Layout) (requests : List Request)
+        → EndsAreOwn (S.meaning structure.now) layout requests }
+{
+    let _ = structure;
+}
+
+/// A step that publishes a section is the publication in the history, which leads to what runners keep behind the step.
+pub fn publications_are_kept<S: Structure>(structure: &S)
+    ensures { (layout : Layout) (requests : List Request)
+        → PublicationsAreKept (S.meaning structure.now) layout requests }
 {
     let _ = structure;
 }

@@ -9,5 +9,5 @@ mod laws;
 
 pub use laws::{
     answered_are_learned, ends_are_over, first_is_kept, frees_are_over, holds_are_due,
-    operations_are_asked, runs_are_told,
+    operations_are_asked, publications_are_kept, runs_are_told, steps_are_kept,
 };
