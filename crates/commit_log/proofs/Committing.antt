@@ -8,7 +8,7 @@ use Rattle.table_words.specs.declared.spot.Spot.TheVariants.{LogWord}
 use Rattle.table_words.specs.declared.access.Access.{Access}
 use Rattle.table_words.specs.declared.access.Access.TheVariants.{Exchanges}
 use Rattle.table_words.specs.Limits.{IsWithinLimits}
-use Rattle.table_words.specs.Access.{written}
+use Rattle.table_words.specs.Access.{written, wins}
 use Rattle.table_words.specs.Seen.{seen}
 use Rattle.structure_laws.specs.Meaning.{Meaning}
 use Rattle.structure_laws.specs.Laws.{Laws}
@@ -21,7 +21,7 @@ use Rattle.machine_states.proofs.Steps.{some_same}
 use Rattle.machine_invariant.specs.After.{AreAllowed}
 use Rattle.version_words.specs.RunnerState.{RunnerState}
 use Rattle.version_words.specs.TableState.{TableState, IsOf}
-use Rattle.version_words.specs.Events.{met_by, wins, Commits}
+use Rattle.version_words.specs.Events.{met_by, Commits}
 use Rattle.version_words.specs.Place.{next_log}
 use Rattle.commit_log.specs.Runs.{IsRunning, Stepped}
 use Rattle.commit_log.specs.Committed.{commits_loaded, MayCommit, HasCommitted}

@@ -1,8 +1,7 @@
 -- Requests that are in order, by tests that compute.
-use Rattle.std.proofs.Common.{◌≡◌, ℕ, zero, suc, ◌<◌, ◌≤◌, Bool, true, List, [], ◌∷◌, length, sym, arith}
-use Rattle.std.specs.Prelude.{◌&&◌, nat_lt, nat_le, slice_index_or, map, All}
+use Rattle.std.proofs.Common.{◌≡◌, ℕ, zero, suc, ◌<◌, ◌≤◌, Bool, true, List, [], ◌∷◌, length, arith}
+use Rattle.std.specs.Prelude.{◌&&◌, nat_lt, nat_le, slice_index_or, map}
 use Rattle.std.specs.List.{list_all, range_with_len}
-use Rattle.std.specs.List.Sorted.{IsNonDecreasingBy}
 use Rattle.std.proofs.lemmas.Bool.Decides.{nat_tests}
 use Rattle.map_history.specs.declared.op.Request.{Request}
 use Rattle.map_history.specs.Keys.{key_of}

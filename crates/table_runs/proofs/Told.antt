@@ -164,7 +164,7 @@ module _ {T : Type 0} (m : Meaning) (old new : RunnerState T) (worker : old.numb
         copied = λ copy spot access is.
             subst (λ (p : PartState). IsCopied p new.part) (sym (brought_untold told copy is spot access hidden))
             (subst (IsCopied (counts (with_cells (line_after m old.layout k copy opens.run (next_of m opens.run) told) copy.reads.cells)
-                (won_after access told (line_after m old.layout k copy opens.run (next_of m opens.run) told)))) (sym (left_untold copy is))
+            (won_after access told (line_after m old.layout k copy opens.run (next_of m opens.run) told)))) (sym (left_untold copy is))
             (counts_copied _ _ _ won_now (untold_copied copy is.cells is.won is.read m old.layout found told opens.run (next_of m opens.run) k hidden)));
       }
 

@@ -15,7 +15,7 @@ invariant_of-result-in-Ok g c =
     let followed = c.in-Ok.ensures.followed in
     let brought = followed.copied c.self.inside.copy c.in-Some.spot c.in-Some.access c.self.invariant.copied in
     let along = c.in_ok-copy-in-Ok.ensures ∙ (λ i. brought_on (g.S.Structure.meaning (c.structure-structure.ensures i)) ((c.layout-layout.ensures ∙ sym own.layout) i) (c.number-worker.ensures i)
-        c.args.kind.now c.in-Some.spot c.in-Some.access c.self.inside.copy c.in-Ok.told) in
+    c.args.kind.now c.in-Some.spot c.in-Some.access c.self.inside.copy c.in-Ok.told) in
     record {
       worker = subst (λ y. y.number < y.layout.runners) (sym followed.event.made) c.self.invariant.worker;
       copied = subst (λ (y : PartState). IsCopied y c.in-Ok.runner.part) (sym along) brought;

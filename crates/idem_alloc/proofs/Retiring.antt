@@ -1,0 +1,85 @@
+-- A retirement in a run.
+use Rattle.std.proofs.Common.{◌≡◌, ℕ, ◌+◌, Bool, true, false, refl, sym, ap, ◌∙◌, cond, add-one, arith, Option, Some}
+use Rattle.std.specs.Prelude.{◌==◌, if◌then◌else◌}
+use Rattle.std.proofs.lemmas.Bool.Decides.{nat_tests}
+use Rattle.section_body.specs.declared.micro.Micro.TheVariants.{EpochForRetire, RetireCommit}
+use Rattle.section_body.specs.Line.{micro_at}
+use Rattle.section_body.specs.Run.{written_once}
+use Rattle.section_lines.proofs.Ordered.{is_ordered}
+use Rattle.table_words.specs.declared.layout.Layout.{Layout}
+use Rattle.table_words.specs.declared.spot.Spot.TheVariants.{Epoch, LogWord}
+use Rattle.table_words.specs.declared.access.Access.TheVariants.{Loads, Exchanges}
+use Rattle.table_words.specs.Limits.{IsWithinLimits}
+use Rattle.structure_laws.specs.Meaning.{Meaning}
+use Rattle.structure_laws.specs.Laws.{Laws}
+use Rattle.runner_parts.specs.declared.event.EventKind.TheVariants as kinds
+use Rattle.runner_parts.specs.State.{RunState, NodesState}
+use Rattle.runner_parts.specs.Lists.{slot_retired}
+use Rattle.runner_steps.specs.Sections.{thunk_of, line_of, next_of}
+use Rattle.runner_steps.specs.AfterInRun.{goes_on, agrees}
+use Rattle.machine_epochs.proofs.RunPlaces.{next_in_line}
+use Rattle.machine_invariant.specs.After.{AreAllowed}
+use Rattle.version_words.specs.RunnerState.{RunnerState}
+use Rattle.version_words.specs.TableState.{TableState, IsOf}
+use Rattle.version_words.specs.Events.{met_by, IsEnabled, Makes}
+use Rattle.version_words.specs.Place.{next_log}
+use Rattle.commit_log.specs.Runs.{IsRunning, Stepped}
+use Rattle.commit_log.proofs.Running.{may_make, goes_behind, then_made}
+use Rattle.commit_log.proofs.Next.{settled_next}
+use Rattle.idem_alloc.specs.Retired.{nodes_retired, retired_word, MayRetire, HasRetired}
+
+-- both words agree on the slot
+agreed_slot : (first : Bool) (slot : ℕ) → written_once (retired_word first slot) (slot + 1) ≡ slot + 1
+agreed_slot true slot = refl
+agreed_slot false slot = by (slot + 1 == 0)
+  where
+    by : (b : Bool) → cond b (slot + 1) (slot + 1) ≡ slot + 1
+    by true = refl
+    by false = refl
+
+retired_nodes : (first : Bool) (n : NodesState) (slot epoch : ℕ) → (if retired_word first slot == 0 then slot_retired n slot epoch else n) ≡ nodes_retired first n slot epoch
+retired_nodes true n slot epoch = refl
+retired_nodes false n slot epoch = let e : (slot + 1 == 0) ≡ false = grind (arith, nat_tests) in ap (λ b. if b then slot_retired n slot epoch else n) e
+
+module _ {T : Type 0} (m : Meaning) (laws : Laws m) (t : TableState T) (limits : IsWithinLimits t.layout) (allowed : AreAllowed t.requests) where
+  module _ (r : RunnerState T) (own : IsOf t r) (slot : ℕ) (q : RunState) (may : MayRetire m r slot q) where
+    pub may_load : IsEnabled m kinds.EpochForRetire r
+    may_load = record { met = (Epoch, Loads); asked = may_make m laws t limits allowed r own q may.running (EpochForRetire slot may.log) may.next refl }
+
+    pub loads : (found : ℕ) (r' : RunnerState T) → Makes m kinds.EpochForRetire found r r' → Stepped m q (EpochForRetire slot may.log) found r r'
+    loads found r' made = then_made m laws t limits allowed r own q may.running (EpochForRetire slot may.log) may.next refl found r' made
+
+    -- behind it stands its commit
+    commit_next : (epoch : ℕ) → next_of m (goes_on m r.layout q epoch) ≡ RetireCommit slot may.log
+    commit_next epoch = settled_next m r.layout (record q { at = q.at + 1; word = epoch }) (RetireCommit slot may.log)
+        (ap (micro_at (line_of m q)) (add-one q.at) ∙ (is_ordered (m.body (thunk_of q.opened))).retire_next q.at slot may.log (next_in_line m q (EpochForRetire slot may.log) refl may.next)) refl
+
+    module _ (epoch : ℕ) (r' : RunnerState T) (own' : IsOf t r') (step : Stepped m q (EpochForRetire slot may.log) epoch r r') where
+      abbrev behind : RunState
+      behind = goes_on m r.layout q epoch
+
+      running : IsRunning m r' behind
+      running = step.goes_on behind step.behind.run
+
+      pub may_commit : met_by m r' kinds.RetireCommit ≡ Some (next_log r'.part.run, Exchanges 0 (slot + 1))
+      may_commit = may_make m laws t limits allowed r' own' behind running (RetireCommit slot may.log) (commit_next epoch) refl
+          ∙ ap (λ k. Some (LogWord behind.descriptor k, Exchanges 0 (slot + 1))) (goes_behind m laws t limits allowed r' own' behind running (RetireCommit slot may.log) (commit_next epoch) may.log refl)
+          ∙ ap (λ (o : Option RunState). Some (next_log o, Exchanges 0 (slot + 1))) (sym running.inside.running)
+
+      pub commits : (first : Bool) (r'' : RunnerState T) → Makes m kinds.RetireCommit (retired_word first slot) r' r''
+          → Stepped m behind (RetireCommit slot may.log) (retired_word first slot) r' r''
+      commits first r'' made = then_made m laws t limits allowed r' own' behind running (RetireCommit slot may.log) (commit_next epoch) refl (retired_word first slot) r'' made
+
+      pub then_retired : (first : Bool) (r'' : RunnerState T) → Stepped m behind (RetireCommit slot may.log) (retired_word first slot) r' r'' → HasRetired m slot r r'' q
+      then_retired first r'' commit = record {
+        log = may.log;
+        epoch = epoch;
+        first = first;
+        middle = r';
+        load = step;
+        commit = commit;
+        nodes = commit.behind.nodes ∙ (retired_nodes first r'.part.nodes slot epoch ∙ ap (λ (n : NodesState). nodes_retired first n slot epoch) step.behind.nodes);
+        goes_on = commit.goes_on (agrees m r.layout behind (slot + 1)) (commit.behind.run
+            ∙ (ap (λ (l : Layout). Some (agrees m l behind (written_once (retired_word first slot) (slot + 1)))) (ap (λ (y : RunnerState T). y.layout) step.event.made)
+            ∙ ap (λ n. Some (agrees m r.layout behind n)) (agreed_slot first slot)));
+      }

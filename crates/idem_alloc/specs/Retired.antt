@@ -1,0 +1,37 @@
+-- Retirements of node slots in a run.
+use Rattle.std.specs.Prelude.{◌≡◌, ℕ, ◌+◌, Bool, if◌then◌else◌}
+use Rattle.section_body.specs.declared.micro.Micro.TheVariants.{EpochForRetire, RetireCommit}
+use Rattle.structure_laws.specs.Meaning.{Meaning}
+use Rattle.runner_parts.specs.State.{RunState, NodesState}
+use Rattle.runner_parts.specs.Lists.{slot_retired}
+use Rattle.runner_steps.specs.Sections.{next_of}
+use Rattle.runner_steps.specs.AfterInRun.{goes_on, agrees}
+use Rattle.version_words.specs.RunnerState.{RunnerState}
+use Rattle.commit_log.specs.Runs.{IsRunning, Stepped}
+
+-- the own node slots after a retirement, with this epoch, whose commit was the first one or wasn't
+abbrev pub nodes_retired : Bool → NodesState → ℕ → ℕ → NodesState
+nodes_retired first n slot epoch = if first then slot_retired n slot epoch else n
+
+-- what the commit found in the log word
+abbrev pub retired_word : Bool → ℕ → ℕ
+retired_word first slot = if first then 0 else slot + 1
+
+module _ {T : Type 0} (m : Meaning) where
+  -- the next step of this run retires this slot
+  pub record MayRetire (r : RunnerState T) (slot : ℕ) (q : RunState) : Type 0 where
+    pub running : IsRunning m r q
+    pub log : ℕ
+    pub next : next_of m q ≡ EpochForRetire slot log
+
+  -- the epoch was loaded and the slot committed. It is in the own limbo list, with that epoch, exactly where this commit was the first
+  -- one, and the own lists didn't change otherwise; the run goes on
+  pub record HasRetired (slot : ℕ) (old new : RunnerState T) (q : RunState) : Type 0 where
+    pub log : ℕ
+    pub epoch : ℕ
+    pub first : Bool
+    pub middle : RunnerState T
+    pub load : Stepped m q (EpochForRetire slot log) epoch old middle
+    pub commit : Stepped m (goes_on m old.layout q epoch) (RetireCommit slot log) (retired_word first slot) middle new
+    pub nodes : new.part.nodes ≡ nodes_retired first old.part.nodes slot epoch
+    pub goes_on : IsRunning m new (agrees m old.layout (goes_on m old.layout q epoch) (slot + 1))

@@ -1,0 +1,59 @@
+//! The retirement of a node slot.
+ghost use Rattle.std.specs.Prelude.{◌≡◌, true, false};
+ghost use Rattle.runner_parts.specs.State.{RunState};
+ghost use Rattle.version_words.specs.TableState.{IsOf};
+ghost use Rattle.commit_log.specs.Runs.{IsRunning};
+ghost use Rattle.commit_log.specs.Asked.{IsAsked};
+ghost use Rattle.commit_log.specs.Halted.{IsHalted};
+ghost use Rattle.idem_alloc.specs.Retired.{MayRetire, HasRetired};
+
+use commit_log::{NeverHalts, passes};
+use runner_parts::Structure;
+use section_body::{Gate, StepKind, Steps};
+use version_words::{FlockTable, Runner, table_is_allowed};
+
+/// Retires the node slot, in two steps: loads the epoch, and commits the slot. Where this commit is the first of the section's runs, the
+/// slot is in the own limbo list with that epoch; else it is in that of another runner.
+///
+/// The runner has to be in a run whose next step retires this slot. There is no refusal, and no memory is taken (Ben-David, Blelloch,
+/// Wei, 2022; Fraser, 2004).
+pub fn retire<S: Structure>(table: &FlockTable<S>, runner: Runner<S>, slot: u32) -> Runner<S>
+    requires own { IsOf table.now runner }
+    requires next { (q : RunState) × MayRetire (S.meaning table.now.structure) runner slot q }
+    ensures own { IsOf table.now result }
+    ensures retired { (q : RunState) → IsRunning (S.meaning table.now.structure) runner q → HasRetired (S.meaning table.now.structure) slot runner result q }
+{
+    let mut gate = NeverHalts::new();
+    let mut steps = Steps::<()>::new();
+    match retire_gated(table, runner, slot, &mut gate, &mut steps) {
+        (runner, true) => runner,
+        _ => unreachable!(),
+    }
+}
+
+/// The same, counting each step and asking the gate after it: whether it let the runner go on.
+pub fn retire_gated<S: Structure, G: Gate, L>(
+    table: &FlockTable<S>,
+    runner: Runner<S>,
+    slot: u32,
+    gate: &mut G,
+    steps: &mut Steps<L>,
+) -> (Runner<S>, bool)
+    requires own { IsOf table.now runner }
+    requires next { (q : RunState) × MayRetire (S.meaning table.now.structure) runner slot q }
+    ensures own { IsOf table.now result.0 }
+    ensures retired { result.1 ≡ true → (q : RunState) → IsRunning (S.meaning table.now.structure) runner q → HasRetired (S.meaning table.now.structure) slot runner result.0 q }
+    ensures asked { result.1 ≡ true → IsAsked 2 true (G.halts gate.old) (G.halts gate.new) (G.asks gate.old) (G.asks gate.new) steps.old.count steps.new.count }
+    ensures halted { result.1 ≡ false → IsHalted (S.meaning table.now.structure) 2 runner result.0 (G.halts gate.old) (G.halts gate.new) (G.asks gate.old) (G.asks gate.new) steps.old.count steps.new.count }
+{
+    table_is_allowed(table);
+    let (runner, _) = table.epoch_for_retire(runner);
+    if !passes(gate, steps, StepKind::EpochForRetire) {
+        return (runner, false);
+    }
+    let (runner, _) = table.retire_commit(runner, slot);
+    if !passes(gate, steps, StepKind::RetireCommit) {
+        return (runner, false);
+    }
+    (runner, true)
+}

@@ -1,0 +1,6 @@
+//! The search tree's bodies: what a section on the tree does, as data.
+#![tactic(auto)]
+
+mod bodies;
+
+pub use bodies::tree_body;
