@@ -30,7 +30,8 @@ learns r ns = map (λ n. Learn r n) ns
 abbrev pub ends : ℕ → ℕ → ℕ → List Event
 ends r before now = cond (before == now) [] (Over r ∷ [])
 
--- the history's events of a step of this runner that publishes nothing, by its part before and after
+-- the history's events of a step of this runner that publishes nothing, by its part before and
+-- after
 abbrev pub events_of : ℕ → PartState → PartState → List Event
 events_of r p p' = ends r (link_of p.published) (link_of p'.published)
     ++ learns r (answered_in p'.records.known)
@@ -45,13 +46,16 @@ pub record IsAtItsEnd (p : PartState) : Type 0 where
 
 module _ (m : Meaning) (l : Layout) (requests : List Request) where
   -- this step publishes no section: it is no try to, or the lock stood there with another word
-  abbrev pub PublishesNothing : (s s' : Sight) (r : ℕ) (kind : EventKind) → Steps m l requests s s' r kind → Type 0
-  PublishesNothing s s' r kind step = (t : Thunk) (d : ℕ) → kind ≡ Hold t d → s.word step.ask.0 ≢ t.word
+  abbrev pub PublishesNothing : (s s' : Sight) (r : ℕ) (kind : EventKind)
+      → Steps m l requests s s' r kind → Type 0
+  PublishesNothing s s' r kind step = (t : Thunk) (d : ℕ) → kind ≡ Hold t d
+      → s.word step.ask.0 ≢ t.word
 
-  -- the events of a step that publishes nothing lead to what runners keep then; and where the runner
-  -- has then no section that it hasn't run to its end, and had one before, it was at its end
+  -- the events of a step that publishes nothing lead to what runners keep then; and where the
+  -- runner has then no section that it hasn't run to its end, and had one before, it was at its end
   abbrev pub StepsAreKept : Type 0
-  StepsAreKept = (c : Requests) (g : Beside) (s s' : Sight) (w : HistoryState) (r : ℕ) (kind : EventKind) → IsWhole m l g s
+  StepsAreKept = (c : Requests) (g : Beside) (s s' : Sight) (w : HistoryState) (r : ℕ)
+      (kind : EventKind) → IsWhole m l g s
       → (step : Steps m l requests s s' r kind) → PublishesNothing s s' r kind step → AreKept s w
       → AreKept s' (after_all c w (events_of r (s.part r) (s'.part r)))
 
@@ -62,6 +66,7 @@ module _ (m : Meaning) (l : Layout) (requests : List Request) where
 
   -- a publication leads to what runners keep then
   abbrev pub PublicationsAreKept : Type 0
-  PublicationsAreKept = (c : Requests) (g : Beside) (s s' : Sight) (w : HistoryState) (r d answer : ℕ) (t : Thunk) → IsWhole m l g s
+  PublicationsAreKept = (c : Requests) (g : Beside) (s s' : Sight) (w : HistoryState)
+      (r d answer : ℕ) (t : Thunk) → IsWhole m l g s
       → (step : Steps m l requests s s' r (Hold t d)) → s.word step.ask.0 ≡ t.word → AreKept s w
       → AreKept s' (after c w (Publish r d t.request answer))

@@ -5,7 +5,8 @@ use Rattle.runner_parts.specs.Tests.{is_answered}
 use Rattle.history_core.specs.State.{HistoryState}
 use Rattle.machine_states.specs.Sight.{Sight}
 
--- the link of the section that a runner has published and not yet run to its end, 0 where it has none
+-- the link of the section that a runner has published and not yet run to its end, 0 where it has
+-- none
 abbrev pub link_of : Option Published → ℕ
 link_of None = 0
 link_of (Some x) = cond x.over 0 (suc x.descriptor)

@@ -15,7 +15,8 @@ or_none (Some q) = q
 abbrev pub request_at : List Request → ℕ → Request
 request_at requests n = or_none (slice_get requests n)
 
--- a trace's requests are those of the worker with the number of the trace modulo the number of workers
+-- a trace's requests are those of the worker with the number of the trace modulo the number of
+-- workers
 abbrev pub requests_of : Meaning → Layout → List Request → Requests
 requests_of m l requests = record {
   is_map = m.is_map;

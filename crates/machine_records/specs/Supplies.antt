@@ -28,9 +28,9 @@ use Rattle.machine_history.specs.Tied.{AreTied}
 use Rattle.machine_records.specs.Kept.{AreKept}
 use Rattle.machine_records.specs.Told.{RunsAreTold}
 
--- what the history asks for where this runner publishes a section for this request: it has none that
--- it hasn't run to its end, the request is its own, and it knows both words of the earlier requests
--- of the trace and not of this one
+-- what the history asks for where this runner publishes a section for this request: it has none
+-- that it hasn't run to its end, the request is its own, and it knows both words of the earlier
+-- requests of the trace and not of this one
 pub record IsDue (c : Requests) (w : HistoryState) (r n : ℕ) : Type 0 where
   pub idle : w.published r ≡ 0
   pub own : c.worker n ≡ r
@@ -56,12 +56,13 @@ module _ (m : Meaning) (l : Layout) (requests : List Request) where
 
   -- a published section's operation is that of its request
   abbrev pub OperationsAreAsked : Type 0
-  OperationsAreAsked = (g : Beside) (s : Sight) → IsWhole m l g s → g.publications.requests ≡ requests
+  OperationsAreAsked = (g : Beside) (s : Sight) → IsWhole m l g s
+      → g.publications.requests ≡ requests
       → (d : ℕ) → g.agreement.used d ≡ true
       → (requests_of m l requests).op (g.publications.thunk d).request ≡ g.publications.op d
 
-  -- each descriptor of the table that is in a limbo list, and so each one that leaves it, is used, and
-  -- its worker has run its section to its end
+  -- each descriptor of the table that is in a limbo list, and so each one that leaves it, is used,
+  -- and its worker has run its section to its end
   abbrev pub FreesAreOver : Type 0
   FreesAreOver = (g : Beside) (s : Sight) (w : HistoryState) → IsWhole m l g s → AreKept s w
       → (r d : ℕ) → d < descriptor_count l
@@ -70,14 +71,16 @@ module _ (m : Meaning) (l : Layout) (requests : List Request) where
 
 -- a runner that has both words of a request in its records may come to know it
 abbrev pub AnsweredAreLearned : Meaning → Layout → Type 0
-AnsweredAreLearned m l = (c : Requests) (g : Beside) (s : Sight) (w : HistoryState) → IsWhole m l g s → AreTied c (states_of g s) w
+AnsweredAreLearned m l = (c : Requests) (g : Beside) (s : Sight) (w : HistoryState)
+    → IsWhole m l g s → AreTied c (states_of g s) w
     → KnownStand s → (r n : ℕ) → is_answered (s.part r).records.known n ≡ true
     → Enabled c w (Learn r n)
 
--- a worker whose own run of the section that it has published has set the done word may have come to
--- the section's end: it knows both words of its request where this was stamped
+-- a worker whose own run of the section that it has published has set the done word may have come
+-- to the section's end: it knows both words of its request where this was stamped
 abbrev pub EndsAreOver : Meaning → Layout → Type 0
-EndsAreOver m l = (c : Requests) (g : Beside) (s : Sight) (w : HistoryState) → IsWhole m l g s → AreTied c (states_of g s) w
+EndsAreOver m l = (c : Requests) (g : Beside) (s : Sight) (w : HistoryState) → IsWhole m l g s
+    → AreTied c (states_of g s) w
     → IsSound c w → AreKept s w → RunsAreTold m s
     → (r : ℕ) (q : RunState) → (s.part r).run ≡ Some q → is_open_run q ≡ true → 1 ≤ q.ended
     → w.published r ≡ suc q.descriptor → Enabled c w (Over r)

@@ -23,7 +23,8 @@ IsTold known request (micros.ReplyExchange reply) = knows known request true ≡
 IsTold known request _ = Unit {0}
 
 module _ (m : Meaning) where
-  -- the runner knows the words of the run's request to which the steps write that the run has passed
+  -- the runner knows the words of the run's request to which the steps write that the run has
+  -- passed
   abbrev pub RunIsTold : List Known → RunState → Type 0
   RunIsTold known q = (i : ℕ) → i < q.at
       → IsTold known (thunk_of q.opened).request (micro_at (line_of m q) i)

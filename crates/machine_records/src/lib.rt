@@ -1,8 +1,9 @@
-//! What the runners of the machine keep, as the history's state has it: which requests they know, and which section they have
-//! published and not yet run to its end.
+//! What the runners of the machine keep, as the history's state has it: which requests they know,
+//! and which section they have published and not yet run to its end.
 //!
-//! The definitions stand in specs: `Requests` has the requests as the history has them, `Kept` what runners keep, and `Supplies` what
-//! this supplies to the history's events. `laws` has each law on a contract.
+//! The definitions stand in specs: `Requests` has the requests as the history has them, `Kept` what
+//! runners keep, and `Supplies` what this supplies to the history's events. `laws` has each law on
+//! a contract.
 #![tactic(auto)]
 
 mod laws;
