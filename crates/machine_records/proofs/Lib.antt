@@ -5,3 +5,4 @@ pub mod Steps
 pub mod Ending
 pub mod Parts
 pub mod Keeping
+pub mod Reached

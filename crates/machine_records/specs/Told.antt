@@ -5,6 +5,7 @@ use Rattle.section_body.specs.Line.{micro_at}
 use Rattle.section_body.specs.declared.micro.Micro.{Micro}
 use Rattle.section_body.specs.declared.micro.Micro.TheVariants as micros
 use Rattle.table_words.specs.declared.layout.Layout.{Layout}
+use Rattle.table_words.specs.Limits.{IsWithinLimits}
 use Rattle.structure_laws.specs.Meaning.{Meaning}
 use Rattle.runner_parts.specs.declared.entries.Known.{Known}
 use Rattle.runner_parts.specs.declared.event.EventKind.{EventKind}
@@ -13,7 +14,9 @@ use Rattle.runner_parts.specs.Tests.{knows}
 use Rattle.runner_steps.specs.Sections.{thunk_of, line_of}
 use Rattle.machine_states.specs.World.{World}
 use Rattle.machine_states.specs.First.{IsFirst}
+use Rattle.machine_states.specs.Reached.{Reached}
 use Rattle.machine_states.specs.Sight.{Sight, sight, Steps}
+use Rattle.machine_invariant.specs.After.{AreAllowed}
 use Rattle.machine_invariant.specs.Whole.{Beside, IsWhole}
 
 -- the word of this request is known to which this step of a run writes
@@ -44,3 +47,8 @@ module _ (m : Meaning) where
     abbrev pub StepsTellRuns : Type 0
     StepsTellRuns = (g : Beside) (s s' : Sight) (r : ℕ) (kind : EventKind) → IsWhole m l g s
         → Steps m l requests s s' r kind → RunsAreTold s → RunsAreTold s'
+
+    -- so it is in every state that the machine reaches
+    abbrev pub ReachedAreTold : Type 0
+    ReachedAreTold = IsWithinLimits l → AreAllowed requests → (w : World) → Reached m l requests w
+        → RunsAreTold (sight m l requests w)

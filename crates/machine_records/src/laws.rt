@@ -4,7 +4,7 @@ ghost use Rattle.map_history.specs.declared.op.Request.{Request};
 ghost use Rattle.table_words.specs.declared.layout.Layout.{Layout};
 ghost use Rattle.machine_records.specs.Supplies.{FirstIsKept, HoldsAreDue, OperationsAreAsked, FreesAreOver, AnsweredAreLearned, EndsAreOver};
 ghost use Rattle.machine_records.specs.Keeping.{StepsAreKept, EndsAreOwn, PublicationsAreKept};
-ghost use Rattle.machine_records.specs.Told.{FirstIsTold, StepsTellRuns};
+ghost use Rattle.machine_records.specs.Told.{FirstIsTold, StepsTellRuns, ReachedAreTold};
 
 use runner_parts::Structure;
 
@@ -63,12 +63,15 @@ pub fn ends_are_over<S: Structure>(structure: &S)
 }
 
 /// Each runner knows the stamp word and the reply word of its run's request once the run has passed
-/// the exchange of that word: so it is in the first state, and each step keeps it.
+/// the exchange of that word: so it is in the first state, each step keeps it, and so it is in every
+/// state that the machine reaches.
 pub fn runs_are_told<S: Structure>(structure: &S)
     ensures first { (layout : Layout) (requests : List Request)
         → FirstIsTold (S.meaning structure.now) layout requests }
     ensures steps { (layout : Layout) (requests : List Request)
         → StepsTellRuns (S.meaning structure.now) layout requests }
+    ensures reached { (layout : Layout) (requests : List Request)
+        → ReachedAreTold (S.meaning structure.now) layout requests }
 {
     let _ = structure;
 }
