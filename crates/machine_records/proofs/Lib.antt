@@ -6,3 +6,4 @@ pub mod Ending
 pub mod Parts
 pub mod Keeping
 pub mod Reached
+pub mod Publishing

@@ -137,7 +137,7 @@ module _ (m : Meaning) (l : Layout) (rs : List Request) where
       record { unpublished = none_of p.published rest.0; request = request.0; of_request = request.1; next = request.2 }
 
   -- in a run nobody publishes
-  hold_outside : (r d : ℕ) (t : Thunk) (p : PartState) (run : Option RunState) (x : Spot × Access) → ask_by m l rs r (Hold t d) p run ≡ Some x → hold_ask m l rs r t d p ≡ Some x
+  pub hold_outside : (r d : ℕ) (t : Thunk) (p : PartState) (run : Option RunState) (x : Spot × Access) → ask_by m l rs r (Hold t d) p run ≡ Some x → hold_ask m l rs r t d p ≡ Some x
   hold_outside r d t p None x e = e
   hold_outside r d t p (Some q) x e = by (is_open_run q) e
     where

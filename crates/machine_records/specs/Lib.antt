@@ -3,3 +3,4 @@ pub mod Kept
 pub mod Supplies
 pub mod Told
 pub mod Keeping
+pub mod Publishing

@@ -4,6 +4,7 @@ ghost use Rattle.map_history.specs.declared.op.Request.{Request};
 ghost use Rattle.table_words.specs.declared.layout.Layout.{Layout};
 ghost use Rattle.machine_records.specs.Supplies.{FirstIsKept, HoldsAreDue, OperationsAreAsked, FreesAreOver, AnsweredAreLearned, EndsAreOver};
 ghost use Rattle.machine_records.specs.Keeping.{StepsAreKept, EndsAreOwn, PublicationsAreKept};
+ghost use Rattle.machine_records.specs.Publishing.{PublicationsMayCome};
 ghost use Rattle.machine_records.specs.Told.{FirstIsTold, StepsTellRuns, ReachedAreTold};
 
 use runner_parts::Structure;
@@ -95,6 +96,16 @@ pub fn steps_are_kept<S: Structure>(structure: &S)
 pub fn publications_are_kept<S: Structure>(structure: &S)
     ensures { (layout : Layout) (requests : List Request)
         → PublicationsAreKept (S.meaning structure.now) layout requests }
+{
+    let _ = structure;
+}
+
+/// Where a runner may try to publish a section, and agreement's publication may come behind the
+/// reading of the lock, the publication may come as a step of the joint states with the history, as
+/// that of its request, with the reply of its line.
+pub fn publications_may_come<S: Structure>(structure: &S)
+    ensures { (layout : Layout) (requests : List Request)
+        → PublicationsMayCome (S.meaning structure.now) layout requests }
 {
     let _ = structure;
 }

@@ -10,5 +10,6 @@ mod laws;
 
 pub use laws::{
     answered_are_learned, ends_are_over, first_is_kept, frees_are_over, holds_are_due,
-    operations_are_asked, publications_are_kept, runs_are_told, steps_are_kept,
+    operations_are_asked, publications_are_kept, publications_may_come, runs_are_told,
+    steps_are_kept,
 };
