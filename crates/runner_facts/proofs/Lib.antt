@@ -3,3 +3,5 @@ mod Limbo
 mod Keeping
 mod Counts
 mod Joined
+mod Raising
+mod Worn

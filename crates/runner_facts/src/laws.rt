@@ -7,7 +7,7 @@ ghost use Rattle.machine_states.specs.World.{World};
 ghost use Rattle.machine_states.specs.Reached.{Reached};
 ghost use Rattle.machine_states.specs.Sight.{sight};
 ghost use Rattle.machine_invariant.specs.After.{AreAllowed};
-ghost use Rattle.runner_facts.specs.Facts.{DescriptorsAreKept, JoinedAreGone, LimboIsDone, WalksStand};
+ghost use Rattle.runner_facts.specs.Facts.{DescriptorsAreKept, JoinedAreGone, LimboIsDone, WalksStand, WornAreWorn};
 
 use runner_parts::Structure;
 
@@ -44,6 +44,15 @@ pub fn joined_workers_are_gone<S: Structure>(structure: &S)
     ensures { (layout : Layout) (requests : List Request) (w : World) → IsWithinLimits layout → AreAllowed requests
         → Reached (S.meaning structure.now) layout requests w
         → JoinedAreGone layout (sight (S.meaning structure.now) layout requests w) }
+{
+    let _ = structure;
+}
+
+/// In every state that the machine reaches, each slot in a runner's worn list has a cell with the greatest version.
+pub fn worn_slots_are_worn<S: Structure>(structure: &S)
+    ensures { (layout : Layout) (requests : List Request) (w : World) → IsWithinLimits layout → AreAllowed requests
+        → Reached (S.meaning structure.now) layout requests w
+        → WornAreWorn (S.meaning structure.now) layout (sight (S.meaning structure.now) layout requests w) }
 {
     let _ = structure;
 }
