@@ -5,3 +5,4 @@ mod Counts
 mod Joined
 mod Raising
 mod Worn
+mod Names
