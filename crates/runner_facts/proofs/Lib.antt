@@ -3,3 +3,6 @@ mod Limbo
 mod Keeping
 mod Counts
 mod Joined
+mod Raising
+mod Worn
+mod Names

@@ -28,7 +28,7 @@ use Rattle.next_steps.proofs.Numbers.{reached_numbers}
 use Rattle.runner_facts.specs.Facts.{LimboIsDone}
 
 -- a descriptor in limbo is there with some epoch
-retired_once : (xs : List Retired) (d : ℕ) → has (slots_of xs) d ≡ true → (y : ℕ) × (1 ≤ times_retired d y (map entry_of xs))
+pub retired_once : (xs : List Retired) (d : ℕ) → has (slots_of xs) d ≡ true → (y : ℕ) × (1 ≤ times_retired d y (map entry_of xs))
 retired_once [] d e = absurd (let z = e in cc)
 retired_once (x ∷ xs) d e = by (x.slot == d) refl e (retired_once xs d)
   where

@@ -1,8 +1,11 @@
 -- What holds of the runners' parts in each reached state, beside their slots and sections.
 use Rattle.std.specs.Prelude.{ℕ, ◌+◌, ◌<◌, ◌≡◌, true, length, Option, Some, None}
 use Rattle.map_history.specs.declared.op.Op.{Op}
+use Rattle.section_body.specs.Memory.{cell_of}
+use Rattle.section_body.specs.Word.{version_of}
 use Rattle.table_words.specs.declared.layout.Layout.{Layout}
-use Rattle.table_words.specs.declared.spot.Spot.TheVariants.{DoneWord}
+use Rattle.table_words.specs.declared.spot.Spot.{Spot}
+use Rattle.table_words.specs.declared.spot.Spot.TheVariants.{Cell, DoneWord}
 use Rattle.structure_laws.specs.Meaning.{Meaning}
 use Rattle.structure_laws.specs.Sections.{IsAllowed}
 use Rattle.runner_parts.specs.declared.entries.Published.{Published}
@@ -36,3 +39,13 @@ descriptors_of p = length p.descriptors.free + (length p.descriptors.limbo + pub
 pub record DescriptorsAreKept (l : Layout) (s : Sight) : Type 0 where
   pub worker : (r : ℕ) → r < l.runners → descriptors_of (s.part r) ≡ l.sections
   pub keeper : descriptors_of (s.part l.runners) ≡ l.runners
+
+-- one of the slot's five cells has the greatest version, so it can't be changed any more
+pub record HasWornCell (m : Meaning) (l : Layout) (word : Spot → ℕ) (t : ℕ) : Type 0 where
+  pub cell : ℕ
+  pub low : cell < 5
+  pub worn : version_of (word (Cell (cell_of m.fixed_cells t cell))) ≡ l.version_max
+
+-- so it is with each slot in a worn list
+abbrev pub WornAreWorn : Meaning → Layout → Sight → Type 0
+WornAreWorn m l s = (r t : ℕ) → has (s.part r).nodes.worn t ≡ true → HasWornCell m l s.word t

@@ -5,4 +5,7 @@
 
 mod laws;
 
-pub use laws::{descriptors_are_kept, joined_workers_are_gone, limbo_is_done, walks_stand};
+pub use laws::{
+    descriptors_are_kept, joined_workers_are_gone, limbo_is_done, names_stand, walks_stand,
+    worn_slots_are_worn,
+};
