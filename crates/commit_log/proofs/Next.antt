@@ -14,6 +14,11 @@ no_check : (a b : Bool) → (not a && not b) ≡ true → a ≡ false
 no_check false b e = refl
 no_check true b e = absurd (let z = e in cc)
 
+-- where an event stands at its place, it is next
+pub next_here : (m : Meaning) (q : RunState) (micro : Micro) → micro_at (line_of m q) q.at ≡ micro → is_event micro ≡ true → next_of m q ≡ micro
+next_here m q micro here event =
+    ap (λ b. cond b (micro_at (line_of m q) q.at) (slice_index_or (let t = thunk_of q.opened in ending (line_of m q) q.at t.lock t.word) q.ended End)) (ap is_event here ∙ event) ∙ here
+
 -- where an event stands there, the run rests before it
 pub settled_at : (m : Meaning) (l : Layout) (q : RunState) (micro : Micro) → micro_at (line_of m q) q.at ≡ micro → is_event micro ≡ true → settles m l q ≡ q
 settled_at m l q micro here event =
@@ -22,5 +27,4 @@ settled_at m l q micro here event =
 
 -- and makes it next
 pub settled_next : (m : Meaning) (l : Layout) (q : RunState) (micro : Micro) → micro_at (line_of m q) q.at ≡ micro → is_event micro ≡ true → next_of m (settles m l q) ≡ micro
-settled_next m l q micro here event = ap (next_of m) (settled_at m l q micro here event)
-    ∙ (ap (λ b. cond b (micro_at (line_of m q) q.at) (slice_index_or (let t = thunk_of q.opened in ending (line_of m q) q.at t.lock t.word) q.ended End)) (ap is_event here ∙ event) ∙ here)
+settled_next m l q micro here event = ap (next_of m) (settled_at m l q micro here event) ∙ next_here m q micro here event

@@ -1,5 +1,5 @@
 -- What a gate's halt leaves.
-use Rattle.std.specs.Prelude.{ℕ, ◌≤◌, false}
+use Rattle.std.specs.Prelude.{ℕ, ◌≤◌, true, false}
 use Rattle.structure_laws.specs.Meaning.{Meaning}
 use Rattle.version_words.specs.RunnerState.{RunnerState}
 use Rattle.commit_log.specs.Asked.{IsAsked}
@@ -12,3 +12,10 @@ pub record IsHalted {T : Type 0} (m : Meaning) (most : ℕ) (old new : RunnerSta
   pub few : made ≤ most
   pub ran : Ran m made old new
   pub asked : IsAsked made false halts halts' asks asks' steps steps'
+
+-- a gate let the runner go on behind each of these steps
+pub record IsThrough {T : Type 0} (m : Meaning) (most : ℕ) (old new : RunnerState T) (halts halts' asks asks' steps steps' : ℕ) : Type 0 where
+  pub made : ℕ
+  pub few : made ≤ most
+  pub ran : Ran m made old new
+  pub asked : IsAsked made true halts halts' asks asks' steps steps'

@@ -1,0 +1,135 @@
+-- The second half of a Take in a run.
+use Rattle.std.proofs.Common.{◌≡◌, ℕ, ◌+◌, ◌-◌, ◌^◌, ◌<◌, true, refl, sym, ap, ◌∙◌, arith, Option, Some}
+use Rattle.std.specs.Prelude.{◌&&◌, nat_lt, Result}
+use Rattle.std.proofs.lemmas.Bool.Decides.{nat_tests}
+use Rattle.section_body.specs.declared.outcome.Refused.{Refused}
+use Rattle.section_body.specs.declared.micro.Micro.TheVariants.{NestedHold, OutcomeLoad, OutcomeCommit}
+use Rattle.section_body.specs.Line.{micro_at}
+use Rattle.section_body.specs.Run.{written_once}
+use Rattle.section_body.specs.Word.{version_of}
+use Rattle.table_words.specs.Access.{written}
+use Rattle.table_words.specs.Places.{descriptor_count}
+use Rattle.table_words.specs.declared.layout.Layout.{Layout}
+use Rattle.table_words.specs.declared.spot.Spot.{Spot}
+use Rattle.table_words.specs.declared.spot.Spot.TheVariants.{Cell, LogWord}
+use Rattle.table_words.specs.declared.access.Access.{Access}
+use Rattle.table_words.specs.declared.access.Access.TheVariants.{Loads, Exchanges}
+use Rattle.table_words.specs.Limits.{IsWithinLimits}
+use Rattle.structure_laws.specs.Meaning.{Meaning}
+use Rattle.structure_laws.specs.Laws.{Laws}
+use Rattle.runner_parts.specs.declared.event.EventKind.TheVariants as kinds
+use Rattle.runner_parts.specs.State.{RunState}
+use Rattle.runner_steps.specs.Sections.{line_of, next_of}
+use Rattle.runner_steps.specs.AfterInRun.{goes_on, agrees}
+use Rattle.machine_states.proofs.Sights.{if_some}
+use Rattle.machine_states.proofs.Steps.{some_same}
+use Rattle.machine_invariant.specs.After.{AreAllowed}
+use Rattle.version_words.specs.RunnerState.{RunnerState}
+use Rattle.version_words.specs.TableState.{TableState, IsOf}
+use Rattle.version_words.specs.Events.{met_by, Makes, Leaves}
+use Rattle.version_words.specs.Place.{next_log, held_by_run}
+use Rattle.version_words.proofs.Inside.{few_descriptors}
+use Rattle.commit_log.specs.Runs.{IsRunning, Stepped}
+use Rattle.commit_log.proofs.Running.{may_make, asked_there, goes_behind, then_made}
+use Rattle.commit_log.proofs.Next.{next_here, settled_at, settled_next}
+use Rattle.nested_lock.specs.Answers.{second_outcome, outcome_at}
+use Rattle.nested_lock.specs.Taken.{MayHold, HasHeld}
+use Rattle.nested_lock.proofs.Reading.{log_of, stands}
+
+both : (a b c d : ℕ) → (nat_lt a b && nat_lt c d) ≡ true → (a < b) × (c < d)
+both a b c d e = (grind (arith, nat_tests, e), grind (arith, nat_tests, e))
+
+module _ {T : Type 0} (m : Meaning) (laws : Laws m) (t : TableState T) (limits : IsWithinLimits t.layout) (allowed : AreAllowed t.requests) (r : RunnerState T) (own : IsOf t r) (place expected : ℕ) (q : RunState) (may : MayHold m r place expected q) where
+  abbrev log : ℕ
+  log = log_of m place expected 3 q may.next + 1
+
+  ahead : next_of m q ≡ NestedHold place expected
+  ahead = next_here m q (NestedHold place expected) (stands m place expected 3 q may.next 3 q.at (omega arith) may.next.at) refl
+
+  pub may_hold : met_by m r kinds.NestedHold ≡ Some (Cell place, Exchanges expected (held_by_run r.part.run expected))
+  may_hold = may_make m laws t limits allowed r own q may.running (NestedHold place expected) ahead refl
+      ∙ ap (λ (o : Option RunState). Some (Cell place, Exchanges expected (held_by_run o expected))) (sym may.running.inside.running)
+
+  rooms : (q.descriptor < descriptor_count r.layout) × (version_of expected < r.layout.version_max)
+  rooms = both q.descriptor (descriptor_count r.layout) (version_of expected) r.layout.version_max
+      (if_some _ _ _ (asked_there m laws t limits allowed r own q may.running (NestedHold place expected) ahead refl)).0
+
+  pub few_versions : version_of expected < 2 ^ 32 - 1
+  few_versions = let a = rooms.1 in let b = limits.few_versions in let c = ap (λ (l : Layout). l.version_max) own.layout in omega (arith, a, b, c)
+
+  pub few_held : q.descriptor < 2 ^ 32 - 1
+  few_held = let a = rooms.0 in let b = few_descriptors t.layout limits in let c = ap descriptor_count own.layout in omega (arith, a, b, c)
+
+  pub holds : (found : ℕ) (r' : RunnerState T) → Makes m kinds.NestedHold found r r' → Stepped m q (NestedHold place expected) found r r'
+  holds found r' made = then_made m laws t limits allowed r own q may.running (NestedHold place expected) ahead refl found r' made
+
+  -- behind the exchange the lock is loaded again
+  abbrev held : RunState
+  held = goes_on m r.layout q q.word
+
+  load_there : micro_at (line_of m q) (q.at + 1) ≡ OutcomeLoad place log
+  load_there = stands m place expected 3 q may.next 4 (q.at + 1) (omega arith) (let e = may.next.at in omega (arith, e))
+
+  load_ahead : next_of m held ≡ OutcomeLoad place log
+  load_ahead = settled_next m r.layout (record q { at = q.at + 1; word = q.word }) (OutcomeLoad place log) load_there refl
+
+  held_at : held.at ≡ q.at + 1
+  held_at = ap (λ (p : RunState). p.at) (settled_at m r.layout (record q { at = q.at + 1; word = q.word }) (OutcomeLoad place log) load_there refl)
+
+  module _ (found : ℕ) (r2 : RunnerState T) (own2 : IsOf t r2) (hold : Stepped m q (NestedHold place expected) found r r2) where
+    running2 : IsRunning m r2 held
+    running2 = hold.goes_on held hold.behind.run
+
+    same2 : r2.layout ≡ r.layout
+    same2 = ap (λ (y : RunnerState T). y.layout) hold.event.made
+
+    pub may_look : met_by m r2 kinds.OutcomeLoad ≡ Some (Cell place, Loads)
+    may_look = may_make m laws t limits allowed r2 own2 held running2 (OutcomeLoad place log) load_ahead refl
+
+    pub looks : (loaded : ℕ) (r3 : RunnerState T) → Makes m kinds.OutcomeLoad loaded r2 r3 → Stepped m held (OutcomeLoad place log) loaded r2 r3
+    looks loaded r3 made = then_made m laws t limits allowed r2 own2 held running2 (OutcomeLoad place log) load_ahead refl loaded r3 made
+
+    module _ (loaded : ℕ) (r3 : RunnerState T) (own3 : IsOf t r3) (look : Stepped m held (OutcomeLoad place log) loaded r2 r3) where
+      abbrev looked : RunState
+      looked = goes_on m r.layout held loaded
+
+      running3 : IsRunning m r3 looked
+      running3 = look.goes_on looked (look.behind.run ∙ ap (λ (l : Layout). Some (goes_on m l held loaded)) same2)
+
+      same3 : r3.layout ≡ r.layout
+      same3 = ap (λ (y : RunnerState T). y.layout) look.event.made ∙ same2
+
+      commit_ahead : next_of m looked ≡ OutcomeCommit place log
+      commit_ahead = settled_next m r.layout (record held { at = held.at + 1; word = loaded }) (OutcomeCommit place log)
+          (stands m place expected 3 q may.next 5 (held.at + 1) (omega arith) (let e = may.next.at in let f = held_at in omega (arith, e, f))) refl
+
+      pub may_agree : met_by m r3 kinds.OutcomeCommit ≡ Some (next_log r3.part.run, Exchanges 0 loaded)
+      may_agree = may_make m laws t limits allowed r3 own3 looked running3 (OutcomeCommit place log) commit_ahead refl
+          ∙ (ap (λ k. Some (LogWord looked.descriptor k, Exchanges 0 loaded)) (goes_behind m laws t limits allowed r3 own3 looked running3 (OutcomeCommit place log) commit_ahead log refl)
+          ∙ ap (λ (o : Option RunState). Some (next_log o, Exchanges 0 loaded)) (sym running3.inside.running))
+
+      pub commits : (r4 : RunnerState T) (other : ℕ) → Makes m kinds.OutcomeCommit other r3 r4 → Stepped m looked (OutcomeCommit place log) other r3 r4
+      commits r4 other made = then_made m laws t limits allowed r3 own3 looked running3 (OutcomeCommit place log) commit_ahead refl other r4 made
+
+      pub then_held : (read : ℕ) (r4 : RunnerState T) (made : Leaves m kinds.OutcomeCommit read r3 r4) (answer : Result (Unit {0}) Refused)
+          → Stepped m looked (OutcomeCommit place log) made.found r3 r4
+          → second_outcome r.layout.version_max q.descriptor place expected read ≡ outcome_at place answer → HasHeld m place expected answer r r4 q
+      then_held read r4 made answer commit told =
+          let met = some_same made.event.met (next_log r3.part.run, Exchanges 0 loaded) (sym made.event.asked ∙ may_agree) in
+          let agreed : read ≡ written_once made.found loaded = made.told ∙ ap (λ (x : Spot × Access). written x.1 made.found) met in
+          record {
+            log = log;
+            held = found;
+            loaded = loaded;
+            found = made.found;
+            read = read;
+            holding = r2;
+            looking = r3;
+            hold = hold;
+            load = look;
+            commit = commit;
+            agreed = agreed;
+            told = told;
+            goes_on = commit.goes_on (agrees m r.layout looked read) (commit.behind.run
+                ∙ (ap (λ (l : Layout). Some (agrees m l looked (written_once made.found loaded))) same3 ∙ ap (λ n. Some (agrees m r.layout looked n)) (sym agreed)));
+          }

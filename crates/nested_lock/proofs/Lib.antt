@@ -1,0 +1,4 @@
+mod Reading
+mod Holding
+mod Dropping
+mod Halves

@@ -1,0 +1,173 @@
+use Rattle.std.proofs.Common.{inl, inr, refl, arith, ap, sym, subst, ◌∙◌}
+use Rattle.table_words.specs.declared.layout.Layout.{Layout}
+use Rattle.runner_parts.specs.State.{RunState}
+use Rattle.runner_steps.specs.AfterInRun.{goes_on, agrees}
+use Rattle.commit_log.specs.Committed.{MayCommit}
+use Rattle.commit_log.proofs.Asked.{asked_more}
+use Rattle.commit_log.proofs.Halting.{halted_first, halted_more}
+use Rattle.commit_log.proofs.Running.{one_run, ran_one, ran_more}
+use Rattle.nested_lock.specs.Answers.{first_outcome}
+use Rattle.nested_lock.specs.Taken.{HasTaken}
+use Rattle.nested_lock.proofs.Reading.{may_load, loads, commit_next, has_read, hold_next}
+use Rattle.nested_lock.proofs.Halves.{ok_none, of_some, of_none, read_ran, held_ran}
+use Rattle.nested_lock.proofs.takes.take_gated.Goals as goal
+
+pub nested_load-runner-requires-clause-next : goal.nested_load-runner-requires-clause-next
+nested_load-runner-requires-clause-next g c κs within =
+    let met = g.met.S.Structure g.world.𝓛 g.world.𝓜 g.world.𝓡 ((λ s allowed. allowed), (λ patient. patient), (λ alone. alone), (λ cuts. cuts)) in
+    let m = g.S.Structure.meaning c.args.table.now.structure in
+    let laws = met.laws c.args.table.now.structure in
+    let may = c.requires.next.1 in
+    may_load m laws c.args.table.now c.table_is_allowed.ensures.limits c.table_is_allowed.ensures.requests _ c.requires.own _ _ _ may
+
+pub returns-then-not-passes-clause-halted : goal.returns-then-not-passes-clause-halted
+returns-then-not-passes-clause-halted g c =
+    let met = g.met.S.Structure g.world.𝓛 g.world.𝓜 g.world.𝓡 ((λ s allowed. allowed), (λ patient. patient), (λ alone. alone), (λ cuts. cuts)) in
+    let m = g.S.Structure.meaning c.args.table.now.structure in
+    let laws = met.laws c.args.table.now.structure in
+    let may = c.requires.next.1 in
+    let load = loads m laws c.args.table.now c.table_is_allowed.ensures.limits c.table_is_allowed.ensures.requests _ c.requires.own _ _ _ may _ _ c.nested_load-runner.ensures.event in
+    halted_first _ _ _ _ _ _ _ _ _ _ _ _ _ load c.if-not-passes.ensures (omega arith)
+
+pub commit-runner-requires-clause-next : goal.commit-runner-requires-clause-next
+commit-runner-requires-clause-next g c κs within =
+    let met = g.met.S.Structure g.world.𝓛 g.world.𝓜 g.world.𝓡 ((λ s allowed. allowed), (λ patient. patient), (λ alone. alone), (λ cuts. cuts)) in
+    let m = g.S.Structure.meaning c.args.table.now.structure in
+    let laws = met.laws c.args.table.now.structure in
+    let may = c.requires.next.1 in
+    let load = loads m laws c.args.table.now c.table_is_allowed.ensures.limits c.table_is_allowed.ensures.requests _ c.requires.own _ _ _ may _ _ c.nested_load-runner.ensures.event in (
+      goes_on m c.args.runner.layout c.requires.next.0 c.nested_load-runner.result.1,
+      subst (λ n. MayCommit m c.nested_load-runner.result.0 n (goes_on m c.args.runner.layout c.requires.next.0 c.nested_load-runner.result.1)) (sym c.bits.ensures.number)
+          (commit_next m laws c.args.table.now c.table_is_allowed.ensures.limits c.table_is_allowed.ensures.requests _ c.requires.own _ _ _ may _ _ c.nested_load-runner.ensures.own load),
+    )
+
+pub returns-then-not-passes-2-clause-halted : goal.returns-then-not-passes-2-clause-halted
+returns-then-not-passes-2-clause-halted g c =
+    let met = g.met.S.Structure g.world.𝓛 g.world.𝓜 g.world.𝓡 ((λ s allowed. allowed), (λ patient. patient), (λ alone. alone), (λ cuts. cuts)) in
+    let m = g.S.Structure.meaning c.args.table.now.structure in
+    let laws = met.laws c.args.table.now.structure in
+    let may = c.requires.next.1 in
+    let load = loads m laws c.args.table.now c.table_is_allowed.ensures.limits c.table_is_allowed.ensures.requests _ c.requires.own _ _ _ may _ _ c.nested_load-runner.ensures.event in
+    let next = commit_next m laws c.args.table.now c.table_is_allowed.ensures.limits c.table_is_allowed.ensures.requests _ c.requires.own _ _ _ may _ _ c.nested_load-runner.ensures.own load in
+    let commit = c.commit-runner.ensures.commits _ next.running in
+    halted_more _ _ 1 1 _ _ _ _ _ _ _ _ _ _ _ _ (ran_one _ _ _ _ _ _ load) c.if-not-passes.ensures
+    (halted_first _ _ _ _ _ _ _ _ _ _ _ _ _ commit.step c.if-not-passes-2.ensures (omega arith)) (omega arith)
+
+pub returns-then-is_err-clause-taken : goal.returns-then-is_err-clause-taken
+returns-then-is_err-clause-taken g c = λ q is.
+    let met = g.met.S.Structure g.world.𝓛 g.world.𝓜 g.world.𝓡 ((λ s allowed. allowed), (λ patient. patient), (λ alone. alone), (λ cuts. cuts)) in
+    let m = g.S.Structure.meaning c.args.table.now.structure in
+    let laws = met.laws c.args.table.now.structure in
+    let may = c.requires.next.1 in
+    let load = loads m laws c.args.table.now c.table_is_allowed.ensures.limits c.table_is_allowed.ensures.requests _ c.requires.own _ _ _ may _ _ c.nested_load-runner.ensures.event in
+    let next = commit_next m laws c.args.table.now c.table_is_allowed.ensures.limits c.table_is_allowed.ensures.requests _ c.requires.own _ _ _ may _ _ c.nested_load-runner.ensures.own load in
+    let commit = c.commit-runner.ensures.commits _ next.running in
+    let reads = has_read m laws c.args.table.now c.table_is_allowed.ensures.limits c.table_is_allowed.ensures.requests _ c.requires.own _ _ _ may _ _ c.nested_load-runner.ensures.own load _ _ _ commit in
+    let first = (λ i. first_outcome ((ap (λ (l : Layout). l.version_max) (c.requires.own.layout ∙ sym c.layout.ensures)) i) c.args.place c.args.expected (sym c.from_bits.ensures i))
+    ∙ c.first_answer-first.ensures c.args.place in
+    subst (λ (p : RunState). HasTaken m c.args.place c.args.expected c.first_answer-first.result c.args.runner c.commit-runner.result.0 p) (one_run m _ _ _ may.running is) (record {
+      read = c.commit-runner.result.1;
+      behind = (agrees m c.args.runner.layout (goes_on m c.args.runner.layout c.requires.next.0 c.nested_load-runner.result.1) c.commit-runner.result.1);
+      between = c.commit-runner.result.0;
+      reads = reads;
+      ends = inl (record { told = first; refused = sym c.is_err.ensures.value ∙ c.if-is_err.true; same = refl });
+    })
+
+pub returns-then-is_err-clause-asked : goal.returns-then-is_err-clause-asked
+returns-then-is_err-clause-asked g c =
+    let met = g.met.S.Structure g.world.𝓛 g.world.𝓜 g.world.𝓡 ((λ s allowed. allowed), (λ patient. patient), (λ alone. alone), (λ cuts. cuts)) in
+    let m = g.S.Structure.meaning c.args.table.now.structure in
+    let laws = met.laws c.args.table.now.structure in
+    let may = c.requires.next.1 in
+    let load = loads m laws c.args.table.now c.table_is_allowed.ensures.limits c.table_is_allowed.ensures.requests _ c.requires.own _ _ _ may _ _ c.nested_load-runner.ensures.event in
+    let next = commit_next m laws c.args.table.now c.table_is_allowed.ensures.limits c.table_is_allowed.ensures.requests _ c.requires.own _ _ _ may _ _ c.nested_load-runner.ensures.own load in
+    let commit = c.commit-runner.ensures.commits _ next.running in
+    let reads = has_read m laws c.args.table.now c.table_is_allowed.ensures.limits c.table_is_allowed.ensures.requests _ c.requires.own _ _ _ may _ _ c.nested_load-runner.ensures.own load _ _ _ commit in
+    record {
+      made = 2;
+      few = omega arith;
+      ran = read_ran m c.args.place c.args.runner c.commit-runner.result.0 c.requires.next.0 _ _ reads;
+      asked = asked_more 1 1 _ _ _ _ _ _ _ _ _ _ c.if-not-passes.ensures c.if-not-passes-2.ensures;
+    }
+
+pub hold_gated-requires-clause-next : goal.hold_gated-requires-clause-next
+hold_gated-requires-clause-next g c κs within =
+    let met = g.met.S.Structure g.world.𝓛 g.world.𝓜 g.world.𝓡 ((λ s allowed. allowed), (λ patient. patient), (λ alone. alone), (λ cuts. cuts)) in
+    let m = g.S.Structure.meaning c.args.table.now.structure in
+    let laws = met.laws c.args.table.now.structure in
+    let may = c.requires.next.1 in
+    let load = loads m laws c.args.table.now c.table_is_allowed.ensures.limits c.table_is_allowed.ensures.requests _ c.requires.own _ _ _ may _ _ c.nested_load-runner.ensures.event in
+    let next = commit_next m laws c.args.table.now c.table_is_allowed.ensures.limits c.table_is_allowed.ensures.requests _ c.requires.own _ _ _ may _ _ c.nested_load-runner.ensures.own load in
+    let commit = c.commit-runner.ensures.commits _ next.running in
+    let first = (λ i. first_outcome ((ap (λ (l : Layout). l.version_max) (c.requires.own.layout ∙ sym c.layout.ensures)) i) c.args.place c.args.expected (sym c.from_bits.ensures i))
+    ∙ c.first_answer-first.ensures c.args.place in
+    let none = first ∙ ok_none c.args.place c.first_answer-first.result (sym c.is_err.ensures.value ∙ c.if-is_err.false) in (
+      (agrees m c.args.runner.layout (goes_on m c.args.runner.layout c.requires.next.0 c.nested_load-runner.result.1) c.commit-runner.result.1),
+      hold_next m laws c.args.table.now c.table_is_allowed.ensures.limits c.table_is_allowed.ensures.requests _ c.requires.own _ _ _ may _ _ c.nested_load-runner.ensures.own load _ _ _ commit none,
+    )
+
+pub hold_gated-requires-clause-section : goal.hold_gated-requires-clause-section
+hold_gated-requires-clause-section g c κs within = λ p is.
+    let met = g.met.S.Structure g.world.𝓛 g.world.𝓜 g.world.𝓡 ((λ s allowed. allowed), (λ patient. patient), (λ alone. alone), (λ cuts. cuts)) in
+    let m = g.S.Structure.meaning c.args.table.now.structure in
+    let laws = met.laws c.args.table.now.structure in
+    let may = c.requires.next.1 in
+    let load = loads m laws c.args.table.now c.table_is_allowed.ensures.limits c.table_is_allowed.ensures.requests _ c.requires.own _ _ _ may _ _ c.nested_load-runner.ensures.event in
+    let next = commit_next m laws c.args.table.now c.table_is_allowed.ensures.limits c.table_is_allowed.ensures.requests _ c.requires.own _ _ _ may _ _ c.nested_load-runner.ensures.own load in
+    let commit = c.commit-runner.ensures.commits _ next.running in
+    let reads = has_read m laws c.args.table.now c.table_is_allowed.ensures.limits c.table_is_allowed.ensures.requests _ c.requires.own _ _ _ may _ _ c.nested_load-runner.ensures.own load _ _ _ commit in
+    c.requires.section _ may.running ∙ ap (λ (x : RunState). x.descriptor) (one_run m c.commit-runner.result.0 _ p reads.goes_on is)
+
+pub returns-clause-taken : goal.returns-clause-taken
+returns-clause-taken g c =
+    let met = g.met.S.Structure g.world.𝓛 g.world.𝓜 g.world.𝓡 ((λ s allowed. allowed), (λ patient. patient), (λ alone. alone), (λ cuts. cuts)) in
+    let m = g.S.Structure.meaning c.args.table.now.structure in
+    let laws = met.laws c.args.table.now.structure in
+    let may = c.requires.next.1 in
+    let load = loads m laws c.args.table.now c.table_is_allowed.ensures.limits c.table_is_allowed.ensures.requests _ c.requires.own _ _ _ may _ _ c.nested_load-runner.ensures.event in
+    let next = commit_next m laws c.args.table.now c.table_is_allowed.ensures.limits c.table_is_allowed.ensures.requests _ c.requires.own _ _ _ may _ _ c.nested_load-runner.ensures.own load in
+    let commit = c.commit-runner.ensures.commits _ next.running in
+    let reads = has_read m laws c.args.table.now c.table_is_allowed.ensures.limits c.table_is_allowed.ensures.requests _ c.requires.own _ _ _ may _ _ c.nested_load-runner.ensures.own load _ _ _ commit in
+    let first = (λ i. first_outcome ((ap (λ (l : Layout). l.version_max) (c.requires.own.layout ∙ sym c.layout.ensures)) i) c.args.place c.args.expected (sym c.from_bits.ensures i))
+    ∙ c.first_answer-first.ensures c.args.place in
+    let none = first ∙ ok_none c.args.place c.first_answer-first.result (sym c.is_err.ensures.value ∙ c.if-is_err.false) in
+    of_some _ _ _ c.hold_gated.result.1 c.hold_gated.ensures.held c.hold_gated.ensures.held (λ answer held same q is.
+    subst (λ (p : RunState). HasTaken m c.args.place c.args.expected answer c.args.runner c.hold_gated.result.0 p) (one_run m _ _ _ may.running is) (record {
+      read = c.commit-runner.result.1;
+      behind = (agrees m c.args.runner.layout (goes_on m c.args.runner.layout c.requires.next.0 c.nested_load-runner.result.1) c.commit-runner.result.1);
+      between = c.commit-runner.result.0;
+      reads = reads;
+      ends = inr (record { told = none; held = held (agrees m c.args.runner.layout (goes_on m c.args.runner.layout c.requires.next.0 c.nested_load-runner.result.1) c.commit-runner.result.1) reads.goes_on });
+    }))
+
+pub returns-clause-asked : goal.returns-clause-asked
+returns-clause-asked g c =
+    let met = g.met.S.Structure g.world.𝓛 g.world.𝓜 g.world.𝓡 ((λ s allowed. allowed), (λ patient. patient), (λ alone. alone), (λ cuts. cuts)) in
+    let m = g.S.Structure.meaning c.args.table.now.structure in
+    let laws = met.laws c.args.table.now.structure in
+    let may = c.requires.next.1 in
+    let load = loads m laws c.args.table.now c.table_is_allowed.ensures.limits c.table_is_allowed.ensures.requests _ c.requires.own _ _ _ may _ _ c.nested_load-runner.ensures.event in
+    let next = commit_next m laws c.args.table.now c.table_is_allowed.ensures.limits c.table_is_allowed.ensures.requests _ c.requires.own _ _ _ may _ _ c.nested_load-runner.ensures.own load in
+    let commit = c.commit-runner.ensures.commits _ next.running in
+    let reads = has_read m laws c.args.table.now c.table_is_allowed.ensures.limits c.table_is_allowed.ensures.requests _ c.requires.own _ _ _ may _ _ c.nested_load-runner.ensures.own load _ _ _ commit in
+    of_some _ _ _ c.hold_gated.result.1 c.hold_gated.ensures.held c.hold_gated.ensures.asked (λ answer held asked. record {
+      made = 5;
+      few = omega arith;
+      ran = ran_more m 2 3 _ _ _ (read_ran m c.args.place c.args.runner c.commit-runner.result.0 c.requires.next.0 _ _ reads)
+          (held_ran m c.args.place c.commit-runner.result.0 c.hold_gated.result.0 (agrees m c.args.runner.layout (goes_on m c.args.runner.layout c.requires.next.0 c.nested_load-runner.result.1) c.commit-runner.result.1) c.args.expected answer (held (agrees m c.args.runner.layout (goes_on m c.args.runner.layout c.requires.next.0 c.nested_load-runner.result.1) c.commit-runner.result.1) reads.goes_on));
+      asked = asked_more 2 3 _ _ _ _ _ _ _ _ _ _ (asked_more 1 1 _ _ _ _ _ _ _ _ _ _ c.if-not-passes.ensures c.if-not-passes-2.ensures) asked;
+    })
+
+pub returns-clause-halted : goal.returns-clause-halted
+returns-clause-halted g c =
+    let met = g.met.S.Structure g.world.𝓛 g.world.𝓜 g.world.𝓡 ((λ s allowed. allowed), (λ patient. patient), (λ alone. alone), (λ cuts. cuts)) in
+    let m = g.S.Structure.meaning c.args.table.now.structure in
+    let laws = met.laws c.args.table.now.structure in
+    let may = c.requires.next.1 in
+    let load = loads m laws c.args.table.now c.table_is_allowed.ensures.limits c.table_is_allowed.ensures.requests _ c.requires.own _ _ _ may _ _ c.nested_load-runner.ensures.event in
+    let next = commit_next m laws c.args.table.now c.table_is_allowed.ensures.limits c.table_is_allowed.ensures.requests _ c.requires.own _ _ _ may _ _ c.nested_load-runner.ensures.own load in
+    let commit = c.commit-runner.ensures.commits _ next.running in
+    let reads = has_read m laws c.args.table.now c.table_is_allowed.ensures.limits c.table_is_allowed.ensures.requests _ c.requires.own _ _ _ may _ _ c.nested_load-runner.ensures.own load _ _ _ commit in
+    of_none _ _ c.hold_gated.result.1 c.hold_gated.ensures.halted (λ halted.
+    halted_more _ _ 2 3 _ _ _ _ _ _ _ _ _ _ _ _ (read_ran m c.args.place c.args.runner c.commit-runner.result.0 c.requires.next.0 _ _ reads)
+    (asked_more 1 1 _ _ _ _ _ _ _ _ _ _ c.if-not-passes.ensures c.if-not-passes-2.ensures) halted (omega arith))

@@ -1,0 +1,81 @@
+-- Takes of further locks in a run.
+use Rattle.std.specs.Prelude.{◌≡◌, ℕ, ◌+◌, ◌⊎◌, Bool, true, Result, is_err, None}
+use Rattle.section_body.specs.declared.outcome.Refused.{Refused}
+use Rattle.section_body.specs.declared.step.Step.TheVariants.{Take}
+use Rattle.section_body.specs.declared.micro.Micro.TheVariants.{NestedLoad, NestedHold, OutcomeLoad, OutcomeCommit}
+use Rattle.section_body.specs.Line.{begins}
+use Rattle.section_body.specs.Run.{written_once}
+use Rattle.section_body.specs.Shape.{IsStep}
+use Rattle.structure_laws.specs.Meaning.{Meaning}
+use Rattle.runner_parts.specs.State.{RunState}
+use Rattle.runner_steps.specs.Sections.{thunk_of}
+use Rattle.runner_steps.specs.AfterInRun.{goes_on, agrees}
+use Rattle.version_words.specs.RunnerState.{RunnerState}
+use Rattle.commit_log.specs.Runs.{IsRunning, Stepped}
+use Rattle.commit_log.specs.Committed.{HasCommitted}
+use Rattle.nested_lock.specs.Answers.{first_outcome, second_outcome, outcome_at}
+
+-- this run stands so many atomic steps into a Take of this lock, with this word
+pub record IsInTake (m : Meaning) (place expected past : ℕ) (q : RunState) : Type 0 where
+  pub step : ℕ
+  pub takes : IsStep (m.body (thunk_of q.opened)) step (Take place expected)
+  pub at : q.at ≡ begins (m.body (thunk_of q.opened)) step + past
+
+module _ {T : Type 0} (m : Meaning) where
+  -- the next step of this run takes this lock, with this word
+  pub record MayTake (r : RunnerState T) (place expected : ℕ) (q : RunState) : Type 0 where
+    pub running : IsRunning m r q
+    pub next : IsInTake m place expected 0 q
+
+  -- the run went on behind the first agreed word
+  pub record MayHold (r : RunnerState T) (place expected : ℕ) (q : RunState) : Type 0 where
+    pub running : IsRunning m r q
+    pub next : IsInTake m place expected 3 q
+
+  -- one exchange was made from the expected word to the one that names the section, and what the lock held then was agreed on. By that
+  -- word the answer is given
+  pub record HasHeld (place expected : ℕ) (answer : Result (Unit {0}) Refused) (old new : RunnerState T) (q : RunState) : Type 0 where
+    pub log : ℕ
+    pub held : ℕ
+    pub loaded : ℕ
+    pub found : ℕ
+    pub read : ℕ
+    pub holding : RunnerState T
+    pub looking : RunnerState T
+    pub hold : Stepped m q (NestedHold place expected) held old holding
+    pub load : Stepped m (goes_on m old.layout q q.word) (OutcomeLoad place log) loaded holding looking
+    pub commit : Stepped m (goes_on m old.layout (goes_on m old.layout q q.word) loaded) (OutcomeCommit place log) found looking new
+    pub agreed : read ≡ written_once found loaded
+    pub told : second_outcome old.layout.version_max q.descriptor place expected read ≡ outcome_at place answer
+    pub goes_on : IsRunning m new (agrees m old.layout (goes_on m old.layout (goes_on m old.layout q q.word) loaded) read)
+
+  -- the lock's word was loaded and agreed on
+  pub record HasRead (place read : ℕ) (old new : RunnerState T) (q q' : RunState) : Type 0 where
+    pub log : ℕ
+    pub loaded : ℕ
+    pub first : Bool
+    pub middle : RunnerState T
+    pub load : Stepped m q (NestedLoad place log) loaded old middle
+    pub commit : HasCommitted m read first middle new (goes_on m old.layout q loaded)
+    pub after : q' ≡ agrees m old.layout (goes_on m old.layout q loaded) read
+    pub goes_on : IsRunning m new q'
+
+  -- by the first agreed word the Take was refused
+  pub record IsRefused (version_max place expected read : ℕ) (answer : Result (Unit {0}) Refused) (old new : RunnerState T) : Type 0 where
+    pub told : first_outcome version_max place expected read ≡ outcome_at place answer
+    pub refused : is_err answer ≡ true
+    pub same : new ≡ old
+
+  -- or the lock could be taken with it, and the answer is given by the second one
+  pub record IsTried (version_max place expected read : ℕ) (answer : Result (Unit {0}) Refused) (old new : RunnerState T) (q : RunState) : Type 0 where
+    pub told : first_outcome version_max place expected read ≡ None
+    pub held : HasHeld place expected answer old new q
+
+  -- a Take that gave this answer
+  pub record HasTaken (place expected : ℕ) (answer : Result (Unit {0}) Refused) (old new : RunnerState T) (q : RunState) : Type 0 where
+    pub read : ℕ
+    pub behind : RunState
+    pub between : RunnerState T
+    pub reads : HasRead place read old between q behind
+    pub ends : IsRefused old.layout.version_max place expected read answer between new
+        ⊎ IsTried old.layout.version_max place expected read answer between new behind

@@ -1,0 +1,51 @@
+//! How a Take ends, by an agreed word.
+ghost use Rattle.std.specs.Prelude.{◌≡◌, ◌<◌, ◌^◌, ◌+◌, ◌-◌, ℕ, Some};
+ghost use Rattle.section_body.specs.Word.{version_of};
+ghost use Rattle.nested_lock.specs.Answers.{refused_by, first_outcome, second_outcome, outcome_at, outcome_by};
+
+use section_body::{Refused, Word};
+
+/// Why a Take can't go on with this word.
+fn refused(version_max: u32, expected: Word, read: Word) -> Refused
+    requires { 2 < version_max }
+    ensures { (place : ℕ) → refused_by version_max place expected read ≡ outcome_by place result }
+{
+    if read.value() != 0 {
+        Refused::Busy(read)
+    } else if version_max - 2 < read.version() {
+        Refused::Spent(read)
+    } else {
+        Refused::Stale { expected, read }
+    }
+}
+
+/// What the word says that was agreed on before the lock is taken: Ok where it is the expected one, free and not spent.
+pub fn first_answer(version_max: u32, expected: Word, read: Word) -> Result<(), Refused>
+    requires { 2 < version_max }
+    ensures { (place : ℕ) → first_outcome version_max place expected read ≡ outcome_at place result }
+{
+    if read == expected && read.value() == 0 && read.version() <= version_max - 2 {
+        Ok(())
+    } else {
+        Err(refused(version_max, expected, read))
+    }
+}
+
+/// What the word says that was agreed on after the exchange: Ok where it names the section.
+pub fn second_answer(
+    version_max: u32,
+    descriptor: u32,
+    expected: Word,
+    read: Word,
+) -> Result<(), Refused>
+    requires some { 2 < version_max }
+    requires descriptor { descriptor < 2 ^ 32 - 1 }
+    requires version { version_of expected < 2 ^ 32 - 1 }
+    ensures { (place : ℕ) → second_outcome version_max descriptor place expected read ≡ outcome_at place result }
+{
+    if read == Word::pack(descriptor + 1, expected.version() + 1) {
+        Ok(())
+    } else {
+        Err(refused(version_max, expected, read))
+    }
+}

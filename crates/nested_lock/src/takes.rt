@@ -1,0 +1,95 @@
+//! The Take of a further lock.
+ghost use Rattle.std.specs.Prelude.{◌≡◌, IfSome, IfNone, true};
+ghost use Rattle.runner_parts.specs.State.{RunState};
+ghost use Rattle.version_words.specs.TableState.{IsOf};
+ghost use Rattle.commit_log.specs.Runs.{IsRunning};
+ghost use Rattle.commit_log.specs.Asked.{IsAsked};
+ghost use Rattle.commit_log.specs.Halted.{IsHalted, IsThrough};
+ghost use Rattle.nested_lock.specs.Taken.{MayTake, MayHold, HasTaken, HasHeld};
+
+use crate::answers::{first_answer, second_answer};
+use commit_log::{commit, passes};
+use runner_parts::Structure;
+use section_body::{Gate, Place, Refused, StepKind, Steps, Word};
+use version_words::{FlockTable, Runner, table_is_allowed};
+
+/// Takes a further lock for the section of this descriptor, with the free word that the lock is expected to hold. The lock's word is loaded and
+/// agreed on. Where the agreed word names a descriptor the answer is Busy; where it is free and has no version left to be taken and
+/// released, Spent; where it isn't the expected one, Stale. Otherwise one exchange from the expected word to the one that names this section
+/// is made, and the lock's word is loaded and agreed on again. The answer is Ok exactly where this second agreed word is the one that
+/// names this section; else it is Busy, Spent or Stale by that word, in this order.
+///
+/// The runner has to be in a run of that section, whose next step takes this lock with this word. Each refusal carries the agreed word; two
+/// steps were made for a refusal by the first word, else five. Each step is counted, and the gate is asked after it: None where it
+/// halted the runner. No memory is taken (Ben-David, Blelloch, Wei, 2022).
+pub fn take_gated<S: Structure, G: Gate, L>(
+    table: &FlockTable<S>,
+    runner: Runner<S>,
+    descriptor: u32,
+    place: Place,
+    expected: Word,
+    gate: &mut G,
+    steps: &mut Steps<L>,
+) -> (Runner<S>, Option<Result<(), Refused>>)
+    requires own { IsOf table.now runner }
+    requires next { (q : RunState) × MayTake (S.meaning table.now.structure) runner place expected q }
+    requires section { (q : RunState) → IsRunning (S.meaning table.now.structure) runner q → descriptor ≡ q.descriptor }
+    ensures own { IsOf table.now result.0 }
+    ensures taken { IfSome result.1 (λ answer. (q : RunState) → IsRunning (S.meaning table.now.structure) runner q → HasTaken (S.meaning table.now.structure) place expected answer runner result.0 q) }
+    ensures asked { IfSome result.1 (λ answer. IsThrough (S.meaning table.now.structure) 5 runner result.0 (G.halts gate.old) (G.halts gate.new) (G.asks gate.old) (G.asks gate.new) steps.old.count steps.new.count) }
+    ensures halted { IfNone result.1 (IsHalted (S.meaning table.now.structure) 5 runner result.0 (G.halts gate.old) (G.halts gate.new) (G.asks gate.old) (G.asks gate.new) steps.old.count steps.new.count) }
+{
+    table_is_allowed(table);
+    let (runner, word) = table.nested_load(runner, place);
+    if !passes(gate, steps, StepKind::NestedLoad) {
+        return (runner, None);
+    }
+    let (runner, agreed, _) = commit(table, runner, word.bits());
+    if !passes(gate, steps, StepKind::Commit) {
+        return (runner, None);
+    }
+    let first = first_answer(
+        table.layout().version_max,
+        expected,
+        Word::from_bits(agreed),
+    );
+    if first.is_err() {
+        return (runner, Some(first));
+    }
+    hold_gated(table, runner, descriptor, place, expected, gate, steps)
+}
+
+/// The second half of a Take: the exchange that is to take the lock, and the agreement on what it left.
+fn hold_gated<S: Structure, G: Gate, L>(
+    table: &FlockTable<S>,
+    runner: Runner<S>,
+    descriptor: u32,
+    place: Place,
+    expected: Word,
+    gate: &mut G,
+    steps: &mut Steps<L>,
+) -> (Runner<S>, Option<Result<(), Refused>>)
+    requires own { IsOf table.now runner }
+    requires next { (q : RunState) × MayHold (S.meaning table.now.structure) runner place expected q }
+    requires section { (q : RunState) → IsRunning (S.meaning table.now.structure) runner q → descriptor ≡ q.descriptor }
+    ensures own { IsOf table.now result.0 }
+    ensures held { IfSome result.1 (λ answer. (q : RunState) → IsRunning (S.meaning table.now.structure) runner q → HasHeld (S.meaning table.now.structure) place expected answer runner result.0 q) }
+    ensures asked { IfSome result.1 (λ answer. IsAsked 3 true (G.halts gate.old) (G.halts gate.new) (G.asks gate.old) (G.asks gate.new) steps.old.count steps.new.count) }
+    ensures halted { IfNone result.1 (IsHalted (S.meaning table.now.structure) 3 runner result.0 (G.halts gate.old) (G.halts gate.new) (G.asks gate.old) (G.asks gate.new) steps.old.count steps.new.count) }
+{
+    table_is_allowed(table);
+    let runner = table.nested_hold(runner, place, expected);
+    if !passes(gate, steps, StepKind::NestedHold) {
+        return (runner, None);
+    }
+    let (runner, word) = table.outcome_load(runner, place);
+    if !passes(gate, steps, StepKind::OutcomeLoad) {
+        return (runner, None);
+    }
+    let (runner, agreed) = table.outcome_commit(runner, word);
+    if !passes(gate, steps, StepKind::OutcomeCommit) {
+        return (runner, None);
+    }
+    let answer = second_answer(table.layout().version_max, descriptor, expected, agreed);
+    (runner, Some(answer))
+}
