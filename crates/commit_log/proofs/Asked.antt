@@ -1,13 +1,21 @@
 -- Asking on.
-use Rattle.std.proofs.Common.{◌≡◌, ℕ, ◌+◌, ◌-◌, ◌^◌, ◌≤◌, Bool, true, refl, subst, ap, ◌∙◌, arith}
+use Rattle.std.proofs.Common.{◌≡◌, ℕ, zero, suc, min, false, ◌+◌, ◌-◌, ◌^◌, ◌≤◌, Bool, true, refl, subst, ap, ◌∙◌, arith}
 use Rattle.fault_count.specs.Rose.{Rose}
 use Rattle.commit_log.specs.Asked.{counted_on, IsAsked}
 
 pub counted_more : (count n k : ℕ) → counted_on (counted_on count n) k ≡ counted_on count (n + k)
-counted_more count n k = grind (arith)
+counted_more count n zero = let e : n ≡ n + 0 = omega arith in ap (counted_on count) e
+counted_more count n (suc k) = ap (λ c. min (c + 1) (2 ^ 64 - 1)) (counted_more count n k) ∙ (let e : suc (n + k) ≡ n + suc k = omega arith in ap (counted_on count) e)
 
-pub counted_none : (count : ℕ) → count ≤ 2 ^ 64 - 1 → counted_on count 0 ≡ count
-counted_none count few = grind (arith, few)
+-- nothing was counted and nothing asked yet
+pub asked_none : (halts asks steps : ℕ) → IsAsked 0 true halts halts asks asks steps steps
+asked_none halts asks steps = record {
+  counted = refl;
+  asked = refl;
+  never_falls = omega arith;
+  went = λ e. refl;
+  halted = λ e. absurd (let z = e in cc);
+}
 
 -- so many and then more
 pub asked_more : (n k : ℕ) (going : Bool) (halts halts' halts'' asks asks' asks'' steps steps' steps'' : ℕ)
@@ -22,3 +30,7 @@ asked_more n k going halts halts' halts'' asks asks' asks'' steps steps' steps''
       went = λ e. two.went e ∙ same;
       halted = λ e. subst (λ h. Rose h halts'') same (two.halted e);
     }
+
+pub asked_as : (n k : ℕ) → n ≡ k → (going : Bool) (halts halts' asks asks' steps steps' : ℕ) → IsAsked n going halts halts' asks asks' steps steps'
+    → IsAsked k going halts halts' asks asks' steps steps'
+asked_as n k e going halts halts' asks asks' steps steps' is = subst (λ i. IsAsked i going halts halts' asks asks' steps steps') e is

@@ -1,1 +1,3 @@
 mod Retiring
+mod Filling
+mod Making

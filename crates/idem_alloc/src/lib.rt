@@ -5,6 +5,8 @@
 //! Wei, *Lock-free locks revisited*, 2022).
 #![tactic(auto)]
 
+mod makes;
 mod retires;
 
+pub use makes::make_gated;
 pub use retires::{retire, retire_gated};
