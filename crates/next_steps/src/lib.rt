@@ -8,5 +8,5 @@ mod laws;
 
 pub use laws::{
     clocks_are_small, next_steps_are_enabled, numbers_are_the_tables, published_thunks_fit,
-    slots_have_room,
+    runs_may_be_followed, slots_have_room,
 };

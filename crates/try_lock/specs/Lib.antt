@@ -1,0 +1,4 @@
+pub mod Reached
+pub mod Publishes
+pub mod Ends
+pub mod Retires

@@ -1,0 +1,50 @@
+-- A runner outside a run, in a state that the machine reaches, and what it has there.
+use Rattle.std.specs.Prelude.{◌≡◌, ℕ, ◌-◌, ◌≤◌, true, false, length, slice_get, Option, Some}
+use Rattle.section_body.specs.Word.{value_of, is_free, held_word}
+use Rattle.section_body.specs.declared.thunk.Thunk.{Thunk}
+use Rattle.structure_laws.specs.Meaning.{Meaning}
+use Rattle.runner_parts.specs.declared.stage.Stage.TheVariants as stages
+use Rattle.runner_parts.specs.declared.entries.Published.{Published}
+use Rattle.runner_parts.specs.Tests.{has}
+use Rattle.machine_states.specs.World.{World, seat_of}
+use Rattle.machine_states.specs.Reached.{Reached}
+use Rattle.version_words.specs.RunnerState.{RunnerState}
+use Rattle.version_words.specs.Stages.{IsAt}
+use Rattle.try_lock.specs.declared.section.Section.{Section}
+
+module _ {T : Type 0} where
+  -- the machine reaches a state in which the runner has this part
+  pub record IsReached (m : Meaning) (r : RunnerState T) : Type 0 where
+    pub world : World
+    pub reached : Reached m r.layout r.requests world
+    pub own : slice_get world.parts (seat_of r.layout r.number) ≡ Some r.part
+
+  -- the runner published this section with this thunk since it entered, and holds its descriptor
+  pub record IsSectionOf (r : RunnerState T) (t : Thunk) (s : Section) : Type 0 where
+    pub published : Published
+    pub own : r.part.published ≡ Some published
+    pub descriptor : published.descriptor ≡ s.descriptor
+    pub thunk : published.thunk ≡ t
+    pub place : s.place ≡ t.lock
+    pub held : s.held ≡ held_word s.descriptor t.word
+    pub entry : has r.part.reads.published s.descriptor ≡ true
+    pub holds : has r.part.reads.held s.descriptor ≡ true
+
+  -- the runner may run the section that it published: it is entered and in no run, and has a reserve of two node slots
+  pub record MayRunSection (m : Meaning) (r : RunnerState T) (t : Thunk) (s : Section) : Type 0 where
+    pub epoch : ℕ
+    pub published : Option Published
+    pub at : IsAt r (stages.Entered epoch) published
+    pub section : IsSectionOf r t s
+    pub reserve : 2 ≤ length r.part.nodes.free
+    pub reached : IsReached m r
+
+  -- the runner may help the section that this word names: it read the word in this entry, so it holds the descriptor
+  pub record MayHelp (m : Meaning) (r : RunnerState T) (held : ℕ) : Type 0 where
+    pub epoch : ℕ
+    pub published : Option Published
+    pub at : IsAt r (stages.Entered epoch) published
+    pub names : is_free held ≡ false
+    pub holds : has r.part.reads.held (value_of held - 1) ≡ true
+    pub reserve : 2 ≤ length r.part.nodes.free
+    pub reached : IsReached m r
