@@ -14,11 +14,13 @@ use Rattle.structure_laws.specs.Meaning.{Meaning}
 use Rattle.structure_laws.specs.Laws.{Laws}
 use Rattle.runner_parts.specs.declared.event.EventKind.{EventKind}
 use Rattle.runner_parts.specs.declared.event.EventKind.TheVariants as kinds
+use Rattle.runner_parts.specs.declared.entries.Left.{Left}
 use Rattle.runner_parts.specs.State.{RunState, RecordsState, PartState}
 use Rattle.runner_parts.specs.Tests.{has}
 use Rattle.runner_steps.specs.Asks.{ask_by}
 use Rattle.runner_steps.specs.After.{after_by, after, left_more, tallied, noted, knows_also, leaves}
 use Rattle.machine_states.specs.World.{World, is_join}
+use Rattle.machine_states.specs.First.{IsFirst}
 use Rattle.machine_states.specs.Reached.{Reached}
 use Rattle.machine_states.specs.Sight.{Sight, sight}
 use Rattle.machine_states.proofs.FirstSights.{first_parts}
@@ -48,16 +50,16 @@ noted_joined l r kind spot access n z = by (r == l.runners)
     by false = refl
 
 -- what two parts have that are alike for this
-record Alike (p p' : PartState) : Type 0 where
-  joined : p'.records.joined ≡ p.records.joined
-  gone : p'.gone ≡ p.gone
+pub record Alike (p p' : PartState) : Type 0 where
+  pub joined : p'.records.joined ≡ p.records.joined
+  pub gone : p'.gone ≡ p.gone
 
 module _ (m : Meaning) (l : Layout) (rs : List Request) (s s' : Sight) (r : ℕ) where
-  abbrev p : PartState
+  abbrev pub p : PartState
   p = s.part r
 
   module _ (kind : EventKind) (st : IsStep m l rs s s' r kind) (other : is_join kind ≡ false) where
-    abbrev found : ℕ
+    abbrev pub found : ℕ
     found = s.word st.step.ask.0
 
     abbrev p' : PartState
@@ -67,16 +69,16 @@ module _ (m : Meaning) (l : Layout) (rs : List Request) (s s' : Sight) (r : ℕ)
     own_keeps None e = outside_keeps m l p found kind other (may_hold m l rs s s' r kind st kind e)
     own_keeps (Some q) e = inside_keeps m l p q found kind
 
-    keeps : Keeps p (after_by m l kind p p.run found)
+    pub keeps : Keeps p (after_by m l kind p p.run found)
     keeps = own_keeps p.run (unless_gone _ p.gone _ st.step.ask st.step.asked).1
 
     own_alike : Alike p p'
     own_alike = record {
-      joined = noted_joined l r kind st.step.ask.0 st.step.ask.1 found (after_by m l kind p p.run found).records ∙ keeps.joined;
+      joined = noted_joined l r kind st.step.ask.0 st.step.ask.1 found (after_by m l kind p p.run found).records ∙ ap (λ (z : List ℕ × List Left). z.0) keeps.records;
       gone = keeps.gone;
     }
 
-    alike : (i : ℕ) → Alike (s.part i) (s'.part i)
+    pub alike : (i : ℕ) → Alike (s.part i) (s'.part i)
     alike i = subst (λ (y : Sight). Alike (s.part i) (y.part i)) (sym (st.step.next ∙ after_is m l s r kind st.step.ask other))
         (⊎_elim
         (λ same. subst (λ k. Alike (s.part k) (upd s.part r p' k)) (sym same)
@@ -138,14 +140,17 @@ module _ (m : Meaning) (l : Layout) (rs : List Request) (s s' : Sight) (r : ℕ)
     join_gone : JoinedAreGone l s → JoinedAreGone l s'
     join_gone old = subst (λ (y : Sight). JoinedAreGone l y) (sym st.step.next) (gone_then old)
 
-  gone_kept : (kind : EventKind) → IsStep m l rs s s' r kind → JoinedAreGone l s → JoinedAreGone l s'
+  pub gone_kept : (kind : EventKind) → IsStep m l rs s s' r kind → JoinedAreGone l s → JoinedAreGone l s'
   gone_kept (kinds.Join worker) st old = join_gone worker st old
   gone_kept kind st old = other_gone kind st refl old
+
+pub first_gone : (m : Meaning) (l : Layout) (rs : List Request) (v : World) → IsFirst m l rs v → JoinedAreGone l (sight m l rs v)
+first_gone m l rs v start worker has_it =
+    not_both has_it (subst (λ (p : PartState). has p.records.joined worker ≡ false) (sym (first_parts m l v.parts start.parts l.runners))
+    (FirstJoin.each_part m l (λ p. has p.records.joined worker ≡ false) refl (λ k. refl) refl l.runners))
 
 pub reached_joined : (m : Meaning) → Laws m → (l : Layout) → IsWithinLimits l → (rs : List Request) → AreAllowed rs → (w : World)
     → Reached m l rs w → JoinedAreGone l (sight m l rs w)
 reached_joined m laws l limits rs allowed w reached =
-    reached_keeps m laws l limits rs allowed (JoinedAreGone l)
-    (λ v start worker has_it. not_both has_it (subst (λ (p : PartState). has p.records.joined worker ≡ false) (sym (first_parts m l v.parts start.parts l.runners))
-    (FirstJoin.each_part m l (λ p. has p.records.joined worker ≡ false) refl (λ k. refl) refl l.runners)))
+    reached_keeps m laws l limits rs allowed (JoinedAreGone l) (first_gone m l rs)
     (λ s s' r kind st old. gone_kept m l rs s s' r kind st old) w reached

@@ -1,4 +1,4 @@
--- What each step leaves of a runner's part: whom it has joined, whether it goes on, and how many own descriptors it has.
+-- What each step leaves of a runner's part: whom it has joined and what its steps left since then, whether it goes on, and how many own descriptors it has.
 use Rattle.std.specs.Prelude.{◌==◌, ◌&&◌, not, nat_lt, nat_le, cond, Bool, true, false, if◌then◌else◌}
 use Rattle.std.specs.List.{filter}
 use Rattle.std.proofs.Common.{◌≡◌, ℕ, suc, ◌+◌, List, [], ◌∷◌, ◌++◌, length, length-append, refl, ap, arith, Option, Some, None}
@@ -10,6 +10,7 @@ use Rattle.section_body.specs.declared.thunk.Thunk.{Thunk}
 use Rattle.table_words.specs.declared.layout.Layout.{Layout}
 use Rattle.table_words.specs.Places.{slot_count}
 use Rattle.structure_laws.specs.Meaning.{Meaning}
+use Rattle.runner_parts.specs.declared.entries.Left.{Left}
 use Rattle.runner_parts.specs.declared.entries.Published.{Published}
 use Rattle.runner_parts.specs.declared.stage.Stage.{Stage}
 use Rattle.runner_parts.specs.declared.stage.Stage.TheVariants as stages
@@ -27,15 +28,19 @@ use Rattle.epoch_core.specs.Lists.{times}
 use Rattle.machine_states.specs.World.{is_join}
 use Rattle.runner_facts.specs.Facts.{published_count, descriptors_of}
 
+-- whom the keeper has joined, and what its steps since then left
+abbrev pub kept_by : RecordsState → List ℕ × List Left
+kept_by z = (z.joined, z.left)
+
 pub record Keeps (p p' : PartState) : Type 0 where
-  pub joined : p'.records.joined ≡ p.records.joined
+  pub records : kept_by p'.records ≡ kept_by p.records
   pub gone : p'.gone ≡ p.gone
   pub count : descriptors_of p' ≡ descriptors_of p
 
-learned_joined : (z : RecordsState) (request : ℕ) (reply : Bool) (n : ℕ) → (learned z request reply n).joined ≡ z.joined
-learned_joined z request reply n = by (n == 0)
+learned_keeps : (z : RecordsState) (request : ℕ) (reply : Bool) (n : ℕ) → kept_by (learned z request reply n) ≡ kept_by z
+learned_keeps z request reply n = by (n == 0)
   where
-    by : (b : Bool) → (if b then z else record z { known = z.known ++ record { request = request; reply = reply; number = n } ∷ [] }).joined ≡ z.joined
+    by : (b : Bool) → kept_by (if b then z else record z { known = z.known ++ record { request = request; reply = reply; number = n } ∷ [] }) ≡ kept_by z
     by true = refl
     by false = refl
 
@@ -54,8 +59,8 @@ without_length (x ∷ xs) d = by (x == d) (without_length xs d)
     by false rest = omega arith
 
 module _ (m : Meaning) (l : Layout) (p : PartState) where
-  keeps : (p' : PartState) → p'.records.joined ≡ p.records.joined → p'.gone ≡ p.gone → descriptors_of p' ≡ descriptors_of p → Keeps p p'
-  keeps p' joined gone count = record { joined = joined; gone = gone; count = count }
+  keeps : (p' : PartState) → kept_by p'.records ≡ kept_by p.records → p'.gone ≡ p.gone → descriptors_of p' ≡ descriptors_of p → Keeps p p'
+  keeps p' records gone count = record { records = records; gone = gone; count = count }
 
   either : (b : Bool) (y z : PartState) → Keeps p y → Keeps p z → Keeps p (if b then y else z)
   either true y z one two = one
@@ -90,9 +95,9 @@ module _ (m : Meaning) (l : Layout) (p : PartState) where
     line_keeps kinds.SetDone micro = keeps _ refl refl refl
     line_keeps kinds.Release micro = over_keeps (inside.place_of micro)
     line_keeps kinds.ClockLoad micro = keeps _ refl refl refl
-    line_keeps kinds.StampExchange micro = either (nat_lt q.word last_clock) _ _ (keeps _ (learned_joined p.records _ false _) refl refl) same
+    line_keeps kinds.StampExchange micro = either (nat_lt q.word last_clock) _ _ (keeps _ (learned_keeps p.records _ false _) refl refl) same
     line_keeps kinds.ClockRaise micro = keeps _ refl refl refl
-    line_keeps kinds.ReplyExchange micro = keeps _ (learned_joined p.records _ true _) refl refl
+    line_keeps kinds.ReplyExchange micro = keeps _ (learned_keeps p.records _ true _) refl refl
     line_keeps kinds.NestedLoad micro = keeps _ refl refl refl
     line_keeps kinds.NestedHold micro = keeps _ refl refl refl
     line_keeps kinds.OutcomeLoad micro = keeps _ refl refl refl
@@ -147,7 +152,7 @@ module _ (m : Meaning) (l : Layout) (p : PartState) where
     outside_keeps kinds.Split h may = either (nat_lt p.records.splits l.runners) _ _ (keeps _ refl refl refl) same
     outside_keeps (kinds.Join worker) h may = absurd (let z = h in cc)
     outside_keeps (kinds.LoadCell (Some place)) h may = keeps _ refl refl refl
-    outside_keeps (kinds.LoadEntry request reply) h may = keeps _ (learned_joined p.records request reply found) refl refl
+    outside_keeps (kinds.LoadEntry request reply) h may = keeps _ (learned_keeps p.records request reply found) refl refl
     outside_keeps (kinds.PrivateLoad slot word) h may = either (nat_lt slot (slot_count l m.fixed_slots)) _ _ (keeps _ refl refl refl)
         (keeps _ refl refl refl)
     outside_keeps (kinds.PrivateStore slot word number) h may = keeps _ refl refl refl

@@ -1,3 +1,4 @@
+mod Basics
 mod Walks
 mod Limbo
 mod Keeping
@@ -6,3 +7,4 @@ mod Joined
 mod Raising
 mod Worn
 mod Names
+mod Keeper

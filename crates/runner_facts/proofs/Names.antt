@@ -60,11 +60,8 @@ use Rattle.next_steps.proofs.Reaching.{IsStep, reached_keeps}
 use Rattle.next_steps.proofs.Parts.{each_part}
 use Rattle.next_steps.proofs.Tests.{without_has}
 use Rattle.runner_facts.specs.Names.{HasLock, NamesStand}
+use Rattle.runner_facts.proofs.Basics.{two}
 use Rattle.runner_facts.proofs.Limbo.{retired_once}
-
-two : (a b : Bool) → (a && b) ≡ true → (a ≡ true) × (b ≡ true)
-two true b e = (refl, e)
-two false b e = absurd (let z = e in cc)
 
 and : (a b : Bool) → a ≡ true → b ≡ true → (a && b) ≡ true
 and true b e e' = e'

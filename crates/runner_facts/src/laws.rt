@@ -7,6 +7,7 @@ ghost use Rattle.machine_states.specs.World.{World};
 ghost use Rattle.machine_states.specs.Reached.{Reached};
 ghost use Rattle.machine_states.specs.Sight.{sight};
 ghost use Rattle.machine_invariant.specs.After.{AreAllowed};
+ghost use Rattle.runner_facts.specs.Keeper.{KeeperStands};
 ghost use Rattle.runner_facts.specs.Names.{NamesStand};
 ghost use Rattle.runner_facts.specs.Facts.{DescriptorsAreKept, JoinedAreGone, LimboIsDone, WalksStand, WornAreWorn};
 
@@ -64,6 +65,16 @@ pub fn names_stand<S: Structure>(structure: &S)
     ensures { (layout : Layout) (requests : List Request) (w : World) → IsWithinLimits layout → AreAllowed requests
         → Reached (S.meaning structure.now) layout requests w
         → NamesStand (S.meaning structure.now) (sight (S.meaning structure.now) layout requests w) }
+{
+    let _ = structure;
+}
+
+/// In every state that the machine reaches: once the keeper has joined all workers, what its steps since then left last in a word stands there.
+/// The keeper publishes no section.
+pub fn what_the_keeper_left_stands<S: Structure>(structure: &S)
+    ensures { (layout : Layout) (requests : List Request) (w : World) → IsWithinLimits layout → AreAllowed requests
+        → Reached (S.meaning structure.now) layout requests w
+        → KeeperStands layout (sight (S.meaning structure.now) layout requests w) }
 {
     let _ = structure;
 }

@@ -7,5 +7,5 @@ mod laws;
 
 pub use laws::{
     descriptors_are_kept, joined_workers_are_gone, limbo_is_done, names_stand, walks_stand,
-    worn_slots_are_worn,
+    what_the_keeper_left_stands, worn_slots_are_worn,
 };
