@@ -79,7 +79,7 @@ stands_there (x ∷ xs) n reply e = by (x.request == n) (cond reply x.reply (not
     by true b rest e = refl
     by false b rest e = rest e
 
-answered_is : (known : List Known) (n : ℕ) → has (answered_in known) n ≡ is_answered known n
+pub answered_is : (known : List Known) (n : ℕ) → has (answered_in known) n ≡ is_answered known n
 answered_is known n = answered_has known known n ∙ by (knows known n false) (knows known n true) (stands_there known n false)
   where
     by : (a b : Bool) → (a ≡ true → list_any (λ (x : Known). x.request == n) known ≡ true) → ((a && b) && list_any (λ (x : Known). x.request == n) known) ≡ (a && b)
@@ -130,7 +130,7 @@ module _ (c : Requests) (r : ℕ) where
       to_true true = refl
       to_true false = refl
 
-  after_append : (es fs : List history.Event) (w : HistoryState) → after_all c w (es ++ fs) ≡ after_all c (after_all c w es) fs
+  pub after_append : (es fs : List history.Event) (w : HistoryState) → after_all c w (es ++ fs) ≡ after_all c (after_all c w es) fs
   after_append [] fs w = refl
   after_append (e ∷ es) fs w = after_append es fs (history.after c w e)
 

@@ -1,0 +1,5 @@
+mod Quietly
+mod Learning
+mod Steps
+mod Reached
+mod Histories
