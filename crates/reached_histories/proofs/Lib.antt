@@ -1,5 +1,6 @@
 mod Quietly
 mod Learning
+mod Publications
 mod Steps
 mod Reached
 mod Histories

@@ -1,20 +1,23 @@
 -- Every state that the machine reaches stands beside joint states that are joined with a history.
-use Rattle.std.proofs.Common.{◌≡◌, ℕ, List, le_of_eq, refl, sym, subst, Some}
+use Rattle.std.proofs.Common.{◌≡◌, ◌∙◌, ℕ, List, le_of_eq, refl, sym, subst, Some, None}
 use Rattle.map_history.specs.declared.op.Request.{Request}
 use Rattle.table_words.specs.declared.layout.Layout.{Layout}
 use Rattle.table_words.specs.Limits.{IsWithinLimits}
 use Rattle.structure_laws.specs.Meaning.{Meaning}
 use Rattle.structure_laws.specs.Laws.{Laws}
 use Rattle.runner_parts.specs.declared.event.Event.{Event}
+use Rattle.runner_parts.specs.State.{PartState}
 use Rattle.history_core.specs.Schedules.{first_state}
 use Rattle.machine_states.specs.World.{World, happens}
 use Rattle.machine_states.specs.First.{IsFirst}
 use Rattle.machine_states.specs.Reached.{Reached}
 use Rattle.machine_states.specs.Sight.{sight}
 use Rattle.machine_states.proofs.Reached.{first_reached, more_reached, reached_has, reached_all}
-use Rattle.machine_states.proofs.Sights.{happens_steps}
+use Rattle.machine_states.proofs.FirstSights.{first_parts}
+use Rattle.machine_states.proofs.Sights.{happens_steps, some_none}
 use Rattle.machine_epochs.specs.Entries.{counts_of}
 use Rattle.machine_epochs.specs.Firsts.{first_place}
+use Rattle.machine_epochs.proofs.FirstJoin.{each_part}
 use Rattle.machine_scenes.specs.Shown.{States}
 use Rattle.machine_history.specs.Laws.{IsJoined}
 use Rattle.machine_history.proofs.Joining.{first_joined}
@@ -40,7 +43,13 @@ module _ (m : Meaning) (laws : Laws m) (l : Layout) (limits : IsWithinLimits l) 
         (first_joined m laws l limits (counts_of m l) refl (requests_of m l rs) refl (first_place m l) (first_scene m laws l limits rs w first) _);
     kept = first_kept m l rs w first;
     told = first_told m l rs w first;
+    publications = λ r x at. some_none x (sym (none_published r) ∙ at);
   }
+
+    where
+      none_published : (r : ℕ) → ((sight m l rs w).part r).published ≡ None
+      none_published r = subst (λ (p : PartState). p.published ≡ None) (sym (first_parts m l w.parts first.parts r))
+          (each_part m l (λ p. p.published ≡ None) refl (λ n. refl) refl r)
 
   known_at : (w : World) → Reached m l rs w → KnownStand (sight m l rs w)
   known_at w reached = (facts_after m laws l rs reached.events w limits allowed reached.after).here.known

@@ -1,7 +1,8 @@
 -- Each step of the machine is steps of the joint states with the history.
 use Rattle.std.specs.Prelude.{◌==◌, cond, slice_get, Bool, true, false, []}
-use Rattle.std.proofs.Common.{◌≡◌, ◌≢◌, ℕ, suc, List, ◌∷◌, inl, inr, refl, sym, ap, ◌∙◌, subst, ⊎_elim, arith, Option, Some, None}
+use Rattle.std.proofs.Common.{◌≡◌, ◌≢◌, ℕ, suc, List, ◌∷◌, ◌++◌, length, inl, inr, refl, sym, ap, ◌∙◌, subst, ⊎_elim, arith, Option, Some, None}
 use Rattle.std.proofs.lemmas.Bool.{cases_eq}
+use Rattle.std.proofs.lemmas.List.{append-nil}
 use Rattle.map_history.specs.declared.op.Request.{Request}
 use Rattle.section_body.specs.Line.{line, micro_at, committed}
 use Rattle.section_body.specs.declared.thunk.Thunk.{Thunk}
@@ -10,13 +11,17 @@ use Rattle.table_words.specs.declared.layout.Layout.{Layout}
 use Rattle.table_words.specs.Limits.{IsWithinLimits}
 use Rattle.structure_laws.specs.Meaning.{Meaning}
 use Rattle.structure_laws.specs.Laws.{Laws}
+use Rattle.runner_parts.specs.declared.entries.Known.{Known}
 use Rattle.runner_parts.specs.declared.entries.Published.{Published}
 use Rattle.runner_parts.specs.declared.event.EventKind.{EventKind}
 use Rattle.runner_parts.specs.declared.event.EventKind.TheVariants as kinds
+use Rattle.runner_parts.specs.State.{PartState}
+use Rattle.runner_steps.specs.AfterOutside.{published_by}
 use Rattle.runner_steps.specs.Asks.{asks}
 use Rattle.agreement_core.specs.Events as agreement
 use Rattle.agreement_core.specs.Schedules as agreement_schedules
 use Rattle.epoch_core.specs.State.{Counts}
+use Rattle.epoch_core.specs.History.{is_out}
 use Rattle.epoch_core.specs.Schedules as epoch_schedules
 use Rattle.history_core.specs.State.{Requests, HistoryState}
 use Rattle.history_core.specs.Events as history
@@ -40,10 +45,13 @@ use Rattle.machine_records.specs.Kept.{link_of, AreKept}
 use Rattle.machine_records.specs.Told.{RunsAreTold}
 use Rattle.machine_records.specs.Keeping.{answered_in, learns, ends, PublishesNothing}
 use Rattle.machine_records.specs.Publishing.{IsPublication, behind_read}
-use Rattle.machine_records.proofs.Keeping.{steps_kept, ends_are_own, publications_kept, after_append}
+use Rattle.machine_records.proofs.Keeping.{steps_kept, ends_are_own, publications_kept, after_append, own, others, others_same}
+use Rattle.machine_records.proofs.Keeping as keeping
+use Rattle.machine_records.proofs.Parts.{WasPublished}
 use Rattle.machine_records.proofs.Publishing.{publications_may_come}
 use Rattle.machine_records.proofs.Steps.{steps_tell}
-use Rattle.reached_histories.proofs.Quietly.{KnowsAlike, JoinedAlike, with_history, passes_joined}
+use Rattle.reached_histories.proofs.Quietly.{KnowsAlike, GoesOn, goes_alike, goes_nowhere, JoinedAlike, with_history, passes_joined}
+use Rattle.reached_histories.proofs.Publications.{IsOwn, goes_later, later_between, own_later, own_published, own_elsewhere}
 use Rattle.reached_histories.proofs.Learning.{learns_alike, learns_joined, ends_joined}
 
 -- what runners keep, by what is known and published
@@ -52,9 +60,6 @@ kept_alike s w v alike kept = record {
   known = λ i n. ap (λ (f : ℕ → ℕ → Bool). f i n) alike.known ∙ kept.known i n;
   published = λ i. ap (λ (f : ℕ → ℕ). f i) alike.published ∙ kept.published i;
 }
-
-alike_self : (w : HistoryState) → KnowsAlike w w
-alike_self w = record { known = refl; published = refl }
 
 of_link : (over : Bool) (n d : ℕ) → cond over 0 (suc n) ≡ suc d → n ≡ d
 of_link true n d e = absurd (let z = e in cc)
@@ -88,6 +93,18 @@ module _ (m : Meaning) (laws : Laws m) (l : Layout) (limits : IsWithinLimits l) 
     pub joined : IsJoined m l c requests (with_history m laws l limits rs (states_of beside s) history)
     pub kept : AreKept s history
     pub told : RunsAreTold m s
+    -- what is known of the sections that workers have published and not retired
+    pub publications : (r : ℕ) (x : Published) → (s.part r).published ≡ Some x
+        → IsOwn requests history (s.part r).records.known r x.descriptor x.thunk.request x.known
+
+  -- the same of what was there before, but for being over
+  pub same_own : (w : HistoryState) (known : List Known) (i : ℕ) (x x' : Published) → x'.descriptor ≡ x.descriptor → x'.thunk ≡ x.thunk
+      → x'.known ≡ x.known → IsOwn requests w known i x.descriptor x.thunk.request x.known
+      → IsOwn requests w known i x'.descriptor x'.thunk.request x'.known
+  same_own w known i x x' descriptor thunk count is =
+      subst (λ n. IsOwn requests w known i n x'.thunk.request x'.known) (sym descriptor)
+      (subst (λ (t : Thunk). IsOwn requests w known i x.descriptor t.request x'.known) (sym thunk)
+      (subst (λ n. IsOwn requests w known i x.descriptor x.thunk.request n) (sym count) is))
 
   -- a step on the same word, of a kind that is known
   of_kind : (s s' : Sight) (r : ℕ) (kind kind' : EventKind) → kind ≡ kind' → Steps m l rs s s' r kind → Steps m l rs s s' r kind'
@@ -128,6 +145,10 @@ module _ (m : Meaning) (laws : Laws m) (l : Layout) (limits : IsWithinLimits l) 
         by (Some y) some e = subst (λ n. g.agreement.live n ≡ true) (of_link y.over y.descriptor d (sym (ap link_of some) ∙ e))
             (old.whole.tied.is_live y.descriptor ((old.whole.slots.tied i).published y some))
 
+    -- what a worker has published and not run to its end is what it has published and not retired
+    linked : (i : ℕ) (x : Published) → (s.part i).published ≡ Some x → (e : ℕ) → w.published i ≡ suc e → x.descriptor ≡ e
+    linked i x at e is = of_link x.over x.descriptor e (sym (ap link_of at) ∙ (sym (old.kept.published i) ∙ is))
+
     -- nothing is published: the own run may come to its end first, and what the runner comes to know is learned last
     module _ (quiet : GoesQuietly m l g s kind (s.word one.ask.0) (states_of g' s')) where
       nothing : PublishesNothing m l rs s s' r kind step
@@ -153,13 +174,40 @@ module _ (m : Meaning) (laws : Laws m) (l : Layout) (limits : IsWithinLimits l) 
 
       passed : JoinedAlike m laws l limits rs ended (states_of g' s')
       passed = passes_joined m laws l limits rs (states_of g s) ended ended_live (states_of g' s') quiet.passed
-          (record { history = ended; joined = ended_joined; alike = alike_self ended })
+          (record { history = ended; joined = ended_joined; on = goes_nowhere requests ended })
 
       kept_now : AreKept s' (after_all requests passed.history (learns r ns))
       unfolding ended
-      kept_now = kept_alike s' _ _ (learns_alike requests r ns ended passed.history passed.alike)
+      kept_now = kept_alike s' _ _ (learns_alike requests r ns ended passed.history (goes_alike requests _ _ passed.on))
           (subst (AreKept s') (after_append requests r (ends r (link_of (s.part r).published) now) (learns r ns) w)
           (steps_kept m l rs requests g s s' w r kind old.whole step nothing old.kept))
+
+      grown : (i : ℕ) → (more : List Known) × ((s'.part i).records.known ≡ (s.part i).records.known ++ more)
+      grown i = ⊎_elim
+          (λ same. subst (λ k. (more : List Known) × ((s'.part k).records.known ≡ (s.part k).records.known ++ more)) (sym same)
+          (own m l rs g s s' r kind old.whole step nothing).appends)
+          (λ ne. ([], (others m l rs g s s' r kind old.whole step i ne).known ∙ sym (append-nil (s.part i).records.known)))
+          (cases_eq i r)
+
+      was : (i : ℕ) (x' : Published) → (s'.part i).published ≡ Some x' → WasPublished (s.part i).published x'
+      was i x' at = ⊎_elim
+          (λ same. subst (λ k. WasPublished (s.part k).published x') (sym same)
+          ((own m l rs g s s' r kind old.whole step nothing).was x' (ap (λ k. (s'.part k).published) (sym same) ∙ at)))
+          (λ ne. (x', sym (others m l rs g s s' r kind old.whole step i ne).published ∙ at, refl, refl, refl))
+          (cases_eq i r)
+
+      publications_stay : (i : ℕ) (x' : Published) → (s'.part i).published ≡ Some x'
+          → IsOwn requests (after_all requests passed.history (learns r ns)) (s'.part i).records.known i x'.descriptor x'.thunk.request x'.known
+      unfolding ended
+      publications_stay i x' at =
+          let h = was i x' at in
+          let more = grown i in
+          subst (λ (known : List Known). IsOwn requests (after_all requests passed.history (learns r ns)) known i x'.descriptor x'.thunk.request x'.known)
+          (sym more.1)
+          (same_own _ _ i h.0 x' h.2 h.3 h.4
+          (own_later requests i h.0.descriptor h.0.thunk.request h.0.known w _ (s.part i).records.known more.0
+          (linked i h.0 h.1) (later_between requests r (link_of (s.part r).published) now ns w passed.history
+          (ended_link requests w r (link_of (s.part r).published) now) passed.on) (old.publications i h.0 h.1)))
 
       pub quietly : Stands s'
       quietly = record {
@@ -170,6 +218,7 @@ module _ (m : Meaning) (laws : Laws m) (l : Layout) (limits : IsWithinLimits l) 
         joined = learns_joined m laws l limits rs g' s' passed.history r one.whole known passed.joined;
         kept = kept_now;
         told = steps_tell m l rs g s s' r kind old.whole step old.told;
+        publications = publications_stay;
       }
 
     -- a section is published
@@ -225,7 +274,54 @@ module _ (m : Meaning) (laws : Laws m) (l : Layout) (limits : IsWithinLimits l) 
 
       passed_on : JoinedAlike m laws l limits rs published (states_of g' s')
       passed_on = passes_joined m laws l limits rs (behind goes.request) published published_live (states_of g' s') goes.passed
-          (record { history = published; joined = published_joined; alike = alike_self published })
+          (record { history = published; joined = published_joined; on = goes_nowhere requests published })
+
+      -- a section that isn't retired is in another descriptor
+      elsewhere : (i : ℕ) (x : Published) → (s.part i).published ≡ Some x → x.descriptor ≢ d
+      elsewhere i x at same =
+          let used : g.agreement.used x.descriptor ≡ true =
+          old.whole.tied.used x.descriptor ∙ ap is_out ((old.whole.slots.tied i).published x at) in
+          let clash : true ≡ false = sym used ∙ (ap g.agreement.used same ∙ publication.may.enabled.enabled.0) in cc
+
+      own_now : IsOwn requests published (s.part r).records.known r d t.request (length (s.part r).records.known)
+      own_now = own_published requests w old.joined.sound r d t.request publication.reply (s.part r).records.known (old.kept.known r)
+          publication.may.idle publication.may.own publication.may.unknown
+
+      publications_go : (i : ℕ) (x : Published) → (s'.part i).published ≡ Some x
+          → IsOwn requests passed_on.history (s'.part i).records.known i x.descriptor x.thunk.request x.known
+      publications_go i x at = ⊎_elim mine theirs (cases_eq i r)
+        where
+          same_suc : (a b : ℕ) → suc a ≡ suc b → a ≡ b
+          same_suc a b e = omega arith
+
+          later : (i : ℕ) (x : Published) (known : List Known) → ((e : ℕ) → published.published i ≡ suc e → x.descriptor ≡ e)
+              → IsOwn requests published known i x.descriptor x.thunk.request x.known
+              → IsOwn requests passed_on.history known i x.descriptor x.thunk.request x.known
+          later i x known link is = subst (λ (xs : List Known). IsOwn requests passed_on.history xs i x.descriptor x.thunk.request x.known)
+              (append-nil known)
+              (own_later requests i x.descriptor x.thunk.request x.known published passed_on.history known [] link
+              (goes_later requests published passed_on.history passed_on.on) is)
+
+          mine : i ≡ r → IsOwn requests passed_on.history (s'.part i).records.known i x.descriptor x.thunk.request x.known
+          mine same =
+              let part = keeping.own_published m l rs s s' r d t hold found in
+              let is : x ≡ published_by t d (s.part r) = some_same x (published_by t d (s.part r))
+              (sym (ap (λ k. (s'.part k).published) (sym same) ∙ at) ∙ part.published) in
+              subst (λ k. IsOwn requests passed_on.history (s'.part k).records.known k x.descriptor x.thunk.request x.known) (sym same)
+              (subst (λ (xs : List Known). IsOwn requests passed_on.history xs r x.descriptor x.thunk.request x.known) (sym part.known)
+              (subst (λ (y : Published). IsOwn requests passed_on.history (s.part r).records.known r y.descriptor y.thunk.request y.known) (sym is)
+              (later r (published_by t d (s.part r)) (s.part r).records.known
+              (λ e own. same_suc d e (sym (upd_same w.published r r (suc d) refl) ∙ own)) own_now)))
+
+          theirs : i ≢ r → IsOwn requests passed_on.history (s'.part i).records.known i x.descriptor x.thunk.request x.known
+          theirs ne =
+              let part = others_same m l rs s s' r d t hold found i ne in
+              let there : (s.part i).published ≡ Some x = sym (ap (λ (p : PartState). p.published) part) ∙ at in
+              subst (λ (p : PartState). IsOwn requests passed_on.history p.records.known i x.descriptor x.thunk.request x.known) (sym part)
+              (later i x (s.part i).records.known
+              (λ e own. linked i x there e (sym (upd_other w.published r i (suc d) ne) ∙ own))
+              (own_elsewhere requests w r d t.request publication.reply (s.part i).records.known i x.descriptor x.thunk.request x.known
+              (elsewhere i x there) (old.publications i x there)))
 
       pub publishing : Stands s'
       publishing = record {
@@ -234,9 +330,10 @@ module _ (m : Meaning) (laws : Laws m) (l : Layout) (limits : IsWithinLimits l) 
         whole = one.whole;
         asked = one.requests ∙ old.asked;
         joined = passed_on.joined;
-        kept = kept_alike s' published passed_on.history passed_on.alike
+        kept = kept_alike s' published passed_on.history (goes_alike requests _ _ passed_on.on)
             (publications_kept m l rs requests g s s' w r d publication.reply t old.whole hold found old.kept);
         told = steps_tell m l rs g s s' r kind old.whole step old.told;
+        publications = publications_go;
       }
 
     pub step_stands : Stands s'
