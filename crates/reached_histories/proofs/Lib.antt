@@ -2,5 +2,6 @@ mod Quietly
 mod Learning
 mod Publications
 mod Steps
-mod Reached
-mod Histories
+pub mod Reached
+mod Words
+pub mod Histories

@@ -168,7 +168,7 @@ module _ (c : Requests) (w : HistoryState) (sound : IsSound c w) (r : ℕ) (load
       two_there a = grind (arith, nat_tests)
 
 -- a run before the exchange of the stamp has loaded the clock
-loading : (a : AgreementState) (r : ℕ) → agreement.IsBefore a r micros.StampExchange → is_loading a r ≡ true
+pub loading : (a : AgreementState) (r : ℕ) → agreement.IsBefore a r micros.StampExchange → is_loading a r ≡ true
 loading a r at = λ i. at.running i && (not (at.going i) && is_stamp_exchange (at.next i))
 
 -- the history's events of a joint step
