@@ -45,7 +45,6 @@ module _ (m : Meaning) (laws : Laws m) (l : Layout) (limits : IsWithinLimits l) 
     told = first_told m l rs w first;
     publications = λ r x at. some_none x (sym (none_published r) ∙ at);
   }
-
     where
       none_published : (r : ℕ) → ((sight m l rs w).part r).published ≡ None
       none_published r = subst (λ (p : PartState). p.published ≡ None) (sym (first_parts m l w.parts first.parts r))

@@ -1,6 +1,6 @@
 -- Each step of the machine is steps of the joint states with the history.
 use Rattle.std.specs.Prelude.{◌==◌, cond, slice_get, Bool, true, false, []}
-use Rattle.std.proofs.Common.{◌≡◌, ◌≢◌, ℕ, suc, List, ◌∷◌, ◌++◌, length, inl, inr, refl, sym, ap, ◌∙◌, subst, ⊎_elim, arith, Option, Some, None}
+use Rattle.std.proofs.Common.{◌≡◌, ◌≢◌, ℕ, suc, List, ◌∷◌, ◌++◌, length, refl, sym, ap, ◌∙◌, subst, ⊎_elim, arith, Option, Some, None}
 use Rattle.std.proofs.lemmas.Bool.{cases_eq}
 use Rattle.std.proofs.lemmas.List.{append-nil}
 use Rattle.map_history.specs.declared.op.Request.{Request}
@@ -50,7 +50,7 @@ use Rattle.machine_records.proofs.Keeping as keeping
 use Rattle.machine_records.proofs.Parts.{WasPublished}
 use Rattle.machine_records.proofs.Publishing.{publications_may_come}
 use Rattle.machine_records.proofs.Steps.{steps_tell}
-use Rattle.reached_histories.proofs.Quietly.{KnowsAlike, GoesOn, goes_alike, goes_nowhere, JoinedAlike, with_history, passes_joined}
+use Rattle.reached_histories.proofs.Quietly.{KnowsAlike, goes_alike, goes_nowhere, JoinedAlike, with_history, passes_joined}
 use Rattle.reached_histories.proofs.Publications.{IsOwn, goes_later, later_between, own_later, own_published, own_elsewhere}
 use Rattle.reached_histories.proofs.Learning.{learns_alike, learns_joined, ends_joined}
 

@@ -1,10 +1,9 @@
 -- What the joined states say, in the words of the machine.
-use Rattle.std.specs.Prelude.{◌==◌, ◌⊎◌, ◌/◌, cond, not, Bool, true, false, take, slice_get, Contains, nat_le}
+use Rattle.std.specs.Prelude.{◌/◌, cond, Bool, true, false}
 use Rattle.std.proofs.Common.{◌≡◌, ◌≢◌, ℕ, suc, ◌<◌, ◌≤◌, List, length, inl, inr, refl, sym, ap, ◌∙◌, subst, ⊎_elim, arith, Option, Some, None}
 use Rattle.std.proofs.lemmas.Bool.{cases_lt}
-use Rattle.std.proofs.lemmas.Bool.Decides.{nat_tests}
 use Rattle.map_history.specs.declared.op.Request.{Request}
-use Rattle.history_orders.specs.Stamped.{Stamped, IsReplayed, IsHistoryOf}
+use Rattle.history_orders.specs.Stamped.{IsHistoryOf}
 use Rattle.section_body.specs.Line.{is_end, line, micro_at}
 use Rattle.section_body.specs.Word.{value_of, held_word}
 use Rattle.section_body.specs.declared.thunk.Thunk.{Thunk}
@@ -13,7 +12,7 @@ use Rattle.section_body.specs.declared.micro.Micro.TheVariants as micros
 use Rattle.section_body.specs.declared.micro.Source.{Source}
 use Rattle.section_lines.specs.Line.{IsLine, phase}
 use Rattle.table_words.specs.declared.layout.Layout.{Layout}
-use Rattle.table_words.specs.declared.spot.Spot.TheVariants.{Cell, Clock, Stamp, Reply, DoneWord}
+use Rattle.table_words.specs.declared.spot.Spot.TheVariants.{Cell, Clock, Stamp, Reply}
 use Rattle.table_words.specs.Limits.{IsWithinLimits}
 use Rattle.structure_laws.specs.Scene.{Cells}
 use Rattle.structure_laws.specs.Meaning.{Meaning}
@@ -21,28 +20,26 @@ use Rattle.structure_laws.specs.Laws.{Laws}
 use Rattle.runner_parts.specs.declared.entries.Published.{Published}
 use Rattle.runner_parts.specs.State.{RunState}
 use Rattle.runner_steps.specs.Sections.{is_open_run, next_of}
-use Rattle.agreement_core.specs.State.{AgreementState, IsOpen}
+use Rattle.agreement_core.specs.State.{AgreementState}
 use Rattle.agreement_core.proofs.Words.{value_held}
 use Rattle.epoch_core.specs.History.{is_out}
 use Rattle.history_core.specs.State.{Requests, HistoryState}
 use Rattle.machine_states.specs.Sight.{Sight}
 use Rattle.machine_epochs.specs.Entries.{counts_of}
 use Rattle.machine_epochs.proofs.RunPlaces.{open_run}
-use Rattle.machine_scenes.specs.Shown.{States, rules_of}
 use Rattle.machine_history.specs.Tied.{rank, AreTied}
 use Rattle.machine_history.specs.Laws.{HistoryStands, AreAllClosed}
 use Rattle.machine_history.proofs.Joining.{joined_stands}
-use Rattle.machine_agreement.proofs.RunPlaces.{run_here, used_here, before}
+use Rattle.machine_agreement.proofs.RunPlaces.{run_here, before}
 use Rattle.machine_invariant.specs.After.{AreAllowed}
 use Rattle.machine_invariant.specs.Sections.{IsAnswered}
-use Rattle.machine_invariant.specs.Trails.{thunk_at, step_at}
-use Rattle.machine_invariant.specs.Whole.{Beside, states_of, IsWhole}
+use Rattle.machine_invariant.specs.Trails.{step_at}
+use Rattle.machine_invariant.specs.Whole.{Beside, states_of}
 use Rattle.machine_records.specs.Requests.{requests_of}
 use Rattle.machine_records.specs.Kept.{link_of}
-use Rattle.reached_histories.specs.Sections.{IsStamped, Knows, HasPublished, KnewThen, HasOpen}
-use Rattle.reached_histories.specs.History.{request_in, IsPlaced, IsLegalHistory, CameBefore, ClockStands, RequestsStand, NoLockNames, IsClosed}
+use Rattle.reached_histories.specs.Sections.{HasPublished, HasOpen}
+use Rattle.reached_histories.specs.History.{request_in, IsLegalHistory, CameBefore, ClockStands, RequestsStand, NoLockNames, IsClosed}
 use Rattle.reached_histories.proofs.Quietly.{with_history, loading}
-use Rattle.reached_histories.proofs.Publications.{IsOwn}
 use Rattle.reached_histories.proofs.Steps.{Stands}
 
 ends : (x : Micro) → is_end x ≡ true → x ≡ micros.End
