@@ -1,7 +1,7 @@
-mod Quietly
+pub mod Quietly
 mod Learning
-mod Publications
-mod Steps
+pub mod Publications
+pub mod Steps
 pub mod Reached
 mod Words
 pub mod Histories
