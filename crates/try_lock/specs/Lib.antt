@@ -2,3 +2,6 @@ pub mod Reached
 pub mod Publishes
 pub mod Ends
 pub mod Retires
+pub mod Planning
+pub mod Plans
+pub mod Contents

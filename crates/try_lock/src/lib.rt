@@ -4,8 +4,12 @@
 //! *Lock-free locks revisited*, 2022).
 #![tactic(auto)]
 
+mod planned;
+mod planner;
 mod retires;
 mod section;
 
+pub use planned::Planned;
+pub use planner::Planner;
 pub use retires::retire_section;
 pub use section::Section;
