@@ -81,3 +81,9 @@ module _ {T : Type 0} (m : Meaning) where
     pub reads : HasRead place end.first old between q behind
     pub ends : IsRefused old.layout.version_max place expected end between new
         ⊎ IsTried old.layout.version_max place expected end between new behind
+
+  -- a Take that gave this answer
+  pub record Takes (place expected : ℕ) (answer : Result (Unit {0}) Refused) (old new : RunnerState T) (q : RunState) : Type 0 where
+    pub end : TakeEnd
+    pub taken : HasTaken place expected end old new q
+    pub told : end.answer ≡ answer
