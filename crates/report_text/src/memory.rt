@@ -69,6 +69,7 @@ impl Sink for MemorySink {
         ensures later { self.old.faults ≤ self.new.faults }
         ensures cause { OnErr result (Rose self.old.faults self.new.faults) }
         ensures stuck { 0 < length bytes.now → IfOk result (λ count. count ≡ 0 → Rose self.old.faults self.new.faults) }
+        ensures steady { IfOk result (λ count. 0 < count → self.new.faults ≡ self.old.faults) }
 
         ensures planned { IsTrue (is_planned self.old.fails (next_call self.old)) → IsErr result }
         ensures empty { is_planned self.old.fails (next_call self.old) ≡ false → IsTrue (is_planned self.old.empty (next_call self.old)) → result ≡ Ok 0 }

@@ -34,7 +34,7 @@ loop-reader-preserved g c =
     let (text, (at, moved)) = c.loop-reader.invariant.read in
     record {
       read = (_, (c.in_ok-feed.ensures.ok text at, Moves-append _ _ _ text _ moved c.in_ok-count.ensures.moved));
-      later = omega (arith, c.loop-reader.invariant.later, c.in_ok-count.ensures.later);
+      steady = c.in_ok-count.ensures.steady ∙ c.loop-reader.invariant.steady;
     }
 
 pub returns-in_err-feed-clause-answer : goal.returns-in_err-feed-clause-answer
