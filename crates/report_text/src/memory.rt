@@ -64,7 +64,7 @@ impl Sink for MemorySink {
     fn write(&mut self, bytes: &[u8]) -> Result<usize, Failed>
         ensures bound { IfOk result (λ count. count ≤ length bytes.now) }
         ensures appended { IfOk result (λ count. Extends (Some self.old.bytes) (take count bytes.now) (Some self.new.bytes)) }
-        ensures failed { OnErr result (Some self.new.bytes ≡ Some self.old.bytes) }
+        ensures failed { OnErr result (self.new.bytes ≡ self.old.bytes) }
 
         ensures later { self.old.faults ≤ self.new.faults }
         ensures cause { OnErr result (Rose self.old.faults self.new.faults) }

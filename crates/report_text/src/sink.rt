@@ -1,5 +1,6 @@
 // Where bytes go.
 ghost use Rattle.std.specs.Prelude.{List, ℕ, Option, ◌≡◌, ◌<◌, ◌≤◌, length, take, IfOk, OnErr, OnOk};
+ghost use Rattle.std.specs.Io.KnownBytes.{Keeps};
 ghost use Rattle.fault_count.specs.Rose.{Rose};
 ghost use Rattle.report_text.specs.Sink.{Extends, Appends};
 
@@ -21,7 +22,7 @@ pub trait Sink {
     fn write(&mut self, bytes: &[u8]) -> Result<usize, Failed>
         ensures bound { IfOk result (λ count. count ≤ length bytes.now) }
         ensures appended { IfOk result (λ count. Extends (held self.old) (take count bytes.now) (held self.new)) }
-        ensures failed { OnErr result (held self.new ≡ held self.old) }
+        ensures failed { OnErr result (Keeps (held self.old) (held self.new)) }
 
         ensures later { faults self.old ≤ faults self.new }
         ensures cause { OnErr result (Rose (faults self.old) (faults self.new)) }

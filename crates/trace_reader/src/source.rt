@@ -1,5 +1,6 @@
 // Where a text comes from.
 ghost use Rattle.std.specs.Prelude.{List, ℕ, Option, ◌≡◌, ◌<◌, ◌≤◌, length, take, IfOk, OnErr, OnOk};
+ghost use Rattle.std.specs.Io.KnownBytes.{Keeps};
 ghost use Rattle.fault_count.specs.Rose.{Rose};
 ghost use Rattle.trace_reader.specs.Source.{Moves, EndsAt};
 
@@ -22,7 +23,7 @@ pub trait Source {
         ensures moved { IfOk result (λ n. Moves (left self.old) (take n buffer.new) (left self.new)) }
         ensures end { 0 < length buffer.old → IfOk result (λ n. n ≡ 0 → EndsAt (left self.old)) }
 
-        ensures failed { OnErr result (left self.new ≡ left self.old) }
+        ensures failed { OnErr result (Keeps (left self.old) (left self.new)) }
         ensures cause { OnErr result (Rose (faults self.old) (faults self.new)) }
         ensures steady { OnOk result (faults self.new ≡ faults self.old) }
         ensures later { faults self.old ≤ faults self.new };
