@@ -10,7 +10,7 @@ use crate::traces::{TraceError, Traces};
 use std::alloc::Global;
 
 /// How many bytes are asked of the source at a time.
-const PIECE: usize = 4096;
+const PIECE: usize = 16_384;
 
 /// Reads a trace text to the end of the input, or to the first thing that it is refused for.
 ///
