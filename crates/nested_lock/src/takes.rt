@@ -5,10 +5,10 @@ ghost use Rattle.version_words.specs.TableState.{IsOf};
 ghost use Rattle.commit_log.specs.Runs.{IsRunning};
 ghost use Rattle.commit_log.specs.Asked.{IsAsked};
 ghost use Rattle.commit_log.specs.Halted.{IsHalted, IsThrough};
-ghost use Rattle.nested_lock.specs.Taken.{MayTake, MayHold, HasTaken, HasHeld};
+ghost use Rattle.nested_lock.specs.Taken.{MayTake, MayHold, HasTaken, HasHeld, Takes};
 
 use crate::answers::{first_answer, second_answer};
-use commit_log::{commit, passes};
+use commit_log::{NeverHalts, commit, passes};
 use runner_parts::Structure;
 use section_body::{Gate, Place, Refused, StepKind, Steps, Word};
 use version_words::{FlockTable, Runner, table_is_allowed};
@@ -24,15 +24,39 @@ pub struct TakeEnd {
     pub second: Option<Word>,
 }
 
-/// Takes a further lock for the section of this descriptor, with the free word that the lock is expected to hold. The lock's word is loaded and
-/// agreed on. Where the agreed word names a descriptor the answer is Busy; where it is free and has no version left to be taken and
-/// released, Spent; where it isn't the expected one, Stale. Otherwise one exchange from the expected word to the one that names this section
-/// is made, and the lock's word is loaded and agreed on again. The answer is Ok exactly where this second agreed word is the one that
-/// names this section; else it is Busy, Spent or Stale by that word, in this order.
+/// Takes a further lock for the section that the runner runs, with the free word that the lock is expected to hold.
+/// The lock's word is loaded and agreed on. Where the agreed word names a descriptor the answer is Busy; where it is
+/// free and has no version left to be taken and released, Spent; where it isn't the expected one, Stale. Otherwise one
+/// exchange from the expected word to the one that names this section is made, and the lock's word is loaded and agreed
+/// on again. The answer is Ok exactly where this second agreed word is the one that names this section; else it is
+/// Busy, Spent or Stale by that word, in this order. Each refusal carries the agreed word.
 ///
-/// The runner has to be in a run of that section, whose next step takes this lock with this word. Each refusal carries the agreed word, and
-/// both agreed words come with the answer; two steps were made for a refusal by the first word, else five. Each step is counted, and the gate is asked after it: None where it
-/// halted the runner. No memory is taken (Ben-David, Blelloch, Wei, 2022).
+/// The runner has to be in a run whose next step takes this lock with this word. Two steps are made for a refusal by
+/// the first word, else five. No memory is taken (Ben-David, Blelloch, Wei, 2022).
+pub fn take<S: Structure>(
+    table: &FlockTable<S>,
+    runner: Runner<S>,
+    place: Place,
+    expected: Word,
+) -> (Runner<S>, Result<(), Refused>)
+    requires own { IsOf table.now runner }
+    requires next { (q : RunState) × MayTake (S.meaning table.now.structure) runner place expected q }
+    ensures own { IsOf table.now result.0 }
+    ensures taken { (q : RunState) → IsRunning (S.meaning table.now.structure) runner q → Takes (S.meaning table.now.structure) place expected result.1 runner result.0 q }
+{
+    let descriptor = runner.descriptor();
+    let mut gate = NeverHalts::new();
+    let mut steps = Steps::<()>::new();
+    match take_gated(
+        table, runner, descriptor, place, expected, &mut gate, &mut steps,
+    ) {
+        (runner, Some(end)) => (runner, end.answer),
+        _ => unreachable!(),
+    }
+}
+
+/// The same for the section of this descriptor, which the runner runs, counting each step and asking the gate after it. Both agreed words
+/// come with the answer; None where the gate halted the runner.
 pub fn take_gated<S: Structure, G: Gate, L>(
     table: &FlockTable<S>,
     runner: Runner<S>,
@@ -71,7 +95,9 @@ pub fn take_gated<S: Structure, G: Gate, L>(
             }),
         );
     }
-    hold_gated(table, runner, descriptor, place, expected, read, gate, steps)
+    hold_gated(
+        table, runner, descriptor, place, expected, read, gate, steps,
+    )
 }
 
 /// The second half of a Take: the exchange that is to take the lock, and the agreement on what it left.
