@@ -81,12 +81,9 @@ module _ {T : Type 0} (m : Meaning) where
     pub reads : HasRead place end.first old between q behind
     pub ends : IsRefused old.layout.version_max place expected end between new
         ⊎ IsTried old.layout.version_max place expected end between new behind
-<<<<<<< HEAD
-=======
 
   -- a Take that gave this answer
   pub record Takes (place expected : ℕ) (answer : Result (Unit {0}) Refused) (old new : RunnerState T) (q : RunState) : Type 0 where
     pub end : TakeEnd
     pub taken : HasTaken place expected end old new q
     pub told : end.answer ≡ answer
->>>>>>> 391d18fa5ad67d39b0fd2e3bccbbc48fe80b26f8
