@@ -2,7 +2,7 @@
 ghost use Rattle.std.specs.Prelude.{◌≡◌, ℕ, ◌<◌, ◌≤◌, ◌^◌, ◌∷◌, [], IfNone, IfSome, length, min, not, position};
 ghost use Rattle.std.specs.Char.{is_ascii, is_ascii_digit};
 ghost use Rattle.std.specs.List.{list_all};
-ghost use Rattle.trace_reader.specs.Fields.{is_blank, fields_in, is_number, value_of, content_of};
+ghost use Rattle.trace_reader.specs.Fields.{is_blank, is_comment, fields_in, is_number, value_of, content_of};
 
 /// The line without a carriage return that ends it.
 pub fn content(line: &[u8]) -> &[u8]
@@ -13,6 +13,16 @@ pub fn content(line: &[u8]) -> &[u8]
         &line[..len - 1]
     } else {
         line
+    }
+}
+
+/// Whether the first field begins with `#`. Where it ends plays no part, so a long comment isn't searched for that.
+pub fn is_comment(line: &[u8]) -> bool
+    ensures { result ≡ is_comment (fields_in line.now) }
+{
+    match find_word(line) {
+        Some(start) => line[start] == b'#',
+        None => false,
     }
 }
 
