@@ -1,0 +1,19 @@
+-- What a closed table's words stand for.
+use Rattle.std.specs.Prelude.{◌≡◌, ℕ, true}
+use Rattle.map_history.specs.Replay.{Pairs}
+use Rattle.section_body.specs.Word.{is_free}
+use Rattle.table_words.specs.declared.spot.Spot.TheVariants.{Cell}
+use Rattle.structure_laws.specs.Scene.{Cells}
+use Rattle.structure_laws.specs.Meaning.{Meaning}
+use Rattle.version_words.specs.TableState.{WordsState, HasWord, word_of}
+
+module _ {T : Type 0} (m : Meaning) where
+  -- the cells are well formed, and their contents are the map; of places beyond the table nothing is said
+  pub record StandFor (words : WordsState T) (pairs : Pairs) : Type 0 where
+    pub cells : Cells
+    pub same : (place : ℕ) → HasWord m words (Cell place) → cells place ≡ word_of m words (Cell place)
+    pub stands : m.stands words.layout cells pairs
+
+  -- no lock names a descriptor
+  abbrev pub NamesNone : WordsState T → Type 0
+  NamesNone words = (place : ℕ) → m.is_lock place ≡ true → HasWord m words (Cell place) → is_free (word_of m words (Cell place)) ≡ true

@@ -1,0 +1,65 @@
+//! What a structure offers to those who plan requests on it.
+ghost use Rattle.std.specs.Prelude.{◌≡◌, true, Some, IfOk, slice_get};
+ghost use Rattle.std.specs.FinMap.{entries};
+ghost use Rattle.map_history.specs.Replay.{Pairs};
+ghost use Rattle.structure_laws.specs.Planner.{PlannerLaws};
+ghost use Rattle.version_words.specs.TableState.{IsOf};
+ghost use Rattle.try_lock.specs.Planning.{Planning};
+ghost use Rattle.try_lock.specs.Plans.{MayPlan, HasPlanned};
+ghost use Rattle.try_lock.specs.Contents.{StandFor, NamesNone};
+
+use crate::planned::Planned;
+use map_history::{Op, Request};
+use runner_parts::Structure;
+use section_body::{Gate, Steps};
+use std::alloc::{AllocError, Global};
+use version_words::{FlockTable, Runner, Words};
+
+/// A map over cells and node slots, on which requests are planned.
+///
+/// `planning` is what its walks mean, beside what `meaning` says of a structure.
+pub trait Planner: Structure + Sized + Send + Sync {
+    ghost planning: { Self → Planning };
+
+    /// Whether it serves this operation.
+    fn serves(&self, op: Op) -> bool
+        ensures { result ≡ (planning self.now).serves op };
+
+    /// Plans a request: walks without a lock to the key's place, loads the locks that a section needs, and answers the thunk of the
+    /// request's section.
+    ///
+    /// The structure is the table's, the runner is entered, in no run and has made no load of a cell since it entered, and the request
+    /// is one of the table's, which the structure serves. The gate is asked after each load. The first reading that refuses decides: Busy
+    /// comes exactly where a lock's word names a descriptor, Spent exactly where it is free and spent, Stale exactly where a reached
+    /// node's mark is 1, Far exactly where as many links were loaded as there are node slots, and eight more, and the walk isn't at its
+    /// end. Halted comes exactly where the gate halted, which its count of halts shows. Else the thunk fits the readings, which are of this
+    /// call. No memory is taken (Ben-David, Blelloch, Wei, *Lock-free locks revisited*, 2022).
+    fn plan<G: Gate, L>(
+        &self,
+        table: &FlockTable<Self>,
+        runner: Runner<Self>,
+        request: &Request,
+        gate: &mut G,
+        steps: &mut Steps<L>,
+    ) -> (Runner<Self>, Planned)
+        requires own { IsOf table.now runner }
+        requires structure { self.now ≡ table.now.structure }
+        requires entered { MayPlan runner }
+        requires request { slice_get table.now.requests request.now.number ≡ Some request.now }
+        requires served { (planning self.now).serves request.now.op ≡ true }
+        ensures own { IsOf table.now result.0 }
+        ensures plans { HasPlanned (Self.meaning self.now) (planning self.now) request.now result.1 runner result.0 (G.halts gate.old) (G.halts gate.new) (G.asks gate.old) (G.asks gate.new) steps.old.count steps.new.count };
+
+    /// The pairs of a closed table's words, in order of key, each once.
+    ///
+    /// The structure is the words' own, their cells stand for a map by it, and no lock among them names a descriptor. The Err is want of
+    /// memory.
+    fn contents(&self, alloc: Global, words: &Words<Self>) -> Result<Vec<(u32, u32)>, AllocError>
+        requires structure { self.now ≡ words.now.structure }
+        requires stand { (pairs : Pairs) × StandFor (Self.meaning self.now) words.now pairs }
+        requires closed { NamesNone (Self.meaning self.now) words.now }
+        ensures contents { IfOk result (λ items. (pairs : Pairs) → StandFor (Self.meaning self.now) words.now pairs → items.items ≡ entries pairs) };
+
+    /// It serves a map, what its thunks expect was read, its Makes are for new pairs, and each pair keeps few slots in use.
+    ghost plans_lawfully: { (s : Self) → PlannerLaws (Self.meaning s) (planning s).per_pair };
+}
