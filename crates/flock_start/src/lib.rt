@@ -17,7 +17,8 @@ use trace_reader::Source;
 /// The status for want of memory before the call.
 const MEMORY: u8 = 7;
 
-/// Runs the command of the program's words on its standard streams, and gives the status with which the program is to end.
+/// Runs the command of the program's words on its standard streams, and gives the status with which the program
+/// is to end.
 ///
 /// It is 7 where memory is wanting for the words. Where a word is no text, the words are refused.
 pub fn start(rt: &HostRuntime) -> ExitCode {
