@@ -1,4 +1,4 @@
-mod Reading
+pub mod Reading
 mod Holding
 mod Dropping
-mod Halves
+pub mod Halves

@@ -1,0 +1,173 @@
+-- A whole run, put together.
+use Rattle.std.proofs.Common.{◌≡◌, ◌≢◌, ℕ, ◌+◌, ◌-◌, ◌≤◌, List, [], ◌∷◌, ◌++◌, Bool, true, refl, sym, ap, ◌∙◌, subst, arith, Option, Some, None}
+use Rattle.std.specs.Prelude.{if◌then◌else◌}
+use Rattle.section_body.specs.Cost.{cost_of}
+use Rattle.section_body.specs.Line.{line, micro_at}
+use Rattle.section_body.specs.Run.{leaves}
+use Rattle.section_body.specs.Trail.{Agreed}
+use Rattle.section_body.specs.Word.{value_of}
+use Rattle.section_body.specs.declared.outcome.Outcome.{Outcome}
+use Rattle.section_body.specs.declared.outcome.Outcome.TheVariants as outcomes
+use Rattle.section_body.specs.declared.step.Step.{Step}
+use Rattle.section_body.specs.declared.thunk.Thunk.{Thunk}
+use Rattle.table_words.specs.Limits.{IsWithinLimits}
+use Rattle.table_words.specs.declared.layout.Layout.{Layout}
+use Rattle.structure_laws.specs.Meaning.{Meaning}
+use Rattle.structure_laws.specs.Laws.{Laws}
+use Rattle.runner_parts.specs.State.{RunState, FinishedState, NodesState, ReadsState}
+use Rattle.runner_parts.specs.Tests.{has}
+use Rattle.runner_steps.specs.AfterInRun.{ended_more, over_if, finished_of}
+use Rattle.runner_steps.specs.Sections.{thunk_of, outcome_of, outcome_or, setting_of, is_late}
+use Rattle.machine_invariant.specs.After.{AreAllowed}
+use Rattle.version_words.specs.RunnerState.{RunnerState}
+use Rattle.version_words.specs.TableState.{TableState, IsOf}
+use Rattle.commit_log.specs.Runs.{Ran}
+use Rattle.commit_log.proofs.Running.{ran_one, ran_more}
+use Rattle.section_runs.specs.Reached.{run_or, run_of, events_after}
+use Rattle.section_runs.specs.Opened.{Learns, HasOpened, StandsOpened, opening}
+use Rattle.section_runs.specs.Bodies.{NodesGone, body_of, HasWalked}
+use Rattle.section_runs.specs.Ends.{HasEnded}
+use Rattle.machine_states.specs.Sight.{sight}
+use Rattle.runner_steps.specs.After.{counted}
+use Rattle.section_runs.specs.Ended.{NodesRan, IsDone, EndsSo}
+use Rattle.section_runs.proofs.Going.{run_is}
+use Rattle.section_runs.proofs.Staying.{Passed, learns_more, still_of, step_events, step_learns, ran_passed, ran_own, events_more}
+use Rattle.section_runs.proofs.Walking.{sum_most, made_by, retired_by}
+use Rattle.section_runs.proofs.Facts.{EndShows, end_shows}
+
+nodes_ran : (body : List Step) (n : ℕ) (old new : NodesState) → NodesGone body n old new → NodesRan body old new
+nodes_ran body n old new gone = record {
+  free = let f = gone.free in let k = sum_most made_by body n in omega (arith, f, k);
+  hand = gone.hand;
+  tests = gone.tests;
+  more = gone.more;
+  limbo = gone.limbo;
+  few = let f = gone.few in let k = sum_most retired_by body n in omega (arith, f, k);
+}
+
+-- an outcome that isn't an answer is that of a check
+left_by : (x : Option Outcome) (reply : ℕ) (o : Outcome) → outcome_or x reply ≡ o → ((n : ℕ) → o ≢ outcomes.Answered n) → x ≡ Some o
+left_by None reply o e other = absurd (other reply (sym e))
+left_by (Some y) reply o e other = ap (λ (z : Outcome). Some z) e
+
+-- one event more at the end
+one_more : (count n : ℕ) → events_after (events_after count n) 1 ≡ events_after count (n + 1)
+one_more count n = events_more count n 1
+
+module _ {T : Type 0} (m : Meaning) (laws : Laws m) (t : TableState T) (limits : IsWithinLimits t.layout) (allowed : AreAllowed t.requests) (r1 r2 new : RunnerState T) (own : IsOf t r1)
+    (d : ℕ) (thunk : Thunk) (late : Bool) (opened : StandsOpened m d thunk late r1)
+    (n : ℕ) (o : Outcome) (walked : HasWalked m n o r1 r2) (made : ℕ) (went : Ran m made r1 r2) (ended : HasEnded m r2 new) where
+  abbrev last : RunnerState T
+  last = ended.last
+
+  abbrev q : RunState
+  q = run_of last
+
+  abbrev q2 : RunState
+  q2 = run_of r2
+
+  run1 : run_of r1 ≡ opening d opened.words
+  run1 = ap run_or opened.run
+
+  q_descriptor : q.descriptor ≡ d
+  q_descriptor = ap (λ (y : RunState). y.descriptor) ended.on.run ∙ (walked.same.descriptor ∙ ap (λ (y : RunState). y.descriptor) run1)
+
+  q_opened : q.opened ≡ opened.words
+  q_opened = ap (λ (y : RunState). y.opened) ended.on.run ∙ (walked.same.opened ∙ ap (λ (y : RunState). y.opened) run1)
+
+  q_thunk : thunk_of q.opened ≡ thunk
+  q_thunk = ap thunk_of q_opened ∙ opened.thunk
+
+  body1 : body_of m r1 ≡ m.body thunk
+  body1 = ap (λ (y : RunState). m.body (thunk_of y.opened)) run1 ∙ ap m.body opened.thunk
+
+  passed : Passed (made + ended.count) thunk.request r1 last
+  passed = ran_passed m laws t limits allowed (made + ended.count) thunk.request r1 last own (ran_more m made ended.count r1 r2 last went ended.ran) q ended.inside
+      (λ p is. ap (λ (y : RunState). (thunk_of y.opened).request) (run_is m r1 p is ∙ run1) ∙ ap (λ (x : Thunk). x.request) opened.thunk)
+
+  last_own : IsOf t last
+  last_own = ran_own m laws t limits allowed (made + ended.count) r1 last own (ran_more m made ended.count r1 r2 last went ended.ran)
+
+  new_own : IsOf t new
+  new_own = still_of m laws t limits allowed last new last_own q _ ended.released.found ended.released.step
+
+  stage : new.part.stage ≡ r1.part.stage
+  stage = ended.released.step.behind.stage ∙ passed.stays.stage
+
+  held : (i : ℕ) → has r1.part.reads.held i ≡ true → has new.part.reads.held i ≡ true
+  held i h = ap (λ (s : ReadsState). has s.held i) ended.released.step.behind.reads ∙ passed.stays.held i h
+
+  abbrev f : FinishedState
+  f = finished_of m last.layout (ended_more q)
+
+  shows : EndShows m d thunk f new
+  shows = subst (λ (x : Thunk). EndShows m d x f new) q_thunk (subst (λ i. EndShows m i (thunk_of q.opened) f new) q_descriptor
+      (end_shows m laws last new (subst IsWithinLimits (sym new_own.layout) limits) (subst AreAllowed (sym new_own.requests) allowed) q _ _ ended.released.found ended.released.step
+      ended.released.over opened.epoch (stage ∙ opened.at) (subst (λ i. has new.part.reads.held i ≡ true) (sym q_descriptor) (held d opened.holds))))
+
+  outcome_is : f.outcome ≡ o
+  outcome_is = ap (λ (y : RunState). outcome_of m last.layout (ended_more y)) ended.on.run ∙ (ap (λ (l : Layout). outcome_of m l q2) ended.on.layout ∙ walked.over.outcome)
+
+  pub ends_so : (old : RunnerState T) → HasOpened m d thunk late old r1 → (trail : Agreed) → trail.words ≡ q2.trail → trail.late ≡ late
+      → 13 + (made + (ended.count + 1)) ≤ cost_of (m.body thunk) → EndsSo m d thunk o trail (13 + (made + (ended.count + 1))) old new
+  ends_so old hop trail words is_late_so few =
+      let over = ended.released.over in
+      let behind = ended.released.step.behind in
+      let made_same = ended.released.step.event.made in
+      record {
+        finished = f;
+        kept = behind.finished ∙ (ap (λ b. if b then last.part.records.finished ++ f ∷ [] else last.part.records.finished) over ∙ ap (λ xs. xs ++ f ∷ []) (passed.stays.finished ∙ hop.stays.finished));
+        of_descriptor = q_descriptor;
+        lock = ap (λ (x : Thunk). x.lock) q_thunk;
+        word = ap (λ (x : Thunk). x.word) q_thunk;
+        same_outcome = outcome_is;
+        same_trail = ap (λ (y : RunState). y.trail) ended.on.run ∙ sym words;
+        same_late = ap (λ xs. is_late (opening d xs)) q_opened ∙ (opened.found ∙ sym is_late_so);
+        reached = shows.reached;
+        is_done = subst (λ xs. IsDone m d thunk xs (sight m new.layout new.requests shows.reached.world)) (ap (λ (y : RunState). y.trail) ended.on.run ∙ sym words) shows.is_done;
+        components = shows.components;
+        facts = shows.facts;
+        used = shows.used;
+        ends = shows.ends;
+        opened = r1;
+        opening = subst (λ (b : Bool). HasOpened m d thunk b old r1) (sym is_late_so) hop;
+        count = made + (ended.count + 1);
+        ran = ran_more m made (ended.count + 1) r1 r2 new went (ran_more m ended.count 1 r2 last new ended.ran (ran_one m q _ ended.released.found last new ended.released.step));
+        counted = refl;
+        few = few;
+        events = step_events m laws t limits allowed last new last_own q _ ended.released.found ended.released.step
+            ∙ (ap counted passed.events ∙ (one_more r1.part.records.events (made + ended.count)
+            ∙ ((let e : made + ended.count + 1 ≡ made + (ended.count + 1) = omega arith in ap (events_after r1.part.records.events) e)
+            ∙ (ap (λ k. events_after k (made + (ended.count + 1))) hop.events ∙ events_more old.part.records.events 13 (made + (ended.count + 1))))));
+        layout = ap (λ (y : RunnerState T). y.layout) made_same ∙ (passed.stays.layout ∙ hop.stays.layout);
+        number = ap (λ (y : RunnerState T). y.number) made_same ∙ (passed.stays.number ∙ hop.stays.number);
+        present = behind.present ∙ (passed.stays.present ∙ hop.stays.present);
+        stage = stage ∙ hop.stays.stage;
+        resting = behind.run ∙ ap (λ b. if b then None else Some (ended_more q)) over;
+        published = behind.published ∙ (ap (λ b. if b then over_if last.part.published q.descriptor else last.part.published) over
+            ∙ (λ i. over_if ((passed.stays.published ∙ hop.stays.published) i) (q_descriptor i)));
+        descriptors = behind.descriptors ∙ (passed.stays.descriptors ∙ hop.stays.descriptors);
+        nodes = subst (λ (ns : NodesState). NodesRan (m.body thunk) ns new.part.nodes) hop.nodes (subst (λ xs. NodesRan xs r1.part.nodes new.part.nodes) body1
+            (nodes_ran (body_of m r1) n r1.part.nodes new.part.nodes (subst (NodesGone (body_of m r1) n r1.part.nodes) (sym (behind.nodes ∙ ended.on.nodes)) walked.nodes)));
+        left_nodes = λ other. behind.nodes ∙ (ended.on.nodes ∙ (walked.left other ∙ hop.nodes));
+        held = λ i h. held i (hop.stays.held i h);
+        entry = ap (λ (s : ReadsState). s.published) behind.reads ∙ (passed.stays.entry ∙ hop.stays.entry);
+        learns = subst (λ ks. Learns thunk.request ks new.part.records.known) hop.known (learns_more thunk.request r1.part.records.known last.part.records.known new.part.records.known passed.learns
+            (subst (λ (x : Thunk). Learns x.request last.part.records.known new.part.records.known) q_thunk
+            (step_learns m laws t limits allowed last new last_own q _ ended.released.found ended.released.step)));
+        cause = λ other. (q2.at, cause_of other);
+        names = λ p w busy published. names_last p w (walked.names p w busy (ap (has r1.part.reads.published) (ap (λ (y : RunState). y.descriptor) run1) ∙ (ap (λ xs. has xs d) hop.stays.entry ∙ published)));
+      }
+    where
+      -- the check at which it left
+      cause_of : ((reply : ℕ) → o ≢ outcomes.Answered reply) → leaves (setting_of new.layout d) trail.words (micro_at (line (m.body thunk)) q2.at) ≡ Some o
+      cause_of other = (λ i. leaves (setting_of ((ap (λ (y : RunnerState T). y.layout) ended.released.step.event.made ∙ ended.on.layout) i)
+          ((sym q_descriptor ∙ ap (λ (y : RunState). y.descriptor) ended.on.run) i)) (words i)
+          (micro_at (line (m.body ((sym q_thunk ∙ ap (λ (y : RunState). thunk_of y.opened) ended.on.run) i))) q2.at))
+          ∙ left_by (leaves (setting_of r2.layout q2.descriptor) q2.trail (micro_at (line (m.body (thunk_of q2.opened))) q2.at)) _ o walked.over.outcome other
+
+      -- what was held behind the body is held at the end
+      names_last : (p w : ℕ) → has r2.part.reads.held (value_of w - 1) ≡ true → has new.part.reads.held (value_of w - 1) ≡ true
+      names_last p w h = ap (λ (s : ReadsState). has s.held (value_of w - 1)) ended.released.step.behind.reads
+          ∙ (ran_passed m laws t limits allowed ended.count (thunk_of q2.opened).request r2 last (ran_own m laws t limits allowed made r1 r2 own went) ended.ran q ended.inside
+          (λ p is. ap (λ (y : RunState). (thunk_of y.opened).request) (run_is m r2 p is))).stays.held (value_of w - 1) h

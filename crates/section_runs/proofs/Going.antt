@@ -1,0 +1,124 @@
+-- A run goes on from one step of its body to the next one.
+use Rattle.std.proofs.Common.{◌≡◌, ℕ, suc, ◌+◌, ◌<◌, ◌≤◌, List, [], ◌∷◌, ◌++◌, length, length-append, true, false, refl, sym, ap, ◌∙◌, subst, arith, None}
+use Rattle.section_body.specs.declared.micro.Micro.{Micro}
+use Rattle.section_body.specs.declared.step.Step.{Step}
+use Rattle.section_body.specs.Line.{Registers, begins, line, micros, micro_at, micro_count, log_words, is_event, registers_before}
+use Rattle.section_body.specs.Run.{settled}
+use Rattle.section_body.specs.Shape.{IsStep, IsShaped}
+use Rattle.section_body.proofs.LineLemmas.{micro_within, begins_next, registers_before_next, count_after}
+use Rattle.section_body.proofs.RegisterLemmas.{count_le}
+use Rattle.section_lines.specs.Rests.{is_test, rests}
+use Rattle.section_lines.proofs.Places.{step_inside}
+use Rattle.section_lines.proofs.Progress.{some_micros}
+use Rattle.section_lines.proofs.Resting.{run_rests}
+use Rattle.table_words.specs.Limits.{IsWithinLimits}
+use Rattle.structure_laws.specs.Meaning.{Meaning}
+use Rattle.structure_laws.specs.Laws.{Laws}
+use Rattle.runner_parts.specs.State.{RunState, NodesState}
+use Rattle.runner_steps.specs.Sections.{thunk_of, line_of, next_of, setting_of, settles}
+use Rattle.machine_invariant.specs.After.{AreAllowed}
+use Rattle.next_steps.proofs.Stages.{in_table}
+use Rattle.version_words.specs.RunnerState.{RunnerState}
+use Rattle.version_words.specs.TableState.{TableState, IsOf}
+use Rattle.commit_log.specs.Runs.{IsRunning}
+use Rattle.commit_log.proofs.Next.{next_here}
+use Rattle.section_runs.specs.Reached.{run_or, run_of}
+use Rattle.section_runs.specs.Bodies.{NodesStepped, body_of, StandsBefore, IsBefore, MayGo, IsSameRun}
+
+append_none : {A : Type 0} (xs : List A) → xs ++ [] ≡ xs
+append_none [] = refl
+append_none (x ∷ xs) = ap (λ ys. x ∷ ys) (append_none xs)
+
+-- the run that a runner is in
+pub run_is : {T : Type 0} (m : Meaning) (r : RunnerState T) (q : RunState) → IsRunning m r q → q ≡ run_of r
+run_is m r q is = ap run_or (sym is.inside.running)
+
+-- own node slots that no step touched
+pub nodes_same : (step : Step) (old new : NodesState) → new ≡ old → NodesStepped step old new
+nodes_same step old new e = subst (NodesStepped step old) (sym e) (record {
+  free = omega arith;
+  hand = refl;
+  tests = λ none. none;
+  more = [];
+  limbo = sym (append_none old.limbo);
+  few = omega arith;
+  same = λ make retire. refl;
+})
+
+module _ {T : Type 0} (m : Meaning) (r : RunnerState T) (n : ℕ) (step : Step) (before : IsBefore m n r) (here : IsStep (body_of m r) n step) where
+  abbrev q : RunState
+  q = run_of r
+
+  -- before a step that isn't a check alone the run rests where the step begins
+  pub begins_here : is_test step ≡ false → q.at ≡ begins (body_of m r) n
+  begins_here test = before.at ∙ (run_rests (setting_of r.layout q.descriptor) q.trail (body_of m r)).before n step here test
+
+  -- so this is the atomic step so many places further
+  pub stands : (i at : ℕ) → is_test step ≡ false → i < micro_count step → at ≡ q.at + i
+      → micro_at (line_of m q) at ≡ micro_at (micros (registers_before (body_of m r) n) step) i
+  stands i at test within e =
+      ap (micro_at (line_of m q)) (let b = begins_here test in let z : at ≡ begins (body_of m r) n + i = omega (arith, b, e) in z)
+      ∙ micro_within (body_of m r) n i step here within
+
+  -- and the first one comes next
+  pub comes_next : (micro : Micro) → is_test step ≡ false → micro_at (micros (registers_before (body_of m r) n) step) 0 ≡ micro → is_event micro ≡ true → next_of m q ≡ micro
+  comes_next micro test first event = next_here m q micro
+      (stands 0 q.at test (some_micros step) (omega arith) ∙ first) event
+
+  -- where a run comes to the next step
+  pub arrives_at : (new : RunnerState T) (q0 : RunState) (words : List ℕ) → IsRunning m new (settles m r.layout q0) → new.layout ≡ r.layout
+      → q0.opened ≡ q.opened → q0.descriptor ≡ q.descriptor → q0.trail ≡ q.trail ++ words → length words ≡ log_words step → q0.made ≡ None → q0.ended ≡ 0
+      → settled (setting_of r.layout q0.descriptor) q0.trail (line_of m q0) q0.at ≡ rests (setting_of r.layout q0.descriptor) q0.trail (body_of m r) (suc n)
+      → IsBefore m (suc n) new
+  arrives_at new q0 words running layout opened descriptor trail many none unended at =
+      subst (StandsBefore m (suc n) new) (run_is m new (settles m r.layout q0) running) (record {
+        running = running;
+        at = at ∙ (λ i. rests (setting_of (sym layout i) q0.descriptor) q0.trail (m.body (thunk_of (sym opened i))) (suc n));
+        count = ap length trail ∙ (length-append q.trail words
+            ∙ ((let c = before.count in let z : length q.trail + length words ≡ (registers_before (body_of m r) n).count + log_words step = omega (arith, c, many) in z)
+            ∙ (sym (ap (λ (g : Registers). g.count) (registers_before_next (body_of m r) n step here) ∙ count_after (registers_before (body_of m r) n) step)
+            ∙ ap (λ xs. (registers_before (m.body (thunk_of xs)) (suc n)).count) (sym opened))));
+        none = none;
+        unended = unended;
+      })
+
+  -- as behind its last atomic step
+  pub arrives : (new : RunnerState T) (q0 : RunState) (words : List ℕ) → IsRunning m new (settles m r.layout q0) → new.layout ≡ r.layout
+      → q0.opened ≡ q.opened → q0.descriptor ≡ q.descriptor → q0.trail ≡ q.trail ++ words → length words ≡ log_words step → q0.made ≡ None → q0.ended ≡ 0
+      → q0.at ≡ begins (body_of m r) n + micro_count step → IsBefore m (suc n) new
+  arrives new q0 words running layout opened descriptor trail many none unended at =
+      arrives_at new q0 words running layout opened descriptor trail many none unended
+      (λ i. settled (setting_of r.layout q0.descriptor) q0.trail (line (m.body (thunk_of (opened i)))) ((at ∙ sym (begins_next (body_of m r) n step here)) i))
+
+-- and stays in its run
+pub same_run : {T : Type 0} (m : Meaning) (old new : RunnerState T) (q : RunState) → IsRunning m new q → new.layout ≡ old.layout
+    → q.opened ≡ (run_of old).opened → q.descriptor ≡ (run_of old).descriptor → IsSameRun m old new
+same_run m old new q is layout opened descriptor =
+    let e = run_is m new q is in
+    record {
+      opened = ap (λ (y : RunState). y.opened) (sym e) ∙ opened;
+      descriptor = ap (λ (y : RunState). y.descriptor) (sym e) ∙ descriptor;
+      layout = layout;
+    }
+
+-- what a trail is whose run came so far
+pub trail_is : {T : Type 0} (m : Meaning) (new : RunnerState T) (q : RunState) → IsRunning m new q → (words : List ℕ) → q.trail ≡ words → words ≡ (run_of new).trail
+trail_is m new q is words e = sym e ∙ ap (λ (y : RunState). y.trail) (run_is m new q is)
+
+module _ {T : Type 0} (m : Meaning) (laws : Laws m) (t : TableState T) (limits : IsWithinLimits t.layout) (allowed : AreAllowed t.requests) (r : RunnerState T) (own : IsOf t r) where
+  -- the body of a run has the shape
+  pub shaped : (q : RunState) → IsRunning m r q → IsShaped (m.body (thunk_of q.opened))
+  shaped q is = (in_table m laws r.layout (subst IsWithinLimits (sym own.layout) limits) r.requests (subst AreAllowed (sym own.requests) allowed)
+      r.number r.part q is.inside).body is.opened
+
+  -- the log has room for what a step agrees on
+  pub log_room : (step : Step) → MayGo m step r → length (run_of r).trail + log_words step ≤ 64
+  log_room step may =
+      let body = body_of m r in
+      let whole = shaped (run_of r) may.before.running in
+      let next = ap (λ (g : Registers). g.count) (registers_before_next body may.n step may.here) ∙ count_after (registers_before body may.n) step in
+      let inside = step_inside body may.n step may.here in
+      let most = count_le body (suc may.n) (omega (arith, inside)) in
+      let short = whole.short in
+      let count = may.before.count in
+      omega (arith, next, inside, most, short, count)

@@ -1,0 +1,17 @@
+pub mod Records
+pub mod Staying
+pub mod Opening
+pub mod Going
+pub mod Cases
+pub mod Taking
+pub mod Testing
+pub mod Stamping
+pub mod Ending
+pub mod Through
+pub mod Walking
+pub mod Replies
+pub mod Facts
+pub mod Using
+pub mod Ended
+pub mod Wents
+pub mod Openeds

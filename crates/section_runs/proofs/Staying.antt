@@ -1,0 +1,214 @@
+-- What no step of a run changes but the last one, and how its steps are counted.
+use Rattle.std.proofs.Common.{◌≡◌, ℕ, zero, suc, ◌+◌, List, [], ◌∷◌, ◌++◌, Bool, true, false, refl, sym, ap, ◌∙◌, subst, arith, Some, None, append_assoc}
+use Rattle.std.specs.Prelude.{◌||◌, slice_get, if◌then◌else◌}
+use Rattle.section_body.specs.declared.micro.Micro.{Micro}
+use Rattle.section_body.specs.declared.micro.Micro.TheVariants as micros
+use Rattle.section_body.specs.Line.{is_end}
+use Rattle.section_body.specs.Run.{written_once}
+use Rattle.table_words.specs.declared.layout.Layout.{Layout}
+use Rattle.table_words.specs.declared.access.Access.{Access}
+use Rattle.table_words.specs.declared.spot.Spot.{Spot}
+use Rattle.table_words.specs.Limits.{IsWithinLimits}
+use Rattle.structure_laws.specs.Meaning.{Meaning}
+use Rattle.structure_laws.specs.Laws.{Laws}
+use Rattle.runner_parts.specs.declared.entries.Known.{Known}
+use Rattle.runner_parts.specs.State.{RunState, ReadsState, PartState}
+use Rattle.runner_parts.specs.Lists.{named_by, lock_agreed, holds_named}
+use Rattle.runner_parts.specs.Tests.{has}
+use Rattle.runner_steps.specs.Sections.{thunk_of, is_open_run, next_of}
+use Rattle.runner_steps.specs.AfterInRun.{ended_more, over_if, finished_of}
+use Rattle.runner_steps.specs.After.{line_after, after, counted}
+use Rattle.machine_agreement.proofs.LineKinds.{noting, after_line}
+use Rattle.machine_epochs.proofs.Places.{has_append}
+use Rattle.machine_invariant.specs.After.{AreAllowed}
+use Rattle.next_steps.specs.Steps.{kind_at}
+use Rattle.next_steps.specs.Stages.{run_behind, reads_behind, published_behind, finished_behind}
+use Rattle.next_steps.proofs.Stages.{in_table}
+use Rattle.version_words.specs.RunnerState.{RunnerState}
+use Rattle.version_words.specs.TableState.{TableState, IsOf}
+use Rattle.commit_log.specs.Runs.{IsRunning, Stepped, Ran}
+use Rattle.commit_log.proofs.Running.{opened_stays, one_run}
+use Rattle.section_runs.specs.Reached.{events_after}
+use Rattle.section_runs.specs.Opened.{Stays, Learns}
+use Rattle.section_runs.proofs.Records.{noted_known, noted_events, learns_none, line_leaves}
+
+pub held_more : (xs ys : List ℕ) (d : ℕ) → has xs d ≡ true → has (xs ++ ys) d ≡ true
+held_more xs ys d e = has_append xs ys d ∙ ap (λ b. b || has ys d) e
+
+-- a lock's agreed word only adds to what is held
+agreed_held : (s : ReadsState) (descriptor word d : ℕ) → has s.held d ≡ true → has (lock_agreed s descriptor word).held d ≡ true
+agreed_held s descriptor word d e = by (has s.published descriptor)
+  where
+    by : (b : Bool) → has (if b then holds_named s word else s).held d ≡ true
+    by true = held_more s.held (named_by word) d e
+    by false = e
+
+agreed_published : (s : ReadsState) (descriptor word : ℕ) → (lock_agreed s descriptor word).published ≡ s.published
+agreed_published s descriptor word = by (has s.published descriptor)
+  where
+    by : (b : Bool) → (if b then holds_named s word else s).published ≡ s.published
+    by true = refl
+    by false = refl
+
+module _ (m : Meaning) (l : Layout) (p : PartState) (q : RunState) (found : ℕ) where
+  held_stays : (micro : Micro) (d : ℕ) → has p.reads.held d ≡ true → has (reads_behind p q micro found).held d ≡ true
+  held_stays (micros.NestedCommit place log) d e = agreed_held p.reads q.descriptor (written_once found q.word) d e
+  held_stays (micros.OutcomeCommit place log) d e = agreed_held p.reads q.descriptor (written_once found q.word) d e
+  held_stays _ d e = e
+
+  entry_stays : (micro : Micro) → (reads_behind p q micro found).published ≡ p.reads.published
+  entry_stays (micros.NestedCommit place log) = agreed_published p.reads q.descriptor (written_once found q.word)
+  entry_stays (micros.OutcomeCommit place log) = agreed_published p.reads q.descriptor (written_once found q.word)
+  entry_stays _ = refl
+
+  published_stays : (micro : Micro) (after : RunState) → run_behind m l p q micro found ≡ Some after → published_behind m p q micro ≡ p.published
+  published_stays (micros.Release place word) after e = by (is_end (next_of m (ended_more q))) e
+    where
+      by : (b : Bool) → (if b then None else Some (ended_more q)) ≡ Some after → (if b then over_if p.published q.descriptor else p.published) ≡ p.published
+      by true e = absurd (let z = e in cc)
+      by false e = refl
+  published_stays _ after e = refl
+
+  finished_stays : (micro : Micro) (after : RunState) → run_behind m l p q micro found ≡ Some after → finished_behind m l p q micro ≡ p.records.finished
+  finished_stays (micros.Release place word) after e = by (is_end (next_of m (ended_more q))) e
+    where
+      by : (b : Bool) → (if b then None else Some (ended_more q)) ≡ Some after
+          → (if b then p.records.finished ++ finished_of m l (ended_more q) ∷ [] else p.records.finished) ≡ p.records.finished
+      by true e = absurd (let z = e in cc)
+      by false e = refl
+  finished_stays _ after e = refl
+
+-- where nothing happened, and one after the other
+module _ {T : Type 0} where
+  pub stays_same : (r : RunnerState T) → Stays r r
+  stays_same r = record {
+    layout = refl;
+    requests = refl;
+    number = refl;
+    present = refl;
+    stage = refl;
+    published = refl;
+    descriptors = refl;
+    finished = refl;
+    held = λ d e. e;
+    entry = refl;
+  }
+
+  pub stays_more : (a b c : RunnerState T) → Stays a b → Stays b c → Stays a c
+  stays_more a b c one two = record {
+    layout = two.layout ∙ one.layout;
+    requests = two.requests ∙ one.requests;
+    number = two.number ∙ one.number;
+    present = two.present ∙ one.present;
+    stage = two.stage ∙ one.stage;
+    published = two.published ∙ one.published;
+    descriptors = two.descriptors ∙ one.descriptors;
+    finished = two.finished ∙ one.finished;
+    held = λ d e. two.held d (one.held d e);
+    entry = two.entry ∙ one.entry;
+  }
+
+each_more : (request : ℕ) (xs ys : List Known) → ((i : ℕ) (x : Known) → slice_get xs i ≡ Some x → x.request ≡ request)
+    → ((i : ℕ) (x : Known) → slice_get ys i ≡ Some x → x.request ≡ request) → (i : ℕ) (x : Known) → slice_get (xs ++ ys) i ≡ Some x → x.request ≡ request
+each_more request [] ys one two i x at = two i x at
+each_more request (y ∷ xs) ys one two zero x at = one 0 x at
+each_more request (y ∷ xs) ys one two (suc i) x at = each_more request xs ys (λ k z here. one (suc k) z here) two i x at
+
+pub learns_more : (request : ℕ) (a b c : List Known) → Learns request a b → Learns request b c → Learns request a c
+learns_more request a b c one two = record {
+  more = one.more ++ two.more;
+  adds = two.adds ∙ (ap (λ xs. xs ++ two.more) one.adds ∙ append_assoc a one.more two.more);
+  only = each_more request one.more two.more one.only two.only;
+}
+
+-- what so many steps of a run left, that is still in progress
+pub record Passed {T : Type 0} (n request : ℕ) (old new : RunnerState T) : Type 0 where
+  pub stays : Stays old new
+  pub events : new.part.records.events ≡ events_after old.part.records.events n
+  pub learns : Learns request old.part.records.known new.part.records.known
+
+module _ {T : Type 0} (m : Meaning) (laws : Laws m) (t : TableState T) (limits : IsWithinLimits t.layout) (allowed : AreAllowed t.requests) where
+  pub run_open : (r : RunnerState T) → IsOf t r → (q : RunState) → IsRunning m r q → is_open_run q ≡ true
+  run_open r own q is = (in_table m laws r.layout (subst IsWithinLimits (sym own.layout) limits) r.requests (subst AreAllowed (sym own.requests) allowed)
+      r.number r.part q is.inside).goes is.opened
+
+  module _ (a b : RunnerState T) (own : IsOf t a) (q : RunState) (micro : Micro) (found : ℕ) (step : Stepped m q micro found a b) where
+    pub still_of : IsOf t b
+    still_of = let made = step.event.made in record {
+      table = ap (λ (y : RunnerState T). y.table) made ∙ own.table;
+      structure = ap (λ (y : RunnerState T). y.structure) made ∙ own.structure;
+      layout = ap (λ (y : RunnerState T). y.layout) made ∙ own.layout;
+      requests = ap (λ (y : RunnerState T). y.requests) made ∙ own.requests;
+    }
+
+    -- the part after the step, as its line says, and then as it is noted
+    abbrev x : Spot × Access
+    x = step.event.met
+
+    abbrev then_part : PartState
+    then_part = line_after m a.layout (kind_at a.part q micro) a.part q micro found
+
+    part_is : b.part ≡ after m a.layout a.number (kind_at a.part q micro) x.0 x.1 a.part found
+    part_is = ap (λ (y : RunnerState T). y.part) step.event.made
+
+    noted_is : after m a.layout a.number (kind_at a.part q micro) x.0 x.1 a.part found ≡ noting a.layout a.number (kind_at a.part q micro) x.0 x.1 found then_part
+    noted_is = after_line m a.layout a.number (kind_at a.part q micro) x a.part found q micro step.running.inside.running (run_open a own q step.running) step.next
+
+    pub step_events : b.part.records.events ≡ counted a.part.records.events
+    step_events = ap (λ (p : PartState). p.records.events) (part_is ∙ noted_is)
+        ∙ (noted_events a.layout a.number (kind_at a.part q micro) x.0 x.1 found then_part.records ∙ ap counted (line_leaves m a.layout a.part q found micro).events)
+
+    pub step_learns : Learns (thunk_of q.opened).request a.part.records.known b.part.records.known
+    step_learns = subst (Learns (thunk_of q.opened).request a.part.records.known)
+        (sym (ap (λ (p : PartState). p.records.known) (part_is ∙ noted_is) ∙ noted_known a.layout a.number (kind_at a.part q micro) x.0 x.1 found then_part.records))
+        (line_leaves m a.layout a.part q found micro).learns
+
+    pub step_stays : (behind : RunState) → b.part.run ≡ Some behind → Stays a b
+    step_stays behind runs =
+        let e : run_behind m a.layout a.part q micro found ≡ Some behind = sym step.behind.run ∙ runs in
+        let made = step.event.made in
+        record {
+          layout = ap (λ (y : RunnerState T). y.layout) made;
+          requests = ap (λ (y : RunnerState T). y.requests) made;
+          number = ap (λ (y : RunnerState T). y.number) made;
+          present = step.behind.present;
+          stage = step.behind.stage;
+          published = step.behind.published ∙ published_stays m a.layout a.part q found micro behind e;
+          descriptors = step.behind.descriptors;
+          finished = step.behind.finished ∙ finished_stays m a.layout a.part q found micro behind e;
+          held = λ d h. ap (λ (s : ReadsState). has s.held d) step.behind.reads ∙ held_stays m a.layout a.part q found micro d h;
+          entry = ap (λ (s : ReadsState). s.published) step.behind.reads ∙ entry_stays m a.layout a.part q found micro;
+        }
+
+  -- a runner that made more steps was in a run
+  was_running : (n : ℕ) (a b : RunnerState T) → Ran m n a b → (q : RunState) → IsRunning m b q → (p : RunState) × IsRunning m a p
+  was_running zero a b same q is = (q, subst (λ (y : RunnerState T). IsRunning m y q) same is)
+  was_running (suc n) a b ran q is = (ran.1, ran.4.running)
+
+  pub ran_passed : (n request : ℕ) (a b : RunnerState T) → IsOf t a → Ran m n a b → (q : RunState) → IsRunning m b q
+      → ((p : RunState) → IsRunning m a p → (thunk_of p.opened).request ≡ request) → Passed n request a b
+  ran_passed zero request a b own same q is of = subst (λ (y : RunnerState T). Passed 0 request a y) (sym same)
+      (record { stays = stays_same a; events = refl; learns = learns_none request a.part.records.known })
+  ran_passed (suc n) request a b own ran q is of =
+      let r = ran.0 in let p = ran.1 in let step = ran.4 in
+      let between = was_running n r b ran.5 q is in
+      let behind : r.part.run ≡ Some between.0 = between.1.inside.running in
+      let opened = opened_stays m a.layout a.part p ran.3 ran.2 between.0 (sym step.behind.run ∙ behind) in
+      let same = of p step.running in
+      let rest = ran_passed n request r b (still_of a r own p ran.2 ran.3 step) ran.5 q is
+      (λ p' is'. ap (λ (y : RunState). (thunk_of y.opened).request) (one_run m r p' between.0 is' between.1) ∙ (ap (λ xs. (thunk_of xs).request) opened ∙ same)) in
+      record {
+        stays = stays_more a r b (step_stays a r own p ran.2 ran.3 step between.0 behind) rest.stays;
+        events = rest.events ∙ ap (λ k. events_after k n) (step_events a r own p ran.2 ran.3 step);
+        learns = learns_more request a.part.records.known r.part.records.known b.part.records.known
+            (subst (λ i. Learns i a.part.records.known r.part.records.known) same (step_learns a r own p ran.2 ran.3 step)) rest.learns;
+      }
+
+  pub ran_own : (n : ℕ) (a b : RunnerState T) → IsOf t a → Ran m n a b → IsOf t b
+  ran_own zero a b own same = subst (IsOf t) (sym same) own
+  ran_own (suc n) a b own ran = ran_own n ran.0 b (still_of a ran.0 own ran.1 ran.2 ran.3 ran.4) ran.5
+
+-- counting on
+pub events_more : (count n k : ℕ) → events_after (events_after count n) k ≡ events_after count (n + k)
+events_more count zero k = let e : k ≡ 0 + k = omega arith in ap (events_after count) e
+events_more count (suc n) k = events_more (counted count) n k ∙ (let e : suc (n + k) ≡ suc n + k = omega arith in ap (events_after count) e)

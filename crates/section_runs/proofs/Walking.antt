@@ -1,0 +1,196 @@
+-- A run goes through its body.
+use Rattle.std.proofs.Common.{◌≡◌, ℕ, zero, suc, ◌+◌, ◌-◌, ◌≤◌, List, [], ◌∷◌, ◌++◌, length, length-append, append_assoc, take, true, false, refl, sym, ap, ◌∙◌, subst, arith}
+use Rattle.std.specs.Prelude.{cond, count_by, sum_by}
+use Rattle.std.proofs.lemmas.List.Sums.{sum_by-cons}
+use Rattle.section_body.specs.declared.micro.Micro.{Micro}
+use Rattle.section_body.specs.declared.micro.Micro.TheVariants as micros
+use Rattle.section_body.specs.declared.outcome.Outcome.{Outcome}
+use Rattle.section_body.specs.declared.outcome.Outcome.TheVariants as outcomes
+use Rattle.section_body.specs.declared.step.Step.{Step}
+use Rattle.section_body.specs.declared.step.Step.TheVariants.{Load, Want, Fresh, Take, Make, Stamp, Store, Retire, Answer}
+use Rattle.section_body.specs.Line.{no_registers, line, micro_at, is_event, releases, registers_before}
+use Rattle.section_body.specs.Shape.{IsStep, IsShaped, phase, is_make, is_retire}
+use Rattle.section_body.specs.Word.{value_of}
+use Rattle.section_body.proofs.LineLemmas.{take_next, take_all, past_line}
+use Rattle.section_lines.specs.Rests.{taken_releases}
+use Rattle.section_lines.specs.Rests as resting
+use Rattle.section_lines.proofs.Places.{step_inside}
+use Rattle.section_lines.proofs.Resting.{run_rests}
+use Rattle.structure_laws.specs.Meaning.{Meaning}
+use Rattle.runner_parts.specs.State.{NodesState}
+use Rattle.runner_parts.specs.Tests.{has}
+use Rattle.runner_steps.specs.Sections.{thunk_of, setting_of, outcome_or, reply_in}
+use Rattle.section_body.specs.Run.{leaves}
+use Rattle.version_words.specs.RunnerState.{RunnerState}
+use Rattle.section_runs.specs.Reached.{run_of}
+use Rattle.section_runs.specs.Bodies.{NodesStepped, NodesGone, body_of, IsBefore, IsSameRun, IsOver, HasWalked}
+use Rattle.section_runs.specs.declared.passed.Walked.{Walked}
+use Rattle.section_runs.specs.declared.passed.Walked.TheVariants.{Over, Stopped}
+
+append_none : {A : Type 0} (xs : List A) → xs ++ [] ≡ xs
+append_none [] = refl
+append_none (x ∷ xs) = ap (λ ys. x ∷ ys) (append_none xs)
+
+-- what is summed over the first steps
+module _ (f : Step → ℕ) where
+  sum_last : (steps : List Step) (step : Step) → sum_by f (steps ++ step ∷ []) ≡ sum_by f steps + f step
+  sum_last [] step = sum_by-cons f step [] ∙ (let e : f step + 0 ≡ 0 + f step = omega arith in e)
+  sum_last (s ∷ steps) step = let a = sum_by-cons f s (steps ++ step ∷ []) in let b = sum_by-cons f s steps in let c = sum_last steps step in omega (arith, a, b, c)
+
+  pub sum_next : (steps : List Step) (n : ℕ) (step : Step) → IsStep steps n step → sum_by f (take (suc n) steps) ≡ sum_by f (take n steps) + f step
+  sum_next steps n step here = ap (sum_by f) (take_next steps n step here) ∙ sum_last (take n steps) step
+
+  pub sum_most : (steps : List Step) (n : ℕ) → sum_by f (take n steps) ≤ sum_by f steps
+  sum_most [] zero = omega arith
+  sum_most [] (suc n) = omega arith
+  sum_most (s ∷ steps) zero = omega arith
+  sum_most (s ∷ steps) (suc n) = let a = sum_by-cons f s (take n steps) in let b = sum_by-cons f s steps in let c = sum_most steps n in omega (arith, a, b, c)
+
+  pub sum_all : (steps : List Step) (n : ℕ) → length steps ≤ n → sum_by f (take n steps) ≡ sum_by f steps
+  sum_all steps n all = ap (sum_by f) (take_all steps n all)
+
+  -- what a step adds isn't more than is left
+  pub sum_room : (steps : List Step) (n : ℕ) (step : Step) → IsStep steps n step → sum_by f (take n steps) + f step ≤ sum_by f steps
+  sum_room steps n step here = let a = sum_next steps n step here in let b = sum_most steps (suc n) in omega (arith, a, b)
+
+abbrev pub made_by : Step → ℕ
+made_by step = cond (is_make step) 1 0
+
+abbrev pub retired_by : Step → ℕ
+retired_by step = cond (is_retire step) 1 0
+
+-- before the first Make nothing is made or retired
+early_makes : (step : Step) → phase step ≤ 1 → is_make step ≡ false
+early_makes (Load place into) low = refl
+early_makes (Want reg word) low = refl
+early_makes (Fresh reg) low = refl
+early_makes (Take place word) low = refl
+early_makes (Make init into) low = absurd (omega (arith, low))
+early_makes Stamp low = refl
+early_makes (Store reg value) low = refl
+early_makes (Retire slot) low = refl
+early_makes (Answer reply) low = refl
+
+early_retires : (step : Step) → phase step ≤ 1 → is_retire step ≡ false
+early_retires (Load place into) low = refl
+early_retires (Want reg word) low = refl
+early_retires (Fresh reg) low = refl
+early_retires (Take place word) low = refl
+early_retires (Make init into) low = refl
+early_retires Stamp low = refl
+early_retires (Store reg value) low = refl
+early_retires (Retire slot) low = absurd (omega (arith, low))
+early_retires (Answer reply) low = refl
+
+-- before the first step no register is set
+pub none_before : (body : List Step) → registers_before body 0 ≡ no_registers
+none_before [] = refl
+none_before (s ∷ body) = refl
+
+-- the own node slots, step by step
+pub nodes_none : (body : List Step) (n : NodesState) → NodesGone body 0 n n
+nodes_none body n = record {
+  free = omega arith;
+  hand = refl;
+  tests = λ none. none;
+  more = [];
+  limbo = sym (append_none n.limbo);
+  few = omega arith;
+  early = λ none. refl;
+}
+
+pub nodes_more : (body : List Step) (n : ℕ) (step : Step) (old a b : NodesState) → IsStep body n step → NodesGone body n old a → NodesStepped step a b → NodesGone body (suc n) old b
+nodes_more body n step old a b here one two =
+    let makes = sum_next made_by body n step here in
+    let retires = sum_next retired_by body n step here in
+    record {
+      free = let x = one.free in let y = two.free in omega (arith, x, y, makes);
+      hand = two.hand ∙ one.hand;
+      tests = λ none. two.tests (one.tests none);
+      more = one.more ++ two.more;
+      limbo = two.limbo ∙ (ap (λ xs. xs ++ two.more) one.limbo ∙ append_assoc old.limbo one.more two.more);
+      few = let x = one.few in let y = two.few in let l = length-append one.more two.more in omega (arith, x, y, l, retires);
+      early = λ all. two.same (early_makes step (all n step (omega arith) here)) (early_retires step (all n step (omega arith) here))
+          ∙ one.early (λ i s low is. all i s (omega (arith, low)) is);
+    }
+
+-- a Make still finds its slot
+pub slot_left : (body : List Step) (n : ℕ) (step : Step) (old now : NodesState) → IsStep body n step → NodesGone body n old now → count_by is_make body ≤ length old.free
+    → is_make step ≡ true → 1 ≤ length now.free
+slot_left body n step old now here gone reserve makes =
+    let room = sum_room made_by body n step here in
+    let one : made_by step ≡ 1 = ap (λ b. cond {A = ℕ} b 1 0) makes in
+    let free = gone.free in omega (arith, room, one, free, reserve)
+
+module _ {T : Type 0} (m : Meaning) where
+  pub same_none : (r : RunnerState T) → IsSameRun m r r
+  same_none r = record { opened = refl; descriptor = refl; layout = refl }
+
+  pub same_more : (a b c : RunnerState T) → IsSameRun m a b → IsSameRun m b c → IsSameRun m a c
+  same_more a b c one two = record { opened = two.opened ∙ one.opened; descriptor = two.descriptor ∙ one.descriptor; layout = two.layout ∙ one.layout }
+
+  pub body_same : (a b : RunnerState T) → IsSameRun m a b → body_of m b ≡ body_of m a
+  body_same a b same = ap (λ xs. m.body (thunk_of xs)) same.opened
+
+  -- a run that leaves at a step
+  pub walked_left : (n : ℕ) (step : Step) (o : Outcome) (old a new : RunnerState T) → IsShaped (body_of m old) → IsStep (body_of m old) n step → phase step ≡ 1
+      → IsSameRun m old a → NodesGone (body_of m old) n old.part.nodes a.part.nodes → a.part.reads.published ≡ old.part.reads.published
+      → IsOver m n o new → IsSameRun m a new → new.part.nodes ≡ a.part.nodes
+      → ((p w : ℕ) → o ≡ outcomes.Busy p w → has a.part.reads.published (run_of a).descriptor ≡ true → has new.part.reads.held (value_of w - 1) ≡ true)
+      → HasWalked m n o old new
+  walked_left n step o old a new shaped here first same gone entry over same' unchanged names =
+      let kept : a.part.nodes ≡ old.part.nodes = gone.early (λ i s low is. let p = shaped.phases i n s step low is here in omega (arith, p, first)) in
+      record {
+        over = over;
+        within = let i = step_inside (body_of m old) n step here in omega (arith, i);
+        same = same_more old a new same same';
+        nodes = subst (NodesGone (body_of m old) n old.part.nodes) (sym unchanged) gone;
+        left = λ other. unchanged ∙ kept;
+        names = λ p w busy own. names p w busy ((λ i. has (entry i) (same.descriptor i)) ∙ own);
+      }
+
+  -- a run that went through all
+  pub walked_all : (n : ℕ) (old a : RunnerState T) → n ≡ length (body_of m old) → IsBefore m n a → IsSameRun m old a → NodesGone (body_of m old) n old.part.nodes a.part.nodes
+      → HasWalked m n (outcomes.Answered (reply_in (body_of m old))) old a
+  walked_all n old a all before same gone =
+      let q = run_of a in
+      let body = body_of m a in
+      let same_body = body_same old a same in
+      let whole : n ≡ length body = all ∙ ap length (sym same_body) in
+      let rests = run_rests (setting_of a.layout q.descriptor) q.trail body in
+      let at : q.at ≡ length (line body) = before.at ∙ (ap (resting.rests (setting_of a.layout q.descriptor) q.trail body) whole ∙ rests.end) in
+      let end : micro_at (line body) q.at ≡ micros.End = past_line (line body) q.at (omega (arith, at)) in
+      record {
+        over = record {
+          running = before.running;
+          unended = before.unended;
+          none = before.none;
+          no_event = ap is_event end;
+          locks = ap releases (take_line q.at (line body) at) ∙ (rests.all_taken ∙ ap taken_releases (sym (take_all body n (omega (arith, whole)))));
+          outcome = ap (λ (c : Micro). outcome_or (leaves (setting_of a.layout q.descriptor) q.trail c) (reply_in body)) end ∙ ap (λ xs. outcomes.Answered (reply_in xs)) same_body;
+        };
+        within = omega (arith, all);
+        same = same;
+        nodes = gone;
+        left = λ other. absurd (other (reply_in (body_of m old)) refl);
+        names = λ p w busy own. absurd (let z = busy in cc);
+      }
+    where
+      take_line : (k : ℕ) (ms : List Micro) → k ≡ length ms → take k ms ≡ ms
+      take_line k ms e = ap (λ i. take i ms) e ∙ whole ms
+        where
+          whole : (ms : List Micro) → take (length ms) ms ≡ ms
+          whole [] = refl
+          whole (x ∷ ms) = ap (λ xs. x ∷ xs) (whole ms)
+
+-- the end that is told
+abbrev over_count : Walked → ℕ
+over_count (Over n o) = n
+over_count Stopped = 0
+
+abbrev over_outcome : Walked → Outcome
+over_outcome (Over n o) = o
+over_outcome Stopped = outcomes.Answered 0
+
+pub is_over : {T : Type 0} (m : Meaning) (old new : RunnerState T) (n : ℕ) (o : Outcome) (n' : ℕ) (o' : Outcome) → Over n o ≡ Over n' o' → HasWalked m n o old new → HasWalked m n' o' old new
+is_over m old new n o n' o' e is = subst (λ (x : Outcome). HasWalked m n' x old new) (ap over_outcome e) (subst (λ k. HasWalked m k o old new) (ap over_count e) is)

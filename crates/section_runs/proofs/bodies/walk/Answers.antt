@@ -1,0 +1,320 @@
+use Rattle.std.proofs.Common.{◌≡◌, suc, ◌+◌, List, length, take, arith, ap, sym, refl, subst, ◌∙◌}
+use Rattle.std.specs.Prelude.{sum_by}
+use Rattle.section_body.specs.Cost.{step_cost}
+use Rattle.section_body.specs.Line.{registers_before}
+use Rattle.section_body.specs.Shape.{IsStep, IsShaped}
+use Rattle.section_body.specs.declared.outcome.Outcome.{Outcome}
+use Rattle.section_body.specs.declared.outcome.Outcome.TheVariants.{Answered}
+use Rattle.section_body.specs.declared.step.Step.{Step}
+use Rattle.section_body.proofs.LineLemmas.{read_step, registers_before_next}
+use Rattle.section_runs.specs.Reached.{run_of}
+use Rattle.section_runs.specs.Registers.{AreKept}
+use Rattle.section_runs.specs.Bodies.{NodesGone, body_of, IsBefore, HasWalked}
+use Rattle.section_runs.proofs.Staying.{ran_passed}
+use Rattle.runner_parts.specs.State.{RunState}
+use Rattle.section_runs.proofs.Going.{run_is}
+use Rattle.section_runs.proofs.Using.{on_not_halted, left_not_halted}
+use Rattle.section_runs.proofs.Through.{through_more, halted_then, through_few}
+use Rattle.section_runs.proofs.Testing.{stood}
+use Rattle.section_runs.proofs.Walking.{none_before, sum_next, sum_most, sum_room, nodes_none, nodes_more, slot_left, same_none, same_more, body_same, walked_left, walked_all, is_over}
+use Rattle.runner_steps.specs.Sections.{reply_in, thunk_of}
+use Rattle.section_runs.proofs.bodies.walk.Goals as goal
+
+pub loop-n-init : goal.loop-n-init
+loop-n-init g c =
+    let met = g.met.S.Structure g.world.𝓛 g.world.𝓜 g.world.𝓡 ((λ s allowed. allowed), (λ patient. patient), (λ alone. alone), (λ cuts. cuts)) in
+    let m = g.S.Structure.meaning c.args.table.now.structure in
+    let laws = met.laws c.args.table.now.structure in
+    let t = c.args.table.now in
+    let limits = c.table_is_allowed.ensures.limits in
+    let allowed = c.table_is_allowed.ensures.requests in
+    let r = c.args.runner in
+    record {
+      own = c.requires.own;
+      before = c.requires.before;
+      same = same_none m r;
+      trail = c.requires.trail;
+      late = refl;
+      kept = subst (AreKept c.new-kept.result) (sym (none_before c.args.body.now)) c.new-kept.ensures;
+      nodes = nodes_none c.args.body.now r.part.nodes;
+      through = stood m r _ _ _ _;
+    }
+
+pub step_gated-gone-requires-clause-next : goal.step_gated-gone-requires-clause-next
+step_gated-gone-requires-clause-next g c κs within =
+    let met = g.met.S.Structure g.world.𝓛 g.world.𝓜 g.world.𝓡 ((λ s allowed. allowed), (λ patient. patient), (λ alone. alone), (λ cuts. cuts)) in
+    let m = g.S.Structure.meaning c.args.table.now.structure in
+    let laws = met.laws c.args.table.now.structure in
+    let t = c.args.table.now in
+    let limits = c.table_is_allowed.ensures.limits in
+    let allowed = c.table_is_allowed.ensures.requests in
+    let r = c.args.runner in
+    let body = c.args.body.now in
+    let n = c.loop-n.n in
+    let now = c.loop-n.runner in
+    let inv = c.loop-n.invariant in
+    let step = c.index-body-n.result in
+    let here = read_step body n step c.loop-n-test.true c.index-body-n.is in
+    let same_body : body ≡ body_of m now = c.requires.body ∙ sym (body_same m r now inv.same) in
+    record {
+      before = inv.before;
+      here = subst (λ (xs : List Step). IsStep xs n step) same_body here;
+      registers = subst (λ (xs : List Step). AreKept c.loop-n.kept (registers_before xs n)) same_body inv.kept;
+    }
+
+pub step_gated-gone-requires-clause-section : goal.step_gated-gone-requires-clause-section
+step_gated-gone-requires-clause-section g c κs within =
+    let met = g.met.S.Structure g.world.𝓛 g.world.𝓜 g.world.𝓡 ((λ s allowed. allowed), (λ patient. patient), (λ alone. alone), (λ cuts. cuts)) in
+    let m = g.S.Structure.meaning c.args.table.now.structure in
+    let laws = met.laws c.args.table.now.structure in
+    let t = c.args.table.now in
+    let limits = c.table_is_allowed.ensures.limits in
+    let allowed = c.table_is_allowed.ensures.requests in
+    let r = c.args.runner in
+    let body = c.args.body.now in
+    let n = c.loop-n.n in
+    let now = c.loop-n.runner in
+    let inv = c.loop-n.invariant in
+    let step = c.index-body-n.result in
+    let here = read_step body n step c.loop-n-test.true c.index-body-n.is in
+    let same_body : body ≡ body_of m now = c.requires.body ∙ sym (body_same m r now inv.same) in
+    c.requires.section ∙ sym inv.same.descriptor
+
+pub step_gated-gone-requires-clause-reserve : goal.step_gated-gone-requires-clause-reserve
+step_gated-gone-requires-clause-reserve g c κs within =
+    let met = g.met.S.Structure g.world.𝓛 g.world.𝓜 g.world.𝓡 ((λ s allowed. allowed), (λ patient. patient), (λ alone. alone), (λ cuts. cuts)) in
+    let m = g.S.Structure.meaning c.args.table.now.structure in
+    let laws = met.laws c.args.table.now.structure in
+    let t = c.args.table.now in
+    let limits = c.table_is_allowed.ensures.limits in
+    let allowed = c.table_is_allowed.ensures.requests in
+    let r = c.args.runner in
+    let body = c.args.body.now in
+    let n = c.loop-n.n in
+    let now = c.loop-n.runner in
+    let inv = c.loop-n.invariant in
+    let step = c.index-body-n.result in
+    let here = read_step body n step c.loop-n-test.true c.index-body-n.is in
+    let same_body : body ≡ body_of m now = c.requires.body ∙ sym (body_same m r now inv.same) in
+    slot_left body n step r.part.nodes now.part.nodes here inv.nodes c.requires.reserve
+
+pub after-kept-requires : goal.after-kept-requires
+after-kept-requires g c =
+    let met = g.met.S.Structure g.world.𝓛 g.world.𝓜 g.world.𝓡 ((λ s allowed. allowed), (λ patient. patient), (λ alone. alone), (λ cuts. cuts)) in
+    let m = g.S.Structure.meaning c.args.table.now.structure in
+    let laws = met.laws c.args.table.now.structure in
+    let t = c.args.table.now in
+    let limits = c.table_is_allowed.ensures.limits in
+    let allowed = c.table_is_allowed.ensures.requests in
+    let r = c.args.runner in
+    let body = c.args.body.now in
+    let n = c.loop-n.n in
+    let now = c.loop-n.runner in
+    let inv = c.loop-n.invariant in
+    let step = c.index-body-n.result in
+    let here = read_step body n step c.loop-n-test.true c.index-body-n.is in
+    let same_body : body ≡ body_of m now = c.requires.body ∙ sym (body_same m r now inv.same) in
+    record { within = c.requires.shaped.within n step here }
+
+pub loop-n-preserved : goal.loop-n-preserved
+loop-n-preserved g c =
+    let met = g.met.S.Structure g.world.𝓛 g.world.𝓜 g.world.𝓡 ((λ s allowed. allowed), (λ patient. patient), (λ alone. alone), (λ cuts. cuts)) in
+    let m = g.S.Structure.meaning c.args.table.now.structure in
+    let laws = met.laws c.args.table.now.structure in
+    let t = c.args.table.now in
+    let limits = c.table_is_allowed.ensures.limits in
+    let allowed = c.table_is_allowed.ensures.requests in
+    let r = c.args.runner in
+    let body = c.args.body.now in
+    let n = c.loop-n.n in
+    let now = c.loop-n.runner in
+    let inv = c.loop-n.invariant in
+    let step = c.index-body-n.result in
+    let here = read_step body n step c.loop-n-test.true c.index-body-n.is in
+    let same_body : body ≡ body_of m now = c.requires.body ∙ sym (body_same m r now inv.same) in
+    let went = c.step_gated-gone.ensures.went in
+    let on = c.in-On.is in
+    let still = on_not_halted c.step_gated-gone.result.1 on in
+    let next : suc n ≡ n + 1 = omega arith in
+    let g0 = registers_before body n in
+    let count = c.count_of-count.ensures ∙ (ap length inv.trail ∙ (inv.before.count ∙ ap (λ (xs : List Step). (registers_before xs n).count) (sym same_body))) in
+    record {
+      own = c.step_gated-gone.ensures.own;
+      before = subst (λ k. IsBefore m k c.step_gated-gone.result.0) next (went.before on);
+      same = same_more m r now c.step_gated-gone.result.0 inv.same (went.same still);
+      trail = went.words still;
+      late = went.late ∙ inv.late;
+      kept = subst (λ k. AreKept c.after-kept.result (registers_before body k)) next (subst (AreKept c.after-kept.result) (sym (registers_before_next body n step here)) (c.after-kept.ensures g0 inv.kept count));
+      nodes = subst (λ k. NodesGone body k r.part.nodes c.step_gated-gone.result.0.part.nodes) next (nodes_more body n step r.part.nodes now.part.nodes c.step_gated-gone.result.0.part.nodes here inv.nodes (went.nodes on));
+      through = through_more m (sum_by step_cost (take n body)) (step_cost step) (sum_by step_cost (take (n + 1) body)) _ _ _ _ _ _ _ _ _ _ _ _
+          (let e = sum_next step_cost body n step here in let d = ap (λ k. sum_by step_cost (take k body)) next in omega (arith, e, d)) inv.through (went.through still);
+    }
+
+pub returns-in-Left-clause-over : goal.returns-in-Left-clause-over
+returns-in-Left-clause-over g c =
+    let met = g.met.S.Structure g.world.𝓛 g.world.𝓜 g.world.𝓡 ((λ s allowed. allowed), (λ patient. patient), (λ alone. alone), (λ cuts. cuts)) in
+    let m = g.S.Structure.meaning c.args.table.now.structure in
+    let laws = met.laws c.args.table.now.structure in
+    let t = c.args.table.now in
+    let limits = c.table_is_allowed.ensures.limits in
+    let allowed = c.table_is_allowed.ensures.requests in
+    let r = c.args.runner in
+    let body = c.args.body.now in
+    let n = c.loop-n.n in
+    let now = c.loop-n.runner in
+    let inv = c.loop-n.invariant in
+    let step = c.index-body-n.result in
+    let here = read_step body n step c.loop-n-test.true c.index-body-n.is in
+    let same_body : body ≡ body_of m now = c.requires.body ∙ sym (body_same m r now inv.same) in
+    let went = c.step_gated-gone.ensures.went in
+    let out = c.in-Left.is in
+    let still = left_not_halted c.step_gated-gone.result.1 c.in-Left.outcome out in
+    let here0 = subst (λ (xs : List Step). IsStep xs n step) c.requires.body here in
+    λ n' o' e. is_over m r _ n c.in-Left.outcome n' o' e
+    (walked_left m n step c.in-Left.outcome r now c.step_gated-gone.result.0 (subst IsShaped c.requires.body c.requires.shaped) here0 (went.exit _ out) inv.same
+    (subst (λ (xs : List Step). NodesGone xs n r.part.nodes now.part.nodes) c.requires.body inv.nodes) (ran_passed m laws t limits allowed inv.through.made (thunk_of (run_of r).opened).request r now c.requires.own inv.through.ran _ inv.before.running (λ p is. ap (λ (y : RunState). (thunk_of y.opened).request) (run_is m r p is))).stays.entry (went.over _ out) (went.same still) (went.unchanged _ out) (λ p w busy own. went.names _ p w out busy own))
+
+pub returns-in-Left-clause-trail : goal.returns-in-Left-clause-trail
+returns-in-Left-clause-trail g c =
+    let met = g.met.S.Structure g.world.𝓛 g.world.𝓜 g.world.𝓡 ((λ s allowed. allowed), (λ patient. patient), (λ alone. alone), (λ cuts. cuts)) in
+    let m = g.S.Structure.meaning c.args.table.now.structure in
+    let laws = met.laws c.args.table.now.structure in
+    let t = c.args.table.now in
+    let limits = c.table_is_allowed.ensures.limits in
+    let allowed = c.table_is_allowed.ensures.requests in
+    let r = c.args.runner in
+    let body = c.args.body.now in
+    let n = c.loop-n.n in
+    let now = c.loop-n.runner in
+    let inv = c.loop-n.invariant in
+    let step = c.index-body-n.result in
+    let here = read_step body n step c.loop-n-test.true c.index-body-n.is in
+    let same_body : body ≡ body_of m now = c.requires.body ∙ sym (body_same m r now inv.same) in
+    let went = c.step_gated-gone.ensures.went in
+    let out = c.in-Left.is in
+    let still = left_not_halted c.step_gated-gone.result.1 c.in-Left.outcome out in
+    let here0 = subst (λ (xs : List Step). IsStep xs n step) c.requires.body here in
+    λ _. went.words still
+
+pub returns-in-Left-clause-late : goal.returns-in-Left-clause-late
+returns-in-Left-clause-late g c =
+    let met = g.met.S.Structure g.world.𝓛 g.world.𝓜 g.world.𝓡 ((λ s allowed. allowed), (λ patient. patient), (λ alone. alone), (λ cuts. cuts)) in
+    let m = g.S.Structure.meaning c.args.table.now.structure in
+    let laws = met.laws c.args.table.now.structure in
+    let t = c.args.table.now in
+    let limits = c.table_is_allowed.ensures.limits in
+    let allowed = c.table_is_allowed.ensures.requests in
+    let r = c.args.runner in
+    let body = c.args.body.now in
+    let n = c.loop-n.n in
+    let now = c.loop-n.runner in
+    let inv = c.loop-n.invariant in
+    let step = c.index-body-n.result in
+    let here = read_step body n step c.loop-n-test.true c.index-body-n.is in
+    let same_body : body ≡ body_of m now = c.requires.body ∙ sym (body_same m r now inv.same) in
+    let went = c.step_gated-gone.ensures.went in
+    let out = c.in-Left.is in
+    let still = left_not_halted c.step_gated-gone.result.1 c.in-Left.outcome out in
+    let here0 = subst (λ (xs : List Step). IsStep xs n step) c.requires.body here in
+    went.late ∙ inv.late
+
+pub returns-in-Left-clause-through : goal.returns-in-Left-clause-through
+returns-in-Left-clause-through g c =
+    let met = g.met.S.Structure g.world.𝓛 g.world.𝓜 g.world.𝓡 ((λ s allowed. allowed), (λ patient. patient), (λ alone. alone), (λ cuts. cuts)) in
+    let m = g.S.Structure.meaning c.args.table.now.structure in
+    let laws = met.laws c.args.table.now.structure in
+    let t = c.args.table.now in
+    let limits = c.table_is_allowed.ensures.limits in
+    let allowed = c.table_is_allowed.ensures.requests in
+    let r = c.args.runner in
+    let body = c.args.body.now in
+    let n = c.loop-n.n in
+    let now = c.loop-n.runner in
+    let inv = c.loop-n.invariant in
+    let step = c.index-body-n.result in
+    let here = read_step body n step c.loop-n-test.true c.index-body-n.is in
+    let same_body : body ≡ body_of m now = c.requires.body ∙ sym (body_same m r now inv.same) in
+    let went = c.step_gated-gone.ensures.went in
+    let out = c.in-Left.is in
+    let still = left_not_halted c.step_gated-gone.result.1 c.in-Left.outcome out in
+    let here0 = subst (λ (xs : List Step). IsStep xs n step) c.requires.body here in
+    λ _. through_more m (sum_by step_cost (take n body)) (step_cost step) (sum_by step_cost body) _ _ _ _ _ _ _ _ _ _ _ _ (sum_room step_cost body n step here) inv.through (went.through still)
+
+pub returns-in-Halted-clause-late : goal.returns-in-Halted-clause-late
+returns-in-Halted-clause-late g c =
+    let met = g.met.S.Structure g.world.𝓛 g.world.𝓜 g.world.𝓡 ((λ s allowed. allowed), (λ patient. patient), (λ alone. alone), (λ cuts. cuts)) in
+    let m = g.S.Structure.meaning c.args.table.now.structure in
+    let laws = met.laws c.args.table.now.structure in
+    let t = c.args.table.now in
+    let limits = c.table_is_allowed.ensures.limits in
+    let allowed = c.table_is_allowed.ensures.requests in
+    let r = c.args.runner in
+    let body = c.args.body.now in
+    let n = c.loop-n.n in
+    let now = c.loop-n.runner in
+    let inv = c.loop-n.invariant in
+    let step = c.index-body-n.result in
+    let here = read_step body n step c.loop-n-test.true c.index-body-n.is in
+    let same_body : body ≡ body_of m now = c.requires.body ∙ sym (body_same m r now inv.same) in
+    let went = c.step_gated-gone.ensures.went in
+    went.late ∙ inv.late
+
+pub returns-in-Halted-clause-halted : goal.returns-in-Halted-clause-halted
+returns-in-Halted-clause-halted g c =
+    let met = g.met.S.Structure g.world.𝓛 g.world.𝓜 g.world.𝓡 ((λ s allowed. allowed), (λ patient. patient), (λ alone. alone), (λ cuts. cuts)) in
+    let m = g.S.Structure.meaning c.args.table.now.structure in
+    let laws = met.laws c.args.table.now.structure in
+    let t = c.args.table.now in
+    let limits = c.table_is_allowed.ensures.limits in
+    let allowed = c.table_is_allowed.ensures.requests in
+    let r = c.args.runner in
+    let body = c.args.body.now in
+    let n = c.loop-n.n in
+    let now = c.loop-n.runner in
+    let inv = c.loop-n.invariant in
+    let step = c.index-body-n.result in
+    let here = read_step body n step c.loop-n-test.true c.index-body-n.is in
+    let same_body : body ≡ body_of m now = c.requires.body ∙ sym (body_same m r now inv.same) in
+    let went = c.step_gated-gone.ensures.went in
+    λ _. halted_then m (sum_by step_cost (take n body)) (step_cost step) (sum_by step_cost body) _ _ _ _ _ _ _ _ _ _ _ _ (sum_room step_cost body n step here) inv.through (went.halted c.in-Halted.is)
+
+pub returns-clause-over : goal.returns-clause-over
+returns-clause-over g c =
+    let met = g.met.S.Structure g.world.𝓛 g.world.𝓜 g.world.𝓡 ((λ s allowed. allowed), (λ patient. patient), (λ alone. alone), (λ cuts. cuts)) in
+    let m = g.S.Structure.meaning c.args.table.now.structure in
+    let laws = met.laws c.args.table.now.structure in
+    let t = c.args.table.now in
+    let limits = c.table_is_allowed.ensures.limits in
+    let allowed = c.table_is_allowed.ensures.requests in
+    let r = c.args.runner in
+    let body = c.args.body.now in
+    let inv = c.loop-n.invariant in
+    let n = c.loop-n.n in
+    let all : n ≡ length body = (let a = c.loop-n-test.false in let b = c.loop-n.auto.n-end in omega (arith, a, b)) in
+    λ n' o' e. is_over m r _ _ _ n' o' e (subst (λ (o : Outcome). HasWalked m (length body) o r c.loop-n.runner) (ap (λ (xs : List Step). Answered (reply_in xs)) (sym c.requires.body) ∙ ap Answered (sym c.reply_of.ensures))
+    (subst (λ k. HasWalked m k (Answered (reply_in (body_of m r))) r c.loop-n.runner) all
+    (walked_all m n r c.loop-n.runner (all ∙ ap length c.requires.body) inv.before inv.same (subst (λ (xs : List Step). NodesGone xs n r.part.nodes c.loop-n.runner.part.nodes) c.requires.body inv.nodes))))
+
+pub returns-clause-trail : goal.returns-clause-trail
+returns-clause-trail g c =
+    let met = g.met.S.Structure g.world.𝓛 g.world.𝓜 g.world.𝓡 ((λ s allowed. allowed), (λ patient. patient), (λ alone. alone), (λ cuts. cuts)) in
+    let m = g.S.Structure.meaning c.args.table.now.structure in
+    let laws = met.laws c.args.table.now.structure in
+    let t = c.args.table.now in
+    let limits = c.table_is_allowed.ensures.limits in
+    let allowed = c.table_is_allowed.ensures.requests in
+    let r = c.args.runner in
+    λ _. c.loop-n.invariant.trail
+
+pub returns-clause-through : goal.returns-clause-through
+returns-clause-through g c =
+    let met = g.met.S.Structure g.world.𝓛 g.world.𝓜 g.world.𝓡 ((λ s allowed. allowed), (λ patient. patient), (λ alone. alone), (λ cuts. cuts)) in
+    let m = g.S.Structure.meaning c.args.table.now.structure in
+    let laws = met.laws c.args.table.now.structure in
+    let t = c.args.table.now in
+    let limits = c.table_is_allowed.ensures.limits in
+    let allowed = c.table_is_allowed.ensures.requests in
+    let r = c.args.runner in
+    let body = c.args.body.now in
+    let n = c.loop-n.n in
+    λ _. through_few m _ _ _ _ _ _ _ _ _ _ (sum_most step_cost body n) c.loop-n.invariant.through

@@ -1,0 +1,42 @@
+use Rattle.std.proofs.Common.{◌≡◌, ℕ, suc, ◌+◌, List, [], ◌∷◌, ◌++◌, true, false, arith, subst, sym}
+use Rattle.commit_log.proofs.Asked.{asked_more, asked_as}
+use Rattle.section_runs.specs.Opened.{IsOpening}
+use Rattle.section_runs.proofs.Opening.{may_load, opens_more}
+use Rattle.section_runs.proofs.opens.load_words.Goals as goal
+
+pub load_thunk-opened-requires-clause-next : goal.load_thunk-opened-requires-clause-next
+load_thunk-opened-requires-clause-next g c κs within =
+    let met = g.met.S.Structure g.world.𝓛 g.world.𝓜 g.world.𝓡 ((λ s allowed. allowed), (λ patient. patient), (λ alone. alone), (λ cuts. cuts)) in
+    may_load (g.S.Structure.meaning c.args.table.now.structure) (met.laws c.args.table.now.structure) c.args.table.now c.table_is_allowed.ensures.limits
+    c.table_is_allowed.ensures.requests c.args.runner c.args.descriptor c.requires.next c.loop-index.index _ c.loop-index.runner c.loop-index.invariant.own c.loop-index.invariant.opening c.loop-index-test.true
+
+pub returns-then-not-passes-clause-halted : goal.returns-then-not-passes-clause-halted
+returns-then-not-passes-clause-halted g c = λ _.
+    let met = g.met.S.Structure g.world.𝓛 g.world.𝓜 g.world.𝓡 ((λ s allowed. allowed), (λ patient. patient), (λ alone. alone), (λ cuts. cuts)) in
+    let more = opens_more (g.S.Structure.meaning c.args.table.now.structure) (met.laws c.args.table.now.structure) c.args.table.now c.table_is_allowed.ensures.limits
+    c.table_is_allowed.ensures.requests c.args.runner c.args.descriptor c.requires.next c.loop-index.index _ c.loop-index.runner c.loop-index.invariant.own c.loop-index.invariant.opening c.loop-index-test.true
+    _ _ c.load_thunk-opened.ensures.event in
+    record {
+      made = suc c.loop-index.index;
+      some = omega arith;
+      few = let low = c.loop-index-test.true in omega (arith, low);
+      words = _;
+      opening = more;
+      asked = asked_as _ _ (let e : c.loop-index.index + 1 ≡ suc c.loop-index.index = omega arith in e) false _ _ _ _ _ _
+          (asked_more c.loop-index.index 1 false _ _ _ _ _ _ _ _ _ c.loop-index.invariant.asked c.if-not-passes.ensures);
+    }
+
+pub loop-index-preserved : goal.loop-index-preserved
+loop-index-preserved g c =
+    let met = g.met.S.Structure g.world.𝓛 g.world.𝓜 g.world.𝓡 ((λ s allowed. allowed), (λ patient. patient), (λ alone. alone), (λ cuts. cuts)) in
+    let m = g.S.Structure.meaning c.args.table.now.structure in
+    let more = opens_more m (met.laws c.args.table.now.structure) c.args.table.now c.table_is_allowed.ensures.limits
+    c.table_is_allowed.ensures.requests c.args.runner c.args.descriptor c.requires.next c.loop-index.index _ c.loop-index.runner c.loop-index.invariant.own c.loop-index.invariant.opening c.loop-index-test.true
+    _ _ c.load_thunk-opened.ensures.event in
+    let next : suc c.loop-index.index ≡ c.loop-index.index + 1 = omega arith in
+    record {
+      own = c.load_thunk-opened.ensures.own;
+      opening = subst (λ (xs : List ℕ). IsOpening m (c.loop-index.index + 1) c.args.descriptor xs c.args.runner c.load_thunk-opened.result.0) (sym c.push.ensures.items)
+          (subst (λ n. IsOpening m n c.args.descriptor (c.loop-index.words.items ++ c.load_thunk-opened.result.1 ∷ []) c.args.runner c.load_thunk-opened.result.0) next more);
+      asked = asked_more c.loop-index.index 1 true _ _ _ _ _ _ _ _ _ c.loop-index.invariant.asked c.if-not-passes.ensures;
+    }

@@ -1,0 +1,95 @@
+use Rattle.std.proofs.Common.{length, arith, ap, sym, subst, ◌∙◌}
+use Rattle.section_body.specs.declared.step.Step.TheVariants as kinds
+use Rattle.section_runs.specs.Reached.{run_of}
+use Rattle.std.specs.Prelude.{slice_index}
+use Rattle.section_body.specs.Line.{registers_before, source_of}
+use Rattle.section_body.specs.Run.{source_value}
+use Rattle.section_body.specs.Act.{IsLogged}
+use Rattle.section_runs.specs.Bodies.{body_of}
+use Rattle.section_runs.proofs.Going.{shaped}
+use Rattle.section_runs.proofs.Using.{used_at}
+use Rattle.section_runs.proofs.Cases.{may_store, store_goes}
+use Rattle.section_runs.proofs.steps.store_step.Goals as goal
+
+pub bounds-kept-reg : goal.bounds-kept-reg
+bounds-kept-reg g c =
+    let met = g.met.S.Structure g.world.𝓛 g.world.𝓜 g.world.𝓡 ((λ s allowed. allowed), (λ patient. patient), (λ alone. alone), (λ cuts. cuts)) in
+    let m = g.S.Structure.meaning c.args.table.now.structure in
+    let laws = met.laws c.args.table.now.structure in
+    let t = c.args.table.now in
+    let limits = c.table_is_allowed.ensures.limits in
+    let allowed = c.table_is_allowed.ensures.requests in
+    let r = c.args.runner in
+    let body = body_of m r in
+    let used = used_at body (shaped m laws t limits allowed r c.requires.own (run_of r) c.requires.next.may.before.running) c.requires.next.may.n (kinds.Store c.args.reg c.args.value) 0 c.requires.next.may.here in
+    let s = used.small in omega (arith, s)
+
+pub bounds-kept-reg-2 : goal.bounds-kept-reg-2
+bounds-kept-reg-2 g c =
+    let met = g.met.S.Structure g.world.𝓛 g.world.𝓜 g.world.𝓡 ((λ s allowed. allowed), (λ patient. patient), (λ alone. alone), (λ cuts. cuts)) in
+    let m = g.S.Structure.meaning c.args.table.now.structure in
+    let laws = met.laws c.args.table.now.structure in
+    let t = c.args.table.now in
+    let limits = c.table_is_allowed.ensures.limits in
+    let allowed = c.table_is_allowed.ensures.requests in
+    let r = c.args.runner in
+    let body = body_of m r in
+    let used = used_at body (shaped m laws t limits allowed r c.requires.own (run_of r) c.requires.next.may.before.running) c.requires.next.may.n (kinds.Store c.args.reg c.args.value) 0 c.requires.next.may.here in
+    let s = used.small in omega (arith, s)
+
+pub word-old-requires : goal.word-old-requires
+word-old-requires g c =
+    let met = g.met.S.Structure g.world.𝓛 g.world.𝓜 g.world.𝓡 ((λ s allowed. allowed), (λ patient. patient), (λ alone. alone), (λ cuts. cuts)) in
+    let m = g.S.Structure.meaning c.args.table.now.structure in
+    let laws = met.laws c.args.table.now.structure in
+    let t = c.args.table.now in
+    let limits = c.table_is_allowed.ensures.limits in
+    let allowed = c.table_is_allowed.ensures.requests in
+    let r = c.args.runner in
+    let body = body_of m r in
+    let used = used_at body (shaped m laws t limits allowed r c.requires.own (run_of r) c.requires.next.may.before.running) c.requires.next.may.n (kinds.Store c.args.reg c.args.value) 0 c.requires.next.may.here in
+    let at = c.requires.next.registers.log c.args.reg used.small in
+    let count = ap length c.requires.trail ∙ c.requires.next.may.before.count in
+    let low = used.logged in omega (arith, at, count, low)
+
+pub value_in-number-requires : goal.value_in-number-requires
+value_in-number-requires g c =
+    let met = g.met.S.Structure g.world.𝓛 g.world.𝓜 g.world.𝓡 ((λ s allowed. allowed), (λ patient. patient), (λ alone. alone), (λ cuts. cuts)) in
+    let m = g.S.Structure.meaning c.args.table.now.structure in
+    let laws = met.laws c.args.table.now.structure in
+    let t = c.args.table.now in
+    let limits = c.table_is_allowed.ensures.limits in
+    let allowed = c.table_is_allowed.ensures.requests in
+    let r = c.args.runner in
+    let body = body_of m r in
+    let used = used_at body (shaped m laws t limits allowed r c.requires.own (run_of r) c.requires.next.may.before.running) c.requires.next.may.n (kinds.Store c.args.reg c.args.value) 1 c.requires.next.may.here in
+    (registers_before body c.requires.next.may.n, c.requires.next.registers, subst (λ k. IsLogged (registers_before body c.requires.next.may.n) k c.args.value) (sym (ap length c.requires.trail ∙ c.requires.next.may.before.count)) used.logged, used.small)
+
+pub store-runner-requires-clause-next : goal.store-runner-requires-clause-next
+store-runner-requires-clause-next g c κs within =
+    let met = g.met.S.Structure g.world.𝓛 g.world.𝓜 g.world.𝓡 ((λ s allowed. allowed), (λ patient. patient), (λ alone. alone), (λ cuts. cuts)) in
+    let m = g.S.Structure.meaning c.args.table.now.structure in
+    let laws = met.laws c.args.table.now.structure in
+    let t = c.args.table.now in
+    let limits = c.table_is_allowed.ensures.limits in
+    let allowed = c.table_is_allowed.ensures.requests in
+    let r = c.args.runner in
+    let body = body_of m r in
+    let used = used_at body (shaped m laws t limits allowed r c.requires.own (run_of r) c.requires.next.may.before.running) c.requires.next.may.n (kinds.Store c.args.reg c.args.value) 0 c.requires.next.may.here in
+    let g0 = registers_before body c.requires.next.may.n in (
+      run_of r,
+      may_store m r c.args.reg c.args.value c.requires.next.may _ _ _ (c.requires.next.registers.place c.args.reg used.small)
+          (c.word-old.ensures ∙ ((λ i. slice_index (c.requires.trail i) (c.requires.next.registers.log c.args.reg used.small i))))
+          (c.value_in-number.ensures g0 c.requires.next.registers ∙ ap (λ xs. source_value xs (source_of g0 c.args.value)) c.requires.trail),
+    )
+
+pub returns-clause-goes : goal.returns-clause-goes
+returns-clause-goes g c =
+    let met = g.met.S.Structure g.world.𝓛 g.world.𝓜 g.world.𝓡 ((λ s allowed. allowed), (λ patient. patient), (λ alone. alone), (λ cuts. cuts)) in
+    let m = g.S.Structure.meaning c.args.table.now.structure in
+    let laws = met.laws c.args.table.now.structure in
+    let t = c.args.table.now in
+    let limits = c.table_is_allowed.ensures.limits in
+    let allowed = c.table_is_allowed.ensures.requests in
+    let r = c.args.runner in
+    λ going. store_goes m r c.args.reg c.args.value _ _ _ _ (c.store-runner.ensures.stored (run_of r) c.requires.next.may.before.running)

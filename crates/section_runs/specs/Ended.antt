@@ -1,0 +1,112 @@
+-- How a run of a section ended.
+use Rattle.std.specs.Prelude.{◌≡◌, ◌≢◌, ℕ, suc, ◌+◌, ◌-◌, ◌≤◌, ◌⊎◌, List, [], ◌∷◌, ◌++◌, Bool, true, count_by, sum_by, length, Some, None}
+use Rattle.section_body.specs.Cost.{cost_of, step_cost}
+use Rattle.section_body.specs.Line.{line, micro_at}
+use Rattle.section_body.specs.Plain.{first_values}
+use Rattle.section_body.specs.Shape.{is_make, is_retire, is_take}
+use Rattle.section_body.specs.Run.{leaves}
+use Rattle.section_body.specs.Trail.{Agreed}
+use Rattle.section_body.specs.Word.{value_of}
+use Rattle.section_body.specs.declared.outcome.Outcome.{Outcome}
+use Rattle.section_body.specs.declared.outcome.Outcome.TheVariants.{Answered, Busy}
+use Rattle.section_body.specs.declared.step.Step.{Step}
+use Rattle.section_body.specs.declared.thunk.Thunk.{Thunk}
+use Rattle.table_words.specs.declared.spot.Spot.TheVariants.{Cell, DoneWord, LogWord}
+use Rattle.structure_laws.specs.Meaning.{Meaning}
+use Rattle.runner_parts.specs.declared.entries.Retired.{Retired}
+use Rattle.runner_parts.specs.State.{NodesState, FinishedState}
+use Rattle.runner_parts.specs.Tests.{has}
+use Rattle.runner_steps.specs.AfterInRun.{over_if}
+use Rattle.runner_steps.specs.Sections.{setting_of}
+use Rattle.machine_states.specs.Sight.{Sight, sight}
+use Rattle.machine_epochs.specs.Slots.{thunk_in}
+use Rattle.machine_invariant.specs.Along.{Components}
+use Rattle.machine_invariant.specs.Trails.{IsEndOf}
+use Rattle.machine_facts.specs.States.{FactsStand}
+use Rattle.version_words.specs.RunnerState.{RunnerState}
+use Rattle.commit_log.specs.Runs.{Ran}
+use Rattle.section_runs.specs.Reached.{IsReached, events_after}
+use Rattle.section_runs.specs.Opened.{Learns, IsOpening, HasOpened}
+
+-- what a run leaves of the own node slots: at most one free slot fewer for each Make, the hand and what was looked at as before, and in limbo
+-- also what was retired in the run, at most one slot for each Retire
+pub record NodesRan (body : List Step) (old new : NodesState) : Type 0 where
+  pub free : length old.free ≤ length new.free + count_by is_make body
+  pub hand : new.hand ≡ old.hand
+  pub tests : old.tests ≡ [] → new.tests ≡ []
+  pub more : List Retired
+  pub limbo : new.limbo ≡ old.limbo ++ more
+  pub few : length more ≤ count_by is_retire body
+
+-- the section of this descriptor, with this thunk, is done, as the words of this state say: no lock names it, and its log is the trail
+pub record IsDone (m : Meaning) (d : ℕ) (t : Thunk) (trail : List ℕ) (s : Sight) : Type 0 where
+  pub thunk : thunk_in s.word d ≡ t
+  pub done : s.word (DoneWord d) ≢ 0
+  pub unnamed : (p : ℕ) → m.is_lock p ≡ true → value_of (s.word (Cell p)) ≢ suc d
+  pub whole : trail ≡ first_values (length trail) (λ k. s.word (LogWord d k))
+  pub over : (k : ℕ) → length trail ≤ k → s.word (LogWord d k) ≡ 0
+
+module _ {T : Type 0} (m : Meaning) where
+  -- the runner ran this section to its end, in so many steps, with this outcome and this trail. What is kept of the run says so, the
+  -- section is done, and all that is known of a reached state is known of this one: so outcome and trail are those of the plain run of the
+  -- body with the choices of the log, and those of each other run of the section
+  pub record EndsSo (d : ℕ) (t : Thunk) (outcome : Outcome) (trail : Agreed) (made : ℕ) (old new : RunnerState T) : Type 0 where
+    pub finished : FinishedState
+    pub kept : new.part.records.finished ≡ old.part.records.finished ++ finished ∷ []
+    pub of_descriptor : finished.descriptor ≡ d
+    pub lock : finished.lock ≡ t.lock
+    pub word : finished.word ≡ t.word
+    pub same_outcome : finished.outcome ≡ outcome
+    pub same_trail : finished.trail ≡ trail.words
+    pub same_late : finished.late ≡ trail.late
+    pub reached : IsReached m new
+    pub is_done : IsDone m d t trail.words (sight m new.layout new.requests reached.world)
+    pub components : Components
+    pub facts : FactsStand m new.layout (sight m new.layout new.requests reached.world) components
+    pub used : components.agreement.used d ≡ true
+    pub ends : IsEndOf m components.agreement (sight m new.layout new.requests reached.world) new.number d finished
+    -- how it came there: its opening, and the steps behind it, which are counted
+    pub opened : RunnerState T
+    pub opening : HasOpened m d t trail.late old opened
+    pub count : ℕ
+    pub ran : Ran m count opened new
+    pub counted : made ≡ 13 + count
+    pub few : made ≤ cost_of (m.body t)
+    pub events : new.part.records.events ≡ events_after old.part.records.events made
+    -- what becomes of the own part
+    pub layout : new.layout ≡ old.layout
+    pub number : new.number ≡ old.number
+    pub present : new.part.gone ≡ old.part.gone
+    pub stage : new.part.stage ≡ old.part.stage
+    pub resting : new.part.run ≡ None
+    pub published : new.part.published ≡ over_if old.part.published d
+    pub descriptors : new.part.descriptors ≡ old.part.descriptors
+    pub nodes : NodesRan (m.body t) old.part.nodes new.part.nodes
+    pub left_nodes : ((reply : ℕ) → outcome ≢ Answered reply) → new.part.nodes ≡ old.part.nodes
+    -- what was held is held on, and what was learned is of the section's request
+    pub held : (i : ℕ) → has old.part.reads.held i ≡ true → has new.part.reads.held i ≡ true
+    pub entry : new.part.reads.published ≡ old.part.reads.published
+    pub learns : Learns t.request old.part.records.known new.part.records.known
+    -- a section that left did so at a check of its body's line, by the words of the trail
+    pub cause : ((reply : ℕ) → outcome ≢ Answered reply) → (at : ℕ) × (leaves (setting_of new.layout d) trail.words (micro_at (line (m.body t)) at) ≡ Some outcome)
+    -- an own section that found a lock held by another: that one may be helped
+    pub names : (place read : ℕ) → outcome ≡ Busy place read → has old.part.reads.published d ≡ true → has new.part.reads.held (value_of read - 1) ≡ true
+
+  -- behind its opening, a gate halted the runner in its run
+  pub record RanShort (d made : ℕ) (old new : RunnerState T) : Type 0 where
+    pub thunk : Thunk
+    pub late : Bool
+    pub opened : RunnerState T
+    pub opening : HasOpened m d thunk late old opened
+    pub count : ℕ
+    pub ran : Ran m count opened new
+    pub counted : made ≡ 13 + count
+    pub few : made ≤ cost_of (m.body thunk)
+
+  -- a gate halted the runner behind one of the steps of its run, so many: in the opening or behind it
+  abbrev pub IsCutShort : ℕ → ℕ → RunnerState T → RunnerState T → Type 0
+  IsCutShort d made old new = ((words : List ℕ) × IsOpening m made d words old new) ⊎ RanShort d made old new
+
+-- how many steps a run makes behind its opening
+abbrev pub rest_of : List Step → ℕ
+rest_of body = sum_by step_cost body + (2 + count_by is_take body)

@@ -1,0 +1,47 @@
+-- A step of a run's body, with the registers that its code keeps, and what came of it.
+use Rattle.std.specs.Prelude.{◌≡◌, ◌≢◌, ℕ, suc, ◌-◌, true}
+use Rattle.section_body.specs.Cost.{step_cost}
+use Rattle.section_body.specs.Line.{registers_before}
+use Rattle.section_body.specs.Shape.{IsStep, phase}
+use Rattle.section_body.specs.Word.{value_of}
+use Rattle.section_body.specs.Trail.{Agreed}
+use Rattle.section_body.specs.declared.outcome.Outcome.{Outcome}
+use Rattle.section_body.specs.declared.outcome.Outcome.TheVariants.{Busy}
+use Rattle.section_body.specs.declared.step.Step.{Step}
+use Rattle.structure_laws.specs.Meaning.{Meaning}
+use Rattle.runner_parts.specs.Tests.{has}
+use Rattle.version_words.specs.RunnerState.{RunnerState}
+use Rattle.commit_log.specs.Halted.{IsThrough, IsHalted}
+use Rattle.section_runs.specs.Reached.{run_of}
+use Rattle.section_runs.specs.Registers.{AreKept}
+use Rattle.section_runs.specs.Bodies.{NodesStepped, body_of, IsBefore, MayGo, IsSameRun, IsOver}
+use Rattle.section_runs.specs.declared.passed.Passed.{Passed}
+use Rattle.section_runs.specs.declared.passed.Passed.TheVariants.{On, Left, Halted}
+use Rattle.section_runs.specs.declared.registers.Places.{Places}
+
+-- the run's next step of its body is this one, and these are the registers before it
+pub record MayGoBy {T : Type 0} (m : Meaning) (step : Step) (kept : Places) (r : RunnerState T) : Type 0 where
+  pub may : MayGo m step r
+  pub registers : AreKept kept (registers_before (body_of m r) may.n)
+
+-- the run stands before step n of its body, which is this one, and these are the registers before it
+pub record MayGoAt {T : Type 0} (m : Meaning) (n : ℕ) (step : Step) (kept : Places) (r : RunnerState T) : Type 0 where
+  pub before : IsBefore m n r
+  pub here : IsStep (body_of m r) n step
+  pub registers : AreKept kept (registers_before (body_of m r) n)
+
+-- the run came through step n so: it goes on to the next one, leaves, which only a step of the first phase lets it, or was halted; the trail
+-- has the agreed words then, and the atomic steps are counted
+pub record Went {T : Type 0} (m : Meaning) (n : ℕ) (step : Step) (passed : Passed) (old new : RunnerState T) (trail trail' : Agreed) (halts halts' asks asks' steps steps' : ℕ) : Type 0 where
+  pub before : passed ≡ On → IsBefore m (suc n) new
+  pub nodes : passed ≡ On → NodesStepped step old.part.nodes new.part.nodes
+  pub over : (o : Outcome) → passed ≡ Left o → IsOver m n o new
+  pub exit : (o : Outcome) → passed ≡ Left o → phase step ≡ 1
+  pub unchanged : (o : Outcome) → passed ≡ Left o → new.part.nodes ≡ old.part.nodes
+  pub names : (o : Outcome) (place word : ℕ) → passed ≡ Left o → o ≡ Busy place word → has old.part.reads.published (run_of old).descriptor ≡ true
+      → has new.part.reads.held (value_of word - 1) ≡ true
+  pub same : passed ≢ Halted → IsSameRun m old new
+  pub words : passed ≢ Halted → trail'.words ≡ (run_of new).trail
+  pub late : trail'.late ≡ trail.late
+  pub through : passed ≢ Halted → IsThrough m (step_cost step) old new halts halts' asks asks' steps steps'
+  pub halted : passed ≡ Halted → IsHalted m (step_cost step) old new halts halts' asks asks' steps steps'

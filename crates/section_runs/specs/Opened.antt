@@ -1,0 +1,85 @@
+-- The opening of a run.
+use Rattle.std.specs.Prelude.{◌≡◌, ℕ, zero, suc, List, Bool, true, false, length, ◌++◌, ◌≤◌, slice_get, Option, Some, None}
+use Rattle.section_body.specs.declared.thunk.Thunk.{Thunk}
+use Rattle.structure_laws.specs.Meaning.{Meaning}
+use Rattle.runner_parts.specs.declared.entries.Known.{Known}
+use Rattle.runner_parts.specs.declared.stage.Stage.TheVariants as stages
+use Rattle.runner_parts.specs.State.{RunState}
+use Rattle.runner_parts.specs.Tests.{has}
+use Rattle.runner_steps.specs.Sections.{thunk_of, is_late}
+use Rattle.version_words.specs.RunnerState.{RunnerState}
+use Rattle.commit_log.specs.Asked.{IsAsked}
+use Rattle.section_runs.specs.Reached.{IsReached, no_run, IsInside, events_after}
+
+-- what is known of stamp and reply words stays known, and what was learned is of this request
+pub record Learns (request : ℕ) (old new : List Known) : Type 0 where
+  pub more : List Known
+  pub adds : new ≡ old ++ more
+  pub only : (i : ℕ) (x : Known) → slice_get more i ≡ Some x → x.request ≡ request
+
+-- what no step of a run changes but its last one
+module _ {T : Type 0} where
+  pub record Stays (old new : RunnerState T) : Type 0 where
+    pub layout : new.layout ≡ old.layout
+    pub requests : new.requests ≡ old.requests
+    pub number : new.number ≡ old.number
+    pub present : new.part.gone ≡ old.part.gone
+    pub stage : new.part.stage ≡ old.part.stage
+    pub published : new.part.published ≡ old.part.published
+    pub descriptors : new.part.descriptors ≡ old.part.descriptors
+    pub finished : new.part.records.finished ≡ old.part.records.finished
+    -- what was held is held on
+    pub held : (d : ℕ) → has old.part.reads.held d ≡ true → has new.part.reads.held d ≡ true
+    pub entry : new.part.reads.published ≡ old.part.reads.published
+
+-- a run that has loaded these words of this descriptor, and nothing else
+abbrev pub opening : ℕ → List ℕ → RunState
+opening d words = record no_run { descriptor = d; opened = words }
+
+-- the run then, and none before its first word
+abbrev pub opening_of : ℕ → ℕ → List ℕ → Option RunState
+opening_of zero d words = None
+opening_of (suc n) d words = Some (opening d words)
+
+module _ {T : Type 0} (m : Meaning) where
+  -- the runner has loaded so many words of this descriptor
+  pub record IsOpening (n d : ℕ) (words : List ℕ) (old new : RunnerState T) : Type 0 where
+    pub run : new.part.run ≡ opening_of n d words
+    pub count : length words ≡ n
+    pub stays : Stays old new
+    pub nodes : new.part.nodes ≡ old.part.nodes
+    pub known : new.part.records.known ≡ old.part.records.known
+    pub events : new.part.records.events ≡ events_after old.part.records.events n
+    pub reached : IsReached m new
+
+  -- the runner has opened a run of the section in this descriptor, which has this thunk, and found it done or not
+  pub record HasOpened (d : ℕ) (t : Thunk) (late : Bool) (old new : RunnerState T) : Type 0 where
+    pub inside : IsInside m new
+    pub words : List ℕ
+    pub run : new.part.run ≡ Some (opening d words)
+    pub thunk : thunk_of words ≡ t
+    pub found : is_late (opening d words) ≡ late
+    pub stays : Stays old new
+    pub nodes : new.part.nodes ≡ old.part.nodes
+    pub known : new.part.records.known ≡ old.part.records.known
+    pub events : new.part.records.events ≡ events_after old.part.records.events 13
+
+-- a gate halted the runner behind one of these loads: it made the loads up to that one, or all
+pub record HasHalted {T : Type 0} (m : Meaning) (most d : ℕ) (old new : RunnerState T) (halts halts' asks asks' steps steps' : ℕ) : Type 0 where
+  pub made : ℕ
+  pub some : 1 ≤ made
+  pub few : made ≤ most
+  pub words : List ℕ
+  pub opening : IsOpening m made d words old new
+  pub asked : IsAsked made false halts halts' asks asks' steps steps'
+
+-- the runner has just opened a run of the section in this descriptor, which has this thunk and was found done or not
+pub record StandsOpened {T : Type 0} (m : Meaning) (d : ℕ) (t : Thunk) (late : Bool) (r : RunnerState T) : Type 0 where
+  pub inside : IsInside m r
+  pub words : List ℕ
+  pub run : r.part.run ≡ Some (opening d words)
+  pub thunk : thunk_of words ≡ t
+  pub found : is_late (opening d words) ≡ late
+  pub epoch : ℕ
+  pub at : r.part.stage ≡ stages.Entered epoch
+  pub holds : has r.part.reads.held d ≡ true

@@ -1,0 +1,49 @@
+-- A runner in a state that the machine reaches, and the run that it is in.
+use Rattle.std.specs.Prelude.{◌≡◌, ℕ, zero, suc, true, false, [], slice_get, Option, Some, None}
+use Rattle.structure_laws.specs.Meaning.{Meaning}
+use Rattle.runner_parts.specs.declared.stage.Stage.TheVariants as stages
+use Rattle.runner_parts.specs.declared.entries.Published.{Published}
+use Rattle.runner_parts.specs.State.{RunState}
+use Rattle.runner_parts.specs.Tests.{has}
+use Rattle.runner_steps.specs.After.{counted}
+use Rattle.machine_states.specs.World.{World, seat_of}
+use Rattle.machine_states.specs.Reached.{Reached}
+use Rattle.version_words.specs.RunnerState.{RunnerState}
+use Rattle.version_words.specs.Stages.{IsAt}
+use Rattle.commit_log.specs.Runs.{IsRunning}
+
+-- in no run
+abbrev pub no_run : RunState
+no_run = record { descriptor = 0; opened = []; at = 0; word = 0; trail = []; made = None; worn = false; ended = 0 }
+
+abbrev pub run_or : Option RunState → RunState
+run_or None = no_run
+run_or (Some q) = q
+
+-- a number of events after so many more, as a runner's part counts them
+abbrev pub events_after : ℕ → ℕ → ℕ
+events_after count zero = count
+events_after count (suc n) = events_after (counted count) n
+
+module _ {T : Type 0} where
+  -- the machine reaches a state in which the runner has this part
+  pub record IsReached (m : Meaning) (r : RunnerState T) : Type 0 where
+    pub world : World
+    pub reached : Reached m r.layout r.requests world
+    pub own : slice_get world.parts (seat_of r.layout r.number) ≡ Some r.part
+
+  -- the run that the runner is in
+  abbrev pub run_of : RunnerState T → RunState
+  run_of r = run_or r.part.run
+
+  -- the runner is in a run, which has loaded its thunk and its done word
+  abbrev pub IsInside : Meaning → RunnerState T → Type 0
+  IsInside m r = IsRunning m r (run_of r)
+
+  -- the runner may begin a run of the section in this descriptor: it is entered, in no run, and holds the descriptor
+  pub record MayBegin (m : Meaning) (r : RunnerState T) (d : ℕ) : Type 0 where
+    pub epoch : ℕ
+    pub published : Option Published
+    pub at : IsAt r (stages.Entered epoch) published
+    pub holds : has r.part.reads.held d ≡ true
+    pub reached : IsReached m r

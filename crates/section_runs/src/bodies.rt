@@ -1,0 +1,83 @@
+//! The steps of a run's body, one after the other.
+ghost use Rattle.std.specs.Prelude.{◌≡◌, ◌≢◌, ℕ, ◌≤◌, length, count_by, sum_by};
+ghost use Rattle.section_body.specs.Cost.{step_cost};
+ghost use Rattle.section_body.specs.Shape.{IsShaped, is_make};
+ghost use Rattle.section_body.specs.declared.outcome.Outcome.{Outcome as Ending};
+ghost use Rattle.runner_steps.specs.Sections.{reply_in};
+ghost use Rattle.version_words.specs.TableState.{IsOf};
+ghost use Rattle.commit_log.specs.Halted.{IsThrough, IsHalted};
+ghost use Rattle.section_runs.specs.Reached.{run_of};
+ghost use Rattle.section_runs.specs.Bodies.{body_of, IsBefore, HasWalked};
+ghost use Rattle.section_runs.specs.declared.passed.Walked.TheVariants.{Over, Stopped};
+
+use crate::passed::{Passed, Walked};
+use crate::registers::Places;
+use crate::steps::step_gated;
+use runner_parts::Structure;
+use section_body::{Gate, Outcome, Step, Steps, Trail};
+use version_words::{FlockTable, Runner, table_is_allowed};
+
+/// How many words were agreed on.
+fn count_of(trail: &Trail) -> u32
+    ensures { result ≡ length trail.now.words }
+{
+    trail.words.len() as u32
+}
+
+/// The reply of a body's Answer, which is its last step.
+fn reply_of(body: &[Step]) -> u64
+    requires { IsShaped body.now }
+    ensures { result ≡ reply_in body.now }
+{
+    match body[body.len() - 1] {
+        Step::Answer { reply } => reply,
+        _ => unreachable!(),
+    }
+}
+
+/// Makes the steps of the body one after the other, until it has gone through all or leaves at one. Each atomic step is counted, and the
+/// gate is asked after it. Answers how many steps of the body were passed, and the outcome.
+///
+/// The run stands before the first step, and a free node slot is there for each Make. No memory is taken.
+pub fn walk<S: Structure, G: Gate, L>(
+    table: &FlockTable<S>,
+    runner: Runner<S>,
+    descriptor: u32,
+    body: &[Step],
+    trail: &mut Trail,
+    gate: &mut G,
+    steps: &mut Steps<L>,
+) -> (Runner<S>, Walked)
+    requires own { IsOf table.now runner }
+    requires body { body.now ≡ body_of (S.meaning table.now.structure) runner }
+    requires shaped { IsShaped body.now }
+    requires before { IsBefore (S.meaning table.now.structure) 0 runner }
+    requires section { descriptor ≡ (run_of runner).descriptor }
+    requires trail { trail.old.words ≡ (run_of runner).trail }
+    requires reserve { count_by is_make body.now ≤ length runner.part.nodes.free }
+    ensures own { IsOf table.now result.0 }
+    ensures over { (n : ℕ) (o : Ending) → result.1 ≡ Over n o → HasWalked (S.meaning table.now.structure) n o runner result.0 }
+    ensures trail { result.1 ≢ Stopped → trail.new.words ≡ (run_of result.0).trail }
+    ensures late { trail.new.late ≡ trail.old.late }
+    ensures through { result.1 ≢ Stopped → IsThrough (S.meaning table.now.structure) (sum_by step_cost body.now) runner result.0 (G.halts gate.old) (G.halts gate.new) (G.asks gate.old) (G.asks gate.new) steps.old.count steps.new.count }
+    ensures halted { result.1 ≡ Stopped → IsHalted (S.meaning table.now.structure) (sum_by step_cost body.now) runner result.0 (G.halts gate.old) (G.halts gate.new) (G.asks gate.old) (G.asks gate.new) steps.old.count steps.new.count }
+{
+    table_is_allowed(table);
+    let mut runner = runner;
+    let mut kept = Places::new();
+    for n in 0..body.len() {
+        let count = count_of(trail);
+        let step = &body[n];
+        let (gone, passed) = step_gated(
+            table, runner, descriptor, n, step, &kept, trail, gate, steps,
+        );
+        runner = gone;
+        match passed {
+            Passed::On => kept = kept.after(step, count),
+            Passed::Left(outcome) => return (runner, Walked::Over(n, outcome)),
+            Passed::Halted => return (runner, Walked::Stopped),
+        }
+    }
+    let outcome = Outcome::Answered(reply_of(body));
+    (runner, Walked::Over(body.len(), outcome))
+}

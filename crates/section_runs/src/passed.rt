@@ -1,0 +1,23 @@
+//! How a run came through a step of its body.
+
+use section_body::Outcome;
+
+/// How a run came through a step of its body.
+#[derive(Clone, Copy, Debug, PartialEq, Eq)]
+pub enum Passed {
+    /// It goes on behind the step.
+    On,
+    /// It leaves here with this outcome.
+    Left(Outcome),
+    /// The gate halted the runner.
+    Halted,
+}
+
+/// Where a run left its body.
+#[derive(Clone, Copy, Debug, PartialEq, Eq)]
+pub enum Walked {
+    /// It went through so many steps, and is to end with this outcome.
+    Over(usize, Outcome),
+    /// The gate halted the runner.
+    Stopped,
+}

@@ -1,0 +1,43 @@
+//! What a run's code keeps of the registers of its body.
+ghost use Rattle.std.specs.Prelude.{◌≡◌, ◌≤◌};
+ghost use Rattle.section_body.specs.Line.{Registers, no_registers, registers_after};
+ghost use Rattle.section_body.specs.Shape.{set_registers};
+ghost use Rattle.section_runs.specs.Registers.{AreKept, IsWithin};
+
+use section_body::{Place, Step};
+
+/// The place from which each register was loaded, and the place of its word in the log.
+#[derive(Clone, Copy, Debug, PartialEq, Eq)]
+pub struct Places {
+    pub places: [Place; 16],
+    pub logs: [u32; 16],
+}
+
+impl Places {
+    /// Before the first step.
+    pub fn new() -> Places
+        ensures { AreKept result no_registers }
+    {
+        Places {
+            places: [0; 16],
+            logs: [0; 16],
+        }
+    }
+
+    /// After one more step, before which so many words were agreed on.
+    pub fn after(self, step: &Step, count: u32) -> Places
+        requires within { IsWithin step.now }
+        ensures { (g : Registers) → AreKept self g → count ≡ g.count → AreKept result (registers_after g step.now) }
+    {
+        let mut next = self;
+        match *step {
+            Step::Load { place, into } => {
+                next.places[into as usize] = place;
+                next.logs[into as usize] = count;
+            }
+            Step::Make { init: _, into } => next.logs[into as usize] = count,
+            _ => (),
+        }
+        next
+    }
+}

@@ -1,0 +1,117 @@
+//! A whole run of a section.
+ghost use Rattle.std.specs.Prelude.{◌≡◌, ℕ, ◌+◌, ◌≤◌, [], true, false, length};
+ghost use Rattle.section_body.specs.Trail.{Agreed};
+ghost use Rattle.section_body.specs.declared.outcome.Outcome.{Outcome as Ending};
+ghost use Rattle.section_body.specs.declared.thunk.Thunk.{Thunk as Words};
+ghost use Rattle.version_words.specs.RunnerState.{RunnerState};
+ghost use Rattle.version_words.specs.TableState.{IsOf};
+ghost use Rattle.commit_log.specs.Asked.{IsAsked};
+ghost use Rattle.commit_log.specs.Halted.{IsHalted};
+ghost use Rattle.section_runs.specs.Reached.{MayBegin};
+ghost use Rattle.section_runs.specs.Opened.{HasOpened, StandsOpened};
+ghost use Rattle.section_runs.specs.Ended.{EndsSo, IsCutShort, rest_of};
+ghost use Rattle.section_runs.specs.declared.runs.RunEnd.TheVariants.{Done, Halted};
+
+use crate::bodies::walk;
+use crate::ends::end;
+use crate::opens::open;
+use crate::passed::Walked;
+use runner_parts::Structure;
+use section_body::{Gate, Outcome, Steps, Thunk, Trail};
+use version_words::{FlockTable, Runner, table_is_allowed};
+
+/// How a run of a section ended.
+#[derive(Debug, Drop)]
+pub enum RunEnd {
+    /// It came to its end, with this outcome and these agreed words.
+    Done(Outcome, Trail),
+    /// The gate halted the runner.
+    Halted,
+}
+
+/// The end of a run with this outcome and this trail, where the gate let it go on to there.
+fn ended(going: bool, outcome: Outcome, trail: Trail) -> RunEnd
+    ensures done { going ≡ true → result ≡ Done outcome trail }
+    ensures halted { going ≡ false → result ≡ Halted }
+{
+    if going {
+        RunEnd::Done(outcome, trail)
+    } else {
+        RunEnd::Halted
+    }
+}
+
+/// A trail that is empty yet, of a run that found its section done or not.
+fn trail_of(late: bool) -> Trail
+    ensures words { result.words ≡ [] }
+    ensures late { result.late ≡ late }
+{
+    let mut trail = Trail::new();
+    trail.late = late;
+    trail
+}
+
+/// Goes on with a run that has loaded this thunk, and found its section done or not.
+fn run_opened<S: Structure, G: Gate, L>(
+    table: &FlockTable<S>,
+    runner: Runner<S>,
+    descriptor: u32,
+    thunk: &Thunk,
+    late: bool,
+    gate: &mut G,
+    steps: &mut Steps<L>,
+) -> (Runner<S>, RunEnd)
+    requires own { IsOf table.now runner }
+    requires opened { StandsOpened (S.meaning table.now.structure) descriptor thunk.now late runner }
+    requires reserve { 2 ≤ length runner.part.nodes.free }
+    ensures own { IsOf table.now result.0 }
+    ensures done { (before : RunnerState S) (o : Ending) (trail : Agreed) → HasOpened (S.meaning table.now.structure) descriptor thunk.now late before runner → result.1 ≡ Done o trail
+        → (made : ℕ) × EndsSo (S.meaning table.now.structure) descriptor thunk.now o trail (13 + made) before result.0
+        × IsAsked made true (G.halts gate.old) (G.halts gate.new) (G.asks gate.old) (G.asks gate.new) steps.old.count steps.new.count }
+    ensures halted { result.1 ≡ Halted → IsHalted (S.meaning table.now.structure) (rest_of ((S.meaning table.now.structure).body thunk.now)) runner result.0 (G.halts gate.old) (G.halts gate.new) (G.asks gate.old) (G.asks gate.new) steps.old.count steps.new.count }
+{
+    table_is_allowed(table);
+    let body = table.structure().body(thunk);
+    let mut trail = trail_of(late);
+    let line = body.steps.as_slice();
+    let (runner, walked) = walk(table, runner, descriptor, line, &mut trail, gate, steps);
+    match walked {
+        Walked::Over(taken, outcome) => {
+            let (runner, going) = end(
+                table, runner, line, taken, thunk.lock, thunk.word, gate, steps,
+            );
+            (runner, ended(going, outcome, trail))
+        }
+        Walked::Stopped => (runner, RunEnd::Halted),
+    }
+}
+
+/// Runs the section in this descriptor to its end, whatever others do: loads its thunk, makes the steps of its body by the words that were
+/// agreed on, marks it as done and releases its locks. Answers the outcome and the agreed words, which are the same for each run of the
+/// section; the trail says whether the section was done as the run began. Each step is counted, and the gate is asked after it.
+///
+/// The runner has to be entered and in no run, holds the descriptor, and has a reserve of two node slots. It makes at most as many steps
+/// as `cost` of the body says. `Halted` only where the gate halted. No memory is taken, and nothing waits (Ben-David, Blelloch, Wei, 2022).
+pub fn run<S: Structure, G: Gate, L>(
+    table: &FlockTable<S>,
+    runner: Runner<S>,
+    descriptor: u32,
+    gate: &mut G,
+    steps: &mut Steps<L>,
+) -> (Runner<S>, RunEnd)
+    requires own { IsOf table.now runner }
+    requires next { MayBegin (S.meaning table.now.structure) runner descriptor }
+    requires reserve { 2 ≤ length runner.part.nodes.free }
+    ensures own { IsOf table.now result.0 }
+    ensures done { (o : Ending) (trail : Agreed) → result.1 ≡ Done o trail → (t : Words) × (made : ℕ) × EndsSo (S.meaning table.now.structure) descriptor t o trail made runner result.0
+        × IsAsked made true (G.halts gate.old) (G.halts gate.new) (G.asks gate.old) (G.asks gate.new) steps.old.count steps.new.count }
+    ensures halted { result.1 ≡ Halted → (made : ℕ) × IsCutShort (S.meaning table.now.structure) descriptor made runner result.0
+        × IsAsked made false (G.halts gate.old) (G.halts gate.new) (G.asks gate.old) (G.asks gate.new) steps.old.count steps.new.count }
+{
+    table_is_allowed(table);
+    let (runner, opened) = open(table, runner, descriptor, gate, steps);
+    match opened {
+        Some((thunk, late)) => run_opened(table, runner, descriptor, &thunk, late, gate, steps),
+        None => (runner, RunEnd::Halted),
+    }
+}
