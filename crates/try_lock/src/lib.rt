@@ -5,11 +5,9 @@
 #![tactic(auto)]
 
 mod planned;
-mod planner;
 mod retires;
 mod section;
 
 pub use planned::Planned;
-pub use planner::Planner;
 pub use retires::retire_section;
 pub use section::Section;
