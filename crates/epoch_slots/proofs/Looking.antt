@@ -173,7 +173,7 @@ module _ {T : Type 0} (m : Meaning) where
               ∙ (ap (λ (p : PartState). p.nodes) part ∙ (λ i. nodes_looked (so.rest.layout i) (so.nodes i) slot cell word)
               ∙ (look_next old.layout old.part.nodes slot word (list_any f so.words) hand cell none few (λ e. none_left f so.words (so.count ∙ e))
               ∙ ap (looked old.part.nodes slot (cell + 1)) (sym (any_more f so.words word))));
-          at = then_loaded_word m word r r' None slot cell so.at made;
+          at = then_loaded_word m word r r' stages.Idle None slot cell so.at made;
           rest = record {
             number = ap (λ (y : RunnerState T). y.number) made.made ∙ so.rest.number;
             layout = ap (λ (y : RunnerState T). y.layout) made.made ∙ so.rest.layout;

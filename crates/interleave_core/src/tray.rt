@@ -15,10 +15,10 @@ use table_words::Layout;
 pub struct Tray;
 
 /// What a number's form does: it stores the number at place 1.
-fn number_body(operand: Word) -> Body
-    ensures { result ≡ body_of Number operand }
+fn fill_number(operand: Word, body: &mut Body)
+    ensures { body.new ≡ body_of Number operand }
 {
-    Body::from_slice(&[
+    body.refill(&[
         Step::Load { place: 1, into: 0 },
         Step::Fresh { reg: 0 },
         Step::Stamp,
@@ -27,14 +27,14 @@ fn number_body(operand: Word) -> Body
             value: Value::Const(operand.value()),
         },
         Step::Answer { reply: 4294967296 },
-    ])
+    ]);
 }
 
 /// It makes a node behind the empty link.
-fn link_body(operand: Word) -> Body
-    ensures { result ≡ body_of Link operand }
+fn fill_link(operand: Word, body: &mut Body)
+    ensures { body.new ≡ body_of Link operand }
 {
-    Body::from_slice(&[
+    body.refill(&[
         Step::Load { place: 2, into: 0 },
         Step::Want {
             reg: 0,
@@ -53,15 +53,15 @@ fn link_body(operand: Word) -> Body
             value: Value::Made(1),
         },
         Step::Answer { reply: 4294967296 },
-    ])
+    ]);
 }
 
 /// It takes the linked node out.
-fn unlink_body(operand: Word) -> Body
+fn fill_unlink(operand: Word, body: &mut Body)
     requires { 0 < value_of operand }
-    ensures { result ≡ body_of Unlink operand }
+    ensures { body.new ≡ body_of Unlink operand }
 {
-    Body::from_slice(&[
+    body.refill(&[
         Step::Load { place: 2, into: 0 },
         Step::Want {
             reg: 0,
@@ -77,15 +77,15 @@ fn unlink_body(operand: Word) -> Body
             slot: operand.value() - 1,
         },
         Step::Answer { reply: 17179869184 },
-    ])
+    ]);
 }
 
 /// It does nothing.
-fn other_body(operand: Word) -> Body
-    ensures { result ≡ body_of Other operand }
+fn fill_other(operand: Word, body: &mut Body)
+    ensures { body.new ≡ body_of Other operand }
 {
     let _ = operand;
-    Body::from_slice(&[Step::Stamp, Step::Answer { reply: 4294967296 }])
+    body.refill(&[Step::Stamp, Step::Answer { reply: 4294967296 }]);
 }
 
 impl Structure for Tray {
@@ -112,15 +112,21 @@ impl Structure for Tray {
     }
 
     fn body(&self, thunk: &Thunk) -> Body {
+        let mut body = Body::empty();
+        self.body_in(thunk, &mut body);
+        body
+    }
+
+    fn body_in(&self, thunk: &Thunk, body: &mut Body) {
         let operand = Word::from_bits(thunk.operands[0]);
         if thunk.lock == 0 && thunk.form == 101 {
-            number_body(operand)
+            fill_number(operand, body);
         } else if thunk.lock == 0 && thunk.form == 102 && operand.value() == 0 {
-            link_body(operand)
+            fill_link(operand, body);
         } else if thunk.lock == 0 && thunk.form == 103 && operand.value() != 0 {
-            unlink_body(operand)
+            fill_unlink(operand, body);
         } else {
-            other_body(operand)
+            fill_other(operand, body);
         }
     }
 

@@ -27,7 +27,7 @@ use Rattle.machine_invariant.proofs.Meeting.{having_met, has_met}
 use Rattle.machine_invariant.proofs.Chunked.{is_plain_line}
 use Rattle.machine_invariant.proofs.Pieces.{Pieces, KeepsWhole, pieces}
 use Rattle.machine_invariant.proofs.Plain.{plain_whole, outside_whole, join_whole}
-use Rattle.machine_invariant.proofs.Taking.{has_named, is_taking, taking_lock, taking_whole}
+use Rattle.machine_invariant.proofs.Taking.{has_named, is_taking, taking_hold, taking_lock, taking_whole}
 use Rattle.machine_invariant.proofs.Makes.{private_load_whole, private_store_whole, make_commit_whole}
 use Rattle.machine_invariant.proofs.Retires.{retire_commit_whole, epoch_for_retire_whole}
 use Rattle.machine_invariant.proofs.Entering.{enter_again_whole, idle_whole}
@@ -35,7 +35,7 @@ use Rattle.machine_invariant.proofs.Walking.{load_cell_whole}
 use Rattle.machine_invariant.proofs.Publishing.{hold_whole}
 use Rattle.machine_invariant.proofs.Freeing.{scan_one_whole, advance_whole}
 use Rattle.machine_invariant.proofs.SectionsRetired.{section_retired_whole}
-use Rattle.machine_invariant.proofs.Following.{StepsWhole, assembled}
+use Rattle.machine_invariant.proofs.Following.{StepsWhole, assembled, goes_reached}
 
 -- a load of a cell outside a run
 abbrev is_read : EventKind → Bool
@@ -67,7 +67,7 @@ module _ (m : Meaning) (laws : Laws m) (l : Layout) (limits : IsWithinLimits l) 
       → ((parts : Pieces m l g s (here kind) r kind x) → KeepsWhole m l g s (here kind) r kind x parts) → To kind
   direct kind asked other keeps =
       let parts = pieces m laws l limits rs few allowed g s (here kind) whole r kind (step_of kind asked) (no_read kind other) in
-      assembled m l rs g s (here kind) r kind [] tt (step_of kind asked) parts (keeps parts)
+      let kept = keeps parts in assembled m l rs g s (here kind) r kind [] tt (step_of kind asked) parts kept kept.goes
 
   -- the steps of a run
   module _ (q : RunState) (is : p.run ≡ Some q) where
@@ -90,10 +90,11 @@ module _ (m : Meaning) (laws : Laws m) (l : Layout) (limits : IsWithinLimits l) 
           let g' : Beside = record g { epochs = _ } in
           let parts = pieces m laws l limits rs few allowed g' s (here kind) had.stands r kind (step_of kind asked)
           (λ place t is low by. absurd (let clash : true ≡ false = sym (ap is_read is) ∙ other in cc)) in
-          assembled m l rs g s (here kind) r kind had.reaches had.enabled (step_of kind asked) parts
-          (taking_whole m laws l limits rs g' s had.stands r x q is opened kind asked taking had.held parts
+          let kept = taking_whole m laws l limits rs g' s had.stands r x q is opened kind asked taking had.held parts
           (line_heads m l r kind p q is opened (s.word x.0) g.agreement parts.heads parts.in_sections)
-          (line_events m l r kind p q is opened (s.word x.0) parts.events parts.in_slots))
+          (line_events m l r kind p q is opened (s.word x.0) parts.events parts.in_slots) in
+          assembled m l rs g s (here kind) r kind had.reaches had.enabled (step_of kind asked) parts kept
+          (goes_reached m l rs g s r kind (s.word x.0) _ had.reaches had.enabled (taking_hold kind taking) kept.goes)
 
       line : (kind : EventKind) → asks m l rs r kind p ≡ Some x → To kind
       line (kinds.PrivateLoad slot cell) asked = direct (kinds.PrivateLoad slot cell) asked refl
@@ -109,6 +110,7 @@ module _ (m : Meaning) (laws : Laws m) (l : Layout) (limits : IsWithinLimits l) 
       line kinds.NestedLoad asked = takes kinds.NestedLoad asked refl refl
       line kinds.OutcomeLoad asked = takes kinds.OutcomeLoad asked refl refl
       line (kinds.LoadCell (Some place)) asked = some_none x (line_asked m l rs r (kinds.LoadCell (Some place)) p q x asked is opened)
+      line (kinds.Hold t d) asked = some_none x (line_asked m l rs r (kinds.Hold t d) p q x asked is opened)
       line (kinds.Join worker) asked = direct (kinds.Join worker) asked refl (join_whole m laws l limits rs g s whole r x worker asked)
       line kind asked = plain kind asked refl refl refl
 
@@ -138,9 +140,10 @@ module _ (m : Meaning) (laws : Laws m) (l : Layout) (limits : IsWithinLimits l) 
         let had = has_met m laws l limits rs few allowed g s whole r x kind asked in
         let parts = pieces m laws l limits rs few allowed (having_met m l g r kind) s (here kind) had.whole r kind
         (step_of kind asked) had.holds in
-        assembled m l rs g s (here kind) r kind ((r, slots_met m (counts_of m l) g.agreement.shared.cells place) ∷ []) had.enabled
-        (step_of kind asked) parts
-        (load_cell_whole m laws l limits rs few allowed (having_met m l g r kind) s had.whole r x place asked none had.holds parts)
+        let reaches = (r, slots_met m (counts_of m l) g.agreement.shared.cells place) ∷ [] in
+        let kept = load_cell_whole m laws l limits rs few allowed (having_met m l g r kind) s had.whole r x place asked none had.holds parts in
+        assembled m l rs g s (here kind) r kind reaches had.enabled (step_of kind asked) parts kept
+        (goes_reached m l rs g s r kind (s.word x.0) _ reaches had.enabled refl kept.goes)
 
     outside : (kind : EventKind) → asks m l rs r kind p ≡ Some x → To kind
     outside kinds.EnterAgain asked =

@@ -70,6 +70,7 @@ abbrev pub is_plain_line : EventKind → Bool
 is_plain_line (kinds.PrivateLoad slot word) = false
 is_plain_line (kinds.PrivateStore slot word number) = false
 is_plain_line kinds.MakeCommit = false
+is_plain_line (kinds.Hold thunk d) = false
 is_plain_line kinds.RetireCommit = false
 is_plain_line kinds.EpochForRetire = false
 is_plain_line kinds.NestedLoad = false

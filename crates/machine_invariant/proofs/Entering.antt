@@ -38,6 +38,7 @@ use Rattle.machine_invariant.proofs.Quiet.{is_still, hands_of, stands_now}
 use Rattle.machine_invariant.proofs.Chunked.{is_unlocked}
 use Rattle.machine_invariant.proofs.Thunks.{outside_leaves}
 use Rattle.machine_invariant.proofs.Sights.{thunks_after, outside_quiet}
+use Rattle.machine_invariant.proofs.Jointly.{IsWholeAfter, no_hold}
 use Rattle.machine_invariant.proofs.Pieces.{Pieces, KeepsWhole, Leads, led, keeps_by}
 use Rattle.machine_invariant.proofs.Outside.{outside_asked, outside_heads, outside_events, made_outside, published_after, onward_whole}
 
@@ -98,11 +99,11 @@ module _ (m : Meaning) (laws : Laws m) (l : Layout) (limits : IsWithinLimits l) 
     entered_part = after m l r kinds.EnterAgain x.0 x.1 p (s.word x.0)
 
     enter_again : (go : Leads m l g entered_sight r [] (epochs.EnterAgain r ∷ []))
-        → IsWhole m l (led m l g r [] go.passes (epochs.EnterAgain r ∷ []) g.publications) entered_sight
+        → IsWholeAfter m l (states_of g s) (led m l g r [] go.passes (epochs.EnterAgain r ∷ []) g.publications) entered_sight
     enter_again go =
         let reads = ap (λ o. (after_by m l kinds.EnterAgain p o (s.word x.0)).reads) none in
         let kept = ap (λ o. (after_by m l kinds.EnterAgain p o (s.word x.0)).published) none in
-        let one = step_stands m laws l limits (states_of g s) (made_of s) (made_of s) (steps.Enter r) go.enabled_slots.0 tt
+        let one = step_stands m laws l limits (states_of g s) (made_of s) (made_of s) (steps.Enter r) go.enabled_slots.0 tt tt
         (hands_of m laws l limits g.epochs s whole.slots) (λ i. refl) (stands_now m laws l limits g s whole) in
         let two = agreement_stands m laws l limits (replicate go.passes (agreement.Pass r))
         (steps.after m l c (states_of g s) (steps.Enter r)) (made_of s)
@@ -127,7 +128,7 @@ module _ (m : Meaning) (laws : Laws m) (l : Layout) (limits : IsWithinLimits l) 
     enter_again_whole pieces = keeps_by m l g s entered_sight r kinds.EnterAgain x pieces [] (epochs.EnterAgain r ∷ [])
         (outside_heads m l rs g s entered_sight r kinds.EnterAgain x none pieces)
         (outside_events m l rs g s entered_sight r kinds.EnterAgain x none pieces)
-        g.publications refl enter_again
+        g.publications refl (no_hold m l kinds.EnterAgain (s.word x.0) refl) enter_again
 
   -- a runner that leaves has no section that isn't retired
   module _ (asked : asks m l rs r kinds.Idle p ≡ Some x) (none : p.run ≡ None) where
@@ -144,11 +145,11 @@ module _ (m : Meaning) (laws : Laws m) (l : Layout) (limits : IsWithinLimits l) 
     open_live d undone = (whole.sections.sound.sections d undone.used).open_live undone.undone
 
     leave : (go : Leads m l g left_sight r [] (epochs.Exit r ∷ []))
-        → IsWhole m l (led m l g r [] go.passes (epochs.Exit r ∷ []) g.publications) left_sight
+        → IsWholeAfter m l (states_of g s) (led m l g r [] go.passes (epochs.Exit r ∷ []) g.publications) left_sight
     leave go =
         let quiet = outside_quiet m l s r kinds.Idle x none refl refl in
         let one = step_stands m laws l limits (states_of g s) (made_of s) (made_of s) (steps.Leave r)
-        (go.enabled_slots.0, λ d undone. unowned d (open_live d undone)) unowned
+        (go.enabled_slots.0, λ d undone. unowned d (open_live d undone)) unowned tt
         (hands_of m laws l limits g.epochs s whole.slots) (λ i. refl) (stands_now m laws l limits g s whole) in
         let two = agreement_stands m laws l limits (replicate go.passes (agreement.Pass r))
         (steps.after m l c (states_of g s) (steps.Leave r)) (made_of s)
@@ -166,4 +167,4 @@ module _ (m : Meaning) (laws : Laws m) (l : Layout) (limits : IsWithinLimits l) 
     pub idle_whole : (pieces : Pieces m l g s left_sight r kinds.Idle x) → KeepsWhole m l g s left_sight r kinds.Idle x pieces
     idle_whole pieces = keeps_by m l g s left_sight r kinds.Idle x pieces [] (epochs.Exit r ∷ [])
         (outside_heads m l rs g s left_sight r kinds.Idle x none pieces) (outside_events m l rs g s left_sight r kinds.Idle x none pieces)
-        g.publications refl leave
+        g.publications refl (no_hold m l kinds.Idle (s.word x.0) refl) leave

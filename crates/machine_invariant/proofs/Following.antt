@@ -1,11 +1,14 @@
 -- The components go along with every list of the machine's events, and the whole invariant with them.
-use Rattle.std.specs.Prelude.{◌++◌, replicate, Bool, Option, Some, None}
-use Rattle.std.proofs.Common.{◌≡◌, ℕ, List, [], ◌∷◌, sym, refl, subst, ◌∙◌}
+use Rattle.std.specs.Prelude.{◌++◌, replicate, Bool, false, Option, Some, None}
+use Rattle.std.proofs.Common.{◌≡◌, ℕ, List, [], ◌∷◌, inl, ⊎_elim, sym, refl, subst, ◌∙◌}
 use Rattle.map_history.specs.declared.op.Request.{Request}
 use Rattle.table_words.specs.declared.layout.Layout.{Layout}
+use Rattle.table_words.specs.declared.spot.Spot.{Spot}
+use Rattle.table_words.specs.declared.access.Access.{Access}
 use Rattle.structure_laws.specs.Meaning.{Meaning}
 use Rattle.runner_parts.specs.declared.event.Event.{Event}
 use Rattle.runner_parts.specs.declared.event.EventKind.{EventKind}
+use Rattle.runner_steps.specs.Asks.{asks}
 use Rattle.agreement_core.specs.Events as agreement
 use Rattle.agreement_core.specs.Schedules as agreement_schedules
 use Rattle.agreement_core.specs.History as agreement_history
@@ -19,11 +22,12 @@ use Rattle.machine_states.specs.Sight as states
 use Rattle.machine_states.proofs.Sights.{some_none, happens_steps}
 use Rattle.machine_states.proofs.Steps.{some_same}
 use Rattle.machine_epochs.specs.Entries.{counts_of}
-use Rattle.machine_scenes.specs.Shown.{Publications, rules_of}
+use Rattle.machine_scenes.specs.Shown.{States, Publications, rules_of}
 use Rattle.machine_invariant.specs.Along.{Components, reaches_of, components_after, AreEventsOf, GoAlong}
-use Rattle.machine_invariant.specs.Whole.{Beside, IsWhole}
+use Rattle.machine_invariant.specs.Whole.{Beside, states_of, IsWhole}
 use Rattle.machine_invariant.proofs.States.{with_histories}
-use Rattle.machine_invariant.proofs.Pieces.{Pieces, KeepsWhole}
+use Rattle.machine_invariant.proofs.Jointly.{JointSteps, alone_before, Goes, is_hold, no_hold}
+use Rattle.machine_invariant.proofs.Pieces.{Pieces, KeepsWhole, led}
 
 module _ (c : Counts) where
   slots_append : (w : EpochState) (front back : List epochs.Event) → epoch_schedules.AllEnabled c w front
@@ -55,15 +59,42 @@ module _ (m : Meaning) (l : Layout) (rs : List Request) where
       epochs = epoch_schedules.after_all c g.epochs vs;
       publications = publications;
     }) s'
+    -- these are reached by steps of the joint states
+    pub ask : Spot × Access
+    pub asked : asks m l rs r kind (s.part r) ≡ Some ask
+    pub goes : Goes m l g s r kind (s.word ask.0) (states_of (record {
+      agreement = agreement_schedules.after_all (rules_of m l) g.agreement es;
+      epochs = epoch_schedules.after_all c g.epochs vs;
+      publications = publications;
+    }) s')
+
+  -- coming to hold slots, before steps of the joint states
+  reaches_before : (reaches : List (ℕ × (ℕ → Bool))) (j to : States) → epoch_schedules.AllEnabled c j.epochs (reaches_of reaches)
+      → JointSteps m l (record j { epochs = epoch_schedules.after_all c j.epochs (reaches_of reaches) }) to → JointSteps m l j to
+  reaches_before [] j to ok more = more
+  reaches_before (x ∷ reaches) j to ok more = alone_before m l j to (epochs.Reach x.0 x.1) refl ok.0
+      (reaches_before reaches (record j { epochs = epochs.after c j.epochs (epochs.Reach x.0 x.1) }) to ok.1 more)
+
+  -- nobody comes to hold slots where a section is published
+  pub goes_reached : (g : Beside) (s : Sight) (r : ℕ) (kind : EventKind) (found : ℕ) (to : States) (reaches : List (ℕ × (ℕ → Bool)))
+      → epoch_schedules.AllEnabled c g.epochs (reaches_of reaches) → is_hold kind ≡ false
+      → Goes m l (record g { epochs = epoch_schedules.after_all c g.epochs (reaches_of reaches) }) s r kind found to
+      → Goes m l g s r kind found to
+  goes_reached g s r kind found to reaches ok other = ⊎_elim
+      (λ quiet. inl (record { passed = reaches_before reaches (states_of g s) to ok quiet.passed; nothing = quiet.nothing }))
+      (λ publishing. absurd (no_hold m l kind publishing.thunk.word other publishing.thunk publishing.descriptor publishing.kind_is refl))
 
   -- where runners come to hold slots first
   pub assembled : (g : Beside) (s s' : Sight) (r : ℕ) (kind : EventKind) (reaches : List (ℕ × (ℕ → Bool)))
       → epoch_schedules.AllEnabled c g.epochs (reaches_of reaches)
       → (step : Steps m l rs s s' r kind)
       → (pieces : Pieces m l (record g { epochs = epoch_schedules.after_all c g.epochs (reaches_of reaches) }) s s' r kind step.ask)
-      → KeepsWhole m l (record g { epochs = epoch_schedules.after_all c g.epochs (reaches_of reaches) }) s s' r kind step.ask pieces
+      → (keeps : KeepsWhole m l (record g { epochs = epoch_schedules.after_all c g.epochs (reaches_of reaches) }) s s' r kind step.ask pieces)
+      → Goes m l g s r kind (s.word step.ask.0) (states_of
+      (led m l (record g { epochs = epoch_schedules.after_all c g.epochs (reaches_of reaches) }) r pieces.heads pieces.passes pieces.events
+      keeps.publications) s')
       → StepsWhole g s s' r kind
-  assembled g s s' r kind reaches ok step pieces keeps =
+  assembled g s s' r kind reaches ok step pieces keeps goes =
       let es = pieces.heads ++ replicate pieces.passes (agreement.Pass r) in
       let vs = reaches_of reaches ++ pieces.events in
       record {
@@ -91,6 +122,14 @@ module _ (m : Meaning) (l : Layout) (rs : List Request) where
           publications = keeps.publications;
         }) s')
             (sym (slots_after c g.epochs (reaches_of reaches) pieces.events)) keeps.whole;
+        ask = step.ask;
+        asked = step.asked;
+        goes = subst (λ (e : EpochState). Goes m l g s r kind (s.word step.ask.0) (states_of (record {
+          agreement = agreement_schedules.after_all (rules_of m l) g.agreement es;
+          epochs = e;
+          publications = keeps.publications;
+        }) s'))
+            (sym (slots_after c g.epochs (reaches_of reaches) pieces.events)) goes;
       }
 
   -- what a list of events leads to

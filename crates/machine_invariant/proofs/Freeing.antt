@@ -33,25 +33,29 @@ use Rattle.epoch_core.specs.Events.{Event, slot_of, after_collect}
 use Rattle.epoch_core.specs.History.{is_out}
 use Rattle.epoch_core.specs.Lists.{times_retired, in_limbo}
 use Rattle.machine_states.specs.Sight.{Sight, sight_after}
+use Rattle.machine_slots.specs.Hands.{Made}
 use Rattle.machine_epochs.specs.Entries.{counts_of}
 use Rattle.machine_epochs.specs.Slots.{thunk_in}
 use Rattle.machine_epochs.specs.Slots.{entry_of as limbo_entry}
 use Rattle.machine_epochs.specs.Joined as joins
 use Rattle.machine_epochs.proofs.Reaching.{leaves_descriptors}
 use Rattle.machine_scenes.specs.Kinds.{is_alone}
-use Rattle.machine_scenes.specs.Shown.{rules_of}
+use Rattle.machine_scenes.specs.Shown.{States, rules_of}
+use Rattle.machine_scenes.specs.Steps.{Agreement}
+use Rattle.machine_scenes.specs.Steps as steps
 use Rattle.machine_agreement.specs.Chunks.{frees}
 use Rattle.machine_agreement.specs.Chunks as chunks
 use Rattle.machine_invariant.specs.Whole.{Beside, states_of, made_of, IsHeldFor, AreTied, IsWhole}
 use Rattle.machine_invariant.proofs.Basics.{by_bool}
 use Rattle.machine_invariant.proofs.Named.{named_all}
-use Rattle.machine_invariant.proofs.Runs.{is_calm, AllAre, append_are, passes_are, agreement_stands, epochs_stand}
+use Rattle.machine_invariant.proofs.Runs.{is_calm, AllAre, append_are, passes_are, InHands, Stands, step_stands, agreement_stands, epochs_stand}
 use Rattle.machine_invariant.proofs.Ties.{IsOnward, alone_onward, named_onward}
 use Rattle.machine_invariant.proofs.Quiet.{IsQuiet, is_still, all_still, hands_of, quiet_whole, stands_now}
 use Rattle.machine_invariant.proofs.Chunked.{is_unlocked, all_unlocked}
 use Rattle.machine_invariant.proofs.Limbo.{taken, one, at_its_limbo}
 use Rattle.machine_invariant.proofs.Thunks.{outside_leaves}
 use Rattle.machine_invariant.proofs.Sights.{thunks_after, outside_quiet}
+use Rattle.machine_invariant.proofs.Jointly.{IsWholeAfter, no_hold}
 use Rattle.machine_invariant.proofs.Pieces.{Pieces, KeepsWhole, Leads, led, keeps_by}
 use Rattle.machine_invariant.proofs.Outside.{outside_asked, outside_heads, outside_events, parts_whole}
 
@@ -220,6 +224,18 @@ module _ (m : Meaning) (l : Layout) (g : Beside) (s s' : Sight) (old : AreTied m
       used_here n true leaves = sym (gone n leaves)
       used_here n false stays = sym (kept n stays (g.agreement.used n) refl)
 
+-- the joint states stand behind descriptors that become free, none of which was live, and other events
+frees_stand : (m : Meaning) (laws : Laws m) (l : Layout) (limits : IsWithinLimits l) (from : States) (ds : List ℕ) (es : List agreement.Event)
+    → AllAre is_calm es → (j : States) (made : Made) → j.agreement.live ≡ from.agreement.live
+    → agreement_schedules.AllEnabled (rules_of m l) j.agreement (frees ds ++ es) → InHands m laws l limits j.epochs made
+    → Stands m laws l limits from j made
+    → Stands m laws l limits from (record j { agreement = agreement_schedules.after_all (rules_of m l) j.agreement (frees ds ++ es) }) made
+frees_stand m laws l limits from [] es calm j made live ok hands old = agreement_stands m laws l limits es j made calm ok hands old
+frees_stand m laws l limits from (d ∷ ds) es calm j made live ok hands old =
+    frees_stand m laws l limits from ds es calm (steps.after m l (counts_of m l) j (Agreement (agreement.Free d))) made live ok.1 hands
+    (step_stands m laws l limits j made made (Agreement (agreement.Free d)) (refl, ok.0) tt
+    (ap (λ (f : ℕ → Bool). f d) (sym live) ∙ ok.0.0) hands (λ i. refl) old)
+
 module _ (m : Meaning) (laws : Laws m) (l : Layout) (limits : IsWithinLimits l) (rs : List Request) (few : length rs ≤ 131072)
     (allowed : All (λ (q : Request). IsAllowed q.op) rs) (g : Beside) (s : Sight) (whole : IsWhole m l g s) (r : ℕ)
     (x : Spot × Access) where
@@ -231,7 +247,7 @@ module _ (m : Meaning) (laws : Laws m) (l : Layout) (limits : IsWithinLimits l) 
       → is_alone v ≡ true
       → ((i : ℕ) → (epochs.after (counts_of m l) g.epochs v).location i ≡ after_collect (counts_of m l) g.epochs.location r epoch i)
       → (go : Leads m l g s' r (chunks.collected (Some epoch) p) (v ∷ []))
-      → IsWhole m l (led m l g r (chunks.collected (Some epoch) p) go.passes (v ∷ []) g.publications) s'
+      → IsWholeAfter m l (states_of g s) (led m l g r (chunks.collected (Some epoch) p) go.passes (v ∷ []) g.publications) s'
   collect_whole s' quiet thunks epoch v alone places go =
       let ds = slots_of (filter (lists.is_old epoch) p.descriptors.limbo) in
       let passes = replicate go.passes (agreement.Pass r) in
@@ -241,10 +257,8 @@ module _ (m : Meaning) (laws : Laws m) (l : Layout) (limits : IsWithinLimits l) 
       let e' = epochs.after (counts_of m l) g.epochs v in
       let on = alone_onward m l (v ∷ []) g.epochs (alone, tt) go.enabled_slots s.part s'.part
       (λ i d has_it. ap (λ xs. has xs d) (sym (quiet.stay.mine i)) ∙ has_it) in
-      let one = agreement_stands m laws l limits es (states_of g s) (made_of s)
-      (append_are is_calm (frees ds) passes (frees_are is_calm (λ d. refl) ds)
-      (passes_are is_calm (agreement.Pass r) refl go.passes)) go.enabled
-      (hands_of m laws l limits g.epochs s whole.slots) (stands_now m laws l limits g s whole) in
+      let one = frees_stand m laws l limits (states_of g s) ds passes (passes_are is_calm (agreement.Pass r) refl go.passes)
+      (states_of g s) (made_of s) refl go.enabled (hands_of m laws l limits g.epochs s whole.slots) (stands_now m laws l limits g s whole) in
       let two = epochs_stand m laws l limits (v ∷ []) (record (states_of g s) { agreement = a' }) (made_of s)
       (alone, tt) go.enabled_slots one in
       let tied = tied_freed m l g s s' whole.tied whole.slots r epoch a' e' places (freed (rules_of m l) g.agreement ds passes still)
@@ -270,7 +284,7 @@ module _ (m : Meaning) (laws : Laws m) (l : Layout) (limits : IsWithinLimits l) 
         (outside_asked m l rs g s scan_sight r scan x none asked))
 
     scan_on : (v : Event) → is_alone v ≡ true → leaves_descriptors v ≡ true → (go : Leads m l g scan_sight r [] (v ∷ []))
-        → IsWhole m l (led m l g r [] go.passes (v ∷ []) g.publications) scan_sight
+        → IsWholeAfter m l (states_of g s) (led m l g r [] go.passes (v ∷ []) g.publications) scan_sight
     scan_on v alone leaves go =
         let passes = replicate go.passes (agreement.Pass r) in
         quiet_whole m laws l limits g s scan_sight whole (outside_quiet m l s r scan x none refl refl) (λ d used. scan_thunks d) passes
@@ -284,10 +298,11 @@ module _ (m : Meaning) (laws : Laws m) (l : Layout) (limits : IsWithinLimits l) 
         let heads = outside_heads m l rs g s scan_sight r scan x none pieces in
         let events = outside_events m l rs g s scan_sight r scan x none pieces in ⊎_elim
         (λ goes. keeps_by m l g s scan_sight r scan x pieces [] (epochs.ScanOne r events.0 n events.1 ∷ [])
-        (heads ∙ ap (λ o. chunks.collected o p) goes.0) goes.1 g.publications refl (scan_on _ refl refl))
+        (heads ∙ ap (λ o. chunks.collected o p) goes.0) goes.1 g.publications refl (no_hold m l scan (s.word x.0) refl) (scan_on _ refl refl))
         (λ ends. keeps_by m l g s scan_sight r scan x pieces (chunks.collected (Some events.0) p)
         (epochs.ScanLast r events.0 n events.1 ∷ [])
         (heads ∙ ap (λ o. chunks.collected o p) ends.0) ends.1 g.publications refl
+        (no_hold m l scan (s.word x.0) refl)
         (collect_whole scan_sight (outside_quiet m l s r scan x none refl refl) scan_thunks events.0
         (epochs.ScanLast r events.0 n events.1) refl (λ i. refl)))
         events.3
@@ -305,6 +320,7 @@ module _ (m : Meaning) (laws : Laws m) (l : Layout) (limits : IsWithinLimits l) 
         keeps_by m l g s advance_sight r kinds.Advance x pieces (chunks.collected (Some (events.0 + 1)) p)
         (epochs.Advance r events.0 events.1 ∷ [])
         (heads ∙ ap (λ o. chunks.collected o p) events.3) events.4 g.publications refl
+        (no_hold m l kinds.Advance (s.word x.0) refl)
         (collect_whole advance_sight (outside_quiet m l s r kinds.Advance x none refl refl)
         (thunks_after m l s r kinds.Advance x (outside_leaves m l rs r p x kinds.Advance refl
         (outside_asked m l rs g s advance_sight r kinds.Advance x none asked)))

@@ -2,6 +2,7 @@ pub mod Basics
 pub mod Asked
 pub mod Prepared
 mod Limbo
+pub mod Jointly
 pub mod Slots
 pub mod Trails
 mod Lines

@@ -49,6 +49,7 @@ use Rattle.machine_invariant.specs.Whole.{Beside, states_of, made_in, made_of, I
 use Rattle.machine_invariant.proofs.Asked.{line_heads, line_events, source_same}
 use Rattle.machine_invariant.proofs.Runs.{AllAre, InHands, Stands, step_stands, epochs_stand}
 use Rattle.machine_invariant.proofs.Quiet.{hands_of, stands_now}
+use Rattle.machine_invariant.proofs.Jointly.{no_hold}
 use Rattle.machine_invariant.proofs.Pieces.{Pieces, KeepsWhole, Leads, led, keeps_by}
 use Rattle.machine_invariant.proofs.SlotSteps.{made_after, made_same, stays_read, thunks_stay, passes_stand, line_whole}
 
@@ -113,7 +114,7 @@ module _ (m : Meaning) (laws : Laws m) (l : Layout) (limits : IsWithinLimits l) 
     load_stands : (log : ℕ) (fs : List epochs.Event) → (go : Leads m l g loaded r (loads log ∷ []) fs)
         → (q.made ≡ None) ⊎ (q.made ≡ Some slot)
         → AllAre is_alone fs
-        → Stands m laws l limits (record (states_of g s) {
+        → Stands m laws l limits (states_of g s) (record (states_of g s) {
           agreement = (led m l g r (loads log ∷ []) go.passes fs g.publications).agreement;
           epochs = (led m l g r (loads log ∷ []) go.passes fs g.publications).epochs;
         }) (made_of loaded)
@@ -137,10 +138,10 @@ module _ (m : Meaning) (laws : Laws m) (l : Layout) (limits : IsWithinLimits l) 
           before = was;
           after = goes;
         } in
-        let taken : Stands m laws l limits j (made_of s) =
+        let taken : Stands m laws l limits (states_of g s) j (made_of s) =
         epochs_stand m laws l limits fs (states_of g s) (made_of s) alone go.enabled_slots (stands_now m laws l limits g s whole) in
         passes_stand m laws l limits r go.passes (steps.after m l c j (Agreement (loads log))) (made_of loaded) go.enabled.1 after
-        (step_stands m laws l limits j (made_of s) (made_of loaded) (Agreement (loads log)) (refl, go.enabled.0) tt hands looks taken)
+        (step_stands m laws l limits j (made_of s) (made_of loaded) (Agreement (loads log)) (refl, go.enabled.0) tt tt hands looks taken)
 
     pub private_load_whole : (pieces : Pieces m l g s loaded r load x) → KeepsWhole m l g s loaded r load x pieces
     private_load_whole pieces =
@@ -149,10 +150,12 @@ module _ (m : Meaning) (laws : Laws m) (l : Layout) (limits : IsWithinLimits l) 
         let thunks = thunks_stay m l s r load x refl q is opened rs asked in
         ⊎_elim
         (λ first. keeps_by m l g s loaded r load x pieces (loads heads.0 ∷ []) (epochs.TakeSlot r slot ∷ []) heads.2 first.1 g.publications refl
+        (no_hold m l load (s.word x.0) refl)
         (λ go. line_whole m laws l limits g s loaded whole stay thunks r (loads heads.0) (epochs.TakeSlot r slot ∷ []) go
         refl (record { used = refl; live = refl }) (refl, tt) refl refl
         (load_stands heads.0 (epochs.TakeSlot r slot ∷ []) go (inl first.0) (refl, tt))))
         (λ again. keeps_by m l g s loaded r load x pieces (loads heads.0 ∷ []) [] heads.2 again.1 g.publications refl
+        (no_hold m l load (s.word x.0) refl)
         (λ go. line_whole m laws l limits g s loaded whole stay thunks r (loads heads.0) [] go
         refl (record { used = refl; live = refl }) tt refl refl
         (load_stands heads.0 [] go (inr again.0) tt)))
@@ -189,7 +192,7 @@ module _ (m : Meaning) (laws : Laws m) (l : Layout) (limits : IsWithinLimits l) 
 
     store_stands : (log : ℕ) (value : Source) → next_of m q ≡ micros.PrivateStore cell log value → q.made ≡ Some slot
         → (go : Leads m l g stored r (stores log value ∷ []) [])
-        → Stands m laws l limits (record (states_of g s) {
+        → Stands m laws l limits (states_of g s) (record (states_of g s) {
           agreement = (led m l g r (stores log value ∷ []) go.passes [] g.publications).agreement;
         }) (made_of stored)
     store_stands log value next makes go =
@@ -200,7 +203,7 @@ module _ (m : Meaning) (laws : Laws m) (l : Layout) (limits : IsWithinLimits l) 
         (made_of stored) go.enabled.1
         (hands_of m laws l limits g.epochs stored go.joined_slots)
         (step_stands m laws l limits (states_of g s) (made_of s) (made_of stored) (Fill r cell log value slot number)
-        (go.enabled.0, (r, (hands r slot mine).1), low) tt hands
+        (go.enabled.0, (r, (hands r slot mine).1), low) tt tt hands
         (mine, store_value log value next go.enabled.0.0, made_same m l s r store x refl q is opened refl)
         (stands_now m laws l limits g s whole))
 
@@ -211,6 +214,7 @@ module _ (m : Meaning) (laws : Laws m) (l : Layout) (limits : IsWithinLimits l) 
         let thunks = thunks_stay m l s r store x refl q is opened rs asked in
         keeps_by m l g s stored r store x pieces (stores heads.0 heads.1 ∷ []) [] heads.4
         (line_events m l r store (s.part r) q is opened (s.word x.0) pieces.events pieces.in_slots) g.publications refl
+        (no_hold m l store (s.word x.0) refl)
         (λ go. line_whole m laws l limits g s stored whole stay thunks r (stores heads.0 heads.1) [] go
         refl (record { used = refl; live = refl }) tt refl refl
         (store_stands heads.0 heads.1 heads.2 heads.3 go))
@@ -229,7 +233,7 @@ module _ (m : Meaning) (laws : Laws m) (l : Layout) (limits : IsWithinLimits l) 
     takes log slot = epochs.MakeCommit r ((g.agreement.run r).descriptor) log slot q.worn
 
     commit_stands : (log slot : ℕ) → q.made ≡ Some slot → (go : Leads m l g committed r (commits log slot ∷ []) (takes log slot ∷ []))
-        → Stands m laws l limits (record (states_of g s) {
+        → Stands m laws l limits (states_of g s) (record (states_of g s) {
           agreement = (led m l g r (commits log slot ∷ []) go.passes (takes log slot ∷ []) g.publications).agreement;
           epochs = (led m l g r (commits log slot ∷ []) go.passes (takes log slot ∷ []) g.publications).epochs;
         }) (made_of committed)
@@ -250,7 +254,7 @@ module _ (m : Meaning) (laws : Laws m) (l : Layout) (limits : IsWithinLimits l) 
         passes_stand m laws l limits r go.passes (steps.after m l c (states_of g s) (Make r log slot q.worn))
         (made_of committed) go.enabled.1
         (hands_of m laws l limits e committed go.joined_slots)
-        (step_stands m laws l limits (states_of g s) (made_of s) (made_of committed) (Make r log slot q.worn) may tt hands
+        (step_stands m laws l limits (states_of g s) (made_of s) (made_of committed) (Make r log slot q.worn) may tt tt hands
         (λ i ne. goes i ∙ upd_else (made_of s) r None i ne) (stands_now m laws l limits g s whole))
 
     pub make_commit_whole : (pieces : Pieces m l g s committed r kinds.MakeCommit x)
@@ -267,6 +271,7 @@ module _ (m : Meaning) (laws : Laws m) (l : Layout) (limits : IsWithinLimits l) 
         ∙ (ap (λ t. epochs.MakeCommit r q.descriptor log t q.worn ∷ []) (some_same events.1 slot (sym events.3 ∙ heads.3))
         ∙ ap (λ d. epochs.MakeCommit r d log slot q.worn ∷ []) (sym (run_here m l g.agreement s whole.sections r q is).descriptor))) in
         keeps_by m l g s committed r kinds.MakeCommit x pieces (commits log slot ∷ []) (takes log slot ∷ []) heads.4 taken g.publications refl
+        (no_hold m l kinds.MakeCommit (s.word x.0) refl)
         (λ go. line_whole m laws l limits g s committed whole stay thunks r (commits log slot) (takes log slot ∷ []) go
         refl (record { used = refl; live = refl }) (refl, tt) refl refl
         (commit_stands log slot heads.3 go))

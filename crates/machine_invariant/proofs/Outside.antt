@@ -27,7 +27,7 @@ use Rattle.machine_epochs.specs.Entries.{counts_of}
 use Rattle.machine_epochs.specs.Slots.{thunk_in}
 use Rattle.machine_epochs.specs.Joined as joins
 use Rattle.machine_epochs.specs.Chunks as slots
-use Rattle.machine_scenes.specs.Shown.{rules_of}
+use Rattle.machine_scenes.specs.Shown.{States, rules_of}
 use Rattle.machine_agreement.specs.Joined as sections
 use Rattle.machine_agreement.specs.Chunks as chunks
 use Rattle.machine_invariant.specs.Named.{AreNamed}
@@ -35,6 +35,7 @@ use Rattle.machine_invariant.specs.Whole.{Beside, states_of, made_in, made_of, I
 use Rattle.machine_invariant.proofs.Asked.{asked_by}
 use Rattle.machine_invariant.proofs.Named.{named_all}
 use Rattle.machine_invariant.proofs.Runs.{AllAre, Stands, filled_other}
+use Rattle.machine_invariant.proofs.Jointly.{IsWholeAfter}
 use Rattle.machine_invariant.proofs.Ties.{IsOnward, named_onward, tied_onward}
 use Rattle.machine_invariant.proofs.Quiet.{is_still, all_still, in_run, with_walk}
 use Rattle.machine_invariant.proofs.Chunked.{is_unlocked, all_unlocked}
@@ -90,28 +91,31 @@ module _ (m : Meaning) (laws : Laws m) (l : Layout) (limits : IsWithinLimits l) 
   c = counts_of m l
 
   -- all parts together, where the joint states stand, with what the parts have read
-  pub parts_whole : (g' : Beside) (s s' : Sight) → sections.IsJoinedToAgreement m l g'.agreement s' → joins.IsJoinedToEpochs m l g'.epochs s'
+  pub parts_whole : {from : States} (g' : Beside) (s s' : Sight) → sections.IsJoinedToAgreement m l g'.agreement s' → joins.IsJoinedToEpochs m l g'.epochs s'
       → AreTied m l g' s'
       → (walk : ℕ → Readings) → ((i : ℕ) → (s'.part i).reads.walk ≡ walk i)
       → ((i : ℕ) (q : RunState) → (s'.part i).run ≡ Some q → q.made ≡ made_of s i)
-      → Stands m laws l limits (record (states_of g' s') { walk = walk }) (made_of s)
-      → AreNamed (IsHeldFor m l g'.epochs s'.part) g'.agreement → IsWhole m l g' s'
+      → Stands m laws l limits from (record (states_of g' s') { walk = walk }) (made_of s)
+      → AreNamed (IsHeldFor m l g'.epochs s'.part) g'.agreement → IsWholeAfter m l from g' s'
   parts_whole g' s s' joined joined' tied walk same made stands named =
       let new = with_walk m laws l limits (record (states_of g' s') { walk = walk }) (made_of s)
       (λ i. (s'.part i).reads.walk) same stands in
       record {
-        sections = joined;
-        slots = joined';
-        tied = tied;
-        kept = new.kept;
-        held = new.held;
-        filled = filled_other m laws l limits (states_of g' s') (made_of s) (made_of s')
-            (λ r running. let q = in_run m l g'.agreement s' joined r running in ap made_in q.1 ∙ made r q.0 q.1) new.filled;
-        named = named;
+        passed = new.passed;
+        whole = record {
+          sections = joined;
+          slots = joined';
+          tied = tied;
+          kept = new.kept;
+          held = new.held;
+          filled = filled_other m laws l limits (states_of g' s') (made_of s) (made_of s')
+              (λ r running. let q = in_run m l g'.agreement s' joined r running in ap made_in q.1 ∙ made r q.0 q.1) new.filled;
+          named = named;
+        };
       }
 
   -- the same where no descriptor goes anywhere, and whoever is entered and has published something was and had before
-  pub onward_whole : (g : Beside) (s s' : Sight) → IsWhole m l g s
+  pub onward_whole : {from : States} (g : Beside) (s s' : Sight) → IsWhole m l g s
       → (es : List agreement.Event) → AllAre is_still es → AllAre is_unlocked es → agreement_schedules.AllEnabled
       (rules_of m l) g.agreement es
       → sections.IsJoinedToAgreement m l (agreement_schedules.after_all (rules_of m l) g.agreement es) s'
@@ -121,14 +125,14 @@ module _ (m : Meaning) (laws : Laws m) (l : Layout) (limits : IsWithinLimits l) 
       → ((d : ℕ) → thunk_in s'.word d ≡ thunk_in s.word d)
       → (walk : ℕ → Readings) → ((i : ℕ) → (s'.part i).reads.walk ≡ walk i)
       → ((i : ℕ) (q : RunState) → (s'.part i).run ≡ Some q → q.made ≡ made_of s i)
-      → Stands m laws l limits (record {
+      → Stands m laws l limits from (record {
         agreement = agreement_schedules.after_all
             (rules_of m l) g.agreement es;
         epochs = e';
         publications = g.publications;
         walk = walk;
       }) (made_of s)
-      → IsWhole m l (record {
+      → IsWholeAfter m l from (record {
         agreement = agreement_schedules.after_all
             (rules_of m l) g.agreement es;
         epochs = e';

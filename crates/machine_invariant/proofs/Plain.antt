@@ -42,12 +42,21 @@ use Rattle.machine_invariant.proofs.Sights.{inside_quiet, outside_quiet, join_qu
 use Rattle.machine_invariant.proofs.Chunked.{is_unlocked, all_unlocked, AreCalm, AreSteady, is_plain_line, inside_calm, inside_steady}
 use Rattle.machine_invariant.proofs.Chunked.{is_plain_outside, outside_calm, outside_steady, join_calm, join_steady}
 use Rattle.machine_invariant.proofs.Outside.{outside_asked, outside_heads, outside_events}
-use Rattle.machine_invariant.proofs.Pieces.{Pieces, KeepsWhole}
+use Rattle.machine_invariant.proofs.Jointly.{is_hold, no_hold}
+use Rattle.machine_invariant.proofs.Pieces.{Pieces, KeepsWhole, keeps_quietly}
 
 plain_making : (kind : EventKind) → is_plain_line kind ≡ true → is_making kind ≡ false
 plain_making (kinds.PrivateLoad slot word) plain = absurd (cc)
 plain_making kinds.MakeCommit plain = absurd (cc)
 plain_making _ plain = refl
+
+plain_hold : (kind : EventKind) → is_plain_line kind ≡ true → is_hold kind ≡ false
+plain_hold (kinds.Hold thunk d) plain = absurd (cc)
+plain_hold _ plain = refl
+
+outside_hold : (kind : EventKind) → is_plain_outside kind ≡ true → is_hold kind ≡ false
+outside_hold (kinds.Hold thunk d) plain = absurd (cc)
+outside_hold _ plain = refl
 
 plain_join : (kind : EventKind) → is_plain_outside kind ≡ true → is_join kind ≡ false
 plain_join (kinds.Join worker) plain = absurd (cc)
@@ -80,14 +89,13 @@ module _ (m : Meaning) (laws : Laws m) (l : Layout) (limits : IsWithinLimits l) 
       (all_unlocked es calm.unlocked)
 
   calm_whole : AreCalm pieces.heads → AreSteady pieces.events → IsQuiet m l s s'
-      → ((d : ℕ) → g.agreement.used d ≡ true → thunk_in s'.word d ≡ thunk_in s.word d) → KeepsWhole m l g s s' r kind x pieces
-  calm_whole calm steady quiet thunks = record {
-    publications = g.publications;
-    requests = refl;
-    whole = quiet_whole m laws l limits g s s' whole quiet thunks es (calm_heads calm).still pieces.enabled pieces.joined
-        (named_calm (calm_heads calm))
-        pieces.events steady.alone steady.leaves pieces.enabled_slots pieces.joined_slots;
-  }
+      → ((d : ℕ) → g.agreement.used d ≡ true → thunk_in s'.word d ≡ thunk_in s.word d) → is_hold kind ≡ false
+      → KeepsWhole m l g s s' r kind x pieces
+  calm_whole calm steady quiet thunks other =
+      keeps_quietly m l g s s' r kind x pieces (no_hold m l kind (s.word x.0) other)
+      (quiet_whole m laws l limits g s s' whole quiet thunks es (calm_heads calm).still pieces.enabled pieces.joined
+      (named_calm (calm_heads calm))
+      pieces.events steady.alone steady.leaves pieces.enabled_slots pieces.joined_slots)
 
 module _ (m : Meaning) (laws : Laws m) (l : Layout) (limits : IsWithinLimits l) (rs : List Request) (g : Beside) (s : Sight)
     (whole : IsWhole m l g s) (r : ℕ) (x : Spot × Access) where
@@ -105,6 +113,7 @@ module _ (m : Meaning) (laws : Laws m) (l : Layout) (limits : IsWithinLimits l) 
       (subst (λ o. slots.IsChunk m l r kind p o (s.word x.0) pieces.events) is pieces.in_slots))
       (inside_quiet m l s r kind x q is j (plain_making kind plain))
       (λ d used. thunks_after m l s r kind x (inside_leaves m l q x kind p.nodes.free (inside_asked m l rs r kind p q x asked is)) d)
+      (plain_hold kind plain)
 
   unused_apart : (d d0 : ℕ) → g.agreement.used d ≡ true → g.agreement.used d0 ≡ false → d ≢ d0
   unused_apart d d0 used unused same = let clash = sym used ∙ (ap g.agreement.used same ∙ unused) in cc
@@ -138,6 +147,7 @@ module _ (m : Meaning) (laws : Laws m) (l : Layout) (limits : IsWithinLimits l) 
       (outside_events m l rs g s (sight_after m l s r kind x) r kind x none pieces))
       (outside_quiet m l s r kind x none (plain_join kind plain) (plain_other kind plain))
       (outside_thunks kind (outside_asked m l rs g s (sight_after m l s r kind x) r kind x none asked) pieces.heads chunk)
+      (outside_hold kind plain)
 
   -- a join, by which the worker makes no further step and the keeper learns what it knew
   pub join_whole : (worker : ℕ) → asks m l rs r (kinds.Join worker) p ≡ Some x
@@ -153,6 +163,7 @@ module _ (m : Meaning) (laws : Laws m) (l : Layout) (limits : IsWithinLimits l) 
           (λ d used. thunks_after m l s r (kinds.Join worker) x
           (outside_leaves m l rs r p x (kinds.Join worker) refl
           (outside_asked m l rs g s (sight_after m l s r (kinds.Join worker) x) r (kinds.Join worker) x none asked)) d)
+          refl
       by (Some q) is = no_join (is_open_run q) (asked_by m l r (kinds.Join worker) p rs x (Some q) is asked)
         where
           no_join : (b : Bool)

@@ -47,7 +47,7 @@ use Rattle.machine_epochs.specs.Joined as joins
 use Rattle.machine_epochs.specs.Chunks.{roles_of}
 use Rattle.machine_epochs.proofs.OutsideAsked as outside
 use Rattle.machine_epochs.proofs.Places.{has_append, held_unfree}
-use Rattle.machine_scenes.specs.Shown.{Publications, publishes, rules_of}
+use Rattle.machine_scenes.specs.Shown.{States, Publications, publishes, rules_of}
 use Rattle.machine_scenes.specs.Steps as steps
 use Rattle.machine_scenes.proofs.Entries.{stays_held}
 use Rattle.machine_agreement.specs.Chunks.{publication}
@@ -56,13 +56,14 @@ use Rattle.machine_invariant.specs.Whole.{Beside, states_of, made_in, made_of, I
 use Rattle.machine_invariant.proofs.Asked.{entered_at}
 use Rattle.machine_invariant.proofs.Named.{named_all, named_more}
 use Rattle.machine_invariant.proofs.Parts.{IsSamePart, outside_made}
-use Rattle.machine_invariant.proofs.Runs.{is_calm, step_stands, agreement_stands, epochs_stand, passes_are}
+use Rattle.machine_invariant.proofs.Runs.{is_calm, step_anew, agreement_stands, epochs_stand, passes_are}
 use Rattle.machine_invariant.proofs.Quiet.{is_still, all_still, hands_of, quiet_whole, stands_now}
 use Rattle.machine_invariant.proofs.Chunked.{is_unlocked, all_unlocked}
 use Rattle.machine_invariant.proofs.Thunks.{outside_leaves}
 use Rattle.machine_invariant.proofs.Sights.{thunks_after, quiet_after}
 use Rattle.machine_invariant.proofs.SuppliesSections as supplies
-use Rattle.machine_invariant.proofs.Pieces.{Pieces, KeepsWhole, Leads, led, keeps_by}
+use Rattle.machine_invariant.proofs.Jointly.{HoldsNothing, behind_lock, IsWholeAfter}
+use Rattle.machine_invariant.proofs.Pieces.{Pieces, KeepsWhole, Leads, led, keeps_by, keeps_publishing}
 use Rattle.machine_invariant.proofs.Outside.{outside_asked, outside_heads, outside_events, made_outside, place_here, place_else, parts_whole}
 
 -- a runner's part after a publication
@@ -247,7 +248,7 @@ module _ (m : Meaning) (laws : Laws m) (l : Layout) (limits : IsWithinLimits l) 
 
     -- the lock didn't stand free with the thunk's word
     lost : s.word x.0 ≢ t.word → (go : Leads m l g hold_sight r (agreement.Read t.lock ∷ []) reach)
-        → IsWhole m l (led m l g r (agreement.Read t.lock ∷ []) go.passes reach g.publications) hold_sight
+        → IsWholeAfter m l (states_of g s) (led m l g r (agreement.Read t.lock ∷ []) go.passes reach g.publications) hold_sight
     lost ne go =
         let passes = replicate go.passes (agreement.Pass r) in
         let quiet = quiet_after m l s r kind x refl
@@ -278,6 +279,10 @@ module _ (m : Meaning) (laws : Laws m) (l : Layout) (limits : IsWithinLimits l) 
       abbrev heads : List agreement.Event
       heads = agreement.Read t.lock ∷ publication m d t ∷ []
 
+      -- the joint step
+      abbrev step : steps.Step
+      step = steps.Publish r d t.lock t.word t.request (micro_at (line (m.body t))) (committed (line (m.body t))) op t
+
       abbrev published_at : Publications
       published_at = publishes g.publications d r op t p.reads.walk
 
@@ -287,7 +292,11 @@ module _ (m : Meaning) (laws : Laws m) (l : Layout) (limits : IsWithinLimits l) 
       entered : is_entered (g.epochs.stage r) ≡ true
       entered = entered_at m l g.epochs s whole.slots r asked_hold.entry asked_hold.entered
 
-      won : (go : Leads m l g hold_sight r heads publish) → IsWhole m l (led m l g r heads go.passes publish published_at) hold_sight
+      -- the publication's states
+      abbrev behind : States
+      behind = steps.after m l (counts_of m l) (behind_lock m l (states_of g s) t.lock) step
+
+      won : (go : Leads m l g hold_sight r heads publish) → IsWholeAfter m l behind (led m l g r heads go.passes publish published_at) hold_sight
       won go =
           let passes = replicate go.passes (agreement.Pass r) in
           let hands = hands_of m laws l limits g.epochs s whole.slots in
@@ -295,7 +304,6 @@ module _ (m : Meaning) (laws : Laws m) (l : Layout) (limits : IsWithinLimits l) 
           let one = agreement_stands m laws l limits (agreement.Read t.lock ∷ []) (states_of g s) (made_of s) (refl, tt)
           (go.enabled.0, tt) hands
           (stands_now m laws l limits g s whole) in
-          let step = steps.Publish r d t.lock t.word t.request (micro_at (line (m.body t))) (committed (line (m.body t))) op t in
           let may : steps.Enabled m l (counts_of m l) (record (states_of g s) { agreement = read }) step = record {
             enabled = go.enabled.1.0;
             entered = entered;
@@ -304,7 +312,7 @@ module _ (m : Meaning) (laws : Laws m) (l : Layout) (limits : IsWithinLimits l) 
             fits = asked_hold.serves;
             of_thunk = record { lock = refl; word = refl; request = refl; code = λ i. refl; slot = λ i. refl };
           } in
-          let two = step_stands m laws l limits (record (states_of g s) { agreement = read }) (made_of s) (made_of s) step may tt hands
+          let two = step_anew m laws l limits (record (states_of g s) { agreement = read }) (made_of s) (made_of s) step may tt hands
           (λ i. refl) one in
           let three = agreement_stands m laws l limits passes
           (steps.after m l (counts_of m l) (record (states_of g s) { agreement = read }) step) (made_of s)
@@ -331,17 +339,38 @@ module _ (m : Meaning) (laws : Laws m) (l : Layout) (limits : IsWithinLimits l) 
           (λ i ne. refl))
           (made_outside m l s r kind x refl none) four named
 
+    -- the lock stands with another word than the try's
+    still_other : s.word x.0 ≢ t.word → HoldsNothing m l kind (s.word x.0)
+    still_other ne t' d' same is = ne (is ∙ ap (λ (u : Thunk). u.word) (sym (same_thunk t t' d d' same)))
+      where
+        same_thunk : (t t' : Thunk) (d d' : ℕ) → kinds.Hold t d ≡ kinds.Hold t' d' → t ≡ t'
+        same_thunk t t' d d' e = cc
+
     -- in any case
     pub hold_whole : (pieces : Pieces m l g s hold_sight r kind x) → KeepsWhole m l g s hold_sight r kind x pieces
     hold_whole pieces = ⊎_elim
         (λ in_heads. ⊎_elim
-        (λ in_events. keeps_by m l g s hold_sight r kind x pieces
-        (agreement.Read t.lock ∷ publication m d t ∷ []) publish in_heads.1 in_events.1 (publishes g.publications d r (outside.hold_asked m l rs r t d p x asks_hold).request.op t p.reads.walk) refl (won in_heads.0))
+        (λ in_events. let holds = outside.hold_asked m l rs r t d p x asks_hold in
+        keeps_publishing m l g s hold_sight r kind x pieces
+        (agreement.Read t.lock ∷ publication m d t ∷ []) publish in_heads.1 in_events.1 (publishes g.publications d r holds.request.op t p.reads.walk)
+        refl (λ go. let there = won in_heads.0 go in (
+          there.whole,
+          record {
+            thunk = t;
+            descriptor = d;
+            kind_is = refl;
+            found_is = in_heads.0;
+            request = holds.request;
+            asked = ap (λ (qs : List Request). slice_get qs t.request) of ∙ holds.of_request;
+            publishes = go.enabled.1.0;
+            passed = there.passed;
+          },
+        )))
         (λ in_events. absurd (in_events.0 in_heads.0))
         (outside_events m l rs g s hold_sight r kind x none pieces))
         (λ in_heads. ⊎_elim
         (λ in_events. absurd (in_heads.0 in_events.0))
         (λ in_events. keeps_by m l g s hold_sight r kind x pieces (agreement.Read t.lock ∷ []) reach in_heads.1 in_events.1 g.publications refl
-        (lost in_heads.0))
+        (still_other in_heads.0) (lost in_heads.0))
         (outside_events m l rs g s hold_sight r kind x none pieces))
         (outside_heads m l rs g s hold_sight r kind x none pieces)

@@ -30,6 +30,7 @@ use Rattle.machine_slots.specs.Hands.{Made}
 use Rattle.machine_invariant.specs.Named.{AreNamed}
 use Rattle.machine_invariant.specs.Whole.{Beside, states_of, made_in, made_of, IsHeldFor, HasPublished, IsWhole}
 use Rattle.machine_invariant.proofs.Runs.{AllAre, is_calm, InHands, Stands, agreement_stands, epochs_stand, filled_other}
+use Rattle.machine_invariant.proofs.Jointly.{no_steps, IsWholeAfter}
 use Rattle.machine_invariant.proofs.Ties.{IsOnward, alone_onward, named_onward, tied_onward}
 use Rattle.section_body.specs.declared.thunk.Thunk.{Thunk}
 
@@ -125,13 +126,18 @@ module _ (m : Meaning) (laws : Laws m) (l : Layout) (limits : IsWithinLimits l) 
       (joined.sound.for_nodes t (ap epoch_sound.is_for_nodes place), place)
 
   -- the joint states stand beside a whole sight
-  pub stands_now : (g : Beside) (s : Sight) → IsWhole m l g s → Stands m laws l limits (states_of g s) (made_of s)
-  stands_now g s whole = record { kept = whole.kept; held = whole.held; filled = whole.filled }
+  pub stands_now : (g : Beside) (s : Sight) → IsWhole m l g s → Stands m laws l limits (states_of g s) (states_of g s) (made_of s)
+  stands_now g s whole = record {
+    kept = whole.kept;
+    held = whole.held;
+    filled = whole.filled;
+    passed = no_steps m l (states_of g s);
+  }
 
   -- and still do, where the parts have read the same
-  pub with_walk : (j : States) (made : Made) (walk : ℕ → Readings) → ((i : ℕ) → walk i ≡ j.walk i) → Stands m laws l limits j made
-      → Stands m laws l limits (record j { walk = walk }) made
-  with_walk j made walk same old = subst (λ (f : ℕ → Readings). Stands m laws l limits (record j { walk = f }) made)
+  pub with_walk : {from : States} (j : States) (made : Made) (walk : ℕ → Readings) → ((i : ℕ) → walk i ≡ j.walk i)
+      → Stands m laws l limits from j made → Stands m laws l limits from (record j { walk = walk }) made
+  with_walk {from} j made walk same old = subst (λ (f : ℕ → Readings). Stands m laws l limits from (record j { walk = f }) made)
       (λ i r. sym (same r) i) old
 
   pub quiet_whole : (g : Beside) (s s' : Sight) → IsWhole m l g s → IsQuiet m l s s'
@@ -141,7 +147,7 @@ module _ (m : Meaning) (laws : Laws m) (l : Layout) (limits : IsWithinLimits l) 
       → AreNamed (IsHeldFor m l g.epochs s.part) (agreement_schedules.after_all (rules_of m l) g.agreement es)
       → (fs : List epochs.Event) → AllAre is_alone fs → AllAre leaves_descriptors fs → epoch_schedules.AllEnabled c g.epochs fs
       → joins.IsJoinedToEpochs m l (epoch_schedules.after_all c g.epochs fs) s'
-      → IsWhole m l (record {
+      → IsWholeAfter m l (states_of g s) (record {
         agreement = agreement_schedules.after_all (rules_of m l) g.agreement es;
         epochs = epoch_schedules.after_all c g.epochs fs;
         publications = g.publications;
@@ -157,15 +163,18 @@ module _ (m : Meaning) (laws : Laws m) (l : Layout) (limits : IsWithinLimits l) 
       let two = epochs_stand m laws l limits fs (record (states_of g s) { agreement = w }) (made_of s) alone ok' one in
       let new = with_walk (record (states_of g s) { agreement = w; epochs = e }) (made_of s) (λ i. (s'.part i).reads.walk) quiet.stay.walk two in
       record {
-        sections = joined;
-        slots = joined';
-        tied = tied_onward m l g.agreement w g.epochs e g.publications s s' whole.tied on
-            (λ d. ap (λ (f : ℕ → Bool). f d) uses.used) (λ d. ap (λ (f : ℕ → Bool). f d) uses.live)
-            (all_stay c fs g.epochs ok' whole.slots.sound leaves) quiet.stay.published thunks;
-        kept = new.kept;
-        held = new.held;
-        filled = filled_other m laws l limits (states_of (record { agreement = w; epochs = e; publications = g.publications }) s')
-            (made_of s) (made_of s')
-            (λ r running. let q = in_run m l w s' joined r running in ap made_in q.1 ∙ quiet.made r q.0 q.1) new.filled;
-        named = named_onward m l g.epochs e s.part s'.part w joined.sound on named;
+        passed = new.passed;
+        whole = record {
+          sections = joined;
+          slots = joined';
+          tied = tied_onward m l g.agreement w g.epochs e g.publications s s' whole.tied on
+              (λ d. ap (λ (f : ℕ → Bool). f d) uses.used) (λ d. ap (λ (f : ℕ → Bool). f d) uses.live)
+              (all_stay c fs g.epochs ok' whole.slots.sound leaves) quiet.stay.published thunks;
+          kept = new.kept;
+          held = new.held;
+          filled = filled_other m laws l limits (states_of (record { agreement = w; epochs = e; publications = g.publications }) s')
+              (made_of s) (made_of s')
+              (λ r running. let q = in_run m l w s' joined r running in ap made_in q.1 ∙ quiet.made r q.0 q.1) new.filled;
+          named = named_onward m l g.epochs e s.part s'.part w joined.sound on named;
+        };
       }

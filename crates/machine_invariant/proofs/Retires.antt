@@ -33,6 +33,7 @@ use Rattle.machine_invariant.specs.Whole.{Beside, states_of, made_of, IsWhole}
 use Rattle.machine_invariant.proofs.Asked.{line_heads, line_events}
 use Rattle.machine_invariant.proofs.Runs.{InHands, Stands, is_calm, agreement_stands, passes_are, step_stands}
 use Rattle.machine_invariant.proofs.Quiet.{hands_of, stands_now}
+use Rattle.machine_invariant.proofs.Jointly.{no_hold}
 use Rattle.machine_invariant.proofs.Pieces.{Pieces, KeepsWhole, Leads, led, keeps_by}
 use Rattle.machine_invariant.proofs.SlotSteps.{run_after, made_same, stays_read, thunks_stay, passes_stand, line_whole}
 
@@ -53,7 +54,7 @@ module _ (m : Meaning) (laws : Laws m) (l : Layout) (limits : IsWithinLimits l) 
 
     retire_stands : (slot log : ℕ) → next_of m q ≡ micros.RetireCommit slot log
         → (go : Leads m l g retired r (agreement.RetireCommit r slot log ∷ []) (epochs.RetireCommit r ∷ []))
-        → Stands m laws l limits (record (states_of g s) {
+        → Stands m laws l limits (states_of g s) (record (states_of g s) {
           agreement = (led m l g r (agreement.RetireCommit r slot log ∷ []) go.passes
               (epochs.RetireCommit r ∷ []) g.publications).agreement;
           epochs = (led m l g r (agreement.RetireCommit r slot log ∷ []) go.passes (epochs.RetireCommit r ∷ []) g.publications).epochs;
@@ -73,7 +74,7 @@ module _ (m : Meaning) (laws : Laws m) (l : Layout) (limits : IsWithinLimits l) 
         } in
         passes_stand m laws l limits r go.passes (steps.after m l c (states_of g s) (Retire r log slot)) (made_of retired) go.enabled.1
         (hands_of m laws l limits e retired go.joined_slots)
-        (step_stands m laws l limits (states_of g s) (made_of s) (made_of retired) (Retire r log slot) may tt
+        (step_stands m laws l limits (states_of g s) (made_of s) (made_of retired) (Retire r log slot) may tt tt
         (hands_of m laws l limits g.epochs s whole.slots) (made_same m l s r kinds.RetireCommit x refl q is opened refl)
         (stands_now m laws l limits g s whole))
 
@@ -86,6 +87,7 @@ module _ (m : Meaning) (laws : Laws m) (l : Layout) (limits : IsWithinLimits l) 
         let stay = stays_read m l s r kinds.RetireCommit x refl q is opened in
         let thunks = thunks_stay m l s r kinds.RetireCommit x refl q is opened rs asked in
         keeps_by m l g s retired r kinds.RetireCommit x pieces (v ∷ []) (epochs.RetireCommit r ∷ []) heads.3 events.3 g.publications refl
+        (no_hold m l kinds.RetireCommit (s.word x.0) refl)
         (λ go. line_whole m laws l limits g s retired whole stay thunks r v (epochs.RetireCommit r ∷ []) go
         refl (record { used = refl; live = refl }) (refl, tt) refl refl
         (retire_stands heads.0 heads.1 heads.2 go))
@@ -116,7 +118,7 @@ module _ (m : Meaning) (laws : Laws m) (l : Layout) (limits : IsWithinLimits l) 
 
     epoch_stands : (slot log : ℕ) → next_of m q ≡ micros.EpochForRetire slot log
         → (go : Leads m l g known r (loads slot log ∷ []) (retires slot log ∷ []))
-        → Stands m laws l limits (record (states_of g s) {
+        → Stands m laws l limits (states_of g s) (record (states_of g s) {
           agreement = (led m l g r (loads slot log ∷ []) go.passes (retires slot log ∷ []) g.publications).agreement;
           epochs = (led m l g r (loads slot log ∷ []) go.passes (retires slot log ∷ []) g.publications).epochs;
         }) (made_of known)
@@ -126,7 +128,7 @@ module _ (m : Meaning) (laws : Laws m) (l : Layout) (limits : IsWithinLimits l) 
         let hands : InHands m laws l limits g.epochs (made_of s) = hands_of m laws l limits g.epochs s whole.slots in
         let is' : (known.part r).run ≡ Some behind = run_after m l s r kinds.EpochForRetire x refl q is opened in
         let here : IsRunOf (w.run r) behind = run_here m l w known go.joined r behind is' in
-        let gone : Stands m laws l limits j (made_of s) = agreement_stands m laws l limits
+        let gone : Stands m laws l limits (states_of g s) j (made_of s) = agreement_stands m laws l limits
         (loads slot log ∷ replicate go.passes (agreement.Pass r))
         (states_of g s) (made_of s) (refl, passes_are is_calm (agreement.Pass r) refl go.passes) go.enabled hands
         (stands_now m laws l limits g s whole) in
@@ -136,9 +138,9 @@ module _ (m : Meaning) (laws : Laws m) (l : Layout) (limits : IsWithinLimits l) 
               (behind_next slot log next);
           word = go.joined_slots.log ((w.run r).descriptor) log ∙ sym ((go.joined.sections ((w.run r).descriptor)).log log);
         } in
-        subst (λ d. Stands m laws l limits (record j { epochs = epochs.after c g.epochs (epochs.RetireEpoch r d log slot) })
+        subst (λ d. Stands m laws l limits (states_of g s) (record j { epochs = epochs.after c g.epochs (epochs.RetireEpoch r d log slot) })
         (made_of known)) here.descriptor
-        (step_stands m laws l limits j (made_of s) (made_of known) (LoadEpoch r log slot) may tt hands
+        (step_stands m laws l limits j (made_of s) (made_of known) (LoadEpoch r log slot) may tt tt hands
         (made_same m l s r kinds.EpochForRetire x refl q is opened refl) gone)
 
     pub epoch_for_retire_whole : (pieces : Pieces m l g s known r kinds.EpochForRetire x)
@@ -155,6 +157,7 @@ module _ (m : Meaning) (laws : Laws m) (l : Layout) (limits : IsWithinLimits l) 
         let stay = stays_read m l s r kinds.EpochForRetire x refl q is opened in
         let thunks = thunks_stay m l s r kinds.EpochForRetire x refl q is opened rs asked in
         keeps_by m l g s known r kinds.EpochForRetire x pieces (loads slot log ∷ []) (retires slot log ∷ []) heads.3 retired g.publications refl
+        (no_hold m l kinds.EpochForRetire (s.word x.0) refl)
         (λ go. line_whole m laws l limits g s known whole stay thunks r (loads slot log) (retires slot log ∷ []) go
         refl (record { used = refl; live = refl }) (refl, tt) refl refl
         (epoch_stands slot log heads.2 go))

@@ -20,14 +20,16 @@ use Rattle.machine_scenes.proofs.Kept.{step_kept}
 use Rattle.machine_slots.specs.Hands.{Made, IsHeldBack, LocksAreHeld, AreInHand, SlotsAreFilled, MadeGoes}
 use Rattle.machine_slots.proofs.Locks.{locks_held_after}
 use Rattle.machine_slots.proofs.Filled.{filled_after}
+use Rattle.machine_invariant.proofs.Jointly.{IsQuietStep, JointSteps, no_steps, one_more}
 
--- an event of agreement that stands alone and is no private load
+-- an event of agreement that stands alone, is no private load and frees no descriptor
 abbrev pub is_calm : agreement.Event → Bool
 is_calm (agreement.Publish d lock word request code slot) = false
 is_calm (agreement.PrivateLoad r cell log place) = false
 is_calm (agreement.PrivateStore r cell log value place word) = false
 is_calm (agreement.MakeCommit r log proposal) = false
 is_calm (agreement.RetireCommit r slot log) = false
+is_calm (agreement.Free d) = false
 is_calm _ = true
 
 calm_plain : (v : agreement.Event) → is_calm v ≡ true → is_plain v ≡ true
@@ -36,7 +38,12 @@ calm_plain (agreement.PrivateLoad r cell log place) calm = absurd (cc)
 calm_plain (agreement.PrivateStore r cell log value place word) calm = absurd (cc)
 calm_plain (agreement.MakeCommit r log proposal) calm = absurd (cc)
 calm_plain (agreement.RetireCommit r slot log) calm = absurd (cc)
+calm_plain (agreement.Free d) calm = absurd (cc)
 calm_plain _ calm = refl
+
+calm_quiet : (from : States) (v : agreement.Event) → is_calm v ≡ true → IsQuietStep from (Agreement v)
+calm_quiet from (agreement.Free d) calm = absurd (cc)
+calm_quiet from _ calm = tt
 
 -- each event of the list passes the test
 abbrev pub AllAre : {A : Type 0} → (A → Bool) → List A → Type 0
@@ -55,11 +62,13 @@ module _ (m : Meaning) (laws : Laws m) (l : Layout) (limits : IsWithinLimits l) 
   abbrev pub c : Counts
   c = counts_of m l
 
-  -- the joint states show a lawful scene; who publishes holds the slots of its locks, and Makes have filled what they say
-  pub record Stands (j : States) (made : Made) : Type 0 where
+  -- the joint states show a lawful scene; who publishes holds the slots of its locks, and Makes have filled what they say;
+  -- and steps of the joint states lead there
+  pub record Stands (from j : States) (made : Made) : Type 0 where
     pub kept : IsKept m l c j
     pub held : LocksAreHeld m c j
     pub filled : SlotsAreFilled m c j made
+    pub passed : JointSteps m l from j
 
   -- the slots that Makes fill are in their runners' hands, in a run or not
   abbrev pub InHands : EpochState → Made → Type 0
@@ -68,35 +77,51 @@ module _ (m : Meaning) (laws : Laws m) (l : Layout) (limits : IsWithinLimits l) 
   in_hand : (j : States) (made : Made) → InHands j.epochs made → AreInHand m c j made
   in_hand j made hands = record { node = λ r t running is. (hands r t is).0; here = λ r t running is. (hands r t is).1 }
 
-  pub step_stands : (j : States) (made made' : Made) (step : Step) → Enabled m l c j step → IsHeldBack j step → InHands j.epochs made
-      → MadeGoes m c j step made made' → Stands j made → Stands (after m l c j step) made'
-  step_stands j made made' step ok back hands goes old = record {
+  -- a step, from whose states on the steps are counted anew
+  pub step_anew : {from : States} (j : States) (made made' : Made) (step : Step) → Enabled m l c j step → IsHeldBack j step
+      → InHands j.epochs made → MadeGoes m c j step made made' → Stands from j made
+      → Stands (after m l c j step) (after m l c j step) made'
+  step_anew j made made' step ok back hands goes old = record {
     kept = step_kept m laws l limits c refl j step ok old.kept;
     held = locks_held_after m laws l limits c refl j old.kept step ok back old.held;
     filled = filled_after m laws l limits c refl j old.kept old.held made old.filled (in_hand j made hands) made' step ok goes;
+    passed = no_steps m l (after m l c j step);
   }
+
+  pub step_stands : {from : States} (j : States) (made made' : Made) (step : Step) → Enabled m l c j step → IsHeldBack j step
+      → IsQuietStep from step → InHands j.epochs made → MadeGoes m c j step made made' → Stands from j made
+      → Stands from (after m l c j step) made'
+  step_stands {from} j made made' step ok back quiet hands goes old =
+      let new = step_anew j made made' step ok back hands goes old in record {
+        kept = new.kept;
+        held = new.held;
+        filled = new.filled;
+        passed = one_more m l from j step ok quiet old.passed;
+      }
 
   calm_made : (j : States) (v : agreement.Event) (made : Made) → is_calm v ≡ true → MadeGoes m c j (Agreement v) made made
   calm_made j (agreement.PrivateLoad r cell log place) made calm = absurd (cc)
   calm_made j v made calm = λ i. refl
 
-  pub agreement_stands : (es : List agreement.Event) (j : States) (made : Made) → AllAre is_calm es
-      → agreement_schedules.AllEnabled (rules_of m l) j.agreement es → InHands j.epochs made → Stands j made
-      → Stands (record j { agreement = agreement_schedules.after_all (rules_of m l) j.agreement es }) made
+  pub agreement_stands : {from : States} (es : List agreement.Event) (j : States) (made : Made) → AllAre is_calm es
+      → agreement_schedules.AllEnabled (rules_of m l) j.agreement es → InHands j.epochs made → Stands from j made
+      → Stands from (record j { agreement = agreement_schedules.after_all (rules_of m l) j.agreement es }) made
   agreement_stands [] j made calm ok hands old = old
-  agreement_stands (v ∷ es) j made calm ok hands old =
+  agreement_stands {from} (v ∷ es) j made calm ok hands old =
       agreement_stands es (after m l c j (Agreement v)) made calm.1 ok.1 hands
-      (step_stands j made made (Agreement v) (calm_plain v calm.0, ok.0) tt hands (calm_made j v made calm.0) old)
+      (step_stands j made made (Agreement v) (calm_plain v calm.0, ok.0) tt (calm_quiet from v calm.0) hands
+      (calm_made j v made calm.0) old)
 
   -- events of epochs and slots change nothing in the cells and the runs
-  pub epochs_stand : (es : List epochs.Event) (j : States) (made : Made) → AllAre is_alone es
-      → epoch_schedules.AllEnabled c j.epochs es → Stands j made
-      → Stands (record j { epochs = epoch_schedules.after_all c j.epochs es }) made
+  pub epochs_stand : {from : States} (es : List epochs.Event) (j : States) (made : Made) → AllAre is_alone es
+      → epoch_schedules.AllEnabled c j.epochs es → Stands from j made
+      → Stands from (record j { epochs = epoch_schedules.after_all c j.epochs es }) made
   epochs_stand [] j made alone ok old = old
-  epochs_stand (v ∷ es) j made alone ok old = epochs_stand es (after m l c j (Epochs v)) made alone.1 ok.1 (record {
+  epochs_stand {from} (v ∷ es) j made alone ok old = epochs_stand es (after m l c j (Epochs v)) made alone.1 ok.1 (record {
     kept = step_kept m laws l limits c refl j (Epochs v) (alone.0, ok.0) old.kept;
     held = locks_held_after m laws l limits c refl j old.kept (Epochs v) (alone.0, ok.0) tt old.held;
     filled = record { filled = old.filled.filled; looked = old.filled.looked };
+    passed = one_more m l from j (Epochs v) (alone.0, ok.0) tt old.passed;
   })
 
   -- what runs fill is asked of runs alone

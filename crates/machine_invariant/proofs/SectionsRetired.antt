@@ -42,6 +42,7 @@ use Rattle.machine_invariant.proofs.Quiet.{is_still, all_still, hands_of, stands
 use Rattle.machine_invariant.proofs.Chunked.{is_unlocked, all_unlocked}
 use Rattle.machine_invariant.proofs.Thunks.{outside_leaves}
 use Rattle.machine_invariant.proofs.Sights.{thunks_after}
+use Rattle.machine_invariant.proofs.Jointly.{IsWholeAfter, no_hold}
 use Rattle.machine_invariant.proofs.Pieces.{Pieces, KeepsWhole, Leads, led, keeps_by}
 use Rattle.machine_invariant.proofs.Outside.{outside_asked, outside_heads, outside_events, made_outside, place_here, place_else, parts_whole}
 
@@ -124,7 +125,7 @@ module _ (m : Meaning) (laws : Laws m) (l : Layout) (limits : IsWithinLimits l) 
 
       retire : (go : Leads m l g retired_sight r (agreement.RetireDescriptor y.descriptor ∷ [])
           (epochs.RetireDescriptor r y.descriptor ∷ []))
-          → IsWhole m l (led m l g r (agreement.RetireDescriptor y.descriptor ∷ []) go.passes
+          → IsWholeAfter m l (states_of g s) (led m l g r (agreement.RetireDescriptor y.descriptor ∷ []) go.passes
           (epochs.RetireDescriptor r y.descriptor ∷ []) g.publications) retired_sight
       retire go =
           let passes = replicate go.passes (agreement.Pass r) in
@@ -168,4 +169,4 @@ module _ (m : Meaning) (laws : Laws m) (l : Layout) (limits : IsWithinLimits l) 
         keeps_by m l g s retired_sight r kinds.EpochForRetire x pieces (agreement.RetireDescriptor heads.0.descriptor ∷ [])
         (epochs.RetireDescriptor r heads.0.descriptor ∷ []) heads.2
         (events.2 ∙ ap (λ (z : Published). epochs.RetireDescriptor r z.descriptor ∷ []) same)
-        g.publications refl (retire heads.0 heads.1)
+        g.publications refl (no_hold m l kinds.EpochForRetire (s.word x.0) refl) (retire heads.0 heads.1)

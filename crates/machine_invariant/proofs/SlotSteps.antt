@@ -36,6 +36,7 @@ use Rattle.machine_invariant.specs.Whole.{Beside, states_of, made_in, made_of, I
 use Rattle.machine_invariant.proofs.Named.{named_all}
 use Rattle.machine_invariant.proofs.Parts.{IsSamePart, inside_same, noted_same}
 use Rattle.machine_invariant.proofs.Runs.{AllAre, InHands, Stands, is_calm, agreement_stands, passes_are}
+use Rattle.machine_invariant.proofs.Jointly.{IsWholeAfter}
 use Rattle.machine_invariant.proofs.Ties.{IsOnward, named_onward, tied_onward}
 use Rattle.machine_invariant.proofs.Quiet.{is_still, StayRead, KeepsUse, all_still, all_stay, with_walk}
 use Rattle.machine_invariant.proofs.Sights.{after_is, one_stays, thunks_after}
@@ -109,10 +110,10 @@ module _ (m : Meaning) (l : Layout) (s : Sight) (r : ℕ) (kind : EventKind) (x 
 
 module _ (m : Meaning) (laws : Laws m) (l : Layout) (limits : IsWithinLimits l) where
   -- the checks that pass
-  pub passes_stand : (r n : ℕ) (j : States) (made : Made)
+  pub passes_stand : {from : States} (r n : ℕ) (j : States) (made : Made)
       → agreement_schedules.AllEnabled (rules_of m l) j.agreement (replicate n (agreement.Pass r)) → InHands m laws l limits j.epochs made
-      → Stands m laws l limits j made
-      → Stands m laws l limits (record j {
+      → Stands m laws l limits from j made
+      → Stands m laws l limits from (record j {
         agreement = agreement_schedules.after_all (rules_of m l) j.agreement (replicate n (agreement.Pass r));
       }) made
   passes_stand r n j made =
@@ -135,8 +136,8 @@ module _ (m : Meaning) (laws : Laws m) (l : Layout) (limits : IsWithinLimits l) 
     -- the whole invariant after an event of agreement with the checks that pass behind it, and events of epochs and slots
     pub line_whole : is_unlocked v ≡ true → KeepsUse g.agreement (agreement.after g.agreement v) → AllAre leaves_descriptors fs
         → g'.epochs.stage ≡ g.epochs.stage → g'.epochs.holds ≡ g.epochs.holds
-        → Stands m laws l limits (record (states_of g s) { agreement = g'.agreement; epochs = g'.epochs }) (made_of s')
-        → IsWhole m l g' s'
+        → Stands m laws l limits (states_of g s) (record (states_of g s) { agreement = g'.agreement; epochs = g'.epochs }) (made_of s')
+        → IsWholeAfter m l (states_of g s) g' s'
     line_whole unlocked stays_used leaves stage holds stands =
         let uses = passes_use g.agreement r go.passes v stays_used in
         let on : IsOnward m l g.epochs g'.epochs s.part s'.part = same_onward m l g.epochs g'.epochs s s' stage holds stay in
@@ -147,13 +148,16 @@ module _ (m : Meaning) (laws : Laws m) (l : Layout) (limits : IsWithinLimits l) 
         let new = with_walk m laws l limits (record (states_of g s) { agreement = g'.agreement; epochs = g'.epochs }) (made_of s')
         (λ i. (s'.part i).reads.walk) stay.walk stands in
         record {
-          sections = go.joined;
-          slots = go.joined_slots;
-          tied = tied_onward m l g.agreement g'.agreement g.epochs g'.epochs g.publications s s' whole.tied on
-              (λ d. ap (λ (f : ℕ → Bool). f d) uses.used) (λ d. ap (λ (f : ℕ → Bool). f d) uses.live)
-              (all_stay (counts_of m l) fs g.epochs go.enabled_slots whole.slots.sound leaves) stay.published (λ d used. thunks d);
-          kept = new.kept;
-          held = new.held;
-          filled = new.filled;
-          named = named_onward m l g.epochs g'.epochs s.part s'.part g'.agreement go.joined.sound on named;
+          passed = new.passed;
+          whole = record {
+            sections = go.joined;
+            slots = go.joined_slots;
+            tied = tied_onward m l g.agreement g'.agreement g.epochs g'.epochs g.publications s s' whole.tied on
+                (λ d. ap (λ (f : ℕ → Bool). f d) uses.used) (λ d. ap (λ (f : ℕ → Bool). f d) uses.live)
+                (all_stay (counts_of m l) fs g.epochs go.enabled_slots whole.slots.sound leaves) stay.published (λ d used. thunks d);
+            kept = new.kept;
+            held = new.held;
+            filled = new.filled;
+            named = named_onward m l g.epochs g'.epochs s.part s'.part g'.agreement go.joined.sound on named;
+          };
         }

@@ -59,7 +59,8 @@ use Rattle.machine_invariant.proofs.Sights.{inside_quiet, thunks_after}
 use Rattle.machine_invariant.proofs.Chunked.{is_unlocked, all_unlocked}
 use Rattle.machine_invariant.proofs.Reaching.{now_held, whole_reached}
 use Rattle.machine_invariant.proofs.SuppliesSlots.{named_may}
-use Rattle.machine_invariant.proofs.Pieces.{Pieces, KeepsWhole}
+use Rattle.machine_invariant.proofs.Jointly.{is_hold, no_hold}
+use Rattle.machine_invariant.proofs.Pieces.{Pieces, KeepsWhole, keeps_quietly}
 
 inner : (micro : Micro) → is_lock_load micro ≡ true → is_of_end micro ≡ false
 inner (micros.NestedLoad place log) e = refl
@@ -80,6 +81,10 @@ is_taking _ = false
 taking_join : (kind : EventKind) → is_taking kind ≡ true → is_join kind ≡ false
 taking_join (kinds.Join worker) e = absurd (cc)
 taking_join _ e = refl
+
+pub taking_hold : (kind : EventKind) → is_taking kind ≡ true → is_hold kind ≡ false
+taking_hold (kinds.Hold thunk d) e = absurd (cc)
+taking_hold _ e = refl
 
 taking_making : (kind : EventKind) → is_taking kind ≡ true → is_making kind ≡ false
 taking_making (kinds.PrivateLoad slot word) e = absurd (cc)
@@ -248,21 +253,18 @@ module _ (m : Meaning) (laws : Laws m) (l : Layout) (limits : IsWithinLimits l) 
       one_load e still heads events taking known =
           let passes = replicate pieces.passes (agreement.Pass r) in
           let enabled = subst (λ hs. agreement_schedules.AllEnabled (rules_of m l) a (hs ++ passes)) heads pieces.enabled in
-          record {
-            publications = g.publications;
-            requests = refl;
-            whole = quiet_whole m laws l limits g s (sight_after m l s r kind x) whole
-                (inside_quiet m l s r kind x q is (taking_join kind taking) (taking_making kind taking))
-                (λ d used. thunks_after m l s r kind x (inside_leaves m l q x kind p.nodes.free
-                (inside_asked m l rs r kind p q x asked is)) d)
-                (pieces.heads ++ passes)
-                (subst (λ hs. AllAre is_still (hs ++ passes)) (sym heads)
-                (still, passes_are is_still (agreement.Pass r) refl pieces.passes))
-                pieces.enabled pieces.joined
-                (subst (λ hs. After (hs ++ passes)) (sym heads) (load_named e pieces.passes enabled known))
-                pieces.events (subst (AllAre is_alone) (sym events) tt)
-                (subst (AllAre leaves_descriptors) (sym events) tt) pieces.enabled_slots pieces.joined_slots;
-          }
+          keeps_quietly m l g s (sight_after m l s r kind x) r kind x pieces (no_hold m l kind (s.word x.0) (taking_hold kind taking))
+          (quiet_whole m laws l limits g s (sight_after m l s r kind x) whole
+          (inside_quiet m l s r kind x q is (taking_join kind taking) (taking_making kind taking))
+          (λ d used. thunks_after m l s r kind x (inside_leaves m l q x kind p.nodes.free
+          (inside_asked m l rs r kind p q x asked is)) d)
+          (pieces.heads ++ passes)
+          (subst (λ hs. AllAre is_still (hs ++ passes)) (sym heads)
+          (still, passes_are is_still (agreement.Pass r) refl pieces.passes))
+          pieces.enabled pieces.joined
+          (subst (λ hs. After (hs ++ passes)) (sym heads) (load_named e pieces.passes enabled known))
+          pieces.events (subst (AllAre is_alone) (sym events) tt)
+          (subst (AllAre leaves_descriptors) (sym events) tt) pieces.enabled_slots pieces.joined_slots)
 
     -- a load of a lock's word for a Take, where the section's publisher holds what the word names
     pub taking_whole : (kind : EventKind) → asks m l rs r kind p ≡ Some x → is_taking kind ≡ true

@@ -39,6 +39,7 @@ use Rattle.machine_invariant.proofs.Chunked.{is_unlocked}
 use Rattle.machine_invariant.proofs.Thunks.{outside_leaves}
 use Rattle.machine_invariant.proofs.Sights.{thunks_after}
 use Rattle.machine_invariant.proofs.SuppliesSlots.{loadable_by, HoldsMet}
+use Rattle.machine_invariant.proofs.Jointly.{IsWholeAfter, no_hold}
 use Rattle.machine_invariant.proofs.Pieces.{Pieces, KeepsWhole, Leads, led, keeps_by}
 use Rattle.machine_invariant.proofs.Outside.{outside_asked, outside_heads, outside_events, made_outside, published_after, onward_whole}
 
@@ -90,10 +91,10 @@ module _ (m : Meaning) (laws : Laws m) (l : Layout) (limits : IsWithinLimits l) 
     walked = ap (λ o. (after_by m l kind p o (s.word x.0)).reads.walk) none ∙ ap (λ n. p.reads.walk ++ (place, n) ∷ []) found_is
 
     load_cell : (go : Leads m l g read_sight r (agreement.Read place ∷ []) reach)
-        → IsWhole m l (led m l g r (agreement.Read place ∷ []) go.passes reach g.publications) read_sight
+        → IsWholeAfter m l (states_of g s) (led m l g r (agreement.Read place ∷ []) go.passes reach g.publications) read_sight
     load_cell go =
         let passes = replicate go.passes (agreement.Pass r) in
-        let one = step_stands m laws l limits (states_of g s) (made_of s) (made_of s) (steps.Read r place) may_read tt
+        let one = step_stands m laws l limits (states_of g s) (made_of s) (made_of s) (steps.Read r place) may_read tt tt
         (hands_of m laws l limits g.epochs s whole.slots) (λ i. refl) (stands_now m laws l limits g s whole) in
         let two = agreement_stands m laws l limits (agreement.Read place ∷ passes)
         (steps.after m l c (states_of g s) (steps.Read r place)) (made_of s)
@@ -121,4 +122,4 @@ module _ (m : Meaning) (laws : Laws m) (l : Layout) (limits : IsWithinLimits l) 
     pub load_cell_whole : (pieces : Pieces m l g s read_sight r kind x) → KeepsWhole m l g s read_sight r kind x pieces
     load_cell_whole pieces = keeps_by m l g s read_sight r kind x pieces (agreement.Read place ∷ []) reach
         (outside_heads m l rs g s read_sight r kind x none pieces) (outside_events m l rs g s read_sight r kind x none pieces)
-        g.publications refl load_cell
+        g.publications refl (no_hold m l kind (s.word x.0) refl) load_cell

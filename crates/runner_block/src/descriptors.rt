@@ -1,10 +1,11 @@
 //! The own descriptors, as a runner's code keeps them.
 ghost use Rattle.std.specs.Prelude.{◌≡◌, ◌+◌, ◌<◌, ◌≤◌, ◌^◌, IfOk, length, true, None};
 ghost use Rattle.runner_parts.specs.Tests.{has};
+ghost use Rattle.epoch_core.specs.Lists.{times};
 ghost use Rattle.machine_states.specs.First.{falling};
 ghost use Rattle.runner_block.specs.Room.{first_descriptors, sections_collected, section_held, section_retired};
 
-use crate::reserved::{falling, remove, wait_over};
+use crate::reserved::{falling, take_out, wait_over};
 use runner_parts::Retired;
 use std::alloc::{AllocError, Global};
 use std::marker::Model;
@@ -63,13 +64,14 @@ impl DescriptorLists {
         wait_over(&mut self.free, &mut self.limbo, epoch);
     }
 
-    /// A section was published with this free descriptor.
+    /// A section was published with this free descriptor, mostly the last one.
     pub fn publish(&mut self, descriptor: u32)
         requires own { has self.old.free descriptor ≡ true }
+        requires once { times descriptor self.old.free ≤ 1 }
         requires none { self.old.published ≡ None }
         ensures { self.new ≡ section_held self.old descriptor }
     {
-        remove(&mut self.free, descriptor);
+        take_out(&mut self.free, descriptor);
         self.published = Some(descriptor);
     }
 

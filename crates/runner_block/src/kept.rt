@@ -2,11 +2,12 @@
 ghost use Rattle.std.specs.Prelude.{◌≡◌, ◌+◌, ◌<◌, ◌≤◌, ◌^◌, ℕ, IfOk, length, true, None, if◌then◌else◌};
 ghost use Rattle.runner_parts.specs.declared.event.EventKind.TheVariants as kinds;
 ghost use Rattle.runner_parts.specs.Tests.{has};
+ghost use Rattle.epoch_core.specs.Lists.{times};
 ghost use Rattle.runner_steps.specs.AfterOutside.{with_stage, collected, scan_one_after, advance_after, split_after, retire_after};
 ghost use Rattle.runner_parts.specs.Lists.{slot_taken, slot_made, slot_back, slot_retired, nodes_looked};
 ghost use Rattle.runner_block.specs.Scans.{scan_of};
 ghost use Rattle.runner_block.specs.Kept.{loaded_of, scanned_of, held_in, with_part, with_nodes};
-ghost use Rattle.runner_block.specs.Room.{AreBelow, AreFew};
+ghost use Rattle.runner_block.specs.Room.{AreFew};
 ghost use Rattle.machine_states.specs.First.{falling, first_part};
 
 use crate::descriptors::DescriptorLists;
@@ -211,6 +212,7 @@ impl Kept {
     /// An exchange was to publish a section with this free descriptor, and won or lost.
     pub fn hold(&mut self, descriptor: u32, won: bool)
         requires own { has self.old.part.descriptors.free descriptor ≡ true }
+        requires once { times descriptor self.old.part.descriptors.free ≤ 1 }
         requires none { self.old.part.published ≡ None }
         ensures { self.new ≡ with_part self.old (held_in self.old.part descriptor won) }
     {
@@ -228,7 +230,8 @@ impl Kept {
 
     /// A Make takes a free slot into the hand.
     pub fn take(&mut self, slot: u32)
-        requires { has self.old.part.nodes.free slot ≡ true }
+        requires own { has self.old.part.nodes.free slot ≡ true }
+        requires once { times slot self.old.part.nodes.free ≤ 1 }
         ensures { self.new ≡ with_nodes self.old (slot_taken self.old.part.nodes slot) }
     {
         self.nodes.take(slot);
@@ -248,13 +251,6 @@ impl Kept {
         ensures { self.new ≡ with_nodes self.old (slot_retired self.old.part.nodes slot epoch) }
     {
         self.nodes.retire(slot, epoch);
-    }
-
-    /// The slots in the hand are node slots.
-    pub fn has_nodes_in_hand(&self)
-        ensures { AreBelow self.now.room self.now.part.nodes.hand }
-    {
-        self.nodes.has_nodes_in_hand();
     }
 
     /// A cell of an own node slot was loaded outside a run.

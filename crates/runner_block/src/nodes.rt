@@ -2,10 +2,11 @@
 ghost use Rattle.std.specs.Prelude.{◌≡◌, ◌+◌, ◌-◌, ◌<◌, ◌≤◌, ◌^◌, IfOk, length, true, if◌then◌else◌};
 ghost use Rattle.runner_parts.specs.Lists.{nodes_collected, slot_taken, slot_made, slot_back, slot_retired, slot_tested, nodes_looked, one_more};
 ghost use Rattle.runner_parts.specs.Tests.{has};
+ghost use Rattle.epoch_core.specs.Lists.{times};
 ghost use Rattle.machine_states.specs.First.{falling};
-ghost use Rattle.runner_block.specs.Room.{AreBelow, AreFew, first_nodes, nodes_are};
+ghost use Rattle.runner_block.specs.Room.{AreFew, first_nodes, nodes_are};
 
-use crate::reserved::{falling, forget, has, remove, test_of, wait_over};
+use crate::reserved::{falling, forget, has, remove, take_out, test_of, wait_over};
 use runner_parts::{Retired, Tested};
 use section_body::Word;
 use std::alloc::{AllocError, Global};
@@ -88,12 +89,13 @@ impl NodeLists {
         wait_over(&mut self.hand, &mut self.limbo, epoch);
     }
 
-    /// A Make takes a free slot into the hand.
+    /// A Make takes a free slot into the hand, mostly the last one.
     pub fn take(&mut self, slot: u32)
-        requires { has self.old.lists.free slot ≡ true }
+        requires own { has self.old.lists.free slot ≡ true }
+        requires once { times slot self.old.lists.free ≤ 1 }
         ensures { self.new ≡ nodes_are self.old (slot_taken self.old.lists slot) }
     {
-        remove(&mut self.free, slot);
+        take_out(&mut self.free, slot);
         self.hand.push_reserved(slot);
     }
 
@@ -142,13 +144,6 @@ impl NodeLists {
             forget(&mut self.tests, test.slot);
             self.tests.push_reserved(test);
         }
-    }
-
-    /// The slots in the hand are node slots, by this type.
-    pub fn has_nodes_in_hand(&self)
-        ensures { AreBelow self.now.room self.now.lists.hand }
-    {
-        let _ = &self.hand;
     }
 
     /// After a private load outside a run: only the next cell of a slot in the hand counts.

@@ -4,6 +4,7 @@ ghost use Rattle.std.specs.List.{filter};
 ghost use Rattle.std.specs.Vec.{vec_capacity};
 ghost use Rattle.runner_parts.specs.Lists.{is_old, slots_of, without, test_of, tests_without};
 ghost use Rattle.runner_parts.specs.Tests.{has};
+ghost use Rattle.epoch_core.specs.Lists.{times};
 ghost use Rattle.machine_states.specs.First.{falling};
 
 use runner_parts::{Retired, Tested};
@@ -83,6 +84,20 @@ pub fn remove(numbers: &mut Vec<u32>, number: u32)
     ensures room { vec_capacity numbers.new ≡ vec_capacity numbers.old }
 {
     numbers.retain(|x| !(*x == number));
+}
+
+/// The number, which stands there at most once, leaves the list. Where it is the last one no other is looked at.
+pub fn take_out(numbers: &mut Vec<u32>, number: u32)
+    requires { times number numbers.old.items ≤ 1 }
+    ensures items { numbers.new.items ≡ without numbers.old.items number }
+    ensures room { vec_capacity numbers.new ≡ vec_capacity numbers.old }
+{
+    let count = numbers.len();
+    if count > 0 && numbers[count - 1] == number {
+        numbers.pop();
+    } else {
+        remove(numbers, number);
+    }
 }
 
 /// How far the slot's cells have been looked at.

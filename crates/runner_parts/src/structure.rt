@@ -40,6 +40,13 @@ pub trait Structure: Drop + Send + Sync {
     fn body(&self, thunk: &Thunk) -> Body
         ensures { result ≡ (meaning self.now).body thunk.now };
 
+    /// Puts the steps of a thunk's body in place of those that a kept body has.
+    fn body_in(&self, thunk: &Thunk, body: &mut Body)
+        ensures { body.new ≡ (meaning self.now).body thunk.now }
+    {
+        *body = self.body(thunk);
+    }
+
     /// Whether the readings give a link to this slot.
     fn reaches(&self, readings: &[(Place, Word)], slot: u32) -> bool
         ensures { result ≡ (meaning self.now).reaches readings.now slot };

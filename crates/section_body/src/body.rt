@@ -29,9 +29,9 @@ impl Body {
         requires { length steps.now ≤ 40 }
         ensures { result ≡ steps.now }
     {
-        let mut list = ArrayVec::new();
-        let _ = list.try_extend_from_slice(steps);
-        Body { steps: list }
+        let mut body = Body::empty();
+        body.refill(steps);
+        body
     }
 
     /// A body without steps, which has no shape and is never run.
@@ -41,5 +41,15 @@ impl Body {
         Body {
             steps: ArrayVec::new(),
         }
+    }
+
+    /// Puts these steps in place of those that the body has. A body has room for 40 steps, so one that is kept
+    /// and refilled is cheaper than another one made.
+    pub fn refill(&mut self, steps: &[Step])
+        requires { length steps.now ≤ 40 }
+        ensures { self.new ≡ steps.now }
+    {
+        self.steps.clear();
+        let _ = self.steps.try_extend_from_slice(steps);
     }
 }

@@ -1,5 +1,5 @@
 //! The hash table's hash and bodies.
-ghost use Rattle.std.specs.Prelude.{◌≡◌, ◌≤◌, is_some, IfSome};
+ghost use Rattle.std.specs.Prelude.{◌≡◌, ◌≤◌, is_some, OnSome};
 ghost use Rattle.section_body.specs.Bucket.{bucket_index, bucket_steps, read_steps, insert_steps, remove_steps, fits_read, fits_insert, fits_remove};
 
 use crate::body::Body;
@@ -31,25 +31,33 @@ pub fn bucket_of(key: u32, b: u32) -> u32
 pub fn bucket_body(thunk: &Thunk) -> Body
     ensures { result ≡ bucket_steps thunk.now }
 {
-    let body = match thunk.form {
-        1 => read_body(thunk),
-        2 => insert_body(thunk),
-        3 => remove_body(thunk),
+    let mut body = Body::empty();
+    bucket_body_in(thunk, &mut body);
+    body
+}
+
+/// Puts the body of a hash table's thunk, as `bucket_body` gives it, in place of what a kept body has.
+pub fn bucket_body_in(thunk: &Thunk, body: &mut Body)
+    ensures { body.new ≡ bucket_steps thunk.now }
+{
+    let filled = match thunk.form {
+        1 => fill_read(thunk, body),
+        2 => fill_insert(thunk, body),
+        3 => fill_remove(thunk, body),
         _ => None,
     };
-    match body {
-        Some(body) => body,
-        None => Body::empty(),
+    if filled.is_none() {
+        body.refill(&[]);
     }
 }
 
 /// Form 1: a request that changes nothing. The operands are the edition word and the reply word.
-fn read_body(thunk: &Thunk) -> Option<Body>
+fn fill_read(thunk: &Thunk, body: &mut Body) -> Option<()>
     ensures fits { is_some result ≡ fits_read thunk.now }
-    ensures steps { IfSome result (λ body. body ≡ read_steps thunk.now) }
+    ensures steps { OnSome result (body.new ≡ read_steps thunk.now) }
 {
     let edition = thunk.lock.checked_add(1)?;
-    Some(Body::from_slice(&[
+    body.refill(&[
         Step::Load {
             place: edition,
             into: 0,
@@ -62,14 +70,15 @@ fn read_body(thunk: &Thunk) -> Option<Body>
         Step::Answer {
             reply: thunk.operands[1],
         },
-    ]))
+    ]);
+    Some(())
 }
 
 /// Form 2: a new node before the bucket's first one. The operands are the edition word, the key, the
 /// value and the link in the head.
-fn insert_body(thunk: &Thunk) -> Option<Body>
+fn fill_insert(thunk: &Thunk, body: &mut Body) -> Option<()>
     ensures fits { is_some result ≡ fits_insert thunk.now }
-    ensures steps { IfSome result (λ body. body ≡ insert_steps thunk.now) }
+    ensures steps { OnSome result (body.new ≡ insert_steps thunk.now) }
 {
     let head = thunk.lock.checked_add(2)?;
     let key = u32::try_from(thunk.operands[1]).ok()?;
@@ -84,7 +93,7 @@ fn insert_body(thunk: &Thunk) -> Option<Body>
             Value::Const(0),
         ],
     };
-    Some(Body::from_slice(&[
+    body.refill(&[
         Step::Load {
             place: head - 1,
             into: 0,
@@ -110,20 +119,21 @@ fn insert_body(thunk: &Thunk) -> Option<Body>
             value: Value::Const(0),
         },
         Step::Answer { reply: NEW },
-    ]))
+    ]);
+    Some(())
 }
 
 /// Form 3: a node is taken out of its chain. The operands are the edition word, the place of the link to
 /// the node, the node's slot and its next link.
-fn remove_body(thunk: &Thunk) -> Option<Body>
+fn fill_remove(thunk: &Thunk, body: &mut Body) -> Option<()>
     ensures fits { is_some result ≡ fits_remove thunk.now }
-    ensures steps { IfSome result (λ body. body ≡ remove_steps thunk.now) }
+    ensures steps { OnSome result (body.new ≡ remove_steps thunk.now) }
 {
     let edition = thunk.lock.checked_add(1)?;
     let link = u32::try_from(thunk.operands[1]).ok()?;
     let slot = u32::try_from(thunk.operands[2]).ok()?;
     let next = u32::try_from(thunk.operands[3]).ok()?;
-    Some(Body::from_slice(&[
+    body.refill(&[
         Step::Load {
             place: edition,
             into: 0,
@@ -149,5 +159,6 @@ fn remove_body(thunk: &Thunk) -> Option<Body>
         },
         Step::Retire { slot },
         Step::Answer { reply: GONE },
-    ]))
+    ]);
+    Some(())
 }

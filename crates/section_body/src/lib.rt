@@ -30,7 +30,7 @@ mod value;
 mod word;
 
 pub use body::Body;
-pub use bucket::{bucket_body, bucket_of};
+pub use bucket::{bucket_body, bucket_body_in, bucket_of};
 pub use costs::cost;
 pub use gate::{Gate, Pass};
 pub use line::micro_at;

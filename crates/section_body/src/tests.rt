@@ -3,7 +3,7 @@ ghost use Rattle.std.specs.Prelude.{◌≡◌};
 
 use crate::{
     Body, Gate, Init, Micro, Misshape, Pass, Place, Source, Step, StepKind, Steps, Thunk, Trail,
-    Value, Word, bucket_body, bucket_of, cost, micro_at,
+    Value, Word, bucket_body, bucket_body_in, bucket_of, cost, micro_at,
 };
 
 /// A thunk of the hash table's bucket 0, whose edition is as at first.
@@ -42,6 +42,15 @@ fn the_hash_tables_bodies_have_their_costs(rt: HostRuntime) {
         assert_eq!(rt; body.steps.len(), steps);
         assert_eq!(rt; body.check(), Ok(()));
         assert_eq!(rt; cost(&body), atomic_steps);
+    }
+}
+
+#[test]
+fn a_kept_body_is_refilled(rt: HostRuntime) {
+    let mut body = Body::empty();
+    for (form, steps) in [(2, 10), (1, 4), (11, 0), (3, 10)] {
+        bucket_body_in(&thunk_of(form), &mut body);
+        assert_eq!(rt; body.steps.len(), steps);
     }
 }
 

@@ -1,5 +1,5 @@
 //! The bodies of the search tree's thunks.
-ghost use Rattle.std.specs.Prelude.{◌≡◌, ◌+◌, ◌<◌, ◌^◌, ◌==◌, cond, nat_lt, None, Some, is_some, IfSome};
+ghost use Rattle.std.specs.Prelude.{◌≡◌, ◌+◌, ◌<◌, ◌^◌, ◌==◌, cond, nat_lt, None, Some, is_some, IfSome, OnSome};
 ghost use Rattle.tree_bodies.specs.Tree.{tree_steps, look_steps, insert_steps, delete_steps, leaf_with, inner_with, slot_in as link_slot, parent_in, leaf_in, sibling_of, mark_of, names_removed, fits_look, fits_insert, fits_delete};
 ghost use Rattle.section_body.specs.Word.{value_of};
 ghost use Rattle.section_body.specs.Bucket.{operand};
@@ -19,27 +19,35 @@ const GONE: u64 = 4 << 32;
 pub fn tree_body(thunk: &Thunk) -> Body
     ensures { result ≡ tree_steps thunk.now }
 {
-    let body = match thunk.form {
-        11 => look_body(thunk),
-        12 => insert_body(thunk),
-        13 => delete_body(thunk),
+    let mut body = Body::empty();
+    tree_body_in(thunk, &mut body);
+    body
+}
+
+/// Puts the body of a search tree's thunk, as `tree_body` gives it, in place of what a kept body has.
+pub fn tree_body_in(thunk: &Thunk, body: &mut Body)
+    ensures { body.new ≡ tree_steps thunk.now }
+{
+    let filled = match thunk.form {
+        11 => fill_look(thunk, body),
+        12 => fill_insert(thunk, body),
+        13 => fill_delete(thunk, body),
         _ => None,
     };
-    match body {
-        Some(body) => body,
-        None => Body::empty(),
+    if filled.is_none() {
+        body.refill(&[]);
     }
 }
 
 /// Form 11: a request that changes nothing. The operands are the place and the word of the link from the
 /// parent to the leaf, the parent's mark word and the reply word.
-fn look_body(thunk: &Thunk) -> Option<Body>
+fn fill_look(thunk: &Thunk, body: &mut Body) -> Option<()>
     ensures fits { is_some result ≡ fits_look thunk.now }
-    ensures steps { IfSome result (λ body. body ≡ look_steps thunk.now) }
+    ensures steps { OnSome result (body.new ≡ look_steps thunk.now) }
 {
     let mark = thunk.lock.checked_add(4)?;
     let link = u32::try_from(thunk.operands[0]).ok()?;
-    Some(Body::from_slice(&[
+    body.refill(&[
         Step::Load {
             place: link,
             into: 0,
@@ -60,7 +68,8 @@ fn look_body(thunk: &Thunk) -> Option<Body>
         Step::Answer {
             reply: thunk.operands[3],
         },
-    ]))
+    ]);
+    Some(())
 }
 
 /// A leaf with this key and value.
@@ -95,9 +104,9 @@ fn inner(key: u32, left: Value, right: Value) -> Init
 
 /// Form 12: a new leaf beside the old one, under a new inner node. The operands are those of form 11
 /// without the reply word, then the key, the value and the old leaf's key.
-fn insert_body(thunk: &Thunk) -> Option<Body>
+fn fill_insert(thunk: &Thunk, body: &mut Body) -> Option<()>
     ensures fits { is_some result ≡ fits_insert thunk.now }
-    ensures steps { IfSome result (λ body. body ≡ insert_steps thunk.now) }
+    ensures steps { OnSome result (body.new ≡ insert_steps thunk.now) }
 {
     let mark = thunk.lock.checked_add(4)?;
     let link = u32::try_from(thunk.operands[0]).ok()?;
@@ -111,7 +120,7 @@ fn insert_body(thunk: &Thunk) -> Option<Body>
     } else {
         inner(key, stays, Value::Made(2))
     };
-    Some(Body::from_slice(&[
+    body.refill(&[
         Step::Load {
             place: link,
             into: 0,
@@ -140,7 +149,8 @@ fn insert_body(thunk: &Thunk) -> Option<Body>
             value: Value::Made(3),
         },
         Step::Answer { reply: NEW },
-    ]))
+    ]);
+    Some(())
 }
 
 /// What a removal takes out: the parent and the leaf, and the parent's links to the leaf and to its sibling.
@@ -201,14 +211,14 @@ fn find_removed(thunk: &Thunk) -> Option<Removed>
 /// place and the word of the link from the grandparent to the parent, the grandparent's mark word, the
 /// parent's lock word, the place and the word of the link from the parent to the leaf, and the parent's
 /// mark word. The parent is retired before the leaf that is reached from it.
-fn delete_body(thunk: &Thunk) -> Option<Body>
+fn fill_delete(thunk: &Thunk, body: &mut Body) -> Option<()>
     ensures fits { is_some result ≡ fits_delete thunk.now }
-    ensures steps { IfSome result (λ body. body ≡ delete_steps thunk.now) }
+    ensures steps { OnSome result (body.new ≡ delete_steps thunk.now) }
 {
     let mark = thunk.lock.checked_add(4)?;
     let link = u32::try_from(thunk.operands[0]).ok()?;
     let removed = find_removed(thunk)?;
-    Some(Body::from_slice(&[
+    body.refill(&[
         Step::Load {
             place: link,
             into: 0,
@@ -265,5 +275,6 @@ fn delete_body(thunk: &Thunk) -> Option<Body>
         },
         Step::Retire { slot: removed.leaf },
         Step::Answer { reply: GONE },
-    ]))
+    ]);
+    Some(())
 }

@@ -3,4 +3,4 @@
 
 mod bodies;
 
-pub use bodies::tree_body;
+pub use bodies::{tree_body, tree_body_in};

@@ -1,1 +1,3 @@
+mod Preparing
+mod Publishing
 mod Retiring

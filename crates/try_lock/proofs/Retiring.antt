@@ -1,13 +1,12 @@
 -- The retirement of a section.
-use Rattle.std.proofs.Common.{◌≡◌, ℕ, ap, ◌∙◌, sym, subst, refl, ◌≤◌, true, Option, Some, None}
+use Rattle.std.proofs.Common.{◌≡◌, ℕ, ap, ◌∙◌, sym, subst, refl, ◌≤◌, Option, Some}
 use Rattle.std.specs.Prelude.{◌&&◌}
 use Rattle.table_words.specs.declared.spot.Spot.TheVariants.{Epoch}
 use Rattle.table_words.specs.declared.access.Access.TheVariants.{Loads}
 use Rattle.structure_laws.specs.Meaning.{Meaning}
 use Rattle.runner_parts.specs.declared.event.EventKind.TheVariants as kinds
 use Rattle.runner_parts.specs.declared.entries.Published.{Published}
-use Rattle.runner_parts.specs.declared.stage.Stage.TheVariants as stages
-use Rattle.runner_parts.specs.State.{RunState, PartState, RecordsState}
+use Rattle.runner_parts.specs.State.{RunState, PartState}
 use Rattle.runner_parts.specs.Tests.{is_walking}
 use Rattle.runner_parts.specs.Lists.{descriptor_retired}
 use Rattle.runner_steps.specs.Outside.{when, is_over}
@@ -15,7 +14,6 @@ use Rattle.runner_steps.specs.AfterOutside.{retire_after}
 use Rattle.runner_steps.specs.After.{after_by}
 use Rattle.version_words.specs.RunnerState.{RunnerState}
 use Rattle.version_words.specs.Events.{IsEnabled, Makes}
-use Rattle.version_words.specs.Stages.{IsAt}
 use Rattle.version_words.proofs.Stages.{enabled}
 use Rattle.epoch_slots.proofs.Outside.{nodes_made, descriptors_made, known_made, finished_made}
 use Rattle.try_lock.specs.Retires.{IsOver, HasRetired}

@@ -1,47 +1,90 @@
 -- Publications.
-use Rattle.std.specs.Prelude.{◌≡◌, ℕ, ◌≤◌, true, false, cond, length, Result, Ok, Err}
-use Rattle.section_body.specs.Word.{is_free, is_spent}
+use Rattle.std.specs.Prelude.{◌≡◌, ℕ, ◌+◌, ◌-◌, ◌<◌, ◌≤◌, ◌++◌, true, false, ◌==◌, cond, length, replicate, Result, IfOk, IfErr, Some, None}
+use Rattle.section_body.specs.Word.{value_of, is_free, is_spent}
 use Rattle.section_body.specs.declared.outcome.Refused.{Refused}
 use Rattle.section_body.specs.declared.outcome.Refused.TheVariants as refusals
 use Rattle.section_body.specs.declared.thunk.Thunk.{Thunk}
+use Rattle.table_words.specs.declared.spot.Spot.TheVariants.{DoneWord, LogWord}
+use Rattle.table_words.specs.Places.{slot_count}
 use Rattle.structure_laws.specs.Meaning.{Meaning}
 use Rattle.runner_parts.specs.declared.event.EventKind.TheVariants as kinds
 use Rattle.runner_parts.specs.declared.stage.Stage.TheVariants as stages
-use Rattle.runner_parts.specs.Tests.{has, has_pair}
-use Rattle.runner_steps.specs.Outside.{is_publishable}
+use Rattle.runner_parts.specs.Lists.{without, cell_read, holds_named, section_published}
+use Rattle.runner_parts.specs.Tests.{has, is_open, thunk_words}
+use Rattle.runner_steps.specs.Outside.{is_due}
+use Rattle.runner_steps.specs.AfterOutside.{published_by}
+use Rattle.machine_states.specs.Sight.{Sight, sight}
+use Rattle.machine_epochs.specs.Slots.{thunk_in}
 use Rattle.version_words.specs.RunnerState.{RunnerState}
 use Rattle.version_words.specs.Events.{Makes}
+use Rattle.version_words.specs.Stages.{IsAt}
 use Rattle.try_lock.specs.declared.section.Section.{Section}
 use Rattle.try_lock.specs.Reached.{IsReached, IsSectionOf}
+use Rattle.try_lock.specs.Prepares.{SetsWords}
 
 -- why a publication was refused, by the word that its exchange saw
 abbrev pub refused_by : ℕ → ℕ → ℕ → Refused
 refused_by version_max expected read =
     cond (is_free read) (cond (is_spent version_max read) (refusals.Spent read) (refusals.Stale expected read)) (refusals.Busy read)
 
+-- the words of this descriptor are those of a section with this thunk that no run has begun
+pub record IsUnrun (descriptor : ℕ) (t : Thunk) (s : Sight) : Type 0 where
+  pub thunk : thunk_in s.word descriptor ≡ t
+  pub undone : s.word (DoneWord descriptor) ≡ 0
+  pub empty : (k : ℕ) → k < 64 → s.word (LogWord descriptor k) ≡ 0
+
+module _ {T : Type 0} where
+  -- the exchange won: the section is published with this descriptor, which isn't free any more, and the runner
+  -- holds it
+  pub record IsPublished (t : Thunk) (descriptor found : ℕ) (old new : RunnerState T) (s : Section) : Type 0 where
+    pub won : found ≡ t.word
+    pub own : s.descriptor ≡ descriptor
+    pub section : IsSectionOf new t s
+    pub published : new.part.published ≡ Some (published_by t descriptor old.part)
+    pub at : (epoch : ℕ) → IsAt old (stages.Entered epoch) None
+        → IsAt new (stages.Entered epoch) (Some (published_by t descriptor old.part))
+    pub free : new.part.descriptors.free ≡ without old.part.descriptors.free descriptor
+    pub reads : new.part.reads ≡ section_published (cell_read old.part.reads t.lock found) descriptor
+
+  -- the exchange lost: the descriptor is free as before, and the section that the word names, if any, may be helped
+  pub record IsRefused (t : Thunk) (found : ℕ) (old new : RunnerState T) (e : Refused) : Type 0 where
+    pub lost : found == t.word ≡ false
+    pub why : e ≡ refused_by old.layout.version_max t.word found
+    pub at : (epoch : ℕ) → IsAt old (stages.Entered epoch) None → IsAt new (stages.Entered epoch) None
+    pub free : new.part.descriptors.free ≡ old.part.descriptors.free
+    pub reads : new.part.reads ≡ holds_named (cell_read old.part.reads t.lock found) found
+    pub names : is_free found ≡ false → has new.part.reads.held (value_of found - 1) ≡ true
+
 module _ {T : Type 0} (m : Meaning) where
-  -- the thunk may be published, and a descriptor is free
+  -- the runner is entered and in no run, and has no section left to retire; the thunk's outer lock was read in this
+  -- entry, free and not spent; the thunk serves the worker's next request by what the runner has read; and a
+  -- descriptor is free
   pub record MayPublish (r : RunnerState T) (t : Thunk) : Type 0 where
-    pub present : r.part.gone ≡ false
-    pub publishable : is_publishable m r.layout r.requests r.number t r.part ≡ true
+    pub epoch : ℕ
+    pub at : IsAt r (stages.Entered epoch) None
+    pub unlocked : is_open r.layout r.part.reads.cells t ≡ true
+    pub due : is_due m r.layout r.requests r.number r.part.records.known r.part.reads.walk t ≡ true
     pub reserve : 1 ≤ length r.part.descriptors.free
     pub reached : IsReached m r
 
-  -- the words of an own descriptor were stored, and one exchange of the outer lock was made from the thunk's word to the one that names the
-  -- descriptor: it won, and the section is published, or it saw this other word, and the descriptor is free as before
+  -- each word of an own free descriptor was loaded, and stored where it wasn't the thunk's, no done or an empty
+  -- log; then one exchange of the outer lock was made from the thunk's word to the one that names the descriptor
   pub record Publishes (t : Thunk) (answer : Result Section Refused) (old new : RunnerState T) : Type 0 where
     pub descriptor : ℕ
     pub found : ℕ
     pub ready : RunnerState T
-    pub free : has old.part.descriptors.free descriptor ≡ true
+    pub was_free : has old.part.descriptors.free descriptor ≡ true
+    pub sets : SetsWords m (slot_count old.layout m.fixed_slots + descriptor) 0 (thunk_words t ++ replicate 65 0) old ready
     pub hold : Makes m (kinds.Hold t descriptor) found ready new
-    pub won : (s : Section) → answer ≡ Ok s → IsSectionOf new t s
-    pub taken : (s : Section) → answer ≡ Ok s → found ≡ t.word
-    pub refused : (e : Refused) → answer ≡ Err e → e ≡ refused_by old.layout.version_max t.word found
-    pub read : has_pair new.part.reads.cells t.lock found ≡ true
-    pub unchanged : (e : Refused) → answer ≡ Err e → new.part.descriptors.free ≡ old.part.descriptors.free
+    pub published : IfOk answer (IsPublished t descriptor found old new)
+    pub refused : IfErr answer (IsRefused t found old new)
+    pub read : new.part.reads.cells ≡ (cell_read old.part.reads t.lock found).cells
+    -- what stays
+    pub number : new.number ≡ old.number
     pub nodes : new.part.nodes ≡ old.part.nodes
-    pub stage : new.part.stage ≡ old.part.stage
+    pub limbo : new.part.descriptors.limbo ≡ old.part.descriptors.limbo
     pub known : new.part.records.known ≡ old.part.records.known
     pub finished : new.part.records.finished ≡ old.part.records.finished
+    -- the state that the machine reaches then
     pub reached : IsReached m new
+    pub stands : IfOk answer (λ s. IsUnrun s.descriptor t (sight m new.layout new.requests reached.world))

@@ -1,4 +1,5 @@
--- In every state that the machine reaches, a runner's lists of node slots have no more entries than there are node slots.
+-- In every state that the machine reaches, a runner's lists of node slots have no more entries than there are node slots, and each slot stands
+-- at most once in its free lists.
 use Rattle.std.proofs.Common.{◌≡◌, ℕ, zero, suc, ◌+◌, ◌<◌, ◌≤◌, List, [], ◌∷◌, length, get_or, Bool, true, false, refl, sym, ap, subst, ⊎_elim, arith, Some, None, slice_get}
 use Rattle.std.specs.Prelude.{◌||◌, ◌==◌, cond}
 use Rattle.std.proofs.lemmas.Bool.{cases_lt}
@@ -6,23 +7,28 @@ use Rattle.map_history.specs.declared.op.Request.{Request}
 use Rattle.table_words.specs.declared.layout.Layout.{Layout}
 use Rattle.table_words.specs.Limits.{IsWithinLimits}
 use Rattle.table_words.specs.declared.spot.Spot.{Spot}
-use Rattle.table_words.specs.Places.{slot_count}
+use Rattle.table_words.specs.declared.access.Access.{Access}
+use Rattle.table_words.specs.Places.{slot_count, descriptor_count}
 use Rattle.structure_laws.specs.Meaning.{Meaning}
 use Rattle.structure_laws.specs.Laws.{Laws}
 use Rattle.runner_parts.specs.declared.entries.Retired.{Retired}
+use Rattle.runner_parts.specs.declared.event.EventKind.{EventKind}
 use Rattle.runner_parts.specs.State.{PartState}
 use Rattle.runner_parts.specs.Tests.{has}
 use Rattle.runner_parts.specs.Lists.{slots_of}
+use Rattle.epoch_core.specs.Lists.{times}
 use Rattle.machine_states.specs.World.{World, seat_of}
 use Rattle.machine_states.specs.Reached.{Reached}
 use Rattle.machine_states.specs.Sight.{sight, part_or_first}
-use Rattle.machine_epochs.specs.Descriptors.{times_limbo}
+use Rattle.machine_epochs.specs.Descriptors.{times_limbo, times_with}
+use Rattle.machine_epochs.specs.Firsts.{owner_of}
+use Rattle.machine_epochs.proofs.Reached.{descriptors_after}
 use Rattle.machine_invariant.specs.Slots.{times_among}
 use Rattle.machine_invariant.specs.Lengths.{entry_count}
 use Rattle.machine_invariant.specs.After.{AreAllowed}
 use Rattle.machine_invariant.proofs.After.{whole_after, short_after}
 use Rattle.runner_block.specs.Room.{AreFew}
-use Rattle.version_words.specs.ReachedWith.{ReachedWith}
+use Rattle.version_words.specs.ReachedWith.{ReachedWith, ReachedBy}
 use Rattle.version_words.specs.TableState.{HasSmallValue}
 
 some_none : {A : Type 0} → (a : A) → None ≡ Some a → ⊥
@@ -65,3 +71,23 @@ few_reached m laws l rs w limits requests reached r p there =
 pub few_seen : (m : Meaning) → Laws m → (l : Layout) (rs : List Request) (r : ℕ) (p : PartState) (spot : Spot) (number : ℕ) → IsWithinLimits l → AreAllowed rs → ReachedWith m l rs r p spot number
     → AreFew (slot_count l m.fixed_slots) p.nodes
 few_seen m laws l rs r p spot number limits requests seen = few_reached m laws l rs seen.world limits requests seen.reached r p seen.own
+
+one_at_most : (b : Bool) → cond b 1 0 ≤ 1
+one_at_most true = omega arith
+one_at_most false = omega arith
+
+-- before a step each node slot stands at most once in the runner's free list, and so does each descriptor
+module _ (m : Meaning) (l : Layout) (rs : List Request) (r : ℕ) (kind : EventKind) (old new : PartState) (met : Spot × Access) (found : ℕ) (shown : ReachedBy m l rs r kind old new met found) where
+  here : (sight m l rs shown.before).part r ≡ old
+  here = ap part_or_first shown.was_own
+
+  pub node_once : Laws m → IsWithinLimits l → AreAllowed rs → (t : ℕ) → times t old.nodes.free ≤ 1
+  node_once laws limits requests t =
+      let stand = (whole_after m laws l rs shown.was_reached.events shown.before limits requests shown.was_reached.after).sound.slots.in_nodes in
+      let once = subst (λ (y : PartState). times_among y.nodes t ≤ 1) here (stand.once r t) in omega (arith, once)
+
+  pub descriptor_once : (d : ℕ) → d < descriptor_count l → times d old.descriptors.free ≤ 1
+  descriptor_once d few =
+      let stand = descriptors_after m l rs shown.was_reached.events shown.before shown.was_reached.after in
+      let once = subst (λ (y : PartState). times_with y d ≡ cond (owner_of l.sections l.runners d == r) 1 0) here (stand.once r d few) in
+      let most = one_at_most (owner_of l.sections l.runners d == r) in omega (arith, once, most)

@@ -19,6 +19,7 @@ use Rattle.runner_parts.specs.declared.event.EventKind.{EventKind}
 use Rattle.runner_parts.specs.declared.event.EventKind.TheVariants as kinds
 use Rattle.runner_parts.specs.State.{PartState}
 use Rattle.runner_parts.specs.Tests.{has, is_walking, is_open, is_prepared, has_pair}
+use Rattle.epoch_core.specs.Lists.{times}
 use Rattle.runner_parts.specs.Lists.{descriptor_taken, section_published, cell_read, holds_named}
 use Rattle.runner_steps.specs.Outside.{hold_ask, is_ready, is_publishable, is_due}
 use Rattle.runner_steps.specs.AfterOutside.{hold_after, published_by}
@@ -32,6 +33,7 @@ use Rattle.version_words.specs.Naming.{hold_of}
 use Rattle.version_words.specs.Kept.{IsKept}
 use Rattle.version_words.specs.Events.{met_by, IsEnabled, IsNamed, Makes, step_at, announcing, seen_seat}
 use Rattle.version_words.proofs.Asked.{outer, tested}
+use Rattle.version_words.proofs.Bounds.{descriptor_once}
 use Rattle.version_words.proofs.Inside.{both_true, few_descriptors}
 use Rattle.version_words.proofs.Keeps.{lists_kept}
 
@@ -120,6 +122,14 @@ module _ {T : Type 0} (mean : T → Meaning) (s : T) (t : Thunk) (d found number
   told_held : (b : Bool) → found == t.word ≡ b → held_in (told_part me.0.part) d b ≡ told_part (hold_after t d me.0.part found)
   told_held true e = sym (ap told_part (hold_won t d found me.0.part e))
   told_held false e = sym (ap told_part (hold_lost t d found me.0.part e))
+
+  -- the descriptor stands in the free list once
+  pub once_here : times d kept.lists.part.descriptors.free ≤ 1
+  once_here =
+      let few = (holds_so (mean s) (seen_seat old_table me) t d (record { met = made.met; asked = made.asked })).few in
+      subst (λ (p : PartState). times d p.descriptors.free ≤ 1) (sym was.lists)
+      (descriptor_once (mean s) me'.0.layout me'.0.requests me'.0.number (kinds.Hold t d) me.0.part me'.0.part made.met found made.shown d
+      (subst (λ (l : Layout). d < descriptor_count l) (sym (ap (λ (r : RunnerState T). r.layout) made.made)) few))
 
   pub hold_kept : (b : Bool) (lists : KeptState) → b ≡ found == t.word → lists ≡ with_part kept.lists (held_in kept.lists.part d b) → IsKept mean number (record kept { lists = lists }) me'
   hold_kept b lists won is = lists_kept mean s (kinds.Hold t d) found number kept old_table new_table me me' live made slots was refl lists (λ p. held_in p d b) is (told_held b (sym won))

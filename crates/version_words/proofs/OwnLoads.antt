@@ -17,11 +17,14 @@ use Rattle.table_words.specs.declared.spot.Spot.TheVariants as spots
 use Rattle.table_words.specs.declared.access.Access.{Access}
 use Rattle.table_words.specs.declared.access.Access.TheVariants.{Loads}
 use Rattle.table_words.specs.Places.{address, Fits, slot_count}
+use Rattle.table_words.specs.Limits.{IsWithinLimits}
 use Rattle.structure_laws.specs.Meaning.{Meaning}
+use Rattle.structure_laws.specs.Laws.{Laws}
 use Rattle.runner_parts.specs.declared.event.EventKind.{EventKind}
 use Rattle.runner_parts.specs.declared.event.EventKind.TheVariants as kinds
 use Rattle.runner_parts.specs.State.{RunState, PartState}
 use Rattle.runner_parts.specs.Tests.{has, is_resting}
+use Rattle.epoch_core.specs.Lists.{times}
 use Rattle.runner_parts.specs.Lists.{slot_taken, nodes_looked, descriptor_stored}
 use Rattle.runner_steps.specs.Sections.{is_open_run, next_of}
 use Rattle.runner_steps.specs.Outside.{when, descriptor_spot, private_load_ask}
@@ -31,6 +34,7 @@ use Rattle.runner_steps.specs.AfterInRun.{goes_on, fill_loaded}
 use Rattle.runner_steps.specs.AfterOutside.{private_load_after}
 use Rattle.runner_steps.specs.After.{after_by, stepped}
 use Rattle.machine_states.proofs.Steps.{some_same, asked_fits}
+use Rattle.machine_invariant.specs.After.{AreAllowed}
 use Rattle.version_words.specs.declared.view.View.{View}
 use Rattle.runner_block.specs.declared.place.RunPlace.{RunPlace}
 use Rattle.runner_block.specs.declared.block.Block.{Block}
@@ -44,6 +48,7 @@ use Rattle.version_words.specs.Kept.{IsKept}
 use Rattle.runner_block.specs.Looks.{MayTake}
 use Rattle.version_words.specs.Events.{met_by, IsEnabled, IsNamed, Makes, step_at, nothing, seen_seat}
 use Rattle.version_words.proofs.Asked.{unless_gone, tested}
+use Rattle.version_words.proofs.Bounds.{node_once}
 use Rattle.version_words.proofs.Keeps.{KeepsPart, no_epoch, was_part, then_kept}
 use Rattle.version_words.proofs.Epochs.{goes_epoch}
 use Rattle.version_words.proofs.Inside.{is_ender, HasOpenRun, PlacesRun, both_true, goes_inside, over, places, same_place, step_is}
@@ -168,14 +173,15 @@ module _ (m : Meaning) (l : Layout) (slot word found : ℕ) (kept : Block) (p : 
   abbrev k : EventKind
   k = kinds.PrivateLoad slot word
 
-  pub may_take : kept.lists.room ≡ slot_count l m.fixed_slots → Stands m l k p x → MayTake kept slot
-  may_take room at = record {
+  pub may_take : kept.lists.room ≡ slot_count l m.fixed_slots → Stands m l k p x → times slot p.nodes.free ≤ 1 → MayTake kept slot
+  may_take room at once = record {
     free = λ inside unmade. ⊎_elim
         (λ (none : p.run ≡ None). absurd (true_false (sym inside ∙ was.place.outside none)))
         (λ (h : IsOpenFor m l k p x).
         let q = h.open_run.run in
         ap (λ (y : PartState). has y.nodes.free slot) was.lists
         ∙ taken_free q.made p.nodes.free slot (sym (was.place.run q h.open_run.there).making ∙ unmade) (load_inside m l slot word p.nodes.free q (next_of m q) x h.asks_so).1) at;
+    once = λ inside unmade. subst (λ (y : PartState). times slot y.nodes.free ≤ 1) (sym was.lists) once;
     outside = λ past. ⊎_elim
         (λ (none : p.run ≡ None). was.place.outside none)
         (λ (h : IsOpenFor m l k p x).
@@ -258,8 +264,9 @@ module _ {T : Type 0} (mean : T → Meaning) (s : T) (slot word found number : �
   abbrev before : KeepsPart (mean s) kept me.0.part
   before = was_part mean s (kinds.PrivateLoad slot word) found number kept old_table new_table me me' live made slots was
 
-  pub takes_free : MayTake kept slot
-  takes_free = may_take (mean s) me.0.layout slot word found kept me.0.part made.met before (was.of_table s live).room stands
+  pub takes_free : Laws (mean s) → IsWithinLimits me'.0.layout → AreAllowed me'.0.requests → MayTake kept slot
+  takes_free laws limits allowed = may_take (mean s) me.0.layout slot word found kept me.0.part made.met before (was.of_table s live).room stands
+      (node_once (mean s) me'.0.layout me'.0.requests me'.0.number (kinds.PrivateLoad slot word) me.0.part me'.0.part made.met found made.shown laws limits allowed slot)
 
   same_room : (b b' b'' : Bool) → (if b then block_filling kept slot b' else block_found me.0.layout kept slot word found b'').lists.room ≡ kept.lists.room
   same_room true true b'' = refl

@@ -113,7 +113,8 @@ module _ {T : Type 0} (m : Meaning) (k : EventKind) (found : ℕ) (r r' : Runner
         seated = subst (λ (y : RunnerState T). y.number ≤ y.layout.runners) (sym is) seated;
       }
 
-made_at : {T : Type 0} (m : Meaning) (k : EventKind) (found : ℕ) (r r' : RunnerState T) (made : Makes m k found r r') → r.part.run ≡ None → (stage : Stage) (section : Option Published) → r.number ≤ r.layout.runners
+-- and so by a step
+pub made_at : {T : Type 0} (m : Meaning) (k : EventKind) (found : ℕ) (r r' : RunnerState T) (made : Makes m k found r r') → r.part.run ≡ None → (stage : Stage) (section : Option Published) → r.number ≤ r.layout.runners
     → (outside_after m r.layout k r.part found).gone ≡ false → (outside_after m r.layout k r.part found).run ≡ None → (outside_after m r.layout k r.part found).stage ≡ stage
     → (outside_after m r.layout k r.part found).published ≡ section → IsAt r' stage section
 made_at m k found r r' made resting = moved_at m k found r r' made.met made.made resting
@@ -282,29 +283,32 @@ fits_by s d word false false e e' few low = (few, let past : 13 ≤ word = grind
 own_word : (slots d : ℕ) → slots + d - slots ≡ d
 own_word slots d = omega arith
 
--- an idle runner may load and store words of its free descriptors
-module _ {T : Type 0} (m : Meaning) (r : RunnerState T) (section : Option Published) (d word : ℕ) (is : IsAt r stages.Idle section) (free : HasFree r d) (few : word < 77) where
+-- a runner that is idle, or entered and in no run, may load and store words of its free descriptors
+module _ {T : Type 0} (m : Meaning) (r : RunnerState T) (stage : Stage) (section : Option Published) (d word : ℕ) (rests : is_resting stage None ≡ true) (is : IsAt r stage section) (free : HasFree r d) (few : word < 77) where
   abbrev slots : ℕ
   slots = slot_count r.layout m.fixed_slots
 
   word_fits : Fits (sizes_for m r.layout r.requests) (descriptor_spot d word)
   word_fits = fits_by (sizes_for m r.layout r.requests) d word (nat_lt word 12) (word == 12) refl refl free.few few
 
+  may_own : is_resting r.part.stage r.part.run && has r.part.descriptors.free d ≡ true
+  may_own = (λ i. is_resting (is.at i) (is.resting i) && free.own i) ∙ ap (λ (b : Bool). b && true) rests
+
   pub may_store_word : (number : ℕ) → IsEnabled m (kinds.PrivateStore (slots + d) word number) r
   may_store_word number = enabled m r (kinds.PrivateStore (slots + d) word number) (descriptor_spot d word, Stores number) is.present is.resting
       (ap (λ (n : ℕ). when (nat_le slots (slots + d) && (is_resting r.part.stage r.part.run && has r.part.descriptors.free n)) (descriptor_spot n word) (Stores number)) (own_word slots d)
       ∙ ap (λ (b : Bool). when b (descriptor_spot d word) (Stores number))
-      ((λ i. nat_le slots (slots + d) && (is_resting (is.at i) (is.resting i) && free.own i)) ∙ (let e : nat_le slots (slots + d) && true ≡ true = grind (arith, nat_tests) in e))) word_fits
+      (ap (λ (b : Bool). nat_le slots (slots + d) && b) may_own ∙ (let e : nat_le slots (slots + d) && true ≡ true = grind (arith, nat_tests) in e))) word_fits
 
   pub may_load_word : IsEnabled m (kinds.PrivateLoad (slots + d) word) r
   may_load_word = enabled m r (kinds.PrivateLoad (slots + d) word) (descriptor_spot d word, Loads) is.present is.resting
       (ap (λ (b : Bool). if b then when (is_resting r.part.stage r.part.run && (nat_lt word 5 && (has r.part.nodes.free (slots + d) || has r.part.nodes.hand (slots + d)))) (spots.Cell (cell_of m.fixed_cells (slots + d) word)) Loads
       else when (is_resting r.part.stage r.part.run && has r.part.descriptors.free (slots + d - slots)) (descriptor_spot (slots + d - slots) word) Loads) (let past : nat_lt (slots + d) slots ≡ false = grind (arith, nat_tests) in past)
       ∙ (ap (λ (n : ℕ). when (is_resting r.part.stage r.part.run && has r.part.descriptors.free n) (descriptor_spot n word) Loads) (own_word slots d)
-      ∙ ap (λ (b : Bool). when b (descriptor_spot d word) Loads) (λ i. is_resting (is.at i) (is.resting i) && free.own i))) word_fits
+      ∙ ap (λ (b : Bool). when b (descriptor_spot d word) Loads) may_own)) word_fits
 
--- and is idle then, with the same free descriptors
-module _ {T : Type 0} (m : Meaning) (found : ℕ) (r r' : RunnerState T) (section : Option Published) (slot word : ℕ) (is : IsAt r stages.Idle section) where
+-- and is where it was then, with the same free descriptors
+module _ {T : Type 0} (m : Meaning) (found : ℕ) (r r' : RunnerState T) (stage : Stage) (section : Option Published) (slot word : ℕ) (is : IsAt r stage section) where
   still_free : (k : EventKind) (d : ℕ) → Makes m k found r r' → (outside_after m r.layout k r.part found).descriptors.free ≡ r.part.descriptors.free → HasFree r d → HasFree r' d
   still_free k d made same free = record {
     own = ap (λ (y : RunnerState T). has y.part.descriptors.free d) made.made
@@ -312,17 +316,17 @@ module _ {T : Type 0} (m : Meaning) (found : ℕ) (r r' : RunnerState T) (sectio
     few = subst (λ (y : RunnerState T). d < descriptor_count y.layout) (sym made.made) free.few;
   }
 
-  pub then_stored_word : (number : ℕ) → Makes m (kinds.PrivateStore slot word number) found r r' → IsAt r' stages.Idle section
-  then_stored_word number made = made_at m (kinds.PrivateStore slot word number) found r r' made is.resting stages.Idle section is.seated is.present is.resting is.at is.published
+  pub then_stored_word : (number : ℕ) → Makes m (kinds.PrivateStore slot word number) found r r' → IsAt r' stage section
+  then_stored_word number made = made_at m (kinds.PrivateStore slot word number) found r r' made is.resting stage section is.seated is.present is.resting is.at is.published
 
   pub still_free_stored : (number d : ℕ) → Makes m (kinds.PrivateStore slot word number) found r r' → HasFree r d → HasFree r' d
   still_free_stored number d made free = still_free (kinds.PrivateStore slot word number) d made refl free
 
-  pub then_loaded_word : Makes m (kinds.PrivateLoad slot word) found r r' → IsAt r' stages.Idle section
+  pub then_loaded_word : Makes m (kinds.PrivateLoad slot word) found r r' → IsAt r' stage section
   then_loaded_word made = let node = nat_lt slot (slot_count r.layout m.fixed_slots) in
-      made_at m (kinds.PrivateLoad slot word) found r r' made is.resting stages.Idle section is.seated
+      made_at m (kinds.PrivateLoad slot word) found r r' made is.resting stage section is.seated
       (same (λ (q : PartState). q.gone) node _ _ false is.present is.present) (same (λ (q : PartState). q.run) node _ _ None is.resting is.resting)
-      (same (λ (q : PartState). q.stage) node _ _ stages.Idle is.at is.at) (same (λ (q : PartState). q.published) node _ _ section is.published is.published)
+      (same (λ (q : PartState). q.stage) node _ _ stage is.at is.at) (same (λ (q : PartState). q.published) node _ _ section is.published is.published)
 
   pub still_free_loaded : (d : ℕ) → Makes m (kinds.PrivateLoad slot word) found r r' → HasFree r d → HasFree r' d
   still_free_loaded d made free = still_free (kinds.PrivateLoad slot word) d made

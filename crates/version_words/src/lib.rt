@@ -25,6 +25,7 @@ mod view;
 mod words;
 
 pub use laws::{table_is_allowed, words_are_reached};
+pub use run_ends::held_word;
 pub use runner::Runner;
 pub use table::FlockTable;
 pub use words::Words;

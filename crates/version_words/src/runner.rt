@@ -1,5 +1,6 @@
 //! A seat with what its thread keeps.
-ghost use Rattle.std.specs.Prelude.{◌≡◌, ◌<◌, ◌^◌, length};
+ghost use Rattle.std.specs.Prelude.{◌≡◌, ◌<◌, ◌^◌, length, Some};
+ghost use Rattle.runner_parts.specs.State.{RunState};
 ghost use Rattle.version_words.specs.RunnerState.{entered_of};
 
 use crate::view::View;
@@ -67,6 +68,14 @@ impl<S: Structure> Runner<S> {
         ensures few { length result.now < 2 ^ 32 }
     {
         self.kept.lists.free_descriptors()
+    }
+
+    /// The descriptor of the section that the run in progress runs. The runner has to be in a run.
+    pub fn descriptor(&self) -> u32
+        requires { (q : RunState) × (self.now.part.run ≡ Some q) }
+        ensures { (q : RunState) → self.now.part.run ≡ Some q → result ≡ q.descriptor }
+    {
+        self.kept.place.descriptor
     }
 
     /// The node slots in the own hand, in the order in which they came.

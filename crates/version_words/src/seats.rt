@@ -228,4 +228,11 @@ impl<S: Structure> FlockTable<S> {
     {
         self.setup.layout
     }
+
+    /// How many node slots the table has. Descriptors are numbered after them, where a call takes a slot of either kind.
+    pub fn node_slots(&self) -> u32
+        ensures { result ≡ slot_count self.now.layout (S.meaning self.now.structure).fixed_slots }
+    {
+        self.setup.node_slots
+    }
 }

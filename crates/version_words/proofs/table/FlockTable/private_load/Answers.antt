@@ -1,6 +1,8 @@
 use Rattle.std.proofs.Common.{ap, sym, subst, ◌∙◌}
 use Rattle.runner_parts.specs.declared.event.EventKind.TheVariants.{PrivateLoad}
+use Rattle.table_words.specs.Limits.{IsWithinLimits}
 use Rattle.table_words.specs.Places.{slot_count}
+use Rattle.machine_invariant.specs.After.{AreAllowed}
 use Rattle.version_words.specs.TableState.{IsOf}
 use Rattle.runner_block.specs.declared.block.Block.{Block}
 use Rattle.runner_block.specs.Blocks.{block_looked}
@@ -27,10 +29,13 @@ loaded-requires-clause-own g c =
     let next = subst (IsEnabled m (PrivateLoad c.args.slot c.args.word)) (sym c.runner.view_is) c.requires.next in
     let made = load_event m c.args.self.now (seen_seat c.runner.inside.seat.table_id c.runner.inside.seat.me) own c.args.slot c.args.word next c.private_spot-spot.result c.private_spot-spot.ensures
     c.load-found.result (seen_seat c.load-found.new.seat.table_id c.load-found.new.seat.me) c.load-found.ensures.event in
+    let met = g.met.S.Structure g.world.𝓛 g.world.𝓜 g.world.𝓡 ((λ s allowed. allowed), (λ patient. patient), (λ alone. alone), (λ cuts. cuts)) in
+    let limits = subst IsWithinLimits (sym (c.load-found.ensures.own.layout ∙ ap (λ t. t.layout) (sym c.self.view_is))) c.self.invariant.limits in
+    let requests = subst AreAllowed (sym (c.load-found.ensures.own.requests ∙ ap (λ t. t.requests) (sym c.self.view_is))) c.self.invariant.allowed in
     let mean = g.S.Structure.meaning in let seat = c.runner.inside.seat in let new = c.load-found.new.seat in
     subst (λ (b : Block). MayTake b c.args.slot) (sym c.deref_mut.ensures.value)
     (takes_free mean c.args.self.now.structure c.args.slot c.args.word c.load-found.result c.runner.inside.number c.runner.inside.kept.value seat.table_id new.table_id seat.me new.me
-    (ap (λ r. r.structure) c.runner.view_is ∙ c.requires.own.structure) made c.load-found.ensures.slots c.runner.invariant)
+    (ap (λ r. r.structure) c.runner.view_is ∙ c.requires.own.structure) made c.load-found.ensures.slots c.runner.invariant (met.laws c.args.self.now.structure) limits requests)
 
 pub loaded-requires-clause-room : goal.loaded-requires-clause-room
 loaded-requires-clause-room g c =

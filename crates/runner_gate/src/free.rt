@@ -1,0 +1,90 @@
+//! Gates that never halt.
+ghost use Rattle.std.specs.Prelude.{◌≡◌, ℕ, List, Option};
+ghost use Rattle.runner_gate.specs.Counts.{none_counted};
+
+use crate::counts::Counts;
+use crate::gates::Gates;
+use section_body::{Gate, Pass, StepKind};
+use std::marker::Model;
+
+/// A gate that never halts. It counts its asks, and its count of halts is 0 for good.
+///
+/// Contracts see how often it was asked.
+#[derive(Debug, Drop)]
+pub struct Free {
+    asks: u64,
+}
+
+impl Model for Free {
+    ghost use Rattle.std.specs.Prelude.{ℕ};
+
+    ghost Value = { ℕ };
+
+    ghost view = { λ gate. gate.asks };
+}
+
+impl Free {
+    /// A gate that wasn't asked yet.
+    pub fn new() -> Free
+        ensures { result ≡ 0 }
+    {
+        Free { asks: 0 }
+    }
+}
+
+impl Gate for Free {
+    ghost halts = { λ _. 0 };
+
+    ghost asks = { λ gate. gate };
+
+    fn after(&mut self, _kind: StepKind) -> Pass {
+        self.asks = self.asks.saturating_add(1);
+        Pass::Go
+    }
+}
+
+/// Gives gates that never halt, whatever is planned. So its own count of halts is 0 for good.
+#[derive(Debug, Drop)]
+pub struct FreeGates {
+    counts: Counts,
+}
+
+impl Model for FreeGates {
+    ghost use Rattle.runner_gate.specs.Counts.{Counted};
+
+    ghost Value = { Counted };
+
+    ghost view = { λ gates. gates.counts };
+}
+
+impl FreeGates {
+    /// No gate given yet.
+    pub fn new() -> FreeGates
+        ensures { result ≡ none_counted }
+    {
+        FreeGates {
+            counts: Counts::new(),
+        }
+    }
+}
+
+impl Gates for FreeGates {
+    type Gate = Free;
+
+    ghost halts = { λ _. 0 };
+
+    ghost asks = { λ gates. gates.asks };
+
+    ghost plans = { λ gates. gates.plans };
+
+    ghost planned = { λ gates. gates.planned };
+
+    fn gate(&mut self, _runner: u32, halt: Option<u64>) -> Free {
+        self.counts.give(halt);
+        Free::new()
+    }
+
+    fn back(&mut self, gate: Free) {
+        self.counts.take_back(0, gate.asks);
+    }
+}

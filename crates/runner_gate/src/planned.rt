@@ -1,0 +1,123 @@
+//! Gates that halt at an ask with a given number.
+ghost use Rattle.std.specs.Prelude.{◌≡◌, ◌≤◌, ◌+◌, ℕ, List, Option, cond, min};
+ghost use Rattle.fault_count.specs.Rose.{Rose};
+ghost use Rattle.section_body.specs.declared.gate.Pass.TheVariants.{Go, Halt};
+ghost use Rattle.runner_gate.specs.Counts.{plus, halts_after, plans_after, planned_after, none_counted};
+ghost use Rattle.runner_gate.specs.Planned.{unasked, halts_next, asked};
+
+use crate::counts::Counts;
+use crate::gates::Gates;
+use section_body::{Gate, Pass, StepKind};
+use std::marker::Model;
+
+/// A gate that halts at its ask with a given number, counted from 1, and at each later one; or never, where no number is given.
+///
+/// Contracts see the number, how often it was asked, and how often it halted.
+#[derive(Debug, Drop)]
+pub struct HaltAt {
+    at: Option<u64>,
+    asks: u64,
+    halts: u64,
+}
+
+impl Model for HaltAt {
+    ghost use Rattle.runner_gate.specs.Planned.{Planned};
+
+    ghost Value = { Planned };
+
+    ghost view = { λ gate. record { at = gate.at; asks = gate.asks; halts = gate.halts } };
+}
+
+impl HaltAt {
+    /// A gate that wasn't asked yet, and halts at its ask with this number and at each later one.
+    pub fn new(at: Option<u64>) -> HaltAt
+        ensures { result ≡ unasked at }
+    {
+        HaltAt {
+            at,
+            asks: 0,
+            halts: 0,
+        }
+    }
+}
+
+impl Gate for HaltAt {
+    ghost halts = { λ gate. gate.halts };
+
+    ghost asks = { λ gate. gate.asks };
+
+    fn after(&mut self, _kind: StepKind) -> Pass
+        ensures never_falls { self.old.halts ≤ self.new.halts }
+        ensures halted { result ≡ Halt → Rose self.old.halts self.new.halts }
+        ensures went { result ≡ Go → self.new.halts ≡ self.old.halts }
+        ensures asked { self.new.asks ≡ min (self.old.asks + 1) u64.MAX }
+
+        // It halts exactly where the number of its plan has come.
+        ensures planned { result ≡ cond (halts_next self.old) Halt Go }
+        ensures after { self.new ≡ asked self.old }
+    {
+        self.asks = self.asks.saturating_add(1);
+        match self.at {
+            Some(at) if at <= self.asks => {
+                self.halts = self.halts.saturating_add(1);
+                Pass::Halt
+            }
+            _ => Pass::Go,
+        }
+    }
+}
+
+/// Gives each runner a gate that halts where it is planned.
+#[derive(Debug, Drop)]
+pub struct PlannedGates {
+    counts: Counts,
+}
+
+impl Model for PlannedGates {
+    ghost use Rattle.runner_gate.specs.Counts.{Counted};
+
+    ghost Value = { Counted };
+
+    ghost view = { λ gates. gates.counts };
+}
+
+impl PlannedGates {
+    /// No gate given yet.
+    pub fn new() -> PlannedGates
+        ensures { result ≡ none_counted }
+    {
+        PlannedGates {
+            counts: Counts::new(),
+        }
+    }
+}
+
+impl Gates for PlannedGates {
+    type Gate = HaltAt;
+
+    ghost halts = { λ gates. gates.halts };
+
+    ghost asks = { λ gates. gates.asks };
+
+    ghost plans = { λ gates. gates.plans };
+
+    ghost planned = { λ gates. gates.planned };
+
+    fn gate(&mut self, _runner: u32, halt: Option<u64>) -> HaltAt
+        ensures unasked { (result.halts ≡ 0) × (result.asks ≡ 0) }
+        ensures halts { self.new.halts ≡ self.old.halts }
+        ensures asks { self.new.asks ≡ self.old.asks }
+        ensures plans { self.new.plans ≡ plans_after self.old.plans halt }
+        ensures planned { self.new.planned ≡ planned_after self.old.planned halt }
+
+        // It halts as `halt` says.
+        ensures gate { result ≡ unasked halt }
+    {
+        self.counts.give(halt);
+        HaltAt::new(halt)
+    }
+
+    fn back(&mut self, gate: HaltAt) {
+        self.counts.take_back(gate.halts, gate.asks);
+    }
+}

@@ -1,0 +1,329 @@
+-- The exchange that publishes a section, and what stands before and behind it.
+use Rattle.std.proofs.Common.{◌≡◌, ℕ, zero, suc, ◌+◌, ◌-◌, ◌*◌, ◌<◌, ◌≤◌, List, [], ◌∷◌, ◌++◌, length, Bool, true, false, refl, sym, ap, subst, ◌∙◌, eq-eqb, le_of_eq, arith, Some, None, Ok, Err, replicate}
+use Rattle.std.specs.Prelude.{◌==◌, ◌&&◌, ◌||◌, nat_lt, slice_index, is_none, if◌then◌else◌}
+use Rattle.std.proofs.lemmas.Bool.Decides.{nat_tests}
+use Rattle.std.proofs.lemmas.List.{length-replicate}
+use Rattle.map_history.specs.declared.op.Request.{Request}
+use Rattle.section_body.specs.Word.{value_of, is_free, held_word}
+use Rattle.section_body.specs.declared.outcome.Refused.{Refused}
+use Rattle.section_body.specs.declared.thunk.Thunk.{Thunk}
+use Rattle.table_words.specs.declared.layout.Layout.{Layout}
+use Rattle.table_words.specs.declared.spot.Spot.{Spot}
+use Rattle.table_words.specs.declared.spot.Spot.TheVariants as spots
+use Rattle.table_words.specs.declared.access.Access.{Access}
+use Rattle.table_words.specs.declared.access.Access.TheVariants.{Exchanges}
+use Rattle.table_words.specs.Access.{written}
+use Rattle.table_words.specs.Seen.{put}
+use Rattle.table_words.specs.Limits.{IsWithinLimits}
+use Rattle.table_words.specs.Places.{slot_count, descriptor_count}
+use Rattle.structure_laws.specs.Meaning.{Meaning}
+use Rattle.structure_laws.specs.Laws.{Laws}
+use Rattle.runner_parts.specs.declared.event.EventKind.TheVariants as kinds
+use Rattle.runner_parts.specs.declared.stage.Stage.TheVariants as stages
+use Rattle.runner_parts.specs.State.{PartState}
+use Rattle.runner_parts.specs.Tests.{has, is_walking, is_open, last_stored, is_prepared}
+use Rattle.runner_parts.specs.Lists.{without, cell_read, holds_named, section_published, descriptor_taken}
+use Rattle.runner_steps.specs.Outside.{when, is_ready, is_publishable, is_due, descriptor_spot}
+use Rattle.runner_steps.specs.AfterOutside.{hold_after, published_by}
+use Rattle.runner_steps.specs.Asks.{asks}
+use Rattle.machine_states.specs.Sight.{Sight, sight, part_or_first, Steps}
+use Rattle.machine_states.specs.Sight as states
+use Rattle.machine_states.proofs.Reached.{reached_all}
+use Rattle.machine_states.proofs.Steps.{some_same}
+use Rattle.machine_states.proofs.Sights.{happens_steps}
+use Rattle.machine_epochs.proofs.SectionKinds.{stored_index, replicate_index, log_spot}
+use Rattle.machine_invariant.specs.After.{AreAllowed}
+use Rattle.machine_facts.specs.After.{AreFactsOfStep}
+use Rattle.machine_facts.proofs.Following.{step_facts_after}
+use Rattle.next_steps.specs.Numbers.{PartFits}
+use Rattle.next_steps.proofs.Numbers.{reached_numbers}
+use Rattle.version_words.specs.RunnerState.{RunnerState}
+use Rattle.version_words.specs.Events.{IsEnabled, Makes}
+use Rattle.version_words.specs.Stages.{IsAt}
+use Rattle.version_words.proofs.Holds.{holds_so}
+use Rattle.version_words.proofs.Stages.{enabled, made_at}
+use Rattle.epoch_slots.proofs.Outside.{NotesNothing, nodes_made, descriptors_made, reads_made, known_made, finished_made}
+use Rattle.try_lock.specs.declared.section.Section.{Section}
+use Rattle.try_lock.specs.Reached.{IsReached, IsSectionOf}
+use Rattle.try_lock.specs.Prepares.{MaySet, KeepsElse, IsReady}
+use Rattle.try_lock.specs.Publishes.{refused_by, IsUnrun, MayPublish, IsPublished, IsRefused, Publishes}
+
+-- an entry of a list is in it
+has_at : (xs : List ℕ) (i : ℕ) → i < length xs → has xs (slice_index xs i) ≡ true
+has_at [] i low = absurd (omega (arith, low))
+has_at (x ∷ xs) zero low = ap (λ (b : Bool). b || has xs x) (eq-eqb x x refl)
+has_at (x ∷ xs) (suc i) low = let rest = has_at xs i (omega (arith, low)) in either (x == slice_index xs i) (has xs (slice_index xs i)) rest
+  where
+    either : (a b : Bool) → b ≡ true → (a || b) ≡ true
+    either true b e = refl
+    either false b e = e
+
+has_last : (xs : List ℕ) (x : ℕ) → has (xs ++ x ∷ []) x ≡ true
+has_last [] x = ap (λ (b : Bool). b || false) (eq-eqb x x refl)
+has_last (y ∷ xs) x = let rest = has_last xs x in either (y == x) (has (xs ++ x ∷ []) x) rest
+  where
+    either : (a b : Bool) → b ≡ true → (a || b) ≡ true
+    either true b e = refl
+    either false b e = e
+
+-- the last of the free ones
+pub last_is_free : (free xs : List ℕ) → xs ≡ free → 1 ≤ length free → has free (slice_index xs (length xs - 1)) ≡ true
+last_is_free free xs is some = subst (λ ys. has ys (slice_index xs (length xs - 1)) ≡ true) is (has_at xs (length xs - 1) (let a = ap length is in omega (arith, a, some)))
+
+tests_below : (a b : ℕ) → a < b → nat_lt a b ≡ true
+tests_below a b low = grind (arith, nat_tests, low)
+
+and_right : (a b : Bool) → (a && b) ≡ true → b ≡ true
+and_right true b e = e
+and_right false b e = absurd (let no = e in cc)
+
+module _ {T : Type 0} (m : Meaning) where
+  -- the part of a runner in a state that the machine reaches
+  fits : Laws m → (r : RunnerState T) → IsWithinLimits r.layout → AreAllowed r.requests → IsReached m r → PartFits m r.layout r.part
+  fits laws r limits allowed is =
+      subst (λ (p : PartState). PartFits m r.layout p) (ap part_or_first is.own) ((reached_numbers m laws r.layout limits r.requests allowed is.world is.reached).parts r.number)
+
+  -- the last free descriptor may be written
+  pub may_prepare : Laws m → (r : RunnerState T) (t : Thunk) → IsWithinLimits r.layout → AreAllowed r.requests → MayPublish m r t → (d : ℕ) → has r.part.descriptors.free d ≡ true → MaySet r d
+  may_prepare laws r t limits allowed may d free = record { epoch = may.epoch; at = may.at; free = record { own = free; few = (fits laws r limits allowed may.reached).free d free } }
+
+  module _ (r b : RunnerState T) (t : Thunk) (d : ℕ) (may : MayPublish m r t) (ready : IsReady m d t r b) where
+    abbrev keeps : KeepsElse r b
+    keeps = ready.keeps
+
+    at_ready : IsAt b (stages.Entered may.epoch) None
+    at_ready = ready.at may.epoch may.at
+
+    -- the exchange may be made
+    pub may_hold : Laws m → IsWithinLimits r.layout → AreAllowed r.requests → has r.part.descriptors.free d ≡ true → length t.operands ≡ 8 → IsEnabled m (kinds.Hold t d) b
+    may_hold laws limits allowed free eight =
+        let part = fits laws r limits allowed may.reached in
+        let few : nat_lt d (descriptor_count r.layout) ≡ true = tests_below d (descriptor_count r.layout) (part.free d free) in
+        let prepared : is_ready b.layout b.part d t ≡ true = (λ i. nat_lt d (descriptor_count (keeps.layout i)) && (has (keeps.free i) d && (length t.operands == 8 && ready.prepared i)))
+        ∙ (λ i. few i && (free i && (eq-eqb (length t.operands) 8 eight i && true))) in
+        let unlocked : is_open b.layout b.part.reads.cells t ≡ true = (λ i. is_open (keeps.layout i) ((keeps.reads i).cells) t) ∙ may.unlocked in
+        let due : is_due m b.layout b.requests b.number b.part.records.known b.part.reads.walk t ≡ true =
+        (λ i. is_due m (keeps.layout i) (keeps.requests i) (keeps.number i) (keeps.known i) ((keeps.reads i).walk) t) ∙ may.due in
+        let publishable : is_publishable m b.layout b.requests b.number t b.part ≡ true =
+        (λ i. is_walking (at_ready.at i) (at_ready.resting i) && (is_none (at_ready.published i) && (unlocked i && due i))) in
+        let place : t.lock < m.fixed_cells + 5 * slot_count b.layout m.fixed_slots = subst (λ l. t.lock < m.fixed_cells + 5 * slot_count l m.fixed_slots) (sym keeps.layout)
+        (part.read t.lock t.word (and_right _ _ (and_right _ _ may.unlocked))) in
+        enabled m b (kinds.Hold t d) (spots.Cell t.lock, Exchanges t.word (held_word d t.word)) at_ready.present at_ready.resting
+        (ap (λ (c : Bool). when c (spots.Cell t.lock) (Exchanges t.word (held_word d t.word))) (λ i. prepared i && publishable i)) place
+
+-- the part after an exchange that won, and after one that lost
+abbrev part_won : Thunk → ℕ → PartState → ℕ → PartState
+part_won t d p found = record p {
+  published = Some (published_by t d p);
+  descriptors = descriptor_taken p.descriptors d;
+  reads = section_published (cell_read p.reads t.lock found) d;
+}
+
+abbrev part_lost : Thunk → PartState → ℕ → PartState
+part_lost t p found = record p { reads = holds_named (cell_read p.reads t.lock found) found }
+
+module _ {T : Type 0} (m : Meaning) (t : Thunk) (d found : ℕ) (r b r' : RunnerState T) (keeps : KeepsElse r b)
+    (stays : (epoch : ℕ) → IsAt r (stages.Entered epoch) None → IsAt b (stages.Entered epoch) None) (entry : ℕ) (was : IsAt r (stages.Entered entry) None) (made : Makes m (kinds.Hold t d) found b r') where
+  at : IsAt b (stages.Entered entry) None
+  at = stays entry was
+
+  nothing : NotesNothing (kinds.Hold t d)
+  nothing = record { known = λ s access n spot. refl; finished = λ s access n spot. refl }
+
+  -- whichever way it went
+  by_test : {A : Type 0} (f : PartState → A) (a : A) → f (part_won t d b.part found) ≡ a → f (part_lost t b.part found) ≡ a → f (hold_after t d b.part found) ≡ a
+  by_test {A} f a one two = by (found == t.word)
+    where
+      by : (c : Bool) → f (if c then part_won t d b.part found else part_lost t b.part found) ≡ a
+      by true = one
+      by false = two
+
+  pub number_held : r'.number ≡ r.number
+  number_held = ap (λ (y : RunnerState T). y.number) made.made ∙ keeps.number
+
+  pub nodes_held : r'.part.nodes ≡ r.part.nodes
+  nodes_held = nodes_made m (kinds.Hold t d) found b r' made at.resting ∙ (by_test (λ p. p.nodes) b.part.nodes refl refl ∙ keeps.nodes)
+
+  pub limbo_held : r'.part.descriptors.limbo ≡ r.part.descriptors.limbo
+  limbo_held = ap (λ x. x.limbo) (descriptors_made m (kinds.Hold t d) found b r' made at.resting) ∙ (by_test (λ p. p.descriptors.limbo) b.part.descriptors.limbo refl refl ∙ keeps.limbo)
+
+  pub cells_held : r'.part.reads.cells ≡ (cell_read r.part.reads t.lock found).cells
+  cells_held = ap (λ x. x.cells) (reads_made m (kinds.Hold t d) found b r' made at.resting)
+      ∙ (by_test (λ p. p.reads.cells) (cell_read b.part.reads t.lock found).cells refl refl ∙ ap (λ s. (cell_read s t.lock found).cells) keeps.reads)
+
+  pub known_held : r'.part.records.known ≡ r.part.records.known
+  known_held = known_made m (kinds.Hold t d) found b r' made at.resting nothing ∙ (by_test (λ p. p.records.known) b.part.records.known refl refl ∙ keeps.known)
+
+  pub finished_held : r'.part.records.finished ≡ r.part.records.finished
+  finished_held = finished_made m (kinds.Hold t d) found b r' made at.resting nothing ∙ (by_test (λ p. p.records.finished) b.part.records.finished refl refl ∙ keeps.finished)
+
+  abbrev pub reached_held : IsReached m r'
+  reached_held = record { world = made.shown.world; reached = made.shown.reached; own = made.shown.own }
+
+  -- where it won
+  module _ (won : found ≡ t.word) where
+    part_is : hold_after t d b.part found ≡ part_won t d b.part found
+    part_is = ap (λ (c : Bool). if c then part_won t d b.part found else part_lost t b.part found) (eq-eqb found t.word won)
+
+    same_publication : published_by t d b.part ≡ published_by t d r.part
+    same_publication = (λ i. record { descriptor = d; thunk = t; walked = length (keeps.reads i).walk; known = length (keeps.known i); over = false })
+
+    pub at_won : (epoch : ℕ) → IsAt r (stages.Entered epoch) None → IsAt r' (stages.Entered epoch) (Some (published_by t d r.part))
+    at_won epoch entered = let is = stays epoch entered in
+        made_at m (kinds.Hold t d) found b r' made is.resting (stages.Entered epoch) (Some (published_by t d r.part)) is.seated
+        (ap (λ p. p.gone) part_is ∙ is.present) (ap (λ p. p.run) part_is ∙ is.resting) (ap (λ p. p.stage) part_is ∙ is.at) (ap (λ p. p.published) part_is ∙ ap Some same_publication)
+
+    pub free_won : r'.part.descriptors.free ≡ without r.part.descriptors.free d
+    free_won = ap (λ x. x.free) (descriptors_made m (kinds.Hold t d) found b r' made at.resting) ∙ (ap (λ p. p.descriptors.free) part_is ∙ ap (λ xs. without xs d) keeps.free)
+
+    pub reads_won : r'.part.reads ≡ section_published (cell_read r.part.reads t.lock found) d
+    reads_won = reads_made m (kinds.Hold t d) found b r' made at.resting ∙ (ap (λ p. p.reads) part_is ∙ ap (λ s. section_published (cell_read s t.lock found) d) keeps.reads)
+
+    pub section_won : (s : Section) → s ≡ record { descriptor = d; place = t.lock; held = held_word d t.word } → IsSectionOf r' t s
+    section_won s is = subst (λ (x : Section). IsSectionOf r' t x) (sym is) (record {
+      published = published_by t d r.part;
+      own = (at_won entry was).published;
+      descriptor = refl;
+      thunk = refl;
+      place = refl;
+      held = refl;
+      entry = ap (λ x. has x.published d) reads_won ∙ has_last r.part.reads.published d;
+      holds = ap (λ x. has x.held d) reads_won ∙ has_last r.part.reads.held d;
+    })
+
+    pub published_won : (s : Section) → s ≡ record { descriptor = d; place = t.lock; held = held_word d t.word } → IsPublished t d found r r' s
+    published_won s is = record {
+      won = won;
+      own = ap (λ (x : Section). x.descriptor) is;
+      section = section_won s is;
+      published = (at_won entry was).published;
+      at = at_won;
+      free = free_won;
+      reads = reads_won;
+    }
+
+  -- where it lost
+  module _ (lost : found == t.word ≡ false) where
+    part_still : hold_after t d b.part found ≡ part_lost t b.part found
+    part_still = ap (λ (c : Bool). if c then part_won t d b.part found else part_lost t b.part found) lost
+
+    pub at_lost : (epoch : ℕ) → IsAt r (stages.Entered epoch) None → IsAt r' (stages.Entered epoch) None
+    at_lost epoch entered = let is = stays epoch entered in
+        made_at m (kinds.Hold t d) found b r' made is.resting (stages.Entered epoch) None is.seated
+        (ap (λ p. p.gone) part_still ∙ is.present) (ap (λ p. p.run) part_still ∙ is.resting) (ap (λ p. p.stage) part_still ∙ is.at) (ap (λ p. p.published) part_still ∙ is.published)
+
+    pub free_lost : r'.part.descriptors.free ≡ r.part.descriptors.free
+    free_lost = ap (λ x. x.free) (descriptors_made m (kinds.Hold t d) found b r' made at.resting) ∙ (ap (λ p. p.descriptors.free) part_still ∙ keeps.free)
+
+    pub reads_lost : r'.part.reads ≡ holds_named (cell_read r.part.reads t.lock found) found
+    reads_lost = reads_made m (kinds.Hold t d) found b r' made at.resting ∙ (ap (λ p. p.reads) part_still ∙ ap (λ s. holds_named (cell_read s t.lock found) found) keeps.reads)
+
+    names_lost : is_free found ≡ false → has r'.part.reads.held (value_of found - 1) ≡ true
+    names_lost held = ap (λ x. has x.held (value_of found - 1)) reads_lost
+        ∙ (ap (λ (c : Bool). has (r.part.reads.held ++ (if c then [] else (value_of found - 1) ∷ [])) (value_of found - 1)) held ∙ has_last r.part.reads.held (value_of found - 1))
+
+    pub refused_lost : (e : Refused) → e ≡ refused_by r.layout.version_max t.word found → IsRefused t found r r' e
+    refused_lost e is = record { lost = lost; why = is; at = at_lost; free = free_lost; reads = reads_lost; names = names_lost }
+
+-- the words of the descriptor, once the section is published
+module _ {T : Type 0} (m : Meaning) (laws : Laws m) (t : Thunk) (d found : ℕ) (r b r' : RunnerState T) (keeps : KeepsElse r b) (made : Makes m (kinds.Hold t d) found b r')
+    (limits : IsWithinLimits r.layout) (allowed : AreAllowed r.requests) (free : has r.part.descriptors.free d ≡ true) (prepared : is_prepared b.part.descriptors.stored d t ≡ true)
+    (published : r'.part.published ≡ Some (published_by t d r.part)) where
+  abbrev l : Layout
+  l = r'.layout
+
+  abbrev rs : List Request
+  rs = r'.requests
+
+  limits' : IsWithinLimits l
+  limits' = subst IsWithinLimits (sym (ap (λ (y : RunnerState T). y.layout) made.made ∙ keeps.layout)) limits
+
+  allowed' : AreAllowed rs
+  allowed' = subst AreAllowed (sym (ap (λ (y : RunnerState T). y.requests) made.made ∙ keeps.requests)) allowed
+
+  facts : AreFactsOfStep m l rs made.shown.before (record { runner = r'.number; kind = kinds.Hold t d }) made.shown.world
+  facts = step_facts_after m laws l rs made.shown.was_reached.events made.shown.before limits' allowed' made.shown.was_reached.after (record { runner = r'.number; kind = kinds.Hold t d }) made.shown.world made.shown.happened
+
+  here : (sight m l rs made.shown.world).part r'.number ≡ r'.part
+  here = ap part_or_first made.shown.own
+
+  before : (sight m l rs made.shown.before).part r'.number ≡ b.part
+  before = ap part_or_first made.shown.was_own
+
+  complete : states.IsWhole m l rs made.shown.before
+  complete = let all = reached_all m l rs made.shown.before made.shown.was_reached in record { words = le_of_eq (sym all.words); parts = all.parts }
+
+  abbrev word : Spot → ℕ
+  word = (sight m l rs made.shown.before).word
+
+  step : Steps m l rs (sight m l rs made.shown.before) (sight m l rs made.shown.world) r'.number (kinds.Hold t d)
+  step = (happens_steps m l rs made.shown.before made.shown.world (record { runner = r'.number; kind = kinds.Hold t d }) complete made.shown.happened).0
+
+  lock_spot : step.ask.0 ≡ spots.Cell t.lock
+  lock_spot =
+      let same = some_same step.ask made.met (sym step.asked ∙ (ap (asks m l rs r'.number (kinds.Hold t d)) before
+      ∙ ((λ i. asks m (made.made i).layout (made.made i).requests (made.made i).number (kinds.Hold t d) b.part) ∙ made.asked))) in
+      ap (λ (x : Spot × Access). x.0) (same ∙ (holds_so m b t d (record { met = made.met; asked = made.asked })).met)
+
+  same_word : (spot : Spot) → (sight m l rs made.shown.world).word spot ≡ put word (spots.Cell t.lock) (written step.ask.1 (word step.ask.0)) spot
+  same_word spot = ap (λ (s : Sight). s.word spot) step.next ∙ ap (λ (x : Spot). put word x (written step.ask.1 (word step.ask.0)) spot) lock_spot
+
+  zero_before : (i : ℕ) → i < 65 → word (descriptor_spot d (12 + i)) ≡ 0
+  zero_before i low = facts.there.stored r'.number d (12 + i) 0
+      (ap (λ (p : PartState). has p.descriptors.free d) before ∙ (ap (λ xs. has xs d) keeps.free ∙ free))
+      (ap (λ (p : PartState). last_stored p.descriptors.stored d (12 + i) None) before
+      ∙ (stored_index b.part.descriptors.stored d (replicate 65 0) 12 i (let h = length-replicate {A = ℕ} 65 0 in omega (arith, h, low)) (and_right _ _ prepared)
+      ∙ ap Some (replicate_index 65 0 i low)))
+
+  pub unrun : IsUnrun d t (sight m l rs made.shown.world)
+  unrun = record {
+    thunk = facts.here.sound.sections.in_published.thunk r'.number (published_by t d r.part) (ap (λ (p : PartState). p.published) here ∙ published);
+    undone = same_word (spots.DoneWord d) ∙ zero_before 0 (omega arith);
+    empty = λ k low. same_word (spots.LogWord d k) ∙ (ap word (sym (log_spot d k)) ∙ (ap (λ n. word (descriptor_spot d n)) (let e : 13 + k ≡ 12 + (1 + k) = omega arith in e) ∙ zero_before (1 + k) (omega (arith, low))));
+  }
+
+-- the whole publication
+module _ {T : Type 0} (m : Meaning) (laws : Laws m) (r b r' : RunnerState T) (t : Thunk) (d found : ℕ) (limits : IsWithinLimits r.layout) (allowed : AreAllowed r.requests) (may : MayPublish m r t)
+    (free : has r.part.descriptors.free d ≡ true) (ready : IsReady m d t r b) (made : Makes m (kinds.Hold t d) found b r') where
+  pub publishes_won : found ≡ t.word → (s : Section) → s ≡ record { descriptor = d; place = t.lock; held = held_word d t.word } → Publishes m t (Ok s) r r'
+  publishes_won won s is =
+      let done = published_won m t d found r b r' ready.keeps ready.at may.epoch may.at made won s is in
+      record {
+        descriptor = d;
+        found = found;
+        ready = b;
+        was_free = free;
+        sets = ready.sets;
+        hold = made;
+        published = done;
+        refused = tt;
+        read = cells_held m t d found r b r' ready.keeps ready.at may.epoch may.at made;
+        number = number_held m t d found r b r' ready.keeps ready.at may.epoch may.at made;
+        nodes = nodes_held m t d found r b r' ready.keeps ready.at may.epoch may.at made;
+        limbo = limbo_held m t d found r b r' ready.keeps ready.at may.epoch may.at made;
+        known = known_held m t d found r b r' ready.keeps ready.at may.epoch may.at made;
+        finished = finished_held m t d found r b r' ready.keeps ready.at may.epoch may.at made;
+        reached = reached_held m t d found r b r' ready.keeps ready.at may.epoch may.at made;
+        stands = subst (λ n. IsUnrun n t (sight m r'.layout r'.requests made.shown.world)) (sym done.own)
+            (unrun m laws t d found r b r' ready.keeps made limits allowed free ready.prepared done.published);
+      }
+
+  pub publishes_lost : found == t.word ≡ false → (e : Refused) → e ≡ refused_by r.layout.version_max t.word found → Publishes m t (Err e) r r'
+  publishes_lost lost e is = record {
+    descriptor = d;
+    found = found;
+    ready = b;
+    was_free = free;
+    sets = ready.sets;
+    hold = made;
+    published = tt;
+    refused = refused_lost m t d found r b r' ready.keeps ready.at may.epoch may.at made lost e is;
+    read = cells_held m t d found r b r' ready.keeps ready.at may.epoch may.at made;
+    number = number_held m t d found r b r' ready.keeps ready.at may.epoch may.at made;
+    nodes = nodes_held m t d found r b r' ready.keeps ready.at may.epoch may.at made;
+    limbo = limbo_held m t d found r b r' ready.keeps ready.at may.epoch may.at made;
+    known = known_held m t d found r b r' ready.keeps ready.at may.epoch may.at made;
+    finished = finished_held m t d found r b r' ready.keeps ready.at may.epoch may.at made;
+    reached = reached_held m t d found r b r' ready.keeps ready.at may.epoch may.at made;
+    stands = tt;
+  }

@@ -1,0 +1,137 @@
+//! The publication of a section.
+ghost use Rattle.std.specs.Prelude.{◌≡◌, ◌+◌, ◌<◌, ◌≤◌, length, slice_index};
+ghost use Rattle.table_words.specs.Places.{slot_count};
+ghost use Rattle.version_words.specs.TableState.{IsOf};
+ghost use Rattle.try_lock.specs.Prepares.{MaySet, SetsWord, HasSet, IsReady};
+ghost use Rattle.try_lock.specs.Publishes.{refused_by, MayPublish, Publishes};
+
+use crate::section::Section;
+use runner_parts::{Structure, thunk_words};
+use section_body::{Refused, Thunk, Word};
+use version_words::{FlockTable, Runner, held_word, table_is_allowed};
+
+/// This word of an own free descriptor becomes this number: it is loaded, and stored where another number stands.
+fn set_word<S: Structure>(
+    table: &FlockTable<S>,
+    runner: Runner<S>,
+    descriptor: u32,
+    word: u32,
+    number: u64,
+) -> Runner<S>
+    requires own { IsOf table.now runner }
+    requires free { MaySet runner descriptor }
+    requires word { word < 77 }
+    ensures own { IsOf table.now result }
+    ensures set { SetsWord (S.meaning table.now.structure) (slot_count runner.layout (S.meaning table.now.structure).fixed_slots + descriptor) word number runner result }
+{
+    table_is_allowed(table);
+    let slot = table.node_slots() + descriptor;
+    let (runner, found) = table.private_load(runner, slot, word);
+    if found == number {
+        runner
+    } else {
+        table.private_store(runner, slot, word, number)
+    }
+}
+
+/// The words of an own free descriptor from this one on become these numbers, one after the other.
+fn set_words<S: Structure>(
+    table: &FlockTable<S>,
+    runner: Runner<S>,
+    descriptor: u32,
+    first: u32,
+    numbers: &[u64],
+) -> Runner<S>
+    requires own { IsOf table.now runner }
+    requires free { MaySet runner descriptor }
+    requires few { first + length numbers.now ≤ 77 }
+    ensures own { IsOf table.now result }
+    ensures set { HasSet (S.meaning table.now.structure) descriptor first numbers.now runner result }
+{
+    let mut runner = runner;
+    for i in 0..numbers.len() {
+        runner = set_word(table, runner, descriptor, first + i as u32, numbers[i]);
+    }
+    runner
+}
+
+/// The words of an own free descriptor become those of a section with this thunk that no run has begun: the
+/// thunk's, no done, an empty log.
+fn prepare<S: Structure>(
+    table: &FlockTable<S>,
+    runner: Runner<S>,
+    descriptor: u32,
+    thunk: &Thunk,
+) -> Runner<S>
+    requires own { IsOf table.now runner }
+    requires free { MaySet runner descriptor }
+    ensures own { IsOf table.now result }
+    ensures ready { IsReady (S.meaning table.now.structure) descriptor thunk.now runner result }
+{
+    let runner = set_words(table, runner, descriptor, 0, &thunk_words(thunk));
+    set_words(table, runner, descriptor, 12, &[0; 65])
+}
+
+/// A thunk has eight operands, by its type.
+fn has_eight_operands(thunk: &Thunk)
+    ensures { length thunk.now.operands ≡ 8 }
+{
+    let operands: &[u64] = &thunk.operands;
+    let _ = operands.len();
+}
+
+/// Why a publication was refused, by the word that its exchange saw.
+fn refused(version_max: u32, expected: Word, read: Word) -> Refused
+    requires { 2 < version_max }
+    ensures { result ≡ refused_by version_max expected read }
+{
+    if read.value() != 0 {
+        Refused::Busy(read)
+    } else if version_max - 2 < read.version() {
+        Refused::Spent(read)
+    } else {
+        Refused::Stale { expected, read }
+    }
+}
+
+/// Publishes a section with this thunk: writes the thunk into an own free descriptor, with no done and an empty
+/// log, and makes one exchange of the thunk's outer lock, from the free word that was read to the one that names
+/// the descriptor. A word of the descriptor that is right already isn't written.
+///
+/// The runner has to be entered and in no run, without a section that it hasn't retired, and have a reserve of one
+/// descriptor. The thunk's outer word has to be free and not spent, and read in this entry. The thunk's request has
+/// to be the worker's own, not answered to it, each earlier request of its trace answered, and the thunk has to fit
+/// the request and what the runner has read.
+///
+/// The answer is Ok exactly where the exchange won. Else it names the word that the exchange saw: Busy where that
+/// names a descriptor, Spent where it is free and has too few versions left to be taken and released, Stale
+/// otherwise; the descriptor is free again. No memory is taken (Ben-David, Blelloch, Wei, 2022).
+pub fn publish<S: Structure>(
+    table: &FlockTable<S>,
+    runner: Runner<S>,
+    thunk: &Thunk,
+) -> (Runner<S>, Result<Section, Refused>)
+    requires own { IsOf table.now runner }
+    requires publishable { MayPublish (S.meaning table.now.structure) runner thunk.now }
+    ensures own { IsOf table.now result.0 }
+    ensures publishes { Publishes (S.meaning table.now.structure) thunk.now result.1 runner result.0 }
+{
+    table_is_allowed(table);
+    has_eight_operands(thunk);
+    let free = runner.free_descriptors();
+    let descriptor = free[free.len() - 1];
+    let runner = prepare(table, runner, descriptor, thunk);
+    let (runner, read, won) = table.hold(runner, thunk, descriptor);
+    if won {
+        let held = held_word(descriptor, thunk.word);
+        let section = Section {
+            descriptor,
+            place: thunk.lock,
+            held,
+        };
+        (runner, Ok(section))
+    } else {
+        let refusal = refused(table.layout().version_max, thunk.word, read);
+        (runner, Err(refusal))
+    }
+}
