@@ -4,6 +4,10 @@
 Usage: bench/run.py [PROGRAM]     (default: crates/flock/out/flock, which ./prove makes)
 
 It wants rustc. Each text is run several times by both; the least wall time and the greatest peak memory are told.
+
+Reading, serving and printing are told apart, in nanoseconds a request, and reading in nanoseconds a byte of a comment and of blanks, from two
+sizes of one text, so that what a process needs to begin and to end isn't counted. The program only reads a text whose last line is bad; it
+reads and serves where the first page of the report can't be written. The plain program is told by a word how far to go.
 """
 import os
 import pathlib
@@ -38,19 +42,54 @@ def texts() -> Iterator[tuple[str, bytes]]:
     yield "4 MiB of empty lines", head + b"\n" * (size - len(head))
 
 
-def measure(program: list[str], text: pathlib.Path) -> tuple[float, int]:
+def measure(program: list[str], text: pathlib.Path, status: int = 0, out: str = "/dev/null") -> tuple[float, int]:
     """The least wall time in seconds, and the greatest peak memory in KiB: at least this script's own, from which it forks."""
     best, peak = float("inf"), 0
     for _ in range(RUNS):
-        with text.open("rb") as source:
+        with text.open("rb") as source, open(out, "wb") as sink:
             start = time.perf_counter()
-            child = subprocess.Popen(program, stdin=source, stdout=subprocess.DEVNULL)
-            _, status, usage = os.wait4(child.pid, 0)
+            child = subprocess.Popen(program, stdin=source, stdout=sink, stderr=subprocess.DEVNULL)
+            _, ended, usage = os.wait4(child.pid, 0)
             best = min(best, time.perf_counter() - start)
         peak = max(peak, usage.ru_maxrss)
-        if os.waitstatus_to_exitcode(status) != 0:
-            sys.exit(f"{program[0]}: status {os.waitstatus_to_exitcode(status)}")
+        if os.waitstatus_to_exitcode(ended) != status:
+            sys.exit(f"{program[0]}: status {os.waitstatus_to_exitcode(ended)}")
     return best, peak
+
+
+def per_unit(seconds: list[float], sizes: list[int]) -> float:
+    """Nanoseconds a unit, from two sizes."""
+    return 1e9 * (seconds[1] - seconds[0]) / (sizes[1] - sizes[0])
+
+
+def stages(program: str, plain: str, text: pathlib.Path) -> None:
+    """How long a request takes to be read, to be served, and to be printed."""
+    sizes = [32_768, 131_072]
+    ours, theirs = ([], [], []), ([], [], [])
+    for size in sizes:
+        content = requests(size, 1_000)
+        text.write_bytes(content + b"x\n")
+        ours[0].append(measure([program, "run"], text, status=3)[0])
+        text.write_bytes(content)
+        ours[1].append(measure([program, "run"], text, status=9, out="/dev/full")[0])
+        ours[2].append(measure([program, "run"], text)[0])
+        for stage, word in enumerate(["read", "serve", "print"]):
+            theirs[stage].append(measure([plain, word], text)[0])
+    for name, stage in (("reading", 0), ("serving", 1), ("printing", 2)):
+        spent = [per_unit(each[stage], sizes) - (per_unit(each[stage - 1], sizes) if stage else 0) for each in (ours, theirs)]
+        print(f"{name}: {spent[0]:.1f} ns a request, plain {spent[1]:.1f} ns")
+
+
+def bytes_read(program: str, plain: str, text: pathlib.Path) -> None:
+    """How long a byte of a comment, and of blanks, takes to be read."""
+    sizes = [1_000_000, 4_000_000]
+    for name, byte, begin in (("a comment", b"x", b"#"), ("blanks", b" ", b"")):
+        ours, theirs = [], []
+        for size in sizes:
+            text.write_bytes(b"flock 1\ntrace\n" + begin + byte * size + b"\n")
+            ours.append(measure([program, "run"], text)[0])
+            theirs.append(measure([plain, "read"], text)[0])
+        print(f"{name}: {per_unit(ours, sizes):.2f} ns a byte, plain {per_unit(theirs, sizes):.2f} ns")
 
 
 def main() -> None:
@@ -63,8 +102,10 @@ def main() -> None:
             text.write_bytes(content)
             del content
             ours, peak = measure([program, "run"], text)
-            theirs, _ = measure([str(plain)], text)
+            theirs, _ = measure([str(plain), "print"], text)
             print(f"{name}: {1000 * ours:.1f} ms, plain {1000 * theirs:.1f} ms, ratio {ours / theirs:.2f}, peak {peak} KiB")
+        stages(program, str(plain), text)
+        bytes_read(program, str(plain), text)
 
 
 if __name__ == "__main__":

@@ -1,5 +1,5 @@
-// The trusted edge: std's readers and writers as a source and sinks. They tell nothing of what they hold.
-ghost use Rattle.std.specs.Prelude.{None};
+// The edge: std's readers and writers as a source and sinks. They tell of what they have left and hold what std tells of them.
+ghost use Rattle.std.specs.Prelude.{◌≡◌};
 
 use fault_count::FaultCount;
 use report_text::Sink;
@@ -14,7 +14,10 @@ pub struct StdSource<R> {
 }
 
 impl<R: Read> StdSource<R> {
-    pub fn new(reader: R) -> Self {
+    /// The reader as a source, which has left what the reader has.
+    pub fn new(reader: R) -> Self
+        ensures { result.reader ≡ reader }
+    {
         Self {
             reader,
             faults: FaultCount::new(),
@@ -23,7 +26,7 @@ impl<R: Read> StdSource<R> {
 }
 
 impl<R: Read> Source for StdSource<R> {
-    ghost left = { λ _. None };
+    ghost left = { λ source. R.remaining source.reader };
 
     ghost faults = { λ source. source.faults };
 
@@ -46,7 +49,10 @@ pub struct StdSink<W> {
 }
 
 impl<W: Write> StdSink<W> {
-    pub fn new(writer: W) -> Self {
+    /// The writer as a sink, which holds what the writer does.
+    pub fn new(writer: W) -> Self
+        ensures { result.writer ≡ writer }
+    {
         Self {
             writer,
             faults: FaultCount::new(),
@@ -55,7 +61,7 @@ impl<W: Write> StdSink<W> {
 }
 
 impl<W: Write> Sink for StdSink<W> {
-    ghost held = { λ _. None };
+    ghost held = { λ sink. W.contents sink.writer };
 
     ghost faults = { λ sink. sink.faults };
 

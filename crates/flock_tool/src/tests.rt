@@ -1,7 +1,10 @@
 // The program over memory: what it prints, and what it says goes wrong. In the tables `/` stands for a line feed,
 // `^` for a carriage return and `~` for a byte above 127; a row is a text, and behind `=>` what has to come out.
+ghost use Rattle.std.specs.Prelude.{None};
+
 use crate::{StdSink, StdSource, flock};
-use report_text::{MemorySink, Sink};
+use itoa::Buffer;
+use report_text::{Failed, MemorySink, Sink};
 use std::alloc::{AllocError, Global};
 use std::process::Abort;
 use std::test::Fail;
@@ -323,5 +326,84 @@ fn a_writer_is_a_sink(rt: HostRuntime) -> Result<(), Fail> {
     drop(sink);
     assert!(rt; taken.is_ok());
     assert!(rt; written.as_slice() == b"final 0\n".as_slice());
+    Ok(())
+}
+
+// Insertions of so many different keys, the greatest first, in so many traces with as many requests each.
+fn insertions(alloc: Global, traces: u32, each: u32, greatest: u32) -> Result<Vec<u8>, AllocError> {
+    let mut text = b"flock 1\n".to_vec(alloc)?;
+    for trace in 0..traces {
+        text.extend_from_slice(b"trace\n")?;
+        for request in 0..each {
+            let before = trace.saturating_mul(each).saturating_add(request);
+            text.extend_from_slice(b"ins ")?;
+            text.extend_from_slice(
+                Buffer::new()
+                    .format(greatest.saturating_sub(before))
+                    .as_bytes(),
+            )?;
+            text.extend_from_slice(b" 4294967295\n")?;
+        }
+    }
+    Ok(text)
+}
+
+#[test]
+fn as_many_keys_as_requests_are_served(rt: HostRuntime) -> Result<(), Fail> {
+    let alloc = rt.alloc();
+    let text = insertions(alloc, 1, 131_072, 131_071)?;
+    let ran = run(alloc, text, Vec::new(alloc));
+    assert!(rt; ran.status == 0);
+    assert!(rt; ran.sink.bytes().ends_with(b"131071 new\nfinal 131072\n"));
+    Ok(())
+}
+
+#[test]
+fn a_text_at_all_limits_is_served(rt: HostRuntime) -> Result<(), Fail> {
+    let alloc = rt.alloc();
+    let mut text = insertions(alloc, 64, 2048, 4_294_967_293)?;
+    text.push(b'#')?;
+    for _ in text.len()..4_194_304 {
+        text.push(b'x')?;
+    }
+    let ran = run(alloc, text, Vec::new(alloc));
+    assert!(rt; ran.status == 0);
+    assert!(rt; ran.sink.bytes().ends_with(b"131071 new\nfinal 131072\n"));
+    Ok(())
+}
+
+// A sink that counts what it is given, and takes all of it.
+#[derive(Drop)]
+struct Counting {
+    bytes: u64,
+    writes: u64,
+}
+
+impl Sink for Counting {
+    ghost held = { λ _. None };
+
+    ghost faults = { λ _. 0 };
+
+    fn write(&mut self, bytes: &[u8]) -> Result<usize, Failed> {
+        self.bytes = self.bytes.saturating_add(bytes.len() as u64);
+        self.writes = self.writes.saturating_add(1);
+        Ok(bytes.len())
+    }
+}
+
+// A page has 4,096 bytes, and is sent once a longest line of 32 might not fit.
+#[test]
+fn a_report_goes_out_in_pages(rt: HostRuntime) -> Result<(), Fail> {
+    let alloc = rt.alloc();
+    let text = insertions(alloc, 1, 10_000, 9_999)?;
+    let mut source = SureSource::new(text, Vec::new(alloc));
+    let mut faults = quiet_sink(alloc);
+    let mut sink = Counting {
+        bytes: 0,
+        writes: 0,
+    };
+    assert!(rt; flock(alloc, &["run"], &mut source, &mut sink, &mut faults) == 0);
+    assert!(rt; sink.bytes > 80_000);
+    assert!(rt; sink.writes.saturating_sub(1) <= sink.bytes / 4065);
     Ok(())
 }

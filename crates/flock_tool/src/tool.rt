@@ -60,8 +60,12 @@ pub fn flock<R: Source, K: Sink, F: Sink>(
         × IfSome (R.left source.old) (λ text. PrintsInPart text (K.held sink.old) (K.held sink.new))
         × Tells (codes "flock: write fault\n") (F.held faults.old) (F.held faults.new) (F.faults faults.old) (F.faults faults.new) }
 
+    // No failed read ends but at 8, and no failed write but at 9.
+    ensures reads { result ≢ 8 → R.faults source.new ≡ R.faults source.old }
+    ensures writes { result ≢ 9 → K.faults sink.new ≡ K.faults sink.old }
+
     ensures silent { result ≢ 0 → result ≢ 9 → K.held sink.new ≡ K.held sink.old }
-    ensures quiet { result ≡ 0 → F.held faults.new ≡ F.held faults.old }
+    ensures quiet { result ≡ 0 → (F.held faults.new ≡ F.held faults.old) × (F.faults faults.new ≡ F.faults faults.old) }
     ensures statuses { IsStatus result }
 {
     match run(alloc, words, source, sink) {
@@ -87,6 +91,8 @@ fn run<R: Source, K: Sink>(
     ensures read { result ≡ Err (Text ReadFault) → Rose (R.faults source.old) (R.faults source.new) × StopsBefore (R.left source.old) (R.left source.new) }
     ensures write { result ≡ Err WriteFault → Rose (K.faults sink.old) (K.faults sink.new)
         × IfSome (R.left source.old) (λ text. PrintsInPart text (K.held sink.old) (K.held sink.new)) }
+    ensures reads { (result ≡ Err (Text ReadFault) → ⊥) → R.faults source.new ≡ R.faults source.old }
+    ensures writes { (result ≡ Err WriteFault → ⊥) → K.faults sink.new ≡ K.faults sink.old }
     ensures silent { result ≡ Err Words → K.held sink.new ≡ K.held sink.old }
 {
     if !is_run(words) {
@@ -104,6 +110,8 @@ fn serve_text<R: Source, K: Sink>(alloc: Global, source: &mut R, sink: &mut K) -
     ensures read { result ≡ Err (Text ReadFault) → Rose (R.faults source.old) (R.faults source.new) × StopsBefore (R.left source.old) (R.left source.new) }
     ensures write { result ≡ Err WriteFault → Rose (K.faults sink.old) (K.faults sink.new)
         × IfSome (R.left source.old) (λ text. PrintsInPart text (K.held sink.old) (K.held sink.new)) }
+    ensures reads { (result ≡ Err (Text ReadFault) → ⊥) → R.faults source.new ≡ R.faults source.old }
+    ensures writes { (result ≡ Err WriteFault → ⊥) → K.faults sink.new ≡ K.faults sink.old }
 {
     match read_traces(alloc, source) {
         Ok(traces) => print_report(alloc, &traces, sink),
@@ -116,6 +124,7 @@ fn print_report<K: Sink>(alloc: Global, traces: &Traces, sink: &mut K) -> Result
     requires { AreInOrder traces.now.requests traces.now.count }
     ensures done { OnOk result (PrintsOf traces.now.requests traces.now.count (K.held sink.old) (K.held sink.new)) }
     ensures err { IfErr result (λ stop. PrintStops stop traces.now (K.held sink.old) (K.held sink.new) (K.faults sink.old) (K.faults sink.new)) }
+    ensures writes { (result ≡ Err WriteFault → ⊥) → K.faults sink.new ≡ K.faults sink.old }
 {
     let requests = traces.requests.as_slice();
     let served = serve(alloc, requests)?;

@@ -61,6 +61,10 @@ module _ (q : RunState) (slot : ℕ) where
   descriptor_is None = refl
   descriptor_is (Some t) = refl
 
+  pub ended_is : (o : Option ℕ) → (filling_slot o q slot).ended ≡ q.ended
+  ended_is None = refl
+  ended_is (Some t) = refl
+
 -- behind the store of each cell an event stands
 later : (g : Registers) (init : Init) (into cell : ℕ) → cell < 5 → is_event (micro_at (micros g (Make init into)) (2 * cell + 2)) ≡ true
 later g init into zero few = refl
@@ -197,6 +201,7 @@ module _ {T : Type 0} (m : Meaning) (laws : Laws m) (t : TableState T) (limits :
       trail = trail_is q slot q.made;
       opened = opened_is q slot q.made;
       descriptor = descriptor_is q slot q.made;
+      ended = ended_is q slot q.made;
       worn = (λ i. filling.worn || version_of (number_is i) == (same i).version_max);
     }
 
@@ -215,6 +220,7 @@ module _ {T : Type 0} (m : Meaning) (old : RunnerState T) (values : List ℕ) (q
     trail = refl;
     opened = refl;
     descriptor = refl;
+    ended = refl;
     nodes = refl;
   }
 
@@ -261,5 +267,6 @@ module _ {T : Type 0} (m : Meaning) (old : RunnerState T) (values : List ℕ) (q
           trail = has.trail ∙ filling.trail;
           opened = has.opened ∙ filling.opened;
           descriptor = has.descriptor ∙ filling.descriptor;
+          ended = has.ended ∙ filling.ended;
           nodes = has.nodes ∙ (taken_of count filling.behind.made filling.made r.part.nodes filling.nodes ∙ sym (ap (λ b. if b then old.part.nodes else slot_taken old.part.nodes slot) positive));
         }

@@ -58,6 +58,7 @@ module _ {T : Type 0} (m : Meaning) where
     pub trail : behind.trail ≡ q.trail
     pub opened : behind.opened ≡ q.opened
     pub descriptor : behind.descriptor ≡ q.descriptor
+    pub ended : behind.ended ≡ q.ended
     pub worn : behind.worn ≡ ((filling_slot q.made q slot).worn || version_of (next_word found value) == old.layout.version_max)
 
   -- the next step of this run makes a node with these values, and a slot is free for it
@@ -79,6 +80,7 @@ module _ {T : Type 0} (m : Meaning) where
     pub trail : behind.trail ≡ q.trail
     pub opened : behind.opened ≡ q.opened
     pub descriptor : behind.descriptor ≡ q.descriptor
+    pub ended : behind.ended ≡ q.ended
     pub nodes : new.part.nodes ≡ (if count == 0 then old.part.nodes else slot_taken old.part.nodes slot)
 
   -- the last free slot was filled, and a slot agreed on. Where this commit was the first one it is the own slot, which is live then; else the

@@ -8,5 +8,5 @@
 mod makes;
 mod retires;
 
-pub use makes::make_gated;
+pub use makes::{make, make_gated};
 pub use retires::{retire, retire_gated};

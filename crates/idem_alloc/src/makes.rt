@@ -1,4 +1,4 @@
-//! The filling of a new node's cells.
+//! Nodes that a run makes.
 ghost use Rattle.std.specs.Prelude.{◌≡◌, length, Some, true, false, IfSome, IfNone};
 ghost use Rattle.runner_steps.specs.InRun.{last_of};
 ghost use Rattle.runner_parts.specs.State.{RunState};
@@ -6,11 +6,12 @@ ghost use Rattle.version_words.specs.TableState.{IsOf};
 ghost use Rattle.commit_log.specs.Runs.{IsRunning};
 ghost use Rattle.commit_log.specs.Asked.{IsAsked};
 ghost use Rattle.commit_log.specs.Halted.{IsHalted};
+ghost use Rattle.idem_alloc.specs.Numbers.{number_of, numbers_of};
 ghost use Rattle.idem_alloc.specs.Made.{MayFill, HasFilled, MayMake, IsFilling, HasMade};
 
-use commit_log::passes;
+use commit_log::{NeverHalts, passes};
 use runner_parts::Structure;
-use section_body::{Gate, StepKind, Steps, Word};
+use section_body::{Gate, Init, StepKind, Steps, Value, Word};
 use version_words::{FlockTable, Runner, table_is_allowed};
 
 /// Fills one cell of the slot that the run's Make prepares, in two steps: loads it, and stores the value with the next version. Each step
@@ -74,13 +75,54 @@ fn fill_all<S: Structure, G: Gate, L>(
     (runner, true)
 }
 
-/// Makes a node with these values, in eleven steps: the last slot of the own free list is filled cell by cell, and its number is agreed on.
-/// Answers the agreed slot: the first one that a run of the section committed here. Where that is another one, the own slot is free again,
-/// or worn where one of its cells came to the greatest version. Each step is counted, and the gate is asked after it: None where it
-/// halted the runner.
+/// The number that this value gives a cell. What a register holds is put in its place before.
+fn number_of(value: Value) -> u32
+    ensures { result ≡ number_of value }
+{
+    match value {
+        Value::Const(number) => number,
+        _ => 0,
+    }
+}
+
+/// The numbers that these values give a new node's cells.
+fn numbers_of(init: &Init) -> [u32; 5]
+    ensures { result ≡ numbers_of init.now }
+{
+    let values = init.cells;
+    [
+        number_of(values[0]),
+        number_of(values[1]),
+        number_of(values[2]),
+        number_of(values[3]),
+        number_of(values[4]),
+    ]
+}
+
+/// Makes a node with these values, in eleven steps: the last slot of the own free list is filled cell by cell, and its
+/// number is agreed on. Answers the agreed slot: the first one that a run of the section committed here. Where that is
+/// another one, the own slot is free again, or worn where one of its cells came to the greatest version.
 ///
-/// The runner has to be in a run whose next step makes this node, with a free node slot. There is no refusal, and no memory is taken
-/// (Ben-David, Blelloch, Wei, 2022).
+/// The runner has to be in a run whose next step makes this node, with a reserve of one node slot. Each value is the
+/// number that its cell gets: where the step names a register, the caller puts what the register holds, since a runner
+/// keeps no registers. There is no refusal, and no memory is taken (Ben-David, Blelloch, Wei, 2022).
+pub fn make<S: Structure>(table: &FlockTable<S>, runner: Runner<S>, init: &Init) -> (Runner<S>, u32)
+    requires own { IsOf table.now runner }
+    requires next { (q : RunState) × MayMake (S.meaning table.now.structure) runner (numbers_of init.now) q }
+    ensures own { IsOf table.now result.0 }
+    ensures made { (q : RunState) → IsRunning (S.meaning table.now.structure) runner q → HasMade (S.meaning table.now.structure) result.1 runner result.0 q }
+{
+    let mut gate = NeverHalts::new();
+    let mut steps = Steps::<()>::new();
+    let values = numbers_of(init);
+    let (runner, made) = make_gated(table, runner, &values, &mut gate, &mut steps);
+    match made {
+        Some(slot) => (runner, slot),
+        None => unreachable!(),
+    }
+}
+
+/// The same with these numbers, counting each step and asking the gate after it. None where it halted the runner.
 pub fn make_gated<S: Structure, G: Gate, L>(
     table: &FlockTable<S>,
     runner: Runner<S>,

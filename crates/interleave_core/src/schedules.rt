@@ -10,6 +10,7 @@ ghost use Rattle.machine_invariant.specs.After.{WholeAfter};
 ghost use Rattle.machine_invariant.specs.LogWords.{LogWordsSayAfter};
 ghost use Rattle.machine_invariant.specs.Rising.{RisesAfter};
 ghost use Rattle.machine_facts.specs.After.{FactsAfter, StepFactsAfter};
+ghost use Rattle.reached_histories.specs.Laws.{HistoryAfter};
 ghost use Rattle.interleave_core.specs.Enabled.{StopsNaming};
 
 use crate::machine::{Machine, StepError};
@@ -32,7 +33,9 @@ pub enum ScheduleError {
 /// sections are sound, each event was exactly the events of its kind in agreement and in epochs and slots, log words and done words of runs
 /// are what they may be, and the next event leaves each cell as it is or raises its version by one. Each section that was published had its
 /// effects once, for good, or none; outcomes that were kept agree; publishers hold what the locks of their Takes named; and the next event
-/// leaves the words that stand. `NotEnabled` comes exactly where an event isn't enabled, and names the first.
+/// leaves the words that stand. The stamped requests are one legal history, the clock bounds their stamps, what a worker has seen comes
+/// before what it asks next, and where no lock names a section each stamped request has its reply and the cells stand for the history's
+/// final map. `NotEnabled` comes exactly where an event isn't enabled, and names the first.
 pub fn all_schedules<S: Structure>(
     alloc: Global,
     structure: S,
@@ -50,6 +53,7 @@ pub fn all_schedules<S: Structure>(
     ensures rises { IfOk result (λ x. RisesAfter (S.meaning structure) layout requests.now events.now x.world) }
     ensures facts { IfOk result (λ x. FactsAfter (S.meaning structure) layout requests.now events.now x.world) }
     ensures steps { IfOk result (λ x. StepFactsAfter (S.meaning structure) layout requests.now events.now x.world) }
+    ensures history { IfOk result (λ x. HistoryAfter (S.meaning structure) layout requests.now events.now x.world) }
     ensures structure { IfOk result (λ x. x.structure ≡ structure) }
     ensures layout { IfOk result (λ x. x.layout ≡ layout) }
     ensures requests { IfOk result (λ x. x.requests ≡ requests.now) }

@@ -86,7 +86,7 @@ module _ (m : Meaning) (laws : Laws m) (l : Layout) (limits : IsWithinLimits l) 
       (joins.each_part m l (λ p. p.reads.walk ≡ []) refl (λ k. refl) refl r)
 
   -- the states beside it are the first ones of machine_scenes
-  same_states : scenes.first_states m (first_place m l) (no_publications rs) ≡ states_of first_beside s
+  pub same_states : scenes.first_states m (first_place m l) (no_publications rs) ≡ states_of first_beside s
   same_states = λ i. record {
     agreement = agreement_schedules.first_state (λ p. sym (first_cell p) i);
     epochs = epoch_schedules.first_state (first_place m l);
@@ -110,7 +110,7 @@ module _ (m : Meaning) (laws : Laws m) (l : Layout) (limits : IsWithinLimits l) 
       by true e is = below t m.fixed_slots e le
       by false e is = free_not (nat_lt t (slot_count l m.fixed_slots)) _ _ is
 
-  first_scene : scenes.IsFirst m c (first_place m l)
+  pub first_scene : scenes.IsFirst m c (first_place m l)
   first_scene = record { epochs = joins.first_is m l; fixed = λ t low. joins.at_fixed m l t low; unfixed = unfixed }
 
   pub first_whole : IsWhole m l first_beside s

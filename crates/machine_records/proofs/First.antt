@@ -31,7 +31,7 @@ first_kept m l rs w first = record {
         (each_part m l (λ p. link_of p.published ≡ 0) refl (λ n. refl) refl r)
 
 -- a known word's entry
-record HasEntry (known : List Known) (n : ℕ) (reply : Bool) : Type 0 where
+pub record HasEntry (known : List Known) (n : ℕ) (reply : Bool) : Type 0 where
   pub place : ℕ
   pub entry : Known
   pub at : slice_get known place ≡ Some entry
@@ -44,7 +44,7 @@ entry_test a n true false e = grind (arith, nat_tests)
 entry_test a n false true e = grind (arith, nat_tests)
 entry_test a n false false e = grind (arith, nat_tests)
 
-entry_of : (known : List Known) (n : ℕ) (reply : Bool) → knows known n reply ≡ true → HasEntry known n reply
+pub entry_of : (known : List Known) (n : ℕ) (reply : Bool) → knows known n reply ≡ true → HasEntry known n reply
 entry_of [] n reply e = absurd (let x = e in cc)
 entry_of (x ∷ xs) n reply e = by (x.request == n && cond reply x.reply (not x.reply)) refl (λ rest. entry_of xs n reply rest) e
   where

@@ -1,7 +1,7 @@
 -- The history's events of a step lead to what runners keep then.
 use Rattle.std.specs.Prelude.{◌==◌, ◌&&◌, ◌||◌, not, cond, Bool, true, false, map, if◌then◌else◌}
 use Rattle.std.specs.List.{filter, list_any}
-use Rattle.std.proofs.Common.{◌≡◌, ◌≢◌, ℕ, suc, List, [], ◌∷◌, ◌++◌, refl, sym, ap, ◌∙◌, subst, inl, inr, ⊎_elim, arith, Option, Some, None}
+use Rattle.std.proofs.Common.{◌≡◌, ◌≢◌, ℕ, suc, List, [], ◌∷◌, ◌++◌, append_assoc, refl, sym, ap, ◌∙◌, subst, inl, inr, ⊎_elim, arith, Option, Some, None}
 use Rattle.std.specs.Prelude.{◌⊎◌}
 use Rattle.std.proofs.lemmas.Bool.{cases_eq}
 use Rattle.std.proofs.lemmas.Bool.Decides.{nat_tests}
@@ -79,7 +79,7 @@ stands_there (x ∷ xs) n reply e = by (x.request == n) (cond reply x.reply (not
     by true b rest e = refl
     by false b rest e = rest e
 
-answered_is : (known : List Known) (n : ℕ) → has (answered_in known) n ≡ is_answered known n
+pub answered_is : (known : List Known) (n : ℕ) → has (answered_in known) n ≡ is_answered known n
 answered_is known n = answered_has known known n ∙ by (knows known n false) (knows known n true) (stands_there known n false)
   where
     by : (a b : Bool) → (a ≡ true → list_any (λ (x : Known). x.request == n) known ≡ true) → ((a && b) && list_any (λ (x : Known). x.request == n) known) ≡ (a && b)
@@ -130,21 +130,21 @@ module _ (c : Requests) (r : ℕ) where
       to_true true = refl
       to_true false = refl
 
-  after_append : (es fs : List history.Event) (w : HistoryState) → after_all c w (es ++ fs) ≡ after_all c (after_all c w es) fs
+  pub after_append : (es fs : List history.Event) (w : HistoryState) → after_all c w (es ++ fs) ≡ after_all c (after_all c w es) fs
   after_append [] fs w = refl
   after_append (e ∷ es) fs w = after_append es fs (history.after c w e)
 
 module _ (m : Meaning) (l : Layout) (rs : List Request) (g : Beside) (s s' : Sight) (r : ℕ) (kind : EventKind) (whole : IsWhole m l g s)
     (step : Steps m l rs s s' r kind) where
   -- another runner's part
-  record SameFor (p p' : PartState) : Type 0 where
+  pub record SameFor (p p' : PartState) : Type 0 where
     pub known : p'.records.known ≡ p.records.known
     pub published : p'.published ≡ p.published
 
   part1 : PartState
   part1 = after m l r kind step.ask.0 step.ask.1 (s.part r) (s.word step.ask.0)
 
-  others : (i : ℕ) → i ≢ r → SameFor (s.part i) (s'.part i)
+  pub others : (i : ℕ) → i ≢ r → SameFor (s.part i) (s'.part i)
   unfolding part1
   others i ne = subst (λ (t : Sight). SameFor (s.part i) (t.part i)) (sym step.next) (at_kind kind)
     where
@@ -172,10 +172,13 @@ module _ (m : Meaning) (l : Layout) (rs : List Request) (g : Beside) (s s' : Sig
         record {
           grows = λ n reply e. ap (λ xs. knows xs n reply) (noted_known l r kind step.ask.0 step.ask.1 (s.word step.ask.0) (stepped m l kind (s.part r) (s.word step.ask.0)).records)
               ∙ h.grows n reply e;
+          appends = (h.appends.0, noted_known l r kind step.ask.0 step.ask.1 (s.word step.ask.0) (stepped m l kind (s.part r) (s.word step.ask.0)).records
+              ∙ h.appends.1);
+          was = h.was;
           link = h.link;
         }
 
-    own : KeepsOn (s.part r) (s'.part r)
+    pub own : KeepsOn (s.part r) (s'.part r)
     unfolding part1
     own = subst (λ (t : Sight). KeepsOn (s.part r) (t.part r)) (sym step.next) (at_kind kind)
       where
@@ -188,6 +191,12 @@ module _ (m : Meaning) (l : Layout) (rs : List Request) (g : Beside) (s s' : Sig
             (subst (λ j. KeepsOn (s.part j) left) (sym e) (on (s.part worker) left refl refl)))
             (λ ne. subst (KeepsOn (s.part r)) (sym (upd_else f worker left r ne ∙ upd_here s.part r (knows_also part1 (s.part worker)))) (record {
               grows = λ n reply e. grows_append part1.records.known (s.part worker).records.known n reply (part1_keeps.grows n reply e);
+              appends = (
+                part1_keeps.appends.0 ++ (s.part worker).records.known,
+                ap (λ xs. xs ++ (s.part worker).records.known) part1_keeps.appends.1
+                    ∙ append_assoc (s.part r).records.known part1_keeps.appends.0 (s.part worker).records.known,
+              );
+              was = part1_keeps.was;
               link = part1_keeps.link;
             }))
             (cases_eq r worker)
@@ -259,8 +268,9 @@ module _ (m : Meaning) (l : Layout) (rs : List Request) (g : Beside) (s s' : Sig
 module _ (m : Meaning) (l : Layout) (rs : List Request) (s s' : Sight) (r d : ℕ) (t : Thunk) (step : Steps m l rs s s' r (kinds.Hold t d))
     (same : s.word step.ask.0 ≡ t.word) where
   -- the stepping runner has published this section, and knows what it knew
-  record IsPublished (p' : PartState) : Type 0 where
+  pub record IsPublished (p' : PartState) : Type 0 where
     pub known : p'.records.known ≡ (s.part r).records.known
+    pub published : p'.published ≡ Some (outside.published_by t d (s.part r))
     pub link : link_of p'.published ≡ suc d
 
   won : (found : ℕ) → (found == t.word) ≡ true → IsPublished (outside.hold_after t d (s.part r) found)
@@ -268,7 +278,7 @@ module _ (m : Meaning) (l : Layout) (rs : List Request) (s s' : Sight) (r d : �
     published = Some (outside.published_by t d (s.part r));
     descriptors = descriptor_taken (s.part r).descriptors d;
     reads = section_published (cell_read (s.part r).reads t.lock found) d;
-  } else record (s.part r) { reads = holds_named (cell_read (s.part r).reads t.lock found) found })) (sym e) (record { known = refl; link = refl })
+  } else record (s.part r) { reads = holds_named (cell_read (s.part r).reads t.lock found) found })) (sym e) (record { known = refl; published = refl; link = refl })
 
   stepped_published : IsPublished (stepped m l (kinds.Hold t d) (s.part r) (s.word step.ask.0))
   stepped_published = by (s.part r).run refl
@@ -293,12 +303,21 @@ module _ (m : Meaning) (l : Layout) (rs : List Request) (s s' : Sight) (r d : �
   part_published = record {
     known = noted_known l r (kinds.Hold t d) step.ask.0 step.ask.1 (s.word step.ask.0) (stepped m l (kinds.Hold t d) (s.part r) (s.word step.ask.0)).records
         ∙ stepped_published.known;
+    published = stepped_published.published;
     link = stepped_published.link;
   }
 
   part_there : s'.part ≡ upd s.part r part2
   unfolding part2
   part_there = ap (λ (x : Sight). x.part) step.next
+
+  -- the stepping runner's part, and the others'
+  pub own_published : IsPublished (s'.part r)
+  unfolding part2
+  own_published = subst IsPublished (sym (ap (λ (f : ℕ → PartState). f r) part_there ∙ upd_here s.part r part2)) part_published
+
+  pub others_same : (i : ℕ) → i ≢ r → s'.part i ≡ s.part i
+  others_same i ne = ap (λ (f : ℕ → PartState). f i) part_there ∙ upd_else s.part r part2 i ne
 
   module _ (c : Requests) (w : HistoryState) (answer : ℕ) (old : AreKept s w) where
     publication_kept : AreKept s' (history.after c w (history.Publish r d t.request answer))

@@ -1,8 +1,9 @@
 -- What each step of a runner leaves of what it knows and of the section that it has published.
 use Rattle.std.specs.Prelude.{◌==◌, ◌&&◌, ◌||◌, not, nat_lt, nat_le, cond, Bool, true, false, slice_index_or, if◌then◌else◌}
-use Rattle.std.proofs.Common.{◌≡◌, ◌≢◌, ℕ, zero, suc, ◌≤◌, List, refl, sym, ap, ◌∙◌, subst, inl, inr, ⊎_elim, arith, Option, Some, None}
+use Rattle.std.proofs.Common.{◌≡◌, ◌≢◌, ℕ, zero, suc, ◌≤◌, List, [], ◌∷◌, ◌++◌, refl, sym, ap, ◌∙◌, subst, inl, inr, ⊎_elim, arith, Option, Some, None}
 use Rattle.std.specs.Prelude.{◌⊎◌}
 use Rattle.std.proofs.lemmas.Bool.Decides.{nat_tests}
+use Rattle.std.proofs.lemmas.List.{append-nil}
 use Rattle.map_history.specs.declared.op.Request.{Request}
 use Rattle.section_body.specs.declared.micro.Micro.{Micro}
 use Rattle.section_body.specs.declared.micro.Micro.TheVariants as micros
@@ -14,13 +15,14 @@ use Rattle.table_words.specs.declared.spot.Spot.{Spot}
 use Rattle.table_words.specs.declared.access.Access.{Access}
 use Rattle.table_words.specs.Places.{slot_count}
 use Rattle.structure_laws.specs.Meaning.{Meaning}
+use Rattle.runner_parts.specs.declared.entries.Known.{Known}
 use Rattle.runner_parts.specs.declared.entries.Published.{Published}
 use Rattle.runner_parts.specs.declared.event.EventKind.{EventKind}
 use Rattle.runner_parts.specs.declared.event.EventKind.TheVariants as kinds
 use Rattle.runner_parts.specs.declared.stage.Stage.{Stage}
 use Rattle.runner_parts.specs.declared.stage.Stage.TheVariants as stages
-use Rattle.runner_parts.specs.Lists.{descriptor_taken, section_published, cell_read, holds_named}
-use Rattle.runner_parts.specs.State.{RunState, PartState}
+use Rattle.runner_parts.specs.Lists.{learned, descriptor_taken, section_published, cell_read, holds_named}
+use Rattle.runner_parts.specs.State.{RunState, PartState, RecordsState}
 use Rattle.runner_parts.specs.Tests.{knows, is_walking}
 use Rattle.runner_steps.specs.Sections.{thunk_of, line_of, is_open_run, next_of}
 use Rattle.runner_steps.specs.InRun.{last_clock, stamp_after, release_ask}
@@ -31,6 +33,7 @@ use Rattle.runner_steps.specs.AfterOutside as outside
 use Rattle.runner_steps.specs.After.{outside_after, line_after, after_by, stepped}
 use Rattle.machine_states.specs.Sight.{Sight}
 use Rattle.machine_states.proofs.Sights.{if_some, some_none}
+use Rattle.machine_states.proofs.Steps.{some_same}
 use Rattle.machine_agreement.proofs.Ends.{at_end}
 use Rattle.machine_invariant.specs.Whole.{Beside, IsWhole}
 use Rattle.machine_invariant.proofs.Asked.{asked_by}
@@ -38,14 +41,22 @@ use Rattle.machine_records.specs.Kept.{link_of}
 use Rattle.machine_records.specs.Keeping.{IsAtItsEnd}
 use Rattle.machine_records.proofs.Telling.{Grows, grows_learned}
 
--- the runner knows what it knew; its section is the same, or it was at its end and has none now
+-- this published section was there before, but for being over
+abbrev pub WasPublished : Option Published → Published → Type 0
+WasPublished o x' = (x : Published) × (o ≡ Some x) × (x'.descriptor ≡ x.descriptor) × (x'.thunk ≡ x.thunk) × (x'.known ≡ x.known)
+
+-- the runner knows what it knew, in this order; its section is the same, or it was at its end and has none now
 pub record KeepsOn (p p' : PartState) : Type 0 where
   pub grows : Grows p.records.known p'.records.known
+  pub appends : (more : List Known) × (p'.records.known ≡ p.records.known ++ more)
+  pub was : (x : Published) → p'.published ≡ Some x → WasPublished p.published x
   pub link : (link_of p'.published ≡ link_of p.published) ⊎ ((link_of p'.published ≡ 0) × IsAtItsEnd p)
 
 pub on : (p p' : PartState) → p'.records.known ≡ p.records.known → p'.published ≡ p.published → KeepsOn p p'
 on p p' known published = record {
   grows = λ n reply e. ap (λ xs. knows xs n reply) known ∙ e;
+  appends = ([], known ∙ sym (append-nil p.records.known));
+  was = λ x is. (x, sym published ∙ is, refl, refl, refl);
   link = inl (ap link_of published);
 }
 
@@ -53,9 +64,30 @@ either : (p : PartState) (b : Bool) (y z : PartState) → KeepsOn p y → KeepsO
 either p true y z one two = one
 either p false y z one two = two
 
+learned_appends : (s : RecordsState) (request : ℕ) (reply : Bool) (number : ℕ)
+    → (more : List Known) × ((learned s request reply number).known ≡ s.known ++ more)
+learned_appends s request reply number = by (number == 0)
+  where
+    by : (b : Bool) → (more : List Known) × ((if b then s else record s { known = s.known ++ record { request = request; reply = reply; number = number } ∷ [] }).known
+        ≡ s.known ++ more)
+    by true = ([], sym (append-nil s.known))
+    by false = (record { request = request; reply = reply; number = number } ∷ [], refl)
+
 -- a step that learns
-learns_more : (p p' : PartState) → Grows p.records.known p'.records.known → p'.published ≡ p.published → KeepsOn p p'
-learns_more p p' grows published = record { grows = grows; link = inl (ap link_of published) }
+learns_more : (p p' : PartState) (request : ℕ) (reply : Bool) (number : ℕ) → p'.records.known ≡ (learned p.records request reply number).known
+    → p'.published ≡ p.published → KeepsOn p p'
+learns_more p p' request reply number known published =
+    let added = learned_appends p.records request reply number in record {
+      grows = λ n b e. ap (λ xs. knows xs n b) known ∙ grows_learned p.records request reply number n b e;
+      appends = (added.0, known ∙ added.1);
+      was = λ x is. (x, sym published ∙ is, refl, refl, refl);
+      link = inl (ap link_of published);
+    }
+
+over_was : (o : Option Published) (d : ℕ) (x : Published) → inside.over_if o d ≡ Some x → WasPublished o x
+over_was None d x is = some_none x is
+over_was (Some y) d x is = let same = some_same (record y { over = y.over || y.descriptor == d }) x is in
+    (y, refl, ap (λ (z : Published). z.descriptor) (sym same), ap (λ (z : Published). z.thunk) (sym same), ap (λ (z : Published). z.known) (sym same))
 
 -- the end of a run: of the own section, or of another
 over_cases : (o : Option Published) (d : ℕ) → (link_of (inside.over_if o d) ≡ link_of o) ⊎ ((link_of (inside.over_if o d) ≡ 0) × (link_of o ≡ suc d))
@@ -85,7 +117,12 @@ module _ (m : Meaning) (l : Layout) (p : PartState) where
     -- a retired section has been run to its end
     retire_keeps : (o : Option Published) → p.published ≡ o → link_of p.published ≡ 0 → KeepsOn p (outside.retire_after p o found)
     retire_keeps None is over = on p p refl refl
-    retire_keeps (Some y) is over = record { grows = λ n reply e. e; link = inl (sym over) }
+    retire_keeps (Some y) is over = record {
+      grows = λ n reply e. e;
+      appends = ([], sym (append-nil p.records.known));
+      was = λ x at. some_none x at;
+      link = inl (sym over);
+    }
 
     outside_keeps : (kind : EventKind) → ((t : Thunk) (d : ℕ) → kind ≡ kinds.Hold t d → found ≢ t.word)
         → (kind ≡ kinds.EpochForRetire → link_of p.published ≡ 0) → KeepsOn p (outside_after m l kind p found)
@@ -99,7 +136,7 @@ module _ (m : Meaning) (l : Layout) (p : PartState) where
     outside_keeps kinds.Split quiet over = either p (nat_lt p.records.splits l.runners) _ _ (on p _ refl refl) (on p p refl refl)
     outside_keeps (kinds.Join worker) quiet over = on p _ refl refl
     outside_keeps (kinds.LoadCell (Some place)) quiet over = on p _ refl refl
-    outside_keeps (kinds.LoadEntry request reply) quiet over = learns_more p _ (grows_learned p.records request reply found) refl
+    outside_keeps (kinds.LoadEntry request reply) quiet over = learns_more p _ request reply found refl refl
     outside_keeps (kinds.PrivateLoad slot word) quiet over = either p (nat_lt slot (slot_count l m.fixed_slots)) _ _ (on p _ refl refl) (on p _ refl refl)
     outside_keeps (kinds.PrivateStore slot word number) quiet over = on p _ refl refl
     outside_keeps (kinds.Hold thunk d) quiet over = by (found == thunk.word) refl
@@ -133,6 +170,8 @@ module _ (m : Meaning) (l : Layout) (p : PartState) where
     over_keeps : (p' : PartState) → p'.records.known ≡ p.records.known → 1 ≤ q.ended → p'.published ≡ inside.over_if p.published q.descriptor → KeepsOn p p'
     over_keeps p' known ended published = record {
       grows = λ n reply e. ap (λ xs. knows xs n reply) known ∙ e;
+      appends = ([], known ∙ sym (append-nil p.records.known));
+      was = λ x at. over_was p.published q.descriptor x (sym published ∙ at);
       link = ⊎_elim
           (λ same. inl (ap link_of published ∙ same))
           (λ own. inr (ap link_of published ∙ own.0, record { run = q; runs = is; opened = opened; ended = ended; own = own.1 }))
@@ -155,10 +194,10 @@ module _ (m : Meaning) (l : Layout) (p : PartState) where
     line_keeps kinds.Release micro ended = released_keeps (inside.place_of micro) (ended refl)
     line_keeps kinds.ClockLoad micro ended = on p _ refl refl
     line_keeps kinds.StampExchange micro ended = either p (nat_lt q.word last_clock) _ _
-        (learns_more p _ (grows_learned p.records (thunk_of q.opened).request false (written_once found (stamp_after q.word))) refl) (on p p refl refl)
+        (learns_more p _ (thunk_of q.opened).request false (written_once found (stamp_after q.word)) refl refl) (on p p refl refl)
     line_keeps kinds.ClockRaise micro ended = on p _ refl refl
     line_keeps kinds.ReplyExchange micro ended =
-        learns_more p _ (grows_learned p.records (thunk_of q.opened).request true (written_once found (inside.reply_word_of micro))) refl
+        learns_more p _ (thunk_of q.opened).request true (written_once found (inside.reply_word_of micro)) refl refl
     line_keeps kinds.NestedLoad micro ended = on p _ refl refl
     line_keeps kinds.NestedHold micro ended = on p _ refl refl
     line_keeps kinds.OutcomeLoad micro ended = on p _ refl refl

@@ -27,6 +27,6 @@ module _ {T : Type 0} (m : Meaning) (place : ℕ) (old new : RunnerState T) (q :
   pub read_ran : (read : ℕ) (q' : RunState) → HasRead m place read old new q q' → Ran m 2 old new
   read_ran read q' has = ran_more m 1 1 old has.middle new (ran_one m _ _ _ _ _ has.load) (ran_one m _ _ _ _ _ has.commit.step)
 
-  pub held_ran : (expected : ℕ) (answer : Result (Unit {0}) Refused) → HasHeld m place expected answer old new q → Ran m 3 old new
-  held_ran expected answer has = ran_more m 1 2 old has.holding new (ran_one m _ _ _ _ _ has.hold)
+  pub held_ran : (expected read : ℕ) (answer : Result (Unit {0}) Refused) → HasHeld m place expected read answer old new q → Ran m 3 old new
+  held_ran expected read answer has = ran_more m 1 2 old has.holding new (ran_one m _ _ _ _ _ has.hold)
       (ran_more m 1 1 has.holding has.looking new (ran_one m _ _ _ _ _ has.load) (ran_one m _ _ _ _ _ has.commit))

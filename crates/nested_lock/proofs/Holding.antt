@@ -113,7 +113,7 @@ module _ {T : Type 0} (m : Meaning) (laws : Laws m) (t : TableState T) (limits :
 
       pub then_held : (read : ℕ) (r4 : RunnerState T) (made : Leaves m kinds.OutcomeCommit read r3 r4) (answer : Result (Unit {0}) Refused)
           → Stepped m looked (OutcomeCommit place log) made.found r3 r4
-          → second_outcome r.layout.version_max q.descriptor place expected read ≡ outcome_at place answer → HasHeld m place expected answer r r4 q
+          → second_outcome r.layout.version_max q.descriptor place expected read ≡ outcome_at place answer → HasHeld m place expected read answer r r4 q
       then_held read r4 made answer commit told =
           let met = some_same made.event.met (next_log r3.part.run, Exchanges 0 loaded) (sym made.event.asked ∙ may_agree) in
           let agreed : read ≡ written_once made.found loaded = made.told ∙ ap (λ (x : Spot × Access). written x.1 made.found) met in
@@ -122,7 +122,6 @@ module _ {T : Type 0} (m : Meaning) (laws : Laws m) (t : TableState T) (limits :
             held = found;
             loaded = loaded;
             found = made.found;
-            read = read;
             holding = r2;
             looking = r3;
             hold = hold;

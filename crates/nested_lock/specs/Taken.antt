@@ -1,5 +1,5 @@
 -- Takes of further locks in a run.
-use Rattle.std.specs.Prelude.{◌≡◌, ℕ, ◌+◌, ◌⊎◌, Bool, true, Result, is_err, None}
+use Rattle.std.specs.Prelude.{◌≡◌, ℕ, ◌+◌, ◌⊎◌, Bool, true, Result, is_err, None, Some}
 use Rattle.section_body.specs.declared.outcome.Refused.{Refused}
 use Rattle.section_body.specs.declared.step.Step.TheVariants.{Take}
 use Rattle.section_body.specs.declared.micro.Micro.TheVariants.{NestedLoad, NestedHold, OutcomeLoad, OutcomeCommit}
@@ -13,6 +13,7 @@ use Rattle.runner_steps.specs.AfterInRun.{goes_on, agrees}
 use Rattle.version_words.specs.RunnerState.{RunnerState}
 use Rattle.commit_log.specs.Runs.{IsRunning, Stepped}
 use Rattle.commit_log.specs.Committed.{HasCommitted}
+use Rattle.nested_lock.specs.declared.takes.TakeEnd.{TakeEnd}
 use Rattle.nested_lock.specs.Answers.{first_outcome, second_outcome, outcome_at}
 
 -- this run stands so many atomic steps into a Take of this lock, with this word
@@ -32,14 +33,13 @@ module _ {T : Type 0} (m : Meaning) where
     pub running : IsRunning m r q
     pub next : IsInTake m place expected 3 q
 
-  -- one exchange was made from the expected word to the one that names the section, and what the lock held then was agreed on. By that
-  -- word the answer is given
-  pub record HasHeld (place expected : ℕ) (answer : Result (Unit {0}) Refused) (old new : RunnerState T) (q : RunState) : Type 0 where
+  -- one exchange was made from the expected word to the one that names the section, and what the lock held then was agreed on: this word. By
+  -- it the answer is given
+  pub record HasHeld (place expected read : ℕ) (answer : Result (Unit {0}) Refused) (old new : RunnerState T) (q : RunState) : Type 0 where
     pub log : ℕ
     pub held : ℕ
     pub loaded : ℕ
     pub found : ℕ
-    pub read : ℕ
     pub holding : RunnerState T
     pub looking : RunnerState T
     pub hold : Stepped m q (NestedHold place expected) held old holding
@@ -61,21 +61,29 @@ module _ {T : Type 0} (m : Meaning) where
     pub goes_on : IsRunning m new q'
 
   -- by the first agreed word the Take was refused
-  pub record IsRefused (version_max place expected read : ℕ) (answer : Result (Unit {0}) Refused) (old new : RunnerState T) : Type 0 where
-    pub told : first_outcome version_max place expected read ≡ outcome_at place answer
-    pub refused : is_err answer ≡ true
+  pub record IsRefused (version_max place expected : ℕ) (end : TakeEnd) (old new : RunnerState T) : Type 0 where
+    pub told : first_outcome version_max place expected end.first ≡ outcome_at place end.answer
+    pub refused : is_err end.answer ≡ true
+    pub alone : end.second ≡ None
     pub same : new ≡ old
 
   -- or the lock could be taken with it, and the answer is given by the second one
-  pub record IsTried (version_max place expected read : ℕ) (answer : Result (Unit {0}) Refused) (old new : RunnerState T) (q : RunState) : Type 0 where
-    pub told : first_outcome version_max place expected read ≡ None
-    pub held : HasHeld place expected answer old new q
-
-  -- a Take that gave this answer
-  pub record HasTaken (place expected : ℕ) (answer : Result (Unit {0}) Refused) (old new : RunnerState T) (q : RunState) : Type 0 where
+  pub record IsTried (version_max place expected : ℕ) (end : TakeEnd) (old new : RunnerState T) (q : RunState) : Type 0 where
+    pub told : first_outcome version_max place expected end.first ≡ None
     pub read : ℕ
+    pub again : end.second ≡ Some read
+    pub held : HasHeld place expected read end.answer old new q
+
+  -- a Take that ended so
+  pub record HasTaken (place expected : ℕ) (end : TakeEnd) (old new : RunnerState T) (q : RunState) : Type 0 where
     pub behind : RunState
     pub between : RunnerState T
-    pub reads : HasRead place read old between q behind
-    pub ends : IsRefused old.layout.version_max place expected read answer between new
-        ⊎ IsTried old.layout.version_max place expected read answer between new behind
+    pub reads : HasRead place end.first old between q behind
+    pub ends : IsRefused old.layout.version_max place expected end between new
+        ⊎ IsTried old.layout.version_max place expected end between new behind
+
+  -- a Take that gave this answer
+  pub record Takes (place expected : ℕ) (answer : Result (Unit {0}) Refused) (old new : RunnerState T) (q : RunState) : Type 0 where
+    pub end : TakeEnd
+    pub taken : HasTaken place expected end old new q
+    pub told : end.answer ≡ answer

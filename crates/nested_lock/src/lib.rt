@@ -9,4 +9,4 @@ mod drops;
 mod takes;
 
 pub use drops::drop_lock;
-pub use takes::take_gated;
+pub use takes::{TakeEnd, take, take_gated};

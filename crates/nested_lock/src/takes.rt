@@ -1,27 +1,62 @@
 //! The Take of a further lock.
-ghost use Rattle.std.specs.Prelude.{◌≡◌, IfSome, IfNone, true};
+ghost use Rattle.std.specs.Prelude.{◌≡◌, ℕ, IfSome, IfNone, Some, true};
 ghost use Rattle.runner_parts.specs.State.{RunState};
 ghost use Rattle.version_words.specs.TableState.{IsOf};
 ghost use Rattle.commit_log.specs.Runs.{IsRunning};
 ghost use Rattle.commit_log.specs.Asked.{IsAsked};
 ghost use Rattle.commit_log.specs.Halted.{IsHalted, IsThrough};
-ghost use Rattle.nested_lock.specs.Taken.{MayTake, MayHold, HasTaken, HasHeld};
+ghost use Rattle.nested_lock.specs.Taken.{MayTake, MayHold, HasTaken, HasHeld, Takes};
 
 use crate::answers::{first_answer, second_answer};
-use commit_log::{commit, passes};
+use commit_log::{NeverHalts, commit, passes};
 use runner_parts::Structure;
 use section_body::{Gate, Place, Refused, StepKind, Steps, Word};
 use version_words::{FlockTable, Runner, table_is_allowed};
 
-/// Takes a further lock for the section of this descriptor, with the free word that the lock is expected to hold. The lock's word is loaded and
-/// agreed on. Where the agreed word names a descriptor the answer is Busy; where it is free and has no version left to be taken and
-/// released, Spent; where it isn't the expected one, Stale. Otherwise one exchange from the expected word to the one that names this section
-/// is made, and the lock's word is loaded and agreed on again. The answer is Ok exactly where this second agreed word is the one that
-/// names this section; else it is Busy, Spent or Stale by that word, in this order.
+/// How a Take ended, and the words of its lock that were agreed on.
+#[derive(Clone, Copy, Debug, PartialEq, Eq)]
+pub struct TakeEnd {
+    /// Whether the lock was taken, and why not.
+    pub answer: Result<(), Refused>,
+    /// The word before the lock was to be taken.
+    pub first: Word,
+    /// The word behind the exchange that was to take it, where that was made.
+    pub second: Option<Word>,
+}
+
+/// Takes a further lock for the section that the runner runs, with the free word that the lock is expected to hold.
+/// The lock's word is loaded and agreed on. Where the agreed word names a descriptor the answer is Busy; where it is
+/// free and has no version left to be taken and released, Spent; where it isn't the expected one, Stale. Otherwise one
+/// exchange from the expected word to the one that names this section is made, and the lock's word is loaded and agreed
+/// on again. The answer is Ok exactly where this second agreed word is the one that names this section; else it is
+/// Busy, Spent or Stale by that word, in this order. Each refusal carries the agreed word.
 ///
-/// The runner has to be in a run of that section, whose next step takes this lock with this word. Each refusal carries the agreed word; two
-/// steps were made for a refusal by the first word, else five. Each step is counted, and the gate is asked after it: None where it
-/// halted the runner. No memory is taken (Ben-David, Blelloch, Wei, 2022).
+/// The runner has to be in a run whose next step takes this lock with this word. Two steps are made for a refusal by
+/// the first word, else five. No memory is taken (Ben-David, Blelloch, Wei, 2022).
+pub fn take<S: Structure>(
+    table: &FlockTable<S>,
+    runner: Runner<S>,
+    place: Place,
+    expected: Word,
+) -> (Runner<S>, Result<(), Refused>)
+    requires own { IsOf table.now runner }
+    requires next { (q : RunState) × MayTake (S.meaning table.now.structure) runner place expected q }
+    ensures own { IsOf table.now result.0 }
+    ensures taken { (q : RunState) → IsRunning (S.meaning table.now.structure) runner q → Takes (S.meaning table.now.structure) place expected result.1 runner result.0 q }
+{
+    let descriptor = runner.descriptor();
+    let mut gate = NeverHalts::new();
+    let mut steps = Steps::<()>::new();
+    match take_gated(
+        table, runner, descriptor, place, expected, &mut gate, &mut steps,
+    ) {
+        (runner, Some(end)) => (runner, end.answer),
+        _ => unreachable!(),
+    }
+}
+
+/// The same for the section of this descriptor, which the runner runs, counting each step and asking the gate after it. Both agreed words
+/// come with the answer; None where the gate halted the runner.
 pub fn take_gated<S: Structure, G: Gate, L>(
     table: &FlockTable<S>,
     runner: Runner<S>,
@@ -30,13 +65,13 @@ pub fn take_gated<S: Structure, G: Gate, L>(
     expected: Word,
     gate: &mut G,
     steps: &mut Steps<L>,
-) -> (Runner<S>, Option<Result<(), Refused>>)
+) -> (Runner<S>, Option<TakeEnd>)
     requires own { IsOf table.now runner }
     requires next { (q : RunState) × MayTake (S.meaning table.now.structure) runner place expected q }
     requires section { (q : RunState) → IsRunning (S.meaning table.now.structure) runner q → descriptor ≡ q.descriptor }
     ensures own { IsOf table.now result.0 }
-    ensures taken { IfSome result.1 (λ answer. (q : RunState) → IsRunning (S.meaning table.now.structure) runner q → HasTaken (S.meaning table.now.structure) place expected answer runner result.0 q) }
-    ensures asked { IfSome result.1 (λ answer. IsThrough (S.meaning table.now.structure) 5 runner result.0 (G.halts gate.old) (G.halts gate.new) (G.asks gate.old) (G.asks gate.new) steps.old.count steps.new.count) }
+    ensures taken { IfSome result.1 (λ end. (q : RunState) → IsRunning (S.meaning table.now.structure) runner q → HasTaken (S.meaning table.now.structure) place expected end runner result.0 q) }
+    ensures asked { IfSome result.1 (λ end. IsThrough (S.meaning table.now.structure) 5 runner result.0 (G.halts gate.old) (G.halts gate.new) (G.asks gate.old) (G.asks gate.new) steps.old.count steps.new.count) }
     ensures halted { IfNone result.1 (IsHalted (S.meaning table.now.structure) 5 runner result.0 (G.halts gate.old) (G.halts gate.new) (G.asks gate.old) (G.asks gate.new) steps.old.count steps.new.count) }
 {
     table_is_allowed(table);
@@ -48,15 +83,21 @@ pub fn take_gated<S: Structure, G: Gate, L>(
     if !passes(gate, steps, StepKind::Commit) {
         return (runner, None);
     }
-    let first = first_answer(
-        table.layout().version_max,
-        expected,
-        Word::from_bits(agreed),
-    );
+    let read = Word::from_bits(agreed);
+    let first = first_answer(table.layout().version_max, expected, read);
     if first.is_err() {
-        return (runner, Some(first));
+        return (
+            runner,
+            Some(TakeEnd {
+                answer: first,
+                first: read,
+                second: None,
+            }),
+        );
     }
-    hold_gated(table, runner, descriptor, place, expected, gate, steps)
+    hold_gated(
+        table, runner, descriptor, place, expected, read, gate, steps,
+    )
 }
 
 /// The second half of a Take: the exchange that is to take the lock, and the agreement on what it left.
@@ -66,15 +107,17 @@ fn hold_gated<S: Structure, G: Gate, L>(
     descriptor: u32,
     place: Place,
     expected: Word,
+    first: Word,
     gate: &mut G,
     steps: &mut Steps<L>,
-) -> (Runner<S>, Option<Result<(), Refused>>)
+) -> (Runner<S>, Option<TakeEnd>)
     requires own { IsOf table.now runner }
     requires next { (q : RunState) × MayHold (S.meaning table.now.structure) runner place expected q }
     requires section { (q : RunState) → IsRunning (S.meaning table.now.structure) runner q → descriptor ≡ q.descriptor }
     ensures own { IsOf table.now result.0 }
-    ensures held { IfSome result.1 (λ answer. (q : RunState) → IsRunning (S.meaning table.now.structure) runner q → HasHeld (S.meaning table.now.structure) place expected answer runner result.0 q) }
-    ensures asked { IfSome result.1 (λ answer. IsAsked 3 true (G.halts gate.old) (G.halts gate.new) (G.asks gate.old) (G.asks gate.new) steps.old.count steps.new.count) }
+    ensures first { IfSome result.1 (λ end. end.first ≡ first) }
+    ensures held { IfSome result.1 (λ end. (q : RunState) → IsRunning (S.meaning table.now.structure) runner q → (read : ℕ) × (end.second ≡ Some read) × HasHeld (S.meaning table.now.structure) place expected read end.answer runner result.0 q) }
+    ensures asked { IfSome result.1 (λ end. IsAsked 3 true (G.halts gate.old) (G.halts gate.new) (G.asks gate.old) (G.asks gate.new) steps.old.count steps.new.count) }
     ensures halted { IfNone result.1 (IsHalted (S.meaning table.now.structure) 3 runner result.0 (G.halts gate.old) (G.halts gate.new) (G.asks gate.old) (G.asks gate.new) steps.old.count steps.new.count) }
 {
     table_is_allowed(table);
@@ -91,5 +134,12 @@ fn hold_gated<S: Structure, G: Gate, L>(
         return (runner, None);
     }
     let answer = second_answer(table.layout().version_max, descriptor, expected, agreed);
-    (runner, Some(answer))
+    (
+        runner,
+        Some(TakeEnd {
+            answer,
+            first,
+            second: Some(agreed),
+        }),
+    )
 }

@@ -1,6 +1,6 @@
 -- What a sink holds after several texts, and after texts that wait in a page.
 use Rattle.std.proofs.Common.{◌≡◌, ℕ, ◌-◌, ◌≤◌, List, [], ◌++◌, Option, None, Some, Result, Ok, Err, OnOk, OnErr, subst, refl, sym, ap, ◌∙◌, append_assoc, arith, length, take, drop}
-use Rattle.std.specs.Option.{option_map}
+use Rattle.std.specs.Io.KnownBytes.{Keeps}
 use Rattle.std.proofs.lemmas.List.{append-nil, take_rest, take-append-drop}
 use Rattle.fault_count.specs.Rose.{Rose}
 use Rattle.report_text.specs.Sink.{Extends, ExtendsInPart, Appends}
@@ -8,13 +8,22 @@ use Rattle.report_text.specs.Page.{Gathers}
 
 -- a text after a text
 pub Extends-append : (before mid after : Option (List ℕ)) (first second : List ℕ) → Extends before first mid → Extends mid second after → Extends before (first ++ second) after
-Extends-append None mid after first second a b = b ∙ ap (option_map (λ held. held ++ second)) a
-Extends-append (Some held) mid after first second a b = b ∙ ap (option_map (λ more. more ++ second)) a ∙ ap Some (append_assoc held first second)
+Extends-append None mid after first second a b = tt
+Extends-append (Some held) None after first second a b = absurd a
+Extends-append (Some held) (Some more) None first second a b = absurd b
+Extends-append (Some held) (Some more) (Some last) first second a b = b ∙ ap (λ l. l ++ second) a ∙ append_assoc held first second
 
 -- nothing was added
 pub Extends-nothing : (before : Option (List ℕ)) → Extends before [] before
-Extends-nothing None = refl
-Extends-nothing (Some held) = ap Some (sym (append-nil held))
+Extends-nothing None = tt
+Extends-nothing (Some held) = sym (append-nil held)
+
+-- a call that added nothing
+pub Extends-kept : (before mid after : Option (List ℕ)) (bytes : List ℕ) → Extends before bytes mid → Keeps mid after → Extends before bytes after
+Extends-kept None mid after bytes a kept = tt
+Extends-kept (Some held) None after bytes a kept = absurd a
+Extends-kept (Some held) (Some more) None bytes a kept = absurd kept
+Extends-kept (Some held) (Some more) (Some last) bytes a kept = kept ∙ a
 
 -- nothing was added, where the text is to follow
 pub ExtendsInPart-nothing : (before : Option (List ℕ)) (text : List ℕ) → ExtendsInPart before text before
@@ -112,7 +121,7 @@ Underway-fails_more {before} {text} {held} {after} {page} {all} bytes left next 
 pub Underway-end : (before : Option (List ℕ)) (text : List ℕ) (held after : Option (List ℕ)) (page : List ℕ) → Underway before text held page [] → Extends held page after → Extends before text after
 Underway-end before text held after page u added =
     let whole : u.sent ++ page ≡ text = ap (λ l. u.sent ++ l) (sym (append-nil page)) ∙ u.whole in
-    Extends-append before held after u.sent page u.added added ∙ ap (λ t. option_map (λ h. h ++ t) before) whole
+    subst (λ (t : List ℕ). Extends before t after) whole (Extends-append before held after u.sent page u.added added)
 
 -- the last page is sent, or a part of it
 pub Appends-end : {T E : Type 0} (r : Result T E) (before : Option (List ℕ)) (text : List ℕ) (held after : Option (List ℕ)) (page left : List ℕ) → left ≡ [] → Underway before text held page left → OnOk r (Extends held page after) → OnErr r (ExtendsInPart held page after) → Appends r before text after

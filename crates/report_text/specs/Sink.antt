@@ -1,10 +1,10 @@
--- What a sink holds after a call, where it tells.
+-- What a sink holds after a call, where it told before, in the words of std for its writers.
 use Rattle.std.specs.Prelude.{◌≡◌, ℕ, List, ◌++◌, Option, Result, Ok, Err}
-use Rattle.std.specs.Option.{option_map}
+use Rattle.std.specs.Io.KnownBytes as known
 
 -- these bytes were added
 abbrev pub Extends : Option (List ℕ) → List ℕ → Option (List ℕ) → Type 0
-Extends before bytes after = after ≡ option_map (λ held. held ++ bytes) before
+Extends before bytes after = known.Appends before after bytes
 
 -- some bytes from the front of the text were added
 pub record ExtendsInPart (before : Option (List ℕ)) (text : List ℕ) (after : Option (List ℕ)) : Type 0 where

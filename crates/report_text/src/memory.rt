@@ -64,11 +64,12 @@ impl Sink for MemorySink {
     fn write(&mut self, bytes: &[u8]) -> Result<usize, Failed>
         ensures bound { IfOk result (λ count. count ≤ length bytes.now) }
         ensures appended { IfOk result (λ count. Extends (Some self.old.bytes) (take count bytes.now) (Some self.new.bytes)) }
-        ensures failed { OnErr result (Some self.new.bytes ≡ Some self.old.bytes) }
+        ensures failed { OnErr result (self.new.bytes ≡ self.old.bytes) }
 
         ensures later { self.old.faults ≤ self.new.faults }
         ensures cause { OnErr result (Rose self.old.faults self.new.faults) }
         ensures stuck { 0 < length bytes.now → IfOk result (λ count. count ≡ 0 → Rose self.old.faults self.new.faults) }
+        ensures steady { IfOk result (λ count. 0 < count → self.new.faults ≡ self.old.faults) }
 
         ensures planned { IsTrue (is_planned self.old.fails (next_call self.old)) → IsErr result }
         ensures empty { is_planned self.old.fails (next_call self.old) ≡ false → IsTrue (is_planned self.old.empty (next_call self.old)) → result ≡ Ok 0 }

@@ -18,6 +18,7 @@ pub fn print_line<K: Sink>(line: &Line, page: &mut Page, sink: &mut K) -> Result
     ensures err { OnErr result (ExtendsInPart (K.held sink.old) page.old.bytes (K.held sink.new)) }
     ensures later { K.faults sink.old ≤ K.faults sink.new }
     ensures cause { OnErr result (Rose (K.faults sink.old) (K.faults sink.new)) }
+    ensures steady { OnOk result (K.faults sink.new ≡ K.faults sink.old) }
 {
     make_room(page, sink)?;
     page.push_str(line.as_str());
@@ -31,6 +32,7 @@ fn make_room<K: Sink>(page: &mut Page, sink: &mut K) -> Result<(), Failed>
     ensures err { OnErr result (ExtendsInPart (K.held sink.old) page.old.bytes (K.held sink.new)) }
     ensures later { K.faults sink.old ≤ K.faults sink.new }
     ensures cause { OnErr result (Rose (K.faults sink.old) (K.faults sink.new)) }
+    ensures steady { OnOk result (K.faults sink.new ≡ K.faults sink.old) }
 {
     if page.remaining_capacity() < 32 {
         return send(page, sink);
@@ -45,6 +47,7 @@ pub fn send<K: Sink>(page: &mut Page, sink: &mut K) -> Result<(), Failed>
     ensures err { OnErr result (ExtendsInPart (K.held sink.old) page.old.bytes (K.held sink.new)) }
     ensures later { K.faults sink.old ≤ K.faults sink.new }
     ensures cause { OnErr result (Rose (K.faults sink.old) (K.faults sink.new)) }
+    ensures steady { OnOk result (K.faults sink.new ≡ K.faults sink.old) }
 {
     write_all(sink, page.as_str().as_bytes())?;
     page.clear();

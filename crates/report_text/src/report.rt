@@ -29,6 +29,7 @@ pub fn write_report<K: Sink>(
     ensures appends { Appends result (K.held sink.old) (report_text traces (rows_of requests.now entries.now ranks.now) size) (K.held sink.new) }
     ensures later { K.faults sink.old ≤ K.faults sink.new }
     ensures cause { OnErr result (Rose (K.faults sink.old) (K.faults sink.new)) }
+    ensures steady { OnOk result (K.faults sink.new ≡ K.faults sink.old) }
 {
     let mut page = Page::new();
     let mut begun = 0;
@@ -50,6 +51,7 @@ fn print_traces<K: Sink>(begun: u32, end: u32, page: &mut Page, sink: &mut K) ->
     ensures err { OnErr result (ExtendsInPart (K.held sink.old) (page.old.bytes ++ traces_text begun end) (K.held sink.new)) }
     ensures later { K.faults sink.old ≤ K.faults sink.new }
     ensures cause { OnErr result (Rose (K.faults sink.old) (K.faults sink.new)) }
+    ensures steady { OnOk result (K.faults sink.new ≡ K.faults sink.old) }
 {
     for trace in begun..end {
         print_line(&line_of_trace(trace), page, sink)?;

@@ -1,5 +1,6 @@
 // Where bytes go.
-ghost use Rattle.std.specs.Prelude.{List, ℕ, Option, ◌≡◌, ◌<◌, ◌≤◌, length, take, IfOk, OnErr};
+ghost use Rattle.std.specs.Prelude.{List, ℕ, Option, ◌≡◌, ◌<◌, ◌≤◌, length, take, IfOk, OnErr, OnOk};
+ghost use Rattle.std.specs.Io.KnownBytes.{Keeps};
 ghost use Rattle.fault_count.specs.Rose.{Rose};
 ghost use Rattle.report_text.specs.Sink.{Extends, Appends};
 
@@ -16,15 +17,17 @@ pub trait Sink {
     ghost faults: { Self → ℕ };
 
     /// Appends some of the bytes, from the front, and says how many. Failed appends none, and comes only with a
-    /// fault that is counted. To take nothing of bytes that aren't empty is a fault too.
+    /// fault that is counted. To take nothing of bytes that aren't empty is a fault too. A write that
+    /// took some leaves the count as it was.
     fn write(&mut self, bytes: &[u8]) -> Result<usize, Failed>
         ensures bound { IfOk result (λ count. count ≤ length bytes.now) }
         ensures appended { IfOk result (λ count. Extends (held self.old) (take count bytes.now) (held self.new)) }
-        ensures failed { OnErr result (held self.new ≡ held self.old) }
+        ensures failed { OnErr result (Keeps (held self.old) (held self.new)) }
 
         ensures later { faults self.old ≤ faults self.new }
         ensures cause { OnErr result (Rose (faults self.old) (faults self.new)) }
-        ensures stuck { 0 < length bytes.now → IfOk result (λ count. count ≡ 0 → Rose (faults self.old) (faults self.new)) };
+        ensures stuck { 0 < length bytes.now → IfOk result (λ count. count ≡ 0 → Rose (faults self.old) (faults self.new)) }
+        ensures steady { IfOk result (λ count. 0 < count → faults self.new ≡ faults self.old) };
 }
 
 /// Writes all of the bytes, by as many writes as the sink needs. Failed where a write failed or took nothing;
@@ -33,6 +36,7 @@ pub fn write_all<K: Sink>(sink: &mut K, bytes: &[u8]) -> Result<(), Failed>
     ensures appends { Appends result (K.held sink.old) bytes.now (K.held sink.new) }
     ensures later { K.faults sink.old ≤ K.faults sink.new }
     ensures cause { OnErr result (Rose (K.faults sink.old) (K.faults sink.new)) }
+    ensures steady { OnOk result (K.faults sink.new ≡ K.faults sink.old) }
 {
     let mut rest = bytes;
     while !rest.is_empty() {

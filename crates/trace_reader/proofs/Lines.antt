@@ -1,8 +1,9 @@
 -- The lines of a text that goes on.
-use Rattle.std.proofs.Common.{◌≡◌, ◌≢◌, ℕ, Bool, true, false, eqb, List, [], ◌∷◌, ◌++◌, length, refl, sym, ap, ◌∙◌}
+use Rattle.std.proofs.Common.{◌≡◌, ◌≢◌, ℕ, suc, Bool, true, false, eqb, List, [], ◌∷◌, ◌++◌, length, refl, sym, ap, ◌∙◌, append_assoc, arith}
+use Rattle.std.proofs.lemmas.List.{append-nil}
 use Rattle.std.specs.List.{onto_first}
 use Rattle.std.proofs.lemmas.List.Splits.{slice_split-cons_yes, slice_split-cons_no}
-use Rattle.trace_reader.specs.Lines.{pieces_of, ended, last_line, lines_in}
+use Rattle.trace_reader.specs.Lines.{pieces_of, ended, last_line, lines_in, IsOneLine}
 
 abbrev is_feed : ℕ → Bool
 is_feed byte = eqb byte 10
@@ -73,6 +74,15 @@ onto_last-last (x ∷ y ∷ lines) line next = ap (λ pieces. x ∷ pieces) (ont
 
 pub pieces_of-longer : (text : List ℕ) (lines : List (List ℕ)) (line : List ℕ) (next : ℕ) → is_feed next ≡ false → pieces_of text ≡ lines ++ line ∷ [] → pieces_of (text ++ next ∷ []) ≡ lines ++ (line ++ next ∷ []) ∷ []
 pieces_of-longer text lines line next other cut = pieces_of-byte text next other ∙ ap (onto_last next) cut ∙ onto_last-last lines line next
+
+-- bytes without a line feed go onto the last piece
+pub pieces_of-onward : (bytes text : List ℕ) (lines : List (List ℕ)) (line : List ℕ) → IsOneLine bytes → pieces_of text ≡ lines ++ line ∷ [] → pieces_of (text ++ bytes) ≡ lines ++ (line ++ bytes) ∷ []
+pieces_of-onward [] text lines line one cut = ap pieces_of (append-nil text) ∙ cut ∙ ap (λ l. lines ++ l ∷ []) (sym (append-nil line))
+pieces_of-onward (byte ∷ bytes) text lines line one cut =
+    ap pieces_of (sym (append_assoc text (byte ∷ []) bytes))
+    ∙ pieces_of-onward bytes (text ++ byte ∷ []) lines (line ++ byte ∷ []) (λ i d lt. one (suc i) d (omega arith))
+    (pieces_of-longer text lines line byte (one 0 0 (omega arith)) cut)
+    ∙ ap (λ l. lines ++ l ∷ []) (append_assoc line (byte ∷ []) bytes)
 
 -- the ended pieces and the lines of pieces that go on
 pub ended-append : (lines : List (List ℕ)) (piece : List ℕ) (pieces : List (List ℕ)) → ended (lines ++ piece ∷ pieces) ≡ lines ++ ended (piece ∷ pieces)

@@ -1,16 +1,15 @@
 -- What a reader knows of the text that it has read, after the next byte and at the end.
 use Rattle.std.proofs.Common.{◌≡◌, ◌≢◌, ℕ, ◌+◌, ◌≤◌, ◌<◌, true, false, List, [], ◌∷◌, ◌++◌, length, refl, sym, ap, ◌∙◌, arith, length-append, Err}
-use Rattle.std.proofs.lemmas.Bool.{ne_eqb}
 use Rattle.std.proofs.lemmas.List.{append-nil}
 use Rattle.trace_reader.specs.declared.reader.Reader.{Reader}
 use Rattle.trace_reader.specs.declared.traces.TraceError.{TraceError}
 use Rattle.trace_reader.specs.declared.traces.TraceError.TheVariants.{ReadFault, Memory, TooLarge, Malformed, TooManyTraces, TooManyRequests}
 use Rattle.trace_reader.specs.declared.traces.BadLine.TheVariants.{NoHeader}
-use Rattle.trace_reader.specs.Lines.{last_line, lines_of}
+use Rattle.trace_reader.specs.Lines.{last_line, lines_of, IsOneLine}
 use Rattle.trace_reader.specs.Text.{lines_read, refusal_of, traces_in, requests_in, IsFirstRefusal}
 use Rattle.trace_reader.specs.Answer.{AreTracesOf, IsAnswered}
 use Rattle.trace_reader.specs.Reader.{StandsBehind, StandsAt, StandsAtEnd, IfOfText, IsRefusedFor, Refuses}
-use Rattle.trace_reader.proofs.Lines.{pieces_of-feed, pieces_of-longer, last_line-begun}
+use Rattle.trace_reader.proofs.Lines.{pieces_of-feed, pieces_of-onward, last_line-begun}
 use Rattle.trace_reader.proofs.Refusals.{first_refused, end_refused, all_accepted, line_read, too_large, ended_lines, end_refusal-within, lines_of-read}
 
 IfOfText-from : (error : TraceError) (A B : Type 0) → IfOfText error A → (A → B) → IfOfText error B
@@ -32,15 +31,15 @@ line_ended old new byte feed behind cleared longer text at = rw feed (record {
   bytes = omega (arith, at.bytes, longer, length-append text (10 ∷ []));
 })
 
--- another byte goes onto it
-pub line_longer : (old new : Reader) (byte : ℕ) → byte ≢ 10
+-- other bytes go onto it
+pub line_longer : (old new : Reader) (bytes : List ℕ) → IsOneLine bytes
     → ((lines : List (List ℕ)) → StandsBehind old lines → StandsBehind new lines)
-    → new.line.items ≡ old.line.items ++ byte ∷ [] → new.bytes ≡ old.bytes + 1 → (text : List ℕ) → StandsAt old text → StandsAt new (text ++ byte ∷ [])
-line_longer old new byte other behind pushed longer text at = record {
+    → new.line.items ≡ old.line.items ++ bytes → new.bytes ≡ old.bytes + length bytes → (text : List ℕ) → StandsAt old text → StandsAt new (text ++ bytes)
+line_longer old new bytes one behind pushed longer text at = record {
   lines = at.lines;
   behind = behind at.lines at.behind;
-  cut = pieces_of-longer text at.lines old.line.items byte (ne_eqb byte 10 other) at.cut ∙ ap (λ line. at.lines ++ line ∷ []) (sym pushed);
-  bytes = omega (arith, at.bytes, longer, length-append text (byte ∷ []));
+  cut = pieces_of-onward bytes text at.lines old.line.items one at.cut ∙ ap (λ line. at.lines ++ line ∷ []) (sym pushed);
+  bytes = omega (arith, at.bytes, longer, length-append text bytes);
 }
 
 -- a line that is refused at its line feed

@@ -2,7 +2,7 @@
 use Rattle.std.proofs.Common.{◌≡◌, ℕ, List, [], ◌++◌, Option, None, Some, Result, Ok, Err, refl, sym, ap, ◌∙◌, subst, append_assoc, arith, ◌≤◌}
 use Rattle.std.specs.Prelude.{IfSome, IsErrOf}
 use Rattle.std.proofs.lemmas.List.{append-nil}
-use Rattle.std.specs.Option.{option_map}
+use Rattle.std.specs.Io.KnownBytes.{Keeps}
 use Rattle.trace_reader.specs.declared.traces.Traces.{Traces}
 use Rattle.trace_reader.specs.declared.traces.TraceError.{TraceError}
 use Rattle.trace_reader.specs.declared.traces.TraceError.TheVariants.{ReadFault, Memory, TooLarge, Malformed, TooManyTraces, TooManyRequests}
@@ -15,20 +15,29 @@ use Rattle.trace_reader.specs.Source.{Moves, EndsAt}
 
 -- two reads, one after the other
 pub Moves-append : (before between after : Option (List ℕ)) (first second : List ℕ) → Moves before first between → Moves between second after → Moves before (first ++ second) after
-Moves-append before between None first second a b = a ∙ ap (option_map (λ rest. first ++ rest)) b
-Moves-append before between (Some rest) first second a b = a ∙ ap (option_map (λ rest. first ++ rest)) b ∙ ap Some (sym (append_assoc first second rest))
+Moves-append None between after first second a b = tt
+Moves-append (Some text) None after first second a b = absurd a
+Moves-append (Some text) (Some rest) None first second a b = absurd b
+Moves-append (Some text) (Some rest) (Some last) first second a b = a ∙ ap (λ l. first ++ l) b ∙ sym (append_assoc first second last)
 
 -- no read yet
 pub Moves-none : (left : Option (List ℕ)) → Moves left [] left
-Moves-none None = refl
+Moves-none None = tt
 Moves-none (Some rest) = refl
+
+-- a read that moved nothing
+pub Moves-kept : (before between after : Option (List ℕ)) (bytes : List ℕ) → Moves before bytes between → Keeps between after → Moves before bytes after
+Moves-kept None between after bytes a kept = tt
+Moves-kept (Some text) None after bytes a kept = absurd a
+Moves-kept (Some text) (Some rest) None bytes a kept = absurd kept
+Moves-kept (Some text) (Some rest) (Some last) bytes a kept = a ∙ ap (λ l. bytes ++ l) (sym kept)
 
 -- the whole text, where nothing is left behind what was read
 pub whole_told : (before after : Option (List ℕ)) (text : List ℕ) (answer : Result Traces TraceError) → Moves before text after → EndsAt after → IsAnswered answer text → IfSome before (Answers answer)
-whole_told before None text answer moved ends is = subst (λ (b : Option (List ℕ)). IfSome b (Answers answer)) (sym moved) tt
-whole_told before (Some rest) text answer moved ends is =
-    let whole : before ≡ Some text = moved ∙ ap (λ r. Some (text ++ r)) ends ∙ ap Some (append-nil text) in
-    subst (λ (b : Option (List ℕ)). IfSome b (Answers answer)) (sym whole) (weaker answer is)
+whole_told None after text answer moved ends is = tt
+whole_told (Some whole) None text answer moved ends is = absurd moved
+whole_told (Some whole) (Some rest) text answer moved ends is =
+    subst (λ (t : List ℕ). Answers answer t) (sym (moved ∙ ap (λ r. text ++ r) ends ∙ append-nil text)) (weaker answer is)
   where
     weaker : (answer : Result Traces TraceError) → IsAnswered answer text → Answers answer text
     weaker (Ok traces) is = is
@@ -41,8 +50,9 @@ whole_told before (Some rest) text answer moved ends is =
 
 -- a refusal in the middle is that of the whole text
 pub refused_told : (before after : Option (List ℕ)) (text : List ℕ) (error : TraceError) → Moves before text after → ((rest : List ℕ) → Refuses error (text ++ rest)) → IfSome before (Answers (Err error))
-refused_told before None text error moved refuses = subst (λ (b : Option (List ℕ)). IfSome b (Answers (Err error))) (sym moved) tt
-refused_told before (Some rest) text error moved refuses = subst (λ (b : Option (List ℕ)). IfSome b (Answers (Err error))) (sym moved) (weaker error (text ++ rest) (refuses rest))
+refused_told None after text error moved refuses = tt
+refused_told (Some whole) None text error moved refuses = absurd moved
+refused_told (Some whole) (Some rest) text error moved refuses = subst (λ (t : List ℕ). Answers (Err error) t) (sym moved) (weaker error (text ++ rest) (refuses rest))
   where
     weaker : (error : TraceError) (text : List ℕ) → Refuses error text → Answers (Err error) text
     weaker ReadFault text is = tt

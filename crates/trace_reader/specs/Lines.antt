@@ -1,5 +1,5 @@
 -- A text cut into lines.
-use Rattle.std.specs.Prelude.{ℕ, ◌==◌, List, [], ◌∷◌}
+use Rattle.std.specs.Prelude.{◌≡◌, ℕ, ◌==◌, false, List, [], ◌∷◌, All}
 use Rattle.std.specs.List.{slice_split}
 
 -- the text cut at each line feed; the last piece is what stands behind the last one
@@ -25,3 +25,7 @@ lines_in (piece ∷ next ∷ pieces) = piece ∷ lines_in (next ∷ pieces)
 -- the lines of a text
 abbrev pub lines_of : List ℕ → List (List ℕ)
 lines_of text = lines_in (pieces_of text)
+
+-- no line feed is among these bytes
+abbrev pub IsOneLine : List ℕ → Type 0
+IsOneLine bytes = All (λ byte. (byte == 10) ≡ false) bytes

@@ -10,7 +10,7 @@ use crate::traces::{TraceError, Traces};
 use std::alloc::Global;
 
 /// How many bytes are asked of the source at a time.
-const PIECE: usize = 4096;
+const PIECE: usize = 16_384;
 
 /// Reads a trace text to the end of the input, or to the first thing that it is refused for.
 ///
@@ -22,8 +22,10 @@ pub fn read_traces<R: Source>(alloc: Global, source: &mut R) -> Result<Traces, T
     ensures exact { (Rose (R.faults source.old) (R.faults source.new) → ⊥) → IfSome (R.left source.old) (IsExact result) }
     ensures ordered { IfOk result (λ traces. AreInOrder traces.requests traces.count) }
 
-    // A failed read is answered only where the source counted it, and where nothing before it is refused.
+    // A failed read is answered only where the source counted it, and where nothing before it is refused. Where the
+    // source counted one, it is answered and nothing else.
     ensures fault { IsErrOf result TraceError.ReadFault → Rose (R.faults source.old) (R.faults source.new) }
+    ensures steady { (IsErrOf result TraceError.ReadFault → ⊥) → R.faults source.new ≡ R.faults source.old }
     ensures first { IsErrOf result TraceError.ReadFault → StopsBefore (R.left source.old) (R.left source.new) }
     ensures later { R.faults source.old ≤ R.faults source.new }
 {
@@ -34,6 +36,7 @@ fn read_pieces<R: Source>(alloc: Global, source: &mut R) -> Result<Traces, Trace
     ensures answer { IfSome (R.left source.old) (Answers result) }
     ensures ordered { IfOk result (λ traces. AreInOrder traces.requests traces.count) }
     ensures fault { IsErrOf result TraceError.ReadFault → Rose (R.faults source.old) (R.faults source.new) }
+    ensures steady { (IsErrOf result TraceError.ReadFault → ⊥) → R.faults source.new ≡ R.faults source.old }
     ensures first { IsErrOf result TraceError.ReadFault → StopsBefore (R.left source.old) (R.left source.new) }
     ensures later { R.faults source.old ≤ R.faults source.new }
 {

@@ -1,10 +1,26 @@
 // A text from its bytes: those of the line that has begun, and what the lines before it say.
-ghost use Rattle.std.specs.Prelude.{◌≡◌, ◌||◌, ℕ, List, [], ◌∷◌, ◌++◌, ◌+◌, ◌<◌, ◌≤◌, OnOk, IfOk, IfErr, length, nat_lt, vec_len};
+ghost use Rattle.std.specs.Prelude.{◌≡◌, ◌||◌, ℕ, List, [], ◌∷◌, ◌++◌, ◌+◌, ◌<◌, ◌≤◌, OnOk, IfOk, IfErr, length, nat_lt, position, vec_len, ◌==◌};
 
 use crate::limits::MAX_BYTES;
 use crate::line::{Line, read_line};
 use crate::traces::{BadLine, TraceError, Traces};
 use std::alloc::Global;
+
+// Where the first line feed stands.
+fn find_feed(bytes: &[u8]) -> Option<usize>
+    ensures { result ≡ position (λ byte. byte == 10) bytes.now }
+{
+    bytes.iter().position(|byte| *byte == b'\n')
+}
+
+// The text goes on past the limit.
+fn too_large() -> TraceError
+    ensures { result ≡ TraceError.TooLarge 4194305 }
+{
+    TraceError::TooLarge {
+        bytes: u64::from(MAX_BYTES) + 1,
+    }
+}
 
 /// What has been read so far. Its memory, beside the requests, is that of the longest line.
 #[derive(Drop)]
@@ -26,6 +42,7 @@ pub struct Reader {
 impl Reader {
     ghost use Rattle.map_history.specs.Requests.{AreInOrder};
     ghost use Rattle.trace_reader.specs.Answer.{Answers, IsAnswered};
+    ghost use Rattle.trace_reader.specs.Lines.{IsOneLine};
     ghost use Rattle.trace_reader.specs.Reader.{StandsAt, StandsAtEnd, StandsBehind, IsRefusedFor, Refuses, TracesAfter, ExcessOf};
     ghost use Rattle.trace_reader.specs.Said.{Says, is_counted, IsPlaced};
     ghost use Rattle.trace_reader.specs.Text.{refusal_of};
@@ -48,29 +65,54 @@ impl Reader {
         ensures err { IfErr result (λ e. (text rest : List ℕ) → StandsAt self.old text → Refuses e (text ++ piece.now ++ rest)) }
         ensures nearer { OnOk result (self.new.bytes ≡ self.old.bytes + length piece.now) }
     {
-        for byte in piece {
-            self.take(*byte)?;
+        let mut rest = piece;
+        while let Some(end) = find_feed(rest) {
+            self.keep(&rest[..end])?;
+            self.take_feed()?;
+            rest = &rest[end + 1..];
         }
+        self.keep(rest)
+    }
+
+    // Takes the next bytes, of which none ends the line.
+    fn keep(&mut self, bytes: &[u8]) -> Result<(), TraceError>
+        requires { IsOneLine bytes.now }
+        ensures ok { OnOk result ((text : List ℕ) → StandsAt self.old text → StandsAt self.new (text ++ bytes.now)) }
+        ensures err { IfErr result (λ e. (text rest : List ℕ) → StandsAt self.old text → Refuses e (text ++ bytes.now ++ rest)) }
+        ensures nearer { OnOk result (self.new.bytes ≡ self.old.bytes + length bytes.now) }
+    {
+        let room = (MAX_BYTES - self.bytes) as usize;
+        if room < bytes.len() {
+            self.append(&bytes[..room])?;
+            return Err(too_large());
+        }
+        self.append(bytes)
+    }
+
+    // Puts bytes that fit behind those of the line.
+    fn append(&mut self, bytes: &[u8]) -> Result<(), TraceError>
+        requires line { IsOneLine bytes.now }
+        requires room { self.old.bytes + length bytes.now ≤ 4194304 }
+        ensures ok { OnOk result ((text : List ℕ) → StandsAt self.old text → StandsAt self.new (text ++ bytes.now)) }
+        ensures err { IfErr result (λ e. e ≡ TraceError.Memory) }
+        ensures nearer { OnOk result (self.new.bytes ≡ self.old.bytes + length bytes.now) }
+    {
+        self.line.extend_from_slice(bytes)?;
+        self.bytes += bytes.len() as u32;
         Ok(())
     }
 
-    // Takes the next byte.
-    fn take(&mut self, byte: u8) -> Result<(), TraceError>
-        ensures ok { OnOk result ((text : List ℕ) → StandsAt self.old text → StandsAt self.new (text ++ byte ∷ [])) }
-        ensures err { IfErr result (λ e. (text rest : List ℕ) → StandsAt self.old text → Refuses e (text ++ byte ∷ rest)) }
+    // Takes a line feed.
+    fn take_feed(&mut self) -> Result<(), TraceError>
+        ensures ok { OnOk result ((text : List ℕ) → StandsAt self.old text → StandsAt self.new (text ++ 10 ∷ [])) }
+        ensures err { IfErr result (λ e. (text rest : List ℕ) → StandsAt self.old text → Refuses e (text ++ 10 ∷ rest)) }
         ensures nearer { OnOk result (self.new.bytes ≡ self.old.bytes + 1) }
     {
         if self.bytes == MAX_BYTES {
-            return Err(TraceError::TooLarge {
-                bytes: u64::from(MAX_BYTES) + 1,
-            });
+            return Err(too_large());
         }
         self.bytes += 1;
-        if byte == b'\n' {
-            return self.end_line();
-        }
-        self.line.push(byte)?;
-        Ok(())
+        self.end_line()
     }
 
     // The line that has begun is whole.

@@ -8,6 +8,7 @@ use Rattle.machine_epochs.proofs.Reached.{sound_after, descriptors_after}
 use Rattle.machine_invariant.proofs.After.{whole_after, log_words_after}
 use Rattle.machine_invariant.proofs.Rising.{rises_after}
 use Rattle.machine_facts.proofs.Following.{facts_after, step_facts_after}
+use Rattle.reached_histories.proofs.Histories.{history_after}
 use Rattle.interleave_core.proofs.Stops.{stops}
 use Rattle.interleave_core.proofs.schedules.all_schedules.Goals as goal
 
@@ -58,6 +59,11 @@ pub returns-clause-steps : goal.returns-clause-steps
 returns-clause-steps g c =
     let met = g.met.S.Structure g.world.𝓛 g.world.𝓜 g.world.𝓡 ((λ s allowed. allowed), (λ patient. patient), (λ alone. alone), (λ cuts. cuts)) in
     step_facts_after (g.S.Structure.meaning c.args.structure) (met.laws c.args.structure) c.args.layout c.args.requests.now c.args.events.now c.loop-at.machine.world
+
+pub returns-clause-history : goal.returns-clause-history
+returns-clause-history g c =
+    let met = g.met.S.Structure g.world.𝓛 g.world.𝓜 g.world.𝓡 ((λ s allowed. allowed), (λ patient. patient), (λ alone. alone), (λ cuts. cuts)) in
+    history_after (g.S.Structure.meaning c.args.structure) (met.laws c.args.structure) c.args.layout c.args.requests.now c.args.events.now c.loop-at.machine.world
 
 pub returns-in-Err-NotEnabled-clause-not_enabled : goal.returns-in-Err-NotEnabled-clause-not_enabled
 returns-in-Err-NotEnabled-clause-not_enabled g c =

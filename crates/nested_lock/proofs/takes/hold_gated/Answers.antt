@@ -1,4 +1,4 @@
-use Rattle.std.proofs.Common.{◌<◌, ◌-◌, ◌^◌, arith, sym, ap, subst, ◌∙◌}
+use Rattle.std.proofs.Common.{◌<◌, ◌-◌, ◌^◌, arith, refl, sym, ap, subst, ◌∙◌}
 use Rattle.table_words.specs.declared.layout.Layout.{Layout}
 use Rattle.runner_parts.specs.State.{RunState}
 use Rattle.commit_log.proofs.Halting.{halted_first, halted_more}
@@ -94,9 +94,12 @@ returns-clause-held g c = λ q is.
     let hold = holds m laws c.args.table.now c.table_is_allowed.ensures.limits c.table_is_allowed.ensures.requests _ c.requires.own _ _ _ may _ _ c.nested_hold-runner.ensures.event.event in
     let look = looks m laws c.args.table.now c.table_is_allowed.ensures.limits c.table_is_allowed.ensures.requests _ c.requires.own _ _ _ may _ _ c.nested_hold-runner.ensures.own hold _ _ c.outcome_load-runner.ensures.event in
     let commit = commits m laws c.args.table.now c.table_is_allowed.ensures.limits c.table_is_allowed.ensures.requests _ c.requires.own _ _ _ may _ _ c.nested_hold-runner.ensures.own hold _ _ c.outcome_load-runner.ensures.own look _ _
-    c.outcome_commit-runner.ensures.event.event in
-    subst (λ (p : RunState). HasHeld m c.args.place c.args.expected c.second_answer-answer.result c.args.runner c.outcome_commit-runner.result.0 p) (one_run m _ _ _ may.running is)
-    (then_held m laws c.args.table.now c.table_is_allowed.ensures.limits c.table_is_allowed.ensures.requests _ c.requires.own _ _ _ may _ _ c.nested_hold-runner.ensures.own hold _ _ c.outcome_load-runner.ensures.own look _ _
-    c.outcome_commit-runner.ensures.event _ commit
-    ((λ i. second_outcome ((ap (λ (l : Layout). l.version_max) (c.requires.own.layout ∙ sym c.layout.ensures)) i) (sym (c.requires.section _ may.running) i) c.args.place c.args.expected c.outcome_commit-runner.result.1)
-    ∙ c.second_answer-answer.ensures c.args.place))
+    c.outcome_commit-runner.ensures.event.event in (
+      c.outcome_commit-runner.result.1,
+      refl,
+      subst (λ (p : RunState). HasHeld m c.args.place c.args.expected c.outcome_commit-runner.result.1 c.second_answer-answer.result c.args.runner c.outcome_commit-runner.result.0 p) (one_run m _ _ _ may.running is)
+          (then_held m laws c.args.table.now c.table_is_allowed.ensures.limits c.table_is_allowed.ensures.requests _ c.requires.own _ _ _ may _ _ c.nested_hold-runner.ensures.own hold _ _ c.outcome_load-runner.ensures.own look _ _
+          c.outcome_commit-runner.ensures.event _ commit
+          ((λ i. second_outcome ((ap (λ (l : Layout). l.version_max) (c.requires.own.layout ∙ sym c.layout.ensures)) i) (sym (c.requires.section _ may.running) i) c.args.place c.args.expected c.outcome_commit-runner.result.1)
+          ∙ c.second_answer-answer.ensures c.args.place)),
+    )

@@ -1,4 +1,4 @@
-use Rattle.std.proofs.Common.{inl, inr, refl, arith, ap, sym, subst, ◌∙◌}
+use Rattle.std.proofs.Common.{◌≡◌, inl, inr, refl, arith, ap, sym, subst, ◌∙◌, None}
 use Rattle.table_words.specs.declared.layout.Layout.{Layout}
 use Rattle.runner_parts.specs.State.{RunState}
 use Rattle.runner_steps.specs.AfterInRun.{goes_on, agrees}
@@ -7,7 +7,8 @@ use Rattle.commit_log.proofs.Asked.{asked_more}
 use Rattle.commit_log.proofs.Halting.{halted_first, halted_more}
 use Rattle.commit_log.proofs.Running.{one_run, ran_one, ran_more}
 use Rattle.nested_lock.specs.Answers.{first_outcome}
-use Rattle.nested_lock.specs.Taken.{HasTaken}
+use Rattle.nested_lock.specs.Taken.{HasRead, HasTaken}
+use Rattle.nested_lock.specs.declared.takes.TakeEnd.{TakeEnd}
 use Rattle.nested_lock.proofs.Reading.{may_load, loads, commit_next, has_read, hold_next}
 use Rattle.nested_lock.proofs.Halves.{ok_none, of_some, of_none, read_ran, held_ran}
 use Rattle.nested_lock.proofs.takes.take_gated.Goals as goal
@@ -63,15 +64,16 @@ returns-then-is_err-clause-taken g c = λ q is.
     let next = commit_next m laws c.args.table.now c.table_is_allowed.ensures.limits c.table_is_allowed.ensures.requests _ c.requires.own _ _ _ may _ _ c.nested_load-runner.ensures.own load in
     let commit = c.commit-runner.ensures.commits _ next.running in
     let reads = has_read m laws c.args.table.now c.table_is_allowed.ensures.limits c.table_is_allowed.ensures.requests _ c.requires.own _ _ _ may _ _ c.nested_load-runner.ensures.own load _ _ _ commit in
-    let first = (λ i. first_outcome ((ap (λ (l : Layout). l.version_max) (c.requires.own.layout ∙ sym c.layout.ensures)) i) c.args.place c.args.expected (sym c.from_bits.ensures i))
+    let first = (λ i. first_outcome ((ap (λ (l : Layout). l.version_max) (c.requires.own.layout ∙ sym c.layout.ensures)) i) c.args.place c.args.expected (sym c.from_bits-read.ensures i))
     ∙ c.first_answer-first.ensures c.args.place in
-    subst (λ (p : RunState). HasTaken m c.args.place c.args.expected c.first_answer-first.result c.args.runner c.commit-runner.result.0 p) (one_run m _ _ _ may.running is) (record {
-      read = c.commit-runner.result.1;
+    subst (λ (p : RunState). HasTaken m c.args.place c.args.expected (record { answer = c.first_answer-first.result; first = c.from_bits-read.result; second = None }) c.args.runner c.commit-runner.result.0 p) (one_run m _ _ _ may.running is)
+    (subst (λ n. HasTaken m c.args.place c.args.expected (record { answer = c.first_answer-first.result; first = n; second = None }) c.args.runner c.commit-runner.result.0 c.requires.next.0)
+    (sym c.from_bits-read.ensures) (record {
       behind = (agrees m c.args.runner.layout (goes_on m c.args.runner.layout c.requires.next.0 c.nested_load-runner.result.1) c.commit-runner.result.1);
       between = c.commit-runner.result.0;
       reads = reads;
-      ends = inl (record { told = first; refused = sym c.is_err.ensures.value ∙ c.if-is_err.true; same = refl });
-    })
+      ends = inl (record { told = first; refused = sym c.is_err.ensures.value ∙ c.if-is_err.true; alone = refl; same = refl });
+    }))
 
 pub returns-then-is_err-clause-asked : goal.returns-then-is_err-clause-asked
 returns-then-is_err-clause-asked g c =
@@ -99,7 +101,7 @@ hold_gated-requires-clause-next g c κs within =
     let load = loads m laws c.args.table.now c.table_is_allowed.ensures.limits c.table_is_allowed.ensures.requests _ c.requires.own _ _ _ may _ _ c.nested_load-runner.ensures.event in
     let next = commit_next m laws c.args.table.now c.table_is_allowed.ensures.limits c.table_is_allowed.ensures.requests _ c.requires.own _ _ _ may _ _ c.nested_load-runner.ensures.own load in
     let commit = c.commit-runner.ensures.commits _ next.running in
-    let first = (λ i. first_outcome ((ap (λ (l : Layout). l.version_max) (c.requires.own.layout ∙ sym c.layout.ensures)) i) c.args.place c.args.expected (sym c.from_bits.ensures i))
+    let first = (λ i. first_outcome ((ap (λ (l : Layout). l.version_max) (c.requires.own.layout ∙ sym c.layout.ensures)) i) c.args.place c.args.expected (sym c.from_bits-read.ensures i))
     ∙ c.first_answer-first.ensures c.args.place in
     let none = first ∙ ok_none c.args.place c.first_answer-first.result (sym c.is_err.ensures.value ∙ c.if-is_err.false) in (
       (agrees m c.args.runner.layout (goes_on m c.args.runner.layout c.requires.next.0 c.nested_load-runner.result.1) c.commit-runner.result.1),
@@ -128,16 +130,23 @@ returns-clause-taken g c =
     let next = commit_next m laws c.args.table.now c.table_is_allowed.ensures.limits c.table_is_allowed.ensures.requests _ c.requires.own _ _ _ may _ _ c.nested_load-runner.ensures.own load in
     let commit = c.commit-runner.ensures.commits _ next.running in
     let reads = has_read m laws c.args.table.now c.table_is_allowed.ensures.limits c.table_is_allowed.ensures.requests _ c.requires.own _ _ _ may _ _ c.nested_load-runner.ensures.own load _ _ _ commit in
-    let first = (λ i. first_outcome ((ap (λ (l : Layout). l.version_max) (c.requires.own.layout ∙ sym c.layout.ensures)) i) c.args.place c.args.expected (sym c.from_bits.ensures i))
+    let first = (λ i. first_outcome ((ap (λ (l : Layout). l.version_max) (c.requires.own.layout ∙ sym c.layout.ensures)) i) c.args.place c.args.expected (sym c.from_bits-read.ensures i))
     ∙ c.first_answer-first.ensures c.args.place in
     let none = first ∙ ok_none c.args.place c.first_answer-first.result (sym c.is_err.ensures.value ∙ c.if-is_err.false) in
-    of_some _ _ _ c.hold_gated.result.1 c.hold_gated.ensures.held c.hold_gated.ensures.held (λ answer held same q is.
-    subst (λ (p : RunState). HasTaken m c.args.place c.args.expected answer c.args.runner c.hold_gated.result.0 p) (one_run m _ _ _ may.running is) (record {
-      read = c.commit-runner.result.1;
+    of_some _ _ _ c.hold_gated.result.1 c.hold_gated.ensures.first c.hold_gated.ensures.held (λ (end : TakeEnd) same held q is.
+    let e : end.first ≡ c.commit-runner.result.1 = same ∙ c.from_bits-read.ensures in
+    let second = held (agrees m c.args.runner.layout (goes_on m c.args.runner.layout c.requires.next.0 c.nested_load-runner.result.1) c.commit-runner.result.1) reads.goes_on in
+    subst (λ (p : RunState). HasTaken m c.args.place c.args.expected end c.args.runner c.hold_gated.result.0 p) (one_run m _ _ _ may.running is) (record {
       behind = (agrees m c.args.runner.layout (goes_on m c.args.runner.layout c.requires.next.0 c.nested_load-runner.result.1) c.commit-runner.result.1);
       between = c.commit-runner.result.0;
-      reads = reads;
-      ends = inr (record { told = none; held = held (agrees m c.args.runner.layout (goes_on m c.args.runner.layout c.requires.next.0 c.nested_load-runner.result.1) c.commit-runner.result.1) reads.goes_on });
+      reads = subst (λ n. HasRead m c.args.place n c.args.runner c.commit-runner.result.0 c.requires.next.0
+          (agrees m c.args.runner.layout (goes_on m c.args.runner.layout c.requires.next.0 c.nested_load-runner.result.1) c.commit-runner.result.1)) (sym e) reads;
+      ends = inr (record {
+        told = ap (first_outcome c.args.runner.layout.version_max c.args.place c.args.expected) e ∙ none;
+        read = second.0;
+        again = second.1;
+        held = second.2;
+      });
     }))
 
 pub returns-clause-asked : goal.returns-clause-asked
@@ -150,11 +159,12 @@ returns-clause-asked g c =
     let next = commit_next m laws c.args.table.now c.table_is_allowed.ensures.limits c.table_is_allowed.ensures.requests _ c.requires.own _ _ _ may _ _ c.nested_load-runner.ensures.own load in
     let commit = c.commit-runner.ensures.commits _ next.running in
     let reads = has_read m laws c.args.table.now c.table_is_allowed.ensures.limits c.table_is_allowed.ensures.requests _ c.requires.own _ _ _ may _ _ c.nested_load-runner.ensures.own load _ _ _ commit in
-    of_some _ _ _ c.hold_gated.result.1 c.hold_gated.ensures.held c.hold_gated.ensures.asked (λ answer held asked. record {
+    of_some _ _ _ c.hold_gated.result.1 c.hold_gated.ensures.held c.hold_gated.ensures.asked (λ (end : TakeEnd) held asked.
+    let second = held (agrees m c.args.runner.layout (goes_on m c.args.runner.layout c.requires.next.0 c.nested_load-runner.result.1) c.commit-runner.result.1) reads.goes_on in record {
       made = 5;
       few = omega arith;
       ran = ran_more m 2 3 _ _ _ (read_ran m c.args.place c.args.runner c.commit-runner.result.0 c.requires.next.0 _ _ reads)
-          (held_ran m c.args.place c.commit-runner.result.0 c.hold_gated.result.0 (agrees m c.args.runner.layout (goes_on m c.args.runner.layout c.requires.next.0 c.nested_load-runner.result.1) c.commit-runner.result.1) c.args.expected answer (held (agrees m c.args.runner.layout (goes_on m c.args.runner.layout c.requires.next.0 c.nested_load-runner.result.1) c.commit-runner.result.1) reads.goes_on));
+          (held_ran m c.args.place c.commit-runner.result.0 c.hold_gated.result.0 (agrees m c.args.runner.layout (goes_on m c.args.runner.layout c.requires.next.0 c.nested_load-runner.result.1) c.commit-runner.result.1) c.args.expected second.0 end.answer second.2);
       asked = asked_more 2 3 _ _ _ _ _ _ _ _ _ _ (asked_more 1 1 _ _ _ _ _ _ _ _ _ _ c.if-not-passes.ensures c.if-not-passes-2.ensures) asked;
     })
 

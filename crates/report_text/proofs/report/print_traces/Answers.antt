@@ -18,7 +18,7 @@ loop-trace-preserved g c = record {
       subst (λ (text : List ℕ). Gathers (g.K.Sink.held c.args.sink.now) c.args.page.now.bytes text (g.K.Sink.held c.print_line.new.sink) c.print_line.new.page.bytes)
       (ap (λ l. traces_text c.args.begun c.loop-trace.trace ++ l) c.line_of_trace.ensures ∙ traces-more c.args.begun c.loop-trace.trace (omega arith))
       (Gathers-append c.loop-trace.invariant.gathers c.in_ok-print_line.ensures.ok);
-  later = omega (arith, c.loop-trace.invariant.later, c.in_ok-print_line.ensures.later);
+  steady = c.in_ok-print_line.ensures.steady ∙ c.loop-trace.invariant.steady;
 }
 
 pub returns-clause-ok : goal.returns-clause-ok

@@ -22,7 +22,7 @@ loop-i-init g c =
           (Underway-start _ _ _ c.new-page.ensures);
       before = λ k d low lt. omega arith;
       within = omega arith;
-      later = omega arith;
+      steady = refl;
     }
 
 pub returns-in_err-print_traces-clause-appends : goal.returns-in_err-print_traces-clause-appends
@@ -50,7 +50,7 @@ loop-i-preserved g c =
           (Underway-more next c.loop-i.invariant.underway c.in_ok-print_traces.ensures.ok) c.in_ok-print_line.ensures.ok;
       before = λ k d low lt. later_traces requests c.loop-i.i no_request c.requires.in_order k d (omega arith) lt;
       within = omega arith;
-      later = omega (arith, c.loop-i.invariant.later, c.in_ok-print_traces.ensures.later, c.in_ok-print_line.ensures.later);
+      steady = c.in_ok-print_line.ensures.steady ∙ c.in_ok-print_traces.ensures.steady ∙ c.loop-i.invariant.steady;
     }
 
 pub returns-in_err-print_traces-2-clause-appends : goal.returns-in_err-print_traces-2-clause-appends

@@ -1,4 +1,4 @@
-use Rattle.std.proofs.Common.{ℕ, ◌+◌, ◌<◌, ◌≤◌, length, get_or}
+use Rattle.std.proofs.Common.{ℕ, ◌≡◌, ◌+◌, ◌<◌, ◌≤◌, length, get_or}
 use Rattle.map_history.specs.declared.op.Request.{Request}
 use Rattle.report_text.specs.Report.{rows_of, report_text}
 use Rattle.report_text.proofs.Lines.{left_at}
@@ -10,5 +10,5 @@ invariant-loop-i g l = record {
   underway : Underway (g.K.Sink.held l.fn.sink) (report_text l.traces (rows_of l.requests l.entries l.ranks) l.size) (g.K.Sink.held l.sink) l.page.bytes (left_at l.begun l.i l.requests l.entries l.ranks l.traces l.size);
   before : (k : ℕ) (d : Request) → l.i ≤ k → k < length l.requests → l.begun ≤ (get_or l.requests k d).trace + 1;
   within : l.begun ≤ l.traces;
-  later : g.K.Sink.faults l.fn.sink ≤ g.K.Sink.faults l.sink;
+  steady : g.K.Sink.faults l.sink ≡ g.K.Sink.faults l.fn.sink;
 }

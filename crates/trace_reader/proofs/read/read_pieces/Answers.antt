@@ -1,13 +1,12 @@
-use Rattle.std.proofs.Common.{◌∙◌, [], arith, ◌++◌, ap, sym}
+use Rattle.std.proofs.Common.{◌∙◌, [], arith}
 use Rattle.std.proofs.lemmas.Result.{err_from_is_err_and}
-use Rattle.std.specs.Option.{option_map}
-use Rattle.trace_reader.proofs.Told.{Moves-append, whole_told, refused_told, no_fault_refused, no_fault_answered, stops}
+use Rattle.trace_reader.proofs.Told.{Moves-append, Moves-kept, whole_told, refused_told, no_fault_refused, no_fault_answered, stops}
 use Rattle.trace_reader.proofs.read.read_pieces.Goals as goal
 
 pub returns-in_err-count-clause-first : goal.returns-in_err-count-clause-first
 returns-in_err-count-clause-first g c = λ is.
     let (text, (at, moved)) = c.loop-reader.invariant.read in
-    stops _ _ c.loop-reader.reader text c.loop-reader.reader.few_bytes at (moved ∙ ap (option_map (λ rest. text ++ rest)) (sym c.in_err-count.ensures.failed))
+    stops _ _ c.loop-reader.reader text c.loop-reader.reader.few_bytes at (Moves-kept _ _ _ text moved c.in_err-count.ensures.failed)
 
 pub returns-then-count-eq0-clause-answer : goal.returns-then-count-eq0-clause-answer
 returns-then-count-eq0-clause-answer g c =
@@ -34,7 +33,7 @@ loop-reader-preserved g c =
     let (text, (at, moved)) = c.loop-reader.invariant.read in
     record {
       read = (_, (c.in_ok-feed.ensures.ok text at, Moves-append _ _ _ text _ moved c.in_ok-count.ensures.moved));
-      later = omega (arith, c.loop-reader.invariant.later, c.in_ok-count.ensures.later);
+      steady = c.in_ok-count.ensures.steady ∙ c.loop-reader.invariant.steady;
     }
 
 pub returns-in_err-feed-clause-answer : goal.returns-in_err-feed-clause-answer

@@ -1,4 +1,4 @@
-use Rattle.std.proofs.Common.{◌≤◌, ◌-◌, ℕ, List}
+use Rattle.std.proofs.Common.{◌≡◌, ◌-◌, ℕ, List}
 use Rattle.trace_reader.specs.Source.{Moves}
 use Rattle.trace_reader.specs.Reader.{StandsAt}
 use Rattle.trace_reader.proofs.read.read_pieces.Given as goal
@@ -6,7 +6,7 @@ use Rattle.trace_reader.proofs.read.read_pieces.Given as goal
 abbrev pub invariant-loop-reader : goal.invariant-loop-reader
 invariant-loop-reader g l = record {
   read : (text : List ℕ) × (StandsAt l.reader text × Moves (g.R.Source.left l.fn.source) text (g.R.Source.left l.source));
-  later : g.R.Source.faults l.fn.source ≤ g.R.Source.faults l.source;
+  steady : g.R.Source.faults l.source ≡ g.R.Source.faults l.fn.source;
 }
 
 abbrev pub decreases-loop-reader : goal.decreases-loop-reader

@@ -1,0 +1,15 @@
+-- The numbers that a new node's cells get.
+use Rattle.std.specs.Prelude.{ℕ, List, [], ◌∷◌, slice_index_or}
+use Rattle.section_body.specs.declared.value.Init.{Init}
+use Rattle.section_body.specs.declared.value.Value.{Value}
+use Rattle.section_body.specs.declared.value.Value.TheVariants.{Const}
+
+-- the number that this value gives a cell, where it names no register
+abbrev pub number_of : Value → ℕ
+number_of (Const number) = number
+number_of _ = 0
+
+-- the numbers of a node's five values
+abbrev pub numbers_of : Init → List ℕ
+numbers_of init = let at : ℕ → ℕ = λ cell. number_of (slice_index_or init.cells cell (Const 0)) in
+    at 0 ∷ at 1 ∷ at 2 ∷ at 3 ∷ at 4 ∷ []

@@ -1,0 +1,73 @@
+-- Every state that the machine reaches stands beside joint states that are joined with a history.
+use Rattle.std.proofs.Common.{◌≡◌, ◌∙◌, ℕ, List, le_of_eq, refl, sym, subst, Some, None}
+use Rattle.map_history.specs.declared.op.Request.{Request}
+use Rattle.table_words.specs.declared.layout.Layout.{Layout}
+use Rattle.table_words.specs.Limits.{IsWithinLimits}
+use Rattle.structure_laws.specs.Meaning.{Meaning}
+use Rattle.structure_laws.specs.Laws.{Laws}
+use Rattle.runner_parts.specs.declared.event.Event.{Event}
+use Rattle.runner_parts.specs.State.{PartState}
+use Rattle.history_core.specs.Schedules.{first_state}
+use Rattle.machine_states.specs.World.{World, happens}
+use Rattle.machine_states.specs.First.{IsFirst}
+use Rattle.machine_states.specs.Reached.{Reached}
+use Rattle.machine_states.specs.Sight.{sight}
+use Rattle.machine_states.proofs.Reached.{first_reached, more_reached, reached_has, reached_all}
+use Rattle.machine_states.proofs.FirstSights.{first_parts}
+use Rattle.machine_states.proofs.Sights.{happens_steps, some_none}
+use Rattle.machine_epochs.specs.Entries.{counts_of}
+use Rattle.machine_epochs.specs.Firsts.{first_place}
+use Rattle.machine_epochs.proofs.FirstJoin.{each_part}
+use Rattle.machine_scenes.specs.Shown.{States}
+use Rattle.machine_history.specs.Laws.{IsJoined}
+use Rattle.machine_history.proofs.Joining.{first_joined}
+use Rattle.machine_invariant.specs.After.{AreAllowed}
+use Rattle.machine_invariant.proofs.First.{first_beside, first_whole, same_states, first_scene}
+use Rattle.machine_facts.specs.Known.{KnownStand}
+use Rattle.machine_facts.proofs.Following.{facts_after}
+use Rattle.machine_records.specs.Requests.{requests_of}
+use Rattle.machine_records.proofs.First.{first_kept}
+use Rattle.machine_records.proofs.Steps.{first_told}
+use Rattle.reached_histories.proofs.Quietly.{with_history}
+use Rattle.reached_histories.proofs.Steps.{Stands, step_stands}
+
+module _ (m : Meaning) (laws : Laws m) (l : Layout) (limits : IsWithinLimits l) (rs : List Request) (allowed : AreAllowed rs) where
+  first_stands : (w : World) → IsFirst m l rs w → Stands m laws l limits rs allowed (sight m l rs w)
+  first_stands w first = record {
+    beside = first_beside m laws l limits rs w first;
+    history = first_state;
+    whole = first_whole m laws l limits rs w first;
+    asked = refl;
+    joined = subst (λ (j : States). IsJoined m l (counts_of m l) (requests_of m l rs) (with_history m laws l limits rs j first_state))
+        (same_states m laws l limits rs w first)
+        (first_joined m laws l limits (counts_of m l) refl (requests_of m l rs) refl (first_place m l) (first_scene m laws l limits rs w first) _);
+    kept = first_kept m l rs w first;
+    told = first_told m l rs w first;
+    publications = λ r x at. some_none x (sym (none_published r) ∙ at);
+  }
+    where
+      none_published : (r : ℕ) → ((sight m l rs w).part r).published ≡ None
+      none_published r = subst (λ (p : PartState). p.published ≡ None) (sym (first_parts m l w.parts first.parts r))
+          (each_part m l (λ p. p.published ≡ None) refl (λ n. refl) refl r)
+
+  known_at : (w : World) → Reached m l rs w → KnownStand (sight m l rs w)
+  known_at w reached = (facts_after m laws l rs reached.events w limits allowed reached.after).here.known
+
+  -- a reached state with it
+  record Has (w : World) : Type 0 where
+    pub reached : Reached m l rs w
+    pub stands : Stands m laws l limits rs allowed (sight m l rs w)
+
+  step_has : (w v : World) (e : Event) → Has w → happens m l rs w e ≡ Some v → Has v
+  step_has w v e old goes =
+      let reached = more_reached m l rs w v e old.reached goes in
+      let all = reached_all m l rs w old.reached in record {
+        reached = reached;
+        stands = step_stands m laws l limits rs allowed (sight m l rs w) (sight m l rs v) e.runner e.kind
+            (happens_steps m l rs w v e (record { words = le_of_eq (sym all.words); parts = all.parts }) goes).0
+            (known_at v reached) old.stands;
+      }
+
+  pub reached_stands : (w : World) → Reached m l rs w → Stands m laws l limits rs allowed (sight m l rs w)
+  reached_stands w reached = (reached_has m l rs Has
+      (λ v start. record { reached = first_reached m l rs v start; stands = first_stands v start }) step_has w reached).stands

@@ -1,0 +1,340 @@
+-- Each step of the machine is steps of the joint states with the history.
+use Rattle.std.specs.Prelude.{◌==◌, cond, slice_get, Bool, true, false, []}
+use Rattle.std.proofs.Common.{◌≡◌, ◌≢◌, ℕ, suc, List, ◌∷◌, ◌++◌, length, refl, sym, ap, ◌∙◌, subst, ⊎_elim, arith, Option, Some, None}
+use Rattle.std.proofs.lemmas.Bool.{cases_eq}
+use Rattle.std.proofs.lemmas.List.{append-nil}
+use Rattle.map_history.specs.declared.op.Request.{Request}
+use Rattle.section_body.specs.Line.{line, micro_at, committed}
+use Rattle.section_body.specs.declared.thunk.Thunk.{Thunk}
+use Rattle.structure_laws.proofs.Changes.{upd_same, upd_other}
+use Rattle.table_words.specs.declared.layout.Layout.{Layout}
+use Rattle.table_words.specs.Limits.{IsWithinLimits}
+use Rattle.structure_laws.specs.Meaning.{Meaning}
+use Rattle.structure_laws.specs.Laws.{Laws}
+use Rattle.runner_parts.specs.declared.entries.Known.{Known}
+use Rattle.runner_parts.specs.declared.entries.Published.{Published}
+use Rattle.runner_parts.specs.declared.event.EventKind.{EventKind}
+use Rattle.runner_parts.specs.declared.event.EventKind.TheVariants as kinds
+use Rattle.runner_parts.specs.State.{PartState}
+use Rattle.runner_steps.specs.AfterOutside.{published_by}
+use Rattle.runner_steps.specs.Asks.{asks}
+use Rattle.agreement_core.specs.Events as agreement
+use Rattle.agreement_core.specs.Schedules as agreement_schedules
+use Rattle.epoch_core.specs.State.{Counts}
+use Rattle.epoch_core.specs.History.{is_out}
+use Rattle.epoch_core.specs.Schedules as epoch_schedules
+use Rattle.history_core.specs.State.{Requests, HistoryState}
+use Rattle.history_core.specs.Events as history
+use Rattle.history_core.specs.Schedules.{after_all}
+use Rattle.machine_states.specs.Sight.{Sight, Steps, sight_after}
+use Rattle.machine_states.proofs.Steps.{some_same}
+use Rattle.machine_epochs.specs.Entries.{counts_of}
+use Rattle.machine_scenes.specs.Shown.{States, rules_of}
+use Rattle.machine_scenes.specs.Steps as scenes
+use Rattle.machine_history.specs.Steps.{Joint, Publish}
+use Rattle.machine_history.specs.Laws.{IsJoined}
+use Rattle.machine_history.proofs.Joining.{steps_keep}
+use Rattle.machine_invariant.specs.After.{AreAllowed}
+use Rattle.machine_invariant.specs.Whole.{Beside, states_of, IsWhole}
+use Rattle.machine_invariant.proofs.AllKinds.{step_whole}
+use Rattle.machine_invariant.proofs.Following.{StepsWhole}
+use Rattle.machine_invariant.proofs.Jointly.{behind_lock, GoesQuietly, GoesByPublishing}
+use Rattle.machine_facts.specs.Known.{KnownStand}
+use Rattle.machine_records.specs.Requests.{requests_of}
+use Rattle.machine_records.specs.Kept.{link_of, AreKept}
+use Rattle.machine_records.specs.Told.{RunsAreTold}
+use Rattle.machine_records.specs.Keeping.{answered_in, learns, ends, PublishesNothing}
+use Rattle.machine_records.specs.Publishing.{IsPublication, behind_read}
+use Rattle.machine_records.proofs.Keeping.{steps_kept, ends_are_own, publications_kept, after_append, own, others, others_same}
+use Rattle.machine_records.proofs.Keeping as keeping
+use Rattle.machine_records.proofs.Parts.{WasPublished}
+use Rattle.machine_records.proofs.Publishing.{publications_may_come}
+use Rattle.machine_records.proofs.Steps.{steps_tell}
+use Rattle.reached_histories.proofs.Quietly.{KnowsAlike, goes_alike, goes_nowhere, JoinedAlike, with_history, passes_joined}
+use Rattle.reached_histories.proofs.Publications.{IsOwn, goes_later, later_between, own_later, own_published, own_elsewhere}
+use Rattle.reached_histories.proofs.Learning.{learns_alike, learns_joined, ends_joined}
+
+-- what runners keep, by what is known and published
+kept_alike : (s : Sight) (w v : HistoryState) → KnowsAlike w v → AreKept s w → AreKept s v
+kept_alike s w v alike kept = record {
+  known = λ i n. ap (λ (f : ℕ → ℕ → Bool). f i n) alike.known ∙ kept.known i n;
+  published = λ i. ap (λ (f : ℕ → ℕ). f i) alike.published ∙ kept.published i;
+}
+
+of_link : (over : Bool) (n d : ℕ) → cond over 0 (suc n) ≡ suc d → n ≡ d
+of_link true n d e = absurd (let z = e in cc)
+of_link false n d e = let z = e in omega arith
+
+-- behind the end of an own run nothing else is published
+ended_link : (c : Requests) (w : HistoryState) (r before now i d : ℕ) → (after_all c w (ends r before now)).published i ≡ suc d
+    → w.published i ≡ suc d
+ended_link c w r before now i d = by (before == now)
+  where
+    by : (b : Bool) → (after_all c w (cond b [] (history.Over r ∷ []))).published i ≡ suc d → w.published i ≡ suc d
+    by true e = e
+    by false e = ⊎_elim
+        (λ own. absurd (let clash : 0 ≡ suc d = sym (upd_same w.published r i 0 own) ∙ e in cc))
+        (λ ne. sym (upd_other w.published r i 0 ne) ∙ e)
+        (cases_eq i r)
+
+module _ (m : Meaning) (laws : Laws m) (l : Layout) (limits : IsWithinLimits l) (rs : List Request) (allowed : AreAllowed rs) where
+  abbrev c : Counts
+  c = counts_of m l
+
+  abbrev requests : Requests
+  requests = requests_of m l rs
+
+  -- a state of the machine that meets the whole invariant, beside joint states that are joined with a history
+  pub record Stands (s : Sight) : Type 0 where
+    pub beside : Beside
+    pub history : HistoryState
+    pub whole : IsWhole m l beside s
+    pub asked : beside.publications.requests ≡ rs
+    pub joined : IsJoined m l c requests (with_history m laws l limits rs (states_of beside s) history)
+    pub kept : AreKept s history
+    pub told : RunsAreTold m s
+    -- what is known of the sections that workers have published and not retired
+    pub publications : (r : ℕ) (x : Published) → (s.part r).published ≡ Some x
+        → IsOwn requests history (s.part r).records.known r x.descriptor x.thunk.request x.known
+
+  -- the same of what was there before, but for being over
+  pub same_own : (w : HistoryState) (known : List Known) (i : ℕ) (x x' : Published) → x'.descriptor ≡ x.descriptor → x'.thunk ≡ x.thunk
+      → x'.known ≡ x.known → IsOwn requests w known i x.descriptor x.thunk.request x.known
+      → IsOwn requests w known i x'.descriptor x'.thunk.request x'.known
+  same_own w known i x x' descriptor thunk count is =
+      subst (λ n. IsOwn requests w known i n x'.thunk.request x'.known) (sym descriptor)
+      (subst (λ (t : Thunk). IsOwn requests w known i x.descriptor t.request x'.known) (sym thunk)
+      (subst (λ n. IsOwn requests w known i x.descriptor x.thunk.request n) (sym count) is))
+
+  -- a step on the same word, of a kind that is known
+  of_kind : (s s' : Sight) (r : ℕ) (kind kind' : EventKind) → kind ≡ kind' → Steps m l rs s s' r kind → Steps m l rs s s' r kind'
+  of_kind s s' r kind kind' same step = record {
+    runner = step.runner;
+    ask = step.ask;
+    asked = subst (λ (k : EventKind). asks m l rs r k (s.part r) ≡ Some step.ask) same step.asked;
+    has_word = step.has_word;
+    next = subst (λ (k : EventKind). s' ≡ sight_after m l s r k step.ask) same step.next;
+  }
+
+  module _ (s s' : Sight) (r : ℕ) (kind : EventKind) (step : Steps m l rs s s' r kind) (known : KnownStand s') (old : Stands s) where
+    abbrev g : Beside
+    g = old.beside
+
+    abbrev w : HistoryState
+    w = old.history
+
+    pub one : StepsWhole m l rs g s s' r kind
+    one = step_whole m laws l limits rs allowed.in_order.few allowed.each g s s' r kind old.whole old.asked step
+
+    abbrev g' : Beside
+    g' = record {
+      agreement = agreement_schedules.after_all (rules_of m l) g.agreement one.es;
+      epochs = epoch_schedules.after_all c g.epochs one.vs;
+      publications = one.publications;
+    }
+
+    same_ask : one.ask ≡ step.ask
+    same_ask = some_same one.ask step.ask (sym one.asked ∙ step.asked)
+
+    -- a published section that isn't run to its end is live
+    live : (i d : ℕ) → w.published i ≡ suc d → g.agreement.live d ≡ true
+    live i d is = by (s.part i).published refl (sym (old.kept.published i) ∙ is)
+      where
+        by : (o : Option Published) → (s.part i).published ≡ o → link_of (s.part i).published ≡ suc d → g.agreement.live d ≡ true
+        by None none e = absurd (let clash : 0 ≡ suc d = sym (ap link_of none) ∙ e in cc)
+        by (Some y) some e = subst (λ n. g.agreement.live n ≡ true) (of_link y.over y.descriptor d (sym (ap link_of some) ∙ e))
+            (old.whole.tied.is_live y.descriptor ((old.whole.slots.tied i).published y some))
+
+    -- what a worker has published and not run to its end is what it has published and not retired
+    linked : (i : ℕ) (x : Published) → (s.part i).published ≡ Some x → (e : ℕ) → w.published i ≡ suc e → x.descriptor ≡ e
+    linked i x at e is = of_link x.over x.descriptor e (sym (ap link_of at) ∙ (sym (old.kept.published i) ∙ is))
+
+    -- nothing is published: the own run may come to its end first, and what the runner comes to know is learned last
+    module _ (quiet : GoesQuietly m l g s kind (s.word one.ask.0) (states_of g' s')) where
+      nothing : PublishesNothing m l rs s s' r kind step
+      nothing t d is e = quiet.nothing t d is (ap s.word (ap (λ x. x.0) same_ask) ∙ e)
+
+      abbrev now : ℕ
+      now = link_of (s'.part r).published
+
+      abbrev ns : List ℕ
+      ns = answered_in (s'.part r).records.known
+
+      ended : HistoryState
+      ended = after_all requests w (ends r (link_of (s.part r).published) now)
+
+      ended_joined : IsJoined m l c requests (with_history m laws l limits rs (states_of g s) ended)
+      unfolding ended
+      ended_joined = ends_joined m laws l limits rs g s w r now old.whole old.kept old.told old.joined
+          (ends_are_own m l rs g s s' r kind old.whole step nothing)
+
+      ended_live : (i d : ℕ) → ended.published i ≡ suc d → g.agreement.live d ≡ true
+      unfolding ended
+      ended_live i d is = live i d (ended_link requests w r (link_of (s.part r).published) now i d is)
+
+      passed : JoinedAlike m laws l limits rs ended (states_of g' s')
+      passed = passes_joined m laws l limits rs (states_of g s) ended ended_live (states_of g' s') quiet.passed
+          (record { history = ended; joined = ended_joined; on = goes_nowhere requests ended })
+
+      kept_now : AreKept s' (after_all requests passed.history (learns r ns))
+      unfolding ended
+      kept_now = kept_alike s' _ _ (learns_alike requests r ns ended passed.history (goes_alike requests _ _ passed.on))
+          (subst (AreKept s') (after_append requests r (ends r (link_of (s.part r).published) now) (learns r ns) w)
+          (steps_kept m l rs requests g s s' w r kind old.whole step nothing old.kept))
+
+      grown : (i : ℕ) → (more : List Known) × ((s'.part i).records.known ≡ (s.part i).records.known ++ more)
+      grown i = ⊎_elim
+          (λ same. subst (λ k. (more : List Known) × ((s'.part k).records.known ≡ (s.part k).records.known ++ more)) (sym same)
+          (own m l rs g s s' r kind old.whole step nothing).appends)
+          (λ ne. ([], (others m l rs g s s' r kind old.whole step i ne).known ∙ sym (append-nil (s.part i).records.known)))
+          (cases_eq i r)
+
+      was : (i : ℕ) (x' : Published) → (s'.part i).published ≡ Some x' → WasPublished (s.part i).published x'
+      was i x' at = ⊎_elim
+          (λ same. subst (λ k. WasPublished (s.part k).published x') (sym same)
+          ((own m l rs g s s' r kind old.whole step nothing).was x' (ap (λ k. (s'.part k).published) (sym same) ∙ at)))
+          (λ ne. (x', sym (others m l rs g s s' r kind old.whole step i ne).published ∙ at, refl, refl, refl))
+          (cases_eq i r)
+
+      publications_stay : (i : ℕ) (x' : Published) → (s'.part i).published ≡ Some x'
+          → IsOwn requests (after_all requests passed.history (learns r ns)) (s'.part i).records.known i x'.descriptor x'.thunk.request x'.known
+      unfolding ended
+      publications_stay i x' at =
+          let h = was i x' at in
+          let more = grown i in
+          subst (λ (known : List Known). IsOwn requests (after_all requests passed.history (learns r ns)) known i x'.descriptor x'.thunk.request x'.known)
+          (sym more.1)
+          (same_own _ _ i h.0 x' h.2 h.3 h.4
+          (own_later requests i h.0.descriptor h.0.thunk.request h.0.known w _ (s.part i).records.known more.0
+          (linked i h.0 h.1) (later_between requests r (link_of (s.part r).published) now ns w passed.history
+          (ended_link requests w r (link_of (s.part r).published) now) passed.on) (old.publications i h.0 h.1)))
+
+      pub quietly : Stands s'
+      quietly = record {
+        beside = g';
+        history = after_all requests passed.history (learns r ns);
+        whole = one.whole;
+        asked = one.requests ∙ old.asked;
+        joined = learns_joined m laws l limits rs g' s' passed.history r one.whole known passed.joined;
+        kept = kept_now;
+        told = steps_tell m l rs g s s' r kind old.whole step old.told;
+        publications = publications_stay;
+      }
+
+    -- a section is published
+    module _ (goes : GoesByPublishing m l g s r kind (s.word one.ask.0) (states_of g' s')) where
+      abbrev t : Thunk
+      t = goes.thunk
+
+      abbrev d : ℕ
+      d = goes.descriptor
+
+      hold : Steps m l rs s s' r (kinds.Hold t d)
+      hold = of_kind s s' r kind (kinds.Hold t d) goes.kind_is step
+
+      found : s.word hold.ask.0 ≡ t.word
+      unfolding hold of_kind
+      found = ap s.word (ap (λ x. x.0) (sym same_ask)) ∙ goes.found_is
+
+      publication : IsPublication m l rs (behind_read m l rs g s w t.lock) r d t
+      publication = publications_may_come m l rs allowed g s w old.whole old.kept r d t hold.ask hold.asked goes.publishes
+
+      same_request : publication.request ≡ goes.request
+      same_request = some_same publication.request goes.request
+          (sym publication.asked ∙ (ap (λ (qs : List Request). slice_get qs t.request) (sym old.asked) ∙ goes.asked))
+
+      abbrev published : HistoryState
+      published = history.after requests w (history.Publish r d t.request publication.reply)
+
+      abbrev behind : Request → States
+      behind q = scenes.after m l c (behind_lock m l (states_of g s) t.lock)
+          (scenes.Publish r d t.lock t.word t.request (micro_at (line (m.body t))) (committed (line (m.body t))) q.op t)
+
+      read_joined : IsJoined m l c requests (with_history m laws l limits rs (behind_lock m l (states_of g s) t.lock) w)
+      read_joined = steps_keep m laws l limits c refl requests refl (with_history m laws l limits rs (states_of g s) w)
+          (Joint (scenes.Agreement (agreement.Read t.lock))) (refl, (refl, tt), tt) old.joined
+
+      published_joined : IsJoined m l c requests (with_history m laws l limits rs (behind goes.request) published)
+      published_joined = subst (λ (q : Request). IsJoined m l c requests (with_history m laws l limits rs (behind q) published)) same_request
+          (steps_keep m laws l limits c refl requests refl (with_history m laws l limits rs (behind_lock m l (states_of g s) t.lock) w)
+          (Publish r d t.lock t.word t.request (micro_at (line (m.body t))) (committed (line (m.body t))) publication.request.op t publication.reply)
+          publication.may read_joined)
+
+      published_live : (i e : ℕ) → published.published i ≡ suc e → (behind goes.request).agreement.live e ≡ true
+      published_live i e is = ⊎_elim
+          (λ same. upd_same g.agreement.live d e true same)
+          (λ ne. upd_other g.agreement.live d e true ne ∙ ⊎_elim
+          (λ own. absurd (ne (same_suc e d (sym (sym (upd_same w.published r i (suc d) own) ∙ is)))))
+          (λ other. live i e (sym (upd_other w.published r i (suc d) other) ∙ is))
+          (cases_eq i r))
+          (cases_eq e d)
+        where
+          same_suc : (a b : ℕ) → suc a ≡ suc b → a ≡ b
+          same_suc a b e = omega arith
+
+      passed_on : JoinedAlike m laws l limits rs published (states_of g' s')
+      passed_on = passes_joined m laws l limits rs (behind goes.request) published published_live (states_of g' s') goes.passed
+          (record { history = published; joined = published_joined; on = goes_nowhere requests published })
+
+      -- a section that isn't retired is in another descriptor
+      elsewhere : (i : ℕ) (x : Published) → (s.part i).published ≡ Some x → x.descriptor ≢ d
+      elsewhere i x at same =
+          let used : g.agreement.used x.descriptor ≡ true =
+          old.whole.tied.used x.descriptor ∙ ap is_out ((old.whole.slots.tied i).published x at) in
+          let clash : true ≡ false = sym used ∙ (ap g.agreement.used same ∙ publication.may.enabled.enabled.0) in cc
+
+      own_now : IsOwn requests published (s.part r).records.known r d t.request (length (s.part r).records.known)
+      own_now = own_published requests w old.joined.sound r d t.request publication.reply (s.part r).records.known (old.kept.known r)
+          publication.may.idle publication.may.own publication.may.unknown
+
+      publications_go : (i : ℕ) (x : Published) → (s'.part i).published ≡ Some x
+          → IsOwn requests passed_on.history (s'.part i).records.known i x.descriptor x.thunk.request x.known
+      publications_go i x at = ⊎_elim mine theirs (cases_eq i r)
+        where
+          same_suc : (a b : ℕ) → suc a ≡ suc b → a ≡ b
+          same_suc a b e = omega arith
+
+          later : (i : ℕ) (x : Published) (known : List Known) → ((e : ℕ) → published.published i ≡ suc e → x.descriptor ≡ e)
+              → IsOwn requests published known i x.descriptor x.thunk.request x.known
+              → IsOwn requests passed_on.history known i x.descriptor x.thunk.request x.known
+          later i x known link is = subst (λ (xs : List Known). IsOwn requests passed_on.history xs i x.descriptor x.thunk.request x.known)
+              (append-nil known)
+              (own_later requests i x.descriptor x.thunk.request x.known published passed_on.history known [] link
+              (goes_later requests published passed_on.history passed_on.on) is)
+
+          mine : i ≡ r → IsOwn requests passed_on.history (s'.part i).records.known i x.descriptor x.thunk.request x.known
+          mine same =
+              let part = keeping.own_published m l rs s s' r d t hold found in
+              let is : x ≡ published_by t d (s.part r) = some_same x (published_by t d (s.part r))
+              (sym (ap (λ k. (s'.part k).published) (sym same) ∙ at) ∙ part.published) in
+              subst (λ k. IsOwn requests passed_on.history (s'.part k).records.known k x.descriptor x.thunk.request x.known) (sym same)
+              (subst (λ (xs : List Known). IsOwn requests passed_on.history xs r x.descriptor x.thunk.request x.known) (sym part.known)
+              (subst (λ (y : Published). IsOwn requests passed_on.history (s.part r).records.known r y.descriptor y.thunk.request y.known) (sym is)
+              (later r (published_by t d (s.part r)) (s.part r).records.known
+              (λ e own. same_suc d e (sym (upd_same w.published r r (suc d) refl) ∙ own)) own_now)))
+
+          theirs : i ≢ r → IsOwn requests passed_on.history (s'.part i).records.known i x.descriptor x.thunk.request x.known
+          theirs ne =
+              let part = others_same m l rs s s' r d t hold found i ne in
+              let there : (s.part i).published ≡ Some x = sym (ap (λ (p : PartState). p.published) part) ∙ at in
+              subst (λ (p : PartState). IsOwn requests passed_on.history p.records.known i x.descriptor x.thunk.request x.known) (sym part)
+              (later i x (s.part i).records.known
+              (λ e own. linked i x there e (sym (upd_other w.published r i (suc d) ne) ∙ own))
+              (own_elsewhere requests w r d t.request publication.reply (s.part i).records.known i x.descriptor x.thunk.request x.known
+              (elsewhere i x there) (old.publications i x there)))
+
+      pub publishing : Stands s'
+      publishing = record {
+        beside = g';
+        history = passed_on.history;
+        whole = one.whole;
+        asked = one.requests ∙ old.asked;
+        joined = passed_on.joined;
+        kept = kept_alike s' published passed_on.history (goes_alike requests _ _ passed_on.on)
+            (publications_kept m l rs requests g s s' w r d publication.reply t old.whole hold found old.kept);
+        told = steps_tell m l rs g s s' r kind old.whole step old.told;
+        publications = publications_go;
+      }
+
+    pub step_stands : Stands s'
+    step_stands = ⊎_elim quietly publishing one.goes

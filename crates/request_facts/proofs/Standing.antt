@@ -1,0 +1,196 @@
+-- What the history says to a runner that has its part.
+use Rattle.std.specs.Prelude.{◌&&◌, not, cond, Bool, true, false, slice_get, ◌⊎◌, All}
+use Rattle.std.proofs.Common.{◌≡◌, ◌≢◌, ℕ, zero, suc, ◌≤◌, List, refl, sym, ap, ◌∙◌, subst, ⊎_elim, inl, inr, arith, Option, Some, None}
+use Rattle.std.proofs.lemmas.List.Elements.{All-get_or}
+use Rattle.std.proofs.lemmas.Option.{slice_get_within, get_or_from_slice_get}
+use Rattle.map_history.specs.declared.op.Request.{Request}
+use Rattle.map_history.specs.Words.{word_of}
+use Rattle.section_body.specs.declared.micro.Micro.{Micro}
+use Rattle.section_body.specs.declared.micro.Micro.TheVariants.{StampExchange}
+use Rattle.history_orders.specs.Stamped.{Stamped}
+use Rattle.table_words.specs.declared.layout.Layout.{Layout}
+use Rattle.table_words.specs.declared.spot.Spot.TheVariants as spots
+use Rattle.structure_laws.specs.Meaning.{Meaning}
+use Rattle.structure_laws.specs.Laws.{Laws}
+use Rattle.structure_laws.specs.Sections.{IsAllowed}
+use Rattle.runner_parts.specs.declared.entries.Known.{Known}
+use Rattle.runner_parts.specs.declared.entries.Published.{Published}
+use Rattle.runner_parts.specs.State.{RunState}
+use Rattle.runner_parts.specs.Tests.{knows, is_answered}
+use Rattle.agreement_core.specs.State.{AgreementState, section_of}
+use Rattle.agreement_core.specs.Checks.{is_stamp_exchange}
+use Rattle.history_core.specs.State.{Requests, HistoryState}
+use Rattle.history_core.specs.Sound.{IsSound}
+use Rattle.machine_states.specs.Sight.{Sight, sight}
+use Rattle.machine_agreement.proofs.RunPlaces.{run_here, used_here, of_thunk, before}
+use Rattle.machine_history.specs.Tied.{AreTied}
+use Rattle.machine_invariant.specs.After.{AreAllowed}
+use Rattle.machine_invariant.specs.Whole.{states_of}
+use Rattle.machine_facts.specs.Known.{KnownStand}
+use Rattle.machine_facts.proofs.Following.{facts_after}
+use Rattle.machine_records.specs.Requests.{or_none, requests_of}
+use Rattle.machine_records.specs.Kept.{link_of}
+use Rattle.machine_records.proofs.First.{entry_of}
+use Rattle.reached_histories.specs.History.{IsPlaced}
+use Rattle.reached_histories.specs.Laws.{HasHistory}
+use Rattle.reached_histories.proofs.Histories.{reached_have}
+use Rattle.request_facts.specs.Placed.{IsUnserved}
+use Rattle.request_facts.specs.Laws.{HasEntry, IsKnown, IsStamping, CallersStand, ReachedCallersStand}
+use Rattle.request_facts.proofs.Replies.{IsSmall, replies_small}
+
+both : (a b : Bool) → (a && b) ≡ true → (a ≡ true) × (b ≡ true)
+both true b e = (refl, e)
+both false b e = absurd (let x = e in cc)
+
+each : (xs : List Request) (i : ℕ) (x : Request) → slice_get xs i ≡ Some x → All (λ (y : Request). IsAllowed y.op) xs → IsAllowed x.op
+each xs i x at all = subst (λ (y : Request). IsAllowed y.op) (get_or_from_slice_get xs i x x at)
+    (All-get_or (λ (y : Request). IsAllowed y.op) xs i x (slice_get_within xs i x at) all)
+
+-- a run that has not ended and stands before the exchange of its stamp
+test : (running ended : Bool) (micro : Micro) → running ≡ true → ended ≡ false → micro ≡ StampExchange
+    → (running && (not ended && is_stamp_exchange micro)) ≡ true
+test running ended micro one two three = ap (λ b. b && (not ended && is_stamp_exchange micro)) one
+    ∙ (ap (λ b. not b && is_stamp_exchange micro) two ∙ ap is_stamp_exchange three)
+
+zero_or : (n : ℕ) → (n ≡ 0) ⊎ (n ≢ 0)
+zero_or zero = inl refl
+zero_or (suc n) = inr (λ e. let z = e in omega arith)
+
+-- the entry with these fields
+known_entry : (known : List Known) (n : ℕ) (reply : Bool) → knows known n reply ≡ true
+    → (x : ℕ) × HasEntry known (record { request = n; reply = reply; number = x })
+known_entry known n reply e = let h = entry_of known n reply e in
+    (h.entry.number, (h.place, h.at ∙ ap Some (λ i. record { request = h.request i; reply = h.is i; number = h.entry.number })))
+
+module _ (m : Meaning) (l : Layout) (rs : List Request) (allowed : AreAllowed rs) (s : Sight) (stands : HasHistory m l rs s) (known : KnownStand s) where
+  abbrev c : Requests
+  c = requests_of m l rs
+
+  abbrev h : HistoryState
+  h = stands.state
+
+  abbrev a : AgreementState
+  a = stands.beside.agreement
+
+  tied : AreTied c (states_of stands.beside s) h
+  tied = stands.joined.tied
+
+  sound : IsSound c h
+  sound = stands.joined.sound
+
+  -- the operations give small values
+  small : (i : ℕ) (e : Stamped) → slice_get h.history i ≡ Some e → IsSmall e.op
+  small i e is = subst IsSmall (sym (stands.legal.entries.ops e (i, slice_get_within h.history i e is, get_or_from_slice_get h.history i e e is)))
+      (by (slice_get rs e.number) refl)
+    where
+      by : (o : Option Request) → slice_get rs e.number ≡ o → IsSmall (or_none o).op
+      by None none v given = absurd (let z = given in cc)
+      by (Some q) there v given = (each rs e.number q there allowed.each).value v given
+
+  module _ (map : m.is_map ≡ true) (r n : ℕ) (answered : is_answered (s.part r).records.known n ≡ true) where
+    placed : IsPlaced m l rs stands.beside s h.history n
+    placed = stands.asked.known r n answered
+
+    two : (knows (s.part r).records.known n false ≡ true) × (knows (s.part r).records.known n true ≡ true)
+    two = both _ _ answered
+
+    stamp_entry : (x : ℕ) × HasEntry (s.part r).records.known (record { request = n; reply = false; number = x })
+    stamp_entry = known_entry (s.part r).records.known n false two.0
+
+    reply_entry : (x : ℕ) × HasEntry (s.part r).records.known (record { request = n; reply = true; number = x })
+    reply_entry = known_entry (s.part r).records.known n true two.1
+
+    reply_number : reply_entry.0 ≡ word_of placed.entry.reply
+    reply_number = sym (known.stands r reply_entry.1.0 _ reply_entry.1.1) ∙ placed.reply map
+
+    is_known : IsKnown m l rs s (s.part r).records.known n
+    is_known = record {
+      stamp = stamp_entry.0;
+      reply = placed.entry.reply;
+      knows_stamp = stamp_entry.1;
+      knows_reply = subst (λ x. HasEntry (s.part r).records.known (record { request = n; reply = true; number = x })) reply_number reply_entry.1;
+      served = record {
+        history = stands;
+        placed = placed;
+        is_reply = replies_small h.history (sound.history.replayed map) small placed.place placed.entry placed.here;
+        of_reply = refl;
+        stamp_word = known.stands r stamp_entry.1.0 _ stamp_entry.1.1;
+        reply_word = placed.reply map;
+      };
+    }
+
+  -- a request of its own that it doesn't know, while it has no section on the way
+  is_unserved : (r n : ℕ) → c.worker n ≡ r → link_of (s.part r).published ≡ 0 → is_answered (s.part r).records.known n ≡ false → IsUnserved m l rs s n
+  is_unserved r n own idle unknown = record { stamp = no_stamp; reply = no_reply }
+    where
+      closed : (o : Option Published) (x : Published) → o ≡ Some x → link_of o ≡ 0 → x.over ≡ false → ⊥
+      closed o x is none going =
+          let clash : 0 ≡ suc x.descriptor = sym none ∙ (ap link_of is ∙ ap (λ b. cond b 0 (suc x.descriptor)) going) in cc
+
+      no_stamp : s.word (spots.Stamp n) ≡ 0
+      no_stamp = ⊎_elim (λ none. none)
+          (λ some. ⊎_elim
+          (λ told. absurd (let clash : true ≡ false = sym told ∙ (ap (λ i. is_answered (s.part i).records.known n) own ∙ unknown) in cc))
+          (λ mine. absurd (closed (s.part r).published mine.section (ap (λ i. (s.part i).published) (sym own) ∙ mine.published) idle mine.going))
+          (stands.asked.answered n some))
+          (zero_or (s.word (spots.Stamp n)))
+
+      no_reply : s.word (spots.Reply n) ≡ 0
+      no_reply = ⊎_elim (λ none. none) (λ some. absurd (stands.legal.stamped n some no_stamp)) (zero_or (s.word (spots.Reply n)))
+
+  -- a run before the exchange of its stamp, of a request of the runner's own that isn't its own section's
+  module _ (r n : ℕ) (q : RunState) (own : c.worker n ≡ r) (at : IsStamping m l rs s r n q) where
+    abbrev d : ℕ
+    d = q.descriptor
+
+    is_before : ((a.run r).running ≡ true) × ((a.run r).ended ≡ false) × ((section_of a r).code ((a.run r).at) ≡ StampExchange)
+    is_before = let b = before m l a s stands.whole.sections r q at.runs at.opened StampExchange refl refl at.next in (b.running, b.going, b.next)
+
+    loads : h.loaded r ≡ true
+    loads = tied.loaded r ∙ test (a.run r).running (a.run r).ended ((section_of a r).code ((a.run r).at)) is_before.0 is_before.1 is_before.2
+
+    same : h.run r ≡ d
+    same = (tied.runs r (sym (tied.loaded r) ∙ loads)).run ∙ (run_here m l a s stands.whole.sections r q at.runs).descriptor
+
+    used : h.used d ≡ true
+    used = subst (λ e. h.used e ≡ true) same (sound.sections.running r loads).0
+
+    begun : 1 ≤ h.stage d
+    begun = subst (λ e. 1 ≤ h.stage e) same (sound.sections.running r loads).1
+
+    request : h.request d ≡ n
+    request = (tied.sections d (used_here m l a s stands.whole.sections r q at.runs)).request
+        ∙ ((of_thunk m l a s stands.whole.sections r q at.runs at.opened).request ∙ at.request)
+
+    not_mine : h.published (c.worker (h.request d)) ≢ suc d
+    not_mine e = at.foreign (sym (stands.kept.published r) ∙ (ap h.published (sym (ap c.worker request ∙ own)) ∙ e))
+
+    is_done : (b : Bool) → h.done d ≡ b → h.done d ≡ true
+    is_done true e = e
+    is_done false e = absurd (not_mine (sound.sections.published d used e))
+
+    stamped : 2 ≤ h.stage d
+    stamped = ⊎_elim (λ none. absurd (let b = begun in omega (arith, none, b))) (λ four. omega (arith, four)) (sound.sections.ended d used (is_done (h.done d) refl))
+
+    known_here : (b : Bool) → h.known r n ≡ b → h.known r n ≡ true
+    known_here true e = e
+    known_here false e = absurd (not_mine (clash (sound.stamps.told n some unknown) (sound.stamps.stamped d used stamped).1))
+      where
+        some : h.stamp n ≢ 0
+        some = subst (λ k. h.stamp k ≢ 0) request (sound.stamps.stamped d used stamped).0
+
+        unknown : h.known (c.worker n) n ≡ false
+        unknown = ap (λ i. h.known i n) own ∙ e
+
+        clash : (h.by n ≢ 0) × (h.published (c.worker n) ≡ h.by n) → h.by (h.request d) ≡ suc d → h.published (c.worker (h.request d)) ≡ suc d
+        clash told by = ap (λ k. h.published (c.worker k)) request ∙ (told.1 ∙ (ap h.by (sym request) ∙ by))
+
+    knows_own : is_answered (s.part r).records.known n ≡ true
+    knows_own = sym (stands.kept.known r n) ∙ known_here (h.known r n) refl
+
+  all_stand : CallersStand m l rs s
+  all_stand = record { known = is_known; unserved = is_unserved; own = knows_own }
+
+pub callers_stand : (m : Meaning) → Laws m → (l : Layout) (rs : List Request) → ReachedCallersStand m l rs
+callers_stand m laws l rs limits allowed w reached =
+    all_stand m l rs allowed (sight m l rs w) (reached_have m laws l rs limits allowed w reached) (facts_after m laws l rs reached.events w limits allowed reached.after).here.known
