@@ -9,7 +9,7 @@ ghost use Rattle.hash_table.specs.Walking.{begun};
 use crate::walk::BucketWalk;
 use map_history::Op;
 use runner_parts::Structure;
-use section_body::{Body, Place, Thunk, Word, bucket_body};
+use section_body::{Body, Place, Thunk, Word, bucket_body, bucket_body_in};
 use table_words::Layout;
 
 /// A map in buckets, each with a lock, an edition and a head, from which the chain of its nodes begins. Every section that changes a chain
@@ -93,6 +93,10 @@ impl Structure for HashTable {
 
     fn body(&self, thunk: &Thunk) -> Body {
         bucket_body(thunk)
+    }
+
+    fn body_in(&self, thunk: &Thunk, body: &mut Body) {
+        bucket_body_in(thunk, body);
     }
 
     fn reaches(&self, readings: &[(Place, Word)], slot: u32) -> bool {
