@@ -1,4 +1,5 @@
-// The edge: std's readers and writers as a source and sinks. They tell of what they have left and hold what std tells of them.
+// The edge: std's readers and writers as a source and sinks. They tell of what they have left and hold what std
+// tells of them.
 ghost use Rattle.std.specs.Prelude.{◌≡◌};
 
 use fault_count::FaultCount;

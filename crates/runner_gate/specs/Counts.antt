@@ -19,7 +19,8 @@ plans_after plans (Some ask) = plus plans 1
 abbrev pub planned_after : List (Option ℕ) → Option ℕ → List (Option ℕ)
 planned_after planned halt = take 16 (planned ++ halt ∷ [])
 
--- what was counted of all gates: the halted ones that came back, the asks of those that came back, the plans, and the first 16 of these
+-- what was counted of all gates: the halted ones that came back, the asks of those that came back, the plans, and
+-- the first 16 of these
 pub record Counted : Type 0 where
   pub halts : ℕ
   pub asks : ℕ
@@ -33,9 +34,9 @@ none_counted = record { halts = 0; asks = 0; plans = 0; planned = [] }
 -- once a gate with this plan was given
 abbrev pub given : Option ℕ → Counted → Counted
 given halt counted =
-    record { halts = counted.halts; asks = counted.asks; plans = plans_after counted.plans halt; planned = planned_after counted.planned halt }
+    record counted { plans = plans_after counted.plans halt; planned = planned_after counted.planned halt }
 
 -- once a gate with so many halts and asks came back
 abbrev pub taken_back : (halts asks : ℕ) → Counted → Counted
 taken_back halts asks counted =
-    record { halts = halts_after counted.halts halts; asks = plus counted.asks asks; plans = counted.plans; planned = counted.planned }
+    record counted { halts = halts_after counted.halts halts; asks = plus counted.asks asks }

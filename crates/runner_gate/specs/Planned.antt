@@ -23,4 +23,8 @@ halts_next gate = has_come gate.at (plus gate.asks 1)
 
 -- the gate after that
 abbrev pub asked : Planned → Planned
-asked gate = record { at = gate.at; asks = plus gate.asks 1; halts = cond (halts_next gate) (plus gate.halts 1) gate.halts }
+asked gate = record {
+  at = gate.at;
+  asks = plus gate.asks 1;
+  halts = cond (halts_next gate) (plus gate.halts 1) gate.halts;
+}

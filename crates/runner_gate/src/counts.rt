@@ -31,7 +31,12 @@ impl Model for Counts {
 
     ghost Value = { Counted };
 
-    ghost view = { λ counts. record { halts = counts.halts; asks = counts.asks; plans = counts.plans; planned = counts.planned.items } };
+    ghost view = { λ counts. record {
+      halts = counts.halts;
+      asks = counts.asks;
+      plans = counts.plans;
+      planned = counts.planned.items;
+    } };
 }
 
 impl Counts {

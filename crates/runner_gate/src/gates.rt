@@ -6,8 +6,8 @@ use section_body::Gate;
 
 /// Gives each runner of a table its gate, and takes the gates back once the runners are done.
 ///
-/// It counts the gates that had halted as they came back, and the asks of those that came back, and it keeps what was planned. A count
-/// that is kept in 64 bits stands still at its last number.
+/// It counts the gates that had halted as they came back, and the asks of those that came back, and it keeps what
+/// was planned. A count that is kept in 64 bits stands still at its last number.
 pub trait Gates {
     /// The gates, which go with their runners into threads.
     type Gate: Gate + Send + Drop;
@@ -24,8 +24,8 @@ pub trait Gates {
     /// The first 16 values of `halt` that gates were given with, in the order of the calls.
     ghost planned: { Self → List (Option ℕ) };
 
-    /// A gate that wasn't asked yet, for the runner with this number. Where `halt` has a number, the gate is planned to halt at its ask with
-    /// this number, counted from 1, if the gates are of a kind that halts.
+    /// A gate that wasn't asked yet, for the runner with this number. Where `halt` has a number, the gate is planned
+    /// to halt at its ask with this number, counted from 1, if the gates are of a kind that halts.
     fn gate(&mut self, runner: u32, halt: Option<u64>) -> Self::Gate
         ensures unasked { (Self.Gate.halts result ≡ 0) × (Self.Gate.asks result ≡ 0) }
         ensures halts { halts self.new ≡ halts self.old }

@@ -10,7 +10,8 @@ use crate::gates::Gates;
 use section_body::{Gate, Pass, StepKind};
 use std::marker::Model;
 
-/// A gate that halts at its ask with a given number, counted from 1, and at each later one; or never, where no number is given.
+/// A gate that halts at its ask with a given number, counted from 1, and at each later one; or never, where no
+/// number is given.
 ///
 /// Contracts see the number, how often it was asked, and how often it halted.
 #[derive(Debug, Drop)]

@@ -20,7 +20,8 @@ const LOADS_A_TURN: u32 = 4096;
 /// How many kinds of step there are.
 const KINDS: usize = 22;
 
-/// One line of a script: the gate of `runner`, at its first ask with `at`, waits until the gate of `until_runner` was asked with `until`.
+/// One line of a script: the gate of `runner`, at its first ask with `at`, waits until the gate of
+/// `until_runner` was asked with `until`.
 #[derive(Clone, Copy, Debug, PartialEq, Eq)]
 pub struct Pause {
     /// The runner that waits.

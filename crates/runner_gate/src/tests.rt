@@ -42,7 +42,8 @@ fn gates_follow_their_plan_or_never_halt(rt: HostRuntime) {
     );
 }
 
-/// Gates of a script in which the gate of 0, at `at`, waits for that of 1 at `Hold`, and the gate of 1, as it enters, for that of 0.
+/// Gates of a script in which the gate of 0, at `at`, waits for that of 1 at `Hold`, and the gate of 1, as it
+/// enters, for that of 0.
 fn crossed(alloc: Global, at: StepKind) -> Result<ScriptedGates, AllocError> {
     let mut pauses = Vec::new(alloc);
     pauses.push(Pause {

@@ -1,12 +1,12 @@
 -- The words of a line, one after the other.
-use Rattle.std.proofs.Common.{◌≡◌, ℕ, suc, ◌+◌, ◌-◌, ◌<◌, ◌≤◌, Bool, true, false, cond, not, List, [], ◌∷◌, Option, None, Some, length, take, drop, refl, sym, ap, ◌∙◌, subst, arith, length-drop, length-take}
-use Rattle.std.specs.Prelude.{filter, unwrap_or, position, nat_lt}
+use Rattle.std.proofs.Common.{◌≡◌, ℕ, suc, ◌+◌, ◌-◌, ◌<◌, ◌≤◌, Bool, true, false, cond, not, List, [], ◌∷◌, Option, None, Some, length, get_or, take, drop, add-zero, refl, sym, ap, ◌∙◌, subst, arith, length-drop, length-take}
+use Rattle.std.specs.Prelude.{◌==◌, filter, unwrap_or, position, nat_lt}
 use Rattle.std.specs.List.{position_or_len, slice_split, onto_first}
-use Rattle.std.proofs.lemmas.List.{take_all, drop_all}
+use Rattle.std.proofs.lemmas.List.{take_all, drop_all, get_or-take, get_or-drop}
 use Rattle.std.proofs.lemmas.List.Splits.{slice_split-cons_yes, slice_split-cons_no}
 use Rattle.std.proofs.Math.Numerals.{one-add}
 use Rattle.std.proofs.lemmas.Bool.{ltb-true, ltb-false, lt-ltb}
-use Rattle.trace_reader.specs.Fields.{is_blank, fields_in}
+use Rattle.trace_reader.specs.Fields.{is_blank, is_comment, fields_in}
 
 abbrev is_word : List ℕ → Bool
 is_word word = nat_lt 0 (length word)
@@ -140,3 +140,12 @@ first_field bytes start end found ends =
           ∙ ap (λ rest. take end (behind start bytes) ∷ fields_in rest) (sym (behind-drop end (behind start bytes)));
       begun = omega (arith, len, begun, length-take end (behind start bytes), word_len-within (behind start bytes));
     }
+
+-- the byte at which a word begins is that word's first
+pub comment_found : (bytes : List ℕ) (start : ℕ) → position starts bytes ≡ Some start → (get_or bytes start 0 == 35) ≡ is_comment (fields_in bytes)
+comment_found bytes start found =
+    let end = unwrap_or (position is_blank (behind start bytes)) (length (behind start bytes)) in
+    let p = first_field bytes start end found refl in
+    let some : 0 < end = omega (arith, p.begun, length-take end (behind start bytes)) in
+    let first : get_or (take end (behind start bytes)) 0 0 ≡ get_or bytes start 0 = get_or-take end (behind start bytes) 0 0 some ∙ ap (λ l. get_or l 0 0) (behind-drop start bytes) ∙ get_or-drop start bytes 0 0 ∙ ap (λ n. get_or bytes n 0) (add-zero start) in
+    ap (λ byte. byte == 35) (sym first) ∙ ap is_comment (sym p.fields)

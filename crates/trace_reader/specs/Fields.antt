@@ -1,5 +1,5 @@
 -- The fields of a line, and the numbers that they are.
-use Rattle.std.specs.Prelude.{ℕ, ◌+◌, ◌*◌, ◌-◌, ◌==◌, Bool, ◌&&◌, ◌||◌, List, length, take, filter, if◌then◌else◌, nat_lt, fold, slice_index}
+use Rattle.std.specs.Prelude.{ℕ, ◌+◌, ◌*◌, ◌-◌, ◌==◌, Bool, false, ◌&&◌, ◌||◌, List, [], ◌∷◌, length, take, filter, if◌then◌else◌, nat_lt, fold, slice_index}
 use Rattle.std.specs.List.{slice_split, list_all}
 use Rattle.std.specs.Char.{is_ascii_digit}
 
@@ -18,6 +18,11 @@ fields_in bytes = filter (λ word. nat_lt 0 (length word)) (slice_split is_blank
 
 abbrev pub fields_of : List ℕ → List (List ℕ)
 fields_of line = fields_in (content_of line)
+
+-- the first word begins with `#`
+abbrev pub is_comment : List (List ℕ) → Bool
+is_comment [] = false
+is_comment (word ∷ words) = slice_index word 0 == 35
 
 -- one or more decimal digits
 abbrev pub is_number : List ℕ → Bool

@@ -1,5 +1,5 @@
 -- One line of a text: whether it counts, what is wrong with it, and what it asks.
-use Rattle.std.specs.Prelude.{ℕ, ◌==◌, Bool, true, false, ◌&&◌, not, List, [], ◌∷◌, length, Option, None, Some, is_none, unwrap_or, if◌then◌else◌, nat_lt, codes, slice_index}
+use Rattle.std.specs.Prelude.{ℕ, ◌==◌, Bool, true, false, ◌&&◌, not, List, [], ◌∷◌, length, Option, None, Some, is_none, unwrap_or, if◌then◌else◌, nat_lt, codes}
 use Rattle.std.specs.List.{list_all, slice_index_or}
 use Rattle.std.specs.Char.{is_ascii}
 use Rattle.std.specs.Str.{bytes_eq}
@@ -7,12 +7,12 @@ use Rattle.map_history.specs.declared.op.Op.{Op}
 use Rattle.map_history.specs.declared.op.Op.TheVariants.{Get, Ins, Del}
 use Rattle.trace_reader.specs.declared.traces.BadLine.{BadLine}
 use Rattle.trace_reader.specs.declared.traces.BadLine.TheVariants.{NotAscii, NoHeader, UnknownWord, RequestBeforeTrace, MissingField, ExtraField, BadNumber, KeyTooLarge, ValueTooLarge}
-use Rattle.trace_reader.specs.Fields.{content_of, fields_of, is_number, value_of}
+use Rattle.trace_reader.specs.Fields.{content_of, fields_of, is_comment, is_number, value_of}
 
 -- a blank line counts for nothing, and so does one that begins with `#`
 abbrev pub words_count : List (List ℕ) → Bool
 words_count [] = false
-words_count (word ∷ words) = not (slice_index word 0 == 35)
+words_count (word ∷ words) = not (is_comment (word ∷ words))
 
 abbrev pub counts : List ℕ → Bool
 counts line = words_count (fields_of line)

@@ -1,8 +1,8 @@
 // The fields of a line, and the numbers that they are.
-ghost use Rattle.std.specs.Prelude.{◌≡◌, ℕ, ◌<◌, ◌≤◌, ◌^◌, ◌∷◌, [], IfNone, IfSome, length, min, not, position};
+ghost use Rattle.std.specs.Prelude.{◌≡◌, ◌==◌, ℕ, ◌<◌, ◌≤◌, ◌^◌, ◌∷◌, [], IfNone, IfSome, length, min, not, position};
 ghost use Rattle.std.specs.Char.{is_ascii, is_ascii_digit};
 ghost use Rattle.std.specs.List.{list_all};
-ghost use Rattle.trace_reader.specs.Fields.{is_blank, fields_in, is_number, value_of, content_of};
+ghost use Rattle.trace_reader.specs.Fields.{is_blank, is_comment, fields_in, is_number, value_of, content_of};
 
 /// The line without a carriage return that ends it.
 pub fn content(line: &[u8]) -> &[u8]
@@ -14,6 +14,19 @@ pub fn content(line: &[u8]) -> &[u8]
     } else {
         line
     }
+}
+
+/// The byte with which the first field begins. None where there are only blanks.
+///
+/// Where that field ends plays no part, so a long comment isn't searched for it.
+pub fn first_byte(line: &[u8]) -> Option<u8>
+    ensures none { IfNone result (fields_in line.now ≡ []) }
+    ensures some { IfSome result (λ byte. is_comment (fields_in line.now) ≡ (byte == 35)) }
+{
+    let Some(start) = find_word(line) else {
+        return None;
+    };
+    Some(line[start])
 }
 
 /// The first field, and what stands behind it. None where there are only blanks.

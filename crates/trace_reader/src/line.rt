@@ -5,7 +5,7 @@ ghost use Rattle.trace_reader.specs.Fields.{fields_in, value_of};
 ghost use Rattle.trace_reader.specs.Line.{fault_of, fault_of_words, field, first_found, is_header, request_tests};
 ghost use Rattle.trace_reader.specs.Said.{Says, SaysWords};
 
-use crate::field::{capped_value, content, first_field, is_ascii, is_number};
+use crate::field::{capped_value, content, first_byte, first_field, is_ascii, is_number};
 use crate::limits::MAX_KEY;
 use crate::traces::BadLine;
 use map_history::Op;
@@ -26,12 +26,15 @@ pub fn read_line(line: &[u8], header: bool, begun: bool) -> Result<Line, BadLine
     ensures said { IfOk result (λ said. Says said header begun line.now) }
 {
     let content = content(line);
+    let Some(first) = first_byte(content) else {
+        return Ok(Line::Skipped);
+    };
+    if first == b'#' {
+        return Ok(Line::Skipped);
+    }
     let Some((word, rest)) = first_field(content) else {
         return Ok(Line::Skipped);
     };
-    if word[0] == b'#' {
-        return Ok(Line::Skipped);
-    }
     if !is_ascii(content) {
         return Err(BadLine::NotAscii);
     }

@@ -17,7 +17,8 @@ pub trait Source {
     ghost faults: { Self → ℕ };
 
     /// Moves bytes into the buffer from its start, and says how many. For a buffer that isn't empty, 0 is the end
-    /// of the input. Failed moves nothing, and comes only where the count of faults rose; any other answer leaves it as it was.
+    /// of the input. Failed moves nothing, and comes only where the count of faults rose; any other answer leaves it
+    /// as it was.
     fn read(&mut self, buffer: &mut [u8]) -> Result<usize, Failed>
         ensures bound { IfOk result (λ n. n ≤ length buffer.new) }
         ensures moved { IfOk result (λ n. Moves (left self.old) (take n buffer.new) (left self.new)) }

@@ -1,19 +1,17 @@
 //! Sections under locks: a section is published in its lock, and whoever meets the lock held runs it to its end.
 //!
-//! `planner` is what a structure offers to those who plan sections on it, and `planned` what a plan answers. `section` has what a caller
-//! holds of its own section, `publishes` how a section is published, `runs` how it is run, by its publisher or by others, `retires` how one is retired that is done (Ben-David, Blelloch, Wei,
-//! *Lock-free locks revisited*, 2022).
+//! `planned` is what a plan answers; plans stand in `lock_walks`. `section` has what a caller holds of its own section, `publishes` how a
+//! section is published, `runs` how it is run, by its publisher or by others, `retires` how one is retired that is done (Ben-David,
+//! Blelloch, Wei, *Lock-free locks revisited*, 2022).
 #![tactic(auto)]
 
 mod planned;
-mod planner;
 mod publishes;
 mod retires;
 mod runs;
 mod section;
 
 pub use planned::Planned;
-pub use planner::Planner;
 pub use publishes::publish;
 pub use retires::retire_section;
 pub use runs::{help, run_section};

@@ -2,28 +2,45 @@
 ghost use Rattle.std.specs.Prelude.{◌≡◌, true, Some, IfOk, slice_get};
 ghost use Rattle.std.specs.FinMap.{entries};
 ghost use Rattle.map_history.specs.Replay.{Pairs};
+ghost use Rattle.table_words.specs.Limits.{IsWithinLimits};
 ghost use Rattle.structure_laws.specs.Planner.{PlannerLaws};
+ghost use Rattle.structure_laws.specs.Sections.{IsAllowed};
 ghost use Rattle.version_words.specs.TableState.{IsOf};
 ghost use Rattle.try_lock.specs.Planning.{Planning};
 ghost use Rattle.try_lock.specs.Plans.{MayPlan, HasPlanned};
 ghost use Rattle.try_lock.specs.Contents.{StandFor, NamesNone};
+ghost use Rattle.lock_walks.specs.Way.{Leads};
 
-use crate::planned::Planned;
+use crate::plans::plan_by;
+use crate::walker::Walker;
 use map_history::{Op, Request};
 use runner_parts::Structure;
 use section_body::{Gate, Steps};
 use std::alloc::{AllocError, Global};
-use version_words::{FlockTable, Runner, Words};
+use table_words::Layout;
+use try_lock::Planned;
+use version_words::{FlockTable, Runner, Words, table_is_allowed};
 
 /// A map over cells and node slots, on which requests are planned.
 ///
 /// `planning` is what its walks mean, beside what `meaning` says of a structure.
 pub trait Planner: Structure + Sized + Send + Sync {
+    /// Its walks.
+    type Walk: Walker;
+
     ghost planning: { Self → Planning };
 
     /// Whether it serves this operation.
     fn serves(&self, op: Op) -> bool
         ensures { result ≡ (planning self.now).serves op };
+
+    /// The walk of an operation that has loaded nothing. It leads a plan as the structure plans.
+    fn walk(&self, layout: Layout, op: Op) -> Self::Walk
+        requires limits { IsWithinLimits layout }
+        requires allowed { IsAllowed op }
+        ensures op { Self.Walk.way.op result ≡ op }
+        ensures planning { Self.Walk.way.planning result ≡ planning self.now }
+        ensures leads { Leads Self.Walk.way (Self.meaning self.now) layout result };
 
     /// Plans a request: walks without a lock to the key's place, loads the locks that a section needs, and answers the thunk of the
     /// request's section.
@@ -34,7 +51,7 @@ pub trait Planner: Structure + Sized + Send + Sync {
     /// node's mark is 1, Far exactly where as many links were loaded as there are node slots, and eight more, and the walk isn't at its
     /// end. Halted comes exactly where the gate halted, which its count of halts shows. Else the thunk fits the readings, which are of this
     /// call. No memory is taken (Ben-David, Blelloch, Wei, *Lock-free locks revisited*, 2022).
-    fn plan<G: Gate, L>(
+    final fn plan<G: Gate, L>(
         &self,
         table: &FlockTable<Self>,
         runner: Runner<Self>,
@@ -48,7 +65,12 @@ pub trait Planner: Structure + Sized + Send + Sync {
         requires request { slice_get table.now.requests request.now.number ≡ Some request.now }
         requires served { (planning self.now).serves request.now.op ≡ true }
         ensures own { IsOf table.now result.0 }
-        ensures plans { HasPlanned (Self.meaning self.now) (planning self.now) request.now result.1 runner result.0 (G.halts gate.old) (G.halts gate.new) (G.asks gate.old) (G.asks gate.new) steps.old.count steps.new.count };
+        ensures plans { HasPlanned (Self.meaning self.now) (planning self.now) request.now result.1 runner result.0 (G.halts gate.old) (G.halts gate.new) (G.asks gate.old) (G.asks gate.new) steps.old.count steps.new.count }
+    {
+        table_is_allowed(table);
+        let walk = self.walk(table.layout(), request.op);
+        plan_by(table, runner, request, walk, gate, steps)
+    }
 
     /// The pairs of a closed table's words, in order of key, each once.
     ///

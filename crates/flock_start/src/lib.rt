@@ -1,0 +1,67 @@
+//! The start of the program: hands the real streams and the words of the command line to `flock`.
+#![tactic(auto)]
+
+ghost use Rattle.std.specs.Prelude.{◌≡◌, ◌≢◌, ◌↔◌, IfSome};
+ghost use Rattle.std.specs.Process.{exit_status};
+ghost use Rattle.flock_tool.specs.End.{Prints, IsStatus};
+ghost use Rattle.flock_tool.specs.Words.{IsRun};
+
+use flock_tool::{StdSink, StdSource, flock};
+use report_text::Sink;
+use std::alloc::{AllocError, Global};
+use std::env;
+use std::io::ErrorKind;
+use std::process::ExitCode;
+use trace_reader::Source;
+
+/// The status for want of memory before the call.
+const MEMORY: u8 = 7;
+
+/// Runs the command of the program's words on its standard streams, and gives the status with which the program
+/// is to end.
+///
+/// It is 7 where memory is wanting for the words. Where a word is no text, the words are refused.
+pub fn start(rt: &HostRuntime) -> ExitCode {
+    let alloc = rt.alloc();
+    let Ok(args) = arguments(rt) else {
+        return ExitCode::from(MEMORY);
+    };
+    let Ok(words) = words_of(alloc, &args) else {
+        return ExitCode::from(MEMORY);
+    };
+    let mut source = StdSource::new(rt.stdin());
+    let mut sink = StdSink::new(rt.stdout());
+    let mut faults = StdSink::new(rt.stderr());
+    run(alloc, &words, &mut source, &mut sink, &mut faults)
+}
+
+// Runs the command on these streams, and ends with its status.
+fn run<R: Source, K: Sink, F: Sink>(
+    alloc: Global,
+    words: &[&str],
+    source: &mut R,
+    sink: &mut K,
+    faults: &mut F,
+) -> ExitCode
+    ensures done { exit_status result ≡ 0 → IfSome (R.left source.old) (λ text. Prints text (K.held sink.old) (K.held sink.new)) }
+    ensures words { (exit_status result ≡ 2) ↔ (IsRun words.now → ⊥) }
+    ensures reads { exit_status result ≢ 8 → R.faults source.new ≡ R.faults source.old }
+    ensures writes { exit_status result ≢ 9 → K.faults sink.new ≡ K.faults sink.old }
+    ensures statuses { IsStatus (exit_status result) }
+{
+    ExitCode::from(flock(alloc, words, source, sink, faults))
+}
+
+// The arguments, with the program's name. Where one is no text there are none, and no command has no words.
+fn arguments(rt: &HostRuntime) -> Result<Vec<String>, AllocError> {
+    match env::args(rt) {
+        Ok(args) => args.collect(rt.alloc()),
+        Err(error) if error.kind() == ErrorKind::InvalidData => Ok(Vec::new(rt.alloc())),
+        Err(_) => Err(AllocError),
+    }
+}
+
+// The arguments behind the program's name.
+fn words_of(alloc: Global, args: &[String]) -> Result<Vec<&str>, AllocError> {
+    args.iter().skip(1).map(|arg| arg.as_str()).collect(alloc)
+}

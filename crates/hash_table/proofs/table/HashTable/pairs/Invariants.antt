@@ -1,0 +1,10 @@
+use Rattle.map_history.specs.Replay.{Pairs}
+use Rattle.bucket_laws.specs.Buckets.{buckets_meaning}
+use Rattle.try_lock.specs.Contents.{StandFor}
+use Rattle.hash_table.specs.Stands.{HasGathered}
+use Rattle.hash_table.proofs.table.HashTable.pairs.Given as goal
+
+abbrev pub invariant-loop-bucket : goal.invariant-loop-bucket
+invariant-loop-bucket l = record {
+  gathered : (pairs : Pairs) (stand : StandFor (buckets_meaning l.self.bits) l.words pairs) → HasGathered l.self.bits l.words pairs stand l.bucket l.items.items;
+}

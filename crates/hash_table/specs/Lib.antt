@@ -1,0 +1,4 @@
+pub mod Walking
+pub mod Planned
+pub mod Gathered
+pub mod Stands

@@ -1,0 +1,17 @@
+-- What was gathered of the words of a closed table.
+use Rattle.std.specs.Prelude.{ℕ, ◌^◌, List}
+use Rattle.map_history.specs.Replay.{Pairs}
+use Rattle.section_body.specs.Bucket.{bucket_index}
+use Rattle.bucket_laws.specs.Buckets.{buckets_meaning, nodes}
+use Rattle.version_words.specs.TableState.{WordsState}
+use Rattle.try_lock.specs.Contents.{StandFor}
+use Rattle.hash_table.specs.Gathered.{IsGathered, IsGathering}
+
+module _ {T : Type 0} (bits : ℕ) (words : WordsState T) (pairs : Pairs) (stand : StandFor (buckets_meaning bits) words pairs) where
+  -- the pairs of the chains of all buckets below this one
+  abbrev pub HasGathered : ℕ → List (ℕ × ℕ) → Type 0
+  HasGathered below items = IsGathered (λ key. bucket_index key bits) (nodes (2 ^ bits) (λ key. bucket_index key bits) stand.cells) stand.stands.on below items
+
+  -- and those of this one's own, before the slot to which this link leads
+  abbrev pub Gathers : ℕ → ℕ → ℕ → List (ℕ × ℕ) → Type 0
+  Gathers bucket link made items = IsGathering (λ key. bucket_index key bits) (nodes (2 ^ bits) (λ key. bucket_index key bits) stand.cells) stand.stands.on stand.stands.rank bucket link made items

@@ -1,0 +1,42 @@
+//! Requests are planned on the hash table.
+ghost use Rattle.std.specs.Prelude.{◌≡◌, IfOk};
+ghost use Rattle.std.specs.FinMap.{entries};
+ghost use Rattle.map_history.specs.Replay.{Pairs};
+ghost use Rattle.bucket_laws.specs.Buckets.{buckets_meaning};
+ghost use Rattle.try_lock.specs.Contents.{StandFor, NamesNone};
+ghost use Rattle.hash_table.specs.Planned.{bucket_planning};
+ghost use Rattle.bucket_laws.proofs.Planner.{buckets_plan};
+
+use crate::table::HashTable;
+use crate::walk::BucketWalk;
+use lock_walks::Planner;
+use map_history::Op;
+use std::alloc::{AllocError, Global};
+use table_words::Layout;
+use version_words::Words;
+
+impl Planner for HashTable {
+    type Walk = BucketWalk;
+
+    ghost planning = { λ s. bucket_planning s.bits };
+
+    fn serves(&self, op: Op) -> bool {
+        let _ = op;
+        true
+    }
+
+    fn walk(&self, layout: Layout, op: Op) -> BucketWalk {
+        self.begin(layout, op)
+    }
+
+    fn contents(&self, alloc: Global, words: &Words<Self>) -> Result<Vec<(u32, u32)>, AllocError>
+        requires structure { self.now ≡ words.now.structure }
+        requires stand { (pairs : Pairs) × StandFor (buckets_meaning self.now.bits) words.now pairs }
+        requires closed { NamesNone (buckets_meaning self.now.bits) words.now }
+        ensures contents { IfOk result (λ items. (pairs : Pairs) → StandFor (buckets_meaning self.now.bits) words.now pairs → items.items ≡ entries pairs) }
+    {
+        self.pairs(alloc, words)
+    }
+
+    ghost plans_lawfully = { λ s. buckets_plan s.bits s.few };
+}

@@ -1,0 +1,362 @@
+//! The walk of a key through its bucket.
+ghost use Rattle.std.specs.Prelude.{◌≡◌, ◌+◌, ◌*◌, ◌<◌, ◌≤◌, ◌^◌, ℕ, cond, [], ◌∷◌, Some};
+ghost use Rattle.map_history.specs.Keys.{key_of};
+ghost use Rattle.map_history.specs.Words.{word_of};
+ghost use Rattle.section_body.specs.Bucket.{bucket_index};
+ghost use Rattle.bucket_laws.specs.Walk.{AtLink, AtKey, AtNext, AtLock, operands_for, form_for, is_del, is_wanted, same_numbers, fits_walk};
+ghost use Rattle.hash_table.specs.Walking.{stage_of, is_refused_of, begun, fed_by, followed, wanted_by, left_of, thunk_by};
+
+use map_history::{Op, Reply};
+use section_body::{Place, Thunk, Word, bucket_of};
+use std::marker::Model;
+
+/// What the walk loads next; it is at its end, or was refused.
+#[derive(Clone, Copy, Debug, PartialEq, Eq)]
+pub enum Stage {
+    /// The edition of the bucket.
+    Edition,
+    /// A link: the head of the chain, or the next link of a node.
+    Link,
+    /// The key of the node to which the last link leads.
+    Key,
+    /// The value of the key's node.
+    Value,
+    /// The next link of the key's node.
+    Next,
+    /// The bucket's lock.
+    Lock,
+    /// Nothing: it is whole.
+    End,
+    /// Nothing: it was refused.
+    Refused,
+}
+
+/// How far the walk of an operation's key has come.
+#[derive(Drop)]
+pub struct BucketWalk {
+    bits: u32,
+    limit: u128,
+    version_max: u32,
+    op: Op,
+    stage: Stage,
+    links: u128,
+    edition: Word,
+    head: u32,
+    place: u64,
+    slot: u32,
+    value: u32,
+    next: u32,
+    found: bool,
+    word: Word,
+}
+
+impl Model for BucketWalk {
+    ghost use Rattle.std.specs.Prelude.{◌≤◌};
+    ghost use Rattle.hash_table.specs.Walking.{Walking, HasRoom, stage_of};
+
+    ghost Value = { Walking };
+
+    ghost view = { λ a. record {
+      bits = a.bits;
+      bounds = record { links = a.limit; version_max = a.version_max };
+      op = a.op;
+      walk = record {
+        stage = stage_of a.stage;
+        links = a.links;
+        edition = a.edition;
+        head = a.head;
+        place = a.place;
+        slot = a.slot;
+        value = a.value;
+        next = a.next;
+        found = a.found;
+        word = a.word;
+      };
+    } };
+
+    ghost invariant = { λ a. (a.bits ≤ 12) × (a.limit ≤ 73786976294838206464) × HasRoom (stage_of a.stage) a.links a.limit };
+}
+
+impl BucketWalk {
+    /// A walk that has loaded nothing, among `2^bits` buckets. It is refused at a link that isn't 0 once it has loaded `limit` links,
+    /// and at a free lock from which `version_max` is less than two versions away.
+    pub fn new(bits: u32, op: Op, limit: u128, version_max: u32) -> BucketWalk
+        requires buckets { bits ≤ 12 }
+        requires some { 0 < limit }
+        requires few { limit ≤ 73786976294838206464 }
+        ensures { result ≡ begun bits op limit version_max }
+    {
+        BucketWalk {
+            bits,
+            limit,
+            version_max,
+            op,
+            stage: Stage::Edition,
+            links: 0,
+            edition: Word::from_bits(0),
+            head: 0,
+            place: 0,
+            slot: 0,
+            value: 0,
+            next: 0,
+            found: false,
+            word: Word::from_bits(0),
+        }
+    }
+
+    /// The place of the bucket's lock.
+    fn lock(&self) -> u32
+        ensures here { result ≡ 3 * bucket_index (key_of self.now.op) self.now.bits }
+        ensures low { result < 12288 }
+    {
+        3 * bucket_of(self.op.key(), self.bits)
+    }
+
+    /// The place of this cell of the slot to which the last link leads.
+    fn cell(&self, cell: u64) -> u64
+        requires { cell < 5 }
+        ensures { result ≡ 3 * 2 ^ self.now.bits + 5 * self.now.walk.slot + cell }
+    {
+        let slot: u32 = self.slot;
+        3 * (1u64 << self.bits) + 5 * u64::from(slot) + cell
+    }
+
+    /// The place that the walk loads next; None where it is at its end or was refused.
+    fn wanted(&self) -> Option<u64>
+        ensures { result ≡ wanted_by self.now }
+    {
+        match self.stage {
+            Stage::Edition => Some(u64::from(self.lock()) + 1),
+            Stage::Link => Some(self.place),
+            Stage::Key => Some(self.cell(1)),
+            Stage::Value => Some(self.cell(2)),
+            Stage::Next => Some(self.cell(3)),
+            Stage::Lock => Some(u64::from(self.lock())),
+            Stage::End | Stage::Refused => None,
+        }
+    }
+
+    /// The same, where it is the place of a cell.
+    pub fn next_place(&self) -> Option<Place>
+        requires small { (place : ℕ) → wanted_by self.now ≡ Some place → place < 2 ^ 32 }
+        ensures { result ≡ wanted_by self.now }
+    {
+        match self.wanted() {
+            Some(place) => Some(place as u32),
+            None => None,
+        }
+    }
+
+    /// Whether the walk loads this place next.
+    pub fn wants(&self, place: Place) -> bool
+        ensures { result ≡ is_wanted (wanted_by self.now) place }
+    {
+        match self.wanted() {
+            Some(wanted) => wanted == u64::from(place),
+            None => false,
+        }
+    }
+
+    /// Goes on by the word that stood at the place that the walk wanted.
+    pub fn feed(&mut self, word: Word)
+        ensures { self.new ≡ fed_by self.old word }
+    {
+        match self.stage {
+            Stage::Edition => {
+                self.edition = word;
+                self.place = u64::from(self.lock()) + 2;
+                self.stage = Stage::Link;
+            }
+            Stage::Link => self.feed_link(word.value()),
+            Stage::Key => self.feed_key(word.value()),
+            Stage::Value => {
+                self.value = word.value();
+                self.found = true;
+                self.stage = self.after_value();
+            }
+            Stage::Next => {
+                self.next = word.value();
+                self.found = true;
+                self.stage = Stage::Lock;
+            }
+            Stage::Lock => self.feed_lock(word),
+            Stage::End | Stage::Refused => {}
+        }
+    }
+
+    /// The walk in these readings: goes on by each one that it wants, up to the first that it doesn't want.
+    pub fn follow(self, readings: &[(Place, Word)]) -> BucketWalk
+        ensures { result ≡ followed self readings.now }
+    {
+        let mut walk = self;
+        for &(place, word) in readings {
+            if !walk.wants(place) {
+                return walk;
+            }
+            walk.feed(word);
+        }
+        walk
+    }
+
+    /// Goes on by a link.
+    fn feed_link(&mut self, link: u32)
+        requires { self.old.walk.stage ≡ AtLink }
+        ensures { self.new ≡ fed_by self.old link }
+    {
+        if self.place == u64::from(self.lock()) + 2 {
+            self.head = link;
+        }
+        self.links += 1;
+        self.slot = link.saturating_sub(1);
+        self.found = false;
+        self.stage = if link == 0 {
+            Stage::Lock
+        } else if self.limit <= self.links {
+            Stage::Refused
+        } else {
+            Stage::Key
+        };
+    }
+
+    /// Goes on by the key of the node.
+    fn feed_key(&mut self, key: u32)
+        requires { self.old.walk.stage ≡ AtKey }
+        ensures { self.new ≡ fed_by self.old key }
+    {
+        if key == self.op.key() {
+            self.stage = Stage::Value;
+        } else {
+            self.place = self.cell(3);
+            self.stage = Stage::Link;
+        }
+    }
+
+    /// What comes after the value of the key's node.
+    fn after_value(&self) -> Stage
+        ensures { stage_of result ≡ cond (is_del self.now.op) AtNext AtLock }
+    {
+        match self.op {
+            Op::Get(_) | Op::Ins(_, _) => Stage::Lock,
+            Op::Del(_) => Stage::Next,
+        }
+    }
+
+    /// Goes on by the lock's word.
+    fn feed_lock(&mut self, word: Word)
+        requires { self.old.walk.stage ≡ AtLock }
+        ensures { self.new ≡ fed_by self.old word }
+    {
+        self.word = word;
+        let spent = u64::from(word.version()) + 2 > u64::from(self.version_max);
+        self.stage = if word.value() == 0 && !spent {
+            Stage::End
+        } else {
+            Stage::Refused
+        };
+    }
+
+    /// Whether the walk was refused.
+    pub fn is_refused(&self) -> bool
+        ensures { result ≡ is_refused_of self.now }
+    {
+        self.stage == Stage::Refused
+    }
+
+    /// How many loads are left at most.
+    pub fn most(&self) -> u64
+        requires { left_of self.now < 2 ^ 64 }
+        ensures { result ≡ left_of self.now }
+    {
+        let left = self.limit.saturating_sub(self.links);
+        let most = match self.stage {
+            Stage::Edition | Stage::Key => 2 * left + 4,
+            Stage::Link => 2 * left + 3,
+            Stage::Value => 3,
+            Stage::Next => 2,
+            Stage::Lock => 1,
+            Stage::End | Stage::Refused => 0,
+        };
+        most as u64
+    }
+
+    /// Whether the walk is whole and this is the thunk for it.
+    pub fn fits(&self, thunk: &Thunk) -> bool
+        ensures { result ≡ fits_walk (2 ^ self.now.bits) (λ key. bucket_index key self.now.bits) self.now.op self.now.walk thunk.now }
+    {
+        self.stage == Stage::End
+            && thunk.form == self.form()
+            && thunk.lock == self.lock()
+            && thunk.word == self.word
+            && are_same(&thunk.operands, &self.operands())
+    }
+
+    /// The thunk for the request with this number, once the walk is whole.
+    pub fn thunk(&self, number: u32) -> Thunk
+        ensures { result ≡ thunk_by self.now number }
+    {
+        Thunk {
+            form: self.form(),
+            request: number,
+            lock: self.lock(),
+            word: self.word,
+            operands: self.operands(),
+        }
+    }
+
+    /// The form of the section's body: one that reads alone, that puts a node in, or that takes one out.
+    fn form(&self) -> u64
+        ensures { result ≡ form_for self.now.op self.now.walk.found }
+    {
+        match (self.op, self.found) {
+            (Op::Ins(_, _), false) => 2,
+            (Op::Del(_), true) => 3,
+            _ => 1,
+        }
+    }
+
+    /// The operands of the section's body.
+    fn operands(&self) -> [u64; 8]
+        ensures { result ≡ operands_for self.now.op self.now.walk self.now.walk.found }
+    {
+        let edition = self.edition.bits();
+        match (self.op, self.found) {
+            (Op::Get(_), true) => read(edition, Reply::Val(self.value)),
+            (Op::Ins(_, _), true) => read(edition, Reply::Dup),
+            (Op::Ins(key, value), false) => [
+                edition,
+                u64::from(key),
+                u64::from(value),
+                u64::from(self.head),
+                0,
+                0,
+                0,
+                0,
+            ],
+            (Op::Del(_), true) => [
+                edition,
+                self.place,
+                u64::from(self.slot),
+                u64::from(self.next),
+                0,
+                0,
+                0,
+                0,
+            ],
+            (Op::Get(_) | Op::Del(_), false) => read(edition, Reply::Absent),
+        }
+    }
+}
+
+/// The operands of a body that reads alone.
+fn read(edition: u64, reply: Reply) -> [u64; 8]
+    ensures { result ≡ edition ∷ word_of reply ∷ 0 ∷ 0 ∷ 0 ∷ 0 ∷ 0 ∷ 0 ∷ [] }
+{
+    [edition, reply.word(), 0, 0, 0, 0, 0, 0]
+}
+
+/// Whether these are the same operands.
+fn are_same(operands: &[u64; 8], others: &[u64; 8]) -> bool
+    ensures { result ≡ same_numbers operands.now others.now }
+{
+    operands == others
+}

@@ -1,0 +1,4 @@
+pub mod Each
+mod Walking
+mod Leading
+mod Planning

@@ -1,0 +1,14 @@
+//! Walks without a lock: what plans of all structures share.
+//!
+//! A plan loads cell after cell, asks its gate after each load, and ends where its walk is whole or where a reading refuses it.
+//! `walker` is what a structure gives for its walk, `plans` makes the loads and answers by the first refusal in the order of reading, and
+//! `planner` is what a structure offers to those who plan on it.
+#![tactic(auto)]
+
+mod planner;
+mod plans;
+mod walker;
+
+pub use planner::Planner;
+pub use plans::plan_by;
+pub use walker::Walker;
