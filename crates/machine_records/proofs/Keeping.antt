@@ -172,8 +172,11 @@ module _ (m : Meaning) (l : Layout) (rs : List Request) (g : Beside) (s s' : Sig
         record {
           grows = λ n reply e. ap (λ xs. knows xs n reply) (noted_known l r kind step.ask.0 step.ask.1 (s.word step.ask.0) (stepped m l kind (s.part r) (s.word step.ask.0)).records)
               ∙ h.grows n reply e;
-          appends = (h.appends.0, noted_known l r kind step.ask.0 step.ask.1 (s.word step.ask.0) (stepped m l kind (s.part r) (s.word step.ask.0)).records
-              ∙ h.appends.1);
+          appends = (
+            h.appends.0,
+            noted_known l r kind step.ask.0 step.ask.1 (s.word step.ask.0) (stepped m l kind (s.part r) (s.word step.ask.0)).records
+                ∙ h.appends.1,
+          );
           was = h.was;
           link = h.link;
         }
