@@ -1,3 +1,4 @@
 mod Preparing
 mod Publishing
 mod Retiring
+mod Helping

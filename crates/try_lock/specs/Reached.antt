@@ -1,24 +1,17 @@
 -- A runner outside a run, in a state that the machine reaches, and what it has there.
-use Rattle.std.specs.Prelude.{◌≡◌, ℕ, ◌-◌, ◌≤◌, true, false, length, slice_get, Option, Some}
+use Rattle.std.specs.Prelude.{◌≡◌, ℕ, ◌-◌, ◌≤◌, true, false, length, Option, Some}
 use Rattle.section_body.specs.Word.{value_of, is_free, held_word}
 use Rattle.section_body.specs.declared.thunk.Thunk.{Thunk}
 use Rattle.structure_laws.specs.Meaning.{Meaning}
 use Rattle.runner_parts.specs.declared.stage.Stage.TheVariants as stages
 use Rattle.runner_parts.specs.declared.entries.Published.{Published}
 use Rattle.runner_parts.specs.Tests.{has}
-use Rattle.machine_states.specs.World.{World, seat_of}
-use Rattle.machine_states.specs.Reached.{Reached}
 use Rattle.version_words.specs.RunnerState.{RunnerState}
 use Rattle.version_words.specs.Stages.{IsAt}
+pub use Rattle.section_runs.specs.Reached.{IsReached}
 use Rattle.try_lock.specs.declared.section.Section.{Section}
 
 module _ {T : Type 0} where
-  -- the machine reaches a state in which the runner has this part
-  pub record IsReached (m : Meaning) (r : RunnerState T) : Type 0 where
-    pub world : World
-    pub reached : Reached m r.layout r.requests world
-    pub own : slice_get world.parts (seat_of r.layout r.number) ≡ Some r.part
-
   -- the runner published this section with this thunk since it entered, and holds its descriptor
   pub record IsSectionOf (r : RunnerState T) (t : Thunk) (s : Section) : Type 0 where
     pub published : Published
