@@ -1,5 +1,5 @@
 -- What two workers may do on their way to an answer.
-use Rattle.std.proofs.Common.{◌≡◌, ◌≢◌, ℕ, ◌+◌, ◌*◌, ◌-◌, ◌^◌, ◌<◌, ◌≤◌, List, [], ◌∷◌, ◌++◌, length, Bool, true, false, refl, sym, ap, subst, ◌∙◌, arith, Result, Ok, Some, None}
+use Rattle.std.proofs.Common.{◌≡◌, ◌≢◌, ℕ, ◌*◌, ◌-◌, ◌^◌, ◌<◌, ◌≤◌, List, [], ◌∷◌, ◌++◌, length, Bool, true, false, refl, sym, ap, subst, ◌∙◌, arith, Result, Ok, Some, None}
 use Rattle.std.specs.Prelude.{◌==◌, ◌&&◌, ◌||◌, not, ◌%◌, nat_lt, slice_get, if◌then◌else◌}
 use Rattle.map_history.specs.declared.op.Request.{Request}
 use Rattle.map_history.specs.declared.op.Op.TheVariants.{Get}
@@ -10,9 +10,9 @@ use Rattle.table_words.specs.declared.layout.Layout.{Layout}
 use Rattle.structure_laws.specs.Meaning.{Meaning}
 use Rattle.runner_parts.specs.declared.event.EventKind.TheVariants as kinds
 use Rattle.runner_parts.specs.declared.entries.Known.{Known}
-use Rattle.runner_parts.specs.State.{DescriptorsState, NodesState, ReadsState, RunState}
-use Rattle.runner_parts.specs.Lists.{named_by, walked}
-use Rattle.runner_parts.specs.Tests.{has, has_pair, is_open, is_next, serves}
+use Rattle.runner_parts.specs.State.{DescriptorsState, NodesState, ReadsState}
+use Rattle.runner_parts.specs.Lists.{named_by}
+use Rattle.runner_parts.specs.Tests.{has, has_pair, is_next, serves}
 use Rattle.runner_steps.specs.Outside.{is_due}
 use Rattle.bucket_laws.specs.Buckets.{buckets_meaning}
 use Rattle.bucket_laws.proofs.Places.{lt_true, eq_true, eq_false}
@@ -29,7 +29,7 @@ use Rattle.try_lock.specs.declared.planned.Planned.TheVariants as answers
 use Rattle.hash_table.specs.declared.table.HashTable.{HashTable}
 use Rattle.hash_table.specs.Planned.{bucket_planning}
 use Rattle.try_lock.specs.Planning as planning
-use Rattle.try_lock.specs.Plans.{MayPlan, HasPlanned, IsFit}
+use Rattle.try_lock.specs.Plans.{MayPlan, HasPlanned}
 use Rattle.try_lock.specs.Publishes.{MayPublish, Publishes}
 use Rattle.try_lock.specs.Reached.{MayRunSection, MayHelp}
 use Rattle.hash_rows.specs.Scene.{two_requests, IsScene, IsFresh}

@@ -1,4 +1,4 @@
-use Rattle.std.proofs.Common.{◌≡◌, ◌≤◌, ◌^◌, ◌∙◌, length, refl, sym, subst, arith, None}
+use Rattle.std.proofs.Common.{◌≤◌, ◌∙◌, length, refl, sym, subst, arith, None}
 use Rattle.std.proofs.lemmas.Nat.{pow_pos}
 use Rattle.bucket_laws.specs.Buckets.{buckets_meaning}
 use Rattle.version_words.proofs.Stages.{may_load_fixed}
