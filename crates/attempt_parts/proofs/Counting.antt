@@ -1,0 +1,44 @@
+-- Asking a gate, step by step.
+use Rattle.std.specs.Prelude.{min, ◌^◌, Bool, true, false}
+use Rattle.std.proofs.Common.{◌≡◌, ℕ, ◌+◌, ◌-◌, ◌≤◌, refl, sym, ap, ◌∙◌, subst, arith}
+use Rattle.fault_count.specs.Rose.{Rose}
+use Rattle.commit_log.specs.Asked.{counted_on, IsAsked}
+use Rattle.commit_log.proofs.Asked.{counted_more}
+use Rattle.attempt_parts.specs.Counted.{IsCounted}
+
+-- steps, with an ask after each
+pub counted_steps : (made : ℕ) (going : Bool) (halts halts' asks asks' steps steps' : ℕ) → IsAsked made going halts halts' asks asks' steps steps'
+    → IsCounted made 0 going halts halts' asks asks' steps steps'
+counted_steps made going halts halts' asks asks' steps steps' is = record {
+  counted = is.counted;
+  asked = is.asked ∙ (let e : made ≡ made + 0 = omega arith in ap (counted_on asks) e);
+  never_falls = is.never_falls;
+  went = is.went;
+  halted = is.halted;
+}
+
+-- an ask without a step
+pub counted_ask : (going : Bool) (halts halts' asks asks' steps : ℕ) → halts ≤ halts' → (going ≡ true → halts' ≡ halts) → (going ≡ false → Rose halts halts')
+    → asks' ≡ min (asks + 1) (2 ^ 64 - 1) → IsCounted 0 1 going halts halts' asks asks' steps steps
+counted_ask going halts halts' asks asks' steps falls went halted asked = record {
+  counted = refl;
+  asked = asked;
+  never_falls = falls;
+  went = went;
+  halted = halted;
+}
+
+-- one after the other
+pub counted_then : (n a k b : ℕ) (going : Bool) (halts halts' halts'' asks asks' asks'' steps steps' steps'' : ℕ)
+    → IsCounted n a true halts halts' asks asks' steps steps' → IsCounted k b going halts' halts'' asks' asks'' steps' steps''
+    → IsCounted (n + k) (a + b) going halts halts'' asks asks'' steps steps''
+counted_then n a k b going halts halts' halts'' asks asks' asks'' steps steps' steps'' one two =
+    let same = one.went refl in
+    record {
+      counted = two.counted ∙ (ap (λ c. counted_on c k) one.counted ∙ counted_more steps n k);
+      asked = two.asked ∙ (ap (λ c. counted_on c (k + b)) one.asked ∙ (counted_more asks (n + a) (k + b)
+          ∙ (let e : (n + a) + (k + b) ≡ (n + k) + (a + b) = omega arith in ap (counted_on asks) e)));
+      never_falls = subst (λ h. h ≤ halts'') same two.never_falls;
+      went = λ e. two.went e ∙ same;
+      halted = λ e. subst (λ h. Rose h halts'') same (two.halted e);
+    }

@@ -1,0 +1,155 @@
+-- How far an attempt came, and what it may do there.
+use Rattle.std.specs.Prelude.{◌==◌, ◌&&◌, ◌||◌, ◌⊎◌, not, cond, nat_lt, Bool, true, false, slice_get, if◌then◌else◌, Result, Ok, Err}
+use Rattle.std.proofs.Common.{◌≡◌, ◌≢◌, ℕ, suc, ◌-◌, ◌≤◌, List, [], ◌∷◌, ◌++◌, length, refl, sym, ap, ◌∙◌, subst, arith, Option, Some, None}
+use Rattle.std.proofs.lemmas.Bool.Decides.{nat_tests}
+use Rattle.map_history.specs.declared.op.Request.{Request}
+use Rattle.section_body.specs.Trail.{Agreed}
+use Rattle.section_body.specs.Word.{value_of, version_of, is_free, is_spent}
+use Rattle.section_body.specs.declared.outcome.Outcome.{Outcome}
+use Rattle.section_body.specs.declared.outcome.Refused.{Refused}
+use Rattle.section_body.specs.declared.outcome.Refused.TheVariants as refusals
+use Rattle.section_body.specs.declared.thunk.Thunk.{Thunk}
+use Rattle.structure_laws.specs.Scene.{Readings}
+use Rattle.structure_laws.specs.Meaning.{Meaning}
+use Rattle.runner_parts.specs.declared.entries.Published.{Published}
+use Rattle.runner_parts.specs.declared.stage.Stage.TheVariants as stages
+use Rattle.runner_parts.specs.Lists.{no_reads, named_by}
+use Rattle.runner_parts.specs.State.{PartState, ReadsState}
+use Rattle.runner_parts.specs.Tests.{has, has_pair, is_next, is_open, serves}
+use Rattle.runner_steps.specs.Outside.{is_due}
+use Rattle.runner_steps.specs.AfterOutside.{published_by}
+use Rattle.runner_steps.specs.AfterInRun.{over_if}
+use Rattle.version_words.specs.RunnerState.{RunnerState}
+use Rattle.version_words.specs.Stages.{IsAt}
+use Rattle.epoch_slots.specs.Entries.{HasLeave}
+use Rattle.try_lock.specs.declared.section.Section.{Section}
+use Rattle.try_lock.specs.declared.planned.Planned.{Planned}
+use Rattle.try_lock.specs.declared.planned.Planned.TheVariants as plans
+use Rattle.try_lock.specs.Planning.{Planning}
+use Rattle.try_lock.specs.Plans.{reads_walked}
+use Rattle.try_lock.specs.Publishes.{refused_by, MayPublish, IsPublished, IsRefused}
+use Rattle.try_lock.specs.Reached.{MayRunSection, MayHelp}
+use Rattle.try_lock.specs.Ends.{EndsSo}
+use Rattle.try_lock.specs.Retires.{IsOver}
+use Rattle.attempt_parts.specs.Course.{of_refusal, HasEntered, HasPlanned, HasTried, HasEnded}
+use Rattle.attempt_parts.specs.Rests.{MayLeave}
+use Rattle.attempt_parts.specs.declared.answers.Attempt.TheVariants as answers
+use Rattle.attempt_parts.proofs.Leaving.{ended_at}
+
+same_test : (n : ℕ) → (n == n) ≡ true
+same_test n = grind (arith, nat_tests)
+
+over_test : (n k : ℕ) → k ≡ n → (false || (n == k)) ≡ true
+over_test n k e = subst (λ j. (n == j) ≡ true) (sym e) (same_test n)
+
+module _ {T : Type 0} (m : Meaning) (planning : Planning) (request : Request) (old : RunnerState T) where
+  module _ (readings : Readings) (answer : Planned) (r : RunnerState T) (is : HasPlanned m planning request readings answer old r) where
+    pub planned_at : IsAt r (stages.Entered is.enters.enters.epoch) None
+    planned_at = is.walked.at is.enters.enters.epoch None is.enters.enters.at
+
+    pub planned_reads : r.part.reads ≡ reads_walked m no_reads readings
+    planned_reads = is.walked.reads ∙ ap (λ (s : ReadsState). reads_walked m s readings) is.enters.enters.reads
+
+    pub planned_leave : HasLeave r
+    planned_leave = record { epoch = is.enters.enters.epoch; at = planned_at }
+
+  module _ (readings : Readings) (thunk : Thunk) (r : RunnerState T) (is : HasPlanned m planning request readings (plans.Thunk thunk) old r) where
+    open_test : (a b c : Bool) → a ≡ true → b ≡ false → c ≡ true → (a && (not b && c)) ≡ true
+    open_test a b c one two three = ap (λ x. x && (not b && c)) one ∙ (ap (λ x. not x && c) two ∙ three)
+
+    unlocked : is_open r.layout r.part.reads.cells thunk ≡ true
+    unlocked = open_test (is_free thunk.word) (is_spent r.layout.version_max thunk.word) (has_pair r.part.reads.cells thunk.lock thunk.word)
+        is.answers.free
+        (ap (λ l. is_spent l.version_max thunk.word) is.still.layout ∙ is.answers.unspent)
+        (ap (λ (s : ReadsState). has_pair s.cells thunk.lock thunk.word) (planned_reads readings (plans.Thunk thunk) r is) ∙ is.answers.read)
+
+    asked : slice_get r.requests thunk.request ≡ Some request
+    asked = ap (slice_get r.requests) is.answers.request ∙ (ap (λ rs. slice_get rs request.number) is.still.requests ∙ is.enters.may.there)
+
+    both_test : (a b : Bool) → a ≡ true → b ≡ true → (a && b) ≡ true
+    both_test a b one two = ap (λ x. x && b) one ∙ two
+
+    due : is_due m r.layout r.requests r.number r.part.records.known r.part.reads.walk thunk ≡ true
+    due = ap (λ o. is_next r.layout r.number r.requests r.part.records.known o && serves m r.layout r.part.reads.walk thunk o) asked
+        ∙ both_test (is_next r.layout r.number r.requests r.part.records.known (Some request)) (m.fits r.layout request.op r.part.reads.walk thunk)
+        ((λ i. is_next (is.still.layout i) (is.still.number i) (is.still.requests i) (is.still.known i) (Some request)) ∙ is.enters.may.next)
+        ((λ i. m.fits (is.still.layout i) request.op ((planned_reads readings (plans.Thunk thunk) r is i).walk) thunk) ∙ is.answers.fits)
+
+    pub may_publish : MayPublish m r thunk
+    may_publish = record {
+      epoch = is.enters.enters.epoch;
+      at = planned_at readings (plans.Thunk thunk) r is;
+      unlocked = unlocked;
+      due = due;
+      reserve = is.has.descriptors;
+      reached = is.reached;
+    }
+
+  -- the section is published
+  module _ (thunk : Thunk) (section : Section) (r : RunnerState T) (is : HasTried m planning request thunk (Ok section) old r) where
+    published : IsPublished thunk is.publishes.descriptor is.publishes.found is.planned r section
+    published = is.publishes.published
+
+    abbrev x : Published
+    x = published_by thunk is.publishes.descriptor is.planned.part
+
+    pub tried_at : IsAt r (stages.Entered is.plans.enters.enters.epoch) (Some x)
+    tried_at = published.at is.plans.enters.enters.epoch (planned_at is.readings (plans.Thunk thunk) is.planned is.plans)
+
+    pub may_run : MayRunSection m r thunk section
+    may_run = record {
+      epoch = is.plans.enters.enters.epoch;
+      published = Some x;
+      at = tried_at;
+      section = published.section;
+      reserve = is.nodes;
+      reached = is.publishes.reached;
+    }
+
+  -- the publication was refused
+  module _ (thunk : Thunk) (refused : Refused) (r : RunnerState T) (is : HasTried m planning request thunk (Err refused) old r) where
+    lost : IsRefused thunk is.publishes.found is.planned r refused
+    lost = is.publishes.refused
+
+    by_word : (free spent : Bool) (expected found place word : ℕ) (e : Refused)
+        → e ≡ cond free (cond spent (refusals.Spent found) (refusals.Stale expected found)) (refusals.Busy found)
+        → of_refusal thunk.lock e ≡ answers.Busy place word → (free ≡ false) × (word ≡ found)
+    by_word true true expected found place word e is named = absurd (let z = sym (ap (of_refusal thunk.lock) is) ∙ named in cc)
+    by_word true false expected found place word e is named = absurd (let z = sym (ap (of_refusal thunk.lock) is) ∙ named in cc)
+    by_word false spent expected found place word e is named = (refl, let z = sym (ap (of_refusal thunk.lock) is) ∙ named in cc)
+
+    pub refused_may_leave : MayLeave m (of_refusal thunk.lock refused) r
+    refused_may_leave = record {
+      leave = record { epoch = is.plans.enters.enters.epoch; at = at };
+      hand = is.hand;
+      help = λ place word named.
+          let h = by_word (is_free is.publishes.found) (is_spent is.planned.layout.version_max is.publishes.found) thunk.word is.publishes.found place word refused lost.why named in
+          subst (MayHelp m r) (sym h.1) (record {
+            epoch = is.plans.enters.enters.epoch;
+            published = None;
+            at = at;
+            names = h.0;
+            holds = lost.names h.0;
+            reserve = is.nodes;
+            reached = is.publishes.reached;
+          });
+    }
+      where
+        at : IsAt r (stages.Entered is.plans.enters.enters.epoch) None
+        at = lost.at is.plans.enters.enters.epoch (planned_at is.readings (plans.Thunk thunk) is.planned is.plans)
+
+  -- the section was run to its end
+  module _ (section : Section) (thunk : Thunk) (outcome : Outcome) (trail : Agreed) (r : RunnerState T)
+      (is : HasEnded m planning request section thunk outcome trail old r) where
+    abbrev y : Published
+    y = record (x thunk section is.published is.tries) { over = false || (is.tries.publishes.descriptor == section.descriptor) }
+
+    pub ended_over : IsOver r section.descriptor
+    ended_over = record {
+      epoch = is.tries.plans.enters.enters.epoch;
+      published = y;
+      at = ended_at m section.descriptor thunk outcome trail is.made is.published r is.ends is.tries.plans.enters.enters.epoch
+          (Some (x thunk section is.published is.tries)) (tried_at thunk section is.published is.tries);
+      own = sym (published thunk section is.published is.tries).own;
+      over = over_test is.tries.publishes.descriptor section.descriptor (published thunk section is.published is.tries).own;
+    }

@@ -1,0 +1,193 @@
+-- How a runner leaves that was turned away.
+use Rattle.std.specs.Prelude.{◌==◌, ◌⊎◌, Bool, true, false, not}
+use Rattle.std.proofs.Common.{◌≡◌, ◌≢◌, ℕ, suc, ◌-◌, ◌≤◌, List, [], ◌∷◌, ◌++◌, refl, sym, ap, ◌∙◌, subst, arith, Option, Some, None, inl, inr}
+use Rattle.std.proofs.lemmas.Bool.Decides.{nat_tests}
+use Rattle.section_body.specs.Trail.{Agreed}
+use Rattle.section_body.specs.Word.{value_of, is_free}
+use Rattle.section_body.specs.declared.outcome.Outcome.{Outcome}
+use Rattle.section_body.specs.declared.thunk.Thunk.{Thunk}
+use Rattle.table_words.specs.declared.layout.Layout.{Layout}
+use Rattle.table_words.specs.Limits.{IsWithinLimits}
+use Rattle.structure_laws.specs.Meaning.{Meaning}
+use Rattle.structure_laws.specs.Laws.{Laws}
+use Rattle.runner_parts.specs.declared.entries.Published.{Published}
+use Rattle.runner_parts.specs.declared.stage.Stage.TheVariants as stages
+use Rattle.runner_parts.specs.State.{PartState}
+use Rattle.runner_parts.specs.Tests.{has_pair, is_answered}
+use Rattle.runner_steps.specs.AfterInRun.{over_if}
+use Rattle.machine_states.specs.World.{World}
+use Rattle.machine_states.specs.Reached.{Reached}
+use Rattle.machine_states.specs.Sight.{sight, part_or_first}
+use Rattle.machine_invariant.specs.After.{AreAllowed}
+use Rattle.runner_facts.specs.Names.{NamesStand}
+use Rattle.version_words.specs.RunnerState.{RunnerState}
+use Rattle.version_words.specs.Stages.{IsAt}
+use Rattle.epoch_slots.specs.Collects.{IsTidy}
+use Rattle.epoch_slots.specs.Entries.{HasLeave, Exits}
+use Rattle.commit_log.specs.Asked.{IsAsked}
+use Rattle.commit_log.proofs.Asked.{asked_none}
+use Rattle.try_lock.specs.Reached.{IsReached, MayHelp}
+use Rattle.try_lock.specs.Ends.{EndsSo}
+use Rattle.attempt_parts.specs.Learned.{HasLearned, IsCut}
+use Rattle.attempt_parts.specs.Knowing.{KnowsMore, IsFront}
+use Rattle.attempt_parts.specs.Course.{IsEmptyHanded, HasHelped, IsOfHelped}
+use Rattle.attempt_parts.specs.Attempts.{is_halted, is_refusal, Leaves, HasMadeWay}
+use Rattle.attempt_parts.specs.Rests.{MayLeave, LearnsNoOwn, HasTurned}
+use Rattle.attempt_parts.specs.declared.answers.Attempt.{Attempt}
+use Rattle.attempt_parts.specs.declared.answers.Attempt.TheVariants as answers
+use Rattle.attempt_parts.proofs.Knowing.{knows_same, knows_on, own_on}
+use Rattle.attempt_parts.proofs.Reaching.{exits_reached}
+use Rattle.attempt_parts.proofs.Helping.{learns_no_own}
+
+-- a word that isn't free names the descriptor below its value
+named_value : (n : ℕ) → (n == 0) ≡ false → n ≡ suc (n - 1)
+named_value n e = grind (arith, nat_tests)
+
+not_free : (word : ℕ) → is_free word ≡ false → value_of word ≡ suc (value_of word - 1)
+not_free word e = named_value (value_of word) e
+
+refused_going : (answer : Attempt) → is_refusal answer ≡ true → is_halted answer ≡ false
+refused_going (answers.Busy place word) e = refl
+refused_going (answers.Stale place expected read) e = refl
+refused_going (answers.Far loads) e = refl
+refused_going (answers.Spent place word) e = refl
+refused_going (answers.Done reply stamp) e = absurd (let z = e in cc)
+refused_going (answers.Short short) e = absurd (let z = e in cc)
+refused_going answers.Halted e = absurd (let z = e in cc)
+
+module _ {T : Type 0} (m : Meaning) where
+  leaves_by_exit : (answer : Attempt) → ((place word : ℕ) → answer ≢ answers.Busy place word) → (old new : RunnerState T) → Exits m old new
+      → Leaves m answer old new
+  leaves_by_exit (answers.Busy place word) other old new exits = absurd (other place word refl)
+  leaves_by_exit (answers.Stale place expected read) other old new exits = exits
+  leaves_by_exit (answers.Far loads) other old new exits = exits
+  leaves_by_exit (answers.Spent place word) other old new exits = exits
+  leaves_by_exit (answers.Done reply stamp) other old new exits = exits
+  leaves_by_exit (answers.Short short) other old new exits = exits
+  leaves_by_exit answers.Halted other old new exits = exits
+
+  exits_tidy : (old new : RunnerState T) → IsEmptyHanded old → Exits m old new → IsTidy new
+  exits_tidy old new hand exits = record {
+    at = exits.at;
+    hand = ap (λ n. n.hand) exits.keeps.nodes ∙ hand.hand;
+    tests = ap (λ n. n.tests) exits.keeps.nodes ∙ hand.tests;
+  }
+
+  -- it leaves at once
+  pub turned_by_exit : (answer : Attempt) → is_refusal answer ≡ true → ((place word : ℕ) → answer ≢ answers.Busy place word)
+      → (old new : RunnerState T) → MayLeave m answer old → Exits m old new → (halts asks steps : ℕ)
+      → HasTurned m answer answer old new halts halts asks asks steps steps
+  turned_by_exit answer refusal other old new may exits halts asks steps =
+      let going = refused_going answer refusal in record {
+        made = 0;
+        asked = subst (λ b. IsAsked 0 b halts halts asks asks steps steps) (ap not (sym going)) (asked_none halts asks steps);
+        knows = knows_same old new exits.keeps.number exits.keeps.known exits.keeps.finished;
+        no_own = λ q own. ap (λ xs. is_answered xs q.number) exits.keeps.known;
+        reached = exits_reached m old new exits;
+        halted = λ e. absurd (let z = sym going ∙ e in cc);
+        leaves = λ e. leaves_by_exit answer other old new exits;
+        same = λ e. refl;
+        tidy = λ e. exits_tidy old new may.hand exits;
+      }
+
+-- a run leaves a runner as it was, but for what it learned
+module _ {T : Type 0} (m : Meaning) (d : ℕ) (t : Thunk) (outcome : Outcome) (trail : Agreed) (made : ℕ) (old new : RunnerState T)
+    (ends : EndsSo m d t outcome trail made old new) where
+  pub ended_knows : KnowsMore old new
+  ended_knows = record {
+    number = ends.number;
+    known = record { back = ends.learns.more; parts = ends.learns.adds };
+    finished = record { back = ends.finished ∷ []; parts = ends.kept };
+  }
+
+  pub ended_at : (epoch : ℕ) (published : Option Published) → IsAt old (stages.Entered epoch) published → IsAt new (stages.Entered epoch) (over_if published d)
+  ended_at epoch published at = record {
+    present = ends.present ∙ at.present;
+    resting = ends.resting;
+    at = ends.stage ∙ at.at;
+    published = ends.published ∙ ap (λ o. over_if o d) at.published;
+    seated = subst (λ n. n ≤ new.layout.runners) (sym ends.number) (subst (λ (l : Layout). old.number ≤ l.runners) (sym ends.layout) at.seated);
+  }
+
+  pub ended_hand : IsEmptyHanded old → IsEmptyHanded new
+  ended_hand hand = record { hand = ends.nodes.hand ∙ hand.hand; tests = ends.nodes.tests hand.tests }
+
+-- it helps first
+module _ {T : Type 0} (m : Meaning) (laws : Laws m) (place word : ℕ) (old helped new : RunnerState T) (limits : IsWithinLimits old.layout)
+    (allowed : AreAllowed old.requests) (requests : helped.requests ≡ old.requests) (may : MayLeave m (answers.Busy place word) old) (t : Thunk)
+    (outcome : Outcome) (trail : Agreed) (made : ℕ) (ends : EndsSo m (value_of word - 1) t outcome trail made old helped) (exits : Exits m helped new)
+    (learned : HasLearned m (value_of word - 1) t old helped) where
+  pub helped_leave : HasLeave helped
+  helped_leave = record {
+    epoch = may.leave.epoch;
+    at = ended_at m (value_of word - 1) t outcome trail made old helped ends may.leave.epoch None may.leave.at;
+  }
+
+  no_own : LearnsNoOwn m old new
+  no_own q own = ap (λ xs. is_answered xs q.number) exits.keeps.known
+      ∙ learns_no_own m laws old helped limits allowed (value_of word - 1) t learned may.leave.at.published q own
+
+  abbrev helps : HasHelped m word old new
+  helps = record {
+    names = (may.help place word refl).names;
+    thunk = t;
+    outcome = outcome;
+    trail = trail;
+    made = made;
+    helped = helped;
+    ends = ends;
+    exits = exits;
+  }
+
+  module _ (cells : (p w : ℕ) → has_pair old.part.reads.cells p w ≡ true → has_pair helped.part.reads.cells p w ≡ true) (names : (w : World) → Reached m helped.layout helped.requests w → NamesStand m (sight m helped.layout helped.requests w)) where
+    of_lock : m.is_lock place ≡ true → has_pair old.part.reads.cells place word ≡ true → IsOfHelped m place word old new helps
+    of_lock lock read = (names ends.reached.world ends.reached.reached).lock helped.number place word (value_of word - 1) (record {
+      entry = may.leave.epoch;
+      entered = ap (λ (p : PartState). p.stage) here ∙ (ends.stage ∙ may.leave.at.at);
+      read = ap (λ (p : PartState). has_pair p.reads.cells place word) here ∙ cells place word read;
+      lock = lock;
+      names = not_free word (may.help place word refl).names;
+    })
+      where
+        here : (sight m helped.layout helped.requests ends.reached.world).part helped.number ≡ helped.part
+        here = ap part_or_first ends.reached.own
+
+    pub turned_by_help : (halts halts' asks asks' steps steps' : ℕ) → IsAsked made true halts halts' asks asks' steps steps'
+        → HasTurned m (answers.Busy place word) (answers.Busy place word) old new halts halts' asks asks' steps steps'
+    turned_by_help halts halts' asks asks' steps steps' asked = record {
+      made = made;
+      asked = asked;
+      knows = knows_on old helped new (ended_knows m (value_of word - 1) t outcome trail made old helped ends)
+          (knows_same helped new exits.keeps.number exits.keeps.known exits.keeps.finished);
+      no_own = no_own;
+      reached = exits_reached m helped new exits;
+      halted = λ e. absurd (let z = e in cc);
+      leaves = λ e. record { helps = helps; of_lock = of_lock };
+      same = λ e. refl;
+      tidy = λ e. exits_tidy m helped new (ended_hand m (value_of word - 1) t outcome trail made old helped ends may.hand) exits;
+    }
+
+-- a gate halts it as it helps
+module _ {T : Type 0} (m : Meaning) (laws : Laws m) (answer : Attempt) (d : ℕ) (old new : RunnerState T) (limits : IsWithinLimits old.layout)
+    (allowed : AreAllowed old.requests) (may : MayLeave m answer old) (cut : IsCut m d old new) where
+  still_none : (new.part.published ≡ old.part.published) ⊎ (new.part.published ≡ over_if old.part.published d) → new.part.published ≡ None
+  still_none (inl same) = same ∙ may.leave.at.published
+  still_none (inr over) = over ∙ ap (λ o. over_if o d) may.leave.at.published
+
+  pub turned_by_halt : (made halts halts' asks asks' steps steps' : ℕ) → IsAsked made false halts halts' asks asks' steps steps'
+      → HasTurned m answer answers.Halted old new halts halts' asks asks' steps steps'
+  turned_by_halt made halts halts' asks asks' steps steps' asked = record {
+    made = made;
+    asked = asked;
+    knows = record {
+      number = cut.number;
+      known = record { back = cut.learned.learns.more; parts = cut.learned.learns.adds };
+      finished = record { back = cut.more; parts = cut.finished };
+    };
+    no_own = learns_no_own m laws old new limits allowed d cut.thunk cut.learned may.leave.at.published;
+    reached = cut.reached;
+    halted = λ e. still_none cut.published;
+    leaves = λ e. absurd (let z = e in cc);
+    same = λ e. absurd (let z = e in cc);
+    tidy = λ e. absurd (let z = e in cc);
+  }

@@ -1,0 +1,10 @@
+mod Knowing
+mod Helping
+mod Reaching
+mod Leaving
+mod Learning
+mod Counting
+mod Courses
+mod Turning
+mod Trying
+mod Planning

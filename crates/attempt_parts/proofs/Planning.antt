@@ -1,0 +1,48 @@
+-- The plan of an attempt.
+use Rattle.std.specs.Prelude.{◌==◌, ◌&&◌, ◌||◌, not, Bool, true, false, if◌then◌else◌}
+use Rattle.std.proofs.Common.{◌≡◌, ◌≢◌, ℕ, ◌-◌, ◌≤◌, List, [], ◌∷◌, ◌++◌, length, refl, sym, ap, ◌∙◌, subst, Option, Some, None}
+use Rattle.std.proofs.lemmas.List.Folds.{list_any-append}
+use Rattle.std.proofs.lemmas.Bool.Decides.{nat_tests}
+use Rattle.map_history.specs.declared.op.Request.{Request}
+use Rattle.section_body.specs.Word.{value_of, is_free, is_spent}
+use Rattle.structure_laws.specs.Scene.{Readings}
+use Rattle.structure_laws.specs.Meaning.{Meaning}
+use Rattle.runner_parts.specs.declared.stage.Stage.TheVariants as stages
+use Rattle.runner_parts.specs.Lists.{named_by}
+use Rattle.runner_parts.specs.State.{NodesState, DescriptorsState}
+use Rattle.version_words.specs.RunnerState.{RunnerState}
+use Rattle.try_lock.specs.declared.planned.Planned.{Planned}
+use Rattle.try_lock.specs.declared.planned.Planned.TheVariants as plans
+use Rattle.try_lock.specs.Planning.{Planning}
+use Rattle.try_lock.specs.Plans as plan
+use Rattle.attempt_parts.specs.Course.{of_plan, HasEntered, HasPlanned}
+use Rattle.attempt_parts.specs.Attempts.{is_refusal}
+
+-- what the plan says, as a part of the course
+pub planned_of : {T : Type 0} (m : Meaning) (planning : Planning) (request : Request) (old r : RunnerState T) → HasEntered m planning request old r
+    → (answer : Planned) (new : RunnerState T) (halts halts' asks asks' steps steps' : ℕ)
+    → (is : plan.HasPlanned m planning request answer r new halts halts' asks asks' steps steps') → new.layout ≡ r.layout → new.requests ≡ r.requests
+    → HasPlanned m planning request is.readings answer old new
+planned_of m planning request old r enters answer new halts halts' asks asks' steps steps' is layout requests = record {
+  entered = r;
+  enters = enters;
+  walk = subst (λ l. plan.IsWalk m planning l request.op is.readings) enters.still.layout is.walk;
+  walked = is.walked;
+  answers = subst (λ l. plan.Answers m planning l request.op request.number is.readings answer) enters.still.layout is.answers;
+  reached = is.reached;
+  still = record {
+    layout = layout ∙ enters.still.layout;
+    requests = requests ∙ enters.still.requests;
+    number = is.walked.keeps.number ∙ enters.still.number;
+    known = is.walked.keeps.known ∙ enters.still.known;
+    finished = is.walked.keeps.finished ∙ enters.still.finished;
+  };
+  hand = record {
+    hand = ap (λ (n : NodesState). n.hand) is.walked.keeps.nodes ∙ enters.hand.hand;
+    tests = ap (λ (n : NodesState). n.tests) is.walked.keeps.nodes ∙ enters.hand.tests;
+  };
+  has = record {
+    nodes = subst (λ (n : NodesState). 2 ≤ length n.free) (sym is.walked.keeps.nodes) enters.has.nodes;
+    descriptors = subst (λ (d : DescriptorsState). 1 ≤ length d.free) (sym is.walked.keeps.descriptors) enters.has.descriptors;
+  };
+}

@@ -1,0 +1,44 @@
+-- The states that the machine reaches as a runner enters, leaves and collects.
+use Rattle.std.specs.Prelude.{Bool, true, false}
+use Rattle.std.proofs.Common.{◌≡◌, ℕ, suc, ◌+◌, List, [], ◌∷◌, length, refl, sym, subst, arith}
+use Rattle.structure_laws.specs.Meaning.{Meaning}
+use Rattle.runner_parts.specs.declared.event.EventKind.{EventKind}
+use Rattle.version_words.specs.RunnerState.{RunnerState}
+use Rattle.version_words.specs.Events.{Makes}
+use Rattle.epoch_slots.specs.Collects.{Scans, Looks, IsTested, AreTested, Advances, Collects}
+use Rattle.epoch_slots.specs.Entries.{Enters, Exits}
+use Rattle.try_lock.specs.Reached.{IsReached}
+
+module _ {T : Type 0} (m : Meaning) where
+  pub made_reached : (kind : EventKind) (found : ℕ) (old new : RunnerState T) → Makes m kind found old new → IsReached m new
+  made_reached kind found old new made = record { world = made.shown.world; reached = made.shown.reached; own = made.shown.own }
+
+  pub enters_reached : (old new : RunnerState T) → Enters m old new → IsReached m new
+  enters_reached old new enters = made_reached _ enters.epoch enters.waiting new enters.again
+
+  pub exits_reached : (old new : RunnerState T) → Exits m old new → IsReached m new
+  exits_reached old new exits = made_reached _ exits.announce.found old new exits.announce.event
+
+  scans_reached : (next : ℕ) (found : List ℕ) (r r' : RunnerState T) → IsReached m r → Scans m next found r r' → IsReached m r'
+  scans_reached next [] r r' here same = subst (IsReached m) (sym same) here
+  scans_reached next (f ∷ found) r r' here scans = scans_reached (next + 1) found scans.0 r' (made_reached _ f r scans.0 scans.1) scans.2
+
+  looks_reached : (slot cell : ℕ) (words : List ℕ) (r r' : RunnerState T) → IsReached m r → Looks m slot cell words r r' → IsReached m r'
+  looks_reached slot cell [] r r' here same = subst (IsReached m) (sym same) here
+  looks_reached slot cell (w ∷ words) r r' here looks = looks_reached slot (cell + 1) words looks.0 r' (made_reached _ w r looks.0 looks.1) looks.2
+
+  tested_reached : (slots : List ℕ) (wears : List Bool) (r r' : RunnerState T) → IsReached m r → AreTested m slots wears r r' → IsReached m r'
+  tested_reached [] wears r r' here tested = subst (IsReached m) (sym tested.1) here
+  tested_reached (slot ∷ slots) [] r r' here tested = absurd tested
+  tested_reached (slot ∷ slots) (worn ∷ wears) r r' here tested =
+      tested_reached slots wears tested.0 r' (looks_reached slot 0 tested.1.words r tested.0 here tested.1.looks) tested.2
+
+  advances_reached : (epoch reached : ℕ) (may : Bool) (r r' : RunnerState T) → IsReached m r → Advances m epoch may reached r r' → IsReached m r'
+  advances_reached epoch reached true r r' here advances = made_reached _ advances.1.found r r' advances.1.event
+  advances_reached epoch reached false r r' here advances = subst (IsReached m) (sym advances.0) here
+
+  pub collects_reached : (old new : RunnerState T) → Collects m old new → IsReached m new
+  collects_reached old new c =
+      tested_reached _ c.wears c.over new
+      (advances_reached c.epoch c.reached _ c.scanned c.over
+      (scans_reached 0 c.found c.begun c.scanned (made_reached _ c.epoch old c.begun c.load) c.scans) c.advances) c.tested

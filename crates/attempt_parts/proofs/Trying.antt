@@ -1,0 +1,117 @@
+-- The publication of an attempt.
+use Rattle.std.specs.Prelude.{◌⊎◌, Result, Ok, Err, true, false}
+use Rattle.std.proofs.Common.{◌≡◌, ℕ, ◌≤◌, length, refl, sym, ap, ◌∙◌, subst, List, inl, inr, Option, Some, None}
+use Rattle.map_history.specs.declared.op.Request.{Request}
+use Rattle.section_body.specs.declared.outcome.Refused.{Refused}
+use Rattle.section_body.specs.declared.outcome.Refused.TheVariants as refusals
+use Rattle.section_body.specs.declared.thunk.Thunk.{Thunk}
+use Rattle.structure_laws.specs.Scene.{Readings}
+use Rattle.structure_laws.specs.Meaning.{Meaning}
+use Rattle.runner_parts.specs.declared.entries.Published.{Published}
+use Rattle.runner_parts.specs.State.{NodesState}
+use Rattle.runner_parts.specs.Tests.{is_answered}
+use Rattle.runner_steps.specs.AfterInRun.{over_if}
+use Rattle.runner_steps.specs.AfterOutside.{published_by}
+use Rattle.machine_states.proofs.Steps.{some_same, none_some}
+use Rattle.version_words.specs.RunnerState.{RunnerState}
+use Rattle.try_lock.specs.declared.section.Section.{Section}
+use Rattle.try_lock.specs.declared.planned.Planned.TheVariants as plans
+use Rattle.try_lock.specs.Planning.{Planning}
+use Rattle.try_lock.specs.Publishes.{Publishes}
+use Rattle.attempt_parts.specs.Knowing.{IsStill, IsOwn}
+use Rattle.attempt_parts.specs.Course.{of_refusal, MayAttempt, HasPlanned, HasTried}
+use Rattle.attempt_parts.specs.Attempts.{is_refusal}
+use Rattle.attempt_parts.specs.Counted.{IsCounted}
+use Rattle.attempt_parts.specs.Rests.{Rests}
+use Rattle.attempt_parts.specs.declared.answers.Attempt.{Attempt}
+use Rattle.attempt_parts.specs.declared.answers.Attempt.TheVariants as answers
+use Rattle.attempt_parts.proofs.Knowing.{knows_same, knows_on, no_other_same, no_other_on, own_on}
+use Rattle.attempt_parts.proofs.Courses.{tried_at}
+use Rattle.attempt_parts.proofs.Turning.{may_own, may_unknown}
+
+pub tried_of : {T : Type 0} (m : Meaning) (planning : Planning) (request : Request) (old : RunnerState T) (readings : Readings) (thunk : Thunk) (r : RunnerState T)
+    → HasPlanned m planning request readings (plans.Thunk thunk) old r → (answer : Result Section Refused) (new : RunnerState T)
+    → Publishes m thunk answer r new → new.layout ≡ r.layout → new.requests ≡ r.requests → HasTried m planning request thunk answer old new
+tried_of m planning request old readings thunk r is answer new publishes layout requests = record {
+  readings = readings;
+  planned = r;
+  plans = is;
+  publishes = publishes;
+  still = record {
+    layout = layout ∙ is.still.layout;
+    requests = requests ∙ is.still.requests;
+    number = publishes.number ∙ is.still.number;
+    known = publishes.known ∙ is.still.known;
+    finished = publishes.finished ∙ is.still.finished;
+  };
+  hand = record {
+    hand = ap (λ (n : NodesState). n.hand) publishes.nodes ∙ is.hand.hand;
+    tests = ap (λ (n : NodesState). n.tests) publishes.nodes ∙ is.hand.tests;
+  };
+  nodes = subst (λ (n : NodesState). 2 ≤ length n.free) (sym publishes.nodes) is.has.nodes;
+}
+
+-- the rest from an earlier runner that knew the same
+pub rests_from_still : {T : Type 0} (m : Meaning) (planning : Planning) (request : Request) (answer : Attempt) (old here mid new : RunnerState T)
+    (halts halts' asks asks' steps steps' : ℕ) → IsStill here mid
+    → Rests m planning request answer old mid new halts halts' asks asks' steps steps' → Rests m planning request answer old here new halts halts' asks asks' steps steps'
+rests_from_still m planning request answer old here mid new halts halts' asks asks' steps steps' still rests = record {
+  answers = rests.answers;
+  knows = knows_on here mid new (knows_same here mid still.number still.known still.finished) rests.knows;
+  no_other = no_other_on request.number here mid new still.requests still.layout still.number (no_other_same request.number here mid still.known) rests.no_other;
+  made = rests.made;
+  published = rests.published;
+  asked = rests.asked;
+  entered = rests.entered;
+}
+
+pub refusal_of_lock : (lock : ℕ) (e : Refused) → is_refusal (of_refusal lock e) ≡ true
+refusal_of_lock lock (refusals.Busy word) = refl
+refusal_of_lock lock (refusals.Stale expected read) = refl
+refusal_of_lock lock (refusals.Spent word) = refl
+
+-- what is still so of its request
+module _ {T : Type 0} (planning : Planning) (request : Request) (old : RunnerState T) (may : MayAttempt planning request old) (here : RunnerState T) (still : IsStill old here) where
+  pub own_here : IsOwn here request
+  own_here = own_on old here still.requests still.layout still.number request (may_own planning request old may)
+
+  pub unknown_here : is_answered here.part.records.known request.number ≡ false
+  unknown_here = ap (λ xs. is_answered xs request.number) still.known ∙ may_unknown planning request old may
+
+-- a gate halts the runner behind its publication
+module _ {T : Type 0} (m : Meaning) (planning : Planning) (request : Request) (old : RunnerState T) (thunk : Thunk) (section : Section) (here : RunnerState T)
+    (tried : HasTried m planning request thunk (Ok section) old here) where
+  -- what it has published then is for the request
+  pub published_for : (x : Published) → here.part.published ≡ Some x → x.thunk.request ≡ request.number
+  published_for x is = ap (λ (y : Published). y.thunk.request)
+      (some_same x (published_by thunk tried.publishes.descriptor tried.planned.part) (sym is ∙ (tried_at m planning request old thunk section here tried).published))
+      ∙ tried.plans.answers.request
+
+  pub halted_published : (halts halts' asks asks' steps : ℕ) → IsCounted 0 1 false halts halts' asks asks' steps steps
+      → Rests m planning request answers.Halted old here here halts halts' asks asks' steps steps
+  halted_published halts halts' asks asks' steps asked = record {
+    answers = record {
+      entered = tried.plans.entered;
+      enters = tried.plans.enters;
+      published = published_for;
+      reached = tried.publishes.reached;
+    };
+    knows = knows_same here here refl refl refl;
+    no_other = λ q own ne. refl;
+    made = 0;
+    published = true;
+    asked = asked;
+    entered = refl;
+  }
+
+  -- or in its run
+  module _ (d : ℕ) (new : RunnerState T) where
+    over_thunk : (o : Option Published) (x : Published) → over_if o d ≡ Some x → ((y : Published) → o ≡ Some y → y.thunk.request ≡ request.number)
+        → x.thunk.request ≡ request.number
+    over_thunk None x e each = absurd (none_some x (sym e))
+    over_thunk (Some y) x e each = ap (λ (z : Published). z.thunk.request) (sym (some_same _ x e)) ∙ each y refl
+
+    cut_published : (new.part.published ≡ here.part.published) ⊎ (new.part.published ≡ over_if here.part.published d)
+        → (x : Published) → new.part.published ≡ Some x → x.thunk.request ≡ request.number
+    cut_published (inl same) x is = published_for x (sym same ∙ is)
+    cut_published (inr over) x is = over_thunk here.part.published x (sym over ∙ is) published_for

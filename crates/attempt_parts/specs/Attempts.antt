@@ -1,0 +1,138 @@
+-- Attempts of requests: what may be attempted, and what each answer says.
+use Rattle.std.specs.Prelude.{◌≡◌, ◌≢◌, ℕ, ◌+◌, ◌*◌, ◌<◌, ◌≤◌, Bool, true, false, not, Option, Some, None, length, if◌then◌else◌}
+use Rattle.map_history.specs.declared.op.Request.{Request}
+use Rattle.map_history.specs.declared.reply.Reply.{Reply}
+use Rattle.map_history.specs.Words.{word_of}
+use Rattle.section_body.specs.Trail.{Agreed}
+use Rattle.section_body.specs.declared.outcome.Outcome.TheVariants.{Answered}
+use Rattle.section_body.specs.declared.thunk.Thunk.{Thunk}
+use Rattle.structure_laws.specs.Meaning.{Meaning}
+use Rattle.runner_parts.specs.declared.entries.Known.{Known}
+use Rattle.runner_parts.specs.declared.entries.Published.{Published}
+use Rattle.runner_parts.specs.Tests.{is_next, is_answered, has_pair}
+use Rattle.machine_states.specs.Sight.{sight}
+use Rattle.version_words.specs.RunnerState.{RunnerState}
+use Rattle.epoch_slots.specs.Collects.{IsTidy, Collects}
+use Rattle.epoch_slots.specs.Entries.{Exits}
+use Rattle.epoch_slots.specs.Reserves.{counts_of}
+use Rattle.epoch_slots.specs.declared.reserves.Kind.{Kind}
+use Rattle.epoch_slots.specs.declared.reserves.Kind.TheVariants as slots
+use Rattle.epoch_slots.specs.declared.reserves.Short.{Short}
+use Rattle.try_lock.specs.Planning.{Planning}
+use Rattle.try_lock.specs.Reached.{IsReached}
+use Rattle.attempt_parts.specs.Knowing.{KnowsMore, LearnsNoOther}
+use Rattle.attempt_parts.specs.Counted.{IsCounted}
+use Rattle.request_facts.specs.Laws.{HasEntry}
+use Rattle.request_facts.specs.Placed.{IsServedAs, IsUnserved}
+use Rattle.attempt_parts.specs.Course.{MayAttempt, HasEntered, HasRun, IsRefused, HasHelped, IsOfHelped}
+use Rattle.attempt_parts.specs.declared.answers.Attempt.{Attempt}
+use Rattle.attempt_parts.specs.declared.answers.Attempt.TheVariants as answers
+
+abbrev pub is_short : Attempt → Bool
+is_short (answers.Short short) = true
+is_short _ = false
+
+-- an answer for which nothing was served, and the runner leaves
+abbrev pub is_refusal : Attempt → Bool
+is_refusal (answers.Busy place word) = true
+is_refusal (answers.Stale place expected read) = true
+is_refusal (answers.Far loads) = true
+is_refusal (answers.Spent place word) = true
+is_refusal _ = false
+
+abbrev pub is_halted : Attempt → Bool
+is_halted answers.Halted = true
+is_halted _ = false
+
+-- how often a gate is asked beside after the counted steps: behind the entry, and behind an exchange that published
+abbrev pub asks_more : Attempt → Bool → ℕ
+asks_more (answers.Short short) published = 0
+asks_more _ published = if published then 2 else 1
+
+module _ {T : Type 0} where
+  -- fewer than an attempt needs of this kind are free; node slots are asked for first
+  abbrev pub IsFew : RunnerState T → Kind → Type 0
+  IsFew r slots.Node = length r.part.nodes.free < 2
+  IsFew r slots.Descriptor = (2 ≤ length r.part.nodes.free) × (length r.part.descriptors.free ≡ 0)
+
+  module _ (m : Meaning) where
+    -- in a state that the machine reaches, in which the runner has this part, nobody has served the request
+    pub record IsUntouched (number : ℕ) (r : RunnerState T) : Type 0 where
+      pub reached : IsReached m r
+      pub unserved : IsUnserved m r.layout r.requests (sight m r.layout r.requests reached.world) number
+
+    -- after collecting too few slots were free
+    pub record IsShort (short : Short) (number : ℕ) (old new : RunnerState T) : Type 0 where
+      pub collects : Collects m old new
+      pub few : IsFew new short.kind
+      pub counts : short ≡ counts_of new short.kind
+      pub untouched : IsUntouched number new
+
+    -- the runner ran the section that this lock's word named to its end, and left. Where the runner has
+    -- read the word itself, the section is
+    -- the one of which it was a lock's word
+    pub record HasMadeWay (place word : ℕ) (cut new : RunnerState T) : Type 0 where
+      pub helps : HasHelped m word cut new
+      pub of_lock : m.is_lock place ≡ true → has_pair cut.part.reads.cells place word ≡ true
+          → IsOfHelped m place word cut new helps
+
+    -- the runner leaves, where a lock was held with the section helped to its end
+    abbrev pub Leaves : Attempt → RunnerState T → RunnerState T → Type 0
+    Leaves (answers.Busy place word) cut new = HasMadeWay place word cut new
+    Leaves _ cut new = Exits m cut new
+
+    module _ (planning : Planning) (request : Request) where
+      -- the request was refused, and the runner left; nobody has served the request
+      pub record IsTurnedAway (answer : Attempt) (old new : RunnerState T) : Type 0 where
+        pub cut : RunnerState T
+        pub cause : IsRefused m planning request answer old cut
+        pub leaves : Leaves answer cut new
+        pub tidy : IsTidy new
+        pub untouched : IsUntouched request.number new
+
+      -- the request is served: the own section answered, the runner knows both words of the request, and
+      -- left. The stamp is above that of
+      -- each request that the runner knew to be answered, and in a state that the machine reaches, in
+      -- which the runner has this part, the
+      -- request stands once in the one history, with this stamp and this reply
+      pub record IsServed (reply : Reply) (stamp : ℕ) (old new : RunnerState T) : Type 0 where
+        pub thunk : Thunk
+        pub trail : Agreed
+        pub retired : RunnerState T
+        pub answer : ℕ
+        pub run : HasRun m planning request thunk (Answered answer) trail old retired
+        pub knows_stamp : HasEntry new.part.records.known
+            (record { request = request.number; reply = false; number = stamp })
+        pub knows_reply : HasEntry new.part.records.known
+            (record { request = request.number; reply = true; number = word_of reply })
+        pub above : (x : Known) → HasEntry old.part.records.known x → x.reply ≡ false
+            → is_answered old.part.records.known x.request ≡ true
+            → x.number < stamp
+        pub tidy : IsTidy new
+        pub reached : IsReached m new
+        pub served : IsServedAs m new.layout new.requests
+            (sight m new.layout new.requests reached.world) request.number stamp reply
+
+      -- a gate halted the runner behind its entry. What it has published since, if anything, is for this request
+      pub record IsHalted (old new : RunnerState T) : Type 0 where
+        pub entered : RunnerState T
+        pub enters : HasEntered m planning request old entered
+        pub published : (x : Published) → new.part.published ≡ Some x → x.thunk.request ≡ request.number
+        pub reached : IsReached m new
+
+      abbrev pub Answers : Attempt → RunnerState T → RunnerState T → Type 0
+      Answers (answers.Done reply stamp) old new = IsServed reply stamp old new
+      Answers (answers.Short short) old new = IsShort short request.number old new
+      Answers answers.Halted old new = IsHalted old new
+      Answers answer old new = IsTurnedAway answer old new
+
+      -- what an attempt does
+      pub record Attempts (answer : Attempt) (old new : RunnerState T)
+          (halts halts' asks asks' steps steps' : ℕ) : Type 0 where
+        pub answers : Answers answer old new
+        pub knows : KnowsMore old new
+        pub no_other : LearnsNoOther request.number old new
+        pub made : ℕ
+        pub published : Bool
+        pub asked : IsCounted made (asks_more answer published) (not
+            (is_halted answer)) halts halts' asks asks' steps steps'

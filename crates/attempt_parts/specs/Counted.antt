@@ -1,0 +1,14 @@
+-- How often a gate was asked, and how many steps were counted.
+use Rattle.std.specs.Prelude.{◌≡◌, ℕ, ◌+◌, ◌≤◌, Bool, true, false}
+use Rattle.fault_count.specs.Rose.{Rose}
+use Rattle.commit_log.specs.Asked.{counted_on}
+
+-- so many steps were counted, and a gate was asked after each and so many times more. It let the runner go on
+-- each time, or halted it at
+-- the last one. The numbers are the gate's halts, its asks, and the steps, before and after
+pub record IsCounted (made more : ℕ) (going : Bool) (halts halts' asks asks' steps steps' : ℕ) : Type 0 where
+  pub counted : steps' ≡ counted_on steps made
+  pub asked : asks' ≡ counted_on asks (made + more)
+  pub never_falls : halts ≤ halts'
+  pub went : going ≡ true → halts' ≡ halts
+  pub halted : going ≡ false → Rose halts halts'

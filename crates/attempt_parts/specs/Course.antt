@@ -1,0 +1,168 @@
+-- The course of an attempt: how far it came, and what ended it.
+use Rattle.std.specs.Prelude.{◌≡◌, ◌≢◌, ℕ, ◌-◌, ◌≤◌, ◌⊎◌, List, [], true, false, length, slice_get, Result, Ok, Err, Some}
+use Rattle.map_history.specs.declared.op.Request.{Request}
+use Rattle.section_body.specs.Trail.{Agreed}
+use Rattle.section_body.specs.Word.{value_of, is_free}
+use Rattle.section_body.specs.declared.outcome.Outcome.{Outcome}
+use Rattle.section_body.specs.declared.outcome.Outcome.TheVariants as outcomes
+use Rattle.section_body.specs.declared.outcome.Refused.{Refused}
+use Rattle.section_body.specs.declared.outcome.Refused.TheVariants as refusals
+use Rattle.section_body.specs.declared.thunk.Thunk.{Thunk}
+use Rattle.structure_laws.specs.Scene.{Readings}
+use Rattle.structure_laws.specs.Meaning.{Meaning}
+use Rattle.machine_states.specs.Sight.{sight}
+use Rattle.machine_invariant.specs.Sections.{IsLeft}
+use Rattle.runner_parts.specs.Tests.{is_next}
+use Rattle.runner_facts.specs.Names.{HasLock}
+use Rattle.version_words.specs.RunnerState.{RunnerState}
+use Rattle.epoch_slots.specs.Collects.{IsTidy, Collects}
+use Rattle.epoch_slots.specs.Entries.{Enters, Exits}
+use Rattle.try_lock.specs.declared.section.Section.{Section}
+use Rattle.try_lock.specs.declared.planned.Planned.{Planned}
+use Rattle.try_lock.specs.declared.planned.Planned.TheVariants as plans
+use Rattle.try_lock.specs.Planning.{Planning}
+use Rattle.try_lock.specs.Reached.{IsReached}
+use Rattle.try_lock.specs.Plans.{Answers, IsWalk, HasWalked}
+use Rattle.try_lock.specs.Publishes.{Publishes}
+use Rattle.try_lock.specs.Ends.{EndsSo}
+use Rattle.try_lock.specs.Retires.{HasRetired}
+use Rattle.attempt_parts.specs.Knowing.{IsStill}
+use Rattle.attempt_parts.specs.declared.answers.Attempt.{Attempt}
+use Rattle.attempt_parts.specs.declared.answers.Attempt.TheVariants as answers
+
+-- a refused plan as an attempt's answer; a thunk is none yet
+abbrev pub of_plan : Planned → Attempt
+of_plan (plans.Busy place word) = answers.Busy place word
+of_plan (plans.Spent place word) = answers.Spent place word
+of_plan (plans.Stale place expected read) = answers.Stale place expected read
+of_plan (plans.Far loads) = answers.Far loads
+of_plan (plans.Thunk thunk) = answers.Halted
+of_plan plans.Halted = answers.Halted
+
+-- a refused publication, at this lock
+abbrev pub of_refusal : ℕ → Refused → Attempt
+of_refusal lock (refusals.Busy word) = answers.Busy lock word
+of_refusal lock (refusals.Stale expected read) = answers.Stale lock expected read
+of_refusal lock (refusals.Spent word) = answers.Spent lock word
+
+-- the outcome of a section that left; one that answered is none
+abbrev pub of_outcome : Outcome → Attempt
+of_outcome (outcomes.Busy place word) = answers.Busy place word
+of_outcome (outcomes.Stale place expected read) = answers.Stale place expected read
+of_outcome (outcomes.Spent place word) = answers.Spent place word
+of_outcome (outcomes.Answered reply) = answers.Halted
+
+module _ {T : Type 0} where
+  -- the request is the worker's next one of its trace, which the structure serves, and the worker is idle
+  -- with an empty hand
+  pub record MayAttempt (planning : Planning) (request : Request) (r : RunnerState T) : Type 0 where
+    pub tidy : IsTidy r
+    pub there : slice_get r.requests request.number ≡ Some request
+    pub next : is_next r.layout r.number r.requests r.part.records.known (Some request) ≡ true
+    pub served : planning.serves request.op ≡ true
+
+  -- what an attempt needs of own slots is free
+  pub record HasReserve (r : RunnerState T) : Type 0 where
+    pub nodes : 2 ≤ length r.part.nodes.free
+    pub descriptors : 1 ≤ length r.part.descriptors.free
+
+  -- no slot is in the hand or half looked at
+  pub record IsEmptyHanded (r : RunnerState T) : Type 0 where
+    pub hand : r.part.nodes.hand ≡ []
+    pub tests : r.part.nodes.tests ≡ []
+
+module _ {T : Type 0} (m : Meaning) (planning : Planning) (request : Request) where
+  -- the runner collected, had a reserve of two node slots and one descriptor, and entered
+  pub record HasEntered (old new : RunnerState T) : Type 0 where
+    pub may : MayAttempt planning request old
+    pub ready : RunnerState T
+    pub collects : Collects m old ready
+    pub reserve : HasReserve ready
+    pub enters : Enters m ready new
+    pub still : IsStill old new
+    pub hand : IsEmptyHanded new
+    pub has : HasReserve new
+
+  -- behind that it planned, and was answered this by these readings
+  pub record HasPlanned (readings : Readings) (answer : Planned) (old new : RunnerState T) : Type 0 where
+    pub entered : RunnerState T
+    pub enters : HasEntered old entered
+    pub walk : IsWalk m planning old.layout request.op readings
+    pub walked : HasWalked m readings entered new
+    pub answers : Answers m planning old.layout request.op request.number readings answer
+    pub reached : IsReached m new
+    pub still : IsStill old new
+    pub hand : IsEmptyHanded new
+    pub has : HasReserve new
+
+  -- behind that it tried to publish the thunk of the plan, and was answered this
+  pub record HasTried (thunk : Thunk) (answer : Result Section Refused) (old new : RunnerState T) : Type 0 where
+    pub readings : Readings
+    pub planned : RunnerState T
+    pub plans : HasPlanned readings (plans.Thunk thunk) old planned
+    pub publishes : Publishes m thunk answer planned new
+    pub still : IsStill old new
+    pub hand : IsEmptyHanded new
+    pub nodes : 2 ≤ length new.part.nodes.free
+
+  -- the section was published, and run to its end with this outcome and this trail
+  pub record HasEnded (section : Section) (thunk : Thunk) (outcome : Outcome) (trail : Agreed)
+      (old new : RunnerState T) : Type 0 where
+    pub published : RunnerState T
+    pub made : ℕ
+    pub tries : HasTried thunk (Ok section) old published
+    pub ends : EndsSo m section.descriptor thunk outcome trail made published new
+
+  -- and retired
+  pub record HasRun (thunk : Thunk) (outcome : Outcome) (trail : Agreed) (old new : RunnerState T) : Type 0 where
+    pub section : Section
+    pub ran : RunnerState T
+    pub ended : HasEnded section thunk outcome trail old ran
+    pub retires : HasRetired m section.descriptor ran new
+
+  -- the section left without an effect
+  pub record HasLeft (thunk : Thunk) (outcome : Outcome) (old new : RunnerState T) : Type 0 where
+    pub trail : Agreed
+    pub run : HasRun thunk outcome trail old new
+    pub left : IsLeft m run.ended.ends.components.agreement
+        (sight m run.ran.layout run.ran.requests run.ended.ends.reached.world) run.section.descriptor
+
+  -- by what an attempt that served nothing ended: the plan was refused, or the publication, or the section left
+  pub record PlanIsRefused (answer : Attempt) (old new : RunnerState T) : Type 0 where
+    pub readings : Readings
+    pub refusal : Planned
+    pub plans : HasPlanned readings refusal old new
+    pub same : answer ≡ of_plan refusal
+
+  pub record LockIsRefused (answer : Attempt) (old new : RunnerState T) : Type 0 where
+    pub thunk : Thunk
+    pub refusal : Refused
+    pub tries : HasTried thunk (Err refusal) old new
+    pub same : answer ≡ of_refusal thunk.lock refusal
+
+  pub record SectionHasLeft (answer : Attempt) (old new : RunnerState T) : Type 0 where
+    pub thunk : Thunk
+    pub outcome : Outcome
+    pub left : HasLeft thunk outcome old new
+    pub same : answer ≡ of_outcome outcome
+
+  abbrev pub IsRefused : Attempt → RunnerState T → RunnerState T → Type 0
+  IsRefused answer old new = PlanIsRefused answer old new ⊎
+      (LockIsRefused answer old new ⊎ SectionHasLeft answer old new)
+
+module _ {T : Type 0} (m : Meaning) where
+  -- the runner ran the section that this word names to its end, and left: the section is done
+  pub record HasHelped (word : ℕ) (old new : RunnerState T) : Type 0 where
+    pub names : is_free word ≡ false
+    pub thunk : Thunk
+    pub outcome : Outcome
+    pub trail : Agreed
+    pub made : ℕ
+    pub helped : RunnerState T
+    pub ends : EndsSo m (value_of word - 1) thunk outcome trail made old helped
+    pub exits : Exits m helped new
+
+  -- the word is that of a lock of the section that was helped
+  abbrev pub IsOfHelped : (place word : ℕ) → (old new : RunnerState T) → HasHelped word old new → Type 0
+  IsOfHelped place word old new h = HasLock m
+      (sight m h.helped.layout h.helped.requests h.ends.reached.world).word (value_of word - 1) place word

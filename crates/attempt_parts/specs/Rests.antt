@@ -1,0 +1,83 @@
+-- What the parts of an attempt do.
+use Rattle.std.specs.Prelude.{◌≡◌, ◌≢◌, ℕ, Bool, true, false, not, None, Some, slice_get, if◌then◌else◌}
+use Rattle.map_history.specs.declared.op.Request.{Request}
+use Rattle.map_history.specs.declared.reply.Reply.{Reply}
+use Rattle.map_history.specs.Words.{word_of}
+use Rattle.structure_laws.specs.Meaning.{Meaning}
+use Rattle.runner_parts.specs.Tests.{is_answered}
+use Rattle.machine_states.specs.Sight.{sight}
+use Rattle.version_words.specs.RunnerState.{RunnerState}
+use Rattle.epoch_slots.specs.Collects.{IsTidy}
+use Rattle.epoch_slots.specs.Entries.{HasLeave}
+use Rattle.commit_log.specs.Asked.{IsAsked}
+use Rattle.try_lock.specs.Planning.{Planning}
+use Rattle.try_lock.specs.Reached.{IsReached, MayHelp}
+use Rattle.request_facts.specs.Laws.{HasEntry}
+use Rattle.request_facts.specs.Placed.{IsServedAs}
+use Rattle.attempt_parts.specs.Knowing.{KnowsMore, IsOwn, LearnsNoOther}
+use Rattle.attempt_parts.specs.Counted.{IsCounted}
+use Rattle.attempt_parts.specs.Course.{IsEmptyHanded}
+use Rattle.attempt_parts.specs.Attempts.{is_halted, is_short, Leaves, Answers}
+use Rattle.attempt_parts.specs.declared.answers.Attempt.{Attempt}
+use Rattle.attempt_parts.specs.declared.answers.Attempt.TheVariants as answers
+
+module _ {T : Type 0} (m : Meaning) where
+  -- the runner may leave with this answer: it is entered, in no run, with an empty hand and nothing to
+  -- retire, and may help a section that
+  -- the answer names
+  pub record MayLeave (answer : Attempt) (r : RunnerState T) : Type 0 where
+    pub leave : HasLeave r
+    pub hand : IsEmptyHanded r
+    pub help : (place word : ℕ) → answer ≡ answers.Busy place word → MayHelp m r word
+
+  -- the runner came to know no request of its own
+  abbrev pub LearnsNoOwn : RunnerState T → RunnerState T → Type 0
+  LearnsNoOwn old new = (q : Request) → IsOwn old q
+      → is_answered new.part.records.known q.number ≡ is_answered old.part.records.known q.number
+
+  -- the runner left with this answer, or a gate halted it as it helped
+  pub record HasTurned (answer got : Attempt) (old new : RunnerState T)
+      (halts halts' asks asks' steps steps' : ℕ) : Type 0 where
+    pub made : ℕ
+    pub asked : IsAsked made (not (is_halted got)) halts halts' asks asks' steps steps'
+    pub knows : KnowsMore old new
+    pub no_own : LearnsNoOwn old new
+    pub reached : IsReached m new
+    pub halted : is_halted got ≡ true → new.part.published ≡ None
+    pub leaves : is_halted got ≡ false → Leaves m answer old new
+    pub same : is_halted got ≡ false → got ≡ answer
+    pub tidy : is_halted got ≡ false → IsTidy new
+
+  -- the runner may learn the words of this request: it knows both
+  pub record MayLearn (request : Request) (r : RunnerState T) : Type 0 where
+    pub leave : HasLeave r
+    pub hand : IsEmptyHanded r
+    pub there : slice_get r.requests request.number ≡ Some request
+    pub knows : is_answered r.part.records.known request.number ≡ true
+
+  -- it loaded them, and left
+  pub record HasLearnt (request : Request) (reply : Reply) (stamp : ℕ) (old new : RunnerState T) : Type 0 where
+    pub knows : KnowsMore old new
+    pub no_own : LearnsNoOwn old new
+    pub tidy : IsTidy new
+    pub reached : IsReached m new
+    pub knows_stamp : HasEntry new.part.records.known
+        (record { request = request.number; reply = false; number = stamp })
+    pub knows_reply : HasEntry new.part.records.known
+        (record { request = request.number; reply = true; number = word_of reply })
+    pub served : IsServedAs m new.layout new.requests
+        (sight m new.layout new.requests reached.world) request.number stamp reply
+
+  module _ (planning : Planning) (request : Request) where
+    -- the rest of an attempt that began with `old`, from here on: its answer, what the runner learned, and
+    -- how often the gate was asked
+    pub record Rests (answer : Attempt) (old here new : RunnerState T)
+        (halts halts' asks asks' steps steps' : ℕ) : Type 0 where
+      pub answers : Answers m planning request answer old new
+      pub knows : KnowsMore here new
+      pub no_other : LearnsNoOther request.number here new
+      pub made : ℕ
+      pub published : Bool
+      pub asked : IsCounted made (if published then 1 else 0) (not
+          (is_halted answer)) halts halts' asks asks' steps steps'
+      pub entered : is_short answer ≡ false

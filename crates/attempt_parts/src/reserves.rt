@@ -1,0 +1,23 @@
+//! The own slots that an attempt needs.
+ghost use Rattle.std.specs.Prelude.{◌≡◌, IfOk, IfErr};
+ghost use Rattle.epoch_slots.specs.Reserves.{counts_of};
+ghost use Rattle.attempt_parts.specs.Course.{HasReserve};
+ghost use Rattle.attempt_parts.specs.Attempts.{IsFew};
+
+use epoch_slots::{Kind, Short, reserve};
+use runner_parts::Structure;
+use version_words::Runner;
+
+/// The runner, if two node slots and one descriptor are free; else the runner and the counts of the kind that
+/// lacks. Node
+/// slots are asked for first. No step is made, and nothing changes.
+pub fn reserve_slots<S: Structure>(runner: Runner<S>) -> Result<Runner<S>, (Runner<S>, Short)>
+    ensures same { IfOk result (λ x. x ≡ runner) }
+    ensures enough { IfOk result (λ x. HasReserve runner) }
+    ensures err { IfErr result (λ e. e.0 ≡ runner) }
+    ensures few { IfErr result (λ e. IsFew runner e.1.kind) }
+    ensures counts { IfErr result (λ e. e.1 ≡ counts_of runner e.1.kind) }
+{
+    let runner = reserve(runner, Kind::Node, 2)?;
+    reserve(runner, Kind::Descriptor, 1)
+}
