@@ -14,12 +14,12 @@ use Rattle.try_lock.specs.Planning.{Planning}
 use Rattle.try_lock.specs.Reached.{IsReached, MayHelp}
 use Rattle.request_facts.specs.Laws.{HasEntry}
 use Rattle.request_facts.specs.Placed.{IsServedAs}
-use Rattle.attempt_parts.specs.Knowing.{KnowsMore, IsOwn, LearnsNoOther}
-use Rattle.attempt_parts.specs.Counted.{IsCounted}
-use Rattle.attempt_parts.specs.Course.{IsEmptyHanded}
-use Rattle.attempt_parts.specs.Attempts.{is_halted, is_short, Leaves, Answers}
-use Rattle.attempt_parts.specs.declared.answers.Attempt.{Attempt}
-use Rattle.attempt_parts.specs.declared.answers.Attempt.TheVariants as answers
+use Rattle.attempts.specs.Knowing.{KnowsMore, IsOwn, LearnsNoOther}
+use Rattle.attempts.specs.Counted.{IsCounted}
+use Rattle.attempts.specs.Course.{IsEmptyHanded}
+use Rattle.attempts.specs.Attempts.{is_halted, is_short, Leaves, Answers}
+use Rattle.attempts.specs.declared.answers.Attempt.{Attempt}
+use Rattle.attempts.specs.declared.answers.Attempt.TheVariants as answers
 
 module _ {T : Type 0} (m : Meaning) where
   -- the runner may leave with this answer: it is entered, in no run, with an empty hand and nothing to

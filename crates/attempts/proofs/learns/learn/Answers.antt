@@ -6,10 +6,10 @@ use Rattle.machine_invariant.specs.After.{AreAllowed}
 use Rattle.version_words.proofs.Stages.{may_load_entry, then_knows}
 use Rattle.version_words.specs.Stages.{IsAt}
 use Rattle.runner_parts.specs.declared.stage.Stage.TheVariants as stages
-use Rattle.attempt_parts.specs.Rests.{HasLearnt}
-use Rattle.attempt_parts.specs.declared.answers.Attempt.TheVariants as answers
-use Rattle.attempt_parts.proofs.Learning.{is_known, same_word, has_learnt}
-use Rattle.attempt_parts.proofs.learns.learn.Goals as goal
+use Rattle.attempts.specs.Rests.{HasLearnt}
+use Rattle.attempts.specs.declared.answers.Attempt.TheVariants as answers
+use Rattle.attempts.proofs.Learning.{is_known, same_word, has_learnt}
+use Rattle.attempts.proofs.learns.learn.Goals as goal
 
 pub load_entry-runner-requires-clause-next : goal.load_entry-runner-requires-clause-next
 load_entry-runner-requires-clause-next g c κs within =

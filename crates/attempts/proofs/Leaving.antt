@@ -28,16 +28,16 @@ use Rattle.commit_log.specs.Asked.{IsAsked}
 use Rattle.commit_log.proofs.Asked.{asked_none}
 use Rattle.try_lock.specs.Reached.{IsReached, MayHelp}
 use Rattle.try_lock.specs.Ends.{EndsSo}
-use Rattle.attempt_parts.specs.Learned.{HasLearned, IsCut}
-use Rattle.attempt_parts.specs.Knowing.{KnowsMore, IsFront}
-use Rattle.attempt_parts.specs.Course.{IsEmptyHanded, HasHelped, IsOfHelped}
-use Rattle.attempt_parts.specs.Attempts.{is_halted, is_refusal, Leaves, HasMadeWay}
-use Rattle.attempt_parts.specs.Rests.{MayLeave, LearnsNoOwn, HasTurned}
-use Rattle.attempt_parts.specs.declared.answers.Attempt.{Attempt}
-use Rattle.attempt_parts.specs.declared.answers.Attempt.TheVariants as answers
-use Rattle.attempt_parts.proofs.Knowing.{knows_same, knows_on, own_on}
-use Rattle.attempt_parts.proofs.Reaching.{exits_reached}
-use Rattle.attempt_parts.proofs.Helping.{learns_no_own}
+use Rattle.attempts.specs.Learned.{HasLearned, IsCut}
+use Rattle.attempts.specs.Knowing.{KnowsMore, IsFront}
+use Rattle.attempts.specs.Course.{IsEmptyHanded, HasHelped, IsOfHelped}
+use Rattle.attempts.specs.Attempts.{is_halted, is_refusal, Leaves, HasMadeWay}
+use Rattle.attempts.specs.Rests.{MayLeave, LearnsNoOwn, HasTurned}
+use Rattle.attempts.specs.declared.answers.Attempt.{Attempt}
+use Rattle.attempts.specs.declared.answers.Attempt.TheVariants as answers
+use Rattle.attempts.proofs.Knowing.{knows_same, knows_on, own_on}
+use Rattle.attempts.proofs.Reaching.{exits_reached}
+use Rattle.attempts.proofs.Helping.{learns_no_own}
 
 -- a word that isn't free names the descriptor below its value
 named_value : (n : ℕ) → (n == 0) ≡ false → n ≡ suc (n - 1)

@@ -26,9 +26,9 @@ use Rattle.try_lock.specs.Plans.{Answers, IsWalk, HasWalked}
 use Rattle.try_lock.specs.Publishes.{Publishes}
 use Rattle.try_lock.specs.Ends.{EndsSo}
 use Rattle.try_lock.specs.Retires.{HasRetired}
-use Rattle.attempt_parts.specs.Knowing.{IsStill}
-use Rattle.attempt_parts.specs.declared.answers.Attempt.{Attempt}
-use Rattle.attempt_parts.specs.declared.answers.Attempt.TheVariants as answers
+use Rattle.attempts.specs.Knowing.{IsStill}
+use Rattle.attempts.specs.declared.answers.Attempt.{Attempt}
+use Rattle.attempts.specs.declared.answers.Attempt.TheVariants as answers
 
 -- a refused plan as an attempt's answer; a thunk is none yet
 abbrev pub of_plan : Planned → Attempt

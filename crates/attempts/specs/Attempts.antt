@@ -20,13 +20,13 @@ use Rattle.epoch_slots.specs.declared.reserves.Kind.TheVariants as slots
 use Rattle.epoch_slots.specs.declared.reserves.Short.{Short}
 use Rattle.try_lock.specs.Planning.{Planning}
 use Rattle.try_lock.specs.Reached.{IsReached}
-use Rattle.attempt_parts.specs.Knowing.{KnowsMore, LearnsNoOther}
-use Rattle.attempt_parts.specs.Counted.{IsCounted}
+use Rattle.attempts.specs.Knowing.{KnowsMore, LearnsNoOther}
+use Rattle.attempts.specs.Counted.{IsCounted}
 use Rattle.request_facts.specs.Laws.{HasEntry}
 use Rattle.request_facts.specs.Placed.{IsServedAs, IsUnserved}
-use Rattle.attempt_parts.specs.Course.{MayAttempt, HasEntered, HasRun, IsRefused, HasHelped, IsOfHelped}
-use Rattle.attempt_parts.specs.declared.answers.Attempt.{Attempt}
-use Rattle.attempt_parts.specs.declared.answers.Attempt.TheVariants as answers
+use Rattle.attempts.specs.Course.{MayAttempt, HasEntered, HasRun, IsRefused, HasHelped, IsOfHelped}
+use Rattle.attempts.specs.declared.answers.Attempt.{Attempt}
+use Rattle.attempts.specs.declared.answers.Attempt.TheVariants as answers
 
 abbrev pub is_short : Attempt → Bool
 is_short (answers.Short short) = true

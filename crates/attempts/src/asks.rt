@@ -1,6 +1,6 @@
 //! What a gate is asked where no step is made.
 ghost use Rattle.std.specs.Prelude.{ℕ};
-ghost use Rattle.attempt_parts.specs.Counted.{IsCounted};
+ghost use Rattle.attempts.specs.Counted.{IsCounted};
 
 use section_body::{Gate, Pass, StepKind};
 

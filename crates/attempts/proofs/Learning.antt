@@ -41,10 +41,10 @@ use Rattle.machine_facts.proofs.Following.{facts_after}
 use Rattle.request_facts.specs.Placed.{IsServedAs}
 use Rattle.request_facts.specs.Laws.{HasEntry, IsKnown, CallersStand}
 use Rattle.request_facts.proofs.Standing.{callers_stand}
-use Rattle.attempt_parts.specs.Knowing.{KnowsMore, IsOwn}
-use Rattle.attempt_parts.specs.Rests.{LearnsNoOwn, MayLearn, HasLearnt}
-use Rattle.attempt_parts.proofs.Knowing.{front_same, front_on, front_entry, knows_same, knows_on, own_on, answered_on, answered_of_other, append_none}
-use Rattle.attempt_parts.proofs.Reaching.{made_reached}
+use Rattle.attempts.specs.Knowing.{KnowsMore, IsOwn}
+use Rattle.attempts.specs.Rests.{LearnsNoOwn, MayLearn, HasLearnt}
+use Rattle.attempts.proofs.Knowing.{front_same, front_on, front_entry, knows_same, knows_on, own_on, answered_on, answered_of_other, append_none}
+use Rattle.attempts.proofs.Reaching.{made_reached}
 
 -- what is met is what fits
 fitting_same : (s : Sizes) (y x : Spot × Access) → fitting s (Some y) ≡ Some x → y ≡ x

@@ -31,10 +31,10 @@ use Rattle.try_lock.specs.Publishes.{refused_by, MayPublish, IsPublished, IsRefu
 use Rattle.try_lock.specs.Reached.{MayRunSection, MayHelp}
 use Rattle.try_lock.specs.Ends.{EndsSo}
 use Rattle.try_lock.specs.Retires.{IsOver}
-use Rattle.attempt_parts.specs.Course.{of_refusal, HasEntered, HasPlanned, HasTried, HasEnded}
-use Rattle.attempt_parts.specs.Rests.{MayLeave}
-use Rattle.attempt_parts.specs.declared.answers.Attempt.TheVariants as answers
-use Rattle.attempt_parts.proofs.Leaving.{ended_at}
+use Rattle.attempts.specs.Course.{of_refusal, HasEntered, HasPlanned, HasTried, HasEnded}
+use Rattle.attempts.specs.Rests.{MayLeave}
+use Rattle.attempts.specs.declared.answers.Attempt.TheVariants as answers
+use Rattle.attempts.proofs.Leaving.{ended_at}
 
 same_test : (n : ℕ) → (n == n) ≡ true
 same_test n = grind (arith, nat_tests)

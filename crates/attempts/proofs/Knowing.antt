@@ -11,7 +11,7 @@ use Rattle.runner_parts.specs.Tests.{knows, is_answered}
 use Rattle.machine_states.proofs.Steps.{none_some}
 use Rattle.version_words.specs.RunnerState.{RunnerState}
 use Rattle.section_runs.specs.Opened.{Learns}
-use Rattle.attempt_parts.specs.Knowing.{IsFront, KnowsMore, IsOwn, LearnsNoOther}
+use Rattle.attempts.specs.Knowing.{IsFront, KnowsMore, IsOwn, LearnsNoOther}
 
 pub append_none : {A : Type 0} (xs : List A) → xs ++ [] ≡ xs
 append_none [] = refl

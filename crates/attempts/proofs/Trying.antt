@@ -18,16 +18,16 @@ use Rattle.try_lock.specs.declared.section.Section.{Section}
 use Rattle.try_lock.specs.declared.planned.Planned.TheVariants as plans
 use Rattle.try_lock.specs.Planning.{Planning}
 use Rattle.try_lock.specs.Publishes.{Publishes}
-use Rattle.attempt_parts.specs.Knowing.{IsStill, IsOwn}
-use Rattle.attempt_parts.specs.Course.{of_refusal, MayAttempt, HasPlanned, HasTried}
-use Rattle.attempt_parts.specs.Attempts.{is_refusal}
-use Rattle.attempt_parts.specs.Counted.{IsCounted}
-use Rattle.attempt_parts.specs.Rests.{Rests}
-use Rattle.attempt_parts.specs.declared.answers.Attempt.{Attempt}
-use Rattle.attempt_parts.specs.declared.answers.Attempt.TheVariants as answers
-use Rattle.attempt_parts.proofs.Knowing.{knows_same, knows_on, no_other_same, no_other_on, own_on}
-use Rattle.attempt_parts.proofs.Courses.{tried_at}
-use Rattle.attempt_parts.proofs.Turning.{may_own, may_unknown}
+use Rattle.attempts.specs.Knowing.{IsStill, IsOwn}
+use Rattle.attempts.specs.Course.{of_refusal, MayAttempt, HasPlanned, HasTried}
+use Rattle.attempts.specs.Attempts.{is_refusal}
+use Rattle.attempts.specs.Counted.{IsCounted}
+use Rattle.attempts.specs.Rests.{Rests}
+use Rattle.attempts.specs.declared.answers.Attempt.{Attempt}
+use Rattle.attempts.specs.declared.answers.Attempt.TheVariants as answers
+use Rattle.attempts.proofs.Knowing.{knows_same, knows_on, no_other_same, no_other_on, own_on}
+use Rattle.attempts.proofs.Courses.{tried_at}
+use Rattle.attempts.proofs.Turning.{may_own, may_unknown}
 
 pub tried_of : {T : Type 0} (m : Meaning) (planning : Planning) (request : Request) (old : RunnerState T) (readings : Readings) (thunk : Thunk) (r : RunnerState T)
     → HasPlanned m planning request readings (plans.Thunk thunk) old r → (answer : Result Section Refused) (new : RunnerState T)

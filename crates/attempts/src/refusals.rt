@@ -1,6 +1,6 @@
 //! Refusals as answers of an attempt.
 ghost use Rattle.std.specs.Prelude.{◌≡◌};
-ghost use Rattle.attempt_parts.specs.Course.{of_plan, of_refusal, of_outcome};
+ghost use Rattle.attempts.specs.Course.{of_plan, of_refusal, of_outcome};
 
 use crate::answers::Attempt;
 use section_body::{Outcome, Place, Refused};

@@ -19,14 +19,14 @@ use Rattle.try_lock.specs.Planning.{Planning}
 use Rattle.try_lock.specs.Reached.{IsReached}
 use Rattle.request_facts.specs.Placed.{IsUnserved}
 use Rattle.request_facts.proofs.Standing.{callers_stand}
-use Rattle.attempt_parts.specs.Knowing.{IsOwn}
-use Rattle.attempt_parts.specs.Course.{MayAttempt, HasEntered, IsRefused}
-use Rattle.attempt_parts.specs.Attempts.{is_halted, is_short, is_refusal, IsTurnedAway, IsHalted, IsUntouched, Answers}
-use Rattle.attempt_parts.specs.Rests.{HasTurned, Rests}
-use Rattle.attempt_parts.specs.declared.answers.Attempt.{Attempt}
-use Rattle.attempt_parts.specs.declared.answers.Attempt.TheVariants as answers
-use Rattle.attempt_parts.proofs.Knowing.{own_on}
-use Rattle.attempt_parts.proofs.Counting.{counted_steps}
+use Rattle.attempts.specs.Knowing.{IsOwn}
+use Rattle.attempts.specs.Course.{MayAttempt, HasEntered, IsRefused}
+use Rattle.attempts.specs.Attempts.{is_halted, is_short, is_refusal, IsTurnedAway, IsHalted, IsUntouched, Answers}
+use Rattle.attempts.specs.Rests.{HasTurned, Rests}
+use Rattle.attempts.specs.declared.answers.Attempt.{Attempt}
+use Rattle.attempts.specs.declared.answers.Attempt.TheVariants as answers
+use Rattle.attempts.proofs.Knowing.{own_on}
+use Rattle.attempts.proofs.Counting.{counted_steps}
 
 pub halted_is : (got : Attempt) → is_halted got ≡ true → got ≡ answers.Halted
 halted_is answers.Halted e = refl

@@ -4,7 +4,7 @@ use Rattle.std.proofs.Common.{◌≡◌, ℕ, ◌+◌, ◌-◌, ◌≤◌, refl,
 use Rattle.fault_count.specs.Rose.{Rose}
 use Rattle.commit_log.specs.Asked.{counted_on, IsAsked}
 use Rattle.commit_log.proofs.Asked.{counted_more}
-use Rattle.attempt_parts.specs.Counted.{IsCounted}
+use Rattle.attempts.specs.Counted.{IsCounted}
 
 -- steps, with an ask after each
 pub counted_steps : (made : ℕ) (going : Bool) (halts halts' asks asks' steps steps' : ℕ) → IsAsked made going halts halts' asks asks' steps steps'

@@ -1,8 +1,8 @@
 //! The own slots that an attempt needs.
 ghost use Rattle.std.specs.Prelude.{◌≡◌, IfOk, IfErr};
 ghost use Rattle.epoch_slots.specs.Reserves.{counts_of};
-ghost use Rattle.attempt_parts.specs.Course.{HasReserve};
-ghost use Rattle.attempt_parts.specs.Attempts.{IsFew};
+ghost use Rattle.attempts.specs.Course.{HasReserve};
+ghost use Rattle.attempts.specs.Attempts.{IsFew};
 
 use epoch_slots::{Kind, Short, reserve};
 use runner_parts::Structure;

@@ -2,8 +2,8 @@
 ghost use Rattle.std.specs.Prelude.{◌≡◌, ℕ};
 ghost use Rattle.map_history.specs.declared.reply.Reply.{Reply};
 ghost use Rattle.version_words.specs.TableState.{IsOf};
-ghost use Rattle.attempt_parts.specs.declared.answers.Attempt.TheVariants as answers;
-ghost use Rattle.attempt_parts.specs.Rests.{MayLearn, HasLearnt};
+ghost use Rattle.attempts.specs.declared.answers.Attempt.TheVariants as answers;
+ghost use Rattle.attempts.specs.Rests.{MayLearn, HasLearnt};
 
 use crate::answers::Attempt;
 use epoch_slots::exit;

@@ -15,8 +15,8 @@ use Rattle.try_lock.specs.declared.planned.Planned.{Planned}
 use Rattle.try_lock.specs.declared.planned.Planned.TheVariants as plans
 use Rattle.try_lock.specs.Planning.{Planning}
 use Rattle.try_lock.specs.Plans as plan
-use Rattle.attempt_parts.specs.Course.{of_plan, HasEntered, HasPlanned}
-use Rattle.attempt_parts.specs.Attempts.{is_refusal}
+use Rattle.attempts.specs.Course.{of_plan, HasEntered, HasPlanned}
+use Rattle.attempts.specs.Attempts.{is_refusal}
 
 -- what the plan says, as a part of the course
 pub planned_of : {T : Type 0} (m : Meaning) (planning : Planning) (request : Request) (old r : RunnerState T) → HasEntered m planning request old r
