@@ -105,6 +105,13 @@ module _ {T : Type 0} (m : Meaning) (planning : Planning) (request : Request) wh
     pub hand : IsEmptyHanded new
     pub nodes : 2 ≤ length new.part.nodes.free
 
+  -- a section was published for the request
+  pub record HasPublished (old : RunnerState T) : Type 0 where
+    pub thunk : Thunk
+    pub section : Section
+    pub published : RunnerState T
+    pub tries : HasTried thunk (Ok section) old published
+
   -- the section was published, and run to its end with this outcome and this trail
   pub record HasEnded (section : Section) (thunk : Thunk) (outcome : Outcome) (trail : Agreed)
       (old new : RunnerState T) : Type 0 where
