@@ -1,6 +1,6 @@
 -- What a runner knows along a run of a section, step by step.
-use Rattle.std.specs.Prelude.{◌==◌, ◌&&◌, is_none, Bool, true, false, slice_get, if◌then◌else◌}
-use Rattle.std.proofs.Common.{◌≡◌, ◌≢◌, ℕ, zero, suc, ◌+◌, ◌<◌, ◌≤◌, List, [], ◌∷◌, ◌++◌, length, refl, sym, ap, ◌∙◌, subst, ⊎_elim, arith, Option, Some, None}
+use Rattle.std.specs.Prelude.{Bool, true, false, slice_get}
+use Rattle.std.proofs.Common.{◌≡◌, ◌≢◌, ℕ, zero, suc, ◌+◌, ◌<◌, ◌≤◌, List, [], ◌∷◌, ◌++◌, refl, sym, ap, ◌∙◌, subst, ⊎_elim, arith}
 use Rattle.std.proofs.lemmas.Bool.{cases_eq, cases_lt}
 use Rattle.section_body.specs.declared.micro.Micro.{Micro}
 use Rattle.section_body.specs.declared.micro.Micro.TheVariants as micros
@@ -21,7 +21,7 @@ use Rattle.structure_laws.specs.Laws.{Laws}
 use Rattle.runner_parts.specs.declared.entries.Known.{Known}
 use Rattle.runner_parts.specs.State.{RunState, PartState, ReadsState}
 use Rattle.runner_parts.specs.Tests.{has_pair}
-use Rattle.runner_steps.specs.Sections.{thunk_of, line_of, next_of, setting_of, settles}
+use Rattle.runner_steps.specs.Sections.{thunk_of, line_of, setting_of, settles}
 use Rattle.runner_steps.specs.After.{line_after}
 use Rattle.machine_epochs.proofs.RunPlaces.{is_of_end, next_in_line}
 use Rattle.machine_agreement.proofs.LineKinds.{after_line}
@@ -30,16 +30,14 @@ use Rattle.machine_states.specs.World.{seat_of}
 use Rattle.machine_states.specs.Reached.{Reached}
 use Rattle.machine_states.proofs.Steps.{some_same, none_some}
 use Rattle.next_steps.specs.Steps.{kind_at}
-use Rattle.next_steps.specs.Stages.{reads_behind}
 use Rattle.version_words.specs.RunnerState.{RunnerState}
 use Rattle.version_words.specs.TableState.{TableState, IsOf}
 use Rattle.commit_log.specs.Runs.{IsRunning, Stepped, Ran}
 use Rattle.commit_log.proofs.Next.{next_here}
-use Rattle.commit_log.proofs.Running.{one_run}
 use Rattle.section_runs.specs.Reached.{IsReached, run_or}
 use Rattle.section_runs.specs.Opened.{Learns, HasOpened, opening}
 use Rattle.section_runs.proofs.Going.{shaped}
-use Rattle.section_runs.proofs.Records.{noted_known, learns_none}
+use Rattle.section_runs.proofs.Records.{noted_known}
 use Rattle.section_runs.proofs.Staying.{run_open, still_of, step_learns, step_stays, learns_more}
 use Rattle.attempts.specs.Learned.{StoodAtStamp, HasLearned}
 use Rattle.attempts.proofs.Knowing.{append_none}

@@ -1,6 +1,6 @@
 -- How a runner is turned away, by the calls that it makes.
-use Rattle.std.specs.Prelude.{Bool, true, false}
-use Rattle.std.proofs.Common.{◌≡◌, ℕ, ◌-◌, List, refl, sym, ap, ◌∙◌, subst, None}
+use Rattle.std.specs.Prelude.{true, false}
+use Rattle.std.proofs.Common.{◌≡◌, ℕ, ◌-◌, List, sym, ◌∙◌, subst, None}
 use Rattle.map_history.specs.declared.op.Request.{Request}
 use Rattle.section_body.specs.Trail.{Agreed}
 use Rattle.section_body.specs.Word.{value_of}

@@ -1,11 +1,11 @@
 -- The end of an attempt's own section.
-use Rattle.std.specs.Prelude.{◌&&◌, Bool, true, false, slice_get, Ok}
-use Rattle.std.proofs.Common.{◌≡◌, ◌≢◌, ℕ, ◌-◌, ◌<◌, ◌≤◌, [], length, refl, sym, ap, ◌∙◌, subst, arith, inl, inr, Option, Some, None}
+use Rattle.std.specs.Prelude.{true, false, slice_get}
+use Rattle.std.proofs.Common.{◌≡◌, ◌≢◌, ℕ, ◌-◌, ◌≤◌, length, refl, sym, ap, ◌∙◌, subst, inr, Option, Some, None}
 use Rattle.map_history.specs.declared.op.Request.{Request}
 use Rattle.map_history.specs.declared.reply.Reply.{Reply}
 use Rattle.section_body.specs.Trail.{Agreed}
 use Rattle.section_body.specs.Line.{line, micro_at}
-use Rattle.section_body.specs.Word.{value_of, is_free}
+use Rattle.section_body.specs.Word.{value_of}
 use Rattle.section_body.specs.declared.outcome.Outcome.{Outcome}
 use Rattle.section_body.specs.declared.outcome.Outcome.TheVariants as outcomes
 use Rattle.section_body.specs.declared.thunk.Thunk.{Thunk}
@@ -16,7 +16,6 @@ use Rattle.runner_parts.specs.declared.event.EventKind.TheVariants as kinds
 use Rattle.runner_parts.specs.declared.entries.Published.{Published}
 use Rattle.runner_parts.specs.State.{NodesState, ReadsState}
 use Rattle.runner_parts.specs.Tests.{has, is_answered}
-use Rattle.runner_steps.specs.AfterInRun.{over_if}
 use Rattle.runner_steps.specs.AfterOutside.{retire_after}
 use Rattle.machine_invariant.specs.After.{AreAllowed}
 use Rattle.version_words.specs.RunnerState.{RunnerState}
@@ -29,7 +28,7 @@ use Rattle.try_lock.specs.Planning.{Planning}
 use Rattle.try_lock.specs.Reached.{IsReached}
 use Rattle.try_lock.specs.Retires.{IsOver, HasRetired}
 use Rattle.attempts.specs.Knowing.{KnowsMore, IsStill, IsOwn}
-use Rattle.attempts.specs.Course.{of_outcome, IsEmptyHanded, HasPublished, HasEnded, HasRun, HasLeft, SectionHasLeft, IsRefused}
+use Rattle.attempts.specs.Course.{of_outcome, IsEmptyHanded, HasPublished, HasEnded, HasRun, SectionHasLeft}
 use Rattle.attempts.specs.Attempts.{IsServed}
 use Rattle.attempts.specs.Rests.{MayLeave, MayLearn, HasLearnt, HasTurned, Rests}
 use Rattle.attempts.specs.declared.answers.Attempt.{Attempt}

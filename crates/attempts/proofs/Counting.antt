@@ -1,6 +1,6 @@
 -- Asking a gate, step by step.
 use Rattle.std.specs.Prelude.{min, ◌^◌, Bool, true, false}
-use Rattle.std.proofs.Common.{◌≡◌, ℕ, ◌+◌, ◌-◌, ◌≤◌, refl, sym, ap, ◌∙◌, subst, arith}
+use Rattle.std.proofs.Common.{◌≡◌, ℕ, ◌+◌, ◌-◌, ◌≤◌, refl, ap, ◌∙◌, subst, arith}
 use Rattle.fault_count.specs.Rose.{Rose}
 use Rattle.commit_log.specs.Asked.{counted_on, IsAsked}
 use Rattle.commit_log.proofs.Asked.{counted_more}

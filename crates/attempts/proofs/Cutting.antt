@@ -1,6 +1,6 @@
 -- An attempt's own run, to its end or to where a gate halted it.
 use Rattle.std.specs.Prelude.{◌&&◌, not, Bool, true, false, Ok, if◌then◌else◌}
-use Rattle.std.proofs.Common.{◌≡◌, ◌≢◌, ℕ, ◌+◌, List, [], ◌∷◌, ◌++◌, length, refl, sym, ap, ◌∙◌, subst, arith, Option, Some, None}
+use Rattle.std.proofs.Common.{◌≡◌, ℕ, ◌+◌, List, [], ◌∷◌, ◌++◌, refl, sym, ap, ◌∙◌, subst, Some}
 use Rattle.map_history.specs.declared.op.Request.{Request}
 use Rattle.section_body.specs.Trail.{Agreed}
 use Rattle.section_body.specs.declared.outcome.Outcome.{Outcome}
@@ -10,10 +10,8 @@ use Rattle.structure_laws.specs.Meaning.{Meaning}
 use Rattle.structure_laws.specs.Laws.{Laws}
 use Rattle.runner_parts.specs.declared.entries.Known.{Known}
 use Rattle.runner_parts.specs.declared.entries.Published.{Published}
-use Rattle.runner_parts.specs.State.{PartState, RunState}
-use Rattle.runner_parts.specs.Tests.{is_answered}
+use Rattle.runner_parts.specs.State.{PartState}
 use Rattle.machine_states.specs.Sight.{Sight, sight, part_or_first}
-use Rattle.machine_states.proofs.Steps.{none_some}
 use Rattle.machine_epochs.specs.Slots.{thunk_in}
 use Rattle.machine_agreement.proofs.RunPlaces.{opened_thunk}
 use Rattle.machine_invariant.specs.After.{AreAllowed}

@@ -1,6 +1,6 @@
 -- What the last step of a run shows of its outcome, and of what the runner was told.
-use Rattle.std.specs.Prelude.{◌==◌, ◌&&◌, ◌⊎◌, cond, is_none, slice_index, Bool, true, false, if◌then◌else◌}
-use Rattle.std.proofs.Common.{◌≡◌, ◌≢◌, ℕ, zero, suc, ◌+◌, ◌-◌, ◌<◌, ◌≤◌, List, [], ◌∷◌, ◌++◌, length, refl, sym, ap, ◌∙◌, subst, ⊎_elim, arith, Option, Some, None}
+use Rattle.std.specs.Prelude.{◌&&◌, ◌⊎◌, cond, is_none, slice_index, Bool, true, false}
+use Rattle.std.proofs.Common.{◌≡◌, ◌≢◌, ℕ, ◌+◌, ◌-◌, ◌<◌, ◌≤◌, List, [], ◌∷◌, ◌++◌, length, refl, sym, ap, ◌∙◌, subst, ⊎_elim, arith, Option, Some, None}
 use Rattle.section_body.specs.declared.micro.Micro.{Micro}
 use Rattle.section_body.specs.declared.micro.Micro.TheVariants as micros
 use Rattle.section_body.specs.declared.outcome.Outcome.{Outcome}
@@ -8,10 +8,10 @@ use Rattle.section_body.specs.declared.outcome.Outcome.TheVariants as outcomes
 use Rattle.section_body.specs.declared.step.Step.{Step}
 use Rattle.section_body.specs.declared.step.Step.TheVariants.{Answer}
 use Rattle.section_body.specs.declared.thunk.Thunk.{Thunk}
-use Rattle.section_body.specs.Line.{line, micro_at, is_check, is_end, is_event, begins}
-use Rattle.section_body.specs.Run.{Setting, leaves, refusal, is_takable}
+use Rattle.section_body.specs.Line.{line, micro_at, is_check, is_event, begins}
+use Rattle.section_body.specs.Run.{Setting, leaves, refusal}
 use Rattle.section_body.specs.Shape.{IsShaped}
-use Rattle.section_body.specs.Word.{version_of, is_free, is_spent, held_word}
+use Rattle.section_body.specs.Word.{is_free, is_spent}
 use Rattle.section_lines.specs.Line.{phase}
 use Rattle.section_lines.proofs.Phases.{is_in_phases}
 use Rattle.section_lines.proofs.Places.{stands_there}
@@ -21,8 +21,8 @@ use Rattle.structure_laws.specs.Laws.{Laws}
 use Rattle.runner_parts.specs.declared.entries.Known.{Known}
 use Rattle.runner_parts.specs.State.{RunState, PartState, FinishedState}
 use Rattle.runner_parts.specs.Tests.{knows, is_answered}
-use Rattle.runner_steps.specs.AfterInRun.{ended_more, finished_of}
-use Rattle.runner_steps.specs.Sections.{thunk_of, line_of, next_of, setting_of, settles, outcome_of, outcome_or, reply_in}
+use Rattle.runner_steps.specs.AfterInRun.{ended_more}
+use Rattle.runner_steps.specs.Sections.{thunk_of, line_of, setting_of, outcome_of, outcome_or, reply_in}
 use Rattle.machine_agreement.proofs.Passes.{resting}
 use Rattle.machine_invariant.specs.After.{AreAllowed}
 use Rattle.machine_records.specs.Told.{IsTold}
@@ -31,7 +31,7 @@ use Rattle.machine_states.specs.Sight.{sight, part_or_first}
 use Rattle.machine_states.proofs.Steps.{some_same, none_some}
 use Rattle.version_words.specs.RunnerState.{RunnerState}
 use Rattle.version_words.specs.TableState.{TableState, IsOf}
-use Rattle.commit_log.specs.Runs.{IsRunning, Stepped}
+use Rattle.commit_log.specs.Runs.{Stepped}
 use Rattle.section_runs.proofs.Going.{shaped}
 use Rattle.section_runs.proofs.Replies.{last_answer}
 use Rattle.attempts.proofs.Knowing.{append_none}

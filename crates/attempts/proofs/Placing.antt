@@ -1,5 +1,5 @@
 -- Where a step of a run leaves it in its line, and what it tells.
-use Rattle.std.specs.Prelude.{◌==◌, ◌&&◌, ◌||◌, is_none, Bool, true, false, if◌then◌else◌}
+use Rattle.std.specs.Prelude.{◌==◌, ◌&&◌, ◌||◌, Bool, true, false, if◌then◌else◌}
 use Rattle.std.proofs.Common.{◌≡◌, ℕ, ◌+◌, ◌-◌, ◌<◌, ◌≤◌, List, [], ◌∷◌, ◌++◌, refl, sym, ap, ◌∙◌, subst, arith, Option, Some, None}
 use Rattle.std.proofs.lemmas.List.Folds.{list_any-append}
 use Rattle.section_body.specs.declared.micro.Micro.{Micro}

@@ -1,6 +1,5 @@
 -- What refused a plan, or made a section leave, as an answer of an attempt.
-use Rattle.std.specs.Prelude.{◌==◌, ◌&&◌, ◌||◌, not, cond, Bool, true, false, slice_index, slice_get, if◌then◌else◌}
-use Rattle.std.specs.List.{list_any}
+use Rattle.std.specs.Prelude.{◌==◌, ◌||◌, cond, Bool, true, false, slice_index, if◌then◌else◌}
 use Rattle.std.proofs.Common.{◌≡◌, ◌≢◌, ℕ, ◌-◌, List, [], ◌∷◌, ◌++◌, refl, sym, ap, ◌∙◌, subst, arith, Option, Some, None}
 use Rattle.std.proofs.lemmas.List.Folds.{list_any-append}
 use Rattle.std.proofs.lemmas.Bool.Decides.{nat_tests}
@@ -24,7 +23,6 @@ use Rattle.try_lock.specs.Planning.{Planning}
 use Rattle.try_lock.specs.Plans as plan
 use Rattle.attempts.specs.Course.{of_plan, of_outcome}
 use Rattle.attempts.specs.Attempts.{is_refusal}
-use Rattle.attempts.specs.declared.answers.Attempt.{Attempt}
 use Rattle.attempts.specs.declared.answers.Attempt.TheVariants as answers
 
 -- a section that found a lock held read a word there that names a descriptor
@@ -176,12 +174,11 @@ module _ (m : Meaning) (planning : Planning) (l : Layout) (op : Op) (place word 
       → (is_free word ≡ false) × (has (plan.names_read m readings) (value_of word - 1) ≡ true)
   plan_busy readings is =
       let h = by_lock is.place is.word (m.is_lock is.place) _
-          (by_rest is.place is.word _ _ _ _) refl is.cause in
-      (
+      (by_rest is.place is.word _ _ _ _) refl is.cause in (
         h.0,
         ap (λ rs. has (plan.names_read m rs) (value_of word - 1)) is.last
-        ∙ (ap (λ ns. has ns (value_of word - 1)) (names_append m is.before ((is.place, is.word) ∷ []))
-        ∙ (list_any-append (λ y. y == value_of word - 1) (plan.names_read m is.before) (plan.names_read m ((is.place, is.word) ∷ []))
-        ∙ or_true _ _ (subst (λ n. has (plan.names_read m ((is.place, is.word) ∷ [])) (value_of n - 1) ≡ true) (sym h.1)
+            ∙ (ap (λ ns. has ns (value_of word - 1)) (names_append m is.before ((is.place, is.word) ∷ []))
+            ∙ (list_any-append (λ y. y == value_of word - 1) (plan.names_read m is.before) (plan.names_read m ((is.place, is.word) ∷ []))
+            ∙ or_true _ _ (subst (λ n. has (plan.names_read m ((is.place, is.word) ∷ [])) (value_of n - 1) ≡ true) (sym h.1)
             (named_has is.word (is_free is.word) (m.is_lock is.place) (subst (λ n. is_free n ≡ false) h.1 h.0) h.2)))),
       )

@@ -1,6 +1,6 @@
 -- The stamp of an own section that was run to its end is above those that were known before.
 use Rattle.std.specs.Prelude.{true, false, ◌&&◌, ◌||◌, ◌==◌, Bool, take, slice_get}
-use Rattle.std.proofs.Common.{◌≡◌, ◌≢◌, ℕ, ◌<◌, List, ◌++◌, length, refl, sym, ap, ◌∙◌, subst, inl, Some}
+use Rattle.std.proofs.Common.{◌≡◌, ◌≢◌, ℕ, ◌<◌, ◌++◌, length, refl, sym, ap, ◌∙◌, subst, inl, Some}
 use Rattle.std.proofs.Math.Seq.{take-append_seam}
 use Rattle.map_history.specs.declared.op.Request.{Request}
 use Rattle.section_body.specs.Trail.{Agreed}

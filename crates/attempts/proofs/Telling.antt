@@ -1,6 +1,6 @@
 -- What a run of a section tells its runner, ended or cut.
-use Rattle.std.specs.Prelude.{true, false, ◌⊎◌, if◌then◌else◌, Bool, take}
-use Rattle.std.proofs.Common.{◌≡◌, ◌≢◌, ℕ, zero, suc, ◌+◌, ◌<◌, List, [], ◌∷◌, ◌++◌, length, refl, sym, ap, ◌∙◌, subst, ⊎_elim, inl, inr, arith, Option, Some, None}
+use Rattle.std.specs.Prelude.{true, ◌⊎◌, if◌then◌else◌}
+use Rattle.std.proofs.Common.{◌≡◌, ◌≢◌, ℕ, zero, suc, List, [], ◌∷◌, ◌++◌, refl, sym, ap, ◌∙◌, subst, ⊎_elim, inl, inr, Option, Some, None}
 use Rattle.section_body.specs.Trail.{Agreed}
 use Rattle.section_body.specs.declared.micro.Micro.TheVariants as micros
 use Rattle.section_body.specs.declared.outcome.Outcome.{Outcome}
@@ -20,13 +20,13 @@ use Rattle.machine_invariant.specs.Sections.{IsAnswered, IsLeft}
 use Rattle.version_words.specs.RunnerState.{RunnerState}
 use Rattle.version_words.specs.TableState.{TableState, IsOf}
 use Rattle.commit_log.specs.Runs.{Ran, Stepped}
-use Rattle.section_runs.specs.Opened.{HasOpened, IsOpening}
+use Rattle.section_runs.specs.Opened.{IsOpening}
 use Rattle.section_runs.proofs.Staying.{step_stays}
 use Rattle.try_lock.specs.Ends.{EndsSo, RanShort, IsCutShort}
 use Rattle.attempts.specs.Learned.{HasLearned, IsCut}
 use Rattle.attempts.proofs.Knowing.{append_none}
 use Rattle.attempts.proofs.Placing.{IsLast, is_last}
-use Rattle.attempts.proofs.Along.{IsTelling, telling_learned, opened_tells, ran_tells, HasLastStep, ran_last, ran_back, ran_cells}
+use Rattle.attempts.proofs.Along.{IsAlong, IsTelling, telling_learned, opened_tells, ran_tells, HasLastStep, ran_last, ran_back, ran_cells}
 use Rattle.attempts.proofs.LastSteps.{last_same, last_left, last_answered}
 
 module _ {T : Type 0} (m : Meaning) (laws : Laws m) (t : TableState T) (limits : IsWithinLimits t.layout) (allowed : AreAllowed t.requests)
@@ -142,13 +142,14 @@ module _ {T : Type 0} (m : Meaning) (laws : Laws m) (t : TableState T) (limits :
     kept_last : HasLastStep m laws t limits allowed old d short.thunk new → IsKept
     kept_last last = by new.part.run refl
       where
+        along : IsAlong m laws t limits allowed old d short.thunk last.before last.run last.telling.learns.more
+        along = last.telling.along last.run last.step.running
+
         by : (o : Option RunState) → new.part.run ≡ o → IsKept
         by (Some y) runs =
-            let along = last.telling.along last.run last.step.running in
             let stays = step_stays m laws t limits allowed last.before new last.own last.run last.micro last.found last.step y runs in
             kept_still (stays.published ∙ along.published) (stays.finished ∙ along.finished)
         by None rests =
-            let along = last.telling.along last.run last.step.running in
             let over = is_last m last.before.layout last.before.part last.run last.found last.micro (sym last.step.behind.run ∙ rests) in
             let release = subst (λ micro. Stepped m last.run micro last.found last.before new) over.is last.step in
             let kept = finished_of m last.before.layout (ended_more last.run) in

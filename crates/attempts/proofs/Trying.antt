@@ -1,6 +1,6 @@
 -- The publication of an attempt.
-use Rattle.std.specs.Prelude.{◌⊎◌, Bool, Result, Ok, Err, true, false}
-use Rattle.std.proofs.Common.{◌≡◌, ℕ, ◌≤◌, length, refl, sym, ap, ◌∙◌, subst, List, inl, inr, Option, Some, None}
+use Rattle.std.specs.Prelude.{◌⊎◌, Bool, Result, Ok, true, false}
+use Rattle.std.proofs.Common.{◌≡◌, ℕ, ◌≤◌, length, refl, sym, ap, ◌∙◌, subst, inl, inr, Option, Some, None}
 use Rattle.map_history.specs.declared.op.Request.{Request}
 use Rattle.section_body.specs.declared.outcome.Refused.{Refused}
 use Rattle.section_body.specs.declared.outcome.Refused.TheVariants as refusals

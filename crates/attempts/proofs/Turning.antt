@@ -1,23 +1,21 @@
 -- The answers of an attempt that was turned away.
-use Rattle.std.specs.Prelude.{◌==◌, ◌&&◌, ◌⊎◌, not, Bool, true, false, slice_get, if◌then◌else◌}
-use Rattle.std.proofs.Common.{◌≡◌, ◌≢◌, ℕ, suc, ◌%◌, ◌+◌, refl, sym, ap, ◌∙◌, subst, arith, inl, inr, Option, Some, None}
+use Rattle.std.specs.Prelude.{◌==◌, ◌&&◌, ◌⊎◌, not, Bool, true, false, if◌then◌else◌}
+use Rattle.std.proofs.Common.{◌≡◌, ℕ, ◌%◌, refl, sym, ap, ◌∙◌, subst, arith, inr, Some, None}
 use Rattle.std.proofs.lemmas.Bool.Decides.{nat_tests}
 use Rattle.map_history.specs.declared.op.Request.{Request}
-use Rattle.table_words.specs.declared.layout.Layout.{Layout}
 use Rattle.table_words.specs.Limits.{IsWithinLimits}
 use Rattle.structure_laws.specs.Meaning.{Meaning}
 use Rattle.structure_laws.specs.Laws.{Laws}
 use Rattle.runner_parts.specs.declared.entries.Published.{Published}
 use Rattle.runner_parts.specs.State.{PartState}
-use Rattle.runner_parts.specs.Tests.{is_answered, is_next, are_answered}
+use Rattle.runner_parts.specs.Tests.{is_answered, are_answered}
 use Rattle.machine_states.specs.Sight.{sight, part_or_first}
 use Rattle.machine_invariant.specs.After.{AreAllowed}
-use Rattle.machine_records.specs.Requests.{or_none, requests_of}
+use Rattle.machine_records.specs.Requests.{or_none}
 use Rattle.machine_records.specs.Kept.{link_of}
 use Rattle.version_words.specs.RunnerState.{RunnerState}
 use Rattle.try_lock.specs.Planning.{Planning}
 use Rattle.try_lock.specs.Reached.{IsReached}
-use Rattle.request_facts.specs.Placed.{IsUnserved}
 use Rattle.request_facts.proofs.Standing.{callers_stand}
 use Rattle.attempts.specs.Knowing.{IsOwn}
 use Rattle.attempts.specs.Course.{MayAttempt, HasEntered, HasPublished, PlanIsRefused, LockIsRefused, IsRefused}

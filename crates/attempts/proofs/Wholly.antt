@@ -1,15 +1,14 @@
 -- An attempt as a whole: its entry, its plan, and what follows.
-use Rattle.std.specs.Prelude.{◌&&◌, ◌⊎◌, not, Bool, true, false, slice_get, if◌then◌else◌, Result, Ok, Err}
-use Rattle.std.proofs.Common.{◌≡◌, ◌≢◌, ℕ, ◌+◌, ◌-◌, ◌≤◌, List, [], length, refl, sym, ap, ◌∙◌, subst, arith, inl, inr, Option, Some, None}
+use Rattle.std.specs.Prelude.{◌&&◌, not, Bool, true, false, if◌then◌else◌, Ok, Err}
+use Rattle.std.proofs.Common.{◌≡◌, ℕ, ◌+◌, ◌-◌, ◌≤◌, length, refl, sym, ap, ◌∙◌, subst, inl, inr, None}
 use Rattle.map_history.specs.declared.op.Request.{Request}
-use Rattle.section_body.specs.Word.{value_of, is_free}
+use Rattle.section_body.specs.Word.{value_of}
 use Rattle.section_body.specs.declared.outcome.Refused.{Refused}
 use Rattle.section_body.specs.declared.thunk.Thunk.{Thunk}
 use Rattle.table_words.specs.Limits.{IsWithinLimits}
 use Rattle.structure_laws.specs.Scene.{Readings}
 use Rattle.structure_laws.specs.Meaning.{Meaning}
 use Rattle.structure_laws.specs.Laws.{Laws}
-use Rattle.runner_parts.specs.declared.entries.Published.{Published}
 use Rattle.runner_parts.specs.declared.stage.Stage.TheVariants as stages
 use Rattle.runner_parts.specs.Tests.{has, is_answered}
 use Rattle.runner_parts.specs.State.{NodesState, DescriptorsState, ReadsState}
@@ -18,8 +17,8 @@ use Rattle.machine_invariant.specs.After.{AreAllowed}
 use Rattle.version_words.specs.RunnerState.{RunnerState}
 use Rattle.version_words.specs.TableState.{TableState, IsOf}
 use Rattle.version_words.specs.Stages.{IsAt}
-use Rattle.epoch_slots.specs.Collects.{IsTidy, Collects}
-use Rattle.epoch_slots.specs.Entries.{HasLeave, Enters}
+use Rattle.epoch_slots.specs.Collects.{Collects}
+use Rattle.epoch_slots.specs.Entries.{Enters}
 use Rattle.epoch_slots.specs.Reserves.{counts_of}
 use Rattle.epoch_slots.specs.declared.reserves.Short.{Short}
 use Rattle.commit_log.specs.Asked.{IsAsked}
@@ -30,10 +29,10 @@ use Rattle.try_lock.specs.declared.section.Section.{Section}
 use Rattle.try_lock.specs.Planning.{Planning}
 use Rattle.try_lock.specs.Plans as plan
 use Rattle.try_lock.specs.Publishes.{Publishes}
-use Rattle.attempts.specs.Knowing.{IsStill, IsOwn}
-use Rattle.attempts.specs.Course.{of_plan, of_refusal, MayAttempt, HasReserve, IsEmptyHanded, HasEntered, HasPlanned, HasTried, PlanIsRefused, LockIsRefused}
+use Rattle.attempts.specs.Knowing.{IsStill}
+use Rattle.attempts.specs.Course.{of_plan, of_refusal, MayAttempt, HasReserve, HasEntered, HasPlanned, HasTried, PlanIsRefused, LockIsRefused}
 use Rattle.attempts.specs.Counted.{IsCounted}
-use Rattle.attempts.specs.Attempts.{is_halted, is_short, is_refusal, asks_more, IsFew, IsShort, PublishedNone, Answers, Attempts}
+use Rattle.attempts.specs.Attempts.{is_halted, is_short, asks_more, IsFew, IsShort, Attempts}
 use Rattle.attempts.specs.Rests.{MayLeave, HasTurned, Rests}
 use Rattle.attempts.specs.declared.answers.Attempt.{Attempt}
 use Rattle.attempts.specs.declared.answers.Attempt.TheVariants as answers
@@ -41,7 +40,7 @@ use Rattle.attempts.proofs.Knowing.{knows_same, knows_on, no_other_same, no_othe
 use Rattle.attempts.proofs.Reaching.{enters_reached, collects_reached}
 use Rattle.attempts.proofs.Counting.{counted_steps, asked_then, steps_then}
 use Rattle.attempts.proofs.Courses.{planned_at, planned_reads, planned_leave}
-use Rattle.attempts.proofs.Turning.{may_own, may_unknown, untouched, turned_rests}
+use Rattle.attempts.proofs.Turning.{untouched, turned_rests}
 use Rattle.attempts.proofs.Trying.{tried_of, own_here, unknown_here, refusal_of_lock}
 use Rattle.attempts.proofs.Planning.{planned_of}
 use Rattle.attempts.proofs.Refusing.{refuses, refusal_of_plan, busy_plan, plan_busy}

@@ -1,5 +1,5 @@
 -- Attempts of requests: what may be attempted, and what each answer says.
-use Rattle.std.specs.Prelude.{◌≡◌, ◌≢◌, ℕ, ◌+◌, ◌*◌, ◌<◌, ◌≤◌, ◌⊎◌, Bool, true, false, not, Option, Some, None, length, if◌then◌else◌}
+use Rattle.std.specs.Prelude.{◌≡◌, ℕ, ◌<◌, ◌≤◌, ◌⊎◌, Bool, true, false, not, Some, None, length, if◌then◌else◌}
 use Rattle.map_history.specs.declared.op.Request.{Request}
 use Rattle.map_history.specs.declared.reply.Reply.{Reply}
 use Rattle.map_history.specs.Words.{word_of}
@@ -10,7 +10,7 @@ use Rattle.structure_laws.specs.Scene.{Readings}
 use Rattle.structure_laws.specs.Meaning.{Meaning}
 use Rattle.runner_parts.specs.declared.entries.Known.{Known}
 use Rattle.runner_parts.specs.declared.entries.Published.{Published}
-use Rattle.runner_parts.specs.Tests.{is_next, is_answered, has_pair}
+use Rattle.runner_parts.specs.Tests.{is_answered, has_pair}
 use Rattle.machine_states.specs.Sight.{sight}
 use Rattle.version_words.specs.RunnerState.{RunnerState}
 use Rattle.epoch_slots.specs.Collects.{IsTidy, Collects}
@@ -26,7 +26,7 @@ use Rattle.attempts.specs.Knowing.{KnowsMore, LearnsNoOther}
 use Rattle.attempts.specs.Counted.{IsCounted}
 use Rattle.request_facts.specs.Laws.{HasEntry}
 use Rattle.request_facts.specs.Placed.{IsServedAs, IsUnserved}
-use Rattle.attempts.specs.Course.{MayAttempt, HasEntered, HasPlanned, HasPublished, HasRun, PlanIsRefused, LockIsRefused, IsRefused, HasHelped, IsOfHelped}
+use Rattle.attempts.specs.Course.{HasEntered, HasPlanned, HasPublished, HasRun, PlanIsRefused, LockIsRefused, IsRefused, HasHelped, IsOfHelped}
 use Rattle.attempts.specs.declared.answers.Attempt.{Attempt}
 use Rattle.attempts.specs.declared.answers.Attempt.TheVariants as answers
 

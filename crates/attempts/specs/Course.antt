@@ -1,5 +1,5 @@
 -- The course of an attempt: how far it came, and what ended it.
-use Rattle.std.specs.Prelude.{◌≡◌, ◌≢◌, ℕ, ◌-◌, ◌≤◌, ◌⊎◌, List, [], true, false, length, slice_get, Result, Ok, Err, Some}
+use Rattle.std.specs.Prelude.{◌≡◌, ℕ, ◌-◌, ◌≤◌, ◌⊎◌, [], true, false, length, slice_get, Result, Ok, Err, Some}
 use Rattle.map_history.specs.declared.op.Request.{Request}
 use Rattle.section_body.specs.Trail.{Agreed}
 use Rattle.section_body.specs.Word.{value_of, is_free}

@@ -1,5 +1,5 @@
 -- What the parts of an attempt do.
-use Rattle.std.specs.Prelude.{◌≡◌, ◌≢◌, ◌&&◌, ℕ, Bool, true, false, not, None, Some, slice_get, if◌then◌else◌}
+use Rattle.std.specs.Prelude.{◌≡◌, ◌&&◌, ℕ, Bool, true, false, not, None, Some, slice_get, if◌then◌else◌}
 use Rattle.map_history.specs.declared.op.Request.{Request}
 use Rattle.map_history.specs.declared.reply.Reply.{Reply}
 use Rattle.map_history.specs.Words.{word_of}

@@ -1,4 +1,4 @@
-use Rattle.std.proofs.Common.{◌≡◌, true, false, refl, sym, ap, ◌∙◌, subst}
+use Rattle.std.proofs.Common.{sym, subst}
 use Rattle.epoch_slots.specs.Entries.{Enters}
 use Rattle.attempts.specs.Attempts.{Attempts}
 use Rattle.attempts.specs.declared.answers.Attempt.TheVariants as answers

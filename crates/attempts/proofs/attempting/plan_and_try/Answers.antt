@@ -1,4 +1,4 @@
-use Rattle.std.proofs.Common.{◌≡◌, true, false, length, refl, sym, ap, ◌∙◌, subst}
+use Rattle.std.proofs.Common.{length, sym, ap, subst}
 use Rattle.try_lock.specs.Plans.{HasPlanned as PlanIs, is_halted}
 use Rattle.attempts.specs.Course.{HasPlanned}
 use Rattle.attempts.specs.Rests.{MayLeave, HasTurned}
@@ -10,9 +10,12 @@ pub try_section-requires-clause-planned : goal.try_section-requires-clause-plann
 try_section-requires-clause-planned g c κs within =
     let met = g.met.S.Structure g.world.𝓛 g.world.𝓜 g.world.𝓡 ((λ s allowed. allowed), (λ patient. patient), (λ alone. alone), (λ cuts. cuts)) in
     let e = c.requires.entered in
-    let is = (subst (λ s. PlanIs (g.S.Structure.meaning s) (g.S.Planner.planning s) c.args.request.now c.plan-runner.result.1 c.args.runner c.plan-runner.result.0 (g.G.Gate.halts c.args.gate.now) (g.G.Gate.halts c.plan-runner.new.gate) (g.G.Gate.asks c.args.gate.now) (g.G.Gate.asks c.plan-runner.new.gate) c.args.steps.now.count c.plan-runner.new.steps.count) c.structure.ensures c.plan-runner.ensures.plans) in
-    (e.0, is.readings, subst (λ a. HasPlanned (g.S.Structure.meaning c.args.table.now.structure) (g.S.Planner.planning c.args.table.now.structure) c.args.request.now is.readings a e.0 c.plan-runner.result.0) c.in-Thunk.is
-    (course (g.S.Structure.meaning c.args.table.now.structure) (met.laws c.args.table.now.structure) c.args.table.now c.table_is_allowed.ensures.limits c.table_is_allowed.ensures.requests (g.S.Planner.planning c.args.table.now.structure) c.args.request.now c.plan-runner.result.1 e.0 c.args.runner c.plan-runner.result.0 c.requires.own c.plan-runner.ensures.own e.1 _ _ _ _ _ _ is))
+    let is = (subst (λ s. PlanIs (g.S.Structure.meaning s) (g.S.Planner.planning s) c.args.request.now c.plan-runner.result.1 c.args.runner c.plan-runner.result.0 (g.G.Gate.halts c.args.gate.now) (g.G.Gate.halts c.plan-runner.new.gate) (g.G.Gate.asks c.args.gate.now) (g.G.Gate.asks c.plan-runner.new.gate) c.args.steps.now.count c.plan-runner.new.steps.count) c.structure.ensures c.plan-runner.ensures.plans) in (
+      e.0,
+      is.readings,
+      subst (λ a. HasPlanned (g.S.Structure.meaning c.args.table.now.structure) (g.S.Planner.planning c.args.table.now.structure) c.args.request.now is.readings a e.0 c.plan-runner.result.0) c.in-Thunk.is
+          (course (g.S.Structure.meaning c.args.table.now.structure) (met.laws c.args.table.now.structure) c.args.table.now c.table_is_allowed.ensures.limits c.table_is_allowed.ensures.requests (g.S.Planner.planning c.args.table.now.structure) c.args.request.now c.plan-runner.result.1 e.0 c.args.runner c.plan-runner.result.0 c.requires.own c.plan-runner.ensures.own e.1 _ _ _ _ _ _ is),
+    )
 
 pub turn_away-requires-clause-next : goal.turn_away-requires-clause-next
 turn_away-requires-clause-next g c κs within =

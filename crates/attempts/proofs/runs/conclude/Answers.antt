@@ -1,4 +1,4 @@
-use Rattle.std.proofs.Common.{◌≡◌, true, refl, sym, ap, ◌∙◌, subst}
+use Rattle.std.proofs.Common.{true, sym, ap, ◌∙◌, subst}
 use Rattle.attempts.specs.Attempts.{is_refusal}
 use Rattle.attempts.specs.Rests.{MayLeave, HasTurned, Rests}
 use Rattle.attempts.proofs.Courses.{ended_over}

@@ -1,5 +1,4 @@
-use Rattle.std.proofs.Common.{◌≡◌, true, false, Ok, refl, sym, ap, ◌∙◌, subst}
-use Rattle.attempts.specs.Rests.{Rests}
+use Rattle.std.proofs.Common.{subst}
 use Rattle.attempts.specs.Counted.{IsCounted}
 use Rattle.attempts.proofs.Courses.{may_run}
 use Rattle.attempts.proofs.Trying.{halted_published}

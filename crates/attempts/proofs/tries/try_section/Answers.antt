@@ -1,4 +1,4 @@
-use Rattle.std.proofs.Common.{◌≡◌, true, false, Ok, Err, refl, sym, ap, ◌∙◌, subst}
+use Rattle.std.proofs.Common.{Ok, Err, sym, ◌∙◌, subst}
 use Rattle.try_lock.specs.Publishes.{Publishes}
 use Rattle.attempts.specs.Rests.{MayLeave, HasTurned}
 use Rattle.attempts.proofs.Courses.{may_publish, refused_may_leave}
@@ -13,9 +13,12 @@ publish-runner-requires-clause-publishable g c κs within =
 
 pub run_own-requires-clause-tried : goal.run_own-requires-clause-tried
 run_own-requires-clause-tried g c κs within =
-    let e = c.requires.planned in
-    (e.0, c.args.thunk.now, tried_of (g.S.Structure.meaning c.args.table.now.structure) (g.S.Planner.planning c.args.table.now.structure) c.args.request.now e.0 e.1 c.args.thunk.now c.args.runner e.2 (Ok c.in-Ok.section) c.publish-runner.result.0
-    (subst (λ a. Publishes (g.S.Structure.meaning c.args.table.now.structure) c.args.thunk.now a c.args.runner c.publish-runner.result.0) c.in-Ok.is c.publish-runner.ensures.publishes) (c.publish-runner.ensures.own.layout ∙ sym c.requires.own.layout) (c.publish-runner.ensures.own.requests ∙ sym c.requires.own.requests))
+    let e = c.requires.planned in (
+      e.0,
+      c.args.thunk.now,
+      tried_of (g.S.Structure.meaning c.args.table.now.structure) (g.S.Planner.planning c.args.table.now.structure) c.args.request.now e.0 e.1 c.args.thunk.now c.args.runner e.2 (Ok c.in-Ok.section) c.publish-runner.result.0
+          (subst (λ a. Publishes (g.S.Structure.meaning c.args.table.now.structure) c.args.thunk.now a c.args.runner c.publish-runner.result.0) c.in-Ok.is c.publish-runner.ensures.publishes) (c.publish-runner.ensures.own.layout ∙ sym c.requires.own.layout) (c.publish-runner.ensures.own.requests ∙ sym c.requires.own.requests),
+    )
 
 pub turn_away-requires-clause-next : goal.turn_away-requires-clause-next
 turn_away-requires-clause-next g c κs within =
