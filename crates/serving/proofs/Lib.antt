@@ -1,0 +1,4 @@
+mod Lists
+mod Standing
+mod Trying
+mod Along
