@@ -10,13 +10,17 @@ use Rattle.report_text.specs.Ranks.{ranks_of}
 use Rattle.report_text.specs.Report.{Row, rows_of, report_text}
 use Rattle.report_text.specs.Sink.{Extends, ExtendsInPart}
 use Rattle.version_words.specs.TableState.{WordsState, word_of}
-use Rattle.run_reports.specs.Shown.{AreShown}
+use Rattle.run_reports.specs.Shown.{IsShown, AreShown}
 
 -- how many requests have no entry
 abbrev pub unserved_in : List (Option Entry) → ℕ
 unserved_in entries = count_by (λ entry. not (is_some entry)) entries
 
 module _ {T : Type 0} (m : Meaning) (w : WordsState T) where
+  -- the entry of the request with this number, by its stamp word and its reply word
+  abbrev pub IsEntryOf : ℕ → Option Entry → Type 0
+  IsEntryOf n entry = IsShown (word_of m w (Stamp n)) (word_of m w (Reply n)) entry
+
   -- these are the entries of the table's requests, each by its stamp word and its reply word
   abbrev pub HaveEntries : List (Option Entry) → Type 0
   HaveEntries entries = AreShown (λ n. word_of m w (Stamp n)) (λ n. word_of m w (Reply n)) w.requests entries

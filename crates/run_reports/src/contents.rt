@@ -9,8 +9,8 @@ use closed_words::closed_words_have_a_history;
 use runner_parts::Structure;
 use version_words::{Words, words_are_reached};
 
-/// Where a structure serves a map, and no lock in its words names a descriptor, its cells hold a map, which has no more pairs than a text
-/// may have requests.
+/// Where a structure serves a map, and no lock in its words names a descriptor, its cells hold a map, which has no
+/// more pairs than a text may have requests.
 pub fn contents_stand<S: Structure>(words: &Words<S>)
     requires map { (S.meaning words.now.structure).is_map ≡ true }
     requires free { HoldsNoLock (S.meaning words.now.structure) words.now }

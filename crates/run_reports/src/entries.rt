@@ -1,10 +1,7 @@
 //! The entries of the requests of a closed table.
 ghost use Rattle.std.specs.Prelude.{◌≡◌, ◌<◌, true, IfOk, length};
-ghost use Rattle.table_words.specs.declared.spot.Spot.TheVariants as spots;
-ghost use Rattle.version_words.specs.TableState.{word_of};
 ghost use Rattle.closed_words.specs.Histories.{HoldsNoLock};
-ghost use Rattle.run_reports.specs.Shown.{IsShown};
-ghost use Rattle.run_reports.specs.Reports.{HaveEntries};
+ghost use Rattle.run_reports.specs.Reports.{IsEntryOf, HaveEntries};
 
 use closed_words::closed_words_have_a_history;
 use map_history::{Entry, Reply};
@@ -17,7 +14,7 @@ fn entry_of<S: Structure>(words: &Words<S>, number: u32) -> Option<Entry>
     requires number { number < length words.now.requests }
     requires map { (S.meaning words.now.structure).is_map ≡ true }
     requires free { HoldsNoLock (S.meaning words.now.structure) words.now }
-    ensures { IsShown (word_of (S.meaning words.now.structure) words.now (spots.Stamp number)) (word_of (S.meaning words.now.structure) words.now (spots.Reply number)) result }
+    ensures { IsEntryOf (S.meaning words.now.structure) words.now number result }
 {
     words_are_reached(words);
     closed_words_have_a_history(words);
@@ -30,8 +27,8 @@ fn entry_of<S: Structure>(words: &Words<S>, number: u32) -> Option<Entry>
 
 /// The entries of all requests of the table, in the order of their numbers.
 ///
-/// `count` is how many requests the table has. Its structure serves a map, and no lock in its words names a descriptor; so each request
-/// that has a stamp has its reply. The Err is want of memory.
+/// `count` is how many requests the table has. Its structure serves a map, and no lock in its words names a
+/// descriptor; so each request that has a stamp has its reply. The Err is want of memory.
 pub fn entries_of<S: Structure>(
     alloc: Global,
     words: &Words<S>,

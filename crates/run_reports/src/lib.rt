@@ -1,6 +1,7 @@
 //! From the words of a closed table to the report on its requests.
 //!
-//! `entries` reads the entry of each request off its two words, `contents` says what the cells hold, and `printing` ranks the requests that have one and writes the report.
+//! `entries` reads the entry of each request off its two words, `contents` says what the cells hold, and `printing`
+//! ranks the requests that have an entry and writes the report.
 #![tactic(auto)]
 
 mod contents;

@@ -54,12 +54,13 @@ fn unserved(entries: &[Option<Entry>]) -> u32
 
 /// Appends the report on the requests of a closed table, by its words, and answers how many of them are unserved.
 ///
-/// The requests are the table's, of so many traces, and `size` is the number of pairs of its contents. The structure serves a map, and no
-/// lock in the words names a descriptor. The ranks are 0, 1, 2 and so on and rise along each trace, and a plain map that serves the requests
-/// in this order gives the printed replies and is left with so many pairs.
+/// The requests are the table's, of so many traces, and `size` is the number of pairs of its contents. The structure
+/// serves a map, and no lock in the words names a descriptor. The ranks are 0, 1, 2 and so on and rise along each
+/// trace, and a plain map that serves the requests in this order gives the printed replies and is left with so many
+/// pairs.
 ///
-/// Memory comes before the first byte is written. Failed comes only where the sink's count of faults rose; the sink then holds a part of
-/// the report, from the front.
+/// Memory comes before the first byte is written. Failed comes only where the sink's count of faults rose; the sink
+/// then holds a part of the report, from the front.
 pub fn print_words<S: Structure, K: Sink>(
     alloc: Global,
     traces: u32,
@@ -73,8 +74,11 @@ pub fn print_words<S: Structure, K: Sink>(
     requires map { (S.meaning words.now.structure).is_map ≡ true }
     requires free { HoldsNoLock (S.meaning words.now.structure) words.now }
     requires size { (pairs : Pairs) → HaveContents (S.meaning words.now.structure) words.now pairs → size ≡ len pairs }
-    ensures prints { IfOk result (λ unserved. Prints (S.meaning words.now.structure) words.now traces unserved (K.held sink.old) (K.held sink.new)) }
-    ensures stops { IfErr result (λ error. StopsPrinting (S.meaning words.now.structure) words.now traces error (K.held sink.old) (K.held sink.new) (K.faults sink.old) (K.faults sink.new)) }
+    ensures prints { IfOk result (λ unserved.
+        Prints (S.meaning words.now.structure) words.now traces unserved (K.held sink.old) (K.held sink.new)) }
+    ensures stops { IfErr result (λ error.
+        StopsPrinting (S.meaning words.now.structure) words.now traces error (K.held sink.old) (K.held sink.new)
+        (K.faults sink.old) (K.faults sink.new)) }
     ensures steady { OnOk result (K.faults sink.new ≡ K.faults sink.old) }
 {
     words_are_reached(words);
