@@ -1,0 +1,5 @@
+pub mod Commands
+pub mod Halts
+pub mod Numbers
+pub mod Options
+pub mod Written
