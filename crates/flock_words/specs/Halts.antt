@@ -1,5 +1,5 @@
 -- The halts that are named on the command line.
-use Rattle.std.specs.Prelude.{ℕ, ◌==◌, Bool, true, not, ◌&&◌, List, [], ◌∷◌, Option, None, Some, find, if◌then◌else◌, map, nat_lt, option_map}
+use Rattle.std.specs.Prelude.{ℕ, ◌==◌, Bool, true, not, ◌&&◌, List, [], ◌∷◌, ◌++◌, Option, None, Some, find, if◌then◌else◌, map, nat_lt, option_map}
 use Rattle.std.specs.List.{list_any, before_first, after_first, slice_split}
 use Rattle.flock_words.specs.declared.halts.Halt.{Halt}
 use Rattle.flock_words.specs.Numbers.{number_in}
@@ -28,6 +28,10 @@ together _ _ = None
 abbrev pub all_there : List (Option Halt) → Option (List Halt)
 all_there [] = Some []
 all_there (found ∷ more) = together found (all_there more)
+
+-- the same behind halts that are there already
+abbrev pub all_there_behind : List Halt → Option (List Halt) → Option (List Halt)
+all_there_behind before halts = option_map (λ more. before ++ more) halts
 
 abbrev pub names_runner : List Halt → ℕ → Bool
 names_runner halts runner = list_any (λ (halt : Halt). halt.runner == runner) halts

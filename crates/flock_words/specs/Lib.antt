@@ -1,4 +1,5 @@
 pub mod Commands
+pub mod Cut
 pub mod Halts
 pub mod Numbers
 pub mod Options

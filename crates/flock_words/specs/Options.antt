@@ -1,5 +1,5 @@
 -- The options of `run`, by their words.
-use Rattle.std.specs.Prelude.{◌≡◌, ◌≤◌, ◌<◌, ℕ, ◌*◌, ◌+◌, ◌/◌, List, [], ◌∷◌, All, IfSome, Option, None, Some, codes, if◌then◌else◌, max, min, option_map, unwrap_or}
+use Rattle.std.specs.Prelude.{◌≡◌, ◌≤◌, ℕ, ◌*◌, ◌+◌, ◌/◌, List, [], ◌∷◌, All, IfSome, Option, None, Some, codes, if◌then◌else◌, max, min, option_map, unwrap_or}
 use Rattle.std.specs.Str.{bytes_eq}
 use Rattle.flock_words.specs.declared.halts.Halt.{Halt}
 use Rattle.flock_words.specs.declared.options.RunOptions.{RunOptions}
@@ -27,18 +27,22 @@ abbrev pub run_names : List Text
 run_names =
     codes "table" ∷ codes "runners" ∷ codes "buckets" ∷ codes "nodes" ∷ codes "sections" ∷ codes "version-max" ∷ codes "halt" ∷ []
 
--- the words behind `run` are those of its options, which mean this
-pub record IsRun (words : List Text) (options : RunOptions) : Type 0 where
-  pub written : List Written
-  pub words : words ≡ all_words_of written
-  pub options_of : AreOptionsOf run_names written
-  pub table : meant_or Hash table_in (given written (codes "table")) ≡ Some options.table
-  pub runners : meant (number_in 1 16) (given written (codes "runners")) ≡ Some options.runners
-  pub buckets : meant_or 6 exponent_in (given written (codes "buckets")) ≡ Some options.bucket_bits
-  pub nodes : meant (number_in 0 262144) (given written (codes "nodes")) ≡ Some options.nodes
-  pub sections : meant_or 64 (number_in 1 1024) (given written (codes "sections")) ≡ Some options.sections
-  pub version_max : meant_or 4294967295 (number_in 3 4294967295) (given written (codes "version-max")) ≡ Some options.version_max
-  pub halts : meant_or [] halts_in (given written (codes "halt")) ≡ Some options.halts
+-- what these options mean
+pub record Mean (options : List Written) (run : RunOptions) : Type 0 where
+  pub table : meant_or Hash table_in (given options (codes "table")) ≡ Some run.table
+  pub runners : meant (number_in 1 16) (given options (codes "runners")) ≡ Some run.runners
+  pub bucket_bits : meant_or 6 exponent_in (given options (codes "buckets")) ≡ Some run.bucket_bits
+  pub nodes : meant (number_in 0 262144) (given options (codes "nodes")) ≡ Some run.nodes
+  pub sections : meant_or 64 (number_in 1 1024) (given options (codes "sections")) ≡ Some run.sections
+  pub version_max : meant_or 4294967295 (number_in 3 4294967295) (given options (codes "version-max")) ≡ Some run.version_max
+  pub halts : meant_or [] halts_in (given options (codes "halt")) ≡ Some run.halts
+
+-- the words behind `run` are those of its options, each at most once, which mean this
+pub record IsRun (line : List Text) (run : RunOptions) : Type 0 where
+  pub options : List Written
+  pub words : line ≡ all_words_of options
+  pub options_of : AreOptionsOf run_names options
+  pub mean : Mean options run
 
 -- one runner for each trace, but at least one and at most sixteen
 abbrev pub runners_by : Option ℕ → ℕ → ℕ

@@ -1,6 +1,6 @@
 -- The options of a command line: how they are written, and what each was given.
-use Rattle.std.specs.Prelude.{◌≡◌, ℕ, Bool, true, not, ◌&&◌, List, [], ◌∷◌, ◌++◌, All, Option, codes, find, flat_map, if◌then◌else◌, map, option_map}
-use Rattle.std.specs.List.{list_any}
+use Rattle.std.specs.Prelude.{◌≡◌, ℕ, Bool, true, not, ◌&&◌, List, [], ◌∷◌, ◌++◌, Option, codes, find, flat_map, if◌then◌else◌, map, option_map}
+use Rattle.std.specs.List.{list_all, list_any}
 use Rattle.std.specs.Str.{bytes_eq}
 
 abbrev pub Text : Type 0
@@ -14,7 +14,7 @@ pub record Written : Type 0 where
 
 abbrev pub words_of : Written → List Text
 words_of written =
-    if written.joined then (codes "--" ++ written.name ++ codes "=" ++ written.value) ∷ []
+    if written.joined then (codes "--" ++ written.name ++ (codes "=" ++ written.value)) ∷ []
     else (codes "--" ++ written.name) ∷ written.value ∷ []
 
 -- the words of these options, one after the other
@@ -31,7 +31,7 @@ each_once (name ∷ names) = not (is_among names name) && each_once names
 
 -- the options have names among these, and each comes at most once
 pub record AreOptionsOf (names : List Text) (options : List Written) : Type 0 where
-  pub known : All (λ (written : Written). is_among names written.name ≡ true) options
+  pub known : list_all (λ (written : Written). is_among names written.name) options ≡ true
   pub once : each_once (map (λ written. written.name) options) ≡ true
 
 -- what the option of this name was given, if it is there

@@ -1,5 +1,5 @@
 // Numbers on the command line.
-ghost use Rattle.std.specs.Prelude.{◌≡◌, ◌≤◌, ◌^◌, ◌<◌, min};
+ghost use Rattle.std.specs.Prelude.{◌≡◌, ◌==◌, ◌^◌, ◌<◌, min, position};
 ghost use Rattle.std.specs.Char.{is_ascii_digit};
 ghost use Rattle.std.specs.List.{list_all};
 ghost use Rattle.trace_reader.specs.Fields.{is_number, value_of};
@@ -43,9 +43,17 @@ pub fn exponent_in(text: &str) -> Option<u32>
     exponent_of(number)
 }
 
-fn exponent_of(number: u64) -> Option<u32> {
-    let place = POWERS.iter().position(|power| *power == number)?;
+fn exponent_of(number: u64) -> Option<u32>
+    ensures { result ≡ position (λ power. power == number) powers }
+{
+    let place = place_of(number)?;
     Some(place as u32)
+}
+
+fn place_of(number: u64) -> Option<usize>
+    ensures { result ≡ position (λ power. power == number) powers }
+{
+    POWERS.iter().position(|power| *power == number)
 }
 
 // One or more decimal digits.
