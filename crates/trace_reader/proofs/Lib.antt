@@ -1,5 +1,6 @@
 pub mod Asked
 pub mod Exact
+pub mod Generated
 pub mod Lines
 pub mod Moved
 pub mod Ordered

@@ -1,5 +1,6 @@
 pub mod Answer
 pub mod Fields
+pub mod Generator
 pub mod Line
 pub mod Lines
 pub mod Memory
