@@ -141,6 +141,7 @@ module _ {T : Type 0} (m : Meaning) (laws : Laws m) (t : TableState T) (limits :
               entry = ap (λ (p : PartState). p.reads.published) part;
             });
             nodes = ap (λ (p : PartState). p.nodes) part ∙ is.nodes;
+            reads = ap (λ (p : PartState). p.reads) part ∙ is.reads;
             known = ap (λ (p : PartState). p.records.known) part ∙ (noted_known r.layout r.number kind made.met.0 made.met.1 found r.part.records ∙ is.known);
             events = ap (λ (p : PartState). p.records.events) part
                 ∙ (noted_events r.layout r.number kind made.met.0 made.met.1 found r.part.records
@@ -189,6 +190,7 @@ module _ {T : Type 0} (m : Meaning) (laws : Laws m) (t : TableState T) (limits :
           found = sym is_found;
           stays = all.stays;
           nodes = all.nodes;
+          reads = all.reads;
           known = all.known;
           events = all.events ∙ ap (λ k. events_after old.part.records.events (suc k)) e;
         }

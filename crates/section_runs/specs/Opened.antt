@@ -48,6 +48,7 @@ module _ {T : Type 0} (m : Meaning) where
     pub count : length words ≡ n
     pub stays : Stays old new
     pub nodes : new.part.nodes ≡ old.part.nodes
+    pub reads : new.part.reads ≡ old.part.reads
     pub known : new.part.records.known ≡ old.part.records.known
     pub events : new.part.records.events ≡ events_after old.part.records.events n
     pub reached : IsReached m new
@@ -61,6 +62,7 @@ module _ {T : Type 0} (m : Meaning) where
     pub found : is_late (opening d words) ≡ late
     pub stays : Stays old new
     pub nodes : new.part.nodes ≡ old.part.nodes
+    pub reads : new.part.reads ≡ old.part.reads
     pub known : new.part.records.known ≡ old.part.records.known
     pub events : new.part.records.events ≡ events_after old.part.records.events 13
 
