@@ -1,57 +1,23 @@
 -- How far the keeper has come with the locks of a table whose workers it has joined.
-use Rattle.std.specs.Prelude.{◌≡◌, ◌≢◌, ◌⊎◌, ℕ, suc, ◌+◌, ◌-◌, ◌*◌, ◌<◌, ◌≤◌, List, [], ◌∷◌, true, false, length, slice_get, None, Some}
+use Rattle.std.specs.Prelude.{◌≡◌, ℕ, ◌+◌, ◌*◌, ◌<◌, ◌≤◌, List, [], true, length, None}
 use Rattle.section_body.specs.Trail.{Agreed}
-use Rattle.section_body.specs.Word.{value_of}
 use Rattle.section_body.specs.declared.outcome.Outcome.{Outcome}
 use Rattle.section_body.specs.declared.thunk.Thunk.{Thunk}
 use Rattle.table_words.specs.Places.{slot_count}
 use Rattle.table_words.specs.declared.layout.Layout.{Layout}
-use Rattle.table_words.specs.declared.spot.Spot.TheVariants.{Cell}
 use Rattle.structure_laws.specs.Meaning.{Meaning}
-use Rattle.runner_parts.specs.declared.entries.Left.{Left}
 use Rattle.runner_parts.specs.declared.stage.Stage.TheVariants as stages
 use Rattle.runner_parts.specs.Tests.{has}
 use Rattle.version_words.specs.RunnerState.{RunnerState}
 use Rattle.version_words.specs.Stages.{IsAt}
 use Rattle.section_runs.specs.Reached.{IsReached}
 use Rattle.section_runs.specs.Ended.{EndsSo}
+use Rattle.keeper_facts.specs.Freed.{IsCleared, IsFreed, AreApart}
 use Rattle.settling.specs.Settled.{IsFront}
 
 -- how many cells the table has
 abbrev pub cell_count : Meaning → Layout → ℕ
 cell_count m l = m.fixed_cells + 5 * slot_count l m.fixed_slots
-
--- among what the keeper's steps left since its last join is this number in this cell
-pub record HasLeft (left : List Left) (place number : ℕ) : Type 0 where
-  pub at : ℕ
-  pub entry : Left
-  pub here : slice_get left at ≡ Some entry
-  pub spot : entry.spot ≡ Cell place
-  pub number_is : entry.number ≡ number
-
--- the keeper saw this lock free, or with two words
-pub record IsCleared (left : List Left) (place : ℕ) : Type 0 where
-  pub first : ℕ
-  pub second : ℕ
-  pub seen : HasLeft left place first
-  pub also : HasLeft left place second
-  pub why : (value_of first ≡ 0) ⊎ (first ≢ second)
-
--- a lock named the section in this descriptor, and was seen with another word too
-pub record IsFreed (m : Meaning) (left : List Left) (d : ℕ) : Type 0 where
-  pub place : ℕ
-  pub lock : m.is_lock place ≡ true
-  pub word : ℕ
-  pub other : ℕ
-  pub named : HasLeft left place word
-  pub names : value_of word ≡ suc d
-  pub also : HasLeft left place other
-  pub differs : other ≢ word
-
--- no number comes twice
-abbrev pub AreApart : List ℕ → Type 0
-AreApart [] = Unit {0}
-AreApart (d ∷ ds) = (has ds d ≡ false) × AreApart ds
 
 module _ {T : Type 0} where
   -- what the keeper keeps along its way: whom it has joined and their parts, and what it knew

@@ -9,6 +9,7 @@ ghost use Rattle.settling.specs.Clearing.{cell_count, KeepsJoins, IsClearing, Ha
 
 use commit_log::NeverHalts;
 use epoch_slots::{enter, exit};
+use keeper_facts::what_the_keeper_saw_tells;
 use runner_parts::Structure;
 use section_body::{Place, Steps, Word};
 use try_lock::help;
@@ -47,6 +48,7 @@ fn clear_lock<S: Structure>(table: &FlockTable<S>, keeper: Runner<S>, place: Pla
     ensures keeps { KeepsJoins keeper result }
 {
     table_is_allowed(table);
+    what_the_keeper_saw_tells(table.structure());
     let (keeper, word) = table.load_cell(keeper, place);
     if word.value() == 0 {
         keeper
@@ -88,6 +90,7 @@ pub fn settle<S: Structure>(table: &FlockTable<S>, keeper: Runner<S>) -> Runner<
     ensures settles { Settles (S.meaning table.now.structure) keeper result }
 {
     table_is_allowed(table);
+    what_the_keeper_saw_tells(table.structure());
     let keeper = enter(table, keeper);
     let keeper = clear_locks(table, keeper);
     exit(table, keeper)
