@@ -45,7 +45,7 @@ use Rattle.version_words.specs.Stages.{IsAt}
 use Rattle.version_words.proofs.Stages.{then_loaded_cell}
 use Rattle.epoch_slots.specs.Entries.{KeepsOwn}
 use Rattle.epoch_slots.proofs.Outside.{reads_made, own_kept}
-use Rattle.section_runs.specs.Reached.{IsReached}
+use Rattle.section_runs.specs.Reached.{IsReached, run_of}
 use Rattle.section_runs.specs.Ended.{EndsSo}
 use Rattle.section_runs.proofs.Going.{shaped}
 use Rattle.section_runs.proofs.Openeds.{stands_opened, opened_body}
@@ -58,6 +58,10 @@ use Rattle.settling.proofs.Growing.{front_same, front_on, Grows, grows_on, own_g
 abbrev pub RecordTells : Meaning → Type 0
 RecordTells m = (layout : Layout) (requests : List Request) (w : World) → IsWithinLimits layout → AreAllowed requests → Reached m layout requests w
     → LocksTell m layout (sight m layout requests w)
+
+-- a place below the next one
+old_or_this : (p place : ℕ) → p < place + 1 → (p < place) ⊎ (p ≡ place)
+old_or_this p place low = ⊎_elim (λ below. inl below) (λ high. inr (omega (arith, low, high))) (cases_lt p place)
 
 -- what was seen stays seen while the record grows
 left_in : (old new : List Left) → IsFront old new → (place number : ℕ) → HasLeft old place number → HasLeft new place number
@@ -98,6 +102,29 @@ keeps_same r = record { layout = refl; number = refl; joined = refl; told = refl
 
 pub keeps_grown : {T : Type 0} (a b : RunnerState T) → Grows a b → IsFront a.part.records.known b.part.records.known → KeepsJoins a b
 keeps_grown a b grows known = record { layout = grows.layout; number = grows.number; joined = grows.joined; told = grows.told; known = known }
+
+-- a place that is no lock
+pub skips : {T : Type 0} (m : Meaning) (place : ℕ) (r : RunnerState T) → m.is_lock place ≡ false → IsClearing m place r → IsClearing m (place + 1) r
+skips m place r other is = record {
+  epoch = is.epoch;
+  at = is.at;
+  keeper = is.keeper;
+  told = is.told;
+  reached = is.reached;
+  hand = is.hand;
+  tests = is.tests;
+  cleared = λ p low lock. ⊎_elim
+      (λ before. is.cleared p before lock)
+      (λ same. absurd (not_both lock (ap m.is_lock same ∙ other)))
+      (old_or_this p place low);
+  freed = is.freed;
+  apart = is.apart;
+  each = is.each;
+  reserve = is.reserve;
+}
+  where
+    not_both : {b : Bool} → b ≡ true → b ≡ false → ⊥
+    not_both one two = let z = sym one ∙ two in cc
 
 -- a word that isn't free names a descriptor
 names_one : (word : ℕ) → value_of word ≢ 0 → value_of word ≡ suc (value_of word - 1)
@@ -206,6 +233,7 @@ module _ {T : Type 0} (m : Meaning) (laws : Laws m) (t : TableState T) (limits :
 
       -- the word stood in the lock
       word1 : s1.word (spots.Cell place) ≡ word
+      unfolding reached1 made
       word1 = ap (λ x. s1.word x.0) (sym met) ∙ (made.shown.word ∙ ap (λ x. written x.1 word) met)
 
       front1 : IsFront r.part.records.left r1.part.records.left
@@ -224,17 +252,11 @@ module _ {T : Type 0} (m : Meaning) (laws : Laws m) (t : TableState T) (limits :
       reserve1 = subst (λ l. 2 * l.runners + 2 ≤ length r1.part.nodes.free + 2 * length is.freed) (sym grows.layout)
           (subst (λ (n : NodesState). 2 * r.layout.runners + 2 ≤ length n.free + 2 * length is.freed) (sym nodes1) is.reserve)
 
-      old_or_this : (p : ℕ) → p < place + 1 → (p < place) ⊎ (p ≡ place)
-      old_or_this p low = by p place low
-        where
-          by : (p q : ℕ) → p < q + 1 → (p < q) ⊎ (p ≡ q)
-          by p q low = ⊎_elim (λ below. inl below) (λ high. inr (omega (arith, low, high))) (cases_lt p q)
-
       cleared1 : (left : List Left) → IsFront r1.part.records.left left → IsCleared left place → (p : ℕ) → p < place + 1 → m.is_lock p ≡ true → IsCleared left p
       cleared1 left front this p low' lock' = ⊎_elim
           (λ before. cleared_in r1.part.records.left left front p (cleared_in r.part.records.left r1.part.records.left front1 p (is.cleared p before lock')))
           (λ same. subst (IsCleared left) (sym same) this)
-          (old_or_this p low')
+          (old_or_this p place low')
 
       -- it was found free
       pub clears_free : value_of word ≡ 0 → IsClearing m (place + 1) r1
@@ -299,7 +321,7 @@ module _ {T : Type 0} (m : Meaning) (laws : Laws m) (t : TableState T) (limits :
           makes =
               let stands = stands_opened m d ran.thunk ran.trail.late r1 ends.opened (record { epoch = is.epoch; published = None; at = at1; holds = holds; reached = reached1 }) ends.opening in
               subst (λ body. count_by is_make body ≤ 2) (opened_body m d ran.thunk ran.trail.late ends.opened stands)
-              (shaped m laws t limits allowed ends.opened own_opened ends.opening.inside).makes
+              (shaped m laws t limits allowed ends.opened own_opened (run_of ends.opened) ends.opening.inside).makes
 
           abbrev s2 : Sight
           s2 = sight m r2.layout r2.requests ends.reached.world

@@ -86,6 +86,15 @@ noted_grows l r kind spot access n z is = by (r == l.runners)
     by true = left_grows (tallied access n z) kind spot (written access n) is
     by false = front_same z.left z.left refl
 
+plain_at : (p : PartState) (q : RunState) (micro : Micro) → is_plain (kind_at p q micro) ≡ true
+plain_at p q (micros.LoadCell place log) = refl
+plain_at p q _ = refl
+
+opening_plain : (kind : EventKind) → is_opening kind ≡ true → is_plain kind ≡ true
+opening_plain (kinds.LoadThunk descriptor) is = refl
+opening_plain kinds.LoadDone is = refl
+opening_plain _ is = absurd (let z = is in cc)
+
 module _ {T : Type 0} (m : Meaning) where
   pub grows_made : (kind : EventKind) (found : ℕ) (r r' : RunnerState T) → is_plain kind ≡ true → Makes m kind found r r' → Grows r r'
   grows_made kind found r r' is made = record {
@@ -103,20 +112,11 @@ module _ {T : Type 0} (m : Meaning) where
         (noted_grows r.layout r.number kind made.met.0 made.met.1 found (after_by m r.layout kind r.part r.part.run found).records is));
   }
 
-  plain_at : (p : PartState) (q : RunState) (micro : Micro) → is_plain (kind_at p q micro) ≡ true
-  plain_at p q (micros.LoadCell place log) = refl
-  plain_at p q _ = refl
-
   pub grows_ran : (n : ℕ) (a b : RunnerState T) → Ran m n a b → Grows a b
   grows_ran zero a b same = subst (Grows a) (sym same) (grows_same a)
   grows_ran (suc n) a b ran =
       let r = ran.0 in
       grows_on a r b (grows_made (kind_at a.part ran.1 ran.2) ran.3 a r (plain_at a.part ran.1 ran.2) ran.4.event) (grows_ran n r b ran.5)
-
-  opening_plain : (kind : EventKind) → is_opening kind ≡ true → is_plain kind ≡ true
-  opening_plain (kinds.LoadThunk descriptor) is = refl
-  opening_plain kinds.LoadDone is = refl
-  opening_plain _ is = absurd (let z = is in cc)
 
   pub grows_opens : (n : ℕ) (a b : RunnerState T) → Opens m n a b → Grows a b
   grows_opens zero a b same = subst (Grows a) (sym same) (grows_same a)

@@ -1,3 +1,4 @@
-pub mod Growing
-pub mod Clears
-pub mod Settling
+mod Growing
+mod Clears
+mod Settling
+mod Ran

@@ -1,11 +1,13 @@
 -- The beginning and the end of settling.
-use Rattle.std.specs.Prelude.{◌==◌, ◌&&◌, slice_get, nat_lt, cond, Bool, true, false}
+use Rattle.std.specs.Prelude.{◌==◌, ◌&&◌, slice_get, slice_index, nat_lt, cond, Bool, true, false}
 use Rattle.std.proofs.Common.{◌≡◌, ◌≢◌, ℕ, suc, ◌+◌, ◌*◌, ◌<◌, ◌≤◌, List, [], ◌∷◌, length, ⊎_elim, sym, refl, ap, ◌∙◌, subst, arith, Option, Some, None}
 use Rattle.std.proofs.lemmas.Bool.{cases_lt}
 use Rattle.std.proofs.lemmas.Bool.Decides.{nat_tests}
 use Rattle.section_body.specs.Word.{value_of}
 use Rattle.table_words.specs.declared.spot.Spot.TheVariants.{Cell, Stamp, Reply}
 use Rattle.table_words.specs.Limits.{IsWithinLimits}
+use Rattle.table_words.specs.Places.{address}
+use Rattle.runner_steps.specs.Asks.{sizes_for}
 use Rattle.structure_laws.specs.Meaning.{Meaning}
 use Rattle.structure_laws.specs.Laws.{Laws}
 use Rattle.runner_parts.specs.declared.event.EventKind.TheVariants as kinds
@@ -105,7 +107,7 @@ module _ {T : Type 0} (m : Meaning) (laws : Laws m) (t : TableState T) (limits :
         where
           -- a cell that the table doesn't have
           beyond : (place : ℕ) → cell_count m t.layout ≤ place → s.word (Cell place) ≡ 4294967296
-          beyond place high = ap (λ b. cond b _ 4294967296) (none place (cell_count m new.layout) (subst (λ l. cell_count m l ≤ place) (sym own'.layout) high))
+          beyond place high = ap (λ b. cond b (slice_index w.words (address (sizes_for m new.layout new.requests) (Cell place))) 4294967296) (none place (cell_count m new.layout) (subst (λ l. cell_count m l ≤ place) (sym own'.layout) high))
             where
               none : (a b : ℕ) → b ≤ a → nat_lt a b ≡ false
               none a b high = grind (arith, nat_tests)
