@@ -60,8 +60,8 @@ pub record LocksTell (m : Meaning) (l : Layout) (s : Sight) : Type 0 where
   pub cleared : IsAlone l s → (place : ℕ) → IsCleared (s.part l.runners).records.left place → m.is_lock place ≡ true
       → value_of (s.word (Cell place)) ≡ 0
   -- each worker left one section at most
-  pub few : AllJoined l s → (ds : List ℕ) → AreApart ds → ((d : ℕ) → has ds d ≡ true → IsFreed m (s.part l.runners).records.left d)
-      → length ds ≤ l.runners
+  pub few : AllJoined l s → (ds : List ℕ) → AreApart ds
+      → ((d : ℕ) → has ds d ≡ true → IsFreed m (s.part l.runners).records.left d) → length ds ≤ l.runners
   -- a cell that the record has holds a number that the record has for it
   pub stands : AllJoined l s → (place number : ℕ) → HasLeft (s.part l.runners).records.left place number
       → StandsSeen (s.part l.runners).records.left place (s.word (Cell place))

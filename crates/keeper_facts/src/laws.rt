@@ -12,9 +12,10 @@ ghost use Rattle.keeper_facts.specs.Freed.{LocksTell};
 use runner_facts::{joined_workers_are_gone, what_the_keeper_left_stands};
 use runner_parts::Structure;
 
-/// In every state that the machine reaches, once the keeper has joined all workers: a section that a lock named which the keeper saw with another
-/// word too, before or after that, is named by no lock any more while the keeper is in no run; a lock that the keeper saw free, or with two words, names no section
-/// then; there are at most as many such sections as workers; and each cell that the keeper's record has holds a number that the record has for it.
+/// In every state that the machine reaches, once the keeper has joined all workers: take a section that a lock named
+/// which the keeper saw with another word too, before or after that. While the keeper is in no run, no lock names that
+/// section any more. A lock that the keeper saw free, or with two words, names no section then. There are at most as
+/// many such sections as workers, and each cell that the keeper's record has holds a number that the record has for it.
 pub fn what_the_keeper_saw_tells<S: Structure>(structure: &S)
     ensures { (layout : Layout) (requests : List Request) (w : World) → IsWithinLimits layout → AreAllowed requests
         → Reached (S.meaning structure.now) layout requests w

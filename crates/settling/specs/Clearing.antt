@@ -29,8 +29,8 @@ module _ {T : Type 0} where
     pub known : IsFront old.part.records.known new.part.records.known
 
   module _ (m : Meaning) where
-    -- the keeper is entered and has gone over the locks below this place: each of them is cleared, and of the sections that it ran, which
-    -- are different, no lock names one any more
+    -- the keeper is entered and has gone over the locks below this place: each of them is cleared, and of the
+    -- sections that it ran, which are different, no lock names one any more
     pub record IsClearing (below : ℕ) (r : RunnerState T) : Type 0 where
       pub epoch : ℕ
       pub at : IsAt r (stages.Entered epoch) None

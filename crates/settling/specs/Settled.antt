@@ -32,12 +32,13 @@ module _ (m : Meaning) where
     pub replied : (n : ℕ) → s.word (Stamp n) ≢ 0 → s.word (Reply n) ≢ 0
 
   module _ {T : Type 0} where
-    -- so it is in each state that the machine reaches in which the keeper has this part: whatever the keeper doesn't know of it
+    -- so it is in each state that the machine reaches in which the keeper has this part: whatever it doesn't know of it
     abbrev pub IsSettledFor : RunnerState T → Type 0
-    IsSettledFor r = (w : World) → Reached m r.layout r.requests w → slice_get w.parts (seat_of r.layout r.number) ≡ Some r.part
-        → IsSettled (sight m r.layout r.requests w)
+    IsSettledFor r = (w : World) → Reached m r.layout r.requests w
+        → slice_get w.parts (seat_of r.layout r.number) ≡ Some r.part → IsSettled (sight m r.layout r.requests w)
 
-    -- the table is settled, as what the keeper keeps says; the keeper is idle, keeps whom it has joined and their parts, and knows what it knew
+    -- the table is settled, as what the keeper keeps says; the keeper is idle, keeps whom it has joined and their
+    -- parts, and knows what it knew
     pub record Settles (old new : RunnerState T) : Type 0 where
       pub settled : IsSettledFor new
       pub reached : IsReached m new

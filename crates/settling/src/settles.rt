@@ -75,14 +75,17 @@ fn clear_locks<S: Structure>(table: &FlockTable<S>, keeper: Runner<S>) -> Runner
     keeper
 }
 
-/// Settles a table whose workers have all been joined: enters, loads every lock, runs each section that one names to its end, and leaves.
+/// Settles a table whose workers have all been joined: enters, loads every lock, runs each section that one names to
+/// its end, and leaves.
 ///
-/// The keeper has joined each worker, is idle, and has all its own node slots free. Its two node slots for each worker and two more are
-/// enough, since each worker left at most one section. There is no refusal, no memory is taken, and nothing waits.
+/// The keeper has joined each worker, is idle, and has all its own node slots free. Its two node slots for each worker
+/// and two more are enough, since each worker left at most one section. There is no refusal, no memory is taken, and
+/// nothing waits.
 ///
-/// At return no lock names a section, and each request that has a stamp has its reply: in every state that the machine reaches in which the
-/// keeper has the part that it has then, so also in the words that `FlockTable::close` gives for this keeper. It still has joined whom it
-/// had joined, and knows what it knew (Ben-David, Blelloch, Wei, *Lock-free locks revisited*, 2022).
+/// At return no lock names a section, and each request that has a stamp has its reply: in every state that the machine
+/// reaches in which the keeper has the part that it has then, so also in the words that `FlockTable::close` gives for
+/// this keeper. It still has joined whom it had joined, and knows what it knew (Ben-David, Blelloch, Wei, *Lock-free
+/// locks revisited*, 2022).
 pub fn settle<S: Structure>(table: &FlockTable<S>, keeper: Runner<S>) -> Runner<S>
     requires own { IsOf table.now keeper }
     requires next { MaySettle table.now keeper }
