@@ -1,12 +1,11 @@
 -- One lock is loaded, and the section that it names is run.
-use Rattle.std.specs.Prelude.{◌==◌, ◌&&◌, ◌||◌, ◌/◌, count_by, slice_get, nat_lt, cond, Bool, true, false, if◌then◌else◌}
-use Rattle.std.proofs.Common.{◌≡◌, ◌≢◌, ℕ, zero, suc, ◌+◌, ◌*◌, ◌-◌, ◌<◌, ◌≤◌, List, [], ◌∷◌, ◌++◌, length, ⊎_elim, inl, inr, sym, refl, ap, ◌∙◌, subst, arith, Option, Some, None}
+use Rattle.std.specs.Prelude.{◌==◌, ◌&&◌, ◌||◌, ◌/◌, count_by, slice_get, nat_lt, Bool, true, false, if◌then◌else◌}
+use Rattle.std.proofs.Common.{◌≡◌, ◌≢◌, ℕ, suc, ◌+◌, ◌*◌, ◌-◌, ◌<◌, ◌≤◌, List, [], ◌∷◌, ◌++◌, length, ⊎_elim, inl, inr, sym, refl, ap, ◌∙◌, subst, arith, Option, Some, None}
 use Rattle.std.specs.Prelude.{◌⊎◌}
-use Rattle.std.proofs.lemmas.Bool.{cases_eq, cases_lt}
+use Rattle.std.proofs.lemmas.Bool.{cases_lt}
 use Rattle.std.proofs.lemmas.Bool.Decides.{nat_tests}
 use Rattle.section_body.specs.Shape.{is_make}
 use Rattle.section_body.specs.Word.{value_of, is_free}
-use Rattle.section_body.specs.declared.thunk.Thunk.{Thunk}
 use Rattle.table_words.specs.Access.{written}
 use Rattle.table_words.specs.declared.access.Access.TheVariants.{Loads}
 use Rattle.table_words.specs.declared.spot.Spot.TheVariants as spots
@@ -18,7 +17,7 @@ use Rattle.runner_parts.specs.declared.entries.Left.{Left}
 use Rattle.runner_parts.specs.declared.entries.Published.{Published}
 use Rattle.runner_parts.specs.declared.event.EventKind.TheVariants as kinds
 use Rattle.runner_parts.specs.declared.stage.Stage.TheVariants as stages
-use Rattle.runner_parts.specs.Lists.{named_by, walked}
+use Rattle.runner_parts.specs.Lists.{named_by}
 use Rattle.runner_parts.specs.State.{RunState, NodesState, ReadsState, PartState}
 use Rattle.runner_parts.specs.Tests.{has, is_walking, is_readable}
 use Rattle.runner_steps.specs.Outside.{when}
@@ -36,7 +35,7 @@ use Rattle.machine_invariant.specs.After.{AreAllowed}
 use Rattle.runner_facts.specs.Keeper.{AllJoined}
 use Rattle.keeper_facts.specs.Freed.{HasLeft, IsCleared, IsFreed, IsAlone, StandsSeen, LocksTell}
 use Rattle.keeper_facts.proofs.Lists.{left_on}
-use Rattle.keeper_facts.proofs.Keeping.{kept_by, after_keeps, noted_left}
+use Rattle.keeper_facts.proofs.Keeping.{after_keeps, noted_left}
 use Rattle.version_words.specs.RunnerState.{RunnerState}
 use Rattle.version_words.specs.TableState.{TableState, IsOf}
 use Rattle.version_words.specs.Events.{met_by, Makes}

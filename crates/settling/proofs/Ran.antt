@@ -1,5 +1,5 @@
 -- A run under a gate that never halts comes to its end.
-use Rattle.std.proofs.Common.{◌≡◌, ℕ, refl, arith}
+use Rattle.std.proofs.Common.{◌≡◌, refl, arith}
 use Rattle.fault_count.specs.Rose.{Rose}
 use Rattle.section_body.specs.Trail.{Agreed}
 use Rattle.section_body.specs.declared.outcome.Outcome.{Outcome}

@@ -1,10 +1,10 @@
 -- The beginning and the end of settling.
-use Rattle.std.specs.Prelude.{◌==◌, ◌&&◌, slice_get, slice_index, nat_lt, cond, Bool, true, false}
-use Rattle.std.proofs.Common.{◌≡◌, ◌≢◌, ℕ, suc, ◌+◌, ◌*◌, ◌<◌, ◌≤◌, List, [], ◌∷◌, length, ⊎_elim, sym, refl, ap, ◌∙◌, subst, arith, Option, Some, None}
+use Rattle.std.specs.Prelude.{slice_get, slice_index, nat_lt, cond, true, false}
+use Rattle.std.proofs.Common.{◌≡◌, ℕ, ◌+◌, ◌*◌, ◌<◌, ◌≤◌, [], length, ⊎_elim, sym, refl, ap, ◌∙◌, subst, arith, Some}
 use Rattle.std.proofs.lemmas.Bool.{cases_lt}
 use Rattle.std.proofs.lemmas.Bool.Decides.{nat_tests}
 use Rattle.section_body.specs.Word.{value_of}
-use Rattle.table_words.specs.declared.spot.Spot.TheVariants.{Cell, Stamp, Reply}
+use Rattle.table_words.specs.declared.spot.Spot.TheVariants.{Cell}
 use Rattle.table_words.specs.Limits.{IsWithinLimits}
 use Rattle.table_words.specs.Places.{address}
 use Rattle.runner_steps.specs.Asks.{sizes_for}
@@ -24,10 +24,10 @@ use Rattle.reached_histories.proofs.Histories.{reached_have}
 use Rattle.version_words.specs.RunnerState.{RunnerState}
 use Rattle.version_words.specs.TableState.{TableState, IsOf}
 use Rattle.epoch_slots.specs.Entries.{HasLeave, Enters, Exits}
-use Rattle.settling.specs.Settled.{IsFront, MaySettle, IsSettled, Settles}
+use Rattle.settling.specs.Settled.{MaySettle, IsSettled, Settles}
 use Rattle.settling.specs.Clearing.{cell_count, KeepsJoins, IsClearing}
-use Rattle.settling.proofs.Growing.{front_same, front_on, Grows, grows_on, own_grows, grows_made}
-use Rattle.settling.proofs.Clears.{RecordTells, cleared_in, keeps_on, keeps_grown}
+use Rattle.settling.proofs.Growing.{front_same, Grows, grows_on, own_grows, grows_made}
+use Rattle.settling.proofs.Clears.{RecordTells, cleared_in, keeps_grown}
 
 module _ {T : Type 0} (m : Meaning) (laws : Laws m) (t : TableState T) (limits : IsWithinLimits t.layout) (allowed : AreAllowed t.requests) (record_tells : RecordTells m) where
   module _ (old r : RunnerState T) (own : IsOf t old) (may : MaySettle t old) (enters : Enters m old r) where

@@ -1,4 +1,4 @@
-use Rattle.std.proofs.Common.{◌≡◌, ◌<◌, sym, ap, ◌∙◌, subst, refl, true}
+use Rattle.std.proofs.Common.{◌<◌, sym, ◌∙◌, subst}
 use Rattle.settling.specs.Clearing.{cell_count}
 use Rattle.settling.proofs.Clears.{RecordTells, keeps_on, load_keeps, clears_free, may_help, run_keeps, clears_named}
 use Rattle.settling.proofs.settles.clear_lock.Goals as goal
