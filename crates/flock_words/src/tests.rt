@@ -49,7 +49,7 @@ run --halt 0:1,
 run --halt ,
 run --halt 0:1,0:2
 run --halt 0:1000000000001
-gen --seed 1
+gen --seed 7
 ";
 
 const ACCEPTED: &str = "\
