@@ -14,5 +14,7 @@ overflow_sub-value g c = some_value c.args.held c.value.result c.value.ensures c
 
 pub returns-clause-done : goal.returns-clause-done
 returns-clause-done g c = λ o trail e.
+    let m = g.S.Structure.meaning c.args.table.now.structure in
     let ends = c.run.ensures.done o trail e in
-    (ends.0, ends.1, subst (λ d. EndsSo (g.S.Structure.meaning c.args.table.now.structure) d ends.0 o trail ends.1 c.args.runner c.run.result.0) (ap (λ n. n - 1) c.value.ensures) ends.2, ends.3)
+    let same = ap (λ n. n - 1) c.value.ensures in
+    (ends.0, ends.1, subst (λ d. EndsSo m d ends.0 o trail ends.1 c.args.runner c.run.result.0) same ends.2, ends.3)
