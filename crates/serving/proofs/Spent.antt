@@ -1,6 +1,6 @@
 -- What a runner keeps of the word by which it was turned away, since too few versions were left.
-use Rattle.std.specs.Prelude.{◌==◌, ◌&&◌, ◌||◌, ◌⊎◌, cond, nat_lt, Bool, true, false, slice_get, if◌then◌else◌}
-use Rattle.std.proofs.Common.{◌≡◌, ℕ, zero, suc, ◌+◌, ◌-◌, ◌<◌, List, [], ◌∷◌, ◌++◌, length, refl, sym, ap, ◌∙◌, subst, ⊎_elim, inl, inr, arith, Option, Some, None, Result, Err}
+use Rattle.std.specs.Prelude.{◌==◌, ◌&&◌, ◌⊎◌, cond, nat_lt, Bool, true, false, slice_get, if◌then◌else◌}
+use Rattle.std.proofs.Common.{◌≡◌, ℕ, ◌+◌, ◌-◌, ◌<◌, List, [], ◌∷◌, ◌++◌, length, refl, sym, ap, ◌∙◌, subst, ⊎_elim, inl, inr, arith, Some, None, Err}
 use Rattle.std.proofs.lemmas.Bool.{eq-eqb}
 use Rattle.std.proofs.lemmas.Bool.Decides.{nat_tests}
 use Rattle.map_history.specs.declared.op.Op.{Op}
@@ -30,7 +30,6 @@ use Rattle.try_lock.specs.Plans.{refused_at, refused_by_lock}
 use Rattle.try_lock.specs.Publishes.{refused_by}
 use Rattle.attempts.specs.Course.{of_plan, of_refusal, of_outcome, HasPlanned, HasTried, HasLeft}
 use Rattle.attempts.specs.Attempts.{IsTurnedAway}
-use Rattle.attempts.specs.declared.answers.Attempt.{Attempt}
 use Rattle.attempts.specs.declared.answers.Attempt.TheVariants as attempts
 use Rattle.serving.proofs.Lists.{and_true, or_first, or_second}
 
