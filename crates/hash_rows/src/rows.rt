@@ -1,5 +1,5 @@
 //! Tests.
-ghost use Rattle.std.specs.Prelude.{◌≡◌, ◌×◌, ◌≤◌, IfOk};
+ghost use Rattle.std.specs.Prelude.{◌≡◌, ◌≤◌, IfOk};
 ghost use Rattle.map_history.specs.Keys.{key_of};
 
 use crate::scene::{new_table, pairs_of, plan_and_publish};

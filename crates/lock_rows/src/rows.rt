@@ -1,5 +1,5 @@
 //! Tests.
-ghost use Rattle.std.specs.Prelude.{◌≡◌, ◌×◌, IfOk};
+ghost use Rattle.std.specs.Prelude.{◌≡◌, IfOk};
 ghost use Rattle.section_body.specs.Trail.{Agreed};
 ghost use Rattle.section_body.specs.declared.outcome.Outcome.{Outcome};
 ghost use Rattle.section_runs.specs.declared.runs.RunEnd.TheVariants.{Done};
