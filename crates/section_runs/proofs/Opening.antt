@@ -34,7 +34,7 @@ use Rattle.version_words.specs.Naming.{open_of}
 use Rattle.version_words.specs.Place.{opened_of, own_done}
 use Rattle.commit_log.specs.Runs.{IsRunning}
 use Rattle.section_runs.specs.Reached.{MayBegin, run_or, events_after}
-use Rattle.section_runs.specs.Opened.{opening, opening_of, IsOpening, HasOpened}
+use Rattle.section_runs.specs.Opened.{opening, opening_of, is_opening, Opens, IsOpening, HasOpened}
 use Rattle.section_runs.proofs.Records.{noted_known, noted_events}
 use Rattle.section_runs.proofs.Staying.{stays_more}
 
@@ -121,8 +121,8 @@ module _ {T : Type 0} (m : Meaning) (laws : Laws m) (t : TableState T) (limits :
       more = words ++ found ∷ []
 
       -- where the run has one word more
-      opens : after_by m r.layout kind r.part r.part.run found ≡ with_run r.part (opening d more) → IsOpening m (suc n) d more old r'
-      opens e =
+      opens : is_opening kind ≡ true → after_by m r.layout kind r.part r.part.run found ≡ with_run r.part (opening d more) → IsOpening m (suc n) d more old r'
+      opens load e =
           let part : r'.part ≡ noting r.layout r.number kind made.met.0 made.met.1 found (with_run r.part (opening d more))
           = ap (λ (y : RunnerState T). y.part) made.made ∙ ap (noting r.layout r.number kind made.met.0 made.met.1 found) e in
           record {
@@ -141,10 +141,12 @@ module _ {T : Type 0} (m : Meaning) (laws : Laws m) (t : TableState T) (limits :
               entry = ap (λ (p : PartState). p.reads.published) part;
             });
             nodes = ap (λ (p : PartState). p.nodes) part ∙ is.nodes;
+            reads = ap (λ (p : PartState). p.reads) part ∙ is.reads;
             known = ap (λ (p : PartState). p.records.known) part ∙ (noted_known r.layout r.number kind made.met.0 made.met.1 found r.part.records ∙ is.known);
             events = ap (λ (p : PartState). p.records.events) part
                 ∙ (noted_events r.layout r.number kind made.met.0 made.met.1 found r.part.records
                 ∙ (ap counted is.events ∙ events_last old.part.records.events n));
+            loads = (r, kind, found, is.loads, load, made);
             reached = record { world = made.shown.world; reached = made.shown.reached; own = made.shown.own };
           }
 
@@ -159,15 +161,15 @@ module _ {T : Type 0} (m : Meaning) (laws : Laws m) (t : TableState T) (limits :
         by : (k : ℕ) → k ≡ n → r.part.run ≡ opening_of k d words → IsOpening m (suc n) d (words ++ found ∷ []) old r'
         by zero e runs =
             let made1 = subst (λ (o : Option RunState). Makes m (open_of o d) found r r') runs made in
-            opens (kinds.LoadThunk (Some d)) found r' made1
+            opens (kinds.LoadThunk (Some d)) found r' made1 refl
             (ap (λ (o : Option RunState). after_by m r.layout (kinds.LoadThunk (Some d)) r.part o found) runs
             ∙ ap (λ xs. with_run r.part (opening d (xs ++ found ∷ []))) (sym (none_of words (is.count ∙ sym e))))
         by (suc k) e runs =
             let made1 = subst (λ (o : Option RunState). Makes m (open_of o d) found r r') runs made in
-            opens (kinds.LoadThunk None) found r' made1 (inside (kinds.LoadThunk None) found r' made1 (omega (arith, low)) runs)
+            opens (kinds.LoadThunk None) found r' made1 refl (inside (kinds.LoadThunk None) found r' made1 (omega (arith, low)) runs)
 
     pub opens_last : n ≡ 12 → (found : ℕ) (r' : RunnerState T) → Makes m kinds.LoadDone found r r' → IsOpening m (suc n) d (words ++ found ∷ []) old r'
-    opens_last e found r' made = opens kinds.LoadDone found r' made (inside kinds.LoadDone found r' made (omega (arith, e)) (run_twelve e))
+    opens_last e found r' made = opens kinds.LoadDone found r' made refl (inside kinds.LoadDone found r' made (omega (arith, e)) (run_twelve e))
 
     pub then_opened : n ≡ 12 → (found : ℕ) (r' : RunnerState T) → Makes m kinds.LoadDone found r r'
         → (thunk : Thunk) (late : Bool) → thunk ≡ thunk_of (words ++ found ∷ []) → late ≡ is_late (opening d (words ++ found ∷ [])) → HasOpened m d thunk late old r'
@@ -189,6 +191,8 @@ module _ {T : Type 0} (m : Meaning) (laws : Laws m) (t : TableState T) (limits :
           found = sym is_found;
           stays = all.stays;
           nodes = all.nodes;
+          reads = all.reads;
           known = all.known;
           events = all.events ∙ ap (λ k. events_after old.part.records.events (suc k)) e;
+          loads = subst (λ k. Opens m (suc k) old r') e all.loads;
         }

@@ -2,12 +2,15 @@
 use Rattle.std.specs.Prelude.{◌≡◌, ℕ, zero, suc, List, Bool, true, false, length, ◌++◌, ◌≤◌, slice_get, Option, Some, None}
 use Rattle.section_body.specs.declared.thunk.Thunk.{Thunk}
 use Rattle.structure_laws.specs.Meaning.{Meaning}
+use Rattle.runner_parts.specs.declared.event.EventKind.{EventKind}
+use Rattle.runner_parts.specs.declared.event.EventKind.TheVariants as kinds
 use Rattle.runner_parts.specs.declared.entries.Known.{Known}
 use Rattle.runner_parts.specs.declared.stage.Stage.TheVariants as stages
 use Rattle.runner_parts.specs.State.{RunState}
 use Rattle.runner_parts.specs.Tests.{has}
 use Rattle.runner_steps.specs.Sections.{thunk_of, is_late}
 use Rattle.version_words.specs.RunnerState.{RunnerState}
+use Rattle.version_words.specs.Events.{Makes}
 use Rattle.commit_log.specs.Asked.{IsAsked}
 use Rattle.section_runs.specs.Reached.{IsReached, no_run, IsInside, events_after}
 
@@ -41,15 +44,28 @@ abbrev pub opening_of : ℕ → ℕ → List ℕ → Option RunState
 opening_of zero d words = None
 opening_of (suc n) d words = Some (opening d words)
 
+-- the load of a thunk word or of the done word
+abbrev pub is_opening : EventKind → Bool
+is_opening (kinds.LoadThunk descriptor) = true
+is_opening kinds.LoadDone = true
+is_opening _ = false
+
 module _ {T : Type 0} (m : Meaning) where
+  -- the runner made so many such loads, and no other step
+  abbrev pub Opens : ℕ → RunnerState T → RunnerState T → Type 0
+  Opens zero old new = new ≡ old
+  Opens (suc n) old new = (r : RunnerState T) × (kind : EventKind) × (found : ℕ) × Opens n old r × (is_opening kind ≡ true) × Makes m kind found r new
+
   -- the runner has loaded so many words of this descriptor
   pub record IsOpening (n d : ℕ) (words : List ℕ) (old new : RunnerState T) : Type 0 where
     pub run : new.part.run ≡ opening_of n d words
     pub count : length words ≡ n
     pub stays : Stays old new
     pub nodes : new.part.nodes ≡ old.part.nodes
+    pub reads : new.part.reads ≡ old.part.reads
     pub known : new.part.records.known ≡ old.part.records.known
     pub events : new.part.records.events ≡ events_after old.part.records.events n
+    pub loads : Opens n old new
     pub reached : IsReached m new
 
   -- the runner has opened a run of the section in this descriptor, which has this thunk, and found it done or not
@@ -61,8 +77,10 @@ module _ {T : Type 0} (m : Meaning) where
     pub found : is_late (opening d words) ≡ late
     pub stays : Stays old new
     pub nodes : new.part.nodes ≡ old.part.nodes
+    pub reads : new.part.reads ≡ old.part.reads
     pub known : new.part.records.known ≡ old.part.records.known
     pub events : new.part.records.events ≡ events_after old.part.records.events 13
+    pub loads : Opens 13 old new
 
 -- a gate halted the runner behind one of these loads: it made the loads up to that one, or all
 pub record HasHalted {T : Type 0} (m : Meaning) (most d : ℕ) (old new : RunnerState T) (halts halts' asks asks' steps steps' : ℕ) : Type 0 where

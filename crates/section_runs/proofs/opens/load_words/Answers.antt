@@ -40,3 +40,18 @@ loop-index-preserved g c =
           (subst (λ n. IsOpening m n c.args.descriptor (c.loop-index.words.items ++ c.load_thunk-opened.result.1 ∷ []) c.args.runner c.load_thunk-opened.result.0) next more);
       asked = asked_more c.loop-index.index 1 true _ _ _ _ _ _ _ _ _ c.loop-index.invariant.asked c.if-not-passes.ensures;
     }
+
+pub returns-clause-opening : goal.returns-clause-opening
+returns-clause-opening g c = λ _.
+    let few = c.loop-index.auto.index-end in
+    let behind = c.loop-index-test.false in
+    let last : c.loop-index.index ≡ 12 = omega (arith, few, behind) in
+    subst (λ n. IsOpening (g.S.Structure.meaning c.args.table.now.structure) n c.args.descriptor c.loop-index.words.items c.args.runner c.loop-index.runner) last
+    c.loop-index.invariant.opening
+
+pub returns-clause-asked : goal.returns-clause-asked
+returns-clause-asked g c = λ _.
+    let few = c.loop-index.auto.index-end in
+    let behind = c.loop-index-test.false in
+    let last : c.loop-index.index ≡ 12 = omega (arith, few, behind) in
+    asked_as _ _ last true _ _ _ _ _ _ c.loop-index.invariant.asked

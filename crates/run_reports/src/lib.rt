@@ -1,0 +1,13 @@
+//! From the words of a closed table to the report on its requests.
+//!
+//! `entries` reads the entry of each request off its two words, `contents` says what the cells hold, and `printing`
+//! ranks the requests that have an entry and writes the report.
+#![tactic(auto)]
+
+mod contents;
+mod entries;
+mod printing;
+
+pub use contents::contents_stand;
+pub use entries::entries_of;
+pub use printing::{PrintError, print_words};
