@@ -4,7 +4,8 @@
 Usage: bench/sections.py [PROGRAM]     (default: crates/section_speed/out/section_speed, made by `rt run` in crates/section_speed)
 
 A round makes a table, splits off two workers, joins them and closes the table. `store` is a section of the test structure: its publication,
-run and retirement, and the worker's end of its entry. `get`, `ins` and `del` are requests of a hash table of one bucket, from the entry and
+run and retirement, and the worker's end of its entry; beside it stands a plain Rust loop of the same atomic operations, which rustc builds
+(`bench/sections.rs`). `get`, `ins` and `del` are requests of a hash table of one bucket, from the entry and
 the plan to the end of the entry. Each kind is run at two numbers of rounds, several times in turn; of each the least processor time is
 taken.
 """
@@ -12,6 +13,7 @@ import os
 import pathlib
 import subprocess
 import sys
+import tempfile
 
 TOP = pathlib.Path(__file__).resolve().parent.parent
 RUNS = 9
@@ -30,6 +32,15 @@ def measure(program: str, kind: str, rounds: int) -> float:
     return usage.ru_utime + usage.ru_stime
 
 
+def plain_store() -> float:
+    """Nanoseconds of a round of the plain loop."""
+    with tempfile.TemporaryDirectory() as folder:
+        program = str(pathlib.Path(folder) / "plain")
+        subprocess.run(["rustc", "-O", TOP / "bench/sections.rs", "-o", program], check=True)
+        few, many = (min(measure(program, "store", rounds) for _ in range(RUNS)) for rounds in (FEW, 20 * MANY))
+    return 1e9 * (many - few) / (20 * MANY - FEW)
+
+
 def main() -> None:
     program = sys.argv[1] if len(sys.argv) > 1 else str(TOP / "crates/section_speed/out/section_speed")
     best = {(kind, rounds): float("inf") for kind in KINDS for rounds in (FEW, MANY)}
@@ -40,6 +51,8 @@ def main() -> None:
     for kind, other in WITHOUT.items():
         name = "del" if kind == "ins_del" else kind
         print(f"{name}: {round_of[kind] - round_of[other]:.0f} ns (a round {round_of[kind]:.0f} ns, without it {round_of[other]:.0f} ns)")
+    plain = plain_store()
+    print(f"store in plain Rust: {plain:.0f} ns, ratio {(round_of['store'] - round_of['table']) / plain:.2f}")
 
 
 if __name__ == "__main__":
