@@ -1,5 +1,5 @@
 -- What a worker that has read the lock may publish, and that it may run its section then.
-use Rattle.std.proofs.Common.{◌≡◌, ℕ, zero, suc, ◌+◌, ◌<◌, ◌≤◌, List, [], length, Bool, true, false, refl, sym, ap, subst, ◌∙◌, eq-eqb, arith, Result, Ok, Some, None}
+use Rattle.std.proofs.Common.{◌≡◌, ℕ, zero, suc, ◌+◌, ◌<◌, ◌≤◌, List, [], length, true, false, sym, ap, subst, ◌∙◌, eq-eqb, arith, Result, Ok}
 use Rattle.std.specs.Prelude.{◌==◌, ◌&&◌, not, ◌%◌, slice_get}
 use Rattle.std.proofs.lemmas.Bool.Decides.{nat_tests}
 use Rattle.section_body.specs.Word.{value_of, version_of, is_free, is_spent}

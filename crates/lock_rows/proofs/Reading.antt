@@ -2,7 +2,7 @@
 use Rattle.std.proofs.Common.{◌≡◌, ℕ, ◌-◌, ◌≤◌, List, length, [], ◌∷◌, ◌++◌, Bool, true, false, refl, sym, ap, subst, ◌∙◌, arith, Some, None}
 use Rattle.std.specs.Prelude.{◌==◌, ◌&&◌, ◌||◌, if◌then◌else◌}
 use Rattle.std.proofs.lemmas.Bool.Decides.{nat_tests}
-use Rattle.section_body.specs.Word.{value_of, is_free}
+use Rattle.section_body.specs.Word.{value_of}
 use Rattle.structure_laws.specs.Meaning.{Meaning}
 use Rattle.runner_parts.specs.declared.event.EventKind.TheVariants as kinds
 use Rattle.runner_parts.specs.State.{DescriptorsState, NodesState, ReadsState}
@@ -14,7 +14,7 @@ use Rattle.version_words.specs.Naming.{load_of}
 use Rattle.version_words.proofs.Stages.{then_loaded_cell}
 use Rattle.epoch_slots.specs.Entries.{Enters}
 use Rattle.epoch_slots.proofs.Outside.{NotesNothing, nodes_made, descriptors_made, reads_made, known_made}
-use Rattle.lock_rows.specs.Workers.{HasReserve, IsEmptyHanded, IsReady, HasRead}
+use Rattle.lock_rows.specs.Workers.{IsReady, HasRead}
 
 either : (p q : Bool) → q ≡ true → (p || q) ≡ true
 either true q e = refl

@@ -1,9 +1,9 @@
 -- What becomes of a worker in a run of a section, and behind it.
-use Rattle.std.proofs.Common.{◌≡◌, ◌≢◌, ℕ, zero, suc, ◌≤◌, Bool, true, false, refl, sym, ap, subst, ◌∙◌, arith, Option, Some, None, inl, inr}
+use Rattle.std.proofs.Common.{◌≡◌, ◌≢◌, ℕ, zero, suc, ◌≤◌, Bool, true, false, refl, ap, ◌∙◌, arith, Option, None, inl, inr}
 use Rattle.std.specs.Prelude.{◌==◌, ◌||◌}
 use Rattle.std.proofs.lemmas.Bool.Decides.{nat_tests}
 use Rattle.section_body.specs.Trail.{Agreed}
-use Rattle.section_body.specs.Word.{value_of, is_free}
+use Rattle.section_body.specs.Word.{is_free}
 use Rattle.section_body.specs.declared.outcome.Outcome.{Outcome}
 use Rattle.section_body.specs.declared.thunk.Thunk.{Thunk}
 use Rattle.structure_laws.specs.Meaning.{Meaning}
@@ -14,12 +14,12 @@ use Rattle.commit_log.specs.Runs.{Ran}
 use Rattle.section_runs.specs.declared.runs.RunEnd.{RunEnd}
 use Rattle.section_runs.specs.declared.runs.RunEnd.TheVariants.{Done, Halted}
 use Rattle.epoch_slots.specs.Collects.{IsTidy}
-use Rattle.epoch_slots.specs.Entries.{HasLeave, Exits}
+use Rattle.epoch_slots.specs.Entries.{Exits}
 use Rattle.try_lock.specs.declared.section.Section.{Section}
 use Rattle.try_lock.specs.Reached.{MayRunSection, MayHelp}
 use Rattle.try_lock.specs.Ends.{EndsSo, IsCutShort}
 use Rattle.try_lock.specs.Retires.{IsOver, HasRetired}
-use Rattle.lock_rows.specs.Workers.{HasRead, MayRun, IsEmptyHanded}
+use Rattle.lock_rows.specs.Workers.{HasRead, IsEmptyHanded}
 
 same_over : (d e : ℕ) (over : Bool) → d ≡ e → (over || d == e) ≡ true
 same_over d e true same = refl
