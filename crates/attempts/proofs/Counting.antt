@@ -1,6 +1,6 @@
 -- Asking a gate, step by step.
 use Rattle.std.specs.Prelude.{min, ◌^◌, Bool, true, false}
-use Rattle.std.proofs.Common.{◌≡◌, ℕ, ◌+◌, ◌-◌, ◌≤◌, refl, sym, ap, ◌∙◌, subst, arith}
+use Rattle.std.proofs.Common.{◌≡◌, ℕ, ◌+◌, ◌-◌, ◌≤◌, refl, ap, ◌∙◌, subst, arith}
 use Rattle.fault_count.specs.Rose.{Rose}
 use Rattle.commit_log.specs.Asked.{counted_on, IsAsked}
 use Rattle.commit_log.proofs.Asked.{counted_more}
@@ -42,3 +42,19 @@ counted_then n a k b going halts halts' halts'' asks asks' asks'' steps steps' s
       went = λ e. two.went e ∙ same;
       halted = λ e. subst (λ h. Rose h halts'') same (two.halted e);
     }
+
+-- asks without a step, and then steps
+pub asked_then : (a k b : ℕ) (going : Bool) (halts halts' halts'' asks asks' asks'' steps steps' : ℕ)
+    → IsCounted 0 a true halts halts' asks asks' steps steps → IsCounted k b going halts' halts'' asks' asks'' steps steps'
+    → IsCounted k (a + b) going halts halts'' asks asks'' steps steps'
+asked_then a k b going halts halts' halts'' asks asks' asks'' steps steps' one two =
+    subst (λ j. IsCounted j (a + b) going halts halts'' asks asks'' steps steps') (let e : 0 + k ≡ k = omega arith in e)
+    (counted_then 0 a k b going halts halts' halts'' asks asks' asks'' steps steps steps' one two)
+
+-- steps with an ask after each, and then more
+pub steps_then : (n k b : ℕ) (going : Bool) (halts halts' halts'' asks asks' asks'' steps steps' steps'' : ℕ)
+    → IsAsked n true halts halts' asks asks' steps steps' → IsCounted k b going halts' halts'' asks' asks'' steps' steps''
+    → IsCounted (n + k) b going halts halts'' asks asks'' steps steps''
+steps_then n k b going halts halts' halts'' asks asks' asks'' steps steps' steps'' one two =
+    subst (λ j. IsCounted (n + k) j going halts halts'' asks asks'' steps steps'') (let e : 0 + b ≡ b = omega arith in e)
+    (counted_then n 0 k b going halts halts' halts'' asks asks' asks'' steps steps' steps'' (counted_steps n true halts halts' asks asks' steps steps' one) two)

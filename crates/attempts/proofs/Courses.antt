@@ -1,10 +1,10 @@
 -- How far an attempt came, and what it may do there.
-use Rattle.std.specs.Prelude.{◌==◌, ◌&&◌, ◌||◌, ◌⊎◌, not, cond, nat_lt, Bool, true, false, slice_get, if◌then◌else◌, Result, Ok, Err}
-use Rattle.std.proofs.Common.{◌≡◌, ◌≢◌, ℕ, suc, ◌-◌, ◌≤◌, List, [], ◌∷◌, ◌++◌, length, refl, sym, ap, ◌∙◌, subst, arith, Option, Some, None}
+use Rattle.std.specs.Prelude.{◌==◌, ◌&&◌, ◌||◌, not, cond, Bool, true, false, slice_get, Ok, Err}
+use Rattle.std.proofs.Common.{◌≡◌, ℕ, refl, sym, ap, ◌∙◌, subst, arith, Some, None}
 use Rattle.std.proofs.lemmas.Bool.Decides.{nat_tests}
 use Rattle.map_history.specs.declared.op.Request.{Request}
 use Rattle.section_body.specs.Trail.{Agreed}
-use Rattle.section_body.specs.Word.{value_of, version_of, is_free, is_spent}
+use Rattle.section_body.specs.Word.{is_free, is_spent}
 use Rattle.section_body.specs.declared.outcome.Outcome.{Outcome}
 use Rattle.section_body.specs.declared.outcome.Refused.{Refused}
 use Rattle.section_body.specs.declared.outcome.Refused.TheVariants as refusals
@@ -13,12 +13,11 @@ use Rattle.structure_laws.specs.Scene.{Readings}
 use Rattle.structure_laws.specs.Meaning.{Meaning}
 use Rattle.runner_parts.specs.declared.entries.Published.{Published}
 use Rattle.runner_parts.specs.declared.stage.Stage.TheVariants as stages
-use Rattle.runner_parts.specs.Lists.{no_reads, named_by}
-use Rattle.runner_parts.specs.State.{PartState, ReadsState}
-use Rattle.runner_parts.specs.Tests.{has, has_pair, is_next, is_open, serves}
+use Rattle.runner_parts.specs.Lists.{no_reads}
+use Rattle.runner_parts.specs.State.{ReadsState}
+use Rattle.runner_parts.specs.Tests.{has_pair, is_next, is_open, serves}
 use Rattle.runner_steps.specs.Outside.{is_due}
 use Rattle.runner_steps.specs.AfterOutside.{published_by}
-use Rattle.runner_steps.specs.AfterInRun.{over_if}
 use Rattle.version_words.specs.RunnerState.{RunnerState}
 use Rattle.version_words.specs.Stages.{IsAt}
 use Rattle.epoch_slots.specs.Entries.{HasLeave}
@@ -27,11 +26,10 @@ use Rattle.try_lock.specs.declared.planned.Planned.{Planned}
 use Rattle.try_lock.specs.declared.planned.Planned.TheVariants as plans
 use Rattle.try_lock.specs.Planning.{Planning}
 use Rattle.try_lock.specs.Plans.{reads_walked}
-use Rattle.try_lock.specs.Publishes.{refused_by, MayPublish, IsPublished, IsRefused}
+use Rattle.try_lock.specs.Publishes.{MayPublish, IsPublished, IsRefused}
 use Rattle.try_lock.specs.Reached.{MayRunSection, MayHelp}
-use Rattle.try_lock.specs.Ends.{EndsSo}
 use Rattle.try_lock.specs.Retires.{IsOver}
-use Rattle.attempts.specs.Course.{of_refusal, HasEntered, HasPlanned, HasTried, HasEnded}
+use Rattle.attempts.specs.Course.{of_refusal, HasPlanned, HasTried, HasEnded}
 use Rattle.attempts.specs.Rests.{MayLeave}
 use Rattle.attempts.specs.declared.answers.Attempt.TheVariants as answers
 use Rattle.attempts.proofs.Leaving.{ended_at}

@@ -1,6 +1,6 @@
 -- A worker learns of its own requests by its own sections alone.
-use Rattle.std.specs.Prelude.{Bool, true, false, slice_get}
-use Rattle.std.proofs.Common.{◌≡◌, ◌≢◌, ℕ, suc, ◌%◌, List, [], ◌∷◌, ◌++◌, refl, sym, ap, ◌∙◌, subst, ⊎_elim, Some, None}
+use Rattle.std.specs.Prelude.{true}
+use Rattle.std.proofs.Common.{◌≡◌, ℕ, suc, ◌%◌, List, [], ◌∷◌, ◌++◌, refl, sym, ap, ◌∙◌, ⊎_elim, None}
 use Rattle.std.proofs.lemmas.Bool.{cases_eq}
 use Rattle.map_history.specs.declared.op.Request.{Request}
 use Rattle.section_body.specs.declared.thunk.Thunk.{Thunk}
@@ -10,8 +10,7 @@ use Rattle.structure_laws.specs.Laws.{Laws}
 use Rattle.runner_parts.specs.declared.entries.Known.{Known}
 use Rattle.runner_parts.specs.State.{PartState}
 use Rattle.runner_parts.specs.Tests.{is_answered}
-use Rattle.runner_steps.specs.Sections.{thunk_of}
-use Rattle.machine_states.specs.Sight.{sight, part_of, part_or_first}
+use Rattle.machine_states.specs.Sight.{sight, part_or_first}
 use Rattle.machine_invariant.specs.After.{AreAllowed}
 use Rattle.machine_records.specs.Requests.{or_none, requests_of}
 use Rattle.machine_records.specs.Kept.{link_of}

@@ -1,12 +1,10 @@
 -- What a runner knows, step by step.
 use Rattle.std.specs.Prelude.{◌==◌, ◌&&◌, ◌||◌, cond, not, Bool, true, false, slice_get}
-use Rattle.std.proofs.Common.{◌≡◌, ◌≢◌, ℕ, zero, suc, ◌%◌, List, [], ◌∷◌, ◌++◌, refl, sym, ap, ◌∙◌, subst, ⊎_elim, arith, Some}
-use Rattle.std.proofs.lemmas.Bool.{cases_eq}
+use Rattle.std.proofs.Common.{◌≡◌, ◌≢◌, ℕ, zero, suc, ◌%◌, List, [], ◌∷◌, ◌++◌, refl, sym, ap, ◌∙◌, arith, Some}
 use Rattle.std.proofs.lemmas.Bool.Decides.{nat_tests}
 use Rattle.std.proofs.lemmas.List.Folds.{list_any-append}
 use Rattle.map_history.specs.declared.op.Request.{Request}
 use Rattle.runner_parts.specs.declared.entries.Known.{Known}
-use Rattle.runner_parts.specs.State.{FinishedState}
 use Rattle.runner_parts.specs.Tests.{knows, is_answered}
 use Rattle.machine_states.proofs.Steps.{none_some}
 use Rattle.version_words.specs.RunnerState.{RunnerState}

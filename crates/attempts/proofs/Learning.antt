@@ -1,12 +1,9 @@
 -- The words of a request that a runner knows, loaded again.
 use Rattle.std.specs.Prelude.{◌==◌, Bool, true, false, slice_get, if◌then◌else◌}
-use Rattle.std.proofs.Common.{◌≡◌, ◌≢◌, ℕ, zero, suc, ◌<◌, List, [], ◌∷◌, ◌++◌, length, refl, sym, ap, ◌∙◌, subst, ⊎_elim, arith, Option, Some, None}
+use Rattle.std.proofs.Common.{◌≡◌, ℕ, zero, suc, List, [], ◌∷◌, ◌++◌, refl, sym, ap, ◌∙◌, subst, ⊎_elim, Option, Some, None}
 use Rattle.std.proofs.lemmas.Bool.{cases_eq}
-use Rattle.std.proofs.lemmas.Bool.Decides.{nat_tests}
-use Rattle.std.proofs.lemmas.Option.{slice_get_within}
 use Rattle.map_history.specs.declared.op.Request.{Request}
-use Rattle.map_history.specs.declared.reply.Reply.{Reply}
-use Rattle.map_history.specs.Words.{word_of, IsReply}
+use Rattle.map_history.specs.Words.{word_of}
 use Rattle.table_words.specs.declared.sizes.Sizes.{Sizes}
 use Rattle.table_words.specs.declared.spot.Spot.{Spot}
 use Rattle.table_words.specs.declared.access.Access.{Access}
@@ -28,23 +25,21 @@ use Rattle.machine_states.specs.Sight.{sight, part_or_first}
 use Rattle.machine_states.proofs.Steps.{some_same, none_some}
 use Rattle.machine_invariant.specs.After.{AreAllowed}
 use Rattle.version_words.specs.RunnerState.{RunnerState}
-use Rattle.version_words.specs.Events.{met_by, Makes, IsEnabled}
+use Rattle.version_words.specs.Events.{Makes}
 use Rattle.version_words.specs.ReachedWith.{is_told}
 use Rattle.version_words.specs.Stages.{IsAt}
-use Rattle.version_words.proofs.Stages.{may_load_entry, then_knows}
+use Rattle.version_words.proofs.Stages.{then_knows}
 use Rattle.epoch_slots.specs.Collects.{IsTidy}
 use Rattle.epoch_slots.specs.Entries.{Exits}
 use Rattle.epoch_slots.proofs.Outside.{nodes_made, known_made, finished_made}
-use Rattle.try_lock.specs.Reached.{IsReached}
 use Rattle.machine_facts.specs.Known.{KnownStand}
 use Rattle.machine_facts.proofs.Following.{facts_after}
 use Rattle.request_facts.specs.Placed.{IsServedAs}
-use Rattle.request_facts.specs.Laws.{HasEntry, IsKnown, CallersStand}
+use Rattle.request_facts.specs.Laws.{HasEntry, IsKnown}
 use Rattle.request_facts.proofs.Standing.{callers_stand}
 use Rattle.attempts.specs.Knowing.{KnowsMore, IsOwn}
 use Rattle.attempts.specs.Rests.{LearnsNoOwn, MayLearn, HasLearnt}
 use Rattle.attempts.proofs.Knowing.{front_same, front_on, front_entry, knows_same, knows_on, own_on, answered_on, answered_of_other, append_none}
-use Rattle.attempts.proofs.Reaching.{made_reached}
 
 -- what is met is what fits
 fitting_same : (s : Sizes) (y x : Spot × Access) → fitting s (Some y) ≡ Some x → y ≡ x

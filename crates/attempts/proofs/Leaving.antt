@@ -1,6 +1,6 @@
 -- How a runner leaves that was turned away.
-use Rattle.std.specs.Prelude.{◌==◌, ◌⊎◌, Bool, true, false, not}
-use Rattle.std.proofs.Common.{◌≡◌, ◌≢◌, ℕ, suc, ◌-◌, ◌≤◌, List, [], ◌∷◌, ◌++◌, refl, sym, ap, ◌∙◌, subst, arith, Option, Some, None, inl, inr}
+use Rattle.std.specs.Prelude.{◌==◌, ◌⊎◌, true, false, not}
+use Rattle.std.proofs.Common.{◌≡◌, ◌≢◌, ℕ, suc, ◌-◌, ◌≤◌, [], ◌∷◌, refl, sym, ap, ◌∙◌, subst, arith, Option, None, inl, inr}
 use Rattle.std.proofs.lemmas.Bool.Decides.{nat_tests}
 use Rattle.section_body.specs.Trail.{Agreed}
 use Rattle.section_body.specs.Word.{value_of, is_free}
@@ -26,16 +26,15 @@ use Rattle.epoch_slots.specs.Collects.{IsTidy}
 use Rattle.epoch_slots.specs.Entries.{HasLeave, Exits}
 use Rattle.commit_log.specs.Asked.{IsAsked}
 use Rattle.commit_log.proofs.Asked.{asked_none}
-use Rattle.try_lock.specs.Reached.{IsReached, MayHelp}
 use Rattle.try_lock.specs.Ends.{EndsSo}
 use Rattle.attempts.specs.Learned.{HasLearned, IsCut}
-use Rattle.attempts.specs.Knowing.{KnowsMore, IsFront}
+use Rattle.attempts.specs.Knowing.{KnowsMore}
 use Rattle.attempts.specs.Course.{IsEmptyHanded, HasHelped, IsOfHelped}
-use Rattle.attempts.specs.Attempts.{is_halted, is_refusal, Leaves, HasMadeWay}
+use Rattle.attempts.specs.Attempts.{is_halted, is_refusal, Leaves}
 use Rattle.attempts.specs.Rests.{MayLeave, LearnsNoOwn, HasTurned}
 use Rattle.attempts.specs.declared.answers.Attempt.{Attempt}
 use Rattle.attempts.specs.declared.answers.Attempt.TheVariants as answers
-use Rattle.attempts.proofs.Knowing.{knows_same, knows_on, own_on}
+use Rattle.attempts.proofs.Knowing.{knows_same, knows_on}
 use Rattle.attempts.proofs.Reaching.{exits_reached}
 use Rattle.attempts.proofs.Helping.{learns_no_own}
 

@@ -1,4 +1,4 @@
-mod Knowing
+pub mod Knowing
 mod Helping
 mod Reaching
 mod Leaving
@@ -8,3 +8,13 @@ mod Courses
 mod Turning
 mod Trying
 mod Planning
+mod Refusing
+mod Placing
+mod Along
+mod LastSteps
+mod Telling
+mod Stamps
+mod Away
+mod Cutting
+mod Concluding
+mod Wholly

@@ -1,22 +1,13 @@
 -- The plan of an attempt.
-use Rattle.std.specs.Prelude.{◌==◌, ◌&&◌, ◌||◌, not, Bool, true, false, if◌then◌else◌}
-use Rattle.std.proofs.Common.{◌≡◌, ◌≢◌, ℕ, ◌-◌, ◌≤◌, List, [], ◌∷◌, ◌++◌, length, refl, sym, ap, ◌∙◌, subst, Option, Some, None}
-use Rattle.std.proofs.lemmas.List.Folds.{list_any-append}
-use Rattle.std.proofs.lemmas.Bool.Decides.{nat_tests}
+use Rattle.std.proofs.Common.{◌≡◌, ℕ, ◌≤◌, length, sym, ap, ◌∙◌, subst}
 use Rattle.map_history.specs.declared.op.Request.{Request}
-use Rattle.section_body.specs.Word.{value_of, is_free, is_spent}
-use Rattle.structure_laws.specs.Scene.{Readings}
 use Rattle.structure_laws.specs.Meaning.{Meaning}
-use Rattle.runner_parts.specs.declared.stage.Stage.TheVariants as stages
-use Rattle.runner_parts.specs.Lists.{named_by}
 use Rattle.runner_parts.specs.State.{NodesState, DescriptorsState}
 use Rattle.version_words.specs.RunnerState.{RunnerState}
 use Rattle.try_lock.specs.declared.planned.Planned.{Planned}
-use Rattle.try_lock.specs.declared.planned.Planned.TheVariants as plans
 use Rattle.try_lock.specs.Planning.{Planning}
 use Rattle.try_lock.specs.Plans as plan
-use Rattle.attempts.specs.Course.{of_plan, HasEntered, HasPlanned}
-use Rattle.attempts.specs.Attempts.{is_refusal}
+use Rattle.attempts.specs.Course.{HasEntered, HasPlanned}
 
 -- what the plan says, as a part of the course
 pub planned_of : {T : Type 0} (m : Meaning) (planning : Planning) (request : Request) (old r : RunnerState T) → HasEntered m planning request old r

@@ -1,11 +1,11 @@
 -- The states that the machine reaches as a runner enters, leaves and collects.
 use Rattle.std.specs.Prelude.{Bool, true, false}
-use Rattle.std.proofs.Common.{◌≡◌, ℕ, suc, ◌+◌, List, [], ◌∷◌, length, refl, sym, subst, arith}
+use Rattle.std.proofs.Common.{ℕ, ◌+◌, List, [], ◌∷◌, sym, subst}
 use Rattle.structure_laws.specs.Meaning.{Meaning}
 use Rattle.runner_parts.specs.declared.event.EventKind.{EventKind}
 use Rattle.version_words.specs.RunnerState.{RunnerState}
 use Rattle.version_words.specs.Events.{Makes}
-use Rattle.epoch_slots.specs.Collects.{Scans, Looks, IsTested, AreTested, Advances, Collects}
+use Rattle.epoch_slots.specs.Collects.{Scans, Looks, AreTested, Advances, Collects}
 use Rattle.epoch_slots.specs.Entries.{Enters, Exits}
 use Rattle.try_lock.specs.Reached.{IsReached}
 

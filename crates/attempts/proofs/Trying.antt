@@ -1,6 +1,6 @@
 -- The publication of an attempt.
-use Rattle.std.specs.Prelude.{◌⊎◌, Result, Ok, Err, true, false}
-use Rattle.std.proofs.Common.{◌≡◌, ℕ, ◌≤◌, length, refl, sym, ap, ◌∙◌, subst, List, inl, inr, Option, Some, None}
+use Rattle.std.specs.Prelude.{◌⊎◌, Bool, Result, Ok, true, false}
+use Rattle.std.proofs.Common.{◌≡◌, ℕ, ◌≤◌, length, refl, sym, ap, ◌∙◌, subst, inl, inr, Option, Some, None}
 use Rattle.map_history.specs.declared.op.Request.{Request}
 use Rattle.section_body.specs.declared.outcome.Refused.{Refused}
 use Rattle.section_body.specs.declared.outcome.Refused.TheVariants as refusals
@@ -19,7 +19,7 @@ use Rattle.try_lock.specs.declared.planned.Planned.TheVariants as plans
 use Rattle.try_lock.specs.Planning.{Planning}
 use Rattle.try_lock.specs.Publishes.{Publishes}
 use Rattle.attempts.specs.Knowing.{IsStill, IsOwn}
-use Rattle.attempts.specs.Course.{of_refusal, MayAttempt, HasPlanned, HasTried}
+use Rattle.attempts.specs.Course.{of_refusal, MayAttempt, HasPlanned, HasTried, HasPublished}
 use Rattle.attempts.specs.Attempts.{is_refusal}
 use Rattle.attempts.specs.Counted.{IsCounted}
 use Rattle.attempts.specs.Rests.{Rests}
@@ -52,15 +52,17 @@ tried_of m planning request old readings thunk r is answer new publishes layout 
 }
 
 -- the rest from an earlier runner that knew the same
-pub rests_from_still : {T : Type 0} (m : Meaning) (planning : Planning) (request : Request) (answer : Attempt) (old here mid new : RunnerState T)
+pub rests_from_still : {T : Type 0} (m : Meaning) (planning : Planning) (request : Request) (held : Bool) (answer : Attempt) (old here mid new : RunnerState T)
     (halts halts' asks asks' steps steps' : ℕ) → IsStill here mid
-    → Rests m planning request answer old mid new halts halts' asks asks' steps steps' → Rests m planning request answer old here new halts halts' asks asks' steps steps'
-rests_from_still m planning request answer old here mid new halts halts' asks asks' steps steps' still rests = record {
+    → Rests m planning request held answer old mid new halts halts' asks asks' steps steps' → Rests m planning request held answer old here new halts halts' asks asks' steps steps'
+rests_from_still m planning request held answer old here mid new halts halts' asks asks' steps steps' still rests = record {
   answers = rests.answers;
   knows = knows_on here mid new (knows_same here mid still.number still.known still.finished) rests.knows;
   no_other = no_other_on request.number here mid new still.requests still.layout still.number (no_other_same request.number here mid still.known) rests.no_other;
   made = rests.made;
   published = rests.published;
+  tried = rests.tried;
+  untried = rests.untried;
   asked = rests.asked;
   entered = rests.entered;
 }
@@ -87,19 +89,33 @@ module _ {T : Type 0} (m : Meaning) (planning : Planning) (request : Request) (o
       (some_same x (published_by thunk tried.publishes.descriptor tried.planned.part) (sym is ∙ (tried_at m planning request old thunk section here tried).published))
       ∙ tried.plans.answers.request
 
+  -- and it has published one
+  pub has_published : HasPublished m planning request old
+  has_published = record { thunk = thunk; section = section; published = here; tries = tried }
+
+  pub is_published : here.part.published ≡ None → ⊥
+  is_published none = none_some (published_by thunk tried.publishes.descriptor tried.planned.part)
+      (sym (tried_at m planning request old thunk section here tried).published ∙ none)
+
+  true_false : true ≡ false → ⊥
+  true_false e = let z = e in cc
+
   pub halted_published : (halts halts' asks asks' steps : ℕ) → IsCounted 0 1 false halts halts' asks asks' steps steps
-      → Rests m planning request answers.Halted old here here halts halts' asks asks' steps steps
+      → Rests m planning request false answers.Halted old here here halts halts' asks asks' steps steps
   halted_published halts halts' asks asks' steps asked = record {
     answers = record {
       entered = tried.plans.entered;
       enters = tried.plans.enters;
       published = published_for;
+      unknown = λ none. absurd (is_published none);
       reached = tried.publishes.reached;
     };
     knows = knows_same here here refl refl refl;
     no_other = λ q own ne. refl;
     made = 0;
     published = true;
+    tried = λ e. has_published;
+    untried = λ e. absurd (true_false e);
     asked = asked;
     entered = refl;
   }
@@ -111,7 +127,15 @@ module _ {T : Type 0} (m : Meaning) (planning : Planning) (request : Request) (o
     over_thunk None x e each = absurd (none_some x (sym e))
     over_thunk (Some y) x e each = ap (λ (z : Published). z.thunk.request) (sym (some_same _ x e)) ∙ each y refl
 
-    cut_published : (new.part.published ≡ here.part.published) ⊎ (new.part.published ≡ over_if here.part.published d)
+    pub cut_published : (new.part.published ≡ here.part.published) ⊎ (new.part.published ≡ over_if here.part.published d)
         → (x : Published) → new.part.published ≡ Some x → x.thunk.request ≡ request.number
     cut_published (inl same) x is = published_for x (sym same ∙ is)
     cut_published (inr over) x is = over_thunk here.part.published x (sym over ∙ is) published_for
+
+    over_some : (o : Option Published) (x : Published) → o ≡ Some x → over_if o d ≡ None → ⊥
+    over_some None x e none = none_some x (sym e)
+    over_some (Some y) x e none = none_some _ none
+
+    pub cut_is_published : (new.part.published ≡ here.part.published) ⊎ (new.part.published ≡ over_if here.part.published d) → new.part.published ≡ None → ⊥
+    cut_is_published (inl same) none = is_published (sym same ∙ none)
+    cut_is_published (inr over) none = over_some here.part.published _ (tried_at m planning request old thunk section here tried).published (sym over ∙ none)

@@ -1,27 +1,26 @@
 -- The answers of an attempt that was turned away.
-use Rattle.std.specs.Prelude.{◌==◌, ◌&&◌, not, Bool, true, false, slice_get, if◌then◌else◌}
-use Rattle.std.proofs.Common.{◌≡◌, ◌≢◌, ℕ, suc, ◌%◌, ◌+◌, refl, sym, ap, ◌∙◌, subst, arith, Option, Some, None}
+use Rattle.std.specs.Prelude.{◌==◌, ◌&&◌, ◌⊎◌, not, Bool, true, false, if◌then◌else◌}
+use Rattle.std.proofs.Common.{◌≡◌, ℕ, ◌%◌, refl, sym, ap, ◌∙◌, subst, arith, inr, Some, None}
 use Rattle.std.proofs.lemmas.Bool.Decides.{nat_tests}
 use Rattle.map_history.specs.declared.op.Request.{Request}
-use Rattle.table_words.specs.declared.layout.Layout.{Layout}
 use Rattle.table_words.specs.Limits.{IsWithinLimits}
 use Rattle.structure_laws.specs.Meaning.{Meaning}
 use Rattle.structure_laws.specs.Laws.{Laws}
 use Rattle.runner_parts.specs.declared.entries.Published.{Published}
 use Rattle.runner_parts.specs.State.{PartState}
-use Rattle.runner_parts.specs.Tests.{is_answered, is_next, are_answered}
+use Rattle.runner_parts.specs.Tests.{is_answered, are_answered}
 use Rattle.machine_states.specs.Sight.{sight, part_or_first}
 use Rattle.machine_invariant.specs.After.{AreAllowed}
-use Rattle.machine_records.specs.Requests.{or_none, requests_of}
+use Rattle.machine_records.specs.Requests.{or_none}
 use Rattle.machine_records.specs.Kept.{link_of}
 use Rattle.version_words.specs.RunnerState.{RunnerState}
 use Rattle.try_lock.specs.Planning.{Planning}
 use Rattle.try_lock.specs.Reached.{IsReached}
-use Rattle.request_facts.specs.Placed.{IsUnserved}
 use Rattle.request_facts.proofs.Standing.{callers_stand}
 use Rattle.attempts.specs.Knowing.{IsOwn}
-use Rattle.attempts.specs.Course.{MayAttempt, HasEntered, IsRefused}
-use Rattle.attempts.specs.Attempts.{is_halted, is_short, is_refusal, IsTurnedAway, IsHalted, IsUntouched, Answers}
+use Rattle.attempts.specs.Course.{MayAttempt, HasEntered, HasPublished, PlanIsRefused, LockIsRefused, IsRefused}
+use Rattle.attempts.specs.Counted.{IsCounted}
+use Rattle.attempts.specs.Attempts.{is_halted, is_short, is_refusal, IsTurnedAway, IsRefusedBefore, IsHaltedBefore, IsHalted, IsUntouched, PublishedNone, Answers}
 use Rattle.attempts.specs.Rests.{HasTurned, Rests}
 use Rattle.attempts.specs.declared.answers.Attempt.{Attempt}
 use Rattle.attempts.specs.declared.answers.Attempt.TheVariants as answers
@@ -69,6 +68,7 @@ module _ {T : Type 0} (planning : Planning) (request : Request) (old : RunnerSta
 pub untouched : {T : Type 0} (m : Meaning) (laws : Laws m) (r : RunnerState T) (request : Request) → IsWithinLimits r.layout → AreAllowed r.requests
     → IsReached m r → r.part.published ≡ None → IsOwn r request → is_answered r.part.records.known request.number ≡ false → IsUntouched m request.number r
 untouched m laws r request limits allowed reached none own unknown = record {
+  unknown = unknown;
   reached = reached;
   unserved = (callers_stand m laws r.layout r.requests limits allowed reached.world reached.reached).unserved r.number request.number
       (ap (λ o. (or_none o).trace % r.layout.runners) own.there ∙ own.own)
@@ -81,9 +81,14 @@ untouched m laws r request limits allowed reached none own unknown = record {
 
 module _ {T : Type 0} (m : Meaning) (laws : Laws m) (planning : Planning) (request : Request) (old here new : RunnerState T) (answer got : Attempt)
     (refusal : is_refusal answer ≡ true) (entered : RunnerState T) (enters : HasEntered m planning request old entered)
-    (cause : IsRefused m planning request answer old here) (own : IsOwn here request) (unknown : is_answered here.part.records.known request.number ≡ false)
+    (cause : IsRefused m planning request answer old here) (held : Bool) (tried : held ≡ true → HasPublished m planning request old)
+    (untried : held ≡ false → PlanIsRefused m planning request answer old here ⊎ LockIsRefused m planning request answer old here)
+    (own : IsOwn here request) (unknown : is_answered here.part.records.known request.number ≡ false)
     (limits : IsWithinLimits new.layout) (allowed : AreAllowed new.requests) (layout : new.layout ≡ here.layout) (requests : new.requests ≡ here.requests)
     (halts halts' asks asks' steps steps' : ℕ) (turned : HasTurned m answer got here new halts halts' asks asks' steps steps') where
+  unknown_still : is_answered new.part.records.known request.number ≡ false
+  unknown_still = turned.no_own request own ∙ unknown
+
   away : is_halted got ≡ false → IsTurnedAway m planning request answer old new
   away going = record {
     cut = here;
@@ -91,8 +96,15 @@ module _ {T : Type 0} (m : Meaning) (laws : Laws m) (planning : Planning) (reque
     leaves = turned.leaves going;
     tidy = turned.tidy going;
     untouched = untouched m laws new request limits allowed turned.reached (turned.tidy going).at.published
-        (own_on here new requests layout turned.knows.number request own) (turned.no_own request own ∙ unknown);
+        (own_on here new requests layout turned.knows.number request own) unknown_still;
   }
+
+  none : (b : Bool) → is_halted got ≡ b → new.part.published ≡ None
+  none true halted = turned.halted halted
+  none false going = (turned.tidy going).at.published
+
+  before : held ≡ false → IsRefusedBefore m planning request answer old new
+  before unheld = record { cut = here; cause = untried unheld; none = none (is_halted got) refl }
 
   refused_answers : (a : Attempt) → is_refusal a ≡ true → IsTurnedAway m planning request a old new → Answers m planning request a old new
   refused_answers (answers.Busy place word) e is = is
@@ -103,6 +115,15 @@ module _ {T : Type 0} (m : Meaning) (laws : Laws m) (planning : Planning) (reque
   refused_answers (answers.Short short) e is = absurd (let z = e in cc)
   refused_answers answers.Halted e is = absurd (let z = e in cc)
 
+  refused_before : (a : Attempt) → is_refusal a ≡ true → IsRefusedBefore m planning request a old new → PublishedNone m planning request a old new
+  refused_before (answers.Busy place word) e is = is
+  refused_before (answers.Stale place expected read) e is = is
+  refused_before (answers.Far loads) e is = is
+  refused_before (answers.Spent place word) e is = is
+  refused_before (answers.Done reply stamp) e is = absurd (let z = e in cc)
+  refused_before (answers.Short short) e is = absurd (let z = e in cc)
+  refused_before answers.Halted e is = absurd (let z = e in cc)
+
   some_none : (x : Published) → Some x ≡ None → ⊥
   some_none x e = let z = e in cc
 
@@ -111,24 +132,39 @@ module _ {T : Type 0} (m : Meaning) (laws : Laws m) (planning : Planning) (reque
     entered = entered;
     enters = enters;
     published = λ x is. absurd (some_none x (sym is ∙ turned.halted halted));
+    unknown = λ none. unknown_still;
     reached = turned.reached;
   }
+
+  halted_before : held ≡ false → IsHaltedBefore m planning request old new
+  halted_before unheld = inr (inr (answer, before unheld))
 
   all_answers : (b : Bool) → is_halted got ≡ b → Answers m planning request got old new
   all_answers true e = subst (λ a. Answers m planning request a old new) (sym (halted_is got e)) (was_halted e)
   all_answers false e = subst (λ a. Answers m planning request a old new) (sym (turned.same e)) (refused_answers answer refusal (away e))
 
+  all_before : (b : Bool) → is_halted got ≡ b → held ≡ false → PublishedNone m planning request got old new
+  all_before true e unheld = subst (λ a. PublishedNone m planning request a old new) (sym (halted_is got e)) (halted_before unheld)
+  all_before false e unheld = subst (λ a. PublishedNone m planning request a old new) (sym (turned.same e)) (refused_before answer refusal (before unheld))
+
   long : (b : Bool) → is_halted got ≡ b → is_short got ≡ false
   long true e = ap is_short (halted_is got e)
   long false e = ap is_short (turned.same e) ∙ refusal_long answer refusal
 
-  pub turned_rests : Rests m planning request got old here new halts halts' asks asks' steps steps'
+  no_more : (b : Bool) → ◌≡◌ {A = ℕ} (if b && not b then 1 else 0) 0
+  no_more true = refl
+  no_more false = refl
+
+  pub turned_rests : Rests m planning request held got old here new halts halts' asks asks' steps steps'
   turned_rests = record {
     answers = all_answers (is_halted got) refl;
     knows = turned.knows;
     no_other = λ q is ne. turned.no_own q is;
     made = turned.made;
-    published = false;
-    asked = counted_steps turned.made (not (is_halted got)) halts halts' asks asks' steps steps' turned.asked;
+    published = held;
+    tried = tried;
+    untried = all_before (is_halted got) refl;
+    asked = subst (λ more. IsCounted turned.made more (not (is_halted got)) halts halts' asks asks' steps steps') (sym (no_more held))
+        (counted_steps turned.made (not (is_halted got)) halts halts' asks asks' steps steps' turned.asked);
     entered = long (is_halted got) refl;
   }

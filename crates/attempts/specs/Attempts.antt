@@ -1,15 +1,16 @@
 -- Attempts of requests: what may be attempted, and what each answer says.
-use Rattle.std.specs.Prelude.{◌≡◌, ◌≢◌, ℕ, ◌+◌, ◌*◌, ◌<◌, ◌≤◌, Bool, true, false, not, Option, Some, None, length, if◌then◌else◌}
+use Rattle.std.specs.Prelude.{◌≡◌, ℕ, ◌<◌, ◌≤◌, ◌⊎◌, Bool, true, false, not, Some, None, length, if◌then◌else◌}
 use Rattle.map_history.specs.declared.op.Request.{Request}
 use Rattle.map_history.specs.declared.reply.Reply.{Reply}
 use Rattle.map_history.specs.Words.{word_of}
 use Rattle.section_body.specs.Trail.{Agreed}
 use Rattle.section_body.specs.declared.outcome.Outcome.TheVariants.{Answered}
 use Rattle.section_body.specs.declared.thunk.Thunk.{Thunk}
+use Rattle.structure_laws.specs.Scene.{Readings}
 use Rattle.structure_laws.specs.Meaning.{Meaning}
 use Rattle.runner_parts.specs.declared.entries.Known.{Known}
 use Rattle.runner_parts.specs.declared.entries.Published.{Published}
-use Rattle.runner_parts.specs.Tests.{is_next, is_answered, has_pair}
+use Rattle.runner_parts.specs.Tests.{is_answered, has_pair}
 use Rattle.machine_states.specs.Sight.{sight}
 use Rattle.version_words.specs.RunnerState.{RunnerState}
 use Rattle.epoch_slots.specs.Collects.{IsTidy, Collects}
@@ -18,13 +19,14 @@ use Rattle.epoch_slots.specs.Reserves.{counts_of}
 use Rattle.epoch_slots.specs.declared.reserves.Kind.{Kind}
 use Rattle.epoch_slots.specs.declared.reserves.Kind.TheVariants as slots
 use Rattle.epoch_slots.specs.declared.reserves.Short.{Short}
+use Rattle.try_lock.specs.declared.planned.Planned.TheVariants as plans
 use Rattle.try_lock.specs.Planning.{Planning}
 use Rattle.try_lock.specs.Reached.{IsReached}
 use Rattle.attempts.specs.Knowing.{KnowsMore, LearnsNoOther}
 use Rattle.attempts.specs.Counted.{IsCounted}
 use Rattle.request_facts.specs.Laws.{HasEntry}
 use Rattle.request_facts.specs.Placed.{IsServedAs, IsUnserved}
-use Rattle.attempts.specs.Course.{MayAttempt, HasEntered, HasRun, IsRefused, HasHelped, IsOfHelped}
+use Rattle.attempts.specs.Course.{HasEntered, HasPlanned, HasPublished, HasRun, PlanIsRefused, LockIsRefused, IsRefused, HasHelped, IsOfHelped}
 use Rattle.attempts.specs.declared.answers.Attempt.{Attempt}
 use Rattle.attempts.specs.declared.answers.Attempt.TheVariants as answers
 
@@ -56,8 +58,10 @@ module _ {T : Type 0} where
   IsFew r slots.Descriptor = (2 ≤ length r.part.nodes.free) × (length r.part.descriptors.free ≡ 0)
 
   module _ (m : Meaning) where
-    -- in a state that the machine reaches, in which the runner has this part, nobody has served the request
+    -- in a state that the machine reaches, in which the runner has this part, nobody has served the request; so the
+    -- runner doesn't know it
     pub record IsUntouched (number : ℕ) (r : RunnerState T) : Type 0 where
+      pub unknown : is_answered r.part.records.known number ≡ false
       pub reached : IsReached m r
       pub unserved : IsUnserved m r.layout r.requests (sight m r.layout r.requests reached.world) number
 
@@ -113,12 +117,34 @@ module _ {T : Type 0} where
         pub served : IsServedAs m new.layout new.requests
             (sight m new.layout new.requests reached.world) request.number stamp reply
 
+      -- the plan or the publication was refused
+      pub record IsRefusedBefore (answer : Attempt) (old new : RunnerState T) : Type 0 where
+        pub cut : RunnerState T
+        pub cause : PlanIsRefused m planning request answer old cut ⊎ LockIsRefused m planning request answer old cut
+        pub none : new.part.published ≡ None
+
+      -- a gate halted the runner before it published a section: at its entry, behind a load of its plan, or as it helped
+      -- the section that had refused its plan or its publication
+      abbrev pub IsHaltedBefore : RunnerState T → RunnerState T → Type 0
+      IsHaltedBefore old new = HasEntered m planning request old new
+          ⊎ (((readings : Readings) × HasPlanned m planning request readings plans.Halted old new)
+          ⊎ ((answer : Attempt) × IsRefusedBefore answer old new))
+
       -- a gate halted the runner behind its entry. What it has published since, if anything, is for this request
       pub record IsHalted (old new : RunnerState T) : Type 0 where
         pub entered : RunnerState T
         pub enters : HasEntered m planning request old entered
         pub published : (x : Published) → new.part.published ≡ Some x → x.thunk.request ≡ request.number
+        -- where it has published none, or has retired it, the request isn't answered
+        pub unknown : new.part.published ≡ None → is_answered new.part.records.known request.number ≡ false
         pub reached : IsReached m new
+
+      -- no section was published
+      abbrev pub PublishedNone : Attempt → RunnerState T → RunnerState T → Type 0
+      PublishedNone (answers.Done reply stamp) old new = ⊥
+      PublishedNone (answers.Short short) old new = IsShort short request.number old new
+      PublishedNone answers.Halted old new = IsHaltedBefore old new
+      PublishedNone answer old new = IsRefusedBefore answer old new
 
       abbrev pub Answers : Attempt → RunnerState T → RunnerState T → Type 0
       Answers (answers.Done reply stamp) old new = IsServed reply stamp old new
@@ -126,7 +152,8 @@ module _ {T : Type 0} where
       Answers answers.Halted old new = IsHalted old new
       Answers answer old new = IsTurnedAway answer old new
 
-      -- what an attempt does
+      -- what an attempt does. The gate is asked behind each counted step and behind the entry, and once more exactly where a
+      -- section was published
       pub record Attempts (answer : Attempt) (old new : RunnerState T)
           (halts halts' asks asks' steps steps' : ℕ) : Type 0 where
         pub answers : Answers answer old new
@@ -134,5 +161,7 @@ module _ {T : Type 0} where
         pub no_other : LearnsNoOther request.number old new
         pub made : ℕ
         pub published : Bool
+        pub tried : published ≡ true → HasPublished m planning request old
+        pub untried : published ≡ false → PublishedNone answer old new
         pub asked : IsCounted made (asks_more answer published) (not
             (is_halted answer)) halts halts' asks asks' steps steps'

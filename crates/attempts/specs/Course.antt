@@ -1,5 +1,5 @@
 -- The course of an attempt: how far it came, and what ended it.
-use Rattle.std.specs.Prelude.{◌≡◌, ◌≢◌, ℕ, ◌-◌, ◌≤◌, ◌⊎◌, List, [], true, false, length, slice_get, Result, Ok, Err, Some}
+use Rattle.std.specs.Prelude.{◌≡◌, ℕ, ◌-◌, ◌≤◌, ◌⊎◌, [], true, false, length, slice_get, Result, Ok, Err, Some}
 use Rattle.map_history.specs.declared.op.Request.{Request}
 use Rattle.section_body.specs.Trail.{Agreed}
 use Rattle.section_body.specs.Word.{value_of, is_free}
@@ -104,6 +104,13 @@ module _ {T : Type 0} (m : Meaning) (planning : Planning) (request : Request) wh
     pub still : IsStill old new
     pub hand : IsEmptyHanded new
     pub nodes : 2 ≤ length new.part.nodes.free
+
+  -- a section was published for the request
+  pub record HasPublished (old : RunnerState T) : Type 0 where
+    pub thunk : Thunk
+    pub section : Section
+    pub published : RunnerState T
+    pub tries : HasTried thunk (Ok section) old published
 
   -- the section was published, and run to its end with this outcome and this trail
   pub record HasEnded (section : Section) (thunk : Thunk) (outcome : Outcome) (trail : Agreed)

@@ -1,5 +1,5 @@
 -- What the parts of an attempt do.
-use Rattle.std.specs.Prelude.{◌≡◌, ◌≢◌, ℕ, Bool, true, false, not, None, Some, slice_get, if◌then◌else◌}
+use Rattle.std.specs.Prelude.{◌≡◌, ◌&&◌, ℕ, Bool, true, false, not, None, Some, slice_get, if◌then◌else◌}
 use Rattle.map_history.specs.declared.op.Request.{Request}
 use Rattle.map_history.specs.declared.reply.Reply.{Reply}
 use Rattle.map_history.specs.Words.{word_of}
@@ -16,8 +16,8 @@ use Rattle.request_facts.specs.Laws.{HasEntry}
 use Rattle.request_facts.specs.Placed.{IsServedAs}
 use Rattle.attempts.specs.Knowing.{KnowsMore, IsOwn, LearnsNoOther}
 use Rattle.attempts.specs.Counted.{IsCounted}
-use Rattle.attempts.specs.Course.{IsEmptyHanded}
-use Rattle.attempts.specs.Attempts.{is_halted, is_short, Leaves, Answers}
+use Rattle.attempts.specs.Course.{IsEmptyHanded, HasPublished}
+use Rattle.attempts.specs.Attempts.{is_halted, is_short, Leaves, Answers, PublishedNone}
 use Rattle.attempts.specs.declared.answers.Attempt.{Attempt}
 use Rattle.attempts.specs.declared.answers.Attempt.TheVariants as answers
 
@@ -69,15 +69,18 @@ module _ {T : Type 0} (m : Meaning) where
         (sight m new.layout new.requests reached.world) request.number stamp reply
 
   module _ (planning : Planning) (request : Request) where
-    -- the rest of an attempt that began with `old`, from here on: its answer, what the runner learned, and
-    -- how often the gate was asked
-    pub record Rests (answer : Attempt) (old here new : RunnerState T)
+    -- the rest of an attempt that began with `old`, from here on: its answer, what the runner learned, whether a
+    -- section was published in the attempt, and how often the gate was asked; `held` is whether it was asked
+    -- behind the exchange that published before
+    pub record Rests (held : Bool) (answer : Attempt) (old here new : RunnerState T)
         (halts halts' asks asks' steps steps' : ℕ) : Type 0 where
       pub answers : Answers m planning request answer old new
       pub knows : KnowsMore here new
       pub no_other : LearnsNoOther request.number here new
       pub made : ℕ
       pub published : Bool
-      pub asked : IsCounted made (if published then 1 else 0) (not
+      pub tried : published ≡ true → HasPublished m planning request old
+      pub untried : published ≡ false → PublishedNone m planning request answer old new
+      pub asked : IsCounted made (if published && not held then 1 else 0) (not
           (is_halted answer)) halts halts' asks asks' steps steps'
       pub entered : is_short answer ≡ false

@@ -1,18 +1,27 @@
-//! The parts of one attempt of a request.
+//! One attempt of a request: from a plan over the section under its lock to the answer.
 //!
+//! `attempting` has the call `attempt`, and its plan; `tries` publishes the planned section, `runs` runs and retires it.
 //! `answers` is what an attempt may come to, `refusals` how refusals of a plan, a publication and a section are told as
-//! such answers, `reserves` the own slots that it needs, `asks` the gate's asks beside those after steps, and `learns`
-//! how a request that the runner knows is answered by its words.
+//! such answers, `turns` how a runner leaves with one, `reserves` the own slots that an attempt needs, `asks` the gate's
+//! asks beside those after steps, and `learns` how a request that the runner knows is answered by its words.
 #![tactic(auto)]
 
 mod answers;
 mod asks;
+mod attempting;
 mod learns;
 mod refusals;
 mod reserves;
+mod runs;
+mod tries;
+mod turns;
 
 pub use answers::Attempt;
 pub use asks::goes_on;
+pub use attempting::{attempt, plan_and_try};
 pub use learns::learn;
 pub use refusals::{lock_refused, plan_refused, section_left};
 pub use reserves::reserve_slots;
+pub use runs::{conclude, run_own};
+pub use tries::try_section;
+pub use turns::turn_away;

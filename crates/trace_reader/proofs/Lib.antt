@@ -1,9 +1,12 @@
 pub mod Asked
+pub mod Digits
 pub mod Exact
+pub mod Generated
 pub mod Lines
 pub mod Moved
 pub mod Ordered
 pub mod Pieces
+pub mod Printing
 pub mod Refusals
 pub mod Results
 pub mod Steps

@@ -19,15 +19,15 @@ use Rattle.trace_reader.proofs.Refusals.{NoneRefused-push}
 use Rattle.map_history.specs.Requests.{AreInOrder}
 
 -- the fault of the next line is by what the reader keeps
-pub fault_known : (reader : Reader) (lines : List (List ℕ)) (line : List ℕ) (fault : Option BadLine) → StandsBehind reader lines → fault_of reader.has_header (ltb 0 reader.traces.count) line ≡ fault → fault_behind lines line ≡ fault
-fault_known reader lines line fault behind is =
+pub fault_known : (finished : ℕ) (header : Bool) (traces : Traces) (lines : List (List ℕ)) (line : List ℕ) (fault : Option BadLine) → AreRead finished header traces lines → fault_of header (ltb 0 traces.count) line ≡ fault → fault_behind lines line ≡ fault
+fault_known finished header traces lines line fault behind is =
     ap (λ b. fault_of b (ltb 0 (traces_in lines)) line) (sym behind.header)
-    ∙ ap (λ n. fault_of reader.has_header (ltb 0 n) line) (sym behind.traces.count) ∙ is
+    ∙ ap (λ n. fault_of header (ltb 0 n) line) (sym behind.traces.count) ∙ is
 
 -- a line with a fault
 pub malformed_line : (reader : Reader) (lines : List (List ℕ)) (line : List ℕ) (kind : BadLine) → StandsBehind reader lines → fault_of reader.has_header (ltb 0 reader.traces.count) line ≡ Some kind → refusal_of lines line ≡ Some (Malformed (reader.lines + 1) kind)
 malformed_line reader lines line kind behind is =
-    ap (λ f. refusal_by f lines line) (fault_known reader lines line (Some kind) behind is)
+    ap (λ f. refusal_by f lines line) (fault_known reader.lines reader.has_header reader.traces lines line (Some kind) behind is)
     ∙ ap (λ n. Some (Malformed (n + 1) kind)) (sym behind.count)
 
 -- the excess of a line, by what it says and the counts behind which it stands
@@ -35,13 +35,13 @@ abbrev excess_by : Bool → Bool → ℕ → ℕ → Option TraceError
 excess_by begins asks traces requests =
     cond (begins && eqb traces 64) (Some (TooManyTraces 65)) (cond (asks && eqb requests 131072) (Some (TooManyRequests 131073)) None)
 
-excess_known : (reader : Reader) (lines : List (List ℕ)) (line : List ℕ) (said : Line) → StandsBehind reader lines → Says said reader.has_header (ltb 0 reader.traces.count) line → refusal_of lines line ≡ excess_by (is_begin said) (is_some (operation_in said)) reader.traces.count (length reader.traces.requests)
-excess_known reader lines line said behind says =
-    ap (λ f. refusal_by f lines line) (fault_known reader lines line None behind says.fault)
+excess_known : (finished : ℕ) (header : Bool) (traces : Traces) (lines : List (List ℕ)) (line : List ℕ) (said : Line) → AreRead finished header traces lines → Says said header (ltb 0 traces.count) line → refusal_of lines line ≡ excess_by (is_begin said) (is_some (operation_in said)) traces.count (length traces.requests)
+excess_known finished header traces lines line said behind says =
+    ap (λ f. refusal_by f lines line) (fault_known finished header traces lines line None behind says.fault)
     ∙ ap (λ b. excess_by b (is_some (asked line)) (traces_in lines) (asks_in lines)) says.trace
     ∙ ap (λ o. excess_by (is_begin said) (is_some o) (traces_in lines) (asks_in lines)) says.operation
     ∙ ap (λ n. excess_by (is_begin said) (is_some (operation_in said)) n (asks_in lines)) (sym behind.traces.count)
-    ∙ ap (λ n. excess_by (is_begin said) (is_some (operation_in said)) reader.traces.count n) (sym (length-requests_in lines) ∙ sym (ap length behind.traces.requests))
+    ∙ ap (λ n. excess_by (is_begin said) (is_some (operation_in said)) traces.count n) (sym (length-requests_in lines) ∙ sym (ap length behind.traces.requests))
 
 excess_full : (said : Line) (traces : Traces) (error : TraceError) → ExcessOf said traces error → IsRefusedFor error (excess_by (is_begin said) (is_some (operation_in said)) traces.count (length traces.requests))
 excess_full Skipped traces error excess = absurd excess
@@ -57,7 +57,7 @@ excess_full (Ask op) traces error excess =
 
 -- a line that is one too many
 pub excess_line : (reader : Reader) (lines : List (List ℕ)) (line : List ℕ) (said : Line) (error : TraceError) → StandsBehind reader lines → Says said reader.has_header (ltb 0 reader.traces.count) line → ExcessOf said reader.traces error → IsRefusedFor error (refusal_of lines line)
-excess_line reader lines line said error behind says excess = rw (excess_known reader lines line said behind says) (excess_full said reader.traces error excess)
+excess_line reader lines line said error behind says excess = rw (excess_known reader.lines reader.has_header reader.traces lines line said behind says) (excess_full said reader.traces error excess)
 
 no_excess : (said : Line) (before after : Traces) → TracesAfter said before after → excess_by (is_begin said) (is_some (operation_in said)) before.count (length before.requests) ≡ None
 no_excess Skipped before after same = refl
@@ -84,11 +84,14 @@ ordered_behind (Ask op) header before after (headed, begun, small) (same, more, 
     rw same (AreInOrder-ask before.requests after.requests before.count op (ltb-true _ _ begun) small more few are)
 
 -- a line that is taken in
-pub fine_line : (before : Reader) (finished : ℕ) (counted : Bool) (read : Traces) (lines : List (List ℕ)) (line : List ℕ) (said : Line) → StandsBehind before lines → Says said before.has_header (ltb 0 before.traces.count) line → TracesAfter said before.traces read → counted ≡ (before.has_header || is_counted said) → finished ≡ before.lines + 1 → AreRead finished counted read (lines ++ line ∷ [])
-fine_line before finished counted read lines line said behind says taken header count = record {
+pub line_more : (finished : ℕ) (header : Bool) (before : Traces) (finished_after : ℕ) (counted : Bool) (read : Traces) (lines : List (List ℕ)) (line : List ℕ) (said : Line) → AreRead finished header before lines → Says said header (ltb 0 before.count) line → TracesAfter said before read → counted ≡ (header || is_counted said) → finished_after ≡ finished + 1 → AreRead finished_after counted read (lines ++ line ∷ [])
+line_more finished header before finished_after counted read lines line said behind says taken headed count = record {
   count = omega (arith, count, behind.count, length-append lines (line ∷ []));
-  header = list_any-push lines line _ _ _ header behind.header says.counted;
-  none_refused = NoneRefused-push lines line behind.none_refused (excess_known before lines line said behind says ∙ no_excess said before.traces read taken);
-  traces = traces_behind said before.traces read lines line says.trace says.operation taken behind.traces;
-  ordered = ordered_behind said before.has_header before.traces read says.placed taken behind.ordered;
+  header = list_any-push lines line _ _ _ headed behind.header says.counted;
+  none_refused = NoneRefused-push lines line behind.none_refused (excess_known finished header before lines line said behind says ∙ no_excess said before read taken);
+  traces = traces_behind said before read lines line says.trace says.operation taken behind.traces;
+  ordered = ordered_behind said header before read says.placed taken behind.ordered;
 }
+
+pub fine_line : (before : Reader) (finished : ℕ) (counted : Bool) (read : Traces) (lines : List (List ℕ)) (line : List ℕ) (said : Line) → StandsBehind before lines → Says said before.has_header (ltb 0 before.traces.count) line → TracesAfter said before.traces read → counted ≡ (before.has_header || is_counted said) → finished ≡ before.lines + 1 → AreRead finished counted read (lines ++ line ∷ [])
+fine_line before finished counted read lines line said behind says taken header count = line_more before.lines before.has_header before.traces finished counted read lines line said behind says taken header count

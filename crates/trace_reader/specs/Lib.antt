@@ -1,8 +1,10 @@
 pub mod Answer
 pub mod Fields
+pub mod Generator
 pub mod Line
 pub mod Lines
 pub mod Memory
+pub mod Printed
 pub mod Reader
 pub mod Said
 pub mod Source

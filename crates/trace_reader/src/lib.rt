@@ -2,12 +2,15 @@
 //!
 //! `source` says what a source of bytes is and `memory` has sources over bytes in memory, `field` and `line` read
 //! one line, `reader` puts the lines of a text together from pieces, and `read` is the reading of a whole text.
+//! `generator` makes requests from numbers.
 #![tactic(auto)]
 
 mod field;
+mod generator;
 mod limits;
 mod line;
 mod memory;
+mod printed;
 mod read;
 mod reader;
 mod requests;
@@ -16,8 +19,10 @@ mod source;
 mod tests;
 mod traces;
 
+pub use generator::{Gen, generate};
 pub use limits::{MAX_BYTES, MAX_KEY, MAX_REQUESTS, MAX_TRACES};
 pub use memory::{MemorySource, SureSource};
+pub use printed::printed_text_is_read;
 pub use read::read_traces;
 pub use requests::Requests;
 pub use source::{Failed, Source};

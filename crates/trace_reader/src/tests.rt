@@ -1,5 +1,5 @@
 // Each call once, with ample memory.
-use crate::{BadLine, MemorySource, SureSource, TraceError, read_traces};
+use crate::{BadLine, Gen, MemorySource, SureSource, TraceError, generate, read_traces};
 use map_history::{Op, Request};
 use std::alloc::Global;
 use std::test::Fail;
@@ -54,5 +54,39 @@ fn a_failed_read_is_told_behind_the_faults_before_it(rt: HostRuntime) -> Result<
         let mut source = MemorySource::new(bytes_of(alloc, text)?, Vec::new(alloc), fails);
         assert_eq!(rt; read_traces(alloc, &mut source).err(), Some(expected));
     }
+    Ok(())
+}
+
+#[test]
+fn requests_are_generated(rt: HostRuntime) -> Result<(), Fail> {
+    let alloc = rt.alloc();
+    let mut plan = Gen {
+        seed: 1,
+        traces: 1,
+        length: 3,
+        keys: 100,
+        apart: false,
+    };
+    let traces = generate(alloc, &plan)?;
+    let expected = [Op::Del(58), Op::Ins(15, 150), Op::Get(27)];
+    assert_eq!(rt; traces.count, 1);
+    assert_eq!(rt; traces.requests.len(), 3);
+    for (request, op) in traces.requests.as_slice().iter().zip(expected) {
+        assert_eq!(rt; request.op, op);
+    }
+
+    // Three traces of one request draw the same outputs.
+    plan.traces = 3;
+    plan.length = 1;
+    plan.apart = true;
+    let traces = generate(alloc, &plan)?;
+    let expected = [Op::Del(174), Op::Ins(46, 460), Op::Get(83)];
+    assert_eq!(rt; traces.count, 3);
+    for (request, op) in traces.requests.as_slice().iter().zip(expected) {
+        assert_eq!(rt; request.op, op);
+    }
+
+    plan.length = 0;
+    assert_eq!(rt; generate(alloc, &plan)?.requests.len(), 0);
     Ok(())
 }

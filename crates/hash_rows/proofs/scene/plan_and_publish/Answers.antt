@@ -1,4 +1,4 @@
-use Rattle.std.proofs.Common.{ap, sym, subst, ◌∙◌}
+use Rattle.std.proofs.Common.{ap, subst, ◌∙◌}
 use Rattle.bucket_laws.specs.Buckets.{buckets_meaning}
 use Rattle.hash_table.specs.Planned.{bucket_planning}
 use Rattle.lock_rows.specs.Workers.{MayRun}

@@ -1,0 +1,207 @@
+-- The end of an attempt's own section.
+use Rattle.std.specs.Prelude.{true, false, slice_get}
+use Rattle.std.proofs.Common.{◌≡◌, ◌≢◌, ℕ, ◌-◌, ◌≤◌, length, refl, sym, ap, ◌∙◌, subst, inr, Option, Some, None}
+use Rattle.map_history.specs.declared.op.Request.{Request}
+use Rattle.map_history.specs.declared.reply.Reply.{Reply}
+use Rattle.section_body.specs.Trail.{Agreed}
+use Rattle.section_body.specs.Line.{line, micro_at}
+use Rattle.section_body.specs.Word.{value_of}
+use Rattle.section_body.specs.declared.outcome.Outcome.{Outcome}
+use Rattle.section_body.specs.declared.outcome.Outcome.TheVariants as outcomes
+use Rattle.section_body.specs.declared.thunk.Thunk.{Thunk}
+use Rattle.table_words.specs.Limits.{IsWithinLimits}
+use Rattle.structure_laws.specs.Meaning.{Meaning}
+use Rattle.structure_laws.specs.Laws.{Laws}
+use Rattle.runner_parts.specs.declared.event.EventKind.TheVariants as kinds
+use Rattle.runner_parts.specs.declared.entries.Published.{Published}
+use Rattle.runner_parts.specs.State.{NodesState, ReadsState}
+use Rattle.runner_parts.specs.Tests.{has, is_answered}
+use Rattle.runner_steps.specs.AfterOutside.{retire_after}
+use Rattle.machine_invariant.specs.After.{AreAllowed}
+use Rattle.version_words.specs.RunnerState.{RunnerState}
+use Rattle.version_words.specs.TableState.{TableState, IsOf}
+use Rattle.epoch_slots.specs.Entries.{HasLeave}
+use Rattle.epoch_slots.proofs.Outside.{reads_made}
+use Rattle.commit_log.proofs.Asked.{asked_none}
+use Rattle.try_lock.specs.declared.section.Section.{Section}
+use Rattle.try_lock.specs.Planning.{Planning}
+use Rattle.try_lock.specs.Reached.{IsReached}
+use Rattle.try_lock.specs.Retires.{IsOver, HasRetired}
+use Rattle.attempts.specs.Knowing.{KnowsMore, IsStill, IsOwn}
+use Rattle.attempts.specs.Course.{of_outcome, IsEmptyHanded, HasPublished, HasEnded, HasRun, SectionHasLeft}
+use Rattle.attempts.specs.Attempts.{IsServed}
+use Rattle.attempts.specs.Rests.{MayLeave, MayLearn, HasLearnt, HasTurned, Rests}
+use Rattle.attempts.specs.declared.answers.Attempt.{Attempt}
+use Rattle.attempts.specs.declared.answers.Attempt.TheVariants as answers
+use Rattle.attempts.proofs.Knowing.{knows_same, knows_on, own_on, no_other_on, no_other_same}
+use Rattle.attempts.proofs.Reaching.{made_reached}
+use Rattle.attempts.proofs.Leaving.{ended_hand}
+use Rattle.attempts.proofs.Counting.{counted_steps}
+use Rattle.attempts.proofs.Courses.{ended_over}
+use Rattle.attempts.proofs.Turning.{may_own, may_unknown, turned_rests}
+use Rattle.attempts.proofs.Trying.{rests_from_still}
+use Rattle.attempts.proofs.Refusing.{left_busy, refusal_of_outcome, busy_outcome}
+use Rattle.attempts.proofs.Along.{ran_back}
+use Rattle.attempts.proofs.Telling.{answered_known, left_known, left_is}
+use Rattle.attempts.proofs.Stamps.{stamp_above}
+
+true_false : true ≡ false → ⊥
+true_false e = let z = e in cc
+
+module _ {T : Type 0} (m : Meaning) (laws : Laws m) (t : TableState T) (limits : IsWithinLimits t.layout) (allowed : AreAllowed t.requests)
+    (planning : Planning) (request : Request) (section : Section) (thunk : Thunk) (outcome : Outcome) (trail : Agreed) (old ran : RunnerState T)
+    (own_ran : IsOf t ran) (is : HasEnded m planning request section thunk outcome trail old ran) where
+  pub request_same : thunk.request ≡ request.number
+  request_same = is.tries.plans.answers.request
+
+  opened_own : IsOf t is.ends.opened
+  opened_own = ran_back m t is.ends.count is.ends.opened ran is.ends.ran own_ran
+
+  requests_old : old.requests ≡ t.requests
+  requests_old = sym is.tries.still.requests ∙ (sym is.ends.opening.stays.requests ∙ opened_own.requests)
+
+  layout_old : old.layout ≡ t.layout
+  layout_old = sym is.tries.still.layout ∙ (sym is.ends.layout ∙ own_ran.layout)
+
+  ran_hand : IsEmptyHanded ran
+  ran_hand = ended_hand m section.descriptor thunk outcome trail is.made is.published ran is.ends is.tries.hand
+
+  has_published : HasPublished m planning request old
+  has_published = record { thunk = thunk; section = section; published = is.published; tries = is.tries }
+
+  -- it is retired
+  module _ (retired : RunnerState T) (own_retired : IsOf t retired) (retires : HasRetired m section.descriptor ran retired) where
+    hand : IsEmptyHanded retired
+    hand = record {
+      hand = ap (λ (n : NodesState). n.hand) retires.nodes ∙ ran_hand.hand;
+      tests = ap (λ (n : NodesState). n.tests) retires.nodes ∙ ran_hand.tests;
+    }
+
+    leave : HasLeave retired
+    leave = record { epoch = retires.entry; at = retires.at }
+
+    here : IsReached m retired
+    here = made_reached m kinds.EpochForRetire retires.epoch ran retired retires.event
+
+    number : retired.number ≡ ran.number
+    number = ap (λ (y : RunnerState T). y.number) retires.event.made
+
+    abbrev run : HasRun m planning request thunk outcome trail old retired
+    run = record { section = section; ran = ran; ended = is; retires = retires }
+
+    there : slice_get retired.requests request.number ≡ Some request
+    there = ap (λ rs. slice_get rs request.number) (own_retired.requests ∙ sym requests_old) ∙ is.tries.plans.enters.may.there
+
+    -- it answered
+    module _ (answer : ℕ) (answered : outcome ≡ outcomes.Answered answer) where
+      known : is_answered retired.part.records.known request.number ≡ true
+      known = ap (λ xs. is_answered xs request.number) retires.known
+          ∙ subst (λ n. is_answered ran.part.records.known n ≡ true) request_same
+          (answered_known m laws t limits allowed is.published ran own_ran section.descriptor thunk outcome trail is.made is.ends answer answered)
+
+      pub may_learn : MayLearn m request retired
+      may_learn = record { leave = leave; hand = hand; there = there; knows = known }
+
+      module _ (reply : Reply) (stamp : ℕ) (new : RunnerState T) (own_new : IsOf t new) (learnt : HasLearnt m request reply stamp retired new) where
+        whole : KnowsMore ran new
+        whole = knows_on ran retired new (knows_same ran retired number retires.known retires.finished) learnt.knows
+
+        served : IsServed m planning request reply stamp old new
+        served = record {
+          thunk = thunk;
+          trail = trail;
+          retired = retired;
+          answer = answer;
+          run = subst (λ (o : Outcome). HasRun m planning request thunk o trail old retired) answered run;
+          knows_stamp = learnt.knows_stamp;
+          knows_reply = learnt.knows_reply;
+          above = λ x entry stamped knows. stamp_above m laws t limits allowed planning request section thunk outcome trail old ran new own_ran own_new is whole learnt.reached
+              answer answered x entry stamped knows stamp learnt.knows_stamp;
+          tidy = learnt.tidy;
+          reached = learnt.reached;
+          served = learnt.served;
+        }
+
+        pub concluded : (halts asks steps : ℕ) → Rests m planning request true (answers.Done reply stamp) old ran new halts halts asks asks steps steps
+        concluded halts asks steps = record {
+          answers = served;
+          knows = whole;
+          no_other = no_other_on request.number ran retired new (own_retired.requests ∙ sym own_ran.requests) (own_retired.layout ∙ sym own_ran.layout) number
+              (no_other_same request.number ran retired retires.known) (λ q own ne. learnt.no_own q own);
+          made = 0;
+          published = true;
+          tried = λ e. has_published;
+          untried = λ e. absurd (true_false e);
+          asked = counted_steps 0 true halts halts asks asks steps steps (asked_none halts asks steps);
+          entered = refl;
+        }
+
+    -- it left
+    module _ (other : (reply : ℕ) → outcome ≢ outcomes.Answered reply) where
+      known_still : retired.part.records.known ≡ old.part.records.known
+      known_still = retires.known
+          ∙ (left_known m laws t limits allowed is.published ran own_ran section.descriptor thunk outcome trail is.made is.ends other ∙ is.tries.still.known)
+
+      unknown : is_answered retired.part.records.known request.number ≡ false
+      unknown = ap (λ xs. is_answered xs request.number) known_still ∙ may_unknown planning request old is.tries.plans.enters.may
+
+      own : IsOwn retired request
+      own = own_on old retired (own_retired.requests ∙ sym requests_old) (own_retired.layout ∙ sym layout_old) (number ∙ (is.ends.number ∙ is.tries.still.number))
+          request (may_own planning request old is.tries.plans.enters.may)
+
+      over : IsOver ran section.descriptor
+      over = ended_over m planning request old section thunk outcome trail ran is
+
+      reads : retired.part.reads ≡ ran.part.reads
+      reads = reads_made m kinds.EpochForRetire retires.epoch ran retired retires.event is.ends.resting
+          ∙ ap (λ (o : Option Published). (retire_after ran.part o retires.epoch).reads) over.at.published
+
+      pub left_may_leave : MayLeave m (of_outcome outcome) retired
+      left_may_leave = record {
+        leave = leave;
+        hand = hand;
+        help = λ place word named.
+            let busy = busy_outcome outcome place word named in
+            let cause = is.ends.cause other in
+            record {
+              epoch = retires.entry;
+              published = None;
+              at = retires.at;
+              names = left_busy ran.layout section.descriptor trail.words place word (micro_at (line (m.body thunk)) cause.0) (cause.1 ∙ ap (λ (o : Outcome). Some o) busy);
+              holds = ap (λ (s : ReadsState). has s.held (value_of word - 1)) reads ∙ is.ends.names place word busy is.tries.publishes.published.section.entry;
+              reserve = subst (λ (n : NodesState). 2 ≤ length n.free) (sym (retires.nodes ∙ is.ends.left_nodes other)) is.tries.nodes;
+              reached = here;
+            };
+      }
+
+      has_left : SectionHasLeft m planning request (of_outcome outcome) old retired
+      has_left = record {
+        thunk = thunk;
+        outcome = outcome;
+        left = record {
+          trail = trail;
+          run = run;
+          left = left_is m laws t limits allowed is.published ran own_ran section.descriptor thunk outcome trail is.made is.ends other;
+        };
+        same = refl;
+      }
+
+      still : IsStill ran retired
+      still = record {
+        layout = own_retired.layout ∙ sym own_ran.layout;
+        requests = own_retired.requests ∙ sym own_ran.requests;
+        number = number;
+        known = retires.known;
+        finished = retires.finished;
+      }
+
+      pub left_concluded : (got : Attempt) (new : RunnerState T) → IsOf t new → (halts halts' asks asks' steps steps' : ℕ)
+          → HasTurned m (of_outcome outcome) got retired new halts halts' asks asks' steps steps'
+          → Rests m planning request true got old ran new halts halts' asks asks' steps steps'
+      left_concluded got new own_new halts halts' asks asks' steps steps' turned =
+          rests_from_still m planning request true got old ran retired new halts halts' asks asks' steps steps' still
+          (turned_rests m laws planning request old retired new (of_outcome outcome) got (refusal_of_outcome outcome other)
+          is.tries.plans.entered is.tries.plans.enters (inr (inr has_left)) true (λ e. has_published) (λ e. absurd (true_false e)) own unknown
+          (subst IsWithinLimits (sym own_new.layout) limits) (subst AreAllowed (sym own_new.requests) allowed)
+          (own_new.layout ∙ sym own_retired.layout) (own_new.requests ∙ sym own_retired.requests)
+          halts halts' asks asks' steps steps' turned)

@@ -1,0 +1,184 @@
+-- What refused a plan, or made a section leave, as an answer of an attempt.
+use Rattle.std.specs.Prelude.{◌==◌, ◌||◌, cond, Bool, true, false, slice_index, if◌then◌else◌}
+use Rattle.std.proofs.Common.{◌≡◌, ◌≢◌, ℕ, ◌-◌, List, [], ◌∷◌, ◌++◌, refl, sym, ap, ◌∙◌, subst, arith, Option, Some, None}
+use Rattle.std.proofs.lemmas.List.Folds.{list_any-append}
+use Rattle.std.proofs.lemmas.Bool.Decides.{nat_tests}
+use Rattle.map_history.specs.declared.op.Op.{Op}
+use Rattle.section_body.specs.Run.{Setting, leaves, refusal, is_takable}
+use Rattle.section_body.specs.Word.{value_of, is_free, is_spent}
+use Rattle.section_body.specs.declared.micro.Micro.{Micro}
+use Rattle.section_body.specs.declared.micro.Micro.TheVariants as micros
+use Rattle.section_body.specs.declared.outcome.Outcome.{Outcome}
+use Rattle.section_body.specs.declared.outcome.Outcome.TheVariants as outcomes
+use Rattle.table_words.specs.declared.layout.Layout.{Layout}
+use Rattle.structure_laws.specs.Scene.{Readings}
+use Rattle.structure_laws.specs.Meaning.{Meaning}
+use Rattle.runner_parts.specs.Lists.{named_by}
+use Rattle.runner_parts.specs.Tests.{has}
+use Rattle.runner_steps.specs.Sections.{setting_of}
+use Rattle.machine_states.proofs.Steps.{some_same, none_some}
+use Rattle.try_lock.specs.declared.planned.Planned.{Planned}
+use Rattle.try_lock.specs.declared.planned.Planned.TheVariants as plans
+use Rattle.try_lock.specs.Planning.{Planning}
+use Rattle.try_lock.specs.Plans as plan
+use Rattle.attempts.specs.Course.{of_plan, of_outcome}
+use Rattle.attempts.specs.Attempts.{is_refusal}
+use Rattle.attempts.specs.declared.answers.Attempt.TheVariants as answers
+
+-- a section that found a lock held read a word there that names a descriptor
+module _ (l : Layout) (d : ℕ) (trail : List ℕ) (place word : ℕ) where
+  abbrev s : Setting
+  s = setting_of l d
+
+  by_word : (free spent : Bool) (p expected read : ℕ)
+      → cond free (cond spent (outcomes.Spent p read) (outcomes.Stale p expected read)) (outcomes.Busy p read) ≡ outcomes.Busy place word
+      → (free ≡ false) × (read ≡ word)
+  by_word true true p expected read e = absurd (let z = e in cc)
+  by_word true false p expected read e = absurd (let z = e in cc)
+  by_word false spent p expected read e = (refl, let z = e in cc)
+
+  by_refusal : (p expected read : ℕ) → refusal s p expected read ≡ outcomes.Busy place word → is_free word ≡ false
+  by_refusal p expected read e = let h = by_word (is_free read) (is_spent l.version_max read) p expected read e in
+      subst (λ w. is_free w ≡ false) h.1 h.0
+
+  by_test : (b : Bool) (p expected read : ℕ) → cond b None (Some (refusal s p expected read)) ≡ Some (outcomes.Busy place word) → is_free word ≡ false
+  by_test true p expected read e = absurd (none_some _ (sym e))
+  by_test false p expected read e = by_refusal p expected read (some_same _ _ e)
+
+  by_want : (b : Bool) (p expected read : ℕ) → cond b None (Some (outcomes.Stale p expected read)) ≡ Some (outcomes.Busy place word) → ⊥
+  by_want true p expected read e = none_some _ (sym e)
+  by_want false p expected read e = let z = some_same _ _ e in cc
+
+  by_fresh : (b : Bool) (p read : ℕ) → cond b (Some (outcomes.Spent p read)) None ≡ Some (outcomes.Busy place word) → ⊥
+  by_fresh false p read e = none_some _ (sym e)
+  by_fresh true p read e = let z = some_same _ _ e in cc
+
+  pub left_busy : (micro : Micro) → leaves s trail micro ≡ Some (outcomes.Busy place word) → is_free word ≡ false
+  left_busy (micros.CheckWord p log w) e = absurd (by_want _ p w (slice_index trail log) e)
+  left_busy (micros.CheckFresh p log) e = absurd (by_fresh _ p (slice_index trail log) e)
+  left_busy (micros.CheckFree p log w) e = by_test (is_takable s w (slice_index trail log)) p w (slice_index trail log) e
+  left_busy (micros.CheckHeld p log w) e = by_test _ p w (slice_index trail log) e
+  left_busy (micros.LoadCell p log) e = absurd (none_some _ (sym e))
+  left_busy (micros.Commit p log) e = absurd (none_some _ (sym e))
+  left_busy (micros.NestedLoad p log) e = absurd (none_some _ (sym e))
+  left_busy (micros.NestedCommit p log) e = absurd (none_some _ (sym e))
+  left_busy (micros.NestedHold p w) e = absurd (none_some _ (sym e))
+  left_busy (micros.OutcomeLoad p log) e = absurd (none_some _ (sym e))
+  left_busy (micros.OutcomeCommit p log) e = absurd (none_some _ (sym e))
+  left_busy (micros.PrivateLoad cell log) e = absurd (none_some _ (sym e))
+  left_busy (micros.PrivateStore cell log value) e = absurd (none_some _ (sym e))
+  left_busy (micros.MakeCommit log) e = absurd (none_some _ (sym e))
+  left_busy micros.ClockLoad e = absurd (none_some _ (sym e))
+  left_busy micros.StampExchange e = absurd (none_some _ (sym e))
+  left_busy micros.ClockRaise e = absurd (none_some _ (sym e))
+  left_busy (micros.ExchangeCell p log value) e = absurd (none_some _ (sym e))
+  left_busy (micros.EpochForRetire slot log) e = absurd (none_some _ (sym e))
+  left_busy (micros.RetireCommit slot log) e = absurd (none_some _ (sym e))
+  left_busy (micros.ReplyExchange reply) e = absurd (none_some _ (sym e))
+  left_busy micros.End e = absurd (none_some _ (sym e))
+  left_busy micros.SetDone e = absurd (none_some _ (sym e))
+  left_busy (micros.Release p w) e = absurd (none_some _ (sym e))
+
+pub refusal_of_outcome : (o : Outcome) → ((reply : ℕ) → o ≢ outcomes.Answered reply) → is_refusal (of_outcome o) ≡ true
+refusal_of_outcome (outcomes.Busy place word) other = refl
+refusal_of_outcome (outcomes.Stale place expected read) other = refl
+refusal_of_outcome (outcomes.Spent place word) other = refl
+refusal_of_outcome (outcomes.Answered reply) other = absurd (other reply refl)
+
+pub busy_outcome : (o : Outcome) (place word : ℕ) → of_outcome o ≡ answers.Busy place word → o ≡ outcomes.Busy place word
+busy_outcome (outcomes.Busy p w) place word e = let z = e in cc
+busy_outcome (outcomes.Stale p expected read) place word e = absurd (let z = e in cc)
+busy_outcome (outcomes.Spent p w) place word e = absurd (let z = e in cc)
+busy_outcome (outcomes.Answered reply) place word e = absurd (let z = e in cc)
+
+-- a plan's answer that is neither a thunk nor a halt
+abbrev pub refuses : Planned → Bool
+refuses (plans.Thunk thunk) = false
+refuses plans.Halted = false
+refuses _ = true
+
+pub refusal_of_plan : (p : Planned) → refuses p ≡ true → is_refusal (of_plan p) ≡ true
+refusal_of_plan (plans.Busy place word) e = refl
+refusal_of_plan (plans.Stale place expected read) e = refl
+refusal_of_plan (plans.Spent place word) e = refl
+refusal_of_plan (plans.Far loads) e = refl
+refusal_of_plan (plans.Thunk thunk) e = absurd (let z = e in cc)
+refusal_of_plan plans.Halted e = absurd (let z = e in cc)
+
+pub refuses_by : (p : Planned) → ((thunk : _) → p ≢ plans.Thunk thunk) → p ≢ plans.Halted → refuses p ≡ true
+refuses_by (plans.Busy place word) no_thunk no_halt = refl
+refuses_by (plans.Stale place expected read) no_thunk no_halt = refl
+refuses_by (plans.Spent place word) no_thunk no_halt = refl
+refuses_by (plans.Far loads) no_thunk no_halt = refl
+refuses_by (plans.Thunk thunk) no_thunk no_halt = absurd (no_thunk thunk refl)
+refuses_by plans.Halted no_thunk no_halt = absurd (no_halt refl)
+
+pub busy_plan : (p : Planned) (place word : ℕ) → of_plan p ≡ answers.Busy place word → p ≡ plans.Busy place word
+busy_plan (plans.Busy p w) place word e = let z = e in cc
+busy_plan (plans.Stale p expected read) place word e = absurd (let z = e in cc)
+busy_plan (plans.Spent p w) place word e = absurd (let z = e in cc)
+busy_plan (plans.Far loads) place word e = absurd (let z = e in cc)
+busy_plan (plans.Thunk thunk) place word e = absurd (let z = e in cc)
+busy_plan plans.Halted place word e = absurd (let z = e in cc)
+
+-- the words of locks among readings
+append_on : (xs ys zs : List ℕ) → (xs ++ ys) ++ zs ≡ xs ++ (ys ++ zs)
+append_on [] ys zs = refl
+append_on (x ∷ xs) ys zs = ap (λ ws. x ∷ ws) (append_on xs ys zs)
+
+names_append : (m : Meaning) (xs ys : Readings) → plan.names_read m (xs ++ ys) ≡ plan.names_read m xs ++ plan.names_read m ys
+names_append m [] ys = refl
+names_append m (x ∷ xs) ys = ap (λ ns. (if m.is_lock x.0 then named_by x.1 else []) ++ ns) (names_append m xs ys)
+    ∙ sym (append_on (if m.is_lock x.0 then named_by x.1 else []) (plan.names_read m xs) (plan.names_read m ys))
+
+or_true : (a b : Bool) → b ≡ true → (a || b) ≡ true
+or_true true b e = refl
+or_true false b e = e
+
+same_test : (n : ℕ) → ((n == n) || false) ≡ true
+same_test n = grind (arith, nat_tests)
+
+named_has : (word : ℕ) (free lock : Bool) → free ≡ false → lock ≡ true
+    → has ((if lock then (if free then [] else (value_of word - 1) ∷ []) else []) ++ []) (value_of word - 1) ≡ true
+named_has word false true e f = same_test (value_of word - 1)
+named_has word true lock e f = absurd (let z = e in cc)
+named_has word false false e f = absurd (let z = f in cc)
+
+module _ (m : Meaning) (planning : Planning) (l : Layout) (op : Op) (place word : ℕ) where
+  module _ (p w : ℕ) where
+    by_free : (free spent : Bool) → is_free w ≡ free
+        → (if free then (if spent then Some (plans.Spent p w) else None) else Some (plans.Busy p w)) ≡ Some (plans.Busy place word)
+        → (is_free word ≡ false) × (word ≡ w)
+    by_free true true is e = absurd (let z = some_same _ _ e in cc)
+    by_free true false is e = absurd (none_some _ (sym e))
+    by_free false spent is e =
+        let same : w ≡ word = (let z = some_same (plans.Busy p w) (plans.Busy place word) e in cc) in
+        (subst (λ n. is_free n ≡ false) same is, sym same)
+
+    by_rest : (marked far : Bool) (expected loads : ℕ)
+        → (if marked then Some (plans.Stale p expected w) else (if far then Some (plans.Far loads) else None)) ≡ Some (plans.Busy place word) → ⊥
+    by_rest true far expected loads e = let z = some_same _ _ e in cc
+    by_rest false true expected loads e = let z = some_same _ _ e in cc
+    by_rest false false expected loads e = none_some _ (sym e)
+
+    by_lock : (lock : Bool) (rest : Option Planned) → (rest ≡ Some (plans.Busy place word) → ⊥) → m.is_lock p ≡ lock
+        → (if lock then plan.refused_by_lock l.version_max p w else rest) ≡ Some (plans.Busy place word)
+        → (is_free word ≡ false) × (word ≡ w) × (m.is_lock p ≡ true)
+    by_lock true rest none is e =
+        let h = by_free (is_free w) (is_spent l.version_max w) refl e in
+        (h.0, h.1, is)
+    by_lock false rest none is e = absurd (none e)
+
+  -- a plan that found a lock held read a word there that names a descriptor, which the runner holds since
+  pub plan_busy : (readings : Readings) → plan.IsRefused m planning l op readings (plans.Busy place word)
+      → (is_free word ≡ false) × (has (plan.names_read m readings) (value_of word - 1) ≡ true)
+  plan_busy readings is =
+      let h = by_lock is.place is.word (m.is_lock is.place) _
+      (by_rest is.place is.word _ _ _ _) refl is.cause in (
+        h.0,
+        ap (λ rs. has (plan.names_read m rs) (value_of word - 1)) is.last
+            ∙ (ap (λ ns. has ns (value_of word - 1)) (names_append m is.before ((is.place, is.word) ∷ []))
+            ∙ (list_any-append (λ y. y == value_of word - 1) (plan.names_read m is.before) (plan.names_read m ((is.place, is.word) ∷ []))
+            ∙ or_true _ _ (subst (λ n. has (plan.names_read m ((is.place, is.word) ∷ [])) (value_of n - 1) ≡ true) (sym h.1)
+            (named_has is.word (is_free is.word) (m.is_lock is.place) (subst (λ n. is_free n ≡ false) h.1 h.0) h.2)))),
+      )

@@ -1,0 +1,318 @@
+-- An attempt as a whole: its entry, its plan, and what follows.
+use Rattle.std.specs.Prelude.{◌&&◌, not, Bool, true, false, if◌then◌else◌, Ok, Err}
+use Rattle.std.proofs.Common.{◌≡◌, ℕ, ◌+◌, ◌-◌, ◌≤◌, length, refl, sym, ap, ◌∙◌, subst, inl, inr, None}
+use Rattle.map_history.specs.declared.op.Request.{Request}
+use Rattle.section_body.specs.Word.{value_of}
+use Rattle.section_body.specs.declared.outcome.Refused.{Refused}
+use Rattle.section_body.specs.declared.thunk.Thunk.{Thunk}
+use Rattle.table_words.specs.Limits.{IsWithinLimits}
+use Rattle.structure_laws.specs.Scene.{Readings}
+use Rattle.structure_laws.specs.Meaning.{Meaning}
+use Rattle.structure_laws.specs.Laws.{Laws}
+use Rattle.runner_parts.specs.declared.stage.Stage.TheVariants as stages
+use Rattle.runner_parts.specs.Tests.{has, is_answered}
+use Rattle.runner_parts.specs.State.{NodesState, DescriptorsState, ReadsState}
+use Rattle.machine_states.proofs.Steps.{none_some}
+use Rattle.machine_invariant.specs.After.{AreAllowed}
+use Rattle.version_words.specs.RunnerState.{RunnerState}
+use Rattle.version_words.specs.TableState.{TableState, IsOf}
+use Rattle.version_words.specs.Stages.{IsAt}
+use Rattle.epoch_slots.specs.Collects.{Collects}
+use Rattle.epoch_slots.specs.Entries.{Enters}
+use Rattle.epoch_slots.specs.Reserves.{counts_of}
+use Rattle.epoch_slots.specs.declared.reserves.Short.{Short}
+use Rattle.commit_log.specs.Asked.{IsAsked}
+use Rattle.commit_log.proofs.Asked.{asked_none}
+use Rattle.try_lock.specs.declared.planned.Planned.{Planned}
+use Rattle.try_lock.specs.declared.planned.Planned.TheVariants as plans
+use Rattle.try_lock.specs.declared.section.Section.{Section}
+use Rattle.try_lock.specs.Planning.{Planning}
+use Rattle.try_lock.specs.Plans as plan
+use Rattle.try_lock.specs.Publishes.{Publishes}
+use Rattle.attempts.specs.Knowing.{IsStill}
+use Rattle.attempts.specs.Course.{of_plan, of_refusal, MayAttempt, HasReserve, HasEntered, HasPlanned, HasTried, PlanIsRefused, LockIsRefused}
+use Rattle.attempts.specs.Counted.{IsCounted}
+use Rattle.attempts.specs.Attempts.{is_halted, is_short, asks_more, IsFew, IsShort, Attempts}
+use Rattle.attempts.specs.Rests.{MayLeave, HasTurned, Rests}
+use Rattle.attempts.specs.declared.answers.Attempt.{Attempt}
+use Rattle.attempts.specs.declared.answers.Attempt.TheVariants as answers
+use Rattle.attempts.proofs.Knowing.{knows_same, knows_on, no_other_same, no_other_on}
+use Rattle.attempts.proofs.Reaching.{enters_reached, collects_reached}
+use Rattle.attempts.proofs.Counting.{counted_steps, asked_then, steps_then}
+use Rattle.attempts.proofs.Courses.{planned_at, planned_reads, planned_leave}
+use Rattle.attempts.proofs.Turning.{untouched, turned_rests}
+use Rattle.attempts.proofs.Trying.{tried_of, own_here, unknown_here, refusal_of_lock}
+use Rattle.attempts.proofs.Planning.{planned_of}
+use Rattle.attempts.proofs.Refusing.{refuses, refusal_of_plan, busy_plan, plan_busy}
+
+true_false : true ≡ false → ⊥
+true_false e = let z = e in cc
+
+-- the rest, behind counted steps of a runner that learned nothing by them
+pub rests_after : {T : Type 0} (m : Meaning) (planning : Planning) (request : Request) (answer : Attempt) (old here mid new : RunnerState T) (n : ℕ)
+    (halts halts1 halts' asks asks1 asks' steps steps1 steps' : ℕ) → IsStill here mid → IsAsked n true halts halts1 asks asks1 steps steps1
+    → Rests m planning request false answer old mid new halts1 halts' asks1 asks' steps1 steps'
+    → Rests m planning request false answer old here new halts halts' asks asks' steps steps'
+rests_after m planning request answer old here mid new n halts halts1 halts' asks asks1 asks' steps steps1 steps' still asked rests = record {
+  answers = rests.answers;
+  knows = knows_on here mid new (knows_same here mid still.number still.known still.finished) rests.knows;
+  no_other = no_other_on request.number here mid new still.requests still.layout still.number (no_other_same request.number here mid still.known) rests.no_other;
+  made = n + rests.made;
+  published = rests.published;
+  tried = rests.tried;
+  untried = rests.untried;
+  asked = steps_then n rests.made (if rests.published && not false then 1 else 0) (not (is_halted answer)) halts halts1 halts' asks asks1 asks' steps steps1 steps' asked rests.asked;
+  entered = rests.entered;
+}
+
+-- the lock refused the publication
+module _ {T : Type 0} (m : Meaning) (laws : Laws m) (t : TableState T) (limits : IsWithinLimits t.layout) (allowed : AreAllowed t.requests)
+    (planning : Planning) (request : Request) (thunk : Thunk) (refused : Refused) (old r mid : RunnerState T) (own_mid : IsOf t mid)
+    (readings : Readings) (planned : HasPlanned m planning request readings (plans.Thunk thunk) old r)
+    (publishes : Publishes m thunk (Err refused) r mid) (layout : mid.layout ≡ r.layout) (requests : mid.requests ≡ r.requests) where
+  pub lost : HasTried m planning request thunk (Err refused) old mid
+  lost = tried_of m planning request old readings thunk r planned (Err refused) mid publishes layout requests
+
+  still_lost : IsStill r mid
+  still_lost = record { layout = layout; requests = requests; number = publishes.number; known = publishes.known; finished = publishes.finished }
+
+  lost_cause : LockIsRefused m planning request (of_refusal thunk.lock refused) old mid
+  lost_cause = record { thunk = thunk; refusal = refused; tries = lost; same = refl }
+
+  pub lost_rests : (got : Attempt) (new : RunnerState T) → IsOf t new → (halts halts' asks asks' steps steps' : ℕ)
+      → HasTurned m (of_refusal thunk.lock refused) got mid new halts halts' asks asks' steps steps'
+      → Rests m planning request false got old r new halts halts' asks asks' steps steps'
+  lost_rests got new own_new halts halts' asks asks' steps steps' turned =
+      rests_after m planning request got old r mid new 0 halts halts halts' asks asks asks' steps steps steps' still_lost (asked_none halts asks steps)
+      (turned_rests m laws planning request old mid new (of_refusal thunk.lock refused) got (refusal_of_lock thunk.lock refused)
+      planned.entered planned.enters (inr (inl lost_cause)) false (λ e. absurd (true_false (sym e))) (λ e. inr lost_cause)
+      (own_here planning request old planned.enters.may mid lost.still) (unknown_here planning request old planned.enters.may mid lost.still)
+      (subst IsWithinLimits (sym own_new.layout) limits) (subst AreAllowed (sym own_new.requests) allowed)
+      (own_new.layout ∙ sym own_mid.layout) (own_new.requests ∙ sym own_mid.requests) halts halts' asks asks' steps steps' turned)
+
+-- the section was published: the rest from the plan on
+pub tried_rests : {T : Type 0} (m : Meaning) (planning : Planning) (request : Request) (thunk : Thunk) (section : Section) (old r mid new : RunnerState T) (got : Attempt)
+    (publishes : Publishes m thunk (Ok section) r mid) → mid.layout ≡ r.layout → mid.requests ≡ r.requests → (halts halts' asks asks' steps steps' : ℕ)
+    → Rests m planning request false got old mid new halts halts' asks asks' steps steps'
+    → Rests m planning request false got old r new halts halts' asks asks' steps steps'
+tried_rests m planning request thunk section old r mid new got publishes layout requests halts halts' asks asks' steps steps' rests =
+    rests_after m planning request got old r mid new 0 halts halts halts' asks asks asks' steps steps steps'
+    (record { layout = layout; requests = requests; number = publishes.number; known = publishes.known; finished = publishes.finished })
+    (asked_none halts asks steps) rests
+
+-- the plan
+module _ {T : Type 0} (m : Meaning) (laws : Laws m) (t : TableState T) (limits : IsWithinLimits t.layout) (allowed : AreAllowed t.requests)
+    (planning : Planning) (request : Request) (answer : Planned) (old here r : RunnerState T) (own_here' : IsOf t here) (own_r : IsOf t r)
+    (enters : HasEntered m planning request old here) (halts halts1 asks asks1 steps steps1 : ℕ)
+    (planned : plan.HasPlanned m planning request answer here r halts halts1 asks asks1 steps steps1) where
+  layout_still : r.layout ≡ here.layout
+  layout_still = own_r.layout ∙ sym own_here'.layout
+
+  requests_still : r.requests ≡ here.requests
+  requests_still = own_r.requests ∙ sym own_here'.requests
+
+  pub course : HasPlanned m planning request planned.readings answer old r
+  course = planned_of m planning request old here enters answer r halts halts1 asks asks1 steps steps1 planned layout_still requests_still
+
+  pub still_planned : IsStill here r
+  still_planned = record {
+    layout = layout_still;
+    requests = requests_still;
+    number = planned.walked.keeps.number;
+    known = planned.walked.keeps.known;
+    finished = planned.walked.keeps.finished;
+  }
+
+  pub going : plan.is_halted answer ≡ false → IsAsked (length planned.readings) true halts halts1 asks asks1 steps steps1
+  going on = subst (λ b. IsAsked (length planned.readings) b halts halts1 asks asks1 steps steps1) (ap not on) planned.asked
+
+  -- a gate halted it
+  pub plan_halted : answer ≡ plans.Halted → Rests m planning request false answers.Halted old here r halts halts1 asks asks1 steps steps1
+  plan_halted is = record {
+    answers = record {
+      entered = here;
+      enters = enters;
+      published = λ x some. absurd (none_some x (sym some ∙ at.published));
+      unknown = λ none. unknown;
+      reached = planned.reached;
+    };
+    knows = knows_same here r still_planned.number still_planned.known still_planned.finished;
+    no_other = no_other_same request.number here r still_planned.known;
+    made = length planned.readings;
+    published = false;
+    tried = λ e. absurd (true_false (sym e));
+    untried = λ e. inr (inl (planned.readings, subst (λ (a : Planned). HasPlanned m planning request planned.readings a old r) is course));
+    asked = counted_steps (length planned.readings) false halts halts1 asks asks1 steps steps1
+        (subst (λ (a : Planned). IsAsked (length planned.readings) (not (plan.is_halted a)) halts halts1 asks asks1 steps steps1) is planned.asked);
+    entered = refl;
+  }
+    where
+      at : IsAt r (stages.Entered course.enters.enters.epoch) None
+      at = planned_at m planning request old planned.readings answer r course
+
+      unknown : is_answered r.part.records.known request.number ≡ false
+      unknown = unknown_here planning request old enters.may r course.still
+
+  -- a reading refused it
+  module _ (is : refuses answer ≡ true) where
+    not_halted : (p : Planned) → refuses p ≡ true → plan.is_halted p ≡ false
+    not_halted (plans.Busy place word) e = refl
+    not_halted (plans.Stale place expected read) e = refl
+    not_halted (plans.Spent place word) e = refl
+    not_halted (plans.Far loads) e = refl
+    not_halted (plans.Thunk thunk) e = refl
+    not_halted plans.Halted e = absurd (true_false (sym e))
+
+    by_busy : (p : Planned) (place word : ℕ) → p ≡ plans.Busy place word → plan.Answers m planning old.layout request.op request.number planned.readings p
+        → plan.IsRefused m planning old.layout request.op planned.readings (plans.Busy place word)
+    by_busy p place word same is = subst (λ (a : Planned). plan.Answers m planning old.layout request.op request.number planned.readings a) same is
+
+    pub plan_may_leave : MayLeave m (of_plan answer) r
+    plan_may_leave = record {
+      leave = planned_leave m planning request old planned.readings answer r course;
+      hand = course.hand;
+      help = λ place word named.
+          let h = plan_busy m planning old.layout request.op place word planned.readings (by_busy answer place word (busy_plan answer place word named) course.answers) in
+          let at = planned_at m planning request old planned.readings answer r course in
+          record {
+            epoch = course.enters.enters.epoch;
+            published = None;
+            at = at;
+            names = h.0;
+            holds = ap (λ (s : ReadsState). has s.held (value_of word - 1)) (planned_reads m planning request old planned.readings answer r course) ∙ h.1;
+            reserve = course.has.nodes;
+            reached = course.reached;
+          };
+    }
+
+    cause : PlanIsRefused m planning request (of_plan answer) old r
+    cause = record { readings = planned.readings; refusal = answer; plans = course; same = refl }
+
+    pub refused_rests : (got : Attempt) (new : RunnerState T) → IsOf t new → (halts' asks' steps' : ℕ)
+        → HasTurned m (of_plan answer) got r new halts1 halts' asks1 asks' steps1 steps'
+        → Rests m planning request false got old here new halts halts' asks asks' steps steps'
+    refused_rests got new own_new halts' asks' steps' turned =
+        rests_after m planning request got old here r new (length planned.readings) halts halts1 halts' asks asks1 asks' steps steps1 steps' still_planned
+        (going (not_halted answer is))
+        (turned_rests m laws planning request old r new (of_plan answer) got (refusal_of_plan answer is) here enters (inl cause) false
+        (λ e. absurd (true_false (sym e))) (λ e. inl cause)
+        (own_here planning request old enters.may r course.still) (unknown_here planning request old enters.may r course.still)
+        (subst IsWithinLimits (sym own_new.layout) limits) (subst AreAllowed (sym own_new.requests) allowed)
+        (own_new.layout ∙ sym own_r.layout) (own_new.requests ∙ sym own_r.requests) halts1 halts' asks1 asks' steps1 steps' turned)
+
+-- the entry
+module _ {T : Type 0} (m : Meaning) (laws : Laws m) (t : TableState T) (limits : IsWithinLimits t.layout) (allowed : AreAllowed t.requests)
+    (planning : Planning) (request : Request) (old ready : RunnerState T) (own_old : IsOf t old) (own_ready : IsOf t ready)
+    (may : MayAttempt planning request old) (collects : Collects m old ready) where
+  still_ready : IsStill old ready
+  still_ready = record {
+    layout = own_ready.layout ∙ sym own_old.layout;
+    requests = own_ready.requests ∙ sym own_old.requests;
+    number = collects.number;
+    known = collects.known;
+    finished = collects.finished;
+  }
+
+  -- too few slots are free
+  module _ (short : Short) (few : IsFew ready short.kind) (counts : short ≡ counts_of ready short.kind) where
+    is_short_of : IsShort m short request.number old ready
+    is_short_of = record {
+      collects = collects;
+      few = few;
+      counts = counts;
+      untouched = untouched m laws ready request (subst IsWithinLimits (sym own_ready.layout) limits) (subst AreAllowed (sym own_ready.requests) allowed)
+          (collects_reached m old ready collects) collects.tidy.at.published
+          (own_here planning request old may ready still_ready) (unknown_here planning request old may ready still_ready);
+    }
+
+    pub short_attempts : (halts asks steps : ℕ) → Attempts m planning request (answers.Short short) old ready halts halts asks asks steps steps
+    short_attempts halts asks steps = record {
+      answers = is_short_of;
+      knows = knows_same old ready still_ready.number still_ready.known still_ready.finished;
+      no_other = no_other_same request.number old ready still_ready.known;
+      made = 0;
+      published = false;
+      tried = λ e. absurd (true_false (sym e));
+      untried = λ e. is_short_of;
+      asked = counted_steps 0 true halts halts asks asks steps steps (asked_none halts asks steps);
+    }
+
+  -- it enters
+  module _ (reserve : HasReserve ready) (here : RunnerState T) (own_new : IsOf t here) (enters : Enters m ready here) where
+    still : IsStill old here
+    still = record {
+      layout = own_new.layout ∙ sym own_old.layout;
+      requests = own_new.requests ∙ sym own_old.requests;
+      number = enters.keeps.number ∙ collects.number;
+      known = enters.keeps.known ∙ collects.known;
+      finished = enters.keeps.finished ∙ collects.finished;
+    }
+
+    pub entered_so : HasEntered m planning request old here
+    entered_so = record {
+      may = may;
+      ready = ready;
+      collects = collects;
+      reserve = reserve;
+      enters = enters;
+      still = still;
+      hand = record {
+        hand = ap (λ (n : NodesState). n.hand) enters.keeps.nodes ∙ collects.tidy.hand;
+        tests = ap (λ (n : NodesState). n.tests) enters.keeps.nodes ∙ collects.tidy.tests;
+      };
+      has = record {
+        nodes = subst (λ (n : NodesState). 2 ≤ length n.free) (sym enters.keeps.nodes) reserve.nodes;
+        descriptors = subst (λ (d : DescriptorsState). 1 ≤ length d.free) (sym enters.keeps.descriptors) reserve.descriptors;
+      };
+    }
+
+    -- a gate halts it there
+    pub entry_halted : (halts halts' asks asks' steps : ℕ) → IsCounted 0 1 false halts halts' asks asks' steps steps
+        → Attempts m planning request answers.Halted old here halts halts' asks asks' steps steps
+    entry_halted halts halts' asks asks' steps asked = record {
+      answers = record {
+        entered = here;
+        enters = entered_so;
+        published = λ x some. absurd (none_some x (sym some ∙ enters.at.published));
+        unknown = λ none. unknown_here planning request old may here still;
+        reached = enters_reached m ready here enters;
+      };
+      knows = knows_same old here still.number still.known still.finished;
+      no_other = no_other_same request.number old here still.known;
+      made = 0;
+      published = false;
+      tried = λ e. absurd (true_false (sym e));
+      untried = λ e. inl entered_so;
+      asked = asked;
+    }
+
+    more_of : (a : Attempt) (b : Bool) → is_short a ≡ false → 1 + (if b && not false then 1 else 0) ≡ asks_more a b
+    more_of (answers.Busy place word) true e = refl
+    more_of (answers.Busy place word) false e = refl
+    more_of (answers.Stale place expected read) true e = refl
+    more_of (answers.Stale place expected read) false e = refl
+    more_of (answers.Far loads) true e = refl
+    more_of (answers.Far loads) false e = refl
+    more_of (answers.Spent place word) true e = refl
+    more_of (answers.Spent place word) false e = refl
+    more_of (answers.Done reply stamp) true e = refl
+    more_of (answers.Done reply stamp) false e = refl
+    more_of answers.Halted true e = refl
+    more_of answers.Halted false e = refl
+    more_of (answers.Short short) b e = absurd (true_false e)
+
+    -- it goes on
+    pub attempts_so : (got : Attempt) (new : RunnerState T) (halts halts1 halts' asks asks1 asks' steps steps' : ℕ)
+        → IsCounted 0 1 true halts halts1 asks asks1 steps steps → Rests m planning request false got old here new halts1 halts' asks1 asks' steps steps'
+        → Attempts m planning request got old new halts halts' asks asks' steps steps'
+    attempts_so got new halts halts1 halts' asks asks1 asks' steps steps' ask rests = record {
+      answers = rests.answers;
+      knows = knows_on old here new (knows_same old here still.number still.known still.finished) rests.knows;
+      no_other = no_other_on request.number old here new still.requests still.layout still.number (no_other_same request.number old here still.known) rests.no_other;
+      made = rests.made;
+      published = rests.published;
+      tried = rests.tried;
+      untried = rests.untried;
+      asked = subst (λ more. IsCounted rests.made more (not (is_halted got)) halts halts' asks asks' steps steps') (more_of got rests.published rests.entered)
+          (asked_then 1 rests.made (if rests.published && not false then 1 else 0) (not (is_halted got)) halts halts1 halts' asks asks1 asks' steps steps' ask rests.asked);
+    }

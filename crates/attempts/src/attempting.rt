@@ -1,0 +1,93 @@
+//! One attempt of a request.
+ghost use Rattle.std.specs.Prelude.{◌≡◌, false};
+ghost use Rattle.version_words.specs.RunnerState.{RunnerState};
+ghost use Rattle.version_words.specs.TableState.{IsOf};
+ghost use Rattle.attempts.specs.Course.{MayAttempt, HasEntered};
+ghost use Rattle.attempts.specs.Attempts.{Attempts};
+ghost use Rattle.attempts.specs.Rests.{Rests};
+
+use crate::answers::Attempt;
+use crate::asks::goes_on;
+use crate::refusals::plan_refused;
+use crate::reserves::reserve_slots;
+use crate::tries::try_section;
+use crate::turns::turn_away;
+use epoch_slots::{collect, enter};
+use lock_walks::Planner;
+use map_history::Request;
+use section_body::{Gate, StepKind, Steps};
+use try_lock::Planned;
+use version_words::{FlockTable, Runner, table_is_allowed};
+
+/// Plans the request, behind the entry, and tries the section that was planned; or leaves where the plan was refused.
+pub fn plan_and_try<S: Planner, G: Gate, L>(
+    table: &FlockTable<S>,
+    runner: Runner<S>,
+    request: &Request,
+    gate: &mut G,
+    steps: &mut Steps<L>,
+) -> (Runner<S>, Attempt)
+    requires own { IsOf table.now runner }
+    requires entered { (old : RunnerState S) × HasEntered (S.meaning table.now.structure) (S.planning table.now.structure) request.now old runner }
+    ensures own { IsOf table.now result.0 }
+    ensures rests { (old : RunnerState S) → HasEntered (S.meaning table.now.structure) (S.planning table.now.structure) request.now old runner
+        → Rests (S.meaning table.now.structure) (S.planning table.now.structure) request.now false result.1 old runner result.0 (G.halts gate.old) (G.halts gate.new) (G.asks gate.old) (G.asks gate.new) steps.old.count steps.new.count }
+{
+    table_is_allowed(table);
+    let (runner, planned) = table.structure().plan(table, runner, request, gate, steps);
+    match planned {
+        Planned::Thunk(thunk) => try_section(table, runner, request, &thunk, gate, steps),
+        Planned::Halted => (runner, Attempt::Halted),
+        refused => turn_away(table, runner, plan_refused(refused), gate, steps),
+    }
+}
+
+/// Attempts a request once.
+///
+/// The runner collects, makes sure of two node slots and one descriptor, enters, plans the request's section, publishes
+/// it in its lock, runs it, retires it and leaves. The request is one of the table's, of a trace that this runner
+/// serves; the runner knows the answers of the trace's earlier requests and not yet this one's; it is idle, with an
+/// empty hand.
+///
+/// - `Done`: the own section answered. The request stands once in the one history, with this stamp, which is above those
+///   of all requests that this runner knew, and with this reply; its stamp word and its reply word hold them.
+/// - `Busy`: a lock was held, as the plan read it, as the publication met it, or as the own section found it by its
+///   outcome. The section that the word names is done at return; the runner ran it to its end.
+/// - `Stale`: a word was read, and then another one at the same place; or a node that was reached has been taken out.
+/// - `Far`: the walk loaded as many links as there are node slots, and eight more, and came to no end.
+/// - `Spent`: a lock or a cell has too few versions left.
+/// - `Short`: after collecting, fewer than two node slots or no descriptor were free; node slots are asked first.
+/// - `Halted`: the gate halted the runner. Exactly then its count of halts rose.
+///
+/// After every answer but `Halted` the runner is idle and may attempt again. After every answer but `Done` and `Halted`
+/// nobody has served the request, and the section that was published for it, if any, left without an effect and is
+/// retired. After `Halted` the runner stays entered, and can only be joined; a section that it left published is for this
+/// request, and whoever meets it runs it to its end.
+///
+/// The gate is asked once behind the entry, after each counted step, and once more where a section was published. No
+/// memory is taken, and nothing waits (Ben-David, Blelloch, Wei, *Lock-free locks revisited*, 2022).
+pub fn attempt<S: Planner, G: Gate, L>(
+    table: &FlockTable<S>,
+    runner: Runner<S>,
+    request: &Request,
+    gate: &mut G,
+    steps: &mut Steps<L>,
+) -> (Runner<S>, Attempt)
+    requires own { IsOf table.now runner }
+    requires next { MayAttempt (S.planning table.now.structure) request.now runner }
+    ensures own { IsOf table.now result.0 }
+    ensures attempts { Attempts (S.meaning table.now.structure) (S.planning table.now.structure) request.now result.1 runner result.0 (G.halts gate.old) (G.halts gate.new) (G.asks gate.old) (G.asks gate.new) steps.old.count steps.new.count }
+{
+    table_is_allowed(table);
+    let runner = collect(table, runner);
+    match reserve_slots(runner) {
+        Ok(runner) => {
+            let runner = enter(table, runner);
+            if !goes_on(gate, StepKind::Entered) {
+                return (runner, Attempt::Halted);
+            }
+            plan_and_try(table, runner, request, gate, steps)
+        }
+        Err((runner, short)) => (runner, Attempt::Short(short)),
+    }
+}

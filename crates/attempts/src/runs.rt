@@ -1,0 +1,71 @@
+//! An attempt's own section: it is run to its end and retired, and answered by.
+ghost use Rattle.std.specs.Prelude.{◌≡◌, true, false, Ok};
+ghost use Rattle.section_body.specs.Trail.{Agreed};
+ghost use Rattle.section_body.specs.declared.thunk.Thunk.{Thunk};
+ghost use Rattle.version_words.specs.RunnerState.{RunnerState};
+ghost use Rattle.version_words.specs.TableState.{IsOf};
+ghost use Rattle.attempts.specs.Course.{HasTried, HasEnded};
+ghost use Rattle.attempts.specs.Rests.{Rests};
+
+use crate::answers::Attempt;
+use crate::asks::goes_on;
+use crate::learns::learn;
+use crate::refusals::section_left;
+use crate::turns::turn_away;
+use lock_walks::Planner;
+use map_history::Request;
+use section_body::{Gate, Outcome, StepKind, Steps};
+use try_lock::{RunEnd, Section, retire_section, run_section};
+use version_words::{FlockTable, Runner, table_is_allowed};
+
+/// Retires the own section, which was run to its end with this outcome, and leaves: where it answered, with the words of
+/// the request, else with the refusal by which it left.
+pub fn conclude<S: Planner, G: Gate, L>(
+    table: &FlockTable<S>,
+    runner: Runner<S>,
+    request: &Request,
+    section: Section,
+    outcome: Outcome,
+    gate: &mut G,
+    steps: &mut Steps<L>,
+) -> (Runner<S>, Attempt)
+    requires own { IsOf table.now runner }
+    requires ended { (old : RunnerState S) × (thunk : Thunk) × (trail : Agreed) × HasEnded (S.meaning table.now.structure) (S.planning table.now.structure) request.now section thunk outcome trail old runner }
+    ensures own { IsOf table.now result.0 }
+    ensures rests { (old : RunnerState S) (thunk : Thunk) (trail : Agreed) → HasEnded (S.meaning table.now.structure) (S.planning table.now.structure) request.now section thunk outcome trail old runner
+        → Rests (S.meaning table.now.structure) (S.planning table.now.structure) request.now true result.1 old runner result.0 (G.halts gate.old) (G.halts gate.new) (G.asks gate.old) (G.asks gate.new) steps.old.count steps.new.count }
+{
+    table_is_allowed(table);
+    let runner = retire_section(table, runner, section);
+    if let Outcome::Answered(_) = outcome {
+        learn(table, runner, request)
+    } else {
+        turn_away(table, runner, section_left(outcome), gate, steps)
+    }
+}
+
+/// Runs the own section, which was just published, to its end, and answers by its outcome. The gate is asked once before.
+pub fn run_own<S: Planner, G: Gate, L>(
+    table: &FlockTable<S>,
+    runner: Runner<S>,
+    request: &Request,
+    section: Section,
+    gate: &mut G,
+    steps: &mut Steps<L>,
+) -> (Runner<S>, Attempt)
+    requires own { IsOf table.now runner }
+    requires tried { (old : RunnerState S) × (thunk : Thunk) × HasTried (S.meaning table.now.structure) (S.planning table.now.structure) request.now thunk (Ok section) old runner }
+    ensures own { IsOf table.now result.0 }
+    ensures rests { (old : RunnerState S) (thunk : Thunk) → HasTried (S.meaning table.now.structure) (S.planning table.now.structure) request.now thunk (Ok section) old runner
+        → Rests (S.meaning table.now.structure) (S.planning table.now.structure) request.now false result.1 old runner result.0 (G.halts gate.old) (G.halts gate.new) (G.asks gate.old) (G.asks gate.new) steps.old.count steps.new.count }
+{
+    table_is_allowed(table);
+    if !goes_on(gate, StepKind::Hold) {
+        return (runner, Attempt::Halted);
+    }
+    let (runner, end) = run_section(table, runner, &section, gate, steps);
+    match end {
+        RunEnd::Done(outcome, _) => conclude(table, runner, request, section, outcome, gate, steps),
+        RunEnd::Halted => (runner, Attempt::Halted),
+    }
+}

@@ -1,0 +1,48 @@
+//! The publication of an attempt.
+ghost use Rattle.std.specs.Prelude.{◌≡◌, false};
+ghost use Rattle.structure_laws.specs.Scene.{Readings};
+ghost use Rattle.version_words.specs.RunnerState.{RunnerState};
+ghost use Rattle.version_words.specs.TableState.{IsOf};
+ghost use Rattle.try_lock.specs.declared.planned.Planned.TheVariants as plans;
+ghost use Rattle.attempts.specs.Course.{HasPlanned};
+ghost use Rattle.attempts.specs.Rests.{Rests};
+
+use crate::answers::Attempt;
+use crate::refusals::lock_refused;
+use crate::runs::run_own;
+use crate::turns::turn_away;
+use lock_walks::Planner;
+use map_history::Request;
+use section_body::{Gate, Steps, Thunk};
+use try_lock::publish;
+use version_words::{FlockTable, Runner, table_is_allowed};
+
+/// Publishes the section of this thunk, which was just planned for the request, and runs it; or leaves where the lock
+/// refused it.
+pub fn try_section<S: Planner, G: Gate, L>(
+    table: &FlockTable<S>,
+    runner: Runner<S>,
+    request: &Request,
+    thunk: &Thunk,
+    gate: &mut G,
+    steps: &mut Steps<L>,
+) -> (Runner<S>, Attempt)
+    requires own { IsOf table.now runner }
+    requires planned { (old : RunnerState S) × (readings : Readings) × HasPlanned (S.meaning table.now.structure) (S.planning table.now.structure) request.now readings (plans.Thunk thunk.now) old runner }
+    ensures own { IsOf table.now result.0 }
+    ensures rests { (old : RunnerState S) (readings : Readings) → HasPlanned (S.meaning table.now.structure) (S.planning table.now.structure) request.now readings (plans.Thunk thunk.now) old runner
+        → Rests (S.meaning table.now.structure) (S.planning table.now.structure) request.now false result.1 old runner result.0 (G.halts gate.old) (G.halts gate.new) (G.asks gate.old) (G.asks gate.new) steps.old.count steps.new.count }
+{
+    table_is_allowed(table);
+    let (runner, published) = publish(table, runner, thunk);
+    match published {
+        Ok(section) => run_own(table, runner, request, section, gate, steps),
+        Err(refused) => turn_away(
+            table,
+            runner,
+            lock_refused(thunk.lock, refused),
+            gate,
+            steps,
+        ),
+    }
+}

@@ -1,0 +1,46 @@
+//! How a runner leaves whose request was refused.
+ghost use Rattle.std.specs.Prelude.{◌≡◌, true};
+ghost use Rattle.version_words.specs.TableState.{IsOf};
+ghost use Rattle.attempts.specs.Attempts.{is_refusal};
+ghost use Rattle.attempts.specs.Rests.{MayLeave, HasTurned};
+
+use crate::answers::Attempt;
+use epoch_slots::exit;
+use runner_facts::names_stand;
+use runner_parts::Structure;
+use section_body::{Gate, Steps};
+use try_lock::{RunEnd, help};
+use version_words::{FlockTable, Runner, table_is_allowed};
+
+/// Leaves with this refusal, and answers it; where a lock was held, the section that its word names is run to its end
+/// first.
+///
+/// The runner has to be entered and in no run, with an empty hand and nothing to retire, and may help the section that a
+/// Busy names. `Halted` comes exactly where the gate halted it as it helped. No memory is taken, and nothing waits
+/// (Ben-David, Blelloch, Wei, *Lock-free locks revisited*, 2022).
+pub fn turn_away<S: Structure, G: Gate, L>(
+    table: &FlockTable<S>,
+    runner: Runner<S>,
+    answer: Attempt,
+    gate: &mut G,
+    steps: &mut Steps<L>,
+) -> (Runner<S>, Attempt)
+    requires own { IsOf table.now runner }
+    requires refusal { is_refusal answer ≡ true }
+    requires next { MayLeave (S.meaning table.now.structure) answer runner }
+    ensures own { IsOf table.now result.0 }
+    ensures turned { HasTurned (S.meaning table.now.structure) answer result.1 runner result.0 (G.halts gate.old) (G.halts gate.new) (G.asks gate.old) (G.asks gate.new) steps.old.count steps.new.count }
+{
+    table_is_allowed(table);
+    names_stand(table.structure());
+    if let Attempt::Busy { place: _, word } = answer {
+        let (runner, end) = help(table, runner, word, gate, steps);
+        match end {
+            RunEnd::Done(_, _) => (exit(table, runner), answer),
+            RunEnd::Halted => (runner, Attempt::Halted),
+        }
+    } else {
+        let runner = exit(table, runner);
+        (runner, answer)
+    }
+}

@@ -1,0 +1,6 @@
+pub mod Bools
+pub mod Cuts
+pub mod Meanings
+pub mod Ranges
+pub mod Steps
+pub mod Strips

@@ -1,0 +1,22 @@
+-- The command line: which words are accepted, and what they mean.
+use Rattle.std.specs.Prelude.{◌≡◌, List, [], ◌∷◌, codes, map}
+use Rattle.std.specs.Borrow.{Bor}
+use Rattle.flock_words.specs.declared.command.Command.{Command}
+use Rattle.flock_words.specs.declared.command.Command.TheVariants.{Run}
+use Rattle.flock_words.specs.Options.{AreInRange, IsRun}
+use Rattle.flock_words.specs.Written.{Text}
+
+abbrev pub texts : List (Bor Text) → List Text
+texts words = map (λ word. word.now) words
+
+-- the first word names the command, and its options follow in any order
+abbrev pub IsCommand : List Text → Command → Type 0
+IsCommand [] command = ⊥
+IsCommand (word ∷ words) (Run options) = (word ≡ codes "run") × IsRun words options
+
+-- the words are accepted
+abbrev pub AreAccepted : List Text → Type 0
+AreAccepted words = (command : Command) × IsCommand words command
+
+abbrev pub HasRanges : Command → Type 0
+HasRanges (Run options) = AreInRange options

@@ -1,0 +1,6 @@
+pub mod Commands
+pub mod Cut
+pub mod Halts
+pub mod Numbers
+pub mod Options
+pub mod Written

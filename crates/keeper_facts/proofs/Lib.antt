@@ -1,0 +1,6 @@
+mod Changes
+pub mod Lists
+pub mod Keeping
+mod Runs
+mod Steps
+mod Telling

@@ -1,0 +1,342 @@
+-- A list of requests, served one after the other.
+use Rattle.std.specs.Prelude.{◌==◌, ◌&&◌, ◌||◌, ◌⊎◌, nat_lt, ◌%◌, not, Bool, true, false, slice_get}
+use Rattle.std.proofs.Common.{◌≡◌, ◌≢◌, ℕ, ◌+◌, ◌<◌, List, length, refl, sym, ap, ◌∙◌, subst, ⊎_elim, inl, inr, arith, Some, None}
+use Rattle.std.proofs.lemmas.Bool.{cases_eq, eq-eqb}
+use Rattle.std.proofs.lemmas.Bool.Decides.{nat_tests}
+use Rattle.std.proofs.lemmas.Option.{slice_get_within}
+use Rattle.map_history.specs.declared.op.Request.{Request}
+use Rattle.map_history.specs.declared.reply.Reply.{Reply}
+use Rattle.map_history.specs.Requests.{AreInOrder}
+use Rattle.table_words.specs.Limits.{IsWithinLimits}
+use Rattle.structure_laws.specs.Meaning.{Meaning}
+use Rattle.structure_laws.specs.Laws.{Laws}
+use Rattle.runner_parts.specs.declared.entries.Known.{Known}
+use Rattle.runner_parts.specs.Tests.{is_answered, are_answered}
+use Rattle.machine_states.proofs.Steps.{some_same, none_some}
+use Rattle.machine_invariant.specs.After.{AreAllowed}
+use Rattle.version_words.specs.RunnerState.{RunnerState}
+use Rattle.version_words.specs.TableState.{TableState, IsOf}
+use Rattle.epoch_slots.specs.Collects.{IsTidy}
+use Rattle.epoch_slots.specs.declared.reserves.Short.{Short}
+use Rattle.try_lock.specs.Planning.{Planning}
+use Rattle.try_lock.specs.Reached.{IsReached}
+use Rattle.request_facts.specs.Laws.{HasEntry}
+use Rattle.attempts.specs.Knowing.{KnowsMore, IsOwn}
+use Rattle.attempts.specs.Course.{MayAttempt}
+use Rattle.attempts.specs.Attempts.{IsServed, IsShort, IsTurnedAway, IsHalted, Answers}
+use Rattle.attempts.specs.declared.answers.Attempt.{Attempt}
+use Rattle.attempts.specs.declared.answers.Attempt.TheVariants as attempts
+use Rattle.attempts.proofs.Knowing.{knows_same, knows_on, own_on}
+use Rattle.serving.specs.declared.answers.Served.{Served}
+use Rattle.serving.specs.declared.answers.Served.TheVariants as answers
+use Rattle.serving.specs.Serving.{is_tried_again, stop_of, IsBefore, MayServe, AreServed, Persists, Serves}
+use Rattle.serving.proofs.Lists.{and_true, all_pass, where_held, numbered, entry_known}
+use Rattle.serving.proofs.Standing.{entry_on, answered_more, stamp_of, one_stamp}
+use Rattle.serving.proofs.Trying.{next_of_parts, same_layout, same_requests}
+
+module _ {T : Type 0} where
+  -- so many requests of the list are served and no other one, and the runner is idle
+  pub record IsAlong (requests : List Request) (count : ℕ) (old r : RunnerState T) : Type 0 where
+    pub served : AreServed requests count r
+    pub unanswered : (q : Request) → slice_get requests count ≡ Some q → is_answered r.part.records.known q.number ≡ false
+    pub tidy : IsTidy r
+    pub knows : KnowsMore old r
+    pub others : (q : Request) → IsOwn old q → ((i : ℕ) → slice_get requests i ≢ Some q)
+        → is_answered r.part.records.known q.number ≡ is_answered old.part.records.known q.number
+
+  pub along_begins : (planning : Planning) (requests : List Request) (r : RunnerState T) → MayServe planning requests r → IsAlong requests 0 r r
+  along_begins planning requests r may = record {
+    served = record {
+      few = omega arith;
+      answered = λ i q lt at. absurd (omega (arith, lt));
+      rising = λ i j q q' below lt at at'. absurd (omega (arith, lt));
+      behind = λ i q lt at. may.unanswered i q at;
+    };
+    unanswered = λ q at. may.unanswered 0 q at;
+    tidy = may.tidy;
+    knows = knows_same r r refl refl refl;
+    others = λ q own not_there. refl;
+  }
+
+  -- the next request may be attempted
+  module _ (planning : Planning) (requests : List Request) (old r : RunnerState T) (t : TableState T) (allowed : AreAllowed t.requests)
+      (of_old : IsOf t old) (of_r : IsOf t r) (may : MayServe planning requests old) (i : ℕ) (q : Request) (at : slice_get requests i ≡ Some q)
+      (along : IsAlong requests i old r) where
+    in_order : AreInOrder old.requests 64
+    in_order = (subst AreAllowed (sym of_old.requests) allowed).in_order
+
+    known : (x : Request) → IsOwn old x → x.trace ≡ q.trace → x.number < q.number → is_answered r.part.records.known x.number ≡ true
+    known x own trace below = ⊎_elim
+        (λ was. answered_more old.part.records.known r.part.records.known along.knows.known x.number was)
+        (λ before. along.served.answered before.0 x before.1 before.2)
+        (may.earlier i q x at own trace below)
+
+    two : (a b : Bool) → (a && b) ≡ true → (a ≡ true) × (b ≡ true)
+    two true b e = (refl, e)
+    two false b e = absurd (let z = e in cc)
+
+    same_trace : (a b : ℕ) → (a == b) ≡ true → a ≡ b
+    same_trace a b e = grind (arith, nat_tests, e)
+
+    is_below : (a b : ℕ) → nat_lt a b ≡ true → a < b
+    is_below a b e = grind (arith, nat_tests, e)
+
+    earlier : (x : Request) → IsOwn old x → (x.trace == q.trace && nat_lt x.number q.number) ≡ true
+        → is_answered r.part.records.known x.number ≡ true
+    earlier x own e = let tests = two (x.trace == q.trace) (nat_lt x.number q.number) e in
+        known x own (same_trace x.trace q.trace tests.0) (is_below x.number q.number tests.1)
+
+    own_of : (k : ℕ) (x : Request) → slice_get old.requests k ≡ Some x → (x.trace == q.trace && nat_lt x.number q.number) ≡ true → IsOwn old x
+    own_of k x here e = record {
+      there = ap (λ n. slice_get old.requests n) (numbered old.requests in_order k x here) ∙ here;
+      own = ap (λ n. n % old.layout.runners) (same_trace x.trace q.trace (two (x.trace == q.trace) (nat_lt x.number q.number) e).0) ∙ (may.own i q at).own;
+    }
+
+    each : (k : ℕ) (x : Request) → slice_get old.requests k ≡ Some x
+        → (not (x.trace == q.trace && nat_lt x.number q.number) || is_answered r.part.records.known x.number) ≡ true
+    each k x here = where_held (x.trace == q.trace && nat_lt x.number q.number) (is_answered r.part.records.known x.number)
+        (λ e. earlier x (own_of k x here e) e)
+
+    pub may_next : MayAttempt planning q r
+    may_next = record {
+      tidy = along.tidy;
+      there = ap (λ rs. slice_get rs q.number) (same_requests t old r of_old of_r) ∙ (may.own i q at).there;
+      next = next_of_parts _ _ _
+          (eq-eqb _ _ (ap (λ l. q.trace % l.runners) (same_layout t old r of_old of_r) ∙ ((may.own i q at).own ∙ sym along.knows.number)))
+          (along.unanswered q at)
+          (ap (are_answered r.part.records.known q.trace q.number) (same_requests t old r of_old of_r)
+          ∙ all_pass (λ (x : Request). not (x.trace == q.trace && nat_lt x.number q.number) || is_answered r.part.records.known x.number) old.requests each);
+      served = may.served i q at;
+    }
+
+-- the request at this place was attempted to the last
+module _ {T : Type 0} (m : Meaning) (laws : Laws m) (planning : Planning) (requests : List Request) (retry_short : Bool) (old r new : RunnerState T)
+    (t : TableState T) (limits : IsWithinLimits t.layout) (allowed : AreAllowed t.requests) (of_old : IsOf t old) (of_r : IsOf t r) (of_new : IsOf t new)
+    (may : MayServe planning requests old) (i : ℕ) (q : Request) (at : slice_get requests i ≡ Some q) (along : IsAlong requests i old r)
+    (answer : Attempt) (persists : Persists m planning retry_short q answer r new) where
+  limits_new : IsWithinLimits new.layout
+  limits_new = subst IsWithinLimits (sym of_new.layout) limits
+
+  allowed_new : AreAllowed new.requests
+  allowed_new = subst AreAllowed (sym of_new.requests) allowed
+
+  own_here : (x : Request) → IsOwn old x → IsOwn r x
+  own_here x own = own_on old r (same_requests t old r of_old of_r) (same_layout t old r of_old of_r) along.knows.number x own
+
+  -- another request of the list
+  other_place : (k : ℕ) (x : Request) → slice_get requests k ≡ Some x → k ≢ i → x.number ≢ q.number
+  other_place k x there ne e = ne (may.once k i x q there at e)
+
+  still_open : (k : ℕ) (x : Request) → slice_get requests k ≡ Some x → i < k → is_answered new.part.records.known x.number ≡ false
+  still_open k x there lt = persists.no_other x (own_here x (may.own k x there)) (other_place k x there (λ e. omega (arith, lt, e)))
+      ∙ along.served.behind k x lt there
+
+  -- a stamp that is known of a request which was answered was known then
+  was_known : IsReached m new → (n : ℕ) → is_answered r.part.records.known n ≡ true → (x : Known) → HasEntry new.part.records.known x
+      → x.reply ≡ false → x.request ≡ n
+      → (y : Known) × HasEntry r.part.records.known y × (y.request ≡ n) × (y.reply ≡ false) × (x.number ≡ y.number)
+  was_known reached n was x h is request = let y = stamp_of r.part.records.known n was in (
+    y.0,
+    y.1,
+    y.2,
+    y.3,
+    one_stamp m laws new limits_new allowed_new reached x y.0 h
+        (entry_on r.part.records.known new.part.records.known persists.knows.known y.0 y.1) (request ∙ sym y.2) is y.3,
+  )
+
+  -- what is served stays so
+  stays : IsReached m new → AreServed requests i new
+  stays reached = record {
+    few = along.served.few;
+    answered = λ k x lt there. answered_more r.part.records.known new.part.records.known persists.knows.known x.number (along.served.answered k x lt there);
+    rising = λ j k a b below lt there there' x y hx hy isx isy ofx ofy.
+        let was = was_known reached a.number (along.served.answered j a (omega (arith, below, lt)) there) x hx isx ofx in
+        let were = was_known reached b.number (along.served.answered k b lt there') y hy isy ofy in
+        let rose = along.served.rising j k a b below lt there there' was.0 were.0 was.1 were.1 was.3 were.3 was.2 were.2 in
+        omega (arith, rose, was.4, were.4);
+    behind = λ k x lt there. still_open k x there lt;
+  }
+
+  others_all : (x : Request) → IsOwn old x → ((k : ℕ) → slice_get requests k ≢ Some x)
+      → is_answered new.part.records.known x.number ≡ is_answered old.part.records.known x.number
+  others_all x own nowhere = persists.no_other x (own_here x own)
+      (λ e. nowhere i (at ∙ (sym (may.own i q at).there ∙ (ap (λ n. slice_get old.requests n) (sym e) ∙ own.there))))
+      ∙ along.others x own nowhere
+
+  knows_all : KnowsMore old new
+  knows_all = knows_on old r new along.knows persists.knows
+
+  -- this request is served
+  module _ (reply : Reply) (stamp : ℕ) (done : IsServed m planning q reply stamp persists.before new) where
+    knows_now : is_answered new.part.records.known q.number ≡ true
+    knows_now = and_true _ _
+        (entry_known new.part.records.known q.number false done.knows_stamp.0 _ done.knows_stamp.1 refl refl)
+        (entry_known new.part.records.known q.number true done.knows_reply.0 _ done.knows_reply.1 refl refl)
+
+    -- its stamp is above those of the requests before it
+    above : (k : ℕ) (a : Request) → k < i → slice_get requests k ≡ Some a → (x : Known) → HasEntry new.part.records.known x → x.reply ≡ false
+        → x.request ≡ a.number → x.number < stamp
+    above k a lt there x h is request =
+        let answered = along.served.answered k a lt there in
+        let was = was_known done.reached a.number answered x h is request in
+        let below = done.above was.0 (entry_on r.part.records.known persists.before.part.records.known persists.knew.known was.0 was.1) was.3
+        (ap (λ n. is_answered persists.before.part.records.known n) was.2
+        ∙ answered_more r.part.records.known persists.before.part.records.known persists.knew.known a.number answered) in
+        subst (λ n. n < stamp) (sym was.4) below
+
+    stamp_now : (y : Known) → HasEntry new.part.records.known y → y.reply ≡ false → y.request ≡ q.number → y.number ≡ stamp
+    stamp_now y h is request = one_stamp m laws new limits_new allowed_new done.reached y (record { request = q.number; reply = false; number = stamp }) h
+        done.knows_stamp request is refl
+
+    is_here : (k : ℕ) (x : Request) → k ≡ i → slice_get requests k ≡ Some x → q ≡ x
+    is_here k x e there = some_same q x (sym at ∙ (ap (slice_get requests) (sym e) ∙ there))
+
+    earlier_of : (k : ℕ) → k < i + 1 → k ≢ i → k < i
+    earlier_of k lt ne = grind arith
+
+    pub along_on : IsAlong requests (i + 1) old new
+    along_on = record {
+      served = record {
+        few = let low = slice_get_within requests i q at in omega (arith, low);
+        answered = λ k x lt there. ⊎_elim
+            (λ e. subst (λ (y : Request). is_answered new.part.records.known y.number ≡ true) (is_here k x e there) knows_now)
+            (λ ne. (stays done.reached).answered k x (earlier_of k lt ne) there)
+            (cases_eq k i);
+        rising = λ j k a b below lt there there'. ⊎_elim
+            (λ e. subst (λ (y : Request). IsBefore new.part.records.known a y) (is_here k b e there')
+            (λ x y hx hy isx isy ofx ofy. subst (λ n. x.number < n) (sym (stamp_now y hy isy ofy))
+            (above j a (omega (arith, below, e)) there x hx isx ofx)))
+            (λ ne. (stays done.reached).rising j k a b below (earlier_of k lt ne) there there')
+            (cases_eq k i);
+        behind = λ k x lt there. still_open k x there (omega (arith, lt));
+      };
+      unanswered = λ x there. still_open (i + 1) x there (omega arith);
+      tidy = done.tidy;
+      knows = knows_all;
+      others = others_all;
+    }
+
+  -- or the serving stops with it
+  over_of : (retry : Bool) (limbo : ℕ) → (retry && not (limbo == 0)) ≡ false → (retry ≡ false) ⊎ (limbo ≡ 0)
+  over_of false limbo e = inl refl
+  over_of true limbo e = inr (grind (arith, nat_tests, e))
+
+  serves_short : (short : Short) → is_tried_again retry_short (attempts.Short short) ≡ false → IsShort m short q.number persists.before new
+      → Serves m planning retry_short requests (answers.Short short) old new
+  serves_short short last is = record {
+    count = i;
+    served = stays is.untouched.reached;
+    ends = (
+      q,
+      at,
+      record {
+        before = persists.before;
+        knew = knows_on old r persists.before along.knows persists.knew;
+        stops = record { cause = is; over = over_of retry_short short.limbo last };
+        tidy = is.collects.tidy;
+        unanswered = is.untouched.unknown;
+      },
+    );
+    knows = knows_all;
+    others = others_all;
+  }
+
+  serves_spent : (place word : ℕ) → IsTurnedAway m planning q (attempts.Spent place word) persists.before new
+      → Serves m planning retry_short requests (answers.Spent place word) old new
+  serves_spent place word is = record {
+    count = i;
+    served = stays is.untouched.reached;
+    ends = (
+      q,
+      at,
+      record {
+        before = persists.before;
+        knew = knows_on old r persists.before along.knows persists.knew;
+        stops = is;
+        tidy = is.tidy;
+        unanswered = is.untouched.unknown;
+      },
+    );
+    knows = knows_all;
+    others = others_all;
+  }
+
+  serves_halted : IsHalted m planning q persists.before new → Serves m planning retry_short requests answers.Halted old new
+  serves_halted is = record {
+    count = i;
+    served = stays is.reached;
+    ends = record {
+      published = λ x e. (q, at, is.published x e);
+      unanswered = λ none x there. subst (λ (y : Request). is_answered new.part.records.known y.number ≡ false) (some_same q x (sym at ∙ there)) (is.unknown none);
+    };
+    knows = knows_all;
+    others = others_all;
+  }
+
+  serves_stopped : (a : Attempt) (stopped : Served) → stop_of a ≡ Some stopped → is_tried_again retry_short a ≡ false
+      → Answers m planning q a persists.before new → Serves m planning retry_short requests stopped old new
+  serves_stopped (attempts.Short short) stopped e last is =
+      subst (λ s. Serves m planning retry_short requests s old new) (some_same (answers.Short short) stopped e) (serves_short short last is)
+  serves_stopped (attempts.Spent place word) stopped e last is =
+      subst (λ s. Serves m planning retry_short requests s old new) (some_same (answers.Spent place word) stopped e) (serves_spent place word is)
+  serves_stopped attempts.Halted stopped e last is =
+      subst (λ s. Serves m planning retry_short requests s old new) (some_same answers.Halted stopped e) (serves_halted is)
+  serves_stopped (attempts.Done reply stamp) stopped e last is = absurd (none_some stopped (sym e))
+  serves_stopped (attempts.Busy place word) stopped e last is = absurd (let z = last in cc)
+  serves_stopped (attempts.Stale place expected read) stopped e last is = absurd (let z = last in cc)
+  serves_stopped (attempts.Far loads) stopped e last is = absurd (let z = last in cc)
+
+  pub stopped_serves : (stopped : Served) → stop_of answer ≡ Some stopped → Serves m planning retry_short requests stopped old new
+  stopped_serves stopped e = serves_stopped answer stopped e persists.last persists.answers
+
+  going_on : (a : Attempt) → stop_of a ≡ None → Answers m planning q a persists.before new → IsAlong requests (i + 1) old new
+  going_on (attempts.Done reply stamp) e is = along_on reply stamp is
+  going_on (attempts.Short short) e is = absurd (none_some _ e)
+  going_on (attempts.Spent place word) e is = absurd (none_some _ e)
+  going_on attempts.Halted e is = absurd (none_some _ e)
+  going_on (attempts.Busy place word) e is = absurd (none_some _ e)
+  going_on (attempts.Stale place expected read) e is = absurd (none_some _ e)
+  going_on (attempts.Far loads) e is = absurd (none_some _ e)
+
+  pub goes_along : stop_of answer ≡ None → IsAlong requests (i + 1) old new
+  goes_along e = going_on answer e persists.answers
+
+-- how the serving ends behind requests that are served
+module _ {T : Type 0} (m : Meaning) (planning : Planning) (requests : List Request) (retry_short : Bool) (old new : RunnerState T) (i : ℕ)
+    (along : IsAlong requests i old new) where
+  pub halted_behind : Serves m planning retry_short requests answers.Halted old new
+  halted_behind = record {
+    count = i;
+    served = along.served;
+    ends = record {
+      published = λ x e. absurd (none_some x (sym e ∙ along.tidy.at.published));
+      unanswered = λ none x there. along.unanswered x there;
+    };
+    knows = along.knows;
+    others = along.others;
+  }
+
+  pub all_served : i ≡ length requests → Serves m planning retry_short requests answers.All old new
+  all_served e = record {
+    count = i;
+    served = along.served;
+    ends = (e, along.tidy);
+    knows = along.knows;
+    others = along.others;
+  }
+
+-- when a last attempt was halted
+pub halted_of : (retry_short : Bool) (a : Attempt) → is_tried_again retry_short a ≡ false → stop_of a ≡ Some answers.Halted → a ≡ attempts.Halted
+halted_of retry_short attempts.Halted last e = refl
+halted_of retry_short (attempts.Done reply stamp) last e = absurd (none_some _ (sym e))
+halted_of retry_short (attempts.Short short) last e = absurd (let z = some_same _ _ e in cc)
+halted_of retry_short (attempts.Spent place word) last e = absurd (let z = some_same _ _ e in cc)
+halted_of retry_short (attempts.Busy place word) last e = absurd (let z = last in cc)
+halted_of retry_short (attempts.Stale place expected read) last e = absurd (let z = last in cc)
+halted_of retry_short (attempts.Far loads) last e = absurd (let z = last in cc)
+
+pub went_of : (a : Attempt) (stopped : Served) → stop_of a ≡ Some stopped → stopped ≢ answers.Halted → a ≢ attempts.Halted
+went_of a stopped e ne halted = ne (sym (some_same answers.Halted stopped (sym (ap stop_of halted) ∙ e)))
+
+pub going_of : (a : Attempt) → stop_of a ≡ None → a ≢ attempts.Halted
+going_of a e halted = none_some answers.Halted (sym (ap stop_of halted) ∙ e)

@@ -1,0 +1,5 @@
+mod Lists
+mod Standing
+mod Trying
+mod Along
+pub mod Spent

@@ -1,0 +1,132 @@
+-- A request that is attempted again.
+use Rattle.std.specs.Prelude.{◌==◌, ◌&&◌, ◌||◌, not, nat_lt, ◌%◌, Bool, true, false, slice_get}
+use Rattle.std.proofs.Common.{◌≡◌, ℕ, List, refl, sym, ap, ◌∙◌}
+use Rattle.map_history.specs.declared.op.Request.{Request}
+use Rattle.structure_laws.specs.Meaning.{Meaning}
+use Rattle.runner_parts.specs.Tests.{is_answered, are_answered}
+use Rattle.version_words.specs.RunnerState.{RunnerState}
+use Rattle.version_words.specs.TableState.{TableState, IsOf}
+use Rattle.epoch_slots.specs.Collects.{IsTidy}
+use Rattle.try_lock.specs.Planning.{Planning}
+use Rattle.attempts.specs.Knowing.{IsFront, KnowsMore, LearnsNoOther}
+use Rattle.attempts.specs.Course.{MayAttempt}
+use Rattle.attempts.specs.Attempts.{is_halted, Answers, Attempts}
+use Rattle.attempts.specs.declared.answers.Attempt.{Attempt}
+use Rattle.attempts.specs.declared.answers.Attempt.TheVariants as attempts
+use Rattle.attempts.proofs.Knowing.{knows_on, knows_same, no_other_on}
+use Rattle.serving.specs.Serving.{is_tried_again, Persists}
+use Rattle.serving.proofs.Lists.{all_weaker, held_more}
+use Rattle.serving.proofs.Standing.{answered_more}
+
+next_parts : (a b c : Bool) → (a && (not b && c)) ≡ true → (a ≡ true) × (b ≡ false) × (c ≡ true)
+next_parts true false true e = (refl, refl, refl)
+next_parts true false false e = absurd (let z = e in cc)
+next_parts true true c e = absurd (let z = e in cc)
+next_parts false b c e = absurd (let z = e in cc)
+
+pub next_of_parts : (a b c : Bool) → a ≡ true → b ≡ false → c ≡ true → (a && (not b && c)) ≡ true
+next_of_parts a b c one two three = ap (λ x. x && (not b && c)) one ∙ (ap (λ x. not x && c) two ∙ three)
+
+-- of whom knows more, the earlier requests of the trace are answered still
+earlier_on : (known more : List _) → IsFront known more → (trace below : ℕ) (requests : List Request)
+    → are_answered known trace below requests ≡ true → are_answered more trace below requests ≡ true
+earlier_on known more front trace below requests e = all_weaker
+    (λ (x : Request). not (x.trace == trace && nat_lt x.number below) || is_answered known x.number)
+    (λ (x : Request). not (x.trace == trace && nat_lt x.number below) || is_answered more x.number)
+    (λ x. held_more (x.trace == trace && nat_lt x.number below) (is_answered known x.number) (is_answered more x.number)
+    (answered_more known more front x.number)) requests e
+
+module _ {T : Type 0} (planning : Planning) (request : Request) (old new : RunnerState T) where
+  -- a runner that knows more, and doesn't know this request, may attempt it still
+  pub may_again : MayAttempt planning request old → KnowsMore old new → new.layout ≡ old.layout → new.requests ≡ old.requests → IsTidy new
+      → is_answered new.part.records.known request.number ≡ false → MayAttempt planning request new
+  may_again may knows layout requests tidy unknown = record {
+    tidy = tidy;
+    there = ap (λ rs. slice_get rs request.number) requests ∙ may.there;
+    next = next_of_parts _ _ _
+        ((λ i. request.trace % (layout i).runners == knows.number i) ∙ parts.0)
+        unknown
+        (ap (are_answered new.part.records.known request.trace request.number) requests
+        ∙ earlier_on old.part.records.known new.part.records.known knows.known request.trace request.number old.requests parts.2);
+    served = may.served;
+  }
+    where
+      parts : (request.trace % old.layout.runners == old.number ≡ true) × (is_answered old.part.records.known request.number ≡ false)
+          × (are_answered old.part.records.known request.trace request.number old.requests ≡ true)
+      parts = next_parts _ _ _ may.next
+
+-- the runner is of one table all the while
+pub same_layout : {T : Type 0} (t : TableState T) (old new : RunnerState T) → IsOf t old → IsOf t new → new.layout ≡ old.layout
+same_layout t old new one two = two.layout ∙ sym one.layout
+
+pub same_requests : {T : Type 0} (t : TableState T) (old new : RunnerState T) → IsOf t old → IsOf t new → new.requests ≡ old.requests
+same_requests t old new one two = two.requests ∙ sym one.requests
+
+-- the attempts so far, after each of which the request was attempted again
+pub record IsTrying {T : Type 0} (planning : Planning) (request : Request) (old r : RunnerState T) (halts halts' : ℕ) : Type 0 where
+  pub may : MayAttempt planning request r
+  pub knows : KnowsMore old r
+  pub no_other : LearnsNoOther request.number old r
+  pub went : halts' ≡ halts
+
+pub trying_begins : {T : Type 0} (planning : Planning) (request : Request) (r : RunnerState T) (halts : ℕ) → MayAttempt planning request r
+    → IsTrying planning request r r halts halts
+trying_begins planning request r halts may = record {
+  may = may;
+  knows = knows_same r r refl refl refl;
+  no_other = λ q own ne. refl;
+  went = refl;
+}
+
+-- an answer after which the request is attempted again leaves the runner idle, and the request unserved
+module _ {T : Type 0} (m : Meaning) (planning : Planning) (request : Request) (retry_short : Bool) (old new : RunnerState T) where
+  again_open : (answer : Attempt) → is_tried_again retry_short answer ≡ true → Answers m planning request answer old new
+      → IsTidy new × (is_answered new.part.records.known request.number ≡ false)
+  again_open (attempts.Busy place word) e is = (is.tidy, is.untouched.unknown)
+  again_open (attempts.Stale place expected read) e is = (is.tidy, is.untouched.unknown)
+  again_open (attempts.Far loads) e is = (is.tidy, is.untouched.unknown)
+  again_open (attempts.Spent place word) e is = absurd (let z = e in cc)
+  again_open (attempts.Done reply stamp) e is = absurd (let z = e in cc)
+  again_open (attempts.Short short) e is = (is.collects.tidy, is.untouched.unknown)
+  again_open attempts.Halted e is = absurd (let z = e in cc)
+
+  again_going : (answer : Attempt) → is_tried_again retry_short answer ≡ true → not (is_halted answer) ≡ true
+  again_going (attempts.Busy place word) e = refl
+  again_going (attempts.Stale place expected read) e = refl
+  again_going (attempts.Far loads) e = refl
+  again_going (attempts.Spent place word) e = refl
+  again_going (attempts.Done reply stamp) e = refl
+  again_going (attempts.Short short) e = refl
+  again_going attempts.Halted e = absurd (let z = e in cc)
+
+module _ {T : Type 0} (m : Meaning) (planning : Planning) (request : Request) (retry_short : Bool) (t : TableState T)
+    (old r new : RunnerState T) (of_r : IsOf t r) (of_old : IsOf t old) (of_new : IsOf t new) (answer : Attempt)
+    (halts halts' halts'' asks asks' steps steps' : ℕ) (trying : IsTrying planning request old r halts halts')
+    (attempted : Attempts m planning request answer r new halts' halts'' asks asks' steps steps') where
+  knows_all : KnowsMore old new
+  knows_all = knows_on old r new trying.knows attempted.knows
+
+  no_other_all : LearnsNoOther request.number old new
+  no_other_all = no_other_on request.number old r new (same_requests t old r of_old of_r) (same_layout t old r of_old of_r) trying.knows.number
+      trying.no_other attempted.no_other
+
+  -- it is attempted once more
+  pub trying_on : is_tried_again retry_short answer ≡ true → IsTrying planning request old new halts halts''
+  trying_on again = let now = again_open m planning request retry_short r new answer again attempted.answers in record {
+    may = may_again planning request r new trying.may attempted.knows (same_layout t r new of_r of_new) (same_requests t r new of_r of_new) now.0 now.1;
+    knows = knows_all;
+    no_other = no_other_all;
+    went = attempted.asked.went (again_going m planning request retry_short r new answer again) ∙ trying.went;
+  }
+
+  -- or this was the last attempt
+  pub trying_ends : is_tried_again retry_short answer ≡ false → Persists m planning retry_short request answer old new
+  trying_ends last = record {
+    before = r;
+    may = trying.may;
+    answers = attempted.answers;
+    last = last;
+    knew = trying.knows;
+    knows = knows_all;
+    no_other = no_other_all;
+  }

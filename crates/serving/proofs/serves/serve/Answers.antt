@@ -1,0 +1,53 @@
+use Rattle.std.proofs.Common.{refl, sym, ◌∙◌, subst}
+use Rattle.std.proofs.lemmas.Option.{slice_get-get_or}
+use Rattle.fault_count.specs.Rose.{Rose}
+use Rattle.serving.proofs.Along.{may_next, stopped_serves, goes_along, halted_behind, going_of}
+use Rattle.serving.proofs.serves.serve.Goals as goal
+
+pub persist-next-requires-clause-next : goal.persist-next-requires-clause-next
+persist-next-requires-clause-next g c κs within = let inv = c.loop-request.invariant in
+    may_next (g.S.Planner.planning c.args.table.now.structure) c.args.requests.now c.args.runner c.loop-request.runner c.args.table.now c.table_is_allowed.ensures.requests
+    c.requires.own inv.own c.requires.next c.loop-request.request-index _
+    (slice_get-get_or c.args.requests.now c.loop-request.request-index _ c.loop-request-test.true) inv.along
+
+pub returns-in-Some-clause-serves : goal.returns-in-Some-clause-serves
+returns-in-Some-clause-serves g c =
+    let met = g.met.S.Structure g.world.𝓛 g.world.𝓜 g.world.𝓡 ((λ s allowed. allowed), (λ patient. patient), (λ alone. alone), (λ cuts. cuts)) in
+    let inv = c.loop-request.invariant in
+    stopped_serves (g.S.Structure.meaning c.args.table.now.structure) (met.laws c.args.table.now.structure) (g.S.Planner.planning c.args.table.now.structure)
+    c.args.requests.now c.args.retry_short c.args.runner c.loop-request.runner c.persist-next.result.0
+    c.args.table.now c.table_is_allowed.ensures.limits c.table_is_allowed.ensures.requests c.requires.own inv.own c.persist-next.ensures.own
+    c.requires.next c.loop-request.request-index _ (slice_get-get_or c.args.requests.now c.loop-request.request-index _ c.loop-request-test.true) inv.along
+    c.persist-next.result.1 c.persist-next.ensures.persists c.in-Some.stopped (sym c.in-Some.ensures)
+
+pub returns-then-not-goes_on-clause-serves : goal.returns-then-not-goes_on-clause-serves
+returns-then-not-goes_on-clause-serves g c =
+    let met = g.met.S.Structure g.world.𝓛 g.world.𝓜 g.world.𝓡 ((λ s allowed. allowed), (λ patient. patient), (λ alone. alone), (λ cuts. cuts)) in
+    let inv = c.loop-request.invariant in
+    halted_behind (g.S.Structure.meaning c.args.table.now.structure) (g.S.Planner.planning c.args.table.now.structure) c.args.requests.now c.args.retry_short
+    c.args.runner c.persist-next.result.0 _
+    (goes_along (g.S.Structure.meaning c.args.table.now.structure) (met.laws c.args.table.now.structure) (g.S.Planner.planning c.args.table.now.structure)
+    c.args.requests.now c.args.retry_short c.args.runner c.loop-request.runner c.persist-next.result.0
+    c.args.table.now c.table_is_allowed.ensures.limits c.table_is_allowed.ensures.requests c.requires.own inv.own c.persist-next.ensures.own
+    c.requires.next c.loop-request.request-index _ (slice_get-get_or c.args.requests.now c.loop-request.request-index _ c.loop-request-test.true) inv.along
+    c.persist-next.result.1 c.persist-next.ensures.persists (sym c.in_default.ensures))
+
+pub returns-then-not-goes_on-clause-halted : goal.returns-then-not-goes_on-clause-halted
+returns-then-not-goes_on-clause-halted g c = λ _.
+    subst (λ n. Rose n (g.G.Gate.halts c.goes_on.new.gate))
+    (c.persist-next.ensures.went (going_of c.persist-next.result.1 (sym c.in_default.ensures)) ∙ c.loop-request.invariant.went)
+    ((c.if-not-goes_on.ensures 0).halted refl)
+
+pub loop-request-preserved : goal.loop-request-preserved
+loop-request-preserved g c =
+    let met = g.met.S.Structure g.world.𝓛 g.world.𝓜 g.world.𝓡 ((λ s allowed. allowed), (λ patient. patient), (λ alone. alone), (λ cuts. cuts)) in
+    let inv = c.loop-request.invariant in record {
+      own = c.persist-next.ensures.own;
+      along = goes_along (g.S.Structure.meaning c.args.table.now.structure) (met.laws c.args.table.now.structure) (g.S.Planner.planning c.args.table.now.structure)
+          c.args.requests.now c.args.retry_short c.args.runner c.loop-request.runner c.persist-next.result.0
+          c.args.table.now c.table_is_allowed.ensures.limits c.table_is_allowed.ensures.requests c.requires.own inv.own c.persist-next.ensures.own
+          c.requires.next c.loop-request.request-index _ (slice_get-get_or c.args.requests.now c.loop-request.request-index _ c.loop-request-test.true) inv.along
+          c.persist-next.result.1 c.persist-next.ensures.persists (sym c.in_default.ensures);
+      went = (c.if-not-goes_on.ensures 0).went refl
+          ∙ (c.persist-next.ensures.went (going_of c.persist-next.result.1 (sym c.in_default.ensures)) ∙ inv.went);
+    }

@@ -1,0 +1,123 @@
+-- The serving of a list of requests: what may be served, and what each answer says.
+use Rattle.std.specs.Prelude.{◌≡◌, ◌≢◌, ℕ, ◌<◌, ◌≤◌, ◌⊎◌, List, length, Bool, true, false, not, ◌==◌, ◌&&◌, Option, None, Some, slice_get}
+use Rattle.map_history.specs.declared.op.Request.{Request}
+use Rattle.structure_laws.specs.Meaning.{Meaning}
+use Rattle.runner_parts.specs.declared.entries.Known.{Known}
+use Rattle.runner_parts.specs.declared.entries.Published.{Published}
+use Rattle.runner_parts.specs.Tests.{is_answered}
+use Rattle.version_words.specs.RunnerState.{RunnerState}
+use Rattle.epoch_slots.specs.Collects.{IsTidy}
+use Rattle.epoch_slots.specs.declared.reserves.Short.{Short}
+use Rattle.try_lock.specs.Planning.{Planning}
+use Rattle.request_facts.specs.Laws.{HasEntry}
+use Rattle.attempts.specs.Knowing.{KnowsMore, IsOwn, LearnsNoOther}
+use Rattle.attempts.specs.Course.{MayAttempt}
+use Rattle.attempts.specs.Attempts.{IsShort, IsTurnedAway, Answers}
+use Rattle.attempts.specs.declared.answers.Attempt.{Attempt}
+use Rattle.attempts.specs.declared.answers.Attempt.TheVariants as attempts
+use Rattle.serving.specs.declared.answers.Served.{Served}
+use Rattle.serving.specs.declared.answers.Served.TheVariants as answers
+
+-- whether a request is attempted again after this answer: somebody else's section came between, or slots are wanted that
+-- are in limbo, where such a want is to be waited out
+abbrev pub is_tried_again : Bool → Attempt → Bool
+is_tried_again retry_short (attempts.Busy place word) = true
+is_tried_again retry_short (attempts.Stale place expected read) = true
+is_tried_again retry_short (attempts.Far loads) = true
+is_tried_again retry_short (attempts.Short short) = retry_short && not (short.limbo == 0)
+is_tried_again retry_short _ = false
+
+-- what the serving stops with at this answer of a last attempt; none where the request is served
+abbrev pub stop_of : Attempt → Option Served
+stop_of (attempts.Done reply stamp) = None
+stop_of (attempts.Short short) = Some (answers.Short short)
+stop_of (attempts.Spent place word) = Some (answers.Spent place word)
+stop_of _ = Some answers.Halted
+
+-- what is known as the stamp of the one request is below what is known as the stamp of the other
+abbrev pub IsBefore : List Known → Request → Request → Type 0
+IsBefore known one other = (x y : Known) → HasEntry known x → HasEntry known y → x.reply ≡ false → y.reply ≡ false
+    → x.request ≡ one.number → y.request ≡ other.number → x.number < y.number
+
+module _ {T : Type 0} where
+  -- the requests are the worker's own, each once, and the structure serves them; none of them is answered; of each one's
+  -- trace the earlier requests are answered, or stand before it. The worker is idle with an empty hand
+  pub record MayServe (planning : Planning) (requests : List Request) (r : RunnerState T) : Type 0 where
+    pub tidy : IsTidy r
+    pub own : (i : ℕ) (q : Request) → slice_get requests i ≡ Some q → IsOwn r q
+    pub served : (i : ℕ) (q : Request) → slice_get requests i ≡ Some q → planning.serves q.op ≡ true
+    pub once : (i j : ℕ) (q q' : Request) → slice_get requests i ≡ Some q → slice_get requests j ≡ Some q'
+        → q.number ≡ q'.number → i ≡ j
+    pub unanswered : (i : ℕ) (q : Request) → slice_get requests i ≡ Some q
+        → is_answered r.part.records.known q.number ≡ false
+    pub earlier : (i : ℕ) (q q' : Request) → slice_get requests i ≡ Some q → IsOwn r q' → q'.trace ≡ q.trace
+        → q'.number < q.number
+        → (is_answered r.part.records.known q'.number ≡ true) ⊎ ((j : ℕ) × (j < i) × (slice_get requests j ≡ Some q'))
+
+  -- the first requests of the list, so many, are answered, and their stamps rise along it. Of those behind them none is
+  -- answered but the next one, of which nothing is said here
+  pub record AreServed (requests : List Request) (count : ℕ) (r : RunnerState T) : Type 0 where
+    pub few : count ≤ length requests
+    pub answered : (i : ℕ) (q : Request) → i < count → slice_get requests i ≡ Some q
+        → is_answered r.part.records.known q.number ≡ true
+    pub rising : (i j : ℕ) (q q' : Request) → i < j → j < count → slice_get requests i ≡ Some q
+        → slice_get requests j ≡ Some q' → IsBefore r.part.records.known q q'
+    pub behind : (i : ℕ) (q : Request) → count < i → slice_get requests i ≡ Some q
+        → is_answered r.part.records.known q.number ≡ false
+
+  -- a gate halted the runner. What it has published, if anything, is for the request behind those that are served; where
+  -- it has published nothing, that request isn't answered
+  pub record WasHalted (requests : List Request) (count : ℕ) (r : RunnerState T) : Type 0 where
+    pub published : (x : Published) → r.part.published ≡ Some x
+        → (q : Request) × (slice_get requests count ≡ Some q) × (x.thunk.request ≡ q.number)
+    pub unanswered : r.part.published ≡ None → (q : Request) → slice_get requests count ≡ Some q
+        → is_answered r.part.records.known q.number ≡ false
+
+  module _ (m : Meaning) (planning : Planning) (retry_short : Bool) where
+    -- the request was attempted until this answer, after which it isn't attempted again. Before the last attempt the
+    -- runner was as `before` says
+    pub record Persists (request : Request) (answer : Attempt) (old new : RunnerState T) : Type 0 where
+      pub before : RunnerState T
+      pub may : MayAttempt planning request before
+      pub answers : Answers m planning request answer before new
+      pub last : is_tried_again retry_short answer ≡ false
+      pub knew : KnowsMore old before
+      pub knows : KnowsMore old new
+      pub no_other : LearnsNoOther request.number old new
+
+    -- too few slots were free at the last attempt, and such a want isn't waited out, or no slot of the kind is in limbo
+    pub record StopsShort (short : Short) (request : Request) (old new : RunnerState T) : Type 0 where
+      pub cause : IsShort m short request.number old new
+      pub over : (retry_short ≡ false) ⊎ (short.limbo ≡ 0)
+
+    -- why the serving stopped at this request
+    abbrev pub Stops : Served → Request → RunnerState T → RunnerState T → Type 0
+    Stops (answers.Short short) request old new = StopsShort short request old new
+    Stops (answers.Spent place word) request old new = IsTurnedAway m planning request (attempts.Spent place word) old new
+    Stops _ request old new = ⊥
+
+    -- it stopped at this request, which isn't answered. Before the last attempt of it the runner was as `before` says,
+    -- and it is idle now with an empty hand
+    pub record HasStopped (answer : Served) (request : Request) (old new : RunnerState T) : Type 0 where
+      pub before : RunnerState T
+      pub knew : KnowsMore old before
+      pub stops : Stops answer request before new
+      pub tidy : IsTidy new
+      pub unanswered : is_answered new.part.records.known request.number ≡ false
+
+    -- how the serving ended behind so many served requests
+    abbrev pub Ends : List Request → Served → ℕ → RunnerState T → RunnerState T → Type 0
+    Ends requests answers.All count old new = (count ≡ length requests) × IsTidy new
+    Ends requests answers.Halted count old new = WasHalted requests count new
+    Ends requests answer count old new = (q : Request) × (slice_get requests count ≡ Some q)
+        × HasStopped answer q old new
+
+    -- what the serving of these requests does
+    pub record Serves (requests : List Request) (answer : Served) (old new : RunnerState T) : Type 0 where
+      pub count : ℕ
+      pub served : AreServed requests count new
+      pub ends : Ends requests answer count old new
+      pub knows : KnowsMore old new
+      -- its other own requests are as they were
+      pub others : (q : Request) → IsOwn old q → ((i : ℕ) → slice_get requests i ≢ Some q)
+          → is_answered new.part.records.known q.number ≡ is_answered old.part.records.known q.number

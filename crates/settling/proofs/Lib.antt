@@ -1,0 +1,4 @@
+mod Growing
+mod Clears
+mod Settling
+mod Ran

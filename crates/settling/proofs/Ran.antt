@@ -1,0 +1,16 @@
+-- A run under a gate that never halts comes to its end.
+use Rattle.std.proofs.Common.{◌≡◌, refl, arith}
+use Rattle.fault_count.specs.Rose.{Rose}
+use Rattle.section_body.specs.Trail.{Agreed}
+use Rattle.section_body.specs.declared.outcome.Outcome.{Outcome}
+use Rattle.section_runs.specs.declared.runs.RunEnd.{RunEnd}
+use Rattle.section_runs.specs.declared.runs.RunEnd.TheVariants.{Done, Halted}
+
+-- a count that stays 0 doesn't rise
+pub not_rose : Rose 0 0 → ⊥
+not_rose rose = grind (arith, rose)
+
+-- what holds of each outcome holds where the run isn't halted
+pub at_end : (P : Type 0) (end : RunEnd) → ((o : Outcome) (trail : Agreed) → end ≡ Done o trail → P) → (end ≡ Halted → ⊥) → P
+at_end P (Done o trail) done halted = done o trail refl
+at_end P Halted done halted = absurd (halted refl)

@@ -1,0 +1,55 @@
+-- How far the keeper has come with the locks of a table whose workers it has joined.
+use Rattle.std.specs.Prelude.{◌≡◌, ℕ, ◌+◌, ◌*◌, ◌<◌, ◌≤◌, List, [], true, length, None}
+use Rattle.section_body.specs.Trail.{Agreed}
+use Rattle.section_body.specs.declared.outcome.Outcome.{Outcome}
+use Rattle.section_body.specs.declared.thunk.Thunk.{Thunk}
+use Rattle.table_words.specs.Places.{slot_count}
+use Rattle.table_words.specs.declared.layout.Layout.{Layout}
+use Rattle.structure_laws.specs.Meaning.{Meaning}
+use Rattle.runner_parts.specs.declared.stage.Stage.TheVariants as stages
+use Rattle.runner_parts.specs.Tests.{has}
+use Rattle.version_words.specs.RunnerState.{RunnerState}
+use Rattle.version_words.specs.Stages.{IsAt}
+use Rattle.section_runs.specs.Reached.{IsReached}
+use Rattle.section_runs.specs.Ended.{EndsSo}
+use Rattle.keeper_facts.specs.Freed.{IsCleared, IsFreed, AreApart}
+use Rattle.settling.specs.Settled.{IsFront, LoadsLocks}
+
+-- how many cells the table has
+abbrev pub cell_count : Meaning → Layout → ℕ
+cell_count m l = m.fixed_cells + 5 * slot_count l m.fixed_slots
+
+module _ {T : Type 0} where
+  -- what the keeper keeps along its way: whom it has joined and their parts, and what it knew
+  pub record KeepsJoins (old new : RunnerState T) : Type 0 where
+    pub layout : new.layout ≡ old.layout
+    pub number : new.number ≡ old.number
+    pub joined : new.joined ≡ old.joined
+    pub told : new.part.records.joined ≡ old.part.records.joined
+    pub known : IsFront old.part.records.known new.part.records.known
+
+  module _ (m : Meaning) where
+    -- the keeper is entered and has gone over the locks below this place: each of them is cleared, and of the
+    -- sections that it ran, which are different, no lock names one any more
+    pub record IsClearing (below : ℕ) (r : RunnerState T) : Type 0 where
+      pub epoch : ℕ
+      pub at : IsAt r (stages.Entered epoch) None
+      pub keeper : r.number ≡ r.layout.runners
+      pub told : (worker : ℕ) → worker < r.layout.runners → has r.part.records.joined worker ≡ true
+      pub reached : IsReached m r
+      pub hand : r.part.nodes.hand ≡ []
+      pub tests : r.part.nodes.tests ≡ []
+      pub loaded : LoadsLocks m r.part.reads.walk
+      pub cleared : (place : ℕ) → place < below → m.is_lock place ≡ true → IsCleared r.part.records.left place
+      pub freed : List ℕ
+      pub apart : AreApart freed
+      pub each : (d : ℕ) → has freed d ≡ true → IsFreed m r.part.records.left d
+      pub reserve : 2 * r.layout.runners + 2 ≤ length r.part.nodes.free + 2 * length freed
+
+    -- the section in this descriptor was run to its end
+    pub record HasRun (d : ℕ) (old new : RunnerState T) : Type 0 where
+      pub thunk : Thunk
+      pub outcome : Outcome
+      pub trail : Agreed
+      pub made : ℕ
+      pub ends : EndsSo m d thunk outcome trail made old new

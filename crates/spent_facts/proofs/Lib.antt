@@ -1,0 +1,4 @@
+mod Leaving
+mod Agreed
+mod Kept
+pub mod Reached

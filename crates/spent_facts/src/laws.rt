@@ -1,0 +1,23 @@
+//! What is known of spent words, on a contract.
+ghost use Rattle.std.specs.Prelude.{List};
+ghost use Rattle.map_history.specs.declared.op.Request.{Request};
+ghost use Rattle.table_words.specs.Limits.{IsWithinLimits};
+ghost use Rattle.table_words.specs.declared.layout.Layout.{Layout};
+ghost use Rattle.machine_states.specs.World.{World};
+ghost use Rattle.machine_states.specs.Reached.{Reached};
+ghost use Rattle.machine_states.specs.Sight.{sight};
+ghost use Rattle.machine_invariant.specs.After.{AreAllowed};
+ghost use Rattle.spent_facts.specs.Spent.{SpentStand};
+
+use runner_parts::Structure;
+
+/// In every state that the machine reaches: where a runner keeps of a section that it left by a word behind which too
+/// few versions were left, so it is, and that word stands at its place or a later version does, for good. So does
+/// each word that a runner has read since it entered.
+pub fn spent_words_stand<S: Structure>(structure: &S)
+    ensures { (layout : Layout) (requests : List Request) (w : World) → IsWithinLimits layout → AreAllowed requests
+        → Reached (S.meaning structure.now) layout requests w
+        → SpentStand layout (sight (S.meaning structure.now) layout requests w) }
+{
+    let _ = structure;
+}
