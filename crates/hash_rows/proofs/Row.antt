@@ -111,11 +111,11 @@ module _ {T : Type 0} (m : Meaning) (idle entered : RunnerState T) (enters : Ent
         let walk : r.part.reads.walk ≡ so.readings = ap (λ (s : ReadsState). s.walk) so.walked.reads ∙ ap (λ (s : ReadsState). s.walk ++ so.readings) enters.reads in
         let cells : r.part.reads.cells ≡ so.readings = ap (λ (s : ReadsState). s.cells) so.walked.reads ∙ ap (λ (s : ReadsState). s.cells ++ so.readings) enters.reads in
         let fits : m.fits r.layout (asked a b n).op r.part.reads.walk thunk ≡ true
-          = (λ i. m.fits (layout i) (asked a b n).op (walk i) thunk) ∙ (ap (λ (q : Request). m.fits entered.layout q.op so.readings thunk) (sym is) ∙ fit.fits) in
+        = (λ i. m.fits (layout i) (asked a b n).op (walk i) thunk) ∙ (ap (λ (q : Request). m.fits entered.layout q.op so.readings thunk) (sym is) ∙ fit.fits) in
         let theirs : thunk.request ≡ n = fit.request ∙ (ap (λ (q : Request). q.number) is ∙ numbered n few) in
         let own : is_due m r.layout r.requests n r.part.records.known r.part.reads.walk thunk ≡ true
-          = due m a b r.layout r.requests n r.part.records.known r.part.reads.walk thunk (ap (λ (l : Layout). l.runners) (layout ∙ is_layout) ∙ two) requests few
-              (so.walked.keeps.known ∙ (enters.keeps.known ∙ ready.fresh.knows)) theirs fits in
+        = due m a b r.layout r.requests n r.part.records.known r.part.reads.walk thunk (ap (λ (l : Layout). l.runners) (layout ∙ is_layout) ∙ two) requests few
+        (so.walked.keeps.known ∙ (enters.keeps.known ∙ ready.fresh.knows)) theirs fits in
         record {
           epoch = enters.epoch;
           at = so.walked.at enters.epoch None enters.at;
