@@ -1,0 +1,230 @@
+-- What the words of a closed table hold of a worker's requests, by how the worker served them.
+use Rattle.std.specs.Prelude.{◌%◌, ◌⊎◌, Bool, true, false, slice_get}
+use Rattle.std.proofs.Common.{◌≡◌, ◌≢◌, ℕ, suc, ◌+◌, ◌<◌, List, length, refl, sym, ap, ◌∙◌, subst, arith, Option, Some, None, inl, inr, ne_eqb, if◌then◌else◌}
+use mathlib.Core.Logic.{dite}
+use native.Mathlib.Decide.{ℕ_discrete}
+use Rattle.std.proofs.lemmas.Option.{slice_get_within}
+use Rattle.map_history.specs.declared.op.Request.{Request}
+use Rattle.table_words.specs.declared.layout.Layout.{Layout}
+use Rattle.table_words.specs.declared.spot.Spot.{Spot}
+use Rattle.table_words.specs.declared.spot.Spot.TheVariants.{Stamp}
+use Rattle.table_words.specs.Seen.{seen}
+use Rattle.structure_laws.specs.Meaning.{Meaning}
+use Rattle.runner_parts.specs.declared.entries.Known.{Known}
+use Rattle.runner_parts.specs.declared.entries.Published.{Published}
+use Rattle.runner_parts.specs.State.{PartState}
+use Rattle.runner_parts.specs.Tests.{is_answered}
+use Rattle.runner_steps.specs.Asks.{sizes_for}
+use Rattle.runner_steps.specs.After.{leaves}
+use Rattle.machine_states.specs.Sight.{Sight, sight, part_or_first}
+use Rattle.machine_states.proofs.Steps.{some_same, none_some}
+use Rattle.machine_records.specs.Requests.{requests_of, or_none}
+use Rattle.runner_facts.specs.Facts.{DescriptorsAreKept, descriptors_of, published_count}
+use Rattle.reached_histories.specs.Sections.{Knows, HasOpen}
+use Rattle.reached_histories.specs.Laws.{HasHistory}
+use Rattle.request_facts.specs.Laws.{CallersStand}
+use Rattle.version_words.specs.RunnerState.{RunnerState}
+use Rattle.version_words.specs.Shown.{left_part}
+use Rattle.version_words.specs.TableState.{TableState, WordsState, IsClosing, word_of}
+use Rattle.epoch_slots.specs.Reserves.{counts_of}
+use Rattle.epoch_slots.specs.declared.reserves.Kind.{Kind}
+use Rattle.epoch_slots.specs.declared.reserves.Kind.TheVariants as slots
+use Rattle.epoch_slots.specs.declared.reserves.Short.{Short}
+use Rattle.try_lock.specs.Planning.{Planning}
+use Rattle.attempts.specs.Attempts.{IsFew}
+use Rattle.serving.specs.Serving.{Serves, WasHalted, StopsShort, Ends, IsBefore}
+use Rattle.serving.specs.declared.answers.Served.{Served}
+use Rattle.serving.specs.declared.answers.Served.TheVariants as answers
+use Rattle.threaded_runs.specs.Runs.{stamp_of, AreEntered, IsShortOf, HasServed}
+
+true_false : {B : Type 0} → (b : Bool) → b ≡ true → b ≡ false → B
+true_false b known_so unknown_so = absurd (let e = sym known_so ∙ unknown_so in cc)
+
+module _ {T : Type 0} (m : Meaning) (t : TableState T) (keeper : RunnerState T) (w : WordsState T) (closing : IsClosing m t keeper w) where
+  -- the state in which the table was closed
+  abbrev pub end : Sight
+  end = sight m t.layout t.requests closing.world
+
+  -- its words are the closed ones
+  pub word_is : (spot : Spot) → word_of m w spot ≡ end.word spot
+  word_is spot = ap (λ (l : Layout). seen (sizes_for m l w.requests) w.words spot) closing.layout
+      ∙ (ap (λ (rs : List Request). seen (sizes_for m t.layout rs) w.words spot) closing.requests
+      ∙ ap (λ (ws : List ℕ). seen (sizes_for m t.layout t.requests) ws spot) (sym closing.words))
+
+  -- a joined worker has there the part that the keeper keeps
+  pub part_is : (worker : ℕ) (p : PartState) → worker < t.layout.runners → left_part keeper.joined worker ≡ Some (leaves p) → end.part worker ≡ leaves p
+  part_is worker p few kept = ap (λ (b : Bool). part_or_first (slice_get closing.world.parts (if b then 0 else suc worker))) (ne_eqb worker t.layout.runners (λ e. omega (arith, few, e)))
+      ∙ ap part_or_first (closing.worker_parts worker few ∙ kept)
+
+  module _ (is_map : m.is_map ≡ true) (history : HasHistory m t.layout t.requests end) (callers : CallersStand m t.layout t.requests end)
+      (worker : ℕ) (own : List Request) (retry_short : Bool) (planning : Planning) (answer : Served) (old new : RunnerState T)
+      (part : end.part worker ≡ leaves new.part) (serves : Serves m planning retry_short own answer old new)
+      (there : (i : ℕ) (q : Request) → slice_get own i ≡ Some q → slice_get t.requests q.number ≡ Some q)
+      (trace : (i : ℕ) (q : Request) → slice_get own i ≡ Some q → q.trace % t.layout.runners ≡ worker)
+      (once : (i j : ℕ) (q q' : Request) → slice_get own i ≡ Some q → slice_get own j ≡ Some q' → q.number ≡ q'.number → i ≡ j) where
+    abbrev count : ℕ
+    count = serves.count
+
+    abbrev known : List Known
+    known = (end.part worker).records.known
+
+    known_is : known ≡ new.part.records.known
+    known_is = ap (λ (p : PartState). p.records.known) part
+
+    published_is : (end.part worker).published ≡ new.part.published
+    published_is = ap (λ (p : PartState). p.published) part
+
+    answered_is : (n : ℕ) (b : Bool) → is_answered new.part.records.known n ≡ b → is_answered known n ≡ b
+    answered_is n b e = ap (λ (k : List Known). is_answered k n) known_is ∙ e
+
+    of_worker : (i : ℕ) (q : Request) → slice_get own i ≡ Some q → (requests_of m t.layout t.requests).worker q.number ≡ worker
+    of_worker i q e = ap (λ (o : Option Request). (or_none o).trace % t.layout.runners) (there i q e) ∙ trace i q e
+
+    -- an answered request has its entry
+    stamped : (n : ℕ) → is_answered known n ≡ true → end.word (Stamp n) ≢ 0
+    stamped n known_so = (history.asked.known worker n known_so).some
+
+    entry : (i : ℕ) (q : Request) → slice_get own i ≡ Some q → is_answered new.part.records.known q.number ≡ true → stamp_of m w q ≢ 0
+    entry i q e known_so = λ zero_stamp. stamped q.number (answered_is q.number true known_so) (sym (word_is (Stamp q.number)) ∙ zero_stamp)
+
+    -- the stamps of answered requests are those that the worker knows
+    before : (q q' : Request) → is_answered new.part.records.known q.number ≡ true → is_answered new.part.records.known q'.number ≡ true
+        → IsBefore new.part.records.known q q' → stamp_of m w q < stamp_of m w q'
+    before q q' known_so known_also less =
+        let k = callers.known is_map worker q.number (answered_is q.number true known_so) in
+        let k' = callers.known is_map worker q'.number (answered_is q'.number true known_also) in
+        let less' : IsBefore known q q' = subst (λ (ks : List Known). IsBefore ks q q') (sym known_is) less in
+        let low : k.stamp < k'.stamp = less' _ _ k.knows_stamp k'.knows_stamp refl refl refl refl in
+        subst (λ (n : ℕ). n < stamp_of m w q') (sym (word_is (Stamp q.number) ∙ k.served.stamp_word))
+        (subst (λ (n : ℕ). k.stamp < n) (sym (word_is (Stamp q'.number) ∙ k'.served.stamp_word)) low)
+
+    -- a request of the worker's that isn't answered has an entry only where it is that of the worker's open section
+    unserved : (i : ℕ) (q : Request) → slice_get own i ≡ Some q → is_answered new.part.records.known q.number ≡ false
+        → (HasOpen end worker q.number → ⊥) → stamp_of m w q ≡ 0
+    unserved i q e unknown_so closed = dite (ℕ_discrete (stamp_of m w q) 0) (λ is. is) (λ some. absurd (by (history.asked.answered q.number (λ z. some (word_is (Stamp q.number) ∙ z)))))
+      where
+        by : Knows end ((requests_of m t.layout t.requests).worker q.number) q.number ⊎ HasOpen end ((requests_of m t.layout t.requests).worker q.number) q.number → ⊥
+        by (inl knows) = true_false (is_answered known q.number) (subst (λ (r : ℕ). Knows end r q.number) (of_worker i q e) knows) (answered_is q.number false unknown_so)
+        by (inr held) = closed (subst (λ (r : ℕ). HasOpen end r q.number) (of_worker i q e) held)
+
+    module _ (opened : (x : Published) → new.part.published ≡ Some x → (q : Request) × (slice_get own count ≡ Some q) × (x.thunk.request ≡ q.number)) where
+      -- nothing is open for a request that stands elsewhere
+      elsewhere : (i : ℕ) (q : Request) → slice_get own i ≡ Some q → i ≢ count → HasOpen end worker q.number → ⊥
+      elsewhere i q e far held =
+          let o = opened held.section (sym published_is ∙ held.published) in
+          far (once i count q o.0 e o.1 (sym held.request ∙ o.2))
+
+      behind : (i : ℕ) (q : Request) → count < i → slice_get own i ≡ Some q → stamp_of m w q ≡ 0
+      behind i q far e = unserved i q e (serves.served.behind i q far e) (elsewhere i q e (λ is. omega (arith, far, is)))
+
+      -- where the request behind the answered ones has unknown_so entry, these are all that have one
+      pub entered_so : ((q : Request) → slice_get own count ≡ Some q → stamp_of m w q ≡ 0) → AreEntered m w own count
+      entered_so next = record {
+        few = serves.served.few;
+        entries = λ i q low e. entry i q e (serves.served.answered i q low e);
+        rising = λ i j q q' less low e e'. before q q' (serves.served.answered i q (omega (arith, less, low)) e) (serves.served.answered j q' low e') (serves.served.rising i j q q' less low e e');
+        none = λ i q past e. dite (ℕ_discrete i count) (λ is. next q (subst (λ (k : ℕ). slice_get own k ≡ Some q) is e)) (λ far. behind i q (omega (arith, past, far)) e);
+      }
+
+      -- where it has one, its section was published, and others have run it
+      module _ (x : Published) (own_section : new.part.published ≡ Some x) (q : Request) (at : slice_get own count ≡ Some q) (request : x.thunk.request ≡ q.number) (some : stamp_of m w q ≢ 0) where
+        above : (i : ℕ) (q' : Request) → i < count → slice_get own i ≡ Some q' → stamp_of m w q' < stamp_of m w q
+        above i q' low e =
+            let apart : q'.number ≢ x.thunk.request = λ same. omega (arith, low, once i count q' q e at (same ∙ request)) in
+            let mine : end.word (Stamp x.thunk.request) ≢ 0 = λ z. some (word_is (Stamp q.number) ∙ (ap (λ (n : ℕ). end.word (Stamp n)) (sym request) ∙ z)) in
+            let less = (history.asked.before worker q'.number x (published_is ∙ own_section) mine (inr (of_worker i q' e, stamped q'.number (answered_is q'.number true (serves.served.answered i q' low e)), apart))).1 in
+            subst (λ (n : ℕ). n < stamp_of m w q) (sym (word_is (Stamp q'.number)))
+            (subst (λ (n : ℕ). end.word (Stamp q'.number) < n) (ap (λ (n : ℕ). end.word (Stamp n)) request ∙ sym (word_is (Stamp q.number))) less)
+
+        entries_more : (i : ℕ) (q' : Request) → i < count + 1 → slice_get own i ≡ Some q' → stamp_of m w q' ≢ 0
+        entries_more i q' low e = dite (ℕ_discrete i count)
+            (λ is. subst (λ (y : Request). stamp_of m w y ≢ 0) (some_same q q' (sym at ∙ subst (λ (k : ℕ). slice_get own k ≡ Some q') is e)) some)
+            (λ far. entry i q' e (serves.served.answered i q' (omega (arith, low, far)) e))
+
+        rising_more : (i j : ℕ) (a b : Request) → i < j → j < count + 1 → slice_get own i ≡ Some a → slice_get own j ≡ Some b → stamp_of m w a < stamp_of m w b
+        rising_more i j a b less low e e' = dite (ℕ_discrete j count)
+            (λ is. subst (λ (y : Request). stamp_of m w a < stamp_of m w y) (some_same q b (sym at ∙ subst (λ (k : ℕ). slice_get own k ≡ Some b) is e')) (above i a (omega (arith, less, is)) e))
+            (λ far. let under : j < count = omega (arith, low, far) in before a b (serves.served.answered i a (omega (arith, less, under)) e) (serves.served.answered j b under e') (serves.served.rising i j a b less under e e'))
+
+        pub entered_more : AreEntered m w own (count + 1)
+        entered_more = record {
+          few = let low = slice_get_within own count q at in omega (arith, low);
+          entries = entries_more;
+          rising = rising_more;
+          none = λ i q' past e. behind i q' (omega (arith, past)) e;
+        }
+
+    -- a runner with nothing published has nothing open
+    nothing_open : new.part.published ≡ None → (n : ℕ) → HasOpen end worker n → ⊥
+    nothing_open nothing n held = none_some held.section (sym held.published ∙ (published_is ∙ nothing))
+
+    opened_none : new.part.published ≡ None → (x : Published) → new.part.published ≡ Some x → (q : Request) × (slice_get own count ≡ Some q) × (x.thunk.request ≡ q.number)
+    opened_none nothing x e = absurd (none_some x (sym e ∙ nothing))
+
+    -- where the worker stopped at a request with nothing published, that one has unknown_so entry
+    entered_stopped : new.part.published ≡ None → ((q : Request) → slice_get own count ≡ Some q → is_answered new.part.records.known q.number ≡ false) → AreEntered m w own count
+    entered_stopped nothing unknown = entered_so (opened_none nothing) (λ q e. unserved count q e (unknown q e) (nothing_open nothing q.number))
+
+    same_request : (q q' : Request) → slice_get own count ≡ Some q → slice_get own count ≡ Some q' → is_answered new.part.records.known q.number ≡ false → is_answered new.part.records.known q'.number ≡ false
+    same_request q q' e e' unknown_so = subst (λ (y : Request). is_answered new.part.records.known y.number ≡ false) (some_same q q' (sym e ∙ e')) unknown_so
+
+    module _ (low : worker < t.layout.runners) (kept : DescriptorsAreKept t.layout end) where
+      short_nodes : (short : Short) → IsFew new short.kind → short ≡ counts_of new short.kind → short.kind ≡ slots.Node → short.free < 2
+      short_nodes short few counts kind =
+          let same : short ≡ counts_of new slots.Node = counts ∙ ap (counts_of new) kind in
+          subst (λ (n : ℕ). n < 2) (sym (ap (λ (x : Short). x.free) same)) (subst (λ (k : Kind). IsFew new k) kind few)
+
+      all_in_limbo : length new.part.descriptors.free ≡ 0 → new.part.published ≡ None → length new.part.descriptors.limbo ≡ w.layout.sections
+      all_in_limbo none nothing =
+          let sum : length new.part.descriptors.free + (length new.part.descriptors.limbo + published_count new.part.published) ≡ t.layout.sections = sym (ap descriptors_of part) ∙ kept.worker worker low in
+          let unpublished : published_count new.part.published ≡ 0 = ap published_count nothing in
+          let same : w.layout.sections ≡ t.layout.sections = ap (λ (l : Layout). l.sections) closing.layout in
+          omega (arith, none, sum, unpublished, same)
+
+      short_descriptors : (short : Short) → IsFew new short.kind → short ≡ counts_of new short.kind → new.part.published ≡ None → short.kind ≡ slots.Descriptor
+          → (short.free ≡ 0) × (short.worn ≡ 0) × (short.limbo ≡ w.layout.sections)
+      short_descriptors short few counts nothing kind =
+          let same : short ≡ counts_of new slots.Descriptor = counts ∙ ap (counts_of new) kind in
+          let lacks : length new.part.descriptors.free ≡ 0 = (subst (λ (k : Kind). IsFew new k) kind few).1 in (
+            ap (λ (x : Short). x.free) same ∙ lacks,
+            ap (λ (x : Short). x.worn) same,
+            ap (λ (x : Short). x.limbo) same ∙ all_in_limbo lacks nothing,
+          )
+
+      is_short : (short : Short) (q : Request) (from : RunnerState T) → StopsShort m planning retry_short short q from new → new.part.published ≡ None → IsShortOf m w retry_short short
+      is_short short q from stops nothing = record {
+        over = stops.over;
+        nodes = short_nodes short stops.cause.few stops.cause.counts;
+        descriptors = short_descriptors short stops.cause.few stops.cause.counts nothing;
+      }
+
+      halted_at : WasHalted own count new → (o : Option Published) → new.part.published ≡ o → HasServed m w retry_short own answers.Halted
+      halted_at was None nothing = record { count = count; entered = entered_stopped nothing (λ q e. was.unanswered nothing q e); cause = tt }
+      halted_at was (Some x) is = let o = was.published x is in dite (ℕ_discrete (stamp_of m w o.0) 0)
+          (λ z. record {
+            count = count;
+            entered = entered_so was.published (λ q e. subst (λ (y : Request). stamp_of m w y ≡ 0) (some_same o.0 q (sym o.1 ∙ e)) z);
+            cause = tt;
+          })
+          (λ some. record { count = count + 1; entered = entered_more was.published x is o.0 o.1 o.2 some; cause = tt })
+
+      pub has_served : HasServed m w retry_short own answer
+      has_served = by answer serves.ends
+        where
+          by : (a : Served) → Ends m planning retry_short own a count old new → HasServed m w retry_short own a
+          by answers.All ends = record {
+            count = count;
+            entered = entered_stopped ends.1.at.published (λ q e. let few = slice_get_within own count q e in let all = ends.0 in absurd (omega (arith, few, all)));
+            cause = ends.0;
+          }
+          by (answers.Short short) ends = let stopped = ends.2 in record {
+            count = count;
+            entered = entered_stopped stopped.tidy.at.published (λ q e. same_request ends.0 q ends.1 e stopped.unanswered);
+            cause = (slice_get_within own count ends.0 ends.1, is_short short ends.0 stopped.before stopped.stops stopped.tidy.at.published);
+          }
+          by (answers.Spent place word) ends = let stopped = ends.2 in record {
+            count = count;
+            entered = entered_stopped stopped.tidy.at.published (λ q e. same_request ends.0 q ends.1 e stopped.unanswered);
+            cause = slice_get_within own count ends.0 ends.1;
+          }
+          by answers.Halted ends = halted_at ends new.part.published refl

@@ -1,0 +1,91 @@
+-- The end of a run: what the words of the closed table hold, by what the workers and the keeper did.
+use Rattle.std.specs.Prelude.{slice_get, Bool}
+use Rattle.std.proofs.Common.{◌≡◌, ℕ, suc, ◌<◌, List, length, sym, ap, ◌∙◌, subst, true, Some, get_or, eq-eqb, if◌then◌else◌}
+use Rattle.std.proofs.lemmas.Option.{slice_get_within, get_or_from_slice_get}
+use Rattle.map_history.specs.declared.op.Request.{Request}
+use Rattle.section_body.specs.Word.{value_of}
+use Rattle.table_words.specs.Limits.{IsWithinLimits}
+use Rattle.table_words.specs.declared.layout.Layout.{Layout}
+use Rattle.table_words.specs.declared.spot.Spot.TheVariants.{Cell}
+use Rattle.structure_laws.specs.Meaning.{Meaning}
+use Rattle.machine_states.specs.World.{World, seat_of}
+use Rattle.machine_states.specs.Reached.{Reached}
+use Rattle.machine_states.specs.Sight.{sight}
+use Rattle.machine_invariant.specs.After.{AreAllowed}
+use Rattle.runner_facts.specs.Facts.{DescriptorsAreKept}
+use Rattle.reached_histories.specs.Laws.{ReachedHaveHistories}
+use Rattle.request_facts.specs.Laws.{ReachedCallersStand}
+use Rattle.version_words.specs.RunnerState.{RunnerState}
+use Rattle.version_words.specs.Shown.{left_part}
+use Rattle.version_words.specs.TableState.{TableState, WordsState, IsOf, IsClosing}
+use Rattle.closed_words.specs.Histories.{HaveHistory, HoldsNoLock}
+use Rattle.try_lock.specs.Planning.{Planning}
+use Rattle.settling.specs.Settled.{Settles, IsSettled}
+use Rattle.serving.specs.declared.answers.Served.{Served}
+use Rattle.threaded_runs.specs.declared.job.Job.{Job}
+use Rattle.threaded_runs.specs.declared.job.Finished.{Finished}
+use Rattle.threaded_runs.specs.Own.{own_requests}
+use Rattle.threaded_runs.specs.Jobs.{AllSeated, AllRun, AllKept}
+use Rattle.threaded_runs.specs.Runs.{HasServed, AreServed}
+use Rattle.threaded_runs.proofs.Seats.{some_of}
+use Rattle.threaded_runs.proofs.Owning.{own_there, own_trace, own_once}
+use Rattle.threaded_runs.proofs.Closing.{end, word_is, part_is, has_served}
+
+-- what is known of each state that the machine reaches over a table
+pub record IsLawful {T : Type 0} (m : Meaning) (t : TableState T) : Type 0 where
+  pub limits : IsWithinLimits t.layout
+  pub allowed : AreAllowed t.requests
+  pub is_map : m.is_map ≡ true
+  pub histories : ReachedHaveHistories m t.layout t.requests
+  pub callers : ReachedCallersStand m t.layout t.requests
+  pub descriptors : (w : World) → Reached m t.layout t.requests w → DescriptorsAreKept t.layout (sight m t.layout t.requests w)
+
+module _ {T : Type 0} (m : Meaning) (planning : Planning) (retry_short : Bool) (t : TableState T) (lawful : IsLawful m t) (gathered keeper : RunnerState T) (w : WordsState T)
+    (own : IsOf t keeper) (number : keeper.number ≡ t.layout.runners) (settles : Settles m gathered keeper) (closing : IsClosing m t keeper w) where
+  seat_is : seat_of keeper.layout keeper.number ≡ 0
+  seat_is = ap (λ (b : Bool). if b then 0 else suc keeper.number) (eq-eqb keeper.number keeper.layout.runners (number ∙ sym (ap (λ (l : Layout). l.runners) own.layout)))
+
+  settled : IsSettled m (end m t keeper w closing)
+  settled = subst (λ (l : Layout). IsSettled m (sight m l t.requests closing.world)) own.layout
+      (subst (λ (rs : List Request). IsSettled m (sight m keeper.layout rs closing.world)) own.requests
+      (settles.settled closing.world
+      (subst (λ (l : Layout). Reached m l keeper.requests closing.world) (sym own.layout) (subst (λ (rs : List Request). Reached m t.layout rs closing.world) (sym own.requests) closing.reached))
+      (ap (slice_get closing.world.parts) seat_is ∙ closing.keeper_part)))
+
+  -- no lock names a section
+  pub holds_none : HoldsNoLock m w
+  holds_none p lock = ap value_of (word_is m t keeper w closing (Cell p)) ∙ settled.free p lock
+
+  module _ {H : Type 0} (halts : H → ℕ) (jobs : List (Job T H)) (finished : List (Finished T H)) (answers : List Served) (each : length answers ≡ t.layout.runners) (as_many : length jobs ≡ t.layout.runners)
+      (back : length finished ≡ length jobs) (seated : AllSeated planning t jobs) (run : AllRun m planning retry_short halts t jobs finished) (kept : AllKept gathered answers finished) (history : HaveHistory m w) where
+    worker_served : (worker : ℕ) (answer : Served) → slice_get answers worker ≡ Some answer → HasServed m w retry_short (own_requests t.layout.runners worker t.requests) answer
+    worker_served worker answer at =
+        let few : worker < length answers = slice_get_within answers worker answer at in
+        let low : worker < t.layout.runners = subst (λ (n : ℕ). worker < n) each few in
+        let seat : worker < length jobs = subst (λ (n : ℕ). worker < n) (sym as_many) low in
+        let j = some_of jobs worker seat in
+        let f = some_of finished worker (subst (λ (n : ℕ). worker < n) (sym back) seat) in
+        let is_seated = seated worker j seat in
+        let has_run = run worker j f seat in
+        let is_kept = kept worker answer f few in
+        let same : answer ≡ (get_or finished worker f).answer = sym (get_or_from_slice_get answers worker answer answer at) ∙ is_kept.same in
+        let requests = (get_or jobs worker j).requests.items in
+        let order = lawful.allowed.in_order in
+        let part = part_is m t keeper w closing worker (get_or finished worker f).runner.part low (ap (λ js. left_part js worker) settles.joined ∙ is_kept.part) in
+        subst (λ (a : Served). HasServed m w retry_short (own_requests t.layout.runners worker t.requests) a) (sym same)
+        (subst (λ (rs : List Request). HasServed m w retry_short rs (get_or finished worker f).answer) is_seated.requests
+        (has_served m t keeper w closing lawful.is_map (lawful.histories lawful.limits lawful.allowed closing.world closing.reached) (lawful.callers lawful.limits lawful.allowed closing.world closing.reached)
+        worker requests retry_short planning (get_or finished worker f).answer (get_or jobs worker j).runner (get_or finished worker f).runner part has_run.serves
+        (λ i q e. own_there t.layout.runners worker t.requests order i q (subst (λ (rs : List Request). slice_get rs i ≡ Some q) is_seated.requests e))
+        (λ i q e. own_trace t.layout.runners worker t.requests order i q (subst (λ (rs : List Request). slice_get rs i ≡ Some q) is_seated.requests e))
+        (λ i k q q' e e'. own_once t.layout.runners worker t.requests order i k q q' (subst (λ (rs : List Request). slice_get rs i ≡ Some q) is_seated.requests e) (subst (λ (rs : List Request). slice_get rs k ≡ Some q') is_seated.requests e'))
+        low (lawful.descriptors closing.world closing.reached)))
+
+    pub all_served : AreServed m w retry_short answers
+    all_served = record {
+      each = each ∙ ap (λ (l : Layout). l.runners) (sym closing.layout);
+      served = λ worker answer at. subst (λ (l : Layout). HasServed m w retry_short (own_requests l.runners worker w.requests) answer) (sym closing.layout)
+          (subst (λ (rs : List Request). HasServed m w retry_short (own_requests t.layout.runners worker rs) answer) (sym closing.requests) (worker_served worker answer at));
+      free = holds_none;
+      replied = (history.settled holds_none).replied;
+    }

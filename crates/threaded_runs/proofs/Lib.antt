@@ -1,0 +1,7 @@
+mod Picked
+mod Keeping
+mod Counting
+mod Seats
+mod Owning
+mod Closing
+mod Ending

@@ -1,0 +1,76 @@
+-- One more job, and one more result.
+use Rattle.std.specs.Prelude.{Bool}
+use Rattle.std.proofs.Common.{◌≡◌, ℕ, suc, ◌+◌, ◌<◌, List, [], ◌∷◌, ◌++◌, length, get_or, subst, sym, ap, ◌∙◌, refl, arith}
+use Rattle.std.proofs.lemmas.List.{get_or_append_left, length-append}
+use Rattle.std.proofs.Math.Seq.{get_or-append_seam}
+use mathlib.Core.Logic.{dite}
+use native.Mathlib.Decide.{ℕ_discrete}
+use Rattle.structure_laws.specs.Meaning.{Meaning}
+use Rattle.version_words.specs.RunnerState.{RunnerState}
+use Rattle.version_words.specs.Shown.{left_part}
+use Rattle.version_words.specs.TableState.{TableState}
+use Rattle.version_words.specs.Events.{joined_by}
+use Rattle.try_lock.specs.Planning.{Planning}
+use Rattle.serving.specs.declared.answers.Served.{Served}
+use Rattle.threaded_runs.specs.declared.job.Job.{Job}
+use Rattle.threaded_runs.specs.declared.job.Finished.{Finished}
+use Rattle.threaded_runs.specs.Jobs.{IsSeated, AllSeated, AllUnasked, AreBack, AllRun, IsKept, AllKept}
+use Rattle.threaded_runs.proofs.Keeping.{keeps_part, keeps_parts}
+
+-- a fact of each place, and of one more
+pub one_more : {X : Type 0} (P : ℕ → X → Type 0) (xs ys : List X) (x : X) → ys ≡ xs ++ x ∷ [] → ((i : ℕ) (d : X) → i < length xs → P i (get_or xs i d)) → P (length xs) x
+    → (i : ℕ) (d : X) → i < length ys → P i (get_or ys i d)
+one_more P xs ys x is all here i d below = dite (ℕ_discrete i (length xs))
+    (λ e. let last : get_or ys i d ≡ x = ap (λ l. get_or l i d) is ∙ (ap (λ (k : ℕ). get_or (xs ++ x ∷ []) k d) e ∙ get_or-append_seam xs x [] d) in subst (P i) (sym last) (subst (λ (k : ℕ). P k x) (sym e) here))
+    (λ ne.
+    let long : length ys ≡ length xs + 1 = ap length is ∙ length-append xs (x ∷ []) in
+    let low : i < length xs = omega arith in
+    let same : get_or ys i d ≡ get_or xs i d = ap (λ l. get_or l i d) is ∙ get_or_append_left xs (x ∷ []) d i low in subst (P i) (sym same) (all i d low))
+
+-- what is left of a list behind its next element
+pub rest_behind : {X : Type 0} (whole old new : List X) (x : X) (past next many left : ℕ) → old ≡ x ∷ new → left + 1 ≡ many
+    → ((k : ℕ) (d : X) → k < many → get_or old k d ≡ get_or whole (past + k) d) → past + 1 ≡ next → (k : ℕ) (d : X) → k < left → get_or new k d ≡ get_or whole (next + k) d
+rest_behind whole old new x past next many left is lens all longer k d low =
+    let below : suc k < many = omega (arith, low, lens) in
+    let same : past + suc k ≡ next + k = omega (arith, longer) in
+    sym (ap (λ xs. get_or xs (suc k) d) is) ∙ (all (suc k) d below ∙ ap (λ (n : ℕ). get_or whole n d) same)
+
+module _ {T H : Type 0} where
+  pub seated_more : (planning : Planning) (t : TableState T) (jobs jobs' : List (Job T H)) (j : Job T H) (worker : ℕ) → jobs' ≡ jobs ++ j ∷ [] → length jobs ≡ worker → IsSeated planning t worker j
+      → AllSeated planning t jobs → AllSeated planning t jobs'
+  seated_more planning t jobs jobs' j worker is len one all = one_more (IsSeated planning t) jobs jobs' j is all (subst (λ (k : ℕ). IsSeated planning t k j) (sym len) one)
+
+  pub unasked_more : (halts : H → ℕ) (jobs jobs' : List (Job T H)) (j : Job T H) → jobs' ≡ jobs ++ j ∷ [] → halts j.gate ≡ 0 → AllUnasked halts jobs → AllUnasked halts jobs'
+  unasked_more halts jobs jobs' j is one all = one_more (λ k (u : Job T H). halts u.gate ≡ 0) jobs jobs' j is all one
+
+  -- one more worker was joined, which answered this
+  pub kept_more : (m : Meaning) (keeper keeper' : RunnerState T) (answers answers' : List Served) (finished : List (Finished T H)) (f : Finished T H) → keeper' ≡ joined_by m f.runner keeper
+      → answers' ≡ answers ++ f.answer ∷ [] → ((d : Finished T H) → get_or finished (length answers) d ≡ f) → f.runner.number ≡ length answers → AllKept keeper answers finished → AllKept keeper' answers' finished
+  kept_more m keeper keeper' answers answers' finished f joins is at number all i a d low = one_more (λ k (u : Served). IsKept keeper' k u (get_or finished k d)) answers answers' f.answer is
+      (λ k u few. let was = all k u d few in record {
+        same = was.same;
+        part = keeps_parts m keeper f.runner keeper' 0 0 joins k (λ e. omega (arith, e, number, few)) ∙ was.part;
+      })
+      (subst (λ (g : Finished T H). IsKept keeper' (length answers) f.answer g) (sym (at d)) (record {
+        same = refl;
+        part = ap (left_part keeper'.joined) (sym number) ∙ keeps_part m keeper f.runner keeper' 0 0 joins;
+      })) i a low
+
+-- some element of a list that isn't empty
+pub some_of : {X : Type 0} (xs : List X) (i : ℕ) → i < length xs → X
+some_of [] i below = absurd (omega (arith, below))
+some_of (x ∷ xs) i below = x
+
+module _ {T H : Type 0} (m : Meaning) (planning : Planning) (retry_short : Bool) (halts : H → ℕ) (t : TableState T) where
+  -- the workers come back as they were seated
+  pub are_back : (jobs : List (Job T H)) (finished : List (Finished T H)) → length finished ≡ length jobs → AllSeated planning t jobs → AllUnasked halts jobs
+      → AllRun m planning retry_short halts t jobs finished → AreBack halts t finished
+  are_back jobs finished len seated unasked run i d low =
+      let few : i < length jobs = subst (λ (n : ℕ). i < n) len low in
+      let j = some_of jobs i few in
+      let r = run i j d few in let s = seated i j few in let u = unasked i j few in record {
+        own = r.own;
+        number = r.serves.knows.number ∙ s.number;
+        halted = r.halted u;
+        went = r.went u;
+      }

@@ -1,0 +1,51 @@
+use Rattle.std.proofs.Common.{rules, ◌≡◌, ℕ, ◌+◌, ◌<◌, ◌++◌, ◌∷◌, [], length, get_or, vec_items, vec_len, ◌∙◌, ap, sym, subst, arith}
+use Rattle.std.specs.Vec.Iter.{into_iter_items, into_iter_len}
+use Rattle.table_words.specs.declared.layout.Layout.{Layout}
+use Rattle.version_words.proofs.Stages.{may_join}
+use Rattle.runner_gate.specs.Counts.{halts_after}
+use Rattle.threaded_runs.specs.declared.job.Finished.{Finished}
+use Rattle.threaded_runs.specs.Keeper.{IsIdleKeeper}
+use Rattle.threaded_runs.specs.Counts.{halts_counted}
+use Rattle.threaded_runs.specs.Jobs.{IsBack}
+use Rattle.threaded_runs.proofs.Keeping.{then_gathered}
+use Rattle.threaded_runs.proofs.Seats.{kept_more, rest_behind}
+use Rattle.threaded_runs.proofs.Counting.{halts_more, counted_so}
+use Rattle.threaded_runs.proofs.seating.gather.Goals as goal
+
+pub join_runner-keeper-requires-clause-next : goal.join_runner-keeper-requires-clause-next
+join_runner-keeper-requires-clause-next g c κs within =
+    let was = c.loop-one.invariant in let past = vec_len c.loop-one.answers in let step = c.in-Some.ensures.steps in
+    let here : (d : Finished g.row.S.Denot g.row.G-Gate.Denot) → get_or (vec_items c.args.finished) past d ≡ c.in-Some.one = λ d. let h = was.3 0 d in grind rules in
+    let low : past < length (vec_items c.args.finished) = (let sum = was.2 in grind rules) in
+    let back = subst (IsBack g.G.Gate.Gate.halts c.args.table.now past) (here c.in-Some.one) (c.requires.back past c.in-Some.one low) in
+    let number = back.number in
+    may_join _ c.loop-one.keeper c.in-Some.one.runner.number (vec_len c.args.finished) past was.1.keeper was.1.joined number
+    (let same = ap (λ (l : Layout). l.runners) was.0.layout in let each = c.requires.each in let few : past < vec_len c.args.finished = search rules in omega (arith, number, same, each, few))
+
+pub loop-one-preserved : goal.loop-one-preserved
+loop-one-preserved g c =
+    let was = c.loop-one.invariant in let past = vec_len c.loop-one.answers in let step = c.in-Some.ensures.steps in
+    let f = c.in-Some.one in
+    let m = g.S.Structure.meaning c.args.table.now.structure in
+    let given = vec_items c.loop-one.answers in
+    let first = g.G.Gates.halts c.args.gates.now in
+    let of_gate = g.G.Gate.Gate.halts f.gate in
+    let here : (d : Finished g.row.S.Denot g.row.G-Gate.Denot) → get_or (vec_items c.args.finished) past d ≡ f = λ d. let h = was.3 0 d in grind rules in
+    let low : past < length (vec_items c.args.finished) = (let sum = was.2 in grind rules) in
+    let back = subst (IsBack g.G.Gate.Gate.halts c.args.table.now past) (here f) (c.requires.back past f low) in
+    let long : length given ≡ past = search rules in
+    let pushed : vec_items c.push.new.self ≡ given ++ f.answer ∷ [] = c.in_ok-push.ensures.items in
+    let longer : past + 1 ≡ vec_len c.push.new.self = search rules in (
+      search rules,
+      subst (λ (n : ℕ). IsIdleKeeper m (vec_len c.args.finished) n c.join_runner-keeper.result) longer
+          (then_gathered m c.loop-one.keeper f.runner c.join_runner-keeper.result (vec_len c.args.finished) past c.join_runner-keeper.ensures.event was.1 back.number),
+      search rules,
+      rest_behind (vec_items c.args.finished) (into_iter_items c.loop-one.one-iterator) (into_iter_items c.next.new.self) f past (vec_len c.push.new.self) (into_iter_len c.loop-one.one-iterator)
+          (into_iter_len c.next.new.self) step.0 step.1 was.3 longer,
+      kept_more m c.loop-one.keeper c.join_runner-keeper.result given (vec_items c.push.new.self) (vec_items c.args.finished) f c.join_runner-keeper.ensures.event pushed
+          (λ d. subst (λ (n : ℕ). get_or (vec_items c.args.finished) n d ≡ f) (sym long) (here d)) (back.number ∙ sym long) was.4,
+      c.back.ensures.halts ∙ (ap (λ (h : ℕ). halts_after h of_gate) was.5 ∙ (counted_so (halts_counted first given) of_gate f.answer back.halted back.went
+          ∙ (sym (halts_more first given f.answer) ∙ sym (ap (halts_counted first) pushed)))),
+      c.back.ensures.plans ∙ was.6,
+      c.back.ensures.planned ∙ was.7,
+    )

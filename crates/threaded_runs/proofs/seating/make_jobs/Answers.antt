@@ -1,0 +1,23 @@
+use Rattle.std.proofs.Common.{rules, ◌≡◌, ◌<◌, ◌++◌, ◌∷◌, [], length, get_or, ap, ◌∙◌, vec_items}
+use Rattle.std.specs.Prelude.{None}
+use Rattle.runner_gate.specs.Counts.{planned_after, plans_after}
+use Rattle.threaded_runs.proofs.Seats.{seated_more, unasked_more}
+use Rattle.threaded_runs.proofs.Counting.{plans_more, next_plan}
+use Rattle.threaded_runs.proofs.seating.make_jobs.Goals as goal
+
+pub loop-worker-preserved : goal.loop-worker-preserved
+loop-worker-preserved g c =
+    let was = c.loop-worker.invariant in let n = c.loop-worker.worker in let job = c.in_ok-kept.job in
+    let pushed : vec_items c.push.new.self ≡ vec_items c.loop-worker.jobs ++ job ∷ [] = c.in_ok-push.ensures.items in
+    let low : n < length c.args.halts.now = search rules in
+    let few = c.requires.few in
+    let halts = g.G.Gate.Gate.halts in (
+      search rules,
+      search rules,
+      search rules,
+      seated_more (g.S.Planner.planning c.args.table.now.structure) c.args.table.now (vec_items c.loop-worker.jobs) (vec_items c.push.new.self) job n pushed (search rules) (search rules) was.3,
+      unasked_more halts (vec_items c.loop-worker.jobs) (vec_items c.push.new.self) job pushed (ap halts c.in_ok-kept.ensures.gate ∙ c.gate-gate.ensures.unasked.0) was.4,
+      c.gate-gate.ensures.halts ∙ was.5,
+      c.gate-gate.ensures.plans ∙ (ap (λ p. plans_after p (get_or c.args.halts.now n None)) was.6 ∙ plans_more (g.G.Gates.plans c.args.gates.now) c.args.halts.now n None low),
+      (λ empty. c.gate-gate.ensures.planned ∙ (ap (λ xs. planned_after xs (get_or c.args.halts.now n None)) (was.7 empty) ∙ next_plan c.args.halts.now n None low few)),
+    )

@@ -1,0 +1,31 @@
+use Rattle.std.specs.Prelude.{All}
+use Rattle.std.proofs.Common.{◌≡◌, ◌<◌, ◌∙◌, ap, sym, subst, arith, true, List}
+use Rattle.map_history.specs.declared.op.Request.{Request}
+use Rattle.table_words.specs.declared.layout.Layout.{Layout}
+use Rattle.version_words.proofs.Stages.{may_split}
+use Rattle.serving.specs.Serving.{MayServe}
+use Rattle.threaded_runs.specs.Own.{own_requests}
+use Rattle.threaded_runs.proofs.Owning.{worker_may_serve}
+use Rattle.threaded_runs.proofs.seating.seat_worker.Goals as goal
+
+pub runner-requires-clause-next : goal.runner-requires-clause-next
+runner-requires-clause-next g c κs within = may_split _ c.args.keeper c.args.worker c.requires.keeper.keeper
+    (let few = c.requires.worker in let same = ap (λ (l : Layout). l.runners) c.requires.own.layout in omega (arith, few, same))
+
+pub returns-in-Ok-clause-job : goal.returns-in-Ok-clause-job
+returns-in-Ok-clause-job g c =
+    let planning = g.S.Planner.planning c.args.table.now.structure in
+    let as_many = ap (λ (l : Layout). l.runners) c.layout.ensures in
+    let own : c.in_ok-own.own.items ≡ own_requests c.layout.result.runners c.args.worker c.args.table.now.requests = c.in_ok-own.ensures ∙ ap (own_requests c.layout.result.runners c.args.worker) c.requires.requests in
+    let few : c.args.worker < c.args.keeper.layout.runners = (let low = c.requires.worker in let same = ap (λ (l : Layout). l.runners) c.requires.own.layout in omega (arith, low, same)) in
+    let served = subst (λ (rs : List Request). All (λ (q : Request). planning.serves q.op ≡ true) rs) c.requires.requests c.requires.served in
+    record {
+      may = record {
+        own = c.in-Ok.ensures.own.1;
+        next = subst (λ (rs : List Request). MayServe planning rs c.in-Ok.runner) (sym own)
+            (worker_may_serve (g.S.Structure.meaning c.args.table.now.structure) planning c.args.table.now c.args.keeper c.in-Ok.runner c.args.worker c.in-Ok.ensures.worker c.in-Ok.ensures.own.1 c.requires.keeper.keeper few
+            c.table_is_allowed.ensures.requests.in_order served c.layout.result.runners as_many);
+      };
+      number = ap (λ y. y.number) c.in-Ok.ensures.worker ∙ c.requires.keeper.keeper.as_many;
+      requests = own ∙ ap (λ n. own_requests n c.args.worker c.args.table.now.requests) as_many;
+    }

@@ -1,0 +1,56 @@
+use Rattle.std.proofs.Common.{rules, subst, ◌∙◌, vec_len}
+use Rattle.machine_states.specs.World.{World}
+use Rattle.machine_states.specs.Reached.{Reached}
+use Rattle.machine_states.specs.Sight.{sight}
+use Rattle.runner_facts.specs.Facts.{DescriptorsAreKept}
+use Rattle.reached_histories.specs.Laws.{ReachedHaveHistories}
+use Rattle.request_facts.specs.Laws.{ReachedCallersStand}
+use Rattle.closed_words.specs.Histories.{HaveHistory}
+use Rattle.threaded_runs.specs.Runs.{AreServed}
+use Rattle.threaded_runs.proofs.Keeping.{has_all, may_settle, settled_all}
+use Rattle.threaded_runs.proofs.Seats.{are_back}
+use Rattle.threaded_runs.proofs.Ending.{IsLawful, all_served}
+use Rattle.threaded_runs.proofs.table_run.run_table.Goals as goal
+
+pub gather-requires-clause-back : goal.gather-requires-clause-back
+gather-requires-clause-back g c κs within =
+    let t = c.in_ok-table.table in
+    are_back (g.S.Structure.meaning t.structure) (g.S.Planner.planning t.structure) c.args.retry_short g.G.Gate.Gate.halts t c.in_ok-keeper.jobs.items c.in_ok-finished.finished.items (search rules)
+    c.in_ok-keeper.ensures.jobs c.in_ok-keeper.ensures.unasked c.in_ok-finished.ensures.each
+
+pub settle-keeper-requires-clause-next : goal.settle-keeper-requires-clause-next
+settle-keeper-requires-clause-next g c κs within =
+    let t = c.in_ok-table.table in
+    may_settle (g.S.Structure.meaning t.structure) t c.in_ok-keeper-2.keeper (vec_len c.in_ok-finished.finished) c.in_ok-keeper-2.ensures.own c.in_ok-keeper-2.ensures.keeper (search rules)
+
+pub close-words-requires-clause-joined : goal.close-words-requires-clause-joined
+close-words-requires-clause-joined g c κs within =
+    let t = c.in_ok-table.table in
+    settled_all (g.S.Structure.meaning t.structure) t c.in_ok-keeper-2.keeper c.settle-keeper.result c.settle-keeper.ensures.settles
+    (has_all (g.S.Structure.meaning t.structure) t c.in_ok-keeper-2.keeper (vec_len c.in_ok-finished.finished) c.in_ok-keeper-2.ensures.own c.in_ok-keeper-2.ensures.keeper (search rules))
+
+pub returns-clause-served : goal.returns-clause-served
+returns-clause-served g c =
+    let t = c.in_ok-table.table in
+    let m = g.S.Structure.meaning t.structure in
+    let planning = g.S.Planner.planning t.structure in
+    let plans = g.met.S.Planner g.world.𝓛 g.world.𝓜 g.world.𝓡 ((λ s allowed. allowed), (λ patient. patient), (λ alone. alone), (λ cuts. cuts)) in
+    let limits = c.table_is_allowed.ensures.limits in
+    let allowed = c.table_is_allowed.ensures.requests in
+    let lawful : IsLawful m t = record {
+      limits = limits;
+      allowed = allowed;
+      is_map = (plans.plans_lawfully t.structure).serves;
+      histories = subst (λ s. ReachedHaveHistories (g.S.Structure.meaning s) t.layout t.requests) c.structure.ensures (c.reached_states_have_histories.ensures t.layout t.requests);
+      callers = subst (λ s. ReachedCallersStand (g.S.Structure.meaning s) t.layout t.requests) c.structure-2.ensures (c.reached_callers_stand.ensures t.layout t.requests);
+      descriptors = subst (λ s. (w : World) → Reached (g.S.Structure.meaning s) t.layout t.requests w → DescriptorsAreKept t.layout (sight (g.S.Structure.meaning s) t.layout t.requests w)) c.structure-3.ensures
+          (λ w reached. c.descriptors_are_kept.ensures t.layout t.requests w limits allowed reached);
+    } in
+    let keeper = c.in_ok-keeper-2.keeper in
+    let settled = c.settle-keeper.result in
+    let all = has_all m t keeper (vec_len c.in_ok-finished.finished) c.in_ok-keeper-2.ensures.own c.in_ok-keeper-2.ensures.keeper (search rules) in
+    let number = c.settle-keeper.ensures.settles.number ∙ all.number in
+    let history : HaveHistory m c.close-words.result = subst (λ s. HaveHistory (g.S.Structure.meaning s) c.close-words.result) c.close-words.ensures.structure c.closed_words_have_a_history.ensures in
+    subst (λ s. AreServed (g.S.Structure.meaning s) c.close-words.result c.args.retry_short c.in_ok-keeper-2.answers.items) c.in_ok-table.ensures.table.structure
+    (all_served m planning c.args.retry_short t lawful keeper settled c.close-words.result c.settle-keeper.ensures.own number c.settle-keeper.ensures.settles c.close-words.ensures g.G.Gate.Gate.halts
+    c.in_ok-keeper.jobs.items c.in_ok-finished.finished.items c.in_ok-keeper-2.answers.items (search rules) (search rules) (search rules) c.in_ok-keeper.ensures.jobs c.in_ok-finished.ensures.each c.in_ok-keeper-2.ensures.kept history)

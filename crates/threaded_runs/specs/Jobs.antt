@@ -1,0 +1,62 @@
+-- What a worker's thread is given, and what it gives back.
+use Rattle.std.specs.Prelude.{◌≡◌, ◌≢◌, ℕ, ◌<◌, Bool, List, length, Some, slice_index_or}
+use Rattle.structure_laws.specs.Meaning.{Meaning}
+use Rattle.runner_steps.specs.After.{leaves}
+use Rattle.version_words.specs.RunnerState.{RunnerState}
+use Rattle.version_words.specs.Shown.{left_part}
+use Rattle.version_words.specs.TableState.{TableState, IsOf}
+use Rattle.try_lock.specs.Planning.{Planning}
+use Rattle.serving.specs.Serving.{MayServe, Serves}
+use Rattle.serving.specs.declared.answers.Served.{Served}
+use Rattle.serving.specs.declared.answers.Served.TheVariants as answers
+use Rattle.threaded_runs.specs.declared.job.Job.{Job}
+use Rattle.threaded_runs.specs.declared.job.Finished.{Finished}
+use Rattle.threaded_runs.specs.Own.{own_requests}
+
+module _ {T H : Type 0} where
+  -- the worker may serve its requests on the table
+  pub record MayRun (planning : Planning) (t : TableState T) (j : Job T H) : Type 0 where
+    pub own : IsOf t j.runner
+    pub next : MayServe planning j.requests.items j.runner
+
+  -- the worker has this number, and its requests are those of its traces
+  pub record IsSeated (planning : Planning) (t : TableState T) (worker : ℕ) (j : Job T H) : Type 0 where
+    pub may : MayRun planning t j
+    pub number : j.runner.number ≡ worker
+    pub requests : j.requests.items ≡ own_requests t.layout.runners worker t.requests
+
+  abbrev pub AllSeated : Planning → TableState T → List (Job T H) → Type 0
+  AllSeated planning t jobs = (worker : ℕ) (d : Job T H) → worker < length jobs → IsSeated planning t worker (slice_index_or jobs worker d)
+
+  -- the gates weren't asked yet
+  abbrev pub AllUnasked : (H → ℕ) → List (Job T H) → Type 0
+  AllUnasked halts jobs = (worker : ℕ) (d : Job T H) → worker < length jobs → halts (slice_index_or jobs worker d).gate ≡ 0
+
+  module _ (m : Meaning) (planning : Planning) (retry_short : Bool) (halts : H → ℕ) (t : TableState T) where
+    -- the worker has served its requests, as the answer says; its gate halted exactly where the answer is Halted
+    pub record HasRun (j : Job T H) (f : Finished T H) : Type 0 where
+      pub own : IsOf t f.runner
+      pub serves : Serves m planning retry_short j.requests.items f.answer j.runner f.runner
+      pub halted : halts j.gate ≡ 0 → f.answer ≡ answers.Halted → 0 < halts f.gate
+      pub went : halts j.gate ≡ 0 → f.answer ≢ answers.Halted → halts f.gate ≡ 0
+
+    abbrev pub AllRun : List (Job T H) → List (Finished T H) → Type 0
+    AllRun jobs finished = (i : ℕ) (d : Job T H) (e : Finished T H) → i < length jobs → HasRun (slice_index_or jobs i d) (slice_index_or finished i e)
+
+  -- the workers in their order, each of the table, with gates that halted exactly where the answer is Halted
+  pub record IsBack (halts : H → ℕ) (t : TableState T) (worker : ℕ) (f : Finished T H) : Type 0 where
+    pub own : IsOf t f.runner
+    pub number : f.runner.number ≡ worker
+    pub halted : f.answer ≡ answers.Halted → 0 < halts f.gate
+    pub went : f.answer ≢ answers.Halted → halts f.gate ≡ 0
+
+  abbrev pub AreBack : (H → ℕ) → TableState T → List (Finished T H) → Type 0
+  AreBack halts t finished = (i : ℕ) (d : Finished T H) → i < length finished → IsBack halts t i (slice_index_or finished i d)
+
+  -- the answer is the worker's, and the keeper keeps the worker's part as it was joined
+  pub record IsKept (keeper : RunnerState T) (worker : ℕ) (answer : Served) (f : Finished T H) : Type 0 where
+    pub same : answer ≡ f.answer
+    pub part : left_part keeper.joined worker ≡ Some (leaves f.runner.part)
+
+  abbrev pub AllKept : RunnerState T → List Served → List (Finished T H) → Type 0
+  AllKept keeper answers finished = (i : ℕ) (a : Served) (d : Finished T H) → i < length answers → IsKept keeper i (slice_index_or answers i a) (slice_index_or finished i d)

@@ -1,0 +1,16 @@
+-- The keeper of a table, which makes the workers and takes them back.
+use Rattle.std.specs.Prelude.{◌≡◌, ℕ, ◌<◌, true, None}
+use Rattle.structure_laws.specs.Meaning.{Meaning}
+use Rattle.runner_parts.specs.declared.stage.Stage.TheVariants as stages
+use Rattle.runner_parts.specs.Tests.{has}
+use Rattle.machine_states.specs.First.{keeper_part}
+use Rattle.version_words.specs.RunnerState.{RunnerState}
+use Rattle.version_words.specs.Stages.{IsAt, IsKeeper, HasJoined}
+
+-- an idle keeper that has split off so many workers and joined the first ones, so many; it has all its own node slots still
+pub record IsIdleKeeper {T : Type 0} (m : Meaning) (splits count : ℕ) (r : RunnerState T) : Type 0 where
+  pub keeper : IsKeeper r splits
+  pub at : IsAt r stages.Idle None
+  pub joined : HasJoined r count
+  pub told : (worker : ℕ) → worker < count → has r.part.records.joined worker ≡ true
+  pub nodes : r.part.nodes ≡ (keeper_part m r.layout).nodes

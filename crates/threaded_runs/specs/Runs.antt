@@ -1,0 +1,61 @@
+-- What a run of traces on a table leaves.
+use Rattle.std.specs.Prelude.{◌≡◌, ◌≢◌, ℕ, ◌<◌, ◌≤◌, ◌⊎◌, Bool, false, List, length, Some, slice_get}
+use Rattle.map_history.specs.declared.op.Request.{Request}
+use Rattle.table_words.specs.declared.layout.Layout.{Layout}
+use Rattle.table_words.specs.declared.spot.Spot.TheVariants.{Stamp, Reply}
+use Rattle.structure_laws.specs.Meaning.{Meaning}
+use Rattle.version_words.specs.TableState.{WordsState, word_of}
+use Rattle.closed_words.specs.Histories.{HoldsNoLock}
+use Rattle.epoch_slots.specs.declared.reserves.Kind.TheVariants as slots
+use Rattle.epoch_slots.specs.declared.reserves.Short.{Short}
+use Rattle.serving.specs.declared.answers.Served.{Served}
+use Rattle.serving.specs.declared.answers.Served.TheVariants as answers
+use Rattle.threaded_runs.specs.Own.{own_requests}
+
+-- the words are of a table that was made with these
+pub record IsMadeWith {T : Type 0} (given : T) (l : Layout) (rs : List Request) (w : WordsState T) : Type 0 where
+  pub structure : w.structure ≡ given
+  pub layout : w.layout ≡ l
+  pub requests : w.requests ≡ rs
+
+module _ {T : Type 0} (m : Meaning) (w : WordsState T) where
+  -- the request's stamp word, 0 where it has no entry
+  abbrev pub stamp_of : Request → ℕ
+  stamp_of request = word_of m w (Stamp request.number)
+
+  -- of these requests the first ones, so many, have an entry each, with stamps that rise along them, and those behind them have none
+  pub record AreEntered (requests : List Request) (count : ℕ) : Type 0 where
+    pub few : count ≤ length requests
+    pub entries : (i : ℕ) (q : Request) → i < count → slice_get requests i ≡ Some q → stamp_of q ≢ 0
+    pub rising : (i j : ℕ) (q q' : Request) → i < j → j < count → slice_get requests i ≡ Some q → slice_get requests j ≡ Some q'
+        → stamp_of q < stamp_of q'
+    pub none : (i : ℕ) (q : Request) → count ≤ i → slice_get requests i ≡ Some q → stamp_of q ≡ 0
+
+  -- at the last attempt too few slots of the kind were free, and this isn't waited out, or no slot of the kind was in limbo; where descriptors
+  -- lacked, all of the worker's were in limbo
+  pub record IsShortOf (retry_short : Bool) (short : Short) : Type 0 where
+    pub over : (retry_short ≡ false) ⊎ (short.limbo ≡ 0)
+    pub nodes : short.kind ≡ slots.Node → short.free < 2
+    pub descriptors : short.kind ≡ slots.Descriptor → (short.free ≡ 0) × (short.worn ≡ 0) × (short.limbo ≡ w.layout.sections)
+
+  -- why the worker served so many of its requests and no more: at All these are all of them
+  abbrev pub IsCause : Bool → List Request → Served → ℕ → Type 0
+  IsCause retry_short requests answers.All count = count ≡ length requests
+  IsCause retry_short requests (answers.Short short) count = (count < length requests) × IsShortOf retry_short short
+  IsCause retry_short requests (answers.Spent place word) count = count < length requests
+  IsCause retry_short requests answers.Halted count = Unit {0}
+
+  -- what is left of the run of a worker with these requests and this answer
+  pub record HasServed (retry_short : Bool) (requests : List Request) (answer : Served) : Type 0 where
+    pub count : ℕ
+    pub entered : AreEntered requests count
+    pub cause : IsCause retry_short requests answer count
+
+  -- what is left of a run of all workers with these answers, in order of number: each has served its own traces, no lock word names a
+  -- section, and each request that has an entry has its reply
+  pub record AreServed (retry_short : Bool) (answers : List Served) : Type 0 where
+    pub each : length answers ≡ w.layout.runners
+    pub served : (worker : ℕ) (answer : Served) → slice_get answers worker ≡ Some answer
+        → HasServed retry_short (own_requests w.layout.runners worker w.requests) answer
+    pub free : HoldsNoLock m w
+    pub replied : (n : ℕ) → word_of m w (Stamp n) ≢ 0 → word_of m w (Reply n) ≢ 0

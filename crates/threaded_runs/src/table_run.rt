@@ -1,0 +1,71 @@
+//! The whole run of a table.
+ghost use Rattle.std.specs.Prelude.{◌≡◌, IfOk, All, [], true, length};
+ghost use Rattle.map_history.specs.Requests.{AreInOrder};
+ghost use Rattle.table_words.specs.Limits.{IsWithinLimits};
+ghost use Rattle.threaded_runs.specs.Counts.{halts_counted, plans_given};
+ghost use Rattle.threaded_runs.specs.Runs.{IsMadeWith, AreServed};
+
+use crate::running::run_jobs;
+use crate::seating::{gather, make_jobs};
+use closed_words::closed_words_have_a_history;
+use lock_walks::Planner;
+use map_history::Request;
+use reached_histories::reached_states_have_histories;
+use request_facts::reached_callers_stand;
+use runner_facts::descriptors_are_kept;
+use runner_gate::Gates;
+use serving::Served;
+use settling::settle;
+use std::alloc::{AllocError, Global};
+use std::sync::Wait;
+use std::thread::Threads;
+use table_words::Layout;
+use version_words::{FlockTable, Words, table_is_allowed};
+
+/// Runs all requests on one new table, with a thread for each worker where one can be made, and gives the words at the end with what the
+/// serving of each worker's requests answered, in order of number.
+///
+/// Worker r of W serves the traces r, r + W, r + 2 * W and so on, each whole, in that order. It has the gate that `gates` gives for it with its entry of
+/// `halts`, one for each worker. Where `retry_short` holds, a worker that lacks slots tries again while some of its own are in limbo. Where no thread can be
+/// made for a worker, the caller does its work. Once all threads are joined, the keeper joins the workers, the gates are given back in order of number, what
+/// halted workers left is helped to its end, and the table is closed.
+///
+/// The layout is within the limits; the requests are numbered from 0 in order, in traces that never fall along the list and are below 64, with keys up to
+/// 4,294,967,293, and the structure serves them. The Err is want of memory. A worker that waits for slots may wait for others, so the promises hold if the call returns.
+///
+/// (After Ben-David, Blelloch and Wei, *Lock-free locks revisited*, 2022.)
+pub fn run_table<R: Threads + Wait + Sync, S: Planner, G: Gates>(
+    rt: &R,
+    alloc: Global,
+    structure: S,
+    layout: Layout,
+    requests: &[Request],
+    halts: &[Option<u64>],
+    retry_short: bool,
+    gates: &mut G,
+) -> Result<(Words<S>, Vec<Served>), AllocError>
+where
+    S::Walk: Send + Sync,
+    requires limits { IsWithinLimits layout }
+    requires ordered { AreInOrder requests.now 64 }
+    requires served { All (λ (request : Request). (S.planning structure).serves request.op ≡ true) requests.now }
+    requires halts { length halts.now ≡ layout.runners }
+    ensures words { IfOk result (λ x. IsMadeWith structure layout requests.now x.0) }
+    ensures served { IfOk result (λ x. AreServed (S.meaning structure) x.0 retry_short x.1.items) }
+    ensures halts { IfOk result (λ x. G.halts gates.new ≡ halts_counted (G.halts gates.old) x.1.items) }
+    ensures plans { IfOk result (λ _. G.plans gates.new ≡ plans_given (G.plans gates.old) halts.now) }
+    ensures planned { IfOk result (λ _. G.planned gates.old ≡ [] → G.planned gates.new ≡ halts.now) }
+{
+    let (table, keeper) = FlockTable::new(alloc, structure, layout, requests)?;
+    table_is_allowed(&table);
+    reached_states_have_histories(table.structure());
+    reached_callers_stand(table.structure());
+    descriptors_are_kept(table.structure());
+    let (keeper, jobs) = make_jobs(&table, alloc, keeper, requests, halts, gates)?;
+    let finished = run_jobs(rt, &table, retry_short, jobs)?;
+    let (keeper, answers) = gather(&table, alloc, keeper, finished, gates)?;
+    let keeper = settle(&table, keeper);
+    let words = table.close(keeper);
+    closed_words_have_a_history(&words);
+    Ok((words, answers))
+}
