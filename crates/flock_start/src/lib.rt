@@ -1,17 +1,20 @@
-//! The start of the program: hands the real streams and the words of the command line to `flock`.
+//! The start of the program: hands the real threads, the real streams, gates that halt as planned, and the words of the command line to `flock`.
 #![tactic(auto)]
 
-ghost use Rattle.std.specs.Prelude.{◌≡◌, ◌≢◌, ◌↔◌, IfSome};
+ghost use Rattle.std.specs.Prelude.{◌≡◌, ◌≢◌, ◌⊎◌, ◌≤◌};
 ghost use Rattle.std.specs.Process.{exit_status};
-ghost use Rattle.flock_tool.specs.End.{Prints, IsStatus};
-ghost use Rattle.flock_tool.specs.Words.{IsRun};
+ghost use Rattle.flock_words.specs.Commands.{AreAccepted, texts};
+ghost use Rattle.flock_tool.specs.Runs.{IsRunStatus};
 
 use flock_tool::{StdSink, StdSource, flock};
 use report_text::Sink;
+use runner_gate::{Gates, PlannedGates};
 use std::alloc::{AllocError, Global};
 use std::env;
 use std::io::ErrorKind;
 use std::process::ExitCode;
+use std::sync::Wait;
+use std::thread::Threads;
 use trace_reader::Source;
 
 /// The status for want of memory before the call.
@@ -32,24 +35,38 @@ pub fn start(rt: &HostRuntime) -> ExitCode {
     let mut source = StdSource::new(rt.stdin());
     let mut sink = StdSink::new(rt.stdout());
     let mut faults = StdSink::new(rt.stderr());
-    run(alloc, &words, &mut source, &mut sink, &mut faults)
+    let mut gates = PlannedGates::new();
+    run(
+        rt,
+        alloc,
+        &words,
+        &mut source,
+        &mut sink,
+        &mut faults,
+        &mut gates,
+    )
 }
 
-// Runs the command on these streams, and ends with its status.
-fn run<R: Source, K: Sink, F: Sink>(
+// Runs the command on these streams, and ends with its status. The words of the run are let go.
+fn run<'a, T: Threads + Wait + Sync, R: Source, K: Sink, F: Sink, G: Gates>(
+    rt: &T,
     alloc: Global,
-    words: &[&str],
+    words: &'a [&'a str],
     source: &mut R,
     sink: &mut K,
     faults: &mut F,
+    gates: &mut G,
 ) -> ExitCode
-    ensures done { exit_status result ≡ 0 → IfSome (R.left source.old) (λ text. Prints text (K.held sink.old) (K.held sink.new)) }
-    ensures words { (exit_status result ≡ 2) ↔ (IsRun words.now → ⊥) }
+    ensures accepted { AreAccepted (texts words.now) → exit_status result ≢ 2 }
+    ensures words { (AreAccepted (texts words.now) → ⊥) → (exit_status result ≡ 2) ⊎ (exit_status result ≡ 7) }
     ensures reads { exit_status result ≢ 8 → R.faults source.new ≡ R.faults source.old }
     ensures writes { exit_status result ≢ 9 → K.faults sink.new ≡ K.faults sink.old }
-    ensures statuses { IsStatus (exit_status result) }
+    ensures silent { (IsRunStatus (exit_status result) → ⊥) → K.held sink.new ≡ K.held sink.old }
+    ensures statuses { exit_status result ≤ 9 }
 {
-    ExitCode::from(flock(alloc, words, source, sink, faults))
+    let (status, ran) = flock(rt, alloc, words, source, sink, faults, gates);
+    drop(ran);
+    ExitCode::from(status)
 }
 
 // The arguments, with the program's name. Where one is no text there are none, and no command has no words.

@@ -1,84 +1,180 @@
--- From the way in which a run ends to the number of its status, and back.
-use Rattle.std.proofs.Common.{◌≡◌, ◌≢◌, ℕ, List, Option, None, Some, Result, Err, IfSome, refl, ap, ◌∙◌, ◌⊎◌, ⊎_elim, inl, inr, arith}
-use Rattle.trace_reader.specs.declared.traces.Traces.{Traces}
+-- From the way in which the program ends without a report to its status, and back.
+use Rattle.std.proofs.Common.{◌≡◌, ◌≢◌, ℕ, List, Option, None, Some, Result, Ok, Err, IsOk, IfSome, IsSome, refl, sym, ap, ◌∙◌, ◌⊎◌, ⊎_elim, inl, inr, subst, arith}
 use Rattle.trace_reader.specs.declared.traces.BadLine.{BadLine}
 use Rattle.trace_reader.specs.declared.traces.TraceError.{TraceError}
 use Rattle.trace_reader.specs.declared.traces.TraceError.TheVariants.{ReadFault, Memory, TooLarge, Malformed, TooManyTraces, TooManyRequests}
+use Rattle.std.specs.Prelude.{◌↔◌}
 use Rattle.trace_reader.specs.Answer.{IsExact, IsRefusal}
-use Rattle.trace_reader.specs.Text.{IsFirstRefusal}
+use Rattle.trace_reader.specs.declared.traces.Traces.{Traces}
+use Rattle.flock_tool.specs.declared.ran.Ran.{Ran}
+use Rattle.trace_reader.specs.Text.{IsAccepted, IsFirstRefusal}
+use Rattle.flock_words.specs.Commands.{AreAccepted}
+use Rattle.flock_tool.specs.declared.plan.Plan.{Plan}
 use Rattle.flock_tool.specs.declared.status.Stop.{Stop}
-use Rattle.flock_tool.specs.declared.status.Stop.TheVariants.{Words, Text, WriteFault}
-use Rattle.flock_tool.specs.End.{MustEnd, IsLimit, Tells, error_line, error_status, stop_line, stop_status}
+use Rattle.flock_tool.specs.declared.status.Stop.TheVariants.{Words, Text, Nodes, WriteFault}
+use Rattle.flock_tool.specs.End.{IsLimit, Tells, error_line, error_status, nodes_line, stop_line, stop_status}
+use Rattle.flock_tool.specs.Plans.{AsksTooMuch, IsRefusedPlan, MustPlan}
+use Rattle.flock_tool.specs.Runs.{IsRunStatus}
 
 pub IfSome-from : {A : Type 0} (P Q : A → Type 0) (o : Option A) → IfSome o P → ((x : A) → P x → Q x) → IfSome o Q
 IfSome-from P Q None known step = tt
 IfSome-from P Q (Some x) known step = step x known
 
+-- what a status tells of the way
+pub stop_at_2 : (stop : Stop) → stop_status stop ≡ 2 → stop ≡ Words
+stop_at_2 Words is = refl
+stop_at_2 (Text ReadFault) is = absurd (omega (arith, is))
+stop_at_2 (Text Memory) is = absurd (omega (arith, is))
+stop_at_2 (Text (TooLarge bytes)) is = absurd (omega (arith, is))
+stop_at_2 (Text (Malformed line kind)) is = absurd (omega (arith, is))
+stop_at_2 (Text (TooManyTraces count)) is = absurd (omega (arith, is))
+stop_at_2 (Text (TooManyRequests count)) is = absurd (omega (arith, is))
+stop_at_2 (Nodes count) is = absurd (omega (arith, is))
+stop_at_2 WriteFault is = absurd (omega (arith, is))
+
+pub stop_at_7 : (stop : Stop) → stop_status stop ≡ 7 → stop ≡ Text Memory
+stop_at_7 Words is = absurd (omega (arith, is))
+stop_at_7 (Text ReadFault) is = absurd (omega (arith, is))
+stop_at_7 (Text Memory) is = refl
+stop_at_7 (Text (TooLarge bytes)) is = absurd (omega (arith, is))
+stop_at_7 (Text (Malformed line kind)) is = absurd (omega (arith, is))
+stop_at_7 (Text (TooManyTraces count)) is = absurd (omega (arith, is))
+stop_at_7 (Text (TooManyRequests count)) is = absurd (omega (arith, is))
+stop_at_7 (Nodes count) is = absurd (omega (arith, is))
+stop_at_7 WriteFault is = absurd (omega (arith, is))
+
+pub stop_at_8 : (stop : Stop) → stop_status stop ≡ 8 → stop ≡ Text ReadFault
+stop_at_8 Words is = absurd (omega (arith, is))
+stop_at_8 (Text ReadFault) is = refl
+stop_at_8 (Text Memory) is = absurd (omega (arith, is))
+stop_at_8 (Text (TooLarge bytes)) is = absurd (omega (arith, is))
+stop_at_8 (Text (Malformed line kind)) is = absurd (omega (arith, is))
+stop_at_8 (Text (TooManyTraces count)) is = absurd (omega (arith, is))
+stop_at_8 (Text (TooManyRequests count)) is = absurd (omega (arith, is))
+stop_at_8 (Nodes count) is = absurd (omega (arith, is))
+stop_at_8 WriteFault is = absurd (omega (arith, is))
+
+-- no way but the sink's failure has the status of a run, and that is none of a plan's
+pub not_run : (words : List (List ℕ)) (left : Option (List ℕ)) (stop : Stop) → IsRefusedPlan words left stop → IsRunStatus (stop_status stop) → ⊥
+not_run words left Words refused run = absurd (grind arith)
+not_run words left (Text ReadFault) refused run = absurd (grind arith)
+not_run words left (Text Memory) refused run = absurd (grind arith)
+not_run words left (Text (TooLarge bytes)) refused run = absurd (grind arith)
+not_run words left (Text (Malformed line kind)) refused run = absurd (grind arith)
+not_run words left (Text (TooManyTraces count)) refused run = absurd (grind arith)
+not_run words left (Text (TooManyRequests count)) refused run = absurd (grind arith)
+not_run words left (Nodes count) refused run = absurd (grind arith)
+not_run words left WriteFault refused run = refused
+
+-- status 3 is a line with a fault
+pub malformed_stop : (words : List (List ℕ)) (left before after : Option (List ℕ)) (faults_before faults_after : ℕ) (stop : Stop) → IsRefusedPlan words left stop
+    → Tells (stop_line stop) before after faults_before faults_after → stop_status stop ≡ 3
+    → (line : ℕ) × (kind : BadLine) × (IfSome left (λ text. IsFirstRefusal text (Malformed line kind)) × Tells (error_line (Malformed line kind)) before after faults_before faults_after)
+malformed_stop words left before after fb fa Words refused told three = absurd (omega (arith, three))
+malformed_stop words left before after fb fa (Text ReadFault) refused told three = absurd (omega (arith, three))
+malformed_stop words left before after fb fa (Text Memory) refused told three = absurd (omega (arith, three))
+malformed_stop words left before after fb fa (Text (TooLarge bytes)) refused told three = absurd (omega (arith, three))
+malformed_stop words left before after fb fa (Text (TooManyTraces count)) refused told three = absurd (omega (arith, three))
+malformed_stop words left before after fb fa (Text (TooManyRequests count)) refused told three = absurd (omega (arith, three))
+malformed_stop words left before after fb fa (Nodes count) refused told three = absurd (omega (arith, three))
+malformed_stop words left before after fb fa WriteFault refused told three = absurd (omega (arith, three))
+malformed_stop words left before after fb fa (Text (Malformed line kind)) refused told three = (line, kind, (refused, told))
+
+-- status 4 is a text past a limit, or too many node slots
+pub limit_stop : (words : List (List ℕ)) (left before after : Option (List ℕ)) (faults_before faults_after : ℕ) (stop : Stop) → IsRefusedPlan words left stop
+    → Tells (stop_line stop) before after faults_before faults_after → stop_status stop ≡ 4
+    → ((error : TraceError) × (IsLimit error × IfSome left (λ text. IsFirstRefusal text error) × Tells (error_line error) before after faults_before faults_after))
+    ⊎ ((count : ℕ) × (AsksTooMuch words left count × Tells (nodes_line count) before after faults_before faults_after))
+limit_stop words left before after fb fa Words refused told four = absurd (omega (arith, four))
+limit_stop words left before after fb fa (Text ReadFault) refused told four = absurd (omega (arith, four))
+limit_stop words left before after fb fa (Text Memory) refused told four = absurd (omega (arith, four))
+limit_stop words left before after fb fa (Text (Malformed line kind)) refused told four = absurd (omega (arith, four))
+limit_stop words left before after fb fa WriteFault refused told four = absurd (omega (arith, four))
+limit_stop words left before after fb fa (Text (TooLarge bytes)) refused told four = inl (TooLarge bytes, (tt, refused, told))
+limit_stop words left before after fb fa (Text (TooManyTraces count)) refused told four = inl (TooManyTraces count, (tt, refused, told))
+limit_stop words left before after fb fa (Text (TooManyRequests count)) refused told four = inl (TooManyRequests count, (tt, refused, told))
+limit_stop words left before after fb fa (Nodes count) refused told four = inr (count, (refused, told))
+
 err_same : {T : Type 0} (a b : Stop) → ◌≡◌ {A = Result T Stop} (Err a) (Err b) → a ≡ b
 err_same a b e = cc
 
-text_same : (a b : TraceError) → Text a ≡ Text b → a ≡ b
-text_same a b e = cc
+-- a text that must be refused so has the status
+pub refused_status : (stop : Stop) (text : List ℕ) (error : TraceError) → MustPlan (Err stop) text → IsFirstRefusal text error
+    → (stop_status stop ≡ error_status error) ⊎ (stop_status stop ≡ 7)
+refused_status stop text error must first =
+    ⊎_elim
+    (λ same. inl (ap stop_status (err_same {T = Plan} stop (Text error) same)))
+    (λ want. inr (ap stop_status (err_same {T = Plan} stop (Text Memory) want)))
+    (must.refused error first)
+
+-- a text in the grammar isn't refused, but for want of memory and for too many node slots
+pub accepted_status : (words : List (List ℕ)) (left : Option (List ℕ)) (stop : Stop) (text : List ℕ) → IsRefusedPlan words left stop → MustPlan (Err stop) text → IsAccepted text
+    → IsRunStatus (stop_status stop) ⊎ (stop_status stop ≡ 7) ⊎ ((stop_status stop ≡ 4) × (count : ℕ) × AsksTooMuch words left count)
+accepted_status words left stop text refused must accepted =
+    ⊎_elim (λ ok. absurd (not_ok ok))
+    (⊎_elim
+    (λ want. inr (inl (ap stop_status (err_same {T = Plan} stop (Text Memory) want))))
+    (λ much.
+    let same = err_same {T = Plan} stop (Nodes much.0) much.1 in
+    inr (inr (ap stop_status same, much.0, subst (IsRefusedPlan words left) same refused))))
+    (must.accepted accepted)
+  where
+    not_ok : IsOk {T = Plan} {E = Stop} (Err stop) → ⊥
+    not_ok ok = cc
 
 same_error : (a b : TraceError) → ◌≡◌ {A = Result Traces TraceError} (Err a) (Err b) → a ≡ b
 same_error a b e = cc
 
--- a text that was refused ends so
-pub must_refuse : (error : TraceError) (text : List ℕ) → IsExact (Err error) text → MustEnd {T = Unit {0}} (Err (Text error)) text
+-- a text that was refused by its reading must be refused so
+pub must_refuse : (error : TraceError) (text : List ℕ) → IsExact (Err error) text → MustPlan (Err (Text error)) text
 must_refuse error text exact = record {
-  accepted = λ accepted. ⊎_elim (λ ok. absurd (cc)) (λ want. inr (inl (ap (λ e. Err (Text e)) (same_error error Memory want)))) (exact.accepted accepted);
+  accepted = λ accepted. ⊎_elim (λ ok. absurd (not_read ok)) (λ want. inr (inl (ap (λ e. Err (Text e)) (same_error error Memory want)))) (exact.accepted accepted);
   refused = λ other first. ⊎_elim
       (λ same. inl (ap (λ e. Err (Text e)) (same_error error other same)))
       (λ want. inr (ap (λ e. Err (Text e)) (same_error error Memory want)))
       (exact.refused other first);
 }
+  where
+    not_read : IsOk {T = Traces} {E = TraceError} (Err error) → ⊥
+    not_read ok = cc
 
--- an error of the text has its status
-pub refused_status : (stop : Stop) (status : ℕ) (text : List ℕ) (error : TraceError) → status ≡ stop_status stop → MustEnd {T = Unit {0}} (Err stop) text → IsFirstRefusal text error → (status ≡ error_status error) ⊎ (status ≡ 7)
-refused_status stop status text error is must first =
-    ⊎_elim
-    (λ same. inl (is ∙ ap stop_status (err_same {T = Unit {0}} stop (Text error) same)))
-    (λ want. inr (is ∙ ap stop_status (err_same {T = Unit {0}} stop (Text Memory) want)))
-    (must.refused error first)
+none_some : (back : Option Ran) → back ≡ None → IsSome back → ⊥
+none_some back none some = absurd (cc)
 
--- what a text that was refused so is known to be
-abbrev Known : Option (List ℕ) → Stop → Type 0
-Known left stop = (error : TraceError) → ◌≡◌ {A = Result (Unit {0}) Stop} (Err stop) (Err (Text error)) → IfSome left (IsRefusal error)
+-- without a plan nothing comes back
+pub none_ran : (words : List (List ℕ)) (left : Option (List ℕ)) (stop : Stop) (status : ℕ) (back : Option Ran) → IsRefusedPlan words left stop → status ≡ stop_status stop
+    → back ≡ None → IsSome back ↔ IsRunStatus status
+none_ran words left stop status back refused is none =
+    (λ some. absurd (none_some back none some), λ run. absurd (not_run words left stop refused (subst IsRunStatus is run)))
 
--- a line with a fault, and what is told of it
-abbrev MalformedTold : Option (List ℕ) → (before after : Option (List ℕ)) → (faults_before faults_after : ℕ) → Type 0
-MalformedTold left before after faults_before faults_after =
-    (line : ℕ) × (kind : BadLine) × (IfSome left (λ text. IsFirstRefusal text (Malformed line kind)) × Tells (error_line (Malformed line kind)) before after faults_before faults_after)
+-- what a text comes to that isn't planned
+pub complete_refused : (words : List (List ℕ)) (left : Option (List ℕ)) (stop : Stop) (status : ℕ) → status ≡ stop_status stop → IsRefusedPlan words left stop
+    → IfSome left (MustPlan (Err stop))
+    → IfSome left (λ text. IsAccepted text → IsRunStatus status ⊎ (status ≡ 7) ⊎ ((status ≡ 4) × (count : ℕ) × AsksTooMuch words left count))
+complete_refused words left stop status is refused must =
+    IfSome-from (MustPlan (Err stop)) (λ text. IsAccepted text → IsRunStatus status ⊎ (status ≡ 7) ⊎ ((status ≡ 4) × (count : ℕ) × AsksTooMuch words left count)) left must
+    (λ text must_text accepted. subst (λ n. IsRunStatus n ⊎ (n ≡ 7) ⊎ ((n ≡ 4) × (count : ℕ) × AsksTooMuch words left count)) (sym is)
+    (accepted_status words left stop text refused must_text accepted))
 
--- status 3 is a line with a fault
-pub malformed_stop : (left before after : Option (List ℕ)) (faults_before faults_after : ℕ) (stop : Stop) (status : ℕ) → status ≡ stop_status stop → status ≡ 3
-    → Known left stop → Tells (stop_line stop) before after faults_before faults_after → MalformedTold left before after faults_before faults_after
-malformed_stop left before after fb fa Words status is three known told = absurd (omega (arith, is, three))
-malformed_stop left before after fb fa WriteFault status is three known told = absurd (omega (arith, is, three))
-malformed_stop left before after fb fa (Text ReadFault) status is three known told = absurd (omega (arith, is, three))
-malformed_stop left before after fb fa (Text Memory) status is three known told = absurd (omega (arith, is, three))
-malformed_stop left before after fb fa (Text (TooLarge bytes)) status is three known told = absurd (omega (arith, is, three))
-malformed_stop left before after fb fa (Text (TooManyTraces count)) status is three known told = absurd (omega (arith, is, three))
-malformed_stop left before after fb fa (Text (TooManyRequests count)) status is three known told = absurd (omega (arith, is, three))
-malformed_stop left before after fb fa (Text (Malformed line kind)) status is three known told = (line, kind, (known (Malformed line kind) refl, told))
+pub first_refused : (left : Option (List ℕ)) (stop : Stop) (status : ℕ) → status ≡ stop_status stop → IfSome left (MustPlan (Err stop))
+    → IfSome left (λ text. (error : TraceError) → IsFirstRefusal text error → (status ≡ error_status error) ⊎ (status ≡ 7))
+first_refused left stop status is must =
+    IfSome-from (MustPlan (Err stop)) (λ text. (error : TraceError) → IsFirstRefusal text error → (status ≡ error_status error) ⊎ (status ≡ 7)) left must
+    (λ text must_text error first. subst (λ n. (n ≡ error_status error) ⊎ (n ≡ 7)) (sym is) (refused_status stop text error must_text first))
 
--- status 4 is a text past a limit
-pub limit_stop : (left before after : Option (List ℕ)) (faults_before faults_after : ℕ) (stop : Stop) (status : ℕ) → status ≡ stop_status stop → status ≡ 4
-    → Known left stop → Tells (stop_line stop) before after faults_before faults_after
-    → (error : TraceError) × (IsLimit error × IfSome left (λ text. IsFirstRefusal text error) × Tells (error_line error) before after faults_before faults_after)
-limit_stop left before after fb fa Words status is four known told = absurd (omega (arith, is, four))
-limit_stop left before after fb fa WriteFault status is four known told = absurd (omega (arith, is, four))
-limit_stop left before after fb fa (Text ReadFault) status is four known told = absurd (omega (arith, is, four))
-limit_stop left before after fb fa (Text Memory) status is four known told = absurd (omega (arith, is, four))
-limit_stop left before after fb fa (Text (Malformed line kind)) status is four known told = absurd (omega (arith, is, four))
-limit_stop left before after fb fa (Text (TooLarge bytes)) status is four known told = (TooLarge bytes, (tt, known (TooLarge bytes) refl, told))
-limit_stop left before after fb fa (Text (TooManyTraces count)) status is four known told = (TooManyTraces count, (tt, known (TooManyTraces count) refl, told))
-limit_stop left before after fb fa (Text (TooManyRequests count)) status is four known told = (TooManyRequests count, (tt, known (TooManyRequests count) refl, told))
+pub any_text : (Q : List ℕ → Type 0) (left : Option (List ℕ)) → ((text : List ℕ) → Q text) → IfSome left Q
+any_text Q None each = tt
+any_text Q (Some text) each = each text
 
--- only a failing sink leaves a part
-pub silent_stop : (stop : Stop) (status : ℕ) (Same : Type 0) → status ≡ stop_status stop → status ≢ 9
-    → (◌≡◌ {A = Result (Unit {0}) Stop} (Err stop) (Err Words) → Same)
-    → ((error : TraceError) → ◌≡◌ {A = Result (Unit {0}) Stop} (Err stop) (Err (Text error)) → Same) → Same
-silent_stop Words status Same is not_nine words text = words refl
-silent_stop (Text error) status Same is not_nine words text = text error refl
-silent_stop WriteFault status Same is not_nine words text = absurd (not_nine is)
+-- a text that is planned isn't refused
+pub planned_refused : (left : Option (List ℕ)) (plan : Plan) (status : ℕ) → IfSome left (MustPlan (Ok plan))
+    → IfSome left (λ text. (error : TraceError) → IsFirstRefusal text error → (status ≡ error_status error) ⊎ (status ≡ 7))
+planned_refused left plan status must =
+    IfSome-from (MustPlan (Ok plan)) (λ text. (error : TraceError) → IsFirstRefusal text error → (status ≡ error_status error) ⊎ (status ≡ 7)) left must
+    (λ text must_text error first. absurd (⊎_elim (λ same. not_ok (Text error) same) (λ want. not_ok (Text Memory) want) (must_text.refused error first)))
+  where
+    not_ok : (stop : Stop) → ◌≡◌ {A = Result Plan Stop} (Ok plan) (Err stop) → ⊥
+    not_ok stop same = cc
+
+pub read_fault : (stop : Stop) (status : ℕ) → status ≡ stop_status stop → status ≢ 8 → ◌≡◌ {A = Result Plan Stop} (Err stop) (Err (Text ReadFault)) → ⊥
+read_fault stop status is not_eight same = not_eight (is ∙ ap stop_status (err_same {T = Plan} stop (Text ReadFault) same))

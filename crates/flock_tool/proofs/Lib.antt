@@ -1,6 +1,6 @@
-pub mod Command
 pub mod Ends
-pub mod InOrder
-pub mod Reports
-pub mod Rows
-pub mod Served
+pub mod Finishing
+pub mod Reported
+pub mod Reporting
+pub mod Sizes
+pub mod Whole

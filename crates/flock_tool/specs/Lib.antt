@@ -1,3 +1,4 @@
 pub mod End
-pub mod Serve
-pub mod Words
+pub mod Finish
+pub mod Plans
+pub mod Runs

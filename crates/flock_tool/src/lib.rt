@@ -1,17 +1,21 @@
-//! The program `flock`: reads a trace text, serves its requests and prints the report.
+//! The program `flock`: reads a trace text, runs its requests on one table with a thread for each runner, and prints the report.
 //!
-//! `tool` has the top call, whose contract carries the theorem. `words` reads the command, `serve` answers the
-//! requests, `status` has the ways in which a run can end with the number and the line of each, and `standard`
-//! adapts std's readers and writers.
+//! `tool` has the top call, whose contract carries the theorem. `plan` reads the words and the text, `run` runs and prints, `ran` is what a run
+//! leaves, `status` has the ways in which the program can end without a report and `finish` those in which a run can, each with its number and
+//! its line, and `standard` adapts std's readers and writers.
 #![tactic(auto)]
 
-mod serve;
+mod finish;
+mod plan;
+mod ran;
+mod run;
 mod standard;
 mod status;
 #[cfg(test)]
 mod tests;
 mod tool;
-mod words;
 
+pub use finish::Finish;
+pub use ran::Ran;
 pub use standard::{StdSink, StdSource};
-pub use tool::{flock, text_order_is_legal};
+pub use tool::flock;

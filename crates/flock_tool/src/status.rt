@@ -1,21 +1,24 @@
-// The ways in which a run ends early.
+// The ways in which the program ends without a report.
 ghost use Rattle.std.specs.Prelude.{◌≡◌, ◌++◌, ◌≤◌, length, codes, decimal};
 ghost use Rattle.trace_reader.specs.declared.traces.TraceError.TheVariants.{Malformed};
 ghost use Rattle.flock_tool.specs.End.{Tells, kind_text, error_line, error_status, stop_line, stop_status};
 
 use arrayvec::ArrayString;
 use itoa::Buffer;
-use report_text::{Failed, Sink, write_all};
+use report_text::{Sink, write_all};
+use run_reports::PrintError;
 use std::alloc::AllocError;
 use trace_reader::{BadLine, TraceError};
 
-/// Why a run ended before its report was printed.
+/// Why the program ended before its report was printed whole.
 #[derive(Clone, Copy, Debug, PartialEq, Eq)]
 pub enum Stop {
     /// The words are no command.
     Words,
     /// The text was not read, or memory was wanting.
     Text(TraceError),
+    /// The runners together would have so many node slots, which is more than the limit.
+    Nodes { count: u32 },
     /// The sink failed.
     WriteFault,
 }
@@ -41,13 +44,16 @@ impl From<AllocError> for Stop {
     }
 }
 
-impl From<Failed> for Stop {
-    ghost use Rattle.flock_tool.specs.declared.status.Stop.TheVariants.{WriteFault};
+impl From<PrintError> for Stop {
+    ghost use Rattle.flock_tool.specs.End.{stop_of};
 
-    ghost from_gives = { λ _ stop. stop ≡ WriteFault };
+    ghost from_gives = { λ error stop. stop ≡ stop_of error };
 
-    fn from(_: Failed) -> Self {
-        Stop::WriteFault
+    fn from(error: PrintError) -> Self {
+        match error {
+            PrintError::Memory => Stop::Text(TraceError::Memory),
+            PrintError::Failed => Stop::WriteFault,
+        }
     }
 }
 
@@ -65,7 +71,8 @@ pub fn status_of(stop: Stop) -> u8
             TraceError::TooLarge { .. }
             | TraceError::TooManyTraces { .. }
             | TraceError::TooManyRequests { .. },
-        ) => 4,
+        )
+        | Stop::Nodes { .. } => 4,
         Stop::Text(TraceError::Memory) => 7,
         Stop::Text(TraceError::ReadFault) => 8,
         Stop::WriteFault => 9,
@@ -86,6 +93,7 @@ fn line_of(stop: Stop) -> Line
     match stop {
         Stop::Words => line_of_text("flock: words refused\n"),
         Stop::Text(error) => line_of_error(error),
+        Stop::Nodes { count } => line_of_count("flock: limit: nodes ", u64::from(count)),
         Stop::WriteFault => line_of_text("flock: write fault\n"),
     }
 }

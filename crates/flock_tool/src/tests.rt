@@ -5,10 +5,14 @@ ghost use Rattle.std.specs.Prelude.{None};
 use crate::{StdSink, StdSource, flock};
 use itoa::Buffer;
 use report_text::{Failed, MemorySink, Sink};
+use runner_gate::{Gates, Pause, PlannedGates, ScriptedGates};
+use section_body::StepKind;
 use std::alloc::{AllocError, Global};
 use std::process::Abort;
+use std::sync::Wait;
 use std::test::Fail;
-use trace_reader::{MemorySource, SureSource};
+use std::thread::Threads;
+use trace_reader::{MemorySource, Source, SureSource};
 
 const REPORTS: &str = "\
 flock 1/=>final 0/
@@ -20,6 +24,24 @@ flock 1^/# note^/^/trace^/\tins\t007 1^/get 7=>trace 0/0 new/1 val 1/final 1/
 flock 1/trace/ins 4294967293 4294967295/get 4294967293/=>trace 0/0 new/1 val 4294967295/final 1/
 /# before the header ~/ flock\t1 /trace/del 000/=>trace 0/0 none/final 0/
 flock 1/trace/trace/trace/get 3/=>trace 0/trace 1/trace 2/0 none/final 0/
+";
+
+// Each row: the status and the words, the text, the report, and what is told.
+const RUNS: &str = "\
+0 run --runners 1|flock 1/trace/ins 1 10/trace/get 1/|trace 0/0 new/trace 1/1 val 10/final 1/|
+0 run --buckets 1|flock 1/trace/ins 1 1/ins 2 2/ins 3 3/del 2/get 1/get 3/|trace 0/0 new/1 new/2 new/3 gone/4 val 1/5 val 3/final 2/|
+0 run --table hash --sections 4 --nodes 4|flock 1/trace/ins 1 1/del 1/ins 2 2/|trace 0/0 new/1 gone/2 new/final 1/|
+1 run --runners 2 --halt 1:1|flock 1/trace/ins 1 1/get 1/trace/get 1/|trace 0/0 new/1 val 1/trace 1/- unserved/final 1/|flock: halted, 1 unserved/
+0 run --runners 1 --halt 1:1|flock 1/trace/get 1/|trace 0/0 none/final 0/|
+5 run --nodes 0|flock 1/trace/get 1/|trace 0/- unserved/final 0/|flock: slots: runner 0 node free 0 limbo 0 worn 0/
+5 run --nodes 4|flock 1/trace/ins 1 1/ins 2 2/ins 3 3/ins 4 4/|trace 0/0 new/1 new/2 new/- unserved/final 3/|flock: slots: runner 0 node free 1 limbo 0 worn 0/
+6 run --buckets 1 --version-max 5|flock 1/trace/get 1/get 1/get 1/|trace 0/0 none/1 none/- unserved/final 0/|flock: versions: place 0 value 0 version 5/
+4 run --runners 2 --nodes 131073|flock 1/trace/ins 1 10/trace/get 1/||flock: limit: nodes 262146/
+2 run --buckets 3|flock 1/||flock: words refused/
+2 run --runners 0|flock 1/||flock: words refused/
+2 run --halt 0:0|flock 1/||flock: words refused/
+2 run --table tree|flock 1/||flock: words refused/
+2 walk|flock 1/||flock: words refused/
 ";
 
 const FAULTS: &str = "\
@@ -84,10 +106,54 @@ fn quiet_sink(alloc: Global) -> MemorySink {
     MemorySink::new(alloc, Vec::new(alloc), Vec::new(alloc))
 }
 
-fn run(alloc: Global, text: Vec<u8>, pieces: Vec<usize>) -> Ran {
+// The status of a command over these streams, with gates that halt as planned.
+fn command<T: Threads + Wait + Sync, R: Source, K: Sink, F: Sink>(
+    rt: &T,
+    alloc: Global,
+    words: &[&str],
+    source: &mut R,
+    sink: &mut K,
+    faults: &mut F,
+) -> u8 {
+    command_with(
+        rt,
+        alloc,
+        words,
+        source,
+        sink,
+        faults,
+        &mut PlannedGates::new(),
+    )
+}
+
+fn command_with<T: Threads + Wait + Sync, R: Source, K: Sink, F: Sink, G: Gates>(
+    rt: &T,
+    alloc: Global,
+    words: &[&str],
+    source: &mut R,
+    sink: &mut K,
+    faults: &mut F,
+    gates: &mut G,
+) -> u8 {
+    let (status, ran) = flock(rt, alloc, words, source, sink, faults, gates);
+    drop(ran);
+    status
+}
+
+fn run<T: Threads + Wait + Sync>(rt: &T, alloc: Global, text: Vec<u8>, pieces: Vec<usize>) -> Ran {
+    run_words(rt, alloc, &["run"], text, pieces)
+}
+
+fn run_words<T: Threads + Wait + Sync>(
+    rt: &T,
+    alloc: Global,
+    words: &[&str],
+    text: Vec<u8>,
+    pieces: Vec<usize>,
+) -> Ran {
     let mut source = SureSource::new(text, pieces);
     let (mut sink, mut faults) = (quiet_sink(alloc), quiet_sink(alloc));
-    let status = flock(alloc, &["run"], &mut source, &mut sink, &mut faults);
+    let status = command(rt, alloc, words, &mut source, &mut sink, &mut faults);
     Ran {
         status,
         sink,
@@ -96,9 +162,15 @@ fn run(alloc: Global, text: Vec<u8>, pieces: Vec<usize>) -> Ran {
 }
 
 // The text in one piece, or in pieces of one byte.
-fn run_row(alloc: Global, row: &str, bytewise: bool) -> Result<Ran, AllocError> {
+fn run_row<T: Threads + Wait + Sync>(
+    rt: &T,
+    alloc: Global,
+    row: &str,
+    bytewise: bool,
+) -> Result<Ran, AllocError> {
     let pieces = if bytewise { row.len() } else { 0 };
     Ok(run(
+        rt,
         alloc,
         bytes_of(alloc, row)?,
         vec![in alloc; 1usize; pieces]?,
@@ -113,8 +185,8 @@ fn columns(row: &str) -> (&str, &str) {
     }
 }
 
-fn check_table(
-    rt: &impl Abort,
+fn check_table<T: Abort + Threads + Wait + Sync>(
+    rt: &T,
     alloc: Global,
     table: &str,
     status: u8,
@@ -123,7 +195,7 @@ fn check_table(
     for row in table.lines() {
         let (text, out) = columns(row);
         let out = bytes_of(alloc, out)?;
-        let ran = run_row(alloc, text, bytewise)?;
+        let ran = run_row(rt, alloc, text, bytewise)?;
         assert!(rt; ran.status == status, "{row}");
         assert!(rt; ran.said() == out.as_slice(), "{row}");
         assert!(rt;
@@ -141,6 +213,106 @@ fn texts_give_their_reports(rt: HostRuntime) -> Result<(), Fail> {
     Ok(())
 }
 
+// The four columns of a run: the status and the words, the text, the report, and what is told.
+fn parts<'a>(alloc: Global, row: &'a str) -> Result<Vec<&'a str>, AllocError> {
+    row.split('|').collect(alloc)
+}
+
+#[test]
+fn runs_end_as_their_options_say(rt: HostRuntime) -> Result<(), Fail> {
+    let alloc = rt.alloc();
+    for row in RUNS.lines() {
+        let parts = parts(alloc, row)?;
+        let words: Vec<&str> = parts[0].split(' ').skip(1).collect(alloc)?;
+        let text = bytes_of(alloc, parts[1])?;
+        let ran = run_words(&rt, alloc, &words, text, Vec::new(alloc));
+        assert!(rt;
+            parts[0].starts_with(Buffer::new().format(ran.status)),
+            "{row}"
+        );
+        assert!(rt;
+            ran.sink.bytes() == bytes_of(alloc, parts[2])?.as_slice(),
+            "{row}"
+        );
+        assert!(rt;
+            ran.faults.bytes() == bytes_of(alloc, parts[3])?.as_slice(),
+            "{row}"
+        );
+    }
+    Ok(())
+}
+
+// A runner waits at its first ask of one kind until another was asked with another kind.
+fn pause(runner: u32, at: StepKind, until_runner: u32, until: StepKind) -> Pause {
+    Pause {
+        runner,
+        at,
+        until_runner,
+        until,
+    }
+}
+
+fn run_script<T: Threads + Wait + Sync>(
+    rt: &T,
+    alloc: Global,
+    words: &[&str],
+    text: &str,
+    pauses: Vec<Pause>,
+) -> Result<Ran, AllocError> {
+    let mut source = SureSource::new(bytes_of(alloc, text)?, Vec::new(alloc));
+    let (mut sink, mut faults) = (quiet_sink(alloc), quiet_sink(alloc));
+    let mut gates = ScriptedGates::new(alloc, pauses)?;
+    let status = command_with(
+        rt,
+        alloc,
+        words,
+        &mut source,
+        &mut sink,
+        &mut faults,
+        &mut gates,
+    );
+    Ok(Ran {
+        status,
+        sink,
+        faults,
+    })
+}
+
+// Runner 1 helps the section that runner 0 leaves waiting behind its publication. Workers that ran one after the other would wait in vain.
+#[test]
+fn a_waiting_section_is_helped(rt: HostRuntime) -> Result<(), Fail> {
+    let alloc = rt.alloc();
+    let mut pauses = Vec::new(alloc);
+    pauses.push(pause(1, StepKind::Entered, 0, StepKind::Hold))?;
+    pauses.push(pause(0, StepKind::Hold, 1, StepKind::Served))?;
+    let text = "flock 1/trace/ins 5 70/get 5/trace/ins 5 80/";
+    let ran = run_script(&rt, alloc, &["run", "--runners", "2"], text, pauses)?;
+    let report = bytes_of(alloc, "trace 0/0 new/2 val 70/trace 1/1 dup/final 1/")?;
+    assert!(rt; ran.status == 0);
+    assert!(rt; ran.sink.bytes() == report.as_slice());
+    Ok(())
+}
+
+// Runner 1 helps runner 0's section, and runner 2 helps runner 1's.
+#[test]
+fn helpers_are_helped(rt: HostRuntime) -> Result<(), Fail> {
+    let alloc = rt.alloc();
+    let mut pauses = Vec::new(alloc);
+    pauses.push(pause(0, StepKind::Hold, 1, StepKind::Served))?;
+    pauses.push(pause(1, StepKind::Entered, 0, StepKind::Hold))?;
+    pauses.push(pause(1, StepKind::Hold, 2, StepKind::Served))?;
+    pauses.push(pause(2, StepKind::Entered, 1, StepKind::Hold))?;
+    let text = "flock 1/trace/ins 5 70/get 5/trace/ins 5 80/trace/get 5/";
+    let ran = run_script(&rt, alloc, &["run", "--runners", "3"], text, pauses)?;
+    let report = bytes_of(
+        alloc,
+        "trace 0/0 new/3 val 70/trace 1/1 dup/trace 2/2 val 70/final 1/",
+    )?;
+    assert!(rt; ran.status == 0);
+    assert!(rt; ran.sink.bytes() == report.as_slice());
+    Ok(())
+}
+
 #[test]
 fn a_line_is_refused_for_its_first_fault(rt: HostRuntime) -> Result<(), Fail> {
     check_table(&rt, rt.alloc(), FAULTS, 3, false)?;
@@ -155,8 +327,9 @@ fn every_prefix_is_served_or_refused(rt: HostRuntime) -> Result<(), Fail> {
     let text = b"flock 1\ntrace\nins 5 70\nget 5\n";
     let served = b"-------++----++------+++----+";
     for end in 0..text.len() {
-        let whole = run(alloc, text[..end].to_vec(alloc)?, Vec::new(alloc));
+        let whole = run(&rt, alloc, text[..end].to_vec(alloc)?, Vec::new(alloc));
         let bytewise = run(
+            &rt,
             alloc,
             text[..end].to_vec(alloc)?,
             vec![in alloc; 1usize; end]?,
@@ -177,7 +350,7 @@ fn words_other_than_run_are_refused(rt: HostRuntime) -> Result<(), Fail> {
         let mut source = SureSource::new(b"flock 1\n".to_vec(alloc)?, Vec::new(alloc));
         let (mut sink, mut faults) = (quiet_sink(alloc), quiet_sink(alloc));
         assert!(rt;
-            flock(alloc, &[word], &mut source, &mut sink, &mut faults) == 2,
+            command(&rt, alloc, &[word], &mut source, &mut sink, &mut faults) == 2,
             "{word}"
         );
         assert!(rt; sink.bytes().is_empty());
@@ -197,7 +370,7 @@ fn each_read_fails_in_turn(rt: HostRuntime) -> Result<(), Fail> {
         let fails = vec![in alloc; failing; 1]?;
         let mut source = MemorySource::new(bytes_of(alloc, TEXT)?, sizes, fails);
         let (mut sink, mut faults) = (quiet_sink(alloc), quiet_sink(alloc));
-        let status = flock(alloc, &["run"], &mut source, &mut sink, &mut faults);
+        let status = command(&rt, alloc, &["run"], &mut source, &mut sink, &mut faults);
         assert!(rt; status == if failing < 6 { 8 } else { 0 }, "at {failing}");
         assert!(rt; sink.bytes().is_empty() == (failing < 6), "at {failing}");
         assert!(rt; faults.bytes().is_empty() == (failing == 6), "at {failing}");
@@ -205,12 +378,17 @@ fn each_read_fails_in_turn(rt: HostRuntime) -> Result<(), Fail> {
     Ok(())
 }
 
-fn run_failing(alloc: Global, fails: u64, empty: u64) -> Result<Ran, AllocError> {
+fn run_failing<T: Threads + Wait + Sync>(
+    rt: &T,
+    alloc: Global,
+    fails: u64,
+    empty: u64,
+) -> Result<Ran, AllocError> {
     let mut source = SureSource::new(bytes_of(alloc, TEXT)?, Vec::new(alloc));
     let (fails, empty) = (vec![in alloc; fails; 1]?, vec![in alloc; empty; 1]?);
     let mut sink = MemorySink::new(alloc, fails, empty);
     let mut faults = quiet_sink(alloc);
-    let status = flock(alloc, &["run"], &mut source, &mut sink, &mut faults);
+    let status = command(rt, alloc, &["run"], &mut source, &mut sink, &mut faults);
     Ok(Ran {
         status,
         sink,
@@ -222,7 +400,7 @@ fn run_failing(alloc: Global, fails: u64, empty: u64) -> Result<Ran, AllocError>
 fn a_sink_that_fails_or_takes_nothing_is_told(rt: HostRuntime) -> Result<(), Fail> {
     for failing in [true, false] {
         let (fails, empty) = if failing { (1, 0) } else { (0, 1) };
-        let ran = run_failing(rt.alloc(), fails, empty)?;
+        let ran = run_failing(&rt, rt.alloc(), fails, empty)?;
         assert!(rt; ran.status == 9);
         assert!(rt; ran.sink.bytes().is_empty());
         assert!(rt; ran.faults.bytes() == b"flock: write fault\n".as_slice());
@@ -236,13 +414,14 @@ fn failing_faults_change_no_status(rt: HostRuntime) -> Result<(), Fail> {
     let mut source = SureSource::new(b"trace\n".to_vec(alloc)?, Vec::new(alloc));
     let mut sink = quiet_sink(alloc);
     let mut faults = MemorySink::new(alloc, vec![in alloc; 1u64; 1]?, Vec::new(alloc));
-    assert!(rt; flock(alloc, &["run"], &mut source, &mut sink, &mut faults) == 3);
+    assert!(rt; command(&rt, alloc, &["run"], &mut source, &mut sink, &mut faults) == 3);
     assert!(rt; faults.bytes().is_empty());
     Ok(())
 }
 
 // The status of a text that repeats a line behind its first lines, and that what is told begins so.
-fn is_at_limit(
+fn is_at_limit<T: Threads + Wait + Sync>(
+    rt: &T,
     alloc: Global,
     first: &str,
     line: &str,
@@ -255,7 +434,7 @@ fn is_at_limit(
     for _ in 0..count {
         text.extend_from_slice(&line)?;
     }
-    let ran = run(alloc, text, Vec::new(alloc));
+    let ran = run(rt, alloc, text, Vec::new(alloc));
     let told = bytes_of(alloc, told)?;
     Ok(ran.status == status && ran.faults.bytes() == told.as_slice())
 }
@@ -263,9 +442,10 @@ fn is_at_limit(
 #[test]
 fn traces_have_a_limit(rt: HostRuntime) -> Result<(), Fail> {
     let alloc = rt.alloc();
-    assert!(rt; is_at_limit(alloc, "flock 1/", "trace/", 64, 0, "")?);
+    assert!(rt; is_at_limit(&rt, alloc, "flock 1/", "trace/", 64, 0, "")?);
     assert!(rt;
         is_at_limit(
+            &rt,
             alloc,
             "flock 1/",
             "trace/",
@@ -281,8 +461,8 @@ fn traces_have_a_limit(rt: HostRuntime) -> Result<(), Fail> {
 fn requests_have_a_limit(rt: HostRuntime) -> Result<(), Fail> {
     let alloc = rt.alloc();
     let told = "flock: limit: requests 131073/";
-    assert!(rt; is_at_limit(alloc, "flock 1/trace/", "get 1/", 131_072, 0, "")?);
-    assert!(rt; is_at_limit(alloc, "flock 1/trace/", "get 1/", 131_073, 4, told)?);
+    assert!(rt; is_at_limit(&rt, alloc, "flock 1/trace/", "get 1/", 131_072, 0, "")?);
+    assert!(rt; is_at_limit(&rt, alloc, "flock 1/trace/", "get 1/", 131_073, 4, told)?);
     Ok(())
 }
 
@@ -290,10 +470,11 @@ fn requests_have_a_limit(rt: HostRuntime) -> Result<(), Fail> {
 fn bytes_have_a_limit_behind_the_faults_before_it(rt: HostRuntime) -> Result<(), Fail> {
     let alloc = rt.alloc();
     let told = "flock: limit: bytes 4194305/";
-    assert!(rt; is_at_limit(alloc, "flock 1/#", "x", 4_194_295, 0, "")?);
-    assert!(rt; is_at_limit(alloc, "flock 1/#", "x", 4_194_296, 4, told)?);
+    assert!(rt; is_at_limit(&rt, alloc, "flock 1/#", "x", 4_194_295, 0, "")?);
+    assert!(rt; is_at_limit(&rt, alloc, "flock 1/#", "x", 4_194_296, 4, told)?);
     assert!(rt;
         is_at_limit(
+            &rt,
             alloc,
             "walk/",
             "x",
@@ -311,7 +492,7 @@ fn a_reader_is_a_source(rt: HostRuntime) -> Result<(), Fail> {
     let text = bytes_of(alloc, "flock 1/trace/")?;
     let mut source = StdSource::new(text.as_slice());
     let (mut sink, mut faults) = (quiet_sink(alloc), quiet_sink(alloc));
-    let status = flock(alloc, &["run"], &mut source, &mut sink, &mut faults);
+    let status = command(&rt, alloc, &["run"], &mut source, &mut sink, &mut faults);
     assert!(rt; status == 0);
     assert!(rt; sink.bytes() == b"trace 0\nfinal 0\n".as_slice());
     Ok(())
@@ -352,7 +533,7 @@ fn insertions(alloc: Global, traces: u32, each: u32, greatest: u32) -> Result<Ve
 fn as_many_keys_as_requests_are_served(rt: HostRuntime) -> Result<(), Fail> {
     let alloc = rt.alloc();
     let text = insertions(alloc, 1, 131_072, 131_071)?;
-    let ran = run(alloc, text, Vec::new(alloc));
+    let ran = run(rt, alloc, text, Vec::new(alloc));
     assert!(rt; ran.status == 0);
     assert!(rt; ran.sink.bytes().ends_with(b"131071 new\nfinal 131072\n"));
     Ok(())
@@ -366,7 +547,7 @@ fn a_text_at_all_limits_is_served(rt: HostRuntime) -> Result<(), Fail> {
     for _ in text.len()..4_194_304 {
         text.push(b'x')?;
     }
-    let ran = run(alloc, text, Vec::new(alloc));
+    let ran = run(rt, alloc, text, Vec::new(alloc));
     assert!(rt; ran.status == 0);
     assert!(rt; ran.sink.bytes().ends_with(b"131071 new\nfinal 131072\n"));
     Ok(())
@@ -402,7 +583,7 @@ fn a_report_goes_out_in_pages(rt: HostRuntime) -> Result<(), Fail> {
         bytes: 0,
         writes: 0,
     };
-    assert!(rt; flock(alloc, &["run"], &mut source, &mut sink, &mut faults) == 0);
+    assert!(rt; command(&rt, alloc, &["run"], &mut source, &mut sink, &mut faults) == 0);
     assert!(rt; sink.bytes > 80_000);
     assert!(rt; sink.writes.saturating_sub(1) <= sink.bytes / 4065);
     Ok(())

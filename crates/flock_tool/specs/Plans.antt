@@ -1,0 +1,79 @@
+-- What the words of a command line and a text ask for.
+use Rattle.std.specs.Prelude.{◌≡◌, ℕ, ◌*◌, ◌<◌, ◌⊎◌, Bool, true, false, List, Option, Result, Err, IsOk, IfSome, count_by}
+use Rattle.map_history.specs.declared.op.Op.{Op}
+use Rattle.map_history.specs.declared.op.Op.TheVariants.{Get, Ins, Del}
+use Rattle.map_history.specs.declared.op.Request.{Request}
+use Rattle.map_history.specs.Requests.{AreInOrder}
+use Rattle.table_words.specs.declared.layout.Layout.{Layout}
+use Rattle.trace_reader.specs.Answer.{AreTracesOf, IsRefusal}
+use Rattle.trace_reader.specs.Text.{IsAccepted, IsFirstRefusal}
+use Rattle.trace_reader.specs.declared.traces.TraceError.{TraceError}
+use Rattle.trace_reader.specs.declared.traces.TraceError.TheVariants.{Memory}
+use Rattle.trace_reader.specs.declared.traces.Traces.{Traces}
+use Rattle.flock_words.specs.Commands.{IsCommand, AreAccepted}
+use Rattle.flock_words.specs.Options.{runners_by, nodes_by, AreInRange}
+use Rattle.flock_words.specs.Written.{Text}
+use Rattle.flock_words.specs.declared.command.Command.TheVariants.{Run}
+use Rattle.flock_words.specs.declared.options.RunOptions.{RunOptions}
+use Rattle.flock_tool.specs.declared.plan.Plan.{Plan}
+use Rattle.flock_tool.specs.declared.status.Stop.{Stop}
+use Rattle.flock_tool.specs.declared.status.Stop.TheVariants as stops
+use Rattle.flock_tool.specs.declared.status.Stop.TheVariants.{Words, Nodes, WriteFault}
+
+abbrev pub is_insertion : Op → Bool
+is_insertion (Get key) = false
+is_insertion (Ins key value) = true
+is_insertion (Del key) = false
+
+-- how many of the requests insert
+abbrev pub insertions_in : List Request → ℕ
+insertions_in requests = count_by (λ (request : Request). is_insertion request.op) requests
+
+-- the numbers that fix the table
+abbrev pub layout_by : RunOptions → ℕ → List Request → Layout
+layout_by options traces requests = record {
+  runners = runners_by options.runners traces;
+  nodes = nodes_by options.nodes (insertions_in requests) (runners_by options.runners traces);
+  sections = options.sections;
+  version_max = options.version_max;
+}
+
+-- how many node slots the runners have together
+abbrev pub all_nodes : Layout → ℕ
+all_nodes layout = layout.nodes * layout.runners
+
+-- the words and the text, where the source tells it, ask for this
+pub record IsPlanned (words : List Text) (left : Option (List ℕ)) (plan : Plan) : Type 0 where
+  pub command : IsCommand words (Run plan.options)
+  pub ranges : AreInRange plan.options
+  pub text : IfSome left (AreTracesOf plan.traces)
+  pub ordered : AreInOrder plan.traces.requests plan.traces.count
+  pub layout : plan.layout ≡ layout_by plan.options plan.traces.count plan.traces.requests
+
+-- the runners would have more node slots together than the limit
+abbrev pub IsTooMuch : Layout → Stop → Type 0
+IsTooMuch layout Words = ⊥
+IsTooMuch layout (stops.Text error) = ⊥
+IsTooMuch layout (Nodes count) = (count ≡ all_nodes layout) × (262144 < count)
+IsTooMuch layout WriteFault = ⊥
+
+-- they ask for so many node slots, which are more than the limit
+pub record AsksTooMuch (words : List Text) (left : Option (List ℕ)) (slots : ℕ) : Type 0 where
+  pub options : RunOptions
+  pub command : IsCommand words (Run options)
+  pub traces : Traces
+  pub text : IfSome left (AreTracesOf traces)
+  pub count : slots ≡ all_nodes (layout_by options traces.count traces.requests)
+  pub much : 262144 < slots
+
+-- why there is no plan
+abbrev pub IsRefusedPlan : List Text → Option (List ℕ) → Stop → Type 0
+IsRefusedPlan words left Words = AreAccepted words → ⊥
+IsRefusedPlan words left (stops.Text error) = IfSome left (IsRefusal error)
+IsRefusedPlan words left (Nodes count) = AsksTooMuch words left count
+IsRefusedPlan words left WriteFault = ⊥
+
+-- a text in the grammar is planned, unless it asks for too many node slots, and every other is refused for its first refusal, if memory isn't wanting
+pub record MustPlan (result : Result Plan Stop) (text : List ℕ) : Type 0 where
+  pub accepted : IsAccepted text → IsOk result ⊎ (result ≡ Err (stops.Text Memory)) ⊎ ((count : ℕ) × (result ≡ Err (Nodes count)))
+  pub refused : (error : TraceError) → IsFirstRefusal text error → (result ≡ Err (stops.Text error)) ⊎ (result ≡ Err (stops.Text Memory))

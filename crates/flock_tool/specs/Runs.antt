@@ -1,0 +1,120 @@
+-- What a run of the program leaves.
+use Rattle.std.specs.Prelude.{◌≡◌, ◌≢◌, ◌<◌, ◌⊎◌, ℕ, not, List, [], Option, IfSome, None, Some, true, codes, length, slice_get}
+use Rattle.fault_count.specs.Rose.{Rose}
+use Rattle.structure_laws.specs.Meaning.{Meaning}
+use Rattle.bucket_laws.specs.Buckets.{buckets_meaning}
+use Rattle.trace_reader.specs.Answer.{AreTracesOf}
+use Rattle.report_text.specs.Sink.{Extends, ExtendsInPart}
+use Rattle.hash_table.specs.declared.table.HashTable.{HashTable}
+use Rattle.version_words.specs.TableState.{WordsState}
+use Rattle.run_reports.specs.Reports.{IsReport, PrintsInPart}
+use Rattle.serving.specs.declared.answers.Served.{Served}
+use Rattle.threaded_runs.specs.Counts.{halts_counted}
+use Rattle.threaded_runs.specs.Runs.{AreServed}
+use Rattle.flock_words.specs.Commands.{IsCommand}
+use Rattle.flock_words.specs.Halts.{ask_of, names_below}
+use Rattle.flock_words.specs.Written.{Text}
+use Rattle.flock_words.specs.declared.command.Command.TheVariants.{Run}
+use Rattle.flock_words.specs.declared.halts.Halt.{Halt}
+use Rattle.flock_words.specs.declared.options.RunOptions.{RunOptions}
+use Rattle.flock_tool.specs.End.{Tells}
+use Rattle.flock_tool.specs.Finish.{any_halted, finish_by, finish_status, TellsFinish}
+use Rattle.flock_tool.specs.Plans.{layout_by}
+use Rattle.trace_reader.specs.declared.traces.TraceError.TheVariants.{Memory}
+use Rattle.flock_tool.specs.declared.plan.Plan.{Plan}
+use Rattle.flock_tool.specs.declared.status.Stop.{Stop}
+use Rattle.flock_tool.specs.declared.status.Stop.TheVariants as stops
+use Rattle.flock_tool.specs.declared.status.Stop.TheVariants.{Words, Nodes, WriteFault}
+use Rattle.flock_tool.specs.declared.ran.Ran.{Ran}
+use Rattle.flock_tool.specs.declared.ran.Ran.TheVariants.{Hash}
+
+-- the closed words, and what the runners answered, in the order of their numbers
+abbrev pub words_in : Ran → WordsState HashTable
+words_in (Hash words answers) = words
+
+abbrev pub answers_in : Ran → List Served
+answers_in (Hash words answers) = answers.items
+
+abbrev pub meaning_of : Ran → Meaning
+meaning_of (Hash words answers) = buckets_meaning words.structure.bits
+
+-- these are the plans of so many gates: for each runner the ask at which it is named to halt, if it is
+pub record AreHaltsOf (halts : List Halt) (runners : ℕ) (planned : List (Option ℕ)) : Type 0 where
+  pub each : length planned ≡ runners
+  pub asks : (runner : ℕ) → runner < runners → slice_get planned runner ≡ Some (ask_of halts runner)
+
+-- the run was of these options, traces and requests
+pub record IsRunOf (options : RunOptions) (traces : ℕ) (ran : Ran) : Type 0 where
+  pub buckets : (words_in ran).structure.bits ≡ options.bucket_bits
+  pub layout : (words_in ran).layout ≡ layout_by options traces (words_in ran).requests
+  -- every runner has served its own traces, and has the cause of its answer
+  pub served : AreServed (meaning_of ran) (words_in ran) (not (names_below options.halts (words_in ran).layout.runners)) (answers_in ran)
+
+-- the run was of this plan; its gates were given out and came back
+pub record HasRunPlan (plan : Plan) (ran : Ran) (counted counted' : ℕ) (plans plans' : List (Option ℕ)) : Type 0 where
+  pub buckets : (words_in ran).structure.bits ≡ plan.options.bucket_bits
+  pub layout : (words_in ran).layout ≡ plan.layout
+  pub requests : (words_in ran).requests ≡ plan.traces.requests
+  pub served : AreServed (meaning_of ran) (words_in ran) (not (names_below plan.options.halts plan.layout.runners)) (answers_in ran)
+  pub halts : counted' ≡ halts_counted counted (answers_in ran)
+  pub planned : plans ≡ [] → AreHaltsOf plan.options.halts plan.layout.runners plans'
+
+-- a run that the words of the command line and the text ask for; its gates were given out and came back
+pub record HasRun (words : List Text) (left : Option (List ℕ)) (traces : ℕ) (ran : Ran) (counted counted' : ℕ) (plans plans' : List (Option ℕ)) : Type 0 where
+  pub options : RunOptions
+  pub command : IsCommand words (Run options)
+  pub text : IfSome left (AreTracesOf (record { count = traces; requests = (words_in ran).requests }))
+  pub run : IsRunOf options traces ran
+  -- a runner answered that it was halted exactly where its gate counted a halt
+  pub halts : counted' ≡ halts_counted counted (answers_in ran)
+  pub planned : plans ≡ [] → AreHaltsOf options.halts (words_in ran).layout.runners plans'
+
+-- the statuses behind a run whose printing was begun
+abbrev pub IsRunStatus : ℕ → Type 0
+IsRunStatus n = (n ≡ 0) ⊎ (n ≡ 1) ⊎ (n ≡ 5) ⊎ (n ≡ 6) ⊎ (n ≡ 9)
+
+-- why the report on these words wasn't printed whole
+abbrev pub StopsReport : {T : Type 0} → Meaning → WordsState T → ℕ → Stop → (held held' : Option (List ℕ)) → (faults faults' : ℕ) → Type 0
+StopsReport m w traces Words held held' faults faults' = ⊥
+StopsReport m w traces (stops.Text error) held held' faults faults' = (error ≡ Memory) × (held' ≡ held) × (faults' ≡ faults)
+StopsReport m w traces (Nodes count) held held' faults faults' = ⊥
+StopsReport m w traces WriteFault held held' faults faults' = PrintsInPart m w traces held held' × Rose faults faults'
+
+-- its report was printed whole, and the status and the line are those of its answers; or, at 9, the sink failed and holds a part of the report
+pub record HasEnded (ran : Ran) (traces number : ℕ) (held held' : Option (List ℕ)) (faults faults' : ℕ) (told told' : Option (List ℕ)) (told_faults told_faults' : ℕ)
+    : Type 0 where
+  pub unserved : ℕ
+  pub report : List ℕ
+  pub is_report : IsReport (meaning_of ran) (words_in ran) traces unserved report
+  pub whole : number ≢ 9 → Extends held report held'
+  pub in_part : number ≡ 9 → ExtendsInPart held report held' × Rose faults faults'
+  pub status : number ≢ 9 → number ≡ finish_status (finish_by (answers_in ran) unserved)
+  -- at 0 each request is answered
+  pub all : number ≡ 0 → unserved ≡ 0
+  pub line : number ≢ 9 → TellsFinish (finish_by (answers_in ran) unserved) told told' told_faults told_faults'
+  pub failed : number ≡ 9 → Tells (codes "flock: write fault\n") told told' told_faults told_faults'
+
+-- the report of a run was begun, and the run comes back with its status
+pub record EndsRun (ran : Ran) (traces : ℕ) (result : ℕ × Option Ran) (held held' : Option (List ℕ)) (faults faults' : ℕ) (told told' : Option (List ℕ))
+    (told_faults told_faults' : ℕ) : Type 0 where
+  pub status : IsRunStatus result.0
+  pub back : result.1 ≡ Some ran
+  pub ended : HasEnded ran traces result.0 held held' faults faults' told told' told_faults told_faults'
+  pub steady : result.0 ≢ 9 → faults' ≡ faults
+  pub halted : result.0 ≡ 1 → any_halted (answers_in ran) ≡ true
+
+-- memory was wanting before it
+pub record LacksMemory (result : ℕ × Option Ran) (held held' : Option (List ℕ)) (faults faults' : ℕ) (told told' : Option (List ℕ)) (told_faults told_faults' : ℕ)
+    : Type 0 where
+  pub status : result.0 ≡ 7
+  pub none : result.1 ≡ None
+  pub silent : held' ≡ held
+  pub steady : faults' ≡ faults
+  pub memory : Tells (codes "flock: memory\n") told told' told_faults told_faults'
+
+-- what comes of the report of a run
+abbrev pub HasReported : Ran → ℕ → ℕ × Option Ran → (held held' : Option (List ℕ)) → (faults faults' : ℕ) → (told told' : Option (List ℕ))
+    → (told_faults told_faults' : ℕ) → Type 0
+HasReported ran traces result held held' faults faults' told told' told_faults told_faults' =
+    EndsRun ran traces result held held' faults faults' told told' told_faults told_faults'
+    ⊎ LacksMemory result held held' faults faults' told told' told_faults told_faults'

@@ -1,0 +1,12 @@
+// What a run leaves.
+
+use hash_table::HashTable;
+use serving::Served;
+use version_words::Words;
+
+/// The closed words of a run, and what each runner answered, in the order of their numbers. Its words come from the closing of a table alone.
+#[derive(Drop)]
+pub enum Ran {
+    /// On the hash table.
+    Hash(Words<HashTable>, Vec<Served>),
+}
