@@ -1,6 +1,4 @@
-//! The start of the program: hands the real threads, the real streams, gates that halt as planned, and the words of the command line to `flock`.
-#![tactic(auto)]
-
+// The start of the program: hands the real threads, the real streams, gates that halt as planned, and the words of the command line to `flock`.
 ghost use Rattle.std.specs.Prelude.{◌≡◌, ◌≢◌, ◌⊎◌, ◌≤◌};
 ghost use Rattle.std.specs.Process.{exit_status};
 ghost use Rattle.flock_words.specs.Commands.{AreAccepted, texts};
