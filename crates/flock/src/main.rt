@@ -1,7 +1,9 @@
 //! The program.
 #![tactic(auto)]
 
-use flock_start::start;
+mod start;
+
+use start::start;
 use std::process::ExitCode;
 
 fn main(rt: HostRuntime) -> ExitCode {

@@ -1,9 +1,0 @@
-//! The program, for a stored run that ends with status 2.
-#![tactic(auto)]
-
-use flock_start::start;
-use std::process::ExitCode;
-
-fn main(rt: HostRuntime) -> ExitCode {
-    start(&rt)
-}
