@@ -1,12 +1,12 @@
-// The start of the program: hands the real threads, the real streams, gates that halt as planned, and the words of the command line to `flock`.
+// The start of the program: the words of the command line, and the status of `flock`.
 ghost use Rattle.std.specs.Prelude.{◌≡◌, ◌≢◌, ◌⊎◌, ◌≤◌};
 ghost use Rattle.std.specs.Process.{exit_status};
 ghost use Rattle.flock_words.specs.Commands.{AreAccepted, texts};
 ghost use Rattle.flock_tool.specs.Runs.{IsRunStatus};
 
-use flock_tool::{StdSink, StdSource, flock};
+use flock_tool::flock;
 use report_text::Sink;
-use runner_gate::{Gates, PlannedGates};
+use runner_gate::Gates;
 use std::alloc::{AllocError, Global};
 use std::env;
 use std::io::ErrorKind;
@@ -16,37 +16,10 @@ use std::thread::Threads;
 use trace_reader::Source;
 
 /// The status for want of memory before the call.
-const MEMORY: u8 = 7;
+pub const MEMORY: u8 = 7;
 
-/// Runs the command of the program's words on its standard streams, and gives the status with which the program
-/// is to end.
-///
-/// It is 7 where memory is wanting for the words. Where a word is no text, the words are refused.
-pub fn start(rt: &HostRuntime) -> ExitCode {
-    let alloc = rt.alloc();
-    let Ok(args) = arguments(rt) else {
-        return ExitCode::from(MEMORY);
-    };
-    let Ok(words) = words_of(alloc, &args) else {
-        return ExitCode::from(MEMORY);
-    };
-    let mut source = StdSource::new(rt.stdin());
-    let mut sink = StdSink::new(rt.stdout());
-    let mut faults = StdSink::new(rt.stderr());
-    let mut gates = PlannedGates::new();
-    run(
-        rt,
-        alloc,
-        &words,
-        &mut source,
-        &mut sink,
-        &mut faults,
-        &mut gates,
-    )
-}
-
-// Runs the command on these streams, and ends with its status. The words of the run are let go.
-fn run<'a, T: Threads + Wait + Sync, R: Source, K: Sink, F: Sink, G: Gates>(
+/// Runs the command on these streams, and ends with its status. The words of the run are let go.
+pub fn run<'a, T: Threads + Wait + Sync, R: Source, K: Sink, F: Sink, G: Gates>(
     rt: &T,
     alloc: Global,
     words: &'a [&'a str],
@@ -67,8 +40,8 @@ fn run<'a, T: Threads + Wait + Sync, R: Source, K: Sink, F: Sink, G: Gates>(
     ExitCode::from(status)
 }
 
-// The arguments, with the program's name. Where one is no text there are none, and no command has no words.
-fn arguments(rt: &HostRuntime) -> Result<Vec<String>, AllocError> {
+/// The arguments, with the program's name. Where one is no text there are none, and no command has no words.
+pub fn arguments(rt: &HostRuntime) -> Result<Vec<String>, AllocError> {
     match env::args(rt) {
         Ok(args) => args.collect(rt.alloc()),
         Err(error) if error.kind() == ErrorKind::InvalidData => Ok(Vec::new(rt.alloc())),
@@ -76,7 +49,7 @@ fn arguments(rt: &HostRuntime) -> Result<Vec<String>, AllocError> {
     }
 }
 
-// The arguments behind the program's name.
-fn words_of(alloc: Global, args: &[String]) -> Result<Vec<&str>, AllocError> {
+/// The arguments behind the program's name.
+pub fn words_of(alloc: Global, args: &[String]) -> Result<Vec<&str>, AllocError> {
     args.iter().skip(1).map(|arg| arg.as_str()).collect(alloc)
 }
