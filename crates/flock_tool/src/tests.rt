@@ -161,7 +161,7 @@ fn run_words<T: Threads + Wait + Sync>(
     }
 }
 
-// The text in one piece, or in pieces of one byte.
+// The text in one piece, or in pieces of one byte; one runner serves it, so its requests are served in their order.
 fn run_row<T: Threads + Wait + Sync>(
     rt: &T,
     alloc: Global,
@@ -169,9 +169,10 @@ fn run_row<T: Threads + Wait + Sync>(
     bytewise: bool,
 ) -> Result<Ran, AllocError> {
     let pieces = if bytewise { row.len() } else { 0 };
-    Ok(run(
+    Ok(run_words(
         rt,
         alloc,
+        &["run", "--runners", "1"],
         bytes_of(alloc, row)?,
         vec![in alloc; 1usize; pieces]?,
     ))
@@ -533,7 +534,8 @@ fn insertions(alloc: Global, traces: u32, each: u32, greatest: u32) -> Result<Ve
 fn as_many_keys_as_requests_are_served(rt: HostRuntime) -> Result<(), Fail> {
     let alloc = rt.alloc();
     let text = insertions(alloc, 1, 131_072, 131_071)?;
-    let ran = run(rt, alloc, text, Vec::new(alloc));
+    let words = ["run", "--buckets", "4096"];
+    let ran = run_words(&rt, alloc, &words, text, Vec::new(alloc));
     assert!(rt; ran.status == 0);
     assert!(rt; ran.sink.bytes().ends_with(b"131071 new\nfinal 131072\n"));
     Ok(())
@@ -547,7 +549,8 @@ fn a_text_at_all_limits_is_served(rt: HostRuntime) -> Result<(), Fail> {
     for _ in text.len()..4_194_304 {
         text.push(b'x')?;
     }
-    let ran = run(rt, alloc, text, Vec::new(alloc));
+    let words = ["run", "--buckets", "4096", "--runners", "1"];
+    let ran = run_words(&rt, alloc, &words, text, Vec::new(alloc));
     assert!(rt; ran.status == 0);
     assert!(rt; ran.sink.bytes().ends_with(b"131071 new\nfinal 131072\n"));
     Ok(())
