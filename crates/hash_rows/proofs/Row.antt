@@ -1,91 +1,134 @@
--- What two workers may do on their way to an answer.
-use Rattle.std.proofs.Common.{◌≡◌, ◌≢◌, ℕ, ◌*◌, ◌-◌, ◌^◌, ◌<◌, ◌≤◌, List, [], ◌∷◌, ◌++◌, length, Bool, true, false, refl, sym, ap, subst, ◌∙◌, arith, Result, Ok, Some, None}
-use Rattle.std.specs.Prelude.{◌==◌, ◌&&◌, ◌||◌, not, ◌%◌, nat_lt, slice_get, if◌then◌else◌}
+-- What two workers may do on their way to an answer, and what the closed words stand for.
+use Rattle.std.proofs.Common.{◌≡◌, ◌≢◌, ℕ, zero, suc, ◌*◌, ◌^◌, ◌<◌, ◌≤◌, List, [], ◌++◌, length, true, refl, sym, ap, subst, ◌∙◌, arith, Some, None}
+use Rattle.std.specs.Prelude.{◌==◌, ◌&&◌, not, ◌%◌, nat_lt, slice_get, slice_index_or}
+use Rattle.std.proofs.lemmas.Bool.Decides.{nat_tests}
 use Rattle.map_history.specs.declared.op.Request.{Request}
-use Rattle.map_history.specs.declared.op.Op.TheVariants.{Get}
-use Rattle.section_body.specs.Word.{value_of, is_free, is_spent}
+use Rattle.map_history.specs.declared.op.Op.{Op}
+use Rattle.map_history.specs.Keys.{key_of}
+use Rattle.map_history.specs.Requests.{AreInOrder}
+use Rattle.section_body.specs.Word.{is_spent}
 use Rattle.section_body.specs.declared.thunk.Thunk.{Thunk}
-use Rattle.section_body.specs.declared.outcome.Refused.{Refused}
 use Rattle.table_words.specs.declared.layout.Layout.{Layout}
 use Rattle.structure_laws.specs.Meaning.{Meaning}
-use Rattle.runner_parts.specs.declared.event.EventKind.TheVariants as kinds
 use Rattle.runner_parts.specs.declared.entries.Known.{Known}
 use Rattle.runner_parts.specs.State.{DescriptorsState, NodesState, ReadsState}
-use Rattle.runner_parts.specs.Lists.{named_by}
-use Rattle.runner_parts.specs.Tests.{has, has_pair, is_next, serves}
+use Rattle.runner_parts.specs.Tests.{has_pair, is_next, serves}
 use Rattle.runner_steps.specs.Outside.{is_due}
 use Rattle.bucket_laws.specs.Buckets.{buckets_meaning}
-use Rattle.bucket_laws.proofs.Places.{lt_true, eq_true, eq_false}
 use Rattle.version_words.specs.RunnerState.{RunnerState}
-use Rattle.version_words.specs.Events.{Makes}
-use Rattle.version_words.specs.Naming.{load_of}
-use Rattle.version_words.specs.TableState.{TableState, IsOf}
-use Rattle.version_words.proofs.Stages.{then_loaded_cell}
 use Rattle.epoch_slots.specs.Entries.{Enters}
-use Rattle.epoch_slots.proofs.Outside.{NotesNothing, nodes_made, reads_made}
-use Rattle.try_lock.specs.declared.section.Section.{Section}
 use Rattle.try_lock.specs.declared.planned.Planned.{Planned}
 use Rattle.try_lock.specs.declared.planned.Planned.TheVariants as answers
-use Rattle.hash_table.specs.declared.table.HashTable.{HashTable}
-use Rattle.hash_table.specs.Planned.{bucket_planning}
 use Rattle.try_lock.specs.Planning as planning
 use Rattle.try_lock.specs.Plans.{MayPlan, HasPlanned}
-use Rattle.try_lock.specs.Publishes.{MayPublish, Publishes}
-use Rattle.try_lock.specs.Reached.{MayRunSection, MayHelp}
-use Rattle.hash_rows.specs.Scene.{two_requests, IsScene, IsFresh}
+use Rattle.try_lock.specs.Publishes.{MayPublish}
+use Rattle.hash_table.specs.declared.table.HashTable.{HashTable}
+use Rattle.hash_table.specs.Planned.{bucket_planning}
+use Rattle.lock_rows.specs.Workers.{IsReady, IsEmptyHanded}
+use Rattle.hash_rows.specs.Scene.{two_requests, asked}
 
-has_last : (xs : List ℕ) (x : ℕ) → has (xs ++ x ∷ []) x ≡ true
-has_last [] x = ap (λ b. b || false) (eq_true x x refl)
-has_last (y ∷ xs) x = either (y == x) (has (xs ++ x ∷ []) x) (has_last xs x)
+-- one request in each of two traces, with keys that the map has
+pub two_in_order : (a b : Op) → key_of a ≤ 4294967293 → key_of b ≤ 4294967293 → AreInOrder (two_requests a b) 64
+two_in_order a b one two = record {
+  few_traces = omega arith;
+  few = omega arith;
+  numbered = refl;
+  within = within;
+  rising = rising;
+  keys = keys;
+}
   where
-    either : (p q : Bool) → q ≡ true → (p || q) ≡ true
-    either true q e = refl
-    either false q e = e
+    within : (k : ℕ) (d : Request) → k < 2 → (slice_index_or (two_requests a b) k d).trace < 64
+    within zero d low = omega arith
+    within (suc zero) d low = omega arith
+    within (suc (suc k)) d low = absurd (omega (arith, low))
 
-module _ (m : Meaning) where
-  due : (l : Layout) (requests : List Request) (r : ℕ) (known : List Known) (walk : List (ℕ × ℕ)) (t : Thunk) → l.runners ≡ 2 → requests ≡ two_requests → r ≡ 0 → known ≡ [] → t.request ≡ 0
-      → m.fits l (Get 1) walk t ≡ true → is_due m l requests r known walk t ≡ true
-  due l requests r known walk t two same zero none first fits =
-      (λ i. is_next l (zero i) (same i) (none i) (slice_get (same i) (first i)) && serves m l walk t (slice_get (same i) (first i)))
+    rising : (i j : ℕ) (d : Request) → i ≤ j → j < 2 → (slice_index_or (two_requests a b) i d).trace ≤ (slice_index_or (two_requests a b) j d).trace
+    rising zero zero d le low = omega arith
+    rising zero (suc zero) d le low = omega arith
+    rising (suc zero) (suc zero) d le low = omega arith
+    rising (suc i) zero d le low = absurd (omega (arith, le))
+    rising (suc (suc i)) (suc zero) d le low = absurd (omega (arith, le))
+    rising i (suc (suc j)) d le low = absurd (omega (arith, low))
+
+    keys : (k : ℕ) (d : Request) → k < 2 → key_of (slice_index_or (two_requests a b) k d).op ≤ 4294967293
+    keys zero d low = one
+    keys (suc zero) d low = two
+    keys (suc (suc k)) d low = absurd (omega (arith, low))
+
+pub asked_first : (a b : Op) (n : ℕ) → n ≡ 0 → record { trace = 0; number = 0; op = a } ≡ asked a b n
+asked_first a b n first = ap (asked a b) (sym first)
+
+pub asked_other : (a b : Op) (n : ℕ) → n ≢ 0 → record { trace = 1; number = 1; op = b } ≡ asked a b n
+asked_other a b zero other = absurd (other refl)
+asked_other a b (suc n) other = refl
+
+-- it stands among the table's requests
+pub asked_there : (a b : Op) (requests : List Request) (n k : ℕ) (q : Request) → requests ≡ two_requests a b → k ≡ n → n < 2 → q ≡ asked a b k → slice_get requests q.number ≡ Some q
+asked_there a b requests n k q same number few is =
+    (λ i. slice_get (same i) (is i).number) ∙ (at k (subst (λ j. j < 2) (sym number) few) ∙ ap Some (sym is))
+  where
+    at : (j : ℕ) → j < 2 → slice_get (two_requests a b) (asked a b j).number ≡ Some (asked a b j)
+    at zero low = refl
+    at (suc zero) low = refl
+    at (suc (suc j)) low = absurd (omega (arith, low))
+
+-- each worker's request is the next one
+module _ (m : Meaning) (a b : Op) where
+  due : (l : Layout) (requests : List Request) (r : ℕ) (known : List Known) (walk : List (ℕ × ℕ)) (t : Thunk) → l.runners ≡ 2 → requests ≡ two_requests a b → r < 2 → known ≡ []
+      → t.request ≡ r → m.fits l (asked a b r).op walk t ≡ true → is_due m l requests r known walk t ≡ true
+  due l requests zero known walk t two same few none first fits =
+      (λ i. is_next l 0 (same i) (none i) (slice_get (same i) (first i)) && serves m l walk t (slice_get (same i) (first i)))
       ∙ (λ i. (0 % two i == 0 && true) && fits i)
+  due l requests (suc zero) known walk t two same few none first fits =
+      (λ i. is_next l 1 (same i) (none i) (slice_get (same i) (first i)) && serves m l walk t (slice_get (same i) (first i)))
+      ∙ (λ i. (1 % two i == 1 && true) && fits i)
+  due l requests (suc (suc n)) known walk t two same few none first fits = absurd (omega (arith, few))
 
-module _ {T : Type 0} (m : Meaning) where
-  pub may_plan : (idle r : RunnerState T) → Enters m idle r → MayPlan r
-  may_plan idle r enters = record { epoch = enters.epoch; section = None; at = enters.at; fresh = ap (λ (s : ReadsState). s.walk) enters.reads }
+module _ {T : Type 0} (m : Meaning) (idle entered : RunnerState T) (enters : Enters m idle entered) where
+  pub may_plan : MayPlan entered
+  may_plan = record { epoch = enters.epoch; section = None; at = enters.at; fresh = ap (λ (s : ReadsState). s.walk) enters.reads }
 
-  pub may_publish : (t : TableState T) (plans : planning.Planning) (request : Request) (idle entered r : RunnerState T) (thunk : Thunk) (halts halts' asks asks' steps steps' : ℕ) → IsScene t → IsOf t entered
-      → request ≡ record { trace = 0; number = 0; op = Get 1 } → IsFresh 0 idle → 1 ≤ length idle.part.descriptors.free → Enters m idle entered
-      → HasPlanned m plans request (answers.Thunk thunk) entered r halts halts' asks asks' steps steps' → MayPublish m r thunk
-  may_publish t plans request idle entered r thunk halts halts' asks asks' steps steps' scene own is fresh reserve enters so =
-      let fit = so.answers in
-      let layout : r.layout ≡ entered.layout = ap (λ (y : RunnerState T). y.layout) so.walked.same in
-      let requests : r.requests ≡ two_requests = ap (λ (y : RunnerState T). y.requests) so.walked.same ∙ (own.requests ∙ scene.requests) in
-      let walk : r.part.reads.walk ≡ so.readings = ap (λ (s : ReadsState). s.walk) so.walked.reads ∙ ap (λ (s : ReadsState). s.walk ++ so.readings) enters.reads in
-      let cells : r.part.reads.cells ≡ so.readings = ap (λ (s : ReadsState). s.cells) so.walked.reads ∙ ap (λ (s : ReadsState). s.cells ++ so.readings) enters.reads in
-      let fits : m.fits r.layout (Get 1) r.part.reads.walk thunk ≡ true = (λ i. m.fits (layout i) (Get 1) (walk i) thunk) ∙ (ap (λ (q : Request). m.fits entered.layout q.op so.readings thunk) (sym is) ∙ fit.fits) in
-      record {
-        epoch = enters.epoch;
-        at = so.walked.at enters.epoch None enters.at;
-        unlocked = (λ i. fit.free i && (not (is_spent (layout i).version_max thunk.word) && has_pair (cells i) thunk.lock thunk.word)) ∙ (λ i. not (fit.unspent i) && fit.read i);
-        due = due m r.layout r.requests r.number r.part.records.known r.part.reads.walk thunk (ap (λ (l : Layout). l.runners) layout ∙ (ap (λ (l : Layout). l.runners) own.layout ∙ scene.runners)) requests
-            (so.walked.keeps.number ∙ (enters.keeps.number ∙ fresh.number)) (so.walked.keeps.known ∙ (enters.keeps.known ∙ fresh.knows)) (fit.request ∙ ap (λ (q : Request). q.number) is) fits;
-        reserve = subst (λ (d : DescriptorsState). 1 ≤ length d.free) (sym (so.walked.keeps.descriptors ∙ enters.keeps.descriptors)) reserve;
-        reached = so.reached;
-      }
+  -- what a plan changes of the own slots: nothing
+  module _ (plans : planning.Planning) (request : Request) (r : RunnerState T) (thunk : Thunk) (halts halts' asks asks' steps steps' : ℕ)
+      (so : HasPlanned m plans request (answers.Thunk thunk) entered r halts halts' asks asks' steps steps') (n : ℕ) (ready : IsReady n idle) where
+    pub planned_nodes : 2 ≤ length r.part.nodes.free
+    planned_nodes = subst (λ (x : NodesState). 2 ≤ length x.free) (sym (so.walked.keeps.nodes ∙ enters.keeps.nodes)) ready.reserve.nodes
 
-  pub may_run : (plans : planning.Planning) (request : Request) (idle entered planned r : RunnerState T) (thunk : Thunk) (halts halts' asks asks' steps steps' : ℕ) (answer : Result Section Refused) (section : Section)
-      → 2 ≤ length idle.part.nodes.free → Enters m idle entered → HasPlanned m plans request (answers.Thunk thunk) entered planned halts halts' asks asks' steps steps'
-      → Publishes m thunk answer planned r → answer ≡ Ok section → MayRunSection m r thunk section
-  may_run plans request idle entered planned r thunk halts halts' asks asks' steps steps' answer section reserve enters so publishes ok =
-      let won = (subst (λ a. Publishes m thunk a planned r) ok publishes).published in
-      record {
-        epoch = enters.epoch;
-        published = _;
-        at = won.at enters.epoch (so.walked.at enters.epoch None enters.at);
-        section = won.section;
-        reserve = subst (λ (n : NodesState). 2 ≤ length n.free) (sym (publishes.nodes ∙ (so.walked.keeps.nodes ∙ enters.keeps.nodes))) reserve;
-        reached = publishes.reached;
-      }
+    pub planned_hand : IsEmptyHanded r
+    planned_hand = let nodes = so.walked.keeps.nodes ∙ enters.keeps.nodes in record {
+      hand = ap (λ (x : NodesState). x.hand) nodes ∙ ready.fresh.tidy.hand;
+      tests = ap (λ (x : NodesState). x.tests) nodes ∙ ready.fresh.tidy.tests;
+    }
+
+    pub may_publish : (a b : Op) (layout : Layout) (requests : List Request) → entered.layout ≡ layout → entered.requests ≡ requests → layout.runners ≡ 2 → requests ≡ two_requests a b
+        → n < 2 → request ≡ asked a b n → MayPublish m r thunk
+    may_publish a b of_layout of_requests is_layout is_requests two same few is =
+        let fit = so.answers in
+        let layout : r.layout ≡ entered.layout = ap (λ (y : RunnerState T). y.layout) so.walked.same in
+        let requests : r.requests ≡ two_requests a b = ap (λ (y : RunnerState T). y.requests) so.walked.same ∙ (is_requests ∙ same) in
+        let number : r.number ≡ n = so.walked.keeps.number ∙ (enters.keeps.number ∙ ready.fresh.number) in
+        let walk : r.part.reads.walk ≡ so.readings = ap (λ (s : ReadsState). s.walk) so.walked.reads ∙ ap (λ (s : ReadsState). s.walk ++ so.readings) enters.reads in
+        let cells : r.part.reads.cells ≡ so.readings = ap (λ (s : ReadsState). s.cells) so.walked.reads ∙ ap (λ (s : ReadsState). s.cells ++ so.readings) enters.reads in
+        let fits : m.fits r.layout (asked a b n).op r.part.reads.walk thunk ≡ true
+        = (λ i. m.fits (layout i) (asked a b n).op (walk i) thunk) ∙ (ap (λ (q : Request). m.fits entered.layout q.op so.readings thunk) (sym is) ∙ fit.fits) in
+        let theirs : thunk.request ≡ n = fit.request ∙ (ap (λ (q : Request). q.number) is ∙ numbered n few) in
+        let own : is_due m r.layout r.requests n r.part.records.known r.part.reads.walk thunk ≡ true
+        = due m a b r.layout r.requests n r.part.records.known r.part.reads.walk thunk (ap (λ (l : Layout). l.runners) (layout ∙ is_layout) ∙ two) requests few
+        (so.walked.keeps.known ∙ (enters.keeps.known ∙ ready.fresh.knows)) theirs fits in
+        record {
+          epoch = enters.epoch;
+          at = so.walked.at enters.epoch None enters.at;
+          unlocked = (λ i. fit.free i && (not (is_spent (layout i).version_max thunk.word) && has_pair (cells i) thunk.lock thunk.word)) ∙ (λ i. not (fit.unspent i) && fit.read i);
+          due = ap (λ k. is_due m r.layout r.requests k r.part.records.known r.part.reads.walk thunk) number ∙ own;
+          reserve = subst (λ (d : DescriptorsState). 1 ≤ length d.free) (sym (so.walked.keeps.descriptors ∙ enters.keeps.descriptors)) ready.reserve.descriptors;
+          reached = so.reached;
+        }
+      where
+        numbered : (k : ℕ) → k < 2 → (asked a b k).number ≡ k
+        numbered zero low = refl
+        numbered (suc zero) low = refl
+        numbered (suc (suc k)) low = absurd (omega (arith, low))
 
 -- what was planned, over the structure of the table and with the thunk that was answered
 pub told : {T : Type 0} (s s' : HashTable) → s ≡ s' → (request : Request) (answer : Planned) (thunk : Thunk) → answer ≡ answers.Thunk thunk → (old new : RunnerState T)
@@ -95,24 +138,12 @@ told s s' same request answer thunk is old new halts halts' asks asks' steps ste
     subst (λ (z : HashTable). HasPlanned (buckets_meaning z.bits) (bucket_planning z.bits) request (answers.Thunk thunk) old new halts halts' asks asks' steps steps') same
     (subst (λ a. HasPlanned (buckets_meaning s.bits) (bucket_planning s.bits) request a old new halts halts' asks asks' steps steps') is so)
 
-module _ {T : Type 0} (bits : ℕ) where
-  pub may_help : (idle entered r : RunnerState T) (word : ℕ) → 2 ≤ length idle.part.nodes.free → Enters (buckets_meaning bits) idle entered → Makes (buckets_meaning bits) (load_of entered.part.run 0) word entered r
-      → value_of word ≢ 0 → 0 < 2 ^ bits → MayHelp (buckets_meaning bits) r word
-  may_help idle entered r word reserve enters made some positive =
-      let m = buckets_meaning bits in
-      let resting = enters.at.resting in
-      let load : Makes m (kinds.LoadCell (Some 0)) word entered r = subst (λ o. Makes m (load_of o 0) word entered r) resting made in
-      let nothing : NotesNothing (kinds.LoadCell (Some 0)) = record { known = λ s access found spot. refl; finished = λ s access found spot. refl } in
-      let names : is_free word ≡ false = eq_false (value_of word) 0 some in
-      let lock : (nat_lt 0 (3 * 2 ^ bits) && true) ≡ true = ap (λ b. b && true) (lt_true 0 (3 * 2 ^ bits) (omega (arith, positive))) in
-      record {
-        epoch = enters.epoch;
-        published = None;
-        at = then_loaded_cell m word enters.epoch 0 entered r None made enters.at;
-        names = names;
-        holds = ap (λ (s : ReadsState). has s.held (value_of word - 1)) (reads_made m (kinds.LoadCell (Some 0)) word entered r load resting)
-            ∙ (ap (λ b. has (entered.part.reads.held ++ (if b then named_by word else [])) (value_of word - 1)) lock
-            ∙ (ap (λ b. has (entered.part.reads.held ++ (if b then [] else (value_of word - 1) ∷ [])) (value_of word - 1)) names ∙ has_last entered.part.reads.held (value_of word - 1)));
-        reserve = subst (λ (n : NodesState). 2 ≤ length n.free) (sym (nodes_made m (kinds.LoadCell (Some 0)) word entered r load resting ∙ enters.keeps.nodes)) reserve;
-        reached = record { world = made.shown.world; reached = made.shown.reached; own = made.shown.own };
-      }
+-- the only lock of one bucket
+pub only_lock : (bits p : ℕ) → bits ≡ 0 → (nat_lt p (3 * 2 ^ bits) && (p % 3 == 0)) ≡ true → p ≡ 0
+only_lock bits p one lock = at p (subst (λ b. (nat_lt p (3 * 2 ^ b) && (p % 3 == 0)) ≡ true) one lock)
+  where
+    at : (q : ℕ) → (nat_lt q 3 && (q % 3 == 0)) ≡ true → q ≡ 0
+    at zero e = refl
+    at (suc zero) e = absurd (let z = e in cc)
+    at (suc (suc zero)) e = absurd (let z = e in cc)
+    at (suc (suc (suc q))) e = let none : (nat_lt (suc (suc (suc q))) 3) ≡ true = grind (arith, e) in absurd (grind (arith, nat_tests, none))

@@ -1,22 +1,21 @@
--- A table with two workers, and one request for each.
-use Rattle.std.specs.Prelude.{◌≡◌, ℕ, List, [], ◌∷◌, None}
-use Rattle.map_history.specs.declared.op.Op.TheVariants.{Get}
+-- A hash table of one bucket with two workers, and one request for each.
+use Rattle.std.specs.Prelude.{◌≡◌, ℕ, zero, suc, List, [], ◌∷◌}
+use Rattle.map_history.specs.declared.op.Op.{Op}
 use Rattle.map_history.specs.declared.op.Request.{Request}
-use Rattle.runner_parts.specs.declared.stage.Stage.TheVariants as stages
-use Rattle.version_words.specs.RunnerState.{RunnerState}
 use Rattle.version_words.specs.TableState.{TableState}
-use Rattle.version_words.specs.Stages.{IsAt}
+use Rattle.hash_table.specs.declared.table.HashTable.{HashTable}
 
-abbrev pub two_requests : List Request
-two_requests = record { trace = 0; number = 0; op = Get 1 } ∷ record { trace = 1; number = 1; op = Get 1 } ∷ []
+-- one request in each of two traces
+abbrev pub two_requests : Op → Op → List Request
+two_requests a b = record { trace = 0; number = 0; op = a } ∷ record { trace = 1; number = 1; op = b } ∷ []
 
-module _ {T : Type 0} where
-  pub record IsScene (t : TableState T) : Type 0 where
-    pub runners : t.layout.runners ≡ 2
-    pub requests : t.requests ≡ two_requests
+-- the request of the worker with this number
+abbrev pub asked : Op → Op → ℕ → Request
+asked a b zero = record { trace = 0; number = 0; op = a }
+asked a b (suc n) = record { trace = 1; number = 1; op = b }
 
-  -- a worker with this number that has done nothing
-  pub record IsFresh (n : ℕ) (r : RunnerState T) : Type 0 where
-    pub at : IsAt r stages.Idle None
-    pub knows : r.part.records.known ≡ []
-    pub number : r.number ≡ n
+-- the table has one bucket and two workers, and these requests
+pub record IsScene (a b : Op) (t : TableState HashTable) : Type 0 where
+  pub runners : t.layout.runners ≡ 2
+  pub requests : t.requests ≡ two_requests a b
+  pub one_bucket : t.structure.bits ≡ 0

@@ -1,27 +1,55 @@
-//! A request from its plan to its help.
-ghost use Rattle.std.specs.Prelude.{◌≡◌, ◌+◌, ◌<◌, [], None, IfOk};
-ghost use Rattle.runner_parts.specs.declared.stage.Stage.TheVariants as stages;
+//! Two workers on a hash table of one bucket, from a plan to the contents.
+ghost use Rattle.std.specs.Prelude.{◌≡◌, ◌<◌, ◌≤◌, IfOk};
+ghost use Rattle.map_history.specs.Keys.{key_of};
+ghost use Rattle.bucket_laws.specs.Buckets.{buckets_meaning};
 ghost use Rattle.version_words.specs.TableState.{IsOf};
-ghost use Rattle.version_words.specs.Stages.{IsAt, IsKeeper};
-ghost use Rattle.hash_rows.specs.Scene.{IsScene, IsFresh};
+ghost use Rattle.version_words.specs.Stages.{IsKeeper, HasJoined};
+ghost use Rattle.try_lock.specs.declared.section.Section.{Section};
+ghost use Rattle.lock_rows.specs.Workers.{IsReady, MayRun};
+ghost use Rattle.lock_rows.specs.declared.turns.Offer.TheVariants.{Published};
+ghost use Rattle.hash_rows.specs.Scene.{IsScene, asked};
 
+use closed_words::closed_words_have_a_history;
 use commit_log::NeverHalts;
-use epoch_slots::{Kind, enter, reserve};
+use epoch_slots::enter;
 use hash_table::HashTable;
+use lock_rows::Offer;
 use lock_walks::Planner;
 use map_history::{Op, Request};
 use section_body::Steps;
-use section_runs::RunEnd;
 use std::alloc::{AllocError, Global};
 use table_words::Layout;
-use try_lock::{Planned, help, publish, run_section};
-use version_words::{FlockTable, Runner};
+use try_lock::{Planned, publish};
+use version_words::{FlockTable, Runner, Words, words_are_reached};
+
+/// The request of the worker with this number, where these are the operations of both.
+fn request_of(number: u32, ops: (Op, Op)) -> Request
+    ensures { result ≡ asked ops.0 ops.1 number }
+{
+    if number == 0 {
+        Request {
+            trace: 0,
+            number: 0,
+            op: ops.0,
+        }
+    } else {
+        Request {
+            trace: 1,
+            number: 1,
+            op: ops.1,
+        }
+    }
+}
 
 /// A table of one bucket with two workers, and one request for each.
-pub fn new_table(alloc: Global) -> Result<(FlockTable<HashTable>, Runner<HashTable>), AllocError>
+pub fn new_table(
+    alloc: Global,
+    ops: (Op, Op),
+) -> Result<(FlockTable<HashTable>, Runner<HashTable>), AllocError>
+    requires keys { (key_of ops.0 ≤ 4294967293) × (key_of ops.1 ≤ 4294967293) }
     ensures own { IfOk result (λ x. IsOf x.0 x.1) }
-    ensures keeper { IfOk result (λ x. IsKeeper x.1 0) }
-    ensures scene { IfOk result (λ x. IsScene x.0) }
+    ensures keeper { IfOk result (λ x. IsKeeper x.1 0 × HasJoined x.1 0) }
+    ensures scene { IfOk result (λ x. IsScene ops.0 ops.1 x.0) }
 {
     let layout = Layout {
         runners: 2,
@@ -33,99 +61,61 @@ pub fn new_table(alloc: Global) -> Result<(FlockTable<HashTable>, Runner<HashTab
         Request {
             trace: 0,
             number: 0,
-            op: Op::Get(1),
+            op: ops.0,
         },
         Request {
             trace: 1,
             number: 1,
-            op: Op::Get(1),
+            op: ops.1,
         },
     ];
     let (table, keeper) = FlockTable::new(alloc, HashTable::new(0), layout, &requests)?;
     Ok((table, keeper))
 }
 
-/// The keeper, and the next worker.
-pub fn split(
+/// Enters, plans the worker's request, and publishes its section, with the number of loads of the plan. No offer is made where the plan
+/// is refused.
+pub fn plan_and_publish(
     table: &FlockTable<HashTable>,
-    alloc: Global,
-    keeper: Runner<HashTable>,
-    number: u32,
-) -> Result<(Runner<HashTable>, Runner<HashTable>), AllocError>
-    requires own { IsOf table.now keeper }
-    requires scene { IsScene table.now }
-    requires keeper { IsKeeper keeper number }
-    requires few { number < 2 }
-    ensures own { IfOk result (λ x. IsOf table.now x.0 × IsOf table.now x.1) }
-    ensures keeper { IfOk result (λ x. IsKeeper x.0 (number + 1)) }
-    ensures worker { IfOk result (λ x. IsFresh number x.1) }
+    runner: Runner<HashTable>,
+    ops: (Op, Op),
+) -> (Runner<HashTable>, Offer, u64)
+    requires own { IsOf table.now runner }
+    requires scene { IsScene ops.0 ops.1 table.now }
+    requires ready { IsReady runner.number runner }
+    requires worker { runner.number < 2 }
+    ensures own { IsOf table.now result.0 }
+    ensures number { result.0.number ≡ runner.number }
+    ensures published { (section : Section) → result.1 ≡ Published section → MayRun (buckets_meaning table.now.structure.bits) section result.0 }
 {
-    match table.runner(alloc, keeper) {
-        Ok((keeper, worker)) => Ok((keeper, worker)),
-        Err((_, error)) => Err(error),
-    }
-}
-
-/// How a section was run by its publisher, in so many steps, and how it was helped after that.
-#[derive(Drop)]
-pub struct Answered {
-    pub planned: u64,
-    pub made: u64,
-    pub ran: RunEnd,
-    pub helped: RunEnd,
-}
-
-/// The first worker plans its request and publishes the section; then the second one reads the lock's word; the first one runs its section to
-/// the end, and the second one helps it. None where a call answers otherwise.
-pub fn answer_and_help(
-    table: &FlockTable<HashTable>,
-    first: Runner<HashTable>,
-    second: Runner<HashTable>,
-) -> Option<Answered>
-    requires own { IsOf table.now first × IsOf table.now second }
-    requires scene { IsScene table.now }
-    requires fresh { IsFresh 0 first × IsFresh 1 second }
-{
-    let mut gate = NeverHalts::new();
+    let request = request_of(runner.number(), ops);
     let mut steps = Steps::<()>::new();
-    let mut run = Steps::<()>::new();
-    let request = Request {
-        trace: 0,
-        number: 0,
-        op: Op::Get(1),
-    };
-    let Ok(first) = reserve(first, Kind::Node, 2) else {
-        return None;
-    };
-    let Ok(first) = reserve(first, Kind::Descriptor, 1) else {
-        return None;
-    };
-    let Ok(second) = reserve(second, Kind::Node, 2) else {
-        return None;
-    };
-    let first = enter(table, first);
-    let (first, planned) = table
-        .structure()
-        .plan(table, first, &request, &mut gate, &mut steps);
+    let runner = enter(table, runner);
+    let (runner, planned) = table.structure().plan(
+        table,
+        runner,
+        &request,
+        &mut NeverHalts::new(),
+        &mut steps,
+    );
     let Planned::Thunk(thunk) = planned else {
-        return None;
+        return (runner, Offer::None, steps.count);
     };
-    let (first, published) = publish(table, first, &thunk);
-    let Ok(section) = published else {
-        return None;
-    };
-    let second = enter(table, second);
-    let (second, held) = table.load_cell(second, 0);
-    if held.value() == 0 {
-        return None;
+    let (runner, answer) = publish(table, runner, &thunk);
+    match answer {
+        Ok(section) => (runner, Offer::Published(section), steps.count),
+        Err(refused) => (runner, Offer::Refused(refused), steps.count),
     }
-    let (_, ran) = run_section(table, first, &section, &mut gate, &mut run);
-    let made = run.count;
-    let (_, helped) = help(table, second, held, &mut gate, &mut run);
-    Some(Answered {
-        planned: steps.count,
-        made,
-        ran,
-        helped,
-    })
+}
+
+/// The pairs of a closed table, where its lock is free.
+pub fn pairs_of(alloc: Global, words: &Words<HashTable>) -> Result<Vec<(u32, u32)>, AllocError>
+    requires one { words.now.structure.bits ≡ 0 }
+{
+    words_are_reached(words);
+    closed_words_have_a_history(words);
+    if words.cell(0).value() != 0 {
+        return Err(AllocError);
+    }
+    words.structure().contents(alloc, words)
 }

@@ -1,6 +1,7 @@
 //! Random schedules of two workers and the keeper, against the plain runs of the sections that they publish.
-ghost use Rattle.std.specs.Prelude.{◌≤◌, length};
+ghost use Rattle.std.specs.Prelude.{◌≡◌, ◌≤◌, length};
 ghost use Rattle.map_history.specs.Requests.{AreInOrder};
+ghost use Rattle.map_history.specs.declared.op.Op.TheVariants.{Get};
 
 use crate::plain_runs::{PlainRun, plain_run};
 use crate::two_workers::{OWN, SECTIONS, TwoWorkers};
@@ -423,92 +424,35 @@ fn begins(runner: u32) -> Worker {
     }
 }
 
+/// The request with this number, in this trace.
+fn request(trace: u32, number: u32) -> Request
+    ensures { result ≡ record { trace = trace; number = number; op = Get 1 } }
+{
+    let op = Op::Get(1);
+    Request { trace, number, op }
+}
+
 /// Eight requests in each of two traces.
 fn requests() -> [Request; 16]
     ensures { AreInOrder result 64 }
 {
-    let op = Op::Get(1);
     [
-        Request {
-            trace: 0,
-            number: 0,
-            op,
-        },
-        Request {
-            trace: 0,
-            number: 1,
-            op,
-        },
-        Request {
-            trace: 0,
-            number: 2,
-            op,
-        },
-        Request {
-            trace: 0,
-            number: 3,
-            op,
-        },
-        Request {
-            trace: 0,
-            number: 4,
-            op,
-        },
-        Request {
-            trace: 0,
-            number: 5,
-            op,
-        },
-        Request {
-            trace: 0,
-            number: 6,
-            op,
-        },
-        Request {
-            trace: 0,
-            number: 7,
-            op,
-        },
-        Request {
-            trace: 1,
-            number: 8,
-            op,
-        },
-        Request {
-            trace: 1,
-            number: 9,
-            op,
-        },
-        Request {
-            trace: 1,
-            number: 10,
-            op,
-        },
-        Request {
-            trace: 1,
-            number: 11,
-            op,
-        },
-        Request {
-            trace: 1,
-            number: 12,
-            op,
-        },
-        Request {
-            trace: 1,
-            number: 13,
-            op,
-        },
-        Request {
-            trace: 1,
-            number: 14,
-            op,
-        },
-        Request {
-            trace: 1,
-            number: 15,
-            op,
-        },
+        request(0, 0),
+        request(0, 1),
+        request(0, 2),
+        request(0, 3),
+        request(0, 4),
+        request(0, 5),
+        request(0, 6),
+        request(0, 7),
+        request(1, 8),
+        request(1, 9),
+        request(1, 10),
+        request(1, 11),
+        request(1, 12),
+        request(1, 13),
+        request(1, 14),
+        request(1, 15),
     ]
 }
 

@@ -1,1 +1,3 @@
-mod Offering
+mod Reading
+pub mod Offering
+mod Turning

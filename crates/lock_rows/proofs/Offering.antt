@@ -1,55 +1,25 @@
--- What a worker that has read the lock may do.
-use Rattle.std.proofs.Common.{◌≡◌, ℕ, zero, suc, ◌+◌, ◌<◌, ◌≤◌, List, [], ◌∷◌, ◌++◌, length, Bool, true, false, refl, sym, ap, subst, ◌∙◌, eq-eqb, arith, Some, None}
-use Rattle.std.specs.Prelude.{◌==◌, ◌&&◌, ◌||◌, not, ◌%◌, slice_get}
+-- What a worker that has read the lock may publish, and that it may run its section then.
+use Rattle.std.proofs.Common.{◌≡◌, ℕ, zero, suc, ◌+◌, ◌<◌, ◌≤◌, List, [], length, true, false, sym, ap, subst, ◌∙◌, eq-eqb, arith, Result, Ok}
+use Rattle.std.specs.Prelude.{◌==◌, ◌&&◌, not, ◌%◌, slice_get}
 use Rattle.std.proofs.lemmas.Bool.Decides.{nat_tests}
 use Rattle.section_body.specs.Word.{value_of, version_of, is_free, is_spent}
+use Rattle.section_body.specs.declared.outcome.Refused.{Refused}
 use Rattle.section_body.specs.declared.thunk.Thunk.{Thunk}
 use Rattle.table_words.specs.declared.layout.Layout.{Layout}
+use Rattle.structure_laws.specs.Meaning.{Meaning}
 use Rattle.structure_laws.specs.Tray.{tray}
-use Rattle.runner_parts.specs.declared.event.EventKind.TheVariants as kinds
 use Rattle.runner_parts.specs.declared.entries.Known.{Known}
-use Rattle.runner_parts.specs.State.{DescriptorsState, ReadsState}
-use Rattle.runner_parts.specs.Tests.{has, has_pair, is_open, is_next, serves}
+use Rattle.runner_parts.specs.State.{NodesState}
+use Rattle.runner_parts.specs.Tests.{has_pair, is_open, is_next, serves}
 use Rattle.runner_steps.specs.Outside.{is_due}
 use Rattle.version_words.specs.RunnerState.{RunnerState}
-use Rattle.version_words.specs.Events.{Makes}
-use Rattle.version_words.specs.Naming.{load_of}
-use Rattle.version_words.specs.Stages.{HasFree}
 use Rattle.version_words.specs.TableState.{TableState, IsOf}
-use Rattle.version_words.proofs.Stages.{then_loaded_cell}
-use Rattle.epoch_slots.specs.Entries.{Enters}
-use Rattle.epoch_slots.proofs.Outside.{NotesNothing, descriptors_made, reads_made, known_made}
-use Rattle.try_lock.specs.Publishes.{MayPublish}
-use Rattle.lock_rows.specs.Scenes.{two_requests, IsScene, HasReadLock}
-
-some_free : (xs : List ℕ) (d : ℕ) → has xs d ≡ true → 1 ≤ length xs
-some_free [] d e = absurd (let no = e in cc)
-some_free (x ∷ xs) d e = omega arith
-
-pair_last : (xs : List (ℕ × ℕ)) (a b : ℕ) → has_pair (xs ++ (a, b) ∷ []) a b ≡ true
-pair_last [] a b = let e : ((a == a && b == b) || false) ≡ true = grind (arith, nat_tests) in e
-pair_last (x ∷ xs) a b = let rest = pair_last xs a b in either (x.0 == a && x.1 == b) (has_pair (xs ++ (a, b) ∷ []) a b) rest
-  where
-    either : (p q : Bool) → q ≡ true → (p || q) ≡ true
-    either true q e = refl
-    either false q e = e
-
-module _ {T : Type 0} where
-  -- the runner has read the lock
-  pub then_read : (idle entered r : RunnerState T) (word d : ℕ) → Enters tray idle entered → idle.part.records.known ≡ [] → HasFree idle d → Makes tray (load_of entered.part.run 0) word entered r → HasReadLock word r
-  then_read idle entered r word d enters knows free made =
-      let resting = enters.at.resting in
-      let load = subst (λ o. Makes tray (load_of o 0) word entered r) resting made in
-      let nothing : NotesNothing (kinds.LoadCell (Some 0)) = record { known = λ s access found spot. refl; finished = λ s access found spot. refl } in
-      let same = descriptors_made tray (kinds.LoadCell (Some 0)) word entered r load resting in
-      record {
-        epoch = enters.epoch;
-        at = then_loaded_cell tray word enters.epoch 0 entered r None made enters.at;
-        read = ap (λ (s : ReadsState). has_pair s.cells 0 word) (reads_made tray (kinds.LoadCell (Some 0)) word entered r load resting) ∙ pair_last entered.part.reads.cells 0 word;
-        knows = known_made tray (kinds.LoadCell (Some 0)) word entered r load resting nothing ∙ (enters.keeps.known ∙ knows);
-        reserve = some_free r.part.descriptors.free d (ap (λ (x : DescriptorsState). has x.free d) same ∙ (ap (λ (x : DescriptorsState). has x.free d) enters.keeps.descriptors ∙ free.own));
-        reached = record { world = made.shown.world; reached = made.shown.reached; own = made.shown.own };
-      }
+use Rattle.try_lock.specs.declared.section.Section.{Section}
+use Rattle.try_lock.specs.Publishes.{MayPublish, Publishes}
+use Rattle.lock_rows.specs.declared.turns.Offer.{Offer}
+use Rattle.lock_rows.specs.declared.turns.Offer.TheVariants.{Published}
+use Rattle.lock_rows.specs.Scenes.{two_requests, IsScene}
+use Rattle.lock_rows.specs.Workers.{HasRead, MayRun, IsEmptyHanded}
 
 -- a free word that isn't spent
 not_spent : (most word : ℕ) → value_of word ≡ 0 → version_of word + 2 ≤ most → is_spent most word ≡ false
@@ -65,7 +35,7 @@ due l walk known t (suc zero) two none few request lock =
     ∙ (λ i. (1 % two i == 1 && true) && (lock i == 0))
 due l walk known t (suc (suc n)) two none few request lock = absurd (omega (arith, few))
 
-module _ {T : Type 0} (t : TableState T) (r : RunnerState T) (thunk : Thunk) (own : IsOf t r) (scene : IsScene t) (few : r.number < 2) (read : HasReadLock thunk.word r) where
+module _ {T : Type 0} (t : TableState T) (r : RunnerState T) (thunk : Thunk) (own : IsOf t r) (scene : IsScene t) (few : r.number < 2) (read : HasRead tray 0 thunk.word r) where
   pub may_publish : thunk.request ≡ r.number → thunk.lock ≡ 0 → value_of thunk.word ≡ 0 → version_of thunk.word + 2 ≤ t.layout.version_max → MayPublish tray r thunk
   may_publish request lock free low =
       let requests = own.requests ∙ scene.requests in
@@ -79,6 +49,35 @@ module _ {T : Type 0} (t : TableState T) (r : RunnerState T) (thunk : Thunk) (ow
         unlocked = unlocked;
         due = (λ i. is_due tray r.layout (requests i) r.number r.part.records.known r.part.reads.walk thunk)
             ∙ due r.layout r.part.reads.walk r.part.records.known thunk r.number (ap (λ l. l.runners) own.layout ∙ scene.runners) read.knows few request lock;
-        reserve = read.reserve;
+        reserve = read.reserve.descriptors;
         reached = read.reached;
       }
+
+-- a section that was published may be run
+module _ {T : Type 0} (m : Meaning) (old new : RunnerState T) (thunk : Thunk) (answer : Result Section Refused) (publishes : Publishes m thunk answer old new) (may : MayPublish m old thunk) where
+  pub may_run : 2 ≤ length old.part.nodes.free → IsEmptyHanded old → (section : Section) → answer ≡ Ok section → MayRun m section new
+  may_run reserve hand section ok =
+      let won = (subst (λ a. Publishes m thunk a old new) ok publishes).published in
+      record {
+        thunk = thunk;
+        may = record {
+          epoch = may.epoch;
+          published = _;
+          at = won.at may.epoch may.at;
+          section = won.section;
+          reserve = subst (λ (n : NodesState). 2 ≤ length n.free) (sym publishes.nodes) reserve;
+          reached = publishes.reached;
+        };
+        hand = record {
+          hand = ap (λ (n : NodesState). n.hand) publishes.nodes ∙ hand.hand;
+          tests = ap (λ (n : NodesState). n.tests) publishes.nodes ∙ hand.tests;
+        };
+      }
+
+abbrev section_or : Section → Offer → Section
+section_or d (Published s) = s
+section_or d _ = d
+
+-- the section that was published is one
+pub same_section : (a b : Section) → Published a ≡ Published b → a ≡ b
+same_section a b e = ap (section_or a) e

@@ -1,11 +1,17 @@
-//! Worked rows of the locks' calls on the shared table of the test structure, as tests.
+//! Worked rows of the locks' calls on the shared table, in turn and on two real threads, as tests.
 //!
-//! `scenes` has a table with two workers, each with a request of its own, their entries and their way to a
-//! publication; `rows` has the tests.
+//! `workers` has a table's keeper with two workers, before and after their work; `turns` the runs of one section by its publisher and by
+//! another worker; `scripts` the gates that bring both into an order; `scenes` the table of the test structure, and offers of its sections; `rows` the tests.
 #![tactic(auto)]
 
 #[cfg(test)]
 mod rows;
 mod scenes;
+mod scripts;
+mod turns;
+mod workers;
 
-pub use scenes::{new_table, offer, read_lock, visit};
+pub use scenes::{new_table, offer, visit};
+pub use scripts::scripted;
+pub use turns::{Offer, Turn, help_held, read_lock, run_own, side_by_side};
+pub use workers::{crew, gather};

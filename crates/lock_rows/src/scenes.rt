@@ -1,18 +1,22 @@
-//! Two workers on their way to a publication.
-ghost use Rattle.std.specs.Prelude.{◌≡◌, ◌<◌, ℕ, [], None, IfOk};
-ghost use Rattle.runner_parts.specs.declared.stage.Stage.TheVariants as stages;
-ghost use Rattle.version_words.specs.TableState.{IsOf};
-ghost use Rattle.version_words.specs.Stages.{IsAt, IsKeeper, HasJoined, HasFree};
+//! Two workers on a table of the test structure, and their offers.
+ghost use Rattle.std.specs.Prelude.{◌≡◌, ◌<◌, IfOk};
+ghost use Rattle.structure_laws.specs.Tray.{tray};
 ghost use Rattle.epoch_slots.specs.Collects.{IsTidy};
-ghost use Rattle.lock_rows.specs.Scenes.{IsScene, HasReadLock};
+ghost use Rattle.version_words.specs.TableState.{IsOf};
+ghost use Rattle.version_words.specs.Stages.{IsKeeper, HasJoined};
+ghost use Rattle.lock_rows.specs.Scenes.{IsScene};
+ghost use Rattle.lock_rows.specs.Workers.{HasRead, MayRun};
+ghost use Rattle.lock_rows.specs.declared.turns.Offer.TheVariants.{Published};
+ghost use Rattle.try_lock.specs.declared.section.Section.{Section};
 
+use crate::turns::Offer;
 use epoch_slots::{enter, exit};
 use interleave_core::Tray;
 use map_history::{Op, Request};
-use section_body::{Refused, Thunk, Word};
+use section_body::{Thunk, Word};
 use std::alloc::{AllocError, Global};
 use table_words::Layout;
-use try_lock::{Section, publish};
+use try_lock::publish;
 use version_words::{FlockTable, Runner, table_is_allowed};
 
 /// A table with two node slots and one descriptor for each of two workers, and one request for each.
@@ -60,46 +64,37 @@ pub fn visit(table: &FlockTable<Tray>, runner: Runner<Tray>) -> (Runner<Tray>, O
     (exit(table, runner), epoch)
 }
 
-/// Enters, and reads the lock.
-pub fn read_lock(table: &FlockTable<Tray>, runner: Runner<Tray>) -> (Runner<Tray>, Word)
-    requires own { IsOf table.now runner }
-    requires at { IsAt runner stages.Idle None }
-    requires knows { runner.part.records.known ≡ [] }
-    requires free { (d : ℕ) × HasFree runner d }
-    ensures own { IsOf table.now result.0 }
-    ensures read { HasReadLock result.1 result.0 }
-    ensures number { result.0.number ≡ runner.number }
-{
-    let runner = enter(table, runner);
-    table.load_cell(runner, 0)
-}
-
-/// Offers the worker's request, to store this number, where the word of the lock that it has read is free and isn't
-/// spent.
+/// Offers the worker's request, with a section of this form and this operand, where the word of the lock that it has
+/// read is free and isn't spent.
 pub fn offer(
     table: &FlockTable<Tray>,
     runner: Runner<Tray>,
     word: Word,
-    number: u32,
-) -> (Runner<Tray>, Option<Result<Section, Refused>>)
+    form: u64,
+    operand: u64,
+) -> (Runner<Tray>, Offer)
     requires own { IsOf table.now runner }
     requires scene { IsScene table.now }
     requires worker { runner.number < 2 }
-    requires read { HasReadLock word runner }
+    requires read { HasRead tray 0 word runner }
     ensures own { IsOf table.now result.0 }
     ensures number { result.0.number ≡ runner.number }
+    ensures published { (section : Section) → result.1 ≡ Published section → MayRun tray section result.0 }
 {
     table_is_allowed(table);
     if word.value() != 0 || word.version() > table.layout().version_max - 2 {
-        return (runner, None);
+        return (runner, Offer::None);
     }
     let thunk = Thunk {
-        form: 101,
+        form,
         request: runner.number(),
         lock: 0,
         word,
-        operands: [number as u64, 0, 0, 0, 0, 0, 0, 0],
+        operands: [operand, 0, 0, 0, 0, 0, 0, 0],
     };
     let (runner, answer) = publish(table, runner, &thunk);
-    (runner, Some(answer))
+    match answer {
+        Ok(section) => (runner, Offer::Published(section)),
+        Err(refused) => (runner, Offer::Refused(refused)),
+    }
 }

@@ -2,3 +2,4 @@ mod Lists
 mod Standing
 mod Trying
 mod Along
+pub mod Spent

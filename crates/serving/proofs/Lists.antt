@@ -55,10 +55,10 @@ numbered requests order n q at = some_same q.number n (sym by_map ∙ (ap (λ xs
     by_range = slice_get-get_or (range_with_len 0 (length requests)) n 0 (subst (λ k. n < k) (sym (length-range_with_len 0 (length requests))) low)
         ∙ ap (λ (k : ℕ). Some k) (get_or-range_with_len 0 (length requests) n 0 low ∙ from_none n)
 
-or_first : (a b : Bool) → a ≡ true → (a || b) ≡ true
+pub or_first : (a b : Bool) → a ≡ true → (a || b) ≡ true
 or_first a b e = ap (λ x. x || b) e
 
-or_second : (a b : Bool) → b ≡ true → (a || b) ≡ true
+pub or_second : (a b : Bool) → b ≡ true → (a || b) ≡ true
 or_second true b e = refl
 or_second false b e = e
 

@@ -49,9 +49,10 @@ use Rattle.section_runs.specs.Ended.{EndsSo}
 use Rattle.section_runs.proofs.Going.{shaped}
 use Rattle.section_runs.proofs.Openeds.{stands_opened, opened_body}
 use Rattle.try_lock.specs.Reached.{MayHelp}
-use Rattle.settling.specs.Settled.{IsFront}
+use Rattle.machine_agreement.proofs.Releases.{get_more}
+use Rattle.settling.specs.Settled.{IsFront, LoadsLocks}
 use Rattle.settling.specs.Clearing.{cell_count, KeepsJoins, IsClearing, HasRun}
-use Rattle.settling.proofs.Growing.{front_same, front_on, Grows, grows_on, own_grows, grows_made, grows_ran, grows_opens}
+use Rattle.settling.proofs.Growing.{front_same, front_on, Grows, grows_on, own_grows, grows_made, grows_ran, grows_opens, ran_walk}
 
 -- what the record of what the keeper's steps left tells, in every reached state
 abbrev pub RecordTells : Meaning → Type 0
@@ -112,6 +113,7 @@ skips m place r other is = record {
   reached = is.reached;
   hand = is.hand;
   tests = is.tests;
+  loaded = is.loaded;
   cleared = λ p low lock. ⊎_elim
       (λ before. is.cleared p before lock)
       (λ same. absurd (not_both lock (ap m.is_lock same ∙ other)))
@@ -244,6 +246,15 @@ module _ {T : Type 0} (m : Meaning) (laws : Laws m) (t : TableState T) (limits :
       few1 : length is.freed ≤ r1.layout.runners
       few1 = tell1.few joined1 is.freed is.apart (λ d h. subst (λ (p : PartState). IsFreed m p.records.left d) (sym part1) (each1 d h))
 
+      walk1 : r1.part.reads.walk ≡ r.part.reads.walk ++ (place, word) ∷ []
+      walk1 = ap (λ (s : ReadsState). s.walk) (reads_made m (kinds.LoadCell (Some place)) word r r1 made is.at.resting)
+
+      loaded1 : LoadsLocks m r1.part.reads.walk
+      loaded1 i p w here = ⊎_elim
+          (λ before. is.loaded i p w before.1)
+          (λ now. ap (λ (x : ℕ × ℕ). m.is_lock x.0) (sym now.1) ∙ lock)
+          (get_more r.part.reads.walk (place, word) (p, w) i (ap (λ xs. slice_get xs i) (sym walk1) ∙ here))
+
       nodes1 : r1.part.nodes ≡ r.part.nodes
       nodes1 = kept.nodes
 
@@ -267,6 +278,7 @@ module _ {T : Type 0} (m : Meaning) (laws : Laws m) (t : TableState T) (limits :
         reached = reached1;
         hand = ap (λ (n : NodesState). n.hand) nodes1 ∙ is.hand;
         tests = ap (λ (n : NodesState). n.tests) nodes1 ∙ is.tests;
+        loaded = loaded1;
         cleared = cleared1 r1.part.records.left (front_same r1.part.records.left r1.part.records.left refl)
             (record { first = word; second = word; seen = has_word; also = has_word; why = inl free });
         freed = is.freed;
@@ -382,6 +394,7 @@ module _ {T : Type 0} (m : Meaning) (laws : Laws m) (t : TableState T) (limits :
             reached = ends.reached;
             hand = ends.nodes.hand ∙ (ap (λ (n : NodesState). n.hand) nodes1 ∙ is.hand);
             tests = ends.nodes.tests (ap (λ (n : NodesState). n.tests) nodes1 ∙ is.tests);
+            loaded = subst (LoadsLocks m) (sym (ran_walk m ends.count ends.opened r2 ends.ran ∙ ap (λ (s : ReadsState). s.walk) ends.opening.reads)) loaded1;
             cleared = cleared1 r2.part.records.left grows2.left
                 (record { first = word; second = last2.number; seen = has_word2; also = last2.has; why = inr (λ same. differs (sym same)) });
             freed = d ∷ is.freed;

@@ -1,6 +1,6 @@
 -- The beginning and the end of settling.
 use Rattle.std.specs.Prelude.{slice_get, slice_index, nat_lt, cond, true, false}
-use Rattle.std.proofs.Common.{◌≡◌, ℕ, ◌+◌, ◌*◌, ◌<◌, ◌≤◌, [], length, ⊎_elim, sym, refl, ap, ◌∙◌, subst, arith, Some}
+use Rattle.std.proofs.Common.{◌≡◌, ℕ, ◌+◌, ◌*◌, ◌<◌, ◌≤◌, [], length, ⊎_elim, sym, refl, ap, ◌∙◌, subst, arith, Some, None}
 use Rattle.std.proofs.lemmas.Bool.{cases_lt}
 use Rattle.std.proofs.lemmas.Bool.Decides.{nat_tests}
 use Rattle.section_body.specs.Word.{value_of}
@@ -11,7 +11,7 @@ use Rattle.runner_steps.specs.Asks.{sizes_for}
 use Rattle.structure_laws.specs.Meaning.{Meaning}
 use Rattle.structure_laws.specs.Laws.{Laws}
 use Rattle.runner_parts.specs.declared.event.EventKind.TheVariants as kinds
-use Rattle.runner_parts.specs.State.{NodesState, PartState}
+use Rattle.runner_parts.specs.State.{NodesState, ReadsState, PartState}
 use Rattle.runner_parts.specs.Tests.{has}
 use Rattle.machine_states.specs.Reached.{Reached}
 use Rattle.machine_states.specs.Sight.{Sight, sight, part_or_first}
@@ -24,7 +24,8 @@ use Rattle.reached_histories.proofs.Histories.{reached_have}
 use Rattle.version_words.specs.RunnerState.{RunnerState}
 use Rattle.version_words.specs.TableState.{TableState, IsOf}
 use Rattle.epoch_slots.specs.Entries.{HasLeave, Enters, Exits}
-use Rattle.settling.specs.Settled.{MaySettle, IsSettled, Settles}
+use Rattle.epoch_slots.proofs.Outside.{reads_made}
+use Rattle.settling.specs.Settled.{LoadsLocks, MaySettle, IsSettled, Settles}
 use Rattle.settling.specs.Clearing.{cell_count, KeepsJoins, IsClearing}
 use Rattle.settling.proofs.Growing.{front_same, Grows, grows_on, own_grows, grows_made}
 use Rattle.settling.proofs.Clears.{RecordTells, cleared_in, keeps_grown}
@@ -50,6 +51,7 @@ module _ {T : Type 0} (m : Meaning) (laws : Laws m) (t : TableState T) (limits :
       reached = record { world = enters.again.shown.world; reached = enters.again.shown.reached; own = enters.again.shown.own };
       hand = ap (λ (n : NodesState). n.hand) enters.keeps.nodes ∙ may.tidy.hand;
       tests = ap (λ (n : NodesState). n.tests) enters.keeps.nodes ∙ may.tidy.tests;
+      loaded = λ i place word here. absurd (none_read (ap (λ (s : ReadsState). slice_get s.walk i) (sym enters.reads) ∙ here));
       cleared = λ place low lock. absurd (omega (arith, low));
       freed = [];
       apart = tt;
@@ -57,6 +59,9 @@ module _ {T : Type 0} (m : Meaning) (laws : Laws m) (t : TableState T) (limits :
       reserve = subst (λ l. 2 * l.runners + 2 ≤ length r.part.nodes.free + 0) (sym (entering.layout ∙ own.layout))
           (let a = ap (λ (n : NodesState). length n.free) enters.keeps.nodes in let b = may.free in omega (arith, a, b));
     }
+      where
+        none_read : {x : ℕ × ℕ} → None ≡ Some x → ⊥
+        none_read e = cc
 
   pub may_leave : (below : ℕ) (r : RunnerState T) → IsClearing m below r → HasLeave r
   may_leave below r is = record { epoch = is.epoch; at = is.at }
@@ -131,4 +136,5 @@ module _ {T : Type 0} (m : Meaning) (laws : Laws m) (t : TableState T) (limits :
       joined = keeps.joined;
       told = keeps.told;
       known = keeps.known;
+      loaded = subst (LoadsLocks m) (ap (λ (s : ReadsState). s.walk) (sym (reads_made m kinds.Idle exits.announce.found r new exits.announce.event is.at.resting))) is.loaded;
     }

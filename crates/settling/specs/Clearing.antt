@@ -13,7 +13,7 @@ use Rattle.version_words.specs.Stages.{IsAt}
 use Rattle.section_runs.specs.Reached.{IsReached}
 use Rattle.section_runs.specs.Ended.{EndsSo}
 use Rattle.keeper_facts.specs.Freed.{IsCleared, IsFreed, AreApart}
-use Rattle.settling.specs.Settled.{IsFront}
+use Rattle.settling.specs.Settled.{IsFront, LoadsLocks}
 
 -- how many cells the table has
 abbrev pub cell_count : Meaning → Layout → ℕ
@@ -39,6 +39,7 @@ module _ {T : Type 0} where
       pub reached : IsReached m r
       pub hand : r.part.nodes.hand ≡ []
       pub tests : r.part.nodes.tests ≡ []
+      pub loaded : LoadsLocks m r.part.reads.walk
       pub cleared : (place : ℕ) → place < below → m.is_lock place ≡ true → IsCleared r.part.records.left place
       pub freed : List ℕ
       pub apart : AreApart freed

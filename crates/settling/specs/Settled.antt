@@ -2,6 +2,7 @@
 use Rattle.std.specs.Prelude.{◌≡◌, ◌≢◌, ℕ, ◌+◌, ◌*◌, ◌<◌, ◌++◌, true, List, length, slice_get, Some}
 use Rattle.section_body.specs.Word.{value_of}
 use Rattle.table_words.specs.declared.spot.Spot.TheVariants.{Cell, Stamp, Reply}
+use Rattle.structure_laws.specs.Scene.{Readings}
 use Rattle.structure_laws.specs.Meaning.{Meaning}
 use Rattle.runner_parts.specs.Tests.{has}
 use Rattle.machine_states.specs.World.{World, seat_of}
@@ -26,6 +27,10 @@ module _ {T : Type 0} where
     pub free : length r.part.nodes.free ≡ 2 * t.layout.runners + 2
 
 module _ (m : Meaning) where
+  -- each place in these readings is a lock
+  abbrev pub LoadsLocks : Readings → Type 0
+  LoadsLocks readings = (i place word : ℕ) → slice_get readings i ≡ Some (place, word) → m.is_lock place ≡ true
+
   -- no lock names a section, and each request that has a stamp has its reply
   pub record IsSettled (s : Sight) : Type 0 where
     pub free : (place : ℕ) → m.is_lock place ≡ true → value_of (s.word (Cell place)) ≡ 0
@@ -47,3 +52,5 @@ module _ (m : Meaning) where
       pub joined : new.joined ≡ old.joined
       pub told : new.part.records.joined ≡ old.part.records.joined
       pub known : IsFront old.part.records.known new.part.records.known
+      -- outside its runs it loaded no cell but locks
+      pub loaded : LoadsLocks new.part.reads.walk

@@ -27,19 +27,19 @@ module _ (layout : Layout) (s : Scene) (sound : Sound tree layout s) (kept : Tre
   abbrev key : ℕ
   key = key_of x.op
 
-  fit : IsFit x.op w x.thunk
+  pub fit : IsFit x.op w x.thunk
   fit = fit_of x.op w x.thunk (sound.fits d x here)
 
-  reads : Reads x.readings (bounds layout) x.op w
+  pub reads : Reads x.readings (bounds layout) x.op w
   reads = walk_reads x.readings (bounds layout) x.op
 
-  past : is_past w.stage ≡ true
+  pub past : is_past w.stage ≡ true
   past = ap is_past fit.stage
 
-  walk : IsWalk now kept.covers kept.once key w
+  pub walk : IsWalk now kept.covers kept.once key w
   walk = kept.sections d x here
 
-  last : IsFollowed now kept.covers kept.once key w.last
+  pub last : IsFollowed now kept.covers kept.once key w.last
   last = walk.last (λ e. end_refused (sym fit.stage ∙ e)) (λ e. end_root (sym fit.stage ∙ e))
     where
       end_refused : AtEnd ≡ Refused → ⊥
@@ -49,12 +49,12 @@ module _ (layout : Layout) (s : Scene) (sound : Sound tree layout s) (kept : Tre
       end_root e = cc
 
   -- an inner node on the walk that is safe and not marked is linked, and covers the key
-  on_path : (t : ℕ) → IsPassed now kept.covers kept.once key t → IsSafe s t → IsInner now t → now.mark t ≡ 0
+  pub on_path : (t : ℕ) → IsPassed now kept.covers kept.once key t → IsSafe s t → IsInner now t → now.mark t ≡ 0
       → (kept.covers.linked t ≡ true) × (kept.covers.lo t ≤ key) × (key < kept.covers.hi t)
   on_path t passed safe inner mark = let covers = passed.covers inner in (kept.unmarked t passed.once_linked safe inner mark, covers.0, covers.1)
 
   -- a link of a linked node on the key's side leads to a linked node that covers the key
-  onward : (step : Step) → IsFollowed now kept.covers kept.once key step → kept.covers.linked step.from ≡ true → value_of (s.cells (step_place step)) ≡ value_of step.word
+  pub onward : (step : Step) → IsFollowed now kept.covers kept.once key step → kept.covers.linked step.from ≡ true → value_of (s.cells (step_place step)) ≡ value_of step.word
       → (kept.covers.linked (step_to step) ≡ true) × (kept.covers.up (step_to step) ≡ step.from) × (kept.covers.lo (step_to step) ≤ key) × (key < kept.covers.hi (step_to step))
   onward step followed linked stands =
       let covers = followed.from.covers followed.inner in
@@ -73,7 +73,7 @@ module _ (layout : Layout) (s : Scene) (sound : Sound tree layout s) (kept : Tre
       by false lo hi left right covers = let less = right refl in (omega arith, omega arith)
 
   -- a slot that the readings give is safe
-  from_safe : (t : ℕ) → IsFrom x.readings t → IsSafe s t
+  pub from_safe : (t : ℕ) → IsFrom x.readings t → IsSafe s t
   from_safe t from = ⊎_elim (λ fixed. inl (sound.fixed t fixed))
       (λ gives. let by = reached (shows_link x.readings) x.readings t gives in (sound.published d x here).safe by.0 by.1 by.2 t by.3 (link_now by.1 by.4) by.5) from
     where

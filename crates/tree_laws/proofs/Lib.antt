@@ -9,4 +9,7 @@ pub mod Insertion
 pub mod Views
 pub mod Planning
 pub mod Landed
+mod Found
+mod Open
+mod Gives
 pub mod Shown

@@ -12,7 +12,7 @@ use Rattle.tree_laws.proofs.WalkReads.{both}
 pub lt_test : (a b : ℕ) → a < b → nat_lt a b ≡ true
 lt_test a b low = grind arith
 
-below_of : (a b : ℕ) → nat_lt a b ≡ true → a < b
+pub below_of : (a b : ℕ) → nat_lt a b ≡ true → a < b
 below_of a b h = grind arith
 
 or_left : (a b : Bool) → a ≡ true → (a || b) ≡ true
@@ -22,7 +22,7 @@ or_right : (a b : Bool) → b ≡ true → (a || b) ≡ true
 or_right a b h = grind arith
 
 -- the reading that passes a test
-some_of : (test : ℕ × ℕ → Bool) (readings : Readings) → list_any test readings ≡ true → (i p w : ℕ) × (slice_get readings i ≡ Some (p, w)) × (test (p, w) ≡ true)
+pub some_of : (test : ℕ × ℕ → Bool) (readings : Readings) → list_any test readings ≡ true → (i p w : ℕ) × (slice_get readings i ≡ Some (p, w)) × (test (p, w) ≡ true)
 some_of test [] h = absurd (cc)
 some_of test (reading ∷ readings) h = or_cases (test reading) (list_any test readings) h
     (λ here. (0, reading.0, reading.1, refl, here))

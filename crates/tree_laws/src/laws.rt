@@ -6,6 +6,7 @@ ghost use Rattle.table_words.specs.Limits.{IsWithinLimits};
 ghost use Rattle.structure_laws.specs.Shape.{ShapeLaw};
 ghost use Rattle.structure_laws.specs.Scene.{Cells, Scene};
 ghost use Rattle.structure_laws.specs.Laws.{IsFirst, FirstMemory};
+ghost use Rattle.structure_laws.specs.Gives.{GivesLaw};
 ghost use Rattle.tree_laws.specs.Search.{InsertionLaw, RemovalLaw, ViewLaw};
 ghost use Rattle.tree_laws.specs.Leaves.{tree};
 ghost use Rattle.tree_laws.specs.Landing.{LandingLaw};
@@ -59,4 +60,12 @@ pub fn tree_wants_what_was_read()
 /// are linked, and their places cover the section's key: a walk without a lock ends on the key's path.
 pub fn walks_land_on_the_path()
     ensures { (layout : Layout) → LandingLaw layout }
+{}
+
+/// What a kept scene of the tree gives to the machine's core, over every layout within the limits: the locks that guard what a
+/// section loads are held by it; what readings reach, they reach by a link that was read; no Store and no change of a lock makes
+/// or ends a link elsewhere; links in use lead to live slots; what a removal takes out is live, no sentinel, retired by no other
+/// section, and linked by nothing once it is retired; and of two sections that depend on one key, one has stored.
+pub fn kept_trees_give()
+    ensures { (layout : Layout) → IsWithinLimits layout → GivesLaw tree layout }
 {}

@@ -1,0 +1,52 @@
+-- Workers on their way to a section and through it.
+use Rattle.std.specs.Prelude.{◌≡◌, ℕ, ◌-◌, ◌≤◌, [], true, false, length, None}
+use Rattle.section_body.specs.Word.{value_of, is_free}
+use Rattle.section_body.specs.declared.thunk.Thunk.{Thunk}
+use Rattle.structure_laws.specs.Meaning.{Meaning}
+use Rattle.runner_parts.specs.declared.stage.Stage.TheVariants as stages
+use Rattle.runner_parts.specs.Tests.{has, has_pair}
+use Rattle.version_words.specs.RunnerState.{RunnerState}
+use Rattle.version_words.specs.Stages.{IsAt}
+use Rattle.epoch_slots.specs.Collects.{IsTidy}
+use Rattle.try_lock.specs.Reached.{IsReached, MayRunSection}
+use Rattle.try_lock.specs.declared.section.Section.{Section}
+
+module _ {T : Type 0} where
+  -- two node slots and one descriptor are free
+  pub record HasReserve (r : RunnerState T) : Type 0 where
+    pub nodes : 2 ≤ length r.part.nodes.free
+    pub descriptors : 1 ≤ length r.part.descriptors.free
+
+  -- no slot is in the runner's hand
+  pub record IsEmptyHanded (r : RunnerState T) : Type 0 where
+    pub hand : r.part.nodes.hand ≡ []
+    pub tests : r.part.nodes.tests ≡ []
+
+  -- the worker with this number has done nothing yet
+  pub record IsNewWorker (n : ℕ) (r : RunnerState T) : Type 0 where
+    pub tidy : IsTidy r
+    pub number : r.number ≡ n
+    pub knows : r.part.records.known ≡ []
+
+  -- and it has slots for one section
+  pub record IsReady (n : ℕ) (r : RunnerState T) : Type 0 where
+    pub fresh : IsNewWorker n r
+    pub reserve : HasReserve r
+
+  module _ (m : Meaning) where
+    -- the worker is entered and has read this word of a lock; it knows no request's words
+    pub record HasRead (place word : ℕ) (r : RunnerState T) : Type 0 where
+      pub epoch : ℕ
+      pub at : IsAt r (stages.Entered epoch) None
+      pub read : has_pair r.part.reads.cells place word ≡ true
+      pub names : is_free word ≡ false → has r.part.reads.held (value_of word - 1) ≡ true
+      pub knows : r.part.records.known ≡ []
+      pub reserve : HasReserve r
+      pub hand : IsEmptyHanded r
+      pub reached : IsReached m r
+
+    -- the worker may run this section, which is its own
+    pub record MayRun (section : Section) (r : RunnerState T) : Type 0 where
+      pub thunk : Thunk
+      pub may : MayRunSection m r thunk section
+      pub hand : IsEmptyHanded r

@@ -1,0 +1,104 @@
+//! A table's keeper and its two workers, before and after their work.
+ghost use Rattle.std.specs.Prelude.{◌≡◌, ◌+◌, ◌<◌, IfOk};
+ghost use Rattle.epoch_slots.specs.Collects.{IsTidy};
+ghost use Rattle.version_words.specs.TableState.{IsOf};
+ghost use Rattle.version_words.specs.Stages.{IsKeeper, HasJoined};
+ghost use Rattle.lock_rows.specs.Workers.{IsNewWorker, IsReady, HasReserve};
+
+use epoch_slots::{Kind, reserve};
+use runner_parts::Structure;
+use std::alloc::{AllocError, Global};
+use version_words::{FlockTable, Runner, Words};
+
+/// The worker, where two node slots and one descriptor are free.
+fn with_reserve<S: Structure>(worker: Runner<S>) -> Result<Runner<S>, AllocError>
+    ensures same { IfOk result (λ x. x ≡ worker) }
+    ensures reserve { IfOk result HasReserve }
+{
+    let Ok(worker) = reserve(worker, Kind::Node, 2) else {
+        return Err(AllocError);
+    };
+    let Ok(worker) = reserve(worker, Kind::Descriptor, 1) else {
+        return Err(AllocError);
+    };
+    Ok(worker)
+}
+
+/// The keeper, and the next worker, whose number is the given one.
+fn split<S: Structure>(
+    table: &FlockTable<S>,
+    alloc: Global,
+    keeper: Runner<S>,
+    number: u32,
+) -> Result<(Runner<S>, Runner<S>), AllocError>
+    requires own { IsOf table.now keeper }
+    requires keeper { IsKeeper keeper number × HasJoined keeper 0 }
+    requires few { number < table.now.layout.runners }
+    ensures own { IfOk result (λ x. IsOf table.now x.0 × IsOf table.now x.1) }
+    ensures keeper { IfOk result (λ x. IsKeeper x.0 (number + 1) × HasJoined x.0 0) }
+    ensures worker { IfOk result (λ x. IsNewWorker number x.1) }
+{
+    match table.runner(alloc, keeper) {
+        Ok(both) => Ok(both),
+        Err(_) => Err(AllocError),
+    }
+}
+
+/// The keeper and two workers, each of which has two free node slots and a free descriptor.
+pub fn crew<S: Structure>(
+    table: &FlockTable<S>,
+    alloc: Global,
+    keeper: Runner<S>,
+) -> Result<(Runner<S>, Runner<S>, Runner<S>), AllocError>
+    requires own { IsOf table.now keeper }
+    requires keeper { IsKeeper keeper 0 × HasJoined keeper 0 }
+    requires two { table.now.layout.runners ≡ 2 }
+    ensures own { IfOk result (λ x. IsOf table.now x.0 × IsOf table.now x.1 × IsOf table.now x.2) }
+    ensures keeper { IfOk result (λ x. IsKeeper x.0 2 × HasJoined x.0 0) }
+    ensures workers { IfOk result (λ x. IsReady 0 x.1 × IsReady 1 x.2) }
+    ensures tidy { IfOk result (λ x. IsTidy x.1 × IsTidy x.2) }
+    ensures numbers { IfOk result (λ x. (x.1.number ≡ 0) × (x.2.number ≡ 1)) }
+{
+    let (keeper, first) = split(table, alloc, keeper, 0)?;
+    let (keeper, second) = split(table, alloc, keeper, 1)?;
+    let first = with_reserve(first)?;
+    let second = with_reserve(second)?;
+    Ok((keeper, first, second))
+}
+
+/// The keeper after it joined this worker, whose number is the given one.
+fn join<S: Structure>(
+    table: &FlockTable<S>,
+    keeper: Runner<S>,
+    worker: Runner<S>,
+    number: u32,
+) -> Runner<S>
+    requires own { IsOf table.now keeper × IsOf table.now worker }
+    requires keeper { IsKeeper keeper 2 × HasJoined keeper number }
+    requires number { worker.number ≡ number }
+    requires few { number < table.now.layout.runners }
+    ensures own { IsOf table.now result }
+    ensures keeper { IsKeeper result 2 × HasJoined result (number + 1) }
+{
+    table.join_runner(keeper, worker)
+}
+
+/// The words after both workers were joined, wherever they stand.
+pub fn gather<S: Structure>(
+    table: FlockTable<S>,
+    keeper: Runner<S>,
+    first: Runner<S>,
+    second: Runner<S>,
+) -> Words<S>
+    requires own { IsOf table keeper × IsOf table first × IsOf table second }
+    requires keeper { IsKeeper keeper 2 × HasJoined keeper 0 }
+    requires numbers { (first.number ≡ 0) × (second.number ≡ 1) }
+    requires two { table.layout.runners ≡ 2 }
+    ensures structure { result.structure ≡ table.structure }
+    ensures requests { result.requests ≡ table.requests }
+    ensures layout { result.layout ≡ table.layout }
+{
+    let keeper = join(&table, keeper, first, 0);
+    let keeper = join(&table, keeper, second, 1);
+    table.close(keeper)
+}
