@@ -1,41 +1,58 @@
 -- What the words of a closed table hold of a worker's requests, by how the worker served them.
-use Rattle.std.specs.Prelude.{◌%◌, ◌⊎◌, Bool, true, false, slice_get}
-use Rattle.std.proofs.Common.{◌≡◌, ◌≢◌, ℕ, suc, ◌+◌, ◌<◌, List, length, refl, sym, ap, ◌∙◌, subst, arith, Option, Some, None, inl, inr, ne_eqb, if◌then◌else◌}
+use Rattle.std.specs.Prelude.{◌%◌, ◌==◌, ◌||◌, ◌⊎◌, Bool, true, false, slice_get}
+use Rattle.std.proofs.Common.{◌≡◌, ◌≢◌, ℕ, zero, suc, ◌+◌, ◌<◌, ◌≤◌, List, [], ◌∷◌, length, refl, sym, ap, ◌∙◌, subst, arith, Option, Some, None, inl, inr, eq-eqb, ne_eqb, if◌then◌else◌}
 use mathlib.Core.Logic.{dite}
 use native.Mathlib.Decide.{ℕ_discrete}
 use Rattle.std.proofs.lemmas.Option.{slice_get_within}
 use Rattle.map_history.specs.declared.op.Request.{Request}
 use Rattle.table_words.specs.declared.layout.Layout.{Layout}
 use Rattle.table_words.specs.declared.spot.Spot.{Spot}
-use Rattle.table_words.specs.declared.spot.Spot.TheVariants.{Stamp}
+use Rattle.table_words.specs.declared.spot.Spot.TheVariants.{Cell, Stamp, Reply}
 use Rattle.table_words.specs.Seen.{seen}
 use Rattle.structure_laws.specs.Meaning.{Meaning}
 use Rattle.runner_parts.specs.declared.entries.Known.{Known}
 use Rattle.runner_parts.specs.declared.entries.Published.{Published}
 use Rattle.runner_parts.specs.State.{PartState}
-use Rattle.runner_parts.specs.Tests.{is_answered}
+use Rattle.runner_parts.specs.Tests.{has, has_pair, is_answered}
 use Rattle.runner_steps.specs.Asks.{sizes_for}
 use Rattle.runner_steps.specs.After.{leaves}
+use Rattle.machine_states.specs.World.{World, seat_of}
 use Rattle.machine_states.specs.Sight.{Sight, sight, part_or_first}
 use Rattle.machine_states.proofs.Steps.{some_same, none_some}
-use Rattle.machine_records.specs.Requests.{requests_of, or_none}
-use Rattle.runner_facts.specs.Facts.{DescriptorsAreKept, descriptors_of, published_count}
-use Rattle.reached_histories.specs.Sections.{Knows, HasOpen}
+use Rattle.machine_records.specs.Requests.{requests_of, request_at, or_none}
+use Rattle.runner_facts.specs.Facts.{DescriptorsAreKept, HasWornCell, WornAreWorn, descriptors_of, published_count}
+use Rattle.spent_facts.specs.Spent.{IsLate, IsPast, SpentStand}
+use Rattle.reached_histories.specs.Sections.{Knows, HasOpen, HasPublished}
 use Rattle.reached_histories.specs.Laws.{HasHistory}
-use Rattle.request_facts.specs.Laws.{CallersStand}
+use Rattle.request_facts.specs.Laws.{CallersStand, HasEntry, IsKnown}
 use Rattle.version_words.specs.RunnerState.{RunnerState}
 use Rattle.version_words.specs.Shown.{left_part}
-use Rattle.version_words.specs.TableState.{TableState, WordsState, IsClosing, word_of}
+use Rattle.version_words.specs.TableState.{TableState, WordsState, IsOf, IsClosing, word_of}
+use Rattle.epoch_slots.specs.Collects.{IsTidy}
 use Rattle.epoch_slots.specs.Reserves.{counts_of}
 use Rattle.epoch_slots.specs.declared.reserves.Kind.{Kind}
 use Rattle.epoch_slots.specs.declared.reserves.Kind.TheVariants as slots
 use Rattle.epoch_slots.specs.declared.reserves.Short.{Short}
 use Rattle.try_lock.specs.Planning.{Planning}
-use Rattle.attempts.specs.Attempts.{IsFew}
-use Rattle.serving.specs.Serving.{Serves, WasHalted, StopsShort, Ends, IsBefore}
+use Rattle.attempts.specs.Attempts.{IsFew, IsShort}
+use Rattle.serving.specs.Serving.{Serves, AreServed as AreAnswered, WasHalted, HasStopped, StopsShort, Ends, IsBefore}
 use Rattle.serving.specs.declared.answers.Served.{Served}
 use Rattle.serving.specs.declared.answers.Served.TheVariants as answers
-use Rattle.threaded_runs.specs.Runs.{stamp_of, AreEntered, IsShortOf, HasServed}
+use Rattle.threaded_runs.specs.Runs.{stamp_of, AreEntered, AreWornOut, IsShortOf, IsCause, IsShown, HasServed}
+use Rattle.threaded_runs.proofs.Stopping.{IsKeptSpent, kept_spent}
+use Rattle.section_body.specs.Memory.{cell_of}
+use Rattle.section_body.specs.Word.{version_of}
+use Rattle.machine_states.proofs.Sights.{some_none}
+
+-- what stands in a list is in it
+has_of : (xs : List ℕ) (i x : ℕ) → slice_get xs i ≡ Some x → has xs x ≡ true
+has_of [] i x e = some_none x e
+has_of (y ∷ xs) zero x e = ap (λ (b : Bool). b || has xs x) (eq-eqb y x (some_same y x e))
+has_of (y ∷ xs) (suc i) x e = ap (λ (b : Bool). (y == x) || b) (has_of xs i x e) ∙ or_so (y == x)
+  where
+    or_so : (b : Bool) → (b || true) ≡ true
+    or_so true = refl
+    or_so false = refl
 
 true_false : {B : Type 0} → (b : Bool) → b ≡ true → b ≡ false → B
 true_false b known_so unknown_so = absurd (let e = sym known_so ∙ unknown_so in cc)
@@ -168,7 +185,43 @@ module _ {T : Type 0} (m : Meaning) (t : TableState T) (keeper : RunnerState T) 
     same_request : (q q' : Request) → slice_get own count ≡ Some q → slice_get own count ≡ Some q' → is_answered new.part.records.known q.number ≡ false → is_answered new.part.records.known q'.number ≡ false
     same_request q q' e e' unknown_so = subst (λ (y : Request). is_answered new.part.records.known y.number ≡ false) (some_same q q' (sym e ∙ e')) unknown_so
 
-    module _ (low : worker < t.layout.runners) (kept : DescriptorsAreKept t.layout end) where
+    module _ (low : worker < t.layout.runners) (own_new : IsOf t new) (kept : DescriptorsAreKept t.layout end) (spent : SpentStand t.layout end) (worn : WornAreWorn m t.layout end)
+        (once_worn : (i j slot : ℕ) → slice_get (end.part worker).nodes.worn i ≡ Some slot → slice_get (end.part worker).nodes.worn j ≡ Some slot → i ≡ j) where
+      -- a slot in the worker's worn list is worn in the closed words
+      worn_there : (i slot : ℕ) → slice_get new.part.nodes.worn i ≡ Some slot → HasWornCell m w.layout (word_of m w) slot
+      worn_there i slot e =
+          let at = worn worker slot (has_of (end.part worker).nodes.worn i slot (ap (λ (p : PartState). slice_get p.nodes.worn i) part ∙ e)) in record {
+            cell = at.cell;
+            low = at.low;
+            worn = ap version_of (word_is (Cell (cell_of m.fixed_cells slot at.cell))) ∙ (at.worn ∙ ap (λ (l : Layout). l.version_max) (sym closing.layout));
+          }
+
+      worn_slots : (short : Short) → (k : Kind) → short ≡ counts_of new k → AreWornOut m w short.worn
+      worn_slots short slots.Node counts = record {
+        slots = new.part.nodes.worn;
+        many = sym (ap (λ (x : Short). x.worn) counts);
+        once = λ i j slot e e'. once_worn i j slot (ap (λ (p : PartState). slice_get p.nodes.worn i) part ∙ e) (ap (λ (p : PartState). slice_get p.nodes.worn j) part ∙ e');
+        each = worn_there;
+      }
+      worn_slots short slots.Descriptor counts = record {
+        slots = [];
+        many = sym (ap (λ (x : Short). x.worn) counts);
+        once = λ i j slot e e'. some_none slot e;
+        each = λ i slot e. some_none slot e;
+      }
+
+      -- the word at which the worker stopped
+      spent_at : (place word : ℕ) → IsKeptSpent new place word → IsLate w.layout word × IsPast (word_of m w) place word
+      spent_at place word (inl read) = (
+        subst (λ (l : Layout). IsLate l word) (own_new.layout ∙ sym closing.layout) read.0,
+        subst (λ (n : ℕ). version_of word ≤ version_of n) (sym (word_is (Cell place))) (spent.read worker place word (ap (λ (p : PartState). has_pair p.reads.cells place word) part ∙ read.1)),
+      )
+      spent_at place word (inr kept_run) =
+          let was = spent.finished worker kept_run.0 place word kept_run.1 (ap (λ (p : PartState). slice_get p.records.finished kept_run.0) part ∙ kept_run.2) kept_run.3 in (
+            subst (λ (l : Layout). IsLate l word) (sym closing.layout) was.late,
+            subst (λ (n : ℕ). version_of word ≤ version_of n) (sym (word_is (Cell place))) was.past,
+          )
+
       short_nodes : (short : Short) → IsFew new short.kind → short ≡ counts_of new short.kind → short.kind ≡ slots.Node → short.free < 2
       short_nodes short few counts kind =
           let same : short ≡ counts_of new slots.Node = counts ∙ ap (counts_of new) kind in
@@ -199,14 +252,15 @@ module _ {T : Type 0} (m : Meaning) (t : TableState T) (keeper : RunnerState T) 
       }
 
       halted_at : WasHalted own count new → (o : Option Published) → new.part.published ≡ o → HasServed m w retry_short own answers.Halted
-      halted_at was None nothing = record { count = count; entered = entered_stopped nothing (λ q e. was.unanswered nothing q e); cause = tt }
+      halted_at was None nothing = record { count = count; entered = entered_stopped nothing (λ q e. was.unanswered nothing q e); cause = tt; shown = tt }
       halted_at was (Some x) is = let o = was.published x is in dite (ℕ_discrete (stamp_of m w o.0) 0)
           (λ z. record {
             count = count;
             entered = entered_so was.published (λ q e. subst (λ (y : Request). stamp_of m w y ≡ 0) (some_same o.0 q (sym o.1 ∙ e)) z);
             cause = tt;
+            shown = tt;
           })
-          (λ some. record { count = count + 1; entered = entered_more was.published x is o.0 o.1 o.2 some; cause = tt })
+          (λ some. record { count = count + 1; entered = entered_more was.published x is o.0 o.1 o.2 some; cause = tt; shown = tt })
 
       pub has_served : HasServed m w retry_short own answer
       has_served = by answer serves.ends
@@ -216,15 +270,18 @@ module _ {T : Type 0} (m : Meaning) (t : TableState T) (keeper : RunnerState T) 
             count = count;
             entered = entered_stopped ends.1.at.published (λ q e. let few = slice_get_within own count q e in let all = ends.0 in absurd (omega (arith, few, all)));
             cause = ends.0;
+            shown = tt;
           }
           by (answers.Short short) ends = let stopped = ends.2 in record {
             count = count;
             entered = entered_stopped stopped.tidy.at.published (λ q e. same_request ends.0 q ends.1 e stopped.unanswered);
             cause = (slice_get_within own count ends.0 ends.1, is_short short ends.0 stopped.before stopped.stops stopped.tidy.at.published);
+            shown = worn_slots short short.kind stopped.stops.cause.counts;
           }
           by (answers.Spent place word) ends = let stopped = ends.2 in record {
             count = count;
             entered = entered_stopped stopped.tidy.at.published (λ q e. same_request ends.0 q ends.1 e stopped.unanswered);
             cause = slice_get_within own count ends.0 ends.1;
+            shown = spent_at place word (kept_spent m planning ends.0 place word stopped.before new stopped.stops);
           }
           by answers.Halted ends = halted_at ends new.part.published refl

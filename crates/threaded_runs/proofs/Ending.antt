@@ -1,23 +1,26 @@
 -- The end of a run: what the words of the closed table hold, by what the workers and the keeper did.
-use Rattle.std.specs.Prelude.{slice_get, Bool}
-use Rattle.std.proofs.Common.{◌≡◌, ℕ, suc, ◌<◌, List, length, sym, ap, ◌∙◌, subst, true, Some, get_or, eq-eqb, if◌then◌else◌}
+use Rattle.std.specs.Prelude.{◌%◌, slice_get, slice_index_or, Bool}
+use Rattle.std.proofs.Common.{◌≡◌, ◌≢◌, ℕ, suc, ◌<◌, List, length, refl, sym, ap, ◌∙◌, subst, arith, true, Some, get_or, eq-eqb, if◌then◌else◌}
 use Rattle.std.proofs.lemmas.Option.{slice_get_within, get_or_from_slice_get}
 use Rattle.map_history.specs.declared.op.Request.{Request}
+use Rattle.map_history.specs.Requests.{AreInOrder}
 use Rattle.section_body.specs.Word.{value_of}
 use Rattle.table_words.specs.Limits.{IsWithinLimits}
 use Rattle.table_words.specs.declared.layout.Layout.{Layout}
-use Rattle.table_words.specs.declared.spot.Spot.TheVariants.{Cell}
+use Rattle.table_words.specs.declared.spot.Spot.TheVariants.{Cell, Stamp, Reply}
 use Rattle.structure_laws.specs.Meaning.{Meaning}
 use Rattle.machine_states.specs.World.{World, seat_of}
 use Rattle.machine_states.specs.Reached.{Reached}
 use Rattle.machine_states.specs.Sight.{sight}
 use Rattle.machine_invariant.specs.After.{AreAllowed}
-use Rattle.runner_facts.specs.Facts.{DescriptorsAreKept}
-use Rattle.reached_histories.specs.Laws.{ReachedHaveHistories}
-use Rattle.request_facts.specs.Laws.{ReachedCallersStand}
+use Rattle.runner_facts.specs.Facts.{DescriptorsAreKept, WornAreWorn}
+use Rattle.spent_facts.specs.Spent.{SpentStand}
+use Rattle.worn_lists.specs.Worn.{HasNoRepeats}
+use Rattle.reached_histories.specs.Laws.{ReachedHaveHistories, HasHistory}
+use Rattle.request_facts.specs.Laws.{ReachedCallersStand, CallersStand}
 use Rattle.version_words.specs.RunnerState.{RunnerState}
 use Rattle.version_words.specs.Shown.{left_part}
-use Rattle.version_words.specs.TableState.{TableState, WordsState, IsOf, IsClosing}
+use Rattle.version_words.specs.TableState.{TableState, WordsState, IsOf, IsClosing, word_of}
 use Rattle.closed_words.specs.Histories.{HaveHistory, HoldsNoLock}
 use Rattle.try_lock.specs.Planning.{Planning}
 use Rattle.settling.specs.Settled.{Settles, IsSettled}
@@ -25,7 +28,7 @@ use Rattle.serving.specs.declared.answers.Served.{Served}
 use Rattle.threaded_runs.specs.declared.job.Job.{Job}
 use Rattle.threaded_runs.specs.declared.job.Finished.{Finished}
 use Rattle.threaded_runs.specs.Own.{own_requests}
-use Rattle.threaded_runs.specs.Jobs.{AllSeated, AllRun, AllKept}
+use Rattle.threaded_runs.specs.Jobs.{AllSeated, AllRun, AllKept, HasRun, IsSeated, IsKept}
 use Rattle.threaded_runs.specs.Runs.{HasServed, AreServed}
 use Rattle.threaded_runs.proofs.Seats.{some_of}
 use Rattle.threaded_runs.proofs.Owning.{own_there, own_trace, own_once}
@@ -39,6 +42,9 @@ pub record IsLawful {T : Type 0} (m : Meaning) (t : TableState T) : Type 0 where
   pub histories : ReachedHaveHistories m t.layout t.requests
   pub callers : ReachedCallersStand m t.layout t.requests
   pub descriptors : (w : World) → Reached m t.layout t.requests w → DescriptorsAreKept t.layout (sight m t.layout t.requests w)
+  pub spent : (w : World) → Reached m t.layout t.requests w → SpentStand t.layout (sight m t.layout t.requests w)
+  pub worn : (w : World) → Reached m t.layout t.requests w → WornAreWorn m t.layout (sight m t.layout t.requests w)
+  pub worn_once : (w : World) → Reached m t.layout t.requests w → HasNoRepeats (sight m t.layout t.requests w)
 
 module _ {T : Type 0} (m : Meaning) (planning : Planning) (retry_short : Bool) (t : TableState T) (lawful : IsLawful m t) (gathered keeper : RunnerState T) (w : WordsState T)
     (own : IsOf t keeper) (number : keeper.number ≡ t.layout.runners) (settles : Settles m gathered keeper) (closing : IsClosing m t keeper w) where
@@ -79,7 +85,8 @@ module _ {T : Type 0} (m : Meaning) (planning : Planning) (retry_short : Bool) (
         (λ i q e. own_there t.layout.runners worker t.requests order i q (subst (λ (rs : List Request). slice_get rs i ≡ Some q) is_seated.requests e))
         (λ i q e. own_trace t.layout.runners worker t.requests order i q (subst (λ (rs : List Request). slice_get rs i ≡ Some q) is_seated.requests e))
         (λ i k q q' e e'. own_once t.layout.runners worker t.requests order i k q q' (subst (λ (rs : List Request). slice_get rs i ≡ Some q) is_seated.requests e) (subst (λ (rs : List Request). slice_get rs k ≡ Some q') is_seated.requests e'))
-        low (lawful.descriptors closing.world closing.reached)))
+        low has_run.own (lawful.descriptors closing.world closing.reached) (lawful.spent closing.world closing.reached) (lawful.worn closing.world closing.reached)
+        (λ i k slot e e'. lawful.worn_once closing.world closing.reached worker i k slot e e')))
 
     pub all_served : AreServed m w retry_short answers
     all_served = record {

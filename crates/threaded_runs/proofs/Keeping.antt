@@ -1,5 +1,5 @@
 -- The keeper once it has split off one more worker, or joined one.
-use Rattle.std.specs.Prelude.{◌==◌, ◌||◌, nat_lt, Bool, true, false, if◌then◌else◌}
+use Rattle.std.specs.Prelude.{◌==◌, ◌&&◌, ◌||◌, nat_lt, not, Bool, true, false, if◌then◌else◌}
 use Rattle.std.proofs.Common.{◌≡◌, ℕ, zero, suc, ◌+◌, ◌*◌, ◌<◌, ◌≤◌, List, [], ◌∷◌, ◌++◌, length, refl, sym, ap, ◌∙◌, subst, arith, Option, Some, None, eq-eqb, ne_eqb, ◌≢◌}
 use mathlib.Core.Logic.{dite}
 use native.Mathlib.Decide.{ℕ_discrete}
@@ -8,15 +8,18 @@ use Rattle.table_words.specs.declared.spot.Spot.TheVariants as spots
 use Rattle.table_words.specs.declared.access.Access.TheVariants.{Loads}
 use Rattle.structure_laws.specs.Meaning.{Meaning}
 use Rattle.runner_parts.specs.declared.event.EventKind.TheVariants as kinds
+use Rattle.runner_parts.specs.declared.stage.Stage.TheVariants as stages
 use Rattle.runner_parts.specs.State.{RunState, PartState, RecordsState, NodesState}
 use Rattle.runner_parts.specs.Tests.{has}
-use Rattle.runner_steps.specs.After.{after, after_by, stepped, leaves, tallied}
+use Rattle.runner_steps.specs.AfterOutside.{split_after}
+use Rattle.runner_steps.specs.After.{after, after_by, stepped, leaves, tallied, joins}
 use Rattle.machine_states.specs.First.{keeper_part, falling}
 use Rattle.version_words.specs.RunnerState.{RunnerState}
 use Rattle.version_words.specs.Shown.{left_part}
+use Rattle.version_words.specs.Stages.{IsAt, IsKeeper, HasJoined}
 use Rattle.version_words.specs.TableState.{TableState, IsOf, first_keeper, HasJoinedAll}
 use Rattle.version_words.specs.Events.{HasSplit, joined_by}
-use Rattle.version_words.proofs.Stages.{then_split, then_keeper, then_joined, split_joined}
+use Rattle.version_words.proofs.Stages.{first_is_keeper, then_split, then_keeper, then_joined, split_joined}
 use Rattle.std.specs.Option.{IsSome}
 use Rattle.settling.specs.Settled.{MaySettle, Settles}
 use Rattle.threaded_runs.specs.Keeper.{IsIdleKeeper}

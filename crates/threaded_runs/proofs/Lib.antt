@@ -3,5 +3,6 @@ mod Keeping
 mod Counting
 mod Seats
 mod Owning
+mod Stopping
 mod Closing
 mod Ending

@@ -1,7 +1,7 @@
 -- A worker that was just made may serve the requests of its traces.
-use Rattle.std.specs.Prelude.{◌==◌, ◌%◌, Bool, true, false, map, slice_get, All}
-use Rattle.std.specs.List.{range_with_len}
-use Rattle.std.proofs.Common.{◌≡◌, ℕ, ◌+◌, ◌<◌, List, length, sym, ap, ◌∙◌, subst, arith, Some, None, option_map, eq-eqb, inr}
+use Rattle.std.specs.Prelude.{◌==◌, ◌%◌, Bool, true, false, map, slice_get, slice_index_or, All}
+use Rattle.std.specs.List.{filter, range_with_len}
+use Rattle.std.proofs.Common.{◌≡◌, ℕ, ◌+◌, ◌<◌, List, [], length, take, refl, sym, ap, ◌∙◌, subst, arith, Option, Some, None, option_map, eq-eqb, inr}
 use Rattle.std.proofs.lemmas.Bool.Decides.{nat_tests}
 use Rattle.std.proofs.lemmas.Option.{slice_get-map, slice_get_within, slice_get-get_or, get_or_from_slice_get}
 use Rattle.std.proofs.lemmas.List.FromFn.{get_or-range_with_len, length-range_with_len}
@@ -18,9 +18,10 @@ use Rattle.version_words.specs.Events.{next_worker}
 use Rattle.version_words.proofs.Stages.{next_is_idle}
 use Rattle.epoch_slots.specs.Collects.{IsTidy}
 use Rattle.try_lock.specs.Planning.{Planning}
+use Rattle.attempts.specs.Knowing.{IsOwn}
 use Rattle.serving.specs.Serving.{MayServe}
 use Rattle.threaded_runs.specs.Own.{own_requests}
-use Rattle.threaded_runs.proofs.Picked.{picked, kept, before, count_before}
+use Rattle.threaded_runs.proofs.Picked.{IsPicked, picked, kept, before, count_before}
 
 same_test : (a b : ℕ) → (a == b) ≡ true → a ≡ b
 same_test a b e = grind (arith, nat_tests)

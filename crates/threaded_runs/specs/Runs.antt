@@ -6,7 +6,9 @@ use Rattle.table_words.specs.declared.spot.Spot.TheVariants.{Stamp, Reply}
 use Rattle.structure_laws.specs.Meaning.{Meaning}
 use Rattle.version_words.specs.TableState.{WordsState, word_of}
 use Rattle.closed_words.specs.Histories.{HoldsNoLock}
-use Rattle.epoch_slots.specs.declared.reserves.Kind.TheVariants as slots
+use Rattle.runner_facts.specs.Facts.{HasWornCell}
+use Rattle.spent_facts.specs.Spent.{IsLate, IsPast}
+use Rattle.epoch_slots.specs.declared.reserves.Kind.TheVariants as kinds
 use Rattle.epoch_slots.specs.declared.reserves.Short.{Short}
 use Rattle.serving.specs.declared.answers.Served.{Served}
 use Rattle.serving.specs.declared.answers.Served.TheVariants as answers
@@ -31,12 +33,19 @@ module _ {T : Type 0} (m : Meaning) (w : WordsState T) where
         → stamp_of q < stamp_of q'
     pub none : (i : ℕ) (q : Request) → count ≤ i → slice_get requests i ≡ Some q → stamp_of q ≡ 0
 
+  -- so many different node slots have a cell with the greatest version
+  pub record AreWornOut (count : ℕ) : Type 0 where
+    pub slots : List ℕ
+    pub many : length slots ≡ count
+    pub once : (i j slot : ℕ) → slice_get slots i ≡ Some slot → slice_get slots j ≡ Some slot → i ≡ j
+    pub each : (i slot : ℕ) → slice_get slots i ≡ Some slot → HasWornCell m w.layout (word_of m w) slot
+
   -- at the last attempt too few slots of the kind were free, and this isn't waited out, or no slot of the kind was in limbo; where descriptors
   -- lacked, all of the worker's were in limbo
   pub record IsShortOf (retry_short : Bool) (short : Short) : Type 0 where
     pub over : (retry_short ≡ false) ⊎ (short.limbo ≡ 0)
-    pub nodes : short.kind ≡ slots.Node → short.free < 2
-    pub descriptors : short.kind ≡ slots.Descriptor → (short.free ≡ 0) × (short.worn ≡ 0) × (short.limbo ≡ w.layout.sections)
+    pub nodes : short.kind ≡ kinds.Node → short.free < 2
+    pub descriptors : short.kind ≡ kinds.Descriptor → (short.free ≡ 0) × (short.worn ≡ 0) × (short.limbo ≡ w.layout.sections)
 
   -- why the worker served so many of its requests and no more: at All these are all of them
   abbrev pub IsCause : Bool → List Request → Served → ℕ → Type 0
@@ -45,11 +54,19 @@ module _ {T : Type 0} (m : Meaning) (w : WordsState T) where
   IsCause retry_short requests (answers.Spent place word) count = count < length requests
   IsCause retry_short requests answers.Halted count = Unit {0}
 
+  -- what the closed words show of the answer: the slots that are told worn are worn; behind the word that is told spent fewer than two versions
+  -- are left, and it stands at its place, or a word of a later version does
+  abbrev pub IsShown : Served → Type 0
+  IsShown (answers.Short short) = AreWornOut short.worn
+  IsShown (answers.Spent place word) = IsLate w.layout word × IsPast (word_of m w) place word
+  IsShown _ = Unit {0}
+
   -- what is left of the run of a worker with these requests and this answer
   pub record HasServed (retry_short : Bool) (requests : List Request) (answer : Served) : Type 0 where
     pub count : ℕ
     pub entered : AreEntered requests count
     pub cause : IsCause retry_short requests answer count
+    pub shown : IsShown answer
 
   -- what is left of a run of all workers with these answers, in order of number: each has served its own traces, no lock word names a
   -- section, and each request that has an entry has its reply

@@ -12,15 +12,17 @@ use lock_walks::Planner;
 use map_history::Request;
 use reached_histories::reached_states_have_histories;
 use request_facts::reached_callers_stand;
-use runner_facts::descriptors_are_kept;
+use runner_facts::{descriptors_are_kept, worn_slots_are_worn};
 use runner_gate::Gates;
 use serving::Served;
 use settling::settle;
+use spent_facts::spent_words_stand;
 use std::alloc::{AllocError, Global};
 use std::sync::Wait;
 use std::thread::Threads;
 use table_words::Layout;
 use version_words::{FlockTable, Words, table_is_allowed};
+use worn_lists::worn_lists_have_no_repeats;
 
 /// Runs all requests on one new table, with a thread for each worker where one can be made, and gives the words at the end with what the
 /// serving of each worker's requests answered, in order of number.
@@ -61,6 +63,9 @@ where
     reached_states_have_histories(table.structure());
     reached_callers_stand(table.structure());
     descriptors_are_kept(table.structure());
+    spent_words_stand(table.structure());
+    worn_slots_are_worn(table.structure());
+    worn_lists_have_no_repeats(table.structure());
     let (keeper, jobs) = make_jobs(&table, alloc, keeper, requests, halts, gates)?;
     let finished = run_jobs(rt, &table, retry_short, jobs)?;
     let (keeper, answers) = gather(&table, alloc, keeper, finished, gates)?;

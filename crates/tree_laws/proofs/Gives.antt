@@ -70,18 +70,18 @@ insert_retire : (t : Thunk) (j slot : ℕ) → slice_get (insert_steps t) j ≡ 
 insert_retire t j slot h = grind arith
 
 -- a removal's loads by their registers
-abbrev Loads : Thunk → ℕ → ℕ → ℕ → Type 0
+abbrev pub Loads : Thunk → ℕ → ℕ → ℕ → Type 0
 Loads t j p r = ((j ≡ 0) × (r ≡ 0) × (p ≡ operand t 0)) ⊎ ((j ≡ 3) × (r ≡ 1) × (p ≡ t.lock + 4))
     ⊎ ((j ≡ 6) × (r ≡ 2) × (p ≡ operand t 4)) ⊎ ((j ≡ 8) × (r ≡ 3) × (p ≡ sibling_of t)) ⊎ ((j ≡ 9) × (r ≡ 4) × (p ≡ mark_of (parent_in t)))
 
-first_load : (t : Thunk) (j p r : ℕ) → r ≡ 0 → Loads t j p r → p ≡ operand t 0
+pub first_load : (t : Thunk) (j p r : ℕ) → r ≡ 0 → Loads t j p r → p ≡ operand t 0
 first_load t j p r is (inl a) = a.2
 first_load t j p r is (inr (inl a)) = absurd (let e = a.1 in omega (arith, e, is))
 first_load t j p r is (inr (inr (inl a))) = absurd (let e = a.1 in omega (arith, e, is))
 first_load t j p r is (inr (inr (inr (inl a)))) = absurd (let e = a.1 in omega (arith, e, is))
 first_load t j p r is (inr (inr (inr (inr a)))) = absurd (let e = a.1 in omega (arith, e, is))
 
-fourth_load : (t : Thunk) (j p r : ℕ) → r ≡ 4 → Loads t j p r → p ≡ mark_of (parent_in t)
+pub fourth_load : (t : Thunk) (j p r : ℕ) → r ≡ 4 → Loads t j p r → p ≡ mark_of (parent_in t)
 fourth_load t j p r is (inl a) = absurd (let e = a.1 in omega (arith, e, is))
 fourth_load t j p r is (inr (inl a)) = absurd (let e = a.1 in omega (arith, e, is))
 fourth_load t j p r is (inr (inr (inl a))) = absurd (let e = a.1 in omega (arith, e, is))

@@ -12,4 +12,7 @@ pub mod Landed
 mod Found
 mod Open
 mod Gives
+mod Alike
+mod Turn
+mod TurnStores
 pub mod Shown

@@ -18,7 +18,7 @@ use Rattle.structure_laws.specs.Sound.{Sound}
 use Rattle.bucket_laws.specs.Walk.{is_del}
 use Rattle.tree_bodies.specs.Tree.{lock_of, mark_of, left_of, right_of, child_of, slot_in, Form, Look, Insert, Delete, form_of, body_of, parent_in, leaf_in, sibling_of, is_left, is_right}
 use Rattle.tree_laws.specs.Search.{Nodes, IsInner, IsLeaf}
-use Rattle.tree_laws.specs.Walk.{Walk, AtEnd, Refused, step_place, step_to, node_of, form_for, insert_operands, delete_operands, operands_for, lock_for}
+use Rattle.tree_laws.specs.Walk.{Walk, AtEnd, Refused, step_place, step_to, node_of, form_for, insert_operands, delete_operands, operands_for, lock_for, reply_for}
 use Rattle.tree_laws.specs.Leaves.{nodes, bounds, walk_of, Knows, IsFollowed, IsWalk, TreeKept, tree}
 use Rattle.tree_laws.specs.Landing.{HasLanded}
 use Rattle.tree_laws.proofs.Fit.{IsFit, cases, look_numbers, inserts, deletes, look_outer, numbers_of, is_look, is_insert, is_delete}
@@ -196,6 +196,39 @@ module _ (layout : Layout) (s : Scene) (sound : Sound tree layout s) (kept : Tre
       later : (r i : ℕ) (v : Value) → IsStep tree x i (Store r v) → x.at ≤ i
       later r i v h = let eight = (insert_store x.thunk i r v (step_as Insert form i (Store r v) h)).0 in omega (arith, few, eight)
 
+  pub insert_link : form_of x.thunk ≡ Insert → 5 ≤ x.at → x.at ≤ 8 → s.cells (step_place w.last) ≡ w.last.word
+  insert_link form at few =
+      let is = insert_is_plain form in
+      ap s.cells (sym is.place)
+      ∙ (sound.loaded d x here 0 (operand x.thunk 0) 0 (omega (arith, at)) (step_is Insert form 0 _ refl) (λ i v h. later i v h)
+      ∙ (sound.wanted d x here 1 0 (operand x.thunk 1) (omega (arith, at)) (step_is Insert form 1 _ refl) ∙ is.word))
+    where
+      later : (i : ℕ) (v : Value) → IsStep tree x i (Store 0 v) → x.at ≤ i
+      later i v h = let eight = (insert_store x.thunk i 0 v (step_as Insert form i (Store 0 v) h)).0 in omega (arith, few, eight)
+
+  -- the operation of an insertion, and its numbers
+  pub record IsInserting : Type 0 where
+    pub key : ℕ
+    pub value : ℕ
+    pub op : x.op ≡ Ins key value
+    pub missing : w.found ≡ false
+    pub new_key : operand x.thunk 3 ≡ key
+    pub new_value : operand x.thunk 4 ≡ value
+    pub old_key : operand x.thunk 5 ≡ w.key
+
+  pub insert_is_inserting : form_of x.thunk ≡ Insert → IsInserting
+  insert_is_inserting form =
+      let of = inserts x.op w.found (sym fits.form ∙ (numbers_of x.thunk Insert form).1 refl) in
+      let numbers : operands_for x.op w w.found ≡ insert_operands w of.0 of.1 = ap (λ op. operands_for op w w.found) of.2 ∙ ap (operands_for (Ins of.0 of.1) w) of.3 in
+      record { key = of.0; value = of.1; op = of.2; missing = of.3; new_key = number_at 3 numbers; new_value = number_at 4 numbers; old_key = number_at 5 numbers }
+
+  -- the reply of a section that changes nothing
+  pub look_form_is : form_of x.thunk ≡ Look → form_for x.op w.found ≡ 11
+  look_form_is form = sym fits.form ∙ (numbers_of x.thunk Look form).0 refl
+
+  pub look_reply : form_of x.thunk ≡ Look → operand x.thunk 3 ≡ reply_for x.op w w.found
+  look_reply form = number_at 3 (look_numbers x.op w w.found (look_form_is form))
+
   -- a removal that has passed its Wants, and has not stored the link: the link to the leaf stands as it was read, also behind that
   pub leaf_link : form_of x.thunk ≡ Delete → 8 ≤ x.at → s.cells (step_place w.last) ≡ w.last.word
   leaf_link form at =
@@ -206,6 +239,12 @@ module _ (layout : Layout) (s : Scene) (sound : Sound tree layout s) (kept : Tre
     where
       never : (i : ℕ) (v : Value) → IsStep tree x i (Store 2 v) → x.at ≤ i
       never i v h = absurd (⊎_elim (λ mark. let r = mark.1 in omega (arith, r)) (λ link. let r = link.1 in omega (arith, r)) (delete_store x.thunk i 2 v (step_as Delete form i (Store 2 v) h)))
+
+  pub grand_followed : IsRemoving → IsFollowed now kept.covers kept.once key w.grand
+  grand_followed is = is_walk.grand (λ e. end_refused (sym fits.stage ∙ e)) is.deep
+    where
+      end_refused : AtEnd ≡ Refused → ⊥
+      end_refused e = cc
 
   -- where its grandparent, its parent and its leaf stand then
   pub record HasFound : Type 0 where

@@ -7,6 +7,7 @@ ghost use Rattle.structure_laws.specs.Shape.{ShapeLaw};
 ghost use Rattle.structure_laws.specs.Scene.{Cells, Scene};
 ghost use Rattle.structure_laws.specs.Laws.{IsFirst, FirstMemory};
 ghost use Rattle.structure_laws.specs.Gives.{GivesLaw};
+ghost use Rattle.structure_laws.specs.InTurn.{InTurn};
 ghost use Rattle.tree_laws.specs.Search.{InsertionLaw, RemovalLaw, ViewLaw};
 ghost use Rattle.tree_laws.specs.Leaves.{tree};
 ghost use Rattle.tree_laws.specs.Landing.{LandingLaw};
@@ -68,4 +69,12 @@ pub fn walks_land_on_the_path()
 /// section, and linked by nothing once it is retired; and of two sections that depend on one key, one has stored.
 pub fn kept_trees_give()
     ensures { (layout : Layout) → IsWithinLimits layout → GivesLaw tree layout }
+{}
+
+/// On the tree, sections one after the other do what the map does, over every layout within the limits. Where a kept scene's memory
+/// stands for a map, nothing is pending and a section has come to its stamp, its Answer is the map's reply, and its Stores lead to a
+/// memory that stands for the map after its operation: a look-up, an insertion on either side, a removal in all four cases of
+/// sides. A change of a lock, or of a cell of a slot in a hand, leaves what the memory stands for.
+pub fn tree_sections_take_turns()
+    ensures { (layout : Layout) → IsWithinLimits layout → InTurn tree layout }
 {}

@@ -8,6 +8,6 @@ mod laws;
 
 pub use laws::{
     insertions_keep_the_tree, kept_trees_give, removals_keep_the_tree, tree_begins,
-    tree_bodies_are_shaped, tree_first_memory, tree_wants_what_was_read, views_of_a_tree_agree,
-    walks_land_on_the_path,
+    tree_bodies_are_shaped, tree_first_memory, tree_sections_take_turns, tree_wants_what_was_read,
+    views_of_a_tree_agree, walks_land_on_the_path,
 };

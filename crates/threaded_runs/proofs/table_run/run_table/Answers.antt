@@ -1,8 +1,10 @@
-use Rattle.std.proofs.Common.{rules, subst, ◌∙◌, vec_len}
+use Rattle.std.proofs.Common.{rules, ◌≡◌, ℕ, length, subst, sym, ap, ◌∙◌, arith, vec_len}
 use Rattle.machine_states.specs.World.{World}
 use Rattle.machine_states.specs.Reached.{Reached}
 use Rattle.machine_states.specs.Sight.{sight}
-use Rattle.runner_facts.specs.Facts.{DescriptorsAreKept}
+use Rattle.runner_facts.specs.Facts.{DescriptorsAreKept, WornAreWorn}
+use Rattle.spent_facts.specs.Spent.{SpentStand}
+use Rattle.worn_lists.specs.Worn.{HasNoRepeats}
 use Rattle.reached_histories.specs.Laws.{ReachedHaveHistories}
 use Rattle.request_facts.specs.Laws.{ReachedCallersStand}
 use Rattle.closed_words.specs.Histories.{HaveHistory}
@@ -45,6 +47,12 @@ returns-clause-served g c =
       callers = subst (λ s. ReachedCallersStand (g.S.Structure.meaning s) t.layout t.requests) c.structure-2.ensures (c.reached_callers_stand.ensures t.layout t.requests);
       descriptors = subst (λ s. (w : World) → Reached (g.S.Structure.meaning s) t.layout t.requests w → DescriptorsAreKept t.layout (sight (g.S.Structure.meaning s) t.layout t.requests w)) c.structure-3.ensures
           (λ w reached. c.descriptors_are_kept.ensures t.layout t.requests w limits allowed reached);
+      spent = subst (λ s. (w : World) → Reached (g.S.Structure.meaning s) t.layout t.requests w → SpentStand t.layout (sight (g.S.Structure.meaning s) t.layout t.requests w)) c.structure-4.ensures
+          (λ w reached. c.spent_words_stand.ensures t.layout t.requests w limits allowed reached);
+      worn = subst (λ s. (w : World) → Reached (g.S.Structure.meaning s) t.layout t.requests w → WornAreWorn (g.S.Structure.meaning s) t.layout (sight (g.S.Structure.meaning s) t.layout t.requests w)) c.structure-5.ensures
+          (λ w reached. c.worn_slots_are_worn.ensures t.layout t.requests w limits allowed reached);
+      worn_once = subst (λ s. (w : World) → Reached (g.S.Structure.meaning s) t.layout t.requests w → HasNoRepeats (sight (g.S.Structure.meaning s) t.layout t.requests w)) c.structure-6.ensures
+          (λ w reached. c.worn_lists_have_no_repeats.ensures t.layout t.requests w limits allowed reached);
     } in
     let keeper = c.in_ok-keeper-2.keeper in
     let settled = c.settle-keeper.result in
