@@ -214,31 +214,30 @@ fn texts_give_their_reports(rt: HostRuntime) -> Result<(), Fail> {
     Ok(())
 }
 
-// The four columns of a run: the status and the words, the text, the report, and what is told.
-fn parts<'a>(alloc: Global, row: &'a str) -> Result<Vec<&'a str>, AllocError> {
-    row.split('|').collect(alloc)
+// What stands before the first bar of a row, and what behind it.
+fn cut(row: &str) -> (&str, &str) {
+    match row.split_once('|') {
+        Some(parts) => parts,
+        None => (row, ""),
+    }
 }
 
 #[test]
 fn runs_end_as_their_options_say(rt: HostRuntime) -> Result<(), Fail> {
     let alloc = rt.alloc();
     for row in RUNS.lines() {
-        let parts = parts(alloc, row)?;
-        let words: Vec<&str> = parts[0].split(' ').skip(1).collect(alloc)?;
-        let text = bytes_of(alloc, parts[1])?;
-        let ran = run_words(&rt, alloc, &words, text, Vec::new(alloc));
+        let (command, row) = cut(row);
+        let (text, row) = cut(row);
+        let (report, told) = cut(row);
+        let words: Vec<&str> = command.split(' ').skip(1).collect(alloc)?;
+        let ran = run_words(&rt, alloc, &words, bytes_of(alloc, text)?, Vec::new(alloc));
+        let (report, told) = (bytes_of(alloc, report)?, bytes_of(alloc, told)?);
         assert!(rt;
-            parts[0].starts_with(Buffer::new().format(ran.status)),
-            "{row}"
+            command.starts_with(Buffer::new().format(ran.status)),
+            "{command}"
         );
-        assert!(rt;
-            ran.sink.bytes() == bytes_of(alloc, parts[2])?.as_slice(),
-            "{row}"
-        );
-        assert!(rt;
-            ran.faults.bytes() == bytes_of(alloc, parts[3])?.as_slice(),
-            "{row}"
-        );
+        assert!(rt; ran.sink.bytes() == report.as_slice(), "{command}");
+        assert!(rt; ran.faults.bytes() == told.as_slice(), "{command}");
     }
     Ok(())
 }
