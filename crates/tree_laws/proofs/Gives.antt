@@ -60,13 +60,13 @@ unfixed : (n : ℕ) → (n ≡ 0 → ⊥) → (n ≡ 1 → ⊥) → (n ≡ 2 →
 unfixed n zero one two = search arith
 
 -- the steps that only a removal has
-delete_retire : (t : Thunk) (j slot : ℕ) → slice_get (delete_steps t) j ≡ Some (Retire slot) → ((j ≡ 15) × (slot ≡ parent_in t)) ⊎ ((j ≡ 16) × (slot ≡ leaf_in t))
+pub delete_retire : (t : Thunk) (j slot : ℕ) → slice_get (delete_steps t) j ≡ Some (Retire slot) → ((j ≡ 15) × (slot ≡ parent_in t)) ⊎ ((j ≡ 16) × (slot ≡ leaf_in t))
 delete_retire t j slot h = grind arith
 
-look_retire : (t : Thunk) (j slot : ℕ) → slice_get (look_steps t) j ≡ Some (Retire slot) → ⊥
+pub look_retire : (t : Thunk) (j slot : ℕ) → slice_get (look_steps t) j ≡ Some (Retire slot) → ⊥
 look_retire t j slot h = grind arith
 
-insert_retire : (t : Thunk) (j slot : ℕ) → slice_get (insert_steps t) j ≡ Some (Retire slot) → ⊥
+pub insert_retire : (t : Thunk) (j slot : ℕ) → slice_get (insert_steps t) j ≡ Some (Retire slot) → ⊥
 insert_retire t j slot h = grind arith
 
 -- a removal's loads by their registers
@@ -217,7 +217,7 @@ module _ (layout : Layout) (limits : IsWithinLimits layout) (s : Scene) (sound :
     outer : (l : ℕ) → l ≡ x.thunk.lock → Holds tree x l
     outer l e = inl e
 
-    taken_lock : form_of x.thunk ≡ Delete → 5 < x.at → (l : ℕ) → l ≡ lock_of (w x).last.from → Holds tree x l
+    pub taken_lock : form_of x.thunk ≡ Delete → 5 < x.at → (l : ℕ) → l ≡ lock_of (w x).last.from → Holds tree x l
     taken_lock form at l e = inr (
       5,
       operand x.thunk 3,
@@ -304,13 +304,13 @@ module _ (layout : Layout) (limits : IsWithinLimits layout) (s : Scene) (sound :
         let same : (w x).key ≡ key_of x.op = equal_of _ _ (sym keyed ∙ is.found) in
         let low = (sound.allowed d x here).keys (key_of x.op) (inl refl) in omega (arith, read, same, low)
 
-    leaf_unfixed : form_of x.thunk ≡ Delete → 3 ≤ node_of (w x)
+    pub leaf_unfixed : form_of x.thunk ≡ Delete → 3 ≤ node_of (w x)
     leaf_unfixed form = unfixed (node_of (w x))
         (λ zero. leaf_no_inner (node_of (w x)) leaf_is (subst (IsInner now) (sym zero) kept.tree.root_inner))
         (λ one. let at = ap now.key one ∙ kept.sentinels.first_key in let low = leaf_key form in omega (arith, at, low))
         (λ two. let at = ap now.key two ∙ kept.sentinels.last_key in let low = leaf_key form in omega (arith, at, low))
 
-    parent_unfixed : form_of x.thunk ≡ Delete → 8 ≤ x.at → x.at ≤ 15 → 3 ≤ (w x).last.from
+    pub parent_unfixed : form_of x.thunk ≡ Delete → 8 ≤ x.at → x.at ≤ 15 → 3 ≤ (w x).last.from
     parent_unfixed form at few = ⊎_elim
         (λ early. unfixed (w x).last.from
         (λ zero. no_root (found form at early) zero (w x).grand.side refl)

@@ -58,23 +58,23 @@ module _ (n : Nodes) (g : Covers) (d h : Bool) (a l t f : ℕ) (sh : SearchTree 
   f_not_t : f ≢ t
   f_not_t e = is.differ (sym e)
 
-  t_inner : IsInner n t
+  pub t_inner : IsInner n t
   t_inner = ⊎_elim (λ e. let q = ap (λ c. n.child c t) e ∙ is.new_side in omega arith) (λ e. let q = ap (λ c. n.child c t) e ∙ is.old_side in omega arith) (other_side true h)
 
-  inner_not_l : (s : ℕ) → IsInner n s → s ≢ l
+  pub inner_not_l : (s : ℕ) → IsInner n s → s ≢ l
   inner_not_l s inn e = let q = ap (n.child true) e in let leaf = is.old_leaf in omega arith
 
   inner_not_f : (s : ℕ) → IsInner n s → s ≢ f
   inner_not_f s inn e = let q = ap (n.child true) e in let leaf = is.new_leaf in omega arith
 
-  leaf_not_t : (s : ℕ) → IsLeaf n s → s ≢ t
+  pub leaf_not_t : (s : ℕ) → IsLeaf n s → s ≢ t
   leaf_not_t s leaf e = let q = ap (n.child true) e in let inner = t_inner in omega arith
 
   -- a linked node is the new inner node, the new leaf, the old leaf, or another that was linked
-  which : (s : ℕ) → after.linked s ≡ true → (s ≡ t) ⊎ (s ≡ f) ⊎ (s ≡ l) ⊎ ((g.linked s ≡ true) × (s ≢ f) × (s ≢ l) × (s ≢ t))
+  pub which : (s : ℕ) → after.linked s ≡ true → (s ≡ t) ⊎ (s ≡ f) ⊎ (s ≡ l) ⊎ ((g.linked s ≡ true) × (s ≢ f) × (s ≢ l) × (s ≢ t))
   which s i = dite (ℕ_discrete s t) inl (λ nt. inr (dite (ℕ_discrete s f) inl (λ nf. inr (dite (ℕ_discrete s l) inl (λ nl. inr (sym (thrice_other g.linked f l t s true true true nf nl nt) ∙ i, nf, nl, nt))))))
 
-  links : (s : ℕ) → (s ≡ t) ⊎ (s ≡ f) ⊎ (g.linked s ≡ true) → after.linked s ≡ true
+  pub links : (s : ℕ) → (s ≡ t) ⊎ (s ≡ f) ⊎ (g.linked s ≡ true) → after.linked s ≡ true
   links s how = dite (ℕ_discrete s t) (λ e. thrice_last g.linked f l t s true true true e) (λ nt. dite (ℕ_discrete s l) (λ e. thrice_mid g.linked f l t s true true true e nt)
       (λ nl. dite (ℕ_discrete s f) (λ e. thrice_first g.linked f l t s true true true e nl nt) (λ nf. thrice_other g.linked f l t s true true true nf nl nt ∙ ⊎_elim (λ e. absurd (nt e)) (⊎_elim (λ e. absurd (nf e)) (λ i. i)) how)))
 
@@ -105,13 +105,13 @@ module _ (n : Nodes) (g : Covers) (d h : Bool) (a l t f : ℕ) (sh : SearchTree 
   up_l : after.up l ≡ t
   up_l = thrice_mid g.up f l t l t t a refl l_not_t
 
-  lo_old : (s : ℕ) → s ≢ f → s ≢ l → s ≢ t → after.lo s ≡ g.lo s
+  pub lo_old : (s : ℕ) → s ≢ f → s ≢ l → s ≢ t → after.lo s ≡ g.lo s
   lo_old s nf nl nt = thrice_other g.lo f l t s (cond h (g.lo l) (n.key t)) (cond h (n.key t) (g.lo l)) (g.lo l) nf nl nt
 
-  hi_old : (s : ℕ) → s ≢ f → s ≢ l → s ≢ t → after.hi s ≡ g.hi s
+  pub hi_old : (s : ℕ) → s ≢ f → s ≢ l → s ≢ t → after.hi s ≡ g.hi s
   hi_old s nf nl nt = thrice_other g.hi f l t s (cond h (n.key t) (g.hi l)) (cond h (g.hi l) (n.key t)) (g.hi l) nf nl nt
 
-  up_old : (s : ℕ) → s ≢ f → s ≢ l → s ≢ t → after.up s ≡ g.up s
+  pub up_old : (s : ℕ) → s ≢ f → s ≢ l → s ≢ t → after.up s ≡ g.up s
   up_old s nf nl nt = thrice_other g.up f l t s t t a nf nl nt
 
   a_old : (a ≢ f) × (a ≢ l) × (a ≢ t)

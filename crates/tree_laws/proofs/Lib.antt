@@ -9,10 +9,30 @@ pub mod Insertion
 pub mod Views
 pub mod Planning
 pub mod Landed
-mod Found
+pub mod Found
 mod Open
 mod Gives
-mod Alike
-mod Turn
+pub mod Alike
+pub mod Turn
 mod TurnStores
 pub mod Shown
+mod Grown
+mod StoreChange
+pub mod Apart
+mod MarkStore
+pub mod Changed
+mod Inserting
+mod InsertStore
+mod Removing
+mod LinkStore
+mod KeepsStore
+pub mod KeepsFrame
+pub mod KeepsPass
+pub mod KeepsRead
+mod KeepsSlots
+mod KeepsMake
+mod KeepsRetire
+mod KeepsCollect
+mod TreeKeeps
+mod Sized
+pub mod TreeLaws

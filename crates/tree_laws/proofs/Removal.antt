@@ -7,10 +7,10 @@ use Rattle.section_body.specs.Update.{upd}
 use Rattle.structure_laws.proofs.Changes.{upd_same, upd_other}
 use Rattle.tree_laws.specs.Search.{Nodes, Covers, IsInner, IsLeaf, low, high, key_end, SearchTree, Contents, same_side, with_child, IsRemoval, grown, removed, RemovalKeeps}
 
-still : (f : ℕ → Bool) (p l s : ℕ) → upd (upd f p false) l false s ≡ true → (f s ≡ true) × (s ≢ p) × (s ≢ l)
+pub still : (f : ℕ → Bool) (p l s : ℕ) → upd (upd f p false) l false s ≡ true → (f s ≡ true) × (s ≢ p) × (s ≢ l)
 still f p l s h = (grind arith, λ e. grind arith, λ e. grind arith)
 
-remains : (f : ℕ → Bool) (p l s : ℕ) → f s ≡ true → s ≢ p → s ≢ l → upd (upd f p false) l false s ≡ true
+pub remains : (f : ℕ → Bool) (p l s : ℕ) → f s ≡ true → s ≢ p → s ≢ l → upd (upd f p false) l false s ≡ true
 remains f p l s h a b = grind arith
 
 grown_is : (f : ℕ → Bool) (bound : ℕ → ℕ) (m own p x : ℕ) → f x ≡ true → x ≢ p → ((bound x ≡ m) × (grown f bound m own p x ≡ own)) ⊎ ((bound x ≢ m) × (grown f bound m own p x ≡ bound x))
@@ -77,7 +77,7 @@ module _ (n : Nodes) (g : Covers) (d e : Bool) (a p b l : ℕ) (sh : SearchTree 
   p_up : g.up p ≡ a
   p_up = sh.child_up d a p is.above is.above_inner is.parent
 
-  b_linked : g.linked b ≡ true
+  pub b_linked : g.linked b ≡ true
   b_linked = sh.child_linked e p b p_linked is.parent_inner is.stays
 
   b_up : g.up b ≡ p
@@ -109,20 +109,20 @@ module _ (n : Nodes) (g : Covers) (d e : Bool) (a p b l : ℕ) (sh : SearchTree 
   l_part : ((g.lo l ≡ n.key p) × (g.hi l ≡ g.hi p)) ⊎ ((g.lo l ≡ g.lo p) × (g.hi l ≡ n.key p))
   l_part = ⊎_elim inr inl (part (not e) p l (sh.child_lo (not e) p l p_linked is.parent_inner is.goes) (sh.child_hi (not e) p l p_linked is.parent_inner is.goes))
 
-  a_not_p : a ≢ p
+  pub a_not_p : a ≢ p
   a_not_p q = let k = a_key in let h1 = ap g.lo q in let h2 = ap g.hi q in ⊎_elim (λ h. omega arith) (λ h. omega arith) p_part
 
-  b_not_p : b ≢ p
+  pub b_not_p : b ≢ p
   b_not_p q = let k = p_key in let h1 = ap g.lo q in let h2 = ap g.hi q in ⊎_elim (λ h. omega arith) (λ h. omega arith) b_part
 
-  b_not_l : b ≢ l
+  pub b_not_l : b ≢ l
   b_not_l q = by e is.stays is.goes (sh.child_lo e p b p_linked is.parent_inner is.stays) (sh.child_lo (not e) p l p_linked is.parent_inner is.goes)
     where
       by : (e : Bool) → n.child e p ≡ suc b → n.child (not e) p ≡ suc l → g.lo b ≡ low n g.lo e p → g.lo l ≡ low n g.lo (not e) p → ⊥
       by true x y lb ll = let k = p_key in let h = ap g.lo q in omega arith
       by false x y lb ll = let k = p_key in let h = ap g.lo q in omega arith
 
-  a_not_l : a ≢ l
+  pub a_not_l : a ≢ l
   a_not_l q = let h = ap (n.child true) q in let leaf = is.leaf in let inner = is.above_inner in omega arith
 
   key_not : (s : ℕ) → g.linked s ≡ true → IsInner n s → s ≢ p → n.key s ≢ n.key p

@@ -38,7 +38,7 @@ insert_stamp t j h = grind arith
 pub delete_stamp : (t : Thunk) (j : ℕ) → slice_get (delete_steps t) j ≡ Some Stamp → j ≡ 12
 delete_stamp t j h = grind arith
 
-none_is : (o : Option ℕ) → ((v : ℕ) → o ≡ Some v → ⊥) → o ≡ None
+pub none_is : (o : Option ℕ) → ((v : ℕ) → o ≡ Some v → ⊥) → o ≡ None
 none_is None f = refl
 none_is (Some v) f = absurd (f v refl)
 
@@ -59,7 +59,7 @@ module _ (pairs : Pairs) where
   pub gone : (key : ℕ) → get pairs key ≡ None → contains_key pairs key ≡ false
   gone key h = ap is_some h
 
-  reply_is : (op : Op) (w : Walk) (hit : Bool) → form_for op hit ≡ 11 → (hit ≡ true → (v : ℕ) × (get pairs (key_of op) ≡ Some v) × (is_del op ≡ false → v ≡ w.value))
+  pub reply_is : (op : Op) (w : Walk) (hit : Bool) → form_for op hit ≡ 11 → (hit ≡ true → (v : ℕ) × (get pairs (key_of op) ≡ Some v) × (is_del op ≡ false → v ≡ w.value))
       → (hit ≡ false → get pairs (key_of op) ≡ None) → reply_for op w hit ≡ word_of (reply_of pairs op)
   reply_is (Get key) w true form some none = let is = some refl in ap (λ o. word_of (found o)) (sym (is.1 ∙ ap Some (is.2 refl)))
   reply_is (Get key) w false form some none = ap (λ o. word_of (found o)) (sym (none refl))

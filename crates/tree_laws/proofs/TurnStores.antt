@@ -1,5 +1,5 @@
 -- The Stores of a section of the tree at its stamp lead to a memory that stands for the map after its operation.
-use Rattle.std.specs.Prelude.{◌==◌, ◌⊎◌, ◌-◌, ◌%◌, ◌^◌, not, nat_lt, cond, Bool, true, false, Some, None, if◌then◌else◌}
+use Rattle.std.specs.Prelude.{◌⊎◌, ◌%◌, ◌^◌, Bool, true, false, Some, None, if◌then◌else◌, slice_get}
 use Rattle.std.proofs.Common.{◌≡◌, ◌≢◌, ℕ, suc, ◌+◌, ◌*◌, ◌<◌, ◌≤◌, refl, sym, ap, ◌∙◌, subst, inl, inr, ⊎_elim, arith}
 use Rattle.std.proofs.Math.Path.{fun_ext}
 use Rattle.std.proofs.lemmas.Bool.{cases_eq}
@@ -11,8 +11,8 @@ use Rattle.map_history.specs.Replay.{Pairs, map_after}
 use Rattle.section_body.specs.Word.{value_of}
 use Rattle.section_body.specs.Update.{upd}
 use Rattle.section_body.specs.Bucket.{operand}
-use Rattle.section_body.specs.declared.value.Value.{Value}
 use Rattle.section_body.specs.declared.value.Value.TheVariants.{Of, Made}
+use Rattle.section_body.specs.declared.step.Step.{Step}
 use Rattle.section_body.specs.declared.step.Step.TheVariants.{Load, Stamp, Store}
 use Rattle.table_words.specs.declared.layout.Layout.{Layout}
 use Rattle.table_words.specs.Limits.{IsWithinLimits}
@@ -21,18 +21,22 @@ use Rattle.structure_laws.specs.Scene.{Cells, Section, Status, Free, Live, Scene
 use Rattle.structure_laws.specs.Sections.{IsStep}
 use Rattle.structure_laws.specs.InTurn.{StandsFor, AtStamp, AfterStores, InTurn}
 use Rattle.structure_laws.proofs.Changes.{upd_same, upd_other, equal_of, value-next_word, value_small}
+use Rattle.structure_laws.proofs.Limits.{links_small, value-small}
 use Rattle.bucket_laws.proofs.Maps.{get_removed, insert_map, remove_map}
-use Rattle.tree_bodies.specs.Tree.{key_cell, mark_of, child_of, Look, Insert, Delete, form_of, sibling_of}
-use Rattle.tree_laws.specs.Search.{Nodes, Covers, IsInner, IsLeaf, Contents, with_child, IsRemoval, RemovalKeeps, removed, AreOrdered, IsInsertion, InsertionKeeps, thrice, inserted, ViewsAgree}
+use Rattle.tree_bodies.specs.Tree.{key_cell, mark_of, child_of, Form, Look, Insert, Delete, form_of, body_of}
+use Rattle.tree_laws.specs.Search.{Nodes, Covers, IsInner, IsLeaf, Contents, with_child, RemovalKeeps, InsertionKeeps, thrice, ViewsAgree}
 use Rattle.tree_laws.specs.Walk.{Walk, node_of, form_for}
 use Rattle.tree_laws.specs.Leaves.{nodes, walk_of, IsFollowed, TreeStands, IsNewLeaf, IsNewInner, TreeKept, tree}
 use Rattle.tree_laws.specs.Landing.{HasLanded}
 use Rattle.tree_laws.proofs.Forms.{insert_load, delete_load, look_store, insert_store, delete_store}
-use Rattle.tree_laws.proofs.Insertion.{insertion_keeps}
-use Rattle.tree_laws.proofs.Removal.{split, removal_keeps}
 use Rattle.tree_laws.proofs.Views.{views_agree}
+use Rattle.tree_laws.proofs.Apart.{key_apart, mark_apart, key_no_mark, child_no_mark, mark_other}
+use Rattle.tree_laws.proofs.Changed.{changed_alike, other_child, changed_sentinels}
+use Rattle.tree_laws.proofs.Inserting as inserting
+use Rattle.tree_laws.proofs.Removal.{still, remains}
+use Rattle.tree_laws.proofs.Removing as removing
 use Rattle.tree_laws.proofs.Alike.{AreAlike, tree_alike, sentinels_alike, contents_alike, contents_same, inner_back}
-use Rattle.tree_laws.proofs.Turn.{keyed, look_stamp, insert_stamp, delete_stamp, contents, key_there, leaf_unfixed, there, found_is, missing_is, turn_answers}
+use Rattle.tree_laws.proofs.Turn.{look_stamp, insert_stamp, delete_stamp, contents, key_there, leaf_unfixed, there, found_is, missing_is, turn_answers}
 use Rattle.tree_laws.proofs.Gives.{first_load, fourth_load}
 use Rattle.tree_laws.proofs.Open as open_section
 
@@ -49,55 +53,18 @@ upd_true f x u e = ⊎_elim (λ same. upd_same f x u true same) (λ ne. upd_othe
 thrice_true : (f : ℕ → Bool) (x y z u : ℕ) → f u ≡ true → thrice f x true y true z true u ≡ true
 thrice_true f x y z u e = upd_true (upd (upd f x true) y true) z u (upd_true (upd f x true) y u (upd_true f x u e))
 
-thrice_cases : (f : ℕ → Bool) (x y z u : ℕ) → thrice f x true y true z true u ≡ true → (u ≡ z) ⊎ ((u ≡ y) ⊎ ((u ≡ x) ⊎ (f u ≡ true)))
+thrice_cases : (f : ℕ → Bool) (x y z u : ℕ) → thrice f x true y true z true u ≡ true
+    → (u ≡ z) ⊎ ((u ≡ y) ⊎ ((u ≡ x) ⊎ (f u ≡ true)))
 thrice_cases f x y z u e = ⊎_elim (λ same. inl same)
     (λ ne. ⊎_elim (λ same. inr (inl same))
     (λ ne'. ⊎_elim (λ same. inr (inr (inl same)))
-    (λ ne''. inr (inr (inr (sym (upd_other (upd (upd f x true) y true) z u true ne ∙ (upd_other (upd f x true) y u true ne' ∙ upd_other f x u true ne'')) ∙ e))))
+    (λ ne''. inr (inr (inr (sym (upd_other (upd (upd f x true) y true) z u true ne
+    ∙ (upd_other (upd f x true) y u true ne' ∙ upd_other f x u true ne'')) ∙ e))))
     (cases_eq u x)) (cases_eq u y)) (cases_eq u z)
 
--- links of nodes are different places
-child_apart : (b c : Bool) (t a : ℕ) → (b ≡ c → t ≢ a) → child_of b t ≢ child_of c a
-child_apart true true t a ne e = ne refl (let z : t ≡ a = omega (arith, e) in z)
-child_apart false false t a ne e = ne refl (let z : t ≡ a = omega (arith, e) in z)
-child_apart true false t a ne e = omega (arith, e)
-child_apart false true t a ne e = omega (arith, e)
-
-key_apart : (c : Bool) (t a : ℕ) → key_cell t ≢ child_of c a
-key_apart true t a e = omega (arith, e)
-key_apart false t a e = omega (arith, e)
-
-mark_apart : (c : Bool) (t a : ℕ) → mark_of t ≢ child_of c a
-mark_apart true t a e = omega (arith, e)
-mark_apart false t a e = omega (arith, e)
-
-key_no_mark : (t a : ℕ) → key_cell t ≢ mark_of a
-key_no_mark t a e = omega (arith, e)
-
-child_no_mark : (b : Bool) (t a : ℕ) → child_of b t ≢ mark_of a
-child_no_mark true t a e = omega (arith, e)
-child_no_mark false t a e = omega (arith, e)
-
-mark_other : (t a : ℕ) → t ≢ a → mark_of t ≢ mark_of a
-mark_other t a ne e = ne (let z : t ≡ a = omega (arith, e) in z)
-
--- the memory with one link of a node changed, and marks
-module _ (cells after : Cells) (side : Bool) (a word : ℕ) (keys : (t : ℕ) → after (key_cell t) ≡ cells (key_cell t))
-    (links : (b : Bool) (t : ℕ) → child_of b t ≢ child_of side a → after (child_of b t) ≡ cells (child_of b t)) (stored : value_of (after (child_of side a)) ≡ word) (c : Covers) where
-  changed_child : (b : Bool) (t : ℕ) → (nodes after).child b t ≡ (with_child (nodes cells) side a word).child b t
-  changed_child b t = ⊎_elim
-      (λ here. (λ i. value_of (after (child_of (here.0 i) (here.1 i)))) ∙ (stored ∙ sym here.2))
-      (λ there. ap value_of (links b t (child_apart b side t a there.0)) ∙ sym there.1)
-      (split (nodes cells).child side a word b t)
-
-  changed_alike : AreAlike (with_child (nodes cells) side a word) (nodes after) c
-  changed_alike = record { key = λ t on. ap value_of (keys t); child = λ b t on. changed_child b t }
-
-  pub other_child : (b : Bool) (t : ℕ) → (b ≡ side → t ≢ a) → (nodes after).child b t ≡ (nodes cells).child b t
-  other_child b t ne = ap value_of (links b t (child_apart b side t a ne))
-
 module _ (layout : Layout) (limits : IsWithinLimits layout) (s : Scene) (pairs : Pairs) (d : ℕ) (x : Section)
-    (before : StandsFor tree layout s pairs) (stamp : AtStamp tree s d x) (after : Cells) (stores : AfterStores tree x s.cells after) where
+    (before : StandsFor tree layout s pairs) (stamp : AtStamp tree s d x) (after : Cells)
+    (stores : AfterStores tree x s.cells after) where
   abbrev kept : TreeKept layout s
   kept = before.kept
 
@@ -112,6 +79,15 @@ module _ (layout : Layout) (limits : IsWithinLimits layout) (s : Scene) (pairs :
 
   abbrev Stands : Type 0
   Stands = TreeStands (slot_count layout 3) after (map_after pairs x.op)
+
+  -- a step of the body by its form, and back
+  step_as : (f : Form) → form_of x.thunk ≡ f → (j : ℕ) (step : Step) → IsStep tree x j step
+      → slice_get (body_of f x.thunk) j ≡ Some step
+  step_as = open_section.step_as layout s before.sound kept d x stamp.here
+
+  step_is : (f : Form) → form_of x.thunk ≡ f → (j : ℕ) (step : Step) → slice_get (body_of f x.thunk) j ≡ Some step
+      → IsStep tree x j step
+  step_is = open_section.step_is layout s before.sound kept d x stamp.here
 
   leaf_is : IsLeaf now (node_of w)
   leaf_is = open_section.leaf_is layout s before.sound kept d x stamp.here
@@ -140,9 +116,10 @@ module _ (layout : Layout) (limits : IsWithinLimits layout) (s : Scene) (pairs :
   -- one that changes nothing
   look_stands : form_of x.thunk ≡ Look → Stands
   look_stands form =
-      let at = look_stamp x.thunk x.at (open_section.step_as layout s before.sound kept d x stamp.here Look form x.at Stamp stamp.stamp) in
+      let at = look_stamp x.thunk x.at (step_as Look form x.at Stamp stamp.stamp) in
       let landed = open_section.look_landed layout s before.sound kept d x stamp.here form (omega (arith, at)) in
-      let same : s.cells ≡ after = fun_ext (λ p. sym (stores.same p (λ i j r v store load. look_store x.thunk i r v (open_section.step_as layout s before.sound kept d x stamp.here Look form i (Store r v) store)))) in
+      let same : s.cells ≡ after = fun_ext (λ p. sym (stores.same p
+      (λ i j r v store load. look_store x.thunk i r v (step_as Look form i (Store r v) store)))) in
       subst (λ cells. TreeStands (slot_count layout 3) cells (map_after pairs x.op)) same (record {
         covers = kept.covers;
         within = linked_within;
@@ -151,11 +128,16 @@ module _ (layout : Layout) (limits : IsWithinLimits layout) (s : Scene) (pairs :
         unmarked = unmarked;
         contents = contents_same now kept.covers (get pairs) (get (map_after pairs x.op)) map
             (unchanged x.op w.found (open_section.look_form_is layout s before.sound kept d x stamp.here form)
-            (λ hit. (now.child false (node_of w), found_is layout limits s pairs d x before stamp landed.node.linked hit))
-            (λ missed. missing_is layout limits s pairs d x before stamp landed.node.linked landed.node.lo landed.node.hi missed));
+            (λ hit. (
+              now.child false (node_of w),
+              found_is layout limits s pairs d x before stamp landed.node.linked hit,
+            ))
+            (λ missed. let on = landed.node in
+            missing_is layout limits s pairs d x before stamp on.linked on.lo on.hi missed));
       })
     where
-      unchanged : (op : Op) (hit : Bool) → form_for op hit ≡ 11 → (hit ≡ true → (v : ℕ) × (get pairs (key_of op) ≡ Some v)) → (hit ≡ false → get pairs (key_of op) ≡ None)
+      unchanged : (op : Op) (hit : Bool) → form_for op hit ≡ 11
+          → (hit ≡ true → (v : ℕ) × (get pairs (key_of op) ≡ Some v)) → (hit ≡ false → get pairs (key_of op) ≡ None)
           → (q : ℕ) → get pairs q ≡ get (map_after pairs op) q
       unchanged (Get key) hit form some none q = refl
       unchanged (Ins key value) true form some none q = let is = some refl in
@@ -165,34 +147,37 @@ module _ (layout : Layout) (limits : IsWithinLimits layout) (s : Scene) (pairs :
       unchanged (Del key) false form some none q = sym (get_removed pairs key q ∙ absent q key (none refl))
         where
           absent : (q key : ℕ) → get pairs key ≡ None → upd (get pairs) key None q ≡ get pairs q
-          absent q key h = ⊎_elim (λ e. upd_same (get pairs) key q None e ∙ (sym h ∙ ap (get pairs) (sym e))) (λ ne. upd_other (get pairs) key q None ne) (cases_eq q key)
-
-  -- what a followed link to the right says of the root: no request's key is there
-  not_root : (step : Bool) (a : ℕ) → (step ≡ false → now.key a ≤ key_of x.op) → false ≡ step → 0 ≡ a → ⊥
-  not_root step a right e zero = let at = right (sym e) in let root = ap now.key (sym zero) ∙ kept.sentinels.root_key in let small = low in omega (arith, at, root, small)
+          absent q key h = ⊎_elim (λ e. upd_same (get pairs) key q None e ∙ (sym h ∙ ap (get pairs) (sym e)))
+              (λ ne. upd_other (get pairs) key q None ne) (cases_eq q key)
 
   -- an insertion
   module _ (form : form_of x.thunk ≡ Insert) where
     at : x.at ≡ 7
-    at = insert_stamp x.thunk x.at (open_section.step_as layout s before.sound kept d x stamp.here Insert form x.at Stamp stamp.stamp)
+    at = insert_stamp x.thunk x.at (step_as Insert form x.at Stamp stamp.stamp)
+
+    abbrev past : 7 ≤ x.at
+    past = let e = at in omega (arith, e)
+
+    abbrev few : x.at ≤ 8
+    few = let e = at in omega (arith, e)
 
     landed : HasLanded kept.covers (key_of x.op) w
-    landed = open_section.insert_landed layout s before.sound kept d x stamp.here form (let e = at in omega (arith, e)) (let e = at in omega (arith, e))
+    landed = inserting.landed layout s before.sound kept d x stamp.here form past few
 
-    leaf : IsNewLeaf s kept.once x
-    leaf = kept.new_leaf d x stamp.here (form, (let e = at in omega (arith, e)), (let e = at in omega (arith, e)))
+    abbrev leaf : IsNewLeaf s kept.once x
+    leaf = inserting.leaf layout s before.sound kept d x stamp.here form past few
 
-    inner : IsNewInner s kept.once x
-    inner = kept.new_inner d x stamp.here (form, (let e = at in omega (arith, e)), (let e = at in omega (arith, e)))
+    abbrev inner : IsNewInner s kept.once x
+    inner = inserting.inner layout s before.sound kept d x stamp.here form past few
 
     is : open_section.IsInserting layout s before.sound kept d x stamp.here
-    is = open_section.insert_is_inserting layout s before.sound kept d x stamp.here form
+    is = inserting.is layout s before.sound kept d x stamp.here form past few
 
     plain : open_section.IsPlain layout s before.sound kept d x stamp.here
-    plain = open_section.insert_is_plain layout s before.sound kept d x stamp.here form
+    plain = inserting.plain layout s before.sound kept d x stamp.here form past few
 
     last : IsFollowed now kept.covers kept.once (key_of x.op) w.last
-    last = open_section.last_link layout s before.sound kept d x stamp.here
+    last = inserting.last layout s before.sound kept d x stamp.here form past few
 
     abbrev a : ℕ
     a = w.last.from
@@ -201,90 +186,42 @@ module _ (layout : Layout) (limits : IsWithinLimits layout) (s : Scene) (pairs :
     side = w.last.side
 
     abbrev h : Bool
-    h = nat_lt (operand x.thunk 3) (operand x.thunk 5)
-
-    no_once : (t : ℕ) → kept.once t ≡ false → kept.covers.linked t ≡ false
-    no_once t none = by (kept.covers.linked t) refl
-      where
-        by : (b : Bool) → kept.covers.linked t ≡ b → kept.covers.linked t ≡ false
-        by true on = absurd (true_false (kept.linked_once t on) none)
-        by false on = on
-
-    new_key : now.key leaf.slot ≡ key_of x.op
-    new_key = leaf.key ∙ (is.new_key ∙ sym (ap key_of is.op))
-
-    old_key : now.key (node_of w) ≡ operand x.thunk 5
-    old_key = open_section.leaf_key_is layout s before.sound kept d x stamp.here ∙ sym is.old_key
-
-    keys_differ : operand x.thunk 3 ≢ operand x.thunk 5
-    keys_differ same = true_false (eq_true w.key (key_of x.op) (sym is.old_key ∙ (sym same ∙ (is.new_key ∙ sym (ap key_of is.op))))) (sym (keyed layout limits s pairs d x before stamp) ∙ is.missing)
-      where
-        eq_true : (a b : ℕ) → a ≡ b → (a == b) ≡ true
-        eq_true a b e = grind arith
-
-    old_link : now.child side a ≡ suc (node_of w)
-    old_link =
-        let stands = ap value_of (open_section.insert_link layout s before.sound kept d x stamp.here form (let e = at in omega (arith, e)) (let e = at in omega (arith, e))) in
-        let some = last.some in
-        let z : value_of w.last.word ≡ suc (node_of w) = omega (arith, some) in stands ∙ z
-
-    insertion : IsInsertion now kept.covers side h a (node_of w) inner.slot leaf.slot
-    insertion = record {
-      above = landed.parent.linked;
-      above_inner = last.inner;
-      old = old_link;
-      old_leaf = leaf_is;
-      inner_out = no_once inner.slot inner.new;
-      leaf_out = no_once leaf.slot leaf.new;
-      differ = λ same. inner.other (inner.link ∙ (ap suc same ∙ sym leaf.link));
-      new_side = inner.new_side ∙ leaf.link;
-      old_side = inner.old_side ∙ (ap value_of plain.word ∙ (let some = last.some in let z : value_of w.last.word ≡ suc (node_of w) = omega (arith, some) in z));
-      new_leaf = leaf.leaf;
-      from = subst (λ k. kept.covers.lo (node_of w) ≤ k) (sym new_key) landed.node.lo;
-      before = subst (λ k. k < kept.covers.hi (node_of w)) (sym new_key) landed.node.hi;
-      ordered = ordered h refl;
-    }
-      where
-        low_of : (n k : ℕ) → nat_lt n k ≡ true → n < k
-        low_of n k e = grind arith
-
-        high_of : (n k : ℕ) → nat_lt n k ≡ false → n ≢ k → k < n
-        high_of n k e ne = grind arith
-
-        ordered : (b : Bool) → h ≡ b → AreOrdered b (now.key inner.slot) (now.key (node_of w)) (now.key leaf.slot)
-        ordered true e = (let less = low_of _ _ e in let new = leaf.key in let old = old_key in omega (arith, less, new, old), inner.key ∙ (ap (λ b. cond b (operand x.thunk 5) (operand x.thunk 3)) e ∙ sym old_key))
-        ordered false e = (let less = high_of _ _ e keys_differ in let new = leaf.key in let old = old_key in omega (arith, less, new, old), inner.key ∙ (ap (λ b. cond b (operand x.thunk 5) (operand x.thunk 3)) e ∙ sym leaf.key))
+    h = inserting.h layout s before.sound kept d x stamp.here form past few
 
     keeps : InsertionKeeps now kept.covers side h a (node_of w) inner.slot leaf.slot
-    keeps = insertion_keeps now kept.covers side h a (node_of w) inner.slot leaf.slot kept.tree insertion
+    keeps = inserting.insertion_kept layout s before.sound kept d x stamp.here form past few
 
     abbrev then_covers : Covers
-    then_covers = inserted now kept.covers h a (node_of w) inner.slot leaf.slot
+    then_covers = inserting.then_covers layout s before.sound kept d x stamp.here form past few
 
     -- the cells that it leaves
     same_cell : (p : ℕ) → p ≢ child_of side a → after p ≡ s.cells p
     same_cell p ne = stores.same p (λ i j r v store load.
-        let zero = (insert_store x.thunk i r v (open_section.step_as layout s before.sound kept d x stamp.here Insert form i (Store r v) store)).1 in
+        let zero = (insert_store x.thunk i r v (step_as Insert form i (Store r v) store)).1 in
         ⊎_elim (λ link. ne (link.2 ∙ plain.place)) (λ mark. let one = mark.1 in omega (arith, zero, one))
-        (insert_load x.thunk j p r (open_section.step_as layout s before.sound kept d x stamp.here Insert form j (Load p r) load)))
+        (insert_load x.thunk j p r (step_as Insert form j (Load p r) load)))
 
     stored : value_of (after (child_of side a)) ≡ suc inner.slot
     stored = ap (λ p. value_of (after p)) (sym plain.place)
-        ∙ (ap value_of (stores.changed 8 0 (operand x.thunk 0) 0 (Made 3) (open_section.step_is layout s before.sound kept d x stamp.here Insert form 8 (Store 0 (Made 3)) refl)
-        (open_section.step_is layout s before.sound kept d x stamp.here Insert form 0 (Load (operand x.thunk 0) 0) refl))
-        ∙ (value-next_word (x.reg 0) (value_of (x.reg 3)) (value_small (x.reg 3)) ∙ (ap value_of inner.link ∙ small (suc inner.slot) few)))
+        ∙ (ap value_of (stores.changed 8 0 (operand x.thunk 0) 0 (Made 3)
+        (step_is Insert form 8 (Store 0 (Made 3)) refl) (step_is Insert form 0 (Load (operand x.thunk 0) 0) refl))
+        ∙ (value-next_word (x.reg 0) (value_of (x.reg 3)) (value_small (x.reg 3))
+        ∙ (ap value_of inner.link ∙ value-small (suc inner.slot) narrow)))
       where
-        few : suc inner.slot < 2 ^ 32
-        few = let within = live_within inner.slot inner.live in let nodes = limits.few_nodes in let runners = limits.few_runners in omega (arith, within, nodes, runners)
+        narrow : suc inner.slot < 2 ^ 32
+        narrow = links_small layout 3 inner.slot limits (omega arith) (live_within inner.slot inner.live)
 
-        small : (n : ℕ) → n < 2 ^ 32 → value_of n ≡ n
-        small n low = omega (arith, low)
+    keys : (t : ℕ) → after (key_cell t) ≡ s.cells (key_cell t)
+    keys t = same_cell (key_cell t) (key_apart side t a)
+
+    links : (b : Bool) (t : ℕ) → child_of b t ≢ child_of side a → after (child_of b t) ≡ s.cells (child_of b t)
+    links b t ne = same_cell (child_of b t) ne
 
     then_alike : AreAlike (with_child now side a (suc inner.slot)) (nodes after) then_covers
-    then_alike = changed_alike s.cells after side a (suc inner.slot) (λ t. same_cell (key_cell t) (key_apart side t a)) (λ b t ne. same_cell (child_of b t) ne) stored then_covers
+    then_alike = changed_alike s.cells after side a (suc inner.slot) keys links stored then_covers
 
     then_child : (b : Bool) (t : ℕ) → (b ≡ side → t ≢ a) → (nodes after).child b t ≡ now.child b t
-    then_child = other_child s.cells after side a (suc inner.slot) (λ t. same_cell (key_cell t) (key_apart side t a)) (λ b t ne. same_cell (child_of b t) ne) stored then_covers
+    then_child = other_child s.cells after side a (suc inner.slot) keys links stored
 
     no_leaf : (t : ℕ) → IsLeaf now t → t ≢ a
     no_leaf t none same = leaf_no_inner a (subst (IsLeaf now) same none) last.inner
@@ -303,31 +240,31 @@ module _ (layout : Layout) (limits : IsWithinLimits layout) (s : Scene) (pairs :
       covers = then_covers;
       within = λ t on. ⊎_elim (λ e. subst (λ k. k < slot_count layout 3) (sym e) (live_within inner.slot inner.live))
           (⊎_elim (λ e. subst (λ k. k < slot_count layout 3) (sym e) (linked_within (node_of w) landed.node.linked))
-          (⊎_elim (λ e. subst (λ k. k < slot_count layout 3) (sym e) (live_within leaf.slot leaf.live)) (λ was. linked_within t was)))
+          (⊎_elim (λ e. subst (λ k. k < slot_count layout 3) (sym e) (live_within leaf.slot leaf.live))
+          (λ was. linked_within t was)))
           (thrice_cases kept.covers.linked leaf.slot (node_of w) inner.slot t on);
       tree = tree_alike (with_child now side a (suc inner.slot)) (nodes after) then_covers then_alike keeps.tree;
-      sentinels = record {
-        root_key = ap value_of (same_cell (key_cell 0) (key_apart side 0 a)) ∙ kept.sentinels.root_key;
-        root_right = then_child false 0 (λ e zero. not_root side a last.is_right e zero) ∙ kept.sentinels.root_right;
-        first = then_on 1 kept.sentinels.first;
-        first_leaf = then_child true 1 (λ e. no_leaf 1 kept.sentinels.first_leaf) ∙ kept.sentinels.first_leaf;
-        first_key = ap value_of (same_cell (key_cell 1) (key_apart side 1 a)) ∙ kept.sentinels.first_key;
-        last = then_on 2 kept.sentinels.last;
-        last_leaf = then_child true 2 (λ e. no_leaf 2 kept.sentinels.last_leaf) ∙ kept.sentinels.last_leaf;
-        last_key = ap value_of (same_cell (key_cell 2) (key_apart side 2 a)) ∙ kept.sentinels.last_key;
-      };
+      sentinels = changed_sentinels s.cells after side a (suc inner.slot) keys links stored last.inner (omega arith)
+          kept.covers then_covers kept.sentinels (then_on 1 kept.sentinels.first) (then_on 2 kept.sentinels.last)
+          (inserting.not_root layout s before.sound kept d x stamp.here form past few);
       unmarked = λ t on inner_then. ap value_of (same_cell (mark_of t) (mark_apart side t a)) ∙ ⊎_elim
           (λ e. ap now.mark e ∙ inner.unmarked)
           (⊎_elim (λ e. absurd (was_leaf t (subst (IsLeaf now) (sym e) leaf_is) inner_then))
           (⊎_elim (λ e. absurd (was_leaf t (subst (IsLeaf now) (sym e) leaf.leaf) inner_then))
           (λ was. unmarked t was (was_inner t inner_then))))
           (thrice_cases kept.covers.linked leaf.slot (node_of w) inner.slot t on);
-      contents = contents_same (nodes after) then_covers (upd (get pairs) (now.key leaf.slot) (Some (now.child false leaf.slot))) (get (map_after pairs x.op))
-          (contents_alike (with_child now side a (suc inner.slot)) (nodes after) then_covers then_alike _ (keeps.contents (get pairs) leaf_low map))
+      contents = contents_same (nodes after) then_covers
+          (upd (get pairs) (now.key leaf.slot) (Some (now.child false leaf.slot))) (get (map_after pairs x.op))
+          (contents_alike (with_child now side a (suc inner.slot)) (nodes after) then_covers then_alike _
+          (keeps.contents (get pairs) leaf_low map))
           (λ q. (λ i. upd (get pairs) (new_named i) (Some (value_named i)) q)
-          ∙ insert_map pairs x.op is.key is.value is.op (ap (get pairs) (sym (ap key_of is.op)) ∙ missing_is layout limits s pairs d x before stamp landed.node.linked landed.node.lo landed.node.hi is.missing) q);
+          ∙ insert_map pairs x.op is.key is.value is.op (ap (get pairs) (sym (ap key_of is.op)) ∙ none) q);
     }
       where
+        none : get pairs (key_of x.op) ≡ None
+        none = let on = landed.node in
+            missing_is layout limits s pairs d x before stamp on.linked on.lo on.hi is.missing
+
         new_named : now.key leaf.slot ≡ is.key
         new_named = leaf.key ∙ is.new_key
 
@@ -335,27 +272,32 @@ module _ (layout : Layout) (limits : IsWithinLimits layout) (s : Scene) (pairs :
         value_named = leaf.value ∙ is.new_value
 
         was_leaf : (t : ℕ) → IsLeaf now t → IsInner (nodes after) t → ⊥
-        was_leaf t none inner_then = leaf_no_inner t none (subst (λ k. 0 < k) (then_child true t (λ e. no_leaf t none)) inner_then)
+        was_leaf t none inner_then = leaf_no_inner t none
+            (subst (λ k. 0 < k) (then_child true t (λ e. no_leaf t none)) inner_then)
 
         was_inner : (t : ℕ) → IsInner (nodes after) t → IsInner now t
-        was_inner t inner_then = ⊎_elim (λ e. subst (IsInner now) (sym e) last.inner) (λ ne. subst (λ k. 0 < k) (then_child true t (λ e. ne)) inner_then) (cases_eq t a)
+        was_inner t inner_then = ⊎_elim (λ e. subst (IsInner now) (sym e) last.inner)
+            (λ ne. subst (λ k. 0 < k) (then_child true t (λ e. ne)) inner_then) (cases_eq t a)
 
   -- a removal
   module _ (form : form_of x.thunk ≡ Delete) where
     at_stamp : x.at ≡ 12
-    at_stamp = delete_stamp x.thunk x.at (open_section.step_as layout s before.sound kept d x stamp.here Delete form x.at Stamp stamp.stamp)
+    at_stamp = delete_stamp x.thunk x.at (step_as Delete form x.at Stamp stamp.stamp)
+
+    abbrev late : 8 ≤ x.at
+    late = let e = at_stamp in omega (arith, e)
+
+    abbrev early : x.at ≤ 14
+    early = let e = at_stamp in omega (arith, e)
 
     stands : open_section.HasFound layout s before.sound kept d x stamp.here
-    stands = open_section.delete_found layout s before.sound kept d x stamp.here form (let e = at_stamp in omega (arith, e)) (let e = at_stamp in omega (arith, e))
+    stands = removing.found layout s before.sound kept d x stamp.here form late early
 
-    removing : open_section.IsRemoving layout s before.sound kept d x stamp.here
-    removing = open_section.delete_is_removing layout s before.sound kept d x stamp.here form
+    is_removing : open_section.IsRemoving layout s before.sound kept d x stamp.here
+    is_removing = removing.removing layout s before.sound kept d x stamp.here form
 
     last_link : IsFollowed now kept.covers kept.once (key_of x.op) w.last
-    last_link = open_section.last_link layout s before.sound kept d x stamp.here
-
-    grand_link : IsFollowed now kept.covers kept.once (key_of x.op) w.grand
-    grand_link = open_section.grand_followed layout s before.sound kept d x stamp.here removing
+    last_link = removing.last layout s before.sound kept d x stamp.here form
 
     abbrev g : ℕ
     g = w.grand.from
@@ -366,90 +308,56 @@ module _ (layout : Layout) (limits : IsWithinLimits layout) (s : Scene) (pairs :
     abbrev p : ℕ
     p = w.last.from
 
-    leaf_there : now.child w.last.side p ≡ suc (node_of w)
-    leaf_there =
-        let link = ap value_of (open_section.leaf_link layout s before.sound kept d x stamp.here form (let e = at_stamp in omega (arith, e))) in
-        let some = last_link.some in
-        let z : value_of w.last.word ≡ suc (node_of w) = omega (arith, some) in link ∙ z
-
     abbrev b : ℕ
-    b = now.child (not w.last.side) p - 1
-
-    sibling_there : now.child (not w.last.side) p ≡ suc b
-    sibling_there = let some = kept.tree.child_some (not w.last.side) p stands.parent_linked last_link.inner in omega (arith, some)
-
-    removal : IsRemoval now kept.covers gside (not w.last.side) g p b (node_of w)
-    removal = record {
-      above = stands.grand_linked;
-      above_inner = stands.grand_inner;
-      parent = stands.grand_link;
-      parent_inner = last_link.inner;
-      stays = sibling_there;
-      goes = twice w.last.side leaf_there;
-      leaf = leaf_is;
-    }
-      where
-        twice : (c : Bool) → now.child c p ≡ suc (node_of w) → now.child (not (not c)) p ≡ suc (node_of w)
-        twice true e = e
-        twice false e = e
+    b = removing.b layout s before.sound kept d x stamp.here form
 
     gone_keeps : RemovalKeeps now kept.covers gside g p b (node_of w)
-    gone_keeps = removal_keeps now kept.covers gside (not w.last.side) g p b (node_of w) kept.tree removal
+    gone_keeps = removing.removal_kept layout s before.sound kept d x stamp.here form late early
 
     abbrev gone_covers : Covers
-    gone_covers = removed now kept.covers g p b (node_of w)
+    gone_covers = removing.then_covers layout s before.sound kept d x stamp.here form late early
 
     -- the cells that it leaves
     other_cell : (q : ℕ) → q ≢ child_of gside g → q ≢ mark_of p → after q ≡ s.cells q
     other_cell q ne ne' = stores.same q (λ i j r v store load.
-        let loads = delete_load x.thunk j q r (open_section.step_as layout s before.sound kept d x stamp.here Delete form j (Load q r) load) in
+        let loads = delete_load x.thunk j q r (step_as Delete form j (Load q r) load) in
         ⊎_elim
-        (λ mark. ne' (fourth_load x.thunk j q r mark.1 loads ∙ ap mark_of removing.parent))
-        (λ link. ne (first_load x.thunk j q r link.1 loads ∙ removing.place))
-        (delete_store x.thunk i r v (open_section.step_as layout s before.sound kept d x stamp.here Delete form i (Store r v) store)))
+        (λ mark. ne' (fourth_load x.thunk j q r mark.1 loads ∙ ap mark_of is_removing.parent))
+        (λ link. ne (first_load x.thunk j q r link.1 loads ∙ is_removing.place))
+        (delete_store x.thunk i r v (step_as Delete form i (Store r v) store)))
 
     gone_stored : value_of (after (child_of gside g)) ≡ suc b
-    gone_stored = ap (λ q. value_of (after q)) (sym removing.place)
-        ∙ (ap value_of (stores.changed 14 0 (operand x.thunk 0) 0 (Of 3) (open_section.step_is layout s before.sound kept d x stamp.here Delete form 14 (Store 0 (Of 3)) refl)
-        (open_section.step_is layout s before.sound kept d x stamp.here Delete form 0 (Load (operand x.thunk 0) 0) refl))
-        ∙ (value-next_word (x.reg 0) (value_of (x.reg 3)) (value_small (x.reg 3)) ∙ (ap value_of (sym read) ∙ (sibling_link ∙ sibling_there))))
+    gone_stored = ap (λ q. value_of (after q)) (sym is_removing.place)
+        ∙ (ap value_of (stores.changed 14 0 (operand x.thunk 0) 0 (Of 3)
+        (step_is Delete form 14 (Store 0 (Of 3)) refl) (step_is Delete form 0 (Load (operand x.thunk 0) 0) refl))
+        ∙ (value-next_word (x.reg 0) (value_of (x.reg 3)) (value_small (x.reg 3))
+        ∙ (ap value_of (sym (removing.sibling_read layout s before.sound kept d x stamp.here form read))
+        ∙ (removing.sibling_link layout s before.sound kept d x stamp.here form
+        ∙ removing.sibling_there layout s before.sound kept d x stamp.here form late early))))
       where
-        never : (i : ℕ) (u : Value) → IsStep tree x i (Store 3 u) → x.at ≤ i
-        never i u h = absurd (⊎_elim (λ mark. let e = mark.1 in omega (arith, e)) (λ link. let e = link.1 in omega (arith, e))
-            (delete_store x.thunk i 3 u (open_section.step_as layout s before.sound kept d x stamp.here Delete form i (Store 3 u) h)))
+        read : 9 ≤ x.at
+        read = let e = at_stamp in omega (arith, e)
 
-        read : s.cells (sibling_of x.thunk) ≡ x.reg 3
-        read = before.sound.loaded d x stamp.here 8 (sibling_of x.thunk) 3 (let e = at_stamp in omega (arith, e))
-            (open_section.step_is layout s before.sound kept d x stamp.here Delete form 8 (Load (sibling_of x.thunk) 3) refl) never
+    gone_keys : (t : ℕ) → after (key_cell t) ≡ s.cells (key_cell t)
+    gone_keys t = other_cell (key_cell t) (key_apart gside t g) (key_no_mark t p)
 
-        sibling_link : value_of (s.cells (sibling_of x.thunk)) ≡ now.child (not w.last.side) p
-        sibling_link = ap (λ q. value_of (s.cells q)) (open_section.sibling_place layout s before.sound kept d x stamp.here removing)
+    gone_links : (c : Bool) (t : ℕ) → child_of c t ≢ child_of gside g → after (child_of c t) ≡ s.cells (child_of c t)
+    gone_links c t ne = other_cell (child_of c t) ne (child_no_mark c t p)
 
     gone_alike : AreAlike (with_child now gside g (suc b)) (nodes after) gone_covers
-    gone_alike = changed_alike s.cells after gside g (suc b) (λ t. other_cell (key_cell t) (key_apart gside t g) (key_no_mark t p))
-        (λ c t ne. other_cell (child_of c t) ne (child_no_mark c t p)) gone_stored gone_covers
+    gone_alike = changed_alike s.cells after gside g (suc b) gone_keys gone_links gone_stored gone_covers
 
     gone_child : (c : Bool) (t : ℕ) → (c ≡ gside → t ≢ g) → (nodes after).child c t ≡ now.child c t
-    gone_child = other_child s.cells after gside g (suc b) (λ t. other_cell (key_cell t) (key_apart gside t g) (key_no_mark t p))
-        (λ c t ne. other_cell (child_of c t) ne (child_no_mark c t p)) gone_stored gone_covers
-
-    no_grand : (t : ℕ) → IsLeaf now t → t ≢ g
-    no_grand t none same = leaf_no_inner g (subst (IsLeaf now) same none) stands.grand_inner
+    gone_child = other_child s.cells after gside g (suc b) gone_keys gone_links gone_stored
 
     gone_on : (t : ℕ) → kept.covers.linked t ≡ true → t ≢ p → t ≢ node_of w → gone_covers.linked t ≡ true
-    gone_on t on ne ne' = upd_other (upd kept.covers.linked p false) (node_of w) t false ne' ∙ (upd_other kept.covers.linked p t false ne ∙ on)
+    gone_on t on ne ne' = remains kept.covers.linked p (node_of w) t on ne ne'
 
     was_on : (t : ℕ) → gone_covers.linked t ≡ true → (kept.covers.linked t ≡ true) × (t ≢ p)
-    was_on t on = ⊎_elim
-        (λ same. absurd (true_false on (upd_same (upd kept.covers.linked p false) (node_of w) t false same)))
-        (λ ne. ⊎_elim
-        (λ same. absurd (true_false on (upd_other (upd kept.covers.linked p false) (node_of w) t false ne ∙ upd_same kept.covers.linked p t false same)))
-        (λ ne'. (sym (upd_other (upd kept.covers.linked p false) (node_of w) t false ne ∙ upd_other kept.covers.linked p t false ne') ∙ on, ne'))
-        (cases_eq t p))
-        (cases_eq t (node_of w))
+    was_on t on = let was = still kept.covers.linked p (node_of w) t on in (was.0, was.1)
 
     leaf_low_gone : 3 ≤ node_of w
-    leaf_low_gone = leaf_unfixed layout limits s pairs d x before stamp removing.found
+    leaf_low_gone = leaf_unfixed layout limits s pairs d x before stamp is_removing.found
 
     no_fixed : (t : ℕ) → t < 3 → t ≢ node_of w
     no_fixed t few same = let high = leaf_low_gone in omega (arith, few, same, high)
@@ -462,25 +370,25 @@ module _ (layout : Layout) (limits : IsWithinLimits layout) (s : Scene) (pairs :
       covers = gone_covers;
       within = λ t on. linked_within t (was_on t on).0;
       tree = tree_alike (with_child now gside g (suc b)) (nodes after) gone_covers gone_alike gone_keeps.tree;
-      sentinels = record {
-        root_key = ap value_of (other_cell (key_cell 0) (key_apart gside 0 g) (key_no_mark 0 p)) ∙ kept.sentinels.root_key;
-        root_right = gone_child false 0 (λ e zero. not_root gside g grand_link.is_right e zero) ∙ kept.sentinels.root_right;
-        first = gone_on 1 kept.sentinels.first (no_parent 1 kept.sentinels.first_leaf) (no_fixed 1 (omega arith));
-        first_leaf = gone_child true 1 (λ e. no_grand 1 kept.sentinels.first_leaf) ∙ kept.sentinels.first_leaf;
-        first_key = ap value_of (other_cell (key_cell 1) (key_apart gside 1 g) (key_no_mark 1 p)) ∙ kept.sentinels.first_key;
-        last = gone_on 2 kept.sentinels.last (no_parent 2 kept.sentinels.last_leaf) (no_fixed 2 (omega arith));
-        last_leaf = gone_child true 2 (λ e. no_grand 2 kept.sentinels.last_leaf) ∙ kept.sentinels.last_leaf;
-        last_key = ap value_of (other_cell (key_cell 2) (key_apart gside 2 g) (key_no_mark 2 p)) ∙ kept.sentinels.last_key;
-      };
+      sentinels = changed_sentinels s.cells after gside g (suc b) gone_keys gone_links gone_stored stands.grand_inner
+          (omega arith) kept.covers gone_covers kept.sentinels
+          (gone_on 1 kept.sentinels.first (no_parent 1 kept.sentinels.first_leaf) (no_fixed 1 (omega arith)))
+          (gone_on 2 kept.sentinels.last (no_parent 2 kept.sentinels.last_leaf) (no_fixed 2 (omega arith)))
+          (removing.not_root layout s before.sound kept d x stamp.here form);
       unmarked = λ t on inner_then. let was = was_on t on in
-          ap value_of (other_cell (mark_of t) (mark_apart gside t g) (mark_other t p was.1)) ∙ unmarked t was.0 (was_inner t inner_then);
-      contents = contents_same (nodes after) gone_covers (upd (get pairs) (now.key (node_of w)) None) (get (map_after pairs x.op))
-          (contents_alike (with_child now gside g (suc b)) (nodes after) gone_covers gone_alike _ (gone_keeps.contents (get pairs) leaf_low_gone map))
-          (λ q. ap (λ k. upd (get pairs) k None q) (key_there layout limits s pairs d x before stamp removing.found) ∙ remove_map pairs x.op removing.del q);
+          ap value_of (other_cell (mark_of t) (mark_apart gside t g) (mark_other t p was.1))
+          ∙ unmarked t was.0 (was_inner t inner_then);
+      contents = contents_same (nodes after) gone_covers (upd (get pairs) (now.key (node_of w)) None)
+          (get (map_after pairs x.op))
+          (contents_alike (with_child now gside g (suc b)) (nodes after) gone_covers gone_alike _
+          (gone_keeps.contents (get pairs) leaf_low_gone map))
+          (λ q. ap (λ k. upd (get pairs) k None q) (key_there layout limits s pairs d x before stamp is_removing.found)
+          ∙ remove_map pairs x.op is_removing.del q);
     }
       where
         was_inner : (t : ℕ) → IsInner (nodes after) t → IsInner now t
-        was_inner t inner_then = ⊎_elim (λ e. subst (IsInner now) (sym e) stands.grand_inner) (λ ne. subst (λ k. 0 < k) (gone_child true t (λ e. ne)) inner_then) (cases_eq t g)
+        was_inner t inner_then = ⊎_elim (λ e. subst (IsInner now) (sym e) stands.grand_inner)
+            (λ ne. subst (λ k. 0 < k) (gone_child true t (λ e. ne)) inner_then) (cases_eq t g)
 
   pub turn_stores : Stands
   turn_stores = by (open_section.kind layout s before.sound kept d x stamp.here limits)
@@ -492,12 +400,14 @@ module _ (layout : Layout) (limits : IsWithinLimits layout) (s : Scene) (pairs :
 
 -- a change of cells of nodes that aren't linked, or of locks, leaves what the memory stands for
 module _ (layout : Layout) (s : Scene) (pairs : Pairs) (before : StandsFor tree layout s pairs) (after : Cells)
-    (same : (t : ℕ) → before.kept.covers.linked t ≡ true → (k : ℕ) → 1 ≤ k → k < 5 → after (0 + 5 * t + k) ≡ s.cells (0 + 5 * t + k)) where
+    (same : (t : ℕ) → before.kept.covers.linked t ≡ true → (k : ℕ) → 1 ≤ k → k < 5
+    → after (0 + 5 * t + k) ≡ s.cells (0 + 5 * t + k)) where
   abbrev old : Covers
   old = before.stands.covers
 
   linked_too : (t : ℕ) → old.linked t ≡ true → before.kept.covers.linked t ≡ true
-  linked_too t on = (views_agree (nodes s.cells) before.kept.covers old before.kept.tree before.stands.tree).linked t ∙ on
+  linked_too t on =
+      (views_agree (nodes s.cells) before.kept.covers old before.kept.tree before.stands.tree).linked t ∙ on
 
   alike : AreAlike (nodes s.cells) (nodes after) old
   alike = record {
@@ -525,10 +435,11 @@ tree_turns layout limits = record {
   answers = λ s pairs d x before stamp map j n h. turn_answers layout limits s pairs d x before stamp j n h;
   stores = λ s pairs d x before stamp after stores. turn_stores layout limits s pairs d x before stamp after stores;
   lock = λ s pairs p w before lock. still_stands layout s pairs before (upd s.cells p w)
-      (λ t on k low few. upd_other s.cells p (0 + 5 * t + k) w (λ e. lock_apart p t k low few (equal_of (p % 5) 0 lock) e));
+      (λ t on k low few. upd_other s.cells p (0 + 5 * t + k) w
+      (λ e. lock_apart p t k low few (equal_of (p % 5) 0 lock) e));
   hand = λ s pairs t i w before free few. still_stands layout s pairs before (upd s.cells (0 + 5 * t + i) w)
-      (λ u on k low few'. upd_other s.cells (0 + 5 * t + i) (0 + 5 * u + k) w (λ e. live_free (s.status u) (before.kept.linked_live u on)
-      (ap s.status (slot_same u t k i few' few e) ∙ free)));
+      (λ u on k low few'. upd_other s.cells (0 + 5 * t + i) (0 + 5 * u + k) w (λ e. live_free (s.status u)
+      (before.kept.linked_live u on) (ap s.status (slot_same u t k i few' few e) ∙ free)));
 }
   where
     lock_apart : (p t k : ℕ) → 1 ≤ k → k < 5 → p % 5 ≡ 0 → 0 + 5 * t + k ≡ p → ⊥

@@ -61,7 +61,7 @@ module _ (n : Nodes) (c c' : Covers) (tree : SearchTree n c) (tree' : SearchTree
       (λ some. from_parent s i some (descend depth (c.up s) (tree.up_linked s i some) (let less = narrower s i some in let differ = less.2 in omega arith)))
 
   -- a linked node's place isn't empty
-  some_key : (s : ℕ) → c.linked s ≡ true → c.lo s < c.hi s
+  pub some_key : (s : ℕ) → c.linked s ≡ true → c.lo s < c.hi s
   some_key s i = dite (ℕ_discrete (n.child true s) 0) (λ leaf. let k = tree.leaf_key s i leaf in omega arith) (λ inner. let k = tree.inner_key s i (omega arith) in omega arith)
 
   pub same_view : (s : ℕ) → c.linked s ≡ true → Same s

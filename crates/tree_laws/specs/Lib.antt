@@ -1,5 +1,4 @@
 pub mod Search
 pub mod Walk
 pub mod Leaves
-pub mod Planned
 pub mod Landing
