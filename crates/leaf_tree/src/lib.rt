@@ -1,0 +1,14 @@
+//! An external search tree with a lock per inner node.
+#![tactic(auto)]
+
+mod contents;
+mod plan;
+mod tree;
+mod walker;
+
+pub use tree::LeafTree;
+pub use walker::LeafWalk;
+
+// Passed on to the layers above, so that they needn't name these libraries themselves.
+pub use lock_walks;
+pub use lock_walks::{commit_log, epoch_slots, try_lock, version_words};

@@ -1,0 +1,44 @@
+//! Requests are planned on the search tree.
+ghost use Rattle.std.specs.Prelude.{◌≡◌, IfOk};
+ghost use Rattle.std.specs.FinMap.{entries};
+ghost use Rattle.map_history.specs.Replay.{Pairs};
+ghost use Rattle.tree_laws.specs.Leaves.{tree};
+ghost use Rattle.tree_laws.proofs.TreeLaws.{tree_plans};
+ghost use Rattle.lock_walks.specs.try_lock.specs.Contents.{StandFor, NamesNone};
+ghost use Rattle.leaf_tree.specs.Planned.{tree_planning};
+
+use crate::tree::LeafTree;
+use crate::walker::LeafWalk;
+use lock_walks::Planner;
+use lock_walks::version_words::Words;
+use map_history::Op;
+use std::alloc::{AllocError, Global};
+use table_words::Layout;
+
+impl Planner for LeafTree {
+    type Walk = LeafWalk;
+
+    ghost planning = { λ s. tree_planning };
+
+    fn serves(&self, op: Op) -> bool {
+        let _ = op;
+        true
+    }
+
+    fn walk(&self, layout: Layout, op: Op) -> LeafWalk {
+        LeafWalk {
+            walk: self.begin(layout, op),
+        }
+    }
+
+    fn contents(&self, alloc: Global, words: &Words<Self>) -> Result<Vec<(u32, u32)>, AllocError>
+        requires structure { self.now ≡ words.now.structure }
+        requires stand { (pairs : Pairs) × StandFor tree words.now pairs }
+        requires closed { NamesNone tree words.now }
+        ensures contents { IfOk result (λ items. (pairs : Pairs) → StandFor tree words.now pairs → items.items ≡ entries pairs) }
+    {
+        self.pairs(alloc, words)
+    }
+
+    ghost plans_lawfully = { λ s. tree_plans };
+}

@@ -1,0 +1,40 @@
+//! The walk of the tree leads a plan.
+ghost use Rattle.leaf_tree.specs.Planned.{tree_way};
+
+use lock_walks::Walker;
+use section_body::{Place, Thunk, Word};
+use tree_walks::TreeWalk;
+
+/// The walk of a key through the tree, as plans make it.
+#[derive(Drop)]
+pub struct LeafWalk {
+    pub(crate) walk: TreeWalk,
+}
+
+impl Walker for LeafWalk {
+    ghost way = { tree_way };
+
+    fn next_place(&self) -> Option<Place> {
+        self.walk.next_place()
+    }
+
+    fn feed(&mut self, word: Word) {
+        self.walk.feed(word);
+    }
+
+    fn is_refused(&self) -> bool {
+        self.walk.is_refused()
+    }
+
+    fn is_mark(&self, place: Place) -> bool {
+        place % 5 == 4
+    }
+
+    fn most(&self) -> u64 {
+        self.walk.most()
+    }
+
+    fn thunk(&self, number: u32) -> Thunk {
+        self.walk.thunk(number)
+    }
+}

@@ -1,0 +1,4 @@
+mod Walks
+mod Forms
+mod Filled
+mod Law

@@ -1,0 +1,5 @@
+mod Following
+mod Steps
+mod Knowing
+pub mod Leading
+mod Far

@@ -1,0 +1,14 @@
+//! The walk of a key through the search tree, load by load.
+//!
+//! `walk` has the walk, which loads nothing itself: it says which place it wants next, and goes on by the word that stood there. `stage` has
+//! what it loads next and the links that it has followed, and `thunk` the thunk for a whole walk. `laws` says that it leads a plan.
+#![tactic(auto)]
+
+mod laws;
+mod stage;
+mod thunk;
+mod walk;
+
+pub use laws::{far_walks_are_long, tree_walks_lead};
+pub use stage::{Link, Stage};
+pub use walk::TreeWalk;

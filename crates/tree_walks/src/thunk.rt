@@ -1,0 +1,148 @@
+//! The thunk for a whole walk.
+ghost use Rattle.std.specs.Prelude.{◌≡◌, ◌&&◌};
+ghost use Rattle.map_history.specs.Words.{word_of as reply_word};
+ghost use Rattle.bucket_laws.specs.Walk.{is_del, same_numbers};
+ghost use Rattle.tree_laws.specs.Walk.{form_for, word_for, operands_for, look_operands, insert_operands, delete_operands, fits_walk};
+ghost use Rattle.tree_walks.specs.Walking.{lock_by, thunk_by};
+
+use crate::stage::{Stage, cell};
+use crate::walk::TreeWalk;
+use map_history::{Op, Reply};
+use section_body::{Thunk, Word};
+
+impl TreeWalk {
+    /// Whether the section takes a leaf out.
+    fn removes(&self) -> bool
+        ensures { result ≡ (is_del self.now.op && self.now.walk.found) }
+    {
+        match self.op {
+            Op::Del(_) => self.found,
+            Op::Get(_) | Op::Ins(_, _) => false,
+        }
+    }
+
+    /// The place of the section's outer lock: of the parent, and for a removal of the parent's parent.
+    pub(crate) fn outer_lock(&self) -> u64
+        ensures { result ≡ lock_by self.now.op self.now.walk }
+    {
+        if self.removes() {
+            cell(self.grand.from, 0)
+        } else {
+            cell(self.last.from, 0)
+        }
+    }
+
+    /// The word of that lock.
+    fn outer_word(&self) -> Word
+        ensures { result ≡ word_for self.now.op self.now.walk self.now.walk.found }
+    {
+        if self.removes() {
+            self.grand_lock
+        } else {
+            self.lock
+        }
+    }
+
+    /// Whether the walk is whole and this is the thunk for it.
+    pub fn fits(&self, thunk: &Thunk) -> bool
+        ensures { result ≡ fits_walk self.now.op self.now.walk thunk.now }
+    {
+        self.stage == Stage::End
+            && thunk.form == self.form()
+            && u64::from(thunk.lock) == self.outer_lock()
+            && thunk.word == self.outer_word()
+            && are_same(&thunk.operands, &self.operands())
+    }
+
+    /// The thunk for the request with this number, once the walk is whole.
+    pub fn thunk(&self, number: u32) -> Thunk
+        ensures { result ≡ thunk_by self.now number }
+    {
+        Thunk {
+            form: self.form(),
+            request: number,
+            lock: u32::try_from(self.outer_lock()).unwrap_or(0),
+            word: self.outer_word(),
+            operands: self.operands(),
+        }
+    }
+
+    /// The form of the section's body: one that reads alone, that puts a leaf in, or that takes one out.
+    fn form(&self) -> u64
+        ensures { result ≡ form_for self.now.op self.now.walk.found }
+    {
+        match (self.op, self.found) {
+            (Op::Ins(_, _), false) => 12,
+            (Op::Del(_), true) => 13,
+            _ => 11,
+        }
+    }
+
+    /// The operands of the section's body.
+    fn operands(&self) -> [u64; 8]
+        ensures { result ≡ operands_for self.now.op self.now.walk self.now.walk.found }
+    {
+        match (self.op, self.found) {
+            (Op::Get(_), true) => self.look(Reply::Val(self.value)),
+            (Op::Ins(_, _), true) => self.look(Reply::Dup),
+            (Op::Ins(key, value), false) => self.insert(key, value),
+            (Op::Del(_), true) => self.remove(),
+            (Op::Get(_) | Op::Del(_), false) => self.look(Reply::Absent),
+        }
+    }
+
+    /// The operands of a body that reads alone.
+    fn look(&self, reply: Reply) -> [u64; 8]
+        ensures { result ≡ look_operands self.now.walk (reply_word reply) }
+    {
+        [
+            self.last.place(),
+            self.last.word.bits(),
+            self.mark.bits(),
+            reply.word(),
+            0,
+            0,
+            0,
+            0,
+        ]
+    }
+
+    /// The operands of a body that puts a leaf in.
+    fn insert(&self, key: u32, value: u32) -> [u64; 8]
+        ensures { result ≡ insert_operands self.now.walk key value }
+    {
+        [
+            self.last.place(),
+            self.last.word.bits(),
+            self.mark.bits(),
+            u64::from(key),
+            u64::from(value),
+            u64::from(self.key),
+            0,
+            0,
+        ]
+    }
+
+    /// The operands of a body that takes a leaf out.
+    fn remove(&self) -> [u64; 8]
+        ensures { result ≡ delete_operands self.now.walk }
+    {
+        [
+            self.grand.place(),
+            self.grand.word.bits(),
+            self.grand_mark.bits(),
+            self.lock.bits(),
+            self.last.place(),
+            self.last.word.bits(),
+            self.mark.bits(),
+            0,
+        ]
+    }
+}
+
+/// Whether these are the same operands.
+fn are_same(operands: &[u64; 8], others: &[u64; 8]) -> bool
+    ensures { result ≡ same_numbers operands.now others.now }
+{
+    operands == others
+}

@@ -1,0 +1,299 @@
+//! The walk of a key from the root to a leaf.
+ghost use Rattle.std.specs.Prelude.{◌≡◌, ◌<◌, ◌≤◌, ◌^◌, ◌==◌, ℕ, cond, Some};
+ghost use Rattle.section_body.specs.Word.{value_of};
+ghost use Rattle.bucket_laws.specs.Walk.{is_wanted};
+ghost use Rattle.tree_laws.specs.Walk.{AtRoot, AtKey, Refused, after_link, after_leaf, followed, is_ready};
+ghost use Rattle.tree_walks.specs.Walking.{stage_of, is_refused_of, begun, fed_by, followed_by, wanted_by, left_by};
+
+use crate::stage::{Link, Stage, cell};
+use map_history::Op;
+use section_body::{Place, Word};
+use std::marker::Model;
+
+/// How far the walk of an operation's key has come.
+#[derive(Drop)]
+pub struct TreeWalk {
+    pub(crate) limit: u128,
+    pub(crate) links: u128,
+    pub(crate) version_max: u32,
+    pub(crate) op: Op,
+    pub(crate) stage: Stage,
+    pub(crate) deep: bool,
+    pub(crate) found: bool,
+    pub(crate) grand: Link,
+    pub(crate) last: Link,
+    pub(crate) left: Word,
+    pub(crate) key: u32,
+    pub(crate) value: u32,
+    pub(crate) grand_lock: Word,
+    pub(crate) grand_mark: Word,
+    pub(crate) lock: Word,
+    pub(crate) mark: Word,
+}
+
+impl Model for TreeWalk {
+    ghost use Rattle.std.specs.Prelude.{◌≤◌};
+    ghost use Rattle.tree_walks.specs.Walking.{Walking, HasRoom, stage_of, step_of};
+
+    ghost Value = { Walking };
+
+    ghost view = { λ a. record {
+      bounds = record { links = a.limit; version_max = a.version_max };
+      op = a.op;
+      walk = record {
+        stage = stage_of a.stage;
+        links = a.links;
+        deep = a.deep;
+        grand = step_of a.grand;
+        last = step_of a.last;
+        left = a.left;
+        key = a.key;
+        value = a.value;
+        found = a.found;
+        grand_lock = a.grand_lock;
+        grand_mark = a.grand_mark;
+        lock = a.lock;
+        mark = a.mark;
+      };
+    } };
+
+    ghost invariant = { λ a. (a.limit ≤ 73786976294838206464) × HasRoom (stage_of a.stage) a.links a.limit };
+}
+
+impl TreeWalk {
+    /// A walk that has loaded nothing. It is refused at a link once it has loaded `limit` links, and at a free lock from which `version_max`
+    /// is less than two versions away.
+    pub fn new(op: Op, limit: u128, version_max: u32) -> TreeWalk
+        requires few { limit ≤ 73786976294838206464 }
+        ensures { result ≡ begun op limit version_max }
+    {
+        TreeWalk {
+            limit,
+            links: 0,
+            version_max,
+            op,
+            stage: Stage::Root,
+            deep: false,
+            found: false,
+            grand: Link::first(Word::from_bits(0)),
+            last: Link::first(Word::from_bits(0)),
+            left: Word::from_bits(0),
+            key: 0,
+            value: 0,
+            grand_lock: Word::from_bits(0),
+            grand_mark: Word::from_bits(0),
+            lock: Word::from_bits(0),
+            mark: Word::from_bits(0),
+        }
+    }
+
+    /// The place that the walk loads next; None where it is at its end or was refused.
+    fn wanted(&self) -> Option<u64>
+        ensures { result ≡ wanted_by self.now }
+    {
+        match self.stage {
+            Stage::Root => Some(2),
+            Stage::Left => Some(cell(self.last.to(), 2)),
+            Stage::Key => Some(cell(self.last.to(), 1)),
+            Stage::Right | Stage::Value => Some(cell(self.last.to(), 3)),
+            Stage::GrandLock => Some(cell(self.grand.from, 0)),
+            Stage::GrandMark => Some(cell(self.grand.from, 4)),
+            Stage::Lock => Some(cell(self.last.from, 0)),
+            Stage::Mark => Some(cell(self.last.from, 4)),
+            Stage::End | Stage::Refused => None,
+        }
+    }
+
+    /// The same, where it is the place of a cell.
+    pub fn next_place(&self) -> Option<Place>
+        requires small { (place : ℕ) → wanted_by self.now ≡ Some place → place < 2 ^ 32 }
+        ensures { result ≡ wanted_by self.now }
+    {
+        match self.wanted() {
+            Some(place) => Some(place as u32),
+            None => None,
+        }
+    }
+
+    /// Whether the walk loads this place next.
+    pub fn wants(&self, place: Place) -> bool
+        ensures { result ≡ is_wanted (wanted_by self.now) place }
+    {
+        match self.wanted() {
+            Some(wanted) => wanted == u64::from(place),
+            None => false,
+        }
+    }
+
+    /// Goes on by the word that stood at the place that the walk wanted.
+    pub fn feed(&mut self, word: Word)
+        ensures { self.new ≡ fed_by self.old word }
+    {
+        match self.stage {
+            Stage::Root => self.feed_root(word),
+            Stage::Left => {
+                self.left = word;
+                self.stage = Stage::Key;
+            }
+            Stage::Key => self.feed_key(word.value()),
+            Stage::Right => self.step_down(false, word),
+            Stage::Value => {
+                self.value = word.value();
+                self.stage = Stage::Lock;
+            }
+            Stage::GrandLock => {
+                self.grand_lock = word;
+                self.stage = self.past_lock(word, Stage::GrandMark);
+            }
+            Stage::GrandMark => {
+                self.grand_mark = word;
+                self.stage = past_mark(word, Stage::Lock);
+            }
+            Stage::Lock => {
+                self.lock = word;
+                self.stage = self.past_lock(word, Stage::Mark);
+            }
+            Stage::Mark => {
+                self.mark = word;
+                self.stage = past_mark(word, Stage::End);
+            }
+            Stage::End | Stage::Refused => {}
+        }
+    }
+
+    /// The walk in these readings: goes on by each one that it wants, up to the first that it doesn't want.
+    pub fn follow(self, readings: &[(Place, Word)]) -> TreeWalk
+        ensures { result ≡ followed_by self readings.now }
+    {
+        let mut walk = self;
+        for &(place, word) in readings {
+            if !walk.wants(place) {
+                return walk;
+            }
+            walk.feed(word);
+        }
+        walk
+    }
+
+    /// Goes on by the root's left link.
+    fn feed_root(&mut self, word: Word)
+        requires { self.old.walk.stage ≡ AtRoot }
+        ensures { self.new ≡ fed_by self.old word }
+    {
+        self.stage = self.past_link(1, word);
+        self.links = 1;
+        self.last = Link::first(word);
+    }
+
+    /// Goes on by the last node's key: at a leaf the walk along links ends, of an inner node the link on the key's side is followed.
+    fn feed_key(&mut self, key: u32)
+        requires { self.old.walk.stage ≡ AtKey }
+        ensures { self.new ≡ fed_by self.old key }
+    {
+        if self.left.value() == 0 {
+            self.key = key;
+            self.found = key == self.op.key();
+            self.stage = self.past_leaf();
+        } else if self.op.key() < key {
+            self.step_down(true, self.left);
+        } else {
+            self.key = key;
+            self.stage = Stage::Right;
+        }
+    }
+
+    /// Follows this link of the last node.
+    fn step_down(&mut self, left: bool, word: Word)
+        requires { self.old.walk.links < self.old.bounds.links }
+        ensures { self.new ≡ record self.old { walk = followed self.old.bounds self.old.walk left word } }
+    {
+        let links = self.links + 1;
+        self.stage = self.past_link(links, word);
+        self.links = links;
+        self.deep = true;
+        self.grand = self.last;
+        self.last = Link {
+            from: self.last.to(),
+            left,
+            word,
+        };
+    }
+
+    /// What comes after a link, where so many have been loaded.
+    fn past_link(&self, links: u128, word: Word) -> Stage
+        ensures { stage_of result ≡ after_link self.now.bounds links word }
+    {
+        if word.value() == 0 || self.limit <= links {
+            Stage::Refused
+        } else {
+            Stage::Left
+        }
+    }
+
+    /// What comes after a leaf's key: its value, where it is the operation's key and the leaf stays; or the locks. A removal needs a parent
+    /// of the parent.
+    fn past_leaf(&self) -> Stage
+        ensures { stage_of result ≡ after_leaf self.now.op self.now.walk.deep self.now.walk.found }
+    {
+        match (self.op, self.found) {
+            (_, false) => Stage::Lock,
+            (Op::Get(_) | Op::Ins(_, _), true) => Stage::Value,
+            (Op::Del(_), true) if self.deep => Stage::GrandLock,
+            (Op::Del(_), true) => Stage::Refused,
+        }
+    }
+
+    /// What comes after a lock: the walk goes on where it is free and not spent.
+    fn past_lock(&self, word: Word, next: Stage) -> Stage
+        ensures { stage_of result ≡ cond (is_ready self.now.bounds word) (stage_of next) Refused }
+    {
+        let spent = u64::from(word.version()) + 2 > u64::from(self.version_max);
+        if word.value() == 0 && !spent {
+            next
+        } else {
+            Stage::Refused
+        }
+    }
+
+    /// Whether the walk was refused.
+    pub fn is_refused(&self) -> bool
+        ensures { result ≡ is_refused_of self.now }
+    {
+        match self.stage {
+            Stage::Refused => true,
+            Stage::End => u32::try_from(self.outer_lock()).is_err(),
+            _ => false,
+        }
+    }
+
+    /// How many loads are left at most.
+    pub fn most(&self) -> u64
+        requires { left_by self.now < 2 ^ 64 }
+        ensures { result ≡ left_by self.now }
+    {
+        let left = self.limit.saturating_sub(self.links);
+        let most = match self.stage {
+            Stage::Root => 3 * self.limit + 4,
+            Stage::Left => 3 * left + 6,
+            Stage::Key => 3 * left + 5,
+            Stage::Right => 3 * left + 4,
+            Stage::GrandLock => 4,
+            Stage::Value | Stage::GrandMark => 3,
+            Stage::Lock => 2,
+            Stage::Mark => 1,
+            Stage::End | Stage::Refused => 0,
+        };
+        most as u64
+    }
+}
+
+/// What comes after a mark: the walk goes on where it is 0.
+fn past_mark(word: Word, next: Stage) -> Stage
+    ensures { stage_of result ≡ cond (value_of word == 0) (stage_of next) Refused }
+{
+    if word.value() == 0 {
+        next
+    } else {
+        Stage::Refused
+    }
+}
