@@ -1,0 +1,4 @@
+pub mod Bodies
+pub mod DirectLaws
+pub mod Fit
+pub mod Turn

@@ -1,0 +1,190 @@
+-- Sections of the direct table one after the other do what the map does.
+use Rattle.std.proofs.Common.{◌≡◌, ◌≢◌, ℕ, ◌+◌, ◌*◌, ◌<◌, ◌≤◌, Bool, true, false, cond, refl, sym, ap, ◌∙◌, subst, ⊎_elim, arith}
+use Rattle.std.specs.Prelude.{◌==◌, ◌&&◌, ◌^◌, ◌%◌, nat_lt, Option, Some, None, is_some, if◌then◌else◌}
+use Rattle.std.specs.FinMap.{get}
+use mathlib.Core.Logic.{dite}
+use native.Mathlib.Decide.{ℕ_discrete}
+use Rattle.map_history.specs.declared.op.Op.{Op}
+use Rattle.map_history.specs.declared.op.Op.TheVariants.{Get, Ins, Del}
+use Rattle.map_history.specs.Keys.{key_of}
+use Rattle.map_history.specs.Replay.{Pairs, reply_of, map_after}
+use Rattle.map_history.specs.Words.{word_of}
+use Rattle.section_body.specs.Bucket.{operand}
+use Rattle.section_body.specs.Update.{upd}
+use Rattle.section_body.specs.Word.{value_of, next_word}
+use Rattle.section_body.specs.declared.value.Value.{Value}
+use Rattle.section_body.specs.declared.value.Value.TheVariants.{Const}
+use Rattle.section_body.specs.declared.step.Step.{Step}
+use Rattle.section_body.specs.declared.thunk.Thunk.{Thunk}
+use Rattle.section_body.specs.declared.step.Step.TheVariants.{Load, Want, Stamp, Store, Answer}
+use Rattle.table_words.specs.declared.layout.Layout.{Layout}
+use Rattle.structure_laws.specs.Scene.{Cells, Section, Scene}
+use Rattle.structure_laws.specs.Sections.{IsAllowed, IsStep}
+use Rattle.structure_laws.specs.InTurn.{StandsFor, AtStamp, AfterStores, InTurn}
+use Rattle.structure_laws.proofs.Changes.{upd_same, upd_other, value-next_word, value_small, both_true, equal_of}
+use Rattle.structure_laws.proofs.Limits.{value-small}
+use Rattle.law_frames.specs.AtKey.{reply_at, left_at, changes_at}
+use Rattle.law_frames.proofs.AtKey.{replies, leaves, unchanged}
+use Rattle.law_frames.proofs.Numbers.{bool_cases, lt_of, lt_true}
+use Rattle.direct_laws.specs.Direct.{lock_of, flag_of, value_at, held, flag_for, value_for, held_in, direct}
+use Rattle.direct_laws.proofs.Bodies.{StepIs, load_in, store_in, stamp_in, answer_in}
+use Rattle.direct_laws.proofs.Fit.{Fit, fit_of, step_own, own_step}
+
+-- what a key has, has 32 bits
+held_small : (f w v : ℕ) → held f w ≡ Some v → v < 2 ^ 32
+held_small f w v h = by (value_of f == 1) h
+  where
+    by : (b : Bool) → cond b (Some (value_of w)) None ≡ Some v → v < 2 ^ 32
+    by true e = let same : value_of w ≡ v = cc in let small = value_small w in omega arith
+    by false e = absurd (cc)
+
+left_small : (op : Op) → IsAllowed op → (f w v : ℕ) → left_at (held f w) op ≡ Some v → v < 2 ^ 32
+left_small (Get key) allowed f w v h = held_small f w v h
+left_small (Ins key value) allowed f w v h = by (is_some (held f w)) h
+  where
+    by : (b : Bool) → (if b then held f w else Some value) ≡ Some v → v < 2 ^ 32
+    by true e = held_small f w v e
+    by false e = allowed.value v e
+left_small (Del key) allowed f w v h = absurd (cc)
+
+-- what is stored for a key that shall have this is read as this
+held_stored : (has : Option ℕ) (old older : ℕ) → ((v : ℕ) → has ≡ Some v → v < 2 ^ 32) → held (next_word old (value_of (flag_for has))) (next_word older (value_of (value_for has))) ≡ has
+held_stored None old older small = ap (λ n. cond (n == 1) (Some (value_of (next_word older (value_of 0)))) None) (value-next_word old (value_of 0) (value_small 0))
+held_stored (Some v) old older small =
+    ap (λ n. cond (n == 1) (Some (value_of (next_word older (value_of v)))) None) (value-next_word old (value_of 1) (value_small 1))
+    ∙ ap (λ n. Some n) (value-next_word older (value_of v) (value_small v) ∙ value-small v (small v refl))
+
+-- what a key has is the same in cells that are the same at its places
+held_same : (keys : ℕ) (cells others : Cells) (q : ℕ) → (q < keys → others (flag_of q) ≡ cells (flag_of q)) → (q < keys → others (value_at q) ≡ cells (value_at q)) → held_in keys cells q ≡ held_in keys others q
+held_same keys cells others q flag value = by (nat_lt q keys) refl
+  where
+    by : (b : Bool) → nat_lt q keys ≡ b → cond b (held (cells (flag_of q)) (cells (value_at q))) None ≡ cond b (held (others (flag_of q)) (others (value_at q))) None
+    by true e = let low = lt_of q keys e in (λ i. held (sym (flag low) i) (sym (value low) i))
+    by false e = refl
+
+-- the Stamp stands behind the Loads and Wants, and before the Stores
+late : (w : Bool) (at i : ℕ) → at ≡ cond w 6 4 → 7 ≤ i → at ≤ i
+late true at i is high = omega arith
+late false at i is high = omega arith
+
+soon : (w : Bool) (at : ℕ) → at ≡ cond w 6 4 → (cond w 3 2 < at) × (cond w 4 3 < at) × (1 < at)
+soon true at is = (omega arith, omega arith, omega arith)
+soon false at is = (omega arith, omega arith, omega arith)
+
+first_load : (w : Bool) (l : ℕ) (t : Thunk) → StepIs w l t 0 (Load (l + 1) 0)
+first_load true l t = refl
+first_load false l t = refl
+
+first_want : (w : Bool) (l : ℕ) (t : Thunk) → StepIs w l t 1 (Want 0 (operand t 0))
+first_want true l t = refl
+first_want false l t = refl
+
+second_load : (w : Bool) (l : ℕ) (t : Thunk) → StepIs w l t (cond w 3 2) (Load (l + 2) 1)
+second_load true l t = refl
+second_load false l t = refl
+
+second_want : (w : Bool) (l : ℕ) (t : Thunk) → StepIs w l t (cond w 4 3) (Want 1 (operand t 1))
+second_want true l t = refl
+second_want false l t = refl
+
+false_true : {b : Bool} → b ≡ false → b ≡ true → ⊥
+false_true e e' = cc
+
+module _ (keys : ℕ) (few : keys ≤ 4096) (layout : Layout) (s : Scene) (pairs : Pairs) (d : ℕ) (x : Section) (before : StandsFor (direct keys) layout s pairs) (stamp : AtStamp (direct keys) s d x) where
+  fit : Fit keys x.op x.readings x.thunk
+  fit = fit_of keys x.op x.readings x.thunk (before.sound.fits d x stamp.here)
+
+  abbrev key : ℕ
+  key = key_of x.op
+
+  abbrev has : Option ℕ
+  has = held (operand x.thunk 0) (operand x.thunk 1)
+
+  abbrev writes : Bool
+  writes = changes_at has x.op
+
+  step_there : (j : ℕ) (step : Step) → IsStep (direct keys) x j step → StepIs writes (lock_of key) x.thunk j step
+  step_there j step h = step_own keys few x.op x.readings x.thunk fit j step h
+
+  there_step : (j : ℕ) (step : Step) → StepIs writes (lock_of key) x.thunk j step → IsStep (direct keys) x j step
+  there_step j step h = own_step keys few x.op x.readings x.thunk fit j step h
+
+  at : x.at ≡ cond writes 6 4
+  at = stamp_in (lock_of key) x.thunk writes x.at (step_there x.at Stamp stamp.stamp)
+
+  -- none of its Stores is made
+  unstored : (i r : ℕ) (v : Value) → IsStep (direct keys) x i (Store r v) → x.at ≤ i
+  unstored i r v h = ⊎_elim (λ a. let seven = a.1 in late writes x.at i at (omega arith)) (λ b. let eight = b.1 in late writes x.at i at (omega arith))
+      (store_in (lock_of key) x.thunk writes i r v (step_there i (Store r v) h))
+
+  -- the key's cells hold the words that were read
+  flag_now : s.cells (flag_of key) ≡ operand x.thunk 0
+  flag_now = let by = soon writes x.at at in
+      before.sound.loaded d x stamp.here 0 (flag_of key) 0 (let one = by.2 in omega arith) (there_step 0 _ (first_load writes (lock_of key) x.thunk)) (λ i v h. unstored i 0 v h)
+      ∙ before.sound.wanted d x stamp.here 1 0 (operand x.thunk 0) by.2 (there_step 1 _ (first_want writes (lock_of key) x.thunk))
+
+  value_now : s.cells (value_at key) ≡ operand x.thunk 1
+  value_now = let by = soon writes x.at at in
+      before.sound.loaded d x stamp.here (cond writes 3 2) (value_at key) 1 by.0 (there_step (cond writes 3 2) _ (second_load writes (lock_of key) x.thunk)) (λ i v h. unstored i 1 v h)
+      ∙ before.sound.wanted d x stamp.here (cond writes 4 3) 1 (operand x.thunk 1) by.1 (there_step (cond writes 4 3) _ (second_want writes (lock_of key) x.thunk))
+
+  held_key : (cells : Cells) → held_in keys cells key ≡ held (cells (flag_of key)) (cells (value_at key))
+  held_key cells = ap (λ b. cond b (held (cells (flag_of key)) (cells (value_at key))) None) (lt_true key keys fit.low)
+
+  has_now : held_in keys s.cells key ≡ has
+  has_now = held_key s.cells ∙ (λ i. held (flag_now i) (value_now i))
+
+  looked : get pairs key ≡ has
+  looked = before.stands key ∙ has_now
+
+  answers : (j n : ℕ) → IsStep (direct keys) x j (Answer n) → n ≡ word_of (reply_of pairs x.op)
+  answers j n h = answer_in (lock_of key) x.thunk writes j n (step_there j (Answer n) h) ∙ (fit.reply ∙ sym (ap word_of (replies pairs x.op ∙ ap (λ o. reply_at o x.op) looked)))
+
+  module _ (after : Cells) (stores : AfterStores (direct keys) x s.cells after) where
+    -- the places of other keys keep their words
+    elsewhere : (p : ℕ) → p ≢ flag_of key → p ≢ value_at key → after p ≡ s.cells p
+    elsewhere p flag value = stores.same p (λ i j r v store load. ⊎_elim (λ a. flag a.2) (λ b. value b.2) (load_in (lock_of key) x.thunk writes j p r (step_there j (Load p r) load)))
+
+    other_key : (q : ℕ) → q ≢ key → held_in keys s.cells q ≡ held_in keys after q
+    other_key q ne = held_same keys s.cells after q
+        (λ low. elsewhere (flag_of q) (λ e. ne (omega (arith, e))) (λ e. omega (arith, e)))
+        (λ low. elsewhere (value_at q) (λ e. omega (arith, e)) (λ e. ne (omega (arith, e))))
+
+    -- the key has what the operation leaves it
+    own_key : held_in keys after key ≡ left_at has x.op
+    own_key = held_key after ∙ bool_cases writes wrote left
+      where
+        wrote : writes ≡ true → held (after (flag_of key)) (after (value_at key)) ≡ left_at has x.op
+        wrote e =
+            let flag = stores.changed 8 0 (flag_of key) 0 (Const (value_of (operand x.thunk 3))) (there_step 8 _ (subst (λ w. StepIs w (lock_of key) x.thunk 8 (Store 0 (Const (value_of (operand x.thunk 3))))) (sym e) refl))
+            (there_step 0 _ (first_load writes (lock_of key) x.thunk)) in
+            let value = stores.changed 7 (cond writes 3 2) (value_at key) 1 (Const (value_of (operand x.thunk 4))) (there_step 7 _ (subst (λ w. StepIs w (lock_of key) x.thunk 7 (Store 1 (Const (value_of (operand x.thunk 4))))) (sym e) refl))
+            (there_step (cond writes 3 2) _ (second_load writes (lock_of key) x.thunk)) in
+            (λ i. held (flag i) (value i))
+            ∙ ((λ i. held (next_word (x.reg 0) (value_of (fit.new_flag i))) (next_word (x.reg 1) (value_of (fit.new_value i))))
+            ∙ held_stored (left_at has x.op) (x.reg 0) (x.reg 1) (left_small x.op (before.sound.allowed d x stamp.here) (operand x.thunk 0) (operand x.thunk 1)))
+
+        none : writes ≡ false → (p : ℕ) → after p ≡ s.cells p
+        none e p = stores.same p (λ i j r v store load. ⊎_elim (λ a. false_true e a.0) (λ b. false_true e b.0) (store_in (lock_of key) x.thunk writes i r v (step_there i (Store r v) store)))
+
+        left : writes ≡ false → held (after (flag_of key)) (after (value_at key)) ≡ left_at has x.op
+        left e = (λ i. held (none e (flag_of key) i) (none e (value_at key) i)) ∙ ((λ i. held (flag_now i) (value_now i)) ∙ sym (unchanged has x.op e))
+
+    stands_after : (q : ℕ) → get (map_after pairs x.op) q ≡ held_in keys after q
+    stands_after q = leaves pairs x.op q ∙ dite (ℕ_discrete q key)
+        (λ e. upd_same (get pairs) key q (left_at (get pairs key) x.op) e ∙ (ap (λ o. left_at o x.op) looked ∙ (sym own_key ∙ ap (held_in keys after) (sym e))))
+        (λ ne. upd_other (get pairs) key q (left_at (get pairs key) x.op) ne ∙ (before.stands q ∙ other_key q ne))
+
+-- a lock is no flag and no value
+lock_apart : (keys p q r : ℕ) → (nat_lt p (3 * keys) && (p % 3 == 0)) ≡ true → 1 ≤ r → r ≤ 2 → 3 * q + r ≢ p
+lock_apart keys p q r lock low high e = let rest = equal_of (p % 3) 0 (both_true (nat_lt p (3 * keys)) (p % 3 == 0) lock).1 in omega (arith, rest, e, low, high)
+
+pub direct_in_turn : (keys : ℕ) → keys ≤ 4096 → (layout : Layout) → InTurn (direct keys) layout
+direct_in_turn keys few layout = record {
+  answers = λ s pairs d x before stamp map j n h. answers keys few layout s pairs d x before stamp j n h;
+  stores = λ s pairs d x before stamp after stores. stands_after keys few layout s pairs d x before stamp after stores;
+  lock = λ s pairs p w before lock q. before.stands q ∙ held_same keys s.cells (upd s.cells p w) q
+      (λ low. upd_other s.cells p (flag_of q) w (lock_apart keys p q 1 lock (omega arith) (omega arith))) (λ low. upd_other s.cells p (value_at q) w (lock_apart keys p q 2 lock (omega arith) (omega arith)));
+  hand = λ s pairs t i w before free small q. before.stands q ∙ held_same keys s.cells (upd s.cells (3 * keys + 5 * t + i) w) q
+      (λ low. upd_other s.cells (3 * keys + 5 * t + i) (flag_of q) w (λ e. omega (arith, e, low))) (λ low. upd_other s.cells (3 * keys + 5 * t + i) (value_at q) w (λ e. omega (arith, e, low)));
+}

@@ -1,0 +1,5 @@
+use Rattle.direct_laws.proofs.DirectLaws.{direct_plans}
+use Rattle.direct_laws.proofs.laws.direct_meets_the_planners_laws.Goals as goal
+
+pub returns : goal.returns
+returns c = direct_plans c.args.keys c.requires

@@ -1,0 +1,5 @@
+pub mod AtKey
+pub mod Listing
+pub mod Nodeless
+pub mod Numbers
+pub mod Shaping

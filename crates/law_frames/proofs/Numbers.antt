@@ -1,0 +1,54 @@
+-- What tests of numbers mean, places by their remainder, and pairs found in readings.
+use Rattle.std.proofs.Common.{◌≡◌, ◌≢◌, ℕ, zero, suc, ◌+◌, ◌*◌, ◌<◌, ◌≤◌, Bool, true, false, refl, ap, ◌∙◌, [], ◌∷◌, arith}
+use Rattle.std.specs.Prelude.{◌==◌, ◌&&◌, ◌||◌, ◌%◌, nat_lt, slice_get, Some}
+use Rattle.structure_laws.specs.Scene.{Readings}
+use Rattle.structure_laws.proofs.Changes.{equal_of, both_true, or_cases}
+use Rattle.std.specs.List.{list_any}
+
+pub bool_cases : {A : Type 0} → (b : Bool) → (b ≡ true → A) → (b ≡ false → A) → A
+bool_cases true f g = f refl
+bool_cases false f g = g refl
+
+pub lt_true : (a b : ℕ) → a < b → nat_lt a b ≡ true
+lt_true a b h = grind arith
+
+pub lt_false : (a b : ℕ) → b ≤ a → nat_lt a b ≡ false
+lt_false a b h = grind arith
+
+pub lt_of : (a b : ℕ) → nat_lt a b ≡ true → a < b
+lt_of a b h = grind arith
+
+pub eq_true : (a b : ℕ) → a ≡ b → (a == b) ≡ true
+eq_true a b h = grind arith
+
+pub eq_false : (a b : ℕ) → a ≢ b → (a == b) ≡ false
+eq_false a b h = grind arith
+
+pub third : (i r : ℕ) → r < 3 → (3 * i + r) % 3 ≡ r
+third i r h = omega arith
+
+-- a pair that is found in readings was read
+pub pair_read : (readings : Readings) (p w : ℕ) → list_any (λ reading. reading.0 == p && reading.1 == w) readings ≡ true → (k : ℕ) × (slice_get readings k ≡ Some (p, w))
+pair_read [] p w h = absurd (cc)
+pair_read (reading ∷ readings) p w h = or_cases (reading.0 == p && reading.1 == w) (list_any (λ x. x.0 == p && x.1 == w) readings) h
+    (λ a. let both = both_true _ _ a in (0, ap Some (λ i. (equal_of reading.0 p both.0 i, equal_of reading.1 w both.1 i))))
+    (λ b. let later = pair_read readings p w b in (suc later.0, later.1))
+
+-- and the other way
+pub read_pair : (readings : Readings) (p w k : ℕ) → slice_get readings k ≡ Some (p, w) → list_any (λ reading. reading.0 == p && reading.1 == w) readings ≡ true
+read_pair [] p w k h = absurd (cc)
+read_pair (reading ∷ readings) p w zero h = ap (λ b. b || list_any (λ x. x.0 == p && x.1 == w) readings) (here reading h)
+  where
+    self : (n : ℕ) → (n == n) ≡ true
+    self n = grind arith
+
+    here : (reading : ℕ × ℕ) → Some reading ≡ Some (p, w) → (reading.0 == p && reading.1 == w) ≡ true
+    here reading e = ap (λ (x : ℕ × ℕ). x.0 == p && x.1 == w) (some_same e) ∙ (λ i. self p i && self w i)
+      where
+        some_same : {x y : ℕ × ℕ} → Some x ≡ Some y → x ≡ y
+        some_same e = cc
+read_pair (reading ∷ readings) p w (suc k) h = ap (λ b. (reading.0 == p && reading.1 == w) || b) (read_pair readings p w k h) ∙ or_true (reading.0 == p && reading.1 == w)
+  where
+    or_true : (a : Bool) → (a || true) ≡ true
+    or_true true = refl
+    or_true false = refl
