@@ -1,0 +1,5 @@
+pub mod Alone
+pub mod Generated
+pub mod Orders
+pub mod Parts
+pub mod Sums
