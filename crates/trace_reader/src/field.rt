@@ -1,6 +1,6 @@
 // The fields of a line, and the numbers that they are.
-ghost use Rattle.std.specs.Prelude.{◌≡◌, ◌==◌, ℕ, ◌<◌, ◌≤◌, ◌^◌, ◌∷◌, [], IfNone, IfSome, length, min, not, position};
-ghost use Rattle.std.specs.Char.{is_ascii, is_ascii_digit};
+ghost use Rattle.std.specs.Prelude.{◌≡◌, ◌==◌, ℕ, ◌<◌, ◌≤◌, ◌^◌, ◌∷◌, [], IfNone, IfSome, OnSome, false, true, length, min, not, position};
+ghost use Rattle.std.specs.Char.{is_ascii};
 ghost use Rattle.std.specs.List.{list_all};
 ghost use Rattle.trace_reader.specs.Fields.{is_blank, is_comment, fields_in, is_number, value_of, content_of};
 
@@ -71,26 +71,23 @@ pub fn is_ascii(line: &[u8]) -> bool
     line.iter().all(|byte| byte.is_ascii())
 }
 
-/// One or more decimal digits.
-pub fn is_number(field: &[u8]) -> bool
-    ensures { result ≡ is_number field.now }
-{
-    !field.is_empty() && all_digits(field)
-}
-
-fn all_digits(field: &[u8]) -> bool
-    ensures { result ≡ list_all is_ascii_digit field.now }
-{
-    field.iter().all(|byte| byte.is_ascii_digit())
-}
-
-/// What digits stand for, or 2^32 where that is more.
-pub fn capped_value(digits: &[u8]) -> u64
-    ensures { result ≡ min (value_of digits.now) (2 ^ 32) }
+/// What a field of decimal digits stands for, or 2^32 where that is more. None where it isn't one or more digits.
+///
+/// One pass tests the digits and adds them up.
+pub fn number(field: &[u8]) -> Option<u64>
+    ensures none { IfNone result (is_number field.now ≡ false) }
+    ensures digits { OnSome result (is_number field.now ≡ true) }
+    ensures value { IfSome result (λ value. value ≡ min (value_of field.now) (2 ^ 32)) }
 {
     let mut value = 0;
-    for digit in digits {
-        value = (value * 10 + u64::from(digit.saturating_sub(b'0'))).min(1 << 32);
+    for byte in field {
+        if !byte.is_ascii_digit() {
+            return None;
+        }
+        value = (value * 10 + u64::from(byte - b'0')).min(1 << 32);
     }
-    value
+    if field.is_empty() {
+        return None;
+    }
+    Some(value)
 }

@@ -5,7 +5,7 @@ ghost use Rattle.trace_reader.specs.Fields.{fields_in, value_of};
 ghost use Rattle.trace_reader.specs.Line.{fault_of, fault_of_words, field, first_found, is_header, request_tests};
 ghost use Rattle.trace_reader.specs.Said.{Says, SaysWords};
 
-use crate::field::{capped_value, content, first_byte, first_field, is_ascii, is_number};
+use crate::field::{content, first_byte, first_field, is_ascii, number};
 use crate::limits::MAX_KEY;
 use crate::traces::BadLine;
 use map_history::Op;
@@ -107,28 +107,26 @@ fn read_key(rest: &[u8], begun: bool) -> Result<u32, BadLine>
     if first_field(rest).is_some() {
         return Err(BadLine::ExtraField);
     }
-    if !is_number(key) {
-        return Err(BadLine::BadNumber);
-    }
+    let key = number(key).ok_or(BadLine::BadNumber)?;
     key_in_range(key)
 }
 
-fn key_in_range(digits: &[u8]) -> Result<u32, BadLine>
-    ensures fault { IfErr result (λ kind. (kind ≡ BadLine.KeyTooLarge) × (4294967293 < value_of digits.now)) }
-    ensures key { IfOk result (λ key. (key ≡ value_of digits.now) × (key ≤ 4294967293)) }
+// A number is a key, or too large for one.
+fn key_in_range(value: u64) -> Result<u32, BadLine>
+    ensures fault { IfErr result (λ kind. (kind ≡ BadLine.KeyTooLarge) × (4294967293 < value)) }
+    ensures key { IfOk result (λ key. (key ≡ value) × (key ≤ 4294967293)) }
 {
-    let value = capped_value(digits);
     if value > u64::from(MAX_KEY) {
         return Err(BadLine::KeyTooLarge);
     }
     Ok(value as u32)
 }
 
-fn value_in_range(digits: &[u8]) -> Result<u32, BadLine>
-    ensures fault { IfErr result (λ kind. (kind ≡ BadLine.ValueTooLarge) × (4294967295 < value_of digits.now)) }
-    ensures value { IfOk result (λ value. value ≡ value_of digits.now) }
+// A number is a value, or too large for one.
+fn value_in_range(value: u64) -> Result<u32, BadLine>
+    ensures fault { IfErr result (λ kind. (kind ≡ BadLine.ValueTooLarge) × (4294967295 < value)) }
+    ensures value { IfOk result (λ found. found ≡ value) }
 {
-    let value = capped_value(digits);
     if value > u64::from(u32::MAX) {
         return Err(BadLine::ValueTooLarge);
     }
@@ -151,8 +149,7 @@ fn read_pair(rest: &[u8], begun: bool) -> Result<Line, BadLine>
     if first_field(rest).is_some() {
         return Err(BadLine::ExtraField);
     }
-    if !is_number(key) || !is_number(value) {
-        return Err(BadLine::BadNumber);
-    }
+    let key = number(key).ok_or(BadLine::BadNumber)?;
+    let value = number(value).ok_or(BadLine::BadNumber)?;
     Ok(Line::Ask(Op::Ins(key_in_range(key)?, value_in_range(value)?)))
 }
