@@ -6,9 +6,9 @@ use Rattle.map_history.specs.declared.op.Request.{Request}
 use Rattle.table_words.specs.declared.layout.Layout.{Layout}
 use Rattle.structure_laws.specs.Meaning.{Meaning}
 use Rattle.runner_parts.specs.Tests.{is_answered, are_answered}
-use Rattle.version_words.specs.RunnerState.{RunnerState}
-use Rattle.version_words.specs.TableState.{TableState, IsOf}
-use Rattle.epoch_slots.specs.Collects.{IsTidy}
+use Rattle.attempts.specs.version_words.specs.RunnerState.{RunnerState}
+use Rattle.attempts.specs.version_words.specs.TableState.{TableState, IsOf}
+use Rattle.attempts.specs.epoch_slots.specs.Collects.{IsTidy}
 use Rattle.hash_table.specs.Planned.{bucket_planning}
 use Rattle.attempts.specs.Attempts.{Answers, Attempts}
 use Rattle.attempts.specs.Course.{MayAttempt}

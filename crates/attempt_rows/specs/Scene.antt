@@ -2,9 +2,9 @@
 use Rattle.std.specs.Prelude.{◌≡◌, ℕ, List, [], ◌∷◌}
 use Rattle.map_history.specs.declared.op.Op.TheVariants.{Get, Ins}
 use Rattle.map_history.specs.declared.op.Request.{Request}
-use Rattle.version_words.specs.RunnerState.{RunnerState}
-use Rattle.version_words.specs.TableState.{TableState}
-use Rattle.epoch_slots.specs.Collects.{IsTidy}
+use Rattle.attempts.specs.version_words.specs.RunnerState.{RunnerState}
+use Rattle.attempts.specs.version_words.specs.TableState.{TableState}
+use Rattle.attempts.specs.epoch_slots.specs.Collects.{IsTidy}
 
 abbrev pub two_requests : List Request
 two_requests = record { trace = 0; number = 0; op = Ins 5 70 } ∷ record { trace = 1; number = 1; op = Get 5 } ∷ []

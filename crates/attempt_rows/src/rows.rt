@@ -1,9 +1,10 @@
 //! Tests.
-ghost use Rattle.version_words.specs.TableState.{IsOf};
+ghost use Rattle.attempts.specs.version_words.specs.TableState.{IsOf};
 ghost use Rattle.attempt_rows.specs.Scene.{IsScene, IsFresh};
 
 use crate::scene::{new_table, serve_first, serve_second, split};
 use attempts::Attempt;
+use attempts::version_words::{FlockTable, Runner};
 use hash_table::HashTable;
 use map_history::Reply;
 use runner_gate::{Free, Gates, HaltAt, Pause, Scripted, ScriptedGates};
@@ -11,7 +12,6 @@ use section_body::StepKind;
 use std::alloc::{AllocError, Global};
 use std::thread;
 use std::thread::Threads;
-use version_words::{FlockTable, Runner};
 
 /// Gates of a script in which the first worker waits inside its section, behind its publication, until the second one
 /// has published its own; and the second one, as it enters, until the first one has published.

@@ -1,17 +1,17 @@
 //! Two workers, and one request for each.
 ghost use Rattle.std.specs.Prelude.{◌≡◌, ◌+◌, ◌<◌, IfOk};
 ghost use Rattle.map_history.specs.declared.op.Op.TheVariants.{Get, Ins};
-ghost use Rattle.version_words.specs.TableState.{IsOf};
-ghost use Rattle.version_words.specs.Stages.{IsKeeper};
+ghost use Rattle.attempts.specs.version_words.specs.TableState.{IsOf};
+ghost use Rattle.attempts.specs.version_words.specs.Stages.{IsKeeper};
 ghost use Rattle.attempt_rows.specs.Scene.{IsScene, IsFresh};
 
+use attempts::version_words::{FlockTable, Runner};
 use attempts::{Attempt, attempt};
 use hash_table::HashTable;
 use map_history::{Op, Request};
 use section_body::{Gate, Steps};
 use std::alloc::{AllocError, Global};
 use table_words::Layout;
-use version_words::{FlockTable, Runner};
 
 /// The first worker's request: it adds a pair.
 pub fn added() -> Request

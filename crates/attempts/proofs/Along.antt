@@ -24,21 +24,21 @@ use Rattle.runner_parts.specs.Tests.{has_pair}
 use Rattle.runner_steps.specs.Sections.{thunk_of, line_of, setting_of, settles}
 use Rattle.runner_steps.specs.After.{line_after}
 use Rattle.machine_epochs.proofs.RunPlaces.{is_of_end, next_in_line}
-use Rattle.machine_agreement.proofs.LineKinds.{after_line}
-use Rattle.machine_invariant.specs.After.{AreAllowed}
+use Rattle.lock_walks.specs.machine_agreement.proofs.LineKinds.{after_line}
+use Rattle.lock_walks.specs.machine_invariant.specs.After.{AreAllowed}
 use Rattle.machine_states.specs.World.{seat_of}
 use Rattle.machine_states.specs.Reached.{Reached}
 use Rattle.machine_states.proofs.Steps.{some_same, none_some}
-use Rattle.next_steps.specs.Steps.{kind_at}
-use Rattle.version_words.specs.RunnerState.{RunnerState}
-use Rattle.version_words.specs.TableState.{TableState, IsOf}
-use Rattle.commit_log.specs.Runs.{IsRunning, Stepped, Ran}
-use Rattle.commit_log.proofs.Next.{next_here}
-use Rattle.section_runs.specs.Reached.{IsReached, run_or}
-use Rattle.section_runs.specs.Opened.{Learns, HasOpened, opening}
-use Rattle.section_runs.proofs.Going.{shaped}
-use Rattle.section_runs.proofs.Records.{noted_known}
-use Rattle.section_runs.proofs.Staying.{run_open, still_of, step_learns, step_stays, learns_more}
+use Rattle.lock_walks.specs.next_steps.specs.Steps.{kind_at}
+use Rattle.lock_walks.specs.version_words.specs.RunnerState.{RunnerState}
+use Rattle.lock_walks.specs.version_words.specs.TableState.{TableState, IsOf}
+use Rattle.lock_walks.specs.commit_log.specs.Runs.{IsRunning, Stepped, Ran}
+use Rattle.lock_walks.specs.commit_log.proofs.Next.{next_here}
+use Rattle.lock_walks.specs.section_runs.specs.Reached.{IsReached, run_or}
+use Rattle.lock_walks.specs.section_runs.specs.Opened.{Learns, HasOpened, opening}
+use Rattle.lock_walks.specs.section_runs.proofs.Going.{shaped}
+use Rattle.lock_walks.specs.section_runs.proofs.Records.{noted_known}
+use Rattle.lock_walks.specs.section_runs.proofs.Staying.{run_open, still_of, step_learns, step_stays, learns_more}
 use Rattle.attempts.specs.Learned.{StoodAtStamp, HasLearned}
 use Rattle.attempts.proofs.Knowing.{append_none}
 use Rattle.attempts.proofs.Placing.{tells, IsOn, is_on, quiet_known, cells_stay}

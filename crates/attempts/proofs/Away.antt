@@ -13,14 +13,14 @@ use Rattle.structure_laws.specs.Laws.{Laws}
 use Rattle.machine_states.specs.World.{World}
 use Rattle.machine_states.specs.Reached.{Reached}
 use Rattle.machine_states.specs.Sight.{sight}
-use Rattle.machine_invariant.specs.After.{AreAllowed}
-use Rattle.runner_facts.specs.Names.{NamesStand}
-use Rattle.version_words.specs.RunnerState.{RunnerState}
-use Rattle.version_words.specs.TableState.{TableState, IsOf}
-use Rattle.epoch_slots.specs.Entries.{HasLeave, Exits}
-use Rattle.commit_log.specs.Asked.{IsAsked}
-use Rattle.try_lock.specs.Reached.{MayHelp}
-use Rattle.try_lock.specs.Ends.{EndsSo, IsCutShort}
+use Rattle.lock_walks.specs.machine_invariant.specs.After.{AreAllowed}
+use Rattle.lock_walks.specs.runner_facts.specs.Names.{NamesStand}
+use Rattle.lock_walks.specs.version_words.specs.RunnerState.{RunnerState}
+use Rattle.lock_walks.specs.version_words.specs.TableState.{TableState, IsOf}
+use Rattle.lock_walks.specs.epoch_slots.specs.Entries.{HasLeave, Exits}
+use Rattle.lock_walks.specs.commit_log.specs.Asked.{IsAsked}
+use Rattle.lock_walks.specs.try_lock.specs.Reached.{MayHelp}
+use Rattle.lock_walks.specs.try_lock.specs.Ends.{EndsSo, IsCutShort}
 use Rattle.attempts.specs.Rests.{MayLeave, HasTurned}
 use Rattle.attempts.specs.declared.answers.Attempt.{Attempt}
 use Rattle.attempts.specs.declared.answers.Attempt.TheVariants as answers

@@ -17,16 +17,16 @@ use Rattle.runner_parts.specs.declared.entries.Published.{Published}
 use Rattle.runner_parts.specs.State.{NodesState, ReadsState}
 use Rattle.runner_parts.specs.Tests.{has, is_answered}
 use Rattle.runner_steps.specs.AfterOutside.{retire_after}
-use Rattle.machine_invariant.specs.After.{AreAllowed}
-use Rattle.version_words.specs.RunnerState.{RunnerState}
-use Rattle.version_words.specs.TableState.{TableState, IsOf}
-use Rattle.epoch_slots.specs.Entries.{HasLeave}
-use Rattle.epoch_slots.proofs.Outside.{reads_made}
-use Rattle.commit_log.proofs.Asked.{asked_none}
-use Rattle.try_lock.specs.declared.section.Section.{Section}
-use Rattle.try_lock.specs.Planning.{Planning}
-use Rattle.try_lock.specs.Reached.{IsReached}
-use Rattle.try_lock.specs.Retires.{IsOver, HasRetired}
+use Rattle.lock_walks.specs.machine_invariant.specs.After.{AreAllowed}
+use Rattle.lock_walks.specs.version_words.specs.RunnerState.{RunnerState}
+use Rattle.lock_walks.specs.version_words.specs.TableState.{TableState, IsOf}
+use Rattle.lock_walks.specs.epoch_slots.specs.Entries.{HasLeave}
+use Rattle.lock_walks.specs.epoch_slots.proofs.Outside.{reads_made}
+use Rattle.lock_walks.specs.commit_log.proofs.Asked.{asked_none}
+use Rattle.lock_walks.specs.try_lock.specs.declared.section.Section.{Section}
+use Rattle.lock_walks.specs.try_lock.specs.Planning.{Planning}
+use Rattle.lock_walks.specs.try_lock.specs.Reached.{IsReached}
+use Rattle.lock_walks.specs.try_lock.specs.Retires.{IsOver, HasRetired}
 use Rattle.attempts.specs.Knowing.{KnowsMore, IsStill, IsOwn}
 use Rattle.attempts.specs.Course.{of_outcome, IsEmptyHanded, HasPublished, HasEnded, HasRun, SectionHasLeft}
 use Rattle.attempts.specs.Attempts.{IsServed}

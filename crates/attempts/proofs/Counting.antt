@@ -2,8 +2,8 @@
 use Rattle.std.specs.Prelude.{min, ◌^◌, Bool, true, false}
 use Rattle.std.proofs.Common.{◌≡◌, ℕ, ◌+◌, ◌-◌, ◌≤◌, refl, ap, ◌∙◌, subst, arith}
 use Rattle.fault_count.specs.Rose.{Rose}
-use Rattle.commit_log.specs.Asked.{counted_on, IsAsked}
-use Rattle.commit_log.proofs.Asked.{counted_more}
+use Rattle.lock_walks.specs.commit_log.specs.Asked.{counted_on, IsAsked}
+use Rattle.lock_walks.specs.commit_log.proofs.Asked.{counted_more}
 use Rattle.attempts.specs.Counted.{IsCounted}
 
 -- steps, with an ask after each

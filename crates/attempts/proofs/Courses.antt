@@ -18,17 +18,17 @@ use Rattle.runner_parts.specs.State.{ReadsState}
 use Rattle.runner_parts.specs.Tests.{has_pair, is_next, is_open, serves}
 use Rattle.runner_steps.specs.Outside.{is_due}
 use Rattle.runner_steps.specs.AfterOutside.{published_by}
-use Rattle.version_words.specs.RunnerState.{RunnerState}
-use Rattle.version_words.specs.Stages.{IsAt}
-use Rattle.epoch_slots.specs.Entries.{HasLeave}
-use Rattle.try_lock.specs.declared.section.Section.{Section}
-use Rattle.try_lock.specs.declared.planned.Planned.{Planned}
-use Rattle.try_lock.specs.declared.planned.Planned.TheVariants as plans
-use Rattle.try_lock.specs.Planning.{Planning}
-use Rattle.try_lock.specs.Plans.{reads_walked}
-use Rattle.try_lock.specs.Publishes.{MayPublish, IsPublished, IsRefused}
-use Rattle.try_lock.specs.Reached.{MayRunSection, MayHelp}
-use Rattle.try_lock.specs.Retires.{IsOver}
+use Rattle.lock_walks.specs.version_words.specs.RunnerState.{RunnerState}
+use Rattle.lock_walks.specs.version_words.specs.Stages.{IsAt}
+use Rattle.lock_walks.specs.epoch_slots.specs.Entries.{HasLeave}
+use Rattle.lock_walks.specs.try_lock.specs.declared.section.Section.{Section}
+use Rattle.lock_walks.specs.try_lock.specs.declared.planned.Planned.{Planned}
+use Rattle.lock_walks.specs.try_lock.specs.declared.planned.Planned.TheVariants as plans
+use Rattle.lock_walks.specs.try_lock.specs.Planning.{Planning}
+use Rattle.lock_walks.specs.try_lock.specs.Plans.{reads_walked}
+use Rattle.lock_walks.specs.try_lock.specs.Publishes.{MayPublish, IsPublished, IsRefused}
+use Rattle.lock_walks.specs.try_lock.specs.Reached.{MayRunSection, MayHelp}
+use Rattle.lock_walks.specs.try_lock.specs.Retires.{IsOver}
 use Rattle.attempts.specs.Course.{of_refusal, HasPlanned, HasTried, HasEnded}
 use Rattle.attempts.specs.Rests.{MayLeave}
 use Rattle.attempts.specs.declared.answers.Attempt.TheVariants as answers

@@ -13,16 +13,16 @@ use Rattle.runner_parts.specs.declared.entries.Published.{Published}
 use Rattle.runner_parts.specs.State.{PartState}
 use Rattle.machine_states.specs.Sight.{Sight, sight, part_or_first}
 use Rattle.machine_epochs.specs.Slots.{thunk_in}
-use Rattle.machine_agreement.proofs.RunPlaces.{opened_thunk}
-use Rattle.machine_invariant.specs.After.{AreAllowed}
-use Rattle.machine_facts.specs.After.{AreFactsAfter}
-use Rattle.machine_facts.proofs.Following.{facts_after}
-use Rattle.version_words.specs.RunnerState.{RunnerState}
-use Rattle.version_words.specs.TableState.{TableState, IsOf}
-use Rattle.commit_log.specs.Asked.{IsAsked}
-use Rattle.try_lock.specs.declared.section.Section.{Section}
-use Rattle.try_lock.specs.Planning.{Planning}
-use Rattle.try_lock.specs.Ends.{EndsSo, IsCutShort}
+use Rattle.lock_walks.specs.machine_agreement.proofs.RunPlaces.{opened_thunk}
+use Rattle.lock_walks.specs.machine_invariant.specs.After.{AreAllowed}
+use Rattle.lock_walks.specs.machine_facts.specs.After.{AreFactsAfter}
+use Rattle.lock_walks.specs.machine_facts.proofs.Following.{facts_after}
+use Rattle.lock_walks.specs.version_words.specs.RunnerState.{RunnerState}
+use Rattle.lock_walks.specs.version_words.specs.TableState.{TableState, IsOf}
+use Rattle.lock_walks.specs.commit_log.specs.Asked.{IsAsked}
+use Rattle.lock_walks.specs.try_lock.specs.declared.section.Section.{Section}
+use Rattle.lock_walks.specs.try_lock.specs.Planning.{Planning}
+use Rattle.lock_walks.specs.try_lock.specs.Ends.{EndsSo, IsCutShort}
 use Rattle.attempts.specs.Knowing.{LearnsNoOther}
 use Rattle.attempts.specs.Learned.{StoodAtStamp, IsCut}
 use Rattle.attempts.specs.Course.{HasTried, HasEnded}

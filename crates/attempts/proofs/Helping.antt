@@ -11,10 +11,10 @@ use Rattle.runner_parts.specs.declared.entries.Known.{Known}
 use Rattle.runner_parts.specs.State.{PartState}
 use Rattle.runner_parts.specs.Tests.{is_answered}
 use Rattle.machine_states.specs.Sight.{sight, part_or_first}
-use Rattle.machine_invariant.specs.After.{AreAllowed}
-use Rattle.machine_records.specs.Requests.{or_none, requests_of}
-use Rattle.machine_records.specs.Kept.{link_of}
-use Rattle.version_words.specs.RunnerState.{RunnerState}
+use Rattle.lock_walks.specs.machine_invariant.specs.After.{AreAllowed}
+use Rattle.lock_walks.specs.machine_records.specs.Requests.{or_none, requests_of}
+use Rattle.lock_walks.specs.machine_records.specs.Kept.{link_of}
+use Rattle.lock_walks.specs.version_words.specs.RunnerState.{RunnerState}
 use Rattle.attempts.specs.Learned.{StoodAtStamp, HasLearned}
 use Rattle.request_facts.specs.Laws.{CallersStand}
 use Rattle.request_facts.proofs.Standing.{callers_stand}

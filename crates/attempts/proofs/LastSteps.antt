@@ -23,17 +23,17 @@ use Rattle.runner_parts.specs.State.{RunState, PartState, FinishedState}
 use Rattle.runner_parts.specs.Tests.{knows, is_answered}
 use Rattle.runner_steps.specs.AfterInRun.{ended_more}
 use Rattle.runner_steps.specs.Sections.{thunk_of, line_of, setting_of, outcome_of, outcome_or, reply_in}
-use Rattle.machine_agreement.proofs.Passes.{resting}
-use Rattle.machine_invariant.specs.After.{AreAllowed}
-use Rattle.machine_records.specs.Told.{IsTold}
-use Rattle.machine_records.proofs.Reached.{reached_told}
+use Rattle.lock_walks.specs.machine_agreement.proofs.Passes.{resting}
+use Rattle.lock_walks.specs.machine_invariant.specs.After.{AreAllowed}
+use Rattle.lock_walks.specs.machine_records.specs.Told.{IsTold}
+use Rattle.lock_walks.specs.machine_records.proofs.Reached.{reached_told}
 use Rattle.machine_states.specs.Sight.{sight, part_or_first}
 use Rattle.machine_states.proofs.Steps.{some_same, none_some}
-use Rattle.version_words.specs.RunnerState.{RunnerState}
-use Rattle.version_words.specs.TableState.{TableState, IsOf}
-use Rattle.commit_log.specs.Runs.{Stepped}
-use Rattle.section_runs.proofs.Going.{shaped}
-use Rattle.section_runs.proofs.Replies.{last_answer}
+use Rattle.lock_walks.specs.version_words.specs.RunnerState.{RunnerState}
+use Rattle.lock_walks.specs.version_words.specs.TableState.{TableState, IsOf}
+use Rattle.lock_walks.specs.commit_log.specs.Runs.{Stepped}
+use Rattle.lock_walks.specs.section_runs.proofs.Going.{shaped}
+use Rattle.lock_walks.specs.section_runs.proofs.Replies.{last_answer}
 use Rattle.attempts.proofs.Knowing.{append_none}
 use Rattle.attempts.proofs.Along.{HasStamp, stamp_of, IsAlong, IsTelling, step_quiet}
 

@@ -18,15 +18,15 @@ use Rattle.runner_steps.specs.AfterInRun.{over_if}
 use Rattle.machine_states.specs.World.{World}
 use Rattle.machine_states.specs.Reached.{Reached}
 use Rattle.machine_states.specs.Sight.{sight, part_or_first}
-use Rattle.machine_invariant.specs.After.{AreAllowed}
-use Rattle.runner_facts.specs.Names.{NamesStand}
-use Rattle.version_words.specs.RunnerState.{RunnerState}
-use Rattle.version_words.specs.Stages.{IsAt}
-use Rattle.epoch_slots.specs.Collects.{IsTidy}
-use Rattle.epoch_slots.specs.Entries.{HasLeave, Exits}
-use Rattle.commit_log.specs.Asked.{IsAsked}
-use Rattle.commit_log.proofs.Asked.{asked_none}
-use Rattle.try_lock.specs.Ends.{EndsSo}
+use Rattle.lock_walks.specs.machine_invariant.specs.After.{AreAllowed}
+use Rattle.lock_walks.specs.runner_facts.specs.Names.{NamesStand}
+use Rattle.lock_walks.specs.version_words.specs.RunnerState.{RunnerState}
+use Rattle.lock_walks.specs.version_words.specs.Stages.{IsAt}
+use Rattle.lock_walks.specs.epoch_slots.specs.Collects.{IsTidy}
+use Rattle.lock_walks.specs.epoch_slots.specs.Entries.{HasLeave, Exits}
+use Rattle.lock_walks.specs.commit_log.specs.Asked.{IsAsked}
+use Rattle.lock_walks.specs.commit_log.proofs.Asked.{asked_none}
+use Rattle.lock_walks.specs.try_lock.specs.Ends.{EndsSo}
 use Rattle.attempts.specs.Learned.{HasLearned, IsCut}
 use Rattle.attempts.specs.Knowing.{KnowsMore}
 use Rattle.attempts.specs.Course.{IsEmptyHanded, HasHelped, IsOfHelped}

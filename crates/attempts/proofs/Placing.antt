@@ -16,10 +16,10 @@ use Rattle.runner_steps.specs.Sections.{line_of, next_of, settles}
 use Rattle.runner_steps.specs.AfterInRun as inside
 use Rattle.runner_steps.specs.AfterInRun.{ended_more}
 use Rattle.runner_steps.specs.After.{line_after}
-use Rattle.machine_agreement.proofs.Passes.{ahead, settled_rests}
+use Rattle.lock_walks.specs.machine_agreement.proofs.Passes.{ahead, settled_rests}
 use Rattle.machine_states.proofs.Steps.{some_same, none_some}
-use Rattle.next_steps.specs.Steps.{slot_in, kind_at}
-use Rattle.next_steps.specs.Stages.{filling_slot, run_behind, reads_behind}
+use Rattle.lock_walks.specs.next_steps.specs.Steps.{slot_in, kind_at}
+use Rattle.lock_walks.specs.next_steps.specs.Stages.{filling_slot, run_behind, reads_behind}
 
 -- the step writes to the stamp word or to the reply word of its request
 abbrev pub tells : Micro → Bool

@@ -3,10 +3,10 @@ use Rattle.std.proofs.Common.{◌≡◌, ℕ, ◌≤◌, length, sym, ap, ◌∙
 use Rattle.map_history.specs.declared.op.Request.{Request}
 use Rattle.structure_laws.specs.Meaning.{Meaning}
 use Rattle.runner_parts.specs.State.{NodesState, DescriptorsState}
-use Rattle.version_words.specs.RunnerState.{RunnerState}
-use Rattle.try_lock.specs.declared.planned.Planned.{Planned}
-use Rattle.try_lock.specs.Planning.{Planning}
-use Rattle.try_lock.specs.Plans as plan
+use Rattle.lock_walks.specs.version_words.specs.RunnerState.{RunnerState}
+use Rattle.lock_walks.specs.try_lock.specs.declared.planned.Planned.{Planned}
+use Rattle.lock_walks.specs.try_lock.specs.Planning.{Planning}
+use Rattle.lock_walks.specs.try_lock.specs.Plans as plan
 use Rattle.attempts.specs.Course.{HasEntered, HasPlanned}
 
 -- what the plan says, as a part of the course

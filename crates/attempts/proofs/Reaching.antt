@@ -3,11 +3,11 @@ use Rattle.std.specs.Prelude.{Bool, true, false}
 use Rattle.std.proofs.Common.{ℕ, ◌+◌, List, [], ◌∷◌, sym, subst}
 use Rattle.structure_laws.specs.Meaning.{Meaning}
 use Rattle.runner_parts.specs.declared.event.EventKind.{EventKind}
-use Rattle.version_words.specs.RunnerState.{RunnerState}
-use Rattle.version_words.specs.Events.{Makes}
-use Rattle.epoch_slots.specs.Collects.{Scans, Looks, AreTested, Advances, Collects}
-use Rattle.epoch_slots.specs.Entries.{Enters, Exits}
-use Rattle.try_lock.specs.Reached.{IsReached}
+use Rattle.lock_walks.specs.version_words.specs.RunnerState.{RunnerState}
+use Rattle.lock_walks.specs.version_words.specs.Events.{Makes}
+use Rattle.lock_walks.specs.epoch_slots.specs.Collects.{Scans, Looks, AreTested, Advances, Collects}
+use Rattle.lock_walks.specs.epoch_slots.specs.Entries.{Enters, Exits}
+use Rattle.lock_walks.specs.try_lock.specs.Reached.{IsReached}
 
 module _ {T : Type 0} (m : Meaning) where
   pub made_reached : (kind : EventKind) (found : ℕ) (old new : RunnerState T) → Makes m kind found old new → IsReached m new

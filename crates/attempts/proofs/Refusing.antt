@@ -17,10 +17,10 @@ use Rattle.runner_parts.specs.Lists.{named_by}
 use Rattle.runner_parts.specs.Tests.{has}
 use Rattle.runner_steps.specs.Sections.{setting_of}
 use Rattle.machine_states.proofs.Steps.{some_same, none_some}
-use Rattle.try_lock.specs.declared.planned.Planned.{Planned}
-use Rattle.try_lock.specs.declared.planned.Planned.TheVariants as plans
-use Rattle.try_lock.specs.Planning.{Planning}
-use Rattle.try_lock.specs.Plans as plan
+use Rattle.lock_walks.specs.try_lock.specs.declared.planned.Planned.{Planned}
+use Rattle.lock_walks.specs.try_lock.specs.declared.planned.Planned.TheVariants as plans
+use Rattle.lock_walks.specs.try_lock.specs.Planning.{Planning}
+use Rattle.lock_walks.specs.try_lock.specs.Plans as plan
 use Rattle.attempts.specs.Course.{of_plan, of_outcome}
 use Rattle.attempts.specs.Attempts.{is_refusal}
 use Rattle.attempts.specs.declared.answers.Attempt.TheVariants as answers

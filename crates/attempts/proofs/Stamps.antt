@@ -19,19 +19,19 @@ use Rattle.runner_steps.specs.AfterInRun.{over_if}
 use Rattle.runner_steps.specs.AfterOutside.{published_by}
 use Rattle.runner_steps.specs.Outside.{entry_spot}
 use Rattle.machine_states.specs.Sight.{Sight, sight, part_or_first}
-use Rattle.machine_invariant.specs.After.{AreAllowed}
-use Rattle.machine_facts.specs.Known.{KnownStand}
-use Rattle.machine_facts.proofs.Following.{facts_after}
-use Rattle.machine_records.proofs.First as first
-use Rattle.machine_records.proofs.First.{entry_of}
-use Rattle.reached_histories.specs.History.{IsPlaced}
-use Rattle.reached_histories.specs.Laws.{HasHistory}
-use Rattle.reached_histories.proofs.Histories.{reached_have}
-use Rattle.version_words.specs.RunnerState.{RunnerState}
-use Rattle.version_words.specs.TableState.{TableState, IsOf}
-use Rattle.try_lock.specs.declared.section.Section.{Section}
-use Rattle.try_lock.specs.Planning.{Planning}
-use Rattle.try_lock.specs.Reached.{IsReached}
+use Rattle.lock_walks.specs.machine_invariant.specs.After.{AreAllowed}
+use Rattle.lock_walks.specs.machine_facts.specs.Known.{KnownStand}
+use Rattle.lock_walks.specs.machine_facts.proofs.Following.{facts_after}
+use Rattle.lock_walks.specs.machine_records.proofs.First as first
+use Rattle.lock_walks.specs.machine_records.proofs.First.{entry_of}
+use Rattle.lock_walks.specs.reached_histories.specs.History.{IsPlaced}
+use Rattle.lock_walks.specs.reached_histories.specs.Laws.{HasHistory}
+use Rattle.lock_walks.specs.reached_histories.proofs.Histories.{reached_have}
+use Rattle.lock_walks.specs.version_words.specs.RunnerState.{RunnerState}
+use Rattle.lock_walks.specs.version_words.specs.TableState.{TableState, IsOf}
+use Rattle.lock_walks.specs.try_lock.specs.declared.section.Section.{Section}
+use Rattle.lock_walks.specs.try_lock.specs.Planning.{Planning}
+use Rattle.lock_walks.specs.try_lock.specs.Reached.{IsReached}
 use Rattle.request_facts.specs.Laws.{HasEntry}
 use Rattle.attempts.specs.Knowing.{IsFront, KnowsMore}
 use Rattle.attempts.specs.Course.{HasEnded}

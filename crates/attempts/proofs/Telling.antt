@@ -15,14 +15,14 @@ use Rattle.runner_steps.specs.AfterInRun.{ended_more, over_if, finished_of}
 use Rattle.runner_steps.specs.Sections.{thunk_of, outcome_of}
 use Rattle.machine_states.specs.Sight.{sight}
 use Rattle.machine_states.proofs.Steps.{none_some}
-use Rattle.machine_invariant.specs.After.{AreAllowed}
-use Rattle.machine_invariant.specs.Sections.{IsAnswered, IsLeft}
-use Rattle.version_words.specs.RunnerState.{RunnerState}
-use Rattle.version_words.specs.TableState.{TableState, IsOf}
-use Rattle.commit_log.specs.Runs.{Ran, Stepped}
-use Rattle.section_runs.specs.Opened.{IsOpening}
-use Rattle.section_runs.proofs.Staying.{step_stays}
-use Rattle.try_lock.specs.Ends.{EndsSo, RanShort, IsCutShort}
+use Rattle.lock_walks.specs.machine_invariant.specs.After.{AreAllowed}
+use Rattle.lock_walks.specs.machine_invariant.specs.Sections.{IsAnswered, IsLeft}
+use Rattle.lock_walks.specs.version_words.specs.RunnerState.{RunnerState}
+use Rattle.lock_walks.specs.version_words.specs.TableState.{TableState, IsOf}
+use Rattle.lock_walks.specs.commit_log.specs.Runs.{Ran, Stepped}
+use Rattle.lock_walks.specs.section_runs.specs.Opened.{IsOpening}
+use Rattle.lock_walks.specs.section_runs.proofs.Staying.{step_stays}
+use Rattle.lock_walks.specs.try_lock.specs.Ends.{EndsSo, RanShort, IsCutShort}
 use Rattle.attempts.specs.Learned.{HasLearned, IsCut}
 use Rattle.attempts.proofs.Knowing.{append_none}
 use Rattle.attempts.proofs.Placing.{IsLast, is_last}

@@ -13,11 +13,11 @@ use Rattle.runner_parts.specs.Tests.{is_answered}
 use Rattle.runner_steps.specs.AfterInRun.{over_if}
 use Rattle.runner_steps.specs.AfterOutside.{published_by}
 use Rattle.machine_states.proofs.Steps.{some_same, none_some}
-use Rattle.version_words.specs.RunnerState.{RunnerState}
-use Rattle.try_lock.specs.declared.section.Section.{Section}
-use Rattle.try_lock.specs.declared.planned.Planned.TheVariants as plans
-use Rattle.try_lock.specs.Planning.{Planning}
-use Rattle.try_lock.specs.Publishes.{Publishes}
+use Rattle.lock_walks.specs.version_words.specs.RunnerState.{RunnerState}
+use Rattle.lock_walks.specs.try_lock.specs.declared.section.Section.{Section}
+use Rattle.lock_walks.specs.try_lock.specs.declared.planned.Planned.TheVariants as plans
+use Rattle.lock_walks.specs.try_lock.specs.Planning.{Planning}
+use Rattle.lock_walks.specs.try_lock.specs.Publishes.{Publishes}
 use Rattle.attempts.specs.Knowing.{IsStill, IsOwn}
 use Rattle.attempts.specs.Course.{of_refusal, MayAttempt, HasPlanned, HasTried, HasPublished}
 use Rattle.attempts.specs.Attempts.{is_refusal}

@@ -10,12 +10,12 @@ use Rattle.runner_parts.specs.declared.entries.Published.{Published}
 use Rattle.runner_parts.specs.State.{PartState}
 use Rattle.runner_parts.specs.Tests.{is_answered, are_answered}
 use Rattle.machine_states.specs.Sight.{sight, part_or_first}
-use Rattle.machine_invariant.specs.After.{AreAllowed}
-use Rattle.machine_records.specs.Requests.{or_none}
-use Rattle.machine_records.specs.Kept.{link_of}
-use Rattle.version_words.specs.RunnerState.{RunnerState}
-use Rattle.try_lock.specs.Planning.{Planning}
-use Rattle.try_lock.specs.Reached.{IsReached}
+use Rattle.lock_walks.specs.machine_invariant.specs.After.{AreAllowed}
+use Rattle.lock_walks.specs.machine_records.specs.Requests.{or_none}
+use Rattle.lock_walks.specs.machine_records.specs.Kept.{link_of}
+use Rattle.lock_walks.specs.version_words.specs.RunnerState.{RunnerState}
+use Rattle.lock_walks.specs.try_lock.specs.Planning.{Planning}
+use Rattle.lock_walks.specs.try_lock.specs.Reached.{IsReached}
 use Rattle.request_facts.proofs.Standing.{callers_stand}
 use Rattle.attempts.specs.Knowing.{IsOwn}
 use Rattle.attempts.specs.Course.{MayAttempt, HasEntered, HasPublished, PlanIsRefused, LockIsRefused, IsRefused}

@@ -13,22 +13,22 @@ use Rattle.runner_parts.specs.declared.stage.Stage.TheVariants as stages
 use Rattle.runner_parts.specs.Tests.{has, is_answered}
 use Rattle.runner_parts.specs.State.{NodesState, DescriptorsState, ReadsState}
 use Rattle.machine_states.proofs.Steps.{none_some}
-use Rattle.machine_invariant.specs.After.{AreAllowed}
-use Rattle.version_words.specs.RunnerState.{RunnerState}
-use Rattle.version_words.specs.TableState.{TableState, IsOf}
-use Rattle.version_words.specs.Stages.{IsAt}
-use Rattle.epoch_slots.specs.Collects.{Collects}
-use Rattle.epoch_slots.specs.Entries.{Enters}
-use Rattle.epoch_slots.specs.Reserves.{counts_of}
-use Rattle.epoch_slots.specs.declared.reserves.Short.{Short}
-use Rattle.commit_log.specs.Asked.{IsAsked}
-use Rattle.commit_log.proofs.Asked.{asked_none}
-use Rattle.try_lock.specs.declared.planned.Planned.{Planned}
-use Rattle.try_lock.specs.declared.planned.Planned.TheVariants as plans
-use Rattle.try_lock.specs.declared.section.Section.{Section}
-use Rattle.try_lock.specs.Planning.{Planning}
-use Rattle.try_lock.specs.Plans as plan
-use Rattle.try_lock.specs.Publishes.{Publishes}
+use Rattle.lock_walks.specs.machine_invariant.specs.After.{AreAllowed}
+use Rattle.lock_walks.specs.version_words.specs.RunnerState.{RunnerState}
+use Rattle.lock_walks.specs.version_words.specs.TableState.{TableState, IsOf}
+use Rattle.lock_walks.specs.version_words.specs.Stages.{IsAt}
+use Rattle.lock_walks.specs.epoch_slots.specs.Collects.{Collects}
+use Rattle.lock_walks.specs.epoch_slots.specs.Entries.{Enters}
+use Rattle.lock_walks.specs.epoch_slots.specs.Reserves.{counts_of}
+use Rattle.lock_walks.specs.epoch_slots.specs.declared.reserves.Short.{Short}
+use Rattle.lock_walks.specs.commit_log.specs.Asked.{IsAsked}
+use Rattle.lock_walks.specs.commit_log.proofs.Asked.{asked_none}
+use Rattle.lock_walks.specs.try_lock.specs.declared.planned.Planned.{Planned}
+use Rattle.lock_walks.specs.try_lock.specs.declared.planned.Planned.TheVariants as plans
+use Rattle.lock_walks.specs.try_lock.specs.declared.section.Section.{Section}
+use Rattle.lock_walks.specs.try_lock.specs.Planning.{Planning}
+use Rattle.lock_walks.specs.try_lock.specs.Plans as plan
+use Rattle.lock_walks.specs.try_lock.specs.Publishes.{Publishes}
 use Rattle.attempts.specs.Knowing.{IsStill}
 use Rattle.attempts.specs.Course.{of_plan, of_refusal, MayAttempt, HasReserve, HasEntered, HasPlanned, HasTried, PlanIsRefused, LockIsRefused}
 use Rattle.attempts.specs.Counted.{IsCounted}

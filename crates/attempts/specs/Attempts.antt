@@ -12,16 +12,16 @@ use Rattle.runner_parts.specs.declared.entries.Known.{Known}
 use Rattle.runner_parts.specs.declared.entries.Published.{Published}
 use Rattle.runner_parts.specs.Tests.{is_answered, has_pair}
 use Rattle.machine_states.specs.Sight.{sight}
-use Rattle.version_words.specs.RunnerState.{RunnerState}
-use Rattle.epoch_slots.specs.Collects.{IsTidy, Collects}
-use Rattle.epoch_slots.specs.Entries.{Exits}
-use Rattle.epoch_slots.specs.Reserves.{counts_of}
-use Rattle.epoch_slots.specs.declared.reserves.Kind.{Kind}
-use Rattle.epoch_slots.specs.declared.reserves.Kind.TheVariants as slots
-use Rattle.epoch_slots.specs.declared.reserves.Short.{Short}
-use Rattle.try_lock.specs.declared.planned.Planned.TheVariants as plans
-use Rattle.try_lock.specs.Planning.{Planning}
-use Rattle.try_lock.specs.Reached.{IsReached}
+use Rattle.lock_walks.specs.version_words.specs.RunnerState.{RunnerState}
+use Rattle.lock_walks.specs.epoch_slots.specs.Collects.{IsTidy, Collects}
+use Rattle.lock_walks.specs.epoch_slots.specs.Entries.{Exits}
+use Rattle.lock_walks.specs.epoch_slots.specs.Reserves.{counts_of}
+use Rattle.lock_walks.specs.epoch_slots.specs.declared.reserves.Kind.{Kind}
+use Rattle.lock_walks.specs.epoch_slots.specs.declared.reserves.Kind.TheVariants as slots
+use Rattle.lock_walks.specs.epoch_slots.specs.declared.reserves.Short.{Short}
+use Rattle.lock_walks.specs.try_lock.specs.declared.planned.Planned.TheVariants as plans
+use Rattle.lock_walks.specs.try_lock.specs.Planning.{Planning}
+use Rattle.lock_walks.specs.try_lock.specs.Reached.{IsReached}
 use Rattle.attempts.specs.Knowing.{KnowsMore, LearnsNoOther}
 use Rattle.attempts.specs.Counted.{IsCounted}
 use Rattle.request_facts.specs.Laws.{HasEntry}

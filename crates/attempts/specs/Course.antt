@@ -11,21 +11,21 @@ use Rattle.section_body.specs.declared.thunk.Thunk.{Thunk}
 use Rattle.structure_laws.specs.Scene.{Readings}
 use Rattle.structure_laws.specs.Meaning.{Meaning}
 use Rattle.machine_states.specs.Sight.{sight}
-use Rattle.machine_invariant.specs.Sections.{IsLeft}
+use Rattle.lock_walks.specs.machine_invariant.specs.Sections.{IsLeft}
 use Rattle.runner_parts.specs.Tests.{is_next}
-use Rattle.runner_facts.specs.Names.{HasLock}
-use Rattle.version_words.specs.RunnerState.{RunnerState}
-use Rattle.epoch_slots.specs.Collects.{IsTidy, Collects}
-use Rattle.epoch_slots.specs.Entries.{Enters, Exits}
-use Rattle.try_lock.specs.declared.section.Section.{Section}
-use Rattle.try_lock.specs.declared.planned.Planned.{Planned}
-use Rattle.try_lock.specs.declared.planned.Planned.TheVariants as plans
-use Rattle.try_lock.specs.Planning.{Planning}
-use Rattle.try_lock.specs.Reached.{IsReached}
-use Rattle.try_lock.specs.Plans.{Answers, IsWalk, HasWalked}
-use Rattle.try_lock.specs.Publishes.{Publishes}
-use Rattle.try_lock.specs.Ends.{EndsSo}
-use Rattle.try_lock.specs.Retires.{HasRetired}
+use Rattle.lock_walks.specs.runner_facts.specs.Names.{HasLock}
+use Rattle.lock_walks.specs.version_words.specs.RunnerState.{RunnerState}
+use Rattle.lock_walks.specs.epoch_slots.specs.Collects.{IsTidy, Collects}
+use Rattle.lock_walks.specs.epoch_slots.specs.Entries.{Enters, Exits}
+use Rattle.lock_walks.specs.try_lock.specs.declared.section.Section.{Section}
+use Rattle.lock_walks.specs.try_lock.specs.declared.planned.Planned.{Planned}
+use Rattle.lock_walks.specs.try_lock.specs.declared.planned.Planned.TheVariants as plans
+use Rattle.lock_walks.specs.try_lock.specs.Planning.{Planning}
+use Rattle.lock_walks.specs.try_lock.specs.Reached.{IsReached}
+use Rattle.lock_walks.specs.try_lock.specs.Plans.{Answers, IsWalk, HasWalked}
+use Rattle.lock_walks.specs.try_lock.specs.Publishes.{Publishes}
+use Rattle.lock_walks.specs.try_lock.specs.Ends.{EndsSo}
+use Rattle.lock_walks.specs.try_lock.specs.Retires.{HasRetired}
 use Rattle.attempts.specs.Knowing.{IsStill}
 use Rattle.attempts.specs.declared.answers.Attempt.{Attempt}
 use Rattle.attempts.specs.declared.answers.Attempt.TheVariants as answers

@@ -6,12 +6,12 @@ use Rattle.map_history.specs.Words.{word_of}
 use Rattle.structure_laws.specs.Meaning.{Meaning}
 use Rattle.runner_parts.specs.Tests.{is_answered}
 use Rattle.machine_states.specs.Sight.{sight}
-use Rattle.version_words.specs.RunnerState.{RunnerState}
-use Rattle.epoch_slots.specs.Collects.{IsTidy}
-use Rattle.epoch_slots.specs.Entries.{HasLeave}
-use Rattle.commit_log.specs.Asked.{IsAsked}
-use Rattle.try_lock.specs.Planning.{Planning}
-use Rattle.try_lock.specs.Reached.{IsReached, MayHelp}
+use Rattle.lock_walks.specs.version_words.specs.RunnerState.{RunnerState}
+use Rattle.lock_walks.specs.epoch_slots.specs.Collects.{IsTidy}
+use Rattle.lock_walks.specs.epoch_slots.specs.Entries.{HasLeave}
+use Rattle.lock_walks.specs.commit_log.specs.Asked.{IsAsked}
+use Rattle.lock_walks.specs.try_lock.specs.Planning.{Planning}
+use Rattle.lock_walks.specs.try_lock.specs.Reached.{IsReached, MayHelp}
 use Rattle.request_facts.specs.Laws.{HasEntry}
 use Rattle.request_facts.specs.Placed.{IsServedAs}
 use Rattle.attempts.specs.Knowing.{KnowsMore, IsOwn, LearnsNoOther}

@@ -1,6 +1,6 @@
 //! What an attempt of a request answers.
 
-use epoch_slots::Short;
+use lock_walks::epoch_slots::Short;
 use map_history::Reply;
 use section_body::{Place, Word};
 

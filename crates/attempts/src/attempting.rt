@@ -1,7 +1,7 @@
 //! One attempt of a request.
 ghost use Rattle.std.specs.Prelude.{◌≡◌, false};
-ghost use Rattle.version_words.specs.RunnerState.{RunnerState};
-ghost use Rattle.version_words.specs.TableState.{IsOf};
+ghost use Rattle.lock_walks.specs.version_words.specs.RunnerState.{RunnerState};
+ghost use Rattle.lock_walks.specs.version_words.specs.TableState.{IsOf};
 ghost use Rattle.attempts.specs.Course.{MayAttempt, HasEntered};
 ghost use Rattle.attempts.specs.Attempts.{Attempts};
 ghost use Rattle.attempts.specs.Rests.{Rests};
@@ -12,12 +12,12 @@ use crate::refusals::plan_refused;
 use crate::reserves::reserve_slots;
 use crate::tries::try_section;
 use crate::turns::turn_away;
-use epoch_slots::{collect, enter};
 use lock_walks::Planner;
+use lock_walks::epoch_slots::{collect, enter};
+use lock_walks::try_lock::Planned;
+use lock_walks::version_words::{FlockTable, Runner, table_is_allowed};
 use map_history::Request;
 use section_body::{Gate, StepKind, Steps};
-use try_lock::Planned;
-use version_words::{FlockTable, Runner, table_is_allowed};
 
 /// Plans the request, behind the entry, and tries the section that was planned; or leaves where the plan was refused.
 pub fn plan_and_try<S: Planner, G: Gate, L>(

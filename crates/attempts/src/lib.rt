@@ -25,3 +25,8 @@ pub use reserves::reserve_slots;
 pub use runs::{conclude, run_own};
 pub use tries::try_section;
 pub use turns::turn_away;
+
+// Passed on to the layers above, so that they needn't name these libraries themselves.
+pub use lock_walks;
+pub use lock_walks::{epoch_slots, reached_histories, runner_facts, version_words};
+pub use request_facts;

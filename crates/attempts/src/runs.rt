@@ -2,8 +2,8 @@
 ghost use Rattle.std.specs.Prelude.{◌≡◌, true, false, Ok};
 ghost use Rattle.section_body.specs.Trail.{Agreed};
 ghost use Rattle.section_body.specs.declared.thunk.Thunk.{Thunk};
-ghost use Rattle.version_words.specs.RunnerState.{RunnerState};
-ghost use Rattle.version_words.specs.TableState.{IsOf};
+ghost use Rattle.lock_walks.specs.version_words.specs.RunnerState.{RunnerState};
+ghost use Rattle.lock_walks.specs.version_words.specs.TableState.{IsOf};
 ghost use Rattle.attempts.specs.Course.{HasTried, HasEnded};
 ghost use Rattle.attempts.specs.Rests.{Rests};
 
@@ -13,10 +13,10 @@ use crate::learns::learn;
 use crate::refusals::section_left;
 use crate::turns::turn_away;
 use lock_walks::Planner;
+use lock_walks::try_lock::{RunEnd, Section, retire_section, run_section};
+use lock_walks::version_words::{FlockTable, Runner, table_is_allowed};
 use map_history::Request;
 use section_body::{Gate, Outcome, StepKind, Steps};
-use try_lock::{RunEnd, Section, retire_section, run_section};
-use version_words::{FlockTable, Runner, table_is_allowed};
 
 /// Retires the own section, which was run to its end with this outcome, and leaves: where it answered, with the words of
 /// the request, else with the refusal by which it left.

@@ -1,9 +1,9 @@
 //! The publication of an attempt.
 ghost use Rattle.std.specs.Prelude.{◌≡◌, false};
 ghost use Rattle.structure_laws.specs.Scene.{Readings};
-ghost use Rattle.version_words.specs.RunnerState.{RunnerState};
-ghost use Rattle.version_words.specs.TableState.{IsOf};
-ghost use Rattle.try_lock.specs.declared.planned.Planned.TheVariants as plans;
+ghost use Rattle.lock_walks.specs.version_words.specs.RunnerState.{RunnerState};
+ghost use Rattle.lock_walks.specs.version_words.specs.TableState.{IsOf};
+ghost use Rattle.lock_walks.specs.try_lock.specs.declared.planned.Planned.TheVariants as plans;
 ghost use Rattle.attempts.specs.Course.{HasPlanned};
 ghost use Rattle.attempts.specs.Rests.{Rests};
 
@@ -12,10 +12,10 @@ use crate::refusals::lock_refused;
 use crate::runs::run_own;
 use crate::turns::turn_away;
 use lock_walks::Planner;
+use lock_walks::try_lock::publish;
+use lock_walks::version_words::{FlockTable, Runner, table_is_allowed};
 use map_history::Request;
 use section_body::{Gate, Steps, Thunk};
-use try_lock::publish;
-use version_words::{FlockTable, Runner, table_is_allowed};
 
 /// Publishes the section of this thunk, which was just planned for the request, and runs it; or leaves where the lock
 /// refused it.

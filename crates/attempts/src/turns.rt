@@ -1,16 +1,16 @@
 //! How a runner leaves whose request was refused.
 ghost use Rattle.std.specs.Prelude.{◌≡◌, true};
-ghost use Rattle.version_words.specs.TableState.{IsOf};
+ghost use Rattle.lock_walks.specs.version_words.specs.TableState.{IsOf};
 ghost use Rattle.attempts.specs.Attempts.{is_refusal};
 ghost use Rattle.attempts.specs.Rests.{MayLeave, HasTurned};
 
 use crate::answers::Attempt;
-use epoch_slots::exit;
-use runner_facts::names_stand;
+use lock_walks::epoch_slots::exit;
+use lock_walks::runner_facts::names_stand;
+use lock_walks::try_lock::{RunEnd, help};
+use lock_walks::version_words::{FlockTable, Runner, table_is_allowed};
 use runner_parts::Structure;
 use section_body::{Gate, Steps};
-use try_lock::{RunEnd, help};
-use version_words::{FlockTable, Runner, table_is_allowed};
 
 /// Leaves with this refusal, and answers it; where a lock was held, the section that its word names is run to its end
 /// first.

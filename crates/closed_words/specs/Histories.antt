@@ -9,7 +9,7 @@ use Rattle.section_body.specs.Word.{value_of}
 use Rattle.table_words.specs.declared.spot.Spot.TheVariants.{Cell, Stamp, Reply}
 use Rattle.structure_laws.specs.Meaning.{Meaning}
 use Rattle.history_core.specs.State.{Requests}
-use Rattle.machine_records.specs.Requests.{requests_of}
+use Rattle.version_words.specs.machine_records.specs.Requests.{requests_of}
 use Rattle.version_words.specs.TableState.{WordsState, word_of}
 
 module _ {T : Type 0} (m : Meaning) (w : WordsState T) where

@@ -7,3 +7,6 @@
 mod laws;
 
 pub use laws::closed_words_have_a_history;
+
+// Passed on to the layers above, so that they needn't name these libraries themselves.
+pub use version_words;

@@ -12,13 +12,13 @@ use Rattle.runner_parts.specs.State.{RunState, PartState}
 use Rattle.runner_steps.specs.Sections.{next_of}
 use Rattle.runner_steps.specs.InRun.{make_slot}
 use Rattle.runner_steps.specs.Asks.{line_ask}
-use Rattle.machine_agreement.proofs.LineAsked.{line_asked}
+use Rattle.version_words.specs.machine_agreement.proofs.LineAsked.{line_asked}
 use Rattle.runner_steps.specs.AfterInRun.{goes_on, ended_more}
-use Rattle.machine_invariant.specs.After.{AreAllowed}
-use Rattle.machine_invariant.specs.LogWords.{commits_to}
-use Rattle.next_steps.specs.Steps.{slot_in, kind_at, ask_at, has_slot}
-use Rattle.next_steps.specs.Stages.{filling_slot, run_behind, IsBehind}
-use Rattle.next_steps.proofs.Stages.{in_table, may_step, commits_behind, then_stepped}
+use Rattle.version_words.specs.machine_invariant.specs.After.{AreAllowed}
+use Rattle.version_words.specs.machine_invariant.specs.LogWords.{commits_to}
+use Rattle.version_words.specs.next_steps.specs.Steps.{slot_in, kind_at, ask_at, has_slot}
+use Rattle.version_words.specs.next_steps.specs.Stages.{filling_slot, run_behind, IsBehind}
+use Rattle.version_words.specs.next_steps.proofs.Stages.{in_table, may_step, commits_behind, then_stepped}
 use Rattle.version_words.specs.RunnerState.{RunnerState}
 use Rattle.version_words.specs.TableState.{TableState, IsOf}
 use Rattle.version_words.specs.Events.{met_by, Makes}

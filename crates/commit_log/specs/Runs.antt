@@ -6,8 +6,8 @@ use Rattle.runner_parts.specs.State.{RunState}
 use Rattle.runner_steps.specs.Sections.{next_of}
 use Rattle.version_words.specs.RunnerState.{RunnerState}
 use Rattle.version_words.specs.Events.{Makes}
-use Rattle.next_steps.specs.Steps.{kind_at}
-use Rattle.next_steps.specs.Stages.{IsInRun, IsBehind}
+use Rattle.version_words.specs.next_steps.specs.Steps.{kind_at}
+use Rattle.version_words.specs.next_steps.specs.Stages.{IsInRun, IsBehind}
 
 module _ {T : Type 0} (m : Meaning) where
   -- the runner is in this run, which has loaded its thunk and its done word, in a state that the machine reaches

@@ -9,5 +9,9 @@
 mod between;
 mod commits;
 
-pub use between::{NeverHalts, passes};
+pub use between::passes;
 pub use commits::commit;
+
+// Passed on to the layers above, so that they needn't name these libraries themselves.
+pub use version_words;
+pub use version_words::{interleave_core, reached_histories};

@@ -16,9 +16,9 @@ use Rattle.runner_steps.specs.Outside.{last_epoch}
 use Rattle.runner_steps.specs.AfterOutside.{is_clear}
 use Rattle.epoch_core.specs.Lists.{times}
 use Rattle.machine_states.specs.Sight.{part_or_first, sight}
-use Rattle.machine_invariant.specs.After.{AreAllowed}
-use Rattle.machine_invariant.specs.Slots.{times_among}
-use Rattle.machine_invariant.proofs.After.{whole_after}
+use Rattle.version_words.specs.machine_invariant.specs.After.{AreAllowed}
+use Rattle.version_words.specs.machine_invariant.specs.Slots.{times_among}
+use Rattle.version_words.specs.machine_invariant.proofs.After.{whole_after}
 use Rattle.version_words.specs.RunnerState.{RunnerState}
 use Rattle.version_words.specs.Events.{Makes}
 use Rattle.epoch_slots.specs.Entries.{KeepsOwn}

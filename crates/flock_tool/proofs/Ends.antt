@@ -8,7 +8,7 @@ use Rattle.trace_reader.specs.Answer.{IsExact, IsRefusal}
 use Rattle.trace_reader.specs.declared.traces.Traces.{Traces}
 use Rattle.flock_tool.specs.declared.ran.Ran.{Ran}
 use Rattle.trace_reader.specs.Text.{IsAccepted, IsFirstRefusal}
-use Rattle.flock_words.specs.Commands.{AreAccepted}
+use Rattle.flock_words.specs.declared.options.RunOptions.{RunOptions}
 use Rattle.flock_tool.specs.declared.plan.Plan.{Plan}
 use Rattle.flock_tool.specs.declared.status.Stop.{Stop}
 use Rattle.flock_tool.specs.declared.status.Stop.TheVariants.{Words, Text, Nodes, WriteFault}
@@ -55,45 +55,45 @@ stop_at_8 (Nodes count) is = absurd (omega (arith, is))
 stop_at_8 WriteFault is = absurd (omega (arith, is))
 
 -- no way but the sink's failure has the status of a run, and that is none of a plan's
-pub not_run : (words : List (List ℕ)) (left : Option (List ℕ)) (stop : Stop) → IsRefusedPlan words left stop → IsRunStatus (stop_status stop) → ⊥
-not_run words left Words refused run = absurd (grind arith)
-not_run words left (Text ReadFault) refused run = absurd (grind arith)
-not_run words left (Text Memory) refused run = absurd (grind arith)
-not_run words left (Text (TooLarge bytes)) refused run = absurd (grind arith)
-not_run words left (Text (Malformed line kind)) refused run = absurd (grind arith)
-not_run words left (Text (TooManyTraces count)) refused run = absurd (grind arith)
-not_run words left (Text (TooManyRequests count)) refused run = absurd (grind arith)
-not_run words left (Nodes count) refused run = absurd (grind arith)
-not_run words left WriteFault refused run = refused
+pub not_run : (options : RunOptions) (left : Option (List ℕ)) (stop : Stop) → IsRefusedPlan options left stop → IsRunStatus (stop_status stop) → ⊥
+not_run options left Words refused run = absurd (grind arith)
+not_run options left (Text ReadFault) refused run = absurd (grind arith)
+not_run options left (Text Memory) refused run = absurd (grind arith)
+not_run options left (Text (TooLarge bytes)) refused run = absurd (grind arith)
+not_run options left (Text (Malformed line kind)) refused run = absurd (grind arith)
+not_run options left (Text (TooManyTraces count)) refused run = absurd (grind arith)
+not_run options left (Text (TooManyRequests count)) refused run = absurd (grind arith)
+not_run options left (Nodes count) refused run = absurd (grind arith)
+not_run options left WriteFault refused run = refused
 
 -- status 3 is a line with a fault
-pub malformed_stop : (words : List (List ℕ)) (left before after : Option (List ℕ)) (faults_before faults_after : ℕ) (stop : Stop) → IsRefusedPlan words left stop
+pub malformed_stop : (options : RunOptions) (left before after : Option (List ℕ)) (faults_before faults_after : ℕ) (stop : Stop) → IsRefusedPlan options left stop
     → Tells (stop_line stop) before after faults_before faults_after → stop_status stop ≡ 3
     → (line : ℕ) × (kind : BadLine) × (IfSome left (λ text. IsFirstRefusal text (Malformed line kind)) × Tells (error_line (Malformed line kind)) before after faults_before faults_after)
-malformed_stop words left before after fb fa Words refused told three = absurd (omega (arith, three))
-malformed_stop words left before after fb fa (Text ReadFault) refused told three = absurd (omega (arith, three))
-malformed_stop words left before after fb fa (Text Memory) refused told three = absurd (omega (arith, three))
-malformed_stop words left before after fb fa (Text (TooLarge bytes)) refused told three = absurd (omega (arith, three))
-malformed_stop words left before after fb fa (Text (TooManyTraces count)) refused told three = absurd (omega (arith, three))
-malformed_stop words left before after fb fa (Text (TooManyRequests count)) refused told three = absurd (omega (arith, three))
-malformed_stop words left before after fb fa (Nodes count) refused told three = absurd (omega (arith, three))
-malformed_stop words left before after fb fa WriteFault refused told three = absurd (omega (arith, three))
-malformed_stop words left before after fb fa (Text (Malformed line kind)) refused told three = (line, kind, (refused, told))
+malformed_stop options left before after fb fa Words refused told three = absurd (omega (arith, three))
+malformed_stop options left before after fb fa (Text ReadFault) refused told three = absurd (omega (arith, three))
+malformed_stop options left before after fb fa (Text Memory) refused told three = absurd (omega (arith, three))
+malformed_stop options left before after fb fa (Text (TooLarge bytes)) refused told three = absurd (omega (arith, three))
+malformed_stop options left before after fb fa (Text (TooManyTraces count)) refused told three = absurd (omega (arith, three))
+malformed_stop options left before after fb fa (Text (TooManyRequests count)) refused told three = absurd (omega (arith, three))
+malformed_stop options left before after fb fa (Nodes count) refused told three = absurd (omega (arith, three))
+malformed_stop options left before after fb fa WriteFault refused told three = absurd (omega (arith, three))
+malformed_stop options left before after fb fa (Text (Malformed line kind)) refused told three = (line, kind, (refused, told))
 
 -- status 4 is a text past a limit, or too many node slots
-pub limit_stop : (words : List (List ℕ)) (left before after : Option (List ℕ)) (faults_before faults_after : ℕ) (stop : Stop) → IsRefusedPlan words left stop
+pub limit_stop : (options : RunOptions) (left before after : Option (List ℕ)) (faults_before faults_after : ℕ) (stop : Stop) → IsRefusedPlan options left stop
     → Tells (stop_line stop) before after faults_before faults_after → stop_status stop ≡ 4
     → ((error : TraceError) × (IsLimit error × IfSome left (λ text. IsFirstRefusal text error) × Tells (error_line error) before after faults_before faults_after))
-    ⊎ ((count : ℕ) × (AsksTooMuch words left count × Tells (nodes_line count) before after faults_before faults_after))
-limit_stop words left before after fb fa Words refused told four = absurd (omega (arith, four))
-limit_stop words left before after fb fa (Text ReadFault) refused told four = absurd (omega (arith, four))
-limit_stop words left before after fb fa (Text Memory) refused told four = absurd (omega (arith, four))
-limit_stop words left before after fb fa (Text (Malformed line kind)) refused told four = absurd (omega (arith, four))
-limit_stop words left before after fb fa WriteFault refused told four = absurd (omega (arith, four))
-limit_stop words left before after fb fa (Text (TooLarge bytes)) refused told four = inl (TooLarge bytes, (tt, refused, told))
-limit_stop words left before after fb fa (Text (TooManyTraces count)) refused told four = inl (TooManyTraces count, (tt, refused, told))
-limit_stop words left before after fb fa (Text (TooManyRequests count)) refused told four = inl (TooManyRequests count, (tt, refused, told))
-limit_stop words left before after fb fa (Nodes count) refused told four = inr (count, (refused, told))
+    ⊎ ((count : ℕ) × (AsksTooMuch options left count × Tells (nodes_line count) before after faults_before faults_after))
+limit_stop options left before after fb fa Words refused told four = absurd (omega (arith, four))
+limit_stop options left before after fb fa (Text ReadFault) refused told four = absurd (omega (arith, four))
+limit_stop options left before after fb fa (Text Memory) refused told four = absurd (omega (arith, four))
+limit_stop options left before after fb fa (Text (Malformed line kind)) refused told four = absurd (omega (arith, four))
+limit_stop options left before after fb fa WriteFault refused told four = absurd (omega (arith, four))
+limit_stop options left before after fb fa (Text (TooLarge bytes)) refused told four = inl (TooLarge bytes, (tt, refused, told))
+limit_stop options left before after fb fa (Text (TooManyTraces count)) refused told four = inl (TooManyTraces count, (tt, refused, told))
+limit_stop options left before after fb fa (Text (TooManyRequests count)) refused told four = inl (TooManyRequests count, (tt, refused, told))
+limit_stop options left before after fb fa (Nodes count) refused told four = inr (count, (refused, told))
 
 err_same : {T : Type 0} (a b : Stop) → ◌≡◌ {A = Result T Stop} (Err a) (Err b) → a ≡ b
 err_same a b e = cc
@@ -108,15 +108,15 @@ refused_status stop text error must first =
     (must.refused error first)
 
 -- a text in the grammar isn't refused, but for want of memory and for too many node slots
-pub accepted_status : (words : List (List ℕ)) (left : Option (List ℕ)) (stop : Stop) (text : List ℕ) → IsRefusedPlan words left stop → MustPlan (Err stop) text → IsAccepted text
-    → IsRunStatus (stop_status stop) ⊎ (stop_status stop ≡ 7) ⊎ ((stop_status stop ≡ 4) × (count : ℕ) × AsksTooMuch words left count)
-accepted_status words left stop text refused must accepted =
+pub accepted_status : (options : RunOptions) (left : Option (List ℕ)) (stop : Stop) (text : List ℕ) → IsRefusedPlan options left stop → MustPlan (Err stop) text → IsAccepted text
+    → IsRunStatus (stop_status stop) ⊎ (stop_status stop ≡ 7) ⊎ ((stop_status stop ≡ 4) × (count : ℕ) × AsksTooMuch options left count)
+accepted_status options left stop text refused must accepted =
     ⊎_elim (λ ok. absurd (not_ok ok))
     (⊎_elim
     (λ want. inr (inl (ap stop_status (err_same {T = Plan} stop (Text Memory) want))))
     (λ much.
     let same = err_same {T = Plan} stop (Nodes much.0) much.1 in
-    inr (inr (ap stop_status same, much.0, subst (IsRefusedPlan words left) same refused))))
+    inr (inr (ap stop_status same, much.0, subst (IsRefusedPlan options left) same refused))))
     (must.accepted accepted)
   where
     not_ok : IsOk {T = Plan} {E = Stop} (Err stop) → ⊥
@@ -142,19 +142,19 @@ none_some : (back : Option Ran) → back ≡ None → IsSome back → ⊥
 none_some back none some = absurd (cc)
 
 -- without a plan nothing comes back
-pub none_ran : (words : List (List ℕ)) (left : Option (List ℕ)) (stop : Stop) (status : ℕ) (back : Option Ran) → IsRefusedPlan words left stop → status ≡ stop_status stop
+pub none_ran : (options : RunOptions) (left : Option (List ℕ)) (stop : Stop) (status : ℕ) (back : Option Ran) → IsRefusedPlan options left stop → status ≡ stop_status stop
     → back ≡ None → IsSome back ↔ IsRunStatus status
-none_ran words left stop status back refused is none =
-    (λ some. absurd (none_some back none some), λ run. absurd (not_run words left stop refused (subst IsRunStatus is run)))
+none_ran options left stop status back refused is none =
+    (λ some. absurd (none_some back none some), λ run. absurd (not_run options left stop refused (subst IsRunStatus is run)))
 
 -- what a text comes to that isn't planned
-pub complete_refused : (words : List (List ℕ)) (left : Option (List ℕ)) (stop : Stop) (status : ℕ) → status ≡ stop_status stop → IsRefusedPlan words left stop
+pub complete_refused : (options : RunOptions) (left : Option (List ℕ)) (stop : Stop) (status : ℕ) → status ≡ stop_status stop → IsRefusedPlan options left stop
     → IfSome left (MustPlan (Err stop))
-    → IfSome left (λ text. IsAccepted text → IsRunStatus status ⊎ (status ≡ 7) ⊎ ((status ≡ 4) × (count : ℕ) × AsksTooMuch words left count))
-complete_refused words left stop status is refused must =
-    IfSome-from (MustPlan (Err stop)) (λ text. IsAccepted text → IsRunStatus status ⊎ (status ≡ 7) ⊎ ((status ≡ 4) × (count : ℕ) × AsksTooMuch words left count)) left must
-    (λ text must_text accepted. subst (λ n. IsRunStatus n ⊎ (n ≡ 7) ⊎ ((n ≡ 4) × (count : ℕ) × AsksTooMuch words left count)) (sym is)
-    (accepted_status words left stop text refused must_text accepted))
+    → IfSome left (λ text. IsAccepted text → IsRunStatus status ⊎ (status ≡ 7) ⊎ ((status ≡ 4) × (count : ℕ) × AsksTooMuch options left count))
+complete_refused options left stop status is refused must =
+    IfSome-from (MustPlan (Err stop)) (λ text. IsAccepted text → IsRunStatus status ⊎ (status ≡ 7) ⊎ ((status ≡ 4) × (count : ℕ) × AsksTooMuch options left count)) left must
+    (λ text must_text accepted. subst (λ n. IsRunStatus n ⊎ (n ≡ 7) ⊎ ((n ≡ 4) × (count : ℕ) × AsksTooMuch options left count)) (sym is)
+    (accepted_status options left stop text refused must_text accepted))
 
 pub first_refused : (left : Option (List ℕ)) (stop : Stop) (status : ℕ) → status ≡ stop_status stop → IfSome left (MustPlan (Err stop))
     → IfSome left (λ text. (error : TraceError) → IsFirstRefusal text error → (status ≡ error_status error) ⊎ (status ≡ 7))
@@ -178,3 +178,10 @@ planned_refused left plan status must =
 
 pub read_fault : (stop : Stop) (status : ℕ) → status ≡ stop_status stop → status ≢ 8 → ◌≡◌ {A = Result Plan Stop} (Err stop) (Err (Text ReadFault)) → ⊥
 read_fault stop status is not_eight same = not_eight (is ∙ ap stop_status (err_same {T = Plan} stop (Text ReadFault) same))
+
+-- what was answered is one thing
+pub not_both : {T E : Type 0} (value : T) (error : E) → ◌≡◌ {A = Result T E} (Ok value) (Err error) → ⊥
+not_both value error same = cc
+
+pub error_is : {T E : Type 0} (a b : E) → ◌≡◌ {A = Result T E} (Err a) (Err b) → a ≡ b
+error_is a b same = cc

@@ -4,8 +4,8 @@ use Rattle.std.specs.Prelude.{◌⊎◌, ◌&&◌, ◌||◌, if◌then◌else◌
 use Rattle.std.proofs.lemmas.Bool.Decides.{nat_tests}
 use Rattle.fault_count.specs.Rose.{Rose}
 use Rattle.runner_gate.specs.Counts.{halts_after}
-use Rattle.serving.specs.declared.answers.Served.{Served}
-use Rattle.serving.specs.declared.answers.Served.TheVariants as answers
+use Rattle.threaded_runs.specs.serving.specs.declared.answers.Served.{Served}
+use Rattle.threaded_runs.specs.serving.specs.declared.answers.Served.TheVariants as answers
 use Rattle.threaded_runs.specs.Counts.{halted, halts_counted}
 use Rattle.flock_tool.specs.Finish.{versions_of, slots_of, is_halted, any_halted, first_or, first_from, finish_by, finish_status}
 use Rattle.flock_tool.specs.Runs.{IsRunStatus}
@@ -21,14 +21,14 @@ finish_run (WornSlots runner short) = (inr (inr (inr (inl refl))), λ nine. absu
 finish_run (Versions place word) = (inr (inr (inr (inl refl))), λ nine. absurd (omega (arith, nine)))
 
 -- the first gives of one kind are of the statuses 5 and 6
-slots_status : (runner : ℕ) (list : List Served) (finish : Finish) → first_from slots_of runner list ≡ Some finish → finish_status finish ≡ 5
+pub slots_status : (runner : ℕ) (list : List Served) (finish : Finish) → first_from slots_of runner list ≡ Some finish → finish_status finish ≡ 5
 slots_status runner [] finish is = absurd (cc)
 slots_status runner (answers.All ∷ list) finish is = slots_status (runner + 1) list finish is
 slots_status runner (answers.Halted ∷ list) finish is = slots_status (runner + 1) list finish is
 slots_status runner (answers.Spent place word ∷ list) finish is = slots_status (runner + 1) list finish is
 slots_status runner (answers.Short short ∷ list) finish is = let same : Slots runner short ≡ finish = cc in ap finish_status (sym same)
 
-versions_status : (runner : ℕ) (list : List Served) (finish : Finish) → first_from versions_of runner list ≡ Some finish → finish_status finish ≡ 6
+pub versions_status : (runner : ℕ) (list : List Served) (finish : Finish) → first_from versions_of runner list ≡ Some finish → finish_status finish ≡ 6
 versions_status runner [] finish is = absurd (cc)
 versions_status runner (answers.All ∷ list) finish is = versions_status (runner + 1) list finish is
 versions_status runner (answers.Halted ∷ list) finish is = versions_status (runner + 1) list finish is

@@ -1,6 +1,12 @@
+pub mod Commanding
+pub mod Counting
 pub mod Ends
+pub mod Enough
 pub mod Finishing
+pub mod GenPrinting
+pub mod Loading
 pub mod Reported
 pub mod Reporting
+pub mod Running
 pub mod Sizes
 pub mod Whole

@@ -8,16 +8,16 @@ use Rattle.flock_tool.specs.Runs.{answers_in, EndsRun, LacksMemory, HasReported,
 use Rattle.flock_tool.specs.declared.ran.Ran.{Ran}
 use Rattle.flock_tool.proofs.Finishing.{halts_rise}
 
-not_seven : (n : ℕ) → IsRunStatus n → n ≡ 7 → ⊥
+pub not_seven : (n : ℕ) → IsRunStatus n → n ≡ 7 → ⊥
 not_seven n run seven = absurd (grind arith)
 
 not_eight : (n : ℕ) → IsRunStatus n → n ≡ 8 → ⊥
 not_eight n run eight = absurd (grind arith)
 
-some_back : (back : Option Ran) (ran : Ran) → back ≡ Some ran → IsSome back
+pub some_back : (back : Option Ran) (ran : Ran) → back ≡ Some ran → IsSome back
 some_back back ran is = search rules
 
-none_back : (back : Option Ran) → back ≡ None → IsSome back → ⊥
+pub none_back : (back : Option Ran) → back ≡ None → IsSome back → ⊥
 none_back back none some = absurd (cc)
 
 module _ (ran : Ran) (traces : ℕ) (result : ℕ × Option Ran) (held held' : Option (List ℕ)) (faults faults' : ℕ) (told told' : Option (List ℕ)) (tf tf' : ℕ)

@@ -11,9 +11,9 @@ use Rattle.table_words.specs.declared.layout.Layout.{Layout}
 use Rattle.table_words.specs.declared.spot.Spot.TheVariants.{Cell}
 use Rattle.table_words.specs.Limits.{IsWithinLimits}
 use Rattle.structure_laws.specs.Meaning.{Meaning}
-use Rattle.version_words.specs.TableState.{WordsState, word_of}
-use Rattle.closed_words.specs.Histories.{HoldsNoLock}
-use Rattle.try_lock.specs.Contents.{StandFor, NamesNone}
+use Rattle.threaded_runs.specs.version_words.specs.TableState.{WordsState, word_of}
+use Rattle.threaded_runs.specs.closed_words.specs.Histories.{HoldsNoLock}
+use Rattle.threaded_runs.specs.try_lock.specs.Contents.{StandFor, NamesNone}
 use Rattle.run_reports.specs.Reports.{HaveContents}
 use Rattle.flock_words.specs.Options.{runners_by, nodes_by, AreInRange}
 use Rattle.flock_words.specs.declared.options.RunOptions.{RunOptions}

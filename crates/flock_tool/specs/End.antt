@@ -2,6 +2,8 @@
 use Rattle.std.specs.Prelude.{◌≡◌, ℕ, ◌⊎◌, List, ◌++◌, Option, codes, decimal}
 use Rattle.fault_count.specs.Rose.{Rose}
 use Rattle.report_text.specs.Sink.{Extends, ExtendsInPart}
+use Rattle.generated_text.specs.declared.print.PrintStop.{PrintStop}
+use Rattle.generated_text.specs.declared.print.PrintStop.TheVariants as print_stops
 use Rattle.run_reports.specs.declared.printing.PrintError.{PrintError}
 use Rattle.run_reports.specs.declared.printing.PrintError.TheVariants as printing
 use Rattle.trace_reader.specs.declared.traces.BadLine.{BadLine}
@@ -76,3 +78,9 @@ IsLimit (TooManyRequests count) = Unit {0}
 abbrev pub stop_of : PrintError → Stop
 stop_of printing.Memory = Text Memory
 stop_of printing.Failed = WriteFault
+
+-- and why generated requests weren't
+abbrev pub print_stop : PrintStop → Stop
+print_stop (print_stops.TooManyRequests count) = Text (TooManyRequests count)
+print_stop print_stops.Memory = Text Memory
+print_stop print_stops.WriteFault = WriteFault

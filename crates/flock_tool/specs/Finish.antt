@@ -1,11 +1,11 @@
 -- How a run ends, by the answers of its runners and by how many requests are unserved.
 use Rattle.std.specs.Prelude.{◌≡◌, ℕ, ◌+◌, Bool, true, false, ◌||◌, ◌&&◌, List, [], ◌∷◌, ◌++◌, Option, None, Some, if◌then◌else◌, codes, decimal, nat_lt, unwrap_or}
 use Rattle.section_body.specs.Word.{value_of, version_of}
-use Rattle.epoch_slots.specs.declared.reserves.Kind.{Kind}
-use Rattle.epoch_slots.specs.declared.reserves.Kind.TheVariants.{Node, Descriptor}
-use Rattle.epoch_slots.specs.declared.reserves.Short.{Short}
-use Rattle.serving.specs.declared.answers.Served.{Served}
-use Rattle.serving.specs.declared.answers.Served.TheVariants as answers
+use Rattle.threaded_runs.specs.epoch_slots.specs.declared.reserves.Kind.{Kind}
+use Rattle.threaded_runs.specs.epoch_slots.specs.declared.reserves.Kind.TheVariants.{Node, Descriptor}
+use Rattle.threaded_runs.specs.epoch_slots.specs.declared.reserves.Short.{Short}
+use Rattle.threaded_runs.specs.serving.specs.declared.answers.Served.{Served}
+use Rattle.threaded_runs.specs.serving.specs.declared.answers.Served.TheVariants as answers
 use Rattle.flock_tool.specs.End.{Tells}
 use Rattle.flock_tool.specs.declared.finish.Finish.{Finish}
 use Rattle.flock_tool.specs.declared.finish.Finish.TheVariants.{Whole, Halted, Slots, WornSlots, Versions}
@@ -43,6 +43,10 @@ abbrev pub finish_by : List Served → ℕ → Finish
 finish_by answers unserved =
     unwrap_or (first_from versions_of 0 answers)
     (unwrap_or (first_from slots_of 0 answers) (if nat_lt 0 unserved && any_halted answers then Halted unserved else Whole))
+
+abbrev pub is_whole : Finish → Bool
+is_whole Whole = true
+is_whole _ = false
 
 abbrev pub finish_status : Finish → ℕ
 finish_status Whole = 0

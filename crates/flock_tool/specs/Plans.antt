@@ -1,19 +1,19 @@
--- What the words of a command line and a text ask for.
-use Rattle.std.specs.Prelude.{◌≡◌, ℕ, ◌*◌, ◌<◌, ◌⊎◌, Bool, true, false, List, Option, Result, Err, IsOk, IfSome, count_by}
+-- What the options of a command and a text, or the generator, ask for.
+use Rattle.std.specs.Prelude.{◌≡◌, ℕ, ◌*◌, ◌<◌, ◌≤◌, ◌⊎◌, Bool, true, false, List, Option, Result, Err, IsOk, IfSome, count_by}
 use Rattle.map_history.specs.declared.op.Op.{Op}
 use Rattle.map_history.specs.declared.op.Op.TheVariants.{Get, Ins, Del}
 use Rattle.map_history.specs.declared.op.Request.{Request}
 use Rattle.map_history.specs.Requests.{AreInOrder}
 use Rattle.table_words.specs.declared.layout.Layout.{Layout}
 use Rattle.trace_reader.specs.Answer.{AreTracesOf, IsRefusal}
+use Rattle.trace_reader.specs.Generator.{generated}
 use Rattle.trace_reader.specs.Text.{IsAccepted, IsFirstRefusal}
+use Rattle.trace_reader.specs.declared.generator.Gen.{Gen}
 use Rattle.trace_reader.specs.declared.traces.TraceError.{TraceError}
-use Rattle.trace_reader.specs.declared.traces.TraceError.TheVariants.{Memory}
+use Rattle.trace_reader.specs.declared.traces.TraceError.TheVariants.{ReadFault, Memory, TooLarge, Malformed, TooManyTraces, TooManyRequests}
 use Rattle.trace_reader.specs.declared.traces.Traces.{Traces}
-use Rattle.flock_words.specs.Commands.{IsCommand, AreAccepted}
 use Rattle.flock_words.specs.Options.{runners_by, nodes_by, AreInRange}
-use Rattle.flock_words.specs.Written.{Text}
-use Rattle.flock_words.specs.declared.command.Command.TheVariants.{Run}
+use Rattle.flock_words.specs.declared.generated.LoadOptions.{LoadOptions}
 use Rattle.flock_words.specs.declared.options.RunOptions.{RunOptions}
 use Rattle.flock_tool.specs.declared.plan.Plan.{Plan}
 use Rattle.flock_tool.specs.declared.status.Stop.{Stop}
@@ -42,9 +42,9 @@ layout_by options traces requests = record {
 abbrev pub all_nodes : Layout → ℕ
 all_nodes layout = layout.nodes * layout.runners
 
--- the words and the text, where the source tells it, ask for this
-pub record IsPlanned (words : List Text) (left : Option (List ℕ)) (plan : Plan) : Type 0 where
-  pub command : IsCommand words (Run plan.options)
+-- the options and the text, where the source tells it, ask for this
+pub record IsPlanned (options : RunOptions) (left : Option (List ℕ)) (plan : Plan) : Type 0 where
+  pub given : plan.options ≡ options
   pub ranges : AreInRange plan.options
   pub text : IfSome left (AreTracesOf plan.traces)
   pub ordered : AreInOrder plan.traces.requests plan.traces.count
@@ -58,22 +58,50 @@ IsTooMuch layout (Nodes count) = (count ≡ all_nodes layout) × (262144 < count
 IsTooMuch layout WriteFault = ⊥
 
 -- they ask for so many node slots, which are more than the limit
-pub record AsksTooMuch (words : List Text) (left : Option (List ℕ)) (slots : ℕ) : Type 0 where
-  pub options : RunOptions
-  pub command : IsCommand words (Run options)
+pub record AsksTooMuch (options : RunOptions) (left : Option (List ℕ)) (slots : ℕ) : Type 0 where
   pub traces : Traces
   pub text : IfSome left (AreTracesOf traces)
   pub count : slots ≡ all_nodes (layout_by options traces.count traces.requests)
   pub much : 262144 < slots
 
 -- why there is no plan
-abbrev pub IsRefusedPlan : List Text → Option (List ℕ) → Stop → Type 0
-IsRefusedPlan words left Words = AreAccepted words → ⊥
-IsRefusedPlan words left (stops.Text error) = IfSome left (IsRefusal error)
-IsRefusedPlan words left (Nodes count) = AsksTooMuch words left count
-IsRefusedPlan words left WriteFault = ⊥
+abbrev pub IsRefusedPlan : RunOptions → Option (List ℕ) → Stop → Type 0
+IsRefusedPlan options left Words = ⊥
+IsRefusedPlan options left (stops.Text error) = IfSome left (IsRefusal error)
+IsRefusedPlan options left (Nodes count) = AsksTooMuch options left count
+IsRefusedPlan options left WriteFault = ⊥
 
 -- a text in the grammar is planned, unless it asks for too many node slots, and every other is refused for its first refusal, if memory isn't wanting
 pub record MustPlan (result : Result Plan Stop) (text : List ℕ) : Type 0 where
   pub accepted : IsAccepted text → IsOk result ⊎ (result ≡ Err (stops.Text Memory)) ⊎ ((count : ℕ) × (result ≡ Err (Nodes count)))
   pub refused : (error : TraceError) → IsFirstRefusal text error → (result ≡ Err (stops.Text error)) ⊎ (result ≡ Err (stops.Text Memory))
+
+-- how many requests are to be generated
+abbrev pub all_requests : Gen → ℕ
+all_requests plan = plan.traces * plan.length
+
+-- the options of `load` ask for this: the requests are the generator's
+pub record IsLoadPlanned (load : LoadOptions) (plan : Plan) : Type 0 where
+  pub given : plan.options ≡ load.run
+  pub ranges : AreInRange plan.options
+  pub count : plan.traces.count ≡ load.plan.traces
+  pub requests : plan.traces.requests ≡ generated load.plan
+  pub ordered : AreInOrder plan.traces.requests plan.traces.count
+  pub layout : plan.layout ≡ layout_by plan.options plan.traces.count plan.traces.requests
+
+-- they ask for so many node slots, which are more than the limit
+pub record LoadAsksTooMuch (load : LoadOptions) (slots : ℕ) : Type 0 where
+  pub count : slots ≡ all_nodes (layout_by load.run load.plan.traces (generated load.plan))
+  pub much : 262144 < slots
+
+-- why there is no plan for them: too many requests, or else too many node slots, or want of memory
+abbrev pub IsRefusedLoad : LoadOptions → Stop → Type 0
+IsRefusedLoad load Words = ⊥
+IsRefusedLoad load (stops.Text ReadFault) = ⊥
+IsRefusedLoad load (stops.Text Memory) = Unit {0}
+IsRefusedLoad load (stops.Text (TooLarge bytes)) = ⊥
+IsRefusedLoad load (stops.Text (Malformed line kind)) = ⊥
+IsRefusedLoad load (stops.Text (TooManyTraces count)) = ⊥
+IsRefusedLoad load (stops.Text (TooManyRequests count)) = (count ≡ all_requests load.plan) × (131072 < count)
+IsRefusedLoad load (Nodes count) = (all_requests load.plan ≤ 131072) × LoadAsksTooMuch load count
+IsRefusedLoad load WriteFault = ⊥

@@ -1,22 +1,23 @@
 -- What a run of the program leaves.
-use Rattle.std.specs.Prelude.{◌≡◌, ◌≢◌, ◌<◌, ◌⊎◌, ℕ, not, List, [], Option, IfSome, None, Some, true, codes, length, slice_get}
+use Rattle.std.specs.Prelude.{◌≡◌, ◌≢◌, ◌<◌, ◌⊎◌, ℕ, Bool, not, List, [], Option, IfSome, None, Some, true, codes, length, slice_get}
 use Rattle.fault_count.specs.Rose.{Rose}
 use Rattle.structure_laws.specs.Meaning.{Meaning}
 use Rattle.bucket_laws.specs.Buckets.{buckets_meaning}
 use Rattle.trace_reader.specs.Answer.{AreTracesOf}
 use Rattle.report_text.specs.Sink.{Extends, ExtendsInPart}
 use Rattle.hash_table.specs.declared.table.HashTable.{HashTable}
-use Rattle.version_words.specs.TableState.{WordsState}
+use Rattle.leaf_tree.specs.declared.tree.LeafTree.{LeafTree}
+use Rattle.tree_laws.specs.Leaves.{tree}
+use Rattle.threaded_runs.specs.version_words.specs.TableState.{WordsState}
 use Rattle.run_reports.specs.Reports.{IsReport, PrintsInPart}
-use Rattle.serving.specs.declared.answers.Served.{Served}
+use Rattle.threaded_runs.specs.serving.specs.declared.answers.Served.{Served}
 use Rattle.threaded_runs.specs.Counts.{halts_counted}
-use Rattle.threaded_runs.specs.Runs.{AreServed}
-use Rattle.flock_words.specs.Commands.{IsCommand}
+use Rattle.threaded_runs.specs.Runs.{AreServed, IsMadeWith}
 use Rattle.flock_words.specs.Halts.{ask_of, names_below}
-use Rattle.flock_words.specs.Written.{Text}
-use Rattle.flock_words.specs.declared.command.Command.TheVariants.{Run}
 use Rattle.flock_words.specs.declared.halts.Halt.{Halt}
 use Rattle.flock_words.specs.declared.options.RunOptions.{RunOptions}
+use Rattle.flock_words.specs.declared.options.TableKind.TheVariants as kinds
+use Rattle.flock_tool.specs.Complete.{Completes}
 use Rattle.flock_tool.specs.End.{Tells}
 use Rattle.flock_tool.specs.Finish.{any_halted, finish_by, finish_status, TellsFinish}
 use Rattle.flock_tool.specs.Plans.{layout_by}
@@ -26,17 +27,30 @@ use Rattle.flock_tool.specs.declared.status.Stop.{Stop}
 use Rattle.flock_tool.specs.declared.status.Stop.TheVariants as stops
 use Rattle.flock_tool.specs.declared.status.Stop.TheVariants.{Words, Nodes, WriteFault}
 use Rattle.flock_tool.specs.declared.ran.Ran.{Ran}
-use Rattle.flock_tool.specs.declared.ran.Ran.TheVariants.{Hash}
+use Rattle.flock_tool.specs.declared.ran.Ran.TheVariants.{Hash, Tree}
+
+-- which structure kept the map
+abbrev pub structure_in : Ran → Type 0
+structure_in (Hash words answers) = HashTable
+structure_in (Tree words answers) = LeafTree
 
 -- the closed words, and what the runners answered, in the order of their numbers
-abbrev pub words_in : Ran → WordsState HashTable
+abbrev pub words_in : (ran : Ran) → WordsState (structure_in ran)
 words_in (Hash words answers) = words
+words_in (Tree words answers) = words
 
 abbrev pub answers_in : Ran → List Served
 answers_in (Hash words answers) = answers.items
+answers_in (Tree words answers) = answers.items
 
 abbrev pub meaning_of : Ran → Meaning
 meaning_of (Hash words answers) = buckets_meaning words.structure.bits
+meaning_of (Tree words answers) = tree
+
+-- the table was of the kind and of the size that the options name
+abbrev pub IsTableOf : RunOptions → Ran → Type 0
+IsTableOf options (Hash words answers) = (options.table ≡ kinds.Hash) × (words.structure.bits ≡ options.bucket_bits)
+IsTableOf options (Tree words answers) = options.table ≡ kinds.Tree
 
 -- these are the plans of so many gates: for each runner the ask at which it is named to halt, if it is
 pub record AreHaltsOf (halts : List Halt) (runners : ℕ) (planned : List (Option ℕ)) : Type 0 where
@@ -45,24 +59,31 @@ pub record AreHaltsOf (halts : List Halt) (runners : ℕ) (planned : List (Optio
 
 -- the run was of these options, traces and requests
 pub record IsRunOf (options : RunOptions) (traces : ℕ) (ran : Ran) : Type 0 where
-  pub buckets : (words_in ran).structure.bits ≡ options.bucket_bits
+  pub table : IsTableOf options ran
   pub layout : (words_in ran).layout ≡ layout_by options traces (words_in ran).requests
   -- every runner has served its own traces, and has the cause of its answer
   pub served : AreServed (meaning_of ran) (words_in ran) (not (names_below options.halts (words_in ran).layout.runners)) (answers_in ran)
 
+-- a run of this plan on a table of this structure left these words and answers; its gates were given out and came back
+module _ {T : Type 0} (meaning : T → Meaning) where
+  pub record HasRunOn (structure : T) (plan : Plan) (words : WordsState T) (answers : List Served) (counted counted' : ℕ) (plans plans' : List (Option ℕ))
+      : Type 0 where
+    pub made : IsMadeWith structure plan.layout plan.traces.requests words
+    pub served : AreServed (meaning words.structure) words (not (names_below plan.options.halts plan.layout.runners)) answers
+    pub halts : counted' ≡ halts_counted counted answers
+    pub planned : plans ≡ [] → AreHaltsOf plan.options.halts plan.layout.runners plans'
+
 -- the run was of this plan; its gates were given out and came back
 pub record HasRunPlan (plan : Plan) (ran : Ran) (counted counted' : ℕ) (plans plans' : List (Option ℕ)) : Type 0 where
-  pub buckets : (words_in ran).structure.bits ≡ plan.options.bucket_bits
+  pub table : IsTableOf plan.options ran
   pub layout : (words_in ran).layout ≡ plan.layout
   pub requests : (words_in ran).requests ≡ plan.traces.requests
   pub served : AreServed (meaning_of ran) (words_in ran) (not (names_below plan.options.halts plan.layout.runners)) (answers_in ran)
   pub halts : counted' ≡ halts_counted counted (answers_in ran)
   pub planned : plans ≡ [] → AreHaltsOf plan.options.halts plan.layout.runners plans'
 
--- a run that the words of the command line and the text ask for; its gates were given out and came back
-pub record HasRun (words : List Text) (left : Option (List ℕ)) (traces : ℕ) (ran : Ran) (counted counted' : ℕ) (plans plans' : List (Option ℕ)) : Type 0 where
-  pub options : RunOptions
-  pub command : IsCommand words (Run options)
+-- a run that these options and the text ask for; its gates were given out and came back
+pub record HasRun (options : RunOptions) (left : Option (List ℕ)) (traces : ℕ) (ran : Ran) (counted counted' : ℕ) (plans plans' : List (Option ℕ)) : Type 0 where
   pub text : IfSome left (AreTracesOf (record { count = traces; requests = (words_in ran).requests }))
   pub run : IsRunOf options traces ran
   -- a runner answered that it was halted exactly where its gate counted a halt
@@ -91,6 +112,8 @@ pub record HasEnded (ran : Ran) (traces number : ℕ) (held held' : Option (List
   pub status : number ≢ 9 → number ≡ finish_status (finish_by (answers_in ran) unserved)
   -- at 0 each request is answered
   pub all : number ≡ 0 → unserved ≡ 0
+  -- with slots and versions enough it isn't 5, where a want of slots is waited out, and isn't 6
+  pub completes : (waits : Bool) → AreServed (meaning_of ran) (words_in ran) waits (answers_in ran) → Completes (meaning_of ran) (words_in ran) waits number
   pub line : number ≢ 9 → TellsFinish (finish_by (answers_in ran) unserved) told told' told_faults told_faults'
   pub failed : number ≡ 9 → Tells (codes "flock: write fault\n") told told' told_faults told_faults'
 

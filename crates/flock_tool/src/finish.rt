@@ -1,14 +1,14 @@
 // How a run ends, by what its runners answered.
 ghost use Rattle.std.specs.Prelude.{◌≡◌, ◌+◌, ◌≤◌, length};
 ghost use Rattle.flock_tool.specs.declared.finish.Finish.TheVariants.{Halted, Versions};
-ghost use Rattle.flock_tool.specs.Finish.{versions_of, slots_of, first_from, is_halted, any_halted, finish_by, finish_status, finish_line, kind_name, counts_line, TellsFinish};
+ghost use Rattle.flock_tool.specs.Finish.{versions_of, slots_of, first_from, is_halted, any_halted, finish_by, finish_status, finish_line, is_whole, kind_name, counts_line, TellsFinish};
 
 use arrayvec::ArrayString;
-use epoch_slots::{Kind, Short};
 use itoa::Buffer;
 use report_text::{Sink, write_all};
 use section_body::{Place, Word};
-use serving::Served;
+use threaded_runs::epoch_slots::{Kind, Short};
+use threaded_runs::serving::Served;
 
 /// How a run ended whose report was printed.
 #[derive(Clone, Copy, Debug, PartialEq, Eq)]
@@ -110,6 +110,16 @@ fn is_halted(answer: Served) -> bool
 {
     match answer {
         Served::Halted => true,
+        _ => false,
+    }
+}
+
+/// Whether nothing kept a request from its answer.
+pub fn is_whole(finish: &Finish) -> bool
+    ensures { result ≡ is_whole finish.now }
+{
+    match finish {
+        Finish::Whole => true,
         _ => false,
     }
 }

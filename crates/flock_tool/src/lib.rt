@@ -1,13 +1,17 @@
 //! The program `flock`: reads a trace text, runs its requests on one table with a thread for each runner, and prints the report.
 //!
-//! `tool` has the top call, whose contract carries the theorem. `plan` reads the words and the text, `run` runs and prints, `ran` is what a run
-//! leaves, `status` has the ways in which the program can end without a report and `finish` those in which a run can, each with its number and
-//! its line, and `standard` adapts std's readers and writers.
+//! `tool` has the top call, whose contract carries the theorem, `report` the command `run`, `generation` the command `gen` and `load` the command
+//! `load`. `plan` reads the text or generates the requests, `run` runs and prints, `ran` is what a run leaves, `status` has the ways in which the
+//! program can end without a report and `finish` those in which a run can, each with its number and its line, and `standard` adapts std's readers
+//! and writers.
 #![tactic(auto)]
 
 mod finish;
+mod generation;
+mod load;
 mod plan;
 mod ran;
+mod report;
 mod run;
 mod standard;
 mod status;

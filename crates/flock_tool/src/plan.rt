@@ -1,22 +1,31 @@
-// What the words of the command line and the text ask for.
-ghost use Rattle.std.specs.Prelude.{◌≡◌, ◌≢◌, ◌⊎◌, ◌≤◌, ◌<◌, ◌^◌, length, Err, IfOk, IfErr, IfSome};
+// What the options of a command and the text, or the generator, ask for.
+ghost use Rattle.std.specs.Prelude.{◌≡◌, ◌≤◌, ◌<◌, ◌^◌, length, Err, IfOk, IfErr, IfSome};
 ghost use Rattle.fault_count.specs.Rose.{Rose};
 ghost use Rattle.table_words.specs.Limits.{IsWithinLimits};
-ghost use Rattle.trace_reader.specs.Answer.{IsRefusal, StopsBefore};
-ghost use Rattle.trace_reader.specs.Text.{IsAccepted, IsFirstRefusal};
-ghost use Rattle.trace_reader.specs.declared.traces.TraceError.{TraceError};
-ghost use Rattle.trace_reader.specs.declared.traces.TraceError.TheVariants.{ReadFault, Memory};
-ghost use Rattle.flock_words.specs.Commands.{AreAccepted, texts};
-ghost use Rattle.flock_tool.specs.declared.status.Stop.TheVariants.{Words, Text};
+ghost use Rattle.trace_reader.specs.Answer.{StopsBefore};
+ghost use Rattle.trace_reader.specs.declared.traces.TraceError.TheVariants.{ReadFault, TooManyRequests};
+ghost use Rattle.flock_words.specs.Generated.{AreLoadRanges};
 ghost use Rattle.flock_words.specs.Options.{AreInRange};
-ghost use Rattle.flock_tool.specs.Plans.{IsPlanned, IsRefusedPlan, MustPlan, IsTooMuch, insertions_in, is_insertion, layout_by};
+ghost use Rattle.flock_tool.specs.declared.status.Stop.TheVariants.{Text};
+ghost use Rattle.flock_tool.specs.Plans.{
+  IsPlanned,
+  IsRefusedPlan,
+  IsLoadPlanned,
+  IsRefusedLoad,
+  MustPlan,
+  IsTooMuch,
+  all_requests,
+  insertions_in,
+  is_insertion,
+  layout_by,
+};
 
 use crate::status::Stop;
-use flock_words::{Command, RunOptions, read_words};
+use flock_words::{LoadOptions, RunOptions};
 use map_history::{Op, Request};
 use std::alloc::Global;
 use table_words::Layout;
-use trace_reader::{Source, Traces, read_traces};
+use trace_reader::{MAX_REQUESTS, Source, TraceError, Traces, generate, read_traces};
 
 /// The most node slots that the runners have together.
 const MOST_NODES: u32 = 262_144;
@@ -29,25 +38,39 @@ pub struct Plan {
     pub layout: Layout,
 }
 
-/// Reads the words and then the text. Refused for the words, for the text by its first refusal, or for too many node slots, in this order.
-pub fn plan_of<'a, R: Source>(
-    alloc: Global,
-    words: &'a [&'a str],
-    source: &mut R,
-) -> Result<Plan, Stop>
-    ensures planned { IfOk result (IsPlanned (texts words.now) (R.left source.old)) }
+/// Reads the text that is run with these options. Refused by its first refusal, or for too many node slots, in this order.
+pub fn plan_of<R: Source>(alloc: Global, options: RunOptions, source: &mut R) -> Result<Plan, Stop>
+    requires { AreInRange options }
+    ensures planned { IfOk result (IsPlanned options (R.left source.old)) }
     ensures limits { IfOk result (λ plan. IsWithinLimits plan.layout) }
-    ensures refused { IfErr result (IsRefusedPlan (texts words.now) (R.left source.old)) }
-    ensures must { AreAccepted (texts words.now) → (Rose (R.faults source.old) (R.faults source.new) → ⊥) → IfSome (R.left source.old) (MustPlan result) }
-    ensures words { (AreAccepted (texts words.now) → ⊥) → (result ≡ Err Words) ⊎ (result ≡ Err (Text Memory)) }
+    ensures refused { IfErr result (IsRefusedPlan options (R.left source.old)) }
+    ensures must { (Rose (R.faults source.old) (R.faults source.new) → ⊥) → IfSome (R.left source.old) (MustPlan result) }
     ensures read { result ≡ Err (Text ReadFault) → Rose (R.faults source.old) (R.faults source.new) × StopsBefore (R.left source.old) (R.left source.new) }
     ensures reads { (result ≡ Err (Text ReadFault) → ⊥) → R.faults source.new ≡ R.faults source.old }
 {
-    let Some(command) = read_words(alloc, words)? else {
-        return Err(Stop::Words);
-    };
-    let Command::Run(options) = command;
     let traces = read_traces(alloc, source)?;
+    let layout = layout_of(&options, &traces)?;
+    Ok(Plan {
+        options,
+        traces,
+        layout,
+    })
+}
+
+/// Generates the requests that are run with these options. Refused for too many requests, or for too many node slots, in this order.
+pub fn load_plan(alloc: Global, load: LoadOptions) -> Result<Plan, Stop>
+    requires { AreLoadRanges load }
+    ensures planned { IfOk result (IsLoadPlanned load) }
+    ensures limits { IfOk result (λ plan. IsWithinLimits plan.layout) }
+    ensures refused { IfErr result (IsRefusedLoad load) }
+    ensures must { 131072 < all_requests load.plan → result ≡ Err (Text (TooManyRequests (all_requests load.plan))) }
+{
+    let count = load.plan.traces * load.plan.length;
+    if count > MAX_REQUESTS {
+        return Err(Stop::Text(TraceError::TooManyRequests { count }));
+    }
+    let traces = generate(alloc, &load.plan)?;
+    let options = load.run;
     let layout = layout_of(&options, &traces)?;
     Ok(Plan {
         options,

@@ -1,12 +1,15 @@
 // What a run leaves.
 
 use hash_table::HashTable;
-use serving::Served;
-use version_words::Words;
+use leaf_tree::LeafTree;
+use threaded_runs::serving::Served;
+use threaded_runs::version_words::Words;
 
 /// The closed words of a run, and what each runner answered, in the order of their numbers. Its words come from the closing of a table alone.
 #[derive(Drop)]
 pub enum Ran {
     /// On the hash table.
     Hash(Words<HashTable>, Vec<Served>),
+    /// On the search tree.
+    Tree(Words<LeafTree>, Vec<Served>),
 }

@@ -1,33 +1,35 @@
 // The run itself, and its report.
-ghost use Rattle.std.specs.Prelude.{◌≡◌, ◌≤◌, IfOk, IfErr, OnOk, not};
+ghost use Rattle.std.specs.Prelude.{◌≡◌, ◌≤◌, IfOk, IfErr, OnOk, not, true};
 ghost use Rattle.std.specs.FinMap.{len};
+ghost use Rattle.map_history.specs.declared.op.Op.{Op};
 ghost use Rattle.map_history.specs.Replay.{Pairs};
 ghost use Rattle.map_history.specs.Requests.{AreInOrder};
 ghost use Rattle.table_words.specs.Limits.{IsWithinLimits};
-ghost use Rattle.bucket_laws.specs.Buckets.{buckets_meaning};
-ghost use Rattle.machine_invariant.specs.After.{AreAllowed};
-ghost use Rattle.closed_words.specs.Histories.{HoldsNoLock};
+ghost use Rattle.threaded_runs.specs.machine_invariant.specs.After.{AreAllowed};
+ghost use Rattle.threaded_runs.specs.closed_words.specs.Histories.{HoldsNoLock};
 ghost use Rattle.flock_words.specs.Options.{AreInRange};
 ghost use Rattle.run_reports.specs.Reports.{HaveContents, Prints};
-ghost use Rattle.flock_tool.specs.Runs.{words_in, answers_in, meaning_of, HasRunPlan, StopsReport};
+ghost use Rattle.flock_tool.specs.Runs.{words_in, answers_in, meaning_of, HasRunOn, HasRunPlan, StopsReport};
 
 use crate::plan::Plan;
 use crate::ran::Ran;
 use crate::status::Stop;
+use flock_words::TableKind;
 use hash_table::HashTable;
-use lock_walks::Planner;
+use leaf_tree::LeafTree;
 use report_text::Sink;
 use run_reports::{contents_stand, print_words};
 use runner_gate::Gates;
-use serving::Served;
 use std::alloc::{AllocError, Global};
 use std::sync::Wait;
 use std::thread::Threads;
+use threaded_runs::lock_walks::Planner;
 use threaded_runs::run_table;
-use version_words::{Words, words_are_reached};
+use threaded_runs::serving::Served;
+use threaded_runs::version_words::{Words, words_are_reached};
 
-/// Runs the requests of a plan on one table. A runner that lacks slots tries again while some of its own are in limbo, unless the words name
-/// a halt for a runner that is there: a halted runner would keep them there. The Err is want of memory.
+/// Runs the requests of a plan on one table of the structure that its options name. A runner that lacks slots tries again while some of its own
+/// are in limbo, unless the words name a halt for a runner that is there: a halted runner would keep them there. The Err is want of memory.
 pub fn run_plan<T: Threads + Wait + Sync, G: Gates>(
     rt: &T,
     alloc: Global,
@@ -39,25 +41,54 @@ pub fn run_plan<T: Threads + Wait + Sync, G: Gates>(
     requires ordered { AreInOrder plan.now.traces.requests plan.now.traces.count }
     ensures { IfOk result (λ ran. HasRunPlan plan.now ran (G.halts gates.old) (G.halts gates.new) (G.planned gates.old) (G.planned gates.new)) }
 {
+    match plan.options.table {
+        TableKind::Hash => {
+            let table = HashTable::new(plan.options.bucket_bits);
+            let (words, answers) = run_on(rt, alloc, table, plan, gates)?;
+            Ok(Ran::Hash(words, answers))
+        }
+        TableKind::Tree => {
+            let (words, answers) = run_on(rt, alloc, LeafTree::new(), plan, gates)?;
+            Ok(Ran::Tree(words, answers))
+        }
+    }
+}
+
+// Runs the requests of a plan on one table of this structure, which serves every request.
+fn run_on<T: Threads + Wait + Sync, S: Planner, G: Gates>(
+    rt: &T,
+    alloc: Global,
+    structure: S,
+    plan: &Plan,
+    gates: &mut G,
+) -> Result<(Words<S>, Vec<Served>), AllocError>
+where
+    S::Walk: Send + Sync,
+    requires ranges { AreInRange plan.now.options }
+    requires limits { IsWithinLimits plan.now.layout }
+    requires ordered { AreInOrder plan.now.traces.requests plan.now.traces.count }
+    requires served { (op : Op) → (S.planning structure).serves op ≡ true }
+    ensures { IfOk result (λ ran. HasRunOn S.meaning structure plan.now ran.0 ran.1.items (G.halts gates.old) (G.halts gates.new) (G.planned gates.old) (G.planned gates.new)) }
+{
     let runners = plan.layout.runners;
     let halts = plan.options.halts.asks(alloc, runners)?;
-    let (words, answers) = run_table(
+    run_table(
         rt,
         alloc,
-        HashTable::new(plan.options.bucket_bits),
+        structure,
         plan.layout,
         plan.traces.requests.as_slice(),
         halts.as_slice(),
         !plan.options.halts.name_below(runners),
         gates,
-    )?;
-    Ok(Ran::Hash(words, answers))
+    )
 }
 
-// How many pairs the words hold.
-fn size_of(alloc: Global, words: &Words<HashTable>) -> Result<u32, AllocError>
-    requires free { HoldsNoLock (buckets_meaning words.now.structure.bits) words.now }
-    ensures { IfOk result (λ size. (pairs : Pairs) → HaveContents (buckets_meaning words.now.structure.bits) words.now pairs → size ≡ len pairs) }
+/// How many pairs the words hold.
+pub fn size_of<S: Planner>(alloc: Global, words: &Words<S>) -> Result<u32, AllocError>
+    requires map { (S.meaning words.now.structure).is_map ≡ true }
+    requires free { HoldsNoLock (S.meaning words.now.structure) words.now }
+    ensures { IfOk result (λ size. (pairs : Pairs) → HaveContents (S.meaning words.now.structure) words.now pairs → size ≡ len pairs) }
 {
     contents_stand(words);
     let pairs = words.structure().contents(alloc, words)?;
@@ -69,32 +100,36 @@ pub fn run_is_allowed(ran: &Ran)
     ensures limits { IsWithinLimits (words_in ran.now).layout }
     ensures requests { AreAllowed (words_in ran.now).requests }
 {
-    let Ran::Hash(words, _) = ran;
-    words_are_reached(words);
+    match ran {
+        Ran::Hash(words, _) => words_are_reached(words),
+        Ran::Tree(words, _) => words_are_reached(words),
+    }
 }
 
 /// What each runner answered, in the order of their numbers.
 pub fn answers(ran: &Ran) -> &[Served]
     ensures { result.now ≡ answers_in ran.now }
 {
-    let Ran::Hash(_, answers) = ran;
-    answers.as_slice()
+    match ran {
+        Ran::Hash(_, answers) | Ran::Tree(_, answers) => answers.as_slice(),
+    }
 }
 
-// Prints the report on a closed hash table, and answers how many requests are unserved.
-fn print_hash<K: Sink>(
+// Prints the report on a closed table, and answers how many requests are unserved.
+fn print_on<S: Planner, K: Sink>(
     alloc: Global,
     plan: &Plan,
-    words: &Words<HashTable>,
+    words: &Words<S>,
     sink: &mut K,
 ) -> Result<u32, Stop>
+    requires map { (S.meaning words.now.structure).is_map ≡ true }
     requires requests { words.now.requests ≡ plan.now.traces.requests }
     requires ordered { AreInOrder plan.now.traces.requests plan.now.traces.count }
-    requires free { HoldsNoLock (buckets_meaning words.now.structure.bits) words.now }
+    requires free { HoldsNoLock (S.meaning words.now.structure) words.now }
     ensures prints { IfOk result (λ unserved.
-        Prints (buckets_meaning words.now.structure.bits) words.now plan.now.traces.count unserved (K.held sink.old) (K.held sink.new)) }
+        Prints (S.meaning words.now.structure) words.now plan.now.traces.count unserved (K.held sink.old) (K.held sink.new)) }
     ensures stops { IfErr result (λ stop.
-        StopsReport (buckets_meaning words.now.structure.bits) words.now plan.now.traces.count stop (K.held sink.old) (K.held sink.new)
+        StopsReport (S.meaning words.now.structure) words.now plan.now.traces.count stop (K.held sink.old) (K.held sink.new)
         (K.faults sink.old) (K.faults sink.new)) }
     ensures steady { OnOk result (K.faults sink.new ≡ K.faults sink.old) }
 {
@@ -123,6 +158,7 @@ pub fn print_run<K: Sink>(alloc: Global, plan: &Plan, ran: &Ran, sink: &mut K) -
     ensures steady { OnOk result (K.faults sink.new ≡ K.faults sink.old) }
 {
     match ran {
-        Ran::Hash(words, _) => print_hash(alloc, plan, words, sink),
+        Ran::Hash(words, _) => print_on(alloc, plan, words, sink),
+        Ran::Tree(words, _) => print_on(alloc, plan, words, sink),
     }
 }

@@ -1,9 +1,10 @@
 // The ways in which the program ends without a report.
 ghost use Rattle.std.specs.Prelude.{◌≡◌, ◌++◌, ◌≤◌, length, codes, decimal};
 ghost use Rattle.trace_reader.specs.declared.traces.TraceError.TheVariants.{Malformed};
-ghost use Rattle.flock_tool.specs.End.{Tells, kind_text, error_line, error_status, stop_line, stop_status};
+ghost use Rattle.flock_tool.specs.End.{Tells, kind_text, error_line, error_status, print_stop, stop_line, stop_status};
 
 use arrayvec::ArrayString;
+use generated_text::PrintStop;
 use itoa::Buffer;
 use report_text::{Sink, write_all};
 use run_reports::PrintError;
@@ -54,6 +55,17 @@ impl From<PrintError> for Stop {
             PrintError::Memory => Stop::Text(TraceError::Memory),
             PrintError::Failed => Stop::WriteFault,
         }
+    }
+}
+
+/// Why generated requests weren't printed whole.
+pub fn stop_of_print(stop: PrintStop) -> Stop
+    ensures { result ≡ print_stop stop }
+{
+    match stop {
+        PrintStop::TooManyRequests { count } => Stop::Text(TraceError::TooManyRequests { count }),
+        PrintStop::Memory => Stop::Text(TraceError::Memory),
+        PrintStop::WriteFault => Stop::WriteFault,
     }
 }
 

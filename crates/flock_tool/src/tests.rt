@@ -30,6 +30,7 @@ flock 1/trace/trace/trace/get 3/=>trace 0/trace 1/trace 2/0 none/final 0/
 const RUNS: &str = "\
 0 run --runners 1|flock 1/trace/ins 1 10/trace/get 1/|trace 0/0 new/trace 1/1 val 10/final 1/|
 0 run --buckets 1|flock 1/trace/ins 1 1/ins 2 2/ins 3 3/del 2/get 1/get 3/|trace 0/0 new/1 new/2 new/3 gone/4 val 1/5 val 3/final 2/|
+0 run --table tree|flock 1/trace/ins 1 1/ins 2 2/ins 3 3/del 2/get 1/get 3/|trace 0/0 new/1 new/2 new/3 gone/4 val 1/5 val 3/final 2/|
 0 run --table hash --sections 4 --nodes 4|flock 1/trace/ins 1 1/del 1/ins 2 2/|trace 0/0 new/1 gone/2 new/final 1/|
 1 run --runners 2 --halt 1:1|flock 1/trace/ins 1 1/get 1/trace/get 1/|trace 0/0 new/1 val 1/trace 1/- unserved/final 1/|flock: halted, 1 unserved/
 0 run --runners 1 --halt 1:1|flock 1/trace/get 1/|trace 0/0 none/final 0/|
@@ -40,8 +41,21 @@ const RUNS: &str = "\
 2 run --buckets 3|flock 1/||flock: words refused/
 2 run --runners 0|flock 1/||flock: words refused/
 2 run --halt 0:0|flock 1/||flock: words refused/
-2 run --table tree|flock 1/||flock: words refused/
+2 run --table trees|flock 1/||flock: words refused/
+2 run --nodes 1 --nodes 1|flock 1/||flock: words refused/
+2 run --|flock 1/||flock: words refused/
 2 walk|flock 1/||flock: words refused/
+2 gen --seed=1 --traces 1 --length 3|||flock: words refused/
+2 load --seed=1 --traces 1 --length 3 --keys 100 --halt 0:1|||flock: words refused/
+0 gen --seed=1 --traces 1 --length 3 --keys 100||flock 1/trace/del 58/ins 15 150/get 27/|
+0 gen --seed=1 --traces=0 --length=3 --keys=1||flock 1/|
+4 gen --seed=1 --traces 2 --length 65537 --keys 1|||flock: limit: requests 131074/
+0 load --seed=1 --traces 1 --length 3 --keys 100||requests 3/new 1/dup 0/val 0/gone 0/none 2/final 1/|
+0 load --seed=1 --traces 0 --length 3 --keys 1||requests 0/new 0/dup 0/val 0/gone 0/none 0/final 0/|
+4 load --seed=1 --traces 2 --length 65537 --keys 1 --nodes 131073|||flock: limit: requests 131074/
+4 load --seed=1 --traces 2 --length 1 --keys 1 --nodes 131073|||flock: limit: nodes 262146/
+5 load --seed=1 --traces 1 --length 3 --keys 100 --nodes=0|||flock: slots: runner 0 node free 0 limbo 0 worn 0/
+6 load --seed=1 --traces 1 --length 3 --keys 1 --buckets 1 --version-max 3|||flock: versions: place 0 value 0 version 3/
 ";
 
 const FAULTS: &str = "\
@@ -239,6 +253,52 @@ fn runs_end_as_their_options_say(rt: HostRuntime) -> Result<(), Fail> {
         assert!(rt; ran.sink.bytes() == report.as_slice(), "{command}");
         assert!(rt; ran.faults.bytes() == told.as_slice(), "{command}");
     }
+    Ok(())
+}
+
+fn run_quiet<T: Threads + Wait + Sync>(
+    rt: &T,
+    alloc: Global,
+    line: &str,
+    text: Vec<u8>,
+) -> Result<Ran, AllocError> {
+    let words: Vec<&str> = line.split(' ').collect(alloc)?;
+    Ok(run_words(rt, alloc, &words, text, Vec::new(alloc)))
+}
+
+// What `gen` prints is a text that `run` serves.
+#[test]
+fn generated_texts_are_served(rt: HostRuntime) -> Result<(), Fail> {
+    let alloc = rt.alloc();
+    let line = "gen --seed 7 --traces 4 --length 1000 --keys 200";
+    let printed = run_quiet(&rt, alloc, line, Vec::new(alloc))?;
+    assert!(rt; printed.status == 0);
+    let text = printed.sink.bytes().to_vec(alloc)?;
+    let ran = run_quiet(&rt, alloc, "run --runners 4", text)?;
+    assert!(rt; ran.status == 0);
+    let lines = ran
+        .sink
+        .bytes()
+        .iter()
+        .filter(|byte| **byte == b'\n')
+        .count();
+    assert_eq!(rt; lines, 4005);
+    Ok(())
+}
+
+// The counts are the same whoever serves the requests.
+#[test]
+fn loads_give_the_same_counts(rt: HostRuntime) -> Result<(), Fail> {
+    let alloc = rt.alloc();
+    let line = "load --seed=1 --traces 8 --length 4000 --keys 1000 --runners 4";
+    let first = run_quiet(&rt, alloc, line, Vec::new(alloc))?;
+    let second = run_quiet(&rt, alloc, line, Vec::new(alloc))?;
+    let line = "load --seed=1 --traces 8 --length 4000 --keys 1000 --runners 1 --buckets 1024";
+    let alone = run_quiet(&rt, alloc, line, Vec::new(alloc))?;
+    assert!(rt; first.status == 0);
+    assert!(rt; first.sink.bytes().starts_with(b"requests 32000\n"));
+    assert!(rt; second.sink.bytes() == first.sink.bytes());
+    assert!(rt; alone.sink.bytes() == first.sink.bytes());
     Ok(())
 }
 

@@ -1,4 +1,5 @@
 pub mod Bools
+pub mod Commands
 pub mod Cuts
 pub mod Meanings
 pub mod Ranges

@@ -1,17 +1,22 @@
 -- Options that have a meaning are in their ranges.
 use Rattle.std.proofs.Common.{◌≡◌, ◌≤◌, ℕ, Bool, true, false, cond, List, [], ◌∷◌, Option, None, Some, codes, map, refl, sym, ap, ◌∙◌, subst, arith}
-use Rattle.std.specs.Prelude.{◌==◌, ◌&&◌, All, IfSome, nat_le, option_and_then, option_map, position}
-use Rattle.std.specs.List.{AllByRecursion, list_any, before_first, after_first, slice_split}
+use Rattle.std.specs.Prelude.{◌==◌, ◌&&◌, All, IfSome, find, nat_le, option_and_then, option_map, position}
+use Rattle.std.specs.Str.{bytes_eq}
+use Rattle.std.specs.List.{AllByRecursion, list_all, list_any, before_first, after_first, slice_split}
 use Rattle.std.proofs.lemmas.Bool.{leb-true}
 use Rattle.std.proofs.lemmas.List.Elements.{All-from_recursion}
 use Rattle.std.proofs.lemmas.List.Quantifiers.{position-Some}
+use Rattle.std.proofs.lemmas.Slice.Eq.{bytes_eq-Decides}
+use Rattle.trace_reader.specs.declared.generator.Gen.{Gen}
+use Rattle.flock_words.specs.declared.generated.LoadOptions.{LoadOptions}
+use Rattle.flock_words.specs.Generated.{AreLoadRanges, ArePlanRanges, MeanLoad, MeanPlan, load_names}
 use Rattle.trace_reader.specs.Fields.{is_number, value_of}
 use Rattle.flock_words.specs.declared.halts.Halt.{Halt}
 use Rattle.flock_words.specs.declared.options.RunOptions.{RunOptions}
 use Rattle.flock_words.specs.Halts.{all_there, halt_in, halt_of, halts_in, if_runners_differ, is_colon, is_comma, runners_differ, together}
 use Rattle.flock_words.specs.Numbers.{exponent_in, number_in, powers}
 use Rattle.flock_words.specs.Options.{AreInRange, Mean, meant, meant_or}
-use Rattle.flock_words.specs.Written.{Text, Written, given}
+use Rattle.flock_words.specs.Written.{AreOptionsOf, Text, Written, given, is_among}
 use Rattle.flock_words.proofs.Bools.{both_true}
 
 abbrev is_in : (least greatest : ℕ) → Text → Bool
@@ -125,3 +130,44 @@ in_range options run mean = record {
   version_max = (default_bounds 4294967295 3 4294967295 (given options (codes "version-max")) run.version_max (omega arith) (omega arith) mean.version_max).0;
   halts = halts_bounds (given options (codes "halt")) run.halts mean.halts;
 }
+
+given_bounds : (least greatest : ℕ) (text : Option Text) (number : ℕ) → option_and_then (number_in least greatest) text ≡ Some number → (least ≤ number) × (number ≤ greatest)
+given_bounds least greatest None number e = cc
+given_bounds least greatest (Some text) number e = number_bounds least greatest text number e
+
+pub plan_in_range : (options : List Written) (own_keys : Bool) (plan : Gen) → MeanPlan options own_keys plan → ArePlanRanges plan
+plan_in_range options own_keys plan mean =
+    let keys = given_bounds 1 32768 (given options (codes "keys")) plan.keys mean.keys in
+    record {
+      seed = (given_bounds 0 2147483647 (given options (codes "seed")) plan.seed mean.seed).1;
+      traces = (given_bounds 0 64 (given options (codes "traces")) plan.traces mean.traces).1;
+      count = (given_bounds 0 131072 (given options (codes "length")) plan.length mean.count).1;
+      some_keys = keys.0;
+      keys = keys.1;
+    }
+
+-- an option of another name isn't given
+not_given : (names : List Text) (name : Text) (options : List Written) → is_among names name ≡ false → list_all (λ (written : Written). is_among names written.name) options ≡ true → given options name ≡ None
+not_given names name [] other known = refl
+not_given names name (written ∷ options) other known =
+    let parts = both_true (is_among names written.name) (list_all (λ (written : Written). is_among names written.name) options) known in
+    by_test (not_given names name options other parts.1) parts.0 (bytes_eq written.name name) refl
+  where
+    by_test : given options name ≡ None → is_among names written.name ≡ true → (b : Bool) → bytes_eq written.name name ≡ b → given (written ∷ options) name ≡ None
+    by_test again among true is =
+        let same : written.name ≡ name = (bytes_eq-Decides written.name name).0 is in
+        let no : true ≡ false = sym among ∙ ap (is_among names) same ∙ other in
+        cc
+    by_test again among false is =
+        ap (λ b. option_map (λ (written : Written). written.value) (cond b (Some written) (find (λ (written : Written). bytes_eq written.name name) options))) is ∙ again
+
+pub load_in_range : (options : List Written) (load : LoadOptions) → AreOptionsOf load_names options → MeanLoad options load → AreLoadRanges load
+load_in_range options load of mean = record {
+  plan = plan_in_range options true load.plan mean.plan;
+  apart = mean.plan.apart;
+  run = in_range options load.run mean.run;
+  no_halts = some_halts (sym (ap (meant_or [] halts_in) (not_given load_names (codes "halt") options refl of.known)) ∙ mean.run.halts);
+}
+  where
+    some_halts : Some [] ≡ Some load.run.halts → load.run.halts ≡ []
+    some_halts e = cc

@@ -1,8 +1,9 @@
 -- The command line: which words are accepted, and what they mean.
-use Rattle.std.specs.Prelude.{◌≡◌, List, [], ◌∷◌, codes, map}
+use Rattle.std.specs.Prelude.{◌≡◌, List, [], ◌∷◌, Option, None, Some, codes, map}
 use Rattle.std.specs.Borrow.{Bor}
 use Rattle.flock_words.specs.declared.command.Command.{Command}
-use Rattle.flock_words.specs.declared.command.Command.TheVariants.{Run}
+use Rattle.flock_words.specs.declared.command.Command.TheVariants as commands
+use Rattle.flock_words.specs.Generated.{AreLoadRanges, ArePlanRanges, IsGen, IsLoad}
 use Rattle.flock_words.specs.Options.{AreInRange, IsRun}
 use Rattle.flock_words.specs.Written.{Text}
 
@@ -12,11 +13,20 @@ texts words = map (λ word. word.now) words
 -- the first word names the command, and its options follow in any order
 abbrev pub IsCommand : List Text → Command → Type 0
 IsCommand [] command = ⊥
-IsCommand (word ∷ words) (Run options) = (word ≡ codes "run") × IsRun words options
+IsCommand (word ∷ words) (commands.Run options) = (word ≡ codes "run") × IsRun words options
+IsCommand (word ∷ words) (commands.Gen plan) = (word ≡ codes "gen") × IsGen words plan
+IsCommand (word ∷ words) (commands.Load options) = (word ≡ codes "load") × IsLoad words options
 
 -- the words are accepted
 abbrev pub AreAccepted : List Text → Type 0
 AreAccepted words = (command : Command) × IsCommand words command
 
 abbrev pub HasRanges : Command → Type 0
-HasRanges (Run options) = AreInRange options
+HasRanges (commands.Run options) = AreInRange options
+HasRanges (commands.Gen plan) = ArePlanRanges plan
+HasRanges (commands.Load options) = AreLoadRanges options
+
+-- what words say behind a command's name, where they say anything
+abbrev pub IsSaid : List Text → Text → Option Command → Type 0
+IsSaid words name None = (command : Command) → IsCommand (name ∷ words) command → ⊥
+IsSaid words name (Some command) = IsCommand (name ∷ words) command × HasRanges command

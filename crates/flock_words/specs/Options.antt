@@ -4,13 +4,13 @@ use Rattle.std.specs.Str.{bytes_eq}
 use Rattle.flock_words.specs.declared.halts.Halt.{Halt}
 use Rattle.flock_words.specs.declared.options.RunOptions.{RunOptions}
 use Rattle.flock_words.specs.declared.options.TableKind.{TableKind}
-use Rattle.flock_words.specs.declared.options.TableKind.TheVariants.{Hash}
+use Rattle.flock_words.specs.declared.options.TableKind.TheVariants.{Hash, Tree}
 use Rattle.flock_words.specs.Halts.{halts_in}
 use Rattle.flock_words.specs.Numbers.{exponent_in, number_in}
 use Rattle.flock_words.specs.Written.{AreOptionsOf, Text, Written, all_words_of, given}
 
 abbrev pub table_in : Text → Option TableKind
-table_in text = if bytes_eq text (codes "hash") then Some Hash else None
+table_in text = if bytes_eq text (codes "hash") then Some Hash else if bytes_eq text (codes "tree") then Some Tree else None
 
 -- what an option means: its default where it isn't given, else what its text says, if that is anything
 abbrev pub meant_or : {X : Type 0} → X → (Text → Option X) → Option Text → Option X

@@ -5,6 +5,7 @@
 #![tactic(auto)]
 
 mod command;
+mod generated;
 mod given;
 mod halts;
 mod number;
@@ -12,6 +13,7 @@ mod options;
 #[cfg(test)]
 mod tests;
 
-pub use command::{Command, read_words};
+pub use command::{Command, read_words, words_mean_one_command};
+pub use generated::LoadOptions;
 pub use halts::{Halt, Halts};
 pub use options::{RunOptions, TableKind};

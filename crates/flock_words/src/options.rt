@@ -29,6 +29,8 @@ const RUN_NAMES: [&str; 7] = [
 pub enum TableKind {
     /// The hash table with a lock for each bucket.
     Hash,
+    /// The search tree with a lock in each inner node.
+    Tree,
 }
 
 /// The options of `run`. Where a default depends on the text that is run, an option that isn't given is None.
@@ -88,8 +90,8 @@ pub fn read_run(alloc: Global, words: &[&str]) -> Result<Option<RunOptions>, All
     }
 }
 
-// What these options mean. None where one of them has no meaning.
-fn run_options(alloc: Global, given: &[Given<'_>]) -> Result<Option<RunOptions>, AllocError>
+/// What these options mean. None where one of them has no meaning.
+pub fn run_options(alloc: Global, given: &[Given<'_>]) -> Result<Option<RunOptions>, AllocError>
     ensures read { IfOk result (λ answer. IfSome answer (Mean (all_written_by given.now))) }
     ensures refused { IfOk result (λ answer. IfNone answer ((run : RunOptions) → Mean (all_written_by given.now) run → ⊥)) }
 {
@@ -127,6 +129,7 @@ fn table_or_hash(text: Option<&str>) -> Option<TableKind>
 {
     match text {
         Some("hash") => Some(TableKind::Hash),
+        Some("tree") => Some(TableKind::Tree),
         Some(_) => None,
         None => Some(TableKind::Hash),
     }

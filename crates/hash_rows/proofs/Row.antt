@@ -15,13 +15,13 @@ use Rattle.runner_parts.specs.State.{DescriptorsState, NodesState, ReadsState}
 use Rattle.runner_parts.specs.Tests.{has_pair, is_next, serves}
 use Rattle.runner_steps.specs.Outside.{is_due}
 use Rattle.bucket_laws.specs.Buckets.{buckets_meaning}
-use Rattle.version_words.specs.RunnerState.{RunnerState}
-use Rattle.epoch_slots.specs.Entries.{Enters}
-use Rattle.try_lock.specs.declared.planned.Planned.{Planned}
-use Rattle.try_lock.specs.declared.planned.Planned.TheVariants as answers
-use Rattle.try_lock.specs.Planning as planning
-use Rattle.try_lock.specs.Plans.{MayPlan, HasPlanned}
-use Rattle.try_lock.specs.Publishes.{MayPublish}
+use Rattle.hash_table.specs.version_words.specs.RunnerState.{RunnerState}
+use Rattle.hash_table.specs.epoch_slots.specs.Entries.{Enters}
+use Rattle.hash_table.specs.try_lock.specs.declared.planned.Planned.{Planned}
+use Rattle.hash_table.specs.try_lock.specs.declared.planned.Planned.TheVariants as answers
+use Rattle.hash_table.specs.try_lock.specs.Planning as planning
+use Rattle.hash_table.specs.try_lock.specs.Plans.{MayPlan, HasPlanned}
+use Rattle.hash_table.specs.try_lock.specs.Publishes.{MayPublish}
 use Rattle.hash_table.specs.declared.table.HashTable.{HashTable}
 use Rattle.hash_table.specs.Planned.{bucket_planning}
 use Rattle.lock_rows.specs.Workers.{IsReady, IsEmptyHanded}

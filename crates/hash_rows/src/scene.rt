@@ -2,25 +2,25 @@
 ghost use Rattle.std.specs.Prelude.{◌≡◌, ◌<◌, ◌≤◌, IfOk};
 ghost use Rattle.map_history.specs.Keys.{key_of};
 ghost use Rattle.bucket_laws.specs.Buckets.{buckets_meaning};
-ghost use Rattle.version_words.specs.TableState.{IsOf};
-ghost use Rattle.version_words.specs.Stages.{IsKeeper, HasJoined};
-ghost use Rattle.try_lock.specs.declared.section.Section.{Section};
+ghost use Rattle.hash_table.specs.version_words.specs.TableState.{IsOf};
+ghost use Rattle.hash_table.specs.version_words.specs.Stages.{IsKeeper, HasJoined};
+ghost use Rattle.hash_table.specs.try_lock.specs.declared.section.Section.{Section};
 ghost use Rattle.lock_rows.specs.Workers.{IsReady, MayRun};
 ghost use Rattle.lock_rows.specs.declared.turns.Offer.TheVariants.{Published};
 ghost use Rattle.hash_rows.specs.Scene.{IsScene, asked};
 
 use closed_words::closed_words_have_a_history;
-use commit_log::NeverHalts;
-use epoch_slots::enter;
 use hash_table::HashTable;
+use hash_table::epoch_slots::enter;
+use hash_table::lock_walks::Planner;
+use hash_table::try_lock::{Planned, publish};
+use hash_table::version_words::{FlockTable, Runner, Words, words_are_reached};
 use lock_rows::Offer;
-use lock_walks::Planner;
 use map_history::{Op, Request};
+use runner_gate::Free;
 use section_body::Steps;
 use std::alloc::{AllocError, Global};
 use table_words::Layout;
-use try_lock::{Planned, publish};
-use version_words::{FlockTable, Runner, Words, words_are_reached};
 
 /// The request of the worker with this number, where these are the operations of both.
 fn request_of(number: u32, ops: (Op, Op)) -> Request
@@ -91,13 +91,9 @@ pub fn plan_and_publish(
     let request = request_of(runner.number(), ops);
     let mut steps = Steps::<()>::new();
     let runner = enter(table, runner);
-    let (runner, planned) = table.structure().plan(
-        table,
-        runner,
-        &request,
-        &mut NeverHalts::new(),
-        &mut steps,
-    );
+    let (runner, planned) = table
+        .structure()
+        .plan(table, runner, &request, &mut Free::new(), &mut steps);
     let Planned::Thunk(thunk) = planned else {
         return (runner, Offer::None, steps.count);
     };

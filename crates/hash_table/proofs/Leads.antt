@@ -17,9 +17,9 @@ use Rattle.bucket_laws.proofs.Places.{third, slot_at, lt_true, lt_false, eq_true
 use Rattle.bucket_laws.proofs.TableLaws.{bucket_small}
 use Rattle.bucket_laws.proofs.TableGives.{reached}
 use Rattle.bucket_laws.proofs.WalkFacts.{Gives}
-use Rattle.try_lock.specs.declared.planned.Planned.{Planned}
-use Rattle.try_lock.specs.declared.planned.Planned.TheVariants as answers
-use Rattle.try_lock.specs.Plans.{refused_by_lock}
+use Rattle.lock_walks.specs.try_lock.specs.declared.planned.Planned.{Planned}
+use Rattle.lock_walks.specs.try_lock.specs.declared.planned.Planned.TheVariants as answers
+use Rattle.lock_walks.specs.try_lock.specs.Plans.{refused_by_lock}
 use Rattle.lock_walks.specs.Way.{fed_all, IsLedBy, IsThunkFor, Leads}
 use Rattle.lock_walks.proofs.Each.{each_more}
 use Rattle.hash_table.specs.Walking.{Walking, begun, is_refused_at, is_refused_of, wanted_by, fed_by, thunk_by}

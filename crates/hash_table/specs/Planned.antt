@@ -7,7 +7,7 @@ use Rattle.table_words.specs.declared.layout.Layout.{Layout}
 use Rattle.structure_laws.specs.Scene.{Readings}
 use Rattle.bucket_laws.specs.Walk.{Walk, wanted_at}
 use Rattle.bucket_laws.specs.Buckets.{walk_of, bounds}
-use Rattle.try_lock.specs.Planning.{Planning}
+use Rattle.lock_walks.specs.try_lock.specs.Planning.{Planning}
 use Rattle.lock_walks.specs.Way.{Way}
 use Rattle.hash_table.specs.Walking.{Walking, is_refused_at, is_refused_of, wanted_by, fed_by, left_of, thunk_by}
 

@@ -3,8 +3,8 @@ use Rattle.std.specs.Prelude.{ℕ, ◌^◌, List}
 use Rattle.map_history.specs.Replay.{Pairs}
 use Rattle.section_body.specs.Bucket.{bucket_index}
 use Rattle.bucket_laws.specs.Buckets.{buckets_meaning, nodes}
-use Rattle.version_words.specs.TableState.{WordsState}
-use Rattle.try_lock.specs.Contents.{StandFor}
+use Rattle.lock_walks.specs.version_words.specs.TableState.{WordsState}
+use Rattle.lock_walks.specs.try_lock.specs.Contents.{StandFor}
 use Rattle.hash_table.specs.Gathered.{IsGathered, IsGathering}
 
 module _ {T : Type 0} (bits : ℕ) (words : WordsState T) (pairs : Pairs) (stand : StandFor (buckets_meaning bits) words pairs) where

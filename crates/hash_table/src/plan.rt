@@ -3,17 +3,17 @@ ghost use Rattle.std.specs.Prelude.{◌≡◌, IfOk};
 ghost use Rattle.std.specs.FinMap.{entries};
 ghost use Rattle.map_history.specs.Replay.{Pairs};
 ghost use Rattle.bucket_laws.specs.Buckets.{buckets_meaning};
-ghost use Rattle.try_lock.specs.Contents.{StandFor, NamesNone};
+ghost use Rattle.lock_walks.specs.try_lock.specs.Contents.{StandFor, NamesNone};
 ghost use Rattle.hash_table.specs.Planned.{bucket_planning};
 ghost use Rattle.bucket_laws.proofs.Planner.{buckets_plan};
 
 use crate::table::HashTable;
 use crate::walk::BucketWalk;
 use lock_walks::Planner;
+use lock_walks::version_words::Words;
 use map_history::Op;
 use std::alloc::{AllocError, Global};
 use table_words::Layout;
-use version_words::Words;
 
 impl Planner for HashTable {
     type Walk = BucketWalk;

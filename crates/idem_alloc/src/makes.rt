@@ -2,17 +2,18 @@
 ghost use Rattle.std.specs.Prelude.{◌≡◌, length, Some, true, false, IfSome, IfNone};
 ghost use Rattle.runner_steps.specs.InRun.{last_of};
 ghost use Rattle.runner_parts.specs.State.{RunState};
-ghost use Rattle.version_words.specs.TableState.{IsOf};
+ghost use Rattle.commit_log.specs.version_words.specs.TableState.{IsOf};
 ghost use Rattle.commit_log.specs.Runs.{IsRunning};
 ghost use Rattle.commit_log.specs.Asked.{IsAsked};
 ghost use Rattle.commit_log.specs.Halted.{IsHalted};
 ghost use Rattle.idem_alloc.specs.Numbers.{number_of, numbers_of};
 ghost use Rattle.idem_alloc.specs.Made.{MayFill, HasFilled, MayMake, IsFilling, HasMade};
 
-use commit_log::{NeverHalts, passes};
+use commit_log::passes;
+use commit_log::version_words::{FlockTable, Runner, table_is_allowed};
+use runner_gate::Free;
 use runner_parts::Structure;
 use section_body::{Gate, Init, StepKind, Steps, Value, Word};
-use version_words::{FlockTable, Runner, table_is_allowed};
 
 /// Fills one cell of the slot that the run's Make prepares, in two steps: loads it, and stores the value with the next version. Each step
 /// is counted, and the gate is asked after it: whether it let the runner go on.
@@ -112,7 +113,7 @@ pub fn make<S: Structure>(table: &FlockTable<S>, runner: Runner<S>, init: &Init)
     ensures own { IsOf table.now result.0 }
     ensures made { (q : RunState) → IsRunning (S.meaning table.now.structure) runner q → HasMade (S.meaning table.now.structure) result.1 runner result.0 q }
 {
-    let mut gate = NeverHalts::new();
+    let mut gate = Free::new();
     let mut steps = Steps::<()>::new();
     let values = numbers_of(init);
     let (runner, made) = make_gated(table, runner, &values, &mut gate, &mut steps);

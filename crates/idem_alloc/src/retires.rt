@@ -1,16 +1,17 @@
 //! The retirement of a node slot.
 ghost use Rattle.std.specs.Prelude.{◌≡◌, true, false};
 ghost use Rattle.runner_parts.specs.State.{RunState};
-ghost use Rattle.version_words.specs.TableState.{IsOf};
+ghost use Rattle.commit_log.specs.version_words.specs.TableState.{IsOf};
 ghost use Rattle.commit_log.specs.Runs.{IsRunning};
 ghost use Rattle.commit_log.specs.Asked.{IsAsked};
 ghost use Rattle.commit_log.specs.Halted.{IsHalted};
 ghost use Rattle.idem_alloc.specs.Retired.{MayRetire, HasRetired};
 
-use commit_log::{NeverHalts, passes};
+use commit_log::passes;
+use commit_log::version_words::{FlockTable, Runner, table_is_allowed};
+use runner_gate::Free;
 use runner_parts::Structure;
 use section_body::{Gate, StepKind, Steps};
-use version_words::{FlockTable, Runner, table_is_allowed};
 
 /// Retires the node slot, in two steps: loads the epoch, and commits the slot. Where this commit is the first of the section's runs, the
 /// slot is in the own limbo list with that epoch; else it is in that of another runner.
@@ -23,7 +24,7 @@ pub fn retire<S: Structure>(table: &FlockTable<S>, runner: Runner<S>, slot: u32)
     ensures own { IsOf table.now result }
     ensures retired { (q : RunState) → IsRunning (S.meaning table.now.structure) runner q → HasRetired (S.meaning table.now.structure) slot runner result q }
 {
-    let mut gate = NeverHalts::new();
+    let mut gate = Free::new();
     let mut steps = Steps::<()>::new();
     match retire_gated(table, runner, slot, &mut gate, &mut steps) {
         (runner, true) => runner,

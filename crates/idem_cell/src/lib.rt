@@ -10,3 +10,7 @@ mod stores;
 
 pub use loads::{load, load_gated};
 pub use stores::store;
+
+// Passed on to the layers above, so that they needn't name these libraries themselves.
+pub use commit_log;
+pub use commit_log::{interleave_core, reached_histories, version_words};

@@ -1,16 +1,17 @@
 //! The load of a cell.
 ghost use Rattle.std.specs.Prelude.{IfSome, IfNone, true};
 ghost use Rattle.runner_parts.specs.State.{RunState};
-ghost use Rattle.version_words.specs.TableState.{IsOf};
+ghost use Rattle.commit_log.specs.version_words.specs.TableState.{IsOf};
 ghost use Rattle.commit_log.specs.Runs.{IsRunning};
 ghost use Rattle.commit_log.specs.Asked.{IsAsked};
 ghost use Rattle.commit_log.specs.Halted.{IsHalted};
 ghost use Rattle.idem_cell.specs.Loaded.{MayLoad, HasLoaded};
 
-use commit_log::{NeverHalts, commit, passes};
+use commit_log::version_words::{FlockTable, Runner, table_is_allowed};
+use commit_log::{commit, passes};
+use runner_gate::Free;
 use runner_parts::Structure;
 use section_body::{Gate, Place, StepKind, Steps, Word};
-use version_words::{FlockTable, Runner, table_is_allowed};
 
 /// Loads the cell and agrees on its word, in two steps. Answers the agreed word: the first one that a run of the section committed
 /// here, which may be older than the one in the cell.
@@ -27,7 +28,7 @@ pub fn load<S: Structure>(
     ensures own { IsOf table.now result.0 }
     ensures loaded { (q : RunState) → IsRunning (S.meaning table.now.structure) runner q → HasLoaded (S.meaning table.now.structure) place result.1 runner result.0 q }
 {
-    let mut gate = NeverHalts::new();
+    let mut gate = Free::new();
     let mut steps = Steps::<()>::new();
     match load_gated(table, runner, place, &mut gate, &mut steps) {
         (runner, Some(word)) => (runner, word),

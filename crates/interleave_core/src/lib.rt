@@ -16,3 +16,6 @@ pub use machine::{Machine, StepError};
 pub use runner_parts::{Event, EventKind, Structure};
 pub use schedules::{ScheduleError, all_schedules};
 pub use tray::Tray;
+
+// Passed on to the layers above, so that they needn't name these libraries themselves.
+pub use reached_histories;

@@ -6,10 +6,10 @@ ghost use Rattle.interleave_core.specs.declared.schedules.ScheduleError.TheVaria
 ghost use Rattle.machine_states.specs.Schedules.{IsAfter};
 ghost use Rattle.machine_epochs.specs.Descriptors.{DescriptorsSoundAfter};
 ghost use Rattle.machine_epochs.specs.Epochs.{SoundAfter};
-ghost use Rattle.machine_invariant.specs.After.{WholeAfter};
-ghost use Rattle.machine_invariant.specs.LogWords.{LogWordsSayAfter};
-ghost use Rattle.machine_invariant.specs.Rising.{RisesAfter};
-ghost use Rattle.machine_facts.specs.After.{FactsAfter, StepFactsAfter};
+ghost use Rattle.reached_histories.specs.machine_invariant.specs.After.{WholeAfter};
+ghost use Rattle.reached_histories.specs.machine_invariant.specs.LogWords.{LogWordsSayAfter};
+ghost use Rattle.reached_histories.specs.machine_invariant.specs.Rising.{RisesAfter};
+ghost use Rattle.reached_histories.specs.machine_facts.specs.After.{FactsAfter, StepFactsAfter};
 ghost use Rattle.reached_histories.specs.Laws.{HistoryAfter};
 ghost use Rattle.interleave_core.specs.Enabled.{StopsNaming};
 

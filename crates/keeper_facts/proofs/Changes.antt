@@ -27,11 +27,11 @@ use Rattle.agreement_core.proofs.Words.{value_next, value_held}
 use Rattle.agreement_core.proofs.Lines.{exchange_unlocked}
 use Rattle.machine_states.specs.Sight.{Sight}
 use Rattle.machine_scenes.specs.Shown.{rules_of}
-use Rattle.machine_agreement.specs.Chunks as sections
-use Rattle.machine_agreement.specs.Supplied.{collects}
-use Rattle.machine_agreement.specs.Joined.{IsJoinedToAgreement, ShowsRun}
-use Rattle.machine_invariant.specs.Along.{Components, components_after, AreEventsOf}
-use Rattle.machine_invariant.proofs.Runs.{AllAre, passes_are, append_are}
+use Rattle.runner_facts.specs.machine_agreement.specs.Chunks as sections
+use Rattle.runner_facts.specs.machine_agreement.specs.Supplied.{collects}
+use Rattle.runner_facts.specs.machine_agreement.specs.Joined.{IsJoinedToAgreement, ShowsRun}
+use Rattle.runner_facts.specs.machine_invariant.specs.Along.{Components, components_after, AreEventsOf}
+use Rattle.runner_facts.specs.machine_invariant.proofs.Runs.{AllAre, passes_are, append_are}
 use Rattle.machine_facts.proofs.Chunks.{collected_frees}
 
 -- the word is as before, or free

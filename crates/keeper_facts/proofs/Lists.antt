@@ -9,7 +9,7 @@ use Rattle.table_words.specs.declared.spot.Spot.{Spot}
 use Rattle.table_words.specs.declared.spot.Spot.TheVariants.{Cell}
 use Rattle.runner_parts.specs.declared.entries.Left.{Left}
 use Rattle.runner_parts.specs.Tests.{has}
-use Rattle.machine_agreement.proofs.Releases.{get_more}
+use Rattle.runner_facts.specs.machine_agreement.proofs.Releases.{get_more}
 use Rattle.runner_facts.specs.Keeper.{IsLastLeft}
 use Rattle.keeper_facts.specs.Freed.{HasLeft, AreApart}
 

@@ -38,19 +38,19 @@ use Rattle.machine_states.proofs.Sights.{if_some, some_none, unless_gone, happen
 use Rattle.machine_states.proofs.Updates.{upd_here, upd_else, upd_split}
 use Rattle.machine_epochs.specs.Slots.{thunk_in}
 use Rattle.machine_epochs.proofs.Joining.{thunk_same}
-use Rattle.machine_agreement.specs.Joined.{IsJoinedToAgreement}
-use Rattle.machine_agreement.proofs.LineKinds.{noted_finished}
-use Rattle.machine_agreement.proofs.RunPlaces.{opened_thunk}
-use Rattle.machine_invariant.specs.After.{AreAllowed}
-use Rattle.machine_invariant.specs.Along.{components_after}
-use Rattle.machine_invariant.specs.Trails.{IsEndOf}
-use Rattle.machine_invariant.proofs.After.{reached_whole}
-use Rattle.machine_invariant.proofs.Basics.{not_both}
-use Rattle.machine_invariant.proofs.Sights.{after_is}
+use Rattle.runner_facts.specs.machine_agreement.specs.Joined.{IsJoinedToAgreement}
+use Rattle.runner_facts.specs.machine_agreement.proofs.LineKinds.{noted_finished}
+use Rattle.runner_facts.specs.machine_agreement.proofs.RunPlaces.{opened_thunk}
+use Rattle.runner_facts.specs.machine_invariant.specs.After.{AreAllowed}
+use Rattle.runner_facts.specs.machine_invariant.specs.Along.{components_after}
+use Rattle.runner_facts.specs.machine_invariant.specs.Trails.{IsEndOf}
+use Rattle.runner_facts.specs.machine_invariant.proofs.After.{reached_whole}
+use Rattle.runner_facts.specs.machine_invariant.proofs.Basics.{not_both}
+use Rattle.runner_facts.specs.machine_invariant.proofs.Sights.{after_is}
 use Rattle.machine_facts.specs.After.{AreFactsOfStep}
 use Rattle.machine_facts.specs.Steps.{IsRelease}
 use Rattle.machine_facts.proofs.Following.{step_facts_after}
-use Rattle.next_steps.proofs.Reaching.{IsStep}
+use Rattle.runner_facts.specs.next_steps.proofs.Reaching.{IsStep}
 use Rattle.runner_facts.specs.Keeper.{AllJoined}
 use Rattle.runner_facts.specs.Facts.{JoinedAreGone}
 use Rattle.keeper_facts.proofs.Changes.{IsChanged, is_hold, lock_changes}

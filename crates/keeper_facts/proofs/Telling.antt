@@ -33,7 +33,7 @@ use Rattle.machine_states.proofs.Sights.{joins, happens_steps}
 use Rattle.machine_states.proofs.Updates.{upd_here, upd_else}
 use Rattle.table_words.specs.Seen.{upd}
 use Rattle.machine_epochs.proofs.FirstJoin as FirstJoin
-use Rattle.machine_invariant.specs.After.{AreAllowed}
+use Rattle.runner_facts.specs.machine_invariant.specs.After.{AreAllowed}
 use Rattle.machine_facts.proofs.Following.{facts_after}
 use Rattle.runner_facts.specs.Facts.{JoinedAreGone}
 use Rattle.runner_facts.specs.Keeper.{AllJoined, KeeperStands}

@@ -6,7 +6,7 @@ ghost use Rattle.table_words.specs.declared.layout.Layout.{Layout};
 ghost use Rattle.machine_states.specs.World.{World};
 ghost use Rattle.machine_states.specs.Reached.{Reached};
 ghost use Rattle.machine_states.specs.Sight.{sight};
-ghost use Rattle.machine_invariant.specs.After.{AreAllowed};
+ghost use Rattle.runner_facts.specs.machine_invariant.specs.After.{AreAllowed};
 ghost use Rattle.keeper_facts.specs.Freed.{LocksTell};
 
 use runner_facts::{joined_workers_are_gone, what_the_keeper_left_stands};

@@ -8,12 +8,12 @@ use Rattle.runner_parts.specs.declared.event.EventKind.TheVariants as kinds
 use Rattle.runner_parts.specs.State.{DescriptorsState, NodesState, ReadsState}
 use Rattle.runner_parts.specs.Lists.{named_by}
 use Rattle.runner_parts.specs.Tests.{has, has_pair}
-use Rattle.version_words.specs.RunnerState.{RunnerState}
-use Rattle.version_words.specs.Events.{Makes}
-use Rattle.version_words.specs.Naming.{load_of}
-use Rattle.version_words.proofs.Stages.{then_loaded_cell}
-use Rattle.epoch_slots.specs.Entries.{Enters}
-use Rattle.epoch_slots.proofs.Outside.{NotesNothing, nodes_made, descriptors_made, reads_made, known_made}
+use Rattle.try_lock.specs.version_words.specs.RunnerState.{RunnerState}
+use Rattle.try_lock.specs.version_words.specs.Events.{Makes}
+use Rattle.try_lock.specs.version_words.specs.Naming.{load_of}
+use Rattle.try_lock.specs.version_words.proofs.Stages.{then_loaded_cell}
+use Rattle.try_lock.specs.epoch_slots.specs.Entries.{Enters}
+use Rattle.try_lock.specs.epoch_slots.proofs.Outside.{NotesNothing, nodes_made, descriptors_made, reads_made, known_made}
 use Rattle.lock_rows.specs.Workers.{IsReady, HasRead}
 
 either : (p q : Bool) → q ≡ true → (p || q) ≡ true

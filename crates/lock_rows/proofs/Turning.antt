@@ -9,12 +9,12 @@ use Rattle.section_body.specs.declared.thunk.Thunk.{Thunk}
 use Rattle.structure_laws.specs.Meaning.{Meaning}
 use Rattle.runner_parts.specs.declared.entries.Published.{Published}
 use Rattle.runner_steps.specs.AfterInRun.{over_if}
-use Rattle.version_words.specs.RunnerState.{RunnerState}
-use Rattle.commit_log.specs.Runs.{Ran}
-use Rattle.section_runs.specs.declared.runs.RunEnd.{RunEnd}
-use Rattle.section_runs.specs.declared.runs.RunEnd.TheVariants.{Done, Halted}
-use Rattle.epoch_slots.specs.Collects.{IsTidy}
-use Rattle.epoch_slots.specs.Entries.{Exits}
+use Rattle.try_lock.specs.version_words.specs.RunnerState.{RunnerState}
+use Rattle.try_lock.specs.commit_log.specs.Runs.{Ran}
+use Rattle.try_lock.specs.section_runs.specs.declared.runs.RunEnd.{RunEnd}
+use Rattle.try_lock.specs.section_runs.specs.declared.runs.RunEnd.TheVariants.{Done, Halted}
+use Rattle.try_lock.specs.epoch_slots.specs.Collects.{IsTidy}
+use Rattle.try_lock.specs.epoch_slots.specs.Entries.{Exits}
 use Rattle.try_lock.specs.declared.section.Section.{Section}
 use Rattle.try_lock.specs.Reached.{MayRunSection, MayHelp}
 use Rattle.try_lock.specs.Ends.{EndsSo, IsCutShort}

@@ -5,9 +5,9 @@ use Rattle.section_body.specs.declared.thunk.Thunk.{Thunk}
 use Rattle.structure_laws.specs.Meaning.{Meaning}
 use Rattle.runner_parts.specs.declared.stage.Stage.TheVariants as stages
 use Rattle.runner_parts.specs.Tests.{has, has_pair}
-use Rattle.version_words.specs.RunnerState.{RunnerState}
-use Rattle.version_words.specs.Stages.{IsAt}
-use Rattle.epoch_slots.specs.Collects.{IsTidy}
+use Rattle.try_lock.specs.version_words.specs.RunnerState.{RunnerState}
+use Rattle.try_lock.specs.version_words.specs.Stages.{IsAt}
+use Rattle.try_lock.specs.epoch_slots.specs.Collects.{IsTidy}
 use Rattle.try_lock.specs.Reached.{IsReached, MayRunSection}
 use Rattle.try_lock.specs.declared.section.Section.{Section}
 

@@ -2,25 +2,25 @@
 ghost use Rattle.std.specs.Prelude.{◌≡◌, IfOk};
 ghost use Rattle.section_body.specs.Trail.{Agreed};
 ghost use Rattle.section_body.specs.declared.outcome.Outcome.{Outcome};
-ghost use Rattle.section_runs.specs.declared.runs.RunEnd.TheVariants.{Done};
-ghost use Rattle.epoch_slots.specs.Collects.{IsTidy};
-ghost use Rattle.version_words.specs.TableState.{IsOf};
-ghost use Rattle.version_words.specs.Stages.{IsKeeper, HasJoined};
+ghost use Rattle.try_lock.specs.section_runs.specs.declared.runs.RunEnd.TheVariants.{Done};
+ghost use Rattle.try_lock.specs.epoch_slots.specs.Collects.{IsTidy};
+ghost use Rattle.try_lock.specs.version_words.specs.TableState.{IsOf};
+ghost use Rattle.try_lock.specs.version_words.specs.Stages.{IsKeeper, HasJoined};
 ghost use Rattle.lock_rows.specs.Scenes.{two_requests};
 
 use crate::scenes::{new_table, offer, visit};
 use crate::scripts::scripted;
 use crate::turns::{Offer, Turn, help_held, read_lock, run_own, side_by_side};
 use crate::workers::{crew, gather};
-use epoch_slots::{Kind, Short, collect, enter, exit, reserve};
-use interleave_core::Tray;
 use runner_gate::{Free, HaltAt};
 use section_body::{Gate, Outcome, Refused, StepKind, Word};
-use section_runs::RunEnd;
 use std::alloc::{AllocError, Global};
 use std::thread::Threads;
 use try_lock::Section;
-use version_words::{FlockTable, Runner, Words};
+use try_lock::epoch_slots::{Kind, Short, collect, enter, exit, reserve};
+use try_lock::interleave_core::Tray;
+use try_lock::section_runs::RunEnd;
+use try_lock::version_words::{FlockTable, Runner, Words};
 
 /// The first word of a cell: value 0, version 1.
 const FIRST: u64 = 4294967296;

@@ -1,23 +1,23 @@
 //! Two workers on a table of the test structure, and their offers.
 ghost use Rattle.std.specs.Prelude.{◌≡◌, ◌<◌, IfOk};
 ghost use Rattle.structure_laws.specs.Tray.{tray};
-ghost use Rattle.epoch_slots.specs.Collects.{IsTidy};
-ghost use Rattle.version_words.specs.TableState.{IsOf};
-ghost use Rattle.version_words.specs.Stages.{IsKeeper, HasJoined};
+ghost use Rattle.try_lock.specs.epoch_slots.specs.Collects.{IsTidy};
+ghost use Rattle.try_lock.specs.version_words.specs.TableState.{IsOf};
+ghost use Rattle.try_lock.specs.version_words.specs.Stages.{IsKeeper, HasJoined};
 ghost use Rattle.lock_rows.specs.Scenes.{IsScene};
 ghost use Rattle.lock_rows.specs.Workers.{HasRead, MayRun};
 ghost use Rattle.lock_rows.specs.declared.turns.Offer.TheVariants.{Published};
 ghost use Rattle.try_lock.specs.declared.section.Section.{Section};
 
 use crate::turns::Offer;
-use epoch_slots::{enter, exit};
-use interleave_core::Tray;
 use map_history::{Op, Request};
 use section_body::{Thunk, Word};
 use std::alloc::{AllocError, Global};
 use table_words::Layout;
+use try_lock::epoch_slots::{enter, exit};
+use try_lock::interleave_core::Tray;
 use try_lock::publish;
-use version_words::{FlockTable, Runner, table_is_allowed};
+use try_lock::version_words::{FlockTable, Runner, table_is_allowed};
 
 /// A table with two node slots and one descriptor for each of two workers, and one request for each.
 pub fn new_table(

@@ -2,19 +2,19 @@
 ghost use Rattle.std.specs.Prelude.{◌≡◌, ◌<◌, ℕ, true};
 ghost use Rattle.section_body.specs.Trail.{Agreed};
 ghost use Rattle.section_body.specs.declared.outcome.Outcome.{Outcome as Ending};
-ghost use Rattle.section_runs.specs.declared.runs.RunEnd.TheVariants.{Done};
-ghost use Rattle.epoch_slots.specs.Collects.{IsTidy};
-ghost use Rattle.version_words.specs.TableState.{IsOf};
+ghost use Rattle.try_lock.specs.section_runs.specs.declared.runs.RunEnd.TheVariants.{Done};
+ghost use Rattle.try_lock.specs.epoch_slots.specs.Collects.{IsTidy};
+ghost use Rattle.try_lock.specs.version_words.specs.TableState.{IsOf};
 ghost use Rattle.lock_rows.specs.Workers.{IsReady, HasRead, MayRun};
 
-use epoch_slots::{enter, exit};
 use runner_parts::Structure;
 use section_body::{Gate, Outcome, Place, Refused, Steps, Word};
-use section_runs::RunEnd;
 use std::thread;
 use std::thread::Threads;
+use try_lock::epoch_slots::{enter, exit};
+use try_lock::section_runs::RunEnd;
+use try_lock::version_words::{FlockTable, Runner, table_is_allowed};
 use try_lock::{Section, help, retire_section, run_section};
-use version_words::{FlockTable, Runner, table_is_allowed};
 
 /// What came of a worker's offer.
 #[derive(Clone, Copy, Debug, PartialEq, Eq)]

@@ -1,14 +1,14 @@
 //! A table's keeper and its two workers, before and after their work.
 ghost use Rattle.std.specs.Prelude.{◌≡◌, ◌+◌, ◌<◌, IfOk};
-ghost use Rattle.epoch_slots.specs.Collects.{IsTidy};
-ghost use Rattle.version_words.specs.TableState.{IsOf};
-ghost use Rattle.version_words.specs.Stages.{IsKeeper, HasJoined};
+ghost use Rattle.try_lock.specs.epoch_slots.specs.Collects.{IsTidy};
+ghost use Rattle.try_lock.specs.version_words.specs.TableState.{IsOf};
+ghost use Rattle.try_lock.specs.version_words.specs.Stages.{IsKeeper, HasJoined};
 ghost use Rattle.lock_rows.specs.Workers.{IsNewWorker, IsReady, HasReserve};
 
-use epoch_slots::{Kind, reserve};
 use runner_parts::Structure;
 use std::alloc::{AllocError, Global};
-use version_words::{FlockTable, Runner, Words};
+use try_lock::epoch_slots::{Kind, reserve};
+use try_lock::version_words::{FlockTable, Runner, Words};
 
 /// The worker, where two node slots and one descriptor are free.
 fn with_reserve<S: Structure>(worker: Runner<S>) -> Result<Runner<S>, AllocError>

@@ -3,8 +3,8 @@ use Rattle.std.specs.Prelude.{◌≡◌, ℕ, ◌+◌, ◌<◌, ◌≤◌, [], �
 use Rattle.table_words.specs.declared.layout.Layout.{Layout}
 use Rattle.structure_laws.specs.Scene.{Readings}
 use Rattle.structure_laws.specs.Meaning.{Meaning}
-use Rattle.version_words.specs.RunnerState.{RunnerState}
-use Rattle.commit_log.specs.Asked.{IsAsked}
+use Rattle.try_lock.specs.version_words.specs.RunnerState.{RunnerState}
+use Rattle.try_lock.specs.commit_log.specs.Asked.{IsAsked}
 use Rattle.try_lock.specs.Reached.{IsReached}
 use Rattle.try_lock.specs.Plans.{IsWalk, NoneRefuses, HasWalked}
 use Rattle.lock_walks.specs.Way.{Way, fed_all, IsLedBy}

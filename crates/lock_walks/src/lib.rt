@@ -12,3 +12,8 @@ mod walker;
 pub use planner::Planner;
 pub use plans::plan_by;
 pub use walker::Walker;
+
+// Passed on to the layers above, so that they needn't name these libraries themselves.
+pub use runner_facts;
+pub use try_lock;
+pub use try_lock::{commit_log, epoch_slots, reached_histories, version_words};

@@ -5,7 +5,7 @@ ghost use Rattle.map_history.specs.Replay.{Pairs};
 ghost use Rattle.table_words.specs.Limits.{IsWithinLimits};
 ghost use Rattle.structure_laws.specs.Planner.{PlannerLaws};
 ghost use Rattle.structure_laws.specs.Sections.{IsAllowed};
-ghost use Rattle.version_words.specs.TableState.{IsOf};
+ghost use Rattle.try_lock.specs.version_words.specs.TableState.{IsOf};
 ghost use Rattle.try_lock.specs.Planning.{Planning};
 ghost use Rattle.try_lock.specs.Plans.{MayPlan, HasPlanned};
 ghost use Rattle.try_lock.specs.Contents.{StandFor, NamesNone};
@@ -19,7 +19,7 @@ use section_body::{Gate, Steps};
 use std::alloc::{AllocError, Global};
 use table_words::Layout;
 use try_lock::Planned;
-use version_words::{FlockTable, Runner, Words, table_is_allowed};
+use try_lock::version_words::{FlockTable, Runner, Words, table_is_allowed};
 
 /// A map over cells and node slots, on which requests are planned.
 ///

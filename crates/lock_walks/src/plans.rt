@@ -5,20 +5,20 @@ ghost use Rattle.table_words.specs.Limits.{IsWithinLimits};
 ghost use Rattle.structure_laws.specs.Scene.{Readings};
 ghost use Rattle.structure_laws.specs.Cells.{slots};
 ghost use Rattle.structure_laws.specs.Sections.{IsAllowed};
-ghost use Rattle.version_words.specs.TableState.{IsOf};
+ghost use Rattle.try_lock.specs.version_words.specs.TableState.{IsOf};
 ghost use Rattle.try_lock.specs.Plans.{MayPlan, HasPlanned, refused_at};
 ghost use Rattle.lock_walks.specs.Way.{Leads};
 ghost use Rattle.lock_walks.specs.Led.{HasLed};
 
 use crate::walker::Walker;
-use commit_log::passes;
 use map_history::Request;
 use runner_facts::walks_stand;
 use runner_parts::Structure;
 use section_body::{Gate, Place, StepKind, Steps, Word};
 use table_words::Layout;
 use try_lock::Planned;
-use version_words::{FlockTable, Runner, table_is_allowed};
+use try_lock::commit_log::passes;
+use try_lock::version_words::{FlockTable, Runner, table_is_allowed};
 
 /// Loads what the walker wants, until it wants nothing more or the gate halts, which is asked after each load. Gives the walker, the last
 /// place with its word, and whether the gate let the runner go on.

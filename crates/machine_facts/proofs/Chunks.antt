@@ -17,8 +17,8 @@ use Rattle.agreement_core.specs.Events as agreement
 use Rattle.epoch_core.specs.State.{Role}
 use Rattle.epoch_core.specs.Events as epochs
 use Rattle.machine_epochs.specs.Chunks as slots
-use Rattle.machine_agreement.specs.Chunks as sections
-use Rattle.machine_agreement.specs.Supplied.{collects}
+use Rattle.machine_invariant.specs.machine_agreement.specs.Chunks as sections
+use Rattle.machine_invariant.specs.machine_agreement.specs.Supplied.{collects}
 use Rattle.machine_invariant.proofs.Runs.{AllAre}
 use Rattle.machine_facts.proofs.Agreement.{is_unfreeing, is_unpublishing}
 use Rattle.machine_facts.proofs.Epochs.{IsChain, is_unpublished}

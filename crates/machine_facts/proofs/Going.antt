@@ -19,8 +19,8 @@ use Rattle.epoch_core.specs.Freed.{SlotsMove, FreedStay}
 use Rattle.machine_states.specs.Sight.{Sight}
 use Rattle.machine_epochs.specs.Entries.{counts_of}
 use Rattle.machine_scenes.specs.Shown.{rules_of}
-use Rattle.machine_agreement.specs.Chunks as sections
-use Rattle.machine_agreement.specs.Joined.{IsJoinedToAgreement, ShowsRun}
+use Rattle.machine_invariant.specs.machine_agreement.specs.Chunks as sections
+use Rattle.machine_invariant.specs.machine_agreement.specs.Joined.{IsJoinedToAgreement, ShowsRun}
 use Rattle.machine_invariant.specs.Along.{Components, reaches_of, components_after, AreEventsOf, AreExact}
 use Rattle.machine_invariant.proofs.Runs.{AllAre, passes_are, append_are}
 use Rattle.machine_facts.specs.States.{NumberAlike}

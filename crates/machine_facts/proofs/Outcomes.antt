@@ -25,11 +25,11 @@ use Rattle.machine_states.specs.Sight.{Sight, Steps, parts_after}
 use Rattle.machine_states.proofs.Updates.{upd_here, upd_else}
 use Rattle.machine_epochs.proofs.Joining.{thunk_same}
 use Rattle.machine_scenes.specs.Shown.{rules_of}
-use Rattle.machine_agreement.specs.Chunks as sections
-use Rattle.machine_agreement.specs.Joined.{IsJoinedToAgreement, IsRunOf}
-use Rattle.machine_agreement.proofs.LineKinds.{noted_finished}
-use Rattle.machine_agreement.proofs.Releases.{get_more}
-use Rattle.machine_agreement.proofs.RunPlaces.{run_here, used_here, opened_thunk}
+use Rattle.machine_invariant.specs.machine_agreement.specs.Chunks as sections
+use Rattle.machine_invariant.specs.machine_agreement.specs.Joined.{IsJoinedToAgreement, IsRunOf}
+use Rattle.machine_invariant.specs.machine_agreement.proofs.LineKinds.{noted_finished}
+use Rattle.machine_invariant.specs.machine_agreement.proofs.Releases.{get_more}
+use Rattle.machine_invariant.specs.machine_agreement.proofs.RunPlaces.{run_here, used_here, opened_thunk}
 use Rattle.machine_invariant.specs.Along.{Components, components_after, AreEventsOf, AreExact}
 use Rattle.machine_invariant.specs.States.{StateIsSound}
 use Rattle.machine_invariant.specs.Trails.{thunk_at, step_at, IsEndOf}

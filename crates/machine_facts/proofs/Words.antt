@@ -19,8 +19,8 @@ use Rattle.machine_states.specs.Sight.{Sight, Steps}
 use Rattle.machine_states.proofs.Steps.{some_same}
 use Rattle.machine_epochs.proofs.OutsideAsked.{private_store_asked}
 use Rattle.machine_scenes.specs.Shown.{rules_of}
-use Rattle.machine_agreement.specs.Chunks as sections
-use Rattle.machine_agreement.specs.Joined.{IsJoinedToAgreement}
+use Rattle.machine_invariant.specs.machine_agreement.specs.Chunks as sections
+use Rattle.machine_invariant.specs.machine_agreement.specs.Joined.{IsJoinedToAgreement}
 use Rattle.machine_invariant.specs.Along.{Components, components_after, AreEventsOf, AreExact}
 use Rattle.machine_invariant.proofs.Asked.{asked_by}
 use Rattle.machine_invariant.proofs.Thunks.{inside_leaves, outside_leaves, other_thunk}

@@ -15,8 +15,8 @@ use Rattle.history_core.specs.State.{Requests, HistoryState}
 use Rattle.history_core.specs.Sound.{IsSound}
 use Rattle.machine_states.specs.Sight.{Sight}
 use Rattle.machine_epochs.proofs.RunPlaces.{open_run}
-use Rattle.machine_agreement.proofs.RunPlaces.{run_here, used_here, of_thunk, code_here}
-use Rattle.machine_invariant.specs.Whole.{Beside, states_of, IsWhole}
+use Rattle.next_steps.specs.machine_agreement.proofs.RunPlaces.{run_here, used_here, of_thunk, code_here}
+use Rattle.next_steps.specs.machine_invariant.specs.Whole.{Beside, states_of, IsWhole}
 use Rattle.machine_history.specs.Tied.{rank, SectionIsTied, AreTied}
 use Rattle.machine_records.specs.Kept.{AreKept}
 use Rattle.machine_records.specs.Told.{IsTold, RunsAreTold}

@@ -22,14 +22,14 @@ use Rattle.runner_steps.specs.AfterOutside as outside
 use Rattle.runner_steps.specs.Asks.{line_ask, opening_ask}
 use Rattle.runner_steps.specs.Sections.{is_open_run, next_of}
 use Rattle.runner_parts.specs.Lists.{descriptor_taken, section_published, cell_read, holds_named}
-use Rattle.machine_invariant.proofs.Asked.{asked_by}
+use Rattle.next_steps.specs.machine_invariant.proofs.Asked.{asked_by}
 use Rattle.machine_states.proofs.Sights.{some_none}
 use Rattle.history_core.specs.State.{Requests, HistoryState}
 use Rattle.history_core.specs.Events as history
 use Rattle.history_core.specs.Schedules.{after_all}
 use Rattle.machine_states.specs.Sight.{Sight, Steps, parts_after}
 use Rattle.machine_states.proofs.Updates.{upd_here, upd_else}
-use Rattle.machine_invariant.specs.Whole.{Beside, IsWhole}
+use Rattle.next_steps.specs.machine_invariant.specs.Whole.{Beside, IsWhole}
 use Rattle.machine_records.specs.Kept.{link_of, AreKept}
 use Rattle.machine_records.specs.Keeping.{answered_in, learns, ends, events_of, IsAtItsEnd, PublishesNothing, StepsAreKept, EndsAreOwn, PublicationsAreKept}
 use Rattle.machine_records.proofs.Telling.{Grows, grows_append}

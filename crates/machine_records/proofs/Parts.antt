@@ -34,9 +34,9 @@ use Rattle.runner_steps.specs.After.{outside_after, line_after, after_by, steppe
 use Rattle.machine_states.specs.Sight.{Sight}
 use Rattle.machine_states.proofs.Sights.{if_some, some_none}
 use Rattle.machine_states.proofs.Steps.{some_same}
-use Rattle.machine_agreement.proofs.Ends.{at_end}
-use Rattle.machine_invariant.specs.Whole.{Beside, IsWhole}
-use Rattle.machine_invariant.proofs.Asked.{asked_by}
+use Rattle.next_steps.specs.machine_agreement.proofs.Ends.{at_end}
+use Rattle.next_steps.specs.machine_invariant.specs.Whole.{Beside, IsWhole}
+use Rattle.next_steps.specs.machine_invariant.proofs.Asked.{asked_by}
 use Rattle.machine_records.specs.Kept.{link_of}
 use Rattle.machine_records.specs.Keeping.{IsAtItsEnd}
 use Rattle.machine_records.proofs.Telling.{Grows, grows_learned}

@@ -19,10 +19,10 @@ use Rattle.machine_states.specs.Sight.{Sight}
 use Rattle.machine_states.proofs.Sights.{unless_gone}
 use Rattle.machine_epochs.proofs.OutsideAsked as outside
 use Rattle.machine_scenes.specs.Shown.{rules_of}
-use Rattle.machine_agreement.specs.Chunks.{publication}
-use Rattle.machine_invariant.specs.After.{AreAllowed}
-use Rattle.machine_invariant.specs.Whole.{Beside, IsWhole}
-use Rattle.machine_invariant.proofs.Asked.{entered_at}
+use Rattle.next_steps.specs.machine_agreement.specs.Chunks.{publication}
+use Rattle.next_steps.specs.machine_invariant.specs.After.{AreAllowed}
+use Rattle.next_steps.specs.machine_invariant.specs.Whole.{Beside, IsWhole}
+use Rattle.next_steps.specs.machine_invariant.proofs.Asked.{entered_at}
 use Rattle.machine_records.specs.Requests.{or_none, requests_of}
 use Rattle.machine_records.specs.Kept.{AreKept}
 use Rattle.machine_records.specs.Supplies.{IsDue}

@@ -33,9 +33,9 @@ use Rattle.machine_states.proofs.Steps.{some_same}
 use Rattle.machine_states.proofs.Updates.{upd_here, upd_else}
 use Rattle.machine_epochs.proofs.FirstJoin.{each_part}
 use Rattle.machine_epochs.proofs.RunPlaces.{next_in_line, open_run}
-use Rattle.machine_agreement.proofs.RunPlaces.{used_here, code_here}
-use Rattle.machine_invariant.specs.Whole.{Beside, IsWhole}
-use Rattle.machine_invariant.proofs.Asked.{asked_by}
+use Rattle.next_steps.specs.machine_agreement.proofs.RunPlaces.{used_here, code_here}
+use Rattle.next_steps.specs.machine_invariant.specs.Whole.{Beside, IsWhole}
+use Rattle.next_steps.specs.machine_invariant.proofs.Asked.{asked_by}
 use Rattle.machine_records.specs.Told.{PartIsTold, FirstIsTold, StepsTellRuns}
 use Rattle.machine_records.proofs.Telling.{Grows, grows_append, told_more, line_told}
 

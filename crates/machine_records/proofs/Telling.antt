@@ -25,7 +25,7 @@ use Rattle.runner_steps.specs.AfterInRun as inside
 use Rattle.runner_steps.specs.After.{line_after}
 use Rattle.machine_states.proofs.Sights.{some_none}
 use Rattle.machine_states.proofs.Steps.{some_same}
-use Rattle.machine_agreement.proofs.Passes.{ahead}
+use Rattle.next_steps.specs.machine_agreement.proofs.Passes.{ahead}
 use Rattle.machine_records.specs.Told.{IsTold, PartIsTold}
 
 -- who knows more knows what it knew

@@ -15,7 +15,7 @@ use Rattle.history_core.specs.State.{Requests, HistoryState}
 use Rattle.history_core.specs.Events.{Event, Learn, Over, Publish, after}
 use Rattle.history_core.specs.Schedules.{after_all}
 use Rattle.machine_states.specs.Sight.{Sight, Steps}
-use Rattle.machine_invariant.specs.Whole.{Beside, IsWhole}
+use Rattle.next_steps.specs.machine_invariant.specs.Whole.{Beside, IsWhole}
 use Rattle.machine_records.specs.Kept.{link_of, AreKept}
 
 -- the requests both of whose words these are

@@ -15,9 +15,9 @@ use Rattle.machine_states.specs.Sight.{Sight}
 use Rattle.machine_epochs.specs.Entries.{counts_of}
 use Rattle.machine_scenes.specs.Shown.{rules_of}
 use Rattle.machine_history.specs.Steps.{HistoryStates, MayPublish}
-use Rattle.machine_agreement.specs.Chunks.{publication}
-use Rattle.machine_invariant.specs.After.{AreAllowed}
-use Rattle.machine_invariant.specs.Whole.{Beside, states_of, IsWhole}
+use Rattle.next_steps.specs.machine_agreement.specs.Chunks.{publication}
+use Rattle.next_steps.specs.machine_invariant.specs.After.{AreAllowed}
+use Rattle.next_steps.specs.machine_invariant.specs.Whole.{Beside, states_of, IsWhole}
 use Rattle.machine_records.specs.Requests.{requests_of}
 use Rattle.machine_records.specs.Kept.{AreKept}
 

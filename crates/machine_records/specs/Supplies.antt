@@ -21,7 +21,7 @@ use Rattle.history_core.specs.Events.{Learn, Over, Enabled}
 use Rattle.machine_states.specs.World.{World}
 use Rattle.machine_states.specs.First.{IsFirst}
 use Rattle.machine_states.specs.Sight.{Sight, sight}
-use Rattle.machine_invariant.specs.Whole.{Beside, states_of, IsWhole}
+use Rattle.next_steps.specs.machine_invariant.specs.Whole.{Beside, states_of, IsWhole}
 use Rattle.machine_facts.specs.Known.{KnownStand}
 use Rattle.machine_records.specs.Requests.{requests_of}
 use Rattle.machine_history.specs.Tied.{AreTied}

@@ -16,8 +16,8 @@ use Rattle.machine_states.specs.World.{World}
 use Rattle.machine_states.specs.First.{IsFirst}
 use Rattle.machine_states.specs.Reached.{Reached}
 use Rattle.machine_states.specs.Sight.{Sight, sight, Steps}
-use Rattle.machine_invariant.specs.After.{AreAllowed}
-use Rattle.machine_invariant.specs.Whole.{Beside, IsWhole}
+use Rattle.next_steps.specs.machine_invariant.specs.After.{AreAllowed}
+use Rattle.next_steps.specs.machine_invariant.specs.Whole.{Beside, IsWhole}
 
 -- the word of this request is known to which this step of a run writes
 abbrev pub IsTold : List Known → ℕ → Micro → Type 0

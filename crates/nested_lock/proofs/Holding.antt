@@ -23,12 +23,12 @@ use Rattle.runner_steps.specs.Sections.{line_of, next_of}
 use Rattle.runner_steps.specs.AfterInRun.{goes_on, agrees}
 use Rattle.machine_states.proofs.Sights.{if_some}
 use Rattle.machine_states.proofs.Steps.{some_same}
-use Rattle.machine_invariant.specs.After.{AreAllowed}
-use Rattle.version_words.specs.RunnerState.{RunnerState}
-use Rattle.version_words.specs.TableState.{TableState, IsOf}
-use Rattle.version_words.specs.Events.{met_by, Makes, Leaves}
-use Rattle.version_words.specs.Place.{next_log, held_by_run}
-use Rattle.version_words.proofs.Inside.{few_descriptors}
+use Rattle.commit_log.specs.machine_invariant.specs.After.{AreAllowed}
+use Rattle.commit_log.specs.version_words.specs.RunnerState.{RunnerState}
+use Rattle.commit_log.specs.version_words.specs.TableState.{TableState, IsOf}
+use Rattle.commit_log.specs.version_words.specs.Events.{met_by, Makes, Leaves}
+use Rattle.commit_log.specs.version_words.specs.Place.{next_log, held_by_run}
+use Rattle.commit_log.specs.version_words.proofs.Inside.{few_descriptors}
 use Rattle.commit_log.specs.Runs.{IsRunning, Stepped}
 use Rattle.commit_log.proofs.Running.{may_make, asked_there, goes_behind, then_made}
 use Rattle.commit_log.proofs.Next.{next_here, settled_at, settled_next}

@@ -1,12 +1,12 @@
 //! The release of a lock.
 ghost use Rattle.runner_parts.specs.State.{RunState};
-ghost use Rattle.version_words.specs.TableState.{IsOf};
+ghost use Rattle.commit_log.specs.version_words.specs.TableState.{IsOf};
 ghost use Rattle.commit_log.specs.Runs.{IsRunning};
 ghost use Rattle.nested_lock.specs.Dropped.{MayDrop, HasDropped};
 
+use commit_log::version_words::{FlockTable, Runner, table_is_allowed};
 use runner_parts::Structure;
 use section_body::{Place, Word};
-use version_words::{FlockTable, Runner, table_is_allowed};
 
 /// Releases a lock that the run's section holds with this word: one exchange to the free word with the next version. Where another run
 /// of the section was first the lock has left the held word already, and the exchange changes nothing.

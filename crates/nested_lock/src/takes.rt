@@ -1,17 +1,18 @@
 //! The Take of a further lock.
 ghost use Rattle.std.specs.Prelude.{◌≡◌, ℕ, IfSome, IfNone, Some, true};
 ghost use Rattle.runner_parts.specs.State.{RunState};
-ghost use Rattle.version_words.specs.TableState.{IsOf};
+ghost use Rattle.commit_log.specs.version_words.specs.TableState.{IsOf};
 ghost use Rattle.commit_log.specs.Runs.{IsRunning};
 ghost use Rattle.commit_log.specs.Asked.{IsAsked};
 ghost use Rattle.commit_log.specs.Halted.{IsHalted, IsThrough};
 ghost use Rattle.nested_lock.specs.Taken.{MayTake, MayHold, HasTaken, HasHeld, Takes};
 
 use crate::answers::{first_answer, second_answer};
-use commit_log::{NeverHalts, commit, passes};
+use commit_log::version_words::{FlockTable, Runner, table_is_allowed};
+use commit_log::{commit, passes};
+use runner_gate::Free;
 use runner_parts::Structure;
 use section_body::{Gate, Place, Refused, StepKind, Steps, Word};
-use version_words::{FlockTable, Runner, table_is_allowed};
 
 /// How a Take ended, and the words of its lock that were agreed on.
 #[derive(Clone, Copy, Debug, PartialEq, Eq)]
@@ -45,7 +46,7 @@ pub fn take<S: Structure>(
     ensures taken { (q : RunState) → IsRunning (S.meaning table.now.structure) runner q → Takes (S.meaning table.now.structure) place expected result.1 runner result.0 q }
 {
     let descriptor = runner.descriptor();
-    let mut gate = NeverHalts::new();
+    let mut gate = Free::new();
     let mut steps = Steps::<()>::new();
     match take_gated(
         table, runner, descriptor, place, expected, &mut gate, &mut steps,

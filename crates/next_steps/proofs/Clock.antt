@@ -29,7 +29,7 @@ use Rattle.machine_states.specs.First.{IsFirst}
 use Rattle.machine_states.specs.Reached.{Reached}
 use Rattle.machine_states.specs.Sight.{Sight, sight, sight_after}
 use Rattle.machine_epochs.proofs.RunPlaces.{is_of_end, next_in_line, open_run}
-use Rattle.machine_agreement.proofs.LineAsked.{stamp_asked, clock_raise_asked}
+use Rattle.machine_invariant.specs.machine_agreement.proofs.LineAsked.{stamp_asked, clock_raise_asked}
 use Rattle.machine_invariant.specs.After.{AreAllowed}
 use Rattle.machine_invariant.specs.Whole.{Beside, IsWhole}
 use Rattle.machine_invariant.proofs.First.{first_whole}

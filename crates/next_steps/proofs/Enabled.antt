@@ -42,7 +42,7 @@ use Rattle.machine_states.specs.Reached.{Reached}
 use Rattle.machine_states.proofs.Steps.{some_same}
 use Rattle.machine_scenes.specs.Shown.{rules_of}
 use Rattle.machine_epochs.proofs.RunPlaces.{is_of_end, next_in_line}
-use Rattle.machine_agreement.proofs.RunPlaces.{opened_thunk, of_thunk, before}
+use Rattle.machine_invariant.specs.machine_agreement.proofs.RunPlaces.{opened_thunk, of_thunk, before}
 use Rattle.machine_invariant.specs.After.{AreAllowed}
 use Rattle.machine_invariant.specs.Whole.{Beside, made_in, IsWhole}
 use Rattle.machine_invariant.specs.LogWords.{commits_to}

@@ -37,9 +37,9 @@ use Rattle.machine_epochs.proofs.InsideAsked as asked
 use Rattle.machine_epochs.proofs.RunPlaces.{is_of_end, next_in_line, open_run}
 use Rattle.machine_epochs.proofs.FirstJoin as FirstJoin
 use Rattle.machine_states.proofs.FirstSights.{first_parts}
-use Rattle.machine_agreement.proofs.RunPlaces.{not_ended}
-use Rattle.machine_agreement.proofs.Ends.{at_end}
-use Rattle.machine_agreement.proofs.Endings.{no_done}
+use Rattle.machine_invariant.specs.machine_agreement.proofs.RunPlaces.{not_ended}
+use Rattle.machine_invariant.specs.machine_agreement.proofs.Ends.{at_end}
+use Rattle.machine_invariant.specs.machine_agreement.proofs.Endings.{no_done}
 use Rattle.machine_invariant.specs.After.{AreAllowed}
 use Rattle.machine_invariant.specs.Whole.{Beside, IsWhole}
 use Rattle.next_steps.proofs.Reaching.{IsStep, reached_keeps}

@@ -20,7 +20,7 @@ use Rattle.structure_laws.specs.Meaning.{Meaning}
 use Rattle.runner_parts.specs.State.{RunState}
 use Rattle.runner_steps.specs.Sections.{thunk_of, line_limit, is_open_run, line_of, next_of}
 use Rattle.machine_states.specs.Sight.{Sight}
-use Rattle.machine_agreement.proofs.RunPlaces.{not_ended}
+use Rattle.machine_invariant.specs.machine_agreement.proofs.RunPlaces.{not_ended}
 use Rattle.machine_invariant.specs.Whole.{Beside, IsWhole}
 use Rattle.machine_invariant.specs.LogWords.{commits_to}
 use Rattle.next_steps.proofs.Runs.{section, here, section_sound, run_sound, shaped, code}

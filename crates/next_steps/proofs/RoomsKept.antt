@@ -48,7 +48,7 @@ use Rattle.machine_epochs.proofs.InsideAsked as asked
 use Rattle.machine_epochs.proofs.OutsideAsked.{private_store_asked}
 use Rattle.machine_epochs.proofs.Places.{free_node, hand_node}
 use Rattle.machine_epochs.proofs.RunPlaces.{next_in_line, open_run}
-use Rattle.machine_agreement.proofs.LineAsked.{fill_load_asked, fill_store_asked, make_commit_asked}
+use Rattle.machine_invariant.specs.machine_agreement.proofs.LineAsked.{fill_load_asked, fill_store_asked, make_commit_asked}
 use Rattle.machine_invariant.specs.After.{AreAllowed}
 use Rattle.machine_invariant.specs.Whole.{Beside, IsWhole}
 use Rattle.machine_invariant.proofs.Parts.{is_making, inside_made, outside_made}

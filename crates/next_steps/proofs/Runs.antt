@@ -20,8 +20,8 @@ use Rattle.agreement_core.specs.Sound.{UsedIsSound}
 use Rattle.machine_states.specs.Sight.{Sight}
 use Rattle.machine_states.proofs.Sights.{some_none, unless_gone}
 use Rattle.machine_scenes.specs.Shown.{rules_of}
-use Rattle.machine_agreement.specs.Joined.{IsRunOf}
-use Rattle.machine_agreement.proofs.RunPlaces.{run_here, used_here, opened_thunk, code_here}
+use Rattle.machine_invariant.specs.machine_agreement.specs.Joined.{IsRunOf}
+use Rattle.machine_invariant.specs.machine_agreement.proofs.RunPlaces.{run_here, used_here, opened_thunk, code_here}
 use Rattle.machine_invariant.specs.Whole.{Beside, IsWhole}
 
 -- an enabled event of a kind that comes in the line of a run alone

@@ -41,8 +41,8 @@ use Rattle.machine_epochs.proofs.RunPlaces.{open_run}
 use Rattle.machine_scenes.specs.Shown.{rules_of, status_at, status_of, scene_of}
 use Rattle.machine_scenes.specs.Kinds.{is_plain}
 use Rattle.machine_scenes.specs.Steps.{Agreement}
-use Rattle.machine_agreement.proofs.LineAsked.{exchange_asked, nested_hold_asked, release_asked}
-use Rattle.machine_agreement.proofs.RunPlaces.{before}
+use Rattle.machine_invariant.specs.machine_agreement.proofs.LineAsked.{exchange_asked, nested_hold_asked, release_asked}
+use Rattle.machine_invariant.specs.machine_agreement.proofs.RunPlaces.{before}
 use Rattle.machine_slots.proofs.Cells.{hands_stand}
 use Rattle.machine_slots.proofs.Locks.{held_used, unfixed, locks_free, known_held}
 use Rattle.machine_invariant.specs.Whole.{Beside, states_of, IsWhole}

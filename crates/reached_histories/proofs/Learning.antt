@@ -15,11 +15,11 @@ use Rattle.history_core.specs.Schedules.{after_all}
 use Rattle.machine_states.specs.Sight.{Sight}
 use Rattle.machine_epochs.specs.Entries.{counts_of}
 use Rattle.machine_scenes.specs.Shown.{States}
-use Rattle.machine_history.specs.Steps.{Over, Learn}
-use Rattle.machine_history.specs.Laws.{IsJoined}
-use Rattle.machine_history.proofs.Joining.{steps_keep}
-use Rattle.machine_invariant.specs.Whole.{Beside, states_of, IsWhole}
-use Rattle.machine_facts.specs.Known.{KnownStand}
+use Rattle.machine_records.specs.machine_history.specs.Steps.{Over, Learn}
+use Rattle.machine_records.specs.machine_history.specs.Laws.{IsJoined}
+use Rattle.machine_records.specs.machine_history.proofs.Joining.{steps_keep}
+use Rattle.machine_records.specs.machine_invariant.specs.Whole.{Beside, states_of, IsWhole}
+use Rattle.machine_records.specs.machine_facts.specs.Known.{KnownStand}
 use Rattle.machine_records.specs.Requests.{requests_of}
 use Rattle.machine_records.specs.Kept.{link_of, AreKept}
 use Rattle.machine_records.specs.Told.{RunsAreTold}

@@ -23,11 +23,11 @@ use Rattle.machine_epochs.specs.Entries.{counts_of}
 use Rattle.machine_scenes.specs.Shown.{States}
 use Rattle.machine_scenes.specs.Steps as scenes
 use Rattle.machine_scenes.specs.Schedules as scene_lists
-use Rattle.machine_history.specs.Tied.{is_loading}
-use Rattle.machine_history.specs.Steps.{HistoryStates, Joint, events_of, is_publication, MayFree}
-use Rattle.machine_history.specs.Laws.{IsJoined}
-use Rattle.machine_history.proofs.Joining.{steps_keep}
-use Rattle.machine_invariant.proofs.Jointly.{IsQuietStep, AreQuietSteps, JointSteps}
+use Rattle.machine_records.specs.machine_history.specs.Tied.{is_loading}
+use Rattle.machine_records.specs.machine_history.specs.Steps.{HistoryStates, Joint, events_of, is_publication, MayFree}
+use Rattle.machine_records.specs.machine_history.specs.Laws.{IsJoined}
+use Rattle.machine_records.specs.machine_history.proofs.Joining.{steps_keep}
+use Rattle.machine_records.specs.machine_invariant.proofs.Jointly.{IsQuietStep, AreQuietSteps, JointSteps}
 use Rattle.machine_records.specs.Requests.{requests_of}
 
 -- the same is known and published

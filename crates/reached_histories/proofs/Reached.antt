@@ -19,12 +19,12 @@ use Rattle.machine_epochs.specs.Entries.{counts_of}
 use Rattle.machine_epochs.specs.Firsts.{first_place}
 use Rattle.machine_epochs.proofs.FirstJoin.{each_part}
 use Rattle.machine_scenes.specs.Shown.{States}
-use Rattle.machine_history.specs.Laws.{IsJoined}
-use Rattle.machine_history.proofs.Joining.{first_joined}
-use Rattle.machine_invariant.specs.After.{AreAllowed}
-use Rattle.machine_invariant.proofs.First.{first_beside, first_whole, same_states, first_scene}
-use Rattle.machine_facts.specs.Known.{KnownStand}
-use Rattle.machine_facts.proofs.Following.{facts_after}
+use Rattle.machine_records.specs.machine_history.specs.Laws.{IsJoined}
+use Rattle.machine_records.specs.machine_history.proofs.Joining.{first_joined}
+use Rattle.machine_records.specs.machine_invariant.specs.After.{AreAllowed}
+use Rattle.machine_records.specs.machine_invariant.proofs.First.{first_beside, first_whole, same_states, first_scene}
+use Rattle.machine_records.specs.machine_facts.specs.Known.{KnownStand}
+use Rattle.machine_records.specs.machine_facts.proofs.Following.{facts_after}
 use Rattle.machine_records.specs.Requests.{requests_of}
 use Rattle.machine_records.proofs.First.{first_kept}
 use Rattle.machine_records.proofs.Steps.{first_told}

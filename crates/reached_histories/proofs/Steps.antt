@@ -31,15 +31,15 @@ use Rattle.machine_states.proofs.Steps.{some_same}
 use Rattle.machine_epochs.specs.Entries.{counts_of}
 use Rattle.machine_scenes.specs.Shown.{States, rules_of}
 use Rattle.machine_scenes.specs.Steps as scenes
-use Rattle.machine_history.specs.Steps.{Joint, Publish}
-use Rattle.machine_history.specs.Laws.{IsJoined}
-use Rattle.machine_history.proofs.Joining.{steps_keep}
-use Rattle.machine_invariant.specs.After.{AreAllowed}
-use Rattle.machine_invariant.specs.Whole.{Beside, states_of, IsWhole}
-use Rattle.machine_invariant.proofs.AllKinds.{step_whole}
-use Rattle.machine_invariant.proofs.Following.{StepsWhole}
-use Rattle.machine_invariant.proofs.Jointly.{behind_lock, GoesQuietly, GoesByPublishing}
-use Rattle.machine_facts.specs.Known.{KnownStand}
+use Rattle.machine_records.specs.machine_history.specs.Steps.{Joint, Publish}
+use Rattle.machine_records.specs.machine_history.specs.Laws.{IsJoined}
+use Rattle.machine_records.specs.machine_history.proofs.Joining.{steps_keep}
+use Rattle.machine_records.specs.machine_invariant.specs.After.{AreAllowed}
+use Rattle.machine_records.specs.machine_invariant.specs.Whole.{Beside, states_of, IsWhole}
+use Rattle.machine_records.specs.machine_invariant.proofs.AllKinds.{step_whole}
+use Rattle.machine_records.specs.machine_invariant.proofs.Following.{StepsWhole}
+use Rattle.machine_records.specs.machine_invariant.proofs.Jointly.{behind_lock, GoesQuietly, GoesByPublishing}
+use Rattle.machine_records.specs.machine_facts.specs.Known.{KnownStand}
 use Rattle.machine_records.specs.Requests.{requests_of}
 use Rattle.machine_records.specs.Kept.{link_of, AreKept}
 use Rattle.machine_records.specs.Told.{RunsAreTold}

@@ -27,14 +27,14 @@ use Rattle.history_core.specs.State.{Requests, HistoryState}
 use Rattle.machine_states.specs.Sight.{Sight}
 use Rattle.machine_epochs.specs.Entries.{counts_of}
 use Rattle.machine_epochs.proofs.RunPlaces.{open_run}
-use Rattle.machine_history.specs.Tied.{rank, AreTied}
-use Rattle.machine_history.specs.Laws.{HistoryStands, AreAllClosed}
-use Rattle.machine_history.proofs.Joining.{joined_stands}
-use Rattle.machine_agreement.proofs.RunPlaces.{run_here, before}
-use Rattle.machine_invariant.specs.After.{AreAllowed}
-use Rattle.machine_invariant.specs.Sections.{IsAnswered}
-use Rattle.machine_invariant.specs.Trails.{step_at}
-use Rattle.machine_invariant.specs.Whole.{Beside, states_of}
+use Rattle.machine_records.specs.machine_history.specs.Tied.{rank, AreTied}
+use Rattle.machine_records.specs.machine_history.specs.Laws.{HistoryStands, AreAllClosed}
+use Rattle.machine_records.specs.machine_history.proofs.Joining.{joined_stands}
+use Rattle.machine_records.specs.machine_agreement.proofs.RunPlaces.{run_here, before}
+use Rattle.machine_records.specs.machine_invariant.specs.After.{AreAllowed}
+use Rattle.machine_records.specs.machine_invariant.specs.Sections.{IsAnswered}
+use Rattle.machine_records.specs.machine_invariant.specs.Trails.{step_at}
+use Rattle.machine_records.specs.machine_invariant.specs.Whole.{Beside, states_of}
 use Rattle.machine_records.specs.Requests.{requests_of}
 use Rattle.machine_records.specs.Kept.{link_of}
 use Rattle.reached_histories.specs.Sections.{HasPublished, HasOpen}

@@ -18,10 +18,10 @@ use Rattle.runner_steps.specs.Sections.{is_open_run, next_of}
 use Rattle.history_core.specs.State.{Requests}
 use Rattle.machine_states.specs.Sight.{Sight}
 use Rattle.machine_epochs.specs.Entries.{counts_of}
-use Rattle.machine_memory.specs.Memory.{MemoryStands}
-use Rattle.machine_invariant.specs.Sections.{IsAnswered}
-use Rattle.machine_invariant.specs.Trails.{thunk_at, step_at}
-use Rattle.machine_invariant.specs.Whole.{Beside, states_of}
+use Rattle.machine_records.specs.machine_memory.specs.Memory.{MemoryStands}
+use Rattle.machine_records.specs.machine_invariant.specs.Sections.{IsAnswered}
+use Rattle.machine_records.specs.machine_invariant.specs.Trails.{thunk_at, step_at}
+use Rattle.machine_records.specs.machine_invariant.specs.Whole.{Beside, states_of}
 use Rattle.machine_records.specs.Requests.{requests_of}
 use Rattle.reached_histories.specs.Sections.{IsStamped, Knows, HasPublished, KnewThen, HasOpen}
 

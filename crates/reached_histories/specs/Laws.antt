@@ -11,9 +11,9 @@ use Rattle.machine_states.specs.Reached.{Reached}
 use Rattle.machine_states.specs.Schedules.{IsAfter}
 use Rattle.machine_states.specs.Sight.{Sight, sight}
 use Rattle.machine_epochs.specs.Entries.{counts_of}
-use Rattle.machine_history.specs.Laws.{IsJoined}
-use Rattle.machine_invariant.specs.After.{AreAllowed}
-use Rattle.machine_invariant.specs.Whole.{Beside, states_of, IsWhole}
+use Rattle.machine_records.specs.machine_history.specs.Laws.{IsJoined}
+use Rattle.machine_records.specs.machine_invariant.specs.After.{AreAllowed}
+use Rattle.machine_records.specs.machine_invariant.specs.Whole.{Beside, states_of, IsWhole}
 use Rattle.machine_records.specs.Requests.{requests_of}
 use Rattle.machine_records.specs.Kept.{AreKept}
 use Rattle.reached_histories.specs.History.{IsLegalHistory, ClockStands, RequestsStand, NoLockNames, IsClosed}

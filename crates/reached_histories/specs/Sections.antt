@@ -6,7 +6,7 @@ use Rattle.runner_parts.specs.declared.entries.Published.{Published}
 use Rattle.runner_parts.specs.Tests.{is_answered}
 use Rattle.agreement_core.specs.State.{AgreementState}
 use Rattle.machine_states.specs.Sight.{Sight}
-use Rattle.machine_invariant.specs.Trails.{step_at}
+use Rattle.machine_records.specs.machine_invariant.specs.Trails.{step_at}
 
 -- the runs of the section in this descriptor, which isn't free again, have passed the exchange of its stamp
 pub record IsStamped (m : Meaning) (a : AgreementState) (s : Sight) (d : ℕ) : Type 0 where

@@ -22,15 +22,15 @@ use Rattle.agreement_core.specs.Checks.{is_stamp_exchange}
 use Rattle.history_core.specs.State.{Requests, HistoryState}
 use Rattle.history_core.specs.Sound.{IsSound}
 use Rattle.machine_states.specs.Sight.{Sight, sight}
-use Rattle.machine_agreement.proofs.RunPlaces.{run_here, used_here, of_thunk, before}
-use Rattle.machine_history.specs.Tied.{AreTied}
-use Rattle.machine_invariant.specs.After.{AreAllowed}
-use Rattle.machine_invariant.specs.Whole.{states_of}
-use Rattle.machine_facts.specs.Known.{KnownStand}
-use Rattle.machine_facts.proofs.Following.{facts_after}
-use Rattle.machine_records.specs.Requests.{or_none, requests_of}
-use Rattle.machine_records.specs.Kept.{link_of}
-use Rattle.machine_records.proofs.First.{entry_of}
+use Rattle.reached_histories.specs.machine_agreement.proofs.RunPlaces.{run_here, used_here, of_thunk, before}
+use Rattle.reached_histories.specs.machine_history.specs.Tied.{AreTied}
+use Rattle.reached_histories.specs.machine_invariant.specs.After.{AreAllowed}
+use Rattle.reached_histories.specs.machine_invariant.specs.Whole.{states_of}
+use Rattle.reached_histories.specs.machine_facts.specs.Known.{KnownStand}
+use Rattle.reached_histories.specs.machine_facts.proofs.Following.{facts_after}
+use Rattle.reached_histories.specs.machine_records.specs.Requests.{or_none, requests_of}
+use Rattle.reached_histories.specs.machine_records.specs.Kept.{link_of}
+use Rattle.reached_histories.specs.machine_records.proofs.First.{entry_of}
 use Rattle.reached_histories.specs.History.{IsPlaced}
 use Rattle.reached_histories.specs.Laws.{HasHistory}
 use Rattle.reached_histories.proofs.Histories.{reached_have}

@@ -14,9 +14,9 @@ use Rattle.runner_steps.specs.Sections.{thunk_of, next_of}
 use Rattle.machine_states.specs.World.{World}
 use Rattle.machine_states.specs.Reached.{Reached}
 use Rattle.machine_states.specs.Sight.{Sight, sight}
-use Rattle.machine_invariant.specs.After.{AreAllowed}
-use Rattle.machine_records.specs.Requests.{requests_of}
-use Rattle.machine_records.specs.Kept.{link_of}
+use Rattle.reached_histories.specs.machine_invariant.specs.After.{AreAllowed}
+use Rattle.reached_histories.specs.machine_records.specs.Requests.{requests_of}
+use Rattle.reached_histories.specs.machine_records.specs.Kept.{link_of}
 use Rattle.request_facts.specs.Placed.{IsServedAs, IsUnserved}
 
 -- the list has this entry

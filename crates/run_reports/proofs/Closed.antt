@@ -15,11 +15,11 @@ use Rattle.history_orders.proofs.Replays.{oldest_first-legal}
 use Rattle.table_words.specs.declared.spot.Spot.TheVariants.{Stamp, Reply}
 use Rattle.structure_laws.specs.Meaning.{Meaning}
 use Rattle.structure_laws.specs.Sections.{IsAllowed}
-use Rattle.machine_invariant.specs.After.{AreAllowed}
-use Rattle.machine_records.specs.Requests.{or_none, request_at}
+use Rattle.closed_words.specs.machine_invariant.specs.After.{AreAllowed}
+use Rattle.closed_words.specs.machine_records.specs.Requests.{or_none, request_at}
 use Rattle.run_reports.proofs.Small.{replies_small}
 use Rattle.report_text.specs.Entries.{AreLegal}
-use Rattle.version_words.specs.TableState.{WordsState, word_of}
+use Rattle.closed_words.specs.version_words.specs.TableState.{WordsState, word_of}
 use Rattle.closed_words.specs.Histories.{HaveHistory, HoldsNoLock, AreSettled}
 use Rattle.run_reports.specs.Reports.{HaveEntries, HaveContents}
 use Rattle.run_reports.proofs.Few.{few_pairs}

@@ -5,12 +5,12 @@ use Rattle.map_history.specs.declared.op.Entry.{Entry}
 use Rattle.map_history.specs.declared.op.Request.{Request}
 use Rattle.map_history.specs.Replay.{Pairs}
 use Rattle.structure_laws.specs.Meaning.{Meaning}
-use Rattle.machine_invariant.specs.After.{AreAllowed}
+use Rattle.closed_words.specs.machine_invariant.specs.After.{AreAllowed}
 use Rattle.report_text.specs.Entries.{AreLegal}
 use Rattle.report_text.specs.Legal.{IsLegal}
 use Rattle.report_text.specs.Ranks.{ranks_of}
 use Rattle.report_text.specs.Report.{Row, rows_of, report_text}
-use Rattle.version_words.specs.TableState.{WordsState}
+use Rattle.closed_words.specs.version_words.specs.TableState.{WordsState}
 use Rattle.closed_words.specs.Histories.{HaveHistory, HoldsNoLock}
 use Rattle.run_reports.specs.Reports.{HaveEntries, HaveContents, IsReport, unserved_in}
 use Rattle.run_reports.proofs.Closed.{closed_legal, closed_contents}

@@ -20,6 +20,7 @@ pub struct Block {
 
 impl Block {
     /// A word of an own slot was loaded. Of a descriptor nothing is kept.
+    #[inline(always)]
     pub fn loaded(&mut self, layout: Layout, node_slots: u32, slot: u32, word: u32, found: u64)
         requires own { MayTake self.old slot }
         requires room { node_slots ≡ self.old.lists.room }
@@ -46,6 +47,7 @@ impl Block {
     }
 
     /// This number was stored into a word of an own slot.
+    #[inline(always)]
     pub fn stored(&mut self, layout: Layout, number: u64)
         ensures { self.new ≡ block_stored layout self.old number }
     {

@@ -15,18 +15,21 @@ use crate::nodes::NodeLists;
 use crate::stage_fields::StageFields;
 use runner_parts::Stage;
 use runner_steps::LAST_EPOCH;
+use section_body::Body;
 use std::alloc::{AllocError, Global};
 use std::marker::Model;
 use table_words::Layout;
 
 /// What a runner's code keeps of its part: its stage, its lists, and of the keeper how many workers were split off. The lists
-/// have room for each slot of their kind, so that no step takes memory.
+/// have room for each slot of their kind, so that no step takes memory. Beside these there is a body, for each run to refill, so that
+/// none is made in a run: contracts don't see it.
 #[derive(Drop)]
 pub struct Kept {
     stage: StageFields,
     nodes: NodeLists,
     descriptors: DescriptorLists,
     splits: u32,
+    body: Option<Box<Body, Global>>,
 }
 
 impl Model for Kept {
@@ -78,6 +81,7 @@ impl Kept {
                 descriptors.room,
             )?,
             splits: 0,
+            body: Some(Box::new(alloc, Body::empty())?),
         })
     }
 
@@ -144,6 +148,20 @@ impl Kept {
         ensures { result ≡ length self.now.part.descriptors.limbo }
     {
         self.descriptors.limbo()
+    }
+
+    /// Hands out the body for a run to refill, unless it is out already.
+    pub fn take_body(&mut self) -> Option<Box<Body, Global>>
+        ensures { self.new ≡ self.old }
+    {
+        self.body.take()
+    }
+
+    /// Puts a body back, whatever its steps are.
+    pub fn keep_body(&mut self, body: Box<Body, Global>)
+        ensures { self.new ≡ self.old }
+    {
+        self.body = Some(body);
     }
 
     pub fn set_stage(&mut self, stage: Stage)

@@ -22,7 +22,7 @@ use Rattle.machine_states.proofs.FirstSights.{first_part_of, first_parts}
 use Rattle.machine_states.proofs.Sights.{unless_gone, joins}
 use Rattle.machine_epochs.proofs.OutsideAsked.{hold_asked}
 use Rattle.machine_epochs.proofs.Places.{free_descriptor}
-use Rattle.machine_invariant.specs.After.{AreAllowed}
+use Rattle.next_steps.specs.machine_invariant.specs.After.{AreAllowed}
 use Rattle.next_steps.proofs.Reaching.{IsStep, reached_keeps}
 use Rattle.next_steps.proofs.Parts.{each_part}
 use Rattle.runner_facts.specs.Facts.{descriptors_of, DescriptorsAreKept}

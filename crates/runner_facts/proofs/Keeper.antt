@@ -42,10 +42,10 @@ use Rattle.machine_states.proofs.FirstSights.{first_parts}
 use Rattle.machine_states.proofs.Sights.{if_some, unless_gone, joins}
 use Rattle.machine_states.proofs.Updates.{upd_here, upd_else}
 use Rattle.machine_epochs.proofs.FirstJoin as FirstJoin
-use Rattle.machine_agreement.proofs.Releases.{get_more}
-use Rattle.machine_invariant.specs.After.{AreAllowed}
-use Rattle.machine_invariant.proofs.Basics.{not_both}
-use Rattle.machine_invariant.proofs.Sights.{after_is}
+use Rattle.next_steps.specs.machine_agreement.proofs.Releases.{get_more}
+use Rattle.next_steps.specs.machine_invariant.specs.After.{AreAllowed}
+use Rattle.next_steps.specs.machine_invariant.proofs.Basics.{not_both}
+use Rattle.next_steps.specs.machine_invariant.proofs.Sights.{after_is}
 use Rattle.next_steps.proofs.Reaching.{IsStep, reached_keeps}
 use Rattle.next_steps.proofs.Parts.{each_part}
 use Rattle.runner_facts.specs.Facts.{JoinedAreGone}

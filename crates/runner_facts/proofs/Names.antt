@@ -49,13 +49,13 @@ use Rattle.machine_epochs.proofs.InsideAsked as asked
 use Rattle.machine_epochs.proofs.Joining.{thunk_same}
 use Rattle.machine_epochs.proofs.OutsideAsked as outside_asked
 use Rattle.machine_epochs.proofs.Places.{has_append, has_times}
-use Rattle.machine_invariant.specs.After.{AreAllowed}
-use Rattle.machine_invariant.specs.Whole.{Beside, IsWhole}
-use Rattle.machine_invariant.proofs.Asked.{entered_at}
-use Rattle.machine_invariant.proofs.Basics.{not_both}
-use Rattle.machine_invariant.proofs.Sights.{thunks_after}
-use Rattle.machine_invariant.proofs.Thunks.{inside_leaves, outside_leaves, other_thunk}
-use Rattle.machine_invariant.proofs.Trails.{locks_name}
+use Rattle.next_steps.specs.machine_invariant.specs.After.{AreAllowed}
+use Rattle.next_steps.specs.machine_invariant.specs.Whole.{Beside, IsWhole}
+use Rattle.next_steps.specs.machine_invariant.proofs.Asked.{entered_at}
+use Rattle.next_steps.specs.machine_invariant.proofs.Basics.{not_both}
+use Rattle.next_steps.specs.machine_invariant.proofs.Sights.{thunks_after}
+use Rattle.next_steps.specs.machine_invariant.proofs.Thunks.{inside_leaves, outside_leaves, other_thunk}
+use Rattle.next_steps.specs.machine_invariant.proofs.Trails.{locks_name}
 use Rattle.next_steps.proofs.Reaching.{IsStep, reached_keeps}
 use Rattle.next_steps.proofs.Parts.{each_part}
 use Rattle.next_steps.proofs.Tests.{without_has}

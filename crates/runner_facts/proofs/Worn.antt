@@ -44,10 +44,10 @@ use Rattle.machine_states.proofs.FirstSights.{first_parts}
 use Rattle.machine_states.proofs.Sights.{if_some, some_none, unless_gone, joins}
 use Rattle.machine_states.proofs.Steps.{some_same}
 use Rattle.machine_epochs.proofs.FirstJoin as FirstJoin
-use Rattle.machine_agreement.proofs.LineAsked.{fill_store_asked}
-use Rattle.machine_invariant.specs.After.{AreAllowed}
-use Rattle.machine_invariant.specs.Rising.{CellsRise}
-use Rattle.machine_invariant.proofs.Basics.{not_both}
+use Rattle.next_steps.specs.machine_agreement.proofs.LineAsked.{fill_store_asked}
+use Rattle.next_steps.specs.machine_invariant.specs.After.{AreAllowed}
+use Rattle.next_steps.specs.machine_invariant.specs.Rising.{CellsRise}
+use Rattle.next_steps.specs.machine_invariant.proofs.Basics.{not_both}
 use Rattle.next_steps.proofs.Reaching.{IsStep}
 use Rattle.next_steps.proofs.Parts.{each_part}
 use Rattle.next_steps.proofs.Tests.{either_has, test_slot, tests_without_other, tests_push_own, tests_push_other}

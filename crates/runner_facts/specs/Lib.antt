@@ -1,3 +1,7 @@
 pub mod Facts
 pub mod Names
 pub mod Keeper
+-- Passed on to the layers above, so that they needn't name these libraries themselves.
+pub use Rattle.next_steps.specs.machine_agreement
+pub use Rattle.next_steps.specs.machine_invariant
+pub use Rattle.next_steps

@@ -6,7 +6,7 @@ ghost use Rattle.table_words.specs.declared.layout.Layout.{Layout};
 ghost use Rattle.machine_states.specs.World.{World};
 ghost use Rattle.machine_states.specs.Reached.{Reached};
 ghost use Rattle.machine_states.specs.Sight.{sight};
-ghost use Rattle.machine_invariant.specs.After.{AreAllowed};
+ghost use Rattle.next_steps.specs.machine_invariant.specs.After.{AreAllowed};
 ghost use Rattle.runner_facts.specs.Keeper.{KeeperStands};
 ghost use Rattle.runner_facts.specs.Names.{NamesStand};
 ghost use Rattle.runner_facts.specs.Facts.{DescriptorsAreKept, JoinedAreGone, LimboIsDone, WalksStand, WornAreWorn};

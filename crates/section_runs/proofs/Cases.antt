@@ -23,14 +23,14 @@ use Rattle.runner_steps.specs.AfterInRun.{goes_on}
 use Rattle.epoch_core.specs.Lists.{times}
 use Rattle.machine_states.specs.Sight.{part_or_first}
 use Rattle.machine_states.proofs.Steps.{some_same}
-use Rattle.machine_invariant.specs.After.{AreAllowed}
-use Rattle.machine_invariant.specs.Slots.{times_among}
-use Rattle.machine_invariant.proofs.After.{whole_after}
-use Rattle.next_steps.specs.Stages.{unfilled, nodes_behind}
-use Rattle.version_words.specs.RunnerState.{RunnerState}
-use Rattle.commit_log.specs.Runs.{IsRunning, Ran}
-use Rattle.commit_log.specs.Committed.{commits_loaded, HasCommitted}
-use Rattle.commit_log.proofs.Next.{settled_at}
+use Rattle.idem_cell.specs.machine_invariant.specs.After.{AreAllowed}
+use Rattle.idem_cell.specs.machine_invariant.specs.Slots.{times_among}
+use Rattle.idem_cell.specs.machine_invariant.proofs.After.{whole_after}
+use Rattle.idem_cell.specs.next_steps.specs.Stages.{unfilled, nodes_behind}
+use Rattle.idem_cell.specs.version_words.specs.RunnerState.{RunnerState}
+use Rattle.idem_cell.specs.commit_log.specs.Runs.{IsRunning, Ran}
+use Rattle.idem_cell.specs.commit_log.specs.Committed.{commits_loaded, HasCommitted}
+use Rattle.idem_cell.specs.commit_log.proofs.Next.{settled_at}
 use Rattle.idem_cell.specs.Loaded.{MayLoad, HasLoaded}
 use Rattle.idem_cell.specs.Stored.{MayStore, HasStored}
 use Rattle.idem_alloc.specs.Made.{MayMake, HasMade}

@@ -18,11 +18,11 @@ use Rattle.runner_parts.specs.State.{RunState, FinishedState, NodesState, ReadsS
 use Rattle.runner_parts.specs.Tests.{has}
 use Rattle.runner_steps.specs.AfterInRun.{ended_more, over_if, finished_of}
 use Rattle.runner_steps.specs.Sections.{thunk_of, outcome_of, outcome_or, setting_of, is_late}
-use Rattle.machine_invariant.specs.After.{AreAllowed}
-use Rattle.version_words.specs.RunnerState.{RunnerState}
-use Rattle.version_words.specs.TableState.{TableState, IsOf}
-use Rattle.commit_log.specs.Runs.{Ran}
-use Rattle.commit_log.proofs.Running.{ran_one, ran_more}
+use Rattle.idem_cell.specs.machine_invariant.specs.After.{AreAllowed}
+use Rattle.idem_cell.specs.version_words.specs.RunnerState.{RunnerState}
+use Rattle.idem_cell.specs.version_words.specs.TableState.{TableState, IsOf}
+use Rattle.idem_cell.specs.commit_log.specs.Runs.{Ran}
+use Rattle.idem_cell.specs.commit_log.proofs.Running.{ran_one, ran_more}
 use Rattle.section_runs.specs.Reached.{run_or, run_of, events_after}
 use Rattle.section_runs.specs.Opened.{Learns, HasOpened, StandsOpened, opening}
 use Rattle.section_runs.specs.Bodies.{NodesGone, body_of, HasWalked}

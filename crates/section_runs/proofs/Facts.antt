@@ -24,16 +24,16 @@ use Rattle.epoch_core.specs.State.{IsKept}
 use Rattle.machine_states.specs.Sight.{Sight, sight, part_or_first}
 use Rattle.machine_epochs.specs.Slots.{thunk_in}
 use Rattle.machine_epochs.proofs.Joining.{thunk_same}
-use Rattle.machine_agreement.proofs.RunPlaces.{opened_thunk}
-use Rattle.machine_invariant.specs.After.{AreAllowed}
-use Rattle.machine_invariant.specs.Along.{Components}
-use Rattle.machine_invariant.specs.Slots.{node_count}
-use Rattle.machine_invariant.specs.Trails.{IsEndOf}
-use Rattle.machine_facts.specs.After.{AreFactsOfStep}
-use Rattle.machine_facts.specs.States.{FactsStand}
-use Rattle.machine_facts.proofs.Following.{step_facts_after}
-use Rattle.version_words.specs.RunnerState.{RunnerState}
-use Rattle.commit_log.specs.Runs.{Stepped}
+use Rattle.idem_cell.specs.machine_agreement.proofs.RunPlaces.{opened_thunk}
+use Rattle.idem_cell.specs.machine_invariant.specs.After.{AreAllowed}
+use Rattle.idem_cell.specs.machine_invariant.specs.Along.{Components}
+use Rattle.idem_cell.specs.machine_invariant.specs.Slots.{node_count}
+use Rattle.idem_cell.specs.machine_invariant.specs.Trails.{IsEndOf}
+use Rattle.idem_cell.specs.machine_facts.specs.After.{AreFactsOfStep}
+use Rattle.idem_cell.specs.machine_facts.specs.States.{FactsStand}
+use Rattle.idem_cell.specs.machine_facts.proofs.Following.{step_facts_after}
+use Rattle.idem_cell.specs.version_words.specs.RunnerState.{RunnerState}
+use Rattle.idem_cell.specs.commit_log.specs.Runs.{Stepped}
 use Rattle.section_runs.specs.Reached.{IsReached}
 use Rattle.section_runs.specs.Ended.{IsDone}
 

@@ -16,12 +16,12 @@ use Rattle.structure_laws.specs.Meaning.{Meaning}
 use Rattle.structure_laws.specs.Laws.{Laws}
 use Rattle.runner_parts.specs.State.{RunState, NodesState}
 use Rattle.runner_steps.specs.Sections.{thunk_of, line_of, next_of, setting_of, settles}
-use Rattle.machine_invariant.specs.After.{AreAllowed}
-use Rattle.next_steps.proofs.Stages.{in_table}
-use Rattle.version_words.specs.RunnerState.{RunnerState}
-use Rattle.version_words.specs.TableState.{TableState, IsOf}
-use Rattle.commit_log.specs.Runs.{IsRunning}
-use Rattle.commit_log.proofs.Next.{next_here}
+use Rattle.idem_cell.specs.machine_invariant.specs.After.{AreAllowed}
+use Rattle.idem_cell.specs.next_steps.proofs.Stages.{in_table}
+use Rattle.idem_cell.specs.version_words.specs.RunnerState.{RunnerState}
+use Rattle.idem_cell.specs.version_words.specs.TableState.{TableState, IsOf}
+use Rattle.idem_cell.specs.commit_log.specs.Runs.{IsRunning}
+use Rattle.idem_cell.specs.commit_log.proofs.Next.{next_here}
 use Rattle.section_runs.specs.Reached.{run_or, run_of}
 use Rattle.section_runs.specs.Bodies.{NodesStepped, body_of, StandsBefore, IsBefore, MayGo, IsSameRun}
 

@@ -20,7 +20,7 @@ use Rattle.runner_steps.specs.Sections.{thunk_of, next_of}
 use Rattle.runner_steps.specs.AfterInRun as inside
 use Rattle.runner_steps.specs.After.{line_after, counted, left_more, tallied, noted}
 use Rattle.machine_states.proofs.Steps.{some_same}
-use Rattle.next_steps.specs.Steps.{slot_in, kind_at}
+use Rattle.idem_cell.specs.next_steps.specs.Steps.{slot_in, kind_at}
 use Rattle.section_runs.specs.Opened.{Learns}
 
 left_known : (s : RecordsState) (kind : EventKind) (spot : Spot) (n : ℕ) → (left_more s kind spot n).known ≡ s.known

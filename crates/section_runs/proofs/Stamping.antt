@@ -23,14 +23,14 @@ use Rattle.runner_steps.specs.Sections.{thunk_of, line_of, next_of}
 use Rattle.runner_steps.specs.AfterInRun.{goes_on}
 use Rattle.machine_states.proofs.Sights.{if_some}
 use Rattle.machine_states.proofs.Steps.{some_same}
-use Rattle.machine_invariant.specs.After.{AreAllowed}
-use Rattle.version_words.specs.RunnerState.{RunnerState}
-use Rattle.version_words.specs.TableState.{TableState, IsOf}
-use Rattle.version_words.specs.Events.{met_by, Makes, Leaves}
-use Rattle.version_words.specs.Place.{own_stamp, own_reply}
-use Rattle.commit_log.specs.Runs.{IsRunning, Stepped, Ran}
-use Rattle.commit_log.proofs.Next.{settled_at, settled_next}
-use Rattle.commit_log.proofs.Running.{may_make, asked_there, then_made, ran_one, ran_more}
+use Rattle.idem_cell.specs.machine_invariant.specs.After.{AreAllowed}
+use Rattle.idem_cell.specs.version_words.specs.RunnerState.{RunnerState}
+use Rattle.idem_cell.specs.version_words.specs.TableState.{TableState, IsOf}
+use Rattle.idem_cell.specs.version_words.specs.Events.{met_by, Makes, Leaves}
+use Rattle.idem_cell.specs.version_words.specs.Place.{own_stamp, own_reply}
+use Rattle.idem_cell.specs.commit_log.specs.Runs.{IsRunning, Stepped, Ran}
+use Rattle.idem_cell.specs.commit_log.proofs.Next.{settled_at, settled_next}
+use Rattle.idem_cell.specs.commit_log.proofs.Running.{may_make, asked_there, then_made, ran_one, ran_more}
 use Rattle.section_runs.specs.Reached.{run_of}
 use Rattle.section_runs.specs.Bodies.{body_of, MayGo, GoesOn}
 use Rattle.section_runs.proofs.Going.{run_is, nodes_same, begins_here, stands, comes_next, arrives, same_run}

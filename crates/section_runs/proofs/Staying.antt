@@ -18,16 +18,16 @@ use Rattle.runner_parts.specs.Tests.{has}
 use Rattle.runner_steps.specs.Sections.{thunk_of, is_open_run, next_of}
 use Rattle.runner_steps.specs.AfterInRun.{ended_more, over_if, finished_of}
 use Rattle.runner_steps.specs.After.{line_after, after, counted}
-use Rattle.machine_agreement.proofs.LineKinds.{noting, after_line}
+use Rattle.idem_cell.specs.machine_agreement.proofs.LineKinds.{noting, after_line}
 use Rattle.machine_epochs.proofs.Places.{has_append}
-use Rattle.machine_invariant.specs.After.{AreAllowed}
-use Rattle.next_steps.specs.Steps.{kind_at}
-use Rattle.next_steps.specs.Stages.{run_behind, reads_behind, published_behind, finished_behind}
-use Rattle.next_steps.proofs.Stages.{in_table}
-use Rattle.version_words.specs.RunnerState.{RunnerState}
-use Rattle.version_words.specs.TableState.{TableState, IsOf}
-use Rattle.commit_log.specs.Runs.{IsRunning, Stepped, Ran}
-use Rattle.commit_log.proofs.Running.{opened_stays, one_run}
+use Rattle.idem_cell.specs.machine_invariant.specs.After.{AreAllowed}
+use Rattle.idem_cell.specs.next_steps.specs.Steps.{kind_at}
+use Rattle.idem_cell.specs.next_steps.specs.Stages.{run_behind, reads_behind, published_behind, finished_behind}
+use Rattle.idem_cell.specs.next_steps.proofs.Stages.{in_table}
+use Rattle.idem_cell.specs.version_words.specs.RunnerState.{RunnerState}
+use Rattle.idem_cell.specs.version_words.specs.TableState.{TableState, IsOf}
+use Rattle.idem_cell.specs.commit_log.specs.Runs.{IsRunning, Stepped, Ran}
+use Rattle.idem_cell.specs.commit_log.proofs.Running.{opened_stays, one_run}
 use Rattle.section_runs.specs.Reached.{events_after}
 use Rattle.section_runs.specs.Opened.{Stays, Learns}
 use Rattle.section_runs.proofs.Records.{noted_known, noted_events, learns_none, line_leaves}

@@ -22,10 +22,10 @@ use Rattle.runner_steps.specs.Sections.{thunk_of, line_of, setting_of, settles, 
 use Rattle.runner_steps.specs.AfterInRun.{goes_on, agrees}
 use Rattle.machine_epochs.proofs.Places.{has_append}
 use Rattle.machine_states.proofs.Steps.{some_same}
-use Rattle.next_steps.specs.Stages.{reads_behind}
-use Rattle.version_words.specs.RunnerState.{RunnerState}
-use Rattle.commit_log.specs.Runs.{IsRunning}
-use Rattle.commit_log.proofs.Next.{settled_at, settled_next}
+use Rattle.idem_cell.specs.next_steps.specs.Stages.{reads_behind}
+use Rattle.idem_cell.specs.version_words.specs.RunnerState.{RunnerState}
+use Rattle.idem_cell.specs.commit_log.specs.Runs.{IsRunning}
+use Rattle.idem_cell.specs.commit_log.proofs.Next.{settled_at, settled_next}
 use Rattle.nested_lock.specs.Answers.{refused_by, first_outcome, second_outcome, outcome_at}
 use Rattle.nested_lock.specs.Taken.{MayTake, HasRead, HasHeld, HasTaken}
 use Rattle.nested_lock.specs.declared.takes.TakeEnd.{TakeEnd}

@@ -12,8 +12,8 @@ use Rattle.runner_parts.specs.declared.entries.Retired.{Retired}
 use Rattle.runner_parts.specs.State.{RunState, NodesState}
 use Rattle.runner_parts.specs.Tests.{has}
 use Rattle.runner_steps.specs.Sections.{thunk_of, setting_of, outcome_of, line_of}
-use Rattle.version_words.specs.RunnerState.{RunnerState}
-use Rattle.commit_log.specs.Runs.{IsRunning}
+use Rattle.idem_cell.specs.version_words.specs.RunnerState.{RunnerState}
+use Rattle.idem_cell.specs.commit_log.specs.Runs.{IsRunning}
 use Rattle.section_runs.specs.Reached.{run_of}
 
 -- what a step of a body leaves of the own node slots: a Make may take one off the free list, a Retire may put one into limbo

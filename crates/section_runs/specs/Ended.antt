@@ -20,11 +20,11 @@ use Rattle.runner_steps.specs.AfterInRun.{over_if}
 use Rattle.runner_steps.specs.Sections.{setting_of}
 use Rattle.machine_states.specs.Sight.{Sight, sight}
 use Rattle.machine_epochs.specs.Slots.{thunk_in}
-use Rattle.machine_invariant.specs.Along.{Components}
-use Rattle.machine_invariant.specs.Trails.{IsEndOf}
-use Rattle.machine_facts.specs.States.{FactsStand}
-use Rattle.version_words.specs.RunnerState.{RunnerState}
-use Rattle.commit_log.specs.Runs.{Ran}
+use Rattle.idem_cell.specs.machine_invariant.specs.Along.{Components}
+use Rattle.idem_cell.specs.machine_invariant.specs.Trails.{IsEndOf}
+use Rattle.idem_cell.specs.machine_facts.specs.States.{FactsStand}
+use Rattle.idem_cell.specs.version_words.specs.RunnerState.{RunnerState}
+use Rattle.idem_cell.specs.commit_log.specs.Runs.{Ran}
 use Rattle.section_runs.specs.Reached.{IsReached, events_after}
 use Rattle.section_runs.specs.Opened.{Learns, IsOpening, HasOpened}
 

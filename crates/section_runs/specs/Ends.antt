@@ -8,9 +8,9 @@ use Rattle.structure_laws.specs.Meaning.{Meaning}
 use Rattle.runner_parts.specs.State.{RunState}
 use Rattle.runner_steps.specs.AfterInRun.{ended_more}
 use Rattle.runner_steps.specs.Sections.{thunk_of, line_of, next_of}
-use Rattle.version_words.specs.RunnerState.{RunnerState}
-use Rattle.commit_log.specs.Asked.{IsAsked}
-use Rattle.commit_log.specs.Runs.{IsRunning, Stepped, Ran}
+use Rattle.idem_cell.specs.version_words.specs.RunnerState.{RunnerState}
+use Rattle.idem_cell.specs.commit_log.specs.Asked.{IsAsked}
+use Rattle.idem_cell.specs.commit_log.specs.Runs.{IsRunning, Stepped, Ran}
 use Rattle.section_runs.specs.Reached.{run_of, IsInside}
 
 module _ {T : Type 0} (m : Meaning) where

@@ -10,8 +10,8 @@ use Rattle.section_body.specs.declared.outcome.Outcome.TheVariants.{Busy}
 use Rattle.section_body.specs.declared.step.Step.{Step}
 use Rattle.structure_laws.specs.Meaning.{Meaning}
 use Rattle.runner_parts.specs.Tests.{has}
-use Rattle.version_words.specs.RunnerState.{RunnerState}
-use Rattle.commit_log.specs.Halted.{IsThrough, IsHalted}
+use Rattle.idem_cell.specs.version_words.specs.RunnerState.{RunnerState}
+use Rattle.idem_cell.specs.commit_log.specs.Halted.{IsThrough, IsHalted}
 use Rattle.section_runs.specs.Reached.{run_of}
 use Rattle.section_runs.specs.Registers.{AreKept}
 use Rattle.section_runs.specs.Bodies.{NodesStepped, body_of, IsBefore, MayGo, IsSameRun, IsOver}

@@ -9,9 +9,9 @@ use Rattle.runner_parts.specs.declared.stage.Stage.TheVariants as stages
 use Rattle.runner_parts.specs.State.{RunState}
 use Rattle.runner_parts.specs.Tests.{has}
 use Rattle.runner_steps.specs.Sections.{thunk_of, is_late}
-use Rattle.version_words.specs.RunnerState.{RunnerState}
-use Rattle.version_words.specs.Events.{Makes}
-use Rattle.commit_log.specs.Asked.{IsAsked}
+use Rattle.idem_cell.specs.version_words.specs.RunnerState.{RunnerState}
+use Rattle.idem_cell.specs.version_words.specs.Events.{Makes}
+use Rattle.idem_cell.specs.commit_log.specs.Asked.{IsAsked}
 use Rattle.section_runs.specs.Reached.{IsReached, no_run, IsInside, events_after}
 
 -- what is known of stamp and reply words stays known, and what was learned is of this request

@@ -4,8 +4,8 @@ ghost use Rattle.section_body.specs.Cost.{step_cost};
 ghost use Rattle.section_body.specs.Shape.{IsShaped, is_make};
 ghost use Rattle.section_body.specs.declared.outcome.Outcome.{Outcome as Ending};
 ghost use Rattle.runner_steps.specs.Sections.{reply_in};
-ghost use Rattle.version_words.specs.TableState.{IsOf};
-ghost use Rattle.commit_log.specs.Halted.{IsThrough, IsHalted};
+ghost use Rattle.idem_cell.specs.version_words.specs.TableState.{IsOf};
+ghost use Rattle.idem_cell.specs.commit_log.specs.Halted.{IsThrough, IsHalted};
 ghost use Rattle.section_runs.specs.Reached.{run_of};
 ghost use Rattle.section_runs.specs.Bodies.{body_of, IsBefore, HasWalked};
 ghost use Rattle.section_runs.specs.declared.passed.Walked.TheVariants.{Over, Stopped};
@@ -13,9 +13,9 @@ ghost use Rattle.section_runs.specs.declared.passed.Walked.TheVariants.{Over, St
 use crate::passed::{Passed, Walked};
 use crate::registers::Places;
 use crate::steps::step_gated;
+use idem_cell::version_words::{FlockTable, Runner, table_is_allowed};
 use runner_parts::Structure;
 use section_body::{Gate, Outcome, Step, Steps, Trail};
-use version_words::{FlockTable, Runner, table_is_allowed};
 
 /// How many words were agreed on.
 fn count_of(trail: &Trail) -> u32
@@ -73,7 +73,7 @@ pub fn walk<S: Structure, G: Gate, L>(
         );
         runner = gone;
         match passed {
-            Passed::On => kept = kept.after(step, count),
+            Passed::On => kept.note(step, count),
             Passed::Left(outcome) => return (runner, Walked::Over(n, outcome)),
             Passed::Halted => return (runner, Walked::Stopped),
         }

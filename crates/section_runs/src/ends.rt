@@ -3,17 +3,17 @@ ghost use Rattle.std.specs.Prelude.{◌≡◌, ℕ, ◌+◌, ◌≤◌, ◌<◌,
 ghost use Rattle.section_body.specs.Shape.{IsStep, is_take};
 ghost use Rattle.section_body.specs.declared.outcome.Outcome.{Outcome};
 ghost use Rattle.runner_steps.specs.Sections.{thunk_of};
-ghost use Rattle.version_words.specs.TableState.{IsOf};
-ghost use Rattle.commit_log.specs.Asked.{IsAsked};
-ghost use Rattle.commit_log.specs.Halted.{IsThrough, IsHalted};
+ghost use Rattle.idem_cell.specs.version_words.specs.TableState.{IsOf};
+ghost use Rattle.idem_cell.specs.commit_log.specs.Asked.{IsAsked};
+ghost use Rattle.idem_cell.specs.commit_log.specs.Halted.{IsThrough, IsHalted};
 ghost use Rattle.section_runs.specs.Reached.{run_of};
 ghost use Rattle.section_runs.specs.Bodies.{body_of, IsOver};
 ghost use Rattle.section_runs.specs.Ends.{IsEnding, EndsOn, HasReleased, EndsAsked};
 
-use commit_log::passes;
+use idem_cell::commit_log::passes;
+use idem_cell::version_words::{FlockTable, Runner, table_is_allowed};
 use runner_parts::Structure;
 use section_body::{Gate, Place, Step, StepKind, Steps, Word};
-use version_words::{FlockTable, Runner, table_is_allowed};
 
 /// Sets the done word.
 fn finish<S: Structure, G: Gate, L>(

@@ -21,3 +21,6 @@ pub use opens::open;
 pub use passed::{Passed, Walked};
 pub use registers::Places;
 pub use runs::{RunEnd, run};
+
+// Passed on to the layers above, so that they needn't name these libraries themselves.
+pub use idem_cell::{commit_log, interleave_core, reached_histories, version_words};

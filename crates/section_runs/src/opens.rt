@@ -1,16 +1,16 @@
 //! The opening of a run.
 ghost use Rattle.std.specs.Prelude.{◌≡◌, ◌≤◌, [], cond, length, IfSome, IfNone, true, false};
 ghost use Rattle.runner_steps.specs.Sections.{thunk_of};
-ghost use Rattle.version_words.specs.TableState.{IsOf};
-ghost use Rattle.commit_log.specs.Asked.{IsAsked};
+ghost use Rattle.idem_cell.specs.version_words.specs.TableState.{IsOf};
+ghost use Rattle.idem_cell.specs.commit_log.specs.Asked.{IsAsked};
 ghost use Rattle.section_runs.specs.Reached.{MayBegin};
 ghost use Rattle.section_runs.specs.Opened.{IsOpening, HasOpened, HasHalted};
 
 use arrayvec::ArrayVec;
-use commit_log::passes;
+use idem_cell::commit_log::passes;
+use idem_cell::version_words::{FlockTable, Runner, table_is_allowed};
 use runner_parts::Structure;
 use section_body::{Gate, StepKind, Steps, Thunk, Word};
-use version_words::{FlockTable, Runner, table_is_allowed};
 
 /// The thunk that these words hold.
 fn thunk_from(words: &[u64]) -> Thunk

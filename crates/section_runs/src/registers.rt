@@ -24,20 +24,18 @@ impl Places {
         }
     }
 
-    /// After one more step, before which so many words were agreed on.
-    pub fn after(self, step: &Step, count: u32) -> Places
+    /// One more step was made, before which so many words were agreed on.
+    pub fn note(&mut self, step: &Step, count: u32)
         requires within { IsWithin step.now }
-        ensures { (g : Registers) → AreKept self g → count ≡ g.count → AreKept result (registers_after g step.now) }
+        ensures { (g : Registers) → AreKept self.old g → count ≡ g.count → AreKept self.new (registers_after g step.now) }
     {
-        let mut next = self;
         match *step {
             Step::Load { place, into } => {
-                next.places[into as usize] = place;
-                next.logs[into as usize] = count;
+                self.places[into as usize] = place;
+                self.logs[into as usize] = count;
             }
-            Step::Make { init: _, into } => next.logs[into as usize] = count,
+            Step::Make { init: _, into } => self.logs[into as usize] = count,
             _ => (),
         }
-        next
     }
 }

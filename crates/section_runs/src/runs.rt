@@ -3,10 +3,10 @@ ghost use Rattle.std.specs.Prelude.{◌≡◌, ℕ, ◌+◌, ◌≤◌, [], true
 ghost use Rattle.section_body.specs.Trail.{Agreed};
 ghost use Rattle.section_body.specs.declared.outcome.Outcome.{Outcome as Ending};
 ghost use Rattle.section_body.specs.declared.thunk.Thunk.{Thunk as Words};
-ghost use Rattle.version_words.specs.RunnerState.{RunnerState};
-ghost use Rattle.version_words.specs.TableState.{IsOf};
-ghost use Rattle.commit_log.specs.Asked.{IsAsked};
-ghost use Rattle.commit_log.specs.Halted.{IsHalted};
+ghost use Rattle.idem_cell.specs.version_words.specs.RunnerState.{RunnerState};
+ghost use Rattle.idem_cell.specs.version_words.specs.TableState.{IsOf};
+ghost use Rattle.idem_cell.specs.commit_log.specs.Asked.{IsAsked};
+ghost use Rattle.idem_cell.specs.commit_log.specs.Halted.{IsHalted};
 ghost use Rattle.section_runs.specs.Reached.{MayBegin};
 ghost use Rattle.section_runs.specs.Opened.{HasOpened, StandsOpened};
 ghost use Rattle.section_runs.specs.Ended.{EndsSo, IsCutShort, rest_of};
@@ -16,9 +16,9 @@ use crate::bodies::walk;
 use crate::ends::end;
 use crate::opens::open;
 use crate::passed::Walked;
+use idem_cell::version_words::{FlockTable, Runner, table_is_allowed};
 use runner_parts::Structure;
-use section_body::{Gate, Outcome, Steps, Thunk, Trail};
-use version_words::{FlockTable, Runner, table_is_allowed};
+use section_body::{Gate, Outcome, Step, Steps, Thunk, Trail};
 
 /// How a run of a section ended.
 #[derive(Debug, Drop)]
@@ -30,6 +30,7 @@ pub enum RunEnd {
 }
 
 /// The end of a run with this outcome and this trail, where the gate let it go on to there.
+#[inline(always)]
 fn ended(going: bool, outcome: Outcome, trail: Trail) -> RunEnd
     ensures done { going ≡ true → result ≡ Done outcome trail }
     ensures halted { going ≡ false → result ≡ Halted }
@@ -42,6 +43,7 @@ fn ended(going: bool, outcome: Outcome, trail: Trail) -> RunEnd
 }
 
 /// A trail that is empty yet, of a run that found its section done or not.
+#[inline(always)]
 fn trail_of(late: bool) -> Trail
     ensures words { result.words ≡ [] }
     ensures late { result.late ≡ late }
@@ -51,10 +53,48 @@ fn trail_of(late: bool) -> Trail
     trail
 }
 
-/// Goes on with a run that has loaded this thunk, and found its section done or not.
-fn run_opened<S: Structure, G: Gate, L>(
+/// Goes through the steps of the section's body, and ends the run.
+#[inline(always)]
+fn run_steps<S: Structure, G: Gate, L>(
     table: &FlockTable<S>,
     runner: Runner<S>,
+    descriptor: u32,
+    thunk: &Thunk,
+    late: bool,
+    line: &[Step],
+    gate: &mut G,
+    steps: &mut Steps<L>,
+) -> (Runner<S>, RunEnd)
+    requires own { IsOf table.now runner }
+    requires opened { StandsOpened (S.meaning table.now.structure) descriptor thunk.now late runner }
+    requires line { line.now ≡ (S.meaning table.now.structure).body thunk.now }
+    requires reserve { 2 ≤ length runner.part.nodes.free }
+    ensures own { IsOf table.now result.0 }
+    ensures done { (before : RunnerState S) (o : Ending) (trail : Agreed) → HasOpened (S.meaning table.now.structure) descriptor thunk.now late before runner → result.1 ≡ Done o trail
+        → (made : ℕ) × EndsSo (S.meaning table.now.structure) descriptor thunk.now o trail (13 + made) before result.0
+        × IsAsked made true (G.halts gate.old) (G.halts gate.new) (G.asks gate.old) (G.asks gate.new) steps.old.count steps.new.count }
+    ensures halted { result.1 ≡ Halted → IsHalted (S.meaning table.now.structure) (rest_of ((S.meaning table.now.structure).body thunk.now)) runner result.0 (G.halts gate.old) (G.halts gate.new) (G.asks gate.old) (G.asks gate.new) steps.old.count steps.new.count }
+{
+    table_is_allowed(table);
+    let mut trail = trail_of(late);
+    let (runner, walked) = walk(table, runner, descriptor, line, &mut trail, gate, steps);
+    match walked {
+        Walked::Over(taken, outcome) => {
+            let (runner, going) = end(
+                table, runner, line, taken, thunk.lock, thunk.word, gate, steps,
+            );
+            (runner, ended(going, outcome, trail))
+        }
+        Walked::Stopped => (runner, RunEnd::Halted),
+    }
+}
+
+/// Goes on with a run that has loaded this thunk, and found its section done or not. The body that the runner keeps is refilled with the
+/// section's steps; where it is out another one is made.
+#[inline(always)]
+fn run_opened<S: Structure, G: Gate, L>(
+    table: &FlockTable<S>,
+    mut runner: Runner<S>,
     descriptor: u32,
     thunk: &Thunk,
     late: bool,
@@ -70,20 +110,16 @@ fn run_opened<S: Structure, G: Gate, L>(
         × IsAsked made true (G.halts gate.old) (G.halts gate.new) (G.asks gate.old) (G.asks gate.new) steps.old.count steps.new.count }
     ensures halted { result.1 ≡ Halted → IsHalted (S.meaning table.now.structure) (rest_of ((S.meaning table.now.structure).body thunk.now)) runner result.0 (G.halts gate.old) (G.halts gate.new) (G.asks gate.old) (G.asks gate.new) steps.old.count steps.new.count }
 {
-    table_is_allowed(table);
-    let body = table.structure().body(thunk);
-    let mut trail = trail_of(late);
+    let Some(mut body) = runner.take_body() else {
+        let body = table.structure().body(thunk);
+        let line = body.steps.as_slice();
+        return run_steps(table, runner, descriptor, thunk, late, line, gate, steps);
+    };
+    table.structure().body_in(thunk, &mut body);
     let line = body.steps.as_slice();
-    let (runner, walked) = walk(table, runner, descriptor, line, &mut trail, gate, steps);
-    match walked {
-        Walked::Over(taken, outcome) => {
-            let (runner, going) = end(
-                table, runner, line, taken, thunk.lock, thunk.word, gate, steps,
-            );
-            (runner, ended(going, outcome, trail))
-        }
-        Walked::Stopped => (runner, RunEnd::Halted),
-    }
+    let (mut runner, end) = run_steps(table, runner, descriptor, thunk, late, line, gate, steps);
+    runner.keep_body(body);
+    (runner, end)
 }
 
 /// Runs the section in this descriptor to its end, whatever others do: loads its thunk, makes the steps of its body by the words that were
@@ -92,6 +128,7 @@ fn run_opened<S: Structure, G: Gate, L>(
 ///
 /// The runner has to be entered and in no run, holds the descriptor, and has a reserve of two node slots. It makes at most as many steps
 /// as `cost` of the body says. `Halted` only where the gate halted. No memory is taken, and nothing waits (Ben-David, Blelloch, Wei, 2022).
+#[inline(always)]
 pub fn run<S: Structure, G: Gate, L>(
     table: &FlockTable<S>,
     runner: Runner<S>,

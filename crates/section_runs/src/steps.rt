@@ -3,8 +3,8 @@ ghost use Rattle.std.specs.Prelude.{◌≡◌, ◌≢◌, ℕ, ◌≤◌, true, 
 ghost use Rattle.section_body.specs.Shape.{is_make};
 ghost use Rattle.section_body.specs.declared.outcome.Outcome.{Outcome};
 ghost use Rattle.section_body.specs.declared.step.Step.TheVariants as kinds;
-ghost use Rattle.version_words.specs.TableState.{IsOf};
-ghost use Rattle.commit_log.specs.Halted.{IsThrough, IsHalted};
+ghost use Rattle.idem_cell.specs.version_words.specs.TableState.{IsOf};
+ghost use Rattle.idem_cell.specs.commit_log.specs.Halted.{IsThrough, IsHalted};
 ghost use Rattle.section_runs.specs.Reached.{run_of};
 ghost use Rattle.section_runs.specs.Bodies.{MayGo, GoesOn, Leaves};
 ghost use Rattle.section_runs.specs.Goes.{MayGoBy, MayGoAt, Went};
@@ -13,13 +13,13 @@ ghost use Rattle.section_runs.specs.declared.passed.Passed.TheVariants.{On, Left
 use crate::passed::Passed;
 use crate::registers::Places;
 use crate::values::{agree_on, taken, tested, value_in, wanted};
-use commit_log::passes;
 use idem_alloc::{make_gated, retire_gated};
+use idem_cell::commit_log::passes;
+use idem_cell::version_words::{FlockTable, Runner, table_is_allowed};
 use idem_cell::{load_gated, store};
 use nested_lock::take_gated;
 use runner_parts::Structure;
 use section_body::{Gate, Init, Place, Step, StepKind, Steps, Trail, Value, Word};
-use version_words::{FlockTable, Runner, table_is_allowed};
 
 /// Loads a cell and agrees on its word.
 fn load_step<S: Structure, G: Gate, L>(

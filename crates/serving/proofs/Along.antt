@@ -13,14 +13,14 @@ use Rattle.structure_laws.specs.Laws.{Laws}
 use Rattle.runner_parts.specs.declared.entries.Known.{Known}
 use Rattle.runner_parts.specs.Tests.{is_answered, are_answered}
 use Rattle.machine_states.proofs.Steps.{some_same, none_some}
-use Rattle.machine_invariant.specs.After.{AreAllowed}
-use Rattle.version_words.specs.RunnerState.{RunnerState}
-use Rattle.version_words.specs.TableState.{TableState, IsOf}
-use Rattle.epoch_slots.specs.Collects.{IsTidy}
-use Rattle.epoch_slots.specs.declared.reserves.Short.{Short}
-use Rattle.try_lock.specs.Planning.{Planning}
-use Rattle.try_lock.specs.Reached.{IsReached}
-use Rattle.request_facts.specs.Laws.{HasEntry}
+use Rattle.attempts.specs.machine_invariant.specs.After.{AreAllowed}
+use Rattle.attempts.specs.version_words.specs.RunnerState.{RunnerState}
+use Rattle.attempts.specs.version_words.specs.TableState.{TableState, IsOf}
+use Rattle.attempts.specs.epoch_slots.specs.Collects.{IsTidy}
+use Rattle.attempts.specs.epoch_slots.specs.declared.reserves.Short.{Short}
+use Rattle.attempts.specs.try_lock.specs.Planning.{Planning}
+use Rattle.attempts.specs.try_lock.specs.Reached.{IsReached}
+use Rattle.attempts.specs.request_facts.specs.Laws.{HasEntry}
 use Rattle.attempts.specs.Knowing.{KnowsMore, IsOwn}
 use Rattle.attempts.specs.Course.{MayAttempt}
 use Rattle.attempts.specs.Attempts.{IsServed, IsShort, IsTurnedAway, IsHalted, Answers}

@@ -20,14 +20,14 @@ use Rattle.runner_parts.specs.State.{FinishedState, ReadsState}
 use Rattle.runner_parts.specs.Tests.{has_pair}
 use Rattle.machine_states.proofs.Steps.{some_same, none_some}
 use Rattle.spent_facts.specs.Spent.{IsLate}
-use Rattle.version_words.specs.RunnerState.{RunnerState}
-use Rattle.epoch_slots.specs.Entries.{Exits}
-use Rattle.epoch_slots.proofs.Outside.{reads_made}
-use Rattle.try_lock.specs.declared.planned.Planned.{Planned}
-use Rattle.try_lock.specs.declared.planned.Planned.TheVariants as plans
-use Rattle.try_lock.specs.Planning.{Planning}
-use Rattle.try_lock.specs.Plans.{refused_at, refused_by_lock}
-use Rattle.try_lock.specs.Publishes.{refused_by}
+use Rattle.attempts.specs.version_words.specs.RunnerState.{RunnerState}
+use Rattle.attempts.specs.epoch_slots.specs.Entries.{Exits}
+use Rattle.attempts.specs.epoch_slots.proofs.Outside.{reads_made}
+use Rattle.attempts.specs.try_lock.specs.declared.planned.Planned.{Planned}
+use Rattle.attempts.specs.try_lock.specs.declared.planned.Planned.TheVariants as plans
+use Rattle.attempts.specs.try_lock.specs.Planning.{Planning}
+use Rattle.attempts.specs.try_lock.specs.Plans.{refused_at, refused_by_lock}
+use Rattle.attempts.specs.try_lock.specs.Publishes.{refused_by}
 use Rattle.attempts.specs.Course.{of_plan, of_refusal, of_outcome, HasPlanned, HasTried, HasLeft}
 use Rattle.attempts.specs.Attempts.{IsTurnedAway}
 use Rattle.attempts.specs.declared.answers.Attempt.TheVariants as attempts

@@ -9,13 +9,13 @@ use Rattle.runner_parts.specs.State.{PartState}
 use Rattle.runner_parts.specs.Tests.{is_answered}
 use Rattle.runner_steps.specs.Outside.{entry_spot}
 use Rattle.machine_states.specs.Sight.{sight, part_or_first}
-use Rattle.machine_invariant.specs.After.{AreAllowed}
-use Rattle.machine_facts.specs.Known.{KnownStand}
-use Rattle.machine_facts.proofs.Following.{facts_after}
-use Rattle.machine_records.proofs.First.{entry_of}
-use Rattle.version_words.specs.RunnerState.{RunnerState}
-use Rattle.try_lock.specs.Reached.{IsReached}
-use Rattle.request_facts.specs.Laws.{HasEntry}
+use Rattle.attempts.specs.machine_invariant.specs.After.{AreAllowed}
+use Rattle.attempts.specs.machine_facts.specs.Known.{KnownStand}
+use Rattle.attempts.specs.machine_facts.proofs.Following.{facts_after}
+use Rattle.attempts.specs.machine_records.proofs.First.{entry_of}
+use Rattle.attempts.specs.version_words.specs.RunnerState.{RunnerState}
+use Rattle.attempts.specs.try_lock.specs.Reached.{IsReached}
+use Rattle.attempts.specs.request_facts.specs.Laws.{HasEntry}
 use Rattle.attempts.specs.Knowing.{IsFront}
 use Rattle.attempts.proofs.Knowing.{front_entry, answered_on}
 

@@ -4,10 +4,10 @@ use Rattle.std.proofs.Common.{◌≡◌, ℕ, List, refl, sym, ap, ◌∙◌}
 use Rattle.map_history.specs.declared.op.Request.{Request}
 use Rattle.structure_laws.specs.Meaning.{Meaning}
 use Rattle.runner_parts.specs.Tests.{is_answered, are_answered}
-use Rattle.version_words.specs.RunnerState.{RunnerState}
-use Rattle.version_words.specs.TableState.{TableState, IsOf}
-use Rattle.epoch_slots.specs.Collects.{IsTidy}
-use Rattle.try_lock.specs.Planning.{Planning}
+use Rattle.attempts.specs.version_words.specs.RunnerState.{RunnerState}
+use Rattle.attempts.specs.version_words.specs.TableState.{TableState, IsOf}
+use Rattle.attempts.specs.epoch_slots.specs.Collects.{IsTidy}
+use Rattle.attempts.specs.try_lock.specs.Planning.{Planning}
 use Rattle.attempts.specs.Knowing.{IsFront, KnowsMore, LearnsNoOther}
 use Rattle.attempts.specs.Course.{MayAttempt}
 use Rattle.attempts.specs.Attempts.{is_halted, Answers, Attempts}

@@ -5,11 +5,11 @@ use Rattle.structure_laws.specs.Meaning.{Meaning}
 use Rattle.runner_parts.specs.declared.entries.Known.{Known}
 use Rattle.runner_parts.specs.declared.entries.Published.{Published}
 use Rattle.runner_parts.specs.Tests.{is_answered}
-use Rattle.version_words.specs.RunnerState.{RunnerState}
-use Rattle.epoch_slots.specs.Collects.{IsTidy}
-use Rattle.epoch_slots.specs.declared.reserves.Short.{Short}
-use Rattle.try_lock.specs.Planning.{Planning}
-use Rattle.request_facts.specs.Laws.{HasEntry}
+use Rattle.attempts.specs.version_words.specs.RunnerState.{RunnerState}
+use Rattle.attempts.specs.epoch_slots.specs.Collects.{IsTidy}
+use Rattle.attempts.specs.epoch_slots.specs.declared.reserves.Short.{Short}
+use Rattle.attempts.specs.try_lock.specs.Planning.{Planning}
+use Rattle.attempts.specs.request_facts.specs.Laws.{HasEntry}
 use Rattle.attempts.specs.Knowing.{KnowsMore, IsOwn, LearnsNoOther}
 use Rattle.attempts.specs.Course.{MayAttempt}
 use Rattle.attempts.specs.Attempts.{IsShort, IsTurnedAway, Answers}

@@ -1,6 +1,6 @@
 //! What the serving of a list of requests answers.
 
-use epoch_slots::Short;
+use attempts::epoch_slots::Short;
 use section_body::{Place, Word};
 
 /// What the serving of a list of requests came to. Where it stopped, it stopped at the request behind those that are

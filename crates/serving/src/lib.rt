@@ -10,3 +10,9 @@ mod serves;
 
 pub use answers::Served;
 pub use serves::serve;
+
+// Passed on to the layers above, so that they needn't name these libraries themselves.
+pub use attempts::{
+    epoch_slots, lock_walks, reached_histories, request_facts, runner_facts, version_words,
+};
+pub use spent_facts;

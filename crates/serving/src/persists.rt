@@ -1,18 +1,18 @@
 //! One request, attempted until it is answered.
 ghost use Rattle.std.specs.Prelude.{◌≡◌, ◌≢◌};
 ghost use Rattle.fault_count.specs.Rose.{Rose};
-ghost use Rattle.version_words.specs.TableState.{IsOf};
+ghost use Rattle.attempts.specs.version_words.specs.TableState.{IsOf};
 ghost use Rattle.attempts.specs.Course.{MayAttempt};
 ghost use Rattle.attempts.specs.declared.answers.Attempt.TheVariants as attempts;
 ghost use Rattle.serving.specs.Serving.{is_tried_again, Persists};
 
+use attempts::lock_walks::Planner;
+use attempts::version_words::{FlockTable, Runner};
 use attempts::{Attempt, attempt};
-use lock_walks::Planner;
 use map_history::Request;
 use section_body::{Gate, Steps};
 use std::sync::Wait;
 use std::thread::yield_now;
-use version_words::{FlockTable, Runner};
 
 /// Whether a request is attempted again after this answer.
 fn is_again(answer: &Attempt, retry_short: bool) -> bool

@@ -1,19 +1,19 @@
 //! The requests of a worker, served in their order.
 ghost use Rattle.std.specs.Prelude.{◌≡◌, ◌≢◌};
 ghost use Rattle.fault_count.specs.Rose.{Rose};
-ghost use Rattle.version_words.specs.TableState.{IsOf};
+ghost use Rattle.attempts.specs.version_words.specs.TableState.{IsOf};
 ghost use Rattle.serving.specs.declared.answers.Served.TheVariants as answers;
 ghost use Rattle.serving.specs.Serving.{stop_of, MayServe, Serves};
 
 use crate::answers::Served;
 use crate::persists::persist;
+use attempts::lock_walks::Planner;
+use attempts::version_words::{FlockTable, Runner, table_is_allowed};
 use attempts::{Attempt, goes_on};
-use lock_walks::Planner;
 use map_history::Request;
 use section_body::{Gate, StepKind, Steps};
 use std::sync::Wait;
 use std::thread::Threads;
-use version_words::{FlockTable, Runner, table_is_allowed};
 
 /// What the serving stops with at this answer of a last attempt; none where the request is served.
 fn stop(answer: Attempt) -> Option<Served>

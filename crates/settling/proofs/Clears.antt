@@ -31,25 +31,25 @@ use Rattle.map_history.specs.declared.op.Request.{Request}
 use Rattle.table_words.specs.declared.layout.Layout.{Layout}
 use Rattle.machine_states.proofs.Steps.{some_same}
 use Rattle.machine_epochs.proofs.Places.{has_append}
-use Rattle.machine_invariant.specs.After.{AreAllowed}
-use Rattle.runner_facts.specs.Keeper.{AllJoined}
+use Rattle.try_lock.specs.machine_invariant.specs.After.{AreAllowed}
+use Rattle.keeper_facts.specs.runner_facts.specs.Keeper.{AllJoined}
 use Rattle.keeper_facts.specs.Freed.{HasLeft, IsCleared, IsFreed, IsAlone, StandsSeen, LocksTell}
 use Rattle.keeper_facts.proofs.Lists.{left_on}
 use Rattle.keeper_facts.proofs.Keeping.{after_keeps, noted_left}
-use Rattle.version_words.specs.RunnerState.{RunnerState}
-use Rattle.version_words.specs.TableState.{TableState, IsOf}
-use Rattle.version_words.specs.Events.{met_by, Makes}
-use Rattle.version_words.specs.Naming.{load_of}
-use Rattle.version_words.specs.Stages.{IsAt}
-use Rattle.version_words.proofs.Stages.{then_loaded_cell}
-use Rattle.epoch_slots.specs.Entries.{KeepsOwn}
-use Rattle.epoch_slots.proofs.Outside.{reads_made, own_kept}
-use Rattle.section_runs.specs.Reached.{IsReached, run_of}
-use Rattle.section_runs.specs.Ended.{EndsSo}
-use Rattle.section_runs.proofs.Going.{shaped}
-use Rattle.section_runs.proofs.Openeds.{stands_opened, opened_body}
+use Rattle.try_lock.specs.version_words.specs.RunnerState.{RunnerState}
+use Rattle.try_lock.specs.version_words.specs.TableState.{TableState, IsOf}
+use Rattle.try_lock.specs.version_words.specs.Events.{met_by, Makes}
+use Rattle.try_lock.specs.version_words.specs.Naming.{load_of}
+use Rattle.try_lock.specs.version_words.specs.Stages.{IsAt}
+use Rattle.try_lock.specs.version_words.proofs.Stages.{then_loaded_cell}
+use Rattle.try_lock.specs.epoch_slots.specs.Entries.{KeepsOwn}
+use Rattle.try_lock.specs.epoch_slots.proofs.Outside.{reads_made, own_kept}
+use Rattle.try_lock.specs.section_runs.specs.Reached.{IsReached, run_of}
+use Rattle.try_lock.specs.section_runs.specs.Ended.{EndsSo}
+use Rattle.try_lock.specs.section_runs.proofs.Going.{shaped}
+use Rattle.try_lock.specs.section_runs.proofs.Openeds.{stands_opened, opened_body}
 use Rattle.try_lock.specs.Reached.{MayHelp}
-use Rattle.machine_agreement.proofs.Releases.{get_more}
+use Rattle.try_lock.specs.machine_agreement.proofs.Releases.{get_more}
 use Rattle.settling.specs.Settled.{IsFront, LoadsLocks}
 use Rattle.settling.specs.Clearing.{cell_count, KeepsJoins, IsClearing, HasRun}
 use Rattle.settling.proofs.Growing.{front_same, front_on, Grows, grows_on, own_grows, grows_made, grows_ran, grows_opens, ran_walk}

@@ -14,17 +14,17 @@ use Rattle.runner_parts.specs.declared.event.EventKind.TheVariants as kinds
 use Rattle.runner_parts.specs.State.{RunState, ReadsState, RecordsState, PartState}
 use Rattle.runner_steps.specs.After.{after_by, left_more, tallied, noted}
 use Rattle.machine_states.specs.World.{is_join}
-use Rattle.next_steps.specs.Steps.{kind_at}
-use Rattle.next_steps.specs.Stages.{reads_behind}
+use Rattle.try_lock.specs.next_steps.specs.Steps.{kind_at}
+use Rattle.try_lock.specs.next_steps.specs.Stages.{reads_behind}
 use Rattle.section_body.specs.Run.{written_once}
 use Rattle.runner_parts.specs.Lists.{holds_named, lock_agreed}
 use Rattle.runner_parts.specs.Tests.{has}
 use Rattle.keeper_facts.proofs.Keeping.{after_keeps, noted_joined}
-use Rattle.version_words.specs.RunnerState.{RunnerState}
-use Rattle.version_words.specs.TableState.{TableState, IsOf}
-use Rattle.version_words.specs.Events.{Makes}
-use Rattle.commit_log.specs.Runs.{Ran}
-use Rattle.section_runs.specs.Opened.{is_opening, Opens}
+use Rattle.try_lock.specs.version_words.specs.RunnerState.{RunnerState}
+use Rattle.try_lock.specs.version_words.specs.TableState.{TableState, IsOf}
+use Rattle.try_lock.specs.version_words.specs.Events.{Makes}
+use Rattle.try_lock.specs.commit_log.specs.Runs.{Ran}
+use Rattle.try_lock.specs.section_runs.specs.Opened.{is_opening, Opens}
 use Rattle.settling.specs.Settled.{IsFront}
 
 pub front_same : {A : Type 0} (xs ys : List A) → ys ≡ xs → IsFront xs ys

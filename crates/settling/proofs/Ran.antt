@@ -3,8 +3,8 @@ use Rattle.std.proofs.Common.{◌≡◌, refl, arith}
 use Rattle.fault_count.specs.Rose.{Rose}
 use Rattle.section_body.specs.Trail.{Agreed}
 use Rattle.section_body.specs.declared.outcome.Outcome.{Outcome}
-use Rattle.section_runs.specs.declared.runs.RunEnd.{RunEnd}
-use Rattle.section_runs.specs.declared.runs.RunEnd.TheVariants.{Done, Halted}
+use Rattle.try_lock.specs.section_runs.specs.declared.runs.RunEnd.{RunEnd}
+use Rattle.try_lock.specs.section_runs.specs.declared.runs.RunEnd.TheVariants.{Done, Halted}
 
 -- a count that stays 0 doesn't rise
 pub not_rose : Rose 0 0 → ⊥

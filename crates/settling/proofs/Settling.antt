@@ -16,15 +16,15 @@ use Rattle.runner_parts.specs.Tests.{has}
 use Rattle.machine_states.specs.Reached.{Reached}
 use Rattle.machine_states.specs.Sight.{Sight, sight, part_or_first}
 use Rattle.machine_states.specs.World.{World, seat_of}
-use Rattle.machine_invariant.specs.After.{AreAllowed}
-use Rattle.runner_facts.specs.Keeper.{AllJoined}
+use Rattle.try_lock.specs.machine_invariant.specs.After.{AreAllowed}
+use Rattle.keeper_facts.specs.runner_facts.specs.Keeper.{AllJoined}
 use Rattle.keeper_facts.specs.Freed.{IsCleared, IsAlone, LocksTell}
-use Rattle.reached_histories.specs.Laws.{HasHistory}
-use Rattle.reached_histories.proofs.Histories.{reached_have}
-use Rattle.version_words.specs.RunnerState.{RunnerState}
-use Rattle.version_words.specs.TableState.{TableState, IsOf}
-use Rattle.epoch_slots.specs.Entries.{HasLeave, Enters, Exits}
-use Rattle.epoch_slots.proofs.Outside.{reads_made}
+use Rattle.try_lock.specs.reached_histories.specs.Laws.{HasHistory}
+use Rattle.try_lock.specs.reached_histories.proofs.Histories.{reached_have}
+use Rattle.try_lock.specs.version_words.specs.RunnerState.{RunnerState}
+use Rattle.try_lock.specs.version_words.specs.TableState.{TableState, IsOf}
+use Rattle.try_lock.specs.epoch_slots.specs.Entries.{HasLeave, Enters, Exits}
+use Rattle.try_lock.specs.epoch_slots.proofs.Outside.{reads_made}
 use Rattle.settling.specs.Settled.{LoadsLocks, MaySettle, IsSettled, Settles}
 use Rattle.settling.specs.Clearing.{cell_count, KeepsJoins, IsClearing}
 use Rattle.settling.proofs.Growing.{front_same, Grows, grows_on, own_grows, grows_made}

@@ -8,10 +8,10 @@ use Rattle.runner_parts.specs.Tests.{has}
 use Rattle.machine_states.specs.World.{World, seat_of}
 use Rattle.machine_states.specs.Reached.{Reached}
 use Rattle.machine_states.specs.Sight.{Sight, sight}
-use Rattle.version_words.specs.RunnerState.{RunnerState}
-use Rattle.version_words.specs.TableState.{TableState, HasJoinedAll}
-use Rattle.epoch_slots.specs.Collects.{IsTidy}
-use Rattle.section_runs.specs.Reached.{IsReached}
+use Rattle.try_lock.specs.version_words.specs.RunnerState.{RunnerState}
+use Rattle.try_lock.specs.version_words.specs.TableState.{TableState, HasJoinedAll}
+use Rattle.try_lock.specs.epoch_slots.specs.Collects.{IsTidy}
+use Rattle.try_lock.specs.section_runs.specs.Reached.{IsReached}
 
 -- the one list is the other's front
 pub record IsFront {A : Type 0} (front whole : List A) : Type 0 where

@@ -2,18 +2,18 @@
 ghost use Rattle.std.specs.Prelude.{◌≡◌, ◌+◌, ◌-◌, ◌<◌, true};
 ghost use Rattle.table_words.specs.Limits.{IsWithinLimits};
 ghost use Rattle.section_body.specs.Word.{value_of};
-ghost use Rattle.version_words.specs.TableState.{IsOf};
+ghost use Rattle.try_lock.specs.version_words.specs.TableState.{IsOf};
 ghost use Rattle.try_lock.specs.Reached.{MayHelp};
 ghost use Rattle.settling.specs.Settled.{MaySettle, Settles};
 ghost use Rattle.settling.specs.Clearing.{cell_count, KeepsJoins, IsClearing, HasRun};
 
-use commit_log::NeverHalts;
-use epoch_slots::{enter, exit};
 use keeper_facts::what_the_keeper_saw_tells;
+use runner_gate::Free;
 use runner_parts::Structure;
 use section_body::{Place, Steps, Word};
+use try_lock::epoch_slots::{enter, exit};
 use try_lock::help;
-use version_words::{FlockTable, Runner, table_is_allowed};
+use try_lock::version_words::{FlockTable, Runner, table_is_allowed};
 
 /// How many cells the table has.
 fn cells<S: Structure>(table: &FlockTable<S>) -> u32
@@ -30,7 +30,7 @@ fn run_named<S: Structure>(table: &FlockTable<S>, keeper: Runner<S>, held: Word)
     ensures own { IsOf table.now result }
     ensures ran { HasRun (S.meaning table.now.structure) (value_of held - 1) keeper result }
 {
-    let mut gate = NeverHalts::new();
+    let mut gate = Free::new();
     let mut steps: Steps<()> = Steps::new();
     let (keeper, end) = help(table, keeper, held, &mut gate, &mut steps);
     drop(end);

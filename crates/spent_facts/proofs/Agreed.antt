@@ -14,8 +14,8 @@ use Rattle.agreement_core.specs.Sound.{UsedIsSound}
 use Rattle.agreement_core.specs.Runs.{TrailIsSound}
 use Rattle.machine_states.specs.Sight.{Sight}
 use Rattle.machine_scenes.specs.Shown.{rules_of}
-use Rattle.machine_agreement.specs.Joined.{IsRunOf, IsJoinedToAgreement}
-use Rattle.machine_agreement.proofs.RunPlaces.{run_here, used_here, code_here}
+use Rattle.machine_facts.specs.machine_agreement.specs.Joined.{IsRunOf, IsJoinedToAgreement}
+use Rattle.machine_facts.specs.machine_agreement.proofs.RunPlaces.{run_here, used_here, code_here}
 use Rattle.spent_facts.specs.Spent.{IsPast}
 use Rattle.spent_facts.proofs.Leaving.{IsCheckOf, LeavesAt}
 

@@ -22,10 +22,10 @@ use Rattle.runner_steps.specs.After.{after, stepped, leaves as leaves_part, know
 use Rattle.agreement_core.specs.State.{AgreementState}
 use Rattle.machine_states.specs.Sight.{Sight, Steps, parts_after}
 use Rattle.machine_states.proofs.Updates.{upd_here, upd_else}
-use Rattle.machine_agreement.specs.Joined.{IsJoinedToAgreement}
-use Rattle.machine_agreement.proofs.LineKinds.{noted_finished}
-use Rattle.machine_agreement.proofs.Releases.{get_more}
-use Rattle.machine_invariant.specs.Rising.{CellsRise}
+use Rattle.machine_facts.specs.machine_agreement.specs.Joined.{IsJoinedToAgreement}
+use Rattle.machine_facts.specs.machine_agreement.proofs.LineKinds.{noted_finished}
+use Rattle.machine_facts.specs.machine_agreement.proofs.Releases.{get_more}
+use Rattle.machine_facts.specs.machine_invariant.specs.Rising.{CellsRise}
 use Rattle.machine_facts.proofs.Records.{stepped_same}
 use Rattle.spent_facts.specs.Spent.{IsPast, WasSpent}
 use Rattle.spent_facts.proofs.Leaving.{LeavesAt, leaves_at, not_reply}

@@ -17,9 +17,9 @@ use Rattle.machine_states.proofs.Reached.{first_reached, more_reached, reached_h
 use Rattle.machine_states.proofs.Sights.{happens_steps}
 use Rattle.machine_states.proofs.Steps.{none_some}
 use Rattle.machine_epochs.proofs.FirstJoin as FirstJoin
-use Rattle.machine_invariant.specs.After.{AreAllowed}
-use Rattle.machine_invariant.proofs.Rising.{rises_after}
-use Rattle.machine_invariant.proofs.After.{reached_whole}
+use Rattle.machine_facts.specs.machine_invariant.specs.After.{AreAllowed}
+use Rattle.machine_facts.specs.machine_invariant.proofs.Rising.{rises_after}
+use Rattle.machine_facts.specs.machine_invariant.proofs.After.{reached_whole}
 use Rattle.spent_facts.specs.Spent.{SpentStand}
 use Rattle.spent_facts.proofs.Agreed.{seen_past}
 use Rattle.spent_facts.proofs.Kept.{FinishedStand, finished_kept}

@@ -9,3 +9,7 @@ mod rows;
 mod walks;
 
 pub use walks::{collect, crew, enter, entry, exit, fetch, gather, look, new_table, put, slot_of};
+
+// Passed on to the layers above, so that they needn't name these libraries themselves.
+pub use version_words;
+pub use version_words::interleave_core;

@@ -7,10 +7,10 @@ ghost use Rattle.version_words.specs.Stages.{IsAt};
 use crate::walks::{
     collect, crew, enter, entry, exit, fetch, gather, look, new_table, put, slot_of,
 };
-use interleave_core::Tray;
 use std::alloc::AllocError;
 use std::thread;
 use std::thread::Threads;
+use version_words::interleave_core::Tray;
 use version_words::{FlockTable, Runner};
 
 /// A worker's share of work on a thread: it enters and leaves, and scans, so many times.

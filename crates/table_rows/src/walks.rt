@@ -11,12 +11,12 @@ ghost use Rattle.table_words.specs.Places.{descriptor_count};
 ghost use Rattle.table_rows.specs.Slots.{slot_of};
 ghost use Rattle.version_words.specs.Stages.{IsAt, IsKeeper, HasJoined, HasFree};
 
-use interleave_core::Tray;
 use map_history::{Op, Request};
 use runner_steps::{LAST_EPOCH, slot_count};
 use section_body::{Place, Word};
 use std::alloc::{AllocError, Global};
 use table_words::Layout;
+use version_words::interleave_core::Tray;
 use version_words::{FlockTable, Runner, Words};
 
 /// Enters, and gives the epoch of the entry.

@@ -5,14 +5,14 @@
 ghost use Rattle.std.specs.Prelude.{◌≡◌, ◌<◌, length, None};
 ghost use Rattle.runner_parts.specs.declared.stage.Stage.TheVariants as stages;
 ghost use Rattle.table_words.specs.Limits.{IsWithinLimits};
-ghost use Rattle.version_words.specs.TableState.{IsOf};
-ghost use Rattle.version_words.specs.Stages.{IsAt, HasFree};
+ghost use Rattle.table_rows.specs.version_words.specs.TableState.{IsOf};
+ghost use Rattle.table_rows.specs.version_words.specs.Stages.{IsAt, HasFree};
 
 use crate::kinds::Kind;
-use interleave_core::Tray;
 use std::alloc::{AllocError, Global};
+use table_rows::interleave_core::Tray;
+use table_rows::version_words::{FlockTable, Runner};
 use table_rows::{collect, crew, enter, entry, exit, fetch, gather, look, new_table, put, slot_of};
-use version_words::{FlockTable, Runner};
 
 /// Loads the stamp word of request 0, so many times, and adds up what was found.
 #[inline(never)]

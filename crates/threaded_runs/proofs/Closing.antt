@@ -1,5 +1,5 @@
 -- What the words of a closed table hold of a worker's requests, by how the worker served them.
-use Rattle.std.specs.Prelude.{◌%◌, ◌==◌, ◌||◌, ◌⊎◌, Bool, true, false, slice_get}
+use Rattle.std.specs.Prelude.{◌%◌, ◌*◌, ◌==◌, ◌||◌, ◌⊎◌, Bool, true, false, slice_get}
 use Rattle.std.proofs.Common.{◌≡◌, ◌≢◌, ℕ, zero, suc, ◌+◌, ◌<◌, ◌≤◌, List, [], ◌∷◌, length, refl, sym, ap, ◌∙◌, subst, arith, Option, Some, None, inl, inr, eq-eqb, ne_eqb, if◌then◌else◌}
 use mathlib.Core.Logic.{dite}
 use native.Mathlib.Decide.{ℕ_discrete}
@@ -7,7 +7,7 @@ use Rattle.std.proofs.lemmas.Option.{slice_get_within}
 use Rattle.map_history.specs.declared.op.Request.{Request}
 use Rattle.table_words.specs.declared.layout.Layout.{Layout}
 use Rattle.table_words.specs.declared.spot.Spot.{Spot}
-use Rattle.table_words.specs.declared.spot.Spot.TheVariants.{Cell, Stamp, Reply}
+use Rattle.table_words.specs.declared.spot.Spot.TheVariants.{Cell, Stamp, Reply, DoneWord}
 use Rattle.table_words.specs.Seen.{seen}
 use Rattle.structure_laws.specs.Meaning.{Meaning}
 use Rattle.runner_parts.specs.declared.entries.Known.{Known}
@@ -19,27 +19,31 @@ use Rattle.runner_steps.specs.After.{leaves}
 use Rattle.machine_states.specs.World.{World, seat_of}
 use Rattle.machine_states.specs.Sight.{Sight, sight, part_or_first}
 use Rattle.machine_states.proofs.Steps.{some_same, none_some}
-use Rattle.machine_records.specs.Requests.{requests_of, request_at, or_none}
-use Rattle.runner_facts.specs.Facts.{DescriptorsAreKept, HasWornCell, WornAreWorn, descriptors_of, published_count}
-use Rattle.spent_facts.specs.Spent.{IsLate, IsPast, SpentStand}
-use Rattle.reached_histories.specs.Sections.{Knows, HasOpen, HasPublished}
-use Rattle.reached_histories.specs.Laws.{HasHistory}
-use Rattle.request_facts.specs.Laws.{CallersStand, HasEntry, IsKnown}
-use Rattle.version_words.specs.RunnerState.{RunnerState}
-use Rattle.version_words.specs.Shown.{left_part}
-use Rattle.version_words.specs.TableState.{TableState, WordsState, IsOf, IsClosing, word_of}
-use Rattle.epoch_slots.specs.Collects.{IsTidy}
-use Rattle.epoch_slots.specs.Reserves.{counts_of}
-use Rattle.epoch_slots.specs.declared.reserves.Kind.{Kind}
-use Rattle.epoch_slots.specs.declared.reserves.Kind.TheVariants as slots
-use Rattle.epoch_slots.specs.declared.reserves.Short.{Short}
-use Rattle.try_lock.specs.Planning.{Planning}
-use Rattle.attempts.specs.Attempts.{IsFew, IsShort}
+use Rattle.serving.specs.machine_records.specs.Requests.{requests_of, request_at, or_none}
+use Rattle.serving.specs.machine_invariant.specs.Lengths.{entry_count}
+use Rattle.own_descriptors.specs.Own.{HasOwn, OwnStand}
+use Rattle.serving.specs.runner_facts.specs.Facts.{LimboIsDone, DescriptorsAreKept, HasWornCell, WornAreWorn, descriptors_of, published_count}
+use Rattle.serving.specs.spent_facts.specs.Spent.{IsLate, IsPast, SpentStand}
+use Rattle.serving.specs.reached_histories.specs.Sections.{Knows, HasOpen, HasPublished}
+use Rattle.serving.specs.reached_histories.specs.Laws.{HasHistory}
+use Rattle.serving.specs.request_facts.specs.Laws.{CallersStand, HasEntry, IsKnown}
+use Rattle.serving.specs.version_words.specs.RunnerState.{RunnerState}
+use Rattle.serving.specs.version_words.specs.Shown.{left_part}
+use Rattle.serving.specs.version_words.specs.TableState.{TableState, WordsState, IsOf, IsClosing, word_of}
+use Rattle.serving.specs.epoch_slots.specs.Collects.{IsTidy}
+use Rattle.serving.specs.epoch_slots.specs.Reserves.{counts_of}
+use Rattle.serving.specs.epoch_slots.specs.declared.reserves.Kind.{Kind}
+use Rattle.serving.specs.epoch_slots.specs.declared.reserves.Kind.TheVariants as slots
+use Rattle.serving.specs.epoch_slots.specs.declared.reserves.Short.{Short}
+use Rattle.serving.specs.try_lock.specs.Planning.{Planning}
+use Rattle.serving.specs.attempts.specs.Attempts.{IsFew, IsShort}
 use Rattle.serving.specs.Serving.{Serves, AreServed as AreAnswered, WasHalted, HasStopped, StopsShort, Ends, IsBefore}
 use Rattle.serving.specs.declared.answers.Served.{Served}
 use Rattle.serving.specs.declared.answers.Served.TheVariants as answers
+use Rattle.make_counts.specs.Makes.{added}
 use Rattle.threaded_runs.specs.Runs.{stamp_of, AreEntered, AreWornOut, IsShortOf, IsCause, IsShown, HasServed}
 use Rattle.threaded_runs.proofs.Stopping.{IsKeptSpent, kept_spent}
+use mathlib.Core.Path.{fun_ext}
 use Rattle.section_body.specs.Memory.{cell_of}
 use Rattle.section_body.specs.Word.{version_of}
 use Rattle.machine_states.proofs.Sights.{some_none}
@@ -67,6 +71,11 @@ module _ {T : Type 0} (m : Meaning) (t : TableState T) (keeper : RunnerState T) 
   word_is spot = ap (λ (l : Layout). seen (sizes_for m l w.requests) w.words spot) closing.layout
       ∙ (ap (λ (rs : List Request). seen (sizes_for m t.layout rs) w.words spot) closing.requests
       ∙ ap (λ (ws : List ℕ). seen (sizes_for m t.layout t.requests) ws spot) (sym closing.words))
+
+  -- as many requests added a pair by these words as by the state's
+  pub added_is : added (word_of m w) (length w.requests) ≡ added end.word (length t.requests)
+  added_is = ap (λ (rs : List Request). added (word_of m w) (length rs)) closing.requests
+      ∙ ap (λ (f : Spot → ℕ). added f (length t.requests)) (fun_ext word_is)
 
   -- a joined worker has there the part that the keeper keeps
   pub part_is : (worker : ℕ) (p : PartState) → worker < t.layout.runners → left_part keeper.joined worker ≡ Some (leaves p) → end.part worker ≡ leaves p
@@ -186,7 +195,8 @@ module _ {T : Type 0} (m : Meaning) (t : TableState T) (keeper : RunnerState T) 
     same_request q q' e e' unknown_so = subst (λ (y : Request). is_answered new.part.records.known y.number ≡ false) (some_same q q' (sym e ∙ e')) unknown_so
 
     module _ (low : worker < t.layout.runners) (own_new : IsOf t new) (kept : DescriptorsAreKept t.layout end) (spent : SpentStand t.layout end) (worn : WornAreWorn m t.layout end)
-        (once_worn : (i j slot : ℕ) → slice_get (end.part worker).nodes.worn i ≡ Some slot → slice_get (end.part worker).nodes.worn j ≡ Some slot → i ≡ j) where
+        (once_worn : (i j slot : ℕ) → slice_get (end.part worker).nodes.worn i ≡ Some slot → slice_get (end.part worker).nodes.worn j ≡ Some slot → i ≡ j)
+        (many : t.layout.nodes ≤ entry_count (end.part worker).nodes + 2 * added end.word (length t.requests)) where
       -- a slot in the worker's worn list is worn in the closed words
       worn_there : (i slot : ℕ) → slice_get new.part.nodes.worn i ≡ Some slot → HasWornCell m w.layout (word_of m w) slot
       worn_there i slot e =
@@ -244,11 +254,51 @@ module _ {T : Type 0} (m : Meaning) (t : TableState T) (keeper : RunnerState T) 
             ap (λ (x : Short). x.limbo) same ∙ all_in_limbo lacks nothing,
           )
 
-      is_short : (short : Short) (q : Request) (from : RunnerState T) → StopsShort m planning retry_short short q from new → new.part.published ≡ None → IsShortOf m w retry_short short
-      is_short short q from stops nothing = record {
+      -- its hand is empty, so its slots are free, in limbo or worn
+      short_counted : (short : Short) → short ≡ counts_of new short.kind → IsTidy new → short.kind ≡ slots.Node
+          → w.layout.nodes ≤ short.free + (short.limbo + short.worn) + 2 * added (word_of m w) (length w.requests)
+      short_counted short counts tidy kind =
+          let same : short ≡ counts_of new slots.Node = counts ∙ ap (counts_of new) kind in
+          let free : short.free ≡ length new.part.nodes.free = ap (λ (x : Short). x.free) same in
+          let limbo : short.limbo ≡ length new.part.nodes.limbo = ap (λ (x : Short). x.limbo) same in
+          let worn_out : short.worn ≡ length new.part.nodes.worn = ap (λ (x : Short). x.worn) same in
+          let hand : length new.part.nodes.hand ≡ 0 = ap length tidy.hand in
+          let entries : entry_count (end.part worker).nodes ≡ entry_count new.part.nodes = ap (λ (p : PartState). entry_count p.nodes) part in
+          let nodes : w.layout.nodes ≡ t.layout.nodes = ap (λ (l : Layout). l.nodes) closing.layout in
+          let pairs = added_is in
+          omega (arith, free, limbo, worn_out, hand, entries, nodes, pairs, many)
+
+      -- where it lacked a descriptor, each of its own is in limbo, and so done
+      none_free : (xs : List ℕ) (d : ℕ) → length xs ≡ 0 → has xs d ≡ true → ⊥
+      none_free [] d none h = let z = h in cc
+      none_free (x ∷ xs) d none h = omega (arith, none)
+
+      own_done : OwnStand t.layout end → LimboIsDone end → (short : Short) → IsFew new short.kind → IsTidy new → short.kind ≡ slots.Descriptor
+          → (d : ℕ) → w.layout.sections * worker ≤ d → d < w.layout.sections * worker + w.layout.sections → word_of m w (DoneWord d) ≡ 1
+      own_done stands limbo_done short few tidy kind d from to = word_is (DoneWord d) ∙ by (stands worker d low
+          (subst (λ (l : Layout). l.sections * worker ≤ d) closing.layout from)
+          (subst (λ (l : Layout). d < l.sections * worker + l.sections) closing.layout to))
+        where
+          lacks : length (end.part worker).descriptors.free ≡ 0
+          lacks = ap (λ (p : PartState). length p.descriptors.free) part ∙ (subst (λ (k : Kind). IsFew new k) kind few).1
+
+          by : HasOwn (end.part worker) d → end.word (DoneWord d) ≡ 1
+          by (inl free) = absurd (none_free (end.part worker).descriptors.free d lacks free)
+          by (inr (inl limbo)) = limbo_done worker d limbo
+          by (inr (inr own_published)) = absurd (none_some own_published.0 (sym own_published.1 ∙ (published_is ∙ tidy.at.published)))
+
+      pub descriptors_done : OwnStand t.layout end → LimboIsDone end → (short : Short) → answer ≡ answers.Short short → short.kind ≡ slots.Descriptor
+          → (d : ℕ) → w.layout.sections * worker ≤ d → d < w.layout.sections * worker + w.layout.sections → word_of m w (DoneWord d) ≡ 1
+      descriptors_done stands limbo_done short is kind =
+          let ends : Ends m planning retry_short own (answers.Short short) count old new = subst (λ (a : Served). Ends m planning retry_short own a count old new) is serves.ends in
+          own_done stands limbo_done short ends.2.stops.cause.few ends.2.tidy kind
+
+      is_short : (short : Short) (q : Request) (from : RunnerState T) → StopsShort m planning retry_short short q from new → IsTidy new → IsShortOf m w retry_short short
+      is_short short q from stops tidy = record {
         over = stops.over;
         nodes = short_nodes short stops.cause.few stops.cause.counts;
-        descriptors = short_descriptors short stops.cause.few stops.cause.counts nothing;
+        counted = short_counted short stops.cause.counts tidy;
+        descriptors = short_descriptors short stops.cause.few stops.cause.counts tidy.at.published;
       }
 
       halted_at : WasHalted own count new → (o : Option Published) → new.part.published ≡ o → HasServed m w retry_short own answers.Halted
@@ -275,7 +325,7 @@ module _ {T : Type 0} (m : Meaning) (t : TableState T) (keeper : RunnerState T) 
           by (answers.Short short) ends = let stopped = ends.2 in record {
             count = count;
             entered = entered_stopped stopped.tidy.at.published (λ q e. same_request ends.0 q ends.1 e stopped.unanswered);
-            cause = (slice_get_within own count ends.0 ends.1, is_short short ends.0 stopped.before stopped.stops stopped.tidy.at.published);
+            cause = (slice_get_within own count ends.0 ends.1, is_short short ends.0 stopped.before stopped.stops stopped.tidy);
             shown = worn_slots short short.kind stopped.stops.cause.counts;
           }
           by (answers.Spent place word) ends = let stopped = ends.2 in record {

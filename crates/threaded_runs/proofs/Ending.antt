@@ -1,30 +1,36 @@
 -- The end of a run: what the words of the closed table hold, by what the workers and the keeper did.
-use Rattle.std.specs.Prelude.{◌%◌, slice_get, slice_index_or, Bool}
-use Rattle.std.proofs.Common.{◌≡◌, ◌≢◌, ℕ, suc, ◌<◌, List, length, refl, sym, ap, ◌∙◌, subst, arith, true, Some, get_or, eq-eqb, if◌then◌else◌}
+use Rattle.std.specs.Prelude.{◌%◌, ◌*◌, slice_get, slice_index_or, Bool}
+use Rattle.std.proofs.Common.{◌≡◌, ◌≢◌, ℕ, suc, ◌+◌, ◌<◌, ◌≤◌, List, length, refl, sym, ap, ◌∙◌, subst, arith, true, Some, get_or, eq-eqb, if◌then◌else◌}
 use Rattle.std.proofs.lemmas.Option.{slice_get_within, get_or_from_slice_get}
 use Rattle.map_history.specs.declared.op.Request.{Request}
 use Rattle.map_history.specs.Requests.{AreInOrder}
 use Rattle.section_body.specs.Word.{value_of}
 use Rattle.table_words.specs.Limits.{IsWithinLimits}
 use Rattle.table_words.specs.declared.layout.Layout.{Layout}
-use Rattle.table_words.specs.declared.spot.Spot.TheVariants.{Cell, Stamp, Reply}
+use Rattle.table_words.specs.declared.spot.Spot.TheVariants.{Cell, Stamp, Reply, DoneWord}
 use Rattle.structure_laws.specs.Meaning.{Meaning}
 use Rattle.machine_states.specs.World.{World, seat_of}
 use Rattle.machine_states.specs.Reached.{Reached}
 use Rattle.machine_states.specs.Sight.{sight}
-use Rattle.machine_invariant.specs.After.{AreAllowed}
-use Rattle.runner_facts.specs.Facts.{DescriptorsAreKept, WornAreWorn}
-use Rattle.spent_facts.specs.Spent.{SpentStand}
+use Rattle.serving.specs.machine_invariant.specs.After.{AreAllowed}
+use Rattle.own_descriptors.specs.Own.{OwnStand}
+use Rattle.serving.specs.runner_facts.specs.Facts.{LimboIsDone, DescriptorsAreKept, WornAreWorn}
+use Rattle.serving.specs.spent_facts.specs.Spent.{SpentStand}
 use Rattle.worn_lists.specs.Worn.{HasNoRepeats}
-use Rattle.reached_histories.specs.Laws.{ReachedHaveHistories, HasHistory}
-use Rattle.request_facts.specs.Laws.{ReachedCallersStand, CallersStand}
-use Rattle.version_words.specs.RunnerState.{RunnerState}
-use Rattle.version_words.specs.Shown.{left_part}
-use Rattle.version_words.specs.TableState.{TableState, WordsState, IsOf, IsClosing, word_of}
+use Rattle.make_counts.specs.Makes as makes
+use Rattle.make_counts.specs.Makes.{MakesAreCounted, FewAreAdded}
+use Rattle.serving.specs.reached_histories.specs.Laws.{ReachedHaveHistories, HasHistory}
+use Rattle.serving.specs.request_facts.specs.Laws.{ReachedCallersStand, CallersStand}
+use Rattle.serving.specs.version_words.specs.RunnerState.{RunnerState}
+use Rattle.serving.specs.version_words.specs.Shown.{left_part}
+use Rattle.serving.specs.version_words.specs.TableState.{TableState, WordsState, IsOf, IsClosing, word_of}
 use Rattle.closed_words.specs.Histories.{HaveHistory, HoldsNoLock}
-use Rattle.try_lock.specs.Planning.{Planning}
+use Rattle.serving.specs.try_lock.specs.Planning.{Planning}
 use Rattle.settling.specs.Settled.{Settles, IsSettled}
+use Rattle.serving.specs.epoch_slots.specs.declared.reserves.Kind.TheVariants as slots
+use Rattle.serving.specs.epoch_slots.specs.declared.reserves.Short.{Short}
 use Rattle.serving.specs.declared.answers.Served.{Served}
+use Rattle.serving.specs.declared.answers.Served.TheVariants as stops
 use Rattle.threaded_runs.specs.declared.job.Job.{Job}
 use Rattle.threaded_runs.specs.declared.job.Finished.{Finished}
 use Rattle.threaded_runs.specs.Own.{own_requests}
@@ -32,7 +38,7 @@ use Rattle.threaded_runs.specs.Jobs.{AllSeated, AllRun, AllKept, HasRun, IsSeate
 use Rattle.threaded_runs.specs.Runs.{HasServed, AreServed}
 use Rattle.threaded_runs.proofs.Seats.{some_of}
 use Rattle.threaded_runs.proofs.Owning.{own_there, own_trace, own_once}
-use Rattle.threaded_runs.proofs.Closing.{end, word_is, part_is, has_served}
+use Rattle.threaded_runs.proofs.Closing.{end, word_is, added_is, part_is, descriptors_done, has_served}
 
 -- what is known of each state that the machine reaches over a table
 pub record IsLawful {T : Type 0} (m : Meaning) (t : TableState T) : Type 0 where
@@ -45,6 +51,10 @@ pub record IsLawful {T : Type 0} (m : Meaning) (t : TableState T) : Type 0 where
   pub spent : (w : World) → Reached m t.layout t.requests w → SpentStand t.layout (sight m t.layout t.requests w)
   pub worn : (w : World) → Reached m t.layout t.requests w → WornAreWorn m t.layout (sight m t.layout t.requests w)
   pub worn_once : (w : World) → Reached m t.layout t.requests w → HasNoRepeats (sight m t.layout t.requests w)
+  pub own : (w : World) → Reached m t.layout t.requests w → OwnStand t.layout (sight m t.layout t.requests w)
+  pub limbo : (w : World) → Reached m t.layout t.requests w → LimboIsDone (sight m t.layout t.requests w)
+  pub makes : (w : World) → Reached m t.layout t.requests w → MakesAreCounted m t.layout t.requests (sight m t.layout t.requests w)
+  pub few : (w : World) → Reached m t.layout t.requests w → FewAreAdded m t.requests (sight m t.layout t.requests w)
 
 module _ {T : Type 0} (m : Meaning) (planning : Planning) (retry_short : Bool) (t : TableState T) (lawful : IsLawful m t) (gathered keeper : RunnerState T) (w : WordsState T)
     (own : IsOf t keeper) (number : keeper.number ≡ t.layout.runners) (settles : Settles m gathered keeper) (closing : IsClosing m t keeper w) where
@@ -86,7 +96,33 @@ module _ {T : Type 0} (m : Meaning) (planning : Planning) (retry_short : Bool) (
         (λ i q e. own_trace t.layout.runners worker t.requests order i q (subst (λ (rs : List Request). slice_get rs i ≡ Some q) is_seated.requests e))
         (λ i k q q' e e'. own_once t.layout.runners worker t.requests order i k q q' (subst (λ (rs : List Request). slice_get rs i ≡ Some q) is_seated.requests e) (subst (λ (rs : List Request). slice_get rs k ≡ Some q') is_seated.requests e'))
         low has_run.own (lawful.descriptors closing.world closing.reached) (lawful.spent closing.world closing.reached) (lawful.worn closing.world closing.reached)
-        (λ i k slot e e'. lawful.worn_once closing.world closing.reached worker i k slot e e')))
+        (λ i k slot e e'. lawful.worn_once closing.world closing.reached worker i k slot e e')
+        (lawful.makes closing.world closing.reached settled.free worker low)))
+
+    worker_done : (worker : ℕ) (short : Short) → slice_get answers worker ≡ Some (stops.Short short) → short.kind ≡ slots.Descriptor
+        → (d : ℕ) → w.layout.sections * worker ≤ d → d < w.layout.sections * worker + w.layout.sections → word_of m w (DoneWord d) ≡ 1
+    worker_done worker short at kind =
+        let few : worker < length answers = slice_get_within answers worker (stops.Short short) at in
+        let low : worker < t.layout.runners = subst (λ (n : ℕ). worker < n) each few in
+        let seat : worker < length jobs = subst (λ (n : ℕ). worker < n) (sym as_many) low in
+        let j = some_of jobs worker seat in
+        let f = some_of finished worker (subst (λ (n : ℕ). worker < n) (sym back) seat) in
+        let is_seated = seated worker j seat in
+        let has_run = run worker j f seat in
+        let is_kept = kept worker (stops.Short short) f few in
+        let same : stops.Short short ≡ (get_or finished worker f).answer = sym (get_or_from_slice_get answers worker (stops.Short short) (stops.Short short) at) ∙ is_kept.same in
+        let requests = (get_or jobs worker j).requests.items in
+        let order = lawful.allowed.in_order in
+        let part = part_is m t keeper w closing worker (get_or finished worker f).runner.part low (ap (λ js. left_part js worker) settles.joined ∙ is_kept.part) in
+        descriptors_done m t keeper w closing lawful.is_map (lawful.histories lawful.limits lawful.allowed closing.world closing.reached) (lawful.callers lawful.limits lawful.allowed closing.world closing.reached)
+        worker requests retry_short planning (get_or finished worker f).answer (get_or jobs worker j).runner (get_or finished worker f).runner part has_run.serves
+        (λ i q e. own_there t.layout.runners worker t.requests order i q (subst (λ (rs : List Request). slice_get rs i ≡ Some q) is_seated.requests e))
+        (λ i q e. own_trace t.layout.runners worker t.requests order i q (subst (λ (rs : List Request). slice_get rs i ≡ Some q) is_seated.requests e))
+        (λ i k q q' e e'. own_once t.layout.runners worker t.requests order i k q q' (subst (λ (rs : List Request). slice_get rs i ≡ Some q) is_seated.requests e) (subst (λ (rs : List Request). slice_get rs k ≡ Some q') is_seated.requests e'))
+        low has_run.own (lawful.descriptors closing.world closing.reached) (lawful.spent closing.world closing.reached) (lawful.worn closing.world closing.reached)
+        (λ i k slot e e'. lawful.worn_once closing.world closing.reached worker i k slot e e')
+        (lawful.makes closing.world closing.reached settled.free worker low)
+        (lawful.own closing.world closing.reached) (lawful.limbo closing.world closing.reached) short (sym same) kind
 
     pub all_served : AreServed m w retry_short answers
     all_served = record {
@@ -95,4 +131,8 @@ module _ {T : Type 0} (m : Meaning) (planning : Planning) (retry_short : Bool) (
           (subst (λ (rs : List Request). HasServed m w retry_short (own_requests t.layout.runners worker rs) answer) (sym closing.requests) (worker_served worker answer at));
       free = holds_none;
       replied = (history.settled holds_none).replied;
+      done = worker_done;
+      few_added = subst (λ (n : ℕ). n ≤ makes.inserts w.requests) (sym (added_is m t keeper w closing))
+          (subst (λ (rs : List Request). makes.added (end m t keeper w closing).word (length t.requests) ≤ makes.inserts rs) (sym closing.requests)
+          (lawful.few closing.world closing.reached lawful.is_map));
     }

@@ -11,14 +11,14 @@ use Rattle.structure_laws.specs.Meaning.{Meaning}
 use Rattle.runner_parts.specs.declared.stage.Stage.TheVariants as stages
 use Rattle.runner_parts.specs.Tests.{is_answered}
 use Rattle.machine_states.proofs.Steps.{some_same}
-use Rattle.version_words.specs.RunnerState.{RunnerState}
-use Rattle.version_words.specs.Stages.{IsAt, IsKeeper}
-use Rattle.version_words.specs.TableState.{TableState, IsOf}
-use Rattle.version_words.specs.Events.{next_worker}
-use Rattle.version_words.proofs.Stages.{next_is_idle}
-use Rattle.epoch_slots.specs.Collects.{IsTidy}
-use Rattle.try_lock.specs.Planning.{Planning}
-use Rattle.attempts.specs.Knowing.{IsOwn}
+use Rattle.serving.specs.version_words.specs.RunnerState.{RunnerState}
+use Rattle.serving.specs.version_words.specs.Stages.{IsAt, IsKeeper}
+use Rattle.serving.specs.version_words.specs.TableState.{TableState, IsOf}
+use Rattle.serving.specs.version_words.specs.Events.{next_worker}
+use Rattle.serving.specs.version_words.proofs.Stages.{next_is_idle}
+use Rattle.serving.specs.epoch_slots.specs.Collects.{IsTidy}
+use Rattle.serving.specs.try_lock.specs.Planning.{Planning}
+use Rattle.serving.specs.attempts.specs.Knowing.{IsOwn}
 use Rattle.serving.specs.Serving.{MayServe}
 use Rattle.threaded_runs.specs.Own.{own_requests}
 use Rattle.threaded_runs.proofs.Picked.{IsPicked, picked, kept, before, count_before}

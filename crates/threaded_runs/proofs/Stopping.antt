@@ -6,12 +6,12 @@ use Rattle.section_body.specs.declared.outcome.Outcome.TheVariants as outcomes
 use Rattle.structure_laws.specs.Meaning.{Meaning}
 use Rattle.runner_parts.specs.State.{FinishedState}
 use Rattle.runner_parts.specs.Tests.{has_pair}
-use Rattle.version_words.specs.RunnerState.{RunnerState}
-use Rattle.try_lock.specs.Planning.{Planning}
-use Rattle.attempts.specs.Course.{IsRefused}
-use Rattle.attempts.specs.Attempts.{IsTurnedAway}
-use Rattle.attempts.specs.declared.answers.Attempt.TheVariants as attempts
-use Rattle.spent_facts.specs.Spent.{IsLate}
+use Rattle.serving.specs.version_words.specs.RunnerState.{RunnerState}
+use Rattle.serving.specs.try_lock.specs.Planning.{Planning}
+use Rattle.serving.specs.attempts.specs.Course.{IsRefused}
+use Rattle.serving.specs.attempts.specs.Attempts.{IsTurnedAway}
+use Rattle.serving.specs.attempts.specs.declared.answers.Attempt.TheVariants as attempts
+use Rattle.serving.specs.spent_facts.specs.Spent.{IsLate}
 use Rattle.serving.proofs.Spent.{spent_is_kept}
 
 module _ {T : Type 0} where

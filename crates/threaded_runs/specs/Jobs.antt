@@ -2,10 +2,10 @@
 use Rattle.std.specs.Prelude.{◌≡◌, ◌≢◌, ℕ, ◌<◌, Bool, List, length, Some, slice_get, slice_index_or}
 use Rattle.structure_laws.specs.Meaning.{Meaning}
 use Rattle.runner_steps.specs.After.{leaves}
-use Rattle.version_words.specs.RunnerState.{RunnerState}
-use Rattle.version_words.specs.Shown.{left_part}
-use Rattle.version_words.specs.TableState.{TableState, IsOf}
-use Rattle.try_lock.specs.Planning.{Planning}
+use Rattle.serving.specs.version_words.specs.RunnerState.{RunnerState}
+use Rattle.serving.specs.version_words.specs.Shown.{left_part}
+use Rattle.serving.specs.version_words.specs.TableState.{TableState, IsOf}
+use Rattle.serving.specs.try_lock.specs.Planning.{Planning}
 use Rattle.serving.specs.Serving.{MayServe, Serves}
 use Rattle.serving.specs.declared.answers.Served.{Served}
 use Rattle.serving.specs.declared.answers.Served.TheVariants as answers

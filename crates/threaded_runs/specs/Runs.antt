@@ -1,17 +1,18 @@
 -- What a run of traces on a table leaves.
-use Rattle.std.specs.Prelude.{◌≡◌, ◌≢◌, ℕ, ◌<◌, ◌≤◌, ◌⊎◌, Bool, false, List, length, Some, slice_get}
+use Rattle.std.specs.Prelude.{◌≡◌, ◌≢◌, ℕ, ◌+◌, ◌*◌, ◌<◌, ◌≤◌, ◌⊎◌, Bool, false, List, length, Some, slice_get}
 use Rattle.map_history.specs.declared.op.Request.{Request}
 use Rattle.table_words.specs.declared.layout.Layout.{Layout}
-use Rattle.table_words.specs.declared.spot.Spot.TheVariants.{Stamp, Reply}
+use Rattle.table_words.specs.declared.spot.Spot.TheVariants.{Stamp, Reply, DoneWord}
 use Rattle.structure_laws.specs.Meaning.{Meaning}
-use Rattle.version_words.specs.TableState.{WordsState, word_of}
+use Rattle.serving.specs.version_words.specs.TableState.{WordsState, word_of}
 use Rattle.closed_words.specs.Histories.{HoldsNoLock}
-use Rattle.runner_facts.specs.Facts.{HasWornCell}
-use Rattle.spent_facts.specs.Spent.{IsLate, IsPast}
-use Rattle.epoch_slots.specs.declared.reserves.Kind.TheVariants as kinds
-use Rattle.epoch_slots.specs.declared.reserves.Short.{Short}
+use Rattle.serving.specs.runner_facts.specs.Facts.{HasWornCell}
+use Rattle.serving.specs.spent_facts.specs.Spent.{IsLate, IsPast}
+use Rattle.serving.specs.epoch_slots.specs.declared.reserves.Kind.TheVariants as kinds
+use Rattle.serving.specs.epoch_slots.specs.declared.reserves.Short.{Short}
 use Rattle.serving.specs.declared.answers.Served.{Served}
 use Rattle.serving.specs.declared.answers.Served.TheVariants as answers
+use Rattle.make_counts.specs.Makes.{added, inserts}
 use Rattle.threaded_runs.specs.Own.{own_requests}
 
 -- the words are of a table that was made with these
@@ -41,10 +42,12 @@ module _ {T : Type 0} (m : Meaning) (w : WordsState T) where
     pub each : (i slot : ℕ) → slice_get slots i ≡ Some slot → HasWornCell m w.layout (word_of m w) slot
 
   -- at the last attempt too few slots of the kind were free, and this isn't waited out, or no slot of the kind was in limbo; where descriptors
-  -- lacked, all of the worker's were in limbo
+  -- lacked, all of the worker's were in limbo. Its node slots, with two for each request that added a pair, are as many as the layout gives it
   pub record IsShortOf (retry_short : Bool) (short : Short) : Type 0 where
     pub over : (retry_short ≡ false) ⊎ (short.limbo ≡ 0)
     pub nodes : short.kind ≡ kinds.Node → short.free < 2
+    pub counted : short.kind ≡ kinds.Node
+        → w.layout.nodes ≤ short.free + (short.limbo + short.worn) + 2 * added (word_of m w) (length w.requests)
     pub descriptors : short.kind ≡ kinds.Descriptor → (short.free ≡ 0) × (short.worn ≡ 0) × (short.limbo ≡ w.layout.sections)
 
   -- why the worker served so many of its requests and no more: at All these are all of them
@@ -69,10 +72,14 @@ module _ {T : Type 0} (m : Meaning) (w : WordsState T) where
     pub shown : IsShown answer
 
   -- what is left of a run of all workers with these answers, in order of number: each has served its own traces, no lock word names a
-  -- section, and each request that has an entry has its reply
-  pub record AreServed (retry_short : Bool) (answers : List Served) : Type 0 where
-    pub each : length answers ≡ w.layout.runners
-    pub served : (worker : ℕ) (answer : Served) → slice_get answers worker ≡ Some answer
+  -- section, each request that has an entry has its reply, and no more requests added a pair than are inserts
+  pub record AreServed (retry_short : Bool) (given : List Served) : Type 0 where
+    pub each : length given ≡ w.layout.runners
+    pub served : (worker : ℕ) (answer : Served) → slice_get given worker ≡ Some answer
         → HasServed retry_short (own_requests w.layout.runners worker w.requests) answer
     pub free : HoldsNoLock m w
     pub replied : (n : ℕ) → word_of m w (Stamp n) ≢ 0 → word_of m w (Reply n) ≢ 0
+    -- where a worker lacked a descriptor, the section of each of its own is done
+    pub done : (worker : ℕ) (short : Short) → slice_get given worker ≡ Some (answers.Short short) → short.kind ≡ kinds.Descriptor
+        → (d : ℕ) → w.layout.sections * worker ≤ d → d < w.layout.sections * worker + w.layout.sections → word_of m w (DoneWord d) ≡ 1
+    pub few_added : added (word_of m w) (length w.requests) ≤ inserts w.requests

@@ -3,7 +3,7 @@
 use map_history::Request;
 use runner_parts::Structure;
 use serving::Served;
-use version_words::Runner;
+use serving::version_words::Runner;
 
 /// A worker with its gate and its requests.
 #[derive(Drop)]

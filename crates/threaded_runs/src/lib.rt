@@ -11,3 +11,7 @@ mod seating;
 mod table_run;
 
 pub use table_run::run_table;
+
+// Passed on to the layers above, so that they needn't name these libraries themselves.
+pub use serving;
+pub use serving::{epoch_slots, lock_walks, version_words};

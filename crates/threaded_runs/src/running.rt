@@ -3,14 +3,14 @@ ghost use Rattle.std.specs.Prelude.{◌≡◌, IfOk, All, vec_len};
 ghost use Rattle.threaded_runs.specs.Jobs.{MayRun, HasRun, AllRun};
 
 use crate::job::{Finished, Job};
-use lock_walks::Planner;
 use section_body::{Gate, Steps};
+use serving::lock_walks::Planner;
 use serving::serve;
+use serving::version_words::FlockTable;
 use std::alloc::AllocError;
 use std::sync::Wait;
 use std::thread;
 use std::thread::Threads;
-use version_words::FlockTable;
 
 /// Serves a worker's requests.
 fn run_job<R: Threads + Wait + Sync, S: Planner, G: Gate>(

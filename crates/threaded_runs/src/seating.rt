@@ -1,20 +1,20 @@
 //! The workers and their gates, given out before the run and taken back behind it.
 ghost use Rattle.std.specs.Prelude.{◌≡◌, ◌+◌, ◌<◌, ◌≤◌, IfOk, All, List, [], true, length, vec_len};
 ghost use Rattle.map_history.specs.Requests.{AreInOrder};
-ghost use Rattle.version_words.specs.TableState.{IsOf};
+ghost use Rattle.serving.specs.version_words.specs.TableState.{IsOf};
 ghost use Rattle.threaded_runs.specs.Keeper.{IsIdleKeeper};
 ghost use Rattle.threaded_runs.specs.Counts.{halts_counted, plans_given};
 ghost use Rattle.threaded_runs.specs.Jobs.{IsSeated, AllSeated, AllUnasked, AreBack, AllKept};
 
 use crate::job::{Finished, Job};
 use crate::owned::requests_of;
-use lock_walks::Planner;
 use map_history::Request;
 use runner_gate::Gates;
 use section_body::Gate;
 use serving::Served;
+use serving::lock_walks::Planner;
+use serving::version_words::{FlockTable, Runner, table_is_allowed};
 use std::alloc::{AllocError, Global};
-use version_words::{FlockTable, Runner, table_is_allowed};
 
 /// The keeper, and the next worker with this gate and with its requests.
 ///

@@ -32,16 +32,16 @@ use Rattle.machine_states.proofs.Reached.{reached_all}
 use Rattle.machine_states.proofs.Steps.{some_same}
 use Rattle.machine_states.proofs.Sights.{happens_steps}
 use Rattle.machine_epochs.proofs.SectionKinds.{stored_index, replicate_index, log_spot}
-use Rattle.machine_invariant.specs.After.{AreAllowed}
-use Rattle.machine_facts.specs.After.{AreFactsOfStep}
-use Rattle.machine_facts.proofs.Following.{step_facts_after}
-use Rattle.next_steps.specs.Numbers.{PartFits}
-use Rattle.next_steps.proofs.Numbers.{reached_numbers}
-use Rattle.version_words.specs.RunnerState.{RunnerState}
-use Rattle.version_words.specs.Events.{IsEnabled, Makes}
-use Rattle.version_words.specs.Stages.{IsAt}
-use Rattle.version_words.proofs.Holds.{holds_so}
-use Rattle.version_words.proofs.Stages.{enabled, made_at}
+use Rattle.section_runs.specs.machine_invariant.specs.After.{AreAllowed}
+use Rattle.section_runs.specs.machine_facts.specs.After.{AreFactsOfStep}
+use Rattle.section_runs.specs.machine_facts.proofs.Following.{step_facts_after}
+use Rattle.section_runs.specs.next_steps.specs.Numbers.{PartFits}
+use Rattle.section_runs.specs.next_steps.proofs.Numbers.{reached_numbers}
+use Rattle.section_runs.specs.version_words.specs.RunnerState.{RunnerState}
+use Rattle.section_runs.specs.version_words.specs.Events.{IsEnabled, Makes}
+use Rattle.section_runs.specs.version_words.specs.Stages.{IsAt}
+use Rattle.section_runs.specs.version_words.proofs.Holds.{holds_so}
+use Rattle.section_runs.specs.version_words.proofs.Stages.{enabled, made_at}
 use Rattle.epoch_slots.proofs.Outside.{NotesNothing, nodes_made, descriptors_made, reads_made, known_made, finished_made}
 use Rattle.try_lock.specs.declared.section.Section.{Section}
 use Rattle.try_lock.specs.Reached.{IsReached, IsSectionOf}

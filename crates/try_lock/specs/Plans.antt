@@ -14,11 +14,11 @@ use Rattle.runner_parts.specs.declared.stage.Stage.TheVariants as stages
 use Rattle.runner_parts.specs.State.{ReadsState}
 use Rattle.runner_parts.specs.Lists.{named_by}
 use Rattle.runner_parts.specs.Tests.{has_pair}
-use Rattle.version_words.specs.RunnerState.{RunnerState}
-use Rattle.version_words.specs.Events.{Makes}
-use Rattle.version_words.specs.Stages.{IsAt}
+use Rattle.section_runs.specs.version_words.specs.RunnerState.{RunnerState}
+use Rattle.section_runs.specs.version_words.specs.Events.{Makes}
+use Rattle.section_runs.specs.version_words.specs.Stages.{IsAt}
 use Rattle.epoch_slots.specs.Entries.{KeepsOwn}
-use Rattle.commit_log.specs.Asked.{IsAsked}
+use Rattle.section_runs.specs.commit_log.specs.Asked.{IsAsked}
 use Rattle.try_lock.specs.declared.planned.Planned.{Planned}
 use Rattle.try_lock.specs.declared.planned.Planned.TheVariants as answers
 use Rattle.try_lock.specs.Reached.{IsReached}

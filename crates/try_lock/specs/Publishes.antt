@@ -15,9 +15,9 @@ use Rattle.runner_steps.specs.Outside.{is_due}
 use Rattle.runner_steps.specs.AfterOutside.{published_by}
 use Rattle.machine_states.specs.Sight.{Sight, sight}
 use Rattle.machine_epochs.specs.Slots.{thunk_in}
-use Rattle.version_words.specs.RunnerState.{RunnerState}
-use Rattle.version_words.specs.Events.{Makes}
-use Rattle.version_words.specs.Stages.{IsAt}
+use Rattle.section_runs.specs.version_words.specs.RunnerState.{RunnerState}
+use Rattle.section_runs.specs.version_words.specs.Events.{Makes}
+use Rattle.section_runs.specs.version_words.specs.Stages.{IsAt}
 use Rattle.try_lock.specs.declared.section.Section.{Section}
 use Rattle.try_lock.specs.Reached.{IsReached, IsSectionOf}
 use Rattle.try_lock.specs.Prepares.{SetsWords}

@@ -17,3 +17,8 @@ pub use retires::retire_section;
 pub use runs::{help, run_section};
 pub use section::Section;
 pub use section_runs::RunEnd;
+
+// Passed on to the layers above, so that they needn't name these libraries themselves.
+pub use epoch_slots;
+pub use section_runs;
+pub use section_runs::{commit_log, interleave_core, reached_histories, version_words};

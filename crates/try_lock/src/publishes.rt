@@ -1,16 +1,17 @@
 //! The publication of a section.
 ghost use Rattle.std.specs.Prelude.{◌≡◌, ◌+◌, ◌<◌, ◌≤◌, length, slice_index};
 ghost use Rattle.table_words.specs.Places.{slot_count};
-ghost use Rattle.version_words.specs.TableState.{IsOf};
+ghost use Rattle.section_runs.specs.version_words.specs.TableState.{IsOf};
 ghost use Rattle.try_lock.specs.Prepares.{MaySet, SetsWord, HasSet, IsReady};
 ghost use Rattle.try_lock.specs.Publishes.{refused_by, MayPublish, Publishes};
 
 use crate::section::Section;
 use runner_parts::{Structure, thunk_words};
 use section_body::{Refused, Thunk, Word};
-use version_words::{FlockTable, Runner, held_word, table_is_allowed};
+use section_runs::version_words::{FlockTable, Runner, held_word, table_is_allowed};
 
 /// This word of an own free descriptor becomes this number: it is loaded, and stored where another number stands.
+#[inline(always)]
 fn set_word<S: Structure>(
     table: &FlockTable<S>,
     runner: Runner<S>,
@@ -35,6 +36,7 @@ fn set_word<S: Structure>(
 }
 
 /// The words of an own free descriptor from this one on become these numbers, one after the other.
+#[inline(always)]
 fn set_words<S: Structure>(
     table: &FlockTable<S>,
     runner: Runner<S>,
@@ -57,6 +59,7 @@ fn set_words<S: Structure>(
 
 /// The words of an own free descriptor become those of a section with this thunk that no run has begun: the
 /// thunk's, no done, an empty log.
+#[inline(always)]
 fn prepare<S: Structure>(
     table: &FlockTable<S>,
     runner: Runner<S>,

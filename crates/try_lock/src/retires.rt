@@ -1,10 +1,10 @@
 //! The retirement of a section.
-ghost use Rattle.version_words.specs.TableState.{IsOf};
+ghost use Rattle.section_runs.specs.version_words.specs.TableState.{IsOf};
 ghost use Rattle.try_lock.specs.Retires.{IsOver, HasRetired};
 
 use crate::section::Section;
 use runner_parts::Structure;
-use version_words::{FlockTable, Runner};
+use section_runs::version_words::{FlockTable, Runner};
 
 /// Retires the section: loads the epoch, and puts the section's descriptor in the own limbo list with it, in one atomic step.
 ///

@@ -4,8 +4,8 @@ ghost use Rattle.section_body.specs.Trail.{Agreed};
 ghost use Rattle.section_body.specs.Word.{value_of};
 ghost use Rattle.section_body.specs.declared.outcome.Outcome.{Outcome};
 ghost use Rattle.section_body.specs.declared.thunk.Thunk.{Thunk};
-ghost use Rattle.version_words.specs.TableState.{IsOf};
-ghost use Rattle.commit_log.specs.Asked.{IsAsked};
+ghost use Rattle.section_runs.specs.version_words.specs.TableState.{IsOf};
+ghost use Rattle.section_runs.specs.commit_log.specs.Asked.{IsAsked};
 ghost use Rattle.section_runs.specs.declared.runs.RunEnd.TheVariants.{Done, Halted};
 ghost use Rattle.try_lock.specs.Reached.{MayRunSection, MayHelp};
 ghost use Rattle.try_lock.specs.Ends.{EndsSo, IsCutShort};
@@ -13,8 +13,8 @@ ghost use Rattle.try_lock.specs.Ends.{EndsSo, IsCutShort};
 use crate::section::Section;
 use runner_parts::Structure;
 use section_body::{Gate, Steps, Word};
+use section_runs::version_words::{FlockTable, Runner};
 use section_runs::{RunEnd, run};
-use version_words::{FlockTable, Runner};
 
 /// Runs the section that this runner published in this entry, whatever others do. Answers the outcome and the agreed words of its log, which
 /// are the same for each run of the section; the trail is late where the section was done as the run began.

@@ -23,10 +23,10 @@ use Rattle.machine_states.specs.Sight.{sight, part_or_first}
 use Rattle.machine_epochs.specs.Descriptors.{times_limbo, times_with}
 use Rattle.machine_epochs.specs.Firsts.{owner_of}
 use Rattle.machine_epochs.proofs.Reached.{descriptors_after}
-use Rattle.machine_invariant.specs.Slots.{times_among}
-use Rattle.machine_invariant.specs.Lengths.{entry_count}
-use Rattle.machine_invariant.specs.After.{AreAllowed}
-use Rattle.machine_invariant.proofs.After.{whole_after, short_after}
+use Rattle.interleave_core.specs.machine_invariant.specs.Slots.{times_among}
+use Rattle.interleave_core.specs.machine_invariant.specs.Lengths.{entry_count}
+use Rattle.interleave_core.specs.machine_invariant.specs.After.{AreAllowed}
+use Rattle.interleave_core.specs.machine_invariant.proofs.After.{whole_after, short_after}
 use Rattle.runner_block.specs.Room.{AreFew}
 use Rattle.version_words.specs.ReachedWith.{ReachedWith, ReachedBy}
 use Rattle.version_words.specs.TableState.{HasSmallValue}

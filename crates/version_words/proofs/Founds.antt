@@ -19,9 +19,9 @@ use Rattle.runner_parts.specs.State.{RunState, PartState}
 use Rattle.runner_steps.specs.Sections.{line_of}
 use Rattle.runner_steps.specs.Asks.{sizes_for}
 use Rattle.machine_states.specs.Sight.{sight, part_or_first}
-use Rattle.machine_invariant.specs.After.{AreAllowed}
-use Rattle.machine_invariant.specs.LogWords.{LogWordsSay}
-use Rattle.machine_invariant.proofs.After.{log_words_after}
+use Rattle.interleave_core.specs.machine_invariant.specs.After.{AreAllowed}
+use Rattle.interleave_core.specs.machine_invariant.specs.LogWords.{LogWordsSay}
+use Rattle.interleave_core.specs.machine_invariant.proofs.After.{log_words_after}
 use Rattle.version_words.specs.ReachedWith.{ReachedWith}
 
 -- the table's node slots have numbers of 32 bits

@@ -30,7 +30,7 @@ use Rattle.runner_steps.specs.AfterInRun.{goes_on, agrees, make_committed}
 use Rattle.runner_steps.specs.AfterOutside.{retire_after}
 use Rattle.runner_steps.specs.After.{after_by, stepped}
 use Rattle.machine_epochs.proofs.RunPlaces.{next_in_line}
-use Rattle.machine_invariant.specs.After.{AreAllowed}
+use Rattle.interleave_core.specs.machine_invariant.specs.After.{AreAllowed}
 use Rattle.version_words.specs.declared.view.View.{View}
 use Rattle.version_words.specs.ReachedWith.{ReachedWith}
 use Rattle.runner_block.specs.declared.block.Block.{Block}

@@ -25,7 +25,7 @@ use Rattle.runner_steps.specs.Asks.{ask_by, line_ask, sizes_for}
 use Rattle.runner_steps.specs.AfterOutside.{opened}
 use Rattle.runner_steps.specs.AfterInRun.{opened_more}
 use Rattle.runner_steps.specs.After.{line_after, after_by}
-use Rattle.machine_invariant.specs.After.{AreAllowed}
+use Rattle.interleave_core.specs.machine_invariant.specs.After.{AreAllowed}
 use Rattle.version_words.specs.declared.view.View.{View}
 use Rattle.version_words.specs.ReachedWith.{ReachedWith}
 use Rattle.runner_block.specs.declared.place.RunPlace.{RunPlace}

@@ -34,7 +34,7 @@ use Rattle.runner_steps.specs.AfterInRun.{goes_on, fill_loaded}
 use Rattle.runner_steps.specs.AfterOutside.{private_load_after}
 use Rattle.runner_steps.specs.After.{after_by, stepped}
 use Rattle.machine_states.proofs.Steps.{some_same, asked_fits}
-use Rattle.machine_invariant.specs.After.{AreAllowed}
+use Rattle.interleave_core.specs.machine_invariant.specs.After.{AreAllowed}
 use Rattle.version_words.specs.declared.view.View.{View}
 use Rattle.runner_block.specs.declared.place.RunPlace.{RunPlace}
 use Rattle.runner_block.specs.declared.block.Block.{Block}

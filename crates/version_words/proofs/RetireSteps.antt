@@ -30,7 +30,7 @@ use Rattle.runner_steps.specs.AfterInRun.{agrees, retire_committed, retired_slot
 use Rattle.runner_steps.specs.After.{stepped}
 use Rattle.machine_epochs.proofs.RunPlaces.{next_in_line}
 use Rattle.machine_states.proofs.Steps.{some_same}
-use Rattle.machine_invariant.specs.After.{AreAllowed}
+use Rattle.interleave_core.specs.machine_invariant.specs.After.{AreAllowed}
 use Rattle.version_words.specs.declared.view.View.{View}
 use Rattle.version_words.specs.ReachedWith.{ReachedWith}
 use Rattle.runner_block.specs.declared.block.Block.{Block}

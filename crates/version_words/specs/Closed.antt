@@ -7,7 +7,7 @@ use Rattle.table_words.specs.Limits.{IsWithinLimits}
 use Rattle.table_words.specs.Places.{size}
 use Rattle.structure_laws.specs.Meaning.{Meaning}
 use Rattle.runner_steps.specs.Asks.{sizes_for}
-use Rattle.machine_invariant.specs.After.{AreAllowed}
+use Rattle.interleave_core.specs.machine_invariant.specs.After.{AreAllowed}
 use Rattle.version_words.specs.declared.rule.Setup.{Setup}
 use Rattle.version_words.specs.TableState.{AreShown}
 

@@ -17,7 +17,7 @@ use Rattle.machine_states.specs.World.{World}
 use Rattle.machine_states.specs.First.{keeper_part}
 use Rattle.version_words.specs.declared.rule.Setup.{Setup}
 use Rattle.machine_states.specs.Reached.{Reached}
-use Rattle.machine_invariant.specs.After.{AreAllowed}
+use Rattle.interleave_core.specs.machine_invariant.specs.After.{AreAllowed}
 use Rattle.version_words.specs.Shown.{left_part}
 use Rattle.version_words.specs.RunnerState.{RunnerState}
 

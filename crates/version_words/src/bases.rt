@@ -41,6 +41,7 @@ impl Bases {
     }
 
     /// Where this word stands.
+    #[inline(always)]
     pub fn address(&self, spot: Spot) -> usize
         requires { Fits self.now spot }
         ensures { result ≡ address self.now spot }
@@ -65,6 +66,7 @@ impl Bases {
     ghost use Rattle.table_words.specs.Places.{descriptor_at};
 
     /// Where the words of this descriptor begin.
+    #[inline(always)]
     fn descriptor_at(&self, descriptor: u32) -> usize
         requires { descriptor < self.now.descriptors }
         ensures { result ≡ descriptor_at self.now descriptor }

@@ -1,6 +1,6 @@
 //! What the types of this crate say, as contracts.
 ghost use Rattle.table_words.specs.Limits.{IsWithinLimits};
-ghost use Rattle.machine_invariant.specs.After.{AreAllowed};
+ghost use Rattle.interleave_core.specs.machine_invariant.specs.After.{AreAllowed};
 ghost use Rattle.version_words.specs.TableState.{AreShown};
 
 use crate::table::FlockTable;

@@ -29,3 +29,7 @@ pub use run_ends::held_word;
 pub use runner::Runner;
 pub use table::FlockTable;
 pub use words::Words;
+
+// Passed on to the layers above, so that they needn't name these libraries themselves.
+pub use interleave_core;
+pub use interleave_core::reached_histories;

@@ -13,6 +13,7 @@ use runner_parts::Structure;
 use table_words::Spot;
 
 /// A descriptor's word: the thunk words, the done word, the log.
+#[inline(always)]
 fn descriptor_spot(descriptor: u32, word: u32) -> Spot
     ensures { result ≡ descriptor_spot descriptor word }
 {
@@ -27,6 +28,7 @@ fn descriptor_spot(descriptor: u32, word: u32) -> Spot
 
 impl<S: Structure> FlockTable<S> {
     /// A word of a slot: a cell of a node slot, or a word of a descriptor.
+    #[inline(always)]
     fn private_spot(&self, slot: u32, word: u32) -> Spot
         requires { IsWithin (S.meaning self.now.structure) self.now.layout slot word }
         ensures { result ≡ private_spot (S.meaning self.now.structure) self.now.layout slot word }
@@ -41,6 +43,7 @@ impl<S: Structure> FlockTable<S> {
 
     /// A word of an own slot: a cell of an own free node slot or of one in the hand, a word of an own free descriptor, or in a run the
     /// cell of the node slot that a Make fills. Descriptors are numbered after the node slots.
+    #[inline(always)]
     pub fn private_load(&self, mut runner: Runner<S>, slot: u32, word: u32) -> (Runner<S>, u64)
         requires own { IsOf self.now runner }
         requires next { IsEnabled (S.meaning self.now.structure) (kinds.PrivateLoad slot word) runner }
@@ -58,6 +61,7 @@ impl<S: Structure> FlockTable<S> {
 
     /// A word of an own free descriptor, or in a run the cell of the node slot that a Make fills, becomes this number. Descriptors
     /// are numbered after the node slots.
+    #[inline(always)]
     pub fn private_store(
         &self,
         mut runner: Runner<S>,

@@ -7,7 +7,7 @@ use crate::view::View;
 use atomic_table::Seat;
 use runner_block::Block;
 use runner_parts::{Stage, Structure};
-use section_body::Thunk;
+use section_body::{Body, Thunk};
 use std::alloc::Global;
 use std::marker::Model;
 
@@ -102,5 +102,20 @@ impl<S: Structure> Runner<S> {
         ensures { result ≡ length self.now.part.nodes.worn }
     {
         self.kept.lists.worn()
+    }
+
+    /// Hands out the body that the runner keeps for its runs, unless it is out already. A run refills it, reads it and puts it back by
+    /// `keep_body`, so that no run makes a body. What the runner is stays the same.
+    pub fn take_body(&mut self) -> Option<Box<Body, Global>>
+        ensures { self.new ≡ self.old }
+    {
+        self.kept.lists.take_body()
+    }
+
+    /// Puts back the body that `take_body` handed out, or another one, whatever its steps are.
+    pub fn keep_body(&mut self, body: Box<Body, Global>)
+        ensures { self.new ≡ self.old }
+    {
+        self.kept.lists.keep_body(body);
     }
 }

@@ -35,6 +35,7 @@ impl<S: Structure> Model for FlockTable<S> {
 
 impl<S: Structure> FlockTable<S> {
     /// A load that is the event of this name.
+    #[inline(always)]
     pub(crate) fn load<E: Named>(&self, seat: &mut Seat<Thunk, View<S>>, spot: Spot) -> u64
         requires own { IsOf self.now (seen_seat seat.old.table_id seat.old.me) }
         requires named { IsNamed (S.meaning self.now.structure) E.naming (seen_seat seat.old.table_id seat.old.me) (step_at (S.meaning self.now.structure) self.now spot 0 0 nothing) (spot, Loads) }
@@ -47,6 +48,7 @@ impl<S: Structure> FlockTable<S> {
     }
 
     /// A store that is the event of this name.
+    #[inline(always)]
     pub(crate) fn store<E: Named>(&self, seat: &mut Seat<Thunk, View<S>>, spot: Spot, number: u64)
         requires own { IsOf self.now (seen_seat seat.old.table_id seat.old.me) }
         requires named { IsNamed (S.meaning self.now.structure) E.naming (seen_seat seat.old.table_id seat.old.me) (step_at (S.meaning self.now.structure) self.now spot number 0 nothing) (spot, Stores number) }

@@ -11,7 +11,7 @@ use Rattle.epoch_core.specs.Lists.{times}
 use Rattle.machine_states.specs.World.{World}
 use Rattle.machine_states.specs.Reached.{Reached}
 use Rattle.machine_states.specs.Sight.{sight}
-use Rattle.machine_invariant.specs.After.{AreAllowed}
+use Rattle.machine_facts.specs.machine_invariant.specs.After.{AreAllowed}
 use Rattle.machine_facts.proofs.Following.{facts_after}
 use Rattle.worn_lists.specs.Worn.{HasNoRepeats}
 

@@ -6,7 +6,7 @@ ghost use Rattle.table_words.specs.declared.layout.Layout.{Layout};
 ghost use Rattle.machine_states.specs.World.{World};
 ghost use Rattle.machine_states.specs.Reached.{Reached};
 ghost use Rattle.machine_states.specs.Sight.{sight};
-ghost use Rattle.machine_invariant.specs.After.{AreAllowed};
+ghost use Rattle.machine_facts.specs.machine_invariant.specs.After.{AreAllowed};
 ghost use Rattle.worn_lists.specs.Worn.{HasNoRepeats};
 
 use runner_parts::Structure;

@@ -1,5 +1,5 @@
 use Rattle.std.proofs.Common.{length, sym, ap, subst}
-use Rattle.try_lock.specs.Plans.{HasPlanned as PlanIs, is_halted}
+use Rattle.lock_walks.specs.try_lock.specs.Plans.{HasPlanned as PlanIs, is_halted}
 use Rattle.attempts.specs.Course.{HasPlanned}
 use Rattle.attempts.specs.Rests.{MayLeave, HasTurned}
 use Rattle.attempts.proofs.Refusing.{refuses_by}

@@ -1,5 +1,5 @@
 use Rattle.std.proofs.Common.{Ok, Err, sym, ◌∙◌, subst}
-use Rattle.try_lock.specs.Publishes.{Publishes}
+use Rattle.lock_walks.specs.try_lock.specs.Publishes.{Publishes}
 use Rattle.attempts.specs.Rests.{MayLeave, HasTurned}
 use Rattle.attempts.proofs.Courses.{may_publish, refused_may_leave}
 use Rattle.attempts.proofs.Trying.{tried_of}

@@ -1,7 +1,7 @@
 use Rattle.std.proofs.Common.{◌≡◌, ℕ, List, length, sym, subst, ap, ◌∙◌}
 use Rattle.table_words.specs.declared.layout.Layout.{Layout}
 use Rattle.table_words.specs.Limits.{IsWithinLimits}
-use Rattle.machine_invariant.specs.After.{AreAllowed}
+use Rattle.version_words.specs.machine_invariant.specs.After.{AreAllowed}
 use Rattle.epoch_slots.proofs.Collecting.{hand_is_own, has_collected}
 use Rattle.epoch_slots.proofs.collects.collect.Goals as goal
 

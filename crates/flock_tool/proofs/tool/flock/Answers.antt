@@ -1,70 +1,90 @@
-use Rattle.std.proofs.Common.{◌≡◌, ℕ, List, sym, ◌∙◌, ⊎_elim, inl, inr}
-use Rattle.std.specs.Prelude.{◌⊎◌}
-use Rattle.trace_reader.specs.Text.{IsAccepted, IsFirstRefusal}
-use Rattle.trace_reader.specs.declared.traces.TraceError.{TraceError}
-use Rattle.flock_words.specs.Commands.{texts}
-use Rattle.flock_tool.specs.End.{error_status}
-use Rattle.flock_tool.specs.Plans.{AsksTooMuch}
-use Rattle.flock_tool.specs.Runs.{IsRunStatus}
-use Rattle.flock_tool.proofs.Ends.{any_text, none_ran, complete_refused, first_refused, planned_refused, malformed_stop, limit_stop, read_fault}
-use Rattle.flock_tool.proofs.Reporting.{run_is}
-use Rattle.flock_tool.proofs.Reported.{reported_ran, reported_back, reported_halted, reported_status, reported_memory, reported_read, reported_write}
+use Rattle.std.proofs.Common.{refl, sym, ◌∙◌, inl, inr, ⊎_elim, subst, arith}
+use Rattle.flock_words.specs.Commands.{IsCommand, texts}
+use Rattle.flock_words.specs.declared.command.Command.TheVariants as commands
+use Rattle.flock_tool.specs.Commands.{Told, stream}
+use Rattle.flock_tool.specs.End.{stop_line}
+use Rattle.flock_tool.specs.declared.status.Stop.{Stop}
+use Rattle.flock_tool.proofs.Commanding.{gen_few, load_few, none_accepted, none_status, of_none, of_one}
+use Rattle.flock_tool.proofs.Ends.{stop_at_2}
 use Rattle.flock_tool.proofs.tool.flock.Goals as goal
 
-pub returns-in-Err-clause-ran : goal.returns-in-Err-clause-ran
-returns-in-Err-clause-ran g c = none_ran _ _ c.in-Err.stop c.refuse.result.0 c.refuse.result.1 c.in-Err.ensures.refused c.refuse.ensures.status c.refuse.ensures.none
+pub returns-in-Err-clause-commands : goal.returns-in-Err-clause-commands
+returns-in-Err-clause-commands g c =
+    of_none c.refuse.result _ _ _ _ (texts c.args.words.now) c.in-Err.stop c.in-Err.ensures.refused c.refuse.ensures.status c.refuse.ensures.none c.refuse.ensures.told
+    (record { same = refl; steady = refl }) (record { same = refl; steady = refl }) refl
 
-pub returns-in-Err-clause-complete : goal.returns-in-Err-clause-complete
-returns-in-Err-clause-complete g c = λ accepted steady.
-    complete_refused _ _ c.in-Err.stop c.refuse.result.0 c.refuse.ensures.status c.in-Err.ensures.refused (c.in-Err.ensures.must accepted steady)
+pub returns-in-Err-clause-accepted : goal.returns-in-Err-clause-accepted
+returns-in-Err-clause-accepted g c = λ accepted two. none_accepted (texts c.args.words.now) c.in-Err.stop c.in-Err.ensures.refused accepted (sym c.refuse.ensures.status ∙ two)
 
-pub returns-in-Err-clause-refused : goal.returns-in-Err-clause-refused
-returns-in-Err-clause-refused g c = λ accepted steady.
-    first_refused _ c.in-Err.stop c.refuse.result.0 c.refuse.ensures.status (c.in-Err.ensures.must accepted steady)
+pub returns-in-Err-clause-words : goal.returns-in-Err-clause-words
+returns-in-Err-clause-words g c = λ not.
+    ⊎_elim (λ two. inl (c.refuse.ensures.status ∙ two)) (λ seven. inr (c.refuse.ensures.status ∙ seven)) (none_status (texts c.args.words.now) c.in-Err.stop c.in-Err.ensures.refused)
 
-pub returns-in-Err-clause-malformed : goal.returns-in-Err-clause-malformed
-returns-in-Err-clause-malformed g c = λ three.
-    malformed_stop _ _ _ _ _ _ c.in-Err.stop c.in-Err.ensures.refused c.refuse.ensures.told (sym c.refuse.ensures.status ∙ three)
+pub returns-in-Err-clause-words_told : goal.returns-in-Err-clause-words_told
+returns-in-Err-clause-words_told g c = λ two.
+    subst (λ (s : Stop). Told (stop_line s) (stream (g.F.Sink.held c.args.faults.now) (g.F.Sink.held c.refuse.new.faults) (g.F.Sink.faults c.args.faults.now) (g.F.Sink.faults c.refuse.new.faults)))
+    (stop_at_2 c.in-Err.stop (sym c.refuse.ensures.status ∙ two)) c.refuse.ensures.told
 
-pub returns-in-Err-clause-limit : goal.returns-in-Err-clause-limit
-returns-in-Err-clause-limit g c = λ four.
-    limit_stop _ _ _ _ _ _ c.in-Err.stop c.in-Err.ensures.refused c.refuse.ensures.told (sym c.refuse.ensures.status ∙ four)
+pub returns-in-Err-clause-statuses : goal.returns-in-Err-clause-statuses
+returns-in-Err-clause-statuses g c =
+    ⊎_elim (λ two. omega (arith, two, c.refuse.ensures.status)) (λ seven. omega (arith, seven, c.refuse.ensures.status))
+    (none_status (texts c.args.words.now) c.in-Err.stop c.in-Err.ensures.refused)
 
-pub returns-in-Err-clause-reads : goal.returns-in-Err-clause-reads
-returns-in-Err-clause-reads g c = λ not_eight. c.in-Err.ensures.reads (read_fault c.in-Err.stop c.refuse.result.0 c.refuse.ensures.status not_eight)
+pub returns-in-Run-clause-commands : goal.returns-in-Run-clause-commands
+returns-in-Run-clause-commands g c =
+    of_one c.run_command.result _ _ _ _ (texts c.args.words.now) (commands.Run c.in-Run.options) (c.words_mean_one_command.ensures (texts c.args.words.now))
+    (subst (IsCommand (texts c.args.words.now)) c.in-Run.is c.in-Ok.ensures.read) c.run_command.ensures.ends
 
-pub returns-in_default-clause-refused : goal.returns-in_default-clause-refused
-returns-in_default-clause-refused g c = λ accepted steady.
-    let Refused : List ℕ → Type 0 = λ text. (error : TraceError) → IsFirstRefusal text error
-    → (c.refuse-in_default.result.0 ≡ error_status error) ⊎ (c.refuse-in_default.result.0 ≡ 7) in
-    any_text Refused _ (λ text error first. inr c.refuse-in_default.ensures.status)
+pub returns-in-Run-clause-words : goal.returns-in-Run-clause-words
+returns-in-Run-clause-words g c = λ not. absurd (not (c.in-Ok.command, c.in-Ok.ensures.read))
 
-pub returns-clause-ran : goal.returns-clause-ran
-returns-clause-ran g c = reported_ran c.in-Ok-run_plan.ran c.in-Ok.plan.traces.count c.report.result _ _ _ _ _ _ _ _ c.report.ensures.reported
+pub returns-in-Run-clause-words_told : goal.returns-in-Run-clause-words_told
+returns-in-Run-clause-words_told g c = λ two. absurd (c.run_command.ensures.accepted two)
 
-pub returns-clause-ended : goal.returns-clause-ended
-returns-clause-ended g c =
-    reported_back c.in-Ok-run_plan.ran c.in-Ok.plan.traces.count c.report.result _ _ _ _ _ _ _ _ c.report.ensures.reported _
-    (λ ends. (c.in-Ok.plan.traces.count, run_is _ _ c.in-Ok.plan c.in-Ok-run_plan.ran _ _ _ _ c.in-Ok.ensures.planned c.in-Ok-run_plan.ensures, ends.ended))
+pub returns-in-Gen-clause-commands : goal.returns-in-Gen-clause-commands
+returns-in-Gen-clause-commands g c =
+    of_one _ _ _ _ _ (texts c.args.words.now) (commands.Gen c.in-Gen.plan) (c.words_mean_one_command.ensures (texts c.args.words.now))
+    (subst (IsCommand (texts c.args.words.now)) c.in-Gen.is c.in-Ok.ensures.read)
+    (record { none = refl; unread = record { same = refl; steady = refl }; idle = refl; prints = c.gen_command.ensures })
 
-pub returns-clause-halted : goal.returns-clause-halted
-returns-clause-halted g c = λ one. reported_halted c.in-Ok-run_plan.ran c.in-Ok.plan.traces.count c.report.result _ _ _ _ _ _ _ _ c.report.ensures.reported _ _ c.in-Ok-run_plan.ensures.halts one
+pub returns-in-Gen-clause-accepted : goal.returns-in-Gen-clause-accepted
+returns-in-Gen-clause-accepted g c = λ accepted. (gen_few c.in-Gen.plan c.gen_command.result _ _ c.gen_command.ensures).0
 
-pub returns-clause-complete : goal.returns-clause-complete
-returns-clause-complete g c = λ accepted steady.
-    let status = reported_status c.in-Ok-run_plan.ran c.in-Ok.plan.traces.count c.report.result _ _ _ _ _ _ _ _ c.report.ensures.reported in
-    let Complete : List ℕ → Type 0 = λ text. IsAccepted text → IsRunStatus c.report.result.0 ⊎ (c.report.result.0 ≡ 7)
-    ⊎ ((c.report.result.0 ≡ 4) × (count : ℕ) × AsksTooMuch (texts c.args.words.now) (g.R.Source.left c.args.source.now) count) in
-    any_text Complete _ (λ text inside. ⊎_elim (λ run. inl run) (λ seven. inr (inl seven)) status)
+pub returns-in-Gen-clause-words : goal.returns-in-Gen-clause-words
+returns-in-Gen-clause-words g c = λ not. absurd (not (c.in-Ok.command, c.in-Ok.ensures.read))
 
-pub returns-clause-refused : goal.returns-clause-refused
-returns-clause-refused g c = λ accepted steady. planned_refused _ c.in-Ok.plan c.report.result.0 (c.in-Ok.ensures.must accepted steady)
+pub returns-in-Gen-clause-words_told : goal.returns-in-Gen-clause-words_told
+returns-in-Gen-clause-words_told g c = λ two. absurd ((gen_few c.in-Gen.plan c.gen_command.result _ _ c.gen_command.ensures).0 two)
 
-pub returns-clause-memory : goal.returns-clause-memory
-returns-clause-memory g c = λ seven. reported_memory c.in-Ok-run_plan.ran c.in-Ok.plan.traces.count c.report.result _ _ _ _ _ _ _ _ c.report.ensures.reported seven
+pub returns-in-Gen-clause-writes : goal.returns-in-Gen-clause-writes
+returns-in-Gen-clause-writes g c = c.gen_command.ensures.steady
 
-pub returns-clause-read : goal.returns-clause-read
-returns-clause-read g c = λ eight. absurd (reported_read c.in-Ok-run_plan.ran c.in-Ok.plan.traces.count c.report.result _ _ _ _ _ _ _ _ c.report.ensures.reported eight)
+pub returns-in-Gen-clause-silent : goal.returns-in-Gen-clause-silent
+returns-in-Gen-clause-silent g c = λ not. c.gen_command.ensures.silent (λ zero. not (inl zero)) (λ nine. not (inr (inr (inr (inr nine)))))
 
-pub returns-clause-write : goal.returns-clause-write
-returns-clause-write g c = λ nine. reported_write c.in-Ok-run_plan.ran c.in-Ok.plan.traces.count c.report.result _ _ _ _ _ _ _ _ c.report.ensures.reported nine
+pub returns-in-Gen-clause-statuses : goal.returns-in-Gen-clause-statuses
+returns-in-Gen-clause-statuses g c = (gen_few c.in-Gen.plan c.gen_command.result _ _ c.gen_command.ensures).1
+
+pub returns-in-Load-clause-commands : goal.returns-in-Load-clause-commands
+returns-in-Load-clause-commands g c =
+    of_one c.load_command.result _ _ _ _ (texts c.args.words.now) (commands.Load c.in-Load.load) (c.words_mean_one_command.ensures (texts c.args.words.now))
+    (subst (IsCommand (texts c.args.words.now)) c.in-Load.is c.in-Ok.ensures.read)
+    (record { unread = record { same = refl; steady = refl }; runs = c.load_command.ensures })
+
+pub returns-in-Load-clause-accepted : goal.returns-in-Load-clause-accepted
+returns-in-Load-clause-accepted g c = λ accepted. (load_few c.in-Load.load c.load_command.result _ _ _ c.load_command.ensures).0
+
+pub returns-in-Load-clause-words : goal.returns-in-Load-clause-words
+returns-in-Load-clause-words g c = λ not. absurd (not (c.in-Ok.command, c.in-Ok.ensures.read))
+
+pub returns-in-Load-clause-words_told : goal.returns-in-Load-clause-words_told
+returns-in-Load-clause-words_told g c = λ two. absurd ((load_few c.in-Load.load c.load_command.result _ _ _ c.load_command.ensures).0 two)
+
+pub returns-in-Load-clause-writes : goal.returns-in-Load-clause-writes
+returns-in-Load-clause-writes g c = c.load_command.ensures.steady
+
+pub returns-in-Load-clause-silent : goal.returns-in-Load-clause-silent
+returns-in-Load-clause-silent g c = c.load_command.ensures.silent
+
+pub returns-in-Load-clause-statuses : goal.returns-in-Load-clause-statuses
+returns-in-Load-clause-statuses g c = (load_few c.in-Load.load c.load_command.result _ _ _ c.load_command.ensures).1

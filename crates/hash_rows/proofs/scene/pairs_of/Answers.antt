@@ -3,9 +3,9 @@ use Rattle.map_history.specs.Replay.{Pairs}
 use Rattle.section_body.specs.Word.{value_of}
 use Rattle.table_words.specs.declared.spot.Spot.TheVariants.{Cell}
 use Rattle.bucket_laws.specs.Buckets.{buckets_meaning}
-use Rattle.version_words.specs.TableState.{word_of}
+use Rattle.hash_table.specs.version_words.specs.TableState.{word_of}
 use Rattle.closed_words.specs.Histories.{HoldsNoLock}
-use Rattle.try_lock.specs.Contents.{StandFor}
+use Rattle.hash_table.specs.try_lock.specs.Contents.{StandFor}
 use Rattle.hash_table.specs.declared.table.HashTable.{HashTable}
 use Rattle.hash_rows.proofs.Row.{only_lock}
 use Rattle.hash_rows.proofs.scene.pairs_of.Goals as goal

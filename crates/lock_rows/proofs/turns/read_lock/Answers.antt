@@ -1,5 +1,5 @@
 use Rattle.std.proofs.Common.{None}
-use Rattle.version_words.proofs.Stages.{may_load_fixed}
+use Rattle.try_lock.specs.version_words.proofs.Stages.{may_load_fixed}
 use Rattle.lock_rows.proofs.Reading.{then_read}
 use Rattle.lock_rows.proofs.turns.read_lock.Goals as goal
 

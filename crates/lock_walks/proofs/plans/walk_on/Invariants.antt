@@ -1,4 +1,4 @@
-use Rattle.version_words.specs.TableState.{IsOf}
+use Rattle.try_lock.specs.version_words.specs.TableState.{IsOf}
 use Rattle.lock_walks.specs.Led.{IsAlong}
 use Rattle.lock_walks.proofs.plans.walk_on.Given as goal
 

@@ -98,8 +98,8 @@ step_gated-gone-requires-clause-reserve g c κs within =
     let same_body : body ≡ body_of m now = c.requires.body ∙ sym (body_same m r now inv.same) in
     slot_left body n step r.part.nodes now.part.nodes here inv.nodes c.requires.reserve
 
-pub after-kept-requires : goal.after-kept-requires
-after-kept-requires g c =
+pub note-requires : goal.note-requires
+note-requires g c =
     let met = g.met.S.Structure g.world.𝓛 g.world.𝓜 g.world.𝓡 ((λ s allowed. allowed), (λ patient. patient), (λ alone. alone), (λ cuts. cuts)) in
     let m = g.S.Structure.meaning c.args.table.now.structure in
     let laws = met.laws c.args.table.now.structure in
@@ -144,7 +144,7 @@ loop-n-preserved g c =
       same = same_more m r now c.step_gated-gone.result.0 inv.same (went.same still);
       trail = went.words still;
       late = went.late ∙ inv.late;
-      kept = subst (λ k. AreKept c.after-kept.result (registers_before body k)) next (subst (AreKept c.after-kept.result) (sym (registers_before_next body n step here)) (c.after-kept.ensures g0 inv.kept count));
+      kept = subst (λ k. AreKept c.note.new.self (registers_before body k)) next (subst (AreKept c.note.new.self) (sym (registers_before_next body n step here)) (c.note.ensures g0 inv.kept count));
       nodes = subst (λ k. NodesGone body k r.part.nodes c.step_gated-gone.result.0.part.nodes) next (nodes_more body n step r.part.nodes now.part.nodes c.step_gated-gone.result.0.part.nodes here inv.nodes (went.nodes on));
       through = through_more m (sum_by step_cost (take n body)) (step_cost step) (sum_by step_cost (take (n + 1) body)) _ _ _ _ _ _ _ _ _ _ _ _
           (let e = sum_next step_cost body n step here in let d = ap (λ k. sum_by step_cost (take k body)) next in omega (arith, e, d)) inv.through (went.through still);

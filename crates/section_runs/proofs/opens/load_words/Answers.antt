@@ -1,5 +1,5 @@
 use Rattle.std.proofs.Common.{◌≡◌, ℕ, suc, ◌+◌, List, [], ◌∷◌, ◌++◌, true, false, arith, subst, sym}
-use Rattle.commit_log.proofs.Asked.{asked_more, asked_as}
+use Rattle.idem_cell.specs.commit_log.proofs.Asked.{asked_more, asked_as}
 use Rattle.section_runs.specs.Opened.{IsOpening}
 use Rattle.section_runs.proofs.Opening.{may_load, opens_more}
 use Rattle.section_runs.proofs.opens.load_words.Goals as goal

@@ -12,7 +12,7 @@ use Rattle.section_runs.specs.Bodies.{body_of}
 use Rattle.section_runs.proofs.Going.{shaped}
 use Rattle.section_runs.proofs.Using.{used_at, five}
 use Rattle.table_words.specs.Limits.{IsWithinLimits}
-use Rattle.machine_invariant.specs.After.{AreAllowed}
+use Rattle.idem_cell.specs.machine_invariant.specs.After.{AreAllowed}
 use Rattle.section_runs.proofs.Cases.{may_make, make_goes, lists_once}
 use Rattle.section_runs.proofs.steps.make_step.Goals as goal
 

@@ -1,5 +1,5 @@
 use Rattle.std.proofs.Common.{◌≡◌}
-use Rattle.version_words.specs.TableState.{IsOf}
+use Rattle.attempts.specs.version_words.specs.TableState.{IsOf}
 use Rattle.serving.proofs.Along.{IsAlong}
 use Rattle.serving.proofs.serves.serve.Given as goal
 

@@ -1,4 +1,4 @@
-use Rattle.version_words.specs.TableState.{IsOf}
+use Rattle.try_lock.specs.version_words.specs.TableState.{IsOf}
 use Rattle.settling.specs.Clearing.{KeepsJoins, IsClearing}
 use Rattle.settling.proofs.settles.clear_locks.Given as goal
 

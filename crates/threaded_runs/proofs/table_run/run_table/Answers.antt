@@ -2,11 +2,14 @@ use Rattle.std.proofs.Common.{rules, ◌≡◌, ℕ, length, subst, sym, ap, ◌
 use Rattle.machine_states.specs.World.{World}
 use Rattle.machine_states.specs.Reached.{Reached}
 use Rattle.machine_states.specs.Sight.{sight}
-use Rattle.runner_facts.specs.Facts.{DescriptorsAreKept, WornAreWorn}
-use Rattle.spent_facts.specs.Spent.{SpentStand}
+use Rattle.serving.specs.runner_facts.specs.Facts.{LimboIsDone, DescriptorsAreKept, WornAreWorn}
+use Rattle.own_descriptors.specs.Own.{OwnStand}
+use Rattle.serving.specs.spent_facts.specs.Spent.{SpentStand}
 use Rattle.worn_lists.specs.Worn.{HasNoRepeats}
-use Rattle.reached_histories.specs.Laws.{ReachedHaveHistories}
-use Rattle.request_facts.specs.Laws.{ReachedCallersStand}
+use Rattle.make_counts.specs.Makes.{MakesAreCounted, FewAreAdded}
+use Rattle.structure_laws.specs.Planner.{PlannerLaws}
+use Rattle.serving.specs.reached_histories.specs.Laws.{ReachedHaveHistories}
+use Rattle.serving.specs.request_facts.specs.Laws.{ReachedCallersStand}
 use Rattle.closed_words.specs.Histories.{HaveHistory}
 use Rattle.threaded_runs.specs.Runs.{AreServed}
 use Rattle.threaded_runs.proofs.Keeping.{has_all, may_settle, settled_all}
@@ -53,6 +56,15 @@ returns-clause-served g c =
           (λ w reached. c.worn_slots_are_worn.ensures t.layout t.requests w limits allowed reached);
       worn_once = subst (λ s. (w : World) → Reached (g.S.Structure.meaning s) t.layout t.requests w → HasNoRepeats (sight (g.S.Structure.meaning s) t.layout t.requests w)) c.structure-6.ensures
           (λ w reached. c.worn_lists_have_no_repeats.ensures t.layout t.requests w limits allowed reached);
+      makes = subst (λ s. (n : ℕ) → PlannerLaws (g.S.Structure.meaning s) n → (w : World) → Reached (g.S.Structure.meaning s) t.layout t.requests w
+          → MakesAreCounted (g.S.Structure.meaning s) t.layout t.requests (sight (g.S.Structure.meaning s) t.layout t.requests w)) c.structure-7.ensures
+          (λ n planner w reached. c.makes_are_counted.ensures n t.layout t.requests w planner limits allowed reached) _ (plans.plans_lawfully t.structure);
+      few = subst (λ s. (w : World) → Reached (g.S.Structure.meaning s) t.layout t.requests w → FewAreAdded (g.S.Structure.meaning s) t.requests (sight (g.S.Structure.meaning s) t.layout t.requests w)) c.structure-8.ensures
+          (λ w reached. c.few_pairs_are_added.ensures t.layout t.requests w limits allowed reached);
+      own = subst (λ s. (w : World) → Reached (g.S.Structure.meaning s) t.layout t.requests w → OwnStand t.layout (sight (g.S.Structure.meaning s) t.layout t.requests w)) c.structure-9.ensures
+          (λ w reached. c.own_descriptors_stand.ensures t.layout t.requests w limits allowed reached);
+      limbo = subst (λ s. (w : World) → Reached (g.S.Structure.meaning s) t.layout t.requests w → LimboIsDone (sight (g.S.Structure.meaning s) t.layout t.requests w)) c.structure-10.ensures
+          (λ w reached. c.limbo_is_done.ensures t.layout t.requests w limits allowed reached);
     } in
     let keeper = c.in_ok-keeper-2.keeper in
     let settled = c.settle-keeper.result in

@@ -1,6 +1,6 @@
 use Rattle.map_history.specs.Replay.{Pairs}
 use Rattle.bucket_laws.specs.Buckets.{buckets_meaning}
-use Rattle.try_lock.specs.Contents.{StandFor}
+use Rattle.lock_walks.specs.try_lock.specs.Contents.{StandFor}
 use Rattle.hash_table.specs.Stands.{Gathers}
 use Rattle.hash_table.proofs.table.HashTable.gather.Given as goal
 

@@ -1,0 +1,93 @@
+-- From how each command ends to the clauses of the top call.
+use Rattle.std.proofs.Common.{◌≡◌, ◌≢◌, ℕ, List, Option, None, Some, codes, refl, sym, ap, ◌∙◌, inl, inr, ⊎_elim, subst, arith}
+use Rattle.std.specs.Prelude.{◌⊎◌, ◌≤◌}
+use Rattle.trace_reader.specs.declared.generator.Gen.{Gen}
+use Rattle.trace_reader.specs.declared.traces.TraceError.TheVariants.{ReadFault, Memory, TooLarge, Malformed, TooManyTraces, TooManyRequests}
+use Rattle.flock_words.specs.Commands.{AreAccepted, IsCommand}
+use Rattle.flock_words.specs.declared.command.Command.{Command}
+use Rattle.flock_words.specs.declared.command.Command.TheVariants as commands
+use Rattle.flock_words.specs.declared.generated.LoadOptions.{LoadOptions}
+use Rattle.flock_tool.specs.Commands.{Ends, Gating, GenEnds, GenPrints, IsNoCommand, IsUntouched, LoadEnds, LoadRuns, Stream, Told}
+use Rattle.flock_tool.specs.End.{stop_line, stop_status}
+use Rattle.flock_tool.specs.Runs.{IsRunStatus}
+use Rattle.flock_tool.specs.declared.ran.Ran.{Ran}
+use Rattle.flock_tool.specs.declared.status.Stop.{Stop}
+use Rattle.flock_tool.specs.declared.status.Stop.TheVariants.{Words, Text, Nodes, WriteFault}
+use Rattle.flock_tool.proofs.Loading.{load_refused}
+use Rattle.flock_tool.proofs.Running.{run_lacks}
+
+abbrev IsOne : List (List ℕ) → Type 0
+IsOne words = (first second : Command) → IsCommand words first → IsCommand words second → first ≡ second
+
+module _ (result : ℕ × Option Ran) (source sink faults : Stream) (gates : Gating) where
+  -- what holds of the command that was read holds of each that the words are
+  pub of_one : (words : List (List ℕ)) (read : Command) → IsOne words → IsCommand words read → Ends read result source sink faults gates
+      → (command : Command) → IsCommand words command → Ends command result source sink faults gates
+  of_one words read one is ends command other = subst (λ (c : Command). Ends c result source sink faults gates) (one read command is other) ends
+
+  -- for want of memory
+  lacks : (command : Command) → result.0 ≡ 7 → result.1 ≡ None → Told (codes "flock: memory\n") faults → IsUntouched source → IsUntouched sink → gates.halts_after ≡ gates.halts_before
+      → Ends command result source sink faults gates
+  lacks (commands.Run options) seven none told unread untouched idle = run_lacks options result source sink faults gates seven none told
+  lacks (commands.Gen plan) seven none told unread untouched idle = record {
+    none = none;
+    unread = unread;
+    idle = idle;
+    prints = record {
+      statuses = inr (inr (inl seven));
+      printed = λ zero. absurd (omega (arith, zero, seven));
+      limit = λ four. absurd (omega (arith, four, seven));
+      many = λ _. inr seven;
+      memory = λ _. told;
+      write = λ nine. absurd (omega (arith, nine, seven));
+      silent = λ _ _. untouched.same;
+      steady = λ _. untouched.steady;
+    };
+  }
+  lacks (commands.Load load) seven none told unread untouched idle = record {
+    unread = unread;
+    runs = load_refused load result sink faults gates (Text Memory) tt seven none told untouched;
+  }
+
+  -- no command was read
+  pub of_none : (words : List (List ℕ)) (stop : Stop) → IsNoCommand words stop → result.0 ≡ stop_status stop → result.1 ≡ None → Told (stop_line stop) faults
+      → IsUntouched source → IsUntouched sink → gates.halts_after ≡ gates.halts_before → (command : Command) → IsCommand words command → Ends command result source sink faults gates
+  of_none words Words refused status none told unread untouched idle command is = absurd (refused (command, is))
+  of_none words (Text ReadFault) refused status none told unread untouched idle command is = absurd refused
+  of_none words (Text Memory) refused status none told unread untouched idle command is = lacks command status none told unread untouched idle
+  of_none words (Text (TooLarge bytes)) refused status none told unread untouched idle command is = absurd refused
+  of_none words (Text (Malformed line kind)) refused status none told unread untouched idle command is = absurd refused
+  of_none words (Text (TooManyTraces count)) refused status none told unread untouched idle command is = absurd refused
+  of_none words (Text (TooManyRequests count)) refused status none told unread untouched idle command is = absurd refused
+  of_none words (Nodes count) refused status none told unread untouched idle command is = absurd refused
+  of_none words WriteFault refused status none told unread untouched idle command is = absurd refused
+
+-- the status where no command was read
+pub none_status : (words : List (List ℕ)) (stop : Stop) → IsNoCommand words stop → (stop_status stop ≡ 2) ⊎ (stop_status stop ≡ 7)
+none_status words Words refused = inl refl
+none_status words (Text ReadFault) refused = absurd refused
+none_status words (Text Memory) refused = inr refl
+none_status words (Text (TooLarge bytes)) refused = absurd refused
+none_status words (Text (Malformed line kind)) refused = absurd refused
+none_status words (Text (TooManyTraces count)) refused = absurd refused
+none_status words (Text (TooManyRequests count)) refused = absurd refused
+none_status words (Nodes count) refused = absurd refused
+none_status words WriteFault refused = absurd refused
+
+pub none_accepted : (words : List (List ℕ)) (stop : Stop) → IsNoCommand words stop → AreAccepted words → stop_status stop ≢ 2
+none_accepted words Words refused accepted two = refused accepted
+none_accepted words (Text ReadFault) refused accepted two = refused
+none_accepted words (Text Memory) refused accepted two = absurd (omega (arith, two))
+none_accepted words (Text (TooLarge bytes)) refused accepted two = refused
+none_accepted words (Text (Malformed line kind)) refused accepted two = refused
+none_accepted words (Text (TooManyTraces count)) refused accepted two = refused
+none_accepted words (Text (TooManyRequests count)) refused accepted two = refused
+none_accepted words (Nodes count) refused accepted two = refused
+none_accepted words WriteFault refused accepted two = refused
+
+-- the clauses on every status, from those on one command
+pub gen_few : (plan : Gen) (number : ℕ) (sink faults : Stream) → GenPrints plan number sink faults → (number ≢ 2) × (number ≤ 9)
+gen_few plan number sink faults prints = (λ two. absurd (grind (arith, prints.statuses)), grind (arith, prints.statuses))
+
+pub load_few : (load : LoadOptions) (result : ℕ × Option Ran) (sink faults : Stream) (gates : Gating) → LoadRuns load result sink faults gates → (result.0 ≢ 2) × (result.0 ≤ 9)
+load_few load result sink faults gates runs = (λ two. absurd (grind (arith, runs.statuses)), grind (arith, runs.statuses))

@@ -1,0 +1,102 @@
+-- How the command `run` ends.
+use Rattle.std.proofs.Common.{◌≡◌, ◌≢◌, ℕ, List, Option, None, Some, Result, Ok, Err, IfSome, codes, refl, sym, ap, ◌∙◌, ⊎_elim, inl, inr, subst, arith}
+use Rattle.std.specs.Prelude.{◌⊎◌}
+use Rattle.trace_reader.specs.Answer.{StopsBefore}
+use Rattle.trace_reader.specs.Text.{IsAccepted, IsFirstRefusal}
+use Rattle.trace_reader.specs.declared.traces.TraceError.{TraceError}
+use Rattle.trace_reader.specs.declared.traces.TraceError.TheVariants.{ReadFault}
+use Rattle.flock_words.specs.declared.options.RunOptions.{RunOptions}
+use Rattle.flock_tool.specs.Commands.{Fails, Gating, RunEnds, Stream, Told}
+use Rattle.flock_tool.specs.End.{error_status, stop_line, stop_status}
+use Rattle.flock_tool.specs.Plans.{AsksTooMuch, IsPlanned, IsRefusedPlan, MustPlan}
+use Rattle.flock_tool.specs.Runs.{HasReported, HasRun, HasEnded, HasRunPlan, IsRunStatus}
+use Rattle.flock_tool.specs.declared.plan.Plan.{Plan}
+use Rattle.flock_tool.specs.declared.ran.Ran.{Ran}
+use Rattle.flock_tool.specs.declared.status.Stop.{Stop}
+use Rattle.flock_tool.specs.declared.status.Stop.TheVariants.{Text}
+use Rattle.flock_tool.proofs.Ends.{any_text, complete_refused, first_refused, limit_stop, malformed_stop, none_ran, not_run, planned_refused, stop_at_7, stop_at_8}
+use Rattle.flock_tool.proofs.Reported.{none_back, not_seven, reported_back, reported_halted, reported_memory, reported_ran, reported_read, reported_status, reported_write}
+use Rattle.flock_tool.proofs.Reporting.{run_is}
+
+-- nothing comes back
+pub if_none : (P : Ran → Type 0) (back : Option Ran) → back ≡ None → IfSome back P
+if_none P back none = subst (λ (back : Option Ran). IfSome back P) (sym none) tt
+
+not_three : (n : ℕ) → IsRunStatus n ⊎ (n ≡ 7) → n ≡ 3 → ⊥
+not_three n (inl run) three = absurd (grind arith)
+not_three n (inr seven) three = absurd (omega (arith, seven, three))
+
+not_four : (n : ℕ) → IsRunStatus n ⊎ (n ≡ 7) → n ≡ 4 → ⊥
+not_four n (inl run) four = absurd (grind arith)
+not_four n (inr seven) four = absurd (omega (arith, seven, four))
+
+module _ (options : RunOptions) (result : ℕ × Option Ran) (source sink faults : Stream) (gates : Gating) where
+  abbrev Complete : List ℕ → Type 0
+  Complete text = IsAccepted text → IsRunStatus result.0 ⊎ (result.0 ≡ 7) ⊎ ((result.0 ≡ 4) × (count : ℕ) × AsksTooMuch options source.before count)
+
+  abbrev Refused : List ℕ → Type 0
+  Refused text = (error : TraceError) → IsFirstRefusal text error → (result.0 ≡ error_status error) ⊎ (result.0 ≡ 7)
+
+  abbrev Ended : Ran → Type 0
+  Ended back = (traces : ℕ)
+      × HasRun options source.before traces back gates.halts_before gates.halts_after gates.plans_before gates.plans_after
+      × HasEnded back traces result.0 sink.before sink.after sink.faults_before sink.faults_after faults.before faults.after faults.faults_before faults.faults_after
+
+  -- without a plan
+  pub run_refused : (stop : Stop) → IsRefusedPlan options source.before stop → result.0 ≡ stop_status stop → result.1 ≡ None → Told (stop_line stop) faults
+      → ((Fails source → ⊥) → IfSome source.before (MustPlan (Err stop)))
+      → (◌≡◌ {A = Result Plan Stop} (Err stop) (Err (Text ReadFault)) → Fails source × StopsBefore source.before source.after)
+      → RunEnds options result source sink faults gates
+  run_refused stop refused status none told must read = record {
+    ran = none_ran options source.before stop result.0 result.1 refused status none;
+    ended = if_none Ended result.1 none;
+    halted = λ one. absurd (not_run options source.before stop refused (inr (inl (sym status ∙ one))));
+    complete = λ steady. complete_refused options source.before stop result.0 status refused (must steady);
+    refused = λ steady. first_refused source.before stop result.0 status (must steady);
+    malformed = λ three. malformed_stop options source.before faults.before faults.after faults.faults_before faults.faults_after stop refused told (sym status ∙ three);
+    limit = λ four. limit_stop options source.before faults.before faults.after faults.faults_before faults.faults_after stop refused told (sym status ∙ four);
+    memory = λ seven. subst (λ (s : Stop). Told (stop_line s) faults) (stop_at_7 stop (sym status ∙ seven)) told;
+    read = λ eight.
+        let same = stop_at_8 stop (sym status ∙ eight) in
+        let parts = read (ap Err same) in
+        (parts.0, parts.1, subst (λ (s : Stop). Told (stop_line s) faults) same told);
+    write = λ nine. absurd (not_run options source.before stop refused (inr (inr (inr (inr (sym status ∙ nine))))));
+  }
+
+  -- for want of memory
+  pub run_lacks : result.0 ≡ 7 → result.1 ≡ None → Told (codes "flock: memory\n") faults → RunEnds options result source sink faults gates
+  run_lacks seven none told = record {
+    ran = (λ some. absurd (none_back result.1 none some), λ run. absurd (not_seven result.0 run seven));
+    ended = if_none Ended result.1 none;
+    halted = λ one. absurd (omega (arith, one, seven));
+    complete = λ steady. any_text Complete source.before (λ text accepted. inr (inl seven));
+    refused = λ steady. any_text Refused source.before (λ text error first. inr seven);
+    malformed = λ three. absurd (omega (arith, three, seven));
+    limit = λ four. absurd (omega (arith, four, seven));
+    memory = λ _. told;
+    read = λ eight. absurd (omega (arith, eight, seven));
+    write = λ nine. absurd (omega (arith, nine, seven));
+  }
+
+  -- with a report
+  pub run_reported : (plan : Plan) (ran : Ran) → IsPlanned options source.before plan
+      → HasRunPlan plan ran gates.halts_before gates.halts_after gates.plans_before gates.plans_after
+      → ((Fails source → ⊥) → IfSome source.before (MustPlan (Ok plan)))
+      → HasReported ran plan.traces.count result sink.before sink.after sink.faults_before sink.faults_after faults.before faults.after faults.faults_before faults.faults_after
+      → RunEnds options result source sink faults gates
+  run_reported plan ran planned run must reported = record {
+    ran = reported_ran ran plan.traces.count result _ _ _ _ _ _ _ _ reported;
+    ended = reported_back ran plan.traces.count result _ _ _ _ _ _ _ _ reported Ended
+        (λ ends. (plan.traces.count, run_is options source.before plan ran gates.halts_before gates.halts_after gates.plans_before gates.plans_after planned run, ends.ended));
+    halted = λ one. reported_halted ran plan.traces.count result _ _ _ _ _ _ _ _ reported gates.halts_before gates.halts_after run.halts one;
+    complete = λ steady. any_text Complete source.before (λ text accepted. ⊎_elim (λ ends. inl ends) (λ seven. inr (inl seven)) status);
+    refused = λ steady. planned_refused source.before plan result.0 (must steady);
+    malformed = λ three. absurd (not_three result.0 status three);
+    limit = λ four. absurd (not_four result.0 status four);
+    memory = λ seven. reported_memory ran plan.traces.count result _ _ _ _ _ _ _ _ reported seven;
+    read = λ eight. absurd (reported_read ran plan.traces.count result _ _ _ _ _ _ _ _ reported eight);
+    write = λ nine. reported_write ran plan.traces.count result _ _ _ _ _ _ _ _ reported nine;
+  }
+    where
+      status : IsRunStatus result.0 ⊎ (result.0 ≡ 7)
+      status = reported_status ran plan.traces.count result _ _ _ _ _ _ _ _ reported

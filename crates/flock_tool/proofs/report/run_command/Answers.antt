@@ -1,0 +1,20 @@
+use Rattle.flock_tool.specs.Commands.{gating, stream}
+use Rattle.flock_tool.proofs.Ends.{read_fault}
+use Rattle.flock_tool.proofs.Running.{run_lacks, run_refused, run_reported}
+use Rattle.flock_tool.proofs.report.run_command.Goals as goal
+
+pub returns-in-Err-clause-ends : goal.returns-in-Err-clause-ends
+returns-in-Err-clause-ends g c =
+    run_refused c.args.options _ _ _ _ _ c.in-Err.stop c.in-Err.ensures.refused c.refuse.ensures.status c.refuse.ensures.none c.refuse.ensures.told
+    c.in-Err.ensures.must c.in-Err.ensures.read
+
+pub returns-in-Err-clause-reads : goal.returns-in-Err-clause-reads
+returns-in-Err-clause-reads g c = λ not_eight. c.in-Err.ensures.reads (read_fault c.in-Err.stop c.refuse.result.0 c.refuse.ensures.status not_eight)
+
+pub returns-in_default-clause-ends : goal.returns-in_default-clause-ends
+returns-in_default-clause-ends g c =
+    run_lacks c.args.options _ _ _ _ _ c.refuse-in_default.ensures.status c.refuse-in_default.ensures.none c.refuse-in_default.ensures.told
+
+pub returns-clause-ends : goal.returns-clause-ends
+returns-clause-ends g c =
+    run_reported c.args.options _ _ _ _ _ c.in-Ok.plan c.in-Ok-run_plan.ran c.in-Ok.ensures.planned c.in-Ok-run_plan.ensures c.in-Ok.ensures.must c.report.ensures.reported

@@ -1,0 +1,151 @@
+// The command `load`.
+ghost use Rattle.std.specs.Prelude.{◌≡◌, ◌≤◌, Bool, IfOk, length, true};
+ghost use Rattle.map_history.specs.Requests.{AreInOrder};
+ghost use Rattle.table_words.specs.Limits.{IsWithinLimits};
+ghost use Rattle.threaded_runs.specs.closed_words.specs.Histories.{HoldsNoLock};
+ghost use Rattle.threaded_runs.specs.machine_invariant.specs.After.{AreAllowed};
+ghost use Rattle.threaded_runs.specs.Runs.{AreServed};
+ghost use Rattle.flock_words.specs.Generated.{AreLoadRanges};
+ghost use Rattle.flock_tool.specs.Commands.{LoadRuns, gating, stream};
+ghost use Rattle.flock_tool.specs.Loads.{EndsLoad, HasLoaded, IsCounted};
+ghost use Rattle.flock_tool.specs.Runs.{words_in, answers_in, meaning_of};
+
+use crate::finish::{is_whole, status_of_finish, tell_finish};
+use crate::plan::load_plan;
+use crate::ran::Ran;
+use crate::report::{finish_of_run, refuse};
+use crate::run::{run_is_allowed, run_plan, size_of};
+use crate::status::{Stop, status_of, tell};
+use flock_words::LoadOptions;
+use load_counts::print_counts;
+use load_reports::{Tally, tally_words};
+use map_history::Request;
+use report_text::Sink;
+use runner_gate::Gates;
+use std::alloc::{AllocError, Global};
+use std::sync::Wait;
+use std::thread::Threads;
+use threaded_runs::lock_walks::Planner;
+use threaded_runs::version_words::Words;
+use trace_reader::TraceError;
+
+/// What the closed words of a run come to.
+#[derive(Clone, Copy, Debug, PartialEq, Eq)]
+pub struct Counted {
+    /// The replies, and how many requests are unserved.
+    pub tally: Tally,
+    /// How many pairs the words hold.
+    pub size: u32,
+}
+
+/// Runs generated requests with these options, and prints how often each reply came where each request is served.
+pub fn load_command<T: Threads + Wait + Sync, K: Sink, F: Sink, G: Gates>(
+    rt: &T,
+    alloc: Global,
+    load: LoadOptions,
+    sink: &mut K,
+    faults: &mut F,
+    gates: &mut G,
+) -> (u8, Option<Ran>)
+    requires { AreLoadRanges load }
+    ensures { LoadRuns load result
+        (stream (K.held sink.old) (K.held sink.new) (K.faults sink.old) (K.faults sink.new))
+        (stream (F.held faults.old) (F.held faults.new) (F.faults faults.old) (F.faults faults.new))
+        (gating (G.halts gates.old) (G.halts gates.new) (G.planned gates.old) (G.planned gates.new)) }
+{
+    let plan = match load_plan(alloc, load) {
+        Ok(plan) => plan,
+        Err(stop) => return refuse(stop, faults),
+    };
+    let Ok(ran) = run_plan(rt, alloc, &plan, gates) else {
+        return refuse(Stop::Text(TraceError::Memory), faults);
+    };
+    report_load(
+        alloc,
+        plan.traces.requests.as_slice(),
+        plan.traces.count,
+        ran,
+        sink,
+        faults,
+    )
+}
+
+// Counts a closed table.
+fn count_on<S: Planner>(
+    alloc: Global,
+    words: &Words<S>,
+    requests: u32,
+) -> Result<Counted, AllocError>
+    requires count { requests ≡ length words.now.requests }
+    requires map { (S.meaning words.now.structure).is_map ≡ true }
+    requires free { HoldsNoLock (S.meaning words.now.structure) words.now }
+    ensures { IfOk result (IsCounted (S.meaning words.now.structure) words.now) }
+{
+    let size = size_of(alloc, words)?;
+    let tally = tally_words(alloc, words, requests)?;
+    Ok(Counted { tally, size })
+}
+
+// Counts the closed words of a run of so many requests.
+fn count_run(alloc: Global, ran: &Ran, requests: u32) -> Result<Counted, AllocError>
+    requires count { requests ≡ length (words_in ran.now).requests }
+    requires free { HoldsNoLock (meaning_of ran.now) (words_in ran.now) }
+    ensures { IfOk result (IsCounted (meaning_of ran.now) (words_in ran.now)) }
+{
+    match ran {
+        Ran::Hash(words, _) => count_on(alloc, words, requests),
+        Ran::Tree(words, _) => count_on(alloc, words, requests),
+    }
+}
+
+// Counts the closed words of a run, and prints and tells what they come to.
+fn report_load<K: Sink, F: Sink>(
+    alloc: Global,
+    requests: &[Request],
+    traces: u32,
+    ran: Ran,
+    sink: &mut K,
+    faults: &mut F,
+) -> (u8, Option<Ran>)
+    requires requests { (words_in ran).requests ≡ requests.now }
+    requires ordered { AreInOrder requests.now traces }
+    requires served { (retry_short : Bool) × AreServed (meaning_of ran) (words_in ran) retry_short (answers_in ran) }
+    ensures { HasLoaded ran result (K.held sink.old) (K.held sink.new) (K.faults sink.old) (K.faults sink.new) (F.held faults.old) (F.held faults.new) (F.faults faults.old) (F.faults faults.new) }
+{
+    let _ = traces;
+    run_is_allowed(&ran);
+    let count = requests.len() as u32;
+    let Ok(counted) = count_run(alloc, &ran, count) else {
+        return refuse(Stop::Text(TraceError::Memory), faults);
+    };
+    print_load(count, &counted, ran, sink, faults)
+}
+
+// Prints the counts where each request is served, and tells how the run ended.
+fn print_load<K: Sink, F: Sink>(
+    requests: u32,
+    counted: &Counted,
+    ran: Ran,
+    sink: &mut K,
+    faults: &mut F,
+) -> (u8, Option<Ran>)
+    requires count { requests ≡ length (words_in ran).requests }
+    requires counted { IsCounted (meaning_of ran) (words_in ran) counted.now }
+    requires limits { IsWithinLimits (words_in ran).layout }
+    requires allowed { AreAllowed (words_in ran).requests }
+    requires served { (retry_short : Bool) × AreServed (meaning_of ran) (words_in ran) retry_short (answers_in ran) }
+    ensures { EndsLoad ran result (K.held sink.old) (K.held sink.new) (K.faults sink.old) (K.faults sink.new) (F.held faults.old) (F.held faults.new) (F.faults faults.old) (F.faults faults.new) }
+{
+    let finish = finish_of_run(&ran, counted.tally.unserved);
+    if !is_whole(&finish) {
+        tell_finish(&finish, faults);
+        return (status_of_finish(&finish), Some(ran));
+    }
+    match print_counts(requests, &counted.tally.counts, counted.size, sink) {
+        Ok(()) => (0, Some(ran)),
+        Err(_) => {
+            tell(Stop::WriteFault, faults);
+            (status_of(Stop::WriteFault), Some(ran))
+        }
+    }
+}
