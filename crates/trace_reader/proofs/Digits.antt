@@ -8,13 +8,8 @@ use Rattle.std.proofs.lemmas.Fmt.{decimal_by_steps, length-decimal-le}
 use Rattle.std.proofs.lemmas.List.Folds.{list_all-append}
 use Rattle.std.proofs.lemmas.List.Sums.{fold-append}
 use Rattle.std.proofs.lemmas.Nat.{div-add-mod', mod_below}
-use Rattle.trace_reader.specs.Fields.{is_number, value_of}
-
--- digits that stand for this number
-pub record AreDigits (number : ℕ) (digits : List ℕ) : Type 0 where
-  pub each : list_all is_ascii_digit digits ≡ true
-  pub value : value_of digits ≡ number
-  pub some : 0 < length digits
+use Rattle.trace_reader.specs.Fields.{is_number}
+use Rattle.trace_reader.specs.Plain.{AreDigits}
 
 digit : (n : ℕ) → n < 10 → is_ascii_digit (48 + n) ≡ true
 digit n small = ap (λ b. b && nat_le (48 + n) 57) (le-leb 48 (48 + n) (omega arith)) ∙ le-leb (48 + n) 57 (omega (arith, small))

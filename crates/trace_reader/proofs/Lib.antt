@@ -13,3 +13,4 @@ pub mod Steps
 pub mod Texts
 pub mod Told
 pub mod Words
+pub mod Written

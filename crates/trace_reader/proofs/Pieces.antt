@@ -1,11 +1,12 @@
 -- A text with a piece behind it, which is read line by line.
-use Rattle.std.proofs.Common.{◌≡◌, ℕ, ◌+◌, ◌-◌, ◌<◌, ◌≤◌, Bool, true, false, cond, eqb, List, [], ◌∷◌, ◌++◌, Some, None, take, drop, get_or, length, refl, sym, ap, ◌∙◌, append_assoc, add-one, drop-cons, arith, length-take}
+use Rattle.std.proofs.Common.{◌≡◌, ℕ, ◌+◌, ◌-◌, ◌<◌, ◌≤◌, Bool, true, false, cond, eqb, List, [], ◌∷◌, ◌++◌, Option, Some, None, take, drop, get_or, length, refl, sym, ap, ◌∙◌, append_assoc, add-one, drop-cons, arith, length-take}
 use Rattle.std.specs.Prelude.{position, nat_lt}
 use Rattle.std.specs.List.{position_or_len}
-use Rattle.std.proofs.lemmas.Bool.{eqb-true, ltb-false}
+use Rattle.std.proofs.lemmas.Bool.{eqb-true, le-ltb, lt-ltb, ltb-false}
 use Rattle.std.proofs.lemmas.List.{take-append-drop, take_rest, get_or-take}
 use Rattle.std.proofs.lemmas.List.Quantifiers.{position-Some}
-use Rattle.std.proofs.lemmas.List.Sums.{fails_before_first}
+use Rattle.std.proofs.lemmas.List.Sums.{fails_before_first, position_or_len_is}
+use Rattle.memchr.specs.Find.{IsFirstByte}
 use Rattle.trace_reader.specs.Lines.{IsOneLine}
 
 abbrev is_feed : ℕ → Bool
@@ -24,6 +25,22 @@ text_around text piece rest i byte within is =
     ∙ ap (λ l. text ++ l) (sym (append_assoc (take i piece) (byte ∷ drop (i + 1) piece) rest) ∙ ap (λ l. l ++ rest) (whole_piece piece i byte within is))
     ∙ sym (append_assoc text piece rest)
 
+fails : (b : Bool) → (b ≡ true → ⊥) → b ≡ false
+fails true deny = absurd (deny refl)
+fails false deny = refl
+
+-- what a search for the first byte of a kind finds
+pub first_is : (test : ℕ → Bool) (bytes : List ℕ) (found : Option ℕ) → IsFirstByte test bytes found → found ≡ position test bytes
+first_is test bytes None nowhere =
+    let at : position_or_len test bytes ≡ length bytes =
+    position_or_len_is test bytes (length bytes) 0 (omega arith) (λ k early. fails (test (get_or bytes k 0)) (nowhere k (omega arith) early)) (λ past. absurd (omega arith)) in
+    sym (ap (λ b. cond b (Some (position_or_len test bytes)) None) (le-ltb (position_or_len test bytes) (length bytes) (omega (arith, at))))
+first_is test bytes (Some i) (none, passes) =
+    let at : position_or_len test bytes ≡ i =
+    position_or_len_is test bytes i 0 (omega (arith, none.high)) (λ k early. fails (test (get_or bytes k 0)) (none.before k (omega arith) early)) (λ within. passes) in
+    ap Some (sym at)
+    ∙ sym (ap (λ b. cond b (Some (position_or_len test bytes)) None) (lt-ltb (position_or_len test bytes) (length bytes) (omega (arith, at, none.high))))
+
 -- bytes in which no line feed was found, and those before the first one
 pub one_line : (bytes : List ℕ) → position is_feed bytes ≡ None → IsOneLine bytes
 one_line bytes none = λ k d lt. let past : length bytes ≤ position_or_len is_feed bytes = late (nat_lt (position_or_len is_feed bytes) (length bytes)) refl none in fails_before_first is_feed bytes k d (omega arith)
@@ -37,18 +54,19 @@ front_line bytes end found = λ k d lt.
     let within : k < end = omega (arith, lt, length-take end bytes) in
     ap is_feed (get_or-take end bytes k d within) ∙ (position-Some is_feed bytes end d found).2 k within
 
+pub found_within : (bytes : List ℕ) (end : ℕ) → position is_feed bytes ≡ Some end → end < length bytes
+found_within bytes end found = (position-Some is_feed bytes end 0 found).0
+
 -- the first line feed parts the bytes before it from those behind it
 pub parted : (bytes : List ℕ) (end : ℕ) → position is_feed bytes ≡ Some end → take end bytes ++ 10 ∷ drop (end + 1) bytes ≡ bytes
 parted bytes end found =
     let at = position-Some is_feed bytes end 0 found in
     whole_piece bytes end 10 at.0 (sym (eqb-true _ _ at.1))
 
--- a text with a piece behind it of which a front was read, then a part, and the rest is left
-pub text_parts : (text front rest part last piece more : List ℕ) → front ++ rest ≡ piece → part ++ last ≡ rest → ((text ++ front) ++ part) ++ (last ++ more) ≡ (text ++ piece) ++ more
-text_parts text front rest part last piece more whole parts =
-    sym (append_assoc ((text ++ front) ++ part) last more)
-    ∙ ap (λ l. l ++ more)
-    (append_assoc (text ++ front) part last ∙ ap (λ l. (text ++ front) ++ l) parts ∙ append_assoc text front rest ∙ ap (λ l. text ++ l) whole)
+-- a text with bytes behind it of which a part was read, and more behind that
+pub text_cut : (text part last bytes more : List ℕ) → part ++ last ≡ bytes → (text ++ part) ++ (last ++ more) ≡ (text ++ bytes) ++ more
+text_cut text part last bytes more parts =
+    sym (append_assoc (text ++ part) last more) ∙ ap (λ l. l ++ more) (append_assoc text part last ∙ ap (λ l. text ++ l) parts)
 
 -- a line of the piece was read, with its line feed
 pub piece_on : (front rest piece : List ℕ) (end : ℕ) → front ++ rest ≡ piece → take end rest ++ 10 ∷ drop (end + 1) rest ≡ rest

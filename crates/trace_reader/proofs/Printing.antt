@@ -1,195 +1,43 @@
 -- What a printed text is read as.
-use Rattle.std.proofs.Common.{◌≡◌, ℕ, zero, suc, ◌+◌, ◌-◌, ◌*◌, ◌<◌, ◌≤◌, Bool, true, false, cond, List, [], ◌∷◌, ◌++◌, None, Some, codes, length, length-append, append_assoc, refl, sym, ap, ◌∙◌, subst, arith, get_or, take}
-use Rattle.std.specs.Prelude.{◌==◌, ◌&&◌, ◌||◌, All, decimal, filter, flat_map, map, nat_le, nat_lt, not, slice_index}
-use Rattle.std.specs.Char.{is_ascii, is_ascii_digit}
-use Rattle.std.specs.List.{AllByRecursion, list_all, range_with_len}
+use Rattle.std.proofs.Common.{◌≡◌, ℕ, zero, suc, ◌+◌, ◌-◌, ◌*◌, ◌<◌, ◌≤◌, Bool, true, false, List, [], ◌∷◌, ◌++◌, codes, length, length-append, append_assoc, refl, sym, ap, ◌∙◌, subst, arith}
+use Rattle.std.specs.Prelude.{◌==◌, All, decimal, flat_map, map, nat_lt}
+use Rattle.std.specs.List.{AllByRecursion, range_with_len}
 use Rattle.std.specs.List.Sorted.{IsNonDecreasingBy}
-use Rattle.std.proofs.lemmas.Bool.{le-leb, le-ltb, leb-true, lt-ltb, ltb-true, ne_eqb}
+use Rattle.std.proofs.lemmas.Bool.{lt-ltb}
 use Rattle.std.proofs.lemmas.List.{append-nil}
 use Rattle.std.proofs.lemmas.List.Elements.{All-from_recursion}
-use Rattle.std.proofs.lemmas.List.Folds.{list_all-append}
-use Rattle.std.proofs.lemmas.List.Splits.{slice_split_at, slice_split_none}
-use Rattle.std.proofs.lemmas.List.Sums.{AllPass-from_list_all}
+use Rattle.std.proofs.lemmas.List.Splits.{slice_split_none}
 use Rattle.map_history.specs.declared.op.Op.{Op}
 use Rattle.map_history.specs.declared.op.Op.TheVariants.{Get, Ins, Del}
 use Rattle.map_history.specs.declared.op.Request.{Request}
 use Rattle.map_history.specs.Keys.{key_of}
 use Rattle.map_history.specs.Requests.{AreInOrder}
 use Rattle.trace_reader.specs.declared.line.Line.TheVariants.{Header, Trace, Ask}
-use Rattle.trace_reader.specs.declared.traces.BadLine.TheVariants.{BadNumber, KeyTooLarge, NotAscii, ValueTooLarge}
 use Rattle.trace_reader.specs.declared.traces.Traces.{Traces}
 use Rattle.trace_reader.specs.Answer.{AreTracesOf}
-use Rattle.trace_reader.specs.Fields.{content_of, fields_in, fields_of, is_blank, is_comment, is_number, value_of}
-use Rattle.trace_reader.specs.Line.{asked_by, asked_by_words, begun_by_words, counts, fault_of_counted, fault_of_words, first_found, is_trace, tests_of, words_count}
 use Rattle.trace_reader.specs.Lines.{IsOneLine, lines_of, pieces_of}
 use Rattle.trace_reader.specs.Printed.{HasSmallValue, HaveSmallValues, beginnings, line_of, lines_behind, printed, printed_lines, with_feed}
 use Rattle.trace_reader.specs.Reader.{AreRead}
 use Rattle.trace_reader.specs.Said.{Says}
 use Rattle.trace_reader.specs.Text.{lines_read, requests_in, traces_in}
-use Rattle.trace_reader.proofs.Digits.{AreDigits, are_number, digit_bounds, digits_length, printed_digits}
+use Rattle.trace_reader.proofs.Digits.{digits_length, printed_digits}
 use Rattle.trace_reader.proofs.Lines.{pieces_of-feed}
 use Rattle.trace_reader.proofs.Ordered.{AreInOrder-none}
 use Rattle.trace_reader.proofs.Refusals.{all_accepted, end_refusal-within, ended_lines, lines_of-read}
 use Rattle.trace_reader.proofs.Steps.{line_more}
+use Rattle.trace_reader.proofs.Written.{del_one_line, del_said, get_one_line, get_said, ins_one_line, ins_said, printed_one_line}
 
--- what lines are printed with: from a space to a tilde
-abbrev is_printed : ℕ → Bool
-is_printed byte = nat_le 32 byte && nat_le byte 126
-
-both : (a b : Bool) → (a && b) ≡ true → (a ≡ true) × (b ≡ true)
-both true b e = (refl, e)
-both false b e = cc
-
-printed_bounds : (byte : ℕ) → is_printed byte ≡ true → (32 ≤ byte) × (byte ≤ 126)
-printed_bounds byte is = let parts = both (nat_le 32 byte) (nat_le byte 126) is in (leb-true 32 byte parts.0, leb-true byte 126 parts.1)
-
-imply : (p q : ℕ → Bool) → ((byte : ℕ) → p byte ≡ true → q byte ≡ true) → (bytes : List ℕ) → list_all p bytes ≡ true → list_all q bytes ≡ true
-imply p q f [] e = refl
-imply p q f (byte ∷ bytes) e =
-    let parts = both (p byte) (list_all p bytes) e in
-    ap (λ b. b && list_all q bytes) (f byte parts.0) ∙ imply p q f bytes parts.1
-
-printed_ascii : (bytes : List ℕ) → list_all is_printed bytes ≡ true → list_all is_ascii bytes ≡ true
-printed_ascii bytes are = imply is_printed is_ascii (λ byte is. lt-ltb byte 128 (omega (arith, (printed_bounds byte is).1))) bytes are
-
-digits_printed : (digits : List ℕ) → list_all is_ascii_digit digits ≡ true → list_all is_printed digits ≡ true
-digits_printed digits are = imply is_ascii_digit is_printed (λ byte is.
-    let bounds = digit_bounds byte is in
-    ap (λ b. b && nat_le byte 126) (le-leb 32 byte (omega (arith, bounds.0))) ∙ le-leb byte 126 (omega (arith, bounds.1))) digits are
-
-printed_one_line : (line : List ℕ) → list_all is_printed line ≡ true → IsOneLine line
-printed_one_line line are = λ k d within. ne_eqb (get_or line k d) 10 (λ same. absurd (omega (arith, same, (printed_bounds (get_or line k d) (AllPass-from_list_all is_printed line are k d within)).0)))
-
--- a printed line ends in no carriage return
-content_printed : (line : List ℕ) → list_all is_printed line ≡ true → content_of line ≡ line
-content_printed line are = by_test (nat_lt 0 (length line)) refl
-  where
-    by_test : (b : Bool) → nat_lt 0 (length line) ≡ b → content_of line ≡ line
-    by_test true some =
-        let last = AllPass-from_list_all is_printed line are (length line - 1) 0 (omega (arith, ltb-true _ _ some)) in
-        let other : (slice_index line (length line - 1) == 13) ≡ false = ne_eqb (slice_index line (length line - 1)) 13 (λ same. absurd (omega (arith, same, (printed_bounds (slice_index line (length line - 1)) last).0))) in
-        ap (λ b. cond (b && (slice_index line (length line - 1) == 13)) (take (length line - 1) line) line) some
-        ∙ ap (λ b. cond b (take (length line - 1) line) line) other
-    by_test false none = ap (λ b. cond (b && (slice_index line (length line - 1) == 13)) (take (length line - 1) line) line) none
-
-abbrev is_letter : ℕ → Bool
-is_letter byte = not (is_blank byte)
-
-not_true : (a : Bool) → not a ≡ true → a ≡ false
-not_true true e = cc
-not_true false e = refl
-
-no_blank : (word : List ℕ) → list_all is_letter word ≡ true → All (λ byte. is_blank byte ≡ false) word
-no_blank word are = λ k d within. not_true _ (AllPass-from_list_all is_letter word are k d within)
-
-digits_letters : (digits : List ℕ) → list_all is_ascii_digit digits ≡ true → list_all is_letter digits ≡ true
-digits_letters digits are = imply is_ascii_digit is_letter (λ byte is.
-    let bounds = digit_bounds byte is in
-    ap (λ b. not (b || byte == 9)) (ne_eqb byte 32 (λ same. absurd (omega (arith, same, bounds.0))))
-    ∙ ap not (ne_eqb byte 9 (λ same. absurd (omega (arith, same, bounds.0))))) digits are
-
-abbrev is_word : List ℕ → Bool
-is_word word = nat_lt 0 (length word)
-
-first_word : (word rest : List ℕ) → list_all is_letter word ≡ true → is_word word ≡ true → fields_in (word ++ 32 ∷ rest) ≡ word ∷ fields_in rest
-first_word word rest letters some =
-    ap (filter is_word) (slice_split_at is_blank word 32 rest (no_blank word letters) refl)
-    ∙ ap (λ b. cond b (word ∷ fields_in rest) (fields_in rest)) some
-
-last_word : (word : List ℕ) → list_all is_letter word ≡ true → is_word word ≡ true → fields_in word ≡ word ∷ []
-last_word word letters some =
-    ap (filter is_word) (slice_split_none is_blank word (no_blank word letters)) ∙ ap (λ b. cond b (word ∷ []) []) some
-
--- a line behind the header and a trace, by its words
-record SaysSo (op : Op) (line word : List ℕ) (numbers : List (List ℕ)) : Type 0 where
-  fields : fields_of line ≡ word ∷ numbers
-  ascii : list_all is_ascii (content_of line) ≡ true
-  comment : is_comment (word ∷ numbers) ≡ false
-  fault : first_found (tests_of true word numbers) ≡ None
-  trace : is_trace word ≡ false
-  operation : asked_by word numbers ≡ Some op
-
-said : (op : Op) (line word : List ℕ) (numbers : List (List ℕ)) → SaysSo op line word numbers → key_of op ≤ 4294967293 → Says (Ask op) true true line
-said op line word numbers so small =
-    let counted : counts line ≡ true = ap words_count so.fields ∙ ap not so.comment in
-    record {
-      fault = ap (λ b. cond b (fault_of_counted true true line) None) counted
-          ∙ ap (λ b. cond (not b) (Some NotAscii) (fault_of_words true (fields_of line))) so.ascii
-          ∙ ap (fault_of_words true) so.fields ∙ so.fault;
-      counted = counted;
-      trace = ap begun_by_words so.fields ∙ so.trace;
-      operation = ap asked_by_words so.fields ∙ so.operation;
-      placed = (refl, refl, small);
-    }
-
-one_number : (digits : List ℕ) (key : ℕ) → AreDigits key digits → key ≤ 4294967293 → cond (not (is_number digits && true)) (Some BadNumber) (cond (nat_lt 4294967293 (value_of digits)) (Some KeyTooLarge) None) ≡ None
-one_number digits key are small =
-    ap (λ b. cond (not (b && true)) (Some BadNumber) (cond (nat_lt 4294967293 (value_of digits)) (Some KeyTooLarge) None)) (are_number key digits are)
-    ∙ ap (λ n. cond (nat_lt 4294967293 n) (Some KeyTooLarge) None) are.value
-    ∙ ap (λ b. cond b (Some KeyTooLarge) None) (le-ltb 4294967293 key small)
-
-two_numbers : (digits more : List ℕ) (key value : ℕ) → AreDigits key digits → AreDigits value more → key ≤ 4294967293 → value ≤ 4294967295
-    → cond (not (is_number digits && (is_number more && true))) (Some BadNumber) (cond (nat_lt 4294967293 (value_of digits)) (Some KeyTooLarge) (cond (nat_lt 4294967295 (value_of more)) (Some ValueTooLarge) None)) ≡ None
-two_numbers digits more key value are also small fits =
-    ap (λ b. cond (not (b && (is_number more && true))) (Some BadNumber) (cond (nat_lt 4294967293 (value_of digits)) (Some KeyTooLarge) (cond (nat_lt 4294967295 (value_of more)) (Some ValueTooLarge) None))) (are_number key digits are)
-    ∙ ap (λ b. cond (not (b && true)) (Some BadNumber) (cond (nat_lt 4294967293 (value_of digits)) (Some KeyTooLarge) (cond (nat_lt 4294967295 (value_of more)) (Some ValueTooLarge) None))) (are_number value more also)
-    ∙ ap (λ n. cond (nat_lt 4294967293 n) (Some KeyTooLarge) (cond (nat_lt 4294967295 (value_of more)) (Some ValueTooLarge) None)) are.value
-    ∙ ap (λ b. cond b (Some KeyTooLarge) (cond (nat_lt 4294967295 (value_of more)) (Some ValueTooLarge) None)) (le-ltb 4294967293 key small)
-    ∙ ap (λ n. cond (nat_lt 4294967295 n) (Some ValueTooLarge) None) also.value
-    ∙ ap (λ b. cond b (Some ValueTooLarge) None) (le-ltb 4294967295 value fits)
-
--- a line is printed with printed bytes
-line_printed : (op : Op) → key_of op ≤ 4294967293 → HasSmallValue op → list_all is_printed (line_of op) ≡ true
-line_printed (Get key) small fits = digits_printed (decimal key) (printed_digits key (omega (arith, small))).each
-line_printed (Del key) small fits = digits_printed (decimal key) (printed_digits key (omega (arith, small))).each
-line_printed (Ins key value) small fits =
-    list_all-append is_printed (decimal key) (32 ∷ decimal value)
-    ∙ ap (λ b. b && list_all is_printed (decimal value)) (digits_printed (decimal key) (printed_digits key (omega (arith, small))).each)
-    ∙ digits_printed (decimal value) (printed_digits value (omega (arith, fits))).each
+-- the line of a request is one line
+line_one : (op : Op) → key_of op ≤ 4294967293 → HasSmallValue op → IsOneLine (line_of op)
+line_one (Get key) small fits = get_one_line key (decimal key) (printed_digits key (omega (arith, small)))
+line_one (Del key) small fits = del_one_line key (decimal key) (printed_digits key (omega (arith, small)))
+line_one (Ins key value) small fits = ins_one_line key value (decimal key) (decimal value) (printed_digits key (omega (arith, small))) (printed_digits value (omega (arith, fits)))
 
 pub line_said : (op : Op) → key_of op ≤ 4294967293 → HasSmallValue op → Says (Ask op) true true (line_of op)
-line_said (Get key) small fits =
-    let digits = printed_digits key (omega (arith, small)) in
-    let are = line_printed (Get key) small fits in
-    let content = content_printed (line_of (Get key)) are in
-    said (Get key) (line_of (Get key)) (codes "get") (decimal key ∷ []) (record {
-      fields = ap fields_in content ∙ first_word (codes "get") (decimal key) refl refl
-          ∙ ap (λ more. codes "get" ∷ more) (last_word (decimal key) (digits_letters (decimal key) digits.each) (lt-ltb 0 _ digits.some));
-      ascii = ap (list_all is_ascii) content ∙ printed_ascii (line_of (Get key)) are;
-      comment = refl;
-      fault = one_number (decimal key) key digits small;
-      trace = refl;
-      operation = ap (λ n. Some (Get n)) digits.value;
-    }) small
-line_said (Del key) small fits =
-    let digits = printed_digits key (omega (arith, small)) in
-    let are = line_printed (Del key) small fits in
-    let content = content_printed (line_of (Del key)) are in
-    said (Del key) (line_of (Del key)) (codes "del") (decimal key ∷ []) (record {
-      fields = ap fields_in content ∙ first_word (codes "del") (decimal key) refl refl
-          ∙ ap (λ more. codes "del" ∷ more) (last_word (decimal key) (digits_letters (decimal key) digits.each) (lt-ltb 0 _ digits.some));
-      ascii = ap (list_all is_ascii) content ∙ printed_ascii (line_of (Del key)) are;
-      comment = refl;
-      fault = one_number (decimal key) key digits small;
-      trace = refl;
-      operation = ap (λ n. Some (Del n)) digits.value;
-    }) small
+line_said (Get key) small fits = get_said key (decimal key) (printed_digits key (omega (arith, small))) small
+line_said (Del key) small fits = del_said key (decimal key) (printed_digits key (omega (arith, small))) small
 line_said (Ins key value) small fits =
-    let digits = printed_digits key (omega (arith, small)) in
-    let more = printed_digits value (omega (arith, fits)) in
-    let are = line_printed (Ins key value) small fits in
-    let content = content_printed (line_of (Ins key value)) are in
-    said (Ins key value) (line_of (Ins key value)) (codes "ins") (decimal key ∷ decimal value ∷ []) (record {
-      fields = ap fields_in content ∙ first_word (codes "ins") (decimal key ++ 32 ∷ decimal value) refl refl
-          ∙ ap (λ more. codes "ins" ∷ more) (
-          first_word (decimal key) (decimal value) (digits_letters (decimal key) digits.each) (lt-ltb 0 _ digits.some)
-          ∙ ap (λ more. decimal key ∷ more) (last_word (decimal value) (digits_letters (decimal value) more.each) (lt-ltb 0 _ more.some)));
-      ascii = ap (list_all is_ascii) content ∙ printed_ascii (line_of (Ins key value)) are;
-      comment = refl;
-      fault = two_numbers (decimal key) (decimal value) key value digits more small fits;
-      trace = refl;
-      operation = ap (λ n. Some (Ins n (value_of (decimal value)))) digits.value ∙ ap (λ n. Some (Ins key n)) more.value;
-    }) small
+    ins_said key value (decimal key) (decimal value) (printed_digits key (omega (arith, small))) (printed_digits value (omega (arith, fits))) small fits
 
 -- requests that go on where so many traces have begun and so many requests were made
 abbrev Continues : ℕ → ℕ → List Request → ℕ → Type 0
@@ -335,7 +183,7 @@ behind_plain : (begun number : ℕ) (requests : List Request) (traces : ℕ) →
 behind_plain begun number [] traces left = beginnings_plain (traces - begun)
 behind_plain begun number (request ∷ requests) traces (later, within, is, room, small, fits, left) =
     AllByRec IsOneLine (beginnings (request.trace + 1 - begun)) (line_of request.op ∷ lines_behind (request.trace + 1) requests traces) (beginnings_plain (request.trace + 1 - begun))
-    (printed_one_line (line_of request.op) (line_printed request.op small fits), behind_plain (request.trace + 1) (number + 1) requests traces left)
+    (line_one request.op small fits, behind_plain (request.trace + 1) (number + 1) requests traces left)
 
 -- how many bytes they have
 abbrev size_of : List (List ℕ) → ℕ

@@ -5,7 +5,7 @@ use Rattle.trace_reader.specs.declared.reader.Reader.{Reader}
 use Rattle.trace_reader.specs.declared.traces.TraceError.{TraceError}
 use Rattle.trace_reader.specs.declared.traces.TraceError.TheVariants.{ReadFault, Memory, TooLarge, Malformed, TooManyTraces, TooManyRequests}
 use Rattle.trace_reader.specs.declared.traces.BadLine.TheVariants.{NoHeader}
-use Rattle.trace_reader.specs.Lines.{last_line, lines_of, IsOneLine}
+use Rattle.trace_reader.specs.Lines.{last_line, lines_of, pieces_of, IsOneLine}
 use Rattle.trace_reader.specs.Text.{lines_read, refusal_of, traces_in, requests_in, IsFirstRefusal}
 use Rattle.trace_reader.specs.Answer.{AreTracesOf, IsAnswered}
 use Rattle.trace_reader.specs.Reader.{StandsBehind, StandsAt, StandsAtEnd, IfOfText, IsRefusedFor, Refuses}
@@ -41,6 +41,31 @@ line_longer old new bytes one behind pushed longer text at = record {
   cut = pieces_of-onward bytes text at.lines old.line.items one at.cut ∙ ap (λ line. at.lines ++ line ∷ []) (sym pushed);
   bytes = omega (arith, at.bytes, longer, length-append text bytes);
 }
+
+-- a whole line is read, with its line feed
+line_cut : (old : Reader) (line : List ℕ) → IsOneLine line → old.line.items ≡ [] → (text : List ℕ) (at : StandsAt old text) → pieces_of (text ++ line) ≡ at.lines ++ line ∷ []
+line_cut old line one begins text at = pieces_of-onward line text at.lines [] one (at.cut ∙ ap (λ l. at.lines ++ l ∷ []) begins)
+
+pub line_taken : (old new : Reader) (line : List ℕ) → IsOneLine line → old.line.items ≡ [] → new.line.items ≡ []
+    → ((lines : List (List ℕ)) → StandsBehind old lines → StandsBehind new (lines ++ line ∷ []))
+    → new.bytes ≡ old.bytes + length line + 1 → (text : List ℕ) → StandsAt old text → StandsAt new (text ++ line ++ 10 ∷ [])
+line_taken old new line one begins cleared behind longer text at = record {
+  lines = at.lines ++ line ∷ [];
+  behind = behind at.lines at.behind;
+  cut = pieces_of-feed (text ++ line) [] ∙ ap (λ pieces. pieces ++ [] ∷ []) (line_cut old line one begins text at)
+      ∙ ap (λ l. (at.lines ++ line ∷ []) ++ l ∷ []) (sym cleared);
+  bytes = omega (arith, at.bytes, longer, length-append text line, length-append (text ++ line) (10 ∷ []));
+}
+
+-- or it is refused
+pub taken_refused : (old : Reader) (line : List ℕ) → IsOneLine line → old.line.items ≡ [] → old.bytes + length line < 4194304 → (error : TraceError)
+    → ((lines : List (List ℕ)) → StandsBehind old lines → IsRefusedFor error (refusal_of lines line))
+    → (text rest : List ℕ) → StandsAt old text → Refuses error (text ++ line ++ 10 ∷ rest)
+taken_refused old line one begins room error refused text rest at =
+    let within : length (text ++ line) < 4194304 = omega (arith, at.bytes, room, length-append text line) in
+    let r = line_read (text ++ line) rest at.lines line (line_cut old line one begins text at) within in
+    IfOfText-from error _ _ (refused at.lines at.behind)
+    (λ is. first_refused (text ++ line ++ 10 ∷ rest) at.lines line r.more error r.is at.behind.none_refused is)
 
 -- a line that is refused at its line feed
 pub line_refused : (old : Reader) (byte : ℕ) → byte ≡ 10 → old.bytes ≢ 4194304 → old.bytes ≤ 4194304 → (error : TraceError)

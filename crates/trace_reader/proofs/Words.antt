@@ -1,11 +1,11 @@
 -- The words of a line, one after the other.
-use Rattle.std.proofs.Common.{◌≡◌, ℕ, suc, ◌+◌, ◌-◌, ◌<◌, ◌≤◌, Bool, true, false, cond, not, List, [], ◌∷◌, Option, None, Some, length, get_or, take, drop, add-zero, refl, sym, ap, ◌∙◌, subst, arith, length-drop, length-take}
-use Rattle.std.specs.Prelude.{◌==◌, filter, unwrap_or, position, nat_lt}
-use Rattle.std.specs.List.{position_or_len, slice_split, onto_first}
+use Rattle.std.proofs.Common.{◌≡◌, ℕ, zero, suc, ◌+◌, ◌-◌, ◌<◌, ◌≤◌, Bool, true, false, cond, not, List, [], ◌∷◌, Option, None, Some, length, get_or, take, drop, add-zero, refl, sym, ap, ◌∙◌, subst, arith, length-drop, length-take}
+use Rattle.std.specs.Prelude.{◌==◌, ◌&&◌, filter, unwrap_or, position, nat_lt}
+use Rattle.std.specs.List.{list_all, position_or_len, slice_split, onto_first}
 use Rattle.std.proofs.lemmas.List.{take_all, drop_all, get_or-take, get_or-drop}
 use Rattle.std.proofs.lemmas.List.Splits.{slice_split-cons_yes, slice_split-cons_no}
 use Rattle.std.proofs.Math.Numerals.{one-add}
-use Rattle.std.proofs.lemmas.Bool.{ltb-true, ltb-false, lt-ltb}
+use Rattle.std.proofs.lemmas.Bool.{le-ltb, ltb-true, ltb-false, lt-ltb}
 use Rattle.trace_reader.specs.Fields.{is_blank, is_comment, fields_in}
 
 abbrev is_word : List ℕ → Bool
@@ -140,6 +140,50 @@ first_field bytes start end found ends =
           ∙ ap (λ rest. take end (behind start bytes) ∷ fields_in rest) (sym (behind-drop end (behind start bytes)));
       begun = omega (arith, len, begun, length-take end (behind start bytes), word_len-within (behind start bytes));
     }
+
+-- blanks that were tested before a word is looked for
+both : (a b : Bool) → (a && b) ≡ true → (a ≡ true) × (b ≡ true)
+both true b e = (refl, e)
+both false b e = cc
+
+blanks_past : (bytes : List ℕ) (n : ℕ) → n ≤ length bytes → list_all is_blank (take n bytes) ≡ true → blanks_in bytes ≡ n + blanks_in (drop n bytes)
+blanks_past bytes zero within all = omega arith
+blanks_past [] (suc n) within all = absurd (omega arith)
+blanks_past (byte ∷ bytes) (suc n) within all =
+    let parts = both (is_blank byte) (list_all is_blank (take n bytes)) all in
+    let again = blanks_past bytes n (omega arith) parts.1 in
+    omega (arith, again, blanks_in-blank byte bytes parts.0)
+
+behind-length : (bytes : List ℕ) (n : ℕ) → length (behind n bytes) ≡ length bytes - n
+behind-length bytes n = ap length (behind-drop n bytes) ∙ length-drop n bytes
+
+pub word_past : (bytes : List ℕ) (n start : ℕ) → n ≤ length bytes → list_all is_blank (take n bytes) ≡ true → position starts (behind n bytes) ≡ Some start → Some (n + start) ≡ position starts bytes
+word_past bytes n start within all found =
+    let at = some_found _ _ _ found in
+    let whole : blanks_in bytes ≡ n + start = blanks_past bytes n within all ∙ ap (λ l. n + blanks_in l) (sym (behind-drop n bytes)) ∙ ap (λ m. n + m) at.1 in
+    ap Some (sym whole)
+    ∙ sym (ap (λ b. cond b (Some (blanks_in bytes)) None) (lt-ltb (blanks_in bytes) (length bytes) (omega (arith, whole, ltb-true _ _ at.0, at.1, behind-length bytes n))))
+
+pub no_word_past : (bytes : List ℕ) (n : ℕ) → n ≤ length bytes → list_all is_blank (take n bytes) ≡ true → position starts (behind n bytes) ≡ None → None ≡ position starts bytes
+no_word_past bytes n within all none =
+    let past : length (behind n bytes) ≤ blanks_in (behind n bytes) = ltb-false _ _ (none_found _ _ none) in
+    let whole : blanks_in bytes ≡ n + blanks_in (behind n bytes) = blanks_past bytes n within all ∙ ap (λ l. n + blanks_in l) (sym (behind-drop n bytes)) in
+    sym (ap (λ b. cond b (Some (blanks_in bytes)) None) (le-ltb (blanks_in bytes) (length bytes) (omega (arith, whole, past, behind-length bytes n))))
+
+-- one more run of blanks
+pub run_more : (bytes : List ℕ) (n run : ℕ) → list_all is_blank (take n bytes) ≡ true → list_all is_blank (take run (drop n bytes)) ≡ true → list_all is_blank (take (n + run) bytes) ≡ true
+run_more bytes zero run all more =
+    let next : 0 + run ≡ run = omega arith in
+    ap (λ k. list_all is_blank (take k bytes)) next ∙ more
+run_more [] (suc n) run all more = ap (list_all is_blank) (take-nil (suc n + run))
+  where
+    take-nil : (n : ℕ) → take {A = ℕ} n [] ≡ []
+    take-nil zero = refl
+    take-nil (suc n) = refl
+run_more (byte ∷ bytes) (suc n) run all more =
+    let parts = both (is_blank byte) (list_all is_blank (take n bytes)) all in
+    let next : suc n + run ≡ suc (n + run) = omega arith in
+    ap (λ k. list_all is_blank (take k (byte ∷ bytes))) next ∙ ap (λ b. b && list_all is_blank (take (n + run) bytes)) parts.0 ∙ run_more bytes n run parts.1 more
 
 -- the byte at which a word begins is that word's first
 pub comment_found : (bytes : List ℕ) (start : ℕ) → position starts bytes ≡ Some start → (get_or bytes start 0 == 35) ≡ is_comment (fields_in bytes)

@@ -4,6 +4,7 @@ pub mod Generator
 pub mod Line
 pub mod Lines
 pub mod Memory
+pub mod Plain
 pub mod Printed
 pub mod Reader
 pub mod Said

@@ -1,5 +1,5 @@
 -- A reader in the middle of a text.
-use Rattle.std.specs.Prelude.{◌≡◌, ◌≤◌, ◌⊎◌, ℕ, ◌+◌, ◌-◌, List, [], ◌∷◌, ◌++◌, Bool, Option, Some, length}
+use Rattle.std.specs.Prelude.{◌≡◌, ◌<◌, ◌≤◌, ◌⊎◌, ℕ, ◌+◌, ◌-◌, List, [], ◌∷◌, ◌++◌, Bool, true, Option, Some, drop, length, nat_lt, take}
 use Rattle.std.specs.List.{list_any}
 use Rattle.map_history.specs.Requests.{AreInOrder}
 use Rattle.trace_reader.specs.declared.line.Line.{Line}
@@ -30,6 +30,19 @@ pub record StandsAt (reader : Reader) (text : List ℕ) : Type 0 where
   pub behind : StandsBehind reader lines
   pub cut : pieces_of text ≡ lines ++ reader.line.items ∷ []
   pub bytes : length text ≡ reader.bytes
+
+-- a line begins here, behind a header and a trace
+pub record MayAsk (reader : Reader) : Type 0 where
+  pub begins : reader.line.items ≡ []
+  pub headed : reader.has_header ≡ true
+  pub begun : nat_lt 0 reader.traces.count ≡ true
+
+-- the line that ends there was read, with its line feed, of these bytes
+pub record HasTakenLine (before after : Reader) (bytes : List ℕ) (end : ℕ) : Type 0 where
+  pub within : end < length bytes
+  pub cut : take end bytes ++ 10 ∷ drop (end + 1) bytes ≡ bytes
+  pub read : (text : List ℕ) → StandsAt before text → StandsAt after (text ++ take end bytes ++ 10 ∷ [])
+  pub nearer : after.bytes ≡ before.bytes + end + 1
 
 -- the reader has read this text to its end
 pub record StandsAtEnd (reader : Reader) (text : List ℕ) : Type 0 where

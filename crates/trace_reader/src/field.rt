@@ -1,5 +1,5 @@
 // The fields of a line, and the numbers that they are.
-ghost use Rattle.std.specs.Prelude.{◌≡◌, ◌==◌, ℕ, ◌<◌, ◌≤◌, ◌^◌, ◌∷◌, [], IfNone, IfSome, OnSome, false, true, length, min, not, position};
+ghost use Rattle.std.specs.Prelude.{◌≡◌, ◌==◌, ℕ, ◌<◌, ◌≤◌, ◌^◌, ◌∷◌, [], IfNone, IfSome, OnSome, false, true, length, min, not, position, take};
 ghost use Rattle.std.specs.Char.{is_ascii};
 ghost use Rattle.std.specs.List.{list_all};
 ghost use Rattle.trace_reader.specs.Fields.{is_blank, is_comment, fields_in, is_number, value_of, content_of};
@@ -47,7 +47,43 @@ pub fn first_field(line: &[u8]) -> Option<(&[u8], &[u8])>
 fn find_word(line: &[u8]) -> Option<usize>
     ensures { result ≡ position (λ byte. not (is_blank byte)) line.now }
 {
+    let skipped = blank_runs(line);
+    match find_letter(&line[skipped..]) {
+        Some(start) => Some(skipped + start),
+        None => None,
+    }
+}
+
+fn find_letter(line: &[u8]) -> Option<usize>
+    ensures { result ≡ position (λ byte. not (is_blank byte)) line.now }
+{
     line.iter().position(|byte| !is_blank(*byte))
+}
+
+// How many bytes are tested at once.
+const RUN: usize = 16;
+
+// So many bytes at the front are blanks: whole runs of them, of which there may be one more.
+fn blank_runs(line: &[u8]) -> usize
+    ensures within { result ≤ length line.now }
+    ensures blank { list_all is_blank (take result line.now) ≡ true }
+{
+    let mut len = 0;
+    while line.len() - len >= RUN && are_blank(&line[len..len + RUN]) {
+        len += RUN;
+    }
+    len
+}
+
+// Blanks alone. No byte ends the test early, so that they can be tested at once.
+fn are_blank(bytes: &[u8]) -> bool
+    ensures { result ≡ list_all is_blank bytes.now }
+{
+    let mut all = true;
+    for byte in bytes {
+        all = all & is_blank(*byte);
+    }
+    all
 }
 
 // Where the first blank stands.

@@ -10,6 +10,7 @@ mod generator;
 mod limits;
 mod line;
 mod memory;
+mod plain;
 mod printed;
 mod read;
 mod reader;

@@ -1,16 +1,19 @@
 // A text from its bytes: those of the line that has begun, and what the lines before it say.
-ghost use Rattle.std.specs.Prelude.{◌≡◌, ◌||◌, ℕ, List, [], ◌∷◌, ◌++◌, ◌+◌, ◌<◌, ◌≤◌, OnOk, IfOk, IfErr, length, nat_lt, position, vec_len, ◌==◌};
+ghost use Rattle.std.specs.Prelude.{◌≡◌, ◌||◌, ℕ, List, [], ◌∷◌, ◌++◌, ◌+◌, ◌<◌, ◌≤◌, true, OnOk, OnSome, IfOk, IfErr, IfNone, IfSome, IsTrue, length, nat_lt, position, vec_len, ◌==◌};
 
 use crate::limits::MAX_BYTES;
 use crate::line::{Line, read_line};
+use crate::plain::{PlainRequest, plain_request};
 use crate::traces::{BadLine, TraceError, Traces};
+use map_history::Op;
+use memchr::memchr;
 use std::alloc::Global;
 
 // Where the first line feed stands.
 fn find_feed(bytes: &[u8]) -> Option<usize>
     ensures { result ≡ position (λ byte. byte == 10) bytes.now }
 {
-    bytes.iter().position(|byte| *byte == b'\n')
+    memchr(b'\n', bytes)
 }
 
 // The text goes on past the limit.
@@ -43,7 +46,8 @@ impl Reader {
     ghost use Rattle.map_history.specs.Requests.{AreInOrder};
     ghost use Rattle.trace_reader.specs.Answer.{Answers, IsAnswered};
     ghost use Rattle.trace_reader.specs.Lines.{IsOneLine};
-    ghost use Rattle.trace_reader.specs.Reader.{StandsAt, StandsAtEnd, StandsBehind, IsRefusedFor, Refuses, TracesAfter, ExcessOf};
+    ghost use Rattle.trace_reader.specs.Plain.{IsRequestAt};
+    ghost use Rattle.trace_reader.specs.Reader.{HasTakenLine, MayAsk, StandsAt, StandsAtEnd, StandsBehind, IsRefusedFor, Refuses, TracesAfter, ExcessOf};
     ghost use Rattle.trace_reader.specs.Said.{Says, is_counted, IsPlaced};
     ghost use Rattle.trace_reader.specs.Text.{refusal_of};
 
@@ -66,12 +70,68 @@ impl Reader {
         ensures nearer { OnOk result (self.new.bytes ≡ self.old.bytes + length piece.now) }
     {
         let mut rest = piece;
-        while let Some(end) = find_feed(rest) {
-            self.keep(&rest[..end])?;
-            self.take_feed()?;
+        while let Some(end) = self.take_line(rest)? {
             rest = &rest[end + 1..];
         }
         self.keep(rest)
+    }
+
+    // Takes the line that ends first in these bytes, with its line feed, and says where that stands. None where none ends there.
+    fn take_line(&mut self, bytes: &[u8]) -> Result<Option<usize>, TraceError>
+        ensures taken { IfOk result (λ found. IfSome found (HasTakenLine self.old self.new bytes.now)) }
+        ensures none { IfOk result (λ found. IfNone found ((self.new ≡ self.old) × IsOneLine bytes.now)) }
+        ensures err { IfErr result (λ e. (text rest : List ℕ) → StandsAt self.old text → Refuses e (text ++ bytes.now ++ rest)) }
+    {
+        if let Some(request) = self.next_request(bytes) {
+            self.take_request(request.op, &bytes[..request.end])?;
+            return Ok(Some(request.end));
+        }
+        let Some(end) = find_feed(bytes) else {
+            return Ok(None);
+        };
+        self.keep(&bytes[..end])?;
+        self.take_feed()?;
+        Ok(Some(end))
+    }
+
+    // The request with which these bytes begin, where it is written plainly, may stand here, and is within the limit of bytes.
+    fn next_request(&self, bytes: &[u8]) -> Option<PlainRequest>
+        ensures request { IfSome result (λ found. IsRequestAt bytes.now found.op found.end) }
+        ensures placed { OnSome result (MayAsk self.now) }
+        ensures room { IfSome result (λ found. self.now.bytes + found.end < 4194304) }
+    {
+        if !self.may_ask() {
+            return None;
+        }
+        let request = plain_request(bytes)?;
+        if request.end < (MAX_BYTES - self.bytes) as usize {
+            Some(request)
+        } else {
+            None
+        }
+    }
+
+    // A line begins here, behind a header and a trace.
+    fn may_ask(&self) -> bool
+        ensures { IsTrue result → MayAsk self.now }
+    {
+        self.line.is_empty() && self.has_header && self.traces.count > 0
+    }
+
+    // Takes the line of that request, with its line feed.
+    fn take_request(&mut self, op: Op, line: &[u8]) -> Result<(), TraceError>
+        requires placed { MayAsk self.old }
+        requires one { IsOneLine line.now }
+        requires says { Says (Line.Ask op) true true line.now }
+        requires room { self.old.bytes + length line.now < 4194304 }
+        ensures ok { OnOk result ((text : List ℕ) → StandsAt self.old text → StandsAt self.new (text ++ line.now ++ 10 ∷ [])) }
+        ensures err { IfErr result (λ e. (text rest : List ℕ) → StandsAt self.old text → Refuses e (text ++ line.now ++ 10 ∷ rest)) }
+        ensures nearer { OnOk result (self.new.bytes ≡ self.old.bytes + length line.now + 1) }
+    {
+        self.traces.ask(op)?;
+        self.bytes += line.len() as u32 + 1;
+        self.lines += 1;
+        Ok(())
     }
 
     // Takes the next bytes, of which none ends the line.

@@ -11,7 +11,7 @@ fn bytes_of(alloc: Global, text: &str) -> Result<Vec<u8>, Fail> {
 #[test]
 fn a_text_gives_its_requests(rt: HostRuntime) -> Result<(), Fail> {
     let alloc = rt.alloc();
-    let text = "flock 1\r\n# note\r\n\n\ttrace\n ins\t007 1\ntrace\ndel 7";
+    let text = "flock 1\r\n# note\r\n\n\ttrace\n ins\t007 1\ntrace\nget 42\ndel 7";
     let mut source = SureSource::new(bytes_of(alloc, text)?, Vec::new(alloc));
     let traces = read_traces(alloc, &mut source).ok().ok_or("refused")?;
     let expected = [
@@ -23,11 +23,16 @@ fn a_text_gives_its_requests(rt: HostRuntime) -> Result<(), Fail> {
         Request {
             trace: 1,
             number: 1,
+            op: Op::Get(42),
+        },
+        Request {
+            trace: 1,
+            number: 2,
             op: Op::Del(7),
         },
     ];
     assert_eq!(rt; traces.count, 2);
-    assert_eq!(rt; traces.requests.len(), 2);
+    assert_eq!(rt; traces.requests.len(), 3);
     assert_eq!(rt; traces.requests.as_slice(), expected.as_slice());
     let back = traces.requests.into_vec();
     assert_eq!(rt; back.as_slice(), expected.as_slice());

@@ -1,0 +1,271 @@
+-- A request as it is mostly written: its line is one line, and says what it asks.
+use Rattle.std.proofs.Common.{◌≡◌, ℕ, ◌+◌, ◌-◌, ◌*◌, ◌≤◌, Bool, true, false, cond, List, [], ◌∷◌, ◌++◌, None, Some, codes, length, refl, sym, ap, ◌∙◌, arith, get_or, take, drop, append_assoc, length-append, subst, zero, suc, add-one}
+use Rattle.std.specs.Prelude.{◌==◌, ◌&&◌, ◌||◌, All, filter, nat_le, nat_lt, not, slice_index}
+use Rattle.std.specs.Char.{is_ascii, is_ascii_digit}
+use Rattle.std.specs.List.{list_all, IsSplitAt}
+use Rattle.std.specs.Str.{bytes_eq}
+use Rattle.std.proofs.lemmas.Bool.{le-leb, le-ltb, leb-true, lt-ltb, ltb-true, ne_eqb}
+use Rattle.std.proofs.lemmas.List.{take-append-drop}
+use Rattle.std.proofs.lemmas.List.Folds.{list_all-append}
+use Rattle.std.proofs.lemmas.List.Splits.{slice_split_at, slice_split_none}
+use Rattle.std.proofs.lemmas.List.Sums.{AllPass-from_list_all, fold-append}
+use Rattle.std.proofs.lemmas.Slice.Eq.{bytes_eq-Decides}
+use Rattle.std.proofs.Math.Seq.{take-append_seam}
+use Rattle.map_history.specs.declared.op.Op.{Op}
+use Rattle.map_history.specs.declared.op.Op.TheVariants.{Get, Ins, Del}
+use Rattle.map_history.specs.Keys.{key_of}
+use Rattle.trace_reader.specs.declared.line.Line.TheVariants.{Ask}
+use Rattle.trace_reader.specs.declared.traces.BadLine.TheVariants.{BadNumber, KeyTooLarge, NotAscii, ValueTooLarge}
+use Rattle.trace_reader.specs.Fields.{content_of, fields_in, fields_of, is_blank, is_comment, is_number, value_of}
+use Rattle.trace_reader.specs.Line.{asked_by, asked_by_words, begun_by_words, counts, fault_of_counted, fault_of_words, first_found, is_trace, tests_of, words_count}
+use Rattle.trace_reader.specs.Lines.{IsOneLine}
+use Rattle.trace_reader.specs.Plain.{AreDigits, BeginWithNumber, BeginWithRequest, IsRequestAt, text_of}
+use Rattle.trace_reader.specs.declared.plain.Word.{Word}
+use Rattle.trace_reader.specs.Said.{Says}
+use Rattle.trace_reader.proofs.Digits.{are_number, digit_bounds}
+
+-- what lines are printed with: from a space to a tilde
+abbrev is_printed : ℕ → Bool
+is_printed byte = nat_le 32 byte && nat_le byte 126
+
+both : (a b : Bool) → (a && b) ≡ true → (a ≡ true) × (b ≡ true)
+both true b e = (refl, e)
+both false b e = cc
+
+printed_bounds : (byte : ℕ) → is_printed byte ≡ true → (32 ≤ byte) × (byte ≤ 126)
+printed_bounds byte is = let parts = both (nat_le 32 byte) (nat_le byte 126) is in (leb-true 32 byte parts.0, leb-true byte 126 parts.1)
+
+imply : (p q : ℕ → Bool) → ((byte : ℕ) → p byte ≡ true → q byte ≡ true) → (bytes : List ℕ) → list_all p bytes ≡ true → list_all q bytes ≡ true
+imply p q f [] e = refl
+imply p q f (byte ∷ bytes) e =
+    let parts = both (p byte) (list_all p bytes) e in
+    ap (λ b. b && list_all q bytes) (f byte parts.0) ∙ imply p q f bytes parts.1
+
+printed_ascii : (bytes : List ℕ) → list_all is_printed bytes ≡ true → list_all is_ascii bytes ≡ true
+printed_ascii bytes are = imply is_printed is_ascii (λ byte is. lt-ltb byte 128 (omega (arith, (printed_bounds byte is).1))) bytes are
+
+digits_printed : (digits : List ℕ) → list_all is_ascii_digit digits ≡ true → list_all is_printed digits ≡ true
+digits_printed digits are = imply is_ascii_digit is_printed (λ byte is.
+    let bounds = digit_bounds byte is in
+    ap (λ b. b && nat_le byte 126) (le-leb 32 byte (omega (arith, bounds.0))) ∙ le-leb byte 126 (omega (arith, bounds.1))) digits are
+
+pub printed_one_line : (line : List ℕ) → list_all is_printed line ≡ true → IsOneLine line
+printed_one_line line are = λ k d within. ne_eqb (get_or line k d) 10 (λ same. absurd (omega (arith, same, (printed_bounds (get_or line k d) (AllPass-from_list_all is_printed line are k d within)).0)))
+
+-- a printed line ends in no carriage return
+content_printed : (line : List ℕ) → list_all is_printed line ≡ true → content_of line ≡ line
+content_printed line are = by_test (nat_lt 0 (length line)) refl
+  where
+    by_test : (b : Bool) → nat_lt 0 (length line) ≡ b → content_of line ≡ line
+    by_test true some =
+        let last = AllPass-from_list_all is_printed line are (length line - 1) 0 (omega (arith, ltb-true _ _ some)) in
+        let other : (slice_index line (length line - 1) == 13) ≡ false = ne_eqb (slice_index line (length line - 1)) 13 (λ same. absurd (omega (arith, same, (printed_bounds (slice_index line (length line - 1)) last).0))) in
+        ap (λ b. cond (b && (slice_index line (length line - 1) == 13)) (take (length line - 1) line) line) some
+        ∙ ap (λ b. cond b (take (length line - 1) line) line) other
+    by_test false none = ap (λ b. cond (b && (slice_index line (length line - 1) == 13)) (take (length line - 1) line) line) none
+
+abbrev is_letter : ℕ → Bool
+is_letter byte = not (is_blank byte)
+
+not_true : (a : Bool) → not a ≡ true → a ≡ false
+not_true true e = cc
+not_true false e = refl
+
+no_blank : (word : List ℕ) → list_all is_letter word ≡ true → All (λ byte. is_blank byte ≡ false) word
+no_blank word are = λ k d within. not_true _ (AllPass-from_list_all is_letter word are k d within)
+
+digits_letters : (digits : List ℕ) → list_all is_ascii_digit digits ≡ true → list_all is_letter digits ≡ true
+digits_letters digits are = imply is_ascii_digit is_letter (λ byte is.
+    let bounds = digit_bounds byte is in
+    ap (λ b. not (b || byte == 9)) (ne_eqb byte 32 (λ same. absurd (omega (arith, same, bounds.0))))
+    ∙ ap not (ne_eqb byte 9 (λ same. absurd (omega (arith, same, bounds.0))))) digits are
+
+abbrev is_word : List ℕ → Bool
+is_word word = nat_lt 0 (length word)
+
+first_word : (word rest : List ℕ) → list_all is_letter word ≡ true → is_word word ≡ true → fields_in (word ++ 32 ∷ rest) ≡ word ∷ fields_in rest
+first_word word rest letters some =
+    ap (filter is_word) (slice_split_at is_blank word 32 rest (no_blank word letters) refl)
+    ∙ ap (λ b. cond b (word ∷ fields_in rest) (fields_in rest)) some
+
+last_word : (word : List ℕ) → list_all is_letter word ≡ true → is_word word ≡ true → fields_in word ≡ word ∷ []
+last_word word letters some =
+    ap (filter is_word) (slice_split_none is_blank word (no_blank word letters)) ∙ ap (λ b. cond b (word ∷ []) []) some
+
+-- a line behind the header and a trace, by its words
+record SaysSo (op : Op) (line word : List ℕ) (numbers : List (List ℕ)) : Type 0 where
+  fields : fields_of line ≡ word ∷ numbers
+  ascii : list_all is_ascii (content_of line) ≡ true
+  comment : is_comment (word ∷ numbers) ≡ false
+  fault : first_found (tests_of true word numbers) ≡ None
+  trace : is_trace word ≡ false
+  operation : asked_by word numbers ≡ Some op
+
+said : (op : Op) (line word : List ℕ) (numbers : List (List ℕ)) → SaysSo op line word numbers → key_of op ≤ 4294967293 → Says (Ask op) true true line
+said op line word numbers so small =
+    let counted : counts line ≡ true = ap words_count so.fields ∙ ap not so.comment in
+    record {
+      fault = ap (λ b. cond b (fault_of_counted true true line) None) counted
+          ∙ ap (λ b. cond (not b) (Some NotAscii) (fault_of_words true (fields_of line))) so.ascii
+          ∙ ap (fault_of_words true) so.fields ∙ so.fault;
+      counted = counted;
+      trace = ap begun_by_words so.fields ∙ so.trace;
+      operation = ap asked_by_words so.fields ∙ so.operation;
+      placed = (refl, refl, small);
+    }
+
+one_number : (digits : List ℕ) (key : ℕ) → AreDigits key digits → key ≤ 4294967293 → cond (not (is_number digits && true)) (Some BadNumber) (cond (nat_lt 4294967293 (value_of digits)) (Some KeyTooLarge) None) ≡ None
+one_number digits key are small =
+    ap (λ b. cond (not (b && true)) (Some BadNumber) (cond (nat_lt 4294967293 (value_of digits)) (Some KeyTooLarge) None)) (are_number key digits are)
+    ∙ ap (λ n. cond (nat_lt 4294967293 n) (Some KeyTooLarge) None) are.value
+    ∙ ap (λ b. cond b (Some KeyTooLarge) None) (le-ltb 4294967293 key small)
+
+two_numbers : (digits more : List ℕ) (key value : ℕ) → AreDigits key digits → AreDigits value more → key ≤ 4294967293 → value ≤ 4294967295
+    → cond (not (is_number digits && (is_number more && true))) (Some BadNumber) (cond (nat_lt 4294967293 (value_of digits)) (Some KeyTooLarge) (cond (nat_lt 4294967295 (value_of more)) (Some ValueTooLarge) None)) ≡ None
+two_numbers digits more key value are also small fits =
+    ap (λ b. cond (not (b && (is_number more && true))) (Some BadNumber) (cond (nat_lt 4294967293 (value_of digits)) (Some KeyTooLarge) (cond (nat_lt 4294967295 (value_of more)) (Some ValueTooLarge) None))) (are_number key digits are)
+    ∙ ap (λ b. cond (not (b && true)) (Some BadNumber) (cond (nat_lt 4294967293 (value_of digits)) (Some KeyTooLarge) (cond (nat_lt 4294967295 (value_of more)) (Some ValueTooLarge) None))) (are_number value more also)
+    ∙ ap (λ n. cond (nat_lt 4294967293 n) (Some KeyTooLarge) (cond (nat_lt 4294967295 (value_of more)) (Some ValueTooLarge) None)) are.value
+    ∙ ap (λ b. cond b (Some KeyTooLarge) (cond (nat_lt 4294967295 (value_of more)) (Some ValueTooLarge) None)) (le-ltb 4294967293 key small)
+    ∙ ap (λ n. cond (nat_lt 4294967295 n) (Some ValueTooLarge) None) also.value
+    ∙ ap (λ b. cond b (Some ValueTooLarge) None) (le-ltb 4294967295 value fits)
+
+-- the line of a look-up, of a deletion and of an insertion, with these digits
+abbrev pub get_line : List ℕ → List ℕ
+get_line digits = codes "get " ++ digits
+
+abbrev pub del_line : List ℕ → List ℕ
+del_line digits = codes "del " ++ digits
+
+abbrev pub ins_line : List ℕ → List ℕ → List ℕ
+ins_line digits more = codes "ins " ++ digits ++ (codes " " ++ more)
+
+ins_printed : (digits more : List ℕ) → list_all is_ascii_digit digits ≡ true → list_all is_ascii_digit more ≡ true → list_all is_printed (ins_line digits more) ≡ true
+ins_printed digits more are also =
+    list_all-append is_printed digits (32 ∷ more)
+    ∙ ap (λ b. b && list_all is_printed more) (digits_printed digits are)
+    ∙ digits_printed more also
+
+pub get_one_line : (key : ℕ) (digits : List ℕ) → AreDigits key digits → IsOneLine (get_line digits)
+get_one_line key digits are = printed_one_line (get_line digits) (digits_printed digits are.each)
+
+pub del_one_line : (key : ℕ) (digits : List ℕ) → AreDigits key digits → IsOneLine (del_line digits)
+del_one_line key digits are = printed_one_line (del_line digits) (digits_printed digits are.each)
+
+pub ins_one_line : (key value : ℕ) (digits more : List ℕ) → AreDigits key digits → AreDigits value more → IsOneLine (ins_line digits more)
+ins_one_line key value digits more are also = printed_one_line (ins_line digits more) (ins_printed digits more are.each also.each)
+
+pub get_said : (key : ℕ) (digits : List ℕ) → AreDigits key digits → key ≤ 4294967293 → Says (Ask (Get key)) true true (get_line digits)
+get_said key digits are small =
+    let printed = digits_printed digits are.each in
+    let content = content_printed (get_line digits) printed in
+    said (Get key) (get_line digits) (codes "get") (digits ∷ []) (record {
+      fields = ap fields_in content ∙ first_word (codes "get") digits refl refl
+          ∙ ap (λ more. codes "get" ∷ more) (last_word digits (digits_letters digits are.each) (lt-ltb 0 _ are.some));
+      ascii = ap (list_all is_ascii) content ∙ printed_ascii (get_line digits) printed;
+      comment = refl;
+      fault = one_number digits key are small;
+      trace = refl;
+      operation = ap (λ n. Some (Get n)) are.value;
+    }) small
+
+pub del_said : (key : ℕ) (digits : List ℕ) → AreDigits key digits → key ≤ 4294967293 → Says (Ask (Del key)) true true (del_line digits)
+del_said key digits are small =
+    let printed = digits_printed digits are.each in
+    let content = content_printed (del_line digits) printed in
+    said (Del key) (del_line digits) (codes "del") (digits ∷ []) (record {
+      fields = ap fields_in content ∙ first_word (codes "del") digits refl refl
+          ∙ ap (λ more. codes "del" ∷ more) (last_word digits (digits_letters digits are.each) (lt-ltb 0 _ are.some));
+      ascii = ap (list_all is_ascii) content ∙ printed_ascii (del_line digits) printed;
+      comment = refl;
+      fault = one_number digits key are small;
+      trace = refl;
+      operation = ap (λ n. Some (Del n)) are.value;
+    }) small
+
+pub ins_said : (key value : ℕ) (digits more : List ℕ) → AreDigits key digits → AreDigits value more → key ≤ 4294967293 → value ≤ 4294967295 → Says (Ask (Ins key value)) true true (ins_line digits more)
+ins_said key value digits more are also small fits =
+    let printed = ins_printed digits more are.each also.each in
+    let content = content_printed (ins_line digits more) printed in
+    said (Ins key value) (ins_line digits more) (codes "ins") (digits ∷ more ∷ []) (record {
+      fields = ap fields_in content ∙ first_word (codes "ins") (digits ++ 32 ∷ more) refl refl
+          ∙ ap (λ words. codes "ins" ∷ words) (
+          first_word digits more (digits_letters digits are.each) (lt-ltb 0 _ are.some)
+          ∙ ap (λ words. digits ∷ words) (last_word more (digits_letters more also.each) (lt-ltb 0 _ also.some)));
+      ascii = ap (list_all is_ascii) content ∙ printed_ascii (ins_line digits more) printed;
+      comment = refl;
+      fault = two_numbers digits more key value are also small fits;
+      trace = refl;
+      operation = ap (λ n. Some (Ins n (value_of more))) are.value ∙ ap (λ n. Some (Ins key n)) also.value;
+    }) small
+
+-- bytes that begin with a word of four bytes
+pub word_first : (bytes word numbers : List ℕ) (is one : Word) → IsSplitAt bytes 4 word numbers → bytes_eq word (text_of is) ≡ true → is ≡ one → bytes ≡ text_of one ++ numbers
+word_first bytes word numbers is one split same e =
+    sym (take-append-drop 4 bytes)
+    ∙ ap (λ l. l ++ drop 4 bytes) (sym split.1 ∙ (bytes_eq-Decides word (text_of is)).0 same ∙ ap text_of e)
+    ∙ ap (λ l. text_of one ++ l) (sym split.2)
+
+-- bytes that begin with such a line
+pub get_read : (bytes number : List ℕ) (key : ℕ) (rest : List ℕ) → bytes ≡ codes "get " ++ number → BeginWithNumber number key 10 rest → BeginWithRequest bytes (Get key) rest
+get_read bytes number key rest is begin = record {
+  line = get_line begin.digits;
+  one = get_one_line key begin.digits begin.are;
+  says = get_said key begin.digits begin.are (omega (arith, begin.small));
+  cut = is ∙ ap (λ l. codes "get " ++ l) begin.cut;
+}
+
+pub del_read : (bytes number : List ℕ) (key : ℕ) (rest : List ℕ) → bytes ≡ codes "del " ++ number → BeginWithNumber number key 10 rest → BeginWithRequest bytes (Del key) rest
+del_read bytes number key rest is begin = record {
+  line = del_line begin.digits;
+  one = del_one_line key begin.digits begin.are;
+  says = del_said key begin.digits begin.are (omega (arith, begin.small));
+  cut = is ∙ ap (λ l. codes "del " ++ l) begin.cut;
+}
+
+pub ins_read : (bytes numbers value_on : List ℕ) (key value : ℕ) (rest : List ℕ) → bytes ≡ codes "ins " ++ numbers → BeginWithNumber numbers key 32 value_on → BeginWithNumber value_on value 10 rest → BeginWithRequest bytes (Ins key value) rest
+ins_read bytes numbers value_on key value rest is begin on = record {
+  line = ins_line begin.digits on.digits;
+  one = ins_one_line key value begin.digits on.digits begin.are on.are;
+  says = ins_said key value begin.digits on.digits begin.are on.are (omega (arith, begin.small)) (omega (arith, on.small));
+  cut = is ∙ ap (λ l. codes "ins " ++ l) (begin.cut ∙ ap (λ l. begin.digits ++ 32 ∷ l) on.cut ∙ sym (append_assoc begin.digits (32 ∷ on.digits) (10 ∷ rest)));
+}
+
+-- a request stands where its line ends
+pub request_at : (bytes : List ℕ) (op : Op) (rest : List ℕ) (end : ℕ) → BeginWithRequest bytes op rest → end ≡ length bytes - length rest - 1 → IsRequestAt bytes op end
+request_at bytes op rest end begin is =
+    let len : length bytes ≡ length begin.line + (length rest + 1) = ap length begin.cut ∙ length-append begin.line (10 ∷ rest) ∙ ap (λ n. length begin.line + n) (sym (add-one (length rest))) in
+    let same : end ≡ length begin.line = omega (arith, is, len) in
+    let front : take end bytes ≡ begin.line = ap (λ l. take end l) begin.cut ∙ ap (λ n. take n (begin.line ++ 10 ∷ rest)) same ∙ take-append_seam begin.line (10 ∷ rest) in
+    let last : drop (end + 1) bytes ≡ rest =
+    ap (λ l. drop (end + 1) l) begin.cut ∙ ap (λ n. drop n (begin.line ++ 10 ∷ rest)) (ap (λ n. n + 1) same ∙ add-one (length begin.line)) ∙ drop_past begin.line rest in
+    record {
+      within = omega (arith, same, len);
+      one = subst (λ (l : List ℕ). IsOneLine l) (sym front) begin.one;
+      says = subst (λ (l : List ℕ). Says (Ask op) true true l) (sym front) begin.says;
+      cut = ap (λ l. l ++ 10 ∷ drop (end + 1) bytes) front ∙ ap (λ l. begin.line ++ 10 ∷ l) last ∙ sym begin.cut;
+    }
+  where
+    drop_past : (line rest : List ℕ) → drop (suc (length line)) (line ++ 10 ∷ rest) ≡ rest
+    drop_past [] rest = refl
+    drop_past (byte ∷ line) rest = drop_past line rest
+
+-- digits with one more behind them
+pub digit_more : (bytes : List ℕ) (number len digit : ℕ) → len + 1 ≤ length bytes → is_ascii_digit (get_or bytes len 0) ≡ true → digit ≡ get_or bytes len 0 - 48
+    → list_all is_ascii_digit (take len bytes) ≡ true → value_of (take len bytes) ≡ number
+    → (list_all is_ascii_digit (take (len + 1) bytes) ≡ true) × (value_of (take (len + 1) bytes) ≡ number * 10 + digit)
+digit_more bytes number len digit within is same are value =
+    let longer : take (len + 1) bytes ≡ take len bytes ++ get_or bytes len 0 ∷ [] = ap (λ n. take n bytes) (add-one len) ∙ take-next bytes len within in (
+      ap (list_all is_ascii_digit) longer ∙ list_all-append is_ascii_digit (take len bytes) (get_or bytes len 0 ∷ []) ∙ ap (λ b. b && (is_ascii_digit (get_or bytes len 0) && true)) are ∙ ap (λ b. b && true) is,
+      ap value_of longer ∙ fold-append (λ value digit. value * 10 + (digit - 48)) 0 (take len bytes) (get_or bytes len 0 ∷ [])
+          ∙ ap (λ v. v * 10 + (get_or bytes len 0 - 48)) value ∙ ap (λ d. number * 10 + d) (sym same),
+    )
+  where
+    take-next : (bytes : List ℕ) (len : ℕ) → len + 1 ≤ length bytes → take (suc len) bytes ≡ take len bytes ++ get_or bytes len 0 ∷ []
+    take-next [] len within = absurd (omega arith)
+    take-next (byte ∷ bytes) zero within = refl
+    take-next (byte ∷ bytes) (suc len) within = ap (λ l. byte ∷ l) (take-next bytes len (omega arith))
+
+-- a request says the same where its trace has begun
+pub says_there : (op : Op) (header begun : Bool) (line : List ℕ) → header ≡ true → begun ≡ true → Says (Ask op) true true line → Says (Ask op) header begun line
+says_there op header begun line headed begins says = rw (headed, begins) says

@@ -1,0 +1,44 @@
+-- A request as it is mostly written: one blank between its fields, and behind the last nothing but the line feed.
+use Rattle.std.specs.Prelude.{◌≡◌, ℕ, ◌+◌, ◌<◌, ◌≤◌, true, List, ◌∷◌, ◌++◌, codes, length, take, drop}
+use Rattle.std.specs.Char.{is_ascii_digit}
+use Rattle.std.specs.List.{list_all}
+use Rattle.map_history.specs.declared.op.Op.{Op}
+use Rattle.trace_reader.specs.declared.line.Line.TheVariants.{Ask}
+use Rattle.trace_reader.specs.declared.plain.Word.{Word}
+use Rattle.trace_reader.specs.declared.plain.Word.TheVariants.{Get, Ins, Del}
+use Rattle.trace_reader.specs.Fields.{value_of}
+use Rattle.trace_reader.specs.Lines.{IsOneLine}
+use Rattle.trace_reader.specs.Said.{Says}
+
+-- digits that stand for this number
+pub record AreDigits (number : ℕ) (digits : List ℕ) : Type 0 where
+  pub each : list_all is_ascii_digit digits ≡ true
+  pub value : value_of digits ≡ number
+  pub some : 0 < length digits
+
+-- the bytes begin with digits that stand for this number, behind them is this byte, and behind that is the rest
+pub record BeginWithNumber (bytes : List ℕ) (number end : ℕ) (rest : List ℕ) : Type 0 where
+  pub digits : List ℕ
+  pub are : AreDigits number digits
+  pub small : number ≤ 4294967289
+  pub cut : bytes ≡ digits ++ end ∷ rest
+
+-- the word of a request, with the blank behind it
+abbrev pub text_of : Word → List ℕ
+text_of Get = codes "get "
+text_of Ins = codes "ins "
+text_of Del = codes "del "
+
+-- the bytes begin with a line that asks this, and behind its line feed is the rest
+pub record BeginWithRequest (bytes : List ℕ) (op : Op) (rest : List ℕ) : Type 0 where
+  pub line : List ℕ
+  pub one : IsOneLine line
+  pub says : Says (Ask op) true true line
+  pub cut : bytes ≡ line ++ 10 ∷ rest
+
+-- the bytes begin with a line that asks this, and its line feed stands there
+pub record IsRequestAt (bytes : List ℕ) (op : Op) (end : ℕ) : Type 0 where
+  pub within : end < length bytes
+  pub one : IsOneLine (take end bytes)
+  pub says : Says (Ask op) true true (take end bytes)
+  pub cut : take end bytes ++ 10 ∷ drop (end + 1) bytes ≡ bytes

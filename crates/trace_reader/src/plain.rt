@@ -1,0 +1,115 @@
+// A request as it is mostly written, read in one pass: one blank between its fields, and behind the last nothing but the line feed.
+ghost use Rattle.std.specs.Prelude.{◌≡◌, ◌≤◌, ◌+◌, ◌-◌, true, get_or, length, take, IfSome};
+ghost use Rattle.std.specs.Char.{is_ascii_digit};
+ghost use Rattle.std.specs.Str.{bytes_eq};
+ghost use Rattle.trace_reader.specs.Plain.{AreDigits, BeginWithNumber, BeginWithRequest, IsRequestAt, text_of};
+
+use map_history::Op;
+
+/// A request, and where the line feed stands that ends its line.
+#[derive(Clone, Copy, Debug, PartialEq, Eq)]
+pub struct PlainRequest {
+    pub op: Op,
+    pub end: usize,
+}
+
+/// The request with which the bytes begin, where it is written so. None says nothing of them: their line is to be read field by field.
+pub fn plain_request(bytes: &[u8]) -> Option<PlainRequest>
+    ensures { IfSome result (λ found. IsRequestAt bytes.now found.op found.end) }
+{
+    let (op, rest) = plain_op(bytes)?;
+    Some(PlainRequest {
+        op,
+        end: bytes.len() - rest.len() - 1,
+    })
+}
+
+// What it asks, and what stands behind its line.
+fn plain_op(bytes: &[u8]) -> Option<(Op, &[u8])>
+    ensures { IfSome result (λ found. BeginWithRequest bytes.now found.0 found.1.now) }
+{
+    let (word, numbers) = bytes.split_at_checked(4)?;
+    match word_of(word)? {
+        Word::Ins => {
+            let (key, value) = number_before(numbers, b' ')?;
+            let (value, rest) = number_before(value, b'\n')?;
+            Some((Op::Ins(key, value), rest))
+        }
+        Word::Get => {
+            let (key, rest) = number_before(numbers, b'\n')?;
+            Some((Op::Get(key), rest))
+        }
+        Word::Del => {
+            let (key, rest) = number_before(numbers, b'\n')?;
+            Some((Op::Del(key), rest))
+        }
+    }
+}
+
+// The word with which a request begins.
+#[derive(Clone, Copy, Debug, PartialEq, Eq)]
+enum Word {
+    Get,
+    Ins,
+    Del,
+}
+
+// The word that these bytes are, with the blank behind it.
+fn word_of(bytes: &[u8]) -> Option<Word>
+    ensures { IfSome result (λ word. bytes_eq bytes.now (text_of word) ≡ true) }
+{
+    match bytes {
+        b"get " => Some(Word::Get),
+        b"ins " => Some(Word::Ins),
+        b"del " => Some(Word::Del),
+        _ => None,
+    }
+}
+
+// The number with which the bytes begin, where this byte ends it, and what stands behind that.
+fn number_before(bytes: &[u8], end: u8) -> Option<(u32, &[u8])>
+    ensures { IfSome result (λ found. BeginWithNumber bytes.now found.0 end found.1.now) }
+{
+    let (number, len) = leading_number(bytes)?;
+    if len < bytes.len() && bytes[len] == end {
+        Some((number, &bytes[len + 1..]))
+    } else {
+        None
+    }
+}
+
+// A number below this may have one more digit, and is no more than a key may be then.
+const TENTH: u32 = 429_496_729;
+
+// The number with which the bytes begin, and how many digits it has. None also where it is large.
+fn leading_number(bytes: &[u8]) -> Option<(u32, usize)>
+    ensures digits { IfSome result (λ found. AreDigits found.0 (take found.1 bytes.now)) }
+    ensures bounds { IfSome result (λ found. (found.0 ≤ 4294967289) × (found.1 ≤ length bytes.now)) }
+{
+    let mut number = 0;
+    let mut len = 0;
+    while let Some(digit) = digit_at(bytes, len) {
+        if number >= TENTH {
+            return None;
+        }
+        number = number * 10 + digit;
+        len += 1;
+    }
+    if len == 0 {
+        return None;
+    }
+    Some((number, len))
+}
+
+// The digit that stands there.
+fn digit_at(bytes: &[u8], place: usize) -> Option<u32>
+    ensures place { IfSome result (λ digit. place + 1 ≤ length bytes.now) }
+    ensures digit { IfSome result (λ digit. (is_ascii_digit (get_or bytes.now place 0) ≡ true) × (digit ≡ get_or bytes.now place 0 - 48) × (digit ≤ 9)) }
+{
+    let byte = *bytes.get(place)?;
+    if byte.is_ascii_digit() {
+        Some(u32::from(byte - b'0'))
+    } else {
+        None
+    }
+}
