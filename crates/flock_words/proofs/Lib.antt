@@ -1,7 +1,10 @@
 pub mod Bools
-pub mod Commands
-pub mod Cuts
+pub mod Lines
+pub mod Longs
 pub mod Meanings
+pub mod Parses
+pub mod Passes
+pub mod Plains
 pub mod Ranges
-pub mod Steps
-pub mod Strips
+pub mod Turns
+pub mod Walks

@@ -1,27 +1,38 @@
--- Words mean one thing at most.
-use Rattle.std.proofs.Common.{◌≡◌, Bool, false, true, List, Option, None, Some, Result, Ok, Err, refl, sym, ap, ◌∙◌, subst}
-use Rattle.std.specs.Prelude.{IfNone, IfOk, IfSome}
-use Rattle.std.specs.List.{list_all}
+-- What clap found means one command at most.
+use Rattle.std.proofs.Common.{◌≡◌, Bool, false, true, List, Option, None, Some, codes, ℕ, get_or, sym, ap, ◌∙◌, subst, arith}
+use Rattle.std.specs.Prelude.{IfNone}
+use Rattle.clap.specs.Walk.{Row}
 use Rattle.trace_reader.specs.declared.generator.Gen.{Gen}
+use Rattle.flock_words.specs.declared.command.Command.{Command}
+use Rattle.flock_words.specs.declared.command.Command.TheVariants as commands
 use Rattle.flock_words.specs.declared.generated.LoadOptions.{LoadOptions}
 use Rattle.flock_words.specs.declared.options.RunOptions.{RunOptions}
-use Rattle.flock_words.specs.Cut.{has_no_equals}
-use Rattle.flock_words.specs.Generated.{IsGen, IsLoad, MeanPlan, gen_names, load_names}
-use Rattle.flock_words.specs.Options.{IsRun, Mean, run_names}
-use Rattle.flock_words.specs.Written.{AreOptionsOf, Text, Written, all_words_of}
-use Rattle.flock_words.proofs.Cuts.{cut_of_options}
+use Rattle.flock_words.specs.Generated.{MeanLoad, MeanPlan}
+use Rattle.flock_words.specs.Options.{Mean}
+use Rattle.flock_words.specs.Parser.{IsMeant, said_in}
+use Rattle.flock_words.specs.Written.{Text}
+
+-- the names of the commands differ
+abbrev first_of : Text → ℕ
+first_of word = get_or word 0 0
+
+pub run_gen : codes "run" ≡ codes "gen" → ⊥
+run_gen e = let first : 114 ≡ 103 = ap first_of e in absurd (omega (arith, first))
+
+pub run_load : codes "run" ≡ codes "load" → ⊥
+run_load e = let first : 114 ≡ 108 = ap first_of e in absurd (omega (arith, first))
+
+pub gen_load : codes "gen" ≡ codes "load" → ⊥
+gen_load e = let first : 103 ≡ 108 = ap first_of e in absurd (omega (arith, first))
 
 some_same : {X : Type 0} (a b : X) → Some a ≡ Some b → a ≡ b
 some_same a b e = cc
 
-one_list : (names : List Text) → list_all has_no_equals names ≡ true → (words : List Text) (first second : List Written) → words ≡ all_words_of first → words ≡ all_words_of second → AreOptionsOf names first → AreOptionsOf names second → first ≡ second
-one_list names clean words first second a b one other = some_same first second (sym (cut_of_options names words first clean a one) ∙ cut_of_options names words second clean b other)
-
 same_value : {X : Type 0} (found : Option X) (a b : X) → found ≡ Some a → found ≡ Some b → a ≡ b
 same_value found a b e f = some_same a b (sym e ∙ f)
 
-one_meaning : (options : List Written) (a b : RunOptions) → Mean options a → Mean options b → a ≡ b
-one_meaning options a b one other =
+one_meaning : (said : Text → Option Text) (a b : RunOptions) → Mean said a → Mean said b → a ≡ b
+one_meaning said a b one other =
     ap (λ x. record { table = x; runners = a.runners; bucket_bits = a.bucket_bits; nodes = a.nodes; sections = a.sections; version_max = a.version_max; halts = a.halts }) (same_value _ _ _ one.table other.table)
     ∙ ap (λ x. record { table = b.table; runners = x; bucket_bits = a.bucket_bits; nodes = a.nodes; sections = a.sections; version_max = a.version_max; halts = a.halts }) (same_value _ _ _ one.runners other.runners)
     ∙ ap (λ x. record { table = b.table; runners = b.runners; bucket_bits = x; nodes = a.nodes; sections = a.sections; version_max = a.version_max; halts = a.halts }) (same_value _ _ _ one.bucket_bits other.bucket_bits)
@@ -30,44 +41,49 @@ one_meaning options a b one other =
     ∙ ap (λ x. record { table = b.table; runners = b.runners; bucket_bits = b.bucket_bits; nodes = b.nodes; sections = b.sections; version_max = x; halts = a.halts }) (same_value _ _ _ one.version_max other.version_max)
     ∙ ap (λ x. record { table = b.table; runners = b.runners; bucket_bits = b.bucket_bits; nodes = b.nodes; sections = b.sections; version_max = b.version_max; halts = x }) (same_value _ _ _ one.halts other.halts)
 
-pub one_run : (words : List Text) (a b : RunOptions) → IsRun words a → IsRun words b → a ≡ b
-one_run words a b one other =
-    let same = one_list run_names refl words one.options other.options one.words other.words one.options_of other.options_of in
-    one_meaning other.options a b (subst (λ (options : List Written). Mean options a) same one.mean) other.mean
-
-one_plan : (options : List Written) (own_keys : Bool) (a b : Gen) → MeanPlan options own_keys a → MeanPlan options own_keys b → a ≡ b
-one_plan options own_keys a b one other =
+one_plan : (said : Text → Option Text) (own_keys : Bool) (a b : Gen) → MeanPlan said own_keys a → MeanPlan said own_keys b → a ≡ b
+one_plan said own_keys a b one other =
     ap (λ x. record { seed = x; traces = a.traces; length = a.length; keys = a.keys; apart = a.apart }) (same_value _ _ _ one.seed other.seed)
     ∙ ap (λ x. record { seed = b.seed; traces = x; length = a.length; keys = a.keys; apart = a.apart }) (same_value _ _ _ one.traces other.traces)
     ∙ ap (λ x. record { seed = b.seed; traces = b.traces; length = x; keys = a.keys; apart = a.apart }) (same_value _ _ _ one.count other.count)
     ∙ ap (λ x. record { seed = b.seed; traces = b.traces; length = b.length; keys = x; apart = a.apart }) (same_value _ _ _ one.keys other.keys)
     ∙ ap (λ x. record { seed = b.seed; traces = b.traces; length = b.length; keys = b.keys; apart = x }) (one.apart ∙ sym other.apart)
 
-pub one_gen : (words : List Text) (a b : Gen) → IsGen words a → IsGen words b → a ≡ b
-one_gen words a b one other =
-    let same = one_list gen_names refl words one.options other.options one.words other.words one.options_of other.options_of in
-    one_plan other.options false a b (subst (λ (options : List Written). MeanPlan options false a) same one.mean) other.mean
+one_load : (said : Text → Option Text) (a b : LoadOptions) → MeanLoad said a → MeanLoad said b → a ≡ b
+one_load said a b one other =
+    ap (λ x. record { plan = x; run = a.run }) (one_plan said true a.plan b.plan one.plan other.plan)
+    ∙ ap (λ x. record { plan = b.plan; run = x }) (one_meaning said a.run b.run one.run other.run)
 
-pub one_load : (words : List Text) (a b : LoadOptions) → IsLoad words a → IsLoad words b → a ≡ b
-one_load words a b one other =
-    let same = one_list load_names refl words one.options other.options one.words other.words one.options_of other.options_of in
-    let plan = one_plan other.options true a.plan b.plan (subst (λ (options : List Written). MeanPlan options true a.plan) same one.mean.plan) other.mean.plan in
-    let run = one_meaning other.options a.run b.run (subst (λ (options : List Written). Mean options a.run) same one.mean.run) other.mean.run in
-    ap (λ x. record { plan = x; run = a.run }) plan ∙ ap (λ x. record { plan = b.plan; run = x }) run
+pub meant_once : (sub : Option (Text × List Row)) (first second : Command) → IsMeant sub first → IsMeant sub second → first ≡ second
+meant_once None first second one other = absurd one
+meant_once (Some sub) (commands.Run a) (commands.Run b) one other = ap commands.Run (one_meaning (said_in sub.1) a b one.1 other.1)
+meant_once (Some sub) (commands.Run a) (commands.Gen b) one other = absurd (run_gen (sym one.0 ∙ other.0))
+meant_once (Some sub) (commands.Run a) (commands.Load b) one other = absurd (run_load (sym one.0 ∙ other.0))
+meant_once (Some sub) (commands.Gen a) (commands.Run b) one other = absurd (run_gen (sym other.0 ∙ one.0))
+meant_once (Some sub) (commands.Gen a) (commands.Gen b) one other = ap commands.Gen (one_plan (said_in sub.1) false a b one.1 other.1)
+meant_once (Some sub) (commands.Gen a) (commands.Load b) one other = absurd (gen_load (sym one.0 ∙ other.0))
+meant_once (Some sub) (commands.Load a) (commands.Run b) one other = absurd (run_load (sym other.0 ∙ one.0))
+meant_once (Some sub) (commands.Load a) (commands.Gen b) one other = absurd (gen_load (sym other.0 ∙ one.0))
+meant_once (Some sub) (commands.Load a) (commands.Load b) one other = ap commands.Load (one_load (said_in sub.1) a b one.1 other.1)
 
--- facts of an answer
-pub if_none : {X E : Type 0} (answer : Result (Option X) E) (A B : Type 0) → (A → B) → IfOk answer (λ found. IfNone found A) → IfOk answer (λ found. IfNone found B)
-if_none (Ok None) A B f h = f h
-if_none (Ok (Some x)) A B f h = tt
-if_none (Err e) A B f h = tt
-
-pub if_some : {X E : Type 0} (answer : Result (Option X) E) (A B : X → Type 0) → ((x : X) → A x → B x) → IfOk answer (λ found. IfSome found A) → IfOk answer (λ found. IfSome found B)
-if_some (Ok None) A B f h = tt
-if_some (Ok (Some x)) A B f h = f x h
-if_some (Err e) A B f h = tt
-
-pub of_some : {X : Type 0} (found : Option X) (x : X) (P : X → Type 0) → found ≡ Some x → IfSome found P → P x
-of_some {X = X} found x P e h = subst (λ (found : Option X). IfSome found P) e h
-
-pub of_none : {X : Type 0} (found : Option X) (P : Type 0) → found ≡ None → IfNone found P → P
+of_none : {X : Type 0} (found : Option X) (P : Type 0) → found ≡ None → IfNone found P → P
 of_none {X = X} found P e h = subst (λ (found : Option X). IfNone found P) e h
+
+-- where the options behind a name mean nothing, neither does the name with them
+pub no_run : (rows : List Row) (found : Option RunOptions) → found ≡ None → IfNone found ((options : RunOptions) → Mean (said_in rows) options → ⊥)
+    → (command : Command) → IsMeant (Some (codes "run", rows)) command → ⊥
+no_run rows found none refused (commands.Run options) is = of_none found ((options : RunOptions) → Mean (said_in rows) options → ⊥) none refused options is.1
+no_run rows found none refused (commands.Gen plan) is = run_gen is.0
+no_run rows found none refused (commands.Load options) is = run_load is.0
+
+pub no_gen : (rows : List Row) (found : Option Gen) → found ≡ None → IfNone found ((plan : Gen) → MeanPlan (said_in rows) false plan → ⊥)
+    → (command : Command) → IsMeant (Some (codes "gen", rows)) command → ⊥
+no_gen rows found none refused (commands.Run options) is = run_gen (sym is.0)
+no_gen rows found none refused (commands.Gen plan) is = of_none found ((plan : Gen) → MeanPlan (said_in rows) false plan → ⊥) none refused plan is.1
+no_gen rows found none refused (commands.Load options) is = gen_load is.0
+
+pub no_load : (rows : List Row) (found : Option LoadOptions) → found ≡ None → IfNone found ((options : LoadOptions) → MeanLoad (said_in rows) options → ⊥)
+    → (command : Command) → IsMeant (Some (codes "load", rows)) command → ⊥
+no_load rows found none refused (commands.Run options) is = run_load (sym is.0)
+no_load rows found none refused (commands.Gen plan) is = gen_load (sym is.0)
+no_load rows found none refused (commands.Load options) is = of_none found ((options : LoadOptions) → MeanLoad (said_in rows) options → ⊥) none refused options is.1

@@ -8,7 +8,10 @@ use Rattle.std.proofs.lemmas.List.Elements.{All-from_recursion}
 use Rattle.std.proofs.lemmas.List.Quantifiers.{position-Some}
 use Rattle.std.proofs.lemmas.Slice.Eq.{bytes_eq-Decides}
 use Rattle.trace_reader.specs.declared.generator.Gen.{Gen}
+use Rattle.flock_words.specs.declared.command.Command.{Command}
+use Rattle.flock_words.specs.declared.command.Command.TheVariants as commands
 use Rattle.flock_words.specs.declared.generated.LoadOptions.{LoadOptions}
+use Rattle.flock_words.specs.Commands.{HasRanges, IsCommand}
 use Rattle.flock_words.specs.Generated.{AreLoadRanges, ArePlanRanges, MeanLoad, MeanPlan, load_names}
 use Rattle.trace_reader.specs.Fields.{is_number, value_of}
 use Rattle.flock_words.specs.declared.halts.Halt.{Halt}
@@ -121,33 +124,33 @@ halts_bounds (Some text) halts e = by_halts (all_there (map halt_in (slice_split
             All-from_recursion _ halts (there_bounds (slice_split is_comma text) halts (is ∙ ap Some same))
         by_test false also = let none : None ≡ Some halts = sym (ap if_runners_differ is ∙ ap (λ b. cond b (Some found) None) also) ∙ e in cc
 
-pub in_range : (options : List Written) (run : RunOptions) → Mean options run → AreInRange run
-in_range options run mean = record {
-  runners = meant_bounds 1 16 (given options (codes "runners")) run.runners mean.runners;
-  bucket_bits = exponent_bound (given options (codes "buckets")) run.bucket_bits mean.bucket_bits;
-  nodes = weaker run.nodes (λ n. (0 ≤ n) × (n ≤ 262144)) (λ n. n ≤ 262144) (λ n h. h.1) (meant_bounds 0 262144 (given options (codes "nodes")) run.nodes mean.nodes);
-  sections = default_bounds 64 1 1024 (given options (codes "sections")) run.sections (omega arith) (omega arith) mean.sections;
-  version_max = (default_bounds 4294967295 3 4294967295 (given options (codes "version-max")) run.version_max (omega arith) (omega arith) mean.version_max).0;
-  halts = halts_bounds (given options (codes "halt")) run.halts mean.halts;
+pub in_range : (said : Text → Option Text) (run : RunOptions) → Mean said run → AreInRange run
+in_range said run mean = record {
+  runners = meant_bounds 1 16 (said (codes "runners")) run.runners mean.runners;
+  bucket_bits = exponent_bound (said (codes "buckets")) run.bucket_bits mean.bucket_bits;
+  nodes = weaker run.nodes (λ n. (0 ≤ n) × (n ≤ 262144)) (λ n. n ≤ 262144) (λ n h. h.1) (meant_bounds 0 262144 (said (codes "nodes")) run.nodes mean.nodes);
+  sections = default_bounds 64 1 1024 (said (codes "sections")) run.sections (omega arith) (omega arith) mean.sections;
+  version_max = (default_bounds 4294967295 3 4294967295 (said (codes "version-max")) run.version_max (omega arith) (omega arith) mean.version_max).0;
+  halts = halts_bounds (said (codes "halt")) run.halts mean.halts;
 }
 
 given_bounds : (least greatest : ℕ) (text : Option Text) (number : ℕ) → option_and_then (number_in least greatest) text ≡ Some number → (least ≤ number) × (number ≤ greatest)
 given_bounds least greatest None number e = cc
 given_bounds least greatest (Some text) number e = number_bounds least greatest text number e
 
-pub plan_in_range : (options : List Written) (own_keys : Bool) (plan : Gen) → MeanPlan options own_keys plan → ArePlanRanges plan
-plan_in_range options own_keys plan mean =
-    let keys = given_bounds 1 32768 (given options (codes "keys")) plan.keys mean.keys in
+pub plan_in_range : (said : Text → Option Text) (own_keys : Bool) (plan : Gen) → MeanPlan said own_keys plan → ArePlanRanges plan
+plan_in_range said own_keys plan mean =
+    let keys = given_bounds 1 32768 (said (codes "keys")) plan.keys mean.keys in
     record {
-      seed = (given_bounds 0 2147483647 (given options (codes "seed")) plan.seed mean.seed).1;
-      traces = (given_bounds 0 64 (given options (codes "traces")) plan.traces mean.traces).1;
-      count = (given_bounds 0 131072 (given options (codes "length")) plan.length mean.count).1;
+      seed = (given_bounds 0 2147483647 (said (codes "seed")) plan.seed mean.seed).1;
+      traces = (given_bounds 0 64 (said (codes "traces")) plan.traces mean.traces).1;
+      count = (given_bounds 0 131072 (said (codes "length")) plan.length mean.count).1;
       some_keys = keys.0;
       keys = keys.1;
     }
 
 -- an option of another name isn't given
-not_given : (names : List Text) (name : Text) (options : List Written) → is_among names name ≡ false → list_all (λ (written : Written). is_among names written.name) options ≡ true → given options name ≡ None
+pub not_given : (names : List Text) (name : Text) (options : List Written) → is_among names name ≡ false → list_all (λ (written : Written). is_among names written.name) options ≡ true → given options name ≡ None
 not_given names name [] other known = refl
 not_given names name (written ∷ options) other known =
     let parts = both_true (is_among names written.name) (list_all (λ (written : Written). is_among names written.name) options) known in
@@ -161,13 +164,19 @@ not_given names name (written ∷ options) other known =
     by_test again among false is =
         ap (λ b. option_map (λ (written : Written). written.value) (cond b (Some written) (find (λ (written : Written). bytes_eq written.name name) options))) is ∙ again
 
-pub load_in_range : (options : List Written) (load : LoadOptions) → AreOptionsOf load_names options → MeanLoad options load → AreLoadRanges load
+pub load_in_range : (options : List Written) (load : LoadOptions) → AreOptionsOf load_names options → MeanLoad (given options) load → AreLoadRanges load
 load_in_range options load of mean = record {
-  plan = plan_in_range options true load.plan mean.plan;
+  plan = plan_in_range (given options) true load.plan mean.plan;
   apart = mean.plan.apart;
-  run = in_range options load.run mean.run;
+  run = in_range (given options) load.run mean.run;
   no_halts = some_halts (sym (ap (meant_or [] halts_in) (not_given load_names (codes "halt") options refl of.known)) ∙ mean.run.halts);
 }
   where
     some_halts : Some [] ≡ Some load.run.halts → load.run.halts ≡ []
     some_halts e = cc
+
+pub command_in_range : (words : List Text) (command : Command) → IsCommand words command → HasRanges command
+command_in_range [] command is = absurd is
+command_in_range (word ∷ words) (commands.Run options) is = in_range (given is.1.options) options is.1.mean
+command_in_range (word ∷ words) (commands.Gen plan) is = plan_in_range (given is.1.options) false plan is.1.mean
+command_in_range (word ∷ words) (commands.Load options) is = load_in_range is.1.options options is.1.options_of is.1.mean

@@ -1,5 +1,5 @@
 -- The command line: which words are accepted, and what they mean.
-use Rattle.std.specs.Prelude.{◌≡◌, List, [], ◌∷◌, Option, None, Some, codes, map}
+use Rattle.std.specs.Prelude.{◌≡◌, List, [], ◌∷◌, codes, map}
 use Rattle.std.specs.Borrow.{Bor}
 use Rattle.flock_words.specs.declared.command.Command.{Command}
 use Rattle.flock_words.specs.declared.command.Command.TheVariants as commands
@@ -25,8 +25,3 @@ abbrev pub HasRanges : Command → Type 0
 HasRanges (commands.Run options) = AreInRange options
 HasRanges (commands.Gen plan) = ArePlanRanges plan
 HasRanges (commands.Load options) = AreLoadRanges options
-
--- what words say behind a command's name, where they say anything
-abbrev pub IsSaid : List Text → Text → Option Command → Type 0
-IsSaid words name None = (command : Command) → IsCommand (name ∷ words) command → ⊥
-IsSaid words name (Some command) = IsCommand (name ∷ words) command × HasRanges command

@@ -1,5 +1,5 @@
 -- The options of `gen` and `load`, by their words.
-use Rattle.std.specs.Prelude.{◌≡◌, ◌≤◌, Bool, false, true, List, [], ◌∷◌, Some, codes, option_and_then}
+use Rattle.std.specs.Prelude.{◌≡◌, ◌≤◌, Bool, false, true, List, [], ◌∷◌, Option, Some, codes, option_and_then}
 use Rattle.trace_reader.specs.declared.generator.Gen.{Gen}
 use Rattle.flock_words.specs.declared.generated.LoadOptions.{LoadOptions}
 use Rattle.flock_words.specs.Numbers.{number_in}
@@ -16,12 +16,12 @@ load_names =
     codes "seed" ∷ codes "traces" ∷ codes "length" ∷ codes "keys" ∷ codes "table" ∷ codes "runners" ∷ codes "buckets" ∷ codes "nodes"
     ∷ codes "sections" ∷ codes "version-max" ∷ []
 
--- what these options say is to be generated: each of the four numbers is given
-pub record MeanPlan (options : List Written) (own_keys : Bool) (plan : Gen) : Type 0 where
-  pub seed : option_and_then (number_in 0 2147483647) (given options (codes "seed")) ≡ Some plan.seed
-  pub traces : option_and_then (number_in 0 64) (given options (codes "traces")) ≡ Some plan.traces
-  pub count : option_and_then (number_in 0 131072) (given options (codes "length")) ≡ Some plan.length
-  pub keys : option_and_then (number_in 1 32768) (given options (codes "keys")) ≡ Some plan.keys
+-- what options say is to be generated, of which this says what each was given: each of the four numbers is there
+pub record MeanPlan (said : Text → Option Text) (own_keys : Bool) (plan : Gen) : Type 0 where
+  pub seed : option_and_then (number_in 0 2147483647) (said (codes "seed")) ≡ Some plan.seed
+  pub traces : option_and_then (number_in 0 64) (said (codes "traces")) ≡ Some plan.traces
+  pub count : option_and_then (number_in 0 131072) (said (codes "length")) ≡ Some plan.length
+  pub keys : option_and_then (number_in 1 32768) (said (codes "keys")) ≡ Some plan.keys
   pub apart : plan.apart ≡ own_keys
 
 -- the words behind `gen` are those of its options, each at most once, which mean this
@@ -29,19 +29,19 @@ pub record IsGen (line : List Text) (plan : Gen) : Type 0 where
   pub options : List Written
   pub words : line ≡ all_words_of options
   pub options_of : AreOptionsOf gen_names options
-  pub mean : MeanPlan options false plan
+  pub mean : MeanPlan (given options) false plan
 
--- what these options of `load` mean; each trace has keys of its own
-pub record MeanLoad (options : List Written) (load : LoadOptions) : Type 0 where
-  pub plan : MeanPlan options true load.plan
-  pub run : Mean options load.run
+-- what options of `load` mean; each trace has keys of its own
+pub record MeanLoad (said : Text → Option Text) (load : LoadOptions) : Type 0 where
+  pub plan : MeanPlan said true load.plan
+  pub run : Mean said load.run
 
 -- the words behind `load` are those of its options, each at most once, which mean this
 pub record IsLoad (line : List Text) (load : LoadOptions) : Type 0 where
   pub options : List Written
   pub words : line ≡ all_words_of options
   pub options_of : AreOptionsOf load_names options
-  pub mean : MeanLoad options load
+  pub mean : MeanLoad (given options) load
 
 -- the numbers of what is to be generated are in their ranges
 pub record ArePlanRanges (plan : Gen) : Type 0 where

@@ -27,22 +27,22 @@ abbrev pub run_names : List Text
 run_names =
     codes "table" ∷ codes "runners" ∷ codes "buckets" ∷ codes "nodes" ∷ codes "sections" ∷ codes "version-max" ∷ codes "halt" ∷ []
 
--- what these options mean
-pub record Mean (options : List Written) (run : RunOptions) : Type 0 where
-  pub table : meant_or Hash table_in (given options (codes "table")) ≡ Some run.table
-  pub runners : meant (number_in 1 16) (given options (codes "runners")) ≡ Some run.runners
-  pub bucket_bits : meant_or 6 exponent_in (given options (codes "buckets")) ≡ Some run.bucket_bits
-  pub nodes : meant (number_in 0 262144) (given options (codes "nodes")) ≡ Some run.nodes
-  pub sections : meant_or 64 (number_in 1 1024) (given options (codes "sections")) ≡ Some run.sections
-  pub version_max : meant_or 4294967295 (number_in 3 4294967295) (given options (codes "version-max")) ≡ Some run.version_max
-  pub halts : meant_or [] halts_in (given options (codes "halt")) ≡ Some run.halts
+-- what options mean of which this says what each was given
+pub record Mean (said : Text → Option Text) (run : RunOptions) : Type 0 where
+  pub table : meant_or Hash table_in (said (codes "table")) ≡ Some run.table
+  pub runners : meant (number_in 1 16) (said (codes "runners")) ≡ Some run.runners
+  pub bucket_bits : meant_or 6 exponent_in (said (codes "buckets")) ≡ Some run.bucket_bits
+  pub nodes : meant (number_in 0 262144) (said (codes "nodes")) ≡ Some run.nodes
+  pub sections : meant_or 64 (number_in 1 1024) (said (codes "sections")) ≡ Some run.sections
+  pub version_max : meant_or 4294967295 (number_in 3 4294967295) (said (codes "version-max")) ≡ Some run.version_max
+  pub halts : meant_or [] halts_in (said (codes "halt")) ≡ Some run.halts
 
 -- the words behind `run` are those of its options, each at most once, which mean this
 pub record IsRun (line : List Text) (run : RunOptions) : Type 0 where
   pub options : List Written
   pub words : line ≡ all_words_of options
   pub options_of : AreOptionsOf run_names options
-  pub mean : Mean options run
+  pub mean : Mean (given options) run
 
 -- one runner for each trace, but at least one and at most sixteen
 abbrev pub runners_by : Option ℕ → ℕ → ℕ

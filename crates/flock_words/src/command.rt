@@ -1,10 +1,17 @@
 // A whole command line.
-ghost use Rattle.std.specs.Prelude.{◌≡◌, IfNone, IfOk, IfSome, List, codes};
-ghost use Rattle.flock_words.specs.Commands.{HasRanges, IsCommand, IsSaid, texts};
+ghost use Rattle.std.specs.Prelude.{◌≡◌, IfNone, IfOk, IfSome, List, Some, codes};
+ghost use Rattle.std.specs.List.{list_any};
+ghost use Rattle.clap.specs.Matches.{found_of};
+ghost use Rattle.clap.specs.Simple.{subcommand_rows_of};
+ghost use Rattle.clap.specs.Walk.{rows_of};
+ghost use Rattle.flock_words.specs.Commands.{HasRanges, IsCommand, texts};
+ghost use Rattle.flock_words.specs.Parser.{Means, is_dashes};
 ghost use Rattle.flock_words.specs.Written.{Text};
 
-use crate::generated::{LoadOptions, read_gen, read_load};
-use crate::options::{RunOptions, read_run};
+use crate::generated::{LoadOptions, load_options, plan_in};
+use crate::options::{RunOptions, run_options};
+use crate::parser::parse;
+use clap::ArgMatches;
 use std::alloc::{AllocError, Global};
 use trace_reader::Gen;
 
@@ -30,42 +37,62 @@ pub fn read_words<'a>(alloc: Global, words: &'a [&'a str]) -> Result<Option<Comm
     ensures refused { IfOk result (λ answer. IfNone answer ((command : Command) → IsCommand (texts words.now) command → ⊥)) }
     ensures ranges { IfOk result (λ answer. IfSome answer HasRanges) }
 {
-    let Some((word, words)) = words.split_first() else {
+    if has_dashes(words) {
+        return Ok(None);
+    }
+    match parse(alloc, words)? {
+        Some(matches) => command_in(alloc, &matches),
+        None => Ok(None),
+    }
+}
+
+// Whether a word is exactly `--`, which clap would pass over.
+fn has_dashes(words: &[&str]) -> bool
+    ensures { result ≡ list_any (λ word. is_dashes word.now) words.now }
+{
+    words.iter().any(|word| *word == "--")
+}
+
+// The command that clap's matches mean. None where a value has no meaning, or where one that must be given isn't.
+fn command_in(alloc: Global, matches: &ArgMatches<'_>) -> Result<Option<Command>, AllocError>
+    ensures { IfOk result (Means (subcommand_rows_of matches.now)) }
+{
+    let Some((name, options)) = matches.subcommand() else {
         return Ok(None);
     };
-    match *word {
-        "run" => run_command(alloc, words),
-        "gen" => gen_command(alloc, words),
-        "load" => load_command(alloc, words),
+    match name {
+        "run" => run_command(alloc, options),
+        "gen" => Ok(gen_command(options)),
+        "load" => load_command(alloc, options),
         _ => Ok(None),
     }
 }
 
-// The command that these words give behind `run`.
-fn run_command(alloc: Global, words: &[&str]) -> Result<Option<Command>, AllocError>
-    ensures { IfOk result (IsSaid (texts words.now) (codes "run")) }
+// The command that these options give behind `run`.
+fn run_command(alloc: Global, options: &ArgMatches<'_>) -> Result<Option<Command>, AllocError>
+    ensures { IfOk result (Means (Some (codes "run", rows_of (found_of options.now)))) }
 {
-    match read_run(alloc, words)? {
+    match run_options(alloc, options)? {
         Some(options) => Ok(Some(Command::Run(options))),
         None => Ok(None),
     }
 }
 
 // The same behind `gen`.
-fn gen_command(alloc: Global, words: &[&str]) -> Result<Option<Command>, AllocError>
-    ensures { IfOk result (IsSaid (texts words.now) (codes "gen")) }
+fn gen_command(options: &ArgMatches<'_>) -> Option<Command>
+    ensures { Means (Some (codes "gen", rows_of (found_of options.now))) result }
 {
-    match read_gen(alloc, words)? {
-        Some(plan) => Ok(Some(Command::Gen(plan))),
-        None => Ok(None),
+    match plan_in(options, false) {
+        Some(plan) => Some(Command::Gen(plan)),
+        None => None,
     }
 }
 
 // The same behind `load`.
-fn load_command(alloc: Global, words: &[&str]) -> Result<Option<Command>, AllocError>
-    ensures { IfOk result (IsSaid (texts words.now) (codes "load")) }
+fn load_command(alloc: Global, options: &ArgMatches<'_>) -> Result<Option<Command>, AllocError>
+    ensures { IfOk result (Means (Some (codes "load", rows_of (found_of options.now)))) }
 {
-    match read_load(alloc, words)? {
+    match load_options(alloc, options)? {
         Some(options) => Ok(Some(Command::Load(options))),
         None => Ok(None),
     }

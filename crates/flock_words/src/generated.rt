@@ -1,32 +1,15 @@
 // What `gen` and `load` are given.
 ghost use Rattle.std.specs.Prelude.{◌≡◌, IfNone, IfOk, IfSome, option_and_then, option_map};
-ghost use Rattle.flock_words.specs.Commands.{texts};
-ghost use Rattle.flock_words.specs.Cut.{all_written_by};
-ghost use Rattle.flock_words.specs.Generated.{AreLoadRanges, ArePlanRanges, IsGen, IsLoad, MeanLoad, MeanPlan};
+ghost use Rattle.flock_words.specs.Generated.{MeanLoad, MeanPlan};
 ghost use Rattle.flock_words.specs.Numbers.{number_in};
+ghost use Rattle.flock_words.specs.Parser.{said_by};
 
-use crate::given::{Given, read_given, value_of};
 use crate::number::small_number_in;
 use crate::options::{RunOptions, run_options};
+use crate::parser::value_of;
+use clap::ArgMatches;
 use std::alloc::{AllocError, Global};
 use trace_reader::Gen;
-
-// The names of the options of `gen`.
-const GEN_NAMES: [&str; 4] = ["seed", "traces", "length", "keys"];
-
-// Those of `load`: these, and those of `run` but for the halts.
-const LOAD_NAMES: [&str; 10] = [
-    "seed",
-    "traces",
-    "length",
-    "keys",
-    "table",
-    "runners",
-    "buckets",
-    "nodes",
-    "sections",
-    "version-max",
-];
 
 /// The options of `load`.
 #[derive(Debug, Drop)]
@@ -37,34 +20,13 @@ pub struct LoadOptions {
     pub run: RunOptions,
 }
 
-/// What the words behind `gen` give. None where they aren't those of its options.
-pub fn read_gen(alloc: Global, words: &[&str]) -> Result<Option<Gen>, AllocError>
-    ensures read { IfOk result (λ answer. IfSome answer (λ plan. IsGen (texts words.now) plan)) }
-    ensures refused { IfOk result (λ answer. IfNone answer ((plan : Gen) → IsGen (texts words.now) plan → ⊥)) }
-    ensures ranges { IfOk result (λ answer. IfSome answer ArePlanRanges) }
-{
-    match read_given(alloc, words, &GEN_NAMES)? {
-        Some(given) => Ok(plan_in(&given, false)),
-        None => Ok(None),
-    }
-}
-
-/// What the words behind `load` give. None where they aren't those of its options.
-pub fn read_load(alloc: Global, words: &[&str]) -> Result<Option<LoadOptions>, AllocError>
-    ensures read { IfOk result (λ answer. IfSome answer (λ options. IsLoad (texts words.now) options)) }
-    ensures refused { IfOk result (λ answer. IfNone answer ((options : LoadOptions) → IsLoad (texts words.now) options → ⊥)) }
-    ensures ranges { IfOk result (λ answer. IfSome answer AreLoadRanges) }
-{
-    match read_given(alloc, words, &LOAD_NAMES)? {
-        Some(given) => load_options(alloc, &given),
-        None => Ok(None),
-    }
-}
-
-// What these options of `load` mean. None where one of them has no meaning, or one of the four numbers isn't given.
-fn load_options(alloc: Global, given: &[Given<'_>]) -> Result<Option<LoadOptions>, AllocError>
-    ensures read { IfOk result (λ answer. IfSome answer (MeanLoad (all_written_by given.now))) }
-    ensures refused { IfOk result (λ answer. IfNone answer ((options : LoadOptions) → MeanLoad (all_written_by given.now) options → ⊥)) }
+/// What these options of `load` mean. None where one of them has no meaning, or one of the four numbers isn't given.
+pub fn load_options(
+    alloc: Global,
+    given: &ArgMatches<'_>,
+) -> Result<Option<LoadOptions>, AllocError>
+    ensures read { IfOk result (λ answer. IfSome answer (MeanLoad (said_by given.now))) }
+    ensures refused { IfOk result (λ answer. IfNone answer ((options : LoadOptions) → MeanLoad (said_by given.now) options → ⊥)) }
 {
     let Some(plan) = plan_in(given, true) else {
         return Ok(None);
@@ -75,10 +37,10 @@ fn load_options(alloc: Global, given: &[Given<'_>]) -> Result<Option<LoadOptions
     }
 }
 
-// What these options say is to be generated. None where one of the numbers isn't given, or is out of its range.
-fn plan_in(given: &[Given<'_>], apart: bool) -> Option<Gen>
-    ensures read { IfSome result (MeanPlan (all_written_by given.now) apart) }
-    ensures refused { IfNone result ((plan : Gen) → MeanPlan (all_written_by given.now) apart plan → ⊥) }
+/// What these options say is to be generated. None where one of the numbers isn't given, or is out of its range.
+pub fn plan_in(given: &ArgMatches<'_>, apart: bool) -> Option<Gen>
+    ensures read { IfSome result (MeanPlan (said_by given.now) apart) }
+    ensures refused { IfNone result ((plan : Gen) → MeanPlan (said_by given.now) apart plan → ⊥) }
 {
     let seed = number_given(value_of(given, "seed"), 0, 2_147_483_647)?;
     let traces = number_given(value_of(given, "traces"), 0, 64)?;

@@ -1,15 +1,15 @@
 //! The words of the command line: which are accepted, and what they mean.
 //!
-//! `number` reads numbers and `halts` the halts that are named, `given` cuts the words into options, `options` is what
-//! `run` is given, and `command` reads a whole command line.
+//! `parser` is the command line as clap reads it, `number` reads numbers and `halts` the halts that are named, `options`
+//! is what `run` is given, `generated` what `gen` and `load` are, and `command` reads a whole command line.
 #![tactic(auto)]
 
 mod command;
 mod generated;
-mod given;
 mod halts;
 mod number;
 mod options;
+mod parser;
 #[cfg(test)]
 mod tests;
 

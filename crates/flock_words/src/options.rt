@@ -1,28 +1,16 @@
 // What `run` is given.
 ghost use Rattle.std.specs.Prelude.{◌≡◌, ◌<◌, ◌≤◌, [], IfOk, IfNone, IfSome, Some, codes, option_map};
 ghost use Rattle.flock_words.specs.declared.options.TableKind.TheVariants.{Hash};
-ghost use Rattle.flock_words.specs.Commands.{texts};
-ghost use Rattle.flock_words.specs.Cut.{all_written_by};
 ghost use Rattle.flock_words.specs.Halts.{halts_in};
 ghost use Rattle.flock_words.specs.Numbers.{exponent_in, number_in};
-ghost use Rattle.flock_words.specs.Options.{AreInRange, IsRun, Mean, meant, meant_or, nodes_by, runners_by, table_in};
-ghost use Rattle.flock_words.specs.Written.{given as given_to};
+ghost use Rattle.flock_words.specs.Options.{Mean, meant, meant_or, nodes_by, runners_by, table_in};
+ghost use Rattle.flock_words.specs.Parser.{said_by};
 
-use crate::given::{Given, read_given, value_of};
 use crate::halts::{Halts, read_halts};
 use crate::number::{exponent_in, small_number_in};
+use crate::parser::value_of;
+use clap::ArgMatches;
 use std::alloc::{AllocError, Global};
-
-// The names of its options.
-const RUN_NAMES: [&str; 7] = [
-    "table",
-    "runners",
-    "buckets",
-    "nodes",
-    "sections",
-    "version-max",
-    "halt",
-];
 
 /// Which structure keeps the map.
 #[derive(Clone, Copy, Debug, PartialEq, Eq)]
@@ -78,22 +66,10 @@ impl RunOptions {
     }
 }
 
-/// What the words behind `run` give. None where they aren't those of its options.
-pub fn read_run(alloc: Global, words: &[&str]) -> Result<Option<RunOptions>, AllocError>
-    ensures read { IfOk result (λ answer. IfSome answer (λ options. IsRun (texts words.now) options)) }
-    ensures refused { IfOk result (λ answer. IfNone answer ((options : RunOptions) → IsRun (texts words.now) options → ⊥)) }
-    ensures ranges { IfOk result (λ answer. IfSome answer AreInRange) }
-{
-    match read_given(alloc, words, &RUN_NAMES)? {
-        Some(given) => run_options(alloc, &given),
-        None => Ok(None),
-    }
-}
-
 /// What these options mean. None where one of them has no meaning.
-pub fn run_options(alloc: Global, given: &[Given<'_>]) -> Result<Option<RunOptions>, AllocError>
-    ensures read { IfOk result (λ answer. IfSome answer (Mean (all_written_by given.now))) }
-    ensures refused { IfOk result (λ answer. IfNone answer ((run : RunOptions) → Mean (all_written_by given.now) run → ⊥)) }
+pub fn run_options(alloc: Global, given: &ArgMatches<'_>) -> Result<Option<RunOptions>, AllocError>
+    ensures read { IfOk result (λ answer. IfSome answer (Mean (said_by given.now))) }
+    ensures refused { IfOk result (λ answer. IfNone answer ((run : RunOptions) → Mean (said_by given.now) run → ⊥)) }
 {
     match halts_or_none(alloc, value_of(given, "halt"))? {
         Some(halts) => Ok(options_with(given, halts)),
@@ -102,10 +78,10 @@ pub fn run_options(alloc: Global, given: &[Given<'_>]) -> Result<Option<RunOptio
 }
 
 // The same where the halts are read.
-fn options_with(given: &[Given<'_>], halts: Halts) -> Option<RunOptions>
-    requires { meant_or [] halts_in (given_to (all_written_by given.now) (codes "halt")) ≡ Some halts }
-    ensures read { IfSome result (Mean (all_written_by given.now)) }
-    ensures refused { IfNone result ((run : RunOptions) → Mean (all_written_by given.now) run → ⊥) }
+fn options_with(given: &ArgMatches<'_>, halts: Halts) -> Option<RunOptions>
+    requires { meant_or [] halts_in (said_by given.now (codes "halt")) ≡ Some halts }
+    ensures read { IfSome result (Mean (said_by given.now)) }
+    ensures refused { IfNone result ((run : RunOptions) → Mean (said_by given.now) run → ⊥) }
 {
     let table = table_or_hash(value_of(given, "table"))?;
     let runners = number_if_given(value_of(given, "runners"), 1, 16)?;

@@ -1,18 +1,23 @@
 // Command lines, what they mean, and those that are refused. In the tables a space parts the words of a line.
-use crate::{Command, Halt, RunOptions, read_words};
+use crate::{Command, Halts, RunOptions, TableKind, read_words};
 use std::alloc::{AllocError, Global};
 use std::process::Abort;
 use std::test::Fail;
-use trace_reader::Gen;
 
 const REFUSED: &str = "\
 walk
 Run
 --help
+--version
+--
+-- run
+--nodes 1 run
 help
+help run
 run walk
 run --help
 run -h
+run --help=1
 run --
 run -- --nodes 1
 run --nodes 1 --
@@ -80,22 +85,26 @@ load --seed=1 --traces 8 --length 4000 --keys 1000 --runners 4
 load --version-max=3 --seed=1 --sections=1 --traces=8 --nodes=0 --length=4 --buckets=1 --keys=1 --table=hash
 ";
 
+// Lines, and behind a bar what they mean, as `Debug` shows it.
+const MEANT: &str = "\
+run|Run(RunOptions { table: Hash, runners: None, bucket_bits: 6, nodes: None, sections: 64, version_max: 4294967295, halts: Halts { items: [] } })
+run --halt=2:10,0:7 --nodes 18 --runners=3 --buckets 256 --sections=5 --version-max 9 --table=tree|Run(RunOptions { table: Tree, runners: Some(3), bucket_bits: 8, nodes: Some(18), sections: 5, version_max: 9, halts: Halts { items: [Halt { runner: 2, ask: 10 }, Halt { runner: 0, ask: 7 }] } })
+gen --keys 100 --seed=1 --length 3 --traces 2|Gen(Gen { seed: 1, traces: 2, length: 3, keys: 100, apart: false })
+load --traces 2 --keys=100 --nodes=7 --seed=1 --length 3|Load(LoadOptions { plan: Gen { seed: 1, traces: 2, length: 3, keys: 100, apart: true }, run: RunOptions { table: Hash, runners: None, bucket_bits: 6, nodes: Some(7), sections: 64, version_max: 4294967295, halts: Halts { items: [] } } })
+";
+
 fn read(alloc: Global, line: &str) -> Result<Option<Command>, AllocError> {
     let words: Vec<&str> = line.split_whitespace().collect(alloc)?;
     read_words(alloc, &words)
 }
 
-// What a run is given, if the command is one.
-fn run_of(command: Command) -> Option<RunOptions> {
+// What the line means, as `Debug` shows it.
+fn shown(alloc: Global, line: &str) -> Result<String, AllocError> {
+    let command = read(alloc, line)?;
     match command {
-        Command::Run(options) => Some(options),
-        _ => None,
+        Some(command) => format!(in alloc; "{command:?}"),
+        None => format!(in alloc; "refused"),
     }
-}
-
-fn read_run(alloc: Global, line: &str) -> Result<RunOptions, Fail> {
-    let command = read(alloc, line)?.ok_or("refused")?;
-    Ok(run_of(command).ok_or("another command")?)
 }
 
 fn check_table(
@@ -126,66 +135,58 @@ fn words_are_accepted_in_both_forms(rt: HostRuntime) -> Result<(), Fail> {
 }
 
 #[test]
-fn an_option_that_is_not_given_has_its_default(rt: HostRuntime) -> Result<(), Fail> {
-    let alloc = rt.alloc();
-    let options = read_run(alloc, "run")?;
-    assert_eq!(rt; options.runners, None);
-    assert_eq!(rt; options.bucket_bits, 6);
-    assert_eq!(rt; options.nodes, None);
-    assert_eq!(rt; options.sections, 64);
-    assert_eq!(rt; options.version_max, 4_294_967_295);
-    assert_eq!(rt; options.halts.as_slice().len(), 0);
-    assert_eq!(rt; options.runners_for(0), 1);
-    assert_eq!(rt; options.runners_for(3), 3);
-    assert_eq!(rt; options.runners_for(64), 16);
-    assert_eq!(rt; options.nodes_for(3, 2), 14);
-    assert_eq!(rt; options.nodes_for(131_072, 16), 16_384);
+fn an_option_has_its_value_or_its_default(rt: HostRuntime) -> Result<(), Fail> {
+    for row in MEANT.lines() {
+        let (line, meant) = row.split_once('|').ok_or("no bar")?;
+        let shown = shown(rt.alloc(), line)?;
+        assert_eq!(rt; shown.as_str(), meant);
+    }
     Ok(())
 }
 
-#[test]
-fn an_option_that_is_given_is_read(rt: HostRuntime) -> Result<(), Fail> {
-    let alloc = rt.alloc();
-    let line =
-        "run --halt=2:10,0:7 --nodes 18 --runners=3 --buckets 256 --sections=5 --version-max 9";
-    let options = read_run(alloc, line)?;
-    assert_eq!(rt; options.runners_for(1), 3);
-    assert_eq!(rt; options.bucket_bits, 8);
-    assert_eq!(rt; options.nodes_for(1, 3), 18);
-    assert_eq!(rt; options.sections, 5);
-    assert_eq!(rt; options.version_max, 9);
-    let expected = [Halt { runner: 2, ask: 10 }, Halt { runner: 0, ask: 7 }];
-    assert_eq!(rt; options.halts.as_slice(), expected.as_slice());
-    let asks = options.halts.asks(alloc, 3)?;
-    assert_eq!(rt; asks.as_slice(), [Some(7), None, Some(10)].as_slice());
-    assert_eq!(rt; options.halts.ask_of(1), None);
-    assert!(rt; options.halts.name_below(1));
-    Ok(())
-}
-
-// What a command generates, if it does.
-fn plan_of(command: Command) -> Option<Gen> {
-    match command {
-        Command::Run(_) => None,
-        Command::Gen(plan) => Some(plan),
-        Command::Load(options) => Some(options.plan),
+fn options_with(alloc: Global, runners: Option<u32>, nodes: Option<u32>) -> RunOptions {
+    RunOptions {
+        table: TableKind::Hash,
+        runners,
+        bucket_bits: 6,
+        nodes,
+        sections: 64,
+        version_max: u32::MAX,
+        halts: Halts::new(alloc),
     }
 }
 
 #[test]
-fn what_is_to_be_generated_is_read(rt: HostRuntime) -> Result<(), Fail> {
+fn a_default_depends_on_the_text(rt: HostRuntime) -> Result<(), Fail> {
+    let options = options_with(rt.alloc(), None, None);
+    let runners = [
+        options.runners_for(0),
+        options.runners_for(3),
+        options.runners_for(64),
+    ];
+    assert_eq!(rt; runners, [1, 3, 16]);
+    let nodes = [options.nodes_for(3, 2), options.nodes_for(131_072, 16)];
+    assert_eq!(rt; nodes, [14, 16_384]);
+    let options = options_with(rt.alloc(), Some(3), Some(18));
+    assert_eq!(rt; [options.runners_for(1), options.nodes_for(1, 3)], [3, 18]);
+    Ok(())
+}
+
+fn halts_of(command: Command) -> Option<Halts> {
+    match command {
+        Command::Run(options) => Some(options.halts),
+        _ => None,
+    }
+}
+
+#[test]
+fn a_halt_is_found_by_its_runner(rt: HostRuntime) -> Result<(), Fail> {
     let alloc = rt.alloc();
-    let mut plan = Gen {
-        seed: 1,
-        traces: 2,
-        length: 3,
-        keys: 100,
-        apart: false,
-    };
-    let printed = read(alloc, "gen --keys 100 --seed=1 --length 3 --traces 2")?.ok_or("refused")?;
-    assert_eq!(rt; plan_of(printed), Some(plan));
-    let load = read(alloc, "load --traces 2 --keys=100 --seed=1 --length 3")?.ok_or("refused")?;
-    plan.apart = true;
-    assert_eq!(rt; plan_of(load), Some(plan));
+    let command = read(alloc, "run --halt=2:10,0:7")?.ok_or("refused")?;
+    let halts = halts_of(command).ok_or("no run")?;
+    let asks = halts.asks(alloc, 3)?;
+    assert_eq!(rt; asks.as_slice(), [Some(7), None, Some(10)].as_slice());
+    assert_eq!(rt; halts.ask_of(1), None);
+    assert!(rt; halts.name_below(1));
     Ok(())
 }

@@ -1,5 +1,0 @@
-use Rattle.std.proofs.Common.{length}
-use Rattle.flock_words.proofs.given.+names_differ.Given as goal
-
-abbrev pub decreases-names_differ : goal.decreases-names_differ
-decreases-names_differ l = length l.given.now
