@@ -9,6 +9,8 @@ use Rattle.reached_histories.specs.machine_invariant.proofs.After.{whole_after, 
 use Rattle.reached_histories.specs.machine_invariant.proofs.Rising.{rises_after}
 use Rattle.reached_histories.specs.machine_facts.proofs.Following.{facts_after, step_facts_after}
 use Rattle.reached_histories.proofs.Histories.{history_after}
+use Rattle.reached_histories.specs.next_steps.proofs.Enabled.{reached_enabled}
+use Rattle.reached_histories.specs.next_steps.proofs.GoingOn.{reached_goes_on}
 use Rattle.interleave_core.proofs.Stops.{stops}
 use Rattle.interleave_core.proofs.schedules.all_schedules.Goals as goal
 
@@ -64,6 +66,16 @@ pub returns-clause-history : goal.returns-clause-history
 returns-clause-history g c =
     let met = g.met.S.Structure g.world.𝓛 g.world.𝓜 g.world.𝓡 ((λ s allowed. allowed), (λ patient. patient), (λ alone. alone), (λ cuts. cuts)) in
     history_after (g.S.Structure.meaning c.args.structure) (met.laws c.args.structure) c.args.layout c.args.requests.now c.args.events.now c.loop-at.machine.world
+
+pub returns-clause-next : goal.returns-clause-next
+returns-clause-next g c = λ limits allowed after.
+    let met = g.met.S.Structure g.world.𝓛 g.world.𝓜 g.world.𝓡 ((λ s allowed. allowed), (λ patient. patient), (λ alone. alone), (λ cuts. cuts)) in
+    let m = g.S.Structure.meaning c.args.structure in
+    let laws = met.laws c.args.structure in
+    record {
+      enabled = reached_enabled m laws c.args.layout limits c.args.requests.now allowed c.loop-at.machine.world (record { events = c.args.events.now; after = after });
+      goes_on = reached_goes_on m laws c.args.layout limits c.args.requests.now allowed c.loop-at.machine.world (record { events = c.args.events.now; after = after });
+    }
 
 pub returns-in-Err-NotEnabled-clause-not_enabled : goal.returns-in-Err-NotEnabled-clause-not_enabled
 returns-in-Err-NotEnabled-clause-not_enabled g c =
