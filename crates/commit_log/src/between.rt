@@ -6,7 +6,8 @@ use section_body::{Gate, Pass, StepKind, Steps};
 
 /// Counts one more step, and asks the gate whether the runner goes on behind it.
 pub fn passes<G: Gate, L>(gate: &mut G, steps: &mut Steps<L>, kind: StepKind) -> bool
-    ensures { IsAsked 1 result (G.halts gate.old) (G.halts gate.new) (G.asks gate.old) (G.asks gate.new) steps.old.count steps.new.count }
+    ensures { IsAsked 1 result
+        (G.halts gate.old) (G.halts gate.new) (G.asks gate.old) (G.asks gate.new) steps.old.count steps.new.count }
 {
     steps.tick();
     gate.after(kind) == Pass::Go

@@ -20,7 +20,8 @@ pub fn commit<S: Structure>(
     requires own { IsOf table.now runner }
     requires next { (q : RunState) × MayCommit (S.meaning table.now.structure) runner proposal q }
     ensures own { IsOf table.now result.0 }
-    ensures commits { (q : RunState) → IsRunning (S.meaning table.now.structure) runner q → HasCommitted (S.meaning table.now.structure) result.1 result.2 runner result.0 q }
+    ensures commits { (q : RunState) → IsRunning (S.meaning table.now.structure) runner q
+        → HasCommitted (S.meaning table.now.structure) result.1 result.2 runner result.0 q }
 {
     table_is_allowed(table);
     table.commit_word(runner, proposal)

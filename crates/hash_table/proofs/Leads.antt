@@ -256,7 +256,7 @@ module _ (bits : ℕ) (few : bits ≤ 12) (layout : Layout) (op : Op) where
     wanted = λ readings led. sym (ap wanted_by (here readings led));
     readable = λ readings place led wants known. readable_at readings (walk_in bits layout op readings) (walk_in bits layout op readings).stage place (within readings known)
         (knows (2 ^ bits) hash small limits op readings) (sym (ap wanted_by (here readings led)) ∙ wants);
-    refuses = λ readings place word led wants.
+    refuses = λ readings place word led wants known.
         let wants_so = sym (ap wanted_by (here readings led)) ∙ wants in
         let more = each_more (λ rs p w. wanted_by (fed_all bucket_way first rs) ≡ Some p) readings place word led wants in
         let next : walk_in bits layout op (readings ++ (place, word) ∷ []) ≡ fed (2 ^ bits) hash limits op (walk_in bits layout op readings) (walk_in bits layout op readings).stage word =

@@ -29,9 +29,12 @@ fn fill_gated<S: Structure, G: Gate, L>(
     requires own { IsOf table.now runner }
     requires next { (q : RunState) × MayFill (S.meaning table.now.structure) runner slot cell value q }
     ensures own { IsOf table.now result.0 }
-    ensures filled { result.1 ≡ true → (q : RunState) → IsRunning (S.meaning table.now.structure) runner q → HasFilled (S.meaning table.now.structure) slot cell value runner result.0 q }
-    ensures asked { result.1 ≡ true → IsAsked 2 true (G.halts gate.old) (G.halts gate.new) (G.asks gate.old) (G.asks gate.new) steps.old.count steps.new.count }
-    ensures halted { result.1 ≡ false → IsHalted (S.meaning table.now.structure) 2 runner result.0 (G.halts gate.old) (G.halts gate.new) (G.asks gate.old) (G.asks gate.new) steps.old.count steps.new.count }
+    ensures filled { result.1 ≡ true → (q : RunState) → IsRunning (S.meaning table.now.structure) runner q
+        → HasFilled (S.meaning table.now.structure) slot cell value runner result.0 q }
+    ensures asked { result.1 ≡ true → IsAsked 2 true
+        (G.halts gate.old) (G.halts gate.new) (G.asks gate.old) (G.asks gate.new) steps.old.count steps.new.count }
+    ensures halted { result.1 ≡ false → IsHalted (S.meaning table.now.structure) 2 runner result.0
+        (G.halts gate.old) (G.halts gate.new) (G.asks gate.old) (G.asks gate.new) steps.old.count steps.new.count }
 {
     table_is_allowed(table);
     let (runner, found) = table.private_load(runner, slot, cell);
@@ -60,9 +63,12 @@ fn fill_all<S: Structure, G: Gate, L>(
     requires free { last_of runner.part.nodes.free ≡ Some slot }
     requires five { length values.now ≡ 5 }
     ensures own { IsOf table.now result.0 }
-    ensures filled { result.1 ≡ true → (q : RunState) → IsRunning (S.meaning table.now.structure) runner q → IsFilling (S.meaning table.now.structure) slot 5 runner result.0 q }
-    ensures asked { result.1 ≡ true → IsAsked 10 true (G.halts gate.old) (G.halts gate.new) (G.asks gate.old) (G.asks gate.new) steps.old.count steps.new.count }
-    ensures halted { result.1 ≡ false → IsHalted (S.meaning table.now.structure) 10 runner result.0 (G.halts gate.old) (G.halts gate.new) (G.asks gate.old) (G.asks gate.new) steps.old.count steps.new.count }
+    ensures filled { result.1 ≡ true → (q : RunState) → IsRunning (S.meaning table.now.structure) runner q
+        → IsFilling (S.meaning table.now.structure) slot 5 runner result.0 q }
+    ensures asked { result.1 ≡ true → IsAsked 10 true
+        (G.halts gate.old) (G.halts gate.new) (G.asks gate.old) (G.asks gate.new) steps.old.count steps.new.count }
+    ensures halted { result.1 ≡ false → IsHalted (S.meaning table.now.structure) 10 runner result.0
+        (G.halts gate.old) (G.halts gate.new) (G.asks gate.old) (G.asks gate.new) steps.old.count steps.new.count }
 {
     let mut runner = runner;
     for cell in 0..5u32 {
@@ -111,7 +117,8 @@ pub fn make<S: Structure>(table: &FlockTable<S>, runner: Runner<S>, init: &Init)
     requires own { IsOf table.now runner }
     requires next { (q : RunState) × MayMake (S.meaning table.now.structure) runner (numbers_of init.now) q }
     ensures own { IsOf table.now result.0 }
-    ensures made { (q : RunState) → IsRunning (S.meaning table.now.structure) runner q → HasMade (S.meaning table.now.structure) result.1 runner result.0 q }
+    ensures made { (q : RunState) → IsRunning (S.meaning table.now.structure) runner q
+        → HasMade (S.meaning table.now.structure) result.1 runner result.0 q }
 {
     let mut gate = Free::new();
     let mut steps = Steps::<()>::new();
@@ -135,9 +142,12 @@ pub fn make_gated<S: Structure, G: Gate, L>(
     requires next { (q : RunState) × MayMake (S.meaning table.now.structure) runner values.now q }
     requires five { length values.now ≡ 5 }
     ensures own { IsOf table.now result.0 }
-    ensures made { IfSome result.1 (λ agreed. (q : RunState) → IsRunning (S.meaning table.now.structure) runner q → HasMade (S.meaning table.now.structure) agreed runner result.0 q) }
-    ensures asked { IfSome result.1 (λ agreed. IsAsked 11 true (G.halts gate.old) (G.halts gate.new) (G.asks gate.old) (G.asks gate.new) steps.old.count steps.new.count) }
-    ensures halted { IfNone result.1 (IsHalted (S.meaning table.now.structure) 11 runner result.0 (G.halts gate.old) (G.halts gate.new) (G.asks gate.old) (G.asks gate.new) steps.old.count steps.new.count) }
+    ensures made { IfSome result.1 (λ agreed. (q : RunState) → IsRunning (S.meaning table.now.structure) runner q
+        → HasMade (S.meaning table.now.structure) agreed runner result.0 q) }
+    ensures asked { IfSome result.1 (λ agreed. IsAsked 11 true
+        (G.halts gate.old) (G.halts gate.new) (G.asks gate.old) (G.asks gate.new) steps.old.count steps.new.count) }
+    ensures halted { IfNone result.1 (IsHalted (S.meaning table.now.structure) 11 runner result.0
+        (G.halts gate.old) (G.halts gate.new) (G.asks gate.old) (G.asks gate.new) steps.old.count steps.new.count) }
 {
     table_is_allowed(table);
     let free = runner.free_nodes();

@@ -22,7 +22,8 @@ pub fn retire<S: Structure>(table: &FlockTable<S>, runner: Runner<S>, slot: u32)
     requires own { IsOf table.now runner }
     requires next { (q : RunState) × MayRetire (S.meaning table.now.structure) runner slot q }
     ensures own { IsOf table.now result }
-    ensures retired { (q : RunState) → IsRunning (S.meaning table.now.structure) runner q → HasRetired (S.meaning table.now.structure) slot runner result q }
+    ensures retired { (q : RunState) → IsRunning (S.meaning table.now.structure) runner q
+        → HasRetired (S.meaning table.now.structure) slot runner result q }
 {
     let mut gate = Free::new();
     let mut steps = Steps::<()>::new();
@@ -43,9 +44,12 @@ pub fn retire_gated<S: Structure, G: Gate, L>(
     requires own { IsOf table.now runner }
     requires next { (q : RunState) × MayRetire (S.meaning table.now.structure) runner slot q }
     ensures own { IsOf table.now result.0 }
-    ensures retired { result.1 ≡ true → (q : RunState) → IsRunning (S.meaning table.now.structure) runner q → HasRetired (S.meaning table.now.structure) slot runner result.0 q }
-    ensures asked { result.1 ≡ true → IsAsked 2 true (G.halts gate.old) (G.halts gate.new) (G.asks gate.old) (G.asks gate.new) steps.old.count steps.new.count }
-    ensures halted { result.1 ≡ false → IsHalted (S.meaning table.now.structure) 2 runner result.0 (G.halts gate.old) (G.halts gate.new) (G.asks gate.old) (G.asks gate.new) steps.old.count steps.new.count }
+    ensures retired { result.1 ≡ true → (q : RunState) → IsRunning (S.meaning table.now.structure) runner q
+        → HasRetired (S.meaning table.now.structure) slot runner result.0 q }
+    ensures asked { result.1 ≡ true → IsAsked 2 true
+        (G.halts gate.old) (G.halts gate.new) (G.asks gate.old) (G.asks gate.new) steps.old.count steps.new.count }
+    ensures halted { result.1 ≡ false → IsHalted (S.meaning table.now.structure) 2 runner result.0
+        (G.halts gate.old) (G.halts gate.new) (G.asks gate.old) (G.asks gate.new) steps.old.count steps.new.count }
 {
     table_is_allowed(table);
     let (runner, _) = table.epoch_for_retire(runner);

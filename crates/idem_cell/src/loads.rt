@@ -26,7 +26,8 @@ pub fn load<S: Structure>(
     requires own { IsOf table.now runner }
     requires next { (q : RunState) × MayLoad (S.meaning table.now.structure) runner place q }
     ensures own { IsOf table.now result.0 }
-    ensures loaded { (q : RunState) → IsRunning (S.meaning table.now.structure) runner q → HasLoaded (S.meaning table.now.structure) place result.1 runner result.0 q }
+    ensures loaded { (q : RunState) → IsRunning (S.meaning table.now.structure) runner q
+        → HasLoaded (S.meaning table.now.structure) place result.1 runner result.0 q }
 {
     let mut gate = Free::new();
     let mut steps = Steps::<()>::new();
@@ -47,9 +48,12 @@ pub fn load_gated<S: Structure, G: Gate, L>(
     requires own { IsOf table.now runner }
     requires next { (q : RunState) × MayLoad (S.meaning table.now.structure) runner place q }
     ensures own { IsOf table.now result.0 }
-    ensures loaded { IfSome result.1 (λ word. (q : RunState) → IsRunning (S.meaning table.now.structure) runner q → HasLoaded (S.meaning table.now.structure) place word runner result.0 q) }
-    ensures asked { IfSome result.1 (λ word. IsAsked 2 true (G.halts gate.old) (G.halts gate.new) (G.asks gate.old) (G.asks gate.new) steps.old.count steps.new.count) }
-    ensures halted { IfNone result.1 (IsHalted (S.meaning table.now.structure) 2 runner result.0 (G.halts gate.old) (G.halts gate.new) (G.asks gate.old) (G.asks gate.new) steps.old.count steps.new.count) }
+    ensures loaded { IfSome result.1 (λ word. (q : RunState) → IsRunning (S.meaning table.now.structure) runner q
+        → HasLoaded (S.meaning table.now.structure) place word runner result.0 q) }
+    ensures asked { IfSome result.1 (λ word. IsAsked 2 true
+        (G.halts gate.old) (G.halts gate.new) (G.asks gate.old) (G.asks gate.new) steps.old.count steps.new.count) }
+    ensures halted { IfNone result.1 (IsHalted (S.meaning table.now.structure) 2 runner result.0
+        (G.halts gate.old) (G.halts gate.new) (G.asks gate.old) (G.asks gate.new) steps.old.count steps.new.count) }
 {
     table_is_allowed(table);
     let (runner, word) = table.load_cell(runner, place);

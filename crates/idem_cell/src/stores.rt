@@ -23,7 +23,8 @@ pub fn store<S: Structure>(
     requires own { IsOf table.now runner }
     requires next { (q : RunState) × MayStore (S.meaning table.now.structure) runner place old value q }
     ensures own { IsOf table.now result }
-    ensures stored { (q : RunState) → IsRunning (S.meaning table.now.structure) runner q → HasStored (S.meaning table.now.structure) place old value runner result q }
+    ensures stored { (q : RunState) → IsRunning (S.meaning table.now.structure) runner q
+        → HasStored (S.meaning table.now.structure) place old value runner result q }
 {
     table_is_allowed(table);
     table.exchange_cell(runner, place, old, old.next(value)).0

@@ -14,6 +14,7 @@ use lock_walks::version_words::Words;
 use map_history::Op;
 use std::alloc::{AllocError, Global};
 use table_words::Layout;
+use tree_walks::far_walks_are_long;
 
 impl Planner for LeafTree {
     type Walk = LeafWalk;
@@ -26,6 +27,7 @@ impl Planner for LeafTree {
     }
 
     fn walk(&self, layout: Layout, op: Op) -> LeafWalk {
+        far_walks_are_long();
         LeafWalk {
             walk: self.begin(layout, op),
         }

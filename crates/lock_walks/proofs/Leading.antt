@@ -31,7 +31,7 @@ use Rattle.try_lock.specs.version_words.specs.Stages.{IsAt}
 use Rattle.try_lock.specs.commit_log.specs.Asked.{IsAsked}
 use Rattle.try_lock.specs.commit_log.proofs.Asked.{asked_none, asked_more}
 use Rattle.try_lock.specs.Reached.{IsReached}
-use Rattle.try_lock.specs.Plans.{MayPlan, IsWalk, NoneRefuses, refused_at}
+use Rattle.try_lock.specs.Plans.{MayPlan, IsWalk, NoneRefuses, HasWalked, refused_at}
 use Rattle.lock_walks.specs.Way.{Way, fed_all, IsLedBy, Leads}
 use Rattle.lock_walks.specs.Led.{IsLast, IsAlong, HasLed}
 use Rattle.lock_walks.proofs.Each.{each_more, each_none}
@@ -92,7 +92,7 @@ module _ {W : Type 0} (m : Meaning) (way : Way W) where
         let before = last.before in
         subst (NoneRefuses m (way.planning walk) layout (way.op walk)) (sym last.last)
         (each_more (λ rs p w. refused_at m (way.planning walk) layout (way.op walk) rs p w ≡ None) before place word last.none
-        (none_of _ (sym (leads.refuses before place word last.led last.wanted)
+        (none_of _ (sym (leads.refuses before place word last.led last.wanted (subst (m.walked layout (way.op walk)) last.last last.stands))
         ∙ (ap way.refused (sym (fed_more walk before place word) ∙ ap (fed_all way walk) (sym last.last)) ∙ goes))))
 
     pub led_more : (readings : Readings) (place word : ℕ) → IsLedBy way walk readings → way.wants (fed_all way walk readings) ≡ Some place → IsLedBy way walk (readings ++ (place, word) ∷ [])
@@ -104,8 +104,8 @@ module _ {W : Type 0} (m : Meaning) (way : Way W) where
 
     -- the first reading, and each further one
     pub last_more : (readings : Readings) (place word next found : ℕ) → (0 < length readings → IsLast m layout way walk readings place word) → IsLedBy way walk readings
-        → way.wants (fed_all way walk readings) ≡ Some next → IsLast m layout way walk (readings ++ (next, found) ∷ []) next found
-    last_more readings place word next found last led goes = record {
+        → way.wants (fed_all way walk readings) ≡ Some next → m.walked layout (way.op walk) (readings ++ (next, found) ∷ []) → IsLast m layout way walk (readings ++ (next, found) ∷ []) next found
+    last_more readings place word next found last led goes known = record {
       before = readings;
       last = refl;
       led = led;
@@ -113,6 +113,7 @@ module _ {W : Type 0} (m : Meaning) (way : Way W) where
       none = dite (ℕ_discrete (length readings) 0)
           (λ e. subst (NoneRefuses m (way.planning walk) layout (way.op walk)) (sym (no_length readings e)) (each_none (λ rs p w. refused_at m (way.planning walk) layout (way.op walk) rs p w ≡ None)))
           (λ ne. none_more readings place word (last (omega (arith, ne))) (leads.goes_on readings next led goes));
+      stands = known;
     }
 
 module _ {W T : Type 0} (m : Meaning) (way : Way W) where
@@ -161,6 +162,21 @@ module _ {W T : Type 0} (m : Meaning) (way : Way W) where
           (subst (λ (l : Layout). next < m.fixed_cells + 5 * slots m l) (sym own.layout) readable.1)
 
       module _ (found : ℕ) (r' : RunnerState T) (made_it : Makes m (load_of r.part.run next) found r r') where
+        then_walked : HasWalked m (so.readings ++ (next, found) ∷ []) old r'
+        then_walked = walked_more m so.readings next found old r r' may.epoch may.section so.walked entered made_it
+
+        -- what is known of the readings with this one, in the state that the machine then reaches
+        then_known : m.walked t.layout (way.op walk) (so.readings ++ (next, found) ∷ [])
+        then_known =
+            let same_layout : r'.layout ≡ t.layout = ap (λ (y : RunnerState T). y.layout) made_it.made ∙ own.layout in
+            let same_requests : r'.requests ≡ t.requests = ap (λ (y : RunnerState T). y.requests) made_it.made ∙ own.requests in
+            let read : r'.part.reads.walk ≡ so.readings ++ (next, found) ∷ [] =
+            ap (λ (s : ReadsState). s.walk) then_walked.reads ∙ ap (λ rs. rs ++ (so.readings ++ (next, found) ∷ [])) may.fresh in
+            subst (λ l. m.walked l (way.op walk) (so.readings ++ (next, found) ∷ [])) same_layout
+            (subst (m.walked r'.layout (way.op walk)) read
+            (stands m facts r' (subst IsWithinLimits (sym same_layout) limits) (subst AreAllowed (sym same_requests) allowed)
+            (record { world = made_it.shown.world; reached = made_it.shown.reached; own = made_it.shown.own }) may.epoch may.section (then_walked.at may.epoch may.section may.at) (way.op walk) within))
+
         pub along_more : (halts'' asks'' steps'' : ℕ) → IsAsked 1 true halts' halts'' asks' asks'' steps' steps'' → way.left (way.fed walk' found) < way.left walk'
             → Along (made + 1) (way.fed walk' found) next found r' halts'' asks'' steps''
         along_more halts'' asks'' steps'' asked shorter = record {
@@ -169,9 +185,9 @@ module _ {W T : Type 0} (m : Meaning) (way : Way W) where
           led = led_more m way t.layout walk leads so.readings next found so.led here;
           walks = walks_more m way t.layout walk leads so.readings next found so.walks so.led here;
           behind = ap (λ w. way.fed w found) so.behind ∙ sym (fed_more m way walk so.readings next found);
-          walked = walked_more m so.readings next found old r r' may.epoch may.section so.walked entered made_it;
+          walked = then_walked;
           left = let a = so.left in omega (arith, a, shorter);
-          last = λ some. last_more m way t.layout walk leads so.readings place word next found (λ has. so.last (let e = so.each in omega (arith, e, has))) so.led here;
+          last = λ some. last_more m way t.layout walk leads so.readings place word next found (λ has. so.last (let e = so.each in omega (arith, e, has))) so.led here then_known;
           reached = λ some. record { world = made_it.shown.world; reached = made_it.shown.reached; own = made_it.shown.own };
           asked = asked_more made 1 true halts halts' halts'' asks asks' asks'' steps steps' steps'' so.asked asked;
         }
@@ -184,9 +200,9 @@ module _ {W T : Type 0} (m : Meaning) (way : Way W) where
           led = led_more m way t.layout walk leads so.readings next found so.led here;
           walks = walks_more m way t.layout walk leads so.readings next found so.walks so.led here;
           behind = ap (λ w. way.fed w found) so.behind ∙ sym (fed_more m way walk so.readings next found);
-          walked = walked_more m so.readings next found old r r' may.epoch may.section so.walked entered made_it;
+          walked = then_walked;
           few = let a = so.left in let e = so.each in let l = length-append so.readings ((next, found) ∷ []) in omega (arith, a, e, l, shorter);
-          last = last_more m way t.layout walk leads so.readings place word next found (λ has. so.last (let e = so.each in omega (arith, e, has))) so.led here;
+          last = last_more m way t.layout walk leads so.readings place word next found (λ has. so.last (let e = so.each in omega (arith, e, has))) so.led here then_known;
           ends = λ e. absurd (cc);
           reached = record { world = made_it.shown.world; reached = made_it.shown.reached; own = made_it.shown.own };
           asked = subst (λ n. IsAsked n false halts halts'' asks asks'' steps steps'')

@@ -90,7 +90,7 @@ module _ {W T : Type 0} (m : Meaning) (way : Way W) (t : TableState T) (walk : W
       → HasPlanned m (way.planning walk) request answer old new halts halts' asks asks' steps steps'
   refused went is answer tells =
       let same : way.planning walk' ≡ way.planning walk = ap way.planning so.behind ∙ leads.steady so.readings in
-      let some : is_some (refused_at m (way.planning walk) t.layout (way.op walk) so.last.before place word) ≡ true = sym (leads.refuses so.last.before place word so.last.led so.last.wanted)
+      let some : is_some (refused_at m (way.planning walk) t.layout (way.op walk) so.last.before place word) ≡ true = sym (leads.refuses so.last.before place word so.last.led so.last.wanted (subst (m.walked t.layout (way.op walk)) so.last.last so.last.stands))
       ∙ (ap way.refused (sym (fed_more m way walk so.last.before place word) ∙ (ap (fed_all way walk) (sym so.last.last) ∙ sym so.behind)) ∙ is) in
       let cause = subst (λ p. is_some (refused_at m p t.layout (way.op walk) so.last.before place word) ≡ true → refused_at m p t.layout (way.op walk) so.last.before place word ≡ Some answer)
       same (tells so.last.before) some in

@@ -10,13 +10,14 @@ use Rattle.try_lock.specs.Plans.{IsWalk, NoneRefuses, HasWalked}
 use Rattle.lock_walks.specs.Way.{Way, fed_all, IsLedBy}
 
 module _ {W : Type 0} (m : Meaning) (layout : Layout) (way : Way W) where
-  -- the last of these readings, and those before it, of which none refuses
+  -- the last of these readings, and those before it, of which none refuses; they are those of a state that the machine reaches
   pub record IsLast (walk : W) (readings : Readings) (place word : ℕ) : Type 0 where
     pub before : Readings
     pub last : readings ≡ before ++ (place, word) ∷ []
     pub led : IsLedBy way walk before
     pub wanted : way.wants (fed_all way walk before) ≡ Some place
     pub none : NoneRefuses m (way.planning walk) layout (way.op walk) before
+    pub stands : m.walked layout (way.op walk) readings
 
 module _ {W T : Type 0} (m : Meaning) (layout : Layout) (way : Way W) where
   -- the walker led the runner by these readings, so many; the gate was asked after each, and let it go on. The walker is behind them, and

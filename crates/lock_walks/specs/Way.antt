@@ -1,5 +1,5 @@
 -- The way of a walk: what it wants, and how it goes on.
-use Rattle.std.specs.Prelude.{◌≡◌, ℕ, ◌+◌, ◌*◌, ◌<◌, ◌≤◌, ◌⊎◌, [], ◌∷◌, Bool, true, false, is_some, length, take, slice_get, Option, Some, None}
+use Rattle.std.specs.Prelude.{◌≡◌, ℕ, ◌+◌, ◌*◌, ◌<◌, ◌≤◌, ◌⊎◌, [], ◌∷◌, ◌++◌, Bool, true, false, is_some, length, take, slice_get, Option, Some, None}
 use Rattle.map_history.specs.declared.op.Op.{Op}
 use Rattle.section_body.specs.Word.{is_free, is_spent}
 use Rattle.section_body.specs.declared.thunk.Thunk.{Thunk}
@@ -42,8 +42,8 @@ module _ {W : Type 0} (way : Way W) where
       pub unspent : is_spent layout.version_max thunk.word ≡ false
       pub read : has_pair readings thunk.lock thunk.word ≡ true
 
-    -- the walker walks as its structure plans: each load brings it nearer to its end; it wants what the structure's walk wants, which a runner may load; it is refused exactly where
-    -- the last reading refuses; and where it is whole, its thunk fits
+    -- the walker walks as its structure plans: each load brings it nearer to its end; it wants what the structure's walk wants, which a runner may load; by
+    -- readings of a state that the machine reaches it is refused exactly where the last one refuses; and where it is whole, its thunk fits
     pub record Leads : Type 0 where
       pub begins : (place : ℕ) × (way.wants walk ≡ Some place)
       pub shorter : (other : W) (place word : ℕ) → way.wants other ≡ Some place → way.left (way.fed other word) < way.left other
@@ -52,6 +52,7 @@ module _ {W : Type 0} (way : Way W) where
       pub readable : (readings : Readings) (place : ℕ) → IsLedBy walk readings → way.wants (fed_all walk readings) ≡ Some place
           → (readings ≡ []) ⊎ m.walked layout (way.op walk) readings → (is_readable m readings place ≡ true) × (place < m.fixed_cells + 5 * slots m layout)
       pub refuses : (readings : Readings) (place word : ℕ) → IsLedBy walk readings → way.wants (fed_all walk readings) ≡ Some place
+          → m.walked layout (way.op walk) (readings ++ (place, word) ∷ [])
           → way.refused (way.fed (fed_all walk readings) word) ≡ is_some (refused_at m (way.planning walk) layout (way.op walk) readings place word)
       pub goes_on : (readings : Readings) (place : ℕ) → IsLedBy walk readings → way.wants (fed_all walk readings) ≡ Some place → way.refused (fed_all walk readings) ≡ false
       pub fits : (number : ℕ) (readings : Readings) → IsLedBy walk readings → way.wants (fed_all walk readings) ≡ None → way.refused (fed_all walk readings) ≡ false

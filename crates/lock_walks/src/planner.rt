@@ -65,7 +65,9 @@ pub trait Planner: Structure + Sized + Send + Sync {
         requires request { slice_get table.now.requests request.now.number ≡ Some request.now }
         requires served { (planning self.now).serves request.now.op ≡ true }
         ensures own { IsOf table.now result.0 }
-        ensures plans { HasPlanned (Self.meaning self.now) (planning self.now) request.now result.1 runner result.0 (G.halts gate.old) (G.halts gate.new) (G.asks gate.old) (G.asks gate.new) steps.old.count steps.new.count }
+        ensures plans { HasPlanned (Self.meaning self.now) (planning self.now) request.now result.1 runner result.0
+            (G.halts gate.old) (G.halts gate.new) (G.asks gate.old) (G.asks gate.new) steps.old.count
+            steps.new.count }
     {
         table_is_allowed(table);
         let walk = self.walk(table.layout(), request.op);

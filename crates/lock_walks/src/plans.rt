@@ -34,7 +34,9 @@ fn walk_on<S: Structure, W: Walker, G: Gate, L>(
     requires allowed { IsAllowed (W.way.op walker) }
     requires leads { Leads W.way (S.meaning table.now.structure) table.now.layout walker }
     ensures own { IsOf table.now result.0 }
-    ensures led { HasLed (S.meaning table.now.structure) table.now.layout W.way walker result.1 result.2 result.3 result.4 runner result.0 (G.halts gate.old) (G.halts gate.new) (G.asks gate.old) (G.asks gate.new) steps.old.count steps.new.count }
+    ensures led { HasLed (S.meaning table.now.structure) table.now.layout W.way walker result.1 result.2 result.3 result.4
+        runner result.0
+        (G.halts gate.old) (G.halts gate.new) (G.asks gate.old) (G.asks gate.new) steps.old.count steps.new.count }
 {
     table_is_allowed(table);
     walks_stand(table.structure());
@@ -77,7 +79,11 @@ fn refusal<S: Structure, W: Walker>(
     word: Word,
 ) -> Planned
     requires { IsWithinLimits layout }
-    ensures { (op : Op) (before : Readings) → is_some (refused_at (S.meaning structure.now) (W.way.planning walker.now) layout op before place word) ≡ true → refused_at (S.meaning structure.now) (W.way.planning walker.now) layout op before place word ≡ Some result }
+    ensures { (op : Op) (before : Readings)
+        → is_some
+        (refused_at (S.meaning structure.now) (W.way.planning walker.now) layout op before place word) ≡ true
+        → refused_at (S.meaning structure.now) (W.way.planning walker.now) layout op before place word ≡ Some
+        result }
 {
     if structure.is_lock(place) {
         return if word.value() == 0 {
@@ -117,7 +123,8 @@ pub fn plan_by<S: Structure, W: Walker, G: Gate, L>(
     requires allowed { IsAllowed request.now.op }
     requires leads { Leads W.way (S.meaning table.now.structure) table.now.layout walker }
     ensures own { IsOf table.now result.0 }
-    ensures plans { HasPlanned (S.meaning table.now.structure) (W.way.planning walker) request.now result.1 runner result.0 (G.halts gate.old) (G.halts gate.new) (G.asks gate.old) (G.asks gate.new) steps.old.count steps.new.count }
+    ensures plans { HasPlanned (S.meaning table.now.structure) (W.way.planning walker) request.now result.1 runner result.0
+        (G.halts gate.old) (G.halts gate.new) (G.asks gate.old) (G.asks gate.new) steps.old.count steps.new.count }
 {
     table_is_allowed(table);
     let (runner, walker, place, word, going) = walk_on(table, runner, walker, gate, steps);

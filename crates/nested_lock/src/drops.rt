@@ -22,7 +22,8 @@ pub fn drop_lock<S: Structure>(
     requires own { IsOf table.now runner }
     requires next { (q : RunState) × MayDrop (S.meaning table.now.structure) runner place held q }
     ensures own { IsOf table.now result }
-    ensures dropped { (q : RunState) → IsRunning (S.meaning table.now.structure) runner q → HasDropped (S.meaning table.now.structure) place held runner result q }
+    ensures dropped { (q : RunState) → IsRunning (S.meaning table.now.structure) runner q
+        → HasDropped (S.meaning table.now.structure) place held runner result q }
 {
     table_is_allowed(table);
     table.release(runner, place, Word::pack(0, held.version() - 1))

@@ -8,5 +8,6 @@ mod answers;
 mod drops;
 mod takes;
 
+pub use answers::refused;
 pub use drops::drop_lock;
 pub use takes::{TakeEnd, take, take_gated};

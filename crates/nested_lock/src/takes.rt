@@ -43,7 +43,8 @@ pub fn take<S: Structure>(
     requires own { IsOf table.now runner }
     requires next { (q : RunState) × MayTake (S.meaning table.now.structure) runner place expected q }
     ensures own { IsOf table.now result.0 }
-    ensures taken { (q : RunState) → IsRunning (S.meaning table.now.structure) runner q → Takes (S.meaning table.now.structure) place expected result.1 runner result.0 q }
+    ensures taken { (q : RunState) → IsRunning (S.meaning table.now.structure) runner q
+        → Takes (S.meaning table.now.structure) place expected result.1 runner result.0 q }
 {
     let descriptor = runner.descriptor();
     let mut gate = Free::new();
@@ -69,11 +70,15 @@ pub fn take_gated<S: Structure, G: Gate, L>(
 ) -> (Runner<S>, Option<TakeEnd>)
     requires own { IsOf table.now runner }
     requires next { (q : RunState) × MayTake (S.meaning table.now.structure) runner place expected q }
-    requires section { (q : RunState) → IsRunning (S.meaning table.now.structure) runner q → descriptor ≡ q.descriptor }
+    requires section { (q : RunState) → IsRunning (S.meaning table.now.structure) runner q
+        → descriptor ≡ q.descriptor }
     ensures own { IsOf table.now result.0 }
-    ensures taken { IfSome result.1 (λ end. (q : RunState) → IsRunning (S.meaning table.now.structure) runner q → HasTaken (S.meaning table.now.structure) place expected end runner result.0 q) }
-    ensures asked { IfSome result.1 (λ end. IsThrough (S.meaning table.now.structure) 5 runner result.0 (G.halts gate.old) (G.halts gate.new) (G.asks gate.old) (G.asks gate.new) steps.old.count steps.new.count) }
-    ensures halted { IfNone result.1 (IsHalted (S.meaning table.now.structure) 5 runner result.0 (G.halts gate.old) (G.halts gate.new) (G.asks gate.old) (G.asks gate.new) steps.old.count steps.new.count) }
+    ensures taken { IfSome result.1 (λ end. (q : RunState) → IsRunning (S.meaning table.now.structure) runner q
+        → HasTaken (S.meaning table.now.structure) place expected end runner result.0 q) }
+    ensures asked { IfSome result.1 (λ end. IsThrough (S.meaning table.now.structure) 5 runner result.0
+        (G.halts gate.old) (G.halts gate.new) (G.asks gate.old) (G.asks gate.new) steps.old.count steps.new.count) }
+    ensures halted { IfNone result.1 (IsHalted (S.meaning table.now.structure) 5 runner result.0
+        (G.halts gate.old) (G.halts gate.new) (G.asks gate.old) (G.asks gate.new) steps.old.count steps.new.count) }
 {
     table_is_allowed(table);
     let (runner, word) = table.nested_load(runner, place);
@@ -114,12 +119,17 @@ fn hold_gated<S: Structure, G: Gate, L>(
 ) -> (Runner<S>, Option<TakeEnd>)
     requires own { IsOf table.now runner }
     requires next { (q : RunState) × MayHold (S.meaning table.now.structure) runner place expected q }
-    requires section { (q : RunState) → IsRunning (S.meaning table.now.structure) runner q → descriptor ≡ q.descriptor }
+    requires section { (q : RunState) → IsRunning (S.meaning table.now.structure) runner q
+        → descriptor ≡ q.descriptor }
     ensures own { IsOf table.now result.0 }
     ensures first { IfSome result.1 (λ end. end.first ≡ first) }
-    ensures held { IfSome result.1 (λ end. (q : RunState) → IsRunning (S.meaning table.now.structure) runner q → (read : ℕ) × (end.second ≡ Some read) × HasHeld (S.meaning table.now.structure) place expected read end.answer runner result.0 q) }
-    ensures asked { IfSome result.1 (λ end. IsAsked 3 true (G.halts gate.old) (G.halts gate.new) (G.asks gate.old) (G.asks gate.new) steps.old.count steps.new.count) }
-    ensures halted { IfNone result.1 (IsHalted (S.meaning table.now.structure) 3 runner result.0 (G.halts gate.old) (G.halts gate.new) (G.asks gate.old) (G.asks gate.new) steps.old.count steps.new.count) }
+    ensures held { IfSome result.1 (λ end. (q : RunState) → IsRunning (S.meaning table.now.structure) runner q
+        → (read : ℕ) × (end.second ≡ Some read)
+        × HasHeld (S.meaning table.now.structure) place expected read end.answer runner result.0 q) }
+    ensures asked { IfSome result.1 (λ end. IsAsked 3 true
+        (G.halts gate.old) (G.halts gate.new) (G.asks gate.old) (G.asks gate.new) steps.old.count steps.new.count) }
+    ensures halted { IfNone result.1 (IsHalted (S.meaning table.now.structure) 3 runner result.0
+        (G.halts gate.old) (G.halts gate.new) (G.asks gate.old) (G.asks gate.new) steps.old.count steps.new.count) }
 {
     table_is_allowed(table);
     let runner = table.nested_hold(runner, place, expected);

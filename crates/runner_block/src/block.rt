@@ -70,7 +70,8 @@ impl Block {
 
     /// The commit of a retirement won or lost. Where it won the slot goes into limbo, with the epoch that the run loaded last for it.
     pub fn slot_retired(&mut self, slot: u32, won: bool)
-        requires room { won ≡ true → AreFew self.old.lists.room (slot_retired self.old.lists.part.nodes slot self.old.place.epoch) }
+        requires room { won ≡ true
+            → AreFew self.old.lists.room (slot_retired self.old.lists.part.nodes slot self.old.place.epoch) }
         requires few { self.old.place.agreed < 64 }
         ensures { self.new ≡ block_slot_retired self.old slot won }
     {

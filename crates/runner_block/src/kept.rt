@@ -68,7 +68,9 @@ impl Kept {
         requires nodes { nodes.first + nodes.count ≤ nodes.room }
         requires descriptors { descriptors.first + descriptors.count < 2 ^ 32 }
         requires descriptor_room { descriptors.count ≤ descriptors.room }
-        ensures part { IfOk result (λ x. x.part ≡ first_part (falling nodes.first nodes.count) (falling descriptors.first descriptors.count)) }
+        ensures part { IfOk result
+            (λ x. x.part ≡ first_part (falling nodes.first nodes.count)
+            (falling descriptors.first descriptors.count)) }
         ensures room { IfOk result (λ x. x.room ≡ nodes.room) }
     {
         Ok(Kept {
@@ -258,7 +260,8 @@ impl Kept {
     /// The slot in the hand that a Make filled is live, where its commit won; otherwise it comes back.
     pub fn made(&mut self, slot: u32, won: bool, worn: bool)
         requires { has self.old.part.nodes.hand slot ≡ true }
-        ensures { self.new ≡ with_nodes self.old (if won then slot_made self.old.part.nodes slot else slot_back self.old.part.nodes slot worn) }
+        ensures { self.new ≡ with_nodes self.old
+            (if won then slot_made self.old.part.nodes slot else slot_back self.old.part.nodes slot worn) }
     {
         self.nodes.made(slot, won, worn);
     }

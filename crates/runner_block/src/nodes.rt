@@ -124,7 +124,8 @@ impl NodeLists {
     /// The slot in the hand that a Make filled is live, where its commit won; otherwise it comes back.
     pub fn made(&mut self, slot: u32, won: bool, worn: bool)
         requires { has self.old.lists.hand slot ≡ true }
-        ensures { self.new ≡ nodes_are self.old (if won then slot_made self.old.lists slot else slot_back self.old.lists slot worn) }
+        ensures { self.new ≡ nodes_are self.old
+            (if won then slot_made self.old.lists slot else slot_back self.old.lists slot worn) }
     {
         if won {
             remove(&mut self.hand, slot);

@@ -24,43 +24,32 @@ pub struct RunPlace {
 
 impl RunPlace {
     /// The thunk word that is loaded next: that of the opening, or the first one of a new run.
-    pub fn next_thunk_word(self) -> u32
-        ensures { result ≡ next_thunk_word self }
+    #[inline(always)]
+    pub fn next_thunk_word(&self) -> u32
+        ensures { result ≡ next_thunk_word self.now }
     {
         if self.opened < 12 { self.opened } else { 0 }
     }
 
-    /// The place after one more word of an opening, or after the first of a new one.
-    pub fn opened(self, descriptor: u32, word: u64) -> RunPlace
-        ensures { result ≡ opened_place self descriptor word }
+    /// One more word of an opening was loaded, or the first of a new one.
+    #[inline(always)]
+    pub fn opened(&mut self, descriptor: u32, word: u64)
+        ensures { self.new ≡ opened_place self.old descriptor word }
     {
+        self.descriptor = descriptor;
+        self.inside = true;
         if self.opened < 12 {
-            let request = if self.opened == 1 {
-                Word::from_bits(word).value()
-            } else {
-                self.request
-            };
-            RunPlace {
-                descriptor,
-                opened: self.opened + 1,
-                request,
-                agreed: self.agreed,
-                epoch: self.epoch,
-                inside: true,
-                making: self.making,
-                worn: self.worn,
+            if self.opened == 1 {
+                self.request = Word::from_bits(word).value();
             }
+            self.opened += 1;
         } else {
-            RunPlace {
-                descriptor,
-                opened: 1,
-                request: 0,
-                agreed: 0,
-                epoch: 0,
-                inside: true,
-                making: false,
-                worn: false,
-            }
+            self.opened = 1;
+            self.request = 0;
+            self.agreed = 0;
+            self.epoch = 0;
+            self.making = false;
+            self.worn = false;
         }
     }
 }

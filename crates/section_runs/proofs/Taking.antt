@@ -26,7 +26,7 @@ use Rattle.idem_cell.specs.next_steps.specs.Stages.{reads_behind}
 use Rattle.idem_cell.specs.version_words.specs.RunnerState.{RunnerState}
 use Rattle.idem_cell.specs.commit_log.specs.Runs.{IsRunning}
 use Rattle.idem_cell.specs.commit_log.proofs.Next.{settled_at, settled_next}
-use Rattle.nested_lock.specs.Answers.{refused_by, first_outcome, second_outcome, outcome_at}
+use Rattle.nested_lock.specs.Answers.{left_by, first_outcome, second_outcome, outcome_at}
 use Rattle.nested_lock.specs.Taken.{MayTake, HasRead, HasHeld, HasTaken}
 use Rattle.nested_lock.specs.declared.takes.TakeEnd.{TakeEnd}
 use Rattle.nested_lock.proofs.Reading.{index_last}
@@ -48,7 +48,7 @@ may_take m r place word may = record {
 }
 
 -- it is Busy with the word that names a descriptor
-busy_word : (vm place expected read p w : ℕ) → refused_by vm place expected read ≡ outcomes.Busy p w → (is_free read ≡ false) × (w ≡ read)
+busy_word : (vm place expected read p w : ℕ) → left_by vm place expected read ≡ outcomes.Busy p w → (is_free read ≡ false) × (w ≡ read)
 busy_word vm place expected read p w e = by (is_free read) (is_spent vm read) refl e
   where
     by : (a b : Bool) → is_free read ≡ a → cond a (cond b (outcomes.Spent place read) (outcomes.Stale place expected read)) (outcomes.Busy place read) ≡ outcomes.Busy p w
@@ -202,8 +202,8 @@ module _ {T : Type 0} (m : Meaning) (r : RunnerState T) (place word n : ℕ) (be
           (λ i. has ((ap (λ (y : RunnerState T). y.part.reads) same ∙ reads_are) i).held (value_of (is.1 i) - 1))
           ∙ agreed_name reads.middle.part.reads q.descriptor end.first (ap (λ xs. has xs q.descriptor) published ∙ own) is.0
         where
-          refusal_of : first_outcome r.layout.version_max place word end.first ≡ Some (outcomes.Busy p w) → refused_by r.layout.version_max place word end.first ≡ outcomes.Busy p w
-          refusal_of e = not_none (end.first == word && (is_free end.first && not (is_spent r.layout.version_max end.first))) (refused_by r.layout.version_max place word end.first) (outcomes.Busy p w) e
+          refusal_of : first_outcome r.layout.version_max place word end.first ≡ Some (outcomes.Busy p w) → left_by r.layout.version_max place word end.first ≡ outcomes.Busy p w
+          refusal_of e = not_none (end.first == word && (is_free end.first && not (is_spent r.layout.version_max end.first))) (left_by r.layout.version_max place word end.first) (outcomes.Busy p w) e
 
     -- a first word with which the lock may be taken
     module _ (told : first_outcome r.layout.version_max place word end.first ≡ None) (read : ℕ) (tried : HasHeld m place word read end.answer between new b) where
@@ -291,7 +291,7 @@ module _ {T : Type 0} (m : Meaning) (r : RunnerState T) (place word n : ℕ) (be
         pub second_names : (p w : ℕ) → outcome ≡ outcomes.Busy p w → has r.part.reads.published q.descriptor ≡ true → has new.part.reads.held (value_of w - 1) ≡ true
         second_names p w busy own =
             let is = busy_word r.layout.version_max place word read p w
-            (not_none (read == held_word q.descriptor word) (refused_by r.layout.version_max place word read) (outcomes.Busy p w) (told_here ∙ (answered ∙ ap (λ (o : Outcome). Some o) busy))) in
+            (not_none (read == held_word q.descriptor word) (left_by r.layout.version_max place word read) (outcomes.Busy p w) (told_here ∙ (answered ∙ ap (λ (o : Outcome). Some o) busy))) in
             (λ i. has (reads_then i).held (value_of (is.1 i) - 1))
             ∙ agreed_name tried.looking.part.reads q.descriptor read (ap (λ xs. has xs q.descriptor) published_then ∙ own) is.0
 

@@ -15,3 +15,4 @@ pub use Rattle.idem_cell.specs.machine_records
 pub use Rattle.idem_cell.specs.reached_histories
 pub use Rattle.idem_cell.specs.version_words
 pub use Rattle.idem_cell.specs.commit_log
+pub use Rattle.nested_lock

@@ -56,11 +56,16 @@ pub fn walk<S: Structure, G: Gate, L>(
     requires trail { trail.old.words ≡ (run_of runner).trail }
     requires reserve { count_by is_make body.now ≤ length runner.part.nodes.free }
     ensures own { IsOf table.now result.0 }
-    ensures over { (n : ℕ) (o : Ending) → result.1 ≡ Over n o → HasWalked (S.meaning table.now.structure) n o runner result.0 }
+    ensures over { (n : ℕ) (o : Ending) → result.1 ≡ Over n o
+        → HasWalked (S.meaning table.now.structure) n o runner result.0 }
     ensures trail { result.1 ≢ Stopped → trail.new.words ≡ (run_of result.0).trail }
     ensures late { trail.new.late ≡ trail.old.late }
-    ensures through { result.1 ≢ Stopped → IsThrough (S.meaning table.now.structure) (sum_by step_cost body.now) runner result.0 (G.halts gate.old) (G.halts gate.new) (G.asks gate.old) (G.asks gate.new) steps.old.count steps.new.count }
-    ensures halted { result.1 ≡ Stopped → IsHalted (S.meaning table.now.structure) (sum_by step_cost body.now) runner result.0 (G.halts gate.old) (G.halts gate.new) (G.asks gate.old) (G.asks gate.new) steps.old.count steps.new.count }
+    ensures through { result.1 ≢ Stopped
+        → IsThrough (S.meaning table.now.structure) (sum_by step_cost body.now) runner result.0
+        (G.halts gate.old) (G.halts gate.new) (G.asks gate.old) (G.asks gate.new) steps.old.count steps.new.count }
+    ensures halted { result.1 ≡ Stopped
+        → IsHalted (S.meaning table.now.structure) (sum_by step_cost body.now) runner result.0
+        (G.halts gate.old) (G.halts gate.new) (G.asks gate.old) (G.asks gate.new) steps.old.count steps.new.count }
 {
     table_is_allowed(table);
     let mut runner = runner;

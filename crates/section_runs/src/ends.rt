@@ -28,8 +28,10 @@ fn finish<S: Structure, G: Gate, L>(
     ensures own { IsOf table.now result.0 }
     ensures ending { result.1 ≡ true → IsEnding (S.meaning table.now.structure) taken 0 result.0 }
     ensures same { result.1 ≡ true → EndsOn (S.meaning table.now.structure) runner result.0 }
-    ensures through { result.1 ≡ true → IsThrough (S.meaning table.now.structure) 1 runner result.0 (G.halts gate.old) (G.halts gate.new) (G.asks gate.old) (G.asks gate.new) steps.old.count steps.new.count }
-    ensures halted { result.1 ≡ false → IsHalted (S.meaning table.now.structure) 1 runner result.0 (G.halts gate.old) (G.halts gate.new) (G.asks gate.old) (G.asks gate.new) steps.old.count steps.new.count }
+    ensures through { result.1 ≡ true → IsThrough (S.meaning table.now.structure) 1 runner result.0
+        (G.halts gate.old) (G.halts gate.new) (G.asks gate.old) (G.asks gate.new) steps.old.count steps.new.count }
+    ensures halted { result.1 ≡ false → IsHalted (S.meaning table.now.structure) 1 runner result.0
+        (G.halts gate.old) (G.halts gate.new) (G.asks gate.old) (G.asks gate.new) steps.old.count steps.new.count }
 {
     let _ = taken;
     table_is_allowed(table);
@@ -55,8 +57,12 @@ fn release_step<S: Structure, G: Gate, L>(
     ensures own { IsOf table.now result.0 }
     ensures ending { result.1 ≡ true → IsEnding (S.meaning table.now.structure) taken (n + 1) result.0 }
     ensures same { result.1 ≡ true → EndsOn (S.meaning table.now.structure) runner result.0 }
-    ensures through { result.1 ≡ true → IsThrough (S.meaning table.now.structure) (cond (is_take step.now) 1 0) runner result.0 (G.halts gate.old) (G.halts gate.new) (G.asks gate.old) (G.asks gate.new) steps.old.count steps.new.count }
-    ensures halted { result.1 ≡ false → IsHalted (S.meaning table.now.structure) (cond (is_take step.now) 1 0) runner result.0 (G.halts gate.old) (G.halts gate.new) (G.asks gate.old) (G.asks gate.new) steps.old.count steps.new.count }
+    ensures through { result.1 ≡ true
+        → IsThrough (S.meaning table.now.structure) (cond (is_take step.now) 1 0) runner result.0
+        (G.halts gate.old) (G.halts gate.new) (G.asks gate.old) (G.asks gate.new) steps.old.count steps.new.count }
+    ensures halted { result.1 ≡ false
+        → IsHalted (S.meaning table.now.structure) (cond (is_take step.now) 1 0) runner result.0
+        (G.halts gate.old) (G.halts gate.new) (G.asks gate.old) (G.asks gate.new) steps.old.count steps.new.count }
 {
     let _ = taken;
     let _ = n;
@@ -87,8 +93,12 @@ fn release_all<S: Structure, G: Gate, L>(
     ensures own { IsOf table.now result.0 }
     ensures ending { result.1 ≡ true → IsEnding (S.meaning table.now.structure) taken taken result.0 }
     ensures same { result.1 ≡ true → EndsOn (S.meaning table.now.structure) runner result.0 }
-    ensures through { result.1 ≡ true → IsThrough (S.meaning table.now.structure) (count_by is_take body.now) runner result.0 (G.halts gate.old) (G.halts gate.new) (G.asks gate.old) (G.asks gate.new) steps.old.count steps.new.count }
-    ensures halted { result.1 ≡ false → IsHalted (S.meaning table.now.structure) (count_by is_take body.now) runner result.0 (G.halts gate.old) (G.halts gate.new) (G.asks gate.old) (G.asks gate.new) steps.old.count steps.new.count }
+    ensures through { result.1 ≡ true
+        → IsThrough (S.meaning table.now.structure) (count_by is_take body.now) runner result.0
+        (G.halts gate.old) (G.halts gate.new) (G.asks gate.old) (G.asks gate.new) steps.old.count steps.new.count }
+    ensures halted { result.1 ≡ false
+        → IsHalted (S.meaning table.now.structure) (count_by is_take body.now) runner result.0
+        (G.halts gate.old) (G.halts gate.new) (G.asks gate.old) (G.asks gate.new) steps.old.count steps.new.count }
 {
     let mut runner = runner;
     for n in 0..taken {
@@ -117,7 +127,8 @@ fn release_last<S: Structure, G: Gate, L>(
     requires next { IsEnding (S.meaning table.now.structure) taken taken runner }
     ensures own { IsOf table.now result.0 }
     ensures released { HasReleased (S.meaning table.now.structure) runner result.0 }
-    ensures asked { IsAsked 1 result.1 (G.halts gate.old) (G.halts gate.new) (G.asks gate.old) (G.asks gate.new) steps.old.count steps.new.count }
+    ensures asked { IsAsked 1 result.1
+        (G.halts gate.old) (G.halts gate.new) (G.asks gate.old) (G.asks gate.new) steps.old.count steps.new.count }
 {
     let _ = taken;
     table_is_allowed(table);
@@ -145,8 +156,12 @@ pub fn end<S: Structure, G: Gate, L>(
     requires word { word ≡ (thunk_of (run_of runner).opened).word }
     requires over { (o : Outcome) × IsOver (S.meaning table.now.structure) taken o runner }
     ensures own { IsOf table.now result.0 }
-    ensures ended { result.1 ≡ true → EndsAsked (S.meaning table.now.structure) (count_by is_take body.now) runner result.0 (G.halts gate.old) (G.halts gate.new) (G.asks gate.old) (G.asks gate.new) steps.old.count steps.new.count }
-    ensures halted { result.1 ≡ false → IsHalted (S.meaning table.now.structure) (2 + count_by is_take body.now) runner result.0 (G.halts gate.old) (G.halts gate.new) (G.asks gate.old) (G.asks gate.new) steps.old.count steps.new.count }
+    ensures ended { result.1 ≡ true
+        → EndsAsked (S.meaning table.now.structure) (count_by is_take body.now) runner result.0
+        (G.halts gate.old) (G.halts gate.new) (G.asks gate.old) (G.asks gate.new) steps.old.count steps.new.count }
+    ensures halted { result.1 ≡ false
+        → IsHalted (S.meaning table.now.structure) (2 + count_by is_take body.now) runner result.0
+        (G.halts gate.old) (G.halts gate.new) (G.asks gate.old) (G.asks gate.new) steps.old.count steps.new.count }
 {
     table_is_allowed(table);
     let (runner, going) = finish(table, runner, taken, gate, steps);

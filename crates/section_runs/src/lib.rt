@@ -24,3 +24,4 @@ pub use runs::{RunEnd, run};
 
 // Passed on to the layers above, so that they needn't name these libraries themselves.
 pub use idem_cell::{commit_log, interleave_core, reached_histories, version_words};
+pub use nested_lock;

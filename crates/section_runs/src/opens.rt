@@ -49,9 +49,12 @@ fn load_words<S: Structure, G: Gate, L>(
     requires next { MayBegin (S.meaning table.now.structure) runner descriptor }
     requires empty { words.old.items ≡ [] }
     ensures own { IsOf table.now result.0 }
-    ensures opening { result.1 ≡ true → IsOpening (S.meaning table.now.structure) 12 descriptor words.new.items runner result.0 }
-    ensures asked { result.1 ≡ true → IsAsked 12 true (G.halts gate.old) (G.halts gate.new) (G.asks gate.old) (G.asks gate.new) steps.old.count steps.new.count }
-    ensures halted { result.1 ≡ false → HasHalted (S.meaning table.now.structure) 12 descriptor runner result.0 (G.halts gate.old) (G.halts gate.new) (G.asks gate.old) (G.asks gate.new) steps.old.count steps.new.count }
+    ensures opening { result.1 ≡ true
+        → IsOpening (S.meaning table.now.structure) 12 descriptor words.new.items runner result.0 }
+    ensures asked { result.1 ≡ true → IsAsked 12 true
+        (G.halts gate.old) (G.halts gate.new) (G.asks gate.old) (G.asks gate.new) steps.old.count steps.new.count }
+    ensures halted { result.1 ≡ false → HasHalted (S.meaning table.now.structure) 12 descriptor runner result.0
+        (G.halts gate.old) (G.halts gate.new) (G.asks gate.old) (G.asks gate.new) steps.old.count steps.new.count }
 {
     table_is_allowed(table);
     let mut runner = runner;
@@ -81,9 +84,12 @@ pub fn open<S: Structure, G: Gate, L>(
     requires own { IsOf table.now runner }
     requires next { MayBegin (S.meaning table.now.structure) runner descriptor }
     ensures own { IsOf table.now result.0 }
-    ensures opened { IfSome result.1 (λ found. HasOpened (S.meaning table.now.structure) descriptor found.0 found.1 runner result.0) }
-    ensures asked { IfSome result.1 (λ found. IsAsked 13 true (G.halts gate.old) (G.halts gate.new) (G.asks gate.old) (G.asks gate.new) steps.old.count steps.new.count) }
-    ensures halted { IfNone result.1 (HasHalted (S.meaning table.now.structure) 13 descriptor runner result.0 (G.halts gate.old) (G.halts gate.new) (G.asks gate.old) (G.asks gate.new) steps.old.count steps.new.count) }
+    ensures opened { IfSome result.1
+        (λ found. HasOpened (S.meaning table.now.structure) descriptor found.0 found.1 runner result.0) }
+    ensures asked { IfSome result.1 (λ found. IsAsked 13 true
+        (G.halts gate.old) (G.halts gate.new) (G.asks gate.old) (G.asks gate.new) steps.old.count steps.new.count) }
+    ensures halted { IfNone result.1 (HasHalted (S.meaning table.now.structure) 13 descriptor runner result.0
+        (G.halts gate.old) (G.halts gate.new) (G.asks gate.old) (G.asks gate.new) steps.old.count steps.new.count) }
 {
     table_is_allowed(table);
     let mut words = ArrayVec::new();

@@ -27,7 +27,8 @@ impl Places {
     /// One more step was made, before which so many words were agreed on.
     pub fn note(&mut self, step: &Step, count: u32)
         requires within { IsWithin step.now }
-        ensures { (g : Registers) → AreKept self.old g → count ≡ g.count → AreKept self.new (registers_after g step.now) }
+        ensures { (g : Registers) → AreKept self.old g → count ≡ g.count
+            → AreKept self.new (registers_after g step.now) }
     {
         match *step {
             Step::Load { place, into } => {

@@ -70,10 +70,16 @@ fn run_steps<S: Structure, G: Gate, L>(
     requires line { line.now ≡ (S.meaning table.now.structure).body thunk.now }
     requires reserve { 2 ≤ length runner.part.nodes.free }
     ensures own { IsOf table.now result.0 }
-    ensures done { (before : RunnerState S) (o : Ending) (trail : Agreed) → HasOpened (S.meaning table.now.structure) descriptor thunk.now late before runner → result.1 ≡ Done o trail
-        → (made : ℕ) × EndsSo (S.meaning table.now.structure) descriptor thunk.now o trail (13 + made) before result.0
-        × IsAsked made true (G.halts gate.old) (G.halts gate.new) (G.asks gate.old) (G.asks gate.new) steps.old.count steps.new.count }
-    ensures halted { result.1 ≡ Halted → IsHalted (S.meaning table.now.structure) (rest_of ((S.meaning table.now.structure).body thunk.now)) runner result.0 (G.halts gate.old) (G.halts gate.new) (G.asks gate.old) (G.asks gate.new) steps.old.count steps.new.count }
+    ensures done { (before : RunnerState S) (o : Ending) (trail : Agreed)
+        → HasOpened (S.meaning table.now.structure) descriptor thunk.now late before runner
+        → result.1 ≡ Done o trail → (made : ℕ)
+        × EndsSo (S.meaning table.now.structure) descriptor thunk.now o trail (13 + made) before result.0
+        × IsAsked made true
+        (G.halts gate.old) (G.halts gate.new) (G.asks gate.old) (G.asks gate.new) steps.old.count steps.new.count }
+    ensures halted { result.1 ≡ Halted
+        → IsHalted (S.meaning table.now.structure) (rest_of ((S.meaning table.now.structure).body thunk.now)) runner
+        result.0
+        (G.halts gate.old) (G.halts gate.new) (G.asks gate.old) (G.asks gate.new) steps.old.count steps.new.count }
 {
     table_is_allowed(table);
     let mut trail = trail_of(late);
@@ -105,10 +111,16 @@ fn run_opened<S: Structure, G: Gate, L>(
     requires opened { StandsOpened (S.meaning table.now.structure) descriptor thunk.now late runner }
     requires reserve { 2 ≤ length runner.part.nodes.free }
     ensures own { IsOf table.now result.0 }
-    ensures done { (before : RunnerState S) (o : Ending) (trail : Agreed) → HasOpened (S.meaning table.now.structure) descriptor thunk.now late before runner → result.1 ≡ Done o trail
-        → (made : ℕ) × EndsSo (S.meaning table.now.structure) descriptor thunk.now o trail (13 + made) before result.0
-        × IsAsked made true (G.halts gate.old) (G.halts gate.new) (G.asks gate.old) (G.asks gate.new) steps.old.count steps.new.count }
-    ensures halted { result.1 ≡ Halted → IsHalted (S.meaning table.now.structure) (rest_of ((S.meaning table.now.structure).body thunk.now)) runner result.0 (G.halts gate.old) (G.halts gate.new) (G.asks gate.old) (G.asks gate.new) steps.old.count steps.new.count }
+    ensures done { (before : RunnerState S) (o : Ending) (trail : Agreed)
+        → HasOpened (S.meaning table.now.structure) descriptor thunk.now late before runner
+        → result.1 ≡ Done o trail → (made : ℕ)
+        × EndsSo (S.meaning table.now.structure) descriptor thunk.now o trail (13 + made) before result.0
+        × IsAsked made true
+        (G.halts gate.old) (G.halts gate.new) (G.asks gate.old) (G.asks gate.new) steps.old.count steps.new.count }
+    ensures halted { result.1 ≡ Halted
+        → IsHalted (S.meaning table.now.structure) (rest_of ((S.meaning table.now.structure).body thunk.now)) runner
+        result.0
+        (G.halts gate.old) (G.halts gate.new) (G.asks gate.old) (G.asks gate.new) steps.old.count steps.new.count }
 {
     let Some(mut body) = runner.take_body() else {
         let body = table.structure().body(thunk);
@@ -140,10 +152,12 @@ pub fn run<S: Structure, G: Gate, L>(
     requires next { MayBegin (S.meaning table.now.structure) runner descriptor }
     requires reserve { 2 ≤ length runner.part.nodes.free }
     ensures own { IsOf table.now result.0 }
-    ensures done { (o : Ending) (trail : Agreed) → result.1 ≡ Done o trail → (t : Words) × (made : ℕ) × EndsSo (S.meaning table.now.structure) descriptor t o trail made runner result.0
-        × IsAsked made true (G.halts gate.old) (G.halts gate.new) (G.asks gate.old) (G.asks gate.new) steps.old.count steps.new.count }
-    ensures halted { result.1 ≡ Halted → (made : ℕ) × IsCutShort (S.meaning table.now.structure) descriptor made runner result.0
-        × IsAsked made false (G.halts gate.old) (G.halts gate.new) (G.asks gate.old) (G.asks gate.new) steps.old.count steps.new.count }
+    ensures done { (o : Ending) (trail : Agreed) → result.1 ≡ Done o trail → (t : Words) × (made : ℕ)
+        × EndsSo (S.meaning table.now.structure) descriptor t o trail made runner result.0 × IsAsked made true
+        (G.halts gate.old) (G.halts gate.new) (G.asks gate.old) (G.asks gate.new) steps.old.count steps.new.count }
+    ensures halted { result.1 ≡ Halted → (made : ℕ)
+        × IsCutShort (S.meaning table.now.structure) descriptor made runner result.0 × IsAsked made false
+        (G.halts gate.old) (G.halts gate.new) (G.asks gate.old) (G.asks gate.new) steps.old.count steps.new.count }
 {
     table_is_allowed(table);
     let (runner, opened) = open(table, runner, descriptor, gate, steps);

@@ -34,11 +34,14 @@ fn load_step<S: Structure, G: Gate, L>(
     requires next { (into : ℕ) × MayGo (S.meaning table.now.structure) (kinds.Load place into) runner }
     requires trail { trail.old.words ≡ (run_of runner).trail }
     ensures own { IsOf table.now result.0 }
-    ensures goes { result.1 ≡ true → (into : ℕ) → GoesOn (S.meaning table.now.structure) (kinds.Load place into) runner result.0 }
+    ensures goes { result.1 ≡ true → (into : ℕ)
+        → GoesOn (S.meaning table.now.structure) (kinds.Load place into) runner result.0 }
     ensures trail { result.1 ≡ true → trail.new.words ≡ (run_of result.0).trail }
     ensures late { trail.new.late ≡ trail.old.late }
-    ensures through { result.1 ≡ true → IsThrough (S.meaning table.now.structure) 2 runner result.0 (G.halts gate.old) (G.halts gate.new) (G.asks gate.old) (G.asks gate.new) steps.old.count steps.new.count }
-    ensures halted { result.1 ≡ false → IsHalted (S.meaning table.now.structure) 2 runner result.0 (G.halts gate.old) (G.halts gate.new) (G.asks gate.old) (G.asks gate.new) steps.old.count steps.new.count }
+    ensures through { result.1 ≡ true → IsThrough (S.meaning table.now.structure) 2 runner result.0
+        (G.halts gate.old) (G.halts gate.new) (G.asks gate.old) (G.asks gate.new) steps.old.count steps.new.count }
+    ensures halted { result.1 ≡ false → IsHalted (S.meaning table.now.structure) 2 runner result.0
+        (G.halts gate.old) (G.halts gate.new) (G.asks gate.old) (G.asks gate.new) steps.old.count steps.new.count }
 {
     table_is_allowed(table);
     let (runner, word) = load_gated(table, runner, place, gate, steps);
@@ -66,11 +69,14 @@ fn make_step<S: Structure, G: Gate, L>(
     requires reserve { 1 ≤ length runner.part.nodes.free }
     requires trail { trail.old.words ≡ (run_of runner).trail }
     ensures own { IsOf table.now result.0 }
-    ensures goes { result.1 ≡ true → (into : ℕ) → GoesOn (S.meaning table.now.structure) (kinds.Make init into) runner result.0 }
+    ensures goes { result.1 ≡ true → (into : ℕ)
+        → GoesOn (S.meaning table.now.structure) (kinds.Make init into) runner result.0 }
     ensures trail { result.1 ≡ true → trail.new.words ≡ (run_of result.0).trail }
     ensures late { trail.new.late ≡ trail.old.late }
-    ensures through { result.1 ≡ true → IsThrough (S.meaning table.now.structure) 11 runner result.0 (G.halts gate.old) (G.halts gate.new) (G.asks gate.old) (G.asks gate.new) steps.old.count steps.new.count }
-    ensures halted { result.1 ≡ false → IsHalted (S.meaning table.now.structure) 11 runner result.0 (G.halts gate.old) (G.halts gate.new) (G.asks gate.old) (G.asks gate.new) steps.old.count steps.new.count }
+    ensures through { result.1 ≡ true → IsThrough (S.meaning table.now.structure) 11 runner result.0
+        (G.halts gate.old) (G.halts gate.new) (G.asks gate.old) (G.asks gate.new) steps.old.count steps.new.count }
+    ensures halted { result.1 ≡ false → IsHalted (S.meaning table.now.structure) 11 runner result.0
+        (G.halts gate.old) (G.halts gate.new) (G.asks gate.old) (G.asks gate.new) steps.old.count steps.new.count }
 {
     table_is_allowed(table);
     let values = [
@@ -105,10 +111,13 @@ fn store_step<S: Structure, G: Gate, L>(
     requires next { MayGoBy (S.meaning table.now.structure) (kinds.Store reg value) kept.now runner }
     requires trail { trail.now.words ≡ (run_of runner).trail }
     ensures own { IsOf table.now result.0 }
-    ensures goes { result.1 ≡ true → GoesOn (S.meaning table.now.structure) (kinds.Store reg value) runner result.0 }
+    ensures goes { result.1 ≡ true
+        → GoesOn (S.meaning table.now.structure) (kinds.Store reg value) runner result.0 }
     ensures trail { result.1 ≡ true → trail.now.words ≡ (run_of result.0).trail }
-    ensures through { result.1 ≡ true → IsThrough (S.meaning table.now.structure) 1 runner result.0 (G.halts gate.old) (G.halts gate.new) (G.asks gate.old) (G.asks gate.new) steps.old.count steps.new.count }
-    ensures halted { result.1 ≡ false → IsHalted (S.meaning table.now.structure) 1 runner result.0 (G.halts gate.old) (G.halts gate.new) (G.asks gate.old) (G.asks gate.new) steps.old.count steps.new.count }
+    ensures through { result.1 ≡ true → IsThrough (S.meaning table.now.structure) 1 runner result.0
+        (G.halts gate.old) (G.halts gate.new) (G.asks gate.old) (G.asks gate.new) steps.old.count steps.new.count }
+    ensures halted { result.1 ≡ false → IsHalted (S.meaning table.now.structure) 1 runner result.0
+        (G.halts gate.old) (G.halts gate.new) (G.asks gate.old) (G.asks gate.new) steps.old.count steps.new.count }
 {
     table_is_allowed(table);
     let place = kept.places[reg as usize];
@@ -135,8 +144,10 @@ fn retire_step<S: Structure, G: Gate, L>(
     ensures goes { result.1 ≡ true → GoesOn (S.meaning table.now.structure) (kinds.Retire slot) runner result.0 }
     ensures trail { result.1 ≡ true → trail.new.words ≡ (run_of result.0).trail }
     ensures late { trail.new.late ≡ trail.old.late }
-    ensures through { result.1 ≡ true → IsThrough (S.meaning table.now.structure) 2 runner result.0 (G.halts gate.old) (G.halts gate.new) (G.asks gate.old) (G.asks gate.new) steps.old.count steps.new.count }
-    ensures halted { result.1 ≡ false → IsHalted (S.meaning table.now.structure) 2 runner result.0 (G.halts gate.old) (G.halts gate.new) (G.asks gate.old) (G.asks gate.new) steps.old.count steps.new.count }
+    ensures through { result.1 ≡ true → IsThrough (S.meaning table.now.structure) 2 runner result.0
+        (G.halts gate.old) (G.halts gate.new) (G.asks gate.old) (G.asks gate.new) steps.old.count steps.new.count }
+    ensures halted { result.1 ≡ false → IsHalted (S.meaning table.now.structure) 2 runner result.0
+        (G.halts gate.old) (G.halts gate.new) (G.asks gate.old) (G.asks gate.new) steps.old.count steps.new.count }
 {
     table_is_allowed(table);
     let (runner, going) = retire_gated(table, runner, slot, gate, steps);
@@ -161,11 +172,14 @@ fn take_step<S: Structure, G: Gate, L>(
     requires trail { trail.old.words ≡ (run_of runner).trail }
     ensures own { IsOf table.now result.0 }
     ensures goes { result.1 ≡ On → GoesOn (S.meaning table.now.structure) (kinds.Take place word) runner result.0 }
-    ensures leaves { (o : Outcome) → result.1 ≡ Left o → Leaves (S.meaning table.now.structure) (kinds.Take place word) o runner result.0 }
+    ensures leaves { (o : Outcome) → result.1 ≡ Left o
+        → Leaves (S.meaning table.now.structure) (kinds.Take place word) o runner result.0 }
     ensures trail { result.1 ≢ Halted → trail.new.words ≡ (run_of result.0).trail }
     ensures late { trail.new.late ≡ trail.old.late }
-    ensures through { result.1 ≢ Halted → IsThrough (S.meaning table.now.structure) 5 runner result.0 (G.halts gate.old) (G.halts gate.new) (G.asks gate.old) (G.asks gate.new) steps.old.count steps.new.count }
-    ensures halted { result.1 ≡ Halted → IsHalted (S.meaning table.now.structure) 5 runner result.0 (G.halts gate.old) (G.halts gate.new) (G.asks gate.old) (G.asks gate.new) steps.old.count steps.new.count }
+    ensures through { result.1 ≢ Halted → IsThrough (S.meaning table.now.structure) 5 runner result.0
+        (G.halts gate.old) (G.halts gate.new) (G.asks gate.old) (G.asks gate.new) steps.old.count steps.new.count }
+    ensures halted { result.1 ≡ Halted → IsHalted (S.meaning table.now.structure) 5 runner result.0
+        (G.halts gate.old) (G.halts gate.new) (G.asks gate.old) (G.asks gate.new) steps.old.count steps.new.count }
 {
     table_is_allowed(table);
     let (runner, end) = take_gated(table, runner, descriptor, place, word, gate, steps);
@@ -190,8 +204,10 @@ fn stamp_step<S: Structure, G: Gate, L>(
     ensures own { IsOf table.now result.0 }
     ensures goes { result.1 ≡ true → GoesOn (S.meaning table.now.structure) kinds.Stamp runner result.0 }
     ensures trail { result.1 ≡ true → (run_of result.0).trail ≡ (run_of runner).trail }
-    ensures through { result.1 ≡ true → IsThrough (S.meaning table.now.structure) 3 runner result.0 (G.halts gate.old) (G.halts gate.new) (G.asks gate.old) (G.asks gate.new) steps.old.count steps.new.count }
-    ensures halted { result.1 ≡ false → IsHalted (S.meaning table.now.structure) 3 runner result.0 (G.halts gate.old) (G.halts gate.new) (G.asks gate.old) (G.asks gate.new) steps.old.count steps.new.count }
+    ensures through { result.1 ≡ true → IsThrough (S.meaning table.now.structure) 3 runner result.0
+        (G.halts gate.old) (G.halts gate.new) (G.asks gate.old) (G.asks gate.new) steps.old.count steps.new.count }
+    ensures halted { result.1 ≡ false → IsHalted (S.meaning table.now.structure) 3 runner result.0
+        (G.halts gate.old) (G.halts gate.new) (G.asks gate.old) (G.asks gate.new) steps.old.count steps.new.count }
 {
     table_is_allowed(table);
     let (runner, clock) = table.clock_load(runner);
@@ -220,8 +236,10 @@ fn answer_step<S: Structure, G: Gate, L>(
     ensures own { IsOf table.now result.0 }
     ensures goes { result.1 ≡ true → GoesOn (S.meaning table.now.structure) (kinds.Answer reply) runner result.0 }
     ensures trail { result.1 ≡ true → (run_of result.0).trail ≡ (run_of runner).trail }
-    ensures through { result.1 ≡ true → IsThrough (S.meaning table.now.structure) 1 runner result.0 (G.halts gate.old) (G.halts gate.new) (G.asks gate.old) (G.asks gate.new) steps.old.count steps.new.count }
-    ensures halted { result.1 ≡ false → IsHalted (S.meaning table.now.structure) 1 runner result.0 (G.halts gate.old) (G.halts gate.new) (G.asks gate.old) (G.asks gate.new) steps.old.count steps.new.count }
+    ensures through { result.1 ≡ true → IsThrough (S.meaning table.now.structure) 1 runner result.0
+        (G.halts gate.old) (G.halts gate.new) (G.asks gate.old) (G.asks gate.new) steps.old.count steps.new.count }
+    ensures halted { result.1 ≡ false → IsHalted (S.meaning table.now.structure) 1 runner result.0
+        (G.halts gate.old) (G.halts gate.new) (G.asks gate.old) (G.asks gate.new) steps.old.count steps.new.count }
 {
     table_is_allowed(table);
     let (runner, _) = table.reply_exchange(runner, reply);
@@ -254,7 +272,8 @@ pub fn step_gated<S: Structure, G: Gate, L>(
     requires trail { trail.old.words ≡ (run_of runner).trail }
     requires reserve { is_make step.now ≡ true → 1 ≤ length runner.part.nodes.free }
     ensures own { IsOf table.now result.0 }
-    ensures went { Went (S.meaning table.now.structure) n step.now result.1 runner result.0 trail.old trail.new (G.halts gate.old) (G.halts gate.new) (G.asks gate.old) (G.asks gate.new) steps.old.count steps.new.count }
+    ensures went { Went (S.meaning table.now.structure) n step.now result.1 runner result.0 trail.old trail.new
+        (G.halts gate.old) (G.halts gate.new) (G.asks gate.old) (G.asks gate.new) steps.old.count steps.new.count }
 {
     let _ = n;
     table_is_allowed(table);

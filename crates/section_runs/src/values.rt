@@ -30,7 +30,9 @@ pub fn value_in(kept: &Places, trail: &Trail, value: Value) -> u32
 /// The outcome of a Want of this word in this register, or that the run goes on.
 pub fn wanted(kept: &Places, trail: &Trail, reg: u8, expected: Word) -> Passed
     requires { (g : Registers) × AreKept kept.now g × IsLogged g (length trail.now.words) (Of reg) × (reg ≤ 15) }
-    ensures { (g : Registers) → AreKept kept.now g → let read = slice_index trail.now.words (g.log reg) in result ≡ cond (read == expected) On (Left (Stale (g.place reg) expected read)) }
+    ensures { (g : Registers) → AreKept kept.now g
+        → let read = slice_index trail.now.words (g.log reg) in result ≡ cond (read == expected) On
+        (Left (Stale (g.place reg) expected read)) }
 {
     let place = kept.places[reg as usize];
     let read = trail.word(kept.logs[reg as usize]);
@@ -48,7 +50,9 @@ pub fn wanted(kept: &Places, trail: &Trail, reg: u8, expected: Word) -> Passed
 /// The outcome of a Fresh of this register, or that the run goes on.
 pub fn tested(kept: &Places, trail: &Trail, reg: u8, version_max: u32) -> Passed
     requires { (g : Registers) × AreKept kept.now g × IsLogged g (length trail.now.words) (Of reg) × (reg ≤ 15) }
-    ensures { (g : Registers) → AreKept kept.now g → let read = slice_index trail.now.words (g.log reg) in result ≡ cond (version_of read == version_max) (Left (Spent (g.place reg) read)) On }
+    ensures { (g : Registers) → AreKept kept.now g
+        → let read = slice_index trail.now.words (g.log reg) in result ≡ cond (version_of read == version_max)
+        (Left (Spent (g.place reg) read)) On }
 {
     let place = kept.places[reg as usize];
     let read = trail.word(kept.logs[reg as usize]);

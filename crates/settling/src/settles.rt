@@ -62,7 +62,8 @@ fn clear_locks<S: Structure>(table: &FlockTable<S>, keeper: Runner<S>) -> Runner
     requires own { IsOf table.now keeper }
     requires next { IsClearing (S.meaning table.now.structure) 0 keeper }
     ensures own { IsOf table.now result }
-    ensures cleared { IsClearing (S.meaning table.now.structure) (cell_count (S.meaning table.now.structure) table.now.layout) result }
+    ensures cleared { IsClearing (S.meaning table.now.structure) (cell_count (S.meaning table.now.structure) table.now.layout)
+        result }
     ensures keeps { KeepsJoins keeper result }
 {
     table_is_allowed(table);

@@ -8,7 +8,9 @@
 mod rows;
 mod walks;
 
-pub use walks::{collect, crew, enter, entry, exit, fetch, gather, look, new_table, put, slot_of};
+pub use walks::{
+    collect, crew, enter, entry, exit, fetch, fetch_word, gather, look, new_table, put, slot_of,
+};
 
 // Passed on to the layers above, so that they needn't name these libraries themselves.
 pub use version_words;

@@ -112,6 +112,26 @@ pub fn fetch(
     table.private_load(runner, slot, word)
 }
 
+/// Loads a word of an own free descriptor, as one of a descriptor.
+#[inline(always)]
+pub fn fetch_word(
+    table: &FlockTable<Tray>,
+    runner: Runner<Tray>,
+    descriptor: u32,
+    word: u32,
+) -> (Runner<Tray>, u64)
+    requires own { IsOf table.now runner }
+    requires at { IsAt runner stages.Idle None }
+    requires free { HasFree runner descriptor }
+    requires word { word < 77 }
+    ensures own { IsOf table.now result.0 }
+    ensures at { IsAt result.0 stages.Idle None }
+    ensures free { HasFree result.0 descriptor }
+    ensures number { result.0.number ≡ runner.number }
+{
+    table.descriptor_load(runner, descriptor, word)
+}
+
 /// Loads a request's stamp word.
 pub fn entry(table: &FlockTable<Tray>, runner: Runner<Tray>, request: u32) -> (Runner<Tray>, u64)
     requires own { IsOf table.now runner }

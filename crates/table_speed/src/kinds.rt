@@ -11,17 +11,20 @@ pub enum Kind {
     PrivateLoad,
     /// A store into a word of an own free descriptor.
     PrivateStore,
+    /// The loads of all words of an own free descriptor, each compared with a number.
+    Descriptor,
     /// An entry and its end: two loads of the epoch, and two stores of the announcement.
     Enter,
     /// A scan of two workers and the keeper: four loads, and the exchange that advances the epoch.
     Scan,
 }
 
-pub const KINDS: [Kind; 6] = [
+pub const KINDS: [Kind; 7] = [
     Kind::LoadEntry,
     Kind::LoadCell,
     Kind::PrivateLoad,
     Kind::PrivateStore,
+    Kind::Descriptor,
     Kind::Enter,
     Kind::Scan,
 ];
@@ -33,6 +36,7 @@ impl Kind {
             Kind::LoadCell => "load_cell",
             Kind::PrivateLoad => "private_load",
             Kind::PrivateStore => "private_store",
+            Kind::Descriptor => "descriptor",
             Kind::Enter => "enter",
             Kind::Scan => "scan",
         }
@@ -42,6 +46,7 @@ impl Kind {
     pub fn steps(self) -> u32 {
         match self {
             Kind::LoadEntry | Kind::LoadCell | Kind::PrivateLoad | Kind::PrivateStore => 1,
+            Kind::Descriptor => 77,
             Kind::Enter => 4,
             Kind::Scan => 5,
         }

@@ -12,7 +12,9 @@ use crate::kinds::Kind;
 use std::alloc::{AllocError, Global};
 use table_rows::interleave_core::Tray;
 use table_rows::version_words::{FlockTable, Runner};
-use table_rows::{collect, crew, enter, entry, exit, fetch, gather, look, new_table, put, slot_of};
+use table_rows::{
+    collect, crew, enter, entry, exit, fetch, fetch_word, gather, look, new_table, put, slot_of,
+};
 
 /// Loads the stamp word of request 0, so many times, and adds up what was found.
 #[inline(never)]
@@ -109,6 +111,51 @@ fn store_own_words(
     (runner, sum)
 }
 
+/// Loads each word of the own free descriptor 0, and counts those that aren't this number.
+#[inline(always)]
+fn count_others(table: &FlockTable<Tray>, runner: Runner<Tray>, number: u64) -> (Runner<Tray>, u64)
+    requires own { IsOf table.now runner }
+    requires at { IsAt runner stages.Idle None }
+    requires free { HasFree runner 0 }
+    ensures own { IsOf table.now result.0 }
+    ensures at { IsAt result.0 stages.Idle None }
+    ensures free { HasFree result.0 0 }
+    ensures number { result.0.number ≡ runner.number }
+{
+    let mut runner = runner;
+    let mut others = 0_u64;
+    for word in 0..77 {
+        let (loaded, found) = fetch_word(table, runner, 0, word);
+        runner = loaded;
+        others = others.wrapping_add((found != number) as u64);
+    }
+    (runner, others)
+}
+
+/// Compares the words of the own free descriptor 0 with the round's number, so many times, and counts those that differ.
+#[inline(never)]
+fn compare_own_words(
+    table: &FlockTable<Tray>,
+    runner: Runner<Tray>,
+    rounds: u32,
+) -> (Runner<Tray>, u64)
+    requires own { IsOf table.now runner }
+    requires at { IsAt runner stages.Idle None }
+    requires free { HasFree runner 0 }
+    ensures own { IsOf table.now result.0 }
+    ensures at { IsAt result.0 stages.Idle None }
+    ensures number { result.0.number ≡ runner.number }
+{
+    let mut runner = runner;
+    let mut sum = 0_u64;
+    for round in 0..rounds {
+        let (compared, others) = count_others(table, runner, round as u64);
+        runner = compared;
+        sum = sum.wrapping_add(others);
+    }
+    (runner, sum)
+}
+
 /// Enters and leaves, so many times, and adds up the epochs.
 #[inline(never)]
 fn enter_and_exit(
@@ -176,6 +223,7 @@ fn repeat(
         }
         Kind::PrivateLoad => load_own_words(table, runner, rounds),
         Kind::PrivateStore => store_own_words(table, runner, rounds),
+        Kind::Descriptor => compare_own_words(table, runner, rounds),
         Kind::Enter => enter_and_exit(table, runner, rounds),
         Kind::Scan => scan(table, runner, rounds),
     }

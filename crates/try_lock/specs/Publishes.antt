@@ -1,8 +1,7 @@
 -- Publications.
-use Rattle.std.specs.Prelude.{◌≡◌, ℕ, ◌+◌, ◌-◌, ◌<◌, ◌≤◌, ◌++◌, true, false, ◌==◌, cond, length, replicate, Result, IfOk, IfErr, Some, None}
-use Rattle.section_body.specs.Word.{value_of, is_free, is_spent}
+use Rattle.std.specs.Prelude.{◌≡◌, ℕ, ◌+◌, ◌-◌, ◌<◌, ◌≤◌, ◌++◌, true, false, ◌==◌, length, replicate, Result, IfOk, IfErr, Some, None}
+use Rattle.section_body.specs.Word.{value_of, is_free}
 use Rattle.section_body.specs.declared.outcome.Refused.{Refused}
-use Rattle.section_body.specs.declared.outcome.Refused.TheVariants as refusals
 use Rattle.section_body.specs.declared.thunk.Thunk.{Thunk}
 use Rattle.table_words.specs.declared.spot.Spot.TheVariants.{DoneWord, LogWord}
 use Rattle.table_words.specs.Places.{slot_count}
@@ -15,17 +14,13 @@ use Rattle.runner_steps.specs.Outside.{is_due}
 use Rattle.runner_steps.specs.AfterOutside.{published_by}
 use Rattle.machine_states.specs.Sight.{Sight, sight}
 use Rattle.machine_epochs.specs.Slots.{thunk_in}
+pub use Rattle.section_runs.specs.nested_lock.specs.Answers.{refused_by}
 use Rattle.section_runs.specs.version_words.specs.RunnerState.{RunnerState}
 use Rattle.section_runs.specs.version_words.specs.Events.{Makes}
 use Rattle.section_runs.specs.version_words.specs.Stages.{IsAt}
 use Rattle.try_lock.specs.declared.section.Section.{Section}
 use Rattle.try_lock.specs.Reached.{IsReached, IsSectionOf}
 use Rattle.try_lock.specs.Prepares.{SetsWords}
-
--- why a publication was refused, by the word that its exchange saw
-abbrev pub refused_by : ℕ → ℕ → ℕ → Refused
-refused_by version_max expected read =
-    cond (is_free read) (cond (is_spent version_max read) (refusals.Spent read) (refusals.Stale expected read)) (refusals.Busy read)
 
 -- the words of this descriptor are those of a section with this thunk that no run has begun
 pub record IsUnrun (descriptor : ℕ) (t : Thunk) (s : Sight) : Type 0 where

@@ -3,11 +3,12 @@ ghost use Rattle.std.specs.Prelude.{◌≡◌, ◌+◌, ◌<◌, ◌≤◌, leng
 ghost use Rattle.table_words.specs.Places.{slot_count};
 ghost use Rattle.section_runs.specs.version_words.specs.TableState.{IsOf};
 ghost use Rattle.try_lock.specs.Prepares.{MaySet, SetsWord, HasSet, IsReady};
-ghost use Rattle.try_lock.specs.Publishes.{refused_by, MayPublish, Publishes};
+ghost use Rattle.try_lock.specs.Publishes.{MayPublish, Publishes};
 
 use crate::section::Section;
 use runner_parts::{Structure, thunk_words};
-use section_body::{Refused, Thunk, Word};
+use section_body::{Refused, Thunk};
+use section_runs::nested_lock::refused;
 use section_runs::version_words::{FlockTable, Runner, held_word, table_is_allowed};
 
 /// This word of an own free descriptor becomes this number: it is loaded, and stored where another number stands.
@@ -23,15 +24,15 @@ fn set_word<S: Structure>(
     requires free { MaySet runner descriptor }
     requires word { word < 77 }
     ensures own { IsOf table.now result }
-    ensures set { SetsWord (S.meaning table.now.structure) (slot_count runner.layout (S.meaning table.now.structure).fixed_slots + descriptor) word number runner result }
+    ensures set { SetsWord (S.meaning table.now.structure)
+        (slot_count runner.layout (S.meaning table.now.structure).fixed_slots + descriptor) word number runner
+        result }
 {
-    table_is_allowed(table);
-    let slot = table.node_slots() + descriptor;
-    let (runner, found) = table.private_load(runner, slot, word);
+    let (runner, found) = table.descriptor_load(runner, descriptor, word);
     if found == number {
         runner
     } else {
-        table.private_store(runner, slot, word, number)
+        table.descriptor_store(runner, descriptor, word, number)
     }
 }
 
@@ -81,20 +82,6 @@ fn has_eight_operands(thunk: &Thunk)
 {
     let operands: &[u64] = &thunk.operands;
     let _ = operands.len();
-}
-
-/// Why a publication was refused, by the word that its exchange saw.
-fn refused(version_max: u32, expected: Word, read: Word) -> Refused
-    requires { 2 < version_max }
-    ensures { result ≡ refused_by version_max expected read }
-{
-    if read.value() != 0 {
-        Refused::Busy(read)
-    } else if version_max - 2 < read.version() {
-        Refused::Spent(read)
-    } else {
-        Refused::Stale { expected, read }
-    }
 }
 
 /// Publishes a section with this thunk: writes the thunk into an own free descriptor, with no done and an empty

@@ -32,11 +32,15 @@ pub fn run_section<S: Structure, G: Gate, L>(
     requires own { IsOf table.now runner }
     requires next { (t : Thunk) × MayRunSection (S.meaning table.now.structure) runner t section.now }
     ensures own { IsOf table.now result.0 }
-    ensures done { (t : Thunk) (o : Outcome) (trail : Agreed) → MayRunSection (S.meaning table.now.structure) runner t section.now → result.1 ≡ Done o trail
-        → (made : ℕ) × EndsSo (S.meaning table.now.structure) section.now.descriptor t o trail made runner result.0
-        × IsAsked made true (G.halts gate.old) (G.halts gate.new) (G.asks gate.old) (G.asks gate.new) steps.old.count steps.new.count }
-    ensures halted { result.1 ≡ Halted → (made : ℕ) × IsCutShort (S.meaning table.now.structure) section.now.descriptor made runner result.0
-        × IsAsked made false (G.halts gate.old) (G.halts gate.new) (G.asks gate.old) (G.asks gate.new) steps.old.count steps.new.count }
+    ensures done { (t : Thunk) (o : Outcome) (trail : Agreed)
+        → MayRunSection (S.meaning table.now.structure) runner t section.now → result.1 ≡ Done o trail → (made : ℕ)
+        × EndsSo (S.meaning table.now.structure) section.now.descriptor t o trail made runner result.0
+        × IsAsked made true
+        (G.halts gate.old) (G.halts gate.new) (G.asks gate.old) (G.asks gate.new) steps.old.count steps.new.count }
+    ensures halted { result.1 ≡ Halted → (made : ℕ)
+        × IsCutShort (S.meaning table.now.structure) section.now.descriptor made runner result.0
+        × IsAsked made false
+        (G.halts gate.old) (G.halts gate.new) (G.asks gate.old) (G.asks gate.new) steps.old.count steps.new.count }
 {
     run(table, runner, section.descriptor, gate, steps)
 }
@@ -55,11 +59,13 @@ pub fn help<S: Structure, G: Gate, L>(
     requires own { IsOf table.now runner }
     requires next { MayHelp (S.meaning table.now.structure) runner held }
     ensures own { IsOf table.now result.0 }
-    ensures done { (o : Outcome) (trail : Agreed) → result.1 ≡ Done o trail
-        → (t : Thunk) × (made : ℕ) × EndsSo (S.meaning table.now.structure) (value_of held - 1) t o trail made runner result.0
-        × IsAsked made true (G.halts gate.old) (G.halts gate.new) (G.asks gate.old) (G.asks gate.new) steps.old.count steps.new.count }
-    ensures halted { result.1 ≡ Halted → (made : ℕ) × IsCutShort (S.meaning table.now.structure) (value_of held - 1) made runner result.0
-        × IsAsked made false (G.halts gate.old) (G.halts gate.new) (G.asks gate.old) (G.asks gate.new) steps.old.count steps.new.count }
+    ensures done { (o : Outcome) (trail : Agreed) → result.1 ≡ Done o trail → (t : Thunk) × (made : ℕ)
+        × EndsSo (S.meaning table.now.structure) (value_of held - 1) t o trail made runner result.0
+        × IsAsked made true
+        (G.halts gate.old) (G.halts gate.new) (G.asks gate.old) (G.asks gate.new) steps.old.count steps.new.count }
+    ensures halted { result.1 ≡ Halted → (made : ℕ)
+        × IsCutShort (S.meaning table.now.structure) (value_of held - 1) made runner result.0 × IsAsked made false
+        (G.halts gate.old) (G.halts gate.new) (G.asks gate.old) (G.asks gate.new) steps.old.count steps.new.count }
 {
     run(table, runner, held.value() - 1, gate, steps)
 }

@@ -1,5 +1,5 @@
 -- Private loads.
-use Rattle.std.proofs.Common.{◌≡◌, ℕ, zero, suc, [], ◌-◌, ◌<◌, ◌≤◌, inl, inr, ⊎_elim, List, ◌∷◌, ◌++◌, length, Bool, true, false, refl, sym, ap, subst, ◌∙◌, arith, Option, Some, None, if◌then◌else◌}
+use Rattle.std.proofs.Common.{◌≡◌, ℕ, zero, suc, [], ◌+◌, ◌-◌, ◌<◌, ◌≤◌, inl, inr, ⊎_elim, List, ◌∷◌, ◌++◌, length, Bool, true, false, refl, sym, ap, subst, ◌∙◌, arith, Option, Some, None, if◌then◌else◌}
 use Rattle.std.specs.Prelude.{◌==◌, ◌&&◌, ◌||◌, nat_lt, slice_index, ◌-◌}
 use Rattle.std.specs.Option.{is_some}
 use Rattle.std.proofs.lemmas.Bool.Decides.{nat_tests}
@@ -62,6 +62,17 @@ true_false e = cc
 
 not_past : (slot n : ℕ) → nat_lt slot n ≡ true → n ≤ slot → ⊥
 not_past slot n e past = grind (arith, nat_tests, e, past)
+
+not_node : (slot n : ℕ) → n ≤ slot → nat_lt slot n ≡ false
+not_node slot n past = grind (arith, nat_tests, past)
+
+-- a descriptor's word, by the number that it has among all slots
+pub descriptor_there : (m : Meaning) (l : Layout) (d word : ℕ) → private_spot m l (slot_count l m.fixed_slots + d) word ≡ descriptor_spot d word
+descriptor_there m l d word =
+    let slots = slot_count l m.fixed_slots in
+    let beyond = not_node (slots + d) slots (omega arith) in
+    let own : slots + d - slots ≡ d = omega arith in
+    (λ i. if beyond i then spots.Cell (cell_of m.fixed_cells (slots + d) word) else descriptor_spot (own i) word)
 
 -- a private load outside a run
 load_chosen : (m : Meaning) (l : Layout) (slot word : ℕ) (p : PartState) (x : Spot × Access) (b : Bool) → nat_lt slot (slot_count l m.fixed_slots) ≡ b
@@ -277,3 +288,19 @@ module _ {T : Type 0} (mean : T → Meaning) (s : T) (slot word found number : �
   pub load_kept : IsKept mean number (block_looked me.0.layout kept slot word found) me'
   load_kept = then_kept mean s (kinds.PrivateLoad slot word) found number kept old_table new_table me me' live made slots was (block_looked me.0.layout kept slot word found) (same_room kept.place.inside kept.place.making (nat_lt slot kept.lists.room))
       (load_part (mean s) me.0.layout slot word found kept me.0.part made.met before (was.of_table s live).room stands)
+
+  -- a descriptor's word is loaded outside a run
+  no_run : slot_count me.0.layout (mean s).fixed_slots ≤ slot → me.0.part.run ≡ None
+  no_run past = ⊎_elim
+      (λ (none : me.0.part.run ≡ None). none)
+      (λ (h : IsOpenFor (mean s) me.0.layout (kinds.PrivateLoad slot word) me.0.part made.met).
+      let q = h.open_run.run in let node = (load_inside (mean s) me.0.layout slot word me.0.part.nodes.free q (next_of (mean s) q) made.met h.asks_so).2 in
+      absurd (not_past slot (slot_count me.0.layout (mean s).fixed_slots) node past)) stands
+
+  -- and the block stays as it was
+  pub load_kept_of : slot_count me.0.layout (mean s).fixed_slots ≤ slot → IsKept mean number kept me'
+  load_kept_of past =
+      let outside : kept.place.inside ≡ false = before.place.outside (no_run past) in
+      let beyond : nat_lt slot kept.lists.room ≡ false = subst (λ (n : ℕ). nat_lt slot n ≡ false) (sym (was.of_table s live).room) (not_node slot (slot_count me.0.layout (mean s).fixed_slots) past) in
+      let same : block_looked me.0.layout kept slot word found ≡ kept = (λ i. if outside i then block_filling kept slot kept.place.making else block_found me.0.layout kept slot word found (beyond i)) in
+      subst (λ (b : Block). IsKept mean number b me') same load_kept

@@ -169,6 +169,21 @@ module _ (m : Meaning) (l : Layout) (rs : List Request) (r : ℕ) (slot word num
   store_asked : asks m l rs r kind p ≡ Some x → IsPrivate m l slot word (Stores number) x × Stands m l kind p x
   store_asked e = store_by p.run refl (unless_gone (sizes_for m l rs) p.gone (ask_by m l rs r kind p p.run) x e)
 
+store_node : (m : Meaning) (l : Layout) (slot word number : ℕ) (q : RunState) (micro : Micro) (x : Spot × Access) → fill_store_ask m l slot word number q micro ≡ Some x → nat_lt slot (slot_count l m.fixed_slots) ≡ true
+store_node m l slot word number q (micros.PrivateStore cell log value) x e =
+    let t = tested (is_cell m l slot word && (is_slot q.made slot && (word == cell && (can_raise l q.word && number == next_word q.word (source_value q.trail value))))) (spots.Cell (cell_of m.fixed_cells slot word)) (Stores number) x e in
+    (both_true (nat_lt slot (slot_count l m.fixed_slots)) (nat_lt word 5) (both_true (is_cell m l slot word) _ t.0).0).0
+store_node m l slot word number q _ x e = absurd (some_none x e)
+
+not_past : (slot n : ℕ) → nat_lt slot n ≡ true → n ≤ slot → ⊥
+not_past slot n e past = grind (arith, nat_tests, e, past)
+
+-- in a run only cells of node slots are stored
+not_in_run : (m : Meaning) (l : Layout) (slot word number : ℕ) (p : PartState) (x : Spot × Access) → slot_count l m.fixed_slots ≤ slot → Stands m l (kinds.PrivateStore slot word number) p x → p.run ≡ None
+not_in_run m l slot word number p x past at = ⊎_elim
+    (λ (none : p.run ≡ None). none)
+    (λ (h : IsOpenFor m l (kinds.PrivateStore slot word number) p x). absurd (not_past slot (slot_count l m.fixed_slots) (store_node m l slot word number h.open_run.run (next_of m h.open_run.run) x h.asks_so) past)) at
+
 -- the part afterwards doesn't go by what was found
 stored_alike : (m : Meaning) (l : Layout) (slot word number : ℕ) (p : PartState) (x : Spot × Access) → Stands m l (kinds.PrivateStore slot word number) p x → (a b : ℕ) → stepped m l (kinds.PrivateStore slot word number) p a ≡ stepped m l (kinds.PrivateStore slot word number) p b
 stored_alike m l slot word number p x at a b = ⊎_elim
@@ -235,8 +250,9 @@ module _ {T : Type 0} (mean : T → Meaning) (s : T) (slot word number found own
   abbrev before : KeepsPart m kept p
   before = was_part mean s k found own_number kept old_table new_table me me' live made same_slots was
 
-  store_resting : p.run ≡ None → KeepsPart m kept' (private_store_after m l slot word number p)
-  store_resting none = record {
+  -- outside a run, whatever the block says of the last Make's slot
+  store_resting : (worn : Bool) → p.run ≡ None → KeepsPart m (record kept { place = record (kept.place) { worn = worn } }) (private_store_after m l slot word number p)
+  store_resting worn none = record {
     lists = was.lists;
     place = record {
       run = λ q e. absurd (some_none q (sym none ∙ e));
@@ -275,6 +291,13 @@ module _ {T : Type 0} (mean : T → Meaning) (s : T) (slot word number found own
   pub store_kept : IsKept mean own_number kept' me'
   store_kept = then_kept mean s k found own_number kept old_table new_table me me' live made same_slots was kept' refl
       (⊎_elim
-      (λ (none : p.run ≡ None). subst (KeepsPart m kept') (sym (ap (λ (o : Option RunState). after_by m l k p o found) none)) (store_resting none))
+      (λ (none : p.run ≡ None). subst (KeepsPart m kept') (sym (ap (λ (o : Option RunState). after_by m l k p o found) none)) (store_resting kept'.place.worn none))
       (λ (h : IsOpenFor m l k p made.met). subst (KeepsPart m kept') (sym (step_is m l k p found h.open_run)) (store_running h.open_run made.met h.asks_so))
       (store_asked m l me.0.requests me.0.number slot word number p made.met made.asked).1)
+
+  -- a descriptor's word is stored outside a run, and the block stays as it was
+  pub store_kept_of : slot_count l m.fixed_slots ≤ slot → IsKept mean own_number kept me'
+  store_kept_of past =
+      let none = not_in_run m l slot word number p made.met past (store_asked m l me.0.requests me.0.number slot word number p made.met made.asked).1 in
+      then_kept mean s k found own_number kept old_table new_table me me' live made same_slots was kept refl
+      (subst (KeepsPart m kept) (sym (ap (λ (o : Option RunState). after_by m l k p o found) none)) (store_resting kept.place.worn none))

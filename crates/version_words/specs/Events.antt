@@ -90,6 +90,10 @@ module _ {T : Type 0} (m : Meaning) where
     pub asked : met_by r (naming m r.layout r.requests r.part step) ≡ Some x
     pub plain : is_plain (naming m r.layout r.requests r.part step) ≡ true
 
+  -- the event that this name makes of the runner's step
+  abbrev pub event_by : Naming → RunnerState T → Step Thunk → EventKind
+  event_by naming r step = naming m r.layout r.requests r.part step
+
   -- the step on this word of the table, with these two operands, that announces this
   abbrev pub step_at : TableState T → Spot → ℕ → ℕ → Announced → Step Thunk
   step_at t spot first second said = step t.table.slots (address (sizes_for m t.layout t.requests) spot) first second said

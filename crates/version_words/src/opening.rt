@@ -19,15 +19,15 @@ impl<S: Structure> FlockTable<S> {
     /// run begins.
     pub fn load_thunk(&self, mut runner: Runner<S>, descriptor: u32) -> (Runner<S>, u64)
         requires own { IsOf self.now runner }
-        requires next { met_by (S.meaning self.now.structure) runner (open_of runner.part.run descriptor) ≡ Some (spots.ThunkWord descriptor (opened_of runner.part.run), Loads) }
+        requires next { met_by (S.meaning self.now.structure) runner (open_of runner.part.run descriptor) ≡ Some
+            (spots.ThunkWord descriptor (opened_of runner.part.run), Loads) }
         ensures own { IsOf self.now result.0 }
         ensures event { Makes (S.meaning self.now.structure) (open_of runner.part.run descriptor) result.1 runner result.0 }
     {
-        let place = runner.kept.place;
-        let index = place.next_thunk_word();
+        let index = runner.kept.place.next_thunk_word();
         let spot = Spot::ThunkWord(descriptor, index);
         let word = self.load::<plays::LoadThunk>(&mut runner.seat, spot);
-        runner.kept.place = place.opened(descriptor, word);
+        runner.kept.place.opened(descriptor, word);
         (runner, word)
     }
 

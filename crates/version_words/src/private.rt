@@ -1,5 +1,6 @@
 //! Steps on the words of own slots.
-ghost use Rattle.std.specs.Prelude.{◌≡◌, ℕ};
+ghost use Rattle.std.specs.Prelude.{◌≡◌, ◌+◌, ℕ};
+ghost use Rattle.table_words.specs.Places.{slot_count};
 ghost use Rattle.runner_steps.specs.Outside.{descriptor_spot};
 ghost use Rattle.runner_parts.specs.declared.event.EventKind.TheVariants as kinds;
 ghost use Rattle.version_words.specs.Private.{IsWithin, private_spot};
@@ -77,6 +78,47 @@ impl<S: Structure> FlockTable<S> {
         let spot = self.private_spot(slot, word);
         self.store::<plays::PrivateStore>(&mut runner.seat, spot, number);
         runner.kept.stored(self.setup.layout, number);
+        runner
+    }
+
+    /// A word of an own free descriptor, as `private_load` of the slot that the descriptor is numbered as: of descriptors nothing is kept.
+    #[inline(always)]
+    pub fn descriptor_load(
+        &self,
+        mut runner: Runner<S>,
+        descriptor: u32,
+        word: u32,
+    ) -> (Runner<S>, u64)
+        requires own { IsOf self.now runner }
+        requires next { let m = S.meaning self.now.structure in
+            IsEnabled m (kinds.PrivateLoad (slot_count self.now.layout m.fixed_slots + descriptor) word) runner }
+        ensures own { IsOf self.now result.0 }
+        ensures event { let m = S.meaning self.now.structure in
+            Makes m (kinds.PrivateLoad (slot_count self.now.layout m.fixed_slots + descriptor) word) result.1 runner result.0 }
+    {
+        let spot = descriptor_spot(descriptor, word);
+        let found = self.load::<plays::PrivateLoad>(&mut runner.seat, spot);
+        (runner, found)
+    }
+
+    /// A word of an own free descriptor becomes this number, as `private_store` of the slot that the descriptor is numbered as.
+    #[inline(always)]
+    pub fn descriptor_store(
+        &self,
+        mut runner: Runner<S>,
+        descriptor: u32,
+        word: u32,
+        number: u64,
+    ) -> Runner<S>
+        requires own { IsOf self.now runner }
+        requires next { let m = S.meaning self.now.structure in
+            IsEnabled m (kinds.PrivateStore (slot_count self.now.layout m.fixed_slots + descriptor) word number) runner }
+        ensures own { IsOf self.now result }
+        ensures event { let m = S.meaning self.now.structure in
+            (found : ℕ) → Makes m (kinds.PrivateStore (slot_count self.now.layout m.fixed_slots + descriptor) word number) found runner result }
+    {
+        let spot = descriptor_spot(descriptor, word);
+        self.store::<plays::PrivateStore>(&mut runner.seat, spot, number);
         runner
     }
 }

@@ -37,7 +37,8 @@ impl<S: Structure> FlockTable<S> {
     /// put it there.
     pub fn commit_word(&self, mut runner: Runner<S>, word: u64) -> (Runner<S>, u64, bool)
         requires own { IsOf self.now runner }
-        requires next { met_by (S.meaning self.now.structure) runner kinds.Commit ≡ Some (next_log runner.part.run, Exchanges 0 word) }
+        requires next { met_by (S.meaning self.now.structure) runner kinds.Commit ≡ Some
+            (next_log runner.part.run, Exchanges 0 word) }
         ensures own { IsOf self.now result.0 }
         ensures event { Commits (S.meaning self.now.structure) kinds.Commit result.1 result.2 runner result.0 }
     {
@@ -51,7 +52,8 @@ impl<S: Structure> FlockTable<S> {
     /// The next log word, for a nested lock's word. The answer is the agreed word.
     pub fn outcome_commit(&self, mut runner: Runner<S>, word: Word) -> (Runner<S>, Word)
         requires own { IsOf self.now runner }
-        requires next { met_by (S.meaning self.now.structure) runner kinds.OutcomeCommit ≡ Some (next_log runner.part.run, Exchanges 0 word) }
+        requires next { met_by (S.meaning self.now.structure) runner kinds.OutcomeCommit ≡ Some
+            (next_log runner.part.run, Exchanges 0 word) }
         ensures own { IsOf self.now result.0 }
         ensures event { Leaves (S.meaning self.now.structure) kinds.OutcomeCommit result.1 runner result.0 }
     {
@@ -65,7 +67,8 @@ impl<S: Structure> FlockTable<S> {
     /// The done word of the run's descriptor goes from 0 to 1.
     pub fn set_done(&self, mut runner: Runner<S>) -> Runner<S>
         requires own { IsOf self.now runner }
-        requires next { met_by (S.meaning self.now.structure) runner kinds.SetDone ≡ Some (own_done runner.part.run, Exchanges 0 1) }
+        requires next { met_by (S.meaning self.now.structure) runner kinds.SetDone ≡ Some
+            (own_done runner.part.run, Exchanges 0 1) }
         ensures own { IsOf self.now result }
         ensures event { IsMade (S.meaning self.now.structure) kinds.SetDone runner result }
     {
@@ -78,7 +81,8 @@ impl<S: Structure> FlockTable<S> {
     /// The request's stamp word goes from 0 to this stamp. The answer is what then stands there.
     pub fn stamp_exchange(&self, mut runner: Runner<S>, stamp: u64) -> (Runner<S>, u64)
         requires own { IsOf self.now runner }
-        requires next { met_by (S.meaning self.now.structure) runner kinds.StampExchange ≡ Some (own_stamp runner.part.run, Exchanges 0 stamp) }
+        requires next { met_by (S.meaning self.now.structure) runner kinds.StampExchange ≡ Some
+            (own_stamp runner.part.run, Exchanges 0 stamp) }
         ensures own { IsOf self.now result.0 }
         ensures event { Leaves (S.meaning self.now.structure) kinds.StampExchange result.1 runner result.0 }
     {
@@ -90,7 +94,8 @@ impl<S: Structure> FlockTable<S> {
     /// The request's reply word goes from 0 to this one. The answer is what then stands there.
     pub fn reply_exchange(&self, mut runner: Runner<S>, reply: u64) -> (Runner<S>, u64)
         requires own { IsOf self.now runner }
-        requires next { met_by (S.meaning self.now.structure) runner kinds.ReplyExchange ≡ Some (own_reply runner.part.run, Exchanges 0 reply) }
+        requires next { met_by (S.meaning self.now.structure) runner kinds.ReplyExchange ≡ Some
+            (own_reply runner.part.run, Exchanges 0 reply) }
         ensures own { IsOf self.now result.0 }
         ensures event { Leaves (S.meaning self.now.structure) kinds.ReplyExchange result.1 runner result.0 }
     {
@@ -102,7 +107,8 @@ impl<S: Structure> FlockTable<S> {
     /// The nested lock goes from this free word to the one that names the run's descriptor, if it still holds the free word.
     pub fn nested_hold(&self, mut runner: Runner<S>, place: Place, word: Word) -> Runner<S>
         requires own { IsOf self.now runner }
-        requires next { met_by (S.meaning self.now.structure) runner kinds.NestedHold ≡ Some (spots.Cell place, Exchanges word (held_by_run runner.part.run word)) }
+        requires next { met_by (S.meaning self.now.structure) runner kinds.NestedHold ≡ Some
+            (spots.Cell place, Exchanges word (held_by_run runner.part.run word)) }
         ensures own { IsOf self.now result }
         ensures event { IsMade (S.meaning self.now.structure) kinds.NestedHold runner result }
     {
@@ -117,7 +123,8 @@ impl<S: Structure> FlockTable<S> {
     /// word is the free one that the lock had before.
     pub fn release(&self, mut runner: Runner<S>, place: Place, word: Word) -> Runner<S>
         requires own { IsOf self.now runner }
-        requires next { let held = held_by_run runner.part.run word in met_by (S.meaning self.now.structure) runner kinds.Release ≡ Some (spots.Cell place, Exchanges held (next_word held 0)) }
+        requires next { let held = held_by_run runner.part.run word in met_by (S.meaning self.now.structure) runner
+            kinds.Release ≡ Some (spots.Cell place, Exchanges held (next_word held 0)) }
         ensures own { IsOf self.now result }
         ensures event { IsMade (S.meaning self.now.structure) kinds.Release runner result }
     {

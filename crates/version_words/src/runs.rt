@@ -18,7 +18,8 @@ impl<S: Structure> FlockTable<S> {
     /// The word of this cell: outside a run one that the runner may read, in a run the one that comes next.
     pub fn load_cell(&self, mut runner: Runner<S>, place: Place) -> (Runner<S>, Word)
         requires own { IsOf self.now runner }
-        requires next { met_by (S.meaning self.now.structure) runner (load_of runner.part.run place) ≡ Some (spots.Cell place, Loads) }
+        requires next { met_by (S.meaning self.now.structure) runner (load_of runner.part.run place) ≡ Some
+            (spots.Cell place, Loads) }
         ensures own { IsOf self.now result.0 }
         ensures event { Makes (S.meaning self.now.structure) (load_of runner.part.run place) result.1 runner result.0 }
     {
@@ -79,7 +80,8 @@ impl<S: Structure> FlockTable<S> {
         new: Word,
     ) -> (Runner<S>, Word)
         requires own { IsOf self.now runner }
-        requires next { met_by (S.meaning self.now.structure) runner kinds.ExchangeCell ≡ Some (spots.Cell place, Exchanges old new) }
+        requires next { met_by (S.meaning self.now.structure) runner kinds.ExchangeCell ≡ Some
+            (spots.Cell place, Exchanges old new) }
         ensures own { IsOf self.now result.0 }
         ensures event { Makes (S.meaning self.now.structure) kinds.ExchangeCell result.1 runner result.0 }
     {

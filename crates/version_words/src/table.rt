@@ -4,7 +4,7 @@ ghost use Rattle.table_words.specs.declared.access.Access.TheVariants.{Loads, St
 ghost use Rattle.table_words.specs.Access.{written};
 ghost use Rattle.version_words.specs.Naming.{is_seat};
 ghost use Rattle.version_words.specs.TableState.{IsOf};
-ghost use Rattle.version_words.specs.Events.{Makes, Tries, Leaves, Commits, IsNamed, IsBlind, step_at, nothing, announcing, seen_seat};
+ghost use Rattle.version_words.specs.Events.{Makes, Tries, Leaves, Commits, IsNamed, IsBlind, event_by, step_at, nothing, announcing, seen_seat};
 
 use crate::plays::{self, Named};
 use crate::rule::{Setup, Shows};
@@ -38,9 +38,12 @@ impl<S: Structure> FlockTable<S> {
     #[inline(always)]
     pub(crate) fn load<E: Named>(&self, seat: &mut Seat<Thunk, View<S>>, spot: Spot) -> u64
         requires own { IsOf self.now (seen_seat seat.old.table_id seat.old.me) }
-        requires named { IsNamed (S.meaning self.now.structure) E.naming (seen_seat seat.old.table_id seat.old.me) (step_at (S.meaning self.now.structure) self.now spot 0 0 nothing) (spot, Loads) }
+        requires named { let m = S.meaning self.now.structure in let r = seen_seat seat.old.table_id seat.old.me in
+            IsNamed m E.naming r (step_at m self.now spot 0 0 nothing) (spot, Loads) }
         ensures own { IsOf self.now (seen_seat seat.new.table_id seat.new.me) }
-        ensures event { Makes (S.meaning self.now.structure) (E.naming (S.meaning self.now.structure) seat.old.me.0.layout seat.old.me.0.requests seat.old.me.0.part (step_at (S.meaning self.now.structure) self.now spot 0 0 nothing)) result (seen_seat seat.old.table_id seat.old.me) (seen_seat seat.new.table_id seat.new.me) }
+        ensures event { let m = S.meaning self.now.structure in let r = seen_seat seat.old.table_id seat.old.me in
+            Makes m (event_by m E.naming r (step_at m self.now spot 0 0 nothing)) result r
+            (seen_seat seat.new.table_id seat.new.me) }
         ensures slots { seat.new.me.1 ≡ seat.old.me.1 }
     {
         let at = self.setup.sizes.address(spot);
@@ -51,11 +54,15 @@ impl<S: Structure> FlockTable<S> {
     #[inline(always)]
     pub(crate) fn store<E: Named>(&self, seat: &mut Seat<Thunk, View<S>>, spot: Spot, number: u64)
         requires own { IsOf self.now (seen_seat seat.old.table_id seat.old.me) }
-        requires named { IsNamed (S.meaning self.now.structure) E.naming (seen_seat seat.old.table_id seat.old.me) (step_at (S.meaning self.now.structure) self.now spot number 0 nothing) (spot, Stores number) }
+        requires named { let m = S.meaning self.now.structure in let r = seen_seat seat.old.table_id seat.old.me in
+            IsNamed m E.naming r (step_at m self.now spot number 0 nothing) (spot, Stores number) }
         requires apart { is_seat spot ≡ false }
-        requires blind { IsBlind (S.meaning self.now.structure) (E.naming (S.meaning self.now.structure) seat.old.me.0.layout seat.old.me.0.requests seat.old.me.0.part (step_at (S.meaning self.now.structure) self.now spot number 0 nothing)) (spot, Stores number) (seen_seat seat.old.table_id seat.old.me) }
+        requires blind { let m = S.meaning self.now.structure in let r = seen_seat seat.old.table_id seat.old.me in
+            IsBlind m (event_by m E.naming r (step_at m self.now spot number 0 nothing)) (spot, Stores number) r }
         ensures own { IsOf self.now (seen_seat seat.new.table_id seat.new.me) }
-        ensures event { (found : ℕ) → Makes (S.meaning self.now.structure) (E.naming (S.meaning self.now.structure) seat.old.me.0.layout seat.old.me.0.requests seat.old.me.0.part (step_at (S.meaning self.now.structure) self.now spot number 0 nothing)) found (seen_seat seat.old.table_id seat.old.me) (seen_seat seat.new.table_id seat.new.me) }
+        ensures event { let m = S.meaning self.now.structure in let r = seen_seat seat.old.table_id seat.old.me in
+            (found : ℕ) → Makes m (event_by m E.naming r (step_at m self.now spot number 0 nothing)) found r
+            (seen_seat seat.new.table_id seat.new.me) }
         ensures slots { seat.new.me.1 ≡ seat.old.me.1 }
     {
         let at = self.setup.sizes.address(spot);
@@ -73,13 +80,22 @@ impl<S: Structure> FlockTable<S> {
         new: u64,
     ) -> u64
         requires own { IsOf self.now (seen_seat seat.old.table_id seat.old.me) }
-        requires named { IsNamed (S.meaning self.now.structure) E.naming (seen_seat seat.old.table_id seat.old.me) (step_at (S.meaning self.now.structure) self.now spot old new nothing) (spot, Exchanges old new) }
+        requires named { let m = S.meaning self.now.structure in let r = seen_seat seat.old.table_id seat.old.me in
+            IsNamed m E.naming r (step_at m self.now spot old new nothing) (spot, Exchanges old new) }
         requires apart { is_seat spot ≡ false }
         ensures own { IsOf self.now (seen_seat seat.new.table_id seat.new.me) }
-        ensures event { Makes (S.meaning self.now.structure) (E.naming (S.meaning self.now.structure) seat.old.me.0.layout seat.old.me.0.requests seat.old.me.0.part (step_at (S.meaning self.now.structure) self.now spot old new nothing)) result (seen_seat seat.old.table_id seat.old.me) (seen_seat seat.new.table_id seat.new.me) }
-        ensures tries { Tries (S.meaning self.now.structure) (E.naming (S.meaning self.now.structure) seat.old.me.0.layout seat.old.me.0.requests seat.old.me.0.part (step_at (S.meaning self.now.structure) self.now spot old new nothing)) (result == old) (seen_seat seat.old.table_id seat.old.me) (seen_seat seat.new.table_id seat.new.me) }
-        ensures commits { Commits (S.meaning self.now.structure) (E.naming (S.meaning self.now.structure) seat.old.me.0.layout seat.old.me.0.requests seat.old.me.0.part (step_at (S.meaning self.now.structure) self.now spot old new nothing)) (written (Exchanges old new) result) (result == old) (seen_seat seat.old.table_id seat.old.me) (seen_seat seat.new.table_id seat.new.me) }
-        ensures leaves { Leaves (S.meaning self.now.structure) (E.naming (S.meaning self.now.structure) seat.old.me.0.layout seat.old.me.0.requests seat.old.me.0.part (step_at (S.meaning self.now.structure) self.now spot old new nothing)) (written (Exchanges old new) result) (seen_seat seat.old.table_id seat.old.me) (seen_seat seat.new.table_id seat.new.me) }
+        ensures event { let m = S.meaning self.now.structure in let r = seen_seat seat.old.table_id seat.old.me in
+            Makes m (event_by m E.naming r (step_at m self.now spot old new nothing)) result r
+            (seen_seat seat.new.table_id seat.new.me) }
+        ensures tries { let m = S.meaning self.now.structure in let r = seen_seat seat.old.table_id seat.old.me in
+            Tries m (event_by m E.naming r (step_at m self.now spot old new nothing)) (result == old) r
+            (seen_seat seat.new.table_id seat.new.me) }
+        ensures commits { let m = S.meaning self.now.structure in let r = seen_seat seat.old.table_id seat.old.me in
+            Commits m (event_by m E.naming r (step_at m self.now spot old new nothing)) (written (Exchanges old new) result) (result == old) r
+            (seen_seat seat.new.table_id seat.new.me) }
+        ensures leaves { let m = S.meaning self.now.structure in let r = seen_seat seat.old.table_id seat.old.me in
+            Leaves m (event_by m E.naming r (step_at m self.now spot old new nothing)) (written (Exchanges old new) result) r
+            (seen_seat seat.new.table_id seat.new.me) }
         ensures slots { seat.new.me.1 ≡ seat.old.me.1 }
     {
         let at = self.setup.sizes.address(spot);
@@ -98,10 +114,13 @@ impl<S: Structure> FlockTable<S> {
         said: &Thunk,
     ) -> u64
         requires own { IsOf self.now (seen_seat seat.old.table_id seat.old.me) }
-        requires named { IsNamed (S.meaning self.now.structure) E.naming (seen_seat seat.old.table_id seat.old.me) (step_at (S.meaning self.now.structure) self.now spot old new (announcing said.now)) (spot, Exchanges old new) }
+        requires named { let m = S.meaning self.now.structure in let r = seen_seat seat.old.table_id seat.old.me in
+            IsNamed m E.naming r (step_at m self.now spot old new (announcing said.now)) (spot, Exchanges old new) }
         requires apart { is_seat spot ≡ false }
         ensures own { IsOf self.now (seen_seat seat.new.table_id seat.new.me) }
-        ensures event { Makes (S.meaning self.now.structure) (E.naming (S.meaning self.now.structure) seat.old.me.0.layout seat.old.me.0.requests seat.old.me.0.part (step_at (S.meaning self.now.structure) self.now spot old new (announcing said.now))) result (seen_seat seat.old.table_id seat.old.me) (seen_seat seat.new.table_id seat.new.me) }
+        ensures event { let m = S.meaning self.now.structure in let r = seen_seat seat.old.table_id seat.old.me in
+            Makes m (event_by m E.naming r (step_at m self.now spot old new (announcing said.now))) result r
+            (seen_seat seat.new.table_id seat.new.me) }
         ensures slots { seat.new.me.1 ≡ seat.old.me.1 }
     {
         let at = self.setup.sizes.address(spot);
@@ -118,10 +137,13 @@ impl<S: Structure> FlockTable<S> {
         number: u64,
     ) -> u64
         requires own { IsOf self.now (seen_seat seat.old.table_id seat.old.me) }
-        requires named { IsNamed (S.meaning self.now.structure) E.naming (seen_seat seat.old.table_id seat.old.me) (step_at (S.meaning self.now.structure) self.now spot number 0 nothing) (spot, Raises number) }
+        requires named { let m = S.meaning self.now.structure in let r = seen_seat seat.old.table_id seat.old.me in
+            IsNamed m E.naming r (step_at m self.now spot number 0 nothing) (spot, Raises number) }
         requires apart { is_seat spot ≡ false }
         ensures own { IsOf self.now (seen_seat seat.new.table_id seat.new.me) }
-        ensures event { Makes (S.meaning self.now.structure) (E.naming (S.meaning self.now.structure) seat.old.me.0.layout seat.old.me.0.requests seat.old.me.0.part (step_at (S.meaning self.now.structure) self.now spot number 0 nothing)) result (seen_seat seat.old.table_id seat.old.me) (seen_seat seat.new.table_id seat.new.me) }
+        ensures event { let m = S.meaning self.now.structure in let r = seen_seat seat.old.table_id seat.old.me in
+            Makes m (event_by m E.naming r (step_at m self.now spot number 0 nothing)) result r
+            (seen_seat seat.new.table_id seat.new.me) }
         ensures slots { seat.new.me.1 ≡ seat.old.me.1 }
     {
         let at = self.setup.sizes.address(spot);

@@ -42,7 +42,8 @@ impl<S: Structure> Words<S> {
     /// The request's stamp word and its reply word; None exactly where the stamp word is 0.
     pub fn entry(&self, request: u32) -> Option<(u64, u64)>
         requires { request < length self.now.requests }
-        ensures { result ≡ entry_of (word_of (S.meaning self.now.structure) self.now (spots.Stamp request)) (word_of (S.meaning self.now.structure) self.now (spots.Reply request)) }
+        ensures { result ≡ entry_of (word_of (S.meaning self.now.structure) self.now (spots.Stamp request))
+            (word_of (S.meaning self.now.structure) self.now (spots.Reply request)) }
     {
         let stamp = self.word(Spot::Stamp(request));
         let reply = self.word(Spot::Reply(request));

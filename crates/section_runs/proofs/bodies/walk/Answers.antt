@@ -22,12 +22,7 @@ use Rattle.section_runs.proofs.bodies.walk.Goals as goal
 
 pub loop-n-init : goal.loop-n-init
 loop-n-init g c =
-    let met = g.met.S.Structure g.world.𝓛 g.world.𝓜 g.world.𝓡 ((λ s allowed. allowed), (λ patient. patient), (λ alone. alone), (λ cuts. cuts)) in
     let m = g.S.Structure.meaning c.args.table.now.structure in
-    let laws = met.laws c.args.table.now.structure in
-    let t = c.args.table.now in
-    let limits = c.table_is_allowed.ensures.limits in
-    let allowed = c.table_is_allowed.ensures.requests in
     let r = c.args.runner in
     record {
       own = c.requires.own;
@@ -42,12 +37,7 @@ loop-n-init g c =
 
 pub step_gated-gone-requires-clause-next : goal.step_gated-gone-requires-clause-next
 step_gated-gone-requires-clause-next g c κs within =
-    let met = g.met.S.Structure g.world.𝓛 g.world.𝓜 g.world.𝓡 ((λ s allowed. allowed), (λ patient. patient), (λ alone. alone), (λ cuts. cuts)) in
     let m = g.S.Structure.meaning c.args.table.now.structure in
-    let laws = met.laws c.args.table.now.structure in
-    let t = c.args.table.now in
-    let limits = c.table_is_allowed.ensures.limits in
-    let allowed = c.table_is_allowed.ensures.requests in
     let r = c.args.runner in
     let body = c.args.body.now in
     let n = c.loop-n.n in
@@ -64,30 +54,12 @@ step_gated-gone-requires-clause-next g c κs within =
 
 pub step_gated-gone-requires-clause-section : goal.step_gated-gone-requires-clause-section
 step_gated-gone-requires-clause-section g c κs within =
-    let met = g.met.S.Structure g.world.𝓛 g.world.𝓜 g.world.𝓡 ((λ s allowed. allowed), (λ patient. patient), (λ alone. alone), (λ cuts. cuts)) in
-    let m = g.S.Structure.meaning c.args.table.now.structure in
-    let laws = met.laws c.args.table.now.structure in
-    let t = c.args.table.now in
-    let limits = c.table_is_allowed.ensures.limits in
-    let allowed = c.table_is_allowed.ensures.requests in
-    let r = c.args.runner in
-    let body = c.args.body.now in
     let n = c.loop-n.n in
-    let now = c.loop-n.runner in
     let inv = c.loop-n.invariant in
-    let step = c.index-body-n.result in
-    let here = read_step body n step c.loop-n-test.true c.index-body-n.is in
-    let same_body : body ≡ body_of m now = c.requires.body ∙ sym (body_same m r now inv.same) in
     c.requires.section ∙ sym inv.same.descriptor
 
 pub step_gated-gone-requires-clause-reserve : goal.step_gated-gone-requires-clause-reserve
 step_gated-gone-requires-clause-reserve g c κs within =
-    let met = g.met.S.Structure g.world.𝓛 g.world.𝓜 g.world.𝓡 ((λ s allowed. allowed), (λ patient. patient), (λ alone. alone), (λ cuts. cuts)) in
-    let m = g.S.Structure.meaning c.args.table.now.structure in
-    let laws = met.laws c.args.table.now.structure in
-    let t = c.args.table.now in
-    let limits = c.table_is_allowed.ensures.limits in
-    let allowed = c.table_is_allowed.ensures.requests in
     let r = c.args.runner in
     let body = c.args.body.now in
     let n = c.loop-n.n in
@@ -95,35 +67,19 @@ step_gated-gone-requires-clause-reserve g c κs within =
     let inv = c.loop-n.invariant in
     let step = c.index-body-n.result in
     let here = read_step body n step c.loop-n-test.true c.index-body-n.is in
-    let same_body : body ≡ body_of m now = c.requires.body ∙ sym (body_same m r now inv.same) in
     slot_left body n step r.part.nodes now.part.nodes here inv.nodes c.requires.reserve
 
 pub note-requires : goal.note-requires
 note-requires g c =
-    let met = g.met.S.Structure g.world.𝓛 g.world.𝓜 g.world.𝓡 ((λ s allowed. allowed), (λ patient. patient), (λ alone. alone), (λ cuts. cuts)) in
-    let m = g.S.Structure.meaning c.args.table.now.structure in
-    let laws = met.laws c.args.table.now.structure in
-    let t = c.args.table.now in
-    let limits = c.table_is_allowed.ensures.limits in
-    let allowed = c.table_is_allowed.ensures.requests in
-    let r = c.args.runner in
     let body = c.args.body.now in
     let n = c.loop-n.n in
-    let now = c.loop-n.runner in
-    let inv = c.loop-n.invariant in
     let step = c.index-body-n.result in
     let here = read_step body n step c.loop-n-test.true c.index-body-n.is in
-    let same_body : body ≡ body_of m now = c.requires.body ∙ sym (body_same m r now inv.same) in
     record { within = c.requires.shaped.within n step here }
 
 pub loop-n-preserved : goal.loop-n-preserved
 loop-n-preserved g c =
-    let met = g.met.S.Structure g.world.𝓛 g.world.𝓜 g.world.𝓡 ((λ s allowed. allowed), (λ patient. patient), (λ alone. alone), (λ cuts. cuts)) in
     let m = g.S.Structure.meaning c.args.table.now.structure in
-    let laws = met.laws c.args.table.now.structure in
-    let t = c.args.table.now in
-    let limits = c.table_is_allowed.ensures.limits in
-    let allowed = c.table_is_allowed.ensures.requests in
     let r = c.args.runner in
     let body = c.args.body.now in
     let n = c.loop-n.n in
@@ -165,7 +121,6 @@ returns-in-Left-clause-over g c =
     let inv = c.loop-n.invariant in
     let step = c.index-body-n.result in
     let here = read_step body n step c.loop-n-test.true c.index-body-n.is in
-    let same_body : body ≡ body_of m now = c.requires.body ∙ sym (body_same m r now inv.same) in
     let went = c.step_gated-gone.ensures.went in
     let out = c.in-Left.is in
     let still = left_not_halted c.step_gated-gone.result.1 c.in-Left.outcome out in
@@ -176,116 +131,52 @@ returns-in-Left-clause-over g c =
 
 pub returns-in-Left-clause-trail : goal.returns-in-Left-clause-trail
 returns-in-Left-clause-trail g c =
-    let met = g.met.S.Structure g.world.𝓛 g.world.𝓜 g.world.𝓡 ((λ s allowed. allowed), (λ patient. patient), (λ alone. alone), (λ cuts. cuts)) in
-    let m = g.S.Structure.meaning c.args.table.now.structure in
-    let laws = met.laws c.args.table.now.structure in
-    let t = c.args.table.now in
-    let limits = c.table_is_allowed.ensures.limits in
-    let allowed = c.table_is_allowed.ensures.requests in
-    let r = c.args.runner in
-    let body = c.args.body.now in
-    let n = c.loop-n.n in
-    let now = c.loop-n.runner in
-    let inv = c.loop-n.invariant in
-    let step = c.index-body-n.result in
-    let here = read_step body n step c.loop-n-test.true c.index-body-n.is in
-    let same_body : body ≡ body_of m now = c.requires.body ∙ sym (body_same m r now inv.same) in
     let went = c.step_gated-gone.ensures.went in
     let out = c.in-Left.is in
     let still = left_not_halted c.step_gated-gone.result.1 c.in-Left.outcome out in
-    let here0 = subst (λ (xs : List Step). IsStep xs n step) c.requires.body here in
     λ _. went.words still
 
 pub returns-in-Left-clause-late : goal.returns-in-Left-clause-late
 returns-in-Left-clause-late g c =
-    let met = g.met.S.Structure g.world.𝓛 g.world.𝓜 g.world.𝓡 ((λ s allowed. allowed), (λ patient. patient), (λ alone. alone), (λ cuts. cuts)) in
-    let m = g.S.Structure.meaning c.args.table.now.structure in
-    let laws = met.laws c.args.table.now.structure in
-    let t = c.args.table.now in
-    let limits = c.table_is_allowed.ensures.limits in
-    let allowed = c.table_is_allowed.ensures.requests in
-    let r = c.args.runner in
-    let body = c.args.body.now in
     let n = c.loop-n.n in
-    let now = c.loop-n.runner in
     let inv = c.loop-n.invariant in
-    let step = c.index-body-n.result in
-    let here = read_step body n step c.loop-n-test.true c.index-body-n.is in
-    let same_body : body ≡ body_of m now = c.requires.body ∙ sym (body_same m r now inv.same) in
     let went = c.step_gated-gone.ensures.went in
-    let out = c.in-Left.is in
-    let still = left_not_halted c.step_gated-gone.result.1 c.in-Left.outcome out in
-    let here0 = subst (λ (xs : List Step). IsStep xs n step) c.requires.body here in
     went.late ∙ inv.late
 
 pub returns-in-Left-clause-through : goal.returns-in-Left-clause-through
 returns-in-Left-clause-through g c =
-    let met = g.met.S.Structure g.world.𝓛 g.world.𝓜 g.world.𝓡 ((λ s allowed. allowed), (λ patient. patient), (λ alone. alone), (λ cuts. cuts)) in
     let m = g.S.Structure.meaning c.args.table.now.structure in
-    let laws = met.laws c.args.table.now.structure in
-    let t = c.args.table.now in
-    let limits = c.table_is_allowed.ensures.limits in
-    let allowed = c.table_is_allowed.ensures.requests in
-    let r = c.args.runner in
     let body = c.args.body.now in
     let n = c.loop-n.n in
-    let now = c.loop-n.runner in
     let inv = c.loop-n.invariant in
     let step = c.index-body-n.result in
     let here = read_step body n step c.loop-n-test.true c.index-body-n.is in
-    let same_body : body ≡ body_of m now = c.requires.body ∙ sym (body_same m r now inv.same) in
     let went = c.step_gated-gone.ensures.went in
     let out = c.in-Left.is in
     let still = left_not_halted c.step_gated-gone.result.1 c.in-Left.outcome out in
-    let here0 = subst (λ (xs : List Step). IsStep xs n step) c.requires.body here in
     λ _. through_more m (sum_by step_cost (take n body)) (step_cost step) (sum_by step_cost body) _ _ _ _ _ _ _ _ _ _ _ _ (sum_room step_cost body n step here) inv.through (went.through still)
 
 pub returns-in-Halted-clause-late : goal.returns-in-Halted-clause-late
 returns-in-Halted-clause-late g c =
-    let met = g.met.S.Structure g.world.𝓛 g.world.𝓜 g.world.𝓡 ((λ s allowed. allowed), (λ patient. patient), (λ alone. alone), (λ cuts. cuts)) in
-    let m = g.S.Structure.meaning c.args.table.now.structure in
-    let laws = met.laws c.args.table.now.structure in
-    let t = c.args.table.now in
-    let limits = c.table_is_allowed.ensures.limits in
-    let allowed = c.table_is_allowed.ensures.requests in
-    let r = c.args.runner in
-    let body = c.args.body.now in
     let n = c.loop-n.n in
-    let now = c.loop-n.runner in
     let inv = c.loop-n.invariant in
-    let step = c.index-body-n.result in
-    let here = read_step body n step c.loop-n-test.true c.index-body-n.is in
-    let same_body : body ≡ body_of m now = c.requires.body ∙ sym (body_same m r now inv.same) in
     let went = c.step_gated-gone.ensures.went in
     went.late ∙ inv.late
 
 pub returns-in-Halted-clause-halted : goal.returns-in-Halted-clause-halted
 returns-in-Halted-clause-halted g c =
-    let met = g.met.S.Structure g.world.𝓛 g.world.𝓜 g.world.𝓡 ((λ s allowed. allowed), (λ patient. patient), (λ alone. alone), (λ cuts. cuts)) in
     let m = g.S.Structure.meaning c.args.table.now.structure in
-    let laws = met.laws c.args.table.now.structure in
-    let t = c.args.table.now in
-    let limits = c.table_is_allowed.ensures.limits in
-    let allowed = c.table_is_allowed.ensures.requests in
-    let r = c.args.runner in
     let body = c.args.body.now in
     let n = c.loop-n.n in
-    let now = c.loop-n.runner in
     let inv = c.loop-n.invariant in
     let step = c.index-body-n.result in
     let here = read_step body n step c.loop-n-test.true c.index-body-n.is in
-    let same_body : body ≡ body_of m now = c.requires.body ∙ sym (body_same m r now inv.same) in
     let went = c.step_gated-gone.ensures.went in
     λ _. halted_then m (sum_by step_cost (take n body)) (step_cost step) (sum_by step_cost body) _ _ _ _ _ _ _ _ _ _ _ _ (sum_room step_cost body n step here) inv.through (went.halted c.in-Halted.is)
 
 pub returns-clause-over : goal.returns-clause-over
 returns-clause-over g c =
-    let met = g.met.S.Structure g.world.𝓛 g.world.𝓜 g.world.𝓡 ((λ s allowed. allowed), (λ patient. patient), (λ alone. alone), (λ cuts. cuts)) in
     let m = g.S.Structure.meaning c.args.table.now.structure in
-    let laws = met.laws c.args.table.now.structure in
-    let t = c.args.table.now in
-    let limits = c.table_is_allowed.ensures.limits in
-    let allowed = c.table_is_allowed.ensures.requests in
     let r = c.args.runner in
     let body = c.args.body.now in
     let inv = c.loop-n.invariant in
@@ -297,24 +188,11 @@ returns-clause-over g c =
 
 pub returns-clause-trail : goal.returns-clause-trail
 returns-clause-trail g c =
-    let met = g.met.S.Structure g.world.𝓛 g.world.𝓜 g.world.𝓡 ((λ s allowed. allowed), (λ patient. patient), (λ alone. alone), (λ cuts. cuts)) in
-    let m = g.S.Structure.meaning c.args.table.now.structure in
-    let laws = met.laws c.args.table.now.structure in
-    let t = c.args.table.now in
-    let limits = c.table_is_allowed.ensures.limits in
-    let allowed = c.table_is_allowed.ensures.requests in
-    let r = c.args.runner in
     λ _. c.loop-n.invariant.trail
 
 pub returns-clause-through : goal.returns-clause-through
 returns-clause-through g c =
-    let met = g.met.S.Structure g.world.𝓛 g.world.𝓜 g.world.𝓡 ((λ s allowed. allowed), (λ patient. patient), (λ alone. alone), (λ cuts. cuts)) in
     let m = g.S.Structure.meaning c.args.table.now.structure in
-    let laws = met.laws c.args.table.now.structure in
-    let t = c.args.table.now in
-    let limits = c.table_is_allowed.ensures.limits in
-    let allowed = c.table_is_allowed.ensures.requests in
-    let r = c.args.runner in
     let body = c.args.body.now in
     let n = c.loop-n.n in
     λ _. through_few m _ _ _ _ _ _ _ _ _ _ (sum_most step_cost body n) c.loop-n.invariant.through

@@ -9,46 +9,24 @@ use Rattle.section_runs.proofs.ends.end.Goals as goal
 
 pub release_all-runner-requires-clause-body : goal.release_all-runner-requires-clause-body
 release_all-runner-requires-clause-body g c κs within =
-    let met = g.met.S.Structure g.world.𝓛 g.world.𝓜 g.world.𝓡 ((λ s allowed. allowed), (λ patient. patient), (λ alone. alone), (λ cuts. cuts)) in
     let m = g.S.Structure.meaning c.args.table.now.structure in
-    let laws = met.laws c.args.table.now.structure in
-    let t = c.args.table.now in
-    let limits = c.table_is_allowed.ensures.limits in
-    let allowed = c.table_is_allowed.ensures.requests in
     let r = c.args.runner in
     let same1 = c.finish-runner.ensures.same c.if-not-going.false in
     c.requires.body ∙ sym (ends_body m r c.finish-runner.result.0 same1)
 
 pub returns-then-not-going-clause-halted : goal.returns-then-not-going-clause-halted
 returns-then-not-going-clause-halted g c =
-    let met = g.met.S.Structure g.world.𝓛 g.world.𝓜 g.world.𝓡 ((λ s allowed. allowed), (λ patient. patient), (λ alone. alone), (λ cuts. cuts)) in
     let m = g.S.Structure.meaning c.args.table.now.structure in
-    let laws = met.laws c.args.table.now.structure in
-    let t = c.args.table.now in
-    let limits = c.table_is_allowed.ensures.limits in
-    let allowed = c.table_is_allowed.ensures.requests in
-    let r = c.args.runner in
     λ _. halted_few m 1 (2 + count_by is_take c.args.body.now) _ _ _ _ _ _ _ _ (omega arith) (c.finish-runner.ensures.halted c.if-not-going.true)
 
 pub returns-then-not-going-2-clause-halted : goal.returns-then-not-going-2-clause-halted
 returns-then-not-going-2-clause-halted g c =
-    let met = g.met.S.Structure g.world.𝓛 g.world.𝓜 g.world.𝓡 ((λ s allowed. allowed), (λ patient. patient), (λ alone. alone), (λ cuts. cuts)) in
     let m = g.S.Structure.meaning c.args.table.now.structure in
-    let laws = met.laws c.args.table.now.structure in
-    let t = c.args.table.now in
-    let limits = c.table_is_allowed.ensures.limits in
-    let allowed = c.table_is_allowed.ensures.requests in
-    let r = c.args.runner in
     λ _. halted_then m 1 (count_by is_take c.args.body.now) (2 + count_by is_take c.args.body.now) _ _ _ _ _ _ _ _ _ _ _ _ (omega arith) (c.finish-runner.ensures.through c.if-not-going.false) (c.release_all-runner.ensures.halted c.if-not-going-2.true)
 
 pub release_last-requires-clause-lock : goal.release_last-requires-clause-lock
 release_last-requires-clause-lock g c κs within =
-    let met = g.met.S.Structure g.world.𝓛 g.world.𝓜 g.world.𝓡 ((λ s allowed. allowed), (λ patient. patient), (λ alone. alone), (λ cuts. cuts)) in
     let m = g.S.Structure.meaning c.args.table.now.structure in
-    let laws = met.laws c.args.table.now.structure in
-    let t = c.args.table.now in
-    let limits = c.table_is_allowed.ensures.limits in
-    let allowed = c.table_is_allowed.ensures.requests in
     let r = c.args.runner in
     let same1 = c.finish-runner.ensures.same c.if-not-going.false in
     let same2 = ends_more m r c.finish-runner.result.0 c.release_all-runner.result.0 same1 (c.release_all-runner.ensures.same c.if-not-going-2.false) in
@@ -56,12 +34,7 @@ release_last-requires-clause-lock g c κs within =
 
 pub release_last-requires-clause-word : goal.release_last-requires-clause-word
 release_last-requires-clause-word g c κs within =
-    let met = g.met.S.Structure g.world.𝓛 g.world.𝓜 g.world.𝓡 ((λ s allowed. allowed), (λ patient. patient), (λ alone. alone), (λ cuts. cuts)) in
     let m = g.S.Structure.meaning c.args.table.now.structure in
-    let laws = met.laws c.args.table.now.structure in
-    let t = c.args.table.now in
-    let limits = c.table_is_allowed.ensures.limits in
-    let allowed = c.table_is_allowed.ensures.requests in
     let r = c.args.runner in
     let same1 = c.finish-runner.ensures.same c.if-not-going.false in
     let same2 = ends_more m r c.finish-runner.result.0 c.release_all-runner.result.0 same1 (c.release_all-runner.ensures.same c.if-not-going-2.false) in
@@ -69,23 +42,11 @@ release_last-requires-clause-word g c κs within =
 
 pub release_last-requires-clause-next : goal.release_last-requires-clause-next
 release_last-requires-clause-next g c κs within =
-    let met = g.met.S.Structure g.world.𝓛 g.world.𝓜 g.world.𝓡 ((λ s allowed. allowed), (λ patient. patient), (λ alone. alone), (λ cuts. cuts)) in
-    let m = g.S.Structure.meaning c.args.table.now.structure in
-    let laws = met.laws c.args.table.now.structure in
-    let t = c.args.table.now in
-    let limits = c.table_is_allowed.ensures.limits in
-    let allowed = c.table_is_allowed.ensures.requests in
-    let r = c.args.runner in
     c.release_all-runner.ensures.ending c.if-not-going-2.false
 
 pub returns-clause-ended : goal.returns-clause-ended
 returns-clause-ended g c =
-    let met = g.met.S.Structure g.world.𝓛 g.world.𝓜 g.world.𝓡 ((λ s allowed. allowed), (λ patient. patient), (λ alone. alone), (λ cuts. cuts)) in
     let m = g.S.Structure.meaning c.args.table.now.structure in
-    let laws = met.laws c.args.table.now.structure in
-    let t = c.args.table.now in
-    let limits = c.table_is_allowed.ensures.limits in
-    let allowed = c.table_is_allowed.ensures.requests in
     let r = c.args.runner in
     let same1 = c.finish-runner.ensures.same c.if-not-going.false in
     let same2 = ends_more m r c.finish-runner.result.0 c.release_all-runner.result.0 same1 (c.release_all-runner.ensures.same c.if-not-going-2.false) in
@@ -105,15 +66,8 @@ returns-clause-ended g c =
 
 pub returns-clause-halted : goal.returns-clause-halted
 returns-clause-halted g c =
-    let met = g.met.S.Structure g.world.𝓛 g.world.𝓜 g.world.𝓡 ((λ s allowed. allowed), (λ patient. patient), (λ alone. alone), (λ cuts. cuts)) in
     let m = g.S.Structure.meaning c.args.table.now.structure in
-    let laws = met.laws c.args.table.now.structure in
-    let t = c.args.table.now in
-    let limits = c.table_is_allowed.ensures.limits in
-    let allowed = c.table_is_allowed.ensures.requests in
     let r = c.args.runner in
-    let same1 = c.finish-runner.ensures.same c.if-not-going.false in
-    let same2 = ends_more m r c.finish-runner.result.0 c.release_all-runner.result.0 same1 (c.release_all-runner.ensures.same c.if-not-going-2.false) in
     let before = (through_more m 1 (count_by is_take c.args.body.now) (1 + count_by is_take c.args.body.now) r c.finish-runner.result.0 c.release_all-runner.result.0 _ _ _ _ _ _ _ _ _ (omega arith) (c.finish-runner.ensures.through c.if-not-going.false) (c.release_all-runner.ensures.through c.if-not-going-2.false)) in
     λ halted. halted_then m (1 + count_by is_take c.args.body.now) 1 (2 + count_by is_take c.args.body.now) _ _ _ _ _ _ _ _ _ _ _ _ (omega arith) before
     (halted_by m 1 1 _ _ _ _ _ _ _ _ (omega arith) (omega arith) (ran_one m _ _ _ _ _ c.release_last.ensures.released.step) (asked_if halted c.release_last.ensures.asked))

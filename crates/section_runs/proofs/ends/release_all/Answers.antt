@@ -11,10 +11,7 @@ use Rattle.section_runs.proofs.ends.release_all.Goals as goal
 
 pub release_step-released-requires-clause-here : goal.release_step-released-requires-clause-here
 release_step-released-requires-clause-here g c κs within =
-    let met = g.met.S.Structure g.world.𝓛 g.world.𝓜 g.world.𝓡 ((λ s allowed. allowed), (λ patient. patient), (λ alone. alone), (λ cuts. cuts)) in
     let m = g.S.Structure.meaning c.args.table.now.structure in
-    let laws = met.laws c.args.table.now.structure in
-    let t = c.args.table.now in
     let r = c.args.runner in
     let body = c.args.body.now in
     let n = c.loop-n.n in
@@ -28,27 +25,18 @@ release_step-released-requires-clause-here g c κs within =
 
 pub returns-then-not-going-clause-halted : goal.returns-then-not-going-clause-halted
 returns-then-not-going-clause-halted g c =
-    let met = g.met.S.Structure g.world.𝓛 g.world.𝓜 g.world.𝓡 ((λ s allowed. allowed), (λ patient. patient), (λ alone. alone), (λ cuts. cuts)) in
     let m = g.S.Structure.meaning c.args.table.now.structure in
-    let laws = met.laws c.args.table.now.structure in
-    let t = c.args.table.now in
-    let r = c.args.runner in
     let body = c.args.body.now in
     let n = c.loop-n.n in
-    let now = c.loop-n.runner in
     let inv = c.loop-n.invariant in
     let step = c.index-body-n.result in
     let low : n < length body = (let a = c.loop-n-test.true in let b = c.requires.within in omega (arith, a, b)) in
     let here = read_step body n step low c.index-body-n.is in
-    let here1 = subst (λ (xs : List Step). IsStep xs n step) (c.requires.body ∙ sym (ends_body m r now inv.same)) here in
     λ _. halted_then m (count_by is_take (take n body)) (taken_by step) (count_by is_take body) _ _ _ _ _ _ _ _ _ _ _ _ (sum_room taken_by body n step here) inv.through (c.release_step-released.ensures.halted c.if-not-going.true)
 
 pub loop-n-preserved : goal.loop-n-preserved
 loop-n-preserved g c =
-    let met = g.met.S.Structure g.world.𝓛 g.world.𝓜 g.world.𝓡 ((λ s allowed. allowed), (λ patient. patient), (λ alone. alone), (λ cuts. cuts)) in
     let m = g.S.Structure.meaning c.args.table.now.structure in
-    let laws = met.laws c.args.table.now.structure in
-    let t = c.args.table.now in
     let r = c.args.runner in
     let body = c.args.body.now in
     let n = c.loop-n.n in
@@ -57,7 +45,6 @@ loop-n-preserved g c =
     let step = c.index-body-n.result in
     let low : n < length body = (let a = c.loop-n-test.true in let b = c.requires.within in omega (arith, a, b)) in
     let here = read_step body n step low c.index-body-n.is in
-    let here1 = subst (λ (xs : List Step). IsStep xs n step) (c.requires.body ∙ sym (ends_body m r now inv.same)) here in
     let going = c.if-not-going.false in
     let next : suc n ≡ n + 1 = omega arith in
     record {
@@ -70,19 +57,11 @@ loop-n-preserved g c =
 
 pub returns-clause-ending : goal.returns-clause-ending
 returns-clause-ending g c =
-    let met = g.met.S.Structure g.world.𝓛 g.world.𝓜 g.world.𝓡 ((λ s allowed. allowed), (λ patient. patient), (λ alone. alone), (λ cuts. cuts)) in
     let m = g.S.Structure.meaning c.args.table.now.structure in
-    let laws = met.laws c.args.table.now.structure in
-    let t = c.args.table.now in
-    let r = c.args.runner in
     let all : c.loop-n.n ≡ c.args.taken = (let a = c.loop-n-test.false in let b = c.loop-n.auto.n-end in omega (arith, a, b)) in
     λ _. subst (λ k. IsEnding m c.args.taken k c.loop-n.runner) all c.loop-n.invariant.ending
 
 pub returns-clause-through : goal.returns-clause-through
 returns-clause-through g c =
-    let met = g.met.S.Structure g.world.𝓛 g.world.𝓜 g.world.𝓡 ((λ s allowed. allowed), (λ patient. patient), (λ alone. alone), (λ cuts. cuts)) in
     let m = g.S.Structure.meaning c.args.table.now.structure in
-    let laws = met.laws c.args.table.now.structure in
-    let t = c.args.table.now in
-    let r = c.args.runner in
     λ _. through_few m _ _ _ _ _ _ _ _ _ _ (sum_most taken_by c.args.body.now c.loop-n.n) c.loop-n.invariant.through

@@ -19,7 +19,6 @@ release-runner-requires-clause-next g c κs within =
     let allowed = c.table_is_allowed.ensures.requests in
     let r = c.args.runner in
     let here : IsStep (body_of m r) c.args.n _ = c.requires.here ∙ ap (λ (x : Step). Some x) c.in-Take.is in
-    let one : cond {A = ℕ} (is_take c.args.step.now) 1 0 ≡ 1 = ap (λ (x : Step). cond {A = ℕ} (is_take x) 1 0) c.in-Take.is in
     may_release_take m laws t limits allowed r c.requires.own c.args.taken c.args.n _ _ c.requires.next c.requires.below here
 
 pub returns-in-Take-clause-ending : goal.returns-in-Take-clause-ending
@@ -32,7 +31,6 @@ returns-in-Take-clause-ending g c =
     let allowed = c.table_is_allowed.ensures.requests in
     let r = c.args.runner in
     let here : IsStep (body_of m r) c.args.n _ = c.requires.here ∙ ap (λ (x : Step). Some x) c.in-Take.is in
-    let one : cond {A = ℕ} (is_take c.args.step.now) 1 0 ≡ 1 = ap (λ (x : Step). cond {A = ℕ} (is_take x) 1 0) c.in-Take.is in
     λ _. (released_take m laws t limits allowed r c.requires.own c.args.taken c.args.n _ _ c.requires.next c.requires.below here _ _ (releases_take m laws t limits allowed r c.requires.own c.args.taken c.args.n _ _ c.requires.next c.requires.below here _ _ c.release-runner.ensures.event.event)).0
 
 pub returns-in-Take-clause-same : goal.returns-in-Take-clause-same
@@ -45,7 +43,6 @@ returns-in-Take-clause-same g c =
     let allowed = c.table_is_allowed.ensures.requests in
     let r = c.args.runner in
     let here : IsStep (body_of m r) c.args.n _ = c.requires.here ∙ ap (λ (x : Step). Some x) c.in-Take.is in
-    let one : cond {A = ℕ} (is_take c.args.step.now) 1 0 ≡ 1 = ap (λ (x : Step). cond {A = ℕ} (is_take x) 1 0) c.in-Take.is in
     λ _. (released_take m laws t limits allowed r c.requires.own c.args.taken c.args.n _ _ c.requires.next c.requires.below here _ _ (releases_take m laws t limits allowed r c.requires.own c.args.taken c.args.n _ _ c.requires.next c.requires.below here _ _ c.release-runner.ensures.event.event)).1
 
 pub returns-in-Take-clause-through : goal.returns-in-Take-clause-through

@@ -7,34 +7,16 @@ use Rattle.section_runs.proofs.runs.run.Goals as goal
 
 pub run_opened-requires-clause-opened : goal.run_opened-requires-clause-opened
 run_opened-requires-clause-opened g c κs within =
-    let met = g.met.S.Structure g.world.𝓛 g.world.𝓜 g.world.𝓡 ((λ s allowed. allowed), (λ patient. patient), (λ alone. alone), (λ cuts. cuts)) in
     let m = g.S.Structure.meaning c.args.table.now.structure in
-    let laws = met.laws c.args.table.now.structure in
-    let t = c.args.table.now in
-    let limits = c.table_is_allowed.ensures.limits in
-    let allowed = c.table_is_allowed.ensures.requests in
     let r = c.args.runner in
     stands_opened m c.args.descriptor _ _ r _ c.requires.next (some_of _ _ _ c.in-Some.is c.open-runner.ensures.opened)
 
 pub run_opened-requires-clause-reserve : goal.run_opened-requires-clause-reserve
 run_opened-requires-clause-reserve g c κs within =
-    let met = g.met.S.Structure g.world.𝓛 g.world.𝓜 g.world.𝓡 ((λ s allowed. allowed), (λ patient. patient), (λ alone. alone), (λ cuts. cuts)) in
-    let m = g.S.Structure.meaning c.args.table.now.structure in
-    let laws = met.laws c.args.table.now.structure in
-    let t = c.args.table.now in
-    let limits = c.table_is_allowed.ensures.limits in
-    let allowed = c.table_is_allowed.ensures.requests in
-    let r = c.args.runner in
     let hop = some_of _ _ _ c.in-Some.is c.open-runner.ensures.opened in subst (λ (n : NodesState). 2 ≤ length n.free) (sym hop.nodes) c.requires.reserve
 
 pub returns-in-Some-clause-done : goal.returns-in-Some-clause-done
 returns-in-Some-clause-done g c =
-    let met = g.met.S.Structure g.world.𝓛 g.world.𝓜 g.world.𝓡 ((λ s allowed. allowed), (λ patient. patient), (λ alone. alone), (λ cuts. cuts)) in
-    let m = g.S.Structure.meaning c.args.table.now.structure in
-    let laws = met.laws c.args.table.now.structure in
-    let t = c.args.table.now in
-    let limits = c.table_is_allowed.ensures.limits in
-    let allowed = c.table_is_allowed.ensures.requests in
     let r = c.args.runner in
     let hop = some_of _ _ _ c.in-Some.is c.open-runner.ensures.opened in
     λ o trail e. let ends = c.run_opened.ensures.done r o trail hop e in
@@ -42,13 +24,7 @@ returns-in-Some-clause-done g c =
 
 pub returns-in-Some-clause-halted : goal.returns-in-Some-clause-halted
 returns-in-Some-clause-halted g c =
-    let met = g.met.S.Structure g.world.𝓛 g.world.𝓜 g.world.𝓡 ((λ s allowed. allowed), (λ patient. patient), (λ alone. alone), (λ cuts. cuts)) in
     let m = g.S.Structure.meaning c.args.table.now.structure in
-    let laws = met.laws c.args.table.now.structure in
-    let t = c.args.table.now in
-    let limits = c.table_is_allowed.ensures.limits in
-    let allowed = c.table_is_allowed.ensures.requests in
-    let r = c.args.runner in
     let hop = some_of _ _ _ c.in-Some.is c.open-runner.ensures.opened in
     λ e. let cut = c.run_opened.ensures.halted e in (
       13 + cut.made,
@@ -67,12 +43,5 @@ returns-in-Some-clause-halted g c =
 
 pub returns-in-None-clause-halted : goal.returns-in-None-clause-halted
 returns-in-None-clause-halted g c =
-    let met = g.met.S.Structure g.world.𝓛 g.world.𝓜 g.world.𝓡 ((λ s allowed. allowed), (λ patient. patient), (λ alone. alone), (λ cuts. cuts)) in
-    let m = g.S.Structure.meaning c.args.table.now.structure in
-    let laws = met.laws c.args.table.now.structure in
-    let t = c.args.table.now in
-    let limits = c.table_is_allowed.ensures.limits in
-    let allowed = c.table_is_allowed.ensures.requests in
-    let r = c.args.runner in
     let cut = none_of _ _ c.in-None.is c.open-runner.ensures.halted in
     λ _. (cut.made, inl (cut.words, cut.opening), cut.asked)

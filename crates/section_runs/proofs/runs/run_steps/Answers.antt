@@ -19,17 +19,11 @@ use Rattle.section_runs.proofs.runs.run_steps.Goals as goal
 
 pub walk-runner-requires-clause-body : goal.walk-runner-requires-clause-body
 walk-runner-requires-clause-body g c κs within =
-    let met = g.met.S.Structure g.world.𝓛 g.world.𝓜 g.world.𝓡 ((λ s allowed. allowed), (λ patient. patient), (λ alone. alone), (λ cuts. cuts)) in
     let m = g.S.Structure.meaning c.args.table.now.structure in
-    let laws = met.laws c.args.table.now.structure in
-    let t = c.args.table.now in
-    let limits = c.table_is_allowed.ensures.limits in
-    let allowed = c.table_is_allowed.ensures.requests in
     let r = c.args.runner in
     let body = m.body c.args.thunk.now in
     let same : body_of m r ≡ body = opened_body m c.args.descriptor c.args.thunk.now c.args.late r c.requires.opened in
     let is_body : c.args.line.now ≡ body = c.requires.line in
-    let whole : IsShaped (body_of m r) = shaped m laws t limits allowed r c.requires.own (run_of r) c.requires.opened.inside in
     is_body ∙ sym same
 
 pub walk-runner-requires-clause-shaped : goal.walk-runner-requires-clause-shaped
@@ -56,31 +50,18 @@ walk-runner-requires-clause-before g c κs within =
     let limits = c.table_is_allowed.ensures.limits in
     let allowed = c.table_is_allowed.ensures.requests in
     let r = c.args.runner in
-    let body = m.body c.args.thunk.now in
-    let same : body_of m r ≡ body = opened_body m c.args.descriptor c.args.thunk.now c.args.late r c.requires.opened in
-    let is_body : c.args.line.now ≡ body = c.requires.line in
     let whole : IsShaped (body_of m r) = shaped m laws t limits allowed r c.requires.own (run_of r) c.requires.opened.inside in
     opened_before m c.args.descriptor c.args.thunk.now c.args.late r c.requires.opened whole
 
 pub walk-runner-requires-clause-section : goal.walk-runner-requires-clause-section
 walk-runner-requires-clause-section g c κs within =
-    let met = g.met.S.Structure g.world.𝓛 g.world.𝓜 g.world.𝓡 ((λ s allowed. allowed), (λ patient. patient), (λ alone. alone), (λ cuts. cuts)) in
     let m = g.S.Structure.meaning c.args.table.now.structure in
-    let laws = met.laws c.args.table.now.structure in
-    let t = c.args.table.now in
-    let limits = c.table_is_allowed.ensures.limits in
-    let allowed = c.table_is_allowed.ensures.requests in
     let r = c.args.runner in
     opened_descriptor m c.args.descriptor c.args.thunk.now c.args.late r c.requires.opened
 
 pub walk-runner-requires-clause-trail : goal.walk-runner-requires-clause-trail
 walk-runner-requires-clause-trail g c κs within =
-    let met = g.met.S.Structure g.world.𝓛 g.world.𝓜 g.world.𝓡 ((λ s allowed. allowed), (λ patient. patient), (λ alone. alone), (λ cuts. cuts)) in
     let m = g.S.Structure.meaning c.args.table.now.structure in
-    let laws = met.laws c.args.table.now.structure in
-    let t = c.args.table.now in
-    let limits = c.table_is_allowed.ensures.limits in
-    let allowed = c.table_is_allowed.ensures.requests in
     let r = c.args.runner in
     c.trail_of-trail.ensures.words ∙ sym (opened_trail m c.args.descriptor c.args.thunk.now c.args.late r c.requires.opened)
 
@@ -101,75 +82,42 @@ walk-runner-requires-clause-reserve g c κs within =
 
 pub end-runner-requires-clause-body : goal.end-runner-requires-clause-body
 end-runner-requires-clause-body g c κs within =
-    let met = g.met.S.Structure g.world.𝓛 g.world.𝓜 g.world.𝓡 ((λ s allowed. allowed), (λ patient. patient), (λ alone. alone), (λ cuts. cuts)) in
     let m = g.S.Structure.meaning c.args.table.now.structure in
-    let laws = met.laws c.args.table.now.structure in
-    let t = c.args.table.now in
-    let limits = c.table_is_allowed.ensures.limits in
-    let allowed = c.table_is_allowed.ensures.requests in
     let r = c.args.runner in
     let body = m.body c.args.thunk.now in
     let same : body_of m r ≡ body = opened_body m c.args.descriptor c.args.thunk.now c.args.late r c.requires.opened in
     let is_body : c.args.line.now ≡ body = c.requires.line in
-    let whole : IsShaped (body_of m r) = shaped m laws t limits allowed r c.requires.own (run_of r) c.requires.opened.inside in
     let walked = c.walk-runner.ensures.over c.in-Over.taken c.in-Over.outcome c.in-Over.is in
     let r2 = c.walk-runner.result.0 in
     is_body ∙ (sym same ∙ sym (body_same m r r2 walked.same))
 
 pub end-runner-requires-clause-within : goal.end-runner-requires-clause-within
 end-runner-requires-clause-within g c κs within =
-    let met = g.met.S.Structure g.world.𝓛 g.world.𝓜 g.world.𝓡 ((λ s allowed. allowed), (λ patient. patient), (λ alone. alone), (λ cuts. cuts)) in
     let m = g.S.Structure.meaning c.args.table.now.structure in
-    let laws = met.laws c.args.table.now.structure in
-    let t = c.args.table.now in
-    let limits = c.table_is_allowed.ensures.limits in
-    let allowed = c.table_is_allowed.ensures.requests in
     let r = c.args.runner in
     let body = m.body c.args.thunk.now in
     let same : body_of m r ≡ body = opened_body m c.args.descriptor c.args.thunk.now c.args.late r c.requires.opened in
     let is_body : c.args.line.now ≡ body = c.requires.line in
-    let whole : IsShaped (body_of m r) = shaped m laws t limits allowed r c.requires.own (run_of r) c.requires.opened.inside in
     let walked = c.walk-runner.ensures.over c.in-Over.taken c.in-Over.outcome c.in-Over.is in
-    let r2 = c.walk-runner.result.0 in
     let e = ap length (is_body ∙ sym same) in let w = walked.within in omega (arith, e, w)
 
 pub end-runner-requires-clause-lock : goal.end-runner-requires-clause-lock
 end-runner-requires-clause-lock g c κs within =
-    let met = g.met.S.Structure g.world.𝓛 g.world.𝓜 g.world.𝓡 ((λ s allowed. allowed), (λ patient. patient), (λ alone. alone), (λ cuts. cuts)) in
     let m = g.S.Structure.meaning c.args.table.now.structure in
-    let laws = met.laws c.args.table.now.structure in
-    let t = c.args.table.now in
-    let limits = c.table_is_allowed.ensures.limits in
-    let allowed = c.table_is_allowed.ensures.requests in
     let r = c.args.runner in
     let walked = c.walk-runner.ensures.over c.in-Over.taken c.in-Over.outcome c.in-Over.is in
-    let r2 = c.walk-runner.result.0 in
     ap (λ (x : Thunk). x.lock) (sym (ap thunk_of walked.same.opened ∙ opened_thunk m c.args.descriptor c.args.thunk.now c.args.late r c.requires.opened))
 
 pub end-runner-requires-clause-word : goal.end-runner-requires-clause-word
 end-runner-requires-clause-word g c κs within =
-    let met = g.met.S.Structure g.world.𝓛 g.world.𝓜 g.world.𝓡 ((λ s allowed. allowed), (λ patient. patient), (λ alone. alone), (λ cuts. cuts)) in
     let m = g.S.Structure.meaning c.args.table.now.structure in
-    let laws = met.laws c.args.table.now.structure in
-    let t = c.args.table.now in
-    let limits = c.table_is_allowed.ensures.limits in
-    let allowed = c.table_is_allowed.ensures.requests in
     let r = c.args.runner in
     let walked = c.walk-runner.ensures.over c.in-Over.taken c.in-Over.outcome c.in-Over.is in
-    let r2 = c.walk-runner.result.0 in
     ap (λ (x : Thunk). x.word) (sym (ap thunk_of walked.same.opened ∙ opened_thunk m c.args.descriptor c.args.thunk.now c.args.late r c.requires.opened))
 
 pub end-runner-requires-clause-over : goal.end-runner-requires-clause-over
 end-runner-requires-clause-over g c κs within =
-    let met = g.met.S.Structure g.world.𝓛 g.world.𝓜 g.world.𝓡 ((λ s allowed. allowed), (λ patient. patient), (λ alone. alone), (λ cuts. cuts)) in
-    let m = g.S.Structure.meaning c.args.table.now.structure in
-    let laws = met.laws c.args.table.now.structure in
-    let t = c.args.table.now in
-    let limits = c.table_is_allowed.ensures.limits in
-    let allowed = c.table_is_allowed.ensures.requests in
-    let r = c.args.runner in
     let walked = c.walk-runner.ensures.over c.in-Over.taken c.in-Over.outcome c.in-Over.is in
-    let r2 = c.walk-runner.result.0 in
     (c.in-Over.outcome, walked.over)
 
 pub returns-in-Over-clause-done : goal.returns-in-Over-clause-done
@@ -182,9 +130,7 @@ returns-in-Over-clause-done g c =
     let allowed = c.table_is_allowed.ensures.requests in
     let r = c.args.runner in
     let body = m.body c.args.thunk.now in
-    let same : body_of m r ≡ body = opened_body m c.args.descriptor c.args.thunk.now c.args.late r c.requires.opened in
     let is_body : c.args.line.now ≡ body = c.requires.line in
-    let whole : IsShaped (body_of m r) = shaped m laws t limits allowed r c.requires.own (run_of r) c.requires.opened.inside in
     let walked = c.walk-runner.ensures.over c.in-Over.taken c.in-Over.outcome c.in-Over.is in
     let r2 = c.walk-runner.result.0 in
     λ before o trail hop e.
@@ -203,17 +149,9 @@ returns-in-Over-clause-done g c =
 
 pub returns-in-Over-clause-halted : goal.returns-in-Over-clause-halted
 returns-in-Over-clause-halted g c =
-    let met = g.met.S.Structure g.world.𝓛 g.world.𝓜 g.world.𝓡 ((λ s allowed. allowed), (λ patient. patient), (λ alone. alone), (λ cuts. cuts)) in
     let m = g.S.Structure.meaning c.args.table.now.structure in
-    let laws = met.laws c.args.table.now.structure in
-    let t = c.args.table.now in
-    let limits = c.table_is_allowed.ensures.limits in
-    let allowed = c.table_is_allowed.ensures.requests in
-    let r = c.args.runner in
     let body = m.body c.args.thunk.now in
-    let same : body_of m r ≡ body = opened_body m c.args.descriptor c.args.thunk.now c.args.late r c.requires.opened in
     let is_body : c.args.line.now ≡ body = c.requires.line in
-    let whole : IsShaped (body_of m r) = shaped m laws t limits allowed r c.requires.own (run_of r) c.requires.opened.inside in
     λ e.
     let halted = halted_going c.end-runner.result.1 c.ended.result _ _ c.ended.ensures.done e in
     halted_then m (sum_by step_cost c.args.line.now) (2 + count_by is_take c.args.line.now) (rest_of body) _ _ _ _ _ _ _ _ _ _ _ _
@@ -221,16 +159,8 @@ returns-in-Over-clause-halted g c =
 
 pub returns-in-Stopped-clause-halted : goal.returns-in-Stopped-clause-halted
 returns-in-Stopped-clause-halted g c =
-    let met = g.met.S.Structure g.world.𝓛 g.world.𝓜 g.world.𝓡 ((λ s allowed. allowed), (λ patient. patient), (λ alone. alone), (λ cuts. cuts)) in
     let m = g.S.Structure.meaning c.args.table.now.structure in
-    let laws = met.laws c.args.table.now.structure in
-    let t = c.args.table.now in
-    let limits = c.table_is_allowed.ensures.limits in
-    let allowed = c.table_is_allowed.ensures.requests in
-    let r = c.args.runner in
     let body = m.body c.args.thunk.now in
-    let same : body_of m r ≡ body = opened_body m c.args.descriptor c.args.thunk.now c.args.late r c.requires.opened in
     let is_body : c.args.line.now ≡ body = c.requires.line in
-    let whole : IsShaped (body_of m r) = shaped m laws t limits allowed r c.requires.own (run_of r) c.requires.opened.inside in
     λ _. halted_few m (sum_by step_cost c.args.line.now) (rest_of body) _ _ _ _ _ _ _ _
     (let x = ap (sum_by step_cost) is_body in omega (arith, x)) (c.walk-runner.ensures.halted c.in-Stopped.is)

@@ -8,12 +8,7 @@ use Rattle.section_runs.proofs.steps.load_step.Goals as goal
 
 pub load_gated-runner-requires-clause-next : goal.load_gated-runner-requires-clause-next
 load_gated-runner-requires-clause-next g c κs within =
-    let met = g.met.S.Structure g.world.𝓛 g.world.𝓜 g.world.𝓡 ((λ s allowed. allowed), (λ patient. patient), (λ alone. alone), (λ cuts. cuts)) in
     let m = g.S.Structure.meaning c.args.table.now.structure in
-    let laws = met.laws c.args.table.now.structure in
-    let t = c.args.table.now in
-    let limits = c.table_is_allowed.ensures.limits in
-    let allowed = c.table_is_allowed.ensures.requests in
     let r = c.args.runner in
     (run_of r, may_load m r c.args.place c.requires.next.0 c.requires.next.1)
 
@@ -31,23 +26,13 @@ agree-requires g c =
 
 pub returns-in-Some-clause-goes : goal.returns-in-Some-clause-goes
 returns-in-Some-clause-goes g c =
-    let met = g.met.S.Structure g.world.𝓛 g.world.𝓜 g.world.𝓡 ((λ s allowed. allowed), (λ patient. patient), (λ alone. alone), (λ cuts. cuts)) in
     let m = g.S.Structure.meaning c.args.table.now.structure in
-    let laws = met.laws c.args.table.now.structure in
-    let t = c.args.table.now in
-    let limits = c.table_is_allowed.ensures.limits in
-    let allowed = c.table_is_allowed.ensures.requests in
     let r = c.args.runner in
     λ _ into. load_goes m r c.args.place into _ _ (some_of _ _ _ c.in-Some.is c.load_gated-runner.ensures.loaded (run_of r) c.requires.next.1.before.running)
 
 pub returns-in-Some-clause-through : goal.returns-in-Some-clause-through
 returns-in-Some-clause-through g c =
-    let met = g.met.S.Structure g.world.𝓛 g.world.𝓜 g.world.𝓡 ((λ s allowed. allowed), (λ patient. patient), (λ alone. alone), (λ cuts. cuts)) in
     let m = g.S.Structure.meaning c.args.table.now.structure in
-    let laws = met.laws c.args.table.now.structure in
-    let t = c.args.table.now in
-    let limits = c.table_is_allowed.ensures.limits in
-    let allowed = c.table_is_allowed.ensures.requests in
     let r = c.args.runner in
     λ _. through_by m 2 2 _ _ _ _ _ _ _ _ (omega arith)
     (loaded_ran m r _ (run_of r) _ _ (some_of _ _ _ c.in-Some.is c.load_gated-runner.ensures.loaded (run_of r) c.requires.next.1.before.running))

@@ -83,12 +83,7 @@ value_in-requires-5 g c =
 
 pub make_gated-runner-requires-clause-next : goal.make_gated-runner-requires-clause-next
 make_gated-runner-requires-clause-next g c κs within =
-    let met = g.met.S.Structure g.world.𝓛 g.world.𝓜 g.world.𝓡 ((λ s allowed. allowed), (λ patient. patient), (λ alone. alone), (λ cuts. cuts)) in
     let m = g.S.Structure.meaning c.args.table.now.structure in
-    let laws = met.laws c.args.table.now.structure in
-    let t = c.args.table.now in
-    let limits = c.table_is_allowed.ensures.limits in
-    let allowed = c.table_is_allowed.ensures.requests in
     let r = c.args.runner in
     let g0 = registers_before (body_of m r) c.requires.next.1.may.n in (
       run_of r,
@@ -118,7 +113,6 @@ returns-in-Some-clause-goes g c =
     let met = g.met.S.Structure g.world.𝓛 g.world.𝓜 g.world.𝓡 ((λ s allowed. allowed), (λ patient. patient), (λ alone. alone), (λ cuts. cuts)) in
     let m = g.S.Structure.meaning c.args.table.now.structure in
     let laws = met.laws c.args.table.now.structure in
-    let t = c.args.table.now in
     let limits = c.table_is_allowed.ensures.limits in
     let allowed = c.table_is_allowed.ensures.requests in
     let r = c.args.runner in
@@ -129,12 +123,7 @@ returns-in-Some-clause-goes g c =
 
 pub returns-in-Some-clause-through : goal.returns-in-Some-clause-through
 returns-in-Some-clause-through g c =
-    let met = g.met.S.Structure g.world.𝓛 g.world.𝓜 g.world.𝓡 ((λ s allowed. allowed), (λ patient. patient), (λ alone. alone), (λ cuts. cuts)) in
     let m = g.S.Structure.meaning c.args.table.now.structure in
-    let laws = met.laws c.args.table.now.structure in
-    let t = c.args.table.now in
-    let limits = c.table_is_allowed.ensures.limits in
-    let allowed = c.table_is_allowed.ensures.requests in
     let r = c.args.runner in
     λ _. through_by m 11 11 _ _ _ _ _ _ _ _ (omega arith)
     (made_ran m r _ (run_of r) _ (some_of _ _ _ c.in-Some.is c.make_gated-runner.ensures.made (run_of r) c.requires.next.1.may.before.running))

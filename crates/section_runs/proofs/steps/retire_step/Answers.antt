@@ -8,12 +8,7 @@ use Rattle.section_runs.proofs.steps.retire_step.Goals as goal
 
 pub retire_gated-runner-requires-clause-next : goal.retire_gated-runner-requires-clause-next
 retire_gated-runner-requires-clause-next g c κs within =
-    let met = g.met.S.Structure g.world.𝓛 g.world.𝓜 g.world.𝓡 ((λ s allowed. allowed), (λ patient. patient), (λ alone. alone), (λ cuts. cuts)) in
     let m = g.S.Structure.meaning c.args.table.now.structure in
-    let laws = met.laws c.args.table.now.structure in
-    let t = c.args.table.now in
-    let limits = c.table_is_allowed.ensures.limits in
-    let allowed = c.table_is_allowed.ensures.requests in
     let r = c.args.runner in
     (run_of r, may_retire m r c.args.slot c.requires.next)
 
@@ -31,23 +26,13 @@ agree-requires g c =
 
 pub returns-clause-goes : goal.returns-clause-goes
 returns-clause-goes g c =
-    let met = g.met.S.Structure g.world.𝓛 g.world.𝓜 g.world.𝓡 ((λ s allowed. allowed), (λ patient. patient), (λ alone. alone), (λ cuts. cuts)) in
     let m = g.S.Structure.meaning c.args.table.now.structure in
-    let laws = met.laws c.args.table.now.structure in
-    let t = c.args.table.now in
-    let limits = c.table_is_allowed.ensures.limits in
-    let allowed = c.table_is_allowed.ensures.requests in
     let r = c.args.runner in
     λ going. retire_goes m r c.args.slot _ (c.retire_gated-runner.ensures.retired going (run_of r) c.requires.next.before.running)
 
 pub returns-clause-through : goal.returns-clause-through
 returns-clause-through g c =
-    let met = g.met.S.Structure g.world.𝓛 g.world.𝓜 g.world.𝓡 ((λ s allowed. allowed), (λ patient. patient), (λ alone. alone), (λ cuts. cuts)) in
     let m = g.S.Structure.meaning c.args.table.now.structure in
-    let laws = met.laws c.args.table.now.structure in
-    let t = c.args.table.now in
-    let limits = c.table_is_allowed.ensures.limits in
-    let allowed = c.table_is_allowed.ensures.requests in
     let r = c.args.runner in
     λ going. through_by m 2 2 _ _ _ _ _ _ _ _ (omega arith)
     (retired_ran m r _ (run_of r) _ (c.retire_gated-runner.ensures.retired going (run_of r) c.requires.next.before.running))

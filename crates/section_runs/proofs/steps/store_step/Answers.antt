@@ -85,11 +85,6 @@ store-runner-requires-clause-next g c κs within =
 
 pub returns-clause-goes : goal.returns-clause-goes
 returns-clause-goes g c =
-    let met = g.met.S.Structure g.world.𝓛 g.world.𝓜 g.world.𝓡 ((λ s allowed. allowed), (λ patient. patient), (λ alone. alone), (λ cuts. cuts)) in
     let m = g.S.Structure.meaning c.args.table.now.structure in
-    let laws = met.laws c.args.table.now.structure in
-    let t = c.args.table.now in
-    let limits = c.table_is_allowed.ensures.limits in
-    let allowed = c.table_is_allowed.ensures.requests in
     let r = c.args.runner in
     λ going. store_goes m r c.args.reg c.args.value _ _ _ _ (c.store-runner.ensures.stored (run_of r) c.requires.next.may.before.running)

@@ -10,12 +10,7 @@ use Rattle.section_runs.proofs.steps.take_step.Goals as goal
 
 pub take_gated-runner-requires-clause-next : goal.take_gated-runner-requires-clause-next
 take_gated-runner-requires-clause-next g c κs within =
-    let met = g.met.S.Structure g.world.𝓛 g.world.𝓜 g.world.𝓡 ((λ s allowed. allowed), (λ patient. patient), (λ alone. alone), (λ cuts. cuts)) in
     let m = g.S.Structure.meaning c.args.table.now.structure in
-    let laws = met.laws c.args.table.now.structure in
-    let t = c.args.table.now in
-    let limits = c.table_is_allowed.ensures.limits in
-    let allowed = c.table_is_allowed.ensures.requests in
     let r = c.args.runner in
     (run_of r, may_take m r c.args.place c.args.word c.requires.next)
 
@@ -33,33 +28,18 @@ agree_on-requires g c =
 
 pub returns-in-Some-clause-goes : goal.returns-in-Some-clause-goes
 returns-in-Some-clause-goes g c =
-    let met = g.met.S.Structure g.world.𝓛 g.world.𝓜 g.world.𝓡 ((λ s allowed. allowed), (λ patient. patient), (λ alone. alone), (λ cuts. cuts)) in
     let m = g.S.Structure.meaning c.args.table.now.structure in
-    let laws = met.laws c.args.table.now.structure in
-    let t = c.args.table.now in
-    let limits = c.table_is_allowed.ensures.limits in
-    let allowed = c.table_is_allowed.ensures.requests in
     let r = c.args.runner in
     λ on. take_goes m r c.args.place c.args.word c.requires.next _ _ (some_of _ _ _ c.in-Some.is c.take_gated-runner.ensures.taken (run_of r) c.requires.next.before.running) (on_ok c.args.place _ (sym c.taken.ensures ∙ on))
 
 pub returns-in-Some-clause-leaves : goal.returns-in-Some-clause-leaves
 returns-in-Some-clause-leaves g c =
-    let met = g.met.S.Structure g.world.𝓛 g.world.𝓜 g.world.𝓡 ((λ s allowed. allowed), (λ patient. patient), (λ alone. alone), (λ cuts. cuts)) in
     let m = g.S.Structure.meaning c.args.table.now.structure in
-    let laws = met.laws c.args.table.now.structure in
-    let t = c.args.table.now in
-    let limits = c.table_is_allowed.ensures.limits in
-    let allowed = c.table_is_allowed.ensures.requests in
     let r = c.args.runner in
     λ o left. take_leaves m r c.args.place c.args.word c.requires.next _ _ (some_of _ _ _ c.in-Some.is c.take_gated-runner.ensures.taken (run_of r) c.requires.next.before.running) o (left_some c.args.place _ o (sym c.taken.ensures ∙ left))
 
 pub returns-in-Some-clause-trail : goal.returns-in-Some-clause-trail
 returns-in-Some-clause-trail g c =
-    let met = g.met.S.Structure g.world.𝓛 g.world.𝓜 g.world.𝓡 ((λ s allowed. allowed), (λ patient. patient), (λ alone. alone), (λ cuts. cuts)) in
     let m = g.S.Structure.meaning c.args.table.now.structure in
-    let laws = met.laws c.args.table.now.structure in
-    let t = c.args.table.now in
-    let limits = c.table_is_allowed.ensures.limits in
-    let allowed = c.table_is_allowed.ensures.requests in
     let r = c.args.runner in
     λ _. c.agree_on.ensures.words ∙ (ap (λ xs. xs ++ words_of c.in-Some.end) c.requires.trail ∙ take_trail m r c.args.place c.args.word c.requires.next _ _ (some_of _ _ _ c.in-Some.is c.take_gated-runner.ensures.taken (run_of r) c.requires.next.before.running))

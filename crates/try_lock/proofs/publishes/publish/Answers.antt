@@ -57,4 +57,4 @@ returns-else-won-clause-publishes g c =
     publishes_lost (g.S.Structure.meaning c.args.table.now.structure) (met.laws c.args.table.now.structure) r c.prepare-runner.result c.hold-runner.result.0 t (slice_index xs (length xs - 1)) found
     (subst IsWithinLimits (sym c.requires.own.layout) c.table_is_allowed.ensures.limits) (subst AreAllowed (sym c.requires.own.requests) c.table_is_allowed.ensures.requests) may
     (last_is_free r.part.descriptors.free xs c.free_descriptors-free.ensures.list may.reserve) c.prepare-runner.ensures.ready c.hold-runner.ensures.event
-    test _ (c.refused-refusal.ensures ∙ ap (λ (l : Layout). refused_by l.version_max t.word found) (c.layout.ensures ∙ sym c.requires.own.layout))
+    test _ (c.refused-refusal.ensures.why ∙ ap (λ (l : Layout). refused_by l.version_max t.word found) (c.layout.ensures ∙ sym c.requires.own.layout))

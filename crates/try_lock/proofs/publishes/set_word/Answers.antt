@@ -1,35 +1,35 @@
-use Rattle.std.proofs.Common.{◌+◌, sym, ap, subst, ◌∙◌}
+use Rattle.std.proofs.Common.{◌+◌, sym, ap, subst}
 use Rattle.table_words.specs.Places.{slot_count}
 use Rattle.runner_parts.specs.declared.event.EventKind.TheVariants.{PrivateLoad, PrivateStore}
 use Rattle.section_runs.specs.version_words.specs.Events.{IsEnabled, Makes}
 use Rattle.try_lock.proofs.Preparing.{may_load, may_store, set_already, set_stored}
 use Rattle.try_lock.proofs.publishes.set_word.Goals as goal
 
-pub private_load-runner-requires-clause-next : goal.private_load-runner-requires-clause-next
-private_load-runner-requires-clause-next g c κs within =
+pub descriptor_load-runner-requires-clause-next : goal.descriptor_load-runner-requires-clause-next
+descriptor_load-runner-requires-clause-next g c κs within =
     let m = g.S.Structure.meaning c.args.table.now.structure in let d = c.args.descriptor in
-    let slot = ap (λ l. slot_count l m.fixed_slots + d) c.requires.own.layout ∙ ap (λ n. n + d) (sym c.node_slots.ensures) in
+    let slot = ap (λ l. slot_count l m.fixed_slots + d) c.requires.own.layout in
     subst (λ n. IsEnabled m (PrivateLoad n c.args.word) c.args.runner) slot (may_load m d c.args.word c.args.runner c.requires.free c.requires.word)
 
-pub private_store-requires-clause-next : goal.private_store-requires-clause-next
-private_store-requires-clause-next g c κs within =
-    let m = g.S.Structure.meaning c.args.table.now.structure in let d = c.args.descriptor in let r = c.args.runner in let s = c.private_load-runner.result.0 in
-    let slot = ap (λ l. slot_count l m.fixed_slots + d) c.requires.own.layout ∙ ap (λ n. n + d) (sym c.node_slots.ensures) in
-    let load = subst (λ n. Makes m (PrivateLoad n c.args.word) c.private_load-runner.result.1 r s) (sym slot) c.private_load-runner.ensures.event in
+pub descriptor_store-requires-clause-next : goal.descriptor_store-requires-clause-next
+descriptor_store-requires-clause-next g c κs within =
+    let m = g.S.Structure.meaning c.args.table.now.structure in let d = c.args.descriptor in let r = c.args.runner in let s = c.descriptor_load-runner.result.0 in
+    let slot = ap (λ l. slot_count l m.fixed_slots + d) c.requires.own.layout in
+    let load = subst (λ n. Makes m (PrivateLoad n c.args.word) c.descriptor_load-runner.result.1 r s) (sym slot) c.descriptor_load-runner.ensures.event in
     subst (λ n. IsEnabled m (PrivateStore n c.args.word c.args.number) s) slot
-    (may_store m d c.args.word r c.requires.free c.requires.word c.private_load-runner.result.1 s c.args.number load)
+    (may_store m d c.args.word r c.requires.free c.requires.word c.descriptor_load-runner.result.1 s c.args.number load)
 
 pub returns-then-found-number-clause-set : goal.returns-then-found-number-clause-set
 returns-then-found-number-clause-set g c =
-    let m = g.S.Structure.meaning c.args.table.now.structure in let d = c.args.descriptor in let r = c.args.runner in let s = c.private_load-runner.result.0 in
-    let slot = ap (λ l. slot_count l m.fixed_slots + d) c.requires.own.layout ∙ ap (λ n. n + d) (sym c.node_slots.ensures) in
-    let load = subst (λ n. Makes m (PrivateLoad n c.args.word) c.private_load-runner.result.1 r s) (sym slot) c.private_load-runner.ensures.event in
-    set_already m (slot_count r.layout m.fixed_slots + d) c.args.word c.args.number c.private_load-runner.result.1 r s load c.if-found-number.true
+    let m = g.S.Structure.meaning c.args.table.now.structure in let d = c.args.descriptor in let r = c.args.runner in let s = c.descriptor_load-runner.result.0 in
+    let slot = ap (λ l. slot_count l m.fixed_slots + d) c.requires.own.layout in
+    let load = subst (λ n. Makes m (PrivateLoad n c.args.word) c.descriptor_load-runner.result.1 r s) (sym slot) c.descriptor_load-runner.ensures.event in
+    set_already m (slot_count r.layout m.fixed_slots + d) c.args.word c.args.number c.descriptor_load-runner.result.1 r s load c.if-found-number.true
 
 pub returns-else-found-number-clause-set : goal.returns-else-found-number-clause-set
 returns-else-found-number-clause-set g c =
-    let m = g.S.Structure.meaning c.args.table.now.structure in let d = c.args.descriptor in let r = c.args.runner in let s = c.private_load-runner.result.0 in
-    let slot = ap (λ l. slot_count l m.fixed_slots + d) c.requires.own.layout ∙ ap (λ n. n + d) (sym c.node_slots.ensures) in
-    let load = subst (λ n. Makes m (PrivateLoad n c.args.word) c.private_load-runner.result.1 r s) (sym slot) c.private_load-runner.ensures.event in
-    set_stored m (slot_count r.layout m.fixed_slots + d) c.args.word c.args.number c.private_load-runner.result.1 r s load c.private_store.result c.if-found-number.false
-    (λ k. subst (λ n. Makes m (PrivateStore n c.args.word c.args.number) k s c.private_store.result) (sym slot) (c.private_store.ensures.event k))
+    let m = g.S.Structure.meaning c.args.table.now.structure in let d = c.args.descriptor in let r = c.args.runner in let s = c.descriptor_load-runner.result.0 in
+    let slot = ap (λ l. slot_count l m.fixed_slots + d) c.requires.own.layout in
+    let load = subst (λ n. Makes m (PrivateLoad n c.args.word) c.descriptor_load-runner.result.1 r s) (sym slot) c.descriptor_load-runner.ensures.event in
+    set_stored m (slot_count r.layout m.fixed_slots + d) c.args.word c.args.number c.descriptor_load-runner.result.1 r s load c.descriptor_store.result c.if-found-number.false
+    (λ k. subst (λ n. Makes m (PrivateStore n c.args.word c.args.number) k s c.descriptor_store.result) (sym slot) (c.descriptor_store.ensures.event k))

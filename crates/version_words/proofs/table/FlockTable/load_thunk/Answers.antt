@@ -28,8 +28,8 @@ invariant_of-runner g c =
     let event = subst (λ (k : EventKind). Makes m k found old (seen_seat new.table_id new.me)) named c.load-word.ensures.event in
     let mean = g.S.Structure.meaning in let number = c.runner.inside.number in let block = c.runner.inside.kept.value in
     let kept = opening_kept mean c.args.self.now.structure d found number block seat.table_id new.table_id seat.me new.me own.structure c.load-word.ensures.slots c.runner.invariant asked event in
-    subst (λ (b : Block). IsKept mean number (record { lists = b.lists; place = c.opened.result }) new.me) (sym c.deref_mut.ensures.value)
-    (subst (λ (k : RunPlace). IsKept mean number (record { lists = block.lists; place = k }) new.me) (sym (c.opened.ensures ∙ ap (λ (k : RunPlace). opened_place k d found) place_is)) kept)
+    subst (λ (b : Block). IsKept mean number (record { lists = b.lists; place = c.opened.new.self }) new.me) (sym c.deref_mut.ensures.value)
+    (subst (λ (k : RunPlace). IsKept mean number (record { lists = block.lists; place = k }) new.me) (sym (c.opened.ensures ∙ (λ i. opened_place (c.deref_mut.ensures.value i).place d found))) kept)
 
 pub returns-clause-event : goal.returns-clause-event
 returns-clause-event g c =
