@@ -1,0 +1,11 @@
+mod Lines
+mod Logs
+mod Runs
+mod Parts
+mod Cells
+mod Goes
+mod State
+mod Kept
+mod Published
+mod Ends
+pub mod Reached

@@ -1,0 +1,3 @@
+mod Lists
+mod Live
+pub mod Reached

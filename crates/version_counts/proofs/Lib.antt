@@ -1,0 +1,8 @@
+mod Weights
+pub mod Releases
+mod Runs
+mod Parts
+pub mod Words
+mod Sums
+mod Kept
+pub mod Reached
