@@ -8,7 +8,7 @@ use Rattle.section_body.specs.declared.misshape.Misshape.TheVariants.{StoredTwic
 use Rattle.section_body.specs.declared.value.Value.{Value}
 use Rattle.section_body.specs.declared.value.Value.TheVariants.{Const}
 use Rattle.section_body.specs.declared.step.Step.{Step}
-use Rattle.section_body.specs.declared.step.Step.TheVariants.{Load, Want, Stamp, Store, Answer}
+use Rattle.section_body.specs.declared.step.Step.TheVariants.{Load, Want, Store, Answer}
 use Rattle.section_body.specs.declared.thunk.Thunk.{Thunk}
 use Rattle.law_frames.specs.Nodeless.{is_plain}
 use Rattle.law_frames.proofs.Shaping.{shaped_by}
@@ -34,10 +34,6 @@ module _ (l : ℕ) (t : Thunk) where
       → ((w ≡ true) × (j ≡ 7) × (r ≡ 1) × (v ≡ Const (value_of (operand t 4)))) ⊎ ((w ≡ true) × (j ≡ 8) × (r ≡ 0) × (v ≡ Const (value_of (operand t 3))))
   store_in true j r v h = grind arith
   store_in false j r v h = absurd (grind arith)
-
-  pub stamp_in : (w : Bool) (j : ℕ) → StepIs w l t j Stamp → j ≡ cond w 6 4
-  stamp_in true j h = grind arith
-  stamp_in false j h = grind arith
 
   pub answer_in : (w : Bool) (j n : ℕ) → StepIs w l t j (Answer n) → n ≡ operand t 2
   answer_in true j n h = grind arith

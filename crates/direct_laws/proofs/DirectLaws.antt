@@ -4,10 +4,7 @@ use Rattle.std.specs.Prelude.{◌==◌, ◌&&◌, ◌-◌, ◌^◌, ◌%◌, ◌
 use Rattle.std.specs.Ordering.{nat_cmp}
 use Rattle.std.specs.FinMap.{get, empty, get-empty}
 use Rattle.map_history.specs.declared.op.Op.{Op}
-use Rattle.map_history.specs.Keys.{key_of, DependsOn}
-use Rattle.map_history.specs.declared.reply.Reply.{Reply}
-use Rattle.map_history.specs.declared.reply.Reply.TheVariants.{New, Dup, Val, Gone, Absent}
-use Rattle.map_history.specs.Words.{word_of}
+use Rattle.map_history.specs.Keys.{key_of}
 use Rattle.section_body.specs.Bucket.{operand}
 use Rattle.section_body.specs.Word.{value_of}
 use Rattle.section_body.specs.declared.value.Value.{Value}
@@ -22,6 +19,7 @@ use Rattle.structure_laws.specs.Laws.{IsFirst, Laws}
 use Rattle.structure_laws.specs.Planner.{PlannerLaws}
 use Rattle.structure_laws.proofs.Changes.{value_small}
 use Rattle.law_frames.specs.AtKey.{reply_at}
+use Rattle.law_frames.proofs.AtKey.{reply_some, key_is}
 use Rattle.law_frames.specs.Nodeless.{IsNodeless, HoldsItsLock, IsPlainBody}
 use Rattle.law_frames.proofs.Nodeless.{nodeless_begins, nodeless_keeps, nodeless_gives, nodeless_shaped, nodeless_adds, nodeless_sized}
 use Rattle.law_frames.proofs.Numbers.{lt_true, eq_true, eq_false, third, pair_read}
@@ -41,14 +39,6 @@ nodeless keys = record {
   walked = λ layout op readings. tt;
   plain = λ thunk j step h. plain_in (lock_in thunk) thunk (thunk.form == 2) j step h;
 }
-
--- a reply's word isn't 0
-reply_some : (r : Reply) → 0 < word_of r
-reply_some New = omega arith
-reply_some Dup = omega arith
-reply_some (Val v) = omega arith
-reply_some Gone = omega arith
-reply_some Absent = omega arith
 
 -- a place of a key: its lock, its flag or its value
 place_of : (keys key p : ℕ) → key < keys → (p ≡ 3 * key + 1) ⊎ (p ≡ 3 * key + 2) → (p < 3 * keys) × (p - p % 3 ≡ 3 * key) × (p % 3 ≢ 0)
@@ -89,14 +79,8 @@ holds_its_lock keys few layout = record {
       let place = load_place keys few op readings thunk fit j p r h in
       (place.0, place.1 ∙ sym fit.lock);
   keyed = λ a b readings others first second key fits fits' on on'.
-      (fit_of keys a readings first fits).lock ∙ (ap lock_of (the_key a key on ∙ sym (the_key b key on')) ∙ sym (fit_of keys b others second fits').lock);
+      (fit_of keys a readings first fits).lock ∙ (ap lock_of (key_is a key on ∙ sym (key_is b key on')) ∙ sym (fit_of keys b others second fits').lock);
 }
-  where
-    the_key : (op : Op) (key : ℕ) → DependsOn op key → key_of op ≡ key
-    the_key op key on = ⊎_elim (λ e. e) (λ none. absurd (none_some key none)) on
-      where
-        none_some : (k : ℕ) → None ≡ Some k → ⊥
-        none_some k e = cc
 
 -- in the first scene no key has a value
 first_empty : (keys : ℕ) (s : Scene) → IsFirst (direct keys) s → (q : ℕ) → get (empty {R = nat_cmp}) q ≡ held_in keys s.cells q

@@ -12,11 +12,10 @@ use Rattle.map_history.specs.Words.{word_of}
 use Rattle.section_body.specs.Bucket.{operand}
 use Rattle.section_body.specs.Update.{upd}
 use Rattle.section_body.specs.Word.{value_of, next_word}
-use Rattle.section_body.specs.declared.value.Value.{Value}
 use Rattle.section_body.specs.declared.value.Value.TheVariants.{Const}
 use Rattle.section_body.specs.declared.step.Step.{Step}
 use Rattle.section_body.specs.declared.thunk.Thunk.{Thunk}
-use Rattle.section_body.specs.declared.step.Step.TheVariants.{Load, Want, Stamp, Store, Answer}
+use Rattle.section_body.specs.declared.step.Step.TheVariants.{Load, Want, Store, Answer}
 use Rattle.table_words.specs.declared.layout.Layout.{Layout}
 use Rattle.structure_laws.specs.Scene.{Cells, Section, Scene}
 use Rattle.structure_laws.specs.Sections.{IsAllowed, IsStep}
@@ -25,9 +24,10 @@ use Rattle.structure_laws.proofs.Changes.{upd_same, upd_other, value-next_word, 
 use Rattle.structure_laws.proofs.Limits.{value-small}
 use Rattle.law_frames.specs.AtKey.{reply_at, left_at, changes_at}
 use Rattle.law_frames.proofs.AtKey.{replies, leaves, unchanged}
+use Rattle.law_frames.proofs.AtStamp.{wanted_now}
 use Rattle.law_frames.proofs.Numbers.{bool_cases, lt_of, lt_true}
-use Rattle.direct_laws.specs.Direct.{lock_of, flag_of, value_at, held, flag_for, value_for, held_in, direct}
-use Rattle.direct_laws.proofs.Bodies.{StepIs, load_in, store_in, stamp_in, answer_in}
+use Rattle.direct_laws.specs.Direct.{lock_of, flag_of, value_at, held, flag_for, value_for, held_in, lock_in, direct}
+use Rattle.direct_laws.proofs.Bodies.{StepIs, load_in, store_in, answer_in, shaped}
 use Rattle.direct_laws.proofs.Fit.{Fit, fit_of, step_own, own_step}
 
 -- what a key has, has 32 bits
@@ -62,15 +62,7 @@ held_same keys cells others q flag value = by (nat_lt q keys) refl
     by true e = let low = lt_of q keys e in (λ i. held (sym (flag low) i) (sym (value low) i))
     by false e = refl
 
--- the Stamp stands behind the Loads and Wants, and before the Stores
-late : (w : Bool) (at i : ℕ) → at ≡ cond w 6 4 → 7 ≤ i → at ≤ i
-late true at i is high = omega arith
-late false at i is high = omega arith
-
-soon : (w : Bool) (at : ℕ) → at ≡ cond w 6 4 → (cond w 3 2 < at) × (cond w 4 3 < at) × (1 < at)
-soon true at is = (omega arith, omega arith, omega arith)
-soon false at is = (omega arith, omega arith, omega arith)
-
+-- what each place is loaded for
 first_load : (w : Bool) (l : ℕ) (t : Thunk) → StepIs w l t 0 (Load (l + 1) 0)
 first_load true l t = refl
 first_load false l t = refl
@@ -109,24 +101,15 @@ module _ (keys : ℕ) (few : keys ≤ 4096) (layout : Layout) (s : Scene) (pairs
   there_step : (j : ℕ) (step : Step) → StepIs writes (lock_of key) x.thunk j step → IsStep (direct keys) x j step
   there_step j step h = own_step keys few x.op x.readings x.thunk fit j step h
 
-  at : x.at ≡ cond writes 6 4
-  at = stamp_in (lock_of key) x.thunk writes x.at (step_there x.at Stamp stamp.stamp)
-
-  -- none of its Stores is made
-  unstored : (i r : ℕ) (v : Value) → IsStep (direct keys) x i (Store r v) → x.at ≤ i
-  unstored i r v h = ⊎_elim (λ a. let seven = a.1 in late writes x.at i at (omega arith)) (λ b. let eight = b.1 in late writes x.at i at (omega arith))
-      (store_in (lock_of key) x.thunk writes i r v (step_there i (Store r v) h))
-
   -- the key's cells hold the words that were read
+  now : (i j p r w : ℕ) → IsStep (direct keys) x i (Load p r) → IsStep (direct keys) x j (Want r w) → s.cells p ≡ w
+  now = wanted_now (direct keys) layout s before.sound d x stamp (shaped (lock_in x.thunk) x.thunk (x.thunk.form == 2))
+
   flag_now : s.cells (flag_of key) ≡ operand x.thunk 0
-  flag_now = let by = soon writes x.at at in
-      before.sound.loaded d x stamp.here 0 (flag_of key) 0 (let one = by.2 in omega arith) (there_step 0 _ (first_load writes (lock_of key) x.thunk)) (λ i v h. unstored i 0 v h)
-      ∙ before.sound.wanted d x stamp.here 1 0 (operand x.thunk 0) by.2 (there_step 1 _ (first_want writes (lock_of key) x.thunk))
+  flag_now = now 0 1 (flag_of key) 0 _ (there_step 0 _ (first_load writes (lock_of key) x.thunk)) (there_step 1 _ (first_want writes (lock_of key) x.thunk))
 
   value_now : s.cells (value_at key) ≡ operand x.thunk 1
-  value_now = let by = soon writes x.at at in
-      before.sound.loaded d x stamp.here (cond writes 3 2) (value_at key) 1 by.0 (there_step (cond writes 3 2) _ (second_load writes (lock_of key) x.thunk)) (λ i v h. unstored i 1 v h)
-      ∙ before.sound.wanted d x stamp.here (cond writes 4 3) 1 (operand x.thunk 1) by.1 (there_step (cond writes 4 3) _ (second_want writes (lock_of key) x.thunk))
+  value_now = now (cond writes 3 2) (cond writes 4 3) (value_at key) 1 _ (there_step _ _ (second_load writes (lock_of key) x.thunk)) (there_step _ _ (second_want writes (lock_of key) x.thunk))
 
   held_key : (cells : Cells) → held_in keys cells key ≡ held (cells (flag_of key)) (cells (value_at key))
   held_key cells = ap (λ b. cond b (held (cells (flag_of key)) (cells (value_at key))) None) (lt_true key keys fit.low)

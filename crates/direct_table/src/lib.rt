@@ -1,17 +1,15 @@
 //! A table addressed by the key itself: the smallest structure on the locks, and the worked example of `docs/OWN_STRUCTURE.md`.
 //!
-//! `table` has the structure, `key` what a key has, `walk` the walk of a key, `plan` that requests are planned on the
-//! table, and `contents` the pairs of a closed one.
+//! `table` has the structure, `key` what a key has, `plan` the walk of a key and that requests are planned on the table, and
+//! `contents` the pairs of a closed one.
 #![tactic(auto)]
 
 mod contents;
 mod key;
 mod plan;
 mod table;
-mod walk;
 
 pub use table::DirectTable;
-pub use walk::{DirectWalk, Stage};
 
 // Passed on to the layers above, so that they needn't name these libraries themselves.
 pub use lock_walks;

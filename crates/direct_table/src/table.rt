@@ -1,14 +1,14 @@
 //! The direct table as a structure.
 ghost use Rattle.std.specs.Prelude.{◌≡◌, ◌<◌, ◌≤◌, true, refl};
-ghost use Rattle.runner_parts.specs.Tests.{has_pair};
 ghost use Rattle.direct_laws.specs.Direct.{lock_in, read_steps, write_steps, serves, was_read, is_for, direct};
 ghost use Rattle.direct_laws.proofs.DirectLaws.{direct_laws};
 
 use crate::key::{flag_for, form_at, held, value_for};
-use law_frames::{left_at, reply_at};
+use fixed_walks::has_pair;
+use law_frames::{answer, left_at, load, reply_at, store, want};
 use map_history::Op;
 use runner_parts::Structure;
-use section_body::{Body, Place, Step, Thunk, Value, Word};
+use section_body::{Body, Place, Step, Thunk, Word};
 use table_words::Layout;
 
 /// A map of the keys below a bound. Each key has three cells, and no node: its lock, a flag that is 1 where the key is present, and its
@@ -44,26 +44,12 @@ fn fill_read(lock: Place, thunk: &Thunk, body: &mut Body)
     ensures { body.new ≡ read_steps lock thunk.now }
 {
     body.refill(&[
-        Step::Load {
-            place: lock + 1,
-            into: 0,
-        },
-        Step::Want {
-            reg: 0,
-            word: Word::from_bits(thunk.operands[0]),
-        },
-        Step::Load {
-            place: lock + 2,
-            into: 1,
-        },
-        Step::Want {
-            reg: 1,
-            word: Word::from_bits(thunk.operands[1]),
-        },
+        load(lock + 1, 0),
+        want(0, thunk.operands[0]),
+        load(lock + 2, 1),
+        want(1, thunk.operands[1]),
         Step::Stamp,
-        Step::Answer {
-            reply: thunk.operands[2],
-        },
+        answer(thunk.operands[2]),
     ]);
 }
 
@@ -73,36 +59,16 @@ fn fill_write(lock: Place, thunk: &Thunk, body: &mut Body)
     ensures { body.new ≡ write_steps lock thunk.now }
 {
     body.refill(&[
-        Step::Load {
-            place: lock + 1,
-            into: 0,
-        },
-        Step::Want {
-            reg: 0,
-            word: Word::from_bits(thunk.operands[0]),
-        },
+        load(lock + 1, 0),
+        want(0, thunk.operands[0]),
         Step::Fresh { reg: 0 },
-        Step::Load {
-            place: lock + 2,
-            into: 1,
-        },
-        Step::Want {
-            reg: 1,
-            word: Word::from_bits(thunk.operands[1]),
-        },
+        load(lock + 2, 1),
+        want(1, thunk.operands[1]),
         Step::Fresh { reg: 1 },
         Step::Stamp,
-        Step::Store {
-            reg: 1,
-            value: Value::Const(Word::from_bits(thunk.operands[4]).value()),
-        },
-        Step::Store {
-            reg: 0,
-            value: Value::Const(Word::from_bits(thunk.operands[3]).value()),
-        },
-        Step::Answer {
-            reply: thunk.operands[2],
-        },
+        store(1, thunk.operands[4]),
+        store(0, thunk.operands[3]),
+        answer(thunk.operands[2]),
     ]);
 }
 
@@ -112,15 +78,6 @@ fn lock_in(thunk: &Thunk) -> Place
     ensures low { result < 12288 }
 {
     if thunk.lock < 12288 { thunk.lock } else { 0 }
-}
-
-/// Whether this word was read in this place.
-fn has_pair(readings: &[(Place, Word)], place: Place, word: Word) -> bool
-    ensures { result ≡ has_pair readings.now place word }
-{
-    readings
-        .iter()
-        .any(|&(read, found)| read == place && found == word)
 }
 
 /// Whether the thunk's lock and the words that it wants were read in the places of this key.

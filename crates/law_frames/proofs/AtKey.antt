@@ -1,5 +1,5 @@
 -- The map's reply and the map afterwards, by what an operation's key had.
-use Rattle.std.proofs.Common.{◌≡◌, ℕ, Bool, true, false, cond, refl, sym, ap, ◌∙◌, arith}
+use Rattle.std.proofs.Common.{◌≡◌, ℕ, ◌<◌, Bool, true, false, cond, refl, sym, ap, ◌∙◌, ⊎_elim, arith}
 use Rattle.std.proofs.lemmas.Cmp.{nat_cmp_total}
 use Rattle.std.specs.Prelude.{◌==◌, Option, Some, None, is_some, if◌then◌else◌}
 use Rattle.std.specs.Ordering.{nat_cmp, eq_by_cmp}
@@ -8,7 +8,10 @@ use mathlib.Core.Logic.{dite}
 use native.Mathlib.Decide.{ℕ_discrete}
 use Rattle.map_history.specs.declared.op.Op.{Op}
 use Rattle.map_history.specs.declared.op.Op.TheVariants.{Get, Ins, Del}
-use Rattle.map_history.specs.Keys.{key_of}
+use Rattle.map_history.specs.Keys.{key_of, DependsOn}
+use Rattle.map_history.specs.Words.{word_of}
+use Rattle.map_history.specs.declared.reply.Reply.{Reply}
+use Rattle.map_history.specs.declared.reply.Reply.TheVariants.{New, Dup, Val, Gone, Absent}
 use Rattle.map_history.specs.Replay.{Pairs, reply_of, map_after}
 use Rattle.section_body.specs.Update.{upd}
 use Rattle.structure_laws.proofs.Changes.{upd_same, upd_other}
@@ -53,3 +56,18 @@ unchanged None (Del key) h = refl
 -- what the map has at the key afterwards
 pub left_own : (pairs : Pairs) (op : Op) (had : Option ℕ) → get pairs (key_of op) ≡ had → left_at had op ≡ get (map_after pairs op) (key_of op)
 left_own pairs op had is = sym (leaves pairs op (key_of op) ∙ (upd_same (get pairs) (key_of op) (key_of op) (left_at (get pairs (key_of op)) op) refl ∙ ap (λ o. left_at o op) is))
+
+-- a reply's word isn't 0
+pub reply_some : (reply : Reply) → 0 < word_of reply
+reply_some New = omega arith
+reply_some Dup = omega arith
+reply_some (Val v) = omega arith
+reply_some Gone = omega arith
+reply_some Absent = omega arith
+
+-- an operation depends on its own key alone
+pub key_is : (op : Op) (key : ℕ) → DependsOn op key → key_of op ≡ key
+key_is op key on = ⊎_elim (λ same. same) (λ none. absurd (none_some none)) on
+  where
+    none_some : None ≡ Some key → ⊥
+    none_some e = cc

@@ -1,4 +1,5 @@
 pub mod AtKey
+pub mod AtStamp
 pub mod Listing
 pub mod Nodeless
 pub mod Numbers

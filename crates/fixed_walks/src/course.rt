@@ -1,0 +1,24 @@
+//! What a structure gives for a walk over fixed places.
+ghost use Rattle.std.specs.Prelude.{◌≡◌};
+ghost use Rattle.fixed_walks.specs.Fixed.{Course, places_for};
+
+use arrayvec::ArrayVec;
+use map_history::Op;
+use section_body::Place;
+
+/// A structure whose walks load the same places whatever they read, or what of it they need.
+pub trait FixedPlaces: Drop {
+    ghost course: { Self → Course };
+
+    /// Whether it serves this operation.
+    fn serves_op(&self, op: Op) -> bool
+        ensures { result ≡ (course self.now).serves op };
+
+    /// The places that the walk of this operation loads, in order: cells, and the lock last. One cell where the operation isn't served.
+    fn places(&self, op: Op) -> ArrayVec<Place, 16>
+        ensures { result.items ≡ places_for (course self.now) op };
+
+    /// The form and the operands of the section, by the words that were found, in order, as bits.
+    fn section(&self, op: Op, words: &[u64]) -> (u64, [u64; 8])
+        ensures { (result.0 ≡ (course self.now).form op words.now) × (result.1 ≡ (course self.now).operands op words.now) };
+}

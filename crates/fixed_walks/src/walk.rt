@@ -1,0 +1,87 @@
+//! The walk over fixed places.
+ghost use Rattle.std.specs.Prelude.{◌≡◌, []};
+ghost use Rattle.fixed_walks.specs.Fixed.{places_for};
+ghost use Rattle.fixed_walks.specs.Walk.{fixed_way};
+
+use crate::course::FixedPlaces;
+use arrayvec::ArrayVec;
+use lock_walks::Walker;
+use map_history::Op;
+use section_body::{Place, Thunk, Word};
+
+/// How far the walk of an operation has come: the places that are ahead, the words that were found, and the last place with its
+/// word.
+#[derive(Drop)]
+pub struct FixedWalk<C> {
+    course: C,
+    version_max: u32,
+    op: Op,
+    served: bool,
+    ahead: ArrayVec<Place, 16>,
+    words: ArrayVec<u64, 16>,
+    place: Place,
+    word: Word,
+}
+
+impl<C: FixedPlaces> FixedWalk<C> {
+    /// A walk that has loaded nothing.
+    pub fn new(course: C, op: Op, version_max: u32) -> FixedWalk<C>
+        ensures { result ≡ record { course = course; version_max = version_max; op = op; served = (C.course course).serves op; ahead = record { items = places_for (C.course course) op }; words = record { items = [] }; place = 0; word = 0 } }
+    {
+        let served = course.serves_op(op);
+        let ahead = course.places(op);
+        FixedWalk {
+            course,
+            version_max,
+            op,
+            served,
+            ahead,
+            words: ArrayVec::new(),
+            place: 0,
+            word: Word::from_bits(0),
+        }
+    }
+}
+
+impl<C: FixedPlaces> Walker for FixedWalk<C> {
+    ghost way = { fixed_way C.course };
+
+    fn next_place(&self) -> Option<Place> {
+        self.ahead.as_slice().first().copied()
+    }
+
+    fn feed(&mut self, word: Word) {
+        if let Some(place) = self.ahead.pop_at(0) {
+            self.place = place;
+        }
+        if !self.words.is_full() {
+            self.words.push(word.bits());
+        }
+        self.word = word;
+    }
+
+    fn is_refused(&self) -> bool {
+        let free = self.word.value() == 0;
+        let spent = u64::from(self.word.version()) + 2 > u64::from(self.version_max);
+        self.ahead.is_empty() && !(self.served && free && !spent)
+    }
+
+    fn is_mark(&self, _place: Place) -> bool {
+        false
+    }
+
+    fn most(&self) -> u64 {
+        self.ahead.len() as u64
+    }
+
+    fn thunk(&self, number: u32) -> Thunk {
+        let (form, operands) = self.course.section(self.op, self.words.as_slice());
+        Thunk {
+            form,
+            request: number,
+            lock: self.place,
+            word: self.word,
+            operands,
+        }
+    }
+}
