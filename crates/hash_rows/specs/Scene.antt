@@ -14,8 +14,9 @@ abbrev pub asked : Op → Op → ℕ → Request
 asked a b zero = record { trace = 0; number = 0; op = a }
 asked a b (suc n) = record { trace = 1; number = 1; op = b }
 
--- the table has one bucket and two workers, and these requests
+-- the table has one bucket and two workers with two node slots each, and these requests
 pub record IsScene (a b : Op) (t : TableState HashTable) : Type 0 where
   pub runners : t.layout.runners ≡ 2
+  pub nodes : t.layout.nodes ≡ 2
   pub requests : t.requests ≡ two_requests a b
   pub one_bucket : t.structure.bits ≡ 0

@@ -1,24 +1,21 @@
 //! Two workers on a hash table of one bucket, from a plan to the contents.
 ghost use Rattle.std.specs.Prelude.{◌≡◌, ◌<◌, ◌≤◌, IfOk};
+ghost use Rattle.std.specs.FinMap.{entries};
 ghost use Rattle.map_history.specs.Keys.{key_of};
+ghost use Rattle.map_history.specs.Replay.{Pairs};
 ghost use Rattle.bucket_laws.specs.Buckets.{buckets_meaning};
 ghost use Rattle.hash_table.specs.version_words.specs.TableState.{IsOf};
 ghost use Rattle.hash_table.specs.version_words.specs.Stages.{IsKeeper, HasJoined};
 ghost use Rattle.hash_table.specs.try_lock.specs.declared.section.Section.{Section};
+ghost use Rattle.hash_table.specs.try_lock.specs.Contents.{StandFor};
 ghost use Rattle.lock_rows.specs.Workers.{IsReady, MayRun};
 ghost use Rattle.lock_rows.specs.declared.turns.Offer.TheVariants.{Published};
 ghost use Rattle.hash_rows.specs.Scene.{IsScene, asked};
 
-use closed_words::closed_words_have_a_history;
 use hash_table::HashTable;
-use hash_table::epoch_slots::enter;
-use hash_table::lock_walks::Planner;
-use hash_table::try_lock::{Planned, publish};
-use hash_table::version_words::{FlockTable, Runner, Words, words_are_reached};
+use hash_table::version_words::{FlockTable, Runner, Words};
 use lock_rows::Offer;
 use map_history::{Op, Request};
-use runner_gate::Free;
-use section_body::Steps;
 use std::alloc::{AllocError, Global};
 use table_words::Layout;
 
@@ -89,29 +86,15 @@ pub fn plan_and_publish(
     ensures published { (section : Section) → result.1 ≡ Published section → MayRun (buckets_meaning table.now.structure.bits) section result.0 }
 {
     let request = request_of(runner.number(), ops);
-    let mut steps = Steps::<()>::new();
-    let runner = enter(table, runner);
-    let (runner, planned) = table
-        .structure()
-        .plan(table, runner, &request, &mut Free::new(), &mut steps);
-    let Planned::Thunk(thunk) = planned else {
-        return (runner, Offer::None, steps.count);
-    };
-    let (runner, answer) = publish(table, runner, &thunk);
-    match answer {
-        Ok(section) => (runner, Offer::Published(section), steps.count),
-        Err(refused) => (runner, Offer::Refused(refused), steps.count),
-    }
+    lock_rows::plan_and_publish(table, runner, &request)
 }
 
-/// The pairs of a closed table, where its lock is free.
+/// The pairs of such a closed table, where its lock is free.
 pub fn pairs_of(alloc: Global, words: &Words<HashTable>) -> Result<Vec<(u32, u32)>, AllocError>
     requires one { words.now.structure.bits ≡ 0 }
+    requires two { words.now.layout.runners ≡ 2 }
+    requires nodes { words.now.layout.nodes ≡ 2 }
+    ensures { IfOk result (λ items. (pairs : Pairs) → StandFor (buckets_meaning words.now.structure.bits) words.now pairs → items.items ≡ entries pairs) }
 {
-    words_are_reached(words);
-    closed_words_have_a_history(words);
-    if words.cell(0).value() != 0 {
-        return Err(AllocError);
-    }
-    words.structure().contents(alloc, words)
+    lock_rows::pairs_of(alloc, words, 53)
 }

@@ -1,3 +1,7 @@
 mod Reading
 pub mod Offering
 mod Turning
+pub mod Planned
+pub mod Serving
+mod Numbered
+mod Unlocked

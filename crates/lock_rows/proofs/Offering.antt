@@ -19,7 +19,7 @@ use Rattle.try_lock.specs.Publishes.{MayPublish, Publishes}
 use Rattle.lock_rows.specs.declared.turns.Offer.{Offer}
 use Rattle.lock_rows.specs.declared.turns.Offer.TheVariants.{Published}
 use Rattle.lock_rows.specs.Scenes.{two_requests, IsScene}
-use Rattle.lock_rows.specs.Workers.{HasRead, MayRun, IsEmptyHanded}
+use Rattle.lock_rows.specs.Workers.{HasRead, MayRun, MayRunFor, IsEmptyHanded}
 
 -- a free word that isn't spent
 not_spent : (most word : ℕ) → value_of word ≡ 0 → version_of word + 2 ≤ most → is_spent most word ≡ false
@@ -73,6 +73,11 @@ module _ {T : Type 0} (m : Meaning) (old new : RunnerState T) (thunk : Thunk) (a
           tests = ap (λ (n : NodesState). n.tests) publishes.nodes ∙ hand.tests;
         };
       }
+
+  -- and it is of the thunk's request
+  pub may_run_for : 2 ≤ length old.part.nodes.free → IsEmptyHanded old → (section : Section) → answer ≡ Ok section → (number : ℕ) → thunk.request ≡ number → MayRunFor m number section new
+  unfolding may_run
+  may_run_for reserve hand section ok number request = record { run = may_run reserve hand section ok; request = request }
 
 abbrev section_or : Section → Offer → Section
 section_or d (Published s) = s

@@ -1,2 +1,4 @@
 pub mod Scenes
 pub mod Workers
+pub mod Asked
+pub mod Closing

@@ -10,18 +10,10 @@ use Rattle.try_lock.specs.version_words.specs.Stages.{IsAt}
 use Rattle.try_lock.specs.epoch_slots.specs.Collects.{IsTidy}
 use Rattle.try_lock.specs.Reached.{IsReached, MayRunSection}
 use Rattle.try_lock.specs.declared.section.Section.{Section}
+-- two node slots and one descriptor are free; no slot is in the runner's hand
+pub use Rattle.attempts.specs.Course.{HasReserve, IsEmptyHanded}
 
 module _ {T : Type 0} where
-  -- two node slots and one descriptor are free
-  pub record HasReserve (r : RunnerState T) : Type 0 where
-    pub nodes : 2 ≤ length r.part.nodes.free
-    pub descriptors : 1 ≤ length r.part.descriptors.free
-
-  -- no slot is in the runner's hand
-  pub record IsEmptyHanded (r : RunnerState T) : Type 0 where
-    pub hand : r.part.nodes.hand ≡ []
-    pub tests : r.part.nodes.tests ≡ []
-
   -- the worker with this number has done nothing yet
   pub record IsNewWorker (n : ℕ) (r : RunnerState T) : Type 0 where
     pub tidy : IsTidy r
@@ -50,3 +42,8 @@ module _ {T : Type 0} where
       pub thunk : Thunk
       pub may : MayRunSection m r thunk section
       pub hand : IsEmptyHanded r
+
+    -- and it is this request's
+    pub record MayRunFor (number : ℕ) (section : Section) (r : RunnerState T) : Type 0 where
+      pub run : MayRun section r
+      pub request : run.thunk.request ≡ number

@@ -4,14 +4,20 @@
 //! another worker; `scripts` the gates that bring both into an order; `scenes` the table of the test structure, and offers of its sections; `rows` the tests.
 #![tactic(auto)]
 
+mod closing;
+mod courses;
 #[cfg(test)]
 mod rows;
 mod scenes;
 mod scripts;
+mod traces;
 mod turns;
 mod workers;
 
+pub use closing::pairs_of;
+pub use courses::{Course, Served, plan_and_publish, serve_in_turn};
 pub use scenes::{new_table, offer, visit};
 pub use scripts::scripted;
+pub use traces::one_trace;
 pub use turns::{Offer, Turn, help_held, read_lock, run_own, side_by_side};
-pub use workers::{crew, gather};
+pub use workers::{crew, gather, gather_one, split};

@@ -5,7 +5,8 @@ ghost use Rattle.section_body.specs.declared.outcome.Outcome.{Outcome as Ending}
 ghost use Rattle.try_lock.specs.section_runs.specs.declared.runs.RunEnd.TheVariants.{Done};
 ghost use Rattle.try_lock.specs.epoch_slots.specs.Collects.{IsTidy};
 ghost use Rattle.try_lock.specs.version_words.specs.TableState.{IsOf};
-ghost use Rattle.lock_rows.specs.Workers.{IsReady, HasRead, MayRun};
+ghost use Rattle.lock_rows.specs.Workers.{IsReady, HasRead, MayRun, MayRunFor};
+ghost use Rattle.lock_rows.specs.Asked.{KnowsOthers};
 
 use runner_parts::Structure;
 use section_body::{Gate, Outcome, Place, Refused, Steps, Word};
@@ -76,6 +77,7 @@ pub fn run_own<S: Structure, G: Gate>(
     ensures own { IsOf table.now result.0 }
     ensures number { result.0.number ≡ runner.number }
     ensures tidy { (outcome : Ending) (trail : Agreed) → result.1.end ≡ Done outcome trail → IsTidy result.0 }
+    ensures learns { (outcome : Ending) (trail : Agreed) → result.1.end ≡ Done outcome trail → (number : ℕ) → MayRunFor (S.meaning table.now.structure) number section runner → KnowsOthers number runner.part.records.known result.0.part.records.known }
 {
     let mut steps = Steps::<()>::new();
     let (runner, end) = run_section(table, runner, &section, gate, &mut steps);

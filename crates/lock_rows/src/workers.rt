@@ -5,9 +5,9 @@ ghost use Rattle.try_lock.specs.version_words.specs.TableState.{IsOf};
 ghost use Rattle.try_lock.specs.version_words.specs.Stages.{IsKeeper, HasJoined};
 ghost use Rattle.lock_rows.specs.Workers.{IsNewWorker, IsReady, HasReserve};
 
+use attempts::reserve_slots;
 use runner_parts::Structure;
 use std::alloc::{AllocError, Global};
-use try_lock::epoch_slots::{Kind, reserve};
 use try_lock::version_words::{FlockTable, Runner, Words};
 
 /// The worker, where two node slots and one descriptor are free.
@@ -15,17 +15,14 @@ fn with_reserve<S: Structure>(worker: Runner<S>) -> Result<Runner<S>, AllocError
     ensures same { IfOk result (λ x. x ≡ worker) }
     ensures reserve { IfOk result HasReserve }
 {
-    let Ok(worker) = reserve(worker, Kind::Node, 2) else {
-        return Err(AllocError);
-    };
-    let Ok(worker) = reserve(worker, Kind::Descriptor, 1) else {
-        return Err(AllocError);
-    };
-    Ok(worker)
+    match reserve_slots(worker) {
+        Ok(worker) => Ok(worker),
+        Err(_) => Err(AllocError),
+    }
 }
 
 /// The keeper, and the next worker, whose number is the given one.
-fn split<S: Structure>(
+pub fn split<S: Structure>(
     table: &FlockTable<S>,
     alloc: Global,
     keeper: Runner<S>,
@@ -74,11 +71,11 @@ fn join<S: Structure>(
     number: u32,
 ) -> Runner<S>
     requires own { IsOf table.now keeper × IsOf table.now worker }
-    requires keeper { IsKeeper keeper 2 × HasJoined keeper number }
+    requires keeper { IsKeeper keeper table.now.layout.runners × HasJoined keeper number }
     requires number { worker.number ≡ number }
     requires few { number < table.now.layout.runners }
     ensures own { IsOf table.now result }
-    ensures keeper { IsKeeper result 2 × HasJoined result (number + 1) }
+    ensures keeper { IsKeeper result table.now.layout.runners × HasJoined result (number + 1) }
 {
     table.join_runner(keeper, worker)
 }
@@ -100,5 +97,23 @@ pub fn gather<S: Structure>(
 {
     let keeper = join(&table, keeper, first, 0);
     let keeper = join(&table, keeper, second, 1);
+    table.close(keeper)
+}
+
+/// The words after the only worker was joined, wherever it stands.
+pub fn gather_one<S: Structure>(
+    table: FlockTable<S>,
+    keeper: Runner<S>,
+    worker: Runner<S>,
+) -> Words<S>
+    requires own { IsOf table keeper × IsOf table worker }
+    requires keeper { IsKeeper keeper 1 × HasJoined keeper 0 }
+    requires number { worker.number ≡ 0 }
+    requires one { table.layout.runners ≡ 1 }
+    ensures structure { result.structure ≡ table.structure }
+    ensures requests { result.requests ≡ table.requests }
+    ensures layout { result.layout ≡ table.layout }
+{
+    let keeper = join(&table, keeper, worker, 0);
     table.close(keeper)
 }

@@ -4,5 +4,5 @@ use Rattle.attempts.specs.version_words.proofs.Stages.{may_split}
 use Rattle.attempt_rows.proofs.scene.split.Goals as goal
 
 pub runner-requires-clause-next : goal.runner-requires-clause-next
-runner-requires-clause-next c κs = may_split _ c.args.keeper c.args.number c.requires.keeper
+runner-requires-clause-next g c κs within = may_split _ c.args.keeper c.args.number c.requires.keeper
     (let few = c.requires.few in let two = c.requires.scene.runners in let same = ap (λ (l : Layout). l.runners) c.requires.own.layout in omega (arith, few, two, same))

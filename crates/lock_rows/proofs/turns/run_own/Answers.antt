@@ -1,5 +1,8 @@
-use Rattle.std.proofs.Common.{ap, ◌∙◌}
+use Rattle.std.proofs.Common.{ap, subst, ◌∙◌}
+use Rattle.try_lock.specs.section_runs.specs.Opened.{Learns}
+use Rattle.runner_parts.specs.Tests.{is_answered}
 use Rattle.lock_rows.proofs.Turning.{cut_number, may_retire, left_tidy}
+use Rattle.lock_rows.proofs.Serving.{learns_others}
 use Rattle.lock_rows.proofs.turns.run_own.Goals as goal
 
 pub run_section-runner-requires-clause-next : goal.run_section-runner-requires-clause-next
@@ -32,3 +35,10 @@ returns-in-Halted-clause-number g c =
     let m = g.S.Structure.meaning c.args.table.now.structure in
     let cut = c.run_section-runner.ensures.halted c.in-Halted.is in
     cut_number m c.args.section.descriptor cut.0 c.args.runner c.run_section-runner.result.0 cut.1
+
+pub returns-in-Done-clause-learns : goal.returns-in-Done-clause-learns
+returns-in-Done-clause-learns g c = λ outcome trail same number may k ne.
+    let done = c.run_section-runner.ensures.done may.run.thunk c.in-Done.outcome c.in-Done.trail may.run.may c.in-Done.is in
+    ap (λ xs. is_answered xs k) (c.exit-runner.ensures.exits.keeps.known ∙ c.retire_section-runner.ensures.retired.known)
+    ∙ learns_others number c.args.runner.part.records.known c.run_section-runner.result.0.part.records.known
+    (subst (λ n. Learns n c.args.runner.part.records.known c.run_section-runner.result.0.part.records.known) may.request done.1.learns) k ne
