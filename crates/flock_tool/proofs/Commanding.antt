@@ -1,5 +1,5 @@
 -- From how each command ends to the clauses of the top call.
-use Rattle.std.proofs.Common.{◌≡◌, ◌≢◌, ℕ, List, Option, None, Some, codes, refl, sym, ap, ◌∙◌, inl, inr, ⊎_elim, subst, arith}
+use Rattle.std.proofs.Common.{◌≡◌, ◌≢◌, ℕ, List, Option, None, codes, refl, inl, inr, subst, arith}
 use Rattle.std.specs.Prelude.{◌⊎◌, ◌≤◌}
 use Rattle.trace_reader.specs.declared.generator.Gen.{Gen}
 use Rattle.trace_reader.specs.declared.traces.TraceError.TheVariants.{ReadFault, Memory, TooLarge, Malformed, TooManyTraces, TooManyRequests}
@@ -7,9 +7,9 @@ use Rattle.flock_words.specs.Commands.{AreAccepted, IsCommand}
 use Rattle.flock_words.specs.declared.command.Command.{Command}
 use Rattle.flock_words.specs.declared.command.Command.TheVariants as commands
 use Rattle.flock_words.specs.declared.generated.LoadOptions.{LoadOptions}
-use Rattle.flock_tool.specs.Commands.{Ends, Gating, GenEnds, GenPrints, IsNoCommand, IsUntouched, LoadEnds, LoadRuns, Stream, Told}
+use Rattle.flock_tool.specs.Commands.{Ends, GenPrints, IsNoCommand, LoadRuns}
 use Rattle.flock_tool.specs.End.{stop_line, stop_status}
-use Rattle.flock_tool.specs.Runs.{IsRunStatus}
+use Rattle.flock_tool.specs.Streams.{Gating, IsIdle, IsUntouched, Stream, Told}
 use Rattle.flock_tool.specs.declared.ran.Ran.{Ran}
 use Rattle.flock_tool.specs.declared.status.Stop.{Stop}
 use Rattle.flock_tool.specs.declared.status.Stop.TheVariants.{Words, Text, Nodes, WriteFault}
@@ -26,8 +26,8 @@ module _ (result : ℕ × Option Ran) (source sink faults : Stream) (gates : Gat
   of_one words read one is ends command other = subst (λ (c : Command). Ends c result source sink faults gates) (one read command is other) ends
 
   -- for want of memory
-  lacks : (command : Command) → result.0 ≡ 7 → result.1 ≡ None → Told (codes "flock: memory\n") faults → IsUntouched source → IsUntouched sink → gates.halts_after ≡ gates.halts_before
-      → Ends command result source sink faults gates
+  lacks : (command : Command) → result.0 ≡ 7 → result.1 ≡ None → Told (codes "flock: memory\n") faults → IsUntouched source → IsUntouched sink
+      → IsIdle gates → Ends command result source sink faults gates
   lacks (commands.Run options) seven none told unread untouched idle = run_lacks options result source sink faults gates seven none told
   lacks (commands.Gen plan) seven none told unread untouched idle = record {
     none = none;
@@ -51,7 +51,7 @@ module _ (result : ℕ × Option Ran) (source sink faults : Stream) (gates : Gat
 
   -- no command was read
   pub of_none : (words : List (List ℕ)) (stop : Stop) → IsNoCommand words stop → result.0 ≡ stop_status stop → result.1 ≡ None → Told (stop_line stop) faults
-      → IsUntouched source → IsUntouched sink → gates.halts_after ≡ gates.halts_before → (command : Command) → IsCommand words command → Ends command result source sink faults gates
+      → IsUntouched source → IsUntouched sink → IsIdle gates → (command : Command) → IsCommand words command → Ends command result source sink faults gates
   of_none words Words refused status none told unread untouched idle command is = absurd (refused (command, is))
   of_none words (Text ReadFault) refused status none told unread untouched idle command is = absurd refused
   of_none words (Text Memory) refused status none told unread untouched idle command is = lacks command status none told unread untouched idle

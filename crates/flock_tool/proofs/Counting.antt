@@ -1,21 +1,20 @@
 -- What comes of the counts of a run.
-use Rattle.std.proofs.Common.{◌≡◌, ◌≢◌, ℕ, Bool, true, false, List, Option, None, Some, codes, length, refl, sym, ap, ◌∙◌, ⊎_elim, inl, inr, subst, arith}
-use Rattle.std.specs.Prelude.{◌⊎◌}
-use Rattle.fault_count.specs.Rose.{Rose}
+use Rattle.std.proofs.Common.{◌≡◌, ◌≢◌, ℕ, Bool, true, false, List, Some, codes, length, refl, sym, ap, ◌∙◌, ⊎_elim, inl, inr, subst, arith}
 use Rattle.table_words.specs.Limits.{IsWithinLimits}
 use Rattle.report_text.specs.Sink.{Extends, ExtendsInPart}
 use Rattle.load_counts.specs.Counts.{counts_text}
 use Rattle.run_reports.specs.Reports.{unserved_in}
 use Rattle.threaded_runs.specs.machine_invariant.specs.After.{AreAllowed}
 use Rattle.threaded_runs.specs.Runs.{AreServed}
-use Rattle.flock_tool.specs.End.{Tells}
-use Rattle.flock_tool.specs.Finish.{any_halted, finish_by, finish_status, is_whole, TellsFinish}
+use Rattle.flock_tool.specs.Finish.{finish_by, finish_status, is_whole, TellsFinish}
 use Rattle.flock_tool.specs.Loads.{EndsLoad, IsCounted, IsPlanText}
 use Rattle.flock_tool.specs.Runs.{words_in, answers_in, meaning_of, IsRunStatus}
+use Rattle.flock_tool.specs.Streams.{Fails, IsUntouched, Stream, Told}
 use Rattle.flock_tool.specs.declared.finish.Finish.{Finish}
 use Rattle.flock_tool.specs.declared.finish.Finish.TheVariants.{Whole, Halted, Slots, WornSlots, Versions}
 use Rattle.flock_tool.specs.declared.load.Counted.{Counted}
 use Rattle.flock_tool.specs.declared.ran.Ran.{Ran}
+use Rattle.flock_tool.proofs.Enough.{completes, ends_otherwise}
 use Rattle.flock_tool.proofs.Finishing.{finish_run, one_halted, zero_all}
 use Rattle.flock_tool.proofs.Whole.{all_served}
 
@@ -58,9 +57,9 @@ module _ (ran : Ran) (requests : ℕ) (count : Counted) (finish : Finish) (finis
       (zero_all (answers_in ran) left (ap finish_status (sym finish_same) ∙ ap finish_status (whole_is finish whole)))
 
   -- something kept a request from its answer: nothing is printed
-  pub loaded_other : (number : ℕ) (held : Option (List ℕ)) (faults : ℕ) (told told' : Option (List ℕ)) (tf tf' : ℕ) → is_whole finish ≡ false → number ≡ finish_status finish
-      → TellsFinish finish told told' tf tf' → EndsLoad ran (number, Some ran) held held faults faults told told' tf tf'
-  loaded_other number held faults told told' tf tf' other is tells =
+  pub loaded_other : (number : ℕ) (sink faults : Stream) → is_whole finish ≡ false → number ≡ finish_status finish → IsUntouched sink
+      → TellsFinish finish faults → EndsLoad ran (number, Some ran) sink faults
+  loaded_other number sink faults other is untouched tells =
       let run = finish_run finish in
       let not_nine : number ≢ 9 = λ nine. run.1 (sym is ∙ nine) in
       let not_zero : number ≢ 0 = λ zero. other_is finish other (sym is ∙ zero) in
@@ -75,19 +74,20 @@ module _ (ran : Ran) (requests : ℕ) (count : Counted) (finish : Finish) (finis
           all = λ printed. ⊎_elim (λ zero. absurd (not_zero zero)) (λ nine. absurd (not_nine nine)) printed;
           whole = λ zero. absurd (not_zero zero);
           in_part = λ nine. absurd (not_nine nine);
-          silent = λ _ _. refl;
-          steady = λ _. refl;
+          silent = λ _ _. untouched.same;
+          steady = λ _. untouched.steady;
           status = λ _. is ∙ ap finish_status finish_same;
-          line = λ _. subst (λ (f : Finish). TellsFinish f told told' tf tf') finish_same tells;
+          line = λ _. subst (λ (f : Finish). TellsFinish f faults) finish_same tells;
+          completes = λ waits are. completes (meaning_of ran) (words_in ran) waits (answers_in ran) are left limits.some_sections number (is ∙ ap finish_status finish_same);
           failed = λ nine. absurd (not_nine nine);
           halted = λ one. one_halted (answers_in ran) left (ap finish_status (sym finish_same) ∙ sym is ∙ one);
         };
       }
 
   -- the counts were printed whole
-  pub loaded_whole : (held held' : Option (List ℕ)) (faults faults' : ℕ) (told : Option (List ℕ)) (tf : ℕ) → is_whole finish ≡ true → Extends held text held' → faults' ≡ faults
-      → EndsLoad ran (0, Some ran) held held' faults faults' told told tf tf
-  loaded_whole held held' faults faults' told tf whole printed steady = record {
+  pub loaded_whole : (sink faults : Stream) → is_whole finish ≡ true → Extends sink.before text sink.after → sink.faults_after ≡ sink.faults_before
+      → IsUntouched faults → EndsLoad ran (0, Some ran) sink faults
+  loaded_whole sink faults whole printed steady untouched = record {
     status = inl refl;
     back = refl;
     counted = record {
@@ -101,17 +101,17 @@ module _ (ran : Ran) (requests : ℕ) (count : Counted) (finish : Finish) (finis
       silent = λ not _. absurd (not refl);
       steady = λ _. steady;
       status = λ _. sym (ap finish_status (sym finish_same) ∙ ap finish_status (whole_is finish whole));
-      line = λ _. subst (λ (f : Finish). TellsFinish f told told tf tf) (sym (whole_is finish whole) ∙ finish_same) (refl, refl);
+      line = λ _. subst (λ (f : Finish). TellsFinish f faults) (sym (whole_is finish whole) ∙ finish_same) (untouched.same, untouched.steady);
+      completes = λ waits are. ends_otherwise (meaning_of ran) (words_in ran) waits 0 (λ five. omega (arith, five)) (λ six. omega (arith, six));
       failed = λ nine. absurd (omega (arith, nine));
       halted = λ one. absurd (omega (arith, one));
     };
   }
 
   -- the sink failed, and holds a part of them
-  pub loaded_part : (number : ℕ) (held held' : Option (List ℕ)) (faults faults' : ℕ) (told told' : Option (List ℕ)) (tf tf' : ℕ) → number ≡ 9 → is_whole finish ≡ true
-      → ExtendsInPart held text held' → Rose faults faults' → Tells (codes "flock: write fault\n") told told' tf tf'
-      → EndsLoad ran (number, Some ran) held held' faults faults' told told' tf tf'
-  loaded_part number held held' faults faults' told told' tf tf' nine whole part rose tells = record {
+  pub loaded_part : (number : ℕ) (sink faults : Stream) → number ≡ 9 → is_whole finish ≡ true → ExtendsInPart sink.before text sink.after → Fails sink
+      → Told (codes "flock: write fault\n") faults → EndsLoad ran (number, Some ran) sink faults
+  loaded_part number sink faults nine whole part rose tells = record {
     status = inr (inr (inr (inr nine)));
     back = refl;
     counted = record {
@@ -126,6 +126,7 @@ module _ (ran : Ran) (requests : ℕ) (count : Counted) (finish : Finish) (finis
       steady = λ not. absurd (not nine);
       status = λ not. absurd (not nine);
       line = λ not. absurd (not nine);
+      completes = λ waits are. ends_otherwise (meaning_of ran) (words_in ran) waits number (λ five. omega (arith, five, nine)) (λ six. omega (arith, six, nine));
       failed = λ _. tells;
       halted = λ one. absurd (omega (arith, one, nine));
     };

@@ -4,7 +4,7 @@ use Rattle.trace_reader.specs.declared.traces.BadLine.{BadLine}
 use Rattle.trace_reader.specs.declared.traces.TraceError.{TraceError}
 use Rattle.trace_reader.specs.declared.traces.TraceError.TheVariants.{ReadFault, Memory, TooLarge, Malformed, TooManyTraces, TooManyRequests}
 use Rattle.std.specs.Prelude.{◌↔◌}
-use Rattle.trace_reader.specs.Answer.{IsExact, IsRefusal}
+use Rattle.trace_reader.specs.Answer.{IsExact}
 use Rattle.trace_reader.specs.declared.traces.Traces.{Traces}
 use Rattle.flock_tool.specs.declared.ran.Ran.{Ran}
 use Rattle.trace_reader.specs.Text.{IsAccepted, IsFirstRefusal}

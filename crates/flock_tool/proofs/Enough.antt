@@ -1,6 +1,6 @@
 -- With enough node slots, and where a want of slots is waited out, no runner stops for want of slots; and with enough versions none for want of these.
-use Rattle.std.specs.Prelude.{◌⊎◌, ◌&&◌, ◌*◌, Bool, true, false, if◌then◌else◌, nat_lt, slice_get, unwrap_or}
-use Rattle.std.proofs.Common.{◌≡◌, ◌≢◌, ℕ, zero, suc, ◌+◌, ◌≤◌, List, [], ◌∷◌, length, Option, None, Some, refl, sym, ap, ◌∙◌, subst, ⊎_elim, arith}
+use Rattle.std.specs.Prelude.{◌&&◌, Bool, true, false, if◌then◌else◌, nat_lt, slice_get, unwrap_or}
+use Rattle.std.proofs.Common.{◌≡◌, ◌≢◌, ℕ, suc, ◌+◌, ◌≤◌, List, [], ◌∷◌, length, Option, None, Some, refl, sym, ◌∙◌, ⊎_elim, arith}
 use Rattle.std.proofs.lemmas.Bool.Decides.{nat_tests}
 use Rattle.section_body.specs.Memory.{cell_of}
 use Rattle.structure_laws.specs.Meaning.{Meaning}
@@ -88,6 +88,10 @@ six_lacks list unserved status = by (first_from versions_of 0 list) refl (first_
     by None is None slots true true six = absurd (omega (arith, six))
     by None is None slots true false six = absurd (omega (arith, six))
     by None is None slots false halts six = absurd (omega (arith, six))
+
+-- a run that ends with neither 5 nor 6
+pub ends_otherwise : {T : Type 0} (m : Meaning) (w : WordsState T) (waits : Bool) (number : ℕ) → number ≢ 5 → number ≢ 6 → Completes m w waits number
+ends_otherwise m w waits number not_five not_six = record { slots = λ _ _. not_five; versions = λ _. not_six }
 
 first_of : (xs : List ℕ) → 1 ≤ length xs → (x : ℕ) × (slice_get xs 0 ≡ Some x)
 first_of [] some = absurd (omega (arith, some))

@@ -1,14 +1,15 @@
 -- How the command `gen` ends.
-use Rattle.std.proofs.Common.{◌≡◌, ◌≢◌, ℕ, ◌<◌, codes, refl, sym, ap, ◌∙◌, inl, inr, subst, arith}
+use Rattle.std.proofs.Common.{◌≡◌, ℕ, ◌<◌, refl, inl, inr, subst, arith}
 use Rattle.trace_reader.specs.declared.generator.Gen.{Gen}
 use Rattle.trace_reader.specs.declared.traces.TraceError.TheVariants as errors
 use Rattle.generated_text.specs.Ends.{IsPlanInRange, IsRead, Prints, Stops}
 use Rattle.generated_text.specs.declared.print.PrintStop.{PrintStop}
 use Rattle.generated_text.specs.declared.print.PrintStop.TheVariants.{TooManyRequests, Memory, WriteFault}
 use Rattle.flock_words.specs.Generated.{ArePlanRanges}
-use Rattle.flock_tool.specs.Commands.{GenPrints, IsUntouched, Stream, Told}
+use Rattle.flock_tool.specs.Commands.{GenPrints}
 use Rattle.flock_tool.specs.End.{error_line, print_stop, stop_line, stop_status}
 use Rattle.flock_tool.specs.Plans.{all_requests}
+use Rattle.flock_tool.specs.Streams.{IsUntouched, Stream, Told}
 
 pub in_range : (plan : Gen) → ArePlanRanges plan → IsPlanInRange plan
 in_range plan ranges = record { seed = ranges.seed; traces = ranges.traces; count = ranges.count; some_keys = ranges.some_keys; keys = ranges.keys }

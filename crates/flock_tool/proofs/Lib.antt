@@ -1,9 +1,11 @@
 pub mod Commanding
+pub mod Completing
 pub mod Counting
 pub mod Ends
 pub mod Enough
 pub mod Finishing
 pub mod GenPrinting
+pub mod Giving
 pub mod Loading
 pub mod Reported
 pub mod Reporting

@@ -1,5 +1,5 @@
 -- How the command `load` ends.
-use Rattle.std.proofs.Common.{◌≡◌, ◌≢◌, ℕ, ◌<◌, true, List, Option, None, Some, Result, Ok, Err, IfSome, codes, refl, sym, ap, ◌∙◌, ⊎_elim, inl, inr, subst, arith}
+use Rattle.std.proofs.Common.{◌≡◌, ℕ, ◌<◌, true, List, Option, None, IfSome, codes, refl, sym, ap, ◌∙◌, ⊎_elim, inl, inr, subst, arith}
 use Rattle.std.specs.Prelude.{◌⊎◌, ◌≤◌}
 use Rattle.fault_count.specs.Rose.{Rose}
 use Rattle.map_history.specs.declared.op.Request.{Request}
@@ -8,13 +8,13 @@ use Rattle.report_text.specs.Sink.{Extends, ExtendsInPart}
 use Rattle.trace_reader.specs.Generator.{generated}
 use Rattle.trace_reader.specs.declared.traces.TraceError.TheVariants.{ReadFault, Memory, TooLarge, Malformed, TooManyTraces, TooManyRequests}
 use Rattle.load_counts.specs.Apart.{load_text}
-use Rattle.run_reports.specs.Reports.{unserved_in}
 use Rattle.flock_words.specs.declared.generated.LoadOptions.{LoadOptions}
-use Rattle.flock_tool.specs.Commands.{Fails, Gating, IsUntouched, LoadRuns, Stream, Told}
+use Rattle.flock_tool.specs.Commands.{LoadRuns}
 use Rattle.flock_tool.specs.End.{error_line, nodes_line, stop_line, stop_status}
 use Rattle.flock_tool.specs.Loads.{EndsLoad, HasCounted, HasLoaded, HasLoadRun}
 use Rattle.flock_tool.specs.Plans.{IsLoadPlanned, IsRefusedLoad, IsTooMuch, LoadAsksTooMuch, all_nodes, all_requests, layout_by}
-use Rattle.flock_tool.specs.Runs.{words_in, answers_in, HasRunPlan, IsRunStatus, LacksMemory}
+use Rattle.flock_tool.specs.Runs.{words_in, answers_in, HasRunPlan, IsRunStatus}
+use Rattle.flock_tool.specs.Streams.{Gating, IsUntouched, Stream, Told}
 use Rattle.flock_tool.specs.declared.plan.Plan.{Plan}
 use Rattle.flock_tool.specs.declared.ran.Ran.{Ran}
 use Rattle.flock_tool.specs.declared.status.Stop.{Stop}
@@ -86,8 +86,8 @@ module _ (load : LoadOptions) (faults : Stream) where
 module _ (load : LoadOptions) (result : ℕ × Option Ran) (sink faults : Stream) (gates : Gating) where
   abbrev Ended : Ran → Type 0
   Ended back =
-      HasLoadRun load back gates.halts_before gates.halts_after gates.plans_before gates.plans_after
-      × HasCounted back result.0 sink.before sink.after sink.faults_before sink.faults_after faults.before faults.after faults.faults_before faults.faults_after
+      HasLoadRun load back gates
+      × HasCounted back result.0 sink faults
 
   -- without a plan
   pub load_refused : (stop : Stop) → IsRefusedLoad load stop → result.0 ≡ stop_status stop → result.1 ≡ None → Told (stop_line stop) faults → IsUntouched sink
@@ -111,16 +111,16 @@ module _ (load : LoadOptions) (result : ℕ × Option Ran) (sink faults : Stream
 
   -- with counts
   pub load_ended : (plan : Plan) (ran : Ran) → IsLoadPlanned load plan → load.plan.apart ≡ true
-      → HasRunPlan plan ran gates.halts_before gates.halts_after gates.plans_before gates.plans_after → (131072 < all_requests load.plan → ⊥)
-      → EndsLoad ran result sink.before sink.after sink.faults_before sink.faults_after faults.before faults.after faults.faults_before faults.faults_after
+      → HasRunPlan plan ran gates → (131072 < all_requests load.plan → ⊥)
+      → EndsLoad ran result sink faults
       → LoadRuns load result sink faults gates
   load_ended plan ran planned own run few ends = record {
     ran = (λ some. ends.status, λ status. some_back result.1 ran ends.back);
     statuses = inl ends.status;
     ended = subst (λ (back : Option Ran). IfSome back Ended) (sym ends.back)
-        (load_run_is load plan ran gates.halts_before gates.halts_after gates.plans_before gates.plans_after planned run, ends.counted);
+        (load_run_is load plan ran gates planned run, ends.counted);
     printed = λ zero. subst (λ (t : List ℕ). Extends sink.before t sink.after) (text_is (inl zero)) (ends.counted.whole zero);
-    halted = λ one. subst (Rose gates.halts_before) (sym run.halts) (halts_rise gates.halts_before (answers_in ran) (ends.counted.halted one));
+    halted = λ one. subst (Rose gates.halts_before) (sym run.given.halted) (halts_rise gates.halts_before (answers_in ran) (ends.counted.halted one));
     limit = λ four. absurd (no_4 result.0 ends.status four);
     many = λ much. absurd (few much);
     memory = λ seven. absurd (not_seven result.0 ends.status seven);
@@ -141,8 +141,8 @@ module _ (load : LoadOptions) (result : ℕ × Option Ran) (sink faults : Stream
       text_is printed = ends.counted.text_is (ends.counted.all printed) load.plan own requests ordered
 
   pub load_loaded : (plan : Plan) (ran : Ran) → IsLoadPlanned load plan → load.plan.apart ≡ true
-      → HasRunPlan plan ran gates.halts_before gates.halts_after gates.plans_before gates.plans_after → (131072 < all_requests load.plan → ⊥)
-      → HasLoaded ran result sink.before sink.after sink.faults_before sink.faults_after faults.before faults.after faults.faults_before faults.faults_after
+      → HasRunPlan plan ran gates → (131072 < all_requests load.plan → ⊥)
+      → HasLoaded ran result sink faults
       → LoadRuns load result sink faults gates
   load_loaded plan ran planned own run few loaded =
       ⊎_elim (load_ended plan ran planned own run few)

@@ -1,5 +1,5 @@
 -- What comes of a run.
-use Rattle.std.proofs.Common.{◌≡◌, ◌≢◌, ℕ, Bool, List, [], Option, None, Some, codes, refl, sym, ap, ◌∙◌, inl, inr, ⊎_elim, subst, arith}
+use Rattle.std.proofs.Common.{◌≡◌, ◌≢◌, ℕ, Bool, List, Option, Some, codes, refl, sym, ap, ◌∙◌, inr, ⊎_elim, subst, arith}
 use Rattle.std.specs.Prelude.{not}
 use Rattle.table_words.specs.Limits.{IsWithinLimits}
 use Rattle.table_words.specs.declared.layout.Layout.{Layout}
@@ -15,63 +15,60 @@ use Rattle.threaded_runs.specs.Runs.{AreServed}
 use Rattle.flock_words.specs.declared.generated.LoadOptions.{LoadOptions}
 use Rattle.flock_words.specs.declared.options.RunOptions.{RunOptions}
 use Rattle.flock_words.specs.Halts.{names_below}
-use Rattle.flock_tool.specs.End.{Tells, stop_of}
+use Rattle.flock_tool.specs.End.{stop_of}
 use Rattle.flock_tool.specs.Finish.{finish_by, finish_status, TellsFinish}
 use Rattle.flock_tool.specs.Loads.{HasLoadRun}
 use Rattle.flock_tool.specs.Plans.{IsLoadPlanned, IsPlanned, layout_by}
-use Rattle.flock_tool.specs.Runs.{words_in, answers_in, meaning_of, AreHaltsOf, HasRunPlan, HasRun, IsRunOf, HasEnded, EndsRun, StopsReport, IsRunStatus}
+use Rattle.flock_tool.specs.Runs.{words_in, answers_in, meaning_of, AreGiven, HasRunPlan, HasRun, IsRunOf, EndsRun, StopsReport, IsRunStatus}
+use Rattle.flock_tool.specs.Streams.{Gating, Stream, Told}
 use Rattle.flock_tool.specs.declared.plan.Plan.{Plan}
 use Rattle.flock_tool.specs.declared.ran.Ran.{Ran}
 use Rattle.flock_tool.specs.declared.status.Stop.TheVariants.{WriteFault}
 use Rattle.flock_tool.proofs.Ends.{IfSome-from}
-use Rattle.flock_tool.proofs.Enough.{completes}
+use Rattle.flock_tool.proofs.Enough.{completes, ends_otherwise}
 use Rattle.flock_tool.proofs.Finishing.{finish_run, zero_all, one_halted}
 use Rattle.flock_tool.proofs.Whole.{all_served}
 
 -- a run of a plan is one of its options and requests
-pub run_of : (plan : Plan) (ran : Ran) (halts halts' : ℕ) (planned planned' : List (Option ℕ)) → plan.layout ≡ layout_by plan.options plan.traces.count plan.traces.requests
-    → HasRunPlan plan ran halts halts' planned planned' → IsRunOf plan.options plan.traces.count ran
-run_of plan ran halts halts' planned planned' layout r = record {
+pub run_of : (plan : Plan) (ran : Ran) (gates : Gating) → plan.layout ≡ layout_by plan.options plan.traces.count plan.traces.requests
+    → HasRunPlan plan ran gates → IsRunOf plan.options plan.traces.count ran
+run_of plan ran gates layout r = record {
   table = r.table;
   layout = r.layout ∙ layout ∙ ap (layout_by plan.options plan.traces.count) (sym r.requests);
   served = subst (λ n. AreServed (meaning_of ran) (words_in ran) (not (names_below plan.options.halts n)) (answers_in ran)) (ap (λ (l : Layout). l.runners) (sym r.layout)) r.served;
 }
 
-pub halts_of : (plan : Plan) (ran : Ran) (halts halts' : ℕ) (planned planned' : List (Option ℕ)) → HasRunPlan plan ran halts halts' planned planned'
-    → planned ≡ [] → AreHaltsOf plan.options.halts (words_in ran).layout.runners planned'
-halts_of plan ran halts halts' planned planned' r none =
-    subst (λ n. AreHaltsOf plan.options.halts n planned') (ap (λ (l : Layout). l.runners) (sym r.layout)) (r.planned none)
+pub given_of : (plan : Plan) (ran : Ran) (gates : Gating) → HasRunPlan plan ran gates
+    → AreGiven plan.options.halts (words_in ran).layout.runners (answers_in ran) gates
+given_of plan ran gates r = subst (λ n. AreGiven plan.options.halts n (answers_in ran) gates) (ap (λ (l : Layout). l.runners) (sym r.layout)) r.given
 
 -- and so one that the options and the text ask for
-pub run_is : (options : RunOptions) (left : Option (List ℕ)) (plan : Plan) (ran : Ran) (halts halts' : ℕ) (planned planned' : List (Option ℕ)) → IsPlanned options left plan
-    → HasRunPlan plan ran halts halts' planned planned' → HasRun options left plan.traces.count ran halts halts' planned planned'
-run_is options left plan ran halts halts' planned planned' p r =
-    subst (λ (o : RunOptions). HasRun o left plan.traces.count ran halts halts' planned planned') p.given
+pub run_is : (options : RunOptions) (left : Option (List ℕ)) (plan : Plan) (ran : Ran) (gates : Gating) → IsPlanned options left plan
+    → HasRunPlan plan ran gates → HasRun options left plan.traces.count ran gates
+run_is options left plan ran gates p r =
+    subst (λ (o : RunOptions). HasRun o left plan.traces.count ran gates) p.given
     (record {
       text = IfSome-from (AreTracesOf plan.traces) (AreTracesOf (record { count = plan.traces.count; requests = (words_in ran).requests })) left p.text
           (λ text are. record { accepted = are.accepted; count = are.count; requests = r.requests ∙ are.requests });
-      run = run_of plan ran halts halts' planned planned' p.layout r;
-      halts = r.halts;
-      planned = halts_of plan ran halts halts' planned planned' r;
+      run = run_of plan ran gates p.layout r;
+      given = given_of plan ran gates r;
     })
 
 -- or the options of `load`
-pub load_run_is : (load : LoadOptions) (plan : Plan) (ran : Ran) (halts halts' : ℕ) (planned planned' : List (Option ℕ)) → IsLoadPlanned load plan
-    → HasRunPlan plan ran halts halts' planned planned' → HasLoadRun load ran halts halts' planned planned'
-load_run_is load plan ran halts halts' planned planned' p r = record {
+pub load_run_is : (load : LoadOptions) (plan : Plan) (ran : Ran) (gates : Gating) → IsLoadPlanned load plan → HasRunPlan plan ran gates
+    → HasLoadRun load ran gates
+load_run_is load plan ran gates p r = record {
   requests = r.requests ∙ p.requests;
-  run = subst (λ (o : RunOptions). IsRunOf o load.plan.traces ran) p.given
-      (subst (λ n. IsRunOf plan.options n ran) p.count (run_of plan ran halts halts' planned planned' p.layout r));
-  halts = r.halts;
-  planned = λ none. subst (λ (o : RunOptions). AreHaltsOf o.halts (words_in ran).layout.runners planned') p.given (halts_of plan ran halts halts' planned planned' r none);
+  run = subst (λ (o : RunOptions). IsRunOf o load.plan.traces ran) p.given (subst (λ n. IsRunOf plan.options n ran) p.count (run_of plan ran gates p.layout r));
+  given = subst (λ (o : RunOptions). AreGiven o.halts (words_in ran).layout.runners (answers_in ran) gates) p.given (given_of plan ran gates r);
 }
 
 -- its report was printed whole
-pub ended_whole : (ran : Ran) (traces unserved status : ℕ) (held held' : Option (List ℕ)) (faults faults' : ℕ) (told told' : Option (List ℕ)) (tf tf' : ℕ)
+pub ended_whole : (ran : Ran) (traces unserved status : ℕ) (sink faults : Stream)
     → IsWithinLimits (words_in ran).layout → AreAllowed (words_in ran).requests → ((retry_short : Bool) × AreServed (meaning_of ran) (words_in ran) retry_short (answers_in ran))
-    → status ≡ finish_status (finish_by (answers_in ran) unserved) → Prints (meaning_of ran) (words_in ran) traces unserved held held'
-    → TellsFinish (finish_by (answers_in ran) unserved) told told' tf tf' → faults' ≡ faults → EndsRun ran traces (status, Some ran) held held' faults faults' told told' tf tf'
-ended_whole ran traces unserved status held held' faults faults' told told' tf tf' limits allowed served is prints told_is steady =
+    → status ≡ finish_status (finish_by (answers_in ran) unserved) → Prints (meaning_of ran) (words_in ran) traces unserved sink.before sink.after
+    → TellsFinish (finish_by (answers_in ran) unserved) faults → sink.faults_after ≡ sink.faults_before → EndsRun ran traces (status, Some ran) sink faults
+ended_whole ran traces unserved status sink faults limits allowed served is prints told_is steady =
     let run = finish_run (finish_by (answers_in ran) unserved) in
     let not_nine : status ≢ 9 = λ nine. run.1 (sym is ∙ nine) in
     record {
@@ -96,10 +93,9 @@ ended_whole ran traces unserved status held held' faults faults' told told' tf t
     }
 
 -- the sink failed, and holds a part of it
-pub ended_part : (ran : Ran) (traces status : ℕ) (held held' : Option (List ℕ)) (faults faults' : ℕ) (told told' : Option (List ℕ)) (tf tf' : ℕ) → status ≡ 9
-    → StopsReport (meaning_of ran) (words_in ran) traces WriteFault held held' faults faults' → Tells (codes "flock: write fault\n") told told' tf tf'
-    → EndsRun ran traces (status, Some ran) held held' faults faults' told told' tf tf'
-ended_part ran traces status held held' faults faults' told told' tf tf' nine stops tells = record {
+pub ended_part : (ran : Ran) (traces status : ℕ) (sink faults : Stream) → status ≡ 9 → StopsReport (meaning_of ran) (words_in ran) traces WriteFault sink
+    → Told (codes "flock: write fault\n") faults → EndsRun ran traces (status, Some ran) sink faults
+ended_part ran traces status sink faults nine stops tells = record {
   status = inr (inr (inr (inr nine)));
   back = refl;
   ended = record {
@@ -110,7 +106,7 @@ ended_part ran traces status held held' faults faults' told told' tf tf' nine st
     in_part = λ _. (stops.0.2.1, stops.1);
     status = λ not. absurd (not nine);
     all = λ none. absurd (omega (arith, none, nine));
-    completes = λ waits are. record { slots = λ waited enough five. omega (arith, five, nine); versions = λ enough six. omega (arith, six, nine) };
+    completes = λ waits are. ends_otherwise (meaning_of ran) (words_in ran) waits status (λ five. omega (arith, five, nine)) (λ six. omega (arith, six, nine));
     line = λ not. absurd (not nine);
     failed = λ _. tells;
   };
@@ -119,7 +115,7 @@ ended_part ran traces status held held' faults faults' told told' tf tf' nine st
 }
 
 -- why the printing stopped
-pub stops_report : {T : Type 0} (m : Meaning) (w : WordsState T) (traces : ℕ) (error : PrintError) (held held' : Option (List ℕ)) (faults faults' : ℕ)
-    → StopsPrinting m w traces error held held' faults faults' → StopsReport m w traces (stop_of error) held held' faults faults'
-stops_report m w traces printing.Memory held held' faults faults' stops = (refl, stops.0, stops.1)
-stops_report m w traces printing.Failed held held' faults faults' stops = stops
+pub stops_report : {T : Type 0} (m : Meaning) (w : WordsState T) (traces : ℕ) (error : PrintError) (sink : Stream)
+    → StopsPrinting m w traces error sink.before sink.after sink.faults_before sink.faults_after → StopsReport m w traces (stop_of error) sink
+stops_report m w traces printing.Memory sink stops = (refl, stops.0, stops.1)
+stops_report m w traces printing.Failed sink stops = stops

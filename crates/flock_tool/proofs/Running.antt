@@ -1,15 +1,16 @@
 -- How the command `run` ends.
-use Rattle.std.proofs.Common.{◌≡◌, ◌≢◌, ℕ, List, Option, None, Some, Result, Ok, Err, IfSome, codes, refl, sym, ap, ◌∙◌, ⊎_elim, inl, inr, subst, arith}
+use Rattle.std.proofs.Common.{◌≡◌, ℕ, List, Option, None, Result, Ok, Err, IfSome, codes, sym, ap, ◌∙◌, ⊎_elim, inl, inr, subst, arith}
 use Rattle.std.specs.Prelude.{◌⊎◌}
 use Rattle.trace_reader.specs.Answer.{StopsBefore}
 use Rattle.trace_reader.specs.Text.{IsAccepted, IsFirstRefusal}
 use Rattle.trace_reader.specs.declared.traces.TraceError.{TraceError}
 use Rattle.trace_reader.specs.declared.traces.TraceError.TheVariants.{ReadFault}
 use Rattle.flock_words.specs.declared.options.RunOptions.{RunOptions}
-use Rattle.flock_tool.specs.Commands.{Fails, Gating, RunEnds, Stream, Told}
+use Rattle.flock_tool.specs.Commands.{RunEnds}
 use Rattle.flock_tool.specs.End.{error_status, stop_line, stop_status}
 use Rattle.flock_tool.specs.Plans.{AsksTooMuch, IsPlanned, IsRefusedPlan, MustPlan}
 use Rattle.flock_tool.specs.Runs.{HasReported, HasRun, HasEnded, HasRunPlan, IsRunStatus}
+use Rattle.flock_tool.specs.Streams.{Fails, Gating, Stream, Told}
 use Rattle.flock_tool.specs.declared.plan.Plan.{Plan}
 use Rattle.flock_tool.specs.declared.ran.Ran.{Ran}
 use Rattle.flock_tool.specs.declared.status.Stop.{Stop}
@@ -39,8 +40,8 @@ module _ (options : RunOptions) (result : ℕ × Option Ran) (source sink faults
 
   abbrev Ended : Ran → Type 0
   Ended back = (traces : ℕ)
-      × HasRun options source.before traces back gates.halts_before gates.halts_after gates.plans_before gates.plans_after
-      × HasEnded back traces result.0 sink.before sink.after sink.faults_before sink.faults_after faults.before faults.after faults.faults_before faults.faults_after
+      × HasRun options source.before traces back gates
+      × HasEnded back traces result.0 sink faults
 
   -- without a plan
   pub run_refused : (stop : Stop) → IsRefusedPlan options source.before stop → result.0 ≡ stop_status stop → result.1 ≡ None → Told (stop_line stop) faults
@@ -80,23 +81,23 @@ module _ (options : RunOptions) (result : ℕ × Option Ran) (source sink faults
 
   -- with a report
   pub run_reported : (plan : Plan) (ran : Ran) → IsPlanned options source.before plan
-      → HasRunPlan plan ran gates.halts_before gates.halts_after gates.plans_before gates.plans_after
+      → HasRunPlan plan ran gates
       → ((Fails source → ⊥) → IfSome source.before (MustPlan (Ok plan)))
-      → HasReported ran plan.traces.count result sink.before sink.after sink.faults_before sink.faults_after faults.before faults.after faults.faults_before faults.faults_after
+      → HasReported ran plan.traces.count result sink faults
       → RunEnds options result source sink faults gates
   run_reported plan ran planned run must reported = record {
-    ran = reported_ran ran plan.traces.count result _ _ _ _ _ _ _ _ reported;
-    ended = reported_back ran plan.traces.count result _ _ _ _ _ _ _ _ reported Ended
-        (λ ends. (plan.traces.count, run_is options source.before plan ran gates.halts_before gates.halts_after gates.plans_before gates.plans_after planned run, ends.ended));
-    halted = λ one. reported_halted ran plan.traces.count result _ _ _ _ _ _ _ _ reported gates.halts_before gates.halts_after run.halts one;
+    ran = reported_ran ran plan.traces.count result sink faults reported;
+    ended = reported_back ran plan.traces.count result sink faults reported Ended
+        (λ ends. (plan.traces.count, run_is options source.before plan ran gates planned run, ends.ended));
+    halted = λ one. reported_halted ran plan.traces.count result sink faults reported gates run.given.halted one;
     complete = λ steady. any_text Complete source.before (λ text accepted. ⊎_elim (λ ends. inl ends) (λ seven. inr (inl seven)) status);
     refused = λ steady. planned_refused source.before plan result.0 (must steady);
     malformed = λ three. absurd (not_three result.0 status three);
     limit = λ four. absurd (not_four result.0 status four);
-    memory = λ seven. reported_memory ran plan.traces.count result _ _ _ _ _ _ _ _ reported seven;
-    read = λ eight. absurd (reported_read ran plan.traces.count result _ _ _ _ _ _ _ _ reported eight);
-    write = λ nine. reported_write ran plan.traces.count result _ _ _ _ _ _ _ _ reported nine;
+    memory = λ seven. reported_memory ran plan.traces.count result sink faults reported seven;
+    read = λ eight. absurd (reported_read ran plan.traces.count result sink faults reported eight);
+    write = λ nine. reported_write ran plan.traces.count result sink faults reported nine;
   }
     where
       status : IsRunStatus result.0 ⊎ (result.0 ≡ 7)
-      status = reported_status ran plan.traces.count result _ _ _ _ _ _ _ _ reported
+      status = reported_status ran plan.traces.count result sink faults reported

@@ -1,6 +1,6 @@
 -- A run in which each runner has served all of its requests leaves none unserved.
 use Rattle.std.proofs.Common.{◌≡◌, ◌≢◌, ℕ, zero, suc, ◌<◌, ◌%◌, ◌==◌, Bool, true, false, cond, List, [], ◌∷◌, Option, None, Some, IsSome, length, refl, sym, ap, ◌∙◌, subst, arith, rules, zero-add}
-use Rattle.std.specs.Prelude.{not, is_some, count_by, filter, map, slice_get}
+use Rattle.std.specs.Prelude.{not, is_some, filter, map, slice_get}
 use Rattle.std.proofs.lemmas.Bool.Decides.{nat_tests}
 use Rattle.std.proofs.lemmas.List.Sums.{sum_by-cons}
 use Rattle.std.specs.List.{range_with_len}
@@ -10,18 +10,17 @@ use Rattle.std.proofs.lemmas.Option.{slice_get-map, slice_get_within, slice_get-
 use Rattle.map_history.specs.declared.op.Entry.{Entry}
 use Rattle.map_history.specs.declared.op.Op.TheVariants.{Get}
 use Rattle.map_history.specs.declared.op.Request.{Request}
-use Rattle.table_words.specs.declared.spot.Spot.TheVariants.{Stamp, Reply}
+use Rattle.table_words.specs.declared.spot.Spot.TheVariants.{Stamp}
 use Rattle.structure_laws.specs.Meaning.{Meaning}
 use Rattle.map_history.specs.Requests.{AreInOrder}
 use Rattle.machine_states.proofs.Steps.{some_same}
 use Rattle.threaded_runs.specs.machine_invariant.specs.After.{AreAllowed}
 use Rattle.threaded_runs.specs.version_words.specs.TableState.{WordsState, word_of}
-use Rattle.run_reports.specs.Shown.{AreShown}
 use Rattle.run_reports.specs.Reports.{HaveEntries, unserved_in}
 use Rattle.threaded_runs.specs.serving.specs.declared.answers.Served.{Served}
 use Rattle.threaded_runs.specs.serving.specs.declared.answers.Served.TheVariants as answers
 use Rattle.threaded_runs.specs.Own.{own_requests}
-use Rattle.threaded_runs.specs.Runs.{AreServed, HasServed, IsCause, stamp_of}
+use Rattle.threaded_runs.specs.Runs.{AreServed, HasServed, stamp_of}
 
 -- a request that passes the test stands in the filtered list
 filtered : {X : Type 0} (p : X → Bool) (xs : List X) (k : ℕ) (x : X) → slice_get xs k ≡ Some x → p x ≡ true → (i : ℕ) × (slice_get (filter p xs) i ≡ Some x)

@@ -1,6 +1,5 @@
 -- What each command leaves, by its status.
-use Rattle.std.specs.Prelude.{◌≡◌, ◌≢◌, ◌↔◌, ◌⊎◌, ◌≤◌, ◌<◌, ℕ, List, Option, IfSome, IsSome, None, codes}
-use Rattle.fault_count.specs.Rose.{Rose}
+use Rattle.std.specs.Prelude.{◌≡◌, ◌≢◌, ◌↔◌, ◌⊎◌, ◌<◌, ℕ, List, Option, IfSome, IsSome, None, codes}
 use Rattle.trace_reader.specs.Answer.{StopsBefore}
 use Rattle.trace_reader.specs.Text.{IsAccepted, IsFirstRefusal}
 use Rattle.trace_reader.specs.declared.generator.Gen.{Gen}
@@ -20,69 +19,41 @@ use Rattle.flock_tool.specs.declared.ran.Ran.{Ran}
 use Rattle.flock_tool.specs.declared.status.Stop.{Stop}
 use Rattle.flock_tool.specs.declared.status.Stop.TheVariants as stops
 use Rattle.flock_tool.specs.declared.status.Stop.TheVariants.{Words, Nodes, WriteFault}
-use Rattle.flock_tool.specs.End.{IsLimit, Tells, error_line, error_status, nodes_line}
+use Rattle.flock_tool.specs.End.{IsLimit, error_line, error_status, nodes_line}
 use Rattle.flock_tool.specs.Loads.{HasCounted, HasLoadRun}
 use Rattle.flock_tool.specs.Plans.{AsksTooMuch, LoadAsksTooMuch, all_requests}
 use Rattle.flock_tool.specs.Runs.{HasEnded, HasRun, IsRunStatus}
-
--- what a stream tells before and after a call, and its count of faults
-pub record Stream : Type 0 where
-  pub before : Option (List ℕ)
-  pub after : Option (List ℕ)
-  pub faults_before : ℕ
-  pub faults_after : ℕ
-
-abbrev pub stream : (before after : Option (List ℕ)) → (faults_before faults_after : ℕ) → Stream
-stream before after faults_before faults_after = record { before = before; after = after; faults_before = faults_before; faults_after = faults_after }
-
--- it was left alone
-pub record IsUntouched (s : Stream) : Type 0 where
-  pub same : s.after ≡ s.before
-  pub steady : s.faults_after ≡ s.faults_before
-
--- its count of faults rose
-abbrev pub Fails : Stream → Type 0
-Fails s = Rose s.faults_before s.faults_after
-
--- the line was added to it, or a part of it where its count of faults rose
-abbrev pub Told : List ℕ → Stream → Type 0
-Told line s = Tells line s.before s.after s.faults_before s.faults_after
-
--- what the gates have counted before and after a call, and the plans that they were given out with
-pub record Gating : Type 0 where
-  pub halts_before : ℕ
-  pub halts_after : ℕ
-  pub plans_before : List (Option ℕ)
-  pub plans_after : List (Option ℕ)
-
-abbrev pub gating : (halts_before halts_after : ℕ) → (plans_before plans_after : List (Option ℕ)) → Gating
-gating halts_before halts_after plans_before plans_after =
-    record { halts_before = halts_before; halts_after = halts_after; plans_before = plans_before; plans_after = plans_after }
+use Rattle.flock_tool.specs.Streams.{Fails, Gating, Halts, IsIdle, IsUntouched, Stream, Told}
 
 -- `run` with these options
-pub record RunEnds (options : RunOptions) (result : ℕ × Option Ran) (source sink faults : Stream) (gates : Gating) : Type 0 where
+pub record RunEnds (options : RunOptions) (result : ℕ × Option Ran) (source sink faults : Stream) (gates : Gating)
+    : Type 0 where
   -- a run came to its end exactly at 0, 1, 5, 6 and 9
   pub ran : IsSome result.1 ↔ IsRunStatus result.0
-  -- it was of the table that the options and the text name. At 0, 1, 5 and 6 what the sink holds past what it held is the report on its closed words,
-  -- which is legal; the status and the line are those of the answers, and at 0 each request is answered
+  -- it was of the table that the options and the text name. At 0, 1, 5 and 6 what the sink holds past what it held is the
+  -- report on its closed words, which is legal; the status and the line are those of the answers, and at 0 each request is
+  -- answered
   pub ended : IfSome result.1 (λ ran. (traces : ℕ)
-      × HasRun options source.before traces ran gates.halts_before gates.halts_after gates.plans_before gates.plans_after
-      × HasEnded ran traces result.0 sink.before sink.after sink.faults_before sink.faults_after faults.before faults.after faults.faults_before faults.faults_after)
-  pub halted : result.0 ≡ 1 → Rose gates.halts_before gates.halts_after
-  -- where no fault is counted, a text in the grammar is run, unless the runners would have too many node slots or memory is wanting, and any other is
-  -- refused for its first refusal
+      × HasRun options source.before traces ran gates × HasEnded ran traces result.0 sink faults)
+  pub halted : result.0 ≡ 1 → Halts gates
+  -- where no fault is counted, a text in the grammar is run, unless the runners would have too many node slots or memory
+  -- is wanting, and any other is refused for its first refusal
   pub complete : (Fails source → ⊥) → IfSome source.before (λ text. IsAccepted text
-      → IsRunStatus result.0 ⊎ (result.0 ≡ 7) ⊎ ((result.0 ≡ 4) × (count : ℕ) × AsksTooMuch options source.before count))
+      → IsRunStatus result.0 ⊎ (result.0 ≡ 7)
+      ⊎ ((result.0 ≡ 4) × (count : ℕ) × AsksTooMuch options source.before count))
   pub refused : (Fails source → ⊥) → IfSome source.before (λ text. (error : TraceError) → IsFirstRefusal text error
       → (result.0 ≡ error_status error) ⊎ (result.0 ≡ 7))
   -- what each other status says, and what is told at it
   pub malformed : result.0 ≡ 3 → (line : ℕ) × (kind : BadLine)
-      × (IfSome source.before (λ text. IsFirstRefusal text (Malformed line kind)) × Told (error_line (Malformed line kind)) faults)
+      × (IfSome source.before (λ text. IsFirstRefusal text (Malformed line kind))
+      × Told (error_line (Malformed line kind)) faults)
   pub limit : result.0 ≡ 4
-      → ((error : TraceError) × (IsLimit error × IfSome source.before (λ text. IsFirstRefusal text error) × Told (error_line error) faults))
+      → ((error : TraceError)
+      × (IsLimit error × IfSome source.before (λ text. IsFirstRefusal text error) × Told (error_line error) faults))
       ⊎ ((count : ℕ) × (AsksTooMuch options source.before count × Told (nodes_line count) faults))
   pub memory : result.0 ≡ 7 → Told (codes "flock: memory\n") faults
-  pub read : result.0 ≡ 8 → Fails source × StopsBefore source.before source.after × Told (codes "flock: read fault\n") faults
+  pub read : result.0 ≡ 8
+      → Fails source × StopsBefore source.before source.after × Told (codes "flock: read fault\n") faults
   pub write : result.0 ≡ 9 → Fails sink × Told (codes "flock: write fault\n") faults
 
 -- what `gen` of this plan prints: the text whole at 0, in part at 9 and not at all at 4 and 7
@@ -94,7 +65,8 @@ pub record GenPrints (plan : Gen) (number : ℕ) (sink faults : Stream) : Type 0
   pub limit : number ≡ 4 → (131072 < all_requests plan) × Told (error_line (TooManyRequests (all_requests plan))) faults
   pub many : 131072 < all_requests plan → (number ≡ 4) ⊎ (number ≡ 7)
   pub memory : number ≡ 7 → Told (codes "flock: memory\n") faults
-  pub write : number ≡ 9 → Fails sink × PrintsInPart plan sink.before sink.after × Told (codes "flock: write fault\n") faults
+  pub write : number ≡ 9
+      → Fails sink × PrintsInPart plan sink.before sink.after × Told (codes "flock: write fault\n") faults
   pub silent : number ≢ 0 → number ≢ 9 → sink.after ≡ sink.before
   pub steady : number ≢ 9 → sink.faults_after ≡ sink.faults_before
 
@@ -102,31 +74,34 @@ pub record GenPrints (plan : Gen) (number : ℕ) (sink faults : Stream) : Type 0
 pub record GenEnds (plan : Gen) (result : ℕ × Option Ran) (source sink faults : Stream) (gates : Gating) : Type 0 where
   pub none : result.1 ≡ None
   pub unread : IsUntouched source
-  pub idle : gates.halts_after ≡ gates.halts_before
+  pub idle : IsIdle gates
   pub prints : GenPrints plan result.0 sink faults
 
--- what `load` with these options prints: the counts of each trace served by itself, whole at 0, in part at 9, and not at all at 1, 4, 5, 6 and 7
-pub record LoadRuns (load : LoadOptions) (result : ℕ × Option Ran) (sink faults : Stream) (gates : Gating) : Type 0 where
+-- what `load` with these options prints: the counts of each trace served by itself, whole at 0, in part at 9, and not at all
+-- at 1, 4, 5, 6 and 7
+pub record LoadRuns (load : LoadOptions) (result : ℕ × Option Ran) (sink faults : Stream) (gates : Gating)
+    : Type 0 where
   pub ran : IsSome result.1 ↔ IsRunStatus result.0
   pub statuses : IsRunStatus result.0 ⊎ (result.0 ≡ 4) ⊎ (result.0 ≡ 7)
-  -- the run was of the table that the options and the generator name, and the status and the line are those of its answers
+  -- the run was of the table that the options and the generator name; the status and the line are those of its answers
   pub ended : IfSome result.1 (λ ran.
-      HasLoadRun load ran gates.halts_before gates.halts_after gates.plans_before gates.plans_after
-      × HasCounted ran result.0 sink.before sink.after sink.faults_before sink.faults_after faults.before faults.after faults.faults_before faults.faults_after)
+      HasLoadRun load ran gates × HasCounted ran result.0 sink faults)
   pub printed : result.0 ≡ 0 → Extends sink.before (load_text load.plan) sink.after
-  pub halted : result.0 ≡ 1 → Rose gates.halts_before gates.halts_after
+  pub halted : result.0 ≡ 1 → Halts gates
   -- too many requests are refused, or else too many node slots, and nothing else
   pub limit : result.0 ≡ 4
       → ((131072 < all_requests load.plan) × Told (error_line (TooManyRequests (all_requests load.plan))) faults)
       ⊎ ((count : ℕ) × (LoadAsksTooMuch load count × Told (nodes_line count) faults))
   pub many : 131072 < all_requests load.plan → (result.0 ≡ 4) ⊎ (result.0 ≡ 7)
   pub memory : result.0 ≡ 7 → Told (codes "flock: memory\n") faults
-  pub write : result.0 ≡ 9 → Fails sink × ExtendsInPart sink.before (load_text load.plan) sink.after × Told (codes "flock: write fault\n") faults
+  pub write : result.0 ≡ 9
+      → Fails sink × ExtendsInPart sink.before (load_text load.plan) sink.after × Told (codes "flock: write fault\n") faults
   pub silent : (IsRunStatus result.0 → ⊥) → sink.after ≡ sink.before
   pub steady : result.0 ≢ 9 → sink.faults_after ≡ sink.faults_before
 
 -- and nothing is read
-pub record LoadEnds (load : LoadOptions) (result : ℕ × Option Ran) (source sink faults : Stream) (gates : Gating) : Type 0 where
+pub record LoadEnds (load : LoadOptions) (result : ℕ × Option Ran) (source sink faults : Stream) (gates : Gating)
+    : Type 0 where
   pub unread : IsUntouched source
   pub runs : LoadRuns load result sink faults gates
 

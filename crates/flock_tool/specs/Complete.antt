@@ -1,7 +1,7 @@
 -- When a run can't end for want of slots or of versions.
-use Rattle.std.specs.Prelude.{◌≡◌, ◌≢◌, ℕ, ◌+◌, ◌*◌, ◌<◌, ◌≤◌, Bool, false}
+use Rattle.std.specs.Prelude.{◌≢◌, ℕ, ◌+◌, ◌*◌, ◌<◌, ◌≤◌, Bool, false, length}
 use Rattle.section_body.specs.Word.{version_of}
-use Rattle.table_words.specs.declared.spot.Spot.TheVariants.{Cell}
+use Rattle.table_words.specs.declared.spot.Spot.TheVariants.{Cell, Stamp}
 use Rattle.structure_laws.specs.Meaning.{Meaning}
 use Rattle.threaded_runs.specs.make_counts.specs.Makes.{inserts}
 use Rattle.threaded_runs.specs.version_words.specs.TableState.{WordsState, word_of}
@@ -15,7 +15,12 @@ module _ {T : Type 0} (m : Meaning) (w : WordsState T) where
   abbrev pub HasEnoughVersions : Type 0
   HasEnoughVersions = (place : ℕ) → version_of (word_of m w (Cell place)) + 1 < w.layout.version_max
 
-  -- a run that waits out a want of slots doesn't end for one where it had enough of them, and none ends for want of versions of which it left enough
+  -- each request has an entry
+  abbrev pub IsAnswered : Type 0
+  IsAnswered = (number : ℕ) → number < length w.requests → word_of m w (Stamp number) ≢ 0
+
+  -- a run that waits out a want of slots doesn't end for one where it had enough of them, and none ends for want of versions
+  -- of which it left enough
   pub record Completes (waits : Bool) (number : ℕ) : Type 0 where
     pub slots : waits ≢ false → HasEnoughSlots → number ≢ 5
     pub versions : HasEnoughVersions → number ≢ 6

@@ -1,5 +1,5 @@
 -- How the program ends without a report: what it says went wrong, and the number of its status.
-use Rattle.std.specs.Prelude.{◌≡◌, ℕ, ◌⊎◌, List, ◌++◌, Option, codes, decimal}
+use Rattle.std.specs.Prelude.{ℕ, ◌⊎◌, List, ◌++◌, Option, codes, decimal}
 use Rattle.fault_count.specs.Rose.{Rose}
 use Rattle.report_text.specs.Sink.{Extends, ExtendsInPart}
 use Rattle.generated_text.specs.declared.print.PrintStop.{PrintStop}

@@ -6,7 +6,7 @@ use Rattle.threaded_runs.specs.epoch_slots.specs.declared.reserves.Kind.TheVaria
 use Rattle.threaded_runs.specs.epoch_slots.specs.declared.reserves.Short.{Short}
 use Rattle.threaded_runs.specs.serving.specs.declared.answers.Served.{Served}
 use Rattle.threaded_runs.specs.serving.specs.declared.answers.Served.TheVariants as answers
-use Rattle.flock_tool.specs.End.{Tells}
+use Rattle.flock_tool.specs.Streams.{Stream, Told}
 use Rattle.flock_tool.specs.declared.finish.Finish.{Finish}
 use Rattle.flock_tool.specs.declared.finish.Finish.TheVariants.{Whole, Halted, Slots, WornSlots, Versions}
 
@@ -42,7 +42,8 @@ first_from given runner (answer ∷ answers) = first_or (given runner answer) (f
 abbrev pub finish_by : List Served → ℕ → Finish
 finish_by answers unserved =
     unwrap_or (first_from versions_of 0 answers)
-    (unwrap_or (first_from slots_of 0 answers) (if nat_lt 0 unserved && any_halted answers then Halted unserved else Whole))
+    (unwrap_or (first_from slots_of 0 answers)
+    (if nat_lt 0 unserved && any_halted answers then Halted unserved else Whole))
 
 abbrev pub is_whole : Finish → Bool
 is_whole Whole = true
@@ -63,8 +64,8 @@ kind_name Descriptor = codes "descriptor"
 -- what a runner lacked, with the counts of its slots of the kind
 abbrev pub counts_line : List ℕ → ℕ → Short → List ℕ
 counts_line what runner short =
-    codes "flock: " ++ what ++ codes ": runner " ++ decimal runner ++ codes " " ++ kind_name short.kind ++ codes " free " ++ decimal short.free
-    ++ codes " limbo " ++ decimal short.limbo ++ codes " worn " ++ decimal short.worn ++ codes "\n"
+    codes "flock: " ++ what ++ codes ": runner " ++ decimal runner ++ codes " " ++ kind_name short.kind
+    ++ codes " free " ++ decimal short.free ++ codes " limbo " ++ decimal short.limbo ++ codes " worn " ++ decimal short.worn ++ codes "\n"
 
 -- the line that is told; none where every request is answered
 abbrev pub finish_line : Finish → List ℕ
@@ -73,9 +74,10 @@ finish_line (Halted unserved) = codes "flock: halted, " ++ decimal unserved ++ c
 finish_line (Slots runner short) = counts_line (codes "slots") runner short
 finish_line (WornSlots runner short) = counts_line (codes "versions") runner short
 finish_line (Versions place word) =
-    codes "flock: versions: place " ++ decimal place ++ codes " value " ++ decimal (value_of word) ++ codes " version " ++ decimal (version_of word) ++ codes "\n"
+    codes "flock: versions: place " ++ decimal place ++ codes " value " ++ decimal (value_of word)
+    ++ codes " version " ++ decimal (version_of word) ++ codes "\n"
 
 -- the line was told, or a part of it where the sink counted a fault
-abbrev pub TellsFinish : Finish → (before after : Option (List ℕ)) → (faults_before faults_after : ℕ) → Type 0
-TellsFinish Whole before after faults_before faults_after = (after ≡ before) × (faults_after ≡ faults_before)
-TellsFinish finish before after faults_before faults_after = Tells (finish_line finish) before after faults_before faults_after
+abbrev pub TellsFinish : Finish → Stream → Type 0
+TellsFinish Whole faults = (faults.after ≡ faults.before) × (faults.faults_after ≡ faults.faults_before)
+TellsFinish finish faults = Told (finish_line finish) faults

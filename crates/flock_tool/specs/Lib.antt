@@ -5,3 +5,5 @@ pub mod Finish
 pub mod Loads
 pub mod Plans
 pub mod Runs
+pub mod Streams
+pub mod Valid

@@ -1,10 +1,9 @@
 -- What the options of a command and a text, or the generator, ask for.
-use Rattle.std.specs.Prelude.{◌≡◌, ℕ, ◌*◌, ◌<◌, ◌≤◌, ◌⊎◌, Bool, true, false, List, Option, Result, Err, IsOk, IfSome, count_by}
-use Rattle.map_history.specs.declared.op.Op.{Op}
-use Rattle.map_history.specs.declared.op.Op.TheVariants.{Get, Ins, Del}
+use Rattle.std.specs.Prelude.{◌≡◌, ℕ, ◌*◌, ◌<◌, ◌≤◌, ◌⊎◌, List, Option, Result, Err, IsOk, IfSome}
 use Rattle.map_history.specs.declared.op.Request.{Request}
 use Rattle.map_history.specs.Requests.{AreInOrder}
 use Rattle.table_words.specs.declared.layout.Layout.{Layout}
+use Rattle.threaded_runs.specs.make_counts.specs.Makes.{inserts}
 use Rattle.trace_reader.specs.Answer.{AreTracesOf, IsRefusal}
 use Rattle.trace_reader.specs.Generator.{generated}
 use Rattle.trace_reader.specs.Text.{IsAccepted, IsFirstRefusal}
@@ -20,20 +19,11 @@ use Rattle.flock_tool.specs.declared.status.Stop.{Stop}
 use Rattle.flock_tool.specs.declared.status.Stop.TheVariants as stops
 use Rattle.flock_tool.specs.declared.status.Stop.TheVariants.{Words, Nodes, WriteFault}
 
-abbrev pub is_insertion : Op → Bool
-is_insertion (Get key) = false
-is_insertion (Ins key value) = true
-is_insertion (Del key) = false
-
--- how many of the requests insert
-abbrev pub insertions_in : List Request → ℕ
-insertions_in requests = count_by (λ (request : Request). is_insertion request.op) requests
-
 -- the numbers that fix the table
 abbrev pub layout_by : RunOptions → ℕ → List Request → Layout
 layout_by options traces requests = record {
   runners = runners_by options.runners traces;
-  nodes = nodes_by options.nodes (insertions_in requests) (runners_by options.runners traces);
+  nodes = nodes_by options.nodes (inserts requests) (runners_by options.runners traces);
   sections = options.sections;
   version_max = options.version_max;
 }
@@ -71,10 +61,13 @@ IsRefusedPlan options left (stops.Text error) = IfSome left (IsRefusal error)
 IsRefusedPlan options left (Nodes count) = AsksTooMuch options left count
 IsRefusedPlan options left WriteFault = ⊥
 
--- a text in the grammar is planned, unless it asks for too many node slots, and every other is refused for its first refusal, if memory isn't wanting
+-- a text in the grammar is planned, unless it asks for too many node slots, and every other is refused for its first refusal,
+-- if memory isn't wanting
 pub record MustPlan (result : Result Plan Stop) (text : List ℕ) : Type 0 where
-  pub accepted : IsAccepted text → IsOk result ⊎ (result ≡ Err (stops.Text Memory)) ⊎ ((count : ℕ) × (result ≡ Err (Nodes count)))
-  pub refused : (error : TraceError) → IsFirstRefusal text error → (result ≡ Err (stops.Text error)) ⊎ (result ≡ Err (stops.Text Memory))
+  pub accepted : IsAccepted text
+      → IsOk result ⊎ (result ≡ Err (stops.Text Memory)) ⊎ ((count : ℕ) × (result ≡ Err (Nodes count)))
+  pub refused : (error : TraceError) → IsFirstRefusal text error
+      → (result ≡ Err (stops.Text error)) ⊎ (result ≡ Err (stops.Text Memory))
 
 -- how many requests are to be generated
 abbrev pub all_requests : Gen → ℕ

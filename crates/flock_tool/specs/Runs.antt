@@ -1,6 +1,5 @@
 -- What a run of the program leaves.
-use Rattle.std.specs.Prelude.{◌≡◌, ◌≢◌, ◌<◌, ◌⊎◌, ℕ, Bool, not, List, [], Option, IfSome, None, Some, true, codes, length, slice_get}
-use Rattle.fault_count.specs.Rose.{Rose}
+use Rattle.std.specs.Prelude.{◌≡◌, ◌≢◌, ◌<◌, ◌⊎◌, ℕ, Bool, not, List, [], Option, IfSome, None, Some, false, true, codes, length, slice_get}
 use Rattle.structure_laws.specs.Meaning.{Meaning}
 use Rattle.bucket_laws.specs.Buckets.{buckets_meaning}
 use Rattle.trace_reader.specs.Answer.{AreTracesOf}
@@ -18,9 +17,9 @@ use Rattle.flock_words.specs.declared.halts.Halt.{Halt}
 use Rattle.flock_words.specs.declared.options.RunOptions.{RunOptions}
 use Rattle.flock_words.specs.declared.options.TableKind.TheVariants as kinds
 use Rattle.flock_tool.specs.Complete.{Completes}
-use Rattle.flock_tool.specs.End.{Tells}
 use Rattle.flock_tool.specs.Finish.{any_halted, finish_by, finish_status, TellsFinish}
 use Rattle.flock_tool.specs.Plans.{layout_by}
+use Rattle.flock_tool.specs.Streams.{Fails, Gating, Stream, Told}
 use Rattle.trace_reader.specs.declared.traces.TraceError.TheVariants.{Memory}
 use Rattle.flock_tool.specs.declared.plan.Plan.{Plan}
 use Rattle.flock_tool.specs.declared.status.Stop.{Stop}
@@ -57,87 +56,92 @@ pub record AreHaltsOf (halts : List Halt) (runners : ℕ) (planned : List (Optio
   pub each : length planned ≡ runners
   pub asks : (runner : ℕ) → runner < runners → slice_get planned runner ≡ Some (ask_of halts runner)
 
+-- the gates of a run were given out for the runners and came back: a runner answered that it was halted exactly where its
+-- gate counted a halt, their plans were those that the words name, and where these name none for a runner that there is, none
+-- was counted
+pub record AreGiven (halts : List Halt) (runners : ℕ) (answers : List Served) (gates : Gating) : Type 0 where
+  pub halted : gates.halts_after ≡ halts_counted gates.halts_before answers
+  pub planned : gates.planned_before ≡ [] → AreHaltsOf halts runners gates.planned_after
+  pub unplanned : names_below halts runners ≡ false → gates.plans_after ≡ gates.plans_before
+
 -- the run was of these options, traces and requests
 pub record IsRunOf (options : RunOptions) (traces : ℕ) (ran : Ran) : Type 0 where
   pub table : IsTableOf options ran
   pub layout : (words_in ran).layout ≡ layout_by options traces (words_in ran).requests
   -- every runner has served its own traces, and has the cause of its answer
-  pub served : AreServed (meaning_of ran) (words_in ran) (not (names_below options.halts (words_in ran).layout.runners)) (answers_in ran)
+  pub served : AreServed (meaning_of ran) (words_in ran)
+      (not (names_below options.halts (words_in ran).layout.runners)) (answers_in ran)
 
 -- a run of this plan on a table of this structure left these words and answers; its gates were given out and came back
 module _ {T : Type 0} (meaning : T → Meaning) where
-  pub record HasRunOn (structure : T) (plan : Plan) (words : WordsState T) (answers : List Served) (counted counted' : ℕ) (plans plans' : List (Option ℕ))
+  pub record HasRunOn (structure : T) (plan : Plan) (words : WordsState T) (answers : List Served) (gates : Gating)
       : Type 0 where
     pub made : IsMadeWith structure plan.layout plan.traces.requests words
-    pub served : AreServed (meaning words.structure) words (not (names_below plan.options.halts plan.layout.runners)) answers
-    pub halts : counted' ≡ halts_counted counted answers
-    pub planned : plans ≡ [] → AreHaltsOf plan.options.halts plan.layout.runners plans'
+    pub served :
+        AreServed (meaning words.structure) words (not (names_below plan.options.halts plan.layout.runners)) answers
+    pub given : AreGiven plan.options.halts plan.layout.runners answers gates
 
 -- the run was of this plan; its gates were given out and came back
-pub record HasRunPlan (plan : Plan) (ran : Ran) (counted counted' : ℕ) (plans plans' : List (Option ℕ)) : Type 0 where
+pub record HasRunPlan (plan : Plan) (ran : Ran) (gates : Gating) : Type 0 where
   pub table : IsTableOf plan.options ran
   pub layout : (words_in ran).layout ≡ plan.layout
   pub requests : (words_in ran).requests ≡ plan.traces.requests
-  pub served : AreServed (meaning_of ran) (words_in ran) (not (names_below plan.options.halts plan.layout.runners)) (answers_in ran)
-  pub halts : counted' ≡ halts_counted counted (answers_in ran)
-  pub planned : plans ≡ [] → AreHaltsOf plan.options.halts plan.layout.runners plans'
+  pub served : AreServed (meaning_of ran) (words_in ran)
+      (not (names_below plan.options.halts plan.layout.runners)) (answers_in ran)
+  pub given : AreGiven plan.options.halts plan.layout.runners (answers_in ran) gates
 
 -- a run that these options and the text ask for; its gates were given out and came back
-pub record HasRun (options : RunOptions) (left : Option (List ℕ)) (traces : ℕ) (ran : Ran) (counted counted' : ℕ) (plans plans' : List (Option ℕ)) : Type 0 where
+pub record HasRun (options : RunOptions) (left : Option (List ℕ)) (traces : ℕ) (ran : Ran) (gates : Gating)
+    : Type 0 where
   pub text : IfSome left (AreTracesOf (record { count = traces; requests = (words_in ran).requests }))
   pub run : IsRunOf options traces ran
-  -- a runner answered that it was halted exactly where its gate counted a halt
-  pub halts : counted' ≡ halts_counted counted (answers_in ran)
-  pub planned : plans ≡ [] → AreHaltsOf options.halts (words_in ran).layout.runners plans'
+  pub given : AreGiven options.halts (words_in ran).layout.runners (answers_in ran) gates
 
 -- the statuses behind a run whose printing was begun
 abbrev pub IsRunStatus : ℕ → Type 0
 IsRunStatus n = (n ≡ 0) ⊎ (n ≡ 1) ⊎ (n ≡ 5) ⊎ (n ≡ 6) ⊎ (n ≡ 9)
 
 -- why the report on these words wasn't printed whole
-abbrev pub StopsReport : {T : Type 0} → Meaning → WordsState T → ℕ → Stop → (held held' : Option (List ℕ)) → (faults faults' : ℕ) → Type 0
-StopsReport m w traces Words held held' faults faults' = ⊥
-StopsReport m w traces (stops.Text error) held held' faults faults' = (error ≡ Memory) × (held' ≡ held) × (faults' ≡ faults)
-StopsReport m w traces (Nodes count) held held' faults faults' = ⊥
-StopsReport m w traces WriteFault held held' faults faults' = PrintsInPart m w traces held held' × Rose faults faults'
+abbrev pub StopsReport : {T : Type 0} → Meaning → WordsState T → ℕ → Stop → Stream → Type 0
+StopsReport m w traces Words sink = ⊥
+StopsReport m w traces (stops.Text error) sink =
+    (error ≡ Memory) × (sink.after ≡ sink.before) × (sink.faults_after ≡ sink.faults_before)
+StopsReport m w traces (Nodes count) sink = ⊥
+StopsReport m w traces WriteFault sink = PrintsInPart m w traces sink.before sink.after × Fails sink
 
--- its report was printed whole, and the status and the line are those of its answers; or, at 9, the sink failed and holds a part of the report
-pub record HasEnded (ran : Ran) (traces number : ℕ) (held held' : Option (List ℕ)) (faults faults' : ℕ) (told told' : Option (List ℕ)) (told_faults told_faults' : ℕ)
-    : Type 0 where
+-- its report was printed whole, and the status and the line are those of its answers; or, at 9, the sink failed and holds a
+-- part
+pub record HasEnded (ran : Ran) (traces number : ℕ) (sink faults : Stream) : Type 0 where
   pub unserved : ℕ
   pub report : List ℕ
   pub is_report : IsReport (meaning_of ran) (words_in ran) traces unserved report
-  pub whole : number ≢ 9 → Extends held report held'
-  pub in_part : number ≡ 9 → ExtendsInPart held report held' × Rose faults faults'
+  pub whole : number ≢ 9 → Extends sink.before report sink.after
+  pub in_part : number ≡ 9 → ExtendsInPart sink.before report sink.after × Fails sink
   pub status : number ≢ 9 → number ≡ finish_status (finish_by (answers_in ran) unserved)
   -- at 0 each request is answered
   pub all : number ≡ 0 → unserved ≡ 0
   -- with slots and versions enough it isn't 5, where a want of slots is waited out, and isn't 6
-  pub completes : (waits : Bool) → AreServed (meaning_of ran) (words_in ran) waits (answers_in ran) → Completes (meaning_of ran) (words_in ran) waits number
-  pub line : number ≢ 9 → TellsFinish (finish_by (answers_in ran) unserved) told told' told_faults told_faults'
-  pub failed : number ≡ 9 → Tells (codes "flock: write fault\n") told told' told_faults told_faults'
+  pub completes : (waits : Bool) → AreServed (meaning_of ran) (words_in ran) waits (answers_in ran)
+      → Completes (meaning_of ran) (words_in ran) waits number
+  pub line : number ≢ 9 → TellsFinish (finish_by (answers_in ran) unserved) faults
+  pub failed : number ≡ 9 → Told (codes "flock: write fault\n") faults
 
 -- the report of a run was begun, and the run comes back with its status
-pub record EndsRun (ran : Ran) (traces : ℕ) (result : ℕ × Option Ran) (held held' : Option (List ℕ)) (faults faults' : ℕ) (told told' : Option (List ℕ))
-    (told_faults told_faults' : ℕ) : Type 0 where
+pub record EndsRun (ran : Ran) (traces : ℕ) (result : ℕ × Option Ran) (sink faults : Stream) : Type 0 where
   pub status : IsRunStatus result.0
   pub back : result.1 ≡ Some ran
-  pub ended : HasEnded ran traces result.0 held held' faults faults' told told' told_faults told_faults'
-  pub steady : result.0 ≢ 9 → faults' ≡ faults
+  pub ended : HasEnded ran traces result.0 sink faults
+  pub steady : result.0 ≢ 9 → sink.faults_after ≡ sink.faults_before
   pub halted : result.0 ≡ 1 → any_halted (answers_in ran) ≡ true
 
 -- memory was wanting before it
-pub record LacksMemory (result : ℕ × Option Ran) (held held' : Option (List ℕ)) (faults faults' : ℕ) (told told' : Option (List ℕ)) (told_faults told_faults' : ℕ)
-    : Type 0 where
+pub record LacksMemory (result : ℕ × Option Ran) (sink faults : Stream) : Type 0 where
   pub status : result.0 ≡ 7
   pub none : result.1 ≡ None
-  pub silent : held' ≡ held
-  pub steady : faults' ≡ faults
-  pub memory : Tells (codes "flock: memory\n") told told' told_faults told_faults'
+  pub silent : sink.after ≡ sink.before
+  pub steady : sink.faults_after ≡ sink.faults_before
+  pub memory : Told (codes "flock: memory\n") faults
 
 -- what comes of the report of a run
-abbrev pub HasReported : Ran → ℕ → ℕ × Option Ran → (held held' : Option (List ℕ)) → (faults faults' : ℕ) → (told told' : Option (List ℕ))
-    → (told_faults told_faults' : ℕ) → Type 0
-HasReported ran traces result held held' faults faults' told told' told_faults told_faults' =
-    EndsRun ran traces result held held' faults faults' told told' told_faults told_faults'
-    ⊎ LacksMemory result held held' faults faults' told told' told_faults told_faults'
+abbrev pub HasReported : Ran → ℕ → ℕ × Option Ran → (sink faults : Stream) → Type 0
+HasReported ran traces result sink faults = EndsRun ran traces result sink faults ⊎ LacksMemory result sink faults

@@ -2,6 +2,7 @@
 ghost use Rattle.std.specs.Prelude.{◌≡◌, ◌+◌, ◌≤◌, length};
 ghost use Rattle.flock_tool.specs.declared.finish.Finish.TheVariants.{Halted, Versions};
 ghost use Rattle.flock_tool.specs.Finish.{versions_of, slots_of, first_from, is_halted, any_halted, finish_by, finish_status, finish_line, is_whole, kind_name, counts_line, TellsFinish};
+ghost use Rattle.flock_tool.specs.Streams.{stream};
 
 use arrayvec::ArrayString;
 use itoa::Buffer;
@@ -138,7 +139,7 @@ pub fn status_of_finish(finish: &Finish) -> u8
 
 /// Writes the line that says how the run ended, where there is one. A failure of the sink changes nothing but its count.
 pub fn tell_finish<F: Sink>(finish: &Finish, faults: &mut F)
-    ensures { TellsFinish finish.now (F.held faults.old) (F.held faults.new) (F.faults faults.old) (F.faults faults.new) }
+    ensures { TellsFinish finish.now (stream (F.held faults.old) (F.held faults.new) (F.faults faults.old) (F.faults faults.new)) }
 {
     if let Finish::Whole = finish {
         return;

@@ -1,6 +1,7 @@
 // The command `gen`.
 ghost use Rattle.flock_words.specs.Generated.{ArePlanRanges};
-ghost use Rattle.flock_tool.specs.Commands.{GenPrints, stream};
+ghost use Rattle.flock_tool.specs.Commands.{GenPrints};
+ghost use Rattle.flock_tool.specs.Streams.{stream};
 
 use crate::status::{status_of, stop_of_print, tell};
 use generated_text::print_generated;

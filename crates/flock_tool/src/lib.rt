@@ -15,8 +15,6 @@ mod report;
 mod run;
 mod standard;
 mod status;
-#[cfg(test)]
-mod tests;
 mod tool;
 
 pub use finish::Finish;

@@ -6,9 +6,10 @@ ghost use Rattle.threaded_runs.specs.closed_words.specs.Histories.{HoldsNoLock};
 ghost use Rattle.threaded_runs.specs.machine_invariant.specs.After.{AreAllowed};
 ghost use Rattle.threaded_runs.specs.Runs.{AreServed};
 ghost use Rattle.flock_words.specs.Generated.{AreLoadRanges};
-ghost use Rattle.flock_tool.specs.Commands.{LoadRuns, gating, stream};
+ghost use Rattle.flock_tool.specs.Commands.{LoadRuns};
 ghost use Rattle.flock_tool.specs.Loads.{EndsLoad, HasLoaded, IsCounted};
 ghost use Rattle.flock_tool.specs.Runs.{words_in, answers_in, meaning_of};
+ghost use Rattle.flock_tool.specs.Streams.{gating, stream};
 
 use crate::finish::{is_whole, status_of_finish, tell_finish};
 use crate::plan::load_plan;
@@ -51,7 +52,8 @@ pub fn load_command<T: Threads + Wait + Sync, K: Sink, F: Sink, G: Gates>(
     ensures { LoadRuns load result
         (stream (K.held sink.old) (K.held sink.new) (K.faults sink.old) (K.faults sink.new))
         (stream (F.held faults.old) (F.held faults.new) (F.faults faults.old) (F.faults faults.new))
-        (gating (G.halts gates.old) (G.halts gates.new) (G.planned gates.old) (G.planned gates.new)) }
+        (gating (G.halts gates.old) (G.halts gates.new) (G.plans gates.old) (G.plans gates.new)
+        (G.planned gates.old) (G.planned gates.new)) }
 {
     let plan = match load_plan(alloc, load) {
         Ok(plan) => plan,
@@ -110,7 +112,9 @@ fn report_load<K: Sink, F: Sink>(
     requires requests { (words_in ran).requests ≡ requests.now }
     requires ordered { AreInOrder requests.now traces }
     requires served { (retry_short : Bool) × AreServed (meaning_of ran) (words_in ran) retry_short (answers_in ran) }
-    ensures { HasLoaded ran result (K.held sink.old) (K.held sink.new) (K.faults sink.old) (K.faults sink.new) (F.held faults.old) (F.held faults.new) (F.faults faults.old) (F.faults faults.new) }
+    ensures { HasLoaded ran result
+        (stream (K.held sink.old) (K.held sink.new) (K.faults sink.old) (K.faults sink.new))
+        (stream (F.held faults.old) (F.held faults.new) (F.faults faults.old) (F.faults faults.new)) }
 {
     let _ = traces;
     run_is_allowed(&ran);
@@ -134,7 +138,9 @@ fn print_load<K: Sink, F: Sink>(
     requires limits { IsWithinLimits (words_in ran).layout }
     requires allowed { AreAllowed (words_in ran).requests }
     requires served { (retry_short : Bool) × AreServed (meaning_of ran) (words_in ran) retry_short (answers_in ran) }
-    ensures { EndsLoad ran result (K.held sink.old) (K.held sink.new) (K.faults sink.old) (K.faults sink.new) (F.held faults.old) (F.held faults.new) (F.faults faults.old) (F.faults faults.new) }
+    ensures { EndsLoad ran result
+        (stream (K.held sink.old) (K.held sink.new) (K.faults sink.old) (K.faults sink.new))
+        (stream (F.held faults.old) (F.held faults.new) (F.faults faults.old) (F.faults faults.new)) }
 {
     let finish = finish_of_run(&ran, counted.tally.unserved);
     if !is_whole(&finish) {

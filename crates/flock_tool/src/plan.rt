@@ -2,6 +2,7 @@
 ghost use Rattle.std.specs.Prelude.{◌≡◌, ◌≤◌, ◌<◌, ◌^◌, length, Err, IfOk, IfErr, IfSome};
 ghost use Rattle.fault_count.specs.Rose.{Rose};
 ghost use Rattle.table_words.specs.Limits.{IsWithinLimits};
+ghost use Rattle.threaded_runs.specs.make_counts.specs.Makes.{inserts, is_insert};
 ghost use Rattle.trace_reader.specs.Answer.{StopsBefore};
 ghost use Rattle.trace_reader.specs.declared.traces.TraceError.TheVariants.{ReadFault, TooManyRequests};
 ghost use Rattle.flock_words.specs.Generated.{AreLoadRanges};
@@ -15,8 +16,6 @@ ghost use Rattle.flock_tool.specs.Plans.{
   MustPlan,
   IsTooMuch,
   all_requests,
-  insertions_in,
-  is_insertion,
   layout_by,
 };
 
@@ -112,7 +111,7 @@ fn has_32_bits(number: u32)
 // How many of the requests insert.
 fn insertions(requests: &[Request]) -> u32
     requires { length requests.now ≤ 131072 }
-    ensures { result ≡ insertions_in requests.now }
+    ensures { result ≡ inserts requests.now }
 {
     requests
         .iter()
@@ -121,7 +120,7 @@ fn insertions(requests: &[Request]) -> u32
 }
 
 fn is_insertion(op: Op) -> bool
-    ensures { result ≡ is_insertion op }
+    ensures { result ≡ is_insert op }
 {
     match op {
         Op::Ins(_, _) => true,

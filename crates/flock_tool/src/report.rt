@@ -3,10 +3,11 @@ ghost use Rattle.std.specs.Prelude.{◌≡◌, ◌≢◌, ◌≤◌, Bool, None,
 ghost use Rattle.map_history.specs.Requests.{AreInOrder};
 ghost use Rattle.threaded_runs.specs.Runs.{AreServed};
 ghost use Rattle.flock_words.specs.Options.{AreInRange};
-ghost use Rattle.flock_tool.specs.Commands.{RunEnds, gating, stream};
+ghost use Rattle.flock_tool.specs.Commands.{RunEnds};
 ghost use Rattle.flock_tool.specs.End.{Tells, stop_line, stop_status};
 ghost use Rattle.flock_tool.specs.Finish.{finish_by, finish_status, TellsFinish};
 ghost use Rattle.flock_tool.specs.Runs.{words_in, answers_in, meaning_of, HasReported, IsRunStatus};
+ghost use Rattle.flock_tool.specs.Streams.{gating, stream};
 
 use crate::finish::{Finish, finish_of, status_of_finish, tell_finish};
 use crate::plan::{Plan, plan_of};
@@ -36,7 +37,8 @@ pub fn run_command<T: Threads + Wait + Sync, R: Source, K: Sink, F: Sink, G: Gat
         (stream (R.left source.old) (R.left source.new) (R.faults source.old) (R.faults source.new))
         (stream (K.held sink.old) (K.held sink.new) (K.faults sink.old) (K.faults sink.new))
         (stream (F.held faults.old) (F.held faults.new) (F.faults faults.old) (F.faults faults.new))
-        (gating (G.halts gates.old) (G.halts gates.new) (G.planned gates.old) (G.planned gates.new)) }
+        (gating (G.halts gates.old) (G.halts gates.new) (G.plans gates.old) (G.plans gates.new)
+        (G.planned gates.old) (G.planned gates.new)) }
     ensures reads { result.0 ≢ 8 → R.faults source.new ≡ R.faults source.old }
     ensures writes { result.0 ≢ 9 → K.faults sink.new ≡ K.faults sink.old }
     ensures silent { (IsRunStatus result.0 → ⊥) → K.held sink.new ≡ K.held sink.old }
@@ -75,8 +77,8 @@ pub fn finish_of_run(ran: &Ran, unserved: u32) -> Finish
 fn tell_run<F: Sink>(ran: &Ran, unserved: u32, faults: &mut F) -> u8
     requires { length (answers_in ran.now) ≤ 16 }
     ensures status { result ≡ finish_status (finish_by (answers_in ran.now) unserved) }
-    ensures told { TellsFinish (finish_by (answers_in ran.now) unserved) (F.held faults.old) (F.held faults.new)
-        (F.faults faults.old) (F.faults faults.new) }
+    ensures told { TellsFinish (finish_by (answers_in ran.now) unserved)
+        (stream (F.held faults.old) (F.held faults.new) (F.faults faults.old) (F.faults faults.new)) }
 {
     let finish = finish_of_run(ran, unserved);
     tell_finish(&finish, faults);
@@ -94,7 +96,9 @@ fn report<K: Sink, F: Sink>(
     requires requests { (words_in ran).requests ≡ plan.now.traces.requests }
     requires ordered { AreInOrder plan.now.traces.requests plan.now.traces.count }
     requires served { (retry_short : Bool) × AreServed (meaning_of ran) (words_in ran) retry_short (answers_in ran) }
-    ensures reported { HasReported ran plan.now.traces.count result (K.held sink.old) (K.held sink.new) (K.faults sink.old) (K.faults sink.new) (F.held faults.old) (F.held faults.new) (F.faults faults.old) (F.faults faults.new) }
+    ensures reported { HasReported ran plan.now.traces.count result
+        (stream (K.held sink.old) (K.held sink.new) (K.faults sink.old) (K.faults sink.new))
+        (stream (F.held faults.old) (F.held faults.new) (F.faults faults.old) (F.faults faults.new)) }
 {
     run_is_allowed(&ran);
     let printed = print_run(alloc, plan, &ran, sink);

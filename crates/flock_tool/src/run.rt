@@ -10,6 +10,7 @@ ghost use Rattle.threaded_runs.specs.closed_words.specs.Histories.{HoldsNoLock};
 ghost use Rattle.flock_words.specs.Options.{AreInRange};
 ghost use Rattle.run_reports.specs.Reports.{HaveContents, Prints};
 ghost use Rattle.flock_tool.specs.Runs.{words_in, answers_in, meaning_of, HasRunOn, HasRunPlan, StopsReport};
+ghost use Rattle.flock_tool.specs.Streams.{gating, stream};
 
 use crate::plan::Plan;
 use crate::ran::Ran;
@@ -39,7 +40,9 @@ pub fn run_plan<T: Threads + Wait + Sync, G: Gates>(
     requires ranges { AreInRange plan.now.options }
     requires limits { IsWithinLimits plan.now.layout }
     requires ordered { AreInOrder plan.now.traces.requests plan.now.traces.count }
-    ensures { IfOk result (λ ran. HasRunPlan plan.now ran (G.halts gates.old) (G.halts gates.new) (G.planned gates.old) (G.planned gates.new)) }
+    ensures { IfOk result (λ ran. HasRunPlan plan.now ran
+        (gating (G.halts gates.old) (G.halts gates.new) (G.plans gates.old) (G.plans gates.new)
+        (G.planned gates.old) (G.planned gates.new))) }
 {
     match plan.options.table {
         TableKind::Hash => {
@@ -68,17 +71,21 @@ where
     requires limits { IsWithinLimits plan.now.layout }
     requires ordered { AreInOrder plan.now.traces.requests plan.now.traces.count }
     requires served { (op : Op) → (S.planning structure).serves op ≡ true }
-    ensures { IfOk result (λ ran. HasRunOn S.meaning structure plan.now ran.0 ran.1.items (G.halts gates.old) (G.halts gates.new) (G.planned gates.old) (G.planned gates.new)) }
+    ensures { IfOk result (λ ran. HasRunOn S.meaning structure plan.now ran.0 ran.1.items
+        (gating (G.halts gates.old) (G.halts gates.new) (G.plans gates.old) (G.plans gates.new)
+        (G.planned gates.old) (G.planned gates.new))) }
 {
     let runners = plan.layout.runners;
     let halts = plan.options.halts.asks(alloc, runners)?;
+    let requests = plan.traces.requests.as_slice();
+    let asks = halts.as_slice();
     run_table(
         rt,
         alloc,
         structure,
         plan.layout,
-        plan.traces.requests.as_slice(),
-        halts.as_slice(),
+        requests,
+        asks,
         !plan.options.halts.name_below(runners),
         gates,
     )
@@ -129,8 +136,8 @@ fn print_on<S: Planner, K: Sink>(
     ensures prints { IfOk result (λ unserved.
         Prints (S.meaning words.now.structure) words.now plan.now.traces.count unserved (K.held sink.old) (K.held sink.new)) }
     ensures stops { IfErr result (λ stop.
-        StopsReport (S.meaning words.now.structure) words.now plan.now.traces.count stop (K.held sink.old) (K.held sink.new)
-        (K.faults sink.old) (K.faults sink.new)) }
+        StopsReport (S.meaning words.now.structure) words.now plan.now.traces.count stop
+        (stream (K.held sink.old) (K.held sink.new) (K.faults sink.old) (K.faults sink.new))) }
     ensures steady { OnOk result (K.faults sink.new ≡ K.faults sink.old) }
 {
     let size = size_of(alloc, words)?;
@@ -153,8 +160,8 @@ pub fn print_run<K: Sink>(alloc: Global, plan: &Plan, ran: &Ran, sink: &mut K) -
     ensures prints { IfOk result (λ unserved.
         Prints (meaning_of ran.now) (words_in ran.now) plan.now.traces.count unserved (K.held sink.old) (K.held sink.new)) }
     ensures stops { IfErr result (λ stop.
-        StopsReport (meaning_of ran.now) (words_in ran.now) plan.now.traces.count stop (K.held sink.old) (K.held sink.new)
-        (K.faults sink.old) (K.faults sink.new)) }
+        StopsReport (meaning_of ran.now) (words_in ran.now) plan.now.traces.count stop
+        (stream (K.held sink.old) (K.held sink.new) (K.faults sink.old) (K.faults sink.new))) }
     ensures steady { OnOk result (K.faults sink.new ≡ K.faults sink.old) }
 {
     match ran {

@@ -1,6 +1,6 @@
 use Rattle.std.proofs.Common.{refl, ap, ◌∙◌, subst}
-use Rattle.flock_tool.specs.Commands.{Told, stream}
 use Rattle.flock_tool.specs.End.{stop_line, stop_status}
+use Rattle.flock_tool.specs.Streams.{Told, stream}
 use Rattle.flock_tool.specs.declared.status.Stop.{Stop}
 use Rattle.flock_tool.proofs.Ends.{error_is, not_both}
 use Rattle.flock_tool.proofs.GenPrinting.{gen_done, gen_stopped, in_range}

@@ -1,18 +1,20 @@
-use Rattle.std.proofs.Common.{sym, ◌∙◌}
+use Rattle.std.proofs.Common.{refl, sym, ◌∙◌}
 use Rattle.flock_tool.proofs.Counting.{loaded_other, loaded_part, loaded_whole}
 use Rattle.flock_tool.proofs.load.print_load.Goals as goal
 
 pub returns-then-not-is_whole : goal.returns-then-not-is_whole
 returns-then-not-is_whole g c =
     loaded_other c.args.ran c.args.requests c.args.counted.now c.finish_of_run-finish.result c.finish_of_run-finish.ensures c.requires.counted c.requires.count
-    c.requires.limits c.requires.allowed c.requires.served c.status_of_finish.result _ _ _ _ _ _ (sym c.is_whole.ensures ∙ c.if-not-is_whole.true) c.status_of_finish.ensures c.tell_finish.ensures
+    c.requires.limits c.requires.allowed c.requires.served c.status_of_finish.result _ _ (sym c.is_whole.ensures ∙ c.if-not-is_whole.true) c.status_of_finish.ensures (record { same = refl; steady = refl })
+    c.tell_finish.ensures
 
 pub returns-in-Ok : goal.returns-in-Ok
 returns-in-Ok g c =
     loaded_whole c.args.ran c.args.requests c.args.counted.now c.finish_of_run-finish.result c.finish_of_run-finish.ensures c.requires.counted c.requires.count
-    c.requires.limits c.requires.allowed c.requires.served _ _ _ _ _ _ (sym c.is_whole.ensures ∙ c.if-not-is_whole.false) c.in-Ok.ensures.printed c.in-Ok.ensures.steady
+    c.requires.limits c.requires.allowed c.requires.served _ _ (sym c.is_whole.ensures ∙ c.if-not-is_whole.false) c.in-Ok.ensures.printed c.in-Ok.ensures.steady
+    (record { same = refl; steady = refl })
 
 pub returns-in-Err : goal.returns-in-Err
 returns-in-Err g c =
     loaded_part c.args.ran c.args.requests c.args.counted.now c.finish_of_run-finish.result c.finish_of_run-finish.ensures c.requires.counted c.requires.count
-    c.requires.limits c.requires.allowed c.requires.served c.status_of.result _ _ _ _ _ _ _ _ c.status_of.ensures (sym c.is_whole.ensures ∙ c.if-not-is_whole.false) c.in-Err.ensures.in_part c.in-Err.ensures.cause c.tell.ensures
+    c.requires.limits c.requires.allowed c.requires.served c.status_of.result _ _ c.status_of.ensures (sym c.is_whole.ensures ∙ c.if-not-is_whole.false) c.in-Err.ensures.in_part c.in-Err.ensures.cause c.tell.ensures

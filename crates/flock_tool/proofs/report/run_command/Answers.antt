@@ -1,4 +1,3 @@
-use Rattle.flock_tool.specs.Commands.{gating, stream}
 use Rattle.flock_tool.proofs.Ends.{read_fault}
 use Rattle.flock_tool.proofs.Running.{run_lacks, run_refused, run_reported}
 use Rattle.flock_tool.proofs.report.run_command.Goals as goal

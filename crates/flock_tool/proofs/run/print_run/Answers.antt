@@ -2,6 +2,7 @@ use Rattle.std.proofs.Common.{IfErr, IfOk, subst, sym}
 use Rattle.threaded_runs.specs.closed_words.specs.Histories.{HoldsNoLock}
 use Rattle.run_reports.specs.Reports.{Prints}
 use Rattle.flock_tool.specs.Runs.{words_in, meaning_of, StopsReport}
+use Rattle.flock_tool.specs.Streams.{stream}
 use Rattle.flock_tool.specs.declared.ran.Ran.{Ran}
 use Rattle.flock_tool.proofs.run.print_run.Goals as goal
 
@@ -16,7 +17,7 @@ returns-in-Hash-clause-prints g c =
 pub returns-in-Hash-clause-stops : goal.returns-in-Hash-clause-stops
 returns-in-Hash-clause-stops g c =
     subst (λ (r : Ran). IfErr c.print_on.result (λ stop. StopsReport (meaning_of r) (words_in r) c.args.plan.now.traces.count stop
-    (g.K.Sink.held c.args.sink.now) (g.K.Sink.held c.print_on.new.sink) (g.K.Sink.faults c.args.sink.now) (g.K.Sink.faults c.print_on.new.sink))) (sym c.in-Hash.is) c.print_on.ensures.stops
+    (stream (g.K.Sink.held c.args.sink.now) (g.K.Sink.held c.print_on.new.sink) (g.K.Sink.faults c.args.sink.now) (g.K.Sink.faults c.print_on.new.sink)))) (sym c.in-Hash.is) c.print_on.ensures.stops
 
 pub print_on-requires-in-Tree-clause-free : goal.print_on-requires-in-Tree-clause-free
 print_on-requires-in-Tree-clause-free g c κs within = subst (λ (r : Ran). HoldsNoLock (meaning_of r) (words_in r)) c.in-Tree.is c.requires.free
@@ -29,4 +30,4 @@ returns-in-Tree-clause-prints g c =
 pub returns-in-Tree-clause-stops : goal.returns-in-Tree-clause-stops
 returns-in-Tree-clause-stops g c =
     subst (λ (r : Ran). IfErr c.print_on-in-Tree.result (λ stop. StopsReport (meaning_of r) (words_in r) c.args.plan.now.traces.count stop
-    (g.K.Sink.held c.args.sink.now) (g.K.Sink.held c.print_on-in-Tree.new.sink) (g.K.Sink.faults c.args.sink.now) (g.K.Sink.faults c.print_on-in-Tree.new.sink))) (sym c.in-Tree.is) c.print_on-in-Tree.ensures.stops
+    (stream (g.K.Sink.held c.args.sink.now) (g.K.Sink.held c.print_on-in-Tree.new.sink) (g.K.Sink.faults c.args.sink.now) (g.K.Sink.faults c.print_on-in-Tree.new.sink)))) (sym c.in-Tree.is) c.print_on-in-Tree.ensures.stops

@@ -1,17 +1,21 @@
 use Rattle.std.proofs.Common.{refl, sym, ◌∙◌, inl, inr, ⊎_elim, subst, arith}
 use Rattle.flock_words.specs.Commands.{IsCommand, texts}
 use Rattle.flock_words.specs.declared.command.Command.TheVariants as commands
-use Rattle.flock_tool.specs.Commands.{Told, stream}
 use Rattle.flock_tool.specs.End.{stop_line}
+use Rattle.flock_tool.specs.Streams.{Told, stream}
 use Rattle.flock_tool.specs.declared.status.Stop.{Stop}
 use Rattle.flock_tool.proofs.Commanding.{gen_few, load_few, none_accepted, none_status, of_none, of_one}
+use Rattle.flock_tool.proofs.Completing.{whole}
 use Rattle.flock_tool.proofs.Ends.{stop_at_2}
 use Rattle.flock_tool.proofs.tool.flock.Goals as goal
 
 pub returns-in-Err-clause-commands : goal.returns-in-Err-clause-commands
 returns-in-Err-clause-commands g c =
     of_none c.refuse.result _ _ _ _ (texts c.args.words.now) c.in-Err.stop c.in-Err.ensures.refused c.refuse.ensures.status c.refuse.ensures.none c.refuse.ensures.told
-    (record { same = refl; steady = refl }) (record { same = refl; steady = refl }) refl
+    (record { same = refl; steady = refl }) (record { same = refl; steady = refl }) (record { halts = refl; plans = refl; planned = refl })
+
+pub returns-in-Err-clause-complete : goal.returns-in-Err-clause-complete
+returns-in-Err-clause-complete g c = λ command is. whole c.refuse.result _ _ _ _ command (returns-in-Err-clause-commands g c command is)
 
 pub returns-in-Err-clause-accepted : goal.returns-in-Err-clause-accepted
 returns-in-Err-clause-accepted g c = λ accepted two. none_accepted (texts c.args.words.now) c.in-Err.stop c.in-Err.ensures.refused accepted (sym c.refuse.ensures.status ∙ two)
@@ -35,6 +39,9 @@ returns-in-Run-clause-commands g c =
     of_one c.run_command.result _ _ _ _ (texts c.args.words.now) (commands.Run c.in-Run.options) (c.words_mean_one_command.ensures (texts c.args.words.now))
     (subst (IsCommand (texts c.args.words.now)) c.in-Run.is c.in-Ok.ensures.read) c.run_command.ensures.ends
 
+pub returns-in-Run-clause-complete : goal.returns-in-Run-clause-complete
+returns-in-Run-clause-complete g c = λ command is. whole c.run_command.result _ _ _ _ command (returns-in-Run-clause-commands g c command is)
+
 pub returns-in-Run-clause-words : goal.returns-in-Run-clause-words
 returns-in-Run-clause-words g c = λ not. absurd (not (c.in-Ok.command, c.in-Ok.ensures.read))
 
@@ -45,7 +52,10 @@ pub returns-in-Gen-clause-commands : goal.returns-in-Gen-clause-commands
 returns-in-Gen-clause-commands g c =
     of_one _ _ _ _ _ (texts c.args.words.now) (commands.Gen c.in-Gen.plan) (c.words_mean_one_command.ensures (texts c.args.words.now))
     (subst (IsCommand (texts c.args.words.now)) c.in-Gen.is c.in-Ok.ensures.read)
-    (record { none = refl; unread = record { same = refl; steady = refl }; idle = refl; prints = c.gen_command.ensures })
+    (record { none = refl; unread = record { same = refl; steady = refl }; idle = record { halts = refl; plans = refl; planned = refl }; prints = c.gen_command.ensures })
+
+pub returns-in-Gen-clause-complete : goal.returns-in-Gen-clause-complete
+returns-in-Gen-clause-complete g c = λ command is. whole _ _ _ _ _ command (returns-in-Gen-clause-commands g c command is)
 
 pub returns-in-Gen-clause-accepted : goal.returns-in-Gen-clause-accepted
 returns-in-Gen-clause-accepted g c = λ accepted. (gen_few c.in-Gen.plan c.gen_command.result _ _ c.gen_command.ensures).0
@@ -70,6 +80,9 @@ returns-in-Load-clause-commands g c =
     of_one c.load_command.result _ _ _ _ (texts c.args.words.now) (commands.Load c.in-Load.load) (c.words_mean_one_command.ensures (texts c.args.words.now))
     (subst (IsCommand (texts c.args.words.now)) c.in-Load.is c.in-Ok.ensures.read)
     (record { unread = record { same = refl; steady = refl }; runs = c.load_command.ensures })
+
+pub returns-in-Load-clause-complete : goal.returns-in-Load-clause-complete
+returns-in-Load-clause-complete g c = λ command is. whole c.load_command.result _ _ _ _ command (returns-in-Load-clause-commands g c command is)
 
 pub returns-in-Load-clause-accepted : goal.returns-in-Load-clause-accepted
 returns-in-Load-clause-accepted g c = λ accepted. (load_few c.in-Load.load c.load_command.result _ _ _ c.load_command.ensures).0

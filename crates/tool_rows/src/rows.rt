@@ -2,7 +2,7 @@
 // `^` for a carriage return and `~` for a byte above 127; a row is a text, and behind `=>` what has to come out.
 ghost use Rattle.std.specs.Prelude.{None};
 
-use crate::{StdSink, StdSource, flock};
+use flock_tool::{StdSink, StdSource, flock};
 use itoa::Buffer;
 use report_text::{Failed, MemorySink, Sink};
 use runner_gate::{Gates, Pause, PlannedGates, ScriptedGates};

@@ -1,0 +1,125 @@
+//! Rows whose whole text one runner determines. In the tables `/` stands for a line feed.
+
+use crate::legal::is_legal;
+use crate::program::{Ended, TABLES, bytes_of, run};
+use itoa::Buffer;
+use std::alloc::{AllocError, Global};
+use std::process::Abort;
+use std::sync::Wait;
+use std::test::Fail;
+use std::thread::Threads;
+
+// Each row: the status and the words, the text, the report, and what is told. They are the same on both tables.
+const ON_BOTH_TABLES: &str = "\
+0 run|flock 1/trace/ins 5 70/get 5/del 5/get 5/|trace 0/0 new/1 val 70/2 gone/3 none/final 0/|
+0 run --sections 1|flock 1/trace/ins 5 70/get 5/del 5/get 5/|trace 0/0 new/1 val 70/2 gone/3 none/final 0/|
+0 run|flock 1/trace/ins 5 70/ins 5 80/get 5/|trace 0/0 new/1 dup/2 val 70/final 1/|
+0 run --runners 1|flock 1/trace/ins 1 10/trace/get 1/|trace 0/0 new/trace 1/1 val 10/final 1/|
+0 run --buckets 1|flock 1/trace/ins 1 1/ins 2 2/ins 3 3/del 2/get 1/get 3/|trace 0/0 new/1 new/2 new/3 gone/4 val 1/5 val 3/final 2/|
+0 run|flock 1/trace/ins 2 2/ins 1 1/ins 3 3/del 1/get 2/get 3/|trace 0/0 new/1 new/2 new/3 gone/4 val 2/5 val 3/final 2/|
+1 run --runners 2 --halt 1:1|flock 1/trace/ins 1 1/get 1/trace/get 1/|trace 0/0 new/1 val 1/trace 1/- unserved/final 1/|flock: halted, 1 unserved/
+4 run --runners 2 --nodes 131073|flock 1/trace/ins 1 10/trace/get 1/||flock: limit: nodes 262146/
+5 run --nodes 0|flock 1/trace/get 1/|trace 0/- unserved/final 0/|flock: slots: runner 0 node free 0 limbo 0 worn 0/
+6 run --buckets 1 --version-max 5|flock 1/trace/get 1/get 1/get 1/|trace 0/0 none/1 none/- unserved/final 0/|flock: versions: place 0 value 0 version 5/
+";
+
+// On the tree each pair takes two node slots, on the hash table one.
+const ON_ONE_TABLE: &str = "\
+5 run --table tree --nodes 4|flock 1/trace/ins 1 1/ins 2 2/ins 3 3/|trace 0/0 new/1 new/- unserved/final 2/|flock: slots: runner 0 node free 0 limbo 0 worn 0/
+0 run --table hash --nodes 4|flock 1/trace/ins 1 1/ins 2 2/ins 3 3/|trace 0/0 new/1 new/2 new/final 3/|
+";
+
+// What stands before the first bar of a row, and what behind it.
+fn cut(row: &str) -> (&str, &str) {
+    row.split_once('|').unwrap_or((row, ""))
+}
+
+// Whether a row comes out as it says, with these words behind its own.
+fn comes_out<T: Threads + Wait + Sync>(
+    rt: &T,
+    alloc: Global,
+    row: &str,
+    more: &str,
+) -> Result<bool, AllocError> {
+    let (command, row) = cut(row);
+    let (text, row) = cut(row);
+    let (report, told) = cut(row);
+    let (status, words) = command.split_once(' ').unwrap_or((command, ""));
+    let line = format!(in alloc; "{words} {more}")?;
+    let ended = run(rt, alloc, &line, bytes_of(alloc, text)?)?;
+    let (report, told) = (bytes_of(alloc, report)?, bytes_of(alloc, told)?);
+    Ok(
+        Buffer::new().format(ended.status) == status
+            && ended.sink.bytes() == report.as_slice()
+            && ended.faults.bytes() == told.as_slice(),
+    )
+}
+
+#[test]
+fn rows_come_out_on_both_tables(rt: HostRuntime) -> Result<(), Fail> {
+    for row in ON_BOTH_TABLES.lines() {
+        assert!(rt; comes_out(&rt, rt.alloc(), row, "--table hash")?, "{row}");
+        assert!(rt; comes_out(&rt, rt.alloc(), row, "--table tree")?, "{row}");
+    }
+    for row in ON_ONE_TABLE.lines() {
+        assert!(rt; comes_out(&rt, rt.alloc(), row, "")?, "{row}");
+    }
+    Ok(())
+}
+
+// One trace that puts a key in and takes it out, so many times: always the key 1, or a higher one each time.
+fn in_and_out(alloc: Global, times: u32, rises: bool) -> Result<Vec<u8>, AllocError> {
+    let mut text = b"flock 1\ntrace\n".to_vec(alloc)?;
+    for time in 1..=times {
+        let key = if rises { time } else { 1 };
+        let lines = format!(in alloc; "ins {key} {key}\ndel {key}\n")?;
+        text.extend_from_slice(lines.as_bytes())?;
+    }
+    Ok(text)
+}
+
+// So few node slots suffice for two hundred changes of one pair, since they are used again.
+#[test]
+fn node_slots_are_used_again(rt: HostRuntime) -> Result<(), Fail> {
+    let alloc = rt.alloc();
+    let mut report = b"trace 0\n".to_vec(alloc)?;
+    for time in 0..100u32 {
+        let lines = format!(in alloc; "{} new\n{} gone\n", 2 * time, 2 * time + 1)?;
+        report.extend_from_slice(lines.as_bytes())?;
+    }
+    report.extend_from_slice(b"final 0\n")?;
+    for table in TABLES {
+        let line = format!(in alloc; "run --nodes 18 --table {table}")?;
+        let ended = run(&rt, alloc, &line, in_and_out(alloc, 100, false)?)?;
+        assert!(rt; ended.is(0, &report, b""), "{table}");
+    }
+    Ok(())
+}
+
+// The first node slot whose cells come to the last version is worn once it comes back; the next deletion then finds one free slot
+// beside the one in use.
+#[test]
+fn a_worn_slot_ends_the_run(rt: HostRuntime) -> Result<(), Fail> {
+    let alloc = rt.alloc();
+    let text = in_and_out(alloc, 20, true)?;
+    let line = "run --buckets 4096 --nodes 3 --version-max 5";
+    let ended = run(&rt, alloc, line, text.clone()?)?;
+    assert!(rt; ended.status == 6);
+    assert!(rt;
+        ended.faults.bytes() == b"flock: versions: runner 0 node free 1 limbo 0 worn 1\n".as_slice()
+    );
+    assert!(rt; is_legal(alloc, &text, ended.report())?);
+    Ok(())
+}
+
+#[test]
+fn one_trace_too_many_is_refused(rt: HostRuntime) -> Result<(), Fail> {
+    let alloc = rt.alloc();
+    let mut text = b"flock 1\n".to_vec(alloc)?;
+    for _ in 0..65 {
+        text.extend_from_slice(b"trace\n")?;
+    }
+    let ended = run(&rt, alloc, "run", text)?;
+    assert!(rt; ended.is(4, b"", b"flock: limit: traces 65\n"));
+    Ok(())
+}

@@ -1,0 +1,113 @@
+//! Rows in which a runner is stopped at an ask of its gate, each ask in turn. Behind such a stop the keeper settles the table: it runs the
+//! section to its end that stands in a lock word, so the report has the reply of each request that was published before the stop.
+
+use crate::legal::is_legal;
+use crate::program::{Ended, TABLES, bytes_of, run};
+use std::alloc::{AllocError, Global};
+use std::process::Abort;
+use std::sync::Wait;
+use std::test::Fail;
+use std::thread::Threads;
+
+// The stops of the one runner. Each row: the table, the first and the last ask at which the runner stops, the text, and the report. A
+// request is answered from the ask on that comes behind the exchange by which its section is published.
+const STOPS: &str = "\
+hash 1 4|flock 1/trace/get 1/|trace 0/- unserved/final 0/
+hash 5 28|flock 1/trace/get 1/|trace 0/0 none/final 0/
+tree 1 6|flock 1/trace/get 1/|trace 0/- unserved/final 0/
+tree 7 32|flock 1/trace/get 1/|trace 0/0 none/final 0/
+hash 1 4|flock 1/trace/ins 5 70/|trace 0/- unserved/final 0/
+hash 5 43|flock 1/trace/ins 5 70/|trace 0/0 new/final 1/
+tree 1 6|flock 1/trace/ins 5 70/|trace 0/- unserved/final 0/
+tree 7 55|flock 1/trace/ins 5 70/|trace 0/0 new/final 1/
+hash 1 4|flock 1/trace/ins 5 70/del 5/|trace 0/- unserved/- unserved/final 0/
+hash 5 49|flock 1/trace/ins 5 70/del 5/|trace 0/0 new/- unserved/final 1/
+hash 50 79|flock 1/trace/ins 5 70/del 5/|trace 0/0 new/1 gone/final 0/
+tree 1 6|flock 1/trace/ins 5 70/del 5/|trace 0/- unserved/- unserved/final 0/
+tree 7 64|flock 1/trace/ins 5 70/del 5/|trace 0/0 new/- unserved/final 1/
+tree 65 108|flock 1/trace/ins 5 70/del 5/|trace 0/0 new/1 gone/final 0/
+";
+
+// Runs a text with a stop of runner 0 at this ask.
+fn run_stopped<T: Threads + Wait + Sync>(
+    rt: &T,
+    alloc: Global,
+    table: &str,
+    runners: u32,
+    ask: u64,
+    text: &[u8],
+) -> Result<Ended, AllocError> {
+    let line = format!(in alloc; "run --table {table} --runners {runners} --halt 0:{ask}")?;
+    run(rt, alloc, &line, text.to_vec(alloc)?)
+}
+
+// Whether the status and the line are those of a run in which so many requests are unserved.
+fn tells_unserved(alloc: Global, ended: &Ended) -> Result<bool, AllocError> {
+    let unserved = ended.report().matches("- unserved\n").count();
+    if unserved == 0 {
+        return Ok(ended.status == 0 && ended.faults.bytes().is_empty());
+    }
+    let told = format!(in alloc; "flock: halted, {unserved} unserved\n")?;
+    Ok(ended.status == 1 && ended.faults.bytes() == told.as_bytes())
+}
+
+// What stands before the first of these in a row, and what behind it.
+fn cut(row: &str, mark: char) -> (&str, &str) {
+    row.split_once(mark).unwrap_or((row, ""))
+}
+
+#[test]
+fn one_runner_stops_at_each_ask(rt: HostRuntime) -> Result<(), Fail> {
+    let alloc = rt.alloc();
+    for row in STOPS.lines() {
+        let (stops, texts) = cut(row, '|');
+        let (table, asks) = cut(stops, ' ');
+        let (first, last) = cut(asks, ' ');
+        let (text, report) = cut(texts, '|');
+        let (text, report) = (bytes_of(alloc, text)?, bytes_of(alloc, report)?);
+        for ask in first.parse::<u64>()?..=last.parse::<u64>()? {
+            let ended = run_stopped(&rt, alloc, table, 1, ask, &text)?;
+            assert!(rt; ended.sink.bytes() == report.as_slice(), "{row} at {ask}");
+            assert!(rt; tells_unserved(alloc, &ended)?, "{row} at {ask}");
+        }
+    }
+    Ok(())
+}
+
+// Two runners on one key, and two that put their keys in and take them out, with the last ask at which the first runner stops.
+const PAIRS: [(&str, u64); 2] = [
+    ("flock 1/trace/ins 5 70/trace/ins 5 80/", 60),
+    ("flock 1/trace/ins 2 2/del 2/trace/ins 1 1/del 1/", 140),
+];
+
+// Whether each request of the second trace was served.
+fn second_is_served(report: &str) -> bool {
+    match report.split_once("trace 1\n") {
+        Some((_, second)) => !second.contains("unserved"),
+        None => false,
+    }
+}
+
+// Wherever the first runner stops, the second one is served, and the report is legal.
+#[test]
+fn whoever_does_not_stop_is_served(rt: HostRuntime) -> Result<(), Fail> {
+    let alloc = rt.alloc();
+    for (row, last) in PAIRS {
+        let text = bytes_of(alloc, row)?;
+        for table in TABLES {
+            for ask in 1..=last {
+                let ended = run_stopped(&rt, alloc, table, 2, ask, &text)?;
+                assert!(rt;
+                    second_is_served(ended.report()),
+                    "{row} on {table} at {ask}"
+                );
+                assert!(rt;
+                    is_legal(alloc, &text, ended.report())?,
+                    "{row} on {table} at {ask}"
+                );
+                assert!(rt; tells_unserved(alloc, &ended)?, "{row} on {table} at {ask}");
+            }
+        }
+    }
+    Ok(())
+}

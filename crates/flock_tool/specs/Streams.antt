@@ -1,0 +1,58 @@
+-- What streams and gates tell and count before and after a call.
+use Rattle.std.specs.Prelude.{◌≡◌, ℕ, List, Option}
+use Rattle.fault_count.specs.Rose.{Rose}
+use Rattle.flock_tool.specs.End.{Tells}
+
+-- what a stream tells before and after a call, and its count of faults
+pub record Stream : Type 0 where
+  pub before : Option (List ℕ)
+  pub after : Option (List ℕ)
+  pub faults_before : ℕ
+  pub faults_after : ℕ
+
+abbrev pub stream : (before after : Option (List ℕ)) → (faults_before faults_after : ℕ) → Stream
+stream before after faults_before faults_after =
+    record { before = before; after = after; faults_before = faults_before; faults_after = faults_after }
+
+-- it was left alone
+pub record IsUntouched (s : Stream) : Type 0 where
+  pub same : s.after ≡ s.before
+  pub steady : s.faults_after ≡ s.faults_before
+
+-- its count of faults rose
+abbrev pub Fails : Stream → Type 0
+Fails s = Rose s.faults_before s.faults_after
+
+-- the line was added to it, or a part of it where its count of faults rose
+abbrev pub Told : List ℕ → Stream → Type 0
+Told line s = Tells line s.before s.after s.faults_before s.faults_after
+
+-- what the gates have counted before and after a call: the halts, the plans, and what was planned
+pub record Gating : Type 0 where
+  pub halts_before : ℕ
+  pub halts_after : ℕ
+  pub plans_before : ℕ
+  pub plans_after : ℕ
+  pub planned_before : List (Option ℕ)
+  pub planned_after : List (Option ℕ)
+
+abbrev pub gating : (halts_before halts_after plans_before plans_after : ℕ) → (planned_before planned_after : List (Option ℕ))
+    → Gating
+gating halts_before halts_after plans_before plans_after planned_before planned_after = record {
+  halts_before = halts_before;
+  halts_after = halts_after;
+  plans_before = plans_before;
+  plans_after = plans_after;
+  planned_before = planned_before;
+  planned_after = planned_after;
+}
+
+-- they were left alone
+pub record IsIdle (g : Gating) : Type 0 where
+  pub halts : g.halts_after ≡ g.halts_before
+  pub plans : g.plans_after ≡ g.plans_before
+  pub planned : g.planned_after ≡ g.planned_before
+
+-- the count of the gates' halts rose
+abbrev pub Halts : Gating → Type 0
+Halts g = Rose g.halts_before g.halts_after

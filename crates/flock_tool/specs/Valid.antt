@@ -1,0 +1,45 @@
+-- Completeness: what is asked for within the limits, with slots enough, is done whole.
+use Rattle.std.specs.Prelude.{◌≡◌, ◌≤◌, ◌+◌, ◌*◌, ℕ, List, Option, IfSome, Some, false}
+use Rattle.trace_reader.specs.Answer.{AreTracesOf}
+use Rattle.trace_reader.specs.Generator.{generated}
+use Rattle.trace_reader.specs.declared.traces.Traces.{Traces}
+use Rattle.threaded_runs.specs.make_counts.specs.Makes.{inserts}
+use Rattle.flock_words.specs.Halts.{names_below}
+use Rattle.flock_words.specs.Options.{runners_by}
+use Rattle.flock_words.specs.declared.command.Command.{Command}
+use Rattle.flock_words.specs.declared.command.Command.TheVariants as commands
+use Rattle.flock_words.specs.declared.options.RunOptions.{RunOptions}
+use Rattle.flock_tool.specs.Complete.{HasEnoughVersions, IsAnswered}
+use Rattle.flock_tool.specs.Plans.{all_nodes, all_requests, layout_by}
+use Rattle.flock_tool.specs.Runs.{meaning_of, words_in}
+use Rattle.flock_tool.specs.Streams.{Fails, Gating, Halts, Stream}
+use Rattle.flock_tool.specs.declared.ran.Ran.{Ran}
+
+-- no runner that there is is named to halt; all together have no more node slots than the limit; and each has two for each
+-- request that inserts, and two more
+pub record HasRoom (options : RunOptions) (traces : Traces) : Type 0 where
+  pub unhalted : names_below options.halts (runners_by options.runners traces.count) ≡ false
+  pub few : all_nodes (layout_by options traces.count traces.requests) ≤ 262144
+  pub enough : 2 * inserts traces.requests + 2 ≤ (layout_by options traces.count traces.requests).nodes
+
+-- what is asked for is within the limits: the text of `run` is in the grammar, `gen` and `load` generate no more requests than
+-- the limit, and what is run has room
+abbrev pub IsValid : Command → Option (List ℕ) → Type 0
+IsValid (commands.Run options) left =
+    (text : List ℕ) × (traces : Traces) × (left ≡ Some text) × AreTracesOf traces text × HasRoom options traces
+IsValid (commands.Gen plan) left = all_requests plan ≤ 131072
+IsValid (commands.Load load) left =
+    (all_requests load.plan ≤ 131072)
+    × HasRoom load.run (record { count = load.plan.traces; requests = generated load.plan })
+
+-- no fault was counted, no gate counted a halt, and two versions at least are left of each closed cell
+pub record NothingFails (back : Option Ran) (source sink : Stream) (gates : Gating) : Type 0 where
+  pub read : Fails source → ⊥
+  pub written : Fails sink → ⊥
+  pub went : Halts gates → ⊥
+  pub versions : IfSome back (λ ran. HasEnoughVersions (meaning_of ran) (words_in ran))
+
+-- the status is 0, and each request that was run is answered
+pub record IsWhole (result : ℕ × Option Ran) : Type 0 where
+  pub status : result.0 ≡ 0
+  pub answered : IfSome result.1 (λ ran. IsAnswered (meaning_of ran) (words_in ran))
