@@ -8,6 +8,9 @@ It wants rustc. Each text is run several times by both; the least wall time and 
 Reading, serving and printing are told apart, in nanoseconds a request, and reading in nanoseconds a byte of a comment and of blanks, from two
 sizes of one text, so that what a process needs to begin and to end isn't counted. The program only reads a text whose last line is bad; it
 reads and serves where the first page of the report can't be written. The plain program is told by a word how far to go.
+
+Last come a generated text of 131,072 requests, which both print alike, and what a process needs to begin and to end, in milliseconds: at refused
+words, and at the empty text, beside a plain program that ends at once.
 """
 import os
 import pathlib
@@ -92,6 +95,27 @@ def bytes_read(program: str, plain: str, text: pathlib.Path) -> None:
         print(f"{name}: {per_unit(ours, sizes):.2f} ns a byte, plain {per_unit(theirs, sizes):.2f} ns")
 
 
+def generated(program: str, plain: str, text: pathlib.Path) -> None:
+    """How long a generated text takes to be printed, by one trace and by 64."""
+    text.write_bytes(b"")
+    for traces, length in ((1, 131_072), (64, 2_048)):
+        ours = [program, "gen", "--seed=1", f"--traces={traces}", f"--length={length}", "--keys=1000"]
+        theirs = [plain, "gen", "1", str(traces), str(length), "1000"]
+        if len({subprocess.run(each, capture_output=True, check=True).stdout for each in (ours, theirs)}) != 1:
+            sys.exit("the two generated texts differ")
+        spent = [1000 * measure(each, text)[0] for each in (ours, theirs)]
+        print(f"gen of {traces} x {length} requests: {spent[0]:.1f} ms, plain {spent[1]:.1f} ms, ratio {spent[0] / spent[1]:.2f}")
+
+
+def beginnings(program: str, plain: str, text: pathlib.Path) -> None:
+    """How long a process takes that has nothing to do."""
+    text.write_bytes(b"flock 1\n")
+    idle = 1000 * measure([plain, "nothing"], text)[0]
+    refused = 1000 * measure([program, "--help"], text, status=2)[0]
+    empty = 1000 * measure([program, "run"], text)[0]
+    print(f"start-up: {refused:.2f} ms at refused words, {empty:.2f} ms at an empty text, a plain process {idle:.2f} ms")
+
+
 def main() -> None:
     program = sys.argv[1] if len(sys.argv) > 1 else str(TOP / "crates/flock/out/flock")
     with tempfile.TemporaryDirectory() as folder:
@@ -106,6 +130,8 @@ def main() -> None:
             print(f"{name}: {1000 * ours:.1f} ms, plain {1000 * theirs:.1f} ms, ratio {ours / theirs:.2f}, peak {peak} KiB")
         stages(program, str(plain), text)
         bytes_read(program, str(plain), text)
+        generated(program, str(plain), text)
+        beginnings(program, str(plain), text)
 
 
 if __name__ == "__main__":

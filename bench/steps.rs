@@ -62,6 +62,11 @@ impl Words {
         clear && epoch < 1 << 62 && self.epoch().compare_exchange(epoch, epoch + 1, SeqCst, SeqCst).is_ok()
     }
 
+    // How many words of a descriptor aren't this number.
+    fn others(&self, number: u64) -> u64 {
+        (0..DESCRIPTOR).map(|word| u64::from(self.own(SLOT, word).load(SeqCst) != number)).sum()
+    }
+
     fn store(&self, number: u64) -> u64 {
         self.own(SLOT, 13).store(number, SeqCst);
         number
@@ -96,6 +101,7 @@ fn main() {
         "load_cell" => (1, sum_of(rounds, |_| words.cell(1).load(SeqCst))),
         "private_load" => (1, sum_of(rounds, |_| words.own(SLOT, 13).load(SeqCst))),
         "private_store" => (1, sum_of(rounds, |round| words.store(u64::from(round)))),
+        "descriptor" => (77, sum_of(rounds, |round| words.others(u64::from(round)))),
         "enter" => (4, sum_of(rounds, |_| words.enter())),
         "scan" => (5, sum_of(rounds, |_| u64::from(words.scan()))),
         _ => panic!("no kind of step has this name"),
