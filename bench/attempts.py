@@ -25,8 +25,8 @@ ROUNDS = 5
 
 def text_of(kind: str, count: int) -> bytes:
     """A trace that fills 1,000 keys and then makes so many requests of one kind."""
-    filled = [f"ins {2 * key} {key}" for key in range(KEYS)]
     keys = [(7919 * number) % KEYS for number in range(count)]
+    filled = [f"ins {2 * key} {key}" for key in keys[:KEYS]]
     requests = {
         "get, found": [f"get {2 * key}" for key in keys],
         "get, missed": [f"get {2 * key + 1}" for key in keys],
