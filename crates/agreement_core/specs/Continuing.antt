@@ -36,4 +36,5 @@ pub record DoneStand (w w' : AgreementState) : Type 0 where
 -- a section of which a run had come to its end before the event isn't one that the event publishes
 pub record EndsAreOld (w w' : AgreementState) : Type 0 where
   pub used : (d r i : ℕ) → i < w.finishes r → w'.used d ≡ true → IsOf (w.finished r i) (w'.section d) → w.used d ≡ true
-  pub same : (d r i : ℕ) → i < w.finishes r → w'.used d ≡ true → IsOf (w.finished r i) (w'.section d) → IsOf (w.finished r i) (w.section d)
+  pub same : (d r i : ℕ) → i < w.finishes r → w'.used d ≡ true → IsOf (w.finished r i) (w'.section d)
+      → IsOf (w.finished r i) (w.section d)

@@ -13,7 +13,8 @@ use Rattle.agreement_core.specs.Checks.{passes, is_stop, stored_word, exchanged,
 
 -- what may happen; `r` is the runner, `d` a descriptor, `log` a place in a log
 pub data Event : Type 0 where
-  -- a section is published; a published descriptor is retired; a retired one is free again; words of a free one are stored
+  -- a section is published; a published descriptor is retired; a retired one is free again; words of a free
+  -- one are stored
   Publish : (d lock word request : ℕ) (code : ℕ → Micro) (slot : ℕ → ℕ) → Event
   RetireDescriptor : (d : ℕ) → Event
   Free : (d : ℕ) → Event
@@ -60,10 +61,11 @@ goes_on w r word = let q = w.run r in record w {
 
 -- the run goes on with the word that stands in the log, or else with the proposal
 abbrev pub agrees : AgreementState → ℕ → ℕ → ℕ → AgreementState
-agrees w r log proposal = let q = w.run r in let s = section_of w r in let agreed = written_once (s.log log) proposal in record w {
-  run = upd w.run r (record q { at = suc q.at; count = suc q.count; trail = upd q.trail q.count agreed });
-  section = upd w.section q.descriptor (came (record s { log = upd s.log log agreed }) (suc q.at));
-}
+agrees w r log proposal =
+    let q = w.run r in let s = section_of w r in let agreed = written_once (s.log log) proposal in record w {
+      run = upd w.run r (record q { at = suc q.at; count = suc q.count; trail = upd q.trail q.count agreed });
+      section = upd w.section q.descriptor (came (record s { log = upd s.log log agreed }) (suc q.at));
+    }
 
 -- the state after a cell was changed, and after one was read
 abbrev pub with_cell : AgreementState → ℕ → ℕ → AgreementState
@@ -86,7 +88,8 @@ after w (Publish d lock word request code slot) = record (with_cell w lock (held
 }
 after w (RetireDescriptor d) = record w { live = upd w.live d false }
 after w (Free d) = record w { used = upd w.used d false }
-after w (StoreLog d log word) = record w { section = upd w.section d (record (w.section d) { log = upd ((w.section d).log) log word }) }
+after w (StoreLog d log word) =
+    record w { section = upd w.section d (record (w.section d) { log = upd ((w.section d).log) log word }) }
 after w (StoreDone d word) = record w { section = upd w.section d (record (w.section d) { done = word }) }
 after w (Read place) = reads w place
 after w (Open r d) = record w { run = upd w.run r (begun d) }
@@ -151,7 +154,8 @@ abbrev pub HasTaken : Section → ℕ → ℕ → ℕ → Type 0
 HasTaken s at place word = ((place ≡ s.lock) × (word ≡ s.word))
     ⊎ ((i : ℕ) × (log : ℕ) × (i < at) × (s.code i ≡ micros.CheckHeld place log word))
 
--- a section that may be published: its line, a descriptor's number whose link is a value, and a free word that can be taken
+-- a section that may be published: its line, a descriptor's number whose link is a value, and a free word
+-- that can be taken
 pub record IsPublishable (c : CellRules) (d lock word : ℕ) (code : ℕ → Micro) (slot : ℕ → ℕ) : Type 0 where
   pub line : IsLine c.is_lock c.version_max lock code slot
   pub whole : IsWholeLine code
@@ -159,7 +163,8 @@ pub record IsPublishable (c : CellRules) (d lock word : ℕ) (code : ℕ → Mic
   pub free : is_free word ≡ true
   pub unspent : is_spent c.version_max word ≡ false
 
--- a private store of this word: no open section has come to the cell, a lock is free before and after, and the version rises by one
+-- a private store of this word: no open section has come to the cell, a lock is free before and after, and
+-- the version rises by one
 pub record IsPrivateStore (c : CellRules) (w : AgreementState) (place word : ℕ) : Type 0 where
   pub apart : (d : ℕ) → IsOpen w d → HasCome (w.section d) place → ⊥
   pub free_before : c.is_lock place ≡ true → value_of (w.shared.cells place) ≡ 0
@@ -200,7 +205,8 @@ module _ (c : CellRules) where
   Enabled w (OutcomeLoad r place log) = IsBefore w r (micros.OutcomeLoad place log)
   Enabled w (OutcomeCommit r place log) = IsBefore w r (micros.OutcomeCommit place log)
   Enabled w (PrivateLoad r cell log place) = IsBefore w r (micros.PrivateLoad cell log)
-  Enabled w (PrivateStore r cell log value place word) = IsBefore w r (micros.PrivateStore cell log value) × IsPrivateStore c w place word
+  Enabled w (PrivateStore r cell log value place word) =
+      IsBefore w r (micros.PrivateStore cell log value) × IsPrivateStore c w place word
   Enabled w (MakeCommit r log proposal) = IsBefore w r (micros.MakeCommit log) × (proposal ≢ 0)
   Enabled w (ClockLoad r) = IsBefore w r micros.ClockLoad
   Enabled w (StampExchange r) = IsBefore w r micros.StampExchange

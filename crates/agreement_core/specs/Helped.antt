@@ -43,7 +43,8 @@ leading = Publish 0 0 (pack 0 1) 3 code slot ∷ Open 1 0 ∷ LoadCell 1 1 0 ∷
 
 -- runner 1 goes on late
 abbrev pub late : List Event
-late = Commit 1 1 0 ∷ Pass 1 ∷ ClockLoad 1 ∷ StampExchange 1 ∷ ClockRaise 1 ∷ ExchangeCell 1 1 0 (Fixed 5) ∷ ReplyExchange 1 7 ∷ ends 1
+late = Commit 1 1 0 ∷ Pass 1 ∷ ClockLoad 1 ∷ StampExchange 1 ∷ ClockRaise 1 ∷ ExchangeCell 1 1 0 (Fixed 5)
+    ∷ ReplyExchange 1 7 ∷ ends 1
 
 -- and then the descriptor is retired and free again
 abbrev pub helping : List Event
@@ -59,7 +60,8 @@ helped = after_all few led helping
 abbrev pub kept : History
 kept = noted_all (first_state fresh) no_history (leading ++ helping)
 
--- every event may come; the cell and the lock were changed once each way, by the first runner; and both runners keep one trail
+-- every event may come; the cell and the lock were changed once each way, by the first runner; and both
+-- runners keep one trail
 pub record IsHelped : Type 0 where
   pub first : IsFirst few fresh
   pub leads : AllEnabled few (first_state fresh) leading

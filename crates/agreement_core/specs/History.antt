@@ -16,9 +16,10 @@ pub record Change : Type 0 where
   pub old : ℕ
   pub new : ℕ
 
--- the sections are numbered from 1 in the order of their publications. `section` gives the number of the one that a descriptor had
--- last, 0 for none. By section and place in its line: the changes that the exchange there has made. By request: the words that were
--- written to its stamp word and to its reply word; and by section, those that its runs have written
+-- the sections are numbered from 1 in the order of their publications. `section` gives the number of the
+-- one that a descriptor had last, 0 for none. By section and place in its line: the changes that the
+-- exchange there has made. By request: the words that were written to its stamp word and to its reply word;
+-- and by section, those that its runs have written
 pub record History : Type 0 where
   pub published : ℕ
   pub section : ℕ → ℕ
@@ -50,12 +51,14 @@ number_of w h r = h.section ((w.run r).descriptor)
 
 -- what the event adds
 abbrev pub noted : AgreementState → History → Event → History
-noted w h (Publish d lock word request code slot) = record h { published = suc h.published; section = upd h.section d (suc h.published) }
+noted w h (Publish d lock word request code slot) =
+    record h { published = suc h.published; section = upd h.section d (suc h.published) }
 noted w h (ExchangeCell r place log value) = let q = w.run r in let n = number_of w h r in record h {
   moved = upd2 h.moved n q.at (with_won (w.shared.cells place) (q.trail log)
       (record { place = place; old = q.trail log; new = stored_word q.trail log value }) (h.moved n q.at));
 }
-noted w h (StampExchange r) = let n = number_of w h r in let request = (section_of w r).request in let stamp = 2 * ((w.run r).word + 1) in
+noted w h (StampExchange r) =
+    let n = number_of w h r in let request = (section_of w r).request in let stamp = 2 * ((w.run r).word + 1) in
     record h {
       stamps = upd h.stamps request (with_won (w.shared.stamp request) 0 stamp (h.stamps request));
       stamped = upd h.stamped n (with_won (w.shared.stamp request) 0 stamp (h.stamped n));
@@ -73,7 +76,8 @@ noted_all w h (e ∷ es) = noted_all (after w e) (noted w h e) es
 
 -- the change that a step of a line makes, with these agreed words: that of its exchange of a cell, if it is one
 abbrev pub change_of : (ℕ → ℕ) → Micro → List Change
-change_of log (micros.ExchangeCell place k value) = record { place = place; old = log k; new = stored_word log k value } ∷ []
+change_of log (micros.ExchangeCell place k value) =
+    record { place = place; old = log k; new = stored_word log k value } ∷ []
 change_of log _ = []
 
 -- the change that the step at this place of a section's line has made: none before its runs have come behind it
@@ -93,20 +97,24 @@ pub record IsExact (w : AgreementState) (h : History) : Type 0 where
   pub unborn_moved : (n i : ℕ) → h.published < n → h.moved n i ≡ []
   pub unborn_stamped : (n : ℕ) → h.published < n → h.stamped n ≡ []
   pub unborn_replied : (n : ℕ) → h.published < n → h.replied n ≡ []
-  -- until a section's descriptor is free again: each exchange below the edge moved its cell once, from the agreed word to the new one
+  -- until a section's descriptor is free again: each exchange below the edge moved its cell once, from the
+  -- agreed word to the new one
   pub moved : (d i : ℕ) → w.used d ≡ true → h.moved (h.section d) i ≡ moves_of (w.section d) i
   pub moved_once : (n i : ℕ) → length (h.moved n i) ≤ 1
   -- each stamp word and each reply word that isn't 0 was written once
   pub stamps : (q : ℕ) → h.stamps q ≡ written (w.shared.stamp q)
   pub replies : (q : ℕ) → h.replies q ≡ written (w.shared.reply q)
-  -- no section wrote twice, none wrote a word that is still 0, and none wrote whose runs haven't come behind the exchange
+  -- no section wrote twice, none wrote a word that is still 0, and none wrote whose runs haven't come
+  -- behind the exchange
   pub stamped_once : (n : ℕ) → length (h.stamped n) ≤ 1
   pub replied_once : (n : ℕ) → length (h.replied n) ≤ 1
   pub unstamped : (d : ℕ) → w.used d ≡ true → w.shared.stamp (w.section d).request ≡ 0 → h.stamped (h.section d) ≡ []
   pub unreplied : (d : ℕ) → w.used d ≡ true → w.shared.reply (w.section d).request ≡ 0 → h.replied (h.section d) ≡ []
-  pub stamped_late : (d : ℕ) → w.used d ≡ true → ((i : ℕ) → i < (w.section d).edge → is_stamp_exchange ((w.section d).code i) ≡ false)
+  pub stamped_late : (d : ℕ) → w.used d ≡ true
+      → ((i : ℕ) → i < (w.section d).edge → is_stamp_exchange ((w.section d).code i) ≡ false)
       → h.stamped (h.section d) ≡ []
-  pub replied_late : (d : ℕ) → w.used d ≡ true → ((i : ℕ) → i < (w.section d).edge → is_reply_exchange ((w.section d).code i) ≡ false)
+  pub replied_late : (d : ℕ) → w.used d ≡ true
+      → ((i : ℕ) → i < (w.section d).edge → is_reply_exchange ((w.section d).code i) ≡ false)
       → h.replied (h.section d) ≡ []
 
 -- a section that is done and answered: its runs came to the end of the line

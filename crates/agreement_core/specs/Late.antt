@@ -38,7 +38,8 @@ pub record IsUnchanged (w w' : AgreementState) : Type 0 where
 
 -- the locks that open sections hold stand
 abbrev pub LocksStay : CellRules → AgreementState → AgreementState → Type 0
-LocksStay c w w' = (d p : ℕ) → IsOpen w d → c.is_lock p ≡ true → value_of (w.shared.cells p) ≡ suc d → w'.shared.cells p ≡ w.shared.cells p
+LocksStay c w w' = (d p : ℕ) → IsOpen w d → c.is_lock p ≡ true → value_of (w.shared.cells p) ≡ suc d
+    → w'.shared.cells p ≡ w.shared.cells p
 
 -- the event releases this lock, in a run of the section that this descriptor has
 abbrev pub IsReleaseOf : AgreementState → Event → ℕ → ℕ → Type 0

@@ -19,8 +19,8 @@ pub record IsOfBody (s : Section) (body : List Step) : Type 0 where
   pub code : s.code ≡ micro_at (line body)
   pub slot : s.slot ≡ committed (line body)
 
--- the choices that the section's log tells so far: the agreed words of its Takes and the slots of its Makes. The number of fixed cells,
--- the words that stood in the cells of the slots, and the clock are any
+-- the choices that the section's log tells so far: the agreed words of its Takes and the slots of its
+-- Makes. The number of fixed cells, the words that stood in the cells of the slots, and the clock are any
 abbrev pub chosen : CellRules → ℕ → Section → ℕ → (ℕ → ℕ → ℕ) → ℕ → Setting
 chosen c d s fixed_cells first clock = record {
   version_max = c.version_max;
@@ -62,8 +62,8 @@ start_over s = record {
   outcome = None;
 }
 
--- what was agreed is the trail of the plain run as far as its runs have come, and the whole run's trail begins with it; once the
--- section is done it is the whole run's trail
+-- what was agreed is the trail of the plain run as far as its runs have come, and the whole run's trail
+-- begins with it; once the section is done it is the whole run's trail
 pub record FollowsPlainRun (s : Section) (body : List Step) (setting : Setting) (start : Run) : Type 0 where
   pub so_far : (ran setting start (take s.edge (line body))).trail ≡ agreed (line body) s.log s.edge
   pub prefix : take (committed (line body) s.edge) (ran setting start (line body)).trail ≡ agreed (line body) s.log s.edge

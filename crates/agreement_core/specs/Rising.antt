@@ -5,7 +5,9 @@ use Rattle.agreement_core.specs.State.{AgreementState}
 
 -- each cell is the same, or its version has risen by one
 abbrev pub RiseByOne : AgreementState → AgreementState → Type 0
-RiseByOne w w' = (p : ℕ) → (w'.shared.cells p ≡ w.shared.cells p) ⊎ (version_of (w'.shared.cells p) ≡ suc (version_of (w.shared.cells p)))
+RiseByOne w w' =
+    (p : ℕ) → (w'.shared.cells p ≡ w.shared.cells p)
+    ⊎ (version_of (w'.shared.cells p) ≡ suc (version_of (w.shared.cells p)))
 
 -- no word that was read has a later version than its cell
 abbrev pub IsNotFuture : AgreementState → Type 0

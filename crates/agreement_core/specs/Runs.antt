@@ -23,7 +23,8 @@ pub record WordIsSound (x : Shared) (d : ℕ) (s : Section) (q : Run) : Type 0 w
   pub nested_read : (p k : ℕ) → s.code q.at ≡ NestedCommit p k → x.seen p q.word ≡ true
   pub outcome_read : (p k : ℕ) → s.code q.at ≡ OutcomeCommit p k → x.seen p q.word ≡ true
   -- a word that was loaded for an outcome names this section where the lock does, and it is that word
-  pub outcome_held : s.done ≡ 0 → (p k : ℕ) → s.code q.at ≡ OutcomeCommit p k → value_of q.word ≡ suc d → x.cells p ≡ q.word
+  pub outcome_held : s.done ≡ 0 → (p k : ℕ) → s.code q.at ≡ OutcomeCommit p k → value_of q.word ≡ suc d
+      → x.cells p ≡ q.word
   pub outcome_named : (p k : ℕ) → s.code q.at ≡ OutcomeCommit p k → value_of (x.cells p) ≡ suc d → q.word ≡ x.cells p
   pub clock_read : is_stamp_exchange (s.code q.at) ≡ true → q.word ≤ x.clock
   pub stamp_agreed : is_clock_raise (s.code q.at) ≡ true → q.word ≡ x.stamp s.request

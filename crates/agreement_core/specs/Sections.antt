@@ -1,4 +1,5 @@
--- The invariant of one section: its log, the cells that it loads and stores to, its locks, and the words of its request.
+-- The invariant of one section: its log, the cells that it loads and stores to, its locks, and the words of
+-- its request.
 use Rattle.std.specs.Prelude.{ℕ, suc, ◌/◌, ◌<◌, ◌≤◌, ◌≡◌, ◌≢◌, ◌⊎◌, true, false}
 use Rattle.section_body.specs.Word.{value_of, version_of, held_word}
 use Rattle.section_body.specs.Line.{is_check, is_end}
@@ -24,10 +25,13 @@ pub record CellsAreSound (x : Shared) (s : Section) : Type 0 where
   -- until it is done, a cell holds the agreed word up to the own store, and the stored word from then on
   pub loaded : s.done ≡ 0 → (i p k : ℕ) → i < s.edge → s.code i ≡ Commit p k
       → ((j k' : ℕ) (v : Source) → j < s.edge → s.code j ≢ ExchangeCell p k' v) → x.cells p ≡ s.log k
-  pub stored : s.done ≡ 0 → (i p k : ℕ) (v : Source) → i < s.edge → s.code i ≡ ExchangeCell p k v → x.cells p ≡ stored_word s.log k v
+  pub stored : s.done ≡ 0 → (i p k : ℕ) (v : Source) → i < s.edge → s.code i ≡ ExchangeCell p k v
+      → x.cells p ≡ stored_word s.log k v
   -- a cell to which it has stored is past the agreed word, and holds the stored word or a later version
-  pub left : (i p k : ℕ) (v : Source) → i < s.edge → s.code i ≡ ExchangeCell p k v → version_of (s.log k) < version_of (x.cells p)
-  pub lasting : (i p k : ℕ) (v : Source) → i < s.edge → s.code i ≡ ExchangeCell p k v → version_of (x.cells p) ≡ suc (version_of (s.log k))
+  pub left : (i p k : ℕ) (v : Source) → i < s.edge → s.code i ≡ ExchangeCell p k v
+      → version_of (s.log k) < version_of (x.cells p)
+  pub lasting : (i p k : ℕ) (v : Source) → i < s.edge → s.code i ≡ ExchangeCell p k v
+      → version_of (x.cells p) ≡ suc (version_of (s.log k))
       → x.cells p ≡ stored_word s.log k v
   -- an agreed word was read there
   pub read : (i p k : ℕ) → i < s.edge → s.code i ≡ Commit p k → x.seen p (s.log k) ≡ true
@@ -43,13 +47,16 @@ pub record LocksAreSound (c : CellRules) (x : Shared) (d : ℕ) (s : Section) : 
   pub outer_held : s.done ≡ 0 → x.cells s.lock ≡ held_word d s.word
   pub outer_past : version_of s.word < version_of (x.cells s.lock)
   -- a nested lock that its runs have tried to take is past the word that was expected there
-  pub nested_past : (i p free : ℕ) → i < s.edge → s.code i ≡ NestedHold p free → version_of free < version_of (x.cells p)
+  pub nested_past : (i p free : ℕ) → i < s.edge → s.code i ≡ NestedHold p free
+      → version_of free < version_of (x.cells p)
   pub nested_read : (i p k : ℕ) → i < s.edge → s.code i ≡ NestedCommit p k → x.seen p (s.log k) ≡ true
   pub outcome_read : (i p k : ℕ) → i < s.edge → s.code i ≡ OutcomeCommit p k → x.seen p (s.log k) ≡ true
   -- where the agreed outcome names this section, the lock has that word until the section is done
-  pub outcome_held : s.done ≡ 0 → (i p k : ℕ) → i < s.edge → s.code i ≡ OutcomeCommit p k → value_of (s.log k) ≡ suc d → x.cells p ≡ s.log k
+  pub outcome_held : s.done ≡ 0 → (i p k : ℕ) → i < s.edge → s.code i ≡ OutcomeCommit p k
+      → value_of (s.log k) ≡ suc d → x.cells p ≡ s.log k
   -- a lock that names this section has the agreed outcome, and is held with the word of its Take
-  pub outcome_named : (i p k : ℕ) → i < s.edge → s.code i ≡ OutcomeCommit p k → value_of (x.cells p) ≡ suc d → s.log k ≡ x.cells p
+  pub outcome_named : (i p k : ℕ) → i < s.edge → s.code i ≡ OutcomeCommit p k → value_of (x.cells p) ≡ suc d
+      → s.log k ≡ x.cells p
   pub held : (p : ℕ) → c.is_lock p ≡ true → value_of (x.cells p) ≡ suc d → HoldsWith d s p (x.cells p)
 
 -- the words of its request

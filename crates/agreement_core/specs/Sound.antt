@@ -39,14 +39,15 @@ pub record AreEqual (f f' : Finished) : Type 0 where
 -- the runs that came to their end
 pub record FinishedAreSound (w : AgreementState) : Type 0 where
   pub ended : (r i d : ℕ) → i < w.finishes r → w.used d ≡ true → IsOf (w.finished r i) (w.section d) → w.over d ≡ true
-  pub past : (r i : ℕ) → i < w.finishes r → version_of ((w.finished r i).word) < version_of (w.shared.cells ((w.finished r i).lock))
+  pub past : (r i : ℕ) → i < w.finishes r
+      → version_of ((w.finished r i).word) < version_of (w.shared.cells ((w.finished r i).lock))
   pub whole : (r i d : ℕ) → i < w.finishes r → w.used d ≡ true → IsOf (w.finished r i) (w.section d)
       → IsWhole d (w.section d) (w.finished r i)
   pub equal : (r i r' i' : ℕ) → i < w.finishes r → i' < w.finishes r' → AreOfOne (w.finished r i) (w.finished r' i')
       → AreEqual (w.finished r i) (w.finished r' i')
 
--- what holds of a descriptor that was published since it was last free, by whether it is not retired and whether a run of it came to
--- its end
+-- what holds of a descriptor that was published since it was last free, by whether it is not retired and
+-- whether a run of it came to its end
 pub record UsedIsSound (c : CellRules) (x : Shared) (live over : Bool) (d : ℕ) (s : Section) : Type 0 where
   pub published : IsPublishable c d s.lock s.word s.code s.slot
   pub section : SectionIsSound c x d s
@@ -63,13 +64,15 @@ module _ (c : CellRules) where
   pub record IsSound (w : AgreementState) : Type 0 where
     pub versions : VersionsAreSound c w.shared
     pub sections : (d : ℕ) → w.used d ≡ true → UsedIsSound c w.shared (w.live d) (w.over d) d (w.section d)
-    pub runs : (r : ℕ) → (w.run r).running ≡ true → RunIsSound c w.shared ((w.run r).descriptor) (section_of w r) (w.run r)
+    pub runs : (r : ℕ) → (w.run r).running ≡ true
+        → RunIsSound c w.shared ((w.run r).descriptor) (section_of w r) (w.run r)
     pub running_used : (r : ℕ) → (w.run r).running ≡ true → w.used ((w.run r).descriptor) ≡ true
     pub live_used : (d : ℕ) → w.live d ≡ true → w.used d ≡ true
     -- a lock word that names a descriptor names a published one that isn't retired
     pub named : (p d : ℕ) → c.is_lock p ≡ true → value_of (w.shared.cells p) ≡ suc d → w.live d ≡ true
     -- no two open sections have come to one place
-    pub apart : (d d' p : ℕ) → d ≢ d' → IsOpen w d → IsOpen w d' → HasCome (w.section d) p → HasCome (w.section d') p → ⊥
+    pub apart : (d d' p : ℕ) → d ≢ d' → IsOpen w d → IsOpen w d' → HasCome (w.section d) p
+        → HasCome (w.section d') p → ⊥
     -- no two sections have the same lock and the same word
     pub single : (d d' : ℕ) → w.used d ≡ true → w.used d' ≡ true → (w.section d).lock ≡ (w.section d').lock
         → (w.section d).word ≡ (w.section d').word → d ≡ d'

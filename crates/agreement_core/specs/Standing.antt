@@ -34,7 +34,8 @@ pub record HasOutcome (s : Section) (place free outcome : ℕ) : Type 0 where
 
 -- a cell that a section has loaded holds the agreed word, or what the section has stored there, until it is done
 pub record CellsStand (w : AgreementState) (d : ℕ) : Type 0 where
-  pub loaded : IsOpen w d → (p k : ℕ) → HasLoaded (w.section d) p k → ((agreed word : ℕ) → HasStored (w.section d) p agreed word → ⊥)
+  pub loaded : IsOpen w d → (p k : ℕ) → HasLoaded (w.section d) p k
+      → ((agreed word : ℕ) → HasStored (w.section d) p agreed word → ⊥)
       → w.shared.cells p ≡ (w.section d).log k
   pub stored : IsOpen w d → (p agreed word : ℕ) → HasStored (w.section d) p agreed word → w.shared.cells p ≡ word
   -- a stored word stands, or a later version, from then on
@@ -47,14 +48,16 @@ module _ (c : CellRules) where
     pub published : (p d : ℕ) → c.is_lock p ≡ true → value_of (w.shared.cells p) ≡ suc d → w.used d ≡ true
     pub live : (p d : ℕ) → c.is_lock p ≡ true → value_of (w.shared.cells p) ≡ suc d → w.live d ≡ true
     -- with the held word of the outer lock, or of a Take
-    pub held : (p d : ℕ) → c.is_lock p ≡ true → value_of (w.shared.cells p) ≡ suc d → HoldsWith d (w.section d) p (w.shared.cells p)
+    pub held : (p d : ℕ) → c.is_lock p ≡ true → value_of (w.shared.cells p) ≡ suc d
+        → HoldsWith d (w.section d) p (w.shared.cells p)
     -- until a section is done it holds its outer lock
     pub outer : (d : ℕ) → IsOpen w d → w.shared.cells (w.section d).lock ≡ held_word d (w.section d).word
 
   -- a Take's outcome
   pub record TakesStand (w : AgreementState) (d : ℕ) : Type 0 where
     -- once it is agreed the lock is past the expected word, so that no run of the section takes it later
-    pub past : (p free outcome : ℕ) → HasOutcome (w.section d) p free outcome → version_of free < version_of (w.shared.cells p)
+    pub past : (p free outcome : ℕ) → HasOutcome (w.section d) p free outcome
+        → version_of free < version_of (w.shared.cells p)
     -- a lock that was agreed to be held has that word until the section is done
     pub held : IsOpen w d → (p free outcome : ℕ) → HasOutcome (w.section d) p free outcome → outcome ≡ held_word d free
         → w.shared.cells p ≡ outcome
@@ -65,4 +68,5 @@ module _ (c : CellRules) where
   -- a section is done only after each exchange of its line up to where its runs stop
   pub record IsDoneLate (w : AgreementState) (d : ℕ) : Type 0 where
     pub stops : is_stop c d ((w.section d).log) ((w.section d).code ((w.section d).edge)) ≡ true
-    pub stored : (p agreed word : ℕ) → HasStored (w.section d) p agreed word → version_of agreed < version_of (w.shared.cells p)
+    pub stored : (p agreed word : ℕ) → HasStored (w.section d) p agreed word
+        → version_of agreed < version_of (w.shared.cells p)

@@ -15,8 +15,9 @@ pub record Shared : Type 0 where
   pub reply : ℕ → ℕ
   pub seen : ℕ → ℕ → Bool
 
--- the section that a descriptor has: its lock with the free word that is expected there, its request, its line with how many words the
--- steps below a place commit, its log and its done word, and the furthest place of its line to which a run has come
+-- the section that a descriptor has: its lock with the free word that is expected there, its request, its
+-- line with how many words the steps below a place commit, its log and its done word, and the furthest
+-- place of its line to which a run has come
 pub record Section : Type 0 where
   pub lock : ℕ
   pub word : ℕ
@@ -27,8 +28,8 @@ pub record Section : Type 0 where
   pub done : ℕ
   pub edge : ℕ
 
--- the run of a runner, if it is in one: its descriptor, its place in the line, the number that it goes by, its trail and how many words
--- that has; and once it has set the done word, the locks that it has released
+-- the run of a runner, if it is in one: its descriptor, its place in the line, the number that it goes by,
+-- its trail and how many words that has; and once it has set the done word, the locks that it has released
 pub record Run : Type 0 where
   pub running : Bool
   pub descriptor : ℕ
@@ -47,8 +48,9 @@ pub record Finished : Type 0 where
   pub count : ℕ
   pub trail : ℕ → ℕ
 
--- by descriptor: its section; whether it was published since it was last free, whether it is not retired since then, and whether
--- a run of it came to its end. By runner: its run, how many runs of it came to their end, and what is kept of each
+-- by descriptor: its section; whether it was published since it was last free, whether it is not retired
+-- since then, and whether a run of it came to its end. By runner: its run, how many runs of it came to
+-- their end, and what is kept of each
 pub record AgreementState : Type 0 where
   pub shared : Shared
   pub section : ℕ → Section

@@ -31,7 +31,8 @@ pub record RunsAgree (w : AgreementState) : Type 0 where
   pub equal : (r i r' i' : ℕ) → i < w.finishes r → i' < w.finishes r' → AreOfOne (w.finished r i) (w.finished r' i')
       → AreEqual (w.finished r i) (w.finished r' i')
 
--- where a run of this section has come to its end, the section is done, and no lock names it until its descriptor is free again
+-- where a run of this section has come to its end, the section is done, and no lock names it until its
+-- descriptor is free again
 pub record HoldsNothing (c : CellRules) (w : AgreementState) (d : ℕ) : Type 0 where
   pub done : (w.section d).done ≢ 0
   pub unnamed : (p : ℕ) → c.is_lock p ≡ true → value_of (w.shared.cells p) ≢ suc d

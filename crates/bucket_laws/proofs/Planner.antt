@@ -4,6 +4,7 @@ use Rattle.std.proofs.lemmas.Cmp.{nat_cmp_total}
 use Rattle.std.specs.Prelude.{◌-◌, ◌^◌, Some, None, is_some, slice_get}
 use Rattle.std.specs.Ordering.{nat_cmp}
 use Rattle.std.specs.FinMap.{get, remove, len, empty_of_len, get-empty, len-remove}
+use Rattle.std.proofs.lemmas.Option.{none-some}
 use Rattle.map_history.specs.declared.op.Op.{Op}
 use Rattle.map_history.specs.Keys.{key_of}
 use Rattle.map_history.specs.Replay.{Pairs}
@@ -70,16 +71,13 @@ few_slots key [] pairs once there = omega arith
 few_slots key (t ∷ slots) pairs once there =
     let first = there 0 t refl in
     let size : len (remove pairs (key t)) ≡ len pairs - 1 = len-remove nat_cmp_total pairs (key t) ∙ ap (λ b. cond b (len pairs - 1) (len pairs)) (ap is_some first.1) in
-    let some : len pairs ≢ 0 = λ e. none_some first.0 (sym (ap (λ m. get m (key t)) (empty_of_len pairs e) ∙ get-empty nat_cmp (key t)) ∙ first.1) in
+    let some : len pairs ≢ 0 = λ e. none-some first.0 (sym (ap (λ m. get m (key t)) (empty_of_len pairs e) ∙ get-empty nat_cmp (key t)) ∙ first.1) in
     let rest : length slots ≤ len (remove pairs (key t)) = few_slots key slots (remove pairs (key t))
     (λ i j u v at also same. suc_eq i j (once (suc i) (suc j) u v at also same))
     (λ i u at. let found = there (suc i) u at in
     (found.0, get_removed pairs (key t) (key u) ∙ upd_other (get pairs) (key t) (key u) None (λ same. zero_suc i (sym (once (suc i) 0 u t at refl same))) ∙ found.1)) in
     omega arith
   where
-    none_some : (v : ℕ) → None ≡ Some v → ⊥
-    none_some v e = cc
-
     suc_eq : (a b : ℕ) → suc a ≡ suc b → a ≡ b
     suc_eq a b e = omega arith
 

@@ -1,7 +1,8 @@
 -- The hash table gives the core what it relies on.
 use Rattle.std.proofs.Common.{◌≡◌, ◌≢◌, ℕ, suc, ◌+◌, ◌*◌, ◌<◌, ◌≤◌, Bool, true, false, cond, refl, sym, ap, ◌∙◌, subst, inl, inr, ⊎_elim, arith}
-use Rattle.std.specs.Prelude.{◌==◌, ◌&&◌, ◌||◌, ◌⊎◌, ◌-◌, ◌/◌, ◌%◌, nat_lt, Some, None, [], ◌∷◌, slice_get}
+use Rattle.std.specs.Prelude.{◌==◌, ◌&&◌, ◌||◌, ◌⊎◌, ◌-◌, ◌/◌, ◌%◌, nat_lt, Some, [], ◌∷◌, slice_get}
 use Rattle.std.specs.List.{list_any}
+use Rattle.std.proofs.lemmas.Option.{none-some}
 use Rattle.map_history.specs.declared.op.Op.{Op}
 use Rattle.map_history.specs.Keys.{key_of, DependsOn}
 use Rattle.section_body.specs.Word.{value_of, next_word}
@@ -226,7 +227,4 @@ module _ (buckets : ℕ) (bucket : ℕ → ℕ) (small : (key : ℕ) → bucket 
       used t safe = ⊎_elim (λ live. live_free (s.status t) live) (λ retired. retired_free (s.status t) retired.0 retired.1) safe
 
       key_is : (op : Op) (key : ℕ) → DependsOn op key → key_of op ≡ key
-      key_is op key depends = ⊎_elim (λ e. e) (λ none. absurd (none_some key none)) depends
-        where
-          none_some : (key : ℕ) → None ≡ Some key → ⊥
-          none_some key e = cc
+      key_is op key depends = ⊎_elim (λ e. e) (λ none. absurd (none-some key none)) depends

@@ -1,6 +1,7 @@
 -- The steps of a hash table's section that change no cell keep what the table keeps.
 use Rattle.std.proofs.Common.{◌≡◌, ◌≢◌, ℕ, suc, ◌+◌, ◌<◌, ◌≤◌, Bool, true, false, refl, sym, ap, ◌∙◌, subst, inl, inr, ⊎_elim, arith}
 use Rattle.std.specs.Prelude.{◌⊎◌, Some, slice_get}
+use Rattle.std.proofs.lemmas.Bool.{both_ways}
 use mathlib.Core.Logic.{dite}
 use native.Mathlib.Decide.{ℕ_discrete}
 use Rattle.map_history.specs.declared.op.Op.{Op}
@@ -33,9 +34,6 @@ some_inj e = cc
 
 pub suc_eq : (a b : ℕ) → suc a ≡ suc b → a ≡ b
 suc_eq a b e = omega arith
-
-true_false : {b : Bool} → b ≡ true → b ≡ false → ⊥
-true_false e e' = cc
 
 -- a section holds this slot: its new node, or the one that it has taken out
 abbrev pub Owns : Section → ℕ → Type 0
@@ -222,7 +220,7 @@ module _ (buckets : ℕ) (bucket : ℕ → ℕ) (small : (key : ℕ) → bucket 
       let owns : Owns x t = inr (step.0, (let eight = step.1 in omega arith), (let eight = step.1 in omega arith), sym step.2) in
       let out = owned_out buckets bucket layout s kept d x t here owns in
       let other : (u : ℕ) → u ≢ t → upd s.status t (Retired y) u ≡ s.status u = λ u ne. upd_other s.status t u (Retired y) ne in
-      let on_other : (u : ℕ) → kept.on u ≡ true → u ≢ t = λ u on e. true_false on (ap kept.on e ∙ out) in
+      let on_other : (u : ℕ) → kept.on u ≡ true → u ≢ t = λ u on e. both_ways _ (ap kept.on e ∙ out) on in
       step_kept (upd s.status t (Retired y)) x.reg (unpending (Retire t) h (λ q v e. cc)) (λ u on. other u (on_other u on) ∙ kept.on_live u on)
       (λ form low high. absurd (insert_remove (form_of x.thunk) form step.0))
       (λ form low. kept.linked d x here form (let eight = step.1 in omega arith)) (λ form low high. absurd (let eight = step.1 in omega arith))

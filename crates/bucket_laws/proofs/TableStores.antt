@@ -1,6 +1,7 @@
 -- The Stores of a hash table's section keep what the table keeps.
 use Rattle.std.proofs.Common.{◌≡◌, ◌≢◌, ℕ, zero, suc, ◌+◌, ◌*◌, ◌<◌, ◌≤◌, Bool, true, false, refl, sym, ap, ◌∙◌, subst, inl, inr, ⊎_elim, arith}
 use Rattle.std.specs.Prelude.{◌^◌, ◌⊎◌, Some}
+use Rattle.std.proofs.lemmas.Bool.{both_ways}
 use mathlib.Core.Logic.{dite}
 use native.Mathlib.Decide.{ℕ_discrete}
 use Rattle.map_history.specs.declared.op.Op.{Op}
@@ -34,9 +35,6 @@ use Rattle.bucket_laws.proofs.Walks.{head_is, is_first}
 
 some_inj : {A : Type 0} {x y : A} → Some x ≡ Some y → x ≡ y
 some_inj e = cc
-
-true_false : {b : Bool} → b ≡ true → b ≡ false → ⊥
-true_false e e' = cc
 
 live_retired : (x : Status) (y : ℕ) → x ≡ Live → x ≡ Retired y → ⊥
 live_retired x y e e' = cc
@@ -172,7 +170,7 @@ module _ (buckets : ℕ) (bucket : ℕ → ℕ) (small : (key : ℕ) → bucket 
           elsewhere = λ i lower ne. record {
             head = upd_other s.cells (bucket_head own) (bucket_head i) word (λ e. ne (omega arith));
             stays = λ u node. dite (ℕ_discrete u t) (λ e. upd_same kept.on t u true e) (λ other. upd_other kept.on t u true other ∙ node.0);
-            ranks = λ u node. upd_other kept.rank t u top.0 (λ e. true_false node.0 (ap kept.on e ∙ made.out));
+            ranks = λ u node. upd_other kept.rank t u top.0 (λ e. both_ways _ (ap kept.on e ∙ made.out) node.0);
             cell = λ u k node low high. upd_other s.cells (bucket_head own) (cell_at buckets bucket u k) word (λ e. omega arith);
             back = λ u node.
                 let same : value_of (upd s.cells (bucket_head own) word (cell_at buckets bucket u 1)) ≡ value_of (s.cells (cell_at buckets bucket u 1)) = ap value_of (upd_other s.cells (bucket_head own) (cell_at buckets bucket u 1) word (λ e. omega arith)) in
@@ -300,7 +298,7 @@ module _ (buckets : ℕ) (bucket : ℕ → ℕ) (small : (key : ℕ) → bucket 
     }
       where
         still : (u : ℕ) → upd kept.on gone false u ≡ true → (kept.on u ≡ true) × (u ≢ gone)
-        still u on = dite (ℕ_discrete u gone) (λ e. absurd (true_false on (upd_same kept.on gone u false e))) (λ ne. (sym (upd_other kept.on gone u false ne) ∙ on, ne))
+        still u on = dite (ℕ_discrete u gone) (λ e. absurd (both_ways _ (upd_same kept.on gone u false e) on)) (λ ne. (sym (upd_other kept.on gone u false ne) ∙ on, ne))
 
     remove_head : link_place ≡ bucket_head own → IsOwnChange (upd s.cells link_place word) (upd kept.on gone false) kept.rank
     remove_head head =
@@ -338,7 +336,7 @@ module _ (buckets : ℕ) (bucket : ℕ → ℕ) (small : (key : ℕ) → bucket 
             omega arith
 
         apart : (u k : ℕ) → (kept.on u ≡ false) ⊎ ((i : ℕ) × (i ≢ own) × IsNode buckets bucket s.cells kept.on i u) ⊎ (u ≡ gone) → u ≡ v → ⊥
-        apart u k cases same = ⊎_elim (λ out. true_false node.0 (ap kept.on (sym same) ∙ out))
+        apart u k cases same = ⊎_elim (λ out. both_ways _ (ap kept.on (sym same) ∙ out) node.0)
             (⊎_elim (λ away. away.1 (sym away.2.1 ∙ ap (λ u. bucket (value_of (s.cells (cell_at buckets bucket u 1)))) same ∙ node.1)) (λ e. stays (sym same ∙ e))) cases
 
   -- every Store of the section

@@ -3,6 +3,8 @@ use Rattle.std.proofs.Common.{◌≡◌, ◌≢◌, ℕ, zero, suc, ◌+◌, ◌
 use Rattle.std.proofs.Math.Path.{fun_ext}
 use Rattle.std.specs.Prelude.{◌^◌, Option, Some, None, slice_index}
 use Rattle.std.specs.FinMap.{get}
+use Rattle.std.proofs.lemmas.Bool.{both_ways}
+use Rattle.std.proofs.lemmas.Option.{none-some}
 use mathlib.Core.Logic.{dite}
 use native.Mathlib.Decide.{ℕ_discrete}
 use Rattle.map_history.specs.Keys.{key_of}
@@ -48,15 +50,12 @@ none_is : (o : Option ℕ) → ((v : ℕ) → o ≡ Some v → ⊥) → o ≡ No
 none_is None f = refl
 none_is (Some v) f = absurd (f v refl)
 
-true_false : {b : Bool} → b ≡ true → b ≡ false → ⊥
-true_false e e' = cc
-
 -- one more slot that is within the bound, and one less
 pub upd_within : (n : ℕ) (on : ℕ → Bool) (t u : ℕ) → t < n → ((u : ℕ) → on u ≡ true → u < n) → upd on t true u ≡ true → u < n
 upd_within n on t u low within h = dite (ℕ_discrete u t) (λ e. omega arith) (λ ne. within u (sym (upd_other on t u true ne) ∙ h))
 
 pub upd_on : (on : ℕ → Bool) (t u : ℕ) → upd on t false u ≡ true → on u ≡ true
-upd_on on t u h = dite (ℕ_discrete u t) (λ e. absurd (true_false h (upd_same on t u false e))) (λ ne. sym (upd_other on t u false ne) ∙ h)
+upd_on on t u h = dite (ℕ_discrete u t) (λ e. absurd (both_ways _ (upd_same on t u false e) h)) (λ ne. sym (upd_other on t u false ne) ∙ h)
 
 live_free : (x : Status) → x ≡ Live → x ≢ Free
 live_free x live free = cc
@@ -178,7 +177,7 @@ module _ (buckets : ℕ) (bucket : ℕ → ℕ) (small : (key : ℕ) → bucket 
         let named = (fits.insert form).1 in
         let key : now.key t ≡ key_of x.op = made.key ∙ named.3 ∙ ap key_of (sym named.2) in
         let none = insert_looks form at in
-        let out : stands.on t ≡ false = bool_cases (stands.on t) (λ on. absurd (true_false (kept_on t on) made.out)) (λ off. off) in
+        let out : stands.on t ≡ false = bool_cases (stands.on t) (λ on. absurd (both_ways _ made.out (kept_on t on))) (λ off. off) in
         let stored : value_of (after (3 * own + 2)) ≡ suc t =
         ap (λ p. value_of (after p)) (omega arith) ∙ ap value_of (stores.changed 7 3 (x.thunk.lock + 2) 1 (Made 2) (step_in x.thunk Insert 7 form) (step_in x.thunk Insert 3 form))
         ∙ value-next_word (x.reg 1) (value_in x.reg (Made 2)) (value_small (x.reg 2)) ∙ ap value_of made.link ∙ value-small (suc t) narrow in
@@ -189,7 +188,7 @@ module _ (buckets : ℕ) (bucket : ℕ → ℕ) (small : (key : ℕ) → bucket 
         (fun_ext (λ u. ap value_of (sym (insert_same form (3 * buckets + 5 * u + 3) (λ e. omega arith) (λ e. omega arith))))) in
         let top = top_of (now.head own) refl in
         let first : now.next t ≡ now.head own = made.next ∙ insert_head buckets bucket layout s before.sound kept d x here form (omega arith) (omega arith) ∙ sym (head_is buckets bucket small s.cells (key_of x.op)) in
-        let new : (u : ℕ) → stands.on u ≡ true → now.key u ≢ now.key t = λ u on e. none_some (sym (ap (get pairs) (e ∙ key) ∙ none) ∙ stands.contents.pair u on) in
+        let new : (u : ℕ) → stands.on u ≡ true → now.key u ≢ now.key t = λ u on e. none-some _ (sym (ap (get pairs) (e ∙ key) ∙ none) ∙ stands.contents.pair u on) in
         record {
           on = upd stands.on t true;
           rank = upd stands.rank t top.0;
@@ -203,9 +202,6 @@ module _ (buckets : ℕ) (bucket : ℕ → ℕ) (small : (key : ℕ) → bucket 
               ∙ insert_map pairs x.op named.0 named.1 named.2 (ap (get pairs) (sym (ap key_of named.2)) ∙ none) q);
         }
       where
-        none_some : {v : ℕ} → None ≡ Some v → ⊥
-        none_some e = cc
-
         top_of : (link : ℕ) → now.head own ≡ link → (top : ℕ) × ((u : ℕ) → stands.on u ≡ true → bucket (now.key u) ≡ own → stands.rank u < top)
         top_of zero e = (0, λ u on of. absurd (stands.chains.head_none own u e on of))
         top_of (suc t) e = (suc (stands.rank t), λ u on of. let lower = stands.chains.head_top own t u e on of in omega arith)

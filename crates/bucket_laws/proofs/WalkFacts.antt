@@ -2,6 +2,8 @@
 use Rattle.std.proofs.Common.{◌≡◌, ◌≢◌, ℕ, zero, suc, ◌<◌, Bool, true, false, cond, refl, sym, ap, ◌∙◌, inl, inr, ⊎_elim, arith}
 use Rattle.std.specs.Prelude.{◌==◌, ◌&&◌, ◌||◌, not, ◌-◌, ◌^◌, ◌⊎◌, nat_le, Option, Some, None, [], ◌∷◌, slice_get}
 use Rattle.std.specs.List.{list_any}
+use Rattle.std.proofs.lemmas.Option.{none-some}
+use Rattle.std.proofs.lemmas.Bool.{and_from}
 use Rattle.map_history.specs.declared.op.Op.{Op}
 use Rattle.map_history.specs.Keys.{key_of}
 use Rattle.section_body.specs.Word.{value_of, is_free, is_spent}
@@ -16,17 +18,11 @@ use Rattle.bucket_laws.proofs.Walks.{wanted_eq}
 some_eq : (a b : ℕ) → Some a ≡ Some b → a ≡ b
 some_eq a b e = cc
 
-none_some : (a : ℕ) → None ≡ Some a → ⊥
-none_some a e = cc
-
 or_left : (a b : Bool) → a ≡ true → (a || b) ≡ true
 or_left a b h = grind arith
 
 or_right : (a b : Bool) → b ≡ true → (a || b) ≡ true
 or_right a b h = grind arith
-
-both : (a b : Bool) → a ≡ true → b ≡ true → (a && b) ≡ true
-both a b h h' = grind arith
 
 eq_test : (a b : ℕ) → a ≡ b → (a == b) ≡ true
 eq_test a b e = grind arith
@@ -50,7 +46,7 @@ module _ (buckets : ℕ) (bucket : ℕ → ℕ) (small : (key : ℕ) → bucket 
   given (reading ∷ readings) zero p w t h link leads =
       let same = some_pair reading p w h in
       or_left (is_link_place buckets bucket reading.0 && (value_of reading.1 == suc t)) (list_any (λ reading. is_link_place buckets bucket reading.0 && (value_of reading.1 == suc t)) readings)
-      (both (is_link_place buckets bucket reading.0) (value_of reading.1 == suc t) (ap (is_link_place buckets bucket) same.0 ∙ link) (eq_test (value_of reading.1) (suc t) (ap value_of same.1 ∙ leads)))
+      (and_from (is_link_place buckets bucket reading.0) (value_of reading.1 == suc t) (ap (is_link_place buckets bucket) same.0 ∙ link) (eq_test (value_of reading.1) (suc t) (ap value_of same.1 ∙ leads)))
     where
       some_pair : (reading : ℕ × ℕ) (p w : ℕ) → Some reading ≡ Some (p, w) → (reading.0 ≡ p) × (reading.1 ≡ w)
       some_pair reading p w e = (ap (λ o. first o) e, ap (λ o. second o) e)
@@ -140,8 +136,8 @@ module _ (buckets : ℕ) (bucket : ℕ → ℕ) (small : (key : ℕ) → bucket 
       no_key : (c : Bool) → cond c AtEnd Refused ≡ AtKey → ⊥
       no_key true e = cc
       no_key false e = cc
-  facts_fed all b op w AtEnd p word i facts at want h = absurd (none_some p want)
-  facts_fed all b op w Refused p word i facts at want h = absurd (none_some p want)
+  facts_fed all b op w AtEnd p word i facts at want h = absurd (none-some p want)
+  facts_fed all b op w Refused p word i facts at want h = absurd (none-some p want)
 
   -- the walk in readings that all stand in a list
   facts_walked : (all : Readings) (b : Bounds) (op : Op) (w : Walk) (readings : Readings) → ((i : ℕ) (reading : ℕ × ℕ) → slice_get readings i ≡ Some reading → (j : ℕ) × (slice_get all j ≡ Some reading)) → WalkFacts all op w

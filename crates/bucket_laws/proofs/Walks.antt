@@ -1,6 +1,8 @@
 -- What a load adds to a walk, and what one more reading does.
 use Rattle.std.proofs.Common.{◌≡◌, ◌≢◌, ℕ, zero, suc, ◌<◌, ◌≤◌, Bool, true, false, cond, refl, sym, ap, ◌∙◌, subst, inl, inr, ⊎_elim, arith}
 use Rattle.std.specs.Prelude.{◌==◌, ◌&&◌, not, ◌-◌, ◌⊎◌, nat_lt, nat_le, Option, Some, None, [], ◌∷◌, ◌++◌}
+use Rattle.std.proofs.lemmas.Option.{none-some}
+use Rattle.std.proofs.lemmas.Bool.{both_ways}
 use Rattle.map_history.specs.declared.op.Op.{Op}
 use Rattle.map_history.specs.Keys.{key_of}
 use Rattle.section_body.specs.Word.{value_of, is_free, is_spent}
@@ -31,12 +33,6 @@ zero_suc t h = omega arith
 
 some_eq : (a b : ℕ) → Some a ≡ Some b → a ≡ b
 some_eq a b h = cc
-
-none_some : (p : ℕ) → None ≡ Some p → ⊥
-none_some p h = cc
-
-true_false : {b : Bool} → b ≡ true → b ≡ false → ⊥
-true_false e e' = cc
 
 pub wanted_eq : (o : Option ℕ) (p : ℕ) → is_wanted o p ≡ true → o ≡ Some p
 wanted_eq None p h = absurd (cc)
@@ -118,7 +114,7 @@ module _ (buckets : ℕ) (bucket : ℕ → ℕ) (small : (key : ℕ) → bucket 
 
     value_fed : K w AtValue → (del : Bool) → is_del op ≡ del → K (record w { stage = cond del AtNext AtLock; value = value_of (cells (cell_at buckets bucket w.slot 2)); found = true }) (cond del AtNext AtLock)
     value_fed known true e = (known.0, known.1, refl, known.2)
-    value_fed known false e = (known.2, λ found. (known.0, known.1, refl, λ del. absurd (true_false del e)), λ missing. absurd (cc))
+    value_fed known false e = (known.2, λ found. (known.0, known.1, refl, λ del. absurd (both_ways _ e del)), λ missing. absurd (cc))
 
     next_fed : K w AtNext → K (record w { stage = AtLock; next = value_of (cells (cell_at buckets bucket w.slot 3)); found = true }) AtLock
     next_fed known = (known.3, λ found. (known.0, known.1, known.2, λ del. refl), λ missing. absurd (cc))
@@ -139,8 +135,8 @@ module _ (buckets : ℕ) (bucket : ℕ → ℕ) (small : (key : ℕ) → bucket 
         (value_fed known (is_del op) refl)
     knows_fed AtNext p want known = subst (λ p. K (fed buckets bucket b op w AtNext (cells p)) (fed buckets bucket b op w AtNext (cells p)).stage) (some_eq (cell_at buckets bucket w.slot 3) p want) (next_fed known)
     knows_fed AtLock p want known = lock_fed known (is_free (cells p) && not (is_spent b.version_max (cells p))) (cells p)
-    knows_fed AtEnd p want known = absurd (none_some p want)
-    knows_fed Refused p want known = absurd (none_some p want)
+    knows_fed AtEnd p want known = absurd (none-some p want)
+    knows_fed Refused p want known = absurd (none-some p want)
 
   -- one more reading: the walk stays as it was, or goes on by it
   pub walk_push : (b : Bounds) (op : Op) (w : Walk) (readings : Readings) (p n : ℕ)

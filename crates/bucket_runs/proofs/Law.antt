@@ -5,6 +5,7 @@ use Rattle.std.specs.FinMap.{get}
 use Rattle.std.proofs.lemmas.Bool.Decides.{nat_tests}
 use Rattle.std.proofs.Math.Nat.{div-lt_iff_lt-mul, pow-le-pow_right}
 use Rattle.std.proofs.lemmas.Nat.{pow-add, pow_pos}
+use Rattle.std.proofs.lemmas.Option.{none-some}
 use Rattle.map_history.specs.declared.op.Op.{Op}
 use Rattle.map_history.specs.declared.op.Op.TheVariants.{Get, Ins, Del}
 use Rattle.map_history.specs.Keys.{key_of}
@@ -376,10 +377,7 @@ module _ (bits slots request : ℕ) (memory : PlainMemory) (pairs : Pairs) (op :
     top_of (suc k) e = (suc (stands.rank k), λ u on_u of. (let lower = chains_made.head_top own k u e on_u of in omega arith))
 
     new_key : (u : ℕ) → stands.on u ≡ true → made.key u ≢ made.key t
-    new_key u on_u same = none_some (sym (ap (get pairs) (same ∙ key_is) ∙ none) ∙ contents_made.pair u on_u)
-      where
-        none_some : {v : ℕ} → None ≡ Some v → ⊥
-        none_some e = cc
+    new_key u on_u same = none-some _ (sym (ap (get pairs) (same ∙ key_is) ∙ none) ∙ contents_made.pair u on_u)
 
     abbrev link_word : ℕ
     link_word = next_word (cells (thunk.lock + 2)) (value_of (t + 1))

@@ -23,7 +23,8 @@ module _ (m : Meaning) (l : Layout) (requests : List Request) (r : ℕ) (p : Par
 
   -- none of them is
   abbrev pub MayNot : ℕ → Type 0
-  MayNot number = (kind : EventKind) → kind_number kind ≡ number → IsGiven kind → is_enabled m l requests r p kind ≡ false
+  MayNot number = (kind : EventKind) → kind_number kind ≡ number → IsGiven kind
+      → is_enabled m l requests r p kind ≡ false
 
   -- a test tells whether some event of the kind with this number is enabled
   pub record Tells (number : ℕ) (test : Bool) : Type 0 where

@@ -27,7 +27,8 @@ made_load m free (Some q) = if is_open_run q then load_at (make_slot q.made free
 
 -- the private store of the next word into the cell at which a Make is, in this slot
 abbrev pub store_at : Layout → RunState → Option ℕ → Micro → Option EventKind
-store_at l q (Some slot) (micros.PrivateStore cell log value) = if can_raise l q.word then Some (kinds.PrivateStore slot cell (next_word q.word (source_value q.trail value))) else None
+store_at l q (Some slot) (micros.PrivateStore cell log value) =
+    if can_raise l q.word then Some (kinds.PrivateStore slot cell (next_word q.word (source_value q.trail value))) else None
 store_at l q _ _ = None
 
 -- the private store that a run makes next

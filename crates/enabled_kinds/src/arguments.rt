@@ -42,8 +42,10 @@ pub fn may_scan<S: Structure>(
 ) -> bool
     requires limits { IsWithinLimits layout }
     requires few { length requests.now ≤ 131072 }
-    ensures scanning { (e : ℕ) (next : ℕ) (clear : Bool) → part.now.stage ≡ Scanning e next clear → result ≡ is_enabled (S.meaning structure.now) layout requests.now runner part.now (kinds.ScanOne next) }
-    ensures no_scan { ((e : ℕ) (next : ℕ) (clear : Bool) → part.now.stage ≡ Scanning e next clear → ⊥) → result ≡ false }
+    ensures scanning { (e : ℕ) (next : ℕ) (clear : Bool) → part.now.stage ≡ Scanning e next clear
+        → result ≡ is_enabled (S.meaning structure.now) layout requests.now runner part.now (kinds.ScanOne next) }
+    ensures no_scan { ((e : ℕ) (next : ℕ) (clear : Bool) → part.now.stage ≡ Scanning e next clear → ⊥)
+        → result ≡ false }
 {
     match part.stage {
         Stage::Scanning {
@@ -72,8 +74,11 @@ pub fn may_walk<S: Structure>(
 ) -> bool
     requires limits { IsWithinLimits layout }
     requires few { length requests.now ≤ 131072 }
-    ensures found { result ≡ true → (place : ℕ) × (is_enabled (S.meaning structure.now) layout requests.now runner part.now (kinds.LoadCell (Some place)) ≡ true) }
-    ensures missed { result ≡ false → (place : ℕ) → place < (sizes_for (S.meaning structure.now) layout requests.now).cells → is_enabled (S.meaning structure.now) layout requests.now runner part.now (kinds.LoadCell (Some place)) ≡ false }
+    ensures found { result ≡ true
+        → (place : ℕ) × (is_enabled (S.meaning structure.now) layout requests.now runner part.now (kinds.LoadCell (Some place)) ≡ true) }
+    ensures missed { result ≡ false → (place : ℕ)
+        → place < (sizes_for (S.meaning structure.now) layout requests.now).cells
+        → is_enabled (S.meaning structure.now) layout requests.now runner part.now (kinds.LoadCell (Some place)) ≡ false }
 {
     for place in 0..sizes_for(structure, layout, requests).cells {
         let kind = EventKind::LoadCell(Some(place));
@@ -150,7 +155,8 @@ pub fn may_reread<S: Structure>(
 ) -> bool
     requires limits { IsWithinLimits layout }
     requires few { length requests.now ≤ 131072 }
-    ensures { result ≡ list_any (λ d. nat_lt d (descriptor_count layout) && is_enabled (S.meaning structure.now) layout requests.now runner part.now (kinds.PrivateLoad (slot_count layout (S.meaning structure.now).fixed_slots + d) 0)) part.now.descriptors.free }
+    ensures { result ≡ list_any (λ d. nat_lt d (descriptor_count layout)
+        && is_enabled (S.meaning structure.now) layout requests.now runner part.now (kinds.PrivateLoad (slot_count layout (S.meaning structure.now).fixed_slots + d) 0)) part.now.descriptors.free }
 {
     let slots = slot_count(structure, layout);
     let descriptors = sizes_for(structure, layout, requests).descriptors;
@@ -177,7 +183,8 @@ pub fn may_prepare<S: Structure>(
 ) -> bool
     requires limits { IsWithinLimits layout }
     requires few { length requests.now ≤ 131072 }
-    ensures { result ≡ list_any (λ d. nat_lt d (descriptor_count layout) && is_enabled (S.meaning structure.now) layout requests.now runner part.now (kinds.PrivateStore (slot_count layout (S.meaning structure.now).fixed_slots + d) 0 0)) part.now.descriptors.free }
+    ensures { result ≡ list_any (λ d. nat_lt d (descriptor_count layout)
+        && is_enabled (S.meaning structure.now) layout requests.now runner part.now (kinds.PrivateStore (slot_count layout (S.meaning structure.now).fixed_slots + d) 0 0)) part.now.descriptors.free }
 {
     let slots = slot_count(structure, layout);
     let descriptors = sizes_for(structure, layout, requests).descriptors;
@@ -282,8 +289,10 @@ pub fn may_join<S: Structure>(
 ) -> bool
     requires limits { IsWithinLimits layout }
     requires few { length requests.now ≤ 131072 }
-    ensures found { result ≡ true → (worker : ℕ) × (is_enabled (S.meaning structure.now) layout requests.now runner part.now (kinds.Join worker) ≡ true) }
-    ensures missed { result ≡ false → (worker : ℕ) → worker < layout.runners → is_enabled (S.meaning structure.now) layout requests.now runner part.now (kinds.Join worker) ≡ false }
+    ensures found { result ≡ true
+        → (worker : ℕ) × (is_enabled (S.meaning structure.now) layout requests.now runner part.now (kinds.Join worker) ≡ true) }
+    ensures missed { result ≡ false → (worker : ℕ) → worker < layout.runners
+        → is_enabled (S.meaning structure.now) layout requests.now runner part.now (kinds.Join worker) ≡ false }
 {
     for worker in 0..layout.runners {
         if may(

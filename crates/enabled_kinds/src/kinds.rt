@@ -158,7 +158,8 @@ fn may_make<S: Structure>(
     }
 }
 
-/// The kinds of step that the runner may make next: bit `k` is set exactly where some event of the kind with number `k` is enabled.
+/// The kinds of step that the runner may make next: bit `k` is set exactly where some event of the kind
+/// with number `k` is enabled.
 pub fn enabled<S: Structure>(
     part: &Part,
     structure: &S,

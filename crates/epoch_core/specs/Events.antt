@@ -19,7 +19,8 @@ pub data Event : Type 0 where
   ScanOne : (r epoch next : ℕ) (clear : Bool) → Event
   ScanLast : (r epoch next : ℕ) (clear : Bool) → Event
   Advance : (r epoch next : ℕ) → Event
-  -- node slots: one in the hand was tested, one is taken for a Make, and a Make's commit; `worn` says that a cell has the greatest version
+  -- node slots: one in the hand was tested, one is taken for a Make, and a Make's commit; `worn` says that
+  -- a cell has the greatest version
   Test : (r slot : ℕ) (worn : Bool) → Event
   TakeSlot : (r slot : ℕ) → Event
   MakeCommit : (r d index slot : ℕ) (worn : Bool) → Event
@@ -49,13 +50,16 @@ module _ (c : Counts) where
   after w (EnterLoad r) = record w { stage = upd w.stage r (Loaded w.epoch) }
   after w (Announce r e) = record w { announced = upd w.announced r e; stage = upd w.stage r Announced }
   after w (EnterAgain r) = record w { stage = upd w.stage r (Entered w.epoch) }
-  after w (Exit r) = record w { announced = upd w.announced r 0; stage = upd w.stage r Idle; holds = upd_row w.holds r (λ s. false) }
-  after w (ScanEpoch r) = record w { stage = upd w.stage r (Scanning w.epoch 0 true); clear = upd_row w.clear r (λ r'. false) }
+  after w (Exit r) =
+      record w { announced = upd w.announced r 0; stage = upd w.stage r Idle; holds = upd_row w.holds r (λ s. false) }
+  after w (ScanEpoch r) =
+      record w { stage = upd w.stage r (Scanning w.epoch 0 true); clear = upd_row w.clear r (λ r'. false) }
   after w (ScanOne r epoch next clear) = record w {
     stage = upd w.stage r (Scanning epoch (suc next) (clear && is_clear epoch (w.announced next)));
     clear = upd2 w.clear r next (is_clear epoch (w.announced next));
   }
-  after w (ScanLast r epoch next clear) = record w { stage = upd w.stage r Idle; location = after_collect w.location r epoch }
+  after w (ScanLast r epoch next clear) =
+      record w { stage = upd w.stage r Idle; location = after_collect w.location r epoch }
   after w (Advance r epoch next) = record w {
     epoch = advanced w.epoch epoch;
     stage = upd w.stage r Idle;
@@ -98,12 +102,15 @@ module _ (c : Counts) where
   Enabled w (Test r s worn) = w.location s ≡ Hand r
   Enabled w (TakeSlot r s) = (w.location s ≡ Free r) × (s < c.nodes)
   Enabled w (MakeCommit r d k s worn) = (w.holds r (slot_of d) ≡ true) × (w.role d k ≡ Makes) × (w.location s ≡ Hand r)
-  Enabled w (RetireEpoch r d k s) = ((w.retire r).loaded ≡ false) × (w.holds r (slot_of d) ≡ true) × (w.role d k ≡ Retires s) × (s < c.nodes)
+  Enabled w (RetireEpoch r d k s) =
+      ((w.retire r).loaded ≡ false) × (w.holds r (slot_of d) ≡ true) × (w.role d k ≡ Retires s) × (s < c.nodes)
       × (w.log d k ≡ 0 → w.location s ≡ Live)
-      × (w.log d k ≡ 0 → (r' : ℕ) → IsPending w r' → (w.retire r').slot ≡ s → ((w.retire r').descriptor ≡ d) × ((w.retire r').index ≡ k))
+      × (w.log d k ≡ 0 → (r' : ℕ) → IsPending w r' → (w.retire r').slot ≡ s
+      → ((w.retire r').descriptor ≡ d) × ((w.retire r').index ≡ k))
   Enabled w (RetireCommit r) = (w.retire r).loaded ≡ true
   Enabled w (WordCommit r d k word) = (w.holds r (slot_of d) ≡ true) × (w.role d k ≡ Agrees)
   Enabled w (StoreLog r d k word) = w.location (slot_of d) ≡ Free r
   Enabled w (Reach r slots) = (is_entered (w.stage r) ≡ true) × ((s : ℕ) → slots s ≡ true → MayHold w r s)
-  Enabled w (Publish r d roles) = (is_entered (w.stage r) ≡ true) × (w.location (slot_of d) ≡ Free r) × ((k : ℕ) → w.log d k ≡ 0)
+  Enabled w (Publish r d roles) =
+      (is_entered (w.stage r) ≡ true) × (w.location (slot_of d) ≡ Free r) × ((k : ℕ) → w.log d k ≡ 0)
   Enabled w (RetireDescriptor r d) = (is_entered (w.stage r) ≡ true) × (w.location (slot_of d) ≡ Live)

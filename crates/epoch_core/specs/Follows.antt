@@ -15,14 +15,17 @@ is_in_use (Worn r) = false
 is_in_use (Limbo r y) = false
 
 module _ (c : Counts) where
-  -- what has to be known of a link that an entered runner reads, or of a named descriptor, for the runner to come to hold what it names
+  -- what has to be known of a link that an entered runner reads, or of a named descriptor, for the runner
+  -- to come to hold what it names
   pub record MayFollow (w : EpochState) : Type 0 where
-    -- a link in a fixed cell or in a live slot: what it names is in use, and nobody has loaded an epoch for a Retire of it that isn't agreed
+    -- a link in a fixed cell or in a live slot: what it names is in use, and nobody has loaded an epoch for
+    -- a Retire of it that isn't agreed
     pub from_live : (r t : ℕ) → is_entered (w.stage r) ≡ true → is_in_use (w.location t) ≡ true
         → ((r' : ℕ) → IsPending w r' → (w.retire r').slot ≡ t → ⊥) → MayHold w r t
-    -- a link in a held slot that was retired in epoch `z`: what it names is in use or was retired no earlier, and so was each epoch that
-    -- was loaded for a Retire of it that isn't agreed
+    -- a link in a held slot that was retired in epoch `z`: what it names is in use or was retired no
+    -- earlier, and so was each epoch that was loaded for a Retire of it that isn't agreed
     pub from_retired : (r q p z t : ℕ) → w.holds r q ≡ true → w.location q ≡ Limbo p z → IsKept (w.location t) z
         → ((r' : ℕ) → IsPending w r' → (w.retire r').slot ≡ t → z ≤ (w.retire r').epoch) → MayHold w r t
     -- a descriptor: it is published, or was retired no earlier than the runner's epoch
-    pub descriptor : (r d : ℕ) → is_entered (w.stage r) ≡ true → IsKept (w.location (slot_of c d)) (entry_of (w.stage r)) → MayHold w r (slot_of c d)
+    pub descriptor : (r d : ℕ) → is_entered (w.stage r) ≡ true
+        → IsKept (w.location (slot_of c d)) (entry_of (w.stage r)) → MayHold w r (slot_of c d)

@@ -6,9 +6,10 @@ use Rattle.epoch_core.specs.Update.{upd, upd2}
 use Rattle.epoch_core.specs.State.{Counts, Role, Agrees, Makes, Retires, EpochState}
 use Rattle.epoch_core.specs.Events.{Event, MakeCommit, RetireCommit, Publish, after, slot_of}
 
--- the sections are numbered from 1 in the order of their publications. `section` gives the number of the one that a descriptor had
--- last, 0 for none. By section and place in its log: the slots that became live by a commit of its Make there that won, and the
--- epochs with which a commit of its Retire there that won put the slot into limbo
+-- the sections are numbered from 1 in the order of their publications. `section` gives the number of the
+-- one that a descriptor had last, 0 for none. By section and place in its log: the slots that became live
+-- by a commit of its Make there that won, and the epochs with which a commit of its Retire there that won
+-- put the slot into limbo
 pub record History : Type 0 where
   pub published : ℕ
   pub section : ℕ → ℕ
@@ -25,7 +26,8 @@ with_won found x xs = cond (found == 0) (x ∷ xs) xs
 
 -- what the event adds
 abbrev pub noted : EpochState → History → Event → History
-noted w h (MakeCommit r d k s worn) = record h { made = upd2 h.made (h.section d) k (with_won (w.log d k) s (h.made (h.section d) k)) }
+noted w h (MakeCommit r d k s worn) =
+    record h { made = upd2 h.made (h.section d) k (with_won (w.log d k) s (h.made (h.section d) k)) }
 noted w h (RetireCommit r) = let x = w.retire r in
     record h { retired = upd2 h.retired (h.section x.descriptor) x.index (with_won (w.log x.descriptor x.index) x.epoch (h.retired (h.section x.descriptor) x.index)) }
 noted w h (Publish r d roles) = record h { published = suc h.published; section = upd h.section d (suc h.published) }
@@ -74,10 +76,13 @@ module _ (c : Counts) where
     pub apart : (d d' : ℕ) → 1 ≤ h.section d → h.section d ≡ h.section d' → d ≡ d'
     pub unborn_made : (n k : ℕ) → h.published < n → h.made n k ≡ []
     pub unborn_retired : (n k : ℕ) → h.published < n → h.retired n k ≡ []
-    -- while a section's descriptor isn't free again: one commit of each agreed Make won, with the agreed slot, and none of any other
-    pub made : (d k : ℕ) → is_out (w.location (slot_of c d)) ≡ true → h.made (h.section d) k ≡ cond (is_makes (w.role d k)) (agreed_slot (w.log d k)) []
+    -- while a section's descriptor isn't free again: one commit of each agreed Make won, with the agreed
+    -- slot, and none of any other
+    pub made : (d k : ℕ) → is_out (w.location (slot_of c d)) ≡ true
+        → h.made (h.section d) k ≡ cond (is_makes (w.role d k)) (agreed_slot (w.log d k)) []
     -- one commit of each agreed Retire won, with one epoch, and none of any other
-    pub retired : (d k : ℕ) → is_out (w.location (slot_of c d)) ≡ true → length (h.retired (h.section d) k) ≡ cond (is_retires (w.role d k)) (agreed_count (w.log d k)) 0
+    pub retired : (d k : ℕ) → is_out (w.location (slot_of c d)) ≡ true
+        → length (h.retired (h.section d) k) ≡ cond (is_retires (w.role d k)) (agreed_count (w.log d k)) 0
     -- no commit of any section's Make or Retire was won twice
     pub made_once : (n k : ℕ) → length (h.made n k) ≤ 1
     pub retired_once : (n k : ℕ) → length (h.retired n k) ≤ 1

@@ -1,4 +1,5 @@
--- The lists of each runner, beside the state: a slot stands in a list exactly where its location says so, and there once.
+-- The lists of each runner, beside the state: a slot stands in a list exactly where its location says so,
+-- and there once.
 use Rattle.std.specs.Prelude.{ℕ, ◌+◌, ◌<◌, ◌≤◌, ◌≡◌, Bool, true, false, not, ◌==◌, ◌&&◌, cond, List, [], ◌∷◌, ◌++◌, map}
 use Rattle.std.specs.List.{filter}
 use Rattle.epoch_core.specs.declared.location.Location.{Location}
@@ -54,7 +55,8 @@ made_lists found worn s l = cond (found == 0) (record l { hand = without l.hand 
 
 -- a Retire's slot after its commit, which found this word
 abbrev pub retired_lists : ℕ → ℕ → ℕ → Lists → Lists
-retired_lists found s epoch l = cond (found == 0) (record l { limbo = l.limbo ++ record { slot = s; epoch = epoch } ∷ [] }) l
+retired_lists found s epoch l =
+    cond (found == 0) (record l { limbo = l.limbo ++ record { slot = s; epoch = epoch } ∷ [] }) l
 
 -- the runners' lists after an event
 abbrev pub listed : EpochState → (ℕ → Lists) → Event → ℕ → Lists
@@ -63,9 +65,11 @@ listed w l (Advance r epoch next) = upd l r (collect_lists (epoch + 1) (l r))
 listed w l (Test r s worn) = upd l r (tested_lists worn s (l r))
 listed w l (TakeSlot r s) = upd l r (record (l r) { free = without (l r).free s; hand = (l r).hand ++ s ∷ [] })
 listed w l (MakeCommit r d k s worn) = upd l r (made_lists (w.log d k) worn s (l r))
-listed w l (RetireCommit r) = let x = w.retire r in upd l r (retired_lists (w.log x.descriptor x.index) x.slot x.epoch (l r))
+listed w l (RetireCommit r) =
+    let x = w.retire r in upd l r (retired_lists (w.log x.descriptor x.index) x.slot x.epoch (l r))
 listed w l (Publish r d roles) = upd l r (record (l r) { free_descriptors = without (l r).free_descriptors d })
-listed w l (RetireDescriptor r d) = upd l r (record (l r) { limbo_descriptors = (l r).limbo_descriptors ++ record { slot = d; epoch = w.epoch } ∷ [] })
+listed w l (RetireDescriptor r d) =
+    upd l r (record (l r) { limbo_descriptors = (l r).limbo_descriptors ++ record { slot = d; epoch = w.epoch } ∷ [] })
 listed w l _ = l
 
 -- how often a number stands in a list
@@ -115,15 +119,17 @@ in_limbo r y (Free r') = 0
 in_limbo r y (Worn r') = 0
 
 module _ (c : Counts) where
-  -- each node slot and each descriptor stands once in the list that its location names, and in no other; a runner's lists of node slots
-  -- have node slots alone
+  -- each node slot and each descriptor stands once in the list that its location names, and in no other; a
+  -- runner's lists of node slots have node slots alone
   pub record IsListed (w : EpochState) (l : ℕ → Lists) : Type 0 where
     pub hand : (r s : ℕ) → s < c.nodes → times s (l r).hand ≡ in_hand r (w.location s)
     pub free : (r s : ℕ) → s < c.nodes → times s (l r).free ≡ in_free r (w.location s)
     pub worn : (r s : ℕ) → s < c.nodes → times s (l r).worn ≡ in_worn r (w.location s)
     pub limbo : (r s y : ℕ) → s < c.nodes → times_retired s y (l r).limbo ≡ in_limbo r y (w.location s)
-    pub free_descriptors : (r d : ℕ) → d < c.descriptors → times d (l r).free_descriptors ≡ in_free r (w.location (slot_of c d))
-    pub limbo_descriptors : (r d y : ℕ) → d < c.descriptors → times_retired d y (l r).limbo_descriptors ≡ in_limbo r y (w.location (slot_of c d))
+    pub free_descriptors : (r d : ℕ) → d < c.descriptors
+        → times d (l r).free_descriptors ≡ in_free r (w.location (slot_of c d))
+    pub limbo_descriptors : (r d y : ℕ) → d < c.descriptors
+        → times_retired d y (l r).limbo_descriptors ≡ in_limbo r y (w.location (slot_of c d))
     pub hand_nodes : (r s : ℕ) → c.nodes ≤ s → times s (l r).hand ≡ 0
     pub free_nodes : (r s : ℕ) → c.nodes ≤ s → times s (l r).free ≡ 0
     pub worn_nodes : (r s : ℕ) → c.nodes ≤ s → times s (l r).worn ≡ 0

@@ -30,7 +30,8 @@ abbrev pub tested : Bool → ℕ → Location
 tested true r = Worn r
 tested false r = Free r
 
--- where a slot is after this runner has collected for this epoch: node slots go to the hand, descriptors to the free list
+-- where a slot is after this runner has collected for this epoch: node slots go to the hand, descriptors to
+-- the free list
 abbrev pub collected : Bool → ℕ → ℕ → Location → Location
 collected node r epoch (Limbo r' y) = cond (r' == r && is_old y epoch) (back node r) (Limbo r' y)
 collected node r epoch Fixed = Fixed
@@ -43,7 +44,8 @@ collected node r epoch (Worn r') = Worn r'
 abbrev pub written_once : ℕ → ℕ → ℕ
 written_once found proposal = cond (found == 0) proposal found
 
--- where a Make's slot is after its commit, which found this log word: live where the commit won, otherwise back in a list
+-- where a Make's slot is after its commit, which found this log word: live where the commit won, otherwise
+-- back in a list
 abbrev pub made : ℕ → ℕ → Bool → Location
 made found r worn = cond (found == 0) Live (tested worn r)
 

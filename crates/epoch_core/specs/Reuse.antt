@@ -12,14 +12,15 @@ pub record HeldAreSafe (w : EpochState) : Type 0 where
   pub worn : (r s r' : ℕ) → w.holds r s ≡ true → w.location s ≢ Worn r'
 
 module _ (c : Counts) where
-  -- a slot that was retired in epoch `y` leaves its limbo by this event: two epochs have passed since, nobody holds the slot,
-  -- and everybody who is entered came later
+  -- a slot that was retired in epoch `y` leaves its limbo by this event: two epochs have passed since,
+  -- nobody holds the slot, and everybody who is entered came later
   pub record MayLeave (w : EpochState) (e : Event) (s y : ℕ) : Type 0 where
     pub passed : y + 2 ≤ (after c w e).epoch
     pub unheld : (r : ℕ) → w.holds r s ≡ true → ⊥
     pub later : (r : ℕ) → is_entered (w.stage r) ≡ true → y < entry_of (w.stage r)
 
-  -- the end of a scan leaves nothing old in the runner's own limbo: nothing that was retired two epochs before the one that the scan reached
+  -- the end of a scan leaves nothing old in the runner's own limbo: nothing that was retired two epochs
+  -- before the one that the scan reached
   abbrev pub LeavesNothingOld : Type 0
   LeavesNothingOld = (w : EpochState) (r x n : ℕ) (b : Bool) (s y : ℕ)
       → ((after c w (ScanLast r x n b)).location s ≡ Limbo r y → x < y + 2)

@@ -17,15 +17,18 @@ alone role k = cond (k == 0) role Agrees
 
 -- the worker enters, and its first section makes the slot
 abbrev pub making : List Event
-making = EnterLoad 0 ∷ Announce 0 1 ∷ EnterAgain 0 ∷ Publish 0 0 (alone Makes) ∷ TakeSlot 0 0 ∷ MakeCommit 0 0 0 0 false ∷ RetireDescriptor 0 0 ∷ []
+making = EnterLoad 0 ∷ Announce 0 1 ∷ EnterAgain 0 ∷ Publish 0 0 (alone Makes) ∷ TakeSlot 0 0
+    ∷ MakeCommit 0 0 0 0 false ∷ RetireDescriptor 0 0 ∷ []
 
 -- its second section retires it, and the worker exits
 abbrev pub retiring : List Event
-retiring = Reach 0 (λ s. s == 0) ∷ Publish 0 1 (alone (Retires 0)) ∷ RetireEpoch 0 1 0 0 ∷ RetireCommit 0 ∷ RetireDescriptor 0 1 ∷ Exit 0 ∷ []
+retiring = Reach 0 (λ s. s == 0) ∷ Publish 0 1 (alone (Retires 0)) ∷ RetireEpoch 0 1 0 0 ∷ RetireCommit 0
+    ∷ RetireDescriptor 0 1 ∷ Exit 0 ∷ []
 
 -- it scans twice, and the slot is tested
 abbrev pub collecting : List Event
-collecting = ScanEpoch 0 ∷ ScanOne 0 1 0 true ∷ ScanOne 0 1 1 true ∷ Advance 0 1 2 ∷ ScanEpoch 0 ∷ ScanOne 0 2 0 true ∷ ScanOne 0 2 1 true ∷ Advance 0 2 2 ∷ Test 0 0 false ∷ []
+collecting = ScanEpoch 0 ∷ ScanOne 0 1 0 true ∷ ScanOne 0 1 1 true ∷ Advance 0 1 2 ∷ ScanEpoch 0
+    ∷ ScanOne 0 2 0 true ∷ ScanOne 0 2 1 true ∷ Advance 0 2 2 ∷ Test 0 0 false ∷ []
 
 -- the states after each part
 abbrev pub made_state : EpochState
@@ -48,4 +51,5 @@ pub record ComesRound : Type 0 where
   pub epoch : last_state.epoch ≡ 3
   -- the first section's Make was won with slot 0, the second's Retire with epoch 1
   pub made : (noted_all few (first_state all_free) no_history (making ++ retiring ++ collecting)).made 1 0 ≡ 0 ∷ []
-  pub retired : (noted_all few (first_state all_free) no_history (making ++ retiring ++ collecting)).retired 2 0 ≡ 1 ∷ []
+  pub retired : (noted_all few (first_state all_free) no_history (making ++ retiring
+      ++ collecting)).retired 2 0 ≡ 1 ∷ []

@@ -21,7 +21,8 @@ no_lists = record { hand = []; free = []; worn = []; limbo = []; free_descriptor
 
 -- runner 0 has them all
 abbrev pub all_listed : Counts → ℕ → Lists
-all_listed c r = cond (r == 0) (record no_lists { free = below c.nodes; free_descriptors = below c.descriptors }) no_lists
+all_listed c r =
+    cond (r == 0) (record no_lists { free = below c.nodes; free_descriptors = below c.descriptors }) no_lists
 
 -- it is a first state, and its lists say where the slots are
 pub record Starts (c : Counts) : Type 0 where

@@ -5,20 +5,22 @@ use Rattle.epoch_core.specs.declared.stage.Stage.TheVariants.{Idle, Loaded, Anno
 use Rattle.epoch_core.specs.declared.location.Location.{Location}
 use Rattle.epoch_core.specs.declared.location.Location.TheVariants.{Fixed, Live, Hand, Free, Worn, Limbo}
 
--- how many workers there are, which is the keeper's number too, how many node slots, and how many descriptors, whose slot numbers come
--- after those of the node slots
+-- how many workers there are, which is the keeper's number too, how many node slots, and how many
+-- descriptors, whose slot numbers come after those of the node slots
 pub record Counts : Type 0 where
   pub runners : ℕ
   pub nodes : ℕ
   pub descriptors : ℕ
 
--- what a section commits at one place of its log: a word that it loaded, the slot of a Make, or the slot that a Retire names
+-- what a section commits at one place of its log: a word that it loaded, the slot of a Make, or the slot
+-- that a Retire names
 pub data Role : Type 0 where
   Agrees : Role
   Makes : Role
   Retires : (slot : ℕ) → Role
 
--- a Retire at which a runner is, for which it has loaded the epoch: the section's descriptor, the place in its log, the slot and the epoch
+-- a Retire at which a runner is, for which it has loaded the epoch: the section's descriptor, the place in
+-- its log, the slot and the epoch
 pub record Retiring : Type 0 where
   pub loaded : Bool
   pub descriptor : ℕ
@@ -30,8 +32,9 @@ pub record Retiring : Type 0 where
 abbrev pub no_retire : Retiring
 no_retire = record { loaded = false; descriptor = 0; index = 0; slot = 0; epoch = 0 }
 
--- by runner: its announcement, its stage, which announcements it has found idle or of its epoch in its scan, what it holds, and
--- its Retire; by slot: where it is; by descriptor and place in the log: what the section commits there, and the word that stands there
+-- by runner: its announcement, its stage, which announcements it has found idle or of its epoch in its
+-- scan, what it holds, and its Retire; by slot: where it is; by descriptor and place in the log: what the
+-- section commits there, and the word that stands there
 pub record EpochState : Type 0 where
   pub epoch : ℕ
   pub announced : ℕ → ℕ
@@ -84,8 +87,8 @@ IsKept (Hand r) entry = ⊥
 IsKept (Free r) entry = ⊥
 IsKept (Worn r) entry = ⊥
 
--- an entered runner may come to hold this slot: it may be held with the runner's entry, and each epoch that was loaded for a Retire of
--- it of which nothing is agreed yet is no earlier than the entry
+-- an entered runner may come to hold this slot: it may be held with the runner's entry, and each epoch that
+-- was loaded for a Retire of it of which nothing is agreed yet is no earlier than the entry
 pub record MayHold (w : EpochState) (r s : ℕ) : Type 0 where
   pub kept : IsKept (w.location s) (entry_of (w.stage r))
   pub retires : (r' : ℕ) → IsPending w r' → (w.retire r').slot ≡ s → entry_of (w.stage r) ≤ (w.retire r').epoch

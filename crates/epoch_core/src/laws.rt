@@ -26,8 +26,8 @@ pub fn schedules_meet_the_invariant()
         → AllEnabled c (first_state location) es → IsSound c (after_all c (first_state location) es) }
 {}
 
-/// After every list of enabled events each node slot and each descriptor stands exactly once in the list that its location names,
-/// and in no other list of any runner.
+/// After every list of enabled events each node slot and each descriptor stands exactly once in the list
+/// that its location names, and in no other list of any runner.
 pub fn slots_stand_in_one_list()
     ensures { (c : Counts) (location : ℕ → Location) (l : ℕ → Lists) (es : List Event) → IsFirst c location
         → IsListed c (first_state location) l → AllEnabled c (first_state location) es
@@ -39,8 +39,8 @@ pub fn the_machine_can_start()
     ensures { (c : Counts) → Starts c }
 {}
 
-/// An example in which every kind of step of a slot's life may come: a slot is made by one section, retired by the next, and free
-/// again two epochs later.
+/// An example in which every kind of step of a slot's life may come: a slot is made by one section, retired
+/// by the next, and free again two epochs later.
 pub fn a_slot_comes_round()
     ensures { ComesRound }
 {}
@@ -57,8 +57,8 @@ pub fn held_slots_are_safe()
         → AllEnabled c (first_state location) es → HeldAreSafe (after_all c (first_state location) es) }
 {}
 
-/// A retired slot leaves limbo only when two epochs have passed, nobody holds it, and whoever is entered came later. The end of
-/// a scan takes every such slot from the runner's own limbo.
+/// A retired slot leaves limbo only when two epochs have passed, nobody holds it, and whoever is entered
+/// came later. The end of a scan takes every such slot from the runner's own limbo.
 pub fn slots_leave_limbo_late()
     ensures late { (c : Counts) → LeavesLate c }
     ensures all_old { (c : Counts) → LeavesNothingOld c }
@@ -69,30 +69,33 @@ pub fn links_may_be_followed()
     ensures { (c : Counts) (w : EpochState) → IsSound c w → MayFollow c w }
 {}
 
-/// A Make goes on with the agreed slot, and its own slot comes back where its commit lost. A Retire moves its slot into one
-/// limbo list where its commit won, and moves nothing where it lost.
+/// A Make goes on with the agreed slot, and its own slot comes back where its commit lost. A Retire moves
+/// its slot into one limbo list where its commit won, and moves nothing where it lost.
 pub fn lost_commits_give_back()
     ensures make { (c : Counts) (w : EpochState) (r d k s : ℕ) (worn : Bool) → MakeGoesOn c w r d k s worn }
     ensures retire { (c : Counts) (w : EpochState) (r : ℕ) → RetireGoesOn c w r }
 {}
 
-/// After every list of enabled events, each agreed Make and each agreed Retire of a section whose descriptor isn't free again
-/// was committed by exactly one commit that won, and no Make and no Retire of any section by two.
+/// After every list of enabled events, each agreed Make and each agreed Retire of a section whose
+/// descriptor isn't free again was committed by exactly one commit that won, and no Make and no Retire of
+/// any section by two.
 pub fn commits_are_won_once()
     ensures { (c : Counts) (location : ℕ → Location) (es : List Event) → IsFirst c location
         → AllEnabled c (first_state location) es
         → IsExact c (after_all c (first_state location) es) (noted_all c (first_state location) no_history es) }
 {}
 
-/// What was won stays won: an event adds to the history, and changes nothing that stands in it. It adds nothing to what was won for
-/// a section whose descriptor is free again. A slot comes to be live only from a hand, by one commit of a Make that won, and goes
-/// into limbo only from live, by one commit of a Retire that won; a slot that leaves a hand otherwise goes back to that runner's
-/// free or worn list.
+/// What was won stays won: an event adds to the history, and changes nothing that stands in it. It adds
+/// nothing to what was won for a section whose descriptor is free again. A slot comes to be live only from
+/// a hand, by one commit of a Make that won, and goes into limbo only from live, by one commit of a Retire
+/// that won; a slot that leaves a hand otherwise goes back to that runner's free or worn list.
 pub fn the_history_lasts()
-    ensures stays { (c : Counts) (w : EpochState) (h : History) (e : Event) → Enabled c w e → IsSound c w → IsExact c w h
+    ensures stays { (c : Counts) (w : EpochState) (h : History) (e : Event) → Enabled c w e → IsSound c w
+        → IsExact c w h
         → Lasts h (noted w h e) }
     ensures freed { (c : Counts) (w : EpochState) (h : History) (e : Event) → Enabled c w e → IsSound c w
         → FreedStay c w (after c w e) h (noted w h e) }
-    ensures moves { (c : Counts) (w : EpochState) (h : History) (e : Event) → Enabled c w e → IsSound c w → IsExact c w h
+    ensures moves { (c : Counts) (w : EpochState) (h : History) (e : Event) → Enabled c w e → IsSound c w
+        → IsExact c w h
         → SlotsMove c w (after c w e) h (noted w h e) }
 {}

@@ -1,8 +1,8 @@
 //! Epochs and slots: no slot is given out again while somebody holds it.
 //!
-//! The definitions stand in specs: `State` is the state, `Events` its events, `Sound` the invariant, `Reuse`, `Commits` and
-//! `History` what follows. `laws` has each law on a contract, `stage` and `location` where runners and slots are, and
-//! `scan` the decisions of a scan.
+//! The definitions stand in specs: `State` is the state, `Events` its events, `Sound` the invariant,
+//! `Reuse`, `Commits` and `History` what follows. `laws` has each law on a contract, `stage` and `location`
+//! where runners and slots are, and `scan` the decisions of a scan.
 #![tactic(auto)]
 
 mod laws;

@@ -23,8 +23,8 @@ pub enum Location {
 impl Location {
     ghost use Rattle.epoch_core.specs.Moves.{collected, made, retired};
 
-    /// Where the slot is after this runner has collected for this epoch. What was retired two epochs before it leaves the
-    /// runner's own limbo: a node slot to the hand, a descriptor to the free list.
+    /// Where the slot is after this runner has collected for this epoch. What was retired two epochs before
+    /// it leaves the runner's own limbo: a node slot to the hand, a descriptor to the free list.
     pub fn collected(self, is_node: bool, runner: u32, epoch: u64) -> Location
         ensures { result ≡ collected is_node runner epoch self }
     {
@@ -43,8 +43,8 @@ impl Location {
         }
     }
 
-    /// Where a Make's slot is after its commit, which found this log word: live where the commit won, and otherwise back in
-    /// the runner's free list, or in its worn list where a cell has the greatest version.
+    /// Where a Make's slot is after its commit, which found this log word: live where the commit won, and
+    /// otherwise back in the runner's free list, or in its worn list where a cell has the greatest version.
     pub fn made(found: u64, runner: u32, is_worn: bool) -> Location
         ensures { result ≡ made found runner is_worn }
     {
@@ -57,8 +57,8 @@ impl Location {
         }
     }
 
-    /// Where a Retire's slot is after its commit, which found this log word: in this runner's limbo, with the epoch that it
-    /// loaded, where the commit won, and otherwise where it was.
+    /// Where a Retire's slot is after its commit, which found this log word: in this runner's limbo, with
+    /// the epoch that it loaded, where the commit won, and otherwise where it was.
     pub fn retired(self, found: u64, runner: u32, epoch: u64) -> Location
         ensures { result ≡ retired found runner epoch self }
     {

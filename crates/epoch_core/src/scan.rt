@@ -12,8 +12,8 @@ pub fn is_clear(epoch: u64, found: u64) -> bool
     found == 0 || found == epoch
 }
 
-/// Whether the scan ends with the announcement `next`, and no advance is tried: it was the keeper's, the last one, and some
-/// announcement stands in the way or the epoch is the last.
+/// Whether the scan ends with the announcement `next`, and no advance is tried: it was the keeper's, the
+/// last one, and some announcement stands in the way or the epoch is the last.
 pub fn is_over(runners: u32, epoch: u64, next: u32, clear: bool) -> bool
     ensures { result ≡ is_over runners epoch next clear }
 {
@@ -28,7 +28,8 @@ pub fn advanced(found: u64, epoch: u64) -> u64
     if found == epoch { epoch + 1 } else { found }
 }
 
-/// Whether a slot that was retired in this epoch may be used again, now that the other one is reached: two epochs have passed.
+/// Whether a slot that was retired in this epoch may be used again, now that the other one is reached: two
+/// epochs have passed.
 pub fn is_old(retired: u64, epoch: u64) -> bool
     ensures { result ≡ is_old retired epoch }
 {

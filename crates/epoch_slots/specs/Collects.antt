@@ -54,7 +54,8 @@ module _ {T : Type 0} where
     -- the announcements from this one on are loaded, one after the other, and hold this
     abbrev pub Scans : ℕ → List ℕ → RunnerState T → RunnerState T → Type 0
     Scans next [] r r' = r' ≡ r
-    Scans next (found ∷ rest) r r' = (s : RunnerState T) × Makes m (kinds.ScanOne next) found r s × Scans (next + 1) rest s r'
+    Scans next (found ∷ rest) r r' =
+        (s : RunnerState T) × Makes m (kinds.ScanOne next) found r s × Scans (next + 1) rest s r'
 
     -- the cells of a slot from this one on are loaded, one after the other, and hold these words
     abbrev pub Looks : ℕ → ℕ → List ℕ → RunnerState T → RunnerState T → Type 0
@@ -73,7 +74,8 @@ module _ {T : Type 0} where
     abbrev pub AreTested : List ℕ → List Bool → RunnerState T → RunnerState T → Type 0
     AreTested [] wears r r' = (wears ≡ []) × (r' ≡ r)
     AreTested (slot ∷ slots) [] r r' = ⊥
-    AreTested (slot ∷ slots) (worn ∷ wears) r r' = (s : RunnerState T) × IsTested slot worn r s × AreTested slots wears s r'
+    AreTested (slot ∷ slots) (worn ∷ wears) r r' =
+        (s : RunnerState T) × IsTested slot worn r s × AreTested slots wears s r'
 
     -- an advance is tried exactly where it may be: the scan is for the epoch after it then, won or lost
     abbrev pub Advances : ℕ → Bool → ℕ → RunnerState T → RunnerState T → Type 0
@@ -91,8 +93,8 @@ module _ {T : Type 0} where
       pub at : IsAt new (stages.Scanning epoch runners clear) None
       pub keeps : KeepsOwn old new
 
-    -- the last announcement is loaded, and the advance tried where it may be: what was retired two epochs before the one reached
-    -- leaves limbo
+    -- the last announcement is loaded, and the advance tried where it may be: what was retired two epochs
+    -- before the one reached leaves limbo
     pub record EndsScan (last epoch : ℕ) (clear : Bool) (old new : RunnerState T) : Type 0 where
       pub found : ℕ
       pub reached : ℕ
@@ -107,9 +109,9 @@ module _ {T : Type 0} where
       pub finished : new.part.records.finished ≡ old.part.records.finished
       pub shown : IsShown new
 
-    -- one scan: the epoch is loaded, then every announcement; where each was idle or the epoch, and that isn't the last one, one
-    -- exchange takes the epoch on; what was retired two epochs before the one reached leaves limbo, nothing else does, and each
-    -- node slot that leaves is tested
+    -- one scan: the epoch is loaded, then every announcement; where each was idle or the epoch, and that
+    -- isn't the last one, one exchange takes the epoch on; what was retired two epochs before the one
+    -- reached leaves limbo, nothing else does, and each node slot that leaves is tested
     pub record Collects (old new : RunnerState T) : Type 0 where
       pub epoch : ℕ
       pub found : List ℕ

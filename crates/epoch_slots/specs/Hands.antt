@@ -20,7 +20,8 @@ looked n slot cell worn = if cell == 0 then n
 
 -- the own node slots once the first slots of the hand came back, and these are still in it
 abbrev pub given_back : NodesState → List ℕ → List ℕ → List Bool → NodesState
-given_back n done rest wears = record n { free = n.free ++ unworn done wears; hand = rest; worn = n.worn ++ worn_out done wears }
+given_back n done rest wears =
+    record n { free = n.free ++ unworn done wears; hand = rest; worn = n.worn ++ worn_out done wears }
 
 module _ {T : Type 0} where
   -- what stays while node slots are looked at

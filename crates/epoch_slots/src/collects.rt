@@ -26,7 +26,8 @@ fn may_advance(epoch: u64, clear: bool, found: u64) -> bool
     is_still_clear(epoch, clear, found) && epoch < LAST_EPOCH
 }
 
-/// Loads the epoch, and then the workers' announcements one after the other. Gives the epoch, and whether each was idle or the epoch.
+/// Loads the epoch, and then the workers' announcements one after the other. Gives the epoch, and whether
+/// each was idle or the epoch.
 fn scan<S: Structure>(table: &FlockTable<S>, runner: Runner<S>) -> (Runner<S>, u64, bool)
     requires own { IsOf table.now runner }
     requires idle { IsAt runner stages.Idle None }
@@ -44,8 +45,8 @@ fn scan<S: Structure>(table: &FlockTable<S>, runner: Runner<S>) -> (Runner<S>, u
     (runner, epoch, clear)
 }
 
-/// Loads the last announcement, the keeper's, and tries the advance where it may. What has waited long enough is in the hand then, the
-/// descriptors among it in the free list.
+/// Loads the last announcement, the keeper's, and tries the advance where it may. What has waited long
+/// enough is in the hand then, the descriptors among it in the free list.
 fn finish<S: Structure>(
     table: &FlockTable<S>,
     runner: Runner<S>,
@@ -65,13 +66,14 @@ fn finish<S: Structure>(
     }
 }
 
-/// One scan of the announcements, and one try to take the epoch on, where every announcement was idle or the epoch. What was retired two
-/// epochs before the one that the scan reached leaves limbo, and nothing else does: descriptors go to the free list, and of a node slot
-/// the five cells are loaded, by which it goes to the free list or, where one is at the greatest version, to the worn list, in limbo's
-/// order.
+/// One scan of the announcements, and one try to take the epoch on, where every announcement was idle or
+/// the epoch. What was retired two epochs before the one that the scan reached leaves limbo, and nothing
+/// else does: descriptors go to the free list, and of a node slot the five cells are loaded, by which it
+/// goes to the free list or, where one is at the greatest version, to the worn list, in limbo's order.
 ///
-/// The runner has to be idle with an empty hand. There is no refusal, and no memory is taken. It makes 2 steps and one for each runner,
-/// one more where the advance is tried, and five for each node slot that leaves limbo (Fraser, 2004).
+/// The runner has to be idle with an empty hand. There is no refusal, and no memory is taken. It makes 2
+/// steps and one for each runner, one more where the advance is tried, and five for each node slot that
+/// leaves limbo (Fraser, 2004).
 pub fn collect<S: Structure>(table: &FlockTable<S>, runner: Runner<S>) -> Runner<S>
     requires own { IsOf table.now runner }
     requires tidy { IsTidy runner }

@@ -8,8 +8,9 @@ ghost use Rattle.epoch_slots.specs.Entries.{HasLeave, Enters, Exits};
 use runner_parts::Structure;
 use version_words::{FlockTable, Runner};
 
-/// Enters: loads the epoch, announces it, and loads it again. The runner is entered with what the second load gave, and its
-/// readings begin anew. From now on no slot that it reads is used again before it leaves.
+/// Enters: loads the epoch, announces it, and loads it again. The runner is entered with what the second
+/// load gave, and its readings begin anew. From now on no slot that it reads is used again before it
+/// leaves.
 ///
 /// The runner has to be idle. There is no refusal, no memory is taken, and there are three atomic steps (Fraser, 2004).
 pub fn enter<S: Structure>(table: &FlockTable<S>, runner: Runner<S>) -> Runner<S>
@@ -26,8 +27,8 @@ pub fn enter<S: Structure>(table: &FlockTable<S>, runner: Runner<S>) -> Runner<S
 
 /// Leaves: announces that the runner is idle, in one atomic step.
 ///
-/// The runner has to be entered, in no run, and without a published section that it hasn't retired. There is no refusal, and no
-/// memory is taken.
+/// The runner has to be entered, in no run, and without a published section that it hasn't retired. There
+/// is no refusal, and no memory is taken.
 pub fn exit<S: Structure>(table: &FlockTable<S>, runner: Runner<S>) -> Runner<S>
     requires own { IsOf table.now runner }
     requires entered { HasLeave runner }

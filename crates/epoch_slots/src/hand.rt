@@ -10,7 +10,8 @@ ghost use Rattle.epoch_slots.specs.Hands.{IsLookedAt, HandIsOwn, IsBack};
 use runner_parts::Structure;
 use version_words::{FlockTable, Runner};
 
-/// Loads the slot's five cells, by which it goes to the free list or, where one is at the greatest version, to the worn list.
+/// Loads the slot's five cells, by which it goes to the free list or, where one is at the greatest version,
+/// to the worn list.
 fn look_at<S: Structure>(table: &FlockTable<S>, runner: Runner<S>, slot: u32) -> Runner<S>
     requires own { IsOf table.now runner }
     requires at { IsAt runner stages.Idle None }

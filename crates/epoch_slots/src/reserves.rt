@@ -47,8 +47,8 @@ fn counts<S: Structure>(runner: &Runner<S>, kind: Kind) -> Short
     }
 }
 
-/// The runner, if at least `n` of its own slots of this kind are free; else the runner and the counts. Nothing changes, and no step is
-/// made.
+/// The runner, if at least `n` of its own slots of this kind are free; else the runner and the counts.
+/// Nothing changes, and no step is made.
 pub fn reserve<S: Structure>(
     runner: Runner<S>,
     kind: Kind,

@@ -37,4 +37,5 @@ abbrev pub Stops : PrintStop → Gen → (before after : Option (List ℕ)) → 
 Stops (TooManyRequests count) plan before after faults_before faults_after =
     (count ≡ plan.traces * plan.length) × (131072 < count) × (after ≡ before) × (faults_after ≡ faults_before)
 Stops Memory plan before after faults_before faults_after = (after ≡ before) × (faults_after ≡ faults_before)
-Stops WriteFault plan before after faults_before faults_after = Rose faults_before faults_after × PrintsInPart plan before after
+Stops WriteFault plan before after faults_before faults_after =
+    Rose faults_before faults_after × PrintsInPart plan before after

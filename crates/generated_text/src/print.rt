@@ -48,7 +48,8 @@ pub fn print_generated<K: Sink>(alloc: Global, plan: &Gen, sink: &mut K) -> Resu
     ensures read { OnOk result (IsRead plan.now) }
     ensures steady { OnOk result (K.faults sink.new ≡ K.faults sink.old) }
     ensures stops { IfErr result (λ stop. Stops stop plan.now (K.held sink.old) (K.held sink.new) (K.faults sink.old) (K.faults sink.new)) }
-    ensures limit { 131072 < plan.now.traces * plan.now.length → result ≡ Err (TooManyRequests (plan.now.traces * plan.now.length)) }
+    ensures limit { 131072 < plan.now.traces * plan.now.length
+        → result ≡ Err (TooManyRequests (plan.now.traces * plan.now.length)) }
 {
     let count = plan.traces * plan.length;
     if count > MAX_REQUESTS {

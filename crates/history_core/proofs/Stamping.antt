@@ -1,6 +1,7 @@
 -- Each event keeps the invariant: a run tries to write the stamp of its section's request.
 use Rattle.std.proofs.Common.{◌≡◌, ◌≢◌, ℕ, suc, ◌<◌, ◌≤◌, Bool, true, false, length, refl, sym, ap, ◌∙◌, subst, inl, inr, ⊎_elim, arith}
 use Rattle.std.specs.Prelude.{◌/◌, ◌⊎◌, max, Contains}
+use Rattle.std.proofs.lemmas.Bool.{true≢false}
 use mathlib.Core.Logic.{dite}
 use native.Mathlib.Decide.{ℕ_discrete}
 use Rattle.map_history.specs.Keys.{DependsOn, HaveNoCommonKey}
@@ -145,10 +146,7 @@ module _ (c : Requests) (w : HistoryState) where
   last r lead clock h map = all_of (λ x. is_earlier x (entry r) ≡ false → HaveNoCommonKey x.op (c.op (w.request (w.run r)))) w.history (λ x at later key a b.
       let stamp = h.history.stamps x at in
       let low = clock.keys map r x.number key lead.loaded lead.stage (λ none. h.history.stamped x at (stamp ∙ none)) (subst (λ op. DependsOn op key) (h.history.ops x at) a) b in
-      true_false (sym (before_by_stamp (turn_of x) (turn_of (entry r)) (let same = stamp in omega arith)) ∙ later))
-    where
-      true_false : true ≡ false → ⊥
-      true_false e = cc
+      true≢false (sym (before_by_stamp (turn_of x) (turn_of (entry r)) (let same = stamp in omega arith)) ∙ later))
 
   -- its request has no entry yet
   apart : (r : ℕ) → IsLead r → HistoryIsSound c w → (x : Stamped) → Contains w.history x → x.number ≢ w.request (w.run r)

@@ -75,11 +75,13 @@ module _ (c : Requests) where
   after w (WriteReply d) = record w { reply = upd w.reply (w.request d) (written_once (w.reply (w.request d)) (w.answer d)); stage = comes w d 4 }
   after w (SetDone d) = record w { done = upd w.done d true }
   after w (Learn r n) = record w { known = upd w.known r (upd (w.known r) n true) }
-  after w (Free d) = record w { used = upd w.used d false; by = upd w.by (w.request d) (cond (w.by (w.request d) == suc d) 0 (w.by (w.request d))) }
+  after w (Free d) =
+      record w { used = upd w.used d false; by = upd w.by (w.request d) (cond (w.by (w.request d) == suc d) 0 (w.by (w.request d))) }
 
   -- no other section that has loaded the clock and hasn't raised it has a key in common with this one
   abbrev pub IsAlone : HistoryState → ℕ → Type 0
-  IsAlone w d = (e : ℕ) → e ≢ d → w.used e ≡ true → 1 ≤ w.stage e → w.stage e ≤ 2 → HaveNoCommonKey (c.op (w.request d)) (c.op (w.request e))
+  IsAlone w d = (e : ℕ) → e ≢ d → w.used e ≡ true → 1 ≤ w.stage e → w.stage e ≤ 2
+      → HaveNoCommonKey (c.op (w.request d)) (c.op (w.request e))
 
   -- a worker may publish its next request: it knows both words of the earlier ones of the trace,
   -- and not of this one

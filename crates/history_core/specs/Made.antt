@@ -20,7 +20,8 @@ two_workers = record { is_map = true; op = asked; trace = λ n. cond (n == 0) 0 
 abbrev pub interleaved : List Event
 interleaved =
     Publish 0 0 0 (word_of New) ∷ LoadClock 0 0
-    ∷ Publish 1 1 1 (word_of New) ∷ LoadClock 1 1 ∷ StampExchange 1 ∷ RaiseClock 1 ∷ WriteReply 1 ∷ SetDone 1 ∷ Learn 1 1 ∷ Over 1
+    ∷ Publish 1 1 1 (word_of New) ∷ LoadClock 1 1 ∷ StampExchange 1 ∷ RaiseClock 1 ∷ WriteReply 1
+    ∷ SetDone 1 ∷ Learn 1 1 ∷ Over 1
     ∷ Publish 1 2 2 (word_of Gone) ∷ LoadClock 1 2 ∷ StampExchange 1 ∷ RaiseClock 2
     ∷ StampExchange 0 ∷ []
 

@@ -18,22 +18,24 @@ pub fn schedules_meet_the_invariant()
     ensures { (c : Requests) (es : List Event) → AllEnabled c first_state es → IsSound c (after_all c first_state es) }
 {}
 
-/// After every list of enabled events the stamped requests, by stamp and then by number, are a legal history: a plain map
-/// that serves them in this order gives the replies, and stamps rise along each trace. It is the only history of these
-/// stamp words.
+/// After every list of enabled events the stamped requests, by stamp and then by number, are a legal
+/// history: a plain map that serves them in this order gives the replies, and stamps rise along each trace.
+/// It is the only history of these stamp words.
 pub fn histories_are_legal()
-    ensures { (c : Requests) (es : List Event) → AllEnabled c first_state es → HistoryIsLegal c (after_all c first_state es) }
+    ensures { (c : Requests) (es : List Event) → AllEnabled c first_state es
+        → HistoryIsLegal c (after_all c first_state es) }
 {}
 
-/// The clock is at least half of a section's stamp once it was raised for it, and at most the number of stamped requests.
-/// A run's clock is loaded after its section's publication and before its stamp.
+/// The clock is at least half of a section's stamp once it was raised for it, and at most the number of
+/// stamped requests. A run's clock is loaded after its section's publication and before its stamp.
 pub fn the_clock_bounds_the_stamps()
     ensures { (c : Requests) (w : HistoryState) → IsSound c w → ClockStands c w }
 {}
 
-/// Who knows both words of a request knows that it stands once in the history, with that stamp and the reply at its place. A
-/// section's stamp is above those of all that its publisher knew when it published it. A stamped request is known to its
-/// worker, or is that of the section that the worker has published and not yet run to its end.
+/// Who knows both words of a request knows that it stands once in the history, with that stamp and the
+/// reply at its place. A section's stamp is above those of all that its publisher knew when it published
+/// it. A stamped request is known to its worker, or is that of the section that the worker has published
+/// and not yet run to its end.
 pub fn what_is_known_stands()
     ensures { (c : Requests) (w : HistoryState) → IsSound c w → KnowledgeStands c w }
 {}
@@ -43,7 +45,8 @@ pub fn closed_histories_are_answered()
     ensures { (c : Requests) (w : HistoryState) → IsSound c w → AreAllDone c w → IsClosed c w }
 {}
 
-/// No event changes a stamp, a reply, what is known, or an entry of the history, once it is there. The clock never falls.
+/// No event changes a stamp, a reply, what is known, or an entry of the history, once it is there. The
+/// clock never falls.
 pub fn words_stand()
     ensures { (c : Requests) (w : HistoryState) (e : Event) → WordsStand w (after c w e) }
 {}
@@ -53,8 +56,8 @@ pub fn changes_elsewhere_keep_the_invariant()
     ensures { (c : Requests) (w w' : HistoryState) → IsSame w w' → IsSound c w → IsSound c w' }
 {}
 
-/// An example in which the events may come: a worker loads the clock and pauses, another one serves two requests, and the first one's
-/// stamp, which is written last, stands first in the history.
+/// An example in which the events may come: a worker loads the clock and pauses, another one serves two
+/// requests, and the first one's stamp, which is written last, stands first in the history.
 pub fn a_history_is_made()
     ensures { IsMade }
 {}

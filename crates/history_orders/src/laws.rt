@@ -17,7 +17,8 @@ pub fn replays_are_legal()
 /// reply is that of the whole history's map, the replies stay those of the replay, and the final map
 /// becomes the map after its operation, although the entry isn't the last one.
 pub fn entries_are_put_in()
-    ensures entries { (e x : Stamped) (history : List Stamped) → Contains (put_in e history) x ↔ ((x ≡ e) ⊎ Contains history x) }
+    ensures entries { (e x : Stamped) (history : List Stamped)
+        → Contains (put_in e history) x ↔ ((x ≡ e) ⊎ Contains history x) }
     ensures count { (e : Stamped) (history : List Stamped) → length (put_in e history) ≡ suc (length history) }
     ensures order { (e : Stamped) (history : List Stamped) → All (λ x. x.number ≢ e.number) history → IsInOrder history
         → IsInOrder (put_in e history) }
@@ -30,7 +31,8 @@ pub fn entries_are_put_in()
 /// The stamp words and the requests determine the history: two histories of them, each with the replies
 /// of its replay, are one. No request stands in it twice.
 pub fn a_history_is_one()
-    ensures once { (op : ℕ → Op) (stamp : ℕ → ℕ) (history : List Stamped) → IsHistoryOf op stamp history → (i j : ℕ) (a b : Stamped)
+    ensures once { (op : ℕ → Op) (stamp : ℕ → ℕ) (history : List Stamped) → IsHistoryOf op stamp history
+        → (i j : ℕ) (a b : Stamped)
         → slice_get history i ≡ Some a → slice_get history j ≡ Some b → a.number ≡ b.number → i ≡ j }
     ensures one { (op : ℕ → Op) (stamp : ℕ → ℕ) (a b : List Stamped) → IsHistoryOf op stamp a → IsHistoryOf op stamp b
         → IsReplayed a → IsReplayed b → a ≡ b }

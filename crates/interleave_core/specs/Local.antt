@@ -59,15 +59,19 @@ module _ (m : Meaning) (l : Layout) (requests : List Request) where
     pub asks : (w w' : World) → HaveSamePart e.runner w w' → meets m l requests w' e ≡ meets m l requests w e
     pub enabled : (w : World) → happens m l requests w e ≡ None ↔ meets m l requests w e ≡ None
     -- every other word and every other part is as before
-    pub words : (w v : World) (a : Spot) (access : Access) → meets m l requests w e ≡ Some (a, access) → happens m l requests w e ≡ Some v → HaveOtherWords a w v
+    pub words : (w v : World) (a : Spot) (access : Access) → meets m l requests w e ≡ Some (a, access)
+        → happens m l requests w e ≡ Some v → HaveOtherWords a w v
     pub parts : (w v : World) → happens m l requests w e ≡ Some v → HaveOtherParts e.runner w v
     -- the part and the word that it met say what becomes of the two
-    pub word_after : (w w' v v' : World) (a : Spot) (access : Access) → meets m l requests w e ≡ Some (a, access) → HaveSamePart e.runner w w' → HaveSameWord a w w'
+    pub word_after : (w w' v v' : World) (a : Spot) (access : Access)
+        → meets m l requests w e ≡ Some (a, access) → HaveSamePart e.runner w w' → HaveSameWord a w w'
         → happens m l requests w e ≡ Some v → happens m l requests w' e ≡ Some v' → HaveSameWord a v v'
-    pub part_after : (w w' v v' : World) (a : Spot) (access : Access) → meets m l requests w e ≡ Some (a, access) → HaveSamePart e.runner w w' → HaveSameWord a w w'
+    pub part_after : (w w' v v' : World) (a : Spot) (access : Access)
+        → meets m l requests w e ≡ Some (a, access) → HaveSamePart e.runner w w' → HaveSameWord a w w'
         → happens m l requests w e ≡ Some v → happens m l requests w' e ≡ Some v' → HaveSamePart e.runner v v'
 
   -- a join changes no word, and of the parts only the keeper's and the worker's
   pub record JoinsTwo (e : Event) (worker : ℕ) : Type 0 where
     pub words : (w v : World) → happens m l requests w e ≡ Some v → v.words ≡ w.words
-    pub parts : (w v : World) → happens m l requests w e ≡ Some v → (i : ℕ) → i ≢ seat_of l e.runner → i ≢ suc worker → slice_get v.parts i ≡ slice_get w.parts i
+    pub parts : (w v : World) → happens m l requests w e ≡ Some v → (i : ℕ) → i ≢ seat_of l e.runner
+        → i ≢ suc worker → slice_get v.parts i ≡ slice_get w.parts i

@@ -11,12 +11,13 @@ use Rattle.machine_states.specs.Sight.{sight}
 use Rattle.reached_histories.specs.machine_invariant.specs.After.{AreAllowed}
 use Rattle.reached_histories.specs.next_steps.specs.Enabled.{NextIsEnabled, RunsGoOn}
 
--- whoever is in a run and wasn't joined has an enabled event, the next one of its opening, line or end, but where a Make finds no
--- free slot; and the machine can make it
+-- whoever is in a run and wasn't joined has an enabled event, the next one of its opening, line or end, but
+-- where a Make finds no free slot; and the machine can make it
 pub record NextStepsGo (m : Meaning) (l : Layout) (requests : List Request) (w : World) : Type 0 where
   pub enabled : NextIsEnabled m l requests (sight m l requests w)
   pub goes_on : RunsGoOn m l requests w
 
 -- so it is wherever events lead from a first state, where the layout and the requests are within their limits
 abbrev pub NextStepsAfter : Meaning → Layout → List Request → List Event → World → Type 0
-NextStepsAfter m l requests events w = IsWithinLimits l → AreAllowed requests → IsAfter m l requests events w → NextStepsGo m l requests w
+NextStepsAfter m l requests events w = IsWithinLimits l → AreAllowed requests
+    → IsAfter m l requests events w → NextStepsGo m l requests w

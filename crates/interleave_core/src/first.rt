@@ -143,7 +143,8 @@ pub fn first_parts<S: Structure>(
     layout: Layout,
 ) -> Result<Vec<Part>, AllocError>
     requires { IsWithinLimits layout }
-    ensures { IfOk result (λ v. v.items ≡ keeper_part (S.meaning structure.now) layout ∷ workers (S.meaning structure.now) layout layout.runners) }
+    ensures { IfOk result (λ v. v.items ≡ keeper_part (S.meaning structure.now) layout
+        ∷ workers (S.meaning structure.now) layout layout.runners) }
 {
     let mut parts = Vec::new(alloc);
     parts.push(keeper_part(alloc, structure, layout)?)?;

@@ -10,11 +10,13 @@ ghost use Rattle.interleave_core.specs.Local.{joined_by, IsLocal, JoinsTwo};
 
 use runner_parts::Structure;
 
-/// Every event but a join reads and changes one word and the stepping runner's part alone. A join changes no word, and of the
-/// parts only the keeper's and the worker's.
+/// Every event but a join reads and changes one word and the stepping runner's part alone. A join changes
+/// no word, and of the parts only the keeper's and the worker's.
 pub fn events_are_local<S: Structure>(structure: &S)
-    ensures others { (layout : Layout) (requests : List Request) (e : Event) → joined_by e.kind ≡ None → IsLocal (S.meaning structure.now) layout requests e }
-    ensures joins { (layout : Layout) (requests : List Request) (runner worker : ℕ) → JoinsTwo (S.meaning structure.now) layout requests (record { runner = runner; kind = Join worker }) worker }
+    ensures others { (layout : Layout) (requests : List Request) (e : Event) → joined_by e.kind ≡ None
+        → IsLocal (S.meaning structure.now) layout requests e }
+    ensures joins { (layout : Layout) (requests : List Request) (runner worker : ℕ)
+        → JoinsTwo (S.meaning structure.now) layout requests (record { runner = runner; kind = Join worker }) worker }
 {
     let _ = structure;
 }

@@ -30,7 +30,8 @@ use table_words::{Access, Layout, Sizes, Spot, word_at};
 /// Why a step wasn't made; the state is then as it was.
 #[derive(Clone, Copy, Debug, PartialEq, Eq)]
 pub enum StepError {
-    /// The runner may not make this event next. Bit `j` of `enabled` is set where it may make a step of the kind with number `j`.
+    /// The runner may not make this event next. Bit `j` of `enabled` is set where it may make a step of the
+    /// kind with number `j`.
     NotEnabled { enabled: u64 },
     /// There is no memory for the runner's lists.
     Memory,
@@ -114,7 +115,8 @@ fn knowing(keeper: Part, worker: &Part) -> Result<Part, AllocError>
     Ok(known)
 }
 
-/// The stepping runner's part as it stands at the end of the event: after a join the keeper knows also what the worker knew.
+/// The stepping runner's part as it stands at the end of the event: after a join the keeper knows also what
+/// the worker knew.
 fn settled_part(kind: &EventKind, next: Part, parts: &[Part]) -> Result<Part, AllocError>
     ensures { IfOk result (λ x. x ≡ settled_part kind.now next parts.now) }
 {
@@ -131,7 +133,8 @@ fn settled_part(kind: &EventKind, next: Part, parts: &[Part]) -> Result<Part, Al
     }
 }
 
-/// The parts after an event, with the stepping runner's part in its place; a worker that was joined makes no further step.
+/// The parts after an event, with the stepping runner's part in its place; a worker that was joined makes
+/// no further step.
 fn put_part(parts: &mut Vec<Part>, kind: &EventKind, seat: usize, next: Part)
     requires { seat < vec_len parts.old }
     ensures { parts.new.items ≡ put_part parts.old.items kind.now seat next }
@@ -158,13 +161,16 @@ fn put_word(words: &mut Vec<u64>, sizes: Sizes, spot: Spot, number: u64)
 impl<S: Structure> Machine<S> {
     /// One event. At an error the state is as it was.
     ///
-    /// `NotEnabled` comes exactly where the runner may not make this event next, by its kind or by its argument, and names the
-    /// kinds of step that it may make. `Memory` is want of memory for the runner's lists.
+    /// `NotEnabled` comes exactly where the runner may not make this event next, by its kind or by its
+    /// argument, and names the kinds of step that it may make. `Memory` is want of memory for the runner's
+    /// lists.
     pub fn step(&mut self, event: Event) -> Result<(), StepError>
         ensures event { OnOk result (happens (S.meaning self.old.structure) self.old.layout self.old.requests self.old.world event ≡ Some self.new.world) }
-        ensures refused { (enabled : ℕ) → result ≡ Err (NotEnabled enabled) → happens (S.meaning self.old.structure) self.old.layout self.old.requests self.old.world event ≡ None }
+        ensures refused { (enabled : ℕ) → result ≡ Err (NotEnabled enabled)
+            → happens (S.meaning self.old.structure) self.old.layout self.old.requests self.old.world event ≡ None }
         ensures refuses { happens (S.meaning self.old.structure) self.old.layout self.old.requests self.old.world event ≡ None → (enabled : ℕ) × (result ≡ Err (NotEnabled enabled)) }
-        ensures kinds { (enabled : ℕ) → result ≡ Err (NotEnabled enabled) → NamesEnabled (S.meaning self.old.structure) self.old.layout self.old.requests self.old.world event.runner enabled }
+        ensures kinds { (enabled : ℕ) → result ≡ Err (NotEnabled enabled)
+            → NamesEnabled (S.meaning self.old.structure) self.old.layout self.old.requests self.old.world event.runner enabled }
         ensures reached { OnOk result (Reached (S.meaning self.old.structure) self.old.layout self.old.requests self.old.world → Reached (S.meaning self.old.structure) self.old.layout self.old.requests self.new.world) }
         ensures err { OnErr result (self.new ≡ self.old) }
         ensures fixed { IsSameTable self.old self.new }
@@ -213,8 +219,8 @@ impl<S: Structure> Machine<S> {
         Ok(())
     }
 
-    /// The first state of the machine, which keeps the list of requests. These are numbered from 0 in order, in traces that never fall
-    /// along the list and are below 64, with keys up to 4,294,967,293.
+    /// The first state of the machine, which keeps the list of requests. These are numbered from 0 in
+    /// order, in traces that never fall along the list and are below 64, with keys up to 4,294,967,293.
     pub fn new(
         alloc: Global,
         structure: S,
@@ -294,7 +300,8 @@ impl<S: Structure> Machine<S> {
     /// Whether this node slot is in that runner's free list.
     pub fn is_free(&self, runner: u32, slot: u32) -> bool
         requires { runner ≤ self.now.layout.runners }
-        ensures { (p : PartState) → slice_get self.now.world.parts (seat_of self.now.layout runner) ≡ Some p → result ≡ has p.nodes.free slot }
+        ensures { (p : PartState) → slice_get self.now.world.parts (seat_of self.now.layout runner) ≡ Some p
+            → result ≡ has p.nodes.free slot }
     {
         has_free(self.part(runner), slot)
     }

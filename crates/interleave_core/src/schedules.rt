@@ -23,21 +23,24 @@ use table_words::Layout;
 /// Why there is no machine after these events.
 #[derive(Clone, Copy, Debug, PartialEq, Eq)]
 pub enum ScheduleError {
-    /// The event with this number is the first that isn't enabled. Bit `j` of `enabled` is set where its runner may make a step
-    /// of the kind with number `j` there.
+    /// The event with this number is the first that isn't enabled. Bit `j` of `enabled` is set where its
+    /// runner may make a step of the kind with number `j` there.
     NotEnabled { at: usize, enabled: u64 },
     /// There is no memory.
     Memory,
 }
 
-/// The machine after these events, from its first state on. Over every structure, whatever the events: its epochs, slots, descriptors and
-/// sections are sound, each event was exactly the events of its kind in agreement and in epochs and slots, log words and done words of runs
-/// are what they may be, and the next event leaves each cell as it is or raises its version by one. Each section that was published had its
-/// effects once, for good, or none; outcomes that were kept agree; publishers hold what the locks of their Takes named; and the next event
-/// leaves the words that stand. The stamped requests are one legal history, the clock bounds their stamps, what a worker has seen comes
-/// before what it asks next, and where no lock names a section each stamped request has its reply and the cells stand for the history's
-/// final map. Whoever is in a run and wasn't joined has an enabled event, the next one of its opening, line or end, but where a Make finds
-/// no free slot. `NotEnabled` comes exactly where an event isn't enabled, and names the first.
+/// The machine after these events, from its first state on. Over every structure, whatever the events: its
+/// epochs, slots, descriptors and sections are sound, each event was exactly the events of its kind in
+/// agreement and in epochs and slots, log words and done words of runs are what they may be, and the next
+/// event leaves each cell as it is or raises its version by one. Each section that was published had its
+/// effects once, for good, or none; outcomes that were kept agree; publishers hold what the locks of their
+/// Takes named; and the next event leaves the words that stand. The stamped requests are one legal history,
+/// the clock bounds their stamps, what a worker has seen comes before what it asks next, and where no lock
+/// names a section each stamped request has its reply and the cells stand for the history's final map.
+/// Whoever is in a run and wasn't joined has an enabled event, the next one of its opening, line or end,
+/// but where a Make finds no free slot. `NotEnabled` comes exactly where an event isn't enabled, and names
+/// the first.
 pub fn all_schedules<S: Structure>(
     alloc: Global,
     structure: S,
@@ -60,7 +63,8 @@ pub fn all_schedules<S: Structure>(
     ensures structure { IfOk result (λ x. x.structure ≡ structure) }
     ensures layout { IfOk result (λ x. x.layout ≡ layout) }
     ensures requests { IfOk result (λ x. x.requests ≡ requests.now) }
-    ensures not_enabled { (at enabled : ℕ) → result ≡ Err (NotEnabled at enabled) → StopsNaming (S.meaning structure) layout requests.now events.now at enabled }
+    ensures not_enabled { (at enabled : ℕ) → result ≡ Err (NotEnabled at enabled)
+        → StopsNaming (S.meaning structure) layout requests.now events.now at enabled }
 {
     let Ok(mut machine) = Machine::new(alloc, structure, layout, requests) else {
         return Err(ScheduleError::Memory);

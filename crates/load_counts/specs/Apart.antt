@@ -14,15 +14,18 @@ use Rattle.load_counts.specs.Counts.{counts_of, counts_text}
 
 -- the operations of a trace
 abbrev pub ops_of_trace : List Request → ℕ → List Op
-ops_of_trace requests trace = map (λ (request : Request). request.op) (filter (λ (request : Request). request.trace == trace) requests)
+ops_of_trace requests trace =
+    map (λ (request : Request). request.op) (filter (λ (request : Request). request.trace == trace) requests)
 
 -- the replies where each trace is served by itself, from the empty map on
 abbrev pub replies_alone : List Request → ℕ → List Reply
-replies_alone requests traces = flat_map (λ trace. replies_of empty (ops_of_trace requests trace)) (range_with_len 0 traces)
+replies_alone requests traces =
+    flat_map (λ trace. replies_of empty (ops_of_trace requests trace)) (range_with_len 0 traces)
 
 -- and the pairs that all of them leave together
 abbrev pub pairs_alone : List Request → ℕ → ℕ
-pairs_alone requests traces = sum_by (λ trace. len (map_after_all empty (ops_of_trace requests trace))) (range_with_len 0 traces)
+pairs_alone requests traces =
+    sum_by (λ trace. len (map_after_all empty (ops_of_trace requests trace))) (range_with_len 0 traces)
 
 -- a request's key tells its trace
 abbrev pub AreApart : List Request → ℕ → Type 0

@@ -43,7 +43,8 @@ module _ (m : Meaning) (l : Layout) (w : AgreementState) (r : ℕ) where
   -- the events of a runner's step in no run, which found this word
   abbrev pub IsOutsideChunk : EventKind → PartState → ℕ → List Event → Type 0
   -- a publication is one where the lock stood free with the thunk's word; the lock is read in any case
-  IsOutsideChunk (kinds.Hold t d) p found heads = ((found ≡ t.word) × (heads ≡ events.Read t.lock ∷ publication m d t ∷ []))
+  IsOutsideChunk (kinds.Hold t d) p found heads =
+      ((found ≡ t.word) × (heads ≡ events.Read t.lock ∷ publication m d t ∷ []))
       ⊎ ((found ≢ t.word) × (heads ≡ events.Read t.lock ∷ []))
   IsOutsideChunk kinds.EpochForRetire p found heads = (x : Published) × (p.published ≡ Some x)
       × (heads ≡ events.RetireDescriptor x.descriptor ∷ [])
@@ -51,33 +52,37 @@ module _ (m : Meaning) (l : Layout) (w : AgreementState) (r : ℕ) where
   IsOutsideChunk kinds.Advance p found heads = heads ≡ collected (collects l kinds.Advance p.stage found) p
   IsOutsideChunk (kinds.LoadCell (Some place)) p found heads = heads ≡ events.Read place ∷ []
   IsOutsideChunk (kinds.LoadThunk (Some d)) p found heads = heads ≡ events.Open r d ∷ []
-  IsOutsideChunk (kinds.PrivateStore slot word number) p found heads = (w.used (slot - slot_count l m.fixed_slots) ≡ false)
+  IsOutsideChunk (kinds.PrivateStore slot word number) p found heads =
+      (w.used (slot - slot_count l m.fixed_slots) ≡ false)
       × (heads ≡ stored (slot - slot_count l m.fixed_slots) word number)
   IsOutsideChunk _ p found heads = heads ≡ []
 
-  -- the events of a step of a run's line, which found this word: by the step of the line before which the run stands; a cell that is
-  -- exchanged is read too
+  -- the events of a step of a run's line, which found this word: by the step of the line before which the
+  -- run stands; a cell that is exchanged is read too
   abbrev pub IsLineChunk : EventKind → RunState → ℕ → List Event → Type 0
   IsLineChunk kinds.Commit q found heads = (place log : ℕ)
       × (((next_of m q ≡ micros.Commit place log) × (heads ≡ events.Commit r place log ∷ []))
       ⊎ ((next_of m q ≡ micros.NestedCommit place log) × (heads ≡ events.NestedCommit r place log ∷ [])))
   IsLineChunk (kinds.LoadCell None) q found heads = (place log : ℕ) × (next_of m q ≡ micros.LoadCell place log)
       × (heads ≡ events.LoadCell r place log ∷ [])
-  IsLineChunk kinds.ExchangeCell q found heads = (place log : ℕ) × (value : Source) × (next_of m q ≡ micros.ExchangeCell place log value)
+  IsLineChunk kinds.ExchangeCell q found heads =
+      (place log : ℕ) × (value : Source) × (next_of m q ≡ micros.ExchangeCell place log value)
       × (heads ≡ events.Read place ∷ events.ExchangeCell r place log value ∷ [])
   IsLineChunk (kinds.PrivateLoad slot cell) q found heads = (log : ℕ) × (next_of m q ≡ micros.PrivateLoad cell log)
       × (heads ≡ events.PrivateLoad r cell log (cell_of m.fixed_cells slot cell) ∷ [])
   IsLineChunk (kinds.PrivateStore slot cell number) q found heads = (log : ℕ) × (value : Source)
       × (next_of m q ≡ micros.PrivateStore cell log value) × (q.made ≡ Some slot)
       × (heads ≡ events.PrivateStore r cell log value (cell_of m.fixed_cells slot cell) number ∷ [])
-  IsLineChunk kinds.MakeCommit q found heads = (log slot : ℕ) × (next_of m q ≡ micros.MakeCommit log) × (q.made ≡ Some slot)
+  IsLineChunk kinds.MakeCommit q found heads =
+      (log slot : ℕ) × (next_of m q ≡ micros.MakeCommit log) × (q.made ≡ Some slot)
       × (heads ≡ events.MakeCommit r log (suc slot) ∷ [])
   IsLineChunk kinds.EpochForRetire q found heads = (slot log : ℕ) × (next_of m q ≡ micros.EpochForRetire slot log)
       × (heads ≡ events.EpochForRetire r slot log found ∷ [])
   IsLineChunk kinds.RetireCommit q found heads = (slot log : ℕ) × (next_of m q ≡ micros.RetireCommit slot log)
       × (heads ≡ events.RetireCommit r slot log ∷ [])
   IsLineChunk kinds.ClockLoad q found heads = (next_of m q ≡ micros.ClockLoad) × (heads ≡ events.ClockLoad r ∷ [])
-  IsLineChunk kinds.StampExchange q found heads = (next_of m q ≡ micros.StampExchange) × (heads ≡ events.StampExchange r ∷ [])
+  IsLineChunk kinds.StampExchange q found heads =
+      (next_of m q ≡ micros.StampExchange) × (heads ≡ events.StampExchange r ∷ [])
   IsLineChunk kinds.ClockRaise q found heads = (next_of m q ≡ micros.ClockRaise) × (heads ≡ events.ClockRaise r ∷ [])
   IsLineChunk kinds.ReplyExchange q found heads = (reply : ℕ) × (next_of m q ≡ micros.ReplyExchange reply)
       × (heads ≡ events.ReplyExchange r reply ∷ [])

@@ -17,8 +17,8 @@ use Rattle.machine_agreement.specs.Supplied.{AgreementIsSupplied}
 use Rattle.machine_agreement.specs.Chunks.{IsChunk}
 
 module _ (m : Meaning) (l : Layout) where
-  -- these events, and then a Pass of this runner for each check behind them that passes, lead from the one state to the other, each of
-  -- them enabled where it comes
+  -- these events, and then a Pass of this runner for each check behind them that passes, lead from the one
+  -- state to the other, each of them enabled where it comes
   pub record Leads (r : ℕ) (heads : List Event) (w w' : AgreementState) : Type 0 where
     pub passes : ℕ
     pub enabled : AllEnabled (rules_of m l) w (heads ++ replicate passes (Pass r))
@@ -30,12 +30,15 @@ module _ (m : Meaning) (l : Layout) where
     pub leads : Leads r heads w next
     pub joined : IsJoinedToAgreement m l next s
 
-  -- each step of the machine is the events of its kind, where it is supplied, and then a Pass for each check behind them that passes
+  -- each step of the machine is the events of its kind, where it is supplied, and then a Pass for each
+  -- check behind them that passes
   abbrev pub StepsAreEvents : List Request → Type 0
   StepsAreEvents requests = (w : AgreementState) (s s' : Sight) (r : ℕ) (kind : EventKind) → IsJoinedToAgreement m l w s
       → (step : Steps m l requests s s' r kind) → AgreementIsSupplied m l w s r kind (s.word (step.ask.0))
-      → (heads : List Event) × IsChunk m l w r kind (s.part r) (s.part r).run (s.word (step.ask.0)) heads × Goes r heads w s'
+      → (heads : List Event) × IsChunk m l w r kind (s.part r) (s.part r).run (s.word (step.ask.0)) heads
+      × Goes r heads w s'
 
   -- in the first state agreement has done nothing
   abbrev pub StartsJoined : List Request → Type 0
-  StartsJoined requests = (w : World) → IsFirst m l requests w → IsJoinedToAgreement m l (first_state (λ p. (sight m l requests w).word (Cell p))) (sight m l requests w)
+  StartsJoined requests = (w : World) → IsFirst m l requests w
+      → IsJoinedToAgreement m l (first_state (λ p. (sight m l requests w).word (Cell p))) (sight m l requests w)

@@ -69,9 +69,10 @@ module _ (m : Meaning) (l : Layout) where
   -- what a runner's part has to do with the component's state, where these are the table's words
   pub record IsTied (w : AgreementState) (word : Spot → ℕ) (r : ℕ) (p : PartState) : Type 0 where
     pub run : ShowsRun (w.run r) p.run
-    -- the thunk words that a run has loaded stand there; it stands at the start of its line until it has loaded all its words, and
-    -- rests from then on
-    pub opened : (q : RunState) (j : ℕ) → p.run ≡ Some q → j < length q.opened → j < 12 → slice_index q.opened j ≡ word (ThunkWord q.descriptor j)
+    -- the thunk words that a run has loaded stand there; it stands at the start of its line until it has
+    -- loaded all its words, and rests from then on
+    pub opened : (q : RunState) (j : ℕ) → p.run ≡ Some q → j < length q.opened → j < 12
+        → slice_index q.opened j ≡ word (ThunkWord q.descriptor j)
     pub begins : (q : RunState) → p.run ≡ Some q → length q.opened < 13 → (q.at ≡ 0) × (q.ended ≡ 0)
     pub rests : (q : RunState) → p.run ≡ Some q → length q.opened ≡ 13 → IsAtRest q
     -- the locks that it has released in its end

@@ -40,15 +40,20 @@ module _ (m : Meaning) (l : Layout) where
   -- what is needed for an event of this runner that found this word
   pub record AgreementIsSupplied (w : AgreementState) (s : Sight) (r : ℕ) (kind : EventKind) (found : ℕ) : Type 0 where
     -- a run that loads a cell at the edge of its open section: no other open section has come to the cell
-    pub alone : (q : RunState) (p k : ℕ) → (s.part r).run ≡ Some q → is_open_run q ≡ true → next_of m q ≡ LoadCell p k → (w.run r).at ≡ (section_of w r).edge → (section_of w r).done ≡ 0
+    pub alone : (q : RunState) (p k : ℕ) → (s.part r).run ≡ Some q → is_open_run q ≡ true
+        → next_of m q ≡ LoadCell p k → (w.run r).at ≡ (section_of w r).edge → (section_of w r).done ≡ 0
         → IsAlone w ((w.run r).descriptor) p
     -- a Make's store into a cell of its slot
-    pub private : (q : RunState) (slot cell number : ℕ) → (s.part r).run ≡ Some q → kind ≡ kinds.PrivateStore slot cell number → IsPrivateStore (rules_of m l) w (cell_of m.fixed_cells slot cell) number
+    pub private : (q : RunState) (slot cell number : ℕ) → (s.part r).run ≡ Some q
+        → kind ≡ kinds.PrivateStore slot cell number
+        → IsPrivateStore (rules_of m l) w (cell_of m.fixed_cells slot cell) number
     -- an own free descriptor isn't published; the own published one isn't retired; a held one is published
     pub unused : (d : ℕ) → has (s.part r).descriptors.free d ≡ true → w.used d ≡ false
     pub live : (x : Published) → (s.part r).published ≡ Some x → w.live x.descriptor ≡ true
     pub used : (d : ℕ) → kind ≡ kinds.LoadThunk (Some d) → has (s.part r).reads.held d ≡ true → w.used d ≡ true
     -- a section that is published now
-    pub publishes : (t : Thunk) (d : ℕ) → kind ≡ kinds.Hold t d → (s.part r).run ≡ None → found ≡ t.word → MayPublish m l w s r t d
+    pub publishes : (t : Thunk) (d : ℕ) → kind ≡ kinds.Hold t d → (s.part r).run ≡ None → found ≡ t.word
+        → MayPublish m l w s r t d
     -- the descriptors that leave limbo
-    pub idle : (epoch d : ℕ) → (s.part r).run ≡ None → collects l kind (s.part r).stage found ≡ Some epoch → has (slots_of (filter (is_old epoch) (s.part r).descriptors.limbo)) d ≡ true → IsIdle w d
+    pub idle : (epoch d : ℕ) → (s.part r).run ≡ None → collects l kind (s.part r).stage found ≡ Some epoch
+        → has (slots_of (filter (is_old epoch) (s.part r).descriptors.limbo)) d ≡ true → IsIdle w d

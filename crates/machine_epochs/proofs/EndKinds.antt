@@ -2,6 +2,7 @@
 use Rattle.std.specs.Prelude.{cond, Bool, true, false, slice_index}
 use Rattle.std.proofs.Common.{◌≡◌, ℕ, zero, suc, ◌<◌, List, [], ◌∷◌, ◌++◌, length, refl, sym, ap, ◌∙◌, subst, arith, length-append, ⊎_elim, Option, Some, None}
 use Rattle.std.proofs.lemmas.Bool.{cases_eq}
+use Rattle.std.proofs.lemmas.Option.{none-some}
 use Rattle.map_history.specs.declared.op.Request.{Request}
 use Rattle.section_body.specs.declared.micro.Micro.{Micro}
 use Rattle.section_body.specs.declared.micro.Micro.TheVariants as micros
@@ -39,12 +40,9 @@ use Rattle.machine_epochs.proofs.Places.{apart, done_elsewhere}
 use Rattle.machine_epochs.proofs.Joining.{IsSameBut, but_cell, but_load, descriptor_same, StaysAt, next, as_published, stays}
 use Rattle.machine_epochs.proofs.RunKinds.{run_goes, Leads, for_step}
 
-some_none : {A : Type 0} {x : A} {B : Type 0} → None ≡ Some x → B
-some_none e = absurd (let y = e in cc)
-
 -- what was published when a run was over, was published before
 over_back : (o : Option Published) (d : ℕ) (x : Published) → over_if o d ≡ Some x → (y : Published) × (o ≡ Some y) × (y.descriptor ≡ x.descriptor)
-over_back None d x e = some_none e
+over_back None d x e = absurd (none-some _ e)
 over_back (Some y) d x e = (y, refl, ap (λ (z : Published). z.descriptor) (some_same _ _ e))
 
 index_old : (xs : List ℕ) (x j : ℕ) → j < length xs → slice_index (xs ++ x ∷ []) j ≡ slice_index xs j
@@ -171,10 +169,10 @@ module _ (m : Meaning) (l : Layout) (w : EpochState) (s : Sight) (old : IsJoined
         → StaysAt m l w (next m l w s old r f (record now { run = None; published = over_if now.published q.descriptor; reads = reads; records = records }))
     is_over f same reads same_held walk =
         stays m l w s old r f over same refl refl (over_back now.published q.descriptor) (record {
-          run_held = λ q2 e. some_none e;
-          run_opened = λ q2 j e low low'. some_none e;
-          run_begins = λ q2 e few. some_none e;
-          run_made = λ q2 t e made. some_none e;
+          run_held = λ q2 e. absurd (none-some _ e);
+          run_opened = λ q2 j e low low'. absurd (none-some _ e);
+          run_begins = λ q2 e few. absurd (none-some _ e);
+          run_made = λ q2 t e made. absurd (none-some _ e);
           retire = unretired;
           published = λ y e. let b = over_back now.published q.descriptor y e in
               ap (λ d. w.location (slot_of (counts_of m l) d)) (sym b.2) ∙ (old.tied r).published b.0 b.1;

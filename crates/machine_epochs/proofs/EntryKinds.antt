@@ -3,6 +3,7 @@ use Rattle.std.specs.Prelude.{◌==◌, ◌&&◌, ◌||◌, not, cond, Bool, tru
 use Rattle.std.specs.List.{filter}
 use Rattle.std.proofs.Common.{◌≡◌, ◌≢◌, ℕ, suc, ◌+◌, ◌<◌, ◌≤◌, List, [], ◌∷◌, ◌++◌, map, refl, sym, ap, ◌∙◌, subst, arith, add-one, Some, None, inl, inr}
 use Rattle.std.proofs.lemmas.Bool.Decides.{nat_tests}
+use Rattle.std.proofs.lemmas.Option.{none-some}
 use Rattle.section_body.specs.declared.thunk.Thunk.{Thunk}
 use Rattle.table_words.specs.declared.layout.Layout.{Layout}
 use Rattle.table_words.specs.declared.spot.Spot.{Spot}
@@ -53,9 +54,6 @@ below_test a b p p' h = grind (arith, nat_tests)
 
 below_some : (a b x : ℕ) → a < b → cond (nat_lt a b) (Some x) None ≡ Some x
 below_some a b x h = grind (arith, nat_tests)
-
-none_some : {A : Type 0} {x : A} {B : Type 0} → None ≡ Some x → B
-none_some e = absurd (let y = e in cc)
 
 collected_hand : (node : Bool) (r e i : ℕ) (p : Location) → p ≡ Hand i → collected node r e p ≡ Hand i
 collected_hand node r e i p is = ap (collected node r e) is
@@ -140,10 +138,10 @@ module _ (m : Meaning) (l : Layout) (w : EpochState) (s : Sight) (old : IsJoined
       (λ d i out. k.role d i ∙ (old.roles d i (k.out _ out) ∙ ap (λ (t : Thunk). role_at (m.body t) i) (sym (thunk_same f s.word d (k.same.thunk d)))))
       (once m l w s old r p' (as_published m l w s old r p' k.published))
       (record {
-        run_held = λ q e'. none_some (sym k.run ∙ e');
-        run_opened = λ q j e' low low'. none_some (sym k.run ∙ e');
-        run_begins = λ q e' few. none_some (sym k.run ∙ e');
-        run_made = λ q t e' made. none_some (sym k.run ∙ e');
+        run_held = λ q e'. absurd (none-some _ (sym k.run ∙ e'));
+        run_opened = λ q j e' low low'. absurd (none-some _ (sym k.run ∙ e'));
+        run_begins = λ q e' few. absurd (none-some _ (sym k.run ∙ e'));
+        run_made = λ q t e' made. absurd (none-some _ (sym k.run ∙ e'));
         retire = k.retire r ∙ (unretired ∙ ap (retiring_of m) (sym k.run));
         published = λ x e'. k.live _ ((old.tied r).published x (sym k.published ∙ e'));
         named = k.named;

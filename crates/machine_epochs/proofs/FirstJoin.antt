@@ -1,7 +1,8 @@
 -- The first state is joined.
 use Rattle.std.specs.Prelude.{◌==◌, cond, nat_lt, Bool, true, false}
-use Rattle.std.proofs.Common.{◌≡◌, ℕ, ◌+◌, ◌-◌, ◌*◌, ◌<◌, ◌≤◌, List, [], refl, sym, ap, ◌∙◌, subst, arith, ◌⊎◌, inl, inr, ⊎_elim, Some, None}
+use Rattle.std.proofs.Common.{◌≡◌, ℕ, ◌+◌, ◌-◌, ◌*◌, ◌<◌, ◌≤◌, List, [], refl, sym, ap, ◌∙◌, subst, arith, ◌⊎◌, inl, inr, ⊎_elim, None}
 use Rattle.std.proofs.lemmas.Bool.Decides.{nat_tests}
+use Rattle.std.proofs.lemmas.Option.{none-some}
 use mathlib.Core.Path.{fun_ext}
 use Rattle.map_history.specs.declared.op.Request.{Request}
 use Rattle.table_words.specs.declared.layout.Layout.{Layout}
@@ -101,9 +102,6 @@ module _ (m : Meaning) (l : Layout) where
       by_test false true = ap (λ n. falling n l.sections) (nought (l.sections * r))
       by_test false false = refl
 
-none_some : {A : Type 0} {x : A} {B : Type 0} → None ≡ Some x → B
-none_some e = absurd (let y = e in cc)
-
 module _ (m : Meaning) (l : Layout) where
   abbrev pub begun : EpochState
   begun = first_state (first_place m l)
@@ -165,16 +163,16 @@ module _ (m : Meaning) (l : Layout) where
 
   tied : (word : Spot → ℕ) (r : ℕ) (nodes descriptors : List ℕ) → IsTied m l begun word r (first_part nodes descriptors)
   tied word r nodes descriptors = record {
-    run_held = λ q e. none_some e;
-    run_opened = λ q j e low low'. none_some e;
-    run_begins = λ q e few. none_some e;
-    run_made = λ q t e made. none_some e;
+    run_held = λ q e. absurd (none-some _ e);
+    run_opened = λ q j e low low'. absurd (none-some _ e);
+    run_begins = λ q e few. absurd (none-some _ e);
+    run_made = λ q t e made. absurd (none-some _ e);
     retire = refl;
-    published = λ x e. none_some e;
+    published = λ x e. absurd (none-some _ e);
     named = λ d isin named. absurd (let x = isin in cc);
     reached = λ t isin node there. absurd (let x = isin in cc);
-    stored_free = λ d j n last. none_some last;
-    stored = λ d j n free last. none_some last;
+    stored_free = λ d j n last. absurd (none-some _ last);
+    stored = λ d j n free last. absurd (none-some _ last);
   }
 
   module _ (rs : List Request) (w : World) (start : states.IsFirst m l rs w) where
@@ -200,6 +198,6 @@ module _ (m : Meaning) (l : Layout) where
       log = λ d k. sym (unlogged m l rs w start d k);
       past = λ d k high. unlogged m l rs w start d k;
       roles = λ d k out. absurd (let x = sym (ap is_out (at_descriptor m l d)) ∙ out in cc);
-      published_once = λ r r' x x' e e' same. none_some (sym (of_part (λ q. q.published ≡ None) (λ nodes descriptors. refl) r) ∙ e);
+      published_once = λ r r' x x' e e' same. absurd (none-some _ (sym (of_part (λ q. q.published ≡ None) (λ nodes descriptors. refl) r) ∙ e));
       tied = λ r. of_part (λ q. IsTied m l begun s.word r q) (tied s.word r) r;
     }

@@ -2,6 +2,7 @@
 use Rattle.std.specs.Prelude.{◌==◌, ◌&&◌, ◌⊎◌, cond, Bool, true, false, nat_lt, nat_le, is_none, not, slice_get}
 use Rattle.std.proofs.Common.{◌≡◌, ℕ, ◌+◌, ◌-◌, ◌<◌, ◌≤◌, List, length, sym, refl, ap, subst, inl, inr, arith, Option, Some, None}
 use Rattle.std.proofs.lemmas.Bool.Decides.{nat_tests}
+use Rattle.std.proofs.lemmas.Bool.{and_parts}
 use Rattle.map_history.specs.declared.op.Request.{Request}
 use Rattle.section_body.specs.declared.thunk.Thunk.{Thunk}
 use Rattle.section_body.specs.Word.{held_word, is_free, is_spent}
@@ -38,14 +39,10 @@ pub enter_again_asked : (stage : Stage) (x : Spot × Access) → enter_again_ask
 enter_again_asked Announced x e = (refl, some_same _ _ e)
 enter_again_asked _ x e = some_none x e
 
-both : (a b : Bool) → (a && b) ≡ true → (a ≡ true) × (b ≡ true)
-both true b e = (refl, e)
-both false b e = absurd (let x = e in cc)
-
 pub idle_asked : (r : ℕ) (p : PartState) (x : Spot × Access) → idle_ask r p ≡ Some x → (g : ℕ) × (p.stage ≡ Entered g) × (p.run ≡ None) × ((Announcement r, Stores 0) ≡ x)
 idle_asked r p x e =
     let h = if_some _ _ x e in
-    let w = walking p.stage p.run (both _ _ h.0).0 in (w.0, w.1, w.2, h.1)
+    let w = walking p.stage p.run (and_parts _ _ h.0).0 in (w.0, w.1, w.2, h.1)
 
 next_test : (n next runners : ℕ) → (n == next && nat_le next runners) ≡ true → (n ≡ next) × (next ≤ runners)
 next_test n next runners e = grind (arith, nat_tests)
@@ -76,7 +73,7 @@ entry_asked request reply p x e = (if_some _ _ x e).1
 pub read_asked : (m : Meaning) (place : ℕ) (p : PartState) (x : Spot × Access) → read_ask m place p ≡ Some x → (g : ℕ) × (p.stage ≡ Entered g) × ((Cell place, Loads) ≡ x)
 read_asked m place p x e =
     let h = if_some _ _ x e in
-    let w = walking p.stage p.run (both _ _ h.0).0 in (w.0, w.1, h.1)
+    let w = walking p.stage p.run (and_parts _ _ h.0).0 in (w.0, w.1, h.1)
 
 load_of : (b b' c : Bool) (a a' : Spot) (x : Spot × Access) → cond c (when b a Loads) (when b' a' Loads) ≡ Some x → (spot : Spot) × ((spot, Loads) ≡ x)
 load_of b b' true a a' x e = (a, (if_some b _ x e).1)
@@ -88,7 +85,7 @@ private_load_asked m l slot word p x e = load_of _ _ (nat_lt slot (slot_count l 
 load_cases : (b a t c : Bool) (n n' : Spot) (x : Spot × Access) (c' : Bool) → c ≡ c' → cond c' (when b n Loads) (when (a && t) n' Loads) ≡ Some x
     → ((c ≡ true) × (spot : Spot) × ((spot, Loads) ≡ x)) ⊎ ((c ≡ false) × (t ≡ true) × ((n', Loads) ≡ x))
 load_cases b a t c n n' x true is e = inl (is, n, (if_some b _ x e).1)
-load_cases b a t c n n' x false is e = let h = if_some (a && t) _ x e in inr (is, (both a t h.0).1, h.1)
+load_cases b a t c n n' x false is e = let h = if_some (a && t) _ x e in inr (is, (and_parts a t h.0).1, h.1)
 
 -- a private load is one of a cell of a node slot, or of a word of an own free descriptor
 pub private_load_cases : (m : Meaning) (l : Layout) (slot word : ℕ) (p : PartState) (x : Spot × Access) → private_load_ask m l slot word p ≡ Some x
@@ -145,16 +142,16 @@ serves_some m l walk t (Some q) e = (q, refl, e)
 pub hold_asked : (m : Meaning) (l : Layout) (rs : List Request) (r : ℕ) (t : Thunk) (d : ℕ) (p : PartState) (x : Spot × Access) → hold_ask m l rs r t d p ≡ Some x → HoldAsked m l rs t d p x
 hold_asked m l rs r t d p x e =
     let h = if_some _ _ x e in
-    let b = both _ _ h.0 in
-    let ready = both _ _ b.0 in
-    let own = both _ _ ready.1 in
-    let words = both _ _ own.1 in
-    let may = both _ _ b.1 in
+    let b = and_parts _ _ h.0 in
+    let ready = and_parts _ _ b.0 in
+    let own = and_parts _ _ ready.1 in
+    let words = and_parts _ _ own.1 in
+    let may = and_parts _ _ b.1 in
     let w = walking p.stage p.run may.0 in
-    let rest = both _ _ may.1 in
-    let due = both _ _ rest.1 in
-    let lock = both _ _ due.0 in
-    let request = serves_some m l p.reads.walk t (slice_get rs t.request) (both _ _ due.1).1 in
+    let rest = and_parts _ _ may.1 in
+    let due = and_parts _ _ rest.1 in
+    let lock = and_parts _ _ due.0 in
+    let request = serves_some m l p.reads.walk t (slice_get rs t.request) (and_parts _ _ due.1).1 in
     record {
       few = lt_test _ _ ready.0;
       free = own.0;
@@ -164,7 +161,7 @@ hold_asked m l rs r t d p x e =
       entered = w.1;
       unpublished = no_option p.published rest.0;
       unheld = lock.0;
-      unspent = not_so _ (both _ _ lock.1).0;
+      unspent = not_so _ (and_parts _ _ lock.1).0;
       request = request.0;
       of_request = request.1;
       serves = request.2;
@@ -174,7 +171,7 @@ hold_asked m l rs r t d p x e =
 pub open_asked : (d : ℕ) (p : PartState) (x : Spot × Access) → open_ask d p ≡ Some x → (g : ℕ) × (p.stage ≡ Entered g) × (has p.reads.held d ≡ true) × ((ThunkWord d 0, Loads) ≡ x)
 open_asked d p x e =
     let h = if_some _ _ x e in
-    let b = both _ _ h.0 in
+    let b = and_parts _ _ h.0 in
     let w = walking p.stage p.run b.0 in (w.0, w.1, b.1, h.1)
 
 over_some : (o : Option Published) → is_over o ≡ true → (y : Published) × (o ≡ Some y)
@@ -184,6 +181,6 @@ over_some (Some y) e = (y, refl)
 pub retire_asked : (p : PartState) (x : Spot × Access) → retire_ask p ≡ Some x → (g : ℕ) × (y : Published) × (p.stage ≡ Entered g) × (p.published ≡ Some y) × ((Epoch, Loads) ≡ x)
 retire_asked p x e =
     let h = if_some _ _ x e in
-    let b = both _ _ h.0 in
+    let b = and_parts _ _ h.0 in
     let w = walking p.stage p.run b.0 in
     let o = over_some p.published b.1 in (w.0, o.0, w.1, o.1, h.1)

@@ -27,11 +27,14 @@ is_last_look n slot cell = let x = test_of n.tests slot in (has n.hand slot && (
 
 -- the slot was looked at whole, of which a cell was found to have this word
 abbrev pub looked : Layout → ℕ → NodesState → ℕ → ℕ → ℕ → List Event
-looked l r n slot cell found = if is_last_look n slot cell then events.Test r slot (one_more l (test_of n.tests slot) found).worn ∷ [] else []
+looked l r n slot cell found =
+    if is_last_look n slot cell then events.Test r slot (one_more l (test_of n.tests slot) found).worn ∷ [] else []
 
--- a store of this number into this word of a descriptor: the thunk words and the done word are no words of epochs and slots
+-- a store of this number into this word of a descriptor: the thunk words and the done word are no words of
+-- epochs and slots
 abbrev pub stored : ℕ → ℕ → ℕ → ℕ → List Event
-stored r d word number = if nat_lt word 12 then [] else (if word == 12 then [] else events.StoreLog r d (word - 13) number ∷ [])
+stored r d word number =
+    if nat_lt word 12 then [] else (if word == 12 then [] else events.StoreLog r d (word - 13) number ∷ [])
 
 -- the words commit what the body of the thunk does that they hold
 abbrev pub roles_of : Meaning → List ℕ → ℕ → Role
@@ -45,7 +48,8 @@ module _ (m : Meaning) (l : Layout) (r : ℕ) where
   -- the events of a runner's step in no run, which found this word
   abbrev pub IsOutsideChunk : EventKind → PartState → ℕ → List Event → Type 0
   IsOutsideChunk kinds.EnterLoad p found es = es ≡ events.EnterLoad r ∷ []
-  IsOutsideChunk kinds.Announce p found es = (epoch : ℕ) × (p.stage ≡ Loaded epoch) × (es ≡ events.Announce r epoch ∷ [])
+  IsOutsideChunk kinds.Announce p found es =
+      (epoch : ℕ) × (p.stage ≡ Loaded epoch) × (es ≡ events.Announce r epoch ∷ [])
   IsOutsideChunk kinds.EnterAgain p found es = es ≡ events.EnterAgain r ∷ []
   IsOutsideChunk kinds.Idle p found es = es ≡ events.Exit r ∷ []
   IsOutsideChunk kinds.ScanEpoch p found es = es ≡ events.ScanEpoch r ∷ []
@@ -56,29 +60,38 @@ module _ (m : Meaning) (l : Layout) (r : ℕ) where
   IsOutsideChunk kinds.Advance p found es = (epoch next : ℕ) × (p.stage ≡ Scanning epoch next true)
       × (collects l kinds.Advance p.stage found ≡ Some (epoch + 1)) × (es ≡ events.Advance r epoch next ∷ [])
   -- what the readings reach now, and the descriptor that a lock's word names
-  IsOutsideChunk (kinds.LoadCell (Some place)) p found es = es ≡ events.Reach r (comes_outside m (counts_of m l) (kinds.LoadCell (Some place)) p found) ∷ []
+  IsOutsideChunk (kinds.LoadCell (Some place)) p found es =
+      es ≡ events.Reach r (comes_outside m (counts_of m l) (kinds.LoadCell (Some place)) p found) ∷ []
   IsOutsideChunk (kinds.PrivateLoad slot cell) p found es = es ≡ looked l r p.nodes slot cell found
-  IsOutsideChunk (kinds.PrivateStore slot word number) p found es = es ≡ stored r (slot - slot_count l m.fixed_slots) word number
-  -- the section is published where the lock stood free with the thunk's word; otherwise the word that stood there may name a descriptor
-  IsOutsideChunk (kinds.Hold t d) p found es = ((found ≡ t.word) × (es ≡ events.Publish r d (roles_of m (thunk_words t)) ∷ []))
+  IsOutsideChunk (kinds.PrivateStore slot word number) p found es =
+      es ≡ stored r (slot - slot_count l m.fixed_slots) word number
+  -- the section is published where the lock stood free with the thunk's word; otherwise the word that stood
+  -- there may name a descriptor
+  IsOutsideChunk (kinds.Hold t d) p found es =
+      ((found ≡ t.word) × (es ≡ events.Publish r d (roles_of m (thunk_words t)) ∷ []))
       ⊎ ((found ≢ t.word) × (es ≡ events.Reach r (comes_outside m (counts_of m l) (kinds.Hold t d) p found) ∷ []))
-  IsOutsideChunk kinds.EpochForRetire p found es = (x : Published) × (p.published ≡ Some x) × (es ≡ events.RetireDescriptor r x.descriptor ∷ [])
+  IsOutsideChunk kinds.EpochForRetire p found es =
+      (x : Published) × (p.published ≡ Some x) × (es ≡ events.RetireDescriptor r x.descriptor ∷ [])
   IsOutsideChunk _ p found es = es ≡ []
 
   -- the events of a step of a run's line, which found this word, where the run stands before this step of the line
   abbrev pub IsLineChunk : EventKind → PartState → RunState → Micro → ℕ → List Event → Type 0
   -- by the commit of a lock's word the runner comes to hold what the agreed word names
-  IsLineChunk kinds.Commit p q micro found es = (place log : ℕ) × (((micro ≡ micros.Commit place log) × (es ≡ events.WordCommit r q.descriptor log q.word ∷ []))
+  IsLineChunk kinds.Commit p q micro found es =
+      (place log : ℕ) × (((micro ≡ micros.Commit place log) × (es ≡ events.WordCommit r q.descriptor log q.word ∷ []))
       ⊎ ((micro ≡ micros.NestedCommit place log) × (es ≡ agreed_lock r (comes_agreed (counts_of m l) p q found) q log)))
   IsLineChunk kinds.OutcomeCommit p q micro found es = (place log : ℕ) × (micro ≡ micros.OutcomeCommit place log)
       × (es ≡ agreed_lock r (comes_agreed (counts_of m l) p q found) q log)
   -- a Make takes its slot with its first private load
-  IsLineChunk (kinds.PrivateLoad slot cell) p q micro found es = ((q.made ≡ None) × (es ≡ events.TakeSlot r slot ∷ [])) ⊎ ((q.made ≡ Some slot) × (es ≡ []))
-  IsLineChunk kinds.MakeCommit p q micro found es = (log slot : ℕ) × (micro ≡ micros.MakeCommit log) × (q.made ≡ Some slot)
+  IsLineChunk (kinds.PrivateLoad slot cell) p q micro found es =
+      ((q.made ≡ None) × (es ≡ events.TakeSlot r slot ∷ [])) ⊎ ((q.made ≡ Some slot) × (es ≡ []))
+  IsLineChunk kinds.MakeCommit p q micro found es =
+      (log slot : ℕ) × (micro ≡ micros.MakeCommit log) × (q.made ≡ Some slot)
       × (es ≡ events.MakeCommit r q.descriptor log slot q.worn ∷ [])
   IsLineChunk kinds.EpochForRetire p q micro found es = (slot log : ℕ) × (micro ≡ micros.EpochForRetire slot log)
       × (es ≡ events.RetireEpoch r q.descriptor log slot ∷ [])
-  IsLineChunk kinds.RetireCommit p q micro found es = (slot log : ℕ) × (micro ≡ micros.RetireCommit slot log) × (es ≡ events.RetireCommit r ∷ [])
+  IsLineChunk kinds.RetireCommit p q micro found es =
+      (slot log : ℕ) × (micro ≡ micros.RetireCommit slot log) × (es ≡ events.RetireCommit r ∷ [])
   IsLineChunk _ p q micro found es = es ≡ []
 
   -- the events of a step in a run: none where the run has still to load words of its thunk, or its done word

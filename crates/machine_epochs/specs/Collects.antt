@@ -23,13 +23,15 @@ pub record ScanStep (m : Meaning) (l : Layout) (requests : List Request) (w v : 
   pub step : happens m l requests w (record { runner = r; kind = kind }) ≡ Some v
 
 pub record ScansCollect (m : Meaning) (l : Layout) (requests : List Request) (w v : World) : Type 0 where
-  -- a scan that ends with an announcement leaves nothing old; some announcement stood in the way, or the epoch is the last
+  -- a scan that ends with an announcement leaves nothing old; some announcement stood in the way, or the
+  -- epoch is the last
   pub last : (r n epoch next : ℕ) (clear : Bool) → ScanStep m l requests w v (kinds.ScanOne n) r epoch next clear
       → ((sight m l requests v).part r).stage ≡ Idle → HasNothingOld epoch ((sight m l requests v).part r)
-  pub unclear : (r n epoch next : ℕ) → ScanStep m l requests w v (kinds.ScanOne n) r epoch next true → ((sight m l requests v).part r).stage ≡ Idle
+  pub unclear : (r n epoch next : ℕ) → ScanStep m l requests w v (kinds.ScanOne n) r epoch next true
+      → ((sight m l requests v).part r).stage ≡ Idle
       → (is_clear epoch ((sight m l requests w).word (Announcement n)) ≡ false) ⊎ (2 ^ 62 ≤ epoch)
-  -- one that ends with the advance leaves nothing that is old in the next epoch, whether the exchange won or lost; each announcement was
-  -- found idle or of the scan's epoch, and that isn't the last
+  -- one that ends with the advance leaves nothing that is old in the next epoch, whether the exchange won
+  -- or lost; each announcement was found idle or of the scan's epoch, and that isn't the last
   pub advance : (r epoch next : ℕ) (clear : Bool) → ScanStep m l requests w v kinds.Advance r epoch next clear
       → HasNothingOld (epoch + 1) ((sight m l requests v).part r)
   pub clear : (r epoch next : ℕ) (clear : Bool) → ScanStep m l requests w v kinds.Advance r epoch next clear

@@ -36,20 +36,23 @@ times_with p d = times d p.descriptors.free + (times_limbo d p.descriptors.limbo
 
 pub record DescriptorsAreSound (m : Meaning) (l : Layout) (s : Sight) : Type 0 where
   -- each descriptor stands once with its owner, free, in limbo or published, and with no other runner
-  pub once : (r d : ℕ) → d < descriptor_count l → times_with (s.part r) d ≡ cond (owner_of l.sections l.runners d == r) 1 0
+  pub once : (r d : ℕ) → d < descriptor_count l
+      → times_with (s.part r) d ≡ cond (owner_of l.sections l.runners d == r) 1 0
   -- nothing was retired in an epoch to come
   pub descriptors_most : (r : ℕ) → All (λ x. x.epoch ≤ s.word Epoch) (s.part r).descriptors.limbo
   pub nodes_most : (r : ℕ) → All (λ x. x.epoch ≤ s.word Epoch) (s.part r).nodes.limbo
-  -- the descriptor of a section that an entered runner published in this entry is in nobody's free list, and if it was retired, it was no
-  -- earlier than the runner entered
+  -- the descriptor of a section that an entered runner published in this entry is in nobody's free list,
+  -- and if it was retired, it was no earlier than the runner entered
   pub own_unfree : (r i g d : ℕ) → (s.part r).stage ≡ Entered g → has (s.part r).reads.published d ≡ true
       → times d (s.part i).descriptors.free ≡ 0
   pub own_late : (r g d : ℕ) → (s.part r).stage ≡ Entered g → has (s.part r).reads.published d ≡ true
       → All (λ x. x.slot ≡ d → g ≤ x.epoch) (s.part r).descriptors.limbo
-  -- at the commit of a Retire the run of an entered runner goes by an epoch that is no earlier than the runner entered, and not to come
+  -- at the commit of a Retire the run of an entered runner goes by an epoch that is no earlier than the
+  -- runner entered, and not to come
   pub retire_recent : (r g slot log : ℕ) (q : RunState) → (s.part r).stage ≡ Entered g → (s.part r).run ≡ Some q
       → micro_at (line_of m q) q.at ≡ RetireCommit slot log → (g ≤ q.word) × (q.word ≤ s.word Epoch)
 
 -- where these events lead from a first state to this one, its descriptors are sound
 abbrev pub DescriptorsSoundAfter : Meaning → Layout → List Request → List Event → World → Type 0
-DescriptorsSoundAfter m l requests events w = IsAfter m l requests events w → DescriptorsAreSound m l (sight m l requests w)
+DescriptorsSoundAfter m l requests events w = IsAfter m l requests events w
+    → DescriptorsAreSound m l (sight m l requests w)

@@ -15,7 +15,8 @@ pub record EpochsAreSound (s : Sight) (found : Found) : Type 0 where
   -- the epoch starts at 1 and never passes the last one
   pub some : 1 ≤ s.word Epoch
   pub bounded : s.word Epoch ≤ 2 ^ 62
-  -- an announced epoch is at most the epoch; who has announced nothing has the announcement 0, and everybody else one of at least 1
+  -- an announced epoch is at most the epoch; who has announced nothing has the announcement 0, and
+  -- everybody else one of at least 1
   pub announced_most : (r : ℕ) → s.word (Announcement r) ≤ s.word Epoch
   pub idle : (r : ℕ) → (s.part r).stage ≡ Idle → s.word (Announcement r) ≡ 0
   pub unannounced : (r e : ℕ) → (s.part r).stage ≡ Loaded e → s.word (Announcement r) ≡ 0
@@ -32,8 +33,8 @@ pub record EpochsAreSound (s : Sight) (found : Found) : Type 0 where
   -- a scan's epoch is at most the epoch
   pub scan_some : (r x n : ℕ) (b : Bool) → (s.part r).stage ≡ Scanning x n b → 1 ≤ x
   pub scan_most : (r x n : ℕ) (b : Bool) → (s.part r).stage ≡ Scanning x n b → x ≤ s.word Epoch
-  -- a runner whose announcement was found idle or of the scan's epoch has entered with that epoch if it is entered, as long as that
-  -- is the epoch
+  -- a runner whose announcement was found idle or of the scan's epoch has entered with that epoch if it is
+  -- entered, as long as that is the epoch
   pub scanned : (r r' x n g : ℕ) (b : Bool) → (s.part r).stage ≡ Scanning x n b → found r r' ≡ true → s.word Epoch ≡ x
       → (s.part r').stage ≡ Entered g → g ≡ x
   -- where a scan is clear so far, each announcement that it read was found so, and where it isn't, some one wasn't

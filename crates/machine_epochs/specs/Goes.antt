@@ -34,4 +34,5 @@ module _ (m : Meaning) (l : Layout) where
 
   -- in the first state each slot is where it is at first, and nobody holds one
   abbrev pub StartsJoined : List Request → Type 0
-  StartsJoined requests = (w : World) → IsFirst m l requests w → IsJoinedToEpochs m l (first_state (first_place m l)) (sight m l requests w)
+  StartsJoined requests = (w : World) → IsFirst m l requests w
+      → IsJoinedToEpochs m l (first_state (first_place m l)) (sight m l requests w)

@@ -24,7 +24,8 @@ module _ (m : Meaning) (l : Layout) where
   pub record IsTied (w : EpochState) (word : Spot → ℕ) (r : ℕ) (p : PartState) : Type 0 where
     -- who is in a run holds its descriptor, and the thunk words that it has loaded stand there
     pub run_held : (q : RunState) → p.run ≡ Some q → w.holds r (slot_of (counts_of m l) q.descriptor) ≡ true
-    pub run_opened : (q : RunState) (j : ℕ) → p.run ≡ Some q → j < length q.opened → j < 12 → slice_index q.opened j ≡ word (ThunkWord q.descriptor j)
+    pub run_opened : (q : RunState) (j : ℕ) → p.run ≡ Some q → j < length q.opened → j < 12
+        → slice_index q.opened j ≡ word (ThunkWord q.descriptor j)
     -- a run stands at the start of its line until all its words are loaded
     pub run_begins : (q : RunState) → p.run ≡ Some q → length q.opened < 13 → q.at ≡ 0
     -- the slot that a Make fills is in the runner's hand
@@ -34,13 +35,17 @@ module _ (m : Meaning) (l : Layout) where
     -- the published descriptor is live
     pub published : (x : Published) → p.published ≡ Some x → w.location (slot_of (counts_of m l) x.descriptor) ≡ Live
     -- an entered runner holds the descriptors that it names and the slots that its readings reach
-    pub named : (d : ℕ) → is_entered (w.stage r) ≡ true → has p.reads.held d ≡ true → w.holds r (slot_of (counts_of m l) d) ≡ true
-    pub reached : (t : ℕ) → is_entered (w.stage r) ≡ true → t < (counts_of m l).nodes → m.reaches p.reads.walk t ≡ true → w.holds r t ≡ true
+    pub named : (d : ℕ) → is_entered (w.stage r) ≡ true → has p.reads.held d ≡ true
+        → w.holds r (slot_of (counts_of m l) d) ≡ true
+    pub reached : (t : ℕ) → is_entered (w.stage r) ≡ true → t < (counts_of m l).nodes
+        → m.reaches p.reads.walk t ≡ true → w.holds r t ≡ true
     -- what was last stored into a word of a free descriptor stands there, and nothing was stored into others
     pub stored_free : (d j n : ℕ) → last_stored p.descriptors.stored d j None ≡ Some n → has p.descriptors.free d ≡ true
-    pub stored : (d j n : ℕ) → has p.descriptors.free d ≡ true → last_stored p.descriptors.stored d j None ≡ Some n → word (descriptor_spot d j) ≡ n
+    pub stored : (d j n : ℕ) → has p.descriptors.free d ≡ true
+        → last_stored p.descriptors.stored d j None ≡ Some n → word (descriptor_spot d j) ≡ n
 
-  -- the component's state belongs to the machine's: it meets its invariant, and has the machine's epochs, lists and sections
+  -- the component's state belongs to the machine's: it meets its invariant, and has the machine's epochs,
+  -- lists and sections
   pub record IsJoinedToEpochs (w : EpochState) (s : Sight) : Type 0 where
     pub sound : IsSound (counts_of m l) w
     pub listed : IsListed (counts_of m l) w (λ r. lists_of (s.part r))
@@ -49,7 +54,8 @@ module _ (m : Meaning) (l : Layout) where
     pub log : (d k : ℕ) → w.log d k ≡ s.word (LogWord d k)
     pub past : (d k : ℕ) → 64 ≤ k → s.word (LogWord d k) ≡ 0
     -- a descriptor that isn't free again commits what its thunk's body does
-    pub roles : (d k : ℕ) → is_out (w.location (slot_of (counts_of m l) d)) ≡ true → w.role d k ≡ role_at (m.body (thunk_in s.word d)) k
+    pub roles : (d k : ℕ) → is_out (w.location (slot_of (counts_of m l) d)) ≡ true
+        → w.role d k ≡ role_at (m.body (thunk_in s.word d)) k
     -- no two runners have published the same descriptor
     pub published_once : (r r' : ℕ) (x x' : Published) → (s.part r).published ≡ Some x → (s.part r').published ≡ Some x'
         → x.descriptor ≡ x'.descriptor → r ≡ r'

@@ -10,7 +10,8 @@ use Rattle.runner_steps.specs.AfterOutside.{is_clear}
 
 -- the epoch for which a scanner collects that reads the last announcement, where no advance is tried
 abbrev pub scan_collects : Layout → ℕ → Stage → Option ℕ
-scan_collects l found (Scanning epoch next clear) = if next == l.runners && not ((clear && is_clear epoch found) && nat_lt epoch last_epoch) then Some epoch else None
+scan_collects l found (Scanning epoch next clear) =
+    if next == l.runners && not ((clear && is_clear epoch found) && nat_lt epoch last_epoch) then Some epoch else None
 scan_collects l found _ = None
 
 -- the same where it tries one

@@ -32,7 +32,8 @@ lists_of p = record {
 
 -- the Retire for which a run that stands before this step has loaded an epoch
 abbrev pub retire_before : RunState → Micro → Retiring
-retire_before q (RetireCommit slot log) = record { loaded = true; descriptor = q.descriptor; index = log; slot = slot; epoch = q.word }
+retire_before q (RetireCommit slot log) =
+    record { loaded = true; descriptor = q.descriptor; index = log; slot = slot; epoch = q.word }
 retire_before q _ = no_retire
 
 -- the Retire at which a runner is

@@ -29,7 +29,8 @@ names_slot c word t = nat_le c.nodes t && has (named_by word) (t - c.nodes)
 
 -- what a runner comes to hold by a step outside a run that found this word
 abbrev pub comes_outside : Meaning → Counts → EventKind → PartState → ℕ → ℕ → Bool
-comes_outside m c (kinds.LoadCell (Some place)) p found t = reaches_node m c (p.reads.walk ++ (place, found) ∷ []) t || (m.is_lock place && names_slot c found t)
+comes_outside m c (kinds.LoadCell (Some place)) p found t =
+    reaches_node m c (p.reads.walk ++ (place, found) ∷ []) t || (m.is_lock place && names_slot c found t)
 comes_outside m c (kinds.Hold thunk d) p found t = not (found == thunk.word) && names_slot c found t
 comes_outside m c _ p found t = false
 
@@ -47,8 +48,8 @@ abbrev pub comes_by : Meaning → Counts → EventKind → PartState → Option 
 comes_by m c kind p None found t = comes_outside m c kind p found t
 comes_by m c kind p (Some q) found t = comes_inside c kind (next_of m q) p q found t
 
--- a section may go on to retire this slot at this place of its log: it is a node slot, and as long as nothing is agreed there it is
--- live, and no other Retire for which an epoch is loaded names it
+-- a section may go on to retire this slot at this place of its log: it is a node slot, and as long as
+-- nothing is agreed there it is live, and no other Retire for which an epoch is loaded names it
 pub record MayRetire (c : Counts) (w : EpochState) (d index slot : ℕ) : Type 0 where
   pub node : slot < c.nodes
   pub live : w.log d index ≡ 0 → w.location slot ≡ Live
@@ -64,5 +65,6 @@ module _ (m : Meaning) (l : Layout) where
     pub held : (t : ℕ) → comes_by m (counts_of m l) kind (s.part r) (s.part r).run (s.word spot) t ≡ true
         → w.holds r t ≡ false → MayHold w r t
     -- a Retire before which its run stands may be made
-    pub retires : (q : RunState) (slot index : ℕ) → (s.part r).run ≡ Some q → is_open_run q ≡ true → next_of m q ≡ EpochForRetire slot index
+    pub retires : (q : RunState) (slot index : ℕ) → (s.part r).run ≡ Some q → is_open_run q ≡ true
+        → next_of m q ≡ EpochForRetire slot index
         → MayRetire (counts_of m l) w q.descriptor index slot

@@ -57,19 +57,23 @@ module _ (m : Meaning) (layout : Layout) where
 
   -- the first states are joined, and each step keeps that
   abbrev pub FirstIsJoined : Type 0
-  FirstIsJoined = (c : Counts) → c.nodes ≡ slots m layout → (requests : Requests) → requests.is_map ≡ m.is_map → (location : ℕ → Location) → IsFirst m c location → (p : Publications)
+  FirstIsJoined = (c : Counts) → c.nodes ≡ slots m layout → (requests : Requests)
+      → requests.is_map ≡ m.is_map → (location : ℕ → Location) → IsFirst m c location → (p : Publications)
       → IsJoined m layout c requests (first location p)
 
   abbrev pub StepsKeepJoined : Type 0
-  StepsKeepJoined = (c : Counts) → c.nodes ≡ slots m layout → (requests : Requests) → requests.is_map ≡ m.is_map → (h : HistoryStates) (step : Step)
+  StepsKeepJoined = (c : Counts) → c.nodes ≡ slots m layout → (requests : Requests)
+      → requests.is_map ≡ m.is_map → (h : HistoryStates) (step : Step)
       → Enabled m layout c requests h step → IsJoined m layout c requests h
       → IsJoined m layout c requests (after m layout c requests h step)
 
   -- so after every list of enabled steps they are joined, and the history stands
   abbrev pub SchedulesKeepJoined : Type 0
-  SchedulesKeepJoined = (c : Counts) → c.nodes ≡ slots m layout → (requests : Requests) → requests.is_map ≡ m.is_map → (location : ℕ → Location) → IsFirst m c location → (p : Publications)
+  SchedulesKeepJoined = (c : Counts) → c.nodes ≡ slots m layout → (requests : Requests)
+      → requests.is_map ≡ m.is_map → (location : ℕ → Location) → IsFirst m c location → (p : Publications)
       → (steps : List Step) → AllEnabled m layout c requests (first location p) steps
       → IsJoined m layout c requests (after_all m layout c requests (first location p) steps)
 
   abbrev pub JoinedStands : Type 0
-  JoinedStands = (c : Counts) → c.nodes ≡ slots m layout → (requests : Requests) → (h : HistoryStates) → IsJoined m layout c requests h → HistoryStands m layout c requests h
+  JoinedStands = (c : Counts) → c.nodes ≡ slots m layout → (requests : Requests) → (h : HistoryStates)
+      → IsJoined m layout c requests h → HistoryStands m layout c requests h

@@ -46,7 +46,8 @@ is_publication _ = false
 module _ (m : Meaning) (layout : Layout) (c : Counts) (requests : Requests) where
   -- the states after a step
   abbrev pub after : HistoryStates → Step → HistoryStates
-  after h (Joint step) = record { joint = scenes.after m layout c h.joint step; history = schedules.after_all requests h.history (events_of h.joint step) }
+  after h (Joint step) =
+      record { joint = scenes.after m layout c h.joint step; history = schedules.after_all requests h.history (events_of h.joint step) }
   after h (Publish r d lock word request code slot op thunk answer) = record {
     joint = scenes.after m layout c h.joint (scenes.Publish r d lock word request code slot op thunk);
     history = history.after requests h.history (history.Publish r d request answer);
@@ -61,7 +62,8 @@ module _ (m : Meaning) (layout : Layout) (c : Counts) (requests : Requests) wher
   MayFree h _ = Unit {0}
 
   -- a worker publishes its next request, with its operation, and the section answers this
-  pub record MayPublish (h : HistoryStates) (r d lock word request : ℕ) (code : ℕ → Micro) (slot : ℕ → ℕ) (op : Op) (thunk : Thunk) (answer : ℕ) : Type 0 where
+  pub record MayPublish (h : HistoryStates) (r d lock word request : ℕ) (code : ℕ → Micro) (slot : ℕ
+      → ℕ) (op : Op) (thunk : Thunk) (answer : ℕ) : Type 0 where
     pub enabled : scenes.Enabled m layout c h.joint (scenes.Publish r d lock word request code slot op thunk)
     pub idle : h.history.published r ≡ 0
     pub own : requests.worker request ≡ r
@@ -74,6 +76,7 @@ module _ (m : Meaning) (layout : Layout) (c : Counts) (requests : Requests) wher
   -- when a step may come
   abbrev pub Enabled : HistoryStates → Step → Type 0
   Enabled h (Joint step) = (is_publication step ≡ false) × scenes.Enabled m layout c h.joint step × MayFree h step
-  Enabled h (Publish r d lock word request code slot op thunk answer) = MayPublish h r d lock word request code slot op thunk answer
+  Enabled h (Publish r d lock word request code slot op thunk answer) =
+      MayPublish h r d lock word request code slot op thunk answer
   Enabled h (Over r) = history.Enabled requests h.history (history.Over r)
   Enabled h (Learn r n) = history.Enabled requests h.history (history.Learn r n)

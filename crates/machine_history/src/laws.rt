@@ -5,8 +5,9 @@ ghost use Rattle.machine_history.specs.Laws.{FirstIsJoined, StepsKeepJoined, Sch
 
 use runner_parts::Structure;
 
-/// Over every structure: the first states are joined, each enabled step keeps that, and so they are after every list of enabled steps. The
-/// history's state is sound and has the words of the joint states, and the completed memory stands for the history's map.
+/// Over every structure: the first states are joined, each enabled step keeps that, and so they are after
+/// every list of enabled steps. The history's state is sound and has the words of the joint states, and the
+/// completed memory stands for the history's map.
 pub fn steps_keep_the_history<S: Structure>(structure: &S)
     ensures first { (layout : Layout) → IsWithinLimits layout → FirstIsJoined (S.meaning structure.now) layout }
     ensures steps { (layout : Layout) → IsWithinLimits layout → StepsKeepJoined (S.meaning structure.now) layout }
@@ -15,9 +16,9 @@ pub fn steps_keep_the_history<S: Structure>(structure: &S)
     let _ = structure;
 }
 
-/// What joined states say: the stamped requests, by stamp and then by number, are one legal history, and the completed memory stands for its
-/// final map; the clock bounds the stamps; what is known stands. Where no section is open, each stamped request has its reply, and
-/// the cells themselves stand for that map.
+/// What joined states say: the stamped requests, by stamp and then by number, are one legal history, and
+/// the completed memory stands for its final map; the clock bounds the stamps; what is known stands. Where
+/// no section is open, each stamped request has its reply, and the cells themselves stand for that map.
 pub fn joined_histories_stand<S: Structure>(structure: &S)
     ensures { (layout : Layout) → IsWithinLimits layout → JoinedStands (S.meaning structure.now) layout }
 {

@@ -1,8 +1,8 @@
-//! The history, joined to the joint states of agreement and of epochs and slots: whatever steps come, the requests that have a
-//! stamp are one legal history.
+//! The history, joined to the joint states of agreement and of epochs and slots: whatever steps come, the
+//! requests that have a stamp are one legal history.
 //!
-//! The definitions stand in specs: `Tied` has how the history's state is tied to the joint states, `Steps` the steps with the
-//! history's events, and `Laws` what holds of them. `laws` has each law on a contract.
+//! The definitions stand in specs: `Tied` has how the history's state is tied to the joint states, `Steps`
+//! the steps with the history's events, and `Laws` what holds of them. `laws` has each law on a contract.
 #![tactic(auto)]
 
 mod laws;

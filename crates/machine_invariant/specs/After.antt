@@ -13,14 +13,15 @@ use Rattle.machine_states.specs.Sight.{sight}
 use Rattle.machine_invariant.specs.Along.{Components, first_components, GoAlong}
 use Rattle.machine_invariant.specs.States.{StateIsSound}
 
--- the requests are at most 131,072, numbered by their index, in traces that never fall along the list and are below 64, and each one's
--- keys and value are within the limits
+-- the requests are at most 131,072, numbered by their index, in traces that never fall along the list and
+-- are below 64, and each one's keys and value are within the limits
 pub record AreAllowed (requests : List Request) : Type 0 where
   pub in_order : AreInOrder requests 64
   pub each : All (λ (request : Request). IsAllowed request.op) requests
 
--- where these events, each enabled where it is made, lead from a first state of the machine to this one, the components go along with
--- them, event by event, and this state is sound beside the components' states and histories
+-- where these events, each enabled where it is made, lead from a first state of the machine to this one,
+-- the components go along with them, event by event, and this state is sound beside the components' states
+-- and histories
 pub record IsSoundAfter (m : Meaning) (l : Layout) (requests : List Request) (events : List Event) (w : World)
     (after : IsAfter m l requests events w) : Type 0 where
   pub components : Components

@@ -28,7 +28,8 @@ use Rattle.machine_epochs.specs.Chunks as slots
 use Rattle.machine_scenes.specs.Shown.{rules_of}
 use Rattle.machine_agreement.specs.Chunks as sections
 
--- the components' states, what the exchanges of cells, stamps and replies changed so far, and which commits of Makes and Retires won
+-- the components' states, what the exchanges of cells, stamps and replies changed so far, and which commits
+-- of Makes and Retires won
 pub record Components : Type 0 where
   pub agreement : AgreementState
   pub changes : agreement_history.History
@@ -58,9 +59,9 @@ module _ (m : Meaning) (l : Layout) where
     wins = epoch_history.noted_all (counts_of m l) k.epochs k.wins vs;
   }
 
-  -- these events of the components, each enabled where it comes, are this runner's step of this kind on a word: in agreement those of its
-  -- kind and then a Pass for each check behind them that passes; in epochs and slots those of its kind, and before them runners may
-  -- come to hold slots
+  -- these events of the components, each enabled where it comes, are this runner's step of this kind on a
+  -- word: in agreement those of its kind and then a Pass for each check behind them that passes; in epochs
+  -- and slots those of its kind, and before them runners may come to hold slots
   pub record AreEventsOf (requests : List Request) (k : Components) (s : Sight) (r : ℕ) (kind : EventKind) (es : List agreement_events.Event)
       (vs : List epoch_events.Event) : Type 0 where
     pub ask : Spot × Access

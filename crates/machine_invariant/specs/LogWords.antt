@@ -27,8 +27,8 @@ commits_to (MakeCommit log) = Some log
 commits_to (RetireCommit slot log) = Some log
 commits_to _ = None
 
--- what the log words say at the Makes and Retires of a run that has loaded its thunk and the done word, how far its trail goes, and what
--- the done word of any run says
+-- what the log words say at the Makes and Retires of a run that has loaded its thunk and the done word, how
+-- far its trail goes, and what the done word of any run says
 pub record LogWordsSay (m : Meaning) (l : Layout) (s : Sight) : Type 0 where
   -- the log word of a Make is 0 or the number plus one of a node slot
   pub made : (r i k : ℕ) (q : RunState) → (s.part r).run ≡ Some q → length q.opened ≡ 13
@@ -38,7 +38,8 @@ pub record LogWordsSay (m : Meaning) (l : Layout) (s : Sight) : Type 0 where
       → micro_at (line_of m q) i ≡ RetireCommit slot k
       → (s.word (LogWord q.descriptor k) ≡ 0) ⊎ (s.word (LogWord q.descriptor k) ≡ suc slot)
   -- the run has agreed on as many words as its line commits below where it stands
-  pub agreed : (r : ℕ) (q : RunState) → (s.part r).run ≡ Some q → length q.opened ≡ 13 → length q.trail ≡ committed (line_of m q) q.at
+  pub agreed : (r : ℕ) (q : RunState) → (s.part r).run ≡ Some q → length q.opened ≡ 13
+      → length q.trail ≡ committed (line_of m q) q.at
   -- so the commit at which it stands goes to the log word behind those
   pub next : (r k : ℕ) (q : RunState) → (s.part r).run ≡ Some q → length q.opened ≡ 13
       → commits_to (micro_at (line_of m q) q.at) ≡ Some k → k ≡ length q.trail

@@ -15,7 +15,8 @@ use Rattle.machine_invariant.specs.After.{AreAllowed}
 
 -- the word of each cell is the same, or its version has risen by one
 abbrev pub CellsRise : (Spot → ℕ) → (Spot → ℕ) → Type 0
-CellsRise word word' = (p : ℕ) → (word' (Cell p) ≡ word (Cell p)) ⊎ (version_of (word' (Cell p)) ≡ suc (version_of (word (Cell p))))
+CellsRise word word' = (p : ℕ)
+    → (word' (Cell p) ≡ word (Cell p)) ⊎ (version_of (word' (Cell p)) ≡ suc (version_of (word (Cell p))))
 
 -- so it is behind each event that is enabled in this state of the machine
 abbrev pub StepsRise : Meaning → Layout → List Request → World → Type 0
@@ -24,4 +25,5 @@ StepsRise m l requests w = (e : Event) (v : World) → happens m l requests w e 
 
 -- so it is wherever events lead from a first state, where the layout and the requests are within their limits
 abbrev pub RisesAfter : Meaning → Layout → List Request → List Event → World → Type 0
-RisesAfter m l requests events w = IsWithinLimits l → AreAllowed requests → IsAfter m l requests events w → StepsRise m l requests w
+RisesAfter m l requests events w = IsWithinLimits l → AreAllowed requests → IsAfter m l requests events w
+    → StepsRise m l requests w

@@ -33,7 +33,8 @@ module _ (m : Meaning) (a : AgreementState) (s : Sight) where
     pub done : s.word (DoneWord d) ≢ 0
     pub check : is_check (step_at m a s d ((a.section d).edge)) ≡ true
 
-  -- each effect comes once: by what the exchanges of cells, stamps and replies changed, and by what the commits of Makes and Retires won
+  -- each effect comes once: by what the exchanges of cells, stamps and replies changed, and by what the
+  -- commits of Makes and Retires won
   pub record EffectsComeOnce (changes : History) (wins : epochs.History) : Type 0 where
     -- a section that is done has answered or left
     pub over : (d : ℕ) → a.used d ≡ true → s.word (DoneWord d) ≢ 0 → IsAnswered d ⊎ IsLeft d
@@ -42,9 +43,12 @@ module _ (m : Meaning) (a : AgreementState) (s : Sight) where
         → changes.moved (changes.section d) i
         ≡ record { place = place; old = log_of m a s d k; new = stored_word (log_of m a s d) k value } ∷ []
     -- its request's stamp and reply were each written by one event, with the word that stands there
-    pub stamped : (d : ℕ) → IsAnswered d → changes.stamps (thunk_at m a s d).request ≡ s.word (Stamp (thunk_at m a s d).request) ∷ []
-    pub replied : (d : ℕ) → IsAnswered d → changes.replies (thunk_at m a s d).request ≡ s.word (Reply (thunk_at m a s d).request) ∷ []
-    -- each of its Makes was committed by one runner, with the agreed slot, and each of its Retires by one, with one epoch
+    pub stamped : (d : ℕ) → IsAnswered d
+        → changes.stamps (thunk_at m a s d).request ≡ s.word (Stamp (thunk_at m a s d).request) ∷ []
+    pub replied : (d : ℕ) → IsAnswered d
+        → changes.replies (thunk_at m a s d).request ≡ s.word (Reply (thunk_at m a s d).request) ∷ []
+    -- each of its Makes was committed by one runner, with the agreed slot, and each of its Retires by one,
+    -- with one epoch
     pub made : (d i k : ℕ) → IsAnswered d → step_at m a s d i ≡ MakeCommit k
         → wins.made (wins.section d) k ≡ (log_of m a s d k - 1) ∷ []
     pub retired : (d i slot k : ℕ) → IsAnswered d → step_at m a s d i ≡ RetireCommit slot k
@@ -64,22 +68,26 @@ module _ (m : Meaning) (l : Layout) (a : AgreementState) (s : Sight) where
   -- the laws of agreement, for the section of each descriptor that isn't free again
   pub record LawsHold (changes : History) : Type 0 where
     pub agree : RunsAgree a
-    pub over : (r i d : ℕ) → i < a.finishes r → a.used d ≡ true → IsOf (a.finished r i) (a.section d) → HoldsNothing (rules_of m l) a d
+    pub over : (r i d : ℕ) → i < a.finishes r → a.used d ≡ true → IsOf (a.finished r i) (a.section d)
+        → HoldsNothing (rules_of m l) a d
     -- its log follows the plain run of its thunk's body with the choices so far
     pub start : (d : ℕ) → a.used d ≡ true → IsOver (a.section d) (start_over (a.section d))
-    pub follow : (d fixed_cells : ℕ) (first : ℕ → ℕ → ℕ) (clock : ℕ) (start : Run) → a.used d ≡ true → IsOver (a.section d) start
+    pub follow : (d fixed_cells : ℕ) (first : ℕ → ℕ → ℕ) (clock : ℕ) (start : Run) → a.used d ≡ true
+        → IsOver (a.section d) start
         → FollowsPlainRun (a.section d) (m.body (thunk_at m a s d)) (chosen (rules_of m l) d (a.section d) fixed_cells first clock) start
     pub not_future : IsNotFuture a
     pub cells : (d : ℕ) → a.used d ≡ true → CellsStand a d
     pub locks : LocksStand (rules_of m l) a
     pub takes : (d : ℕ) → a.used d ≡ true → TakesStand (rules_of m l) a d
     pub done_late : (d : ℕ) → a.used d ≡ true → (a.section d).done ≢ 0 → IsDoneLate (rules_of m l) a d
-    pub answered_or_left : (d : ℕ) → a.used d ≡ true → (a.section d).done ≢ 0 → HasAnswered (a.section d) ⊎ HasLeft (a.section d)
+    pub answered_or_left : (d : ℕ) → a.used d ≡ true → (a.section d).done ≢ 0
+        → HasAnswered (a.section d) ⊎ HasLeft (a.section d)
     pub answered : (d : ℕ) → a.used d ≡ true → HasAnswered (a.section d) → HappenedOnce a changes d
     pub left : (d : ℕ) → a.used d ≡ true → HasLeft (a.section d) → NothingHappened changes (changes.section d)
 
-  -- a state of agreement belongs to the machine's state, the laws of agreement hold of it, and so, in the machine's words: trails agree,
-  -- locks name live sections, words that were read are not from the future, and each effect comes once
+  -- a state of agreement belongs to the machine's state, the laws of agreement hold of it, and so, in the
+  -- machine's words: trails agree, locks name live sections, words that were read are not from the future,
+  -- and each effect comes once
   pub record SectionsAreSound (changes : History) (wins : epochs.History) : Type 0 where
     pub joined : IsJoinedToAgreement m l a s
     pub exact : IsExact a changes

@@ -30,7 +30,8 @@ node_count m l = slot_count l m.fixed_slots
 abbrev pub times_among : NodesState → ℕ → ℕ
 times_among n t = times t n.hand + (times t n.free + (times t n.worn + times_limbo t n.limbo))
 
--- a runner's run has loaded this epoch for the Retire of this slot at this place of its section's log, where nothing is agreed yet
+-- a runner's run has loaded this epoch for the Retire of this slot at this place of its section's log,
+-- where nothing is agreed yet
 pub record IsRetiring (m : Meaning) (s : Sight) (r d index slot epoch : ℕ) : Type 0 where
   pub run : RunState
   pub runs : (s.part r).run ≡ Some run
@@ -45,12 +46,14 @@ is_used m l location d = is_out (location (node_count m l + d))
 
 -- `location` says where each slot is
 module _ (m : Meaning) (l : Layout) (location : ℕ → Location) (s : Sight) where
-  -- each node slot stands once in the list that its location names and in no other; a fixed or a live one stands in none
+  -- each node slot stands once in the list that its location names and in no other; a fixed or a live one
+  -- stands in none
   pub record NodesStand : Type 0 where
     pub hand : (r t : ℕ) → t < node_count m l → times t (s.part r).nodes.hand ≡ in_hand r (location t)
     pub free : (r t : ℕ) → t < node_count m l → times t (s.part r).nodes.free ≡ in_free r (location t)
     pub worn : (r t : ℕ) → t < node_count m l → times t (s.part r).nodes.worn ≡ in_worn r (location t)
-    pub limbo : (r t y : ℕ) → t < node_count m l → times_retired t y (map entry_of (s.part r).nodes.limbo) ≡ in_limbo r y (location t)
+    pub limbo : (r t y : ℕ) → t < node_count m l
+        → times_retired t y (map entry_of (s.part r).nodes.limbo) ≡ in_limbo r y (location t)
     -- so no slot stands twice with a runner, or with two runners, and these lists have node slots alone
     pub once : (r t : ℕ) → times_among (s.part r).nodes t ≤ 1
     pub apart : (r r' t : ℕ) → 1 ≤ times_among (s.part r).nodes t → 1 ≤ times_among (s.part r').nodes t → r ≡ r'
@@ -58,13 +61,16 @@ module _ (m : Meaning) (l : Layout) (location : ℕ → Location) (s : Sight) wh
     -- the slot that a Make fills is in the runner's hand
     pub made : (r t : ℕ) (q : RunState) → (s.part r).run ≡ Some q → q.made ≡ Some t → location t ≡ Hand r
 
-  -- each descriptor is free with one runner, in limbo with one, or live; a published one is live, and its publisher's alone
+  -- each descriptor is free with one runner, in limbo with one, or live; a published one is live, and its
+  -- publisher's alone
   pub record DescriptorsStand : Type 0 where
-    pub free : (r d : ℕ) → d < descriptor_count l → times d (s.part r).descriptors.free ≡ in_free r (location (node_count m l + d))
+    pub free : (r d : ℕ) → d < descriptor_count l
+        → times d (s.part r).descriptors.free ≡ in_free r (location (node_count m l + d))
     pub limbo : (r d y : ℕ) → d < descriptor_count l
         → times_retired d y (map entry_of (s.part r).descriptors.limbo) ≡ in_limbo r y (location (node_count m l + d))
     pub other : (d : ℕ) → is_for_nodes (location (node_count m l + d)) ≡ false
-    pub published : (r : ℕ) (x : Published) → (s.part r).published ≡ Some x → location (node_count m l + x.descriptor) ≡ Live
+    pub published : (r : ℕ) (x : Published) → (s.part r).published ≡ Some x
+        → location (node_count m l + x.descriptor) ≡ Live
     pub publisher : (r r' : ℕ) (x x' : Published) → (s.part r).published ≡ Some x → (s.part r').published ≡ Some x'
         → x.descriptor ≡ x'.descriptor → r ≡ r'
 
@@ -73,7 +79,8 @@ module _ (m : Meaning) (l : Layout) (location : ℕ → Location) (s : Sight) wh
     -- no two descriptors have the same section there
     pub named : (d : ℕ) → is_used m l location d ≡ true → 1 ≤ history.section d
     pub apart : (d d' : ℕ) → 1 ≤ history.section d → history.section d ≡ history.section d' → d ≡ d'
-    -- while a section's descriptor isn't free again, one commit of each Make won that is agreed, with the agreed slot, and none of any other
+    -- while a section's descriptor isn't free again, one commit of each Make won that is agreed, with the
+    -- agreed slot, and none of any other
     pub made : (d k : ℕ) → is_used m l location d ≡ true → history.made (history.section d) k
         ≡ cond (is_makes (role_at (m.body (thunk_in s.word d)) k)) (agreed_slot (s.word (LogWord d k))) []
     -- and one commit of each Retire that is agreed, with one epoch, and none of any other
@@ -87,7 +94,8 @@ module _ (m : Meaning) (l : Layout) (location : ℕ → Location) (s : Sight) wh
 module _ (m : Meaning) (l : Layout) (location : ℕ → Location) (holds : ℕ → ℕ → Bool) (s : Sight) where
   -- what the runners hold
   pub record HeldStand : Type 0 where
-    -- a holder is entered, and the slot is fixed, live, or was retired no earlier than in the epoch with which the holder entered
+    -- a holder is entered, and the slot is fixed, live, or was retired no earlier than in the epoch with
+    -- which the holder entered
     pub kept : (r t : ℕ) → holds r t ≡ true → (g : ℕ) × ((s.part r).stage ≡ Entered g) × IsKept (location t) g
     -- so it stands in nobody's free list, worn list or hand, and a descriptor in nobody's free list
     pub unfree : (r r' t : ℕ) → t < node_count m l → holds r t ≡ true → times t (s.part r').nodes.free ≡ 0
@@ -96,22 +104,28 @@ module _ (m : Meaning) (l : Layout) (location : ℕ → Location) (holds : ℕ �
     pub unfree_descriptor : (r r' d : ℕ) → d < descriptor_count l → holds r (node_count m l + d) ≡ true
         → times d (s.part r').descriptors.free ≡ 0
     -- an entered runner holds the slots that its readings reach and the descriptors that it names
-    pub reached : (r g t : ℕ) → (s.part r).stage ≡ Entered g → t < node_count m l → m.reaches (s.part r).reads.walk t ≡ true
+    pub reached : (r g t : ℕ) → (s.part r).stage ≡ Entered g → t < node_count m l
+        → m.reaches (s.part r).reads.walk t ≡ true
         → holds r t ≡ true
-    pub named : (r g d : ℕ) → (s.part r).stage ≡ Entered g → has (s.part r).reads.held d ≡ true → holds r (node_count m l + d) ≡ true
+    pub named : (r g d : ℕ) → (s.part r).stage ≡ Entered g → has (s.part r).reads.held d ≡ true
+        → holds r (node_count m l + d) ≡ true
     -- whoever runs a section holds its descriptor
     pub run : (r : ℕ) (q : RunState) → (s.part r).run ≡ Some q → holds r (node_count m l + q.descriptor) ≡ true
 
-  -- so what an entered runner may still come to is in nobody's free list, worn list or hand: what its readings reach, the descriptors that it
-  -- names, and that of the section that it runs
+  -- so what an entered runner may still come to is in nobody's free list, worn list or hand: what its
+  -- readings reach, the descriptors that it names, and that of the section that it runs
   pub record InUseAreKept : Type 0 where
-    pub unfree : (r r' g t : ℕ) → (s.part r).stage ≡ Entered g → t < node_count m l → m.reaches (s.part r).reads.walk t ≡ true
+    pub unfree : (r r' g t : ℕ) → (s.part r).stage ≡ Entered g → t < node_count m l
+        → m.reaches (s.part r).reads.walk t ≡ true
         → times t (s.part r').nodes.free ≡ 0
-    pub unworn : (r r' g t : ℕ) → (s.part r).stage ≡ Entered g → t < node_count m l → m.reaches (s.part r).reads.walk t ≡ true
+    pub unworn : (r r' g t : ℕ) → (s.part r).stage ≡ Entered g → t < node_count m l
+        → m.reaches (s.part r).reads.walk t ≡ true
         → times t (s.part r').nodes.worn ≡ 0
-    pub unhanded : (r r' g t : ℕ) → (s.part r).stage ≡ Entered g → t < node_count m l → m.reaches (s.part r).reads.walk t ≡ true
+    pub unhanded : (r r' g t : ℕ) → (s.part r).stage ≡ Entered g → t < node_count m l
+        → m.reaches (s.part r).reads.walk t ≡ true
         → times t (s.part r').nodes.hand ≡ 0
-    pub named : (r r' g d : ℕ) → (s.part r).stage ≡ Entered g → d < descriptor_count l → has (s.part r).reads.held d ≡ true
+    pub named : (r r' g d : ℕ) → (s.part r).stage ≡ Entered g → d < descriptor_count l
+        → has (s.part r).reads.held d ≡ true
         → times d (s.part r').descriptors.free ≡ 0
     pub run : (r r' : ℕ) (q : RunState) → (s.part r).run ≡ Some q → q.descriptor < descriptor_count l
         → times q.descriptor (s.part r').descriptors.free ≡ 0
@@ -123,9 +137,11 @@ module _ (m : Meaning) (l : Layout) (location : ℕ → Location) (holds : ℕ �
     pub live : (r d k t y : ℕ) → IsRetiring m s r d k t y → location t ≡ Live
     pub recent : (r d k t y : ℕ) → IsRetiring m s r d k t y → y ≤ s.word Epoch
     -- each runner that holds the slot entered in that epoch or before
-    pub holders : (r d k t y r' g : ℕ) → IsRetiring m s r d k t y → (s.part r').stage ≡ Entered g → holds r' t ≡ true → g ≤ y
+    pub holders : (r d k t y r' g : ℕ) → IsRetiring m s r d k t y → (s.part r').stage ≡ Entered g
+        → holds r' t ≡ true → g ≤ y
     -- no other such Retire names the slot
-    pub once : (r d k t y r' d' k' y' : ℕ) → IsRetiring m s r d k t y → IsRetiring m s r' d' k' t y' → (d ≡ d') × (k ≡ k')
+    pub once : (r d k t y r' d' k' y' : ℕ) → IsRetiring m s r d k t y → IsRetiring m s r' d' k' t y'
+        → (d ≡ d') × (k ≡ k')
 
   -- where the slots are, who holds them, and which commits won
   pub record SlotsAreSound (history : History) : Type 0 where

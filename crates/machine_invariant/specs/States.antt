@@ -16,12 +16,16 @@ use Rattle.machine_invariant.specs.Whole.{Beside, IsWhole}
 pub record StateIsSound (m : Meaning) (l : Layout) (s : Sight) (k : Components) : Type 0 where
   pub slots : SlotsAreSound m l k.epochs.location k.epochs.holds s k.wins
   pub sections : SectionsAreSound m l k.agreement s k.changes k.wins
-  -- the components say the same of descriptors: a section was published there and the descriptor isn't free again, or isn't even retired
+  -- the components say the same of descriptors: a section was published there and the descriptor isn't free
+  -- again, or isn't even retired
   pub used : (d : ℕ) → k.agreement.used d ≡ is_used m l k.epochs.location d
   pub live : (d : ℕ) → k.agreement.live d ≡ true → k.epochs.location (node_count m l + d) ≡ Live
   pub is_live : (d : ℕ) → k.epochs.location (node_count m l + d) ≡ Live → k.agreement.live d ≡ true
 
--- so a state of the machine is that meets the whole invariant beside these states of the components, whose histories say what happened
+-- so a state of the machine is that meets the whole invariant beside these states of the components, whose
+-- histories say what happened
 abbrev pub WholeStatesAreSound : Meaning → Layout → Type 0
-WholeStatesAreSound m l = (g : Beside) (s : Sight) (k : Components) → IsWhole m l g s → k.agreement ≡ g.agreement → k.epochs ≡ g.epochs
-    → agreement_history.IsExact k.agreement k.changes → epoch_history.IsExact (counts_of m l) k.epochs k.wins → StateIsSound m l s k
+WholeStatesAreSound m l = (g : Beside) (s : Sight) (k : Components) → IsWhole m l g s
+    → k.agreement ≡ g.agreement → k.epochs ≡ g.epochs
+    → agreement_history.IsExact k.agreement k.changes
+    → epoch_history.IsExact (counts_of m l) k.epochs k.wins → StateIsSound m l s k

@@ -1,4 +1,5 @@
--- Agreement in the machine's own words: the log words, the runs' trails, and what is kept of runs that came to their end.
+-- Agreement in the machine's own words: the log words, the runs' trails, and what is kept of runs that came
+-- to their end.
 use Rattle.std.specs.Prelude.{◌≡◌, ◌≢◌, ℕ, suc, ◌<◌, ◌≤◌, ◌⊎◌, true, length, slice_get, Some}
 use Rattle.section_body.specs.Line.{line, committed, micro_at}
 use Rattle.section_body.specs.Plain.{first_values}
@@ -15,7 +16,8 @@ use Rattle.agreement_core.specs.State.{AgreementState}
 use Rattle.machine_states.specs.Sight.{Sight}
 use Rattle.machine_epochs.specs.Slots.{thunk_in}
 
--- `a` says of each descriptor whether a section was published there and the descriptor isn't free again, and how far its runs have come
+-- `a` says of each descriptor whether a section was published there and the descriptor isn't free again,
+-- and how far its runs have come
 module _ (m : Meaning) (a : AgreementState) (s : Sight) where
   -- the thunk in a descriptor's words, its body's line, and the descriptor's log words
   abbrev pub thunk_at : ℕ → Thunk
@@ -46,9 +48,12 @@ module _ (m : Meaning) (a : AgreementState) (s : Sight) where
     -- a run in progress is of such a section, and its trail is the log's first words
     pub running : (r : ℕ) (q : RunState) → (s.part r).run ≡ Some q → a.used q.descriptor ≡ true
     pub short : (r : ℕ) (q : RunState) → (s.part r).run ≡ Some q → length q.trail ≤ agreed_words q.descriptor
-    pub prefix : (r : ℕ) (q : RunState) → (s.part r).run ≡ Some q → q.trail ≡ first_values (length q.trail) (log_of q.descriptor)
-    -- where a run came to its end, its trail is the whole log and the section is done, until the descriptor is free again
-    pub whole : (r d : ℕ) (f : FinishedState) → a.used d ≡ true → IsEndOf r d f → f.trail ≡ first_values (agreed_words d) (log_of d)
+    pub prefix : (r : ℕ) (q : RunState) → (s.part r).run ≡ Some q
+        → q.trail ≡ first_values (length q.trail) (log_of q.descriptor)
+    -- where a run came to its end, its trail is the whole log and the section is done, until the descriptor
+    -- is free again
+    pub whole : (r d : ℕ) (f : FinishedState) → a.used d ≡ true → IsEndOf r d f
+        → f.trail ≡ first_values (agreed_words d) (log_of d)
     pub done : (r d : ℕ) (f : FinishedState) → a.used d ≡ true → IsEndOf r d f → s.word (DoneWord d) ≢ 0
     -- and the trails of any two runs of one section that came to their end are equal, for good
     pub equal : (r r' i i' : ℕ) (f f' : FinishedState) → slice_get (s.part r).records.finished i ≡ Some f
@@ -68,12 +73,14 @@ module _ (m : Meaning) (a : AgreementState) (s : Sight) where
     -- it is the held word of that section's outer lock, or of one of its Takes
     pub held : (p d : ℕ) → m.is_lock p ≡ true → value_of (s.word (Cell p)) ≡ suc d → IsLockOf d p (s.word (Cell p))
     -- until a section is done its outer lock has its held word
-    pub outer : (d : ℕ) → a.used d ≡ true → s.word (DoneWord d) ≡ 0 → s.word (Cell (thunk_at d).lock) ≡ held_word d (thunk_at d).word
+    pub outer : (d : ℕ) → a.used d ≡ true → s.word (DoneWord d) ≡ 0
+        → s.word (Cell (thunk_at d).lock) ≡ held_word d (thunk_at d).word
     -- where a run of it came to its end, no lock names it
     pub unnamed : (r d p : ℕ) (f : FinishedState) → a.used d ≡ true → IsEndOf r d f → m.is_lock p ≡ true
         → value_of (s.word (Cell p)) ≢ suc d
 
-  -- what a runner has published and hasn't retired is a section in its descriptor, whose words hold the thunk of its publication
+  -- what a runner has published and hasn't retired is a section in its descriptor, whose words hold the
+  -- thunk of its publication
   pub record PublishedStand : Type 0 where
     pub used : (r : ℕ) (x : Published) → (s.part r).published ≡ Some x → a.used x.descriptor ≡ true
     pub thunk : (r : ℕ) (x : Published) → (s.part r).published ≡ Some x → thunk_at x.descriptor ≡ x.thunk

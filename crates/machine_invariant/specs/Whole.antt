@@ -30,7 +30,8 @@ pub record Beside : Type 0 where
 
 -- these, with what the runners have read outside their runs
 abbrev pub states_of : Beside → Sight → States
-states_of g s = record { agreement = g.agreement; epochs = g.epochs; publications = g.publications; walk = λ r. (s.part r).reads.walk }
+states_of g s =
+    record { agreement = g.agreement; epochs = g.epochs; publications = g.publications; walk = λ r. (s.part r).reads.walk }
 
 -- the slot that a run's Make fills
 abbrev pub made_in : Option RunState → Option ℕ
@@ -53,20 +54,24 @@ module _ (m : Meaning) (l : Layout) where
 
   -- what the components say of descriptors belongs together
   pub record AreTied (g : Beside) (s : Sight) : Type 0 where
-    -- a descriptor is used where it was given out, and its section isn't retired where it is live; all these are the table's
+    -- a descriptor is used where it was given out, and its section isn't retired where it is live; all
+    -- these are the table's
     pub used : (d : ℕ) → g.agreement.used d ≡ is_out (g.epochs.location (slot_of (counts_of m l) d))
     pub live : (d : ℕ) → g.agreement.live d ≡ true → g.epochs.location (slot_of (counts_of m l) d) ≡ Live
     pub is_live : (d : ℕ) → g.epochs.location (slot_of (counts_of m l) d) ≡ Live → g.agreement.live d ≡ true
     pub within : (d : ℕ) → g.agreement.used d ≡ true → d < (counts_of m l).descriptors
     -- a section that isn't retired is its publisher's
-    pub publisher : (d : ℕ) → g.agreement.live d ≡ true → HasPublished (s.part (g.publications.runner d)) d (g.publications.thunk d)
+    pub publisher : (d : ℕ) → g.agreement.live d ≡ true
+        → HasPublished (s.part (g.publications.runner d)) d (g.publications.thunk d)
     -- the thunk of a used descriptor stands in its words
     pub thunk : (d : ℕ) → g.agreement.used d ≡ true → g.publications.thunk d ≡ thunk_in s.word d
     -- its request is one of the requests, of the published operation
-    pub op : (d : ℕ) → g.agreement.used d ≡ true → (q : Request) × (slice_get g.publications.requests (g.publications.thunk d).request ≡ Some q)
+    pub op : (d : ℕ) → g.agreement.used d ≡ true
+        → (q : Request) × (slice_get g.publications.requests (g.publications.thunk d).request ≡ Some q)
         × (q.op ≡ g.publications.op d)
     -- an entered runner is the publisher of what it published in this entry, and holds it
-    pub mine : (r d : ℕ) → is_entered (g.epochs.stage r) ≡ true → has (s.part r).reads.published d ≡ true → g.publications.runner d ≡ r
+    pub mine : (r d : ℕ) → is_entered (g.epochs.stage r) ≡ true → has (s.part r).reads.published d ≡ true
+        → g.publications.runner d ≡ r
     pub mine_held : (r d : ℕ) → is_entered (g.epochs.stage r) ≡ true → has (s.part r).reads.published d ≡ true
         → g.epochs.holds r (slot_of (counts_of m l) d) ≡ true
 

@@ -57,18 +57,21 @@ module _ (m : Meaning) (layout : Layout) (c : Counts) where
 module _ (m : Meaning) (layout : Layout) where
   -- at first it stands for the empty map
   abbrev pub FirstMemoryStands : Type 0
-  FirstMemoryStands = (c : Counts) → c.nodes ≡ slots m layout → (location : ℕ → Location) → IsFirst m c location → (p : Publications)
+  FirstMemoryStands = (c : Counts) → c.nodes ≡ slots m layout → (location : ℕ → Location)
+      → IsFirst m c location → (p : Publications)
       → MemoryStands m layout c (first_states m location p) empty
 
   -- a step leads it on as said
   abbrev pub StepsKeepMemory : Type 0
-  StepsKeepMemory = (c : Counts) → c.nodes ≡ slots m layout → (j : States) (step : Step) (pairs : Pairs) → Enabled m layout c j step → IsKept m layout c j
+  StepsKeepMemory = (c : Counts) → c.nodes ≡ slots m layout → (j : States) (step : Step) (pairs : Pairs)
+      → Enabled m layout c j step → IsKept m layout c j
       → MemoryStands m layout c j pairs
       → MemoryStands m layout c (after m layout c j step) (pairs_after j step pairs)
 
   -- a section of which a run is the first at the exchange of the stamp answers what that map does
   abbrev pub StampsAnswer : Type 0
-  StampsAnswer = (c : Counts) → c.nodes ≡ slots m layout → (j : States) (r : ℕ) (pairs : Pairs) → IsKept m layout c j → MemoryStands m layout c j pairs
+  StampsAnswer = (c : Counts) → c.nodes ≡ slots m layout → (j : States) (r : ℕ) (pairs : Pairs)
+      → IsKept m layout c j → MemoryStands m layout c j pairs
       → m.is_map ≡ true → agreement.IsBefore j.agreement r micros.StampExchange
       → is_furthest j.agreement r ≡ true
       → (i n : ℕ) → (section_of j.agreement r).code i ≡ micros.ReplyExchange n
@@ -76,7 +79,8 @@ module _ (m : Meaning) (layout : Layout) where
 
   -- two open sections that stand at their Stamps have no key in common
   abbrev pub StampsApart : Type 0
-  StampsApart = (c : Counts) → c.nodes ≡ slots m layout → (j : States) (d e : ℕ) → IsKept m layout c j → m.is_map ≡ true → d ≢ e
+  StampsApart = (c : Counts) → c.nodes ≡ slots m layout → (j : States) (d e : ℕ) → IsKept m layout c j
+      → m.is_map ≡ true → d ≢ e
       → IsOpen j.agreement d → IsOpen j.agreement e
       → is_of_stamp ((j.agreement.section d).code ((j.agreement.section d).edge)) ≡ true
       → is_of_stamp ((j.agreement.section e).code ((j.agreement.section e).edge)) ≡ true
@@ -84,5 +88,6 @@ module _ (m : Meaning) (layout : Layout) where
 
   -- where no section is open, the cells themselves stand for the map
   abbrev pub ClosedMemoryStands : Type 0
-  ClosedMemoryStands = (c : Counts) → c.nodes ≡ slots m layout → (j : States) (pairs : Pairs) → MemoryStands m layout c j pairs
+  ClosedMemoryStands = (c : Counts) → c.nodes ≡ slots m layout → (j : States) (pairs : Pairs)
+      → MemoryStands m layout c j pairs
       → ((d : ℕ) → IsOpen j.agreement d → ⊥) → m.stands layout j.agreement.shared.cells pairs

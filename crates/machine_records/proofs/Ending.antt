@@ -1,7 +1,7 @@
 -- What a runner comes to know, and the end of its own run.
-use Rattle.std.specs.Prelude.{◌==◌, ◌&&◌, not, nat_le, Bool, true, false}
+use Rattle.std.specs.Prelude.{◌==◌, ◌&&◌, not, nat_le, true, false}
 use Rattle.std.proofs.Common.{◌≡◌, ◌≢◌, ℕ, ◌<◌, ◌≤◌, refl, sym, ap, ◌∙◌, subst, ⊎_elim, arith, Some}
-use Rattle.std.proofs.lemmas.Bool.{cases_lt}
+use Rattle.std.proofs.lemmas.Bool.{cases_lt, and_parts}
 use Rattle.std.proofs.lemmas.Bool.Decides.{nat_tests}
 use Rattle.section_body.specs.Line.{micro_at}
 use Rattle.section_lines.specs.Line.{IsStamped}
@@ -23,13 +23,9 @@ use Rattle.machine_records.specs.Told.{IsTold, RunsAreTold}
 use Rattle.machine_records.specs.Supplies.{AnsweredAreLearned, EndsAreOver}
 use Rattle.machine_records.proofs.First.{word_of_known}
 
-both : (a b : Bool) → (a && b) ≡ true → (a ≡ true) × (b ≡ true)
-both true b e = (refl, e)
-both false b e = absurd (let x = e in cc)
-
 pub answered_learned : (m : Meaning) (l : Layout) → AnsweredAreLearned m l
 answered_learned m l c g s w whole tied stand r n known =
-    let h = both (knows (s.part r).records.known n false) (knows (s.part r).records.known n true) known in (
+    let h = and_parts (knows (s.part r).records.known n false) (knows (s.part r).records.known n true) known in (
       λ none. word_of_known s stand r n false h.0 (sym (tied.stamp n ∙ whole.sections.words.stamp n) ∙ none),
       λ none. word_of_known s stand r n true h.1 (sym (tied.reply n ∙ whole.sections.words.reply n) ∙ none),
     )

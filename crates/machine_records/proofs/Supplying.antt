@@ -5,6 +5,7 @@ use Rattle.std.proofs.Common.{◌≡◌, ℕ, zero, suc, ◌+◌, ◌<◌, ◌�
 use Rattle.std.proofs.lemmas.Bool.Decides.{nat_tests}
 use Rattle.std.proofs.lemmas.Option.{slice_get-map, slice_get_within, slice_get-get_or}
 use Rattle.std.proofs.lemmas.List.FromFn.{get_or-range_with_len, length-range_with_len}
+use Rattle.std.proofs.lemmas.Bool.{and_parts}
 use Rattle.map_history.specs.declared.op.Request.{Request}
 use Rattle.map_history.specs.Requests.{AreInOrder}
 use Rattle.section_body.specs.declared.thunk.Thunk.{Thunk}
@@ -35,10 +36,6 @@ use Rattle.machine_records.specs.Requests.{or_none, request_at}
 use Rattle.machine_records.specs.Kept.{link_of}
 use Rattle.machine_records.specs.Supplies.{HoldsAreDue, OperationsAreAsked, FreesAreOver}
 
-both : (a b : Bool) → (a && b) ≡ true → (a ≡ true) × (b ≡ true)
-both true b e = (refl, e)
-both false b e = absurd (let x = e in cc)
-
 not_so : (b : Bool) → not b ≡ true → b ≡ false
 not_so false e = refl
 not_so true e = absurd (let x = e in cc)
@@ -66,8 +63,8 @@ numbered requests order n q at = some_same q.number n (sym by_map ∙ (ap (λ xs
 -- an element of a list all of which pass
 passes : {A : Type 0} (test : A → Bool) (xs : List A) (i : ℕ) (x : A) → list_all test xs ≡ true → slice_get xs i ≡ Some x → test x ≡ true
 passes test [] i x all at = some_none x at
-passes test (y ∷ xs) zero x all at = subst (λ z. test z ≡ true) (some_same y x at) (both (test y) (list_all test xs) all).0
-passes test (y ∷ xs) (suc i) x all at = passes test xs i x (both (test y) (list_all test xs) all).1 at
+passes test (y ∷ xs) zero x all at = subst (λ z. test z ≡ true) (some_same y x at) (and_parts (test y) (list_all test xs) all).0
+passes test (y ∷ xs) (suc i) x all at = passes test xs i x (and_parts (test y) (list_all test xs) all).1 at
 
 -- an earlier request of the trace is answered
 earlier_passes : (trace t below n : ℕ) (answered : Bool) → (not (t == trace && nat_lt n below) || answered) ≡ true → t ≡ trace → n < below → answered ≡ true
@@ -130,9 +127,9 @@ module _ (m : Meaning) (l : Layout) (rs : List Request) where
   hold_next : (r d : ℕ) (t : Thunk) (p : PartState) (x : Spot × Access) → hold_ask m l rs r t d p ≡ Some x → NextAsked r t p
   hold_next r d t p x e =
       let h = if_some _ _ x e in
-      let may = both _ _ (both _ _ h.0).1 in
-      let rest = both _ _ may.1 in
-      let due = both _ _ (both _ _ rest.1).1 in
+      let may = and_parts _ _ (and_parts _ _ h.0).1 in
+      let rest = and_parts _ _ may.1 in
+      let due = and_parts _ _ (and_parts _ _ rest.1).1 in
       let request = next_some r p.records.known (slice_get rs t.request) due.0 in
       record { unpublished = none_of p.published rest.0; request = request.0; of_request = request.1; next = request.2 }
 
@@ -151,7 +148,7 @@ module _ (m : Meaning) (l : Layout) (rs : List Request) where
     q = asked.request
 
     test : ((q.trace % l.runners == r) ≡ true) × ((not (is_answered p.records.known q.number) && are_answered p.records.known q.trace q.number rs) ≡ true)
-    test = both _ _ asked.next
+    test = and_parts _ _ asked.next
 
     here : request_at rs t.request ≡ q
     here = ap or_none asked.of_request
@@ -163,7 +160,7 @@ module _ (m : Meaning) (l : Layout) (rs : List Request) where
     own_request = ap (λ (z : Request). z.trace % l.runners) here ∙ same_test _ _ test.0
 
     unanswered : is_answered p.records.known t.request ≡ false
-    unanswered = ap (is_answered p.records.known) (sym number) ∙ not_so _ (both _ _ test.1).0
+    unanswered = ap (is_answered p.records.known) (sym number) ∙ not_so _ (and_parts _ _ test.1).0
 
     earlier_answered : (k : ℕ) → k < t.request → (request_at rs k).trace ≡ (request_at rs t.request).trace → is_answered p.records.known k ≡ true
     earlier_answered k low same = found (slice_get rs k) refl
@@ -173,7 +170,7 @@ module _ (m : Meaning) (l : Layout) (rs : List Request) where
             some_none _ (sym at ∙ slice_get-get_or rs k q (omega arith)))
         found (Some y) at = subst (λ n. is_answered p.records.known n ≡ true) (numbered rs order k y at)
             (earlier_passes q.trace y.trace q.number y.number (is_answered p.records.known y.number)
-            (passes (λ (z : Request). not (z.trace == q.trace && nat_lt z.number q.number) || is_answered p.records.known z.number) rs k y (both _ _ test.1).1 at)
+            (passes (λ (z : Request). not (z.trace == q.trace && nat_lt z.number q.number) || is_answered p.records.known z.number) rs k y (and_parts _ _ test.1).1 at)
             (sym (ap (λ (o : Option Request). (or_none o).trace) at) ∙ (same ∙ ap (λ (z : Request). z.trace) here))
             (let a = numbered rs order k y at in let b = number in omega arith))
 

@@ -1,7 +1,7 @@
 -- Each step of a runner leaves it knowing the words to which its run has written.
 use Rattle.std.specs.Prelude.{◌==◌, ◌&&◌, ◌||◌, not, nat_lt, cond, Bool, true, false, slice_index_or, if◌then◌else◌}
 use Rattle.std.proofs.Common.{◌≡◌, ◌≢◌, ℕ, ◌+◌, ◌-◌, ◌<◌, List, [], ◌∷◌, ◌++◌, refl, sym, ap, ◌∙◌, subst, ⊎_elim, arith, Option, Some, None}
-use Rattle.std.proofs.lemmas.Bool.{cases_eq, cases_lt}
+use Rattle.std.proofs.lemmas.Bool.{cases_eq, cases_lt, and_parts}
 use Rattle.std.proofs.lemmas.Bool.Decides.{nat_tests}
 use Rattle.std.proofs.lemmas.List.Folds.{list_any-append}
 use Rattle.section_body.specs.declared.micro.Micro.{Micro}
@@ -98,10 +98,6 @@ is_telling kinds.StampExchange = true
 is_telling kinds.ReplyExchange = true
 is_telling _ = false
 
-both : (a b : Bool) → (a && b) ≡ true → (a ≡ true) × (b ≡ true)
-both true b e = (refl, e)
-both false b e = absurd (let x = e in cc)
-
 module _ (m : Meaning) (l : Layout) (p : PartState) (q : RunState) (is : p.run ≡ Some q) (x : Spot × Access) where
   abbrev request : ℕ
   request = (thunk_of q.opened).request
@@ -153,7 +149,7 @@ module _ (m : Meaning) (l : Layout) (p : PartState) (q : RunState) (is : p.run �
             (λ here. same i (subst (λ k. IsTold p'.records.known request (micro_at (line_of m q) k)) (sym here) (told_here p'.records.known next)))
             (λ ne. let over : i ≡ y.at + (i - y.at) = omega arith in
             subst (λ k. IsTold p'.records.known (thunk_of y.opened).request (micro_at (line_of m y) k)) (sym over)
-            (told_check p'.records.known _ _ (both _ _ (ahead m l y (i - y.at) (let z = low in omega arith))).0))
+            (told_check p'.records.known _ _ (and_parts _ _ (ahead m l y (i - y.at) (let z = low in omega arith))).0))
             (cases_eq i q.at))
             (cases_lt i q.at)
 

@@ -1,7 +1,7 @@
 -- Who is entered, what it holds and what it has read, over the events of epochs and slots that stand alone.
 use Rattle.std.proofs.Common.{◌≡◌, ◌≢◌, ℕ, zero, suc, List, Bool, true, false, refl, sym, ap, ◌∙◌, inl, inr, ⊎_elim, arith}
 use Rattle.std.specs.Prelude.{◌⊎◌, ◌||◌, ◌&&◌, Some, [], ◌∷◌, ◌++◌, slice_get}
-use Rattle.std.proofs.lemmas.Bool.{cases_eq}
+use Rattle.std.proofs.lemmas.Bool.{cases_eq, both_ways}
 use Rattle.std.proofs.lemmas.Bool.Decides.{nat_tests}
 use Rattle.structure_laws.proofs.Changes.{upd_same, upd_other}
 use Rattle.epoch_core.specs.Update.{upd, upd2, upd_row}
@@ -12,9 +12,6 @@ use Rattle.epoch_core.specs.Moves.{is_clear}
 use Rattle.epoch_core.specs.Events.{Event, Enabled, after, slot_of}
 use Rattle.epoch_core.specs.Events as events
 use Rattle.machine_scenes.specs.Kinds.{is_alone}
-
-not_both : {b : Bool} → b ≡ true → b ≡ false → ⊥
-not_both e e' = cc
 
 -- a reading of a longer list is one of the list, or the last
 pub get_push : {A : Type 0} (xs : List A) (y v : A) (i : ℕ) → slice_get (xs ++ y ∷ []) i ≡ Some v → (slice_get xs i ≡ Some v) ⊎ (y ≡ v)
@@ -58,13 +55,13 @@ module _ (c : Counts) (e : EpochState) where
   -- who is entered was so before
   pub was_entered : (v : Event) → is_alone v ≡ true → Enabled c e v → (i : ℕ) → is_entered ((after c e v).stage i) ≡ true
       → is_entered (e.stage i) ≡ true
-  was_entered v alone ok i entered = ⊎_elim (λ same. sym (ap is_entered same) ∙ entered) (λ neither. absurd (not_both entered neither.1))
+  was_entered v alone ok i entered = ⊎_elim (λ same. sym (ap is_entered same) ∙ entered) (λ neither. absurd (both_ways _ neither.1 entered))
       (entries v alone ok i)
 
   -- and stays so
   pub stays_entered : (v : Event) → is_alone v ≡ true → Enabled c e v → (i : ℕ) → is_entered (e.stage i) ≡ true
       → is_entered ((after c e v).stage i) ≡ true
-  stays_entered v alone ok i entered = ⊎_elim (λ same. ap is_entered same ∙ entered) (λ neither. absurd (not_both entered neither.0))
+  stays_entered v alone ok i entered = ⊎_elim (λ same. ap is_entered same ∙ entered) (λ neither. absurd (both_ways _ neither.0 entered))
       (entries v alone ok i)
 
   row : (f : ℕ → ℕ → Bool) (r : ℕ) (more : ℕ → Bool) (i t : ℕ) → f i t ≡ true → upd_row f r (λ s. f r s || more s) i t ≡ true

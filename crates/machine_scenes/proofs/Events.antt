@@ -1,7 +1,7 @@
 -- Each event of agreement that changes nothing of the slots leads from a lawful scene to a lawful scene.
 use Rattle.std.proofs.Common.{◌≡◌, ◌≢◌, ℕ, suc, Bool, true, false, refl, sym, ap, ◌∙◌, subst, ⊎_elim, arith}
 use Rattle.std.specs.Prelude.{Option, None}
-use Rattle.std.proofs.lemmas.Bool.{cases_eq}
+use Rattle.std.proofs.lemmas.Bool.{cases_eq, both_ways}
 use mathlib.Core.Path.{fun_ext}
 use Rattle.section_body.specs.Update.{upd}
 use Rattle.section_body.specs.Line.{is_event}
@@ -68,11 +68,8 @@ module _ (m : Meaning) (laws : Laws m) (layout : Layout) (limits : IsWithinLimit
     free_lawful d retired = with_sections m laws layout limits p epoch status reader w.shared.cells (all (after w (Free d))) (all w)
         (fun_ext at) lawful
       where
-        not_both : {b : Bool} → b ≡ true → b ≡ false → ⊥
-        not_both e e' = cc
-
         closed : (b : Bool) → w.used d ≡ b → all w d ≡ None
-        closed true is = shown_done m p d (w.used d) (w.section d) (λ un. not_both ((old.sections d is).open_live un) retired)
+        closed true is = shown_done m p d (w.used d) (w.section d) (λ un. both_ways _ retired ((old.sections d is).open_live un))
         closed false is = shown_unused m p d (w.used d) (w.section d) is
 
         at : (i : ℕ) → all (after w (Free d)) i ≡ all w i

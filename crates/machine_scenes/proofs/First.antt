@@ -1,9 +1,10 @@
 -- The first states meet the invariant, and so do the states after every list of enabled steps.
-use Rattle.std.proofs.Common.{◌≡◌, ◌≢◌, ℕ, ◌+◌, ◌*◌, ◌<◌, ◌≤◌, ◌^◌, List, [], ◌∷◌, Bool, true, false, cond, refl, sym, ap, ◌∙◌, subst, ⊎_elim, arith}
-use Rattle.std.specs.Prelude.{nat_lt, Some, None}
-use Rattle.std.proofs.lemmas.Bool.{cases_lt}
+use Rattle.std.proofs.Common.{◌≡◌, ◌≢◌, ℕ, ◌+◌, ◌*◌, ◌<◌, ◌≤◌, ◌^◌, List, [], ◌∷◌, true, cond, refl, sym, ap, ◌∙◌, subst, ⊎_elim, arith}
+use Rattle.std.specs.Prelude.{nat_lt}
+use Rattle.std.proofs.lemmas.Bool.{cases_lt, both_ways}
 use Rattle.std.proofs.lemmas.Bool.Decides.{nat_tests}
 use Rattle.std.proofs.lemmas.Grind.{common_steps}
+use Rattle.std.proofs.lemmas.Option.{none-some}
 use Rattle.section_body.specs.Word.{value_of, version_of, pack}
 use Rattle.table_words.specs.declared.layout.Layout.{Layout}
 use Rattle.table_words.specs.Limits.{IsWithinLimits}
@@ -25,9 +26,6 @@ use Rattle.machine_scenes.specs.Steps.{Step, after}
 use Rattle.machine_scenes.specs.Kept.{IsKept}
 use Rattle.machine_scenes.specs.Schedules.{IsFirst, first_states, AllEnabled, after_all}
 use Rattle.machine_scenes.proofs.Kept.{step_kept}
-
-not_both : {b : Bool} → b ≡ true → b ≡ false → ⊥
-not_both e e' = cc
 
 first_version : (value : ℕ) → value < 2 ^ 32 → version_of (pack value 1) ≡ 1
 first_version value small = grind (arith, common_steps)
@@ -98,23 +96,20 @@ module _ (m : Meaning) (laws : Laws m) (layout : Layout) (limits : IsWithinLimit
     first_kept = record {
       agreement = agreement_keeping.first (rules_of m layout) (first_word m) cells_first;
       epochs = epochs_keeping.first c location first.epochs;
-      thunks = λ d used. absurd (not_both used refl);
+      thunks = λ d used. absurd (both_ways _ refl used);
       lawful = (moves m laws layout limits).first (scene_of m c (first_states m location p))
           (record { cells = λ p. refl; status = status_first; reader = λ r. refl; section = λ d. refl });
-      met = λ r t entered. absurd (not_both entered refl);
-      publishers = λ d x here. absurd (none_some x here);
+      met = λ r t entered. absurd (both_ways _ refl entered);
+      publishers = λ d x here. absurd (none-some x here);
       retires = record {
-        recent = λ r loaded. absurd (not_both loaded refl);
-        stands = λ r pending. absurd (not_both pending.0 refl);
-        linked = λ r pending. absurd (not_both pending.0 refl);
+        recent = λ r loaded. absurd (both_ways _ refl loaded);
+        stands = λ r pending. absurd (both_ways _ refl pending.0);
+        linked = λ r pending. absurd (both_ways _ refl pending.0);
       };
-      shaped = λ d used. absurd (not_both used refl);
-      nodes = λ d i t log used. absurd (not_both used refl);
+      shaped = λ d used. absurd (both_ways _ refl used);
+      nodes = λ d i t log used. absurd (both_ways _ refl used);
       fixed = λ t is. ⊎_elim (λ lt. lt) (λ le. absurd (first.unfixed t le is)) (cases_lt t m.fixed_slots);
     }
-      where
-        none_some : {A : Type 0} (x : A) → None ≡ Some x → ⊥
-        none_some x e = cc
 
     all_kept : (states : States) (steps : List Step) → AllEnabled m layout c states steps → IsKept m layout c states
         → IsKept m layout c (after_all m layout c states steps)

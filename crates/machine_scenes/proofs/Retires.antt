@@ -1,6 +1,6 @@
 -- The Retires for which an epoch is loaded, over each event of epochs and slots.
-use Rattle.std.proofs.Common.{◌≡◌, ◌≢◌, ℕ, suc, ◌<◌, ◌≤◌, Bool, true, false, refl, sym, ap, ◌∙◌, subst, ⊎_elim, arith}
-use Rattle.std.proofs.lemmas.Bool.{cases_eq}
+use Rattle.std.proofs.Common.{◌≡◌, ◌≢◌, ℕ, suc, ◌<◌, ◌≤◌, Bool, true, refl, sym, ap, ◌∙◌, subst, ⊎_elim, arith}
+use Rattle.std.proofs.lemmas.Bool.{cases_eq, both_ways}
 use Rattle.std.proofs.lemmas.Bool.Decides.{nat_tests}
 use Rattle.structure_laws.proofs.Changes.{upd_same, upd_other}
 use Rattle.epoch_core.specs.Update.{upd, upd2}
@@ -13,9 +13,6 @@ use Rattle.epoch_core.specs.Events.{Event, Enabled, after, slot_of}
 use Rattle.epoch_core.specs.Events as events
 use Rattle.epoch_core.specs.Sound.{IsSound}
 use Rattle.machine_scenes.specs.Kinds.{is_alone}
-
-not_both : {b : Bool} → b ≡ true → b ≡ false → ⊥
-not_both e e' = cc
 
 pair_same : (f : ℕ → ℕ → ℕ) (d k v i j : ℕ) → i ≡ d → j ≡ k → upd2 f d k v i j ≡ v
 pair_same f d k v i j e e' = grind (arith, nat_tests)
@@ -79,7 +76,7 @@ module _ (c : Counts) (e : EpochState) (old : IsSound c e) where
     recent_after (events.EnterLoad r) ok = idle r (stages.Loaded e.epoch) refl
     recent_after (events.Announce r g) ok = idle r stages.Announced refl
     recent_after (events.EnterAgain r) ok = stage_changes r (stages.Entered e.epoch)
-        (λ loaded. absurd (not_both (loaded_entered r loaded) (ap is_entered ok)))
+        (λ loaded. absurd (both_ways _ (ap is_entered ok) (loaded_entered r loaded)))
     recent_after (events.Exit r) ok = idle r stages.Idle refl
     recent_after (events.ScanEpoch r) ok = idle r (stages.Scanning e.epoch 0 true) refl
     recent_after (events.ScanOne r x n b) ok = idle r _ refl
@@ -91,7 +88,7 @@ module _ (c : Counts) (e : EpochState) (old : IsSound c e) where
     recent_after (events.RetireEpoch r d k s) ok = retire_changes r
         (record { loaded = true; descriptor = d; index = k; slot = s; epoch = e.epoch })
         (λ loaded. old.entered_most r (old.holder r (slot_of c d) ok.1))
-    recent_after (events.RetireCommit r) ok = retire_changes r no_retire (λ loaded. absurd (not_both loaded refl))
+    recent_after (events.RetireCommit r) ok = retire_changes r no_retire (λ loaded. absurd (both_ways _ refl loaded))
     recent_after (events.WordCommit r d k word) ok = recent
     recent_after (events.StoreLog r d k word) ok = recent
     recent_after (events.Reach r slots) ok = recent
@@ -151,7 +148,7 @@ module _ (c : Counts) (e : EpochState) (old : IsSound c e) where
 
   pub was_pending_retire : (r i : ℕ) → IsPending (after c e (events.RetireCommit r)) i → IsOther r i
   was_pending_retire r i pending = ⊎_elim
-      (λ same. absurd (not_both (sym (ap (λ (x : Retiring). x.loaded) (upd_same e.retire r i no_retire same)) ∙ pending.0) refl))
+      (λ same. absurd (both_ways _ refl (sym (ap (λ (x : Retiring). x.loaded) (upd_same e.retire r i no_retire same)) ∙ pending.0)))
       (λ ne.
       let is = upd_other e.retire r i no_retire ne in
       let log : ℕ → ℕ → ℕ = upd2 e.log ((e.retire r).descriptor) ((e.retire r).index)

@@ -1,7 +1,7 @@
 -- Each step of a run that takes no slot and retires none leads from a lawful scene to a lawful scene.
-use Rattle.std.proofs.Common.{◌≡◌, ◌≢◌, ℕ, suc, ◌<◌, List, Bool, true, false, refl, sym, ap, ◌∙◌, subst, inl, inr, ⊎_elim, arith}
+use Rattle.std.proofs.Common.{◌≡◌, ◌≢◌, ℕ, suc, ◌<◌, List, true, false, refl, sym, ap, ◌∙◌, subst, inl, inr, ⊎_elim, arith}
 use Rattle.std.specs.Prelude.{◌⊎◌, ◌==◌, not, Option, Some, None}
-use Rattle.std.proofs.lemmas.Bool.{cases_eq}
+use Rattle.std.proofs.lemmas.Bool.{cases_eq, both_ways}
 use Rattle.std.proofs.lemmas.Bool.Decides.{nat_tests}
 use Rattle.section_body.specs.Update.{upd}
 use Rattle.section_body.specs.Run.{written_once}
@@ -335,13 +335,10 @@ module _ (m : Meaning) (laws : Laws m) (layout : Layout) (limits : IsWithinLimit
         neither micros.End stop = inr refl
         neither x stop = inl (grind arith)
 
-        true_false : {b : Bool} → b ≡ true → b ≡ false → ⊥
-        true_false e e' = cc
-
         by_stop : (x : Micro) → micro_at (line body) s.edge ≡ x → is_stop (rules_of m layout) d s.log x ≡ true → Ended m at_now
         by_stop x is stop = ⊎_elim
             (λ check. let exit = check_exits body (p.op d) (p.thunk d) (p.readings d) s.log s.edge x is check in
-            absurd (true_false exit.2 (settled at_now.at exit.0 (omega arith) exit.1)))
+            absurd (both_ways _ (settled at_now.at exit.0 (omega arith) exit.1) exit.2))
             (λ end. end_passes body (p.op d) (p.thunk d) (p.readings d) s.log s.edge (is ∙ end))
             (neither x stop)
 

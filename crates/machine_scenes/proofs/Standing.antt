@@ -1,7 +1,7 @@
 -- What each event of agreement leaves of the published sections: those that are open were open, and each stays that of its thunk.
 use Rattle.std.proofs.Common.{◌≡◌, ◌≢◌, ℕ, suc, ◌<◌, Bool, true, false, cond, sym, ap, ◌∙◌, ⊎_elim, arith}
 use Rattle.std.specs.Prelude.{nat_lt}
-use Rattle.std.proofs.lemmas.Bool.{cases_eq, cases_lt}
+use Rattle.std.proofs.lemmas.Bool.{cases_eq, cases_lt, both_ways}
 use Rattle.section_body.specs.Update.{upd}
 use Rattle.section_body.specs.declared.micro.Micro.{Micro}
 use Rattle.section_body.specs.declared.micro.Micro.TheVariants as micros
@@ -19,14 +19,11 @@ use Rattle.machine_scenes.specs.Shown.{Publications, AreOfThunks}
 use Rattle.machine_scenes.specs.Kinds.{is_publication}
 use Rattle.machine_scenes.specs.Kept.{StandsAt}
 
-not_both : {b : Bool} → b ≡ true → b ≡ false → ⊥
-not_both e e' = cc
-
 module _ (c : CellRules) (w : AgreementState) where
   -- but for a publication, what is published was so before
   pub was_used : (v : Event) → is_publication v ≡ false → (d : ℕ) → (after w v).used d ≡ true → w.used d ≡ true
   was_used (Publish d lock word request code slot) other i used = cc
-  was_used (Free d) other i used = ⊎_elim (λ e. absurd (not_both used (upd_same w.used d i false e)))
+  was_used (Free d) other i used = ⊎_elim (λ e. absurd (both_ways _ (upd_same w.used d i false e) used))
       (λ ne. sym (upd_other w.used d i false ne) ∙ used) (cases_eq i d)
   was_used v other i used = used
 
@@ -113,4 +110,4 @@ module _ (c : CellRules) (w : AgreementState) (old : IsSound c w) (x : Retiring)
       → w'.section (x.descriptor) ≡ upd w.section ((w.run r).descriptor)
       (came (record (w.section ((w.run r).descriptor)) { log = log }) (suc ((w.run r).at))) (x.descriptor) → StandsAt w' x
   step_stands r running log no_retire w' used same = run_stands r running log
-      (λ e at. not_both (ap is_retire (at_retire r e at)) no_retire) w' used same
+      (λ e at. both_ways _ no_retire (ap is_retire (at_retire r e at))) w' used same

@@ -26,7 +26,8 @@ IsLinkedBy m s t y = (u z i : ℕ) → i < 5 → s.status u ≡ Retired z → Li
 
 -- the commits of Retires that a published section has passed are of slots below this number
 abbrev pub RetiresNodes : ℕ → AgreementState → Type 0
-RetiresNodes nodes a = (d i t log : ℕ) → a.used d ≡ true → i < (a.section d).edge → (a.section d).code i ≡ RetireCommit t log → t < nodes
+RetiresNodes nodes a = (d i t log : ℕ) → a.used d ≡ true → i < (a.section d).edge
+    → (a.section d).code i ≡ RetireCommit t log → t < nodes
 
 -- the Retires for which an epoch is loaded
 pub record RetiresAreKept (m : Meaning) (c : Counts) (j : States) : Type 0 where
@@ -34,7 +35,8 @@ pub record RetiresAreKept (m : Meaning) (c : Counts) (j : States) : Type 0 where
   pub recent : (r : ℕ) → (j.epochs.retire r).loaded ≡ true → entry_of (j.epochs.stage r) ≤ (j.epochs.retire r).epoch
   -- and until the Retire is agreed
   pub stands : (r : ℕ) → IsPending j.epochs r → StandsAt j.agreement (j.epochs.retire r)
-  pub linked : (r : ℕ) → IsPending j.epochs r → IsLinkedBy m (scene_of m c j) (j.epochs.retire r).slot (j.epochs.retire r).epoch
+  pub linked : (r : ℕ) → IsPending j.epochs r
+      → IsLinkedBy m (scene_of m c j) (j.epochs.retire r).slot (j.epochs.retire r).epoch
 
 module _ (m : Meaning) (layout : Layout) (c : Counts) where
   -- both components' states are sound, they show a lawful scene, and it is known who holds and publishes what
@@ -47,7 +49,8 @@ module _ (m : Meaning) (layout : Layout) (c : Counts) where
     pub publishers : HavePublishers j.epochs j.walk j.publications.runner (λ d. sections_of m j.publications j.agreement d)
     pub retires : RetiresAreKept m c j
     -- the thunk of a published section has the shape that the laws ask for
-    pub shaped : (d : ℕ) → j.agreement.used d ≡ true → Shaped m layout (j.publications.readings d) (j.publications.thunk d)
+    pub shaped : (d : ℕ) → j.agreement.used d ≡ true
+        → Shaped m layout (j.publications.readings d) (j.publications.thunk d)
     -- what a published section has retired is a node slot
     pub nodes : RetiresNodes c.nodes j.agreement
     -- only the structure's fixed slots are fixed

@@ -12,7 +12,8 @@ is_plain (MakeCommit r log proposal) = false
 is_plain (RetireCommit r slot log) = false
 is_plain _ = true
 
--- an event of epochs and slots that changes nothing of a runner's readings, and is no commit of a Make, and nothing of a Retire
+-- an event of epochs and slots that changes nothing of a runner's readings, and is no commit of a Make, and
+-- nothing of a Retire
 abbrev pub is_alone : epochs.Event → Bool
 is_alone (epochs.EnterAgain r) = false
 is_alone (epochs.Exit r) = false

@@ -17,13 +17,16 @@ pub record Meets (m : Meaning) (cells : ℕ → ℕ) (readings : Readings) (t : 
 
 -- each entered runner holds the slots that its readings meet
 abbrev pub HoldMet : Meaning → Counts → (ℕ → ℕ) → EpochState → (ℕ → Readings) → Type 0
-HoldMet m c cells e walk = (r t : ℕ) → is_entered (e.stage r) ≡ true → t < c.nodes → Meets m cells (walk r) t → e.holds r t ≡ true
+HoldMet m c cells e walk = (r t : ℕ) → is_entered (e.stage r) ≡ true → t < c.nodes
+    → Meets m cells (walk r) t → e.holds r t ≡ true
 
 -- this runner is entered, and its readings begin with these
 pub record HasRead (e : EpochState) (walk : ℕ → Readings) (runner : ℕ) (readings : Readings) : Type 0 where
   pub entered : is_entered (e.stage runner) ≡ true
-  pub read : (i place word : ℕ) → slice_get readings i ≡ Some (place, word) → slice_get (walk runner) i ≡ Some (place, word)
+  pub read : (i place word : ℕ) → slice_get readings i ≡ Some (place, word)
+      → slice_get (walk runner) i ≡ Some (place, word)
 
 -- the publisher of each open section is still in the entry in which it published it, and has read since then only more
 abbrev pub HavePublishers : EpochState → (ℕ → Readings) → (ℕ → ℕ) → (ℕ → Option scenes.Section) → Type 0
-HavePublishers e walk runner section = (d : ℕ) (x : scenes.Section) → section d ≡ Some x → HasRead e walk (runner d) x.readings
+HavePublishers e walk runner section = (d : ℕ) (x : scenes.Section) → section d ≡ Some x
+    → HasRead e walk (runner d) x.readings

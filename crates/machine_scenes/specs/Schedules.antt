@@ -31,12 +31,14 @@ pub record IsFirst (m : Meaning) (c : Counts) (location : ℕ → Location) : Ty
 module _ (m : Meaning) (layout : Layout) where
   -- the first states meet the invariant
   abbrev pub FirstIsKept : Type 0
-  FirstIsKept = (c : Counts) → c.nodes ≡ slots m layout → (location : ℕ → Location) → IsFirst m c location → (p : Publications)
+  FirstIsKept = (c : Counts) → c.nodes ≡ slots m layout → (location : ℕ → Location) → IsFirst m c location
+      → (p : Publications)
       → IsKept m layout c (first_states m location p)
 
   -- each step keeps it
   abbrev pub StepsKeep : Type 0
-  StepsKeep = (c : Counts) → c.nodes ≡ slots m layout → (j : States) (step : Step) → Enabled m layout c j step → IsKept m layout c j
+  StepsKeep = (c : Counts) → c.nodes ≡ slots m layout → (j : States) (step : Step)
+      → Enabled m layout c j step → IsKept m layout c j
       → IsKept m layout c (after m layout c j step)
 
   module _ (c : Counts) where
@@ -52,6 +54,8 @@ module _ (m : Meaning) (layout : Layout) where
 
   -- so the invariant holds after every list of enabled steps
   abbrev pub SchedulesKeep : Type 0
-  SchedulesKeep = (c : Counts) → c.nodes ≡ slots m layout → (location : ℕ → Location) → IsFirst m c location → (p : Publications)
+  SchedulesKeep = (c : Counts) → c.nodes ≡ slots m layout → (location : ℕ → Location) → IsFirst m c location
+      → (p : Publications)
       → (steps : List Step)
-      → AllEnabled c (first_states m location p) steps → IsKept m layout c (after_all c (first_states m location p) steps)
+      → AllEnabled c (first_states m location p) steps
+      → IsKept m layout c (after_all c (first_states m location p) steps)

@@ -15,8 +15,8 @@ use Rattle.epoch_core.specs.declared.location.Location.{Location}
 use Rattle.epoch_core.specs.declared.location.Location.TheVariants as locations
 use Rattle.epoch_core.specs.State.{Counts, EpochState, is_entered}
 
--- the requests; and by descriptor who published the section that was last published there, its operation and thunk, and what its
--- publisher had read by then
+-- the requests; and by descriptor who published the section that was last published there, its operation
+-- and thunk, and what its publisher had read by then
 pub record Publications : Type 0 where
   pub requests : List Request
   pub runner : ℕ → ℕ
@@ -58,7 +58,8 @@ module _ (m : Meaning) (p : Publications) where
   abbrev pub sections_of : AgreementState → ℕ → Option scenes.Section
   sections_of a d = section_of d (a.used d) (a.section d)
 
--- the states of agreement and of epochs and slots, what was published, and by runner what it has read outside a run since it entered
+-- the states of agreement and of epochs and slots, what was published, and by runner what it has read
+-- outside a run since it entered
 pub record States : Type 0 where
   pub agreement : AgreementState
   pub epochs : EpochState

@@ -30,8 +30,8 @@ pub data Step : Type 0 where
   Enter : (r : ℕ) → Step
   Read : (r place : ℕ) → Step
   Leave : (r : ℕ) → Step
-  -- it publishes a section; its run stores a word into a cell of the slot in its hand, commits that slot, loads the epoch for a Retire,
-  -- commits that
+  -- it publishes a section; its run stores a word into a cell of the slot in its hand, commits that slot,
+  -- loads the epoch for a Retire, commits that
   Publish : (r d lock word request : ℕ) (code : ℕ → Micro) (slot : ℕ → ℕ) (op : Op) (thunk : Thunk) → Step
   Fill : (r cell log : ℕ) (value : Source) (t word : ℕ) → Step
   Make : (r log t : ℕ) (worn : Bool) → Step
@@ -56,7 +56,8 @@ module _ (m : Meaning) (layout : Layout) (c : Counts) where
   abbrev pub after : States → Step → States
   after j (Agreement e) = record j { agreement = agreement_events.after j.agreement e }
   after j (Epochs e) = record j { epochs = epoch_events.after c j.epochs e }
-  after j (Enter r) = record j { epochs = epoch_events.after c j.epochs (epoch_events.EnterAgain r); walk = upd j.walk r [] }
+  after j (Enter r) =
+      record j { epochs = epoch_events.after c j.epochs (epoch_events.EnterAgain r); walk = upd j.walk r [] }
   after j (Read r place) = record j { walk = upd j.walk r (j.walk r ++ (place, j.agreement.shared.cells place) ∷ []) }
   after j (Leave r) = record j { epochs = epoch_events.after c j.epochs (epoch_events.Exit r) }
   after j (Publish r d lock word request code slot op thunk) = record j {
@@ -69,7 +70,8 @@ module _ (m : Meaning) (layout : Layout) (c : Counts) where
     agreement = agreement_events.after j.agreement (agreement_events.MakeCommit r log (suc t));
     epochs = epoch_events.after c j.epochs (epoch_events.MakeCommit r (descriptor_of j r) log t worn);
   }
-  after j (LoadEpoch r log t) = record j { epochs = epoch_events.after c j.epochs (epoch_events.RetireEpoch r (descriptor_of j r) log t) }
+  after j (LoadEpoch r log t) =
+      record j { epochs = epoch_events.after c j.epochs (epoch_events.RetireEpoch r (descriptor_of j r) log t) }
   after j (Retire r log t) = record j {
     agreement = agreement_events.after j.agreement (agreement_events.RetireCommit r t log);
     epochs = epoch_events.after c j.epochs (epoch_events.RetireCommit r);
@@ -77,7 +79,8 @@ module _ (m : Meaning) (layout : Layout) (c : Counts) where
 
   -- what a runner meets by this word of this place
   abbrev pub MeetsBy : States → ℕ → ℕ → Type 0
-  MeetsBy j place t = ((m.is_link j.agreement.shared.cells place ≡ true) × (value_of (j.agreement.shared.cells place) ≡ suc t))
+  MeetsBy j place t =
+      ((m.is_link j.agreement.shared.cells place ≡ true) × (value_of (j.agreement.shared.cells place) ≡ suc t))
       ⊎ ((m.is_lock place ≡ false) × IsCellOf m t place)
 
   -- an entered runner may load a place outside a run, and holds what it meets there
@@ -86,8 +89,10 @@ module _ (m : Meaning) (layout : Layout) (c : Counts) where
     pub loadable : IsLoadable m (j.walk r) place
     pub holds : (t : ℕ) → t < c.nodes → MeetsBy j place t → j.epochs.holds r t ≡ true
 
-  -- an entered runner may publish a section: its operation is within the limits, and its thunk fits what the runner has read
-  pub record MayPublish (j : States) (r d lock word request : ℕ) (code : ℕ → Micro) (slot : ℕ → ℕ) (op : Op) (thunk : Thunk) : Type 0 where
+  -- an entered runner may publish a section: its operation is within the limits, and its thunk fits what
+  -- the runner has read
+  pub record MayPublish (j : States) (r d lock word request : ℕ) (code : ℕ → Micro) (slot : ℕ
+      → ℕ) (op : Op) (thunk : Thunk) : Type 0 where
     pub enabled : agreement_events.Enabled (rules_of m layout) j.agreement (agreement_events.Publish d lock word request code slot)
     pub entered : is_entered (j.epochs.stage r) ≡ true
     pub allowed : IsAllowed op

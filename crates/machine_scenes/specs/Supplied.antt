@@ -19,9 +19,8 @@ use Rattle.machine_scenes.specs.Shown.{States, rules_of}
 use Rattle.machine_scenes.specs.Steps.{descriptor_of, HasWord, MeetsBy}
 use Rattle.machine_scenes.specs.Kept.{IsKept}
 
--- the slot that a section is about to retire is a node slot; as long as nothing is agreed there it is live, and no other Retire for which
--- an
--- epoch is loaded names it
+-- the slot that a section is about to retire is a node slot; as long as nothing is agreed there it is live,
+-- and no other Retire for which an epoch is loaded names it
 pub record IsRetirable (c : Counts) (j : States) (d log t : ℕ) : Type 0 where
   pub node : t < c.nodes
   pub live : j.epochs.log d log ≡ 0 → j.epochs.location t ≡ Live
@@ -54,15 +53,18 @@ module _ (m : Meaning) (layout : Layout) (c : Counts) where
     -- without a reading nothing is reached
     pub unread : (t : ℕ) → m.reaches [] t ≡ false
     -- what an entered runner's readings reach, it holds
-    pub reached : (r t : ℕ) → is_entered (j.epochs.stage r) ≡ true → t < c.nodes → m.reaches (j.walk r) t ≡ true → j.epochs.holds r t ≡ true
+    pub reached : (r t : ℕ) → is_entered (j.epochs.stage r) ≡ true → t < c.nodes
+        → m.reaches (j.walk r) t ≡ true → j.epochs.holds r t ≡ true
     -- what it meets at a place that it may load, it may hold
     pub met : (r place t : ℕ) → is_entered (j.epochs.stage r) ≡ true → IsLoadable m (j.walk r) place → t < c.nodes
         → MeetsBy m layout c j place t → MayHold j.epochs r t
     -- before a Retire's load of the epoch
-    pub retirable : (r t log : ℕ) → IsBefore j.agreement r (micros.EpochForRetire t log) → HasWord j (descriptor_of j r) log
+    pub retirable : (r t log : ℕ) → IsBefore j.agreement r (micros.EpochForRetire t log)
+        → HasWord j (descriptor_of j r) log
         → IsRetirable c j (descriptor_of j r) log t
 
 -- states that meet the invariant supply both
 abbrev pub KeptSupplies : Meaning → Layout → Type 0
-KeptSupplies m layout = (c : Counts) → c.nodes ≡ slots m layout → (j : States) → IsKept m layout c j → SuppliesAgreement m layout c j
+KeptSupplies m layout = (c : Counts) → c.nodes ≡ slots m layout → (j : States) → IsKept m layout c j
+    → SuppliesAgreement m layout c j
     × SuppliesEpochs m layout c j

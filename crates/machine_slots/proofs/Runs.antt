@@ -1,6 +1,7 @@
 -- What a run has filled and looked at of its Make's slot, over each event but a private load or store of its own.
 use Rattle.std.proofs.Common.{◌≡◌, ◌≢◌, ℕ, suc, ◌<◌, Bool, true, false, refl, sym, ap, ◌∙◌, subst, ⊎_elim, arith}
 use Rattle.std.specs.Prelude.{◌⊎◌, Option, Some}
+use Rattle.std.proofs.lemmas.Bool.{both_ways}
 use Rattle.section_body.specs.Update.{upd}
 use Rattle.section_body.specs.Word.{value_of}
 use Rattle.section_body.specs.declared.micro.Source.{Source}
@@ -51,9 +52,6 @@ pass_shared : (c : CellRules) (d : ℕ) (trail : ℕ → ℕ) (x : Micro) → pa
 pass_shared c d trail (micros.PrivateLoad cell log) pass = cc
 pass_shared c d trail (micros.PrivateStore cell log value) pass = cc
 pass_shared c d trail x pass = grind arith
-
-not_both : {b : Bool} → b ≡ true → b ≡ false → ⊥
-not_both e e' = cc
 
 last_or : (i n : ℕ) → i < suc n → (i < n) ⊎ (i ≡ n)
 last_or i n lt = search arith
@@ -165,14 +163,14 @@ module _ (m : Meaning) (layout : Layout) (c : Counts) (j : States) (kept : IsKep
         ended_run released = record {
           used = kept.agreement.running_used r;
           filled = λ i cell log value running below stores here. same_run.filled i cell log value running below stores here;
-          looked = λ cell log value running going next. absurd (not_both refl going);
+          looked = λ cell log value running going next. absurd (both_ways _ going refl);
         }
 
         released_run : q.ended ≡ true → (released : ℕ → Bool) → FillsRun cells slot (record q { released = released })
         released_run ended released = record {
           used = kept.agreement.running_used r;
           filled = λ i cell log value running below stores here. same_run.filled i cell log value running below stores here;
-          looked = λ cell log value running going next. absurd (not_both ended going);
+          looked = λ cell log value running going next. absurd (both_ways _ going ended);
         }
 
       -- the run has agreed on a word: it was in no Make, or at a Make's end
@@ -201,9 +199,9 @@ module _ (m : Meaning) (layout : Layout) (c : Counts) (j : States) (kept : IsKep
 
       over_run : FillsRun cells slot (record q { running = false })
       over_run = record {
-        used = λ running. absurd (not_both running refl);
-        filled = λ i cell log value running below stores here. absurd (not_both running refl);
-        looked = λ cell log value running going next. absurd (not_both running refl);
+        used = λ running. absurd (both_ways _ refl running);
+        filled = λ i cell log value running below stores here. absurd (both_ways _ refl running);
+        looked = λ cell log value running going next. absurd (both_ways _ refl running);
       }
 
     module _ (cells : ℕ → ℕ) (made' : Made) where

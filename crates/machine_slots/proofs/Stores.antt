@@ -1,7 +1,7 @@
 -- What a Make's private stores and its commit ask for.
-use Rattle.std.proofs.Common.{◌≡◌, ℕ, suc, ◌<◌, ◌≤◌, ◌^◌, Bool, true, false, zero, refl, sym, ap, ◌∙◌, subst, ⊎_elim, arith}
+use Rattle.std.proofs.Common.{◌≡◌, ℕ, suc, ◌<◌, ◌≤◌, ◌^◌, true, zero, refl, sym, ap, ◌∙◌, subst, ⊎_elim, arith}
 use Rattle.std.specs.Prelude.{Option, Some, slice_get, slice_index_or, List, [], ◌∷◌, length}
-use Rattle.std.proofs.lemmas.Bool.{cases_eq, cases_lt}
+use Rattle.std.proofs.lemmas.Bool.{cases_eq, cases_lt, both_ways}
 use Rattle.section_body.specs.Word.{value_of, version_of, next_word}
 use Rattle.section_body.specs.Line.{Registers, registers_before, source_of, is_commit}
 use Rattle.section_body.specs.declared.micro.Source.{Source}
@@ -154,21 +154,18 @@ module _ (m : Meaning) (laws : Laws m) (layout : Layout) (limits : IsWithinLimit
     store = private_store_is free made was;
   }
 
-not_both : {A : Type 0} {b : Bool} → b ≡ true → b ≡ false → A
-not_both e e' = absurd (cc)
-
 module _ (m : Meaning) (c : Counts) (location : ℕ → Location) (p : Publications) where
   -- in the first states nothing is published, and nobody is in a run
   pub first_held : LocksAreHeld m c (first_states m location p)
-  first_held = record { entered = λ d live. not_both live refl; held = λ d t i live. not_both live refl }
+  first_held = record { entered = λ d live. absurd (both_ways _ refl live); held = λ d t i live. absurd (both_ways _ refl live) }
 
   pub first_in_hand : (made : hands.Made) → AreInHand m c (first_states m location p) made
-  first_in_hand made = record { node = λ r t running. not_both running refl; here = λ r t running. not_both running refl }
+  first_in_hand made = record { node = λ r t running. absurd (both_ways _ refl running); here = λ r t running. absurd (both_ways _ refl running) }
 
   pub first_filled : (made : hands.Made) → SlotsAreFilled m c (first_states m location p) made
   first_filled made = record {
-    filled = λ r i cell log value running. not_both running refl;
-    looked = λ r cell log value is. not_both is.running refl;
+    filled = λ r i cell log value running. absurd (both_ways _ refl running);
+    looked = λ r cell log value is. absurd (both_ways _ refl is.running);
   }
 
   pub hands_begin : (made : hands.Made) → FirstHands m c (first_states m location p) made

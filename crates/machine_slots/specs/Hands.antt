@@ -34,7 +34,8 @@ IsNoFill (Fill r cell log value slot word) t i = slot ≡ t → cell ≡ i → �
 IsNoFill _ t i = Unit {0}
 
 module _ (m : Meaning) (c : Counts) where
-  -- the publisher of a section that isn't retired is entered, and holds the node slots in which the section's locks stand
+  -- the publisher of a section that isn't retired is entered, and holds the node slots in which the
+  -- section's locks stand
   pub record LocksAreHeld (j : States) : Type 0 where
     pub entered : (d : ℕ) → j.agreement.live d ≡ true → is_entered (j.epochs.stage (j.publications.runner d)) ≡ true
     pub held : (d t i : ℕ) → j.agreement.live d ≡ true → i < 5 → t < c.nodes → m.fixed_slots ≤ t
@@ -42,7 +43,8 @@ module _ (m : Meaning) (c : Counts) where
 
   -- a lock in a slot that is in a hand or free is free
   abbrev pub LocksAreFree : States → Type 0
-  LocksAreFree j = (t i : ℕ) → t < c.nodes → i < 5 → status_of c j.epochs.location t ≡ Free → m.is_lock (cell_of m t i) ≡ true
+  LocksAreFree j = (t i : ℕ) → t < c.nodes → i < 5 → status_of c j.epochs.location t ≡ Free
+      → m.is_lock (cell_of m t i) ≡ true
       → value_of (j.agreement.shared.cells (cell_of m t i)) ≡ 0
 
   -- the slots that Makes fill are in their runners' hands
@@ -50,15 +52,19 @@ module _ (m : Meaning) (c : Counts) where
     pub node : (r t : ℕ) → (j.agreement.run r).running ≡ true → made r ≡ Some t → t < c.nodes
     pub here : (r t : ℕ) → (j.agreement.run r).running ≡ true → made r ≡ Some t → j.epochs.location t ≡ Hand r
 
-  -- each cell that a Make in progress has stored to holds what was stored, and one that it has loaded to store to next holds the loaded word
+  -- each cell that a Make in progress has stored to holds what was stored, and one that it has loaded to
+  -- store to next holds the loaded word
   pub record SlotsAreFilled (j : States) (made : Made) : Type 0 where
     pub filled : (r i cell log : ℕ) (value : Source) → (j.agreement.run r).running ≡ true → i < (j.agreement.run r).at
         → (section_of j.agreement r).code i ≡ micros.PrivateStore cell log value → log ≡ (j.agreement.run r).count
-        → (t : ℕ) × (made r ≡ Some t) × (value_of (j.agreement.shared.cells (cell_of m t cell)) ≡ source_in ((j.agreement.run r).trail) value)
-    pub looked : (r cell log : ℕ) (value : Source) → agreement.IsBefore j.agreement r (micros.PrivateStore cell log value)
+        → (t : ℕ) × (made r ≡ Some t)
+        × (value_of (j.agreement.shared.cells (cell_of m t cell)) ≡ source_in ((j.agreement.run r).trail) value)
+    pub looked : (r cell log : ℕ) (value : Source)
+        → agreement.IsBefore j.agreement r (micros.PrivateStore cell log value)
         → (t : ℕ) × (made r ≡ Some t) × ((j.agreement.run r).word ≡ j.agreement.shared.cells (cell_of m t cell))
 
-  -- a private load in a run is of a cell of the slot that its Make fills, which is its first one or the one that it fills already
+  -- a private load in a run is of a cell of the slot that its Make fills, which is its first one or the one
+  -- that it fills already
   pub record LooksAt (j : States) (made made' : Made) (r cell place : ℕ) : Type 0 where
     pub slot : ℕ
     pub node : slot < c.nodes

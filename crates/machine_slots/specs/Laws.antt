@@ -28,11 +28,14 @@ module _ (m : Meaning) (layout : Layout) (c : Counts) where
   -- what a Make's commit and its private stores ask for
   pub record SuppliesStores (j : States) (made : Made) : Type 0 where
     -- before the commit each cell of the slot has the value that the Make's private store there writes
-    pub commit : (r log t : ℕ) → IsBefore j.agreement r (micros.MakeCommit log) → made r ≡ Some t → (cell at : ℕ) (value : Source) → cell < 5
+    pub commit : (r log t : ℕ) → IsBefore j.agreement r (micros.MakeCommit log) → made r ≡ Some t
+        → (cell at : ℕ) (value : Source) → cell < 5
         → (section_of j.agreement r).code at ≡ micros.PrivateStore cell log value
         → value_of (j.agreement.shared.cells (cell_of m t cell)) ≡ source_in ((j.agreement.run r).trail) value
-    -- a store of the word after the one that the run has loaded may come, while that one's version is below the greatest
-    pub store : (r cell log t number : ℕ) (value : Source) → IsBefore j.agreement r (micros.PrivateStore cell log value) → made r ≡ Some t
+    -- a store of the word after the one that the run has loaded may come, while that one's version is below
+    -- the greatest
+    pub store : (r cell log t number : ℕ) (value : Source)
+        → IsBefore j.agreement r (micros.PrivateStore cell log value) → made r ≡ Some t
         → j.epochs.location t ≡ Hand r → t < c.nodes
         → number ≡ next_word ((j.agreement.run r).word) (source_in ((j.agreement.run r).trail) value)
         → version_of ((j.agreement.run r).word) < layout.version_max
@@ -41,27 +44,33 @@ module _ (m : Meaning) (layout : Layout) (c : Counts) where
 module _ (m : Meaning) (layout : Layout) where
   -- a step leaves each cell of each free slot as it is, but for a Make's store to that cell
   abbrev pub HandsStand : Type 0
-  HandsStand = (c : Counts) → c.nodes ≡ slots m layout → (j : States) → IsKept m layout c j → LocksAreHeld m c j → (step : Step)
+  HandsStand = (c : Counts) → c.nodes ≡ slots m layout → (j : States) → IsKept m layout c j
+      → LocksAreHeld m c j → (step : Step)
       → Enabled m layout c j step → (t i : ℕ) → CellStands m layout c j step t i
 
   -- publishers go on to hold the slots of their sections' locks, as long as none leaves whose section isn't retired
   abbrev pub LocksStayHeld : Type 0
-  LocksStayHeld = (c : Counts) → c.nodes ≡ slots m layout → (j : States) → IsKept m layout c j → LocksAreHeld m c j → (step : Step)
+  LocksStayHeld = (c : Counts) → c.nodes ≡ slots m layout → (j : States) → IsKept m layout c j
+      → LocksAreHeld m c j → (step : Step)
       → Enabled m layout c j step → IsHeldBack j step → LocksAreHeld m c (after m layout c j step)
 
   -- and where they hold them, the locks in free slots are free
   abbrev pub FreeSlotsAreUnlocked : Type 0
-  FreeSlotsAreUnlocked = (c : Counts) → c.nodes ≡ slots m layout → (j : States) → IsKept m layout c j → LocksAreHeld m c j → LocksAreFree m c j
+  FreeSlotsAreUnlocked = (c : Counts) → c.nodes ≡ slots m layout → (j : States) → IsKept m layout c j
+      → LocksAreHeld m c j → LocksAreFree m c j
 
   -- what Makes have stored stands in their slots
   abbrev pub SlotsStayFilled : Type 0
-  SlotsStayFilled = (c : Counts) → c.nodes ≡ slots m layout → (j : States) → IsKept m layout c j → LocksAreHeld m c j → (made made' : Made)
-      → SlotsAreFilled m c j made → AreInHand m c j made → (step : Step) → Enabled m layout c j step → MadeGoes m c j step made made'
+  SlotsStayFilled = (c : Counts) → c.nodes ≡ slots m layout → (j : States) → IsKept m layout c j
+      → LocksAreHeld m c j → (made made' : Made)
+      → SlotsAreFilled m c j made → AreInHand m c j made → (step : Step) → Enabled m layout c j step
+      → MadeGoes m c j step made made'
       → SlotsAreFilled m c (after m layout c j step) made'
 
   -- so states supply what Makes ask for
   abbrev pub StoresAreSupplied : Type 0
-  StoresAreSupplied = (c : Counts) → c.nodes ≡ slots m layout → (j : States) → IsKept m layout c j → LocksAreFree m c j → (made : Made)
+  StoresAreSupplied = (c : Counts) → c.nodes ≡ slots m layout → (j : States) → IsKept m layout c j
+      → LocksAreFree m c j → (made : Made)
       → SlotsAreFilled m c j made → SuppliesStores m layout c j made
 
 -- the first states, in which nobody is in a run, meet all of it
@@ -71,4 +80,5 @@ pub record FirstHands (m : Meaning) (c : Counts) (j : States) (made : Made) : Ty
   pub filled : SlotsAreFilled m c j made
 
 abbrev pub HandsBegin : Meaning → Type 0
-HandsBegin m = (c : Counts) (location : ℕ → Location) (p : Publications) (made : Made) → FirstHands m c (first_states m location p) made
+HandsBegin m = (c : Counts) (location : ℕ → Location) (p : Publications) (made : Made)
+    → FirstHands m c (first_states m location p) made

@@ -5,16 +5,17 @@ ghost use Rattle.machine_slots.specs.Laws.{FreeSlotsAreUnlocked, HandsBegin, Han
 
 use runner_parts::Structure;
 
-/// Over every structure: as long as each publisher of a section that isn't retired holds the slots in which the section's locks stand,
-/// no step changes a cell of a slot that is in a hand, in a free list or worn, but a Make's store to that cell.
+/// Over every structure: as long as each publisher of a section that isn't retired holds the slots in which
+/// the section's locks stand, no step changes a cell of a slot that is in a hand, in a free list or worn,
+/// but a Make's store to that cell.
 pub fn free_slots_stand<S: Structure>(structure: &S)
     ensures { (layout : Layout) → IsWithinLimits layout → HandsStand (S.meaning structure.now) layout }
 {
     let _ = structure;
 }
 
-/// Publishers go on to be entered and to hold those slots, over each step but one in which a publisher leaves whose section isn't
-/// retired.
+/// Publishers go on to be entered and to hold those slots, over each step but one in which a publisher
+/// leaves whose section isn't retired.
 pub fn publishers_hold_their_locks<S: Structure>(structure: &S)
     ensures { (layout : Layout) → IsWithinLimits layout → LocksStayHeld (S.meaning structure.now) layout }
 {
@@ -35,8 +36,9 @@ pub fn makes_find_what_they_stored<S: Structure>(structure: &S)
     let _ = structure;
 }
 
-/// So the states supply what a Make asks for: each private store is of the next version, into a cell that no open section has come
-/// to, and leaves a lock free; and at the commit each cell has the value that the Make gives it.
+/// So the states supply what a Make asks for: each private store is of the next version, into a cell that
+/// no open section has come to, and leaves a lock free; and at the commit each cell has the value that the
+/// Make gives it.
 pub fn makes_are_supplied<S: Structure>(structure: &S)
     ensures { (layout : Layout) → IsWithinLimits layout → StoresAreSupplied (S.meaning structure.now) layout }
 {

@@ -1,8 +1,8 @@
-//! What stands in the slots that are in hands or free, and who holds the slots in which locks stand, over the joint states of
-//! agreement and of epochs and slots.
+//! What stands in the slots that are in hands or free, and who holds the slots in which locks stand, over
+//! the joint states of agreement and of epochs and slots.
 //!
-//! The definitions stand in specs: `Hands` is what holds of the states, `Laws` what is proved of it. `laws` has each law on a
-//! contract.
+//! The definitions stand in specs: `Hands` is what holds of the states, `Laws` what is proved of it. `laws`
+//! has each law on a contract.
 #![tactic(auto)]
 
 mod laws;

@@ -2,6 +2,7 @@
 use Rattle.std.specs.Prelude.{Bool, true, false, slice_index, slice_set, slice_get, if◌then◌else◌}
 use Rattle.std.proofs.Common.{◌≡◌, ℕ, suc, ◌<◌, List, length, sym, refl, ap, subst, ◌∙◌, Option, Some, None}
 use Rattle.std.proofs.Math.ListN.{length-set}
+use Rattle.std.proofs.lemmas.Option.{none-some}
 use Rattle.map_history.specs.declared.op.Request.{Request}
 use Rattle.table_words.specs.declared.layout.Layout.{Layout}
 use Rattle.table_words.specs.declared.sizes.Sizes.{Sizes}
@@ -24,9 +25,6 @@ use Rattle.machine_states.specs.World.{World, seat_of, settled_part, left_by, pu
 pub within : (s : Sizes) (a : Spot) → Fits s a → address s a < size s
 within s a h = words.within s a h
 
-some_none : {A : Type 0} → (a : A) → None ≡ Some a → ⊥
-some_none a e = cc
-
 pub some_same : {A : Type 0} → (a b : A) → Some a ≡ Some b → a ≡ b
 some_same a b e = cc
 
@@ -35,15 +33,15 @@ none_some a e = cc
 
 fit_if : (s : Sizes) (y x : Spot × Access) (b : Bool) → b ≡ fits s y.0 → (if b then Some y else None) ≡ Some x → Fits s x.0
 fit_if s y x true e h = let same : y ≡ x = cc in subst (λ (z : Spot × Access). Fits s z.0) same (words.fits_means s y.0 (sym e))
-fit_if s y x false e h = absurd (some_none x h)
+fit_if s y x false e h = absurd (none-some x h)
 
 -- what fits is a word of the table
 pub fitting_fits : (s : Sizes) (a : Ask) (x : Spot × Access) → fitting s a ≡ Some x → Fits s x.0
-fitting_fits s None x h = absurd (some_none x h)
+fitting_fits s None x h = absurd (none-some x h)
 fitting_fits s (Some y) x h = fit_if s y x (fits s y.0) refl h
 
 fits_unless : (s : Sizes) (gone : Bool) (a : Ask) (x : Spot × Access) → (if gone then None else fitting s a) ≡ Some x → Fits s x.0
-fits_unless s true a x h = absurd (some_none x h)
+fits_unless s true a x h = absurd (none-some x h)
 fits_unless s false a x h = fitting_fits s a x h
 
 length_left : (parts : List PartState) (seat : ℕ) (o : Option PartState) → length (left_by parts seat o) ≡ length parts

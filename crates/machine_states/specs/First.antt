@@ -46,7 +46,8 @@ first_part nodes descriptors = record {
 
 -- the keeper's slots come after the workers', two for each worker and two more; it has one descriptor for each worker
 abbrev pub keeper_part : Meaning → Layout → PartState
-keeper_part m l = first_part (falling (m.fixed_slots + l.nodes * l.runners) (2 * l.runners + 2)) (falling (l.sections * l.runners) l.runners)
+keeper_part m l =
+    first_part (falling (m.fixed_slots + l.nodes * l.runners) (2 * l.runners + 2)) (falling (l.sections * l.runners) l.runners)
 
 abbrev pub worker_part : Meaning → Layout → ℕ → PartState
 worker_part m l k = first_part (falling (m.fixed_slots + l.nodes * k) l.nodes) (falling (l.sections * k) l.sections)
@@ -56,7 +57,8 @@ abbrev pub workers : Meaning → Layout → ℕ → List PartState
 workers m l zero = []
 workers m l (suc n) = workers m l n ++ worker_part m l n ∷ []
 
--- the first state: the epoch is 1, each cell holds its first word, all else is 0; every runner is idle with its slots free
+-- the first state: the epoch is 1, each cell holds its first word, all else is 0; every runner is idle with
+-- its slots free
 pub record IsFirst (m : Meaning) (l : Layout) (requests : List Request) (w : World) : Type 0 where
   pub words : IsFilled m (sizes_for m l requests) (sizes_for m l requests).cells w.words
   pub parts : w.parts ≡ keeper_part m l ∷ workers m l l.runners

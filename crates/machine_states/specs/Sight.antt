@@ -32,8 +32,8 @@ part_of l parts r = part_or_first (slice_get parts (seat_of l r))
 abbrev pub sight : Meaning → Layout → List Request → World → Sight
 sight m l requests w = record { word = seen (sizes_for m l requests) w.words; part = part_of l w.parts }
 
--- the parts after an event that leaves the stepping runner with this part; a join also takes over what the worker knew, and the worker
--- makes no further step
+-- the parts after an event that leaves the stepping runner with this part; a join also takes over what the
+-- worker knew, and the worker makes no further step
 abbrev pub parts_after : EventKind → (ℕ → PartState) → ℕ → PartState → ℕ → PartState
 parts_after (kinds.Join worker) part r p = upd (upd part r (knows_also p (part worker))) worker (leaves (part worker))
 parts_after _ part r p = upd part r p

@@ -41,10 +41,11 @@ abbrev pub left_by : List PartState → ℕ → Option PartState → List PartSt
 left_by parts seat None = parts
 left_by parts seat (Some q) = slice_set parts seat (leaves q)
 
--- the parts after an event, with the stepping runner's part in its place; a join changes the worker's too, and no other event
--- changes another part
+-- the parts after an event, with the stepping runner's part in its place; a join changes the worker's too,
+-- and no other event changes another part
 abbrev pub put_part : List PartState → EventKind → ℕ → PartState → List PartState
-put_part parts (kinds.Join worker) seat p = left_by (slice_set parts seat p) (suc worker) (slice_get (slice_set parts seat p) (suc worker))
+put_part parts (kinds.Join worker) seat p =
+    left_by (slice_set parts seat p) (suc worker) (slice_get (slice_set parts seat p) (suc worker))
 put_part parts _ seat p = slice_set parts seat p
 
 -- the state after an event that asks this of this part

@@ -1,7 +1,7 @@
 -- What Makes used up is kept along the machine's steps.
-use Rattle.std.specs.Prelude.{◌==◌, ◌&&◌, ◌⊎◌, cond, count_by, Bool, true, false, if◌then◌else◌}
+use Rattle.std.specs.Prelude.{◌==◌, ◌⊎◌, cond, count_by, true, false, if◌then◌else◌}
 use Rattle.std.proofs.Common.{◌≡◌, ◌≢◌, ℕ, zero, suc, ◌+◌, ◌<◌, ◌≤◌, List, length, refl, sym, ap, ◌∙◌, subst, ⊎_elim, inl, inr, arith, Option, Some, None}
-use Rattle.std.proofs.lemmas.Bool.{cases_eq}
+use Rattle.std.proofs.lemmas.Bool.{cases_eq, and_parts}
 use Rattle.std.proofs.lemmas.Bool.Decides.{nat_tests}
 use Rattle.map_history.specs.declared.op.Request.{Request}
 use Rattle.map_history.specs.declared.reply.Reply.TheVariants.{New}
@@ -65,10 +65,6 @@ use Rattle.make_counts.proofs.Sections.{new_some, reply_new, publisher, unreplie
 
 order : (a b : ℕ) → (a < b) ⊎ (b ≤ a)
 order a b = search arith
-
-both : (a b : Bool) → (a && b) ≡ true → (a ≡ true) × (b ≡ true)
-both true b e = (refl, e)
-both false b e = absurd (let z = e in cc)
 
 module _ (m : Meaning) (l : Layout) (rs : List Request) where
   -- the worker of a request
@@ -198,7 +194,7 @@ module _ (m : Meaning) (laws : Laws m) (l : Layout) (limits : IsWithinLimits l) 
 
   may : (kind : EventKind) → outside_ask m l rs r kind p ≡ Some x → MayGo m l p once found kind
   may (kinds.Hold t d) h = (hold_asked m l rs r t d p x h).unpublished
-  may kinds.EpochForRetire h = section_over p.published (both (is_walking p.stage p.run) _ (if_some _ _ x h).0).1
+  may kinds.EpochForRetire h = section_over p.published (and_parts (is_walking p.stage p.run) _ (if_some _ _ x h).0).1
   may _ h = tt
 
   own_leaves : Leaves p (after_by m l e.kind p p.run found) e.kind found

@@ -22,8 +22,8 @@ added word (suc n) = added word n + cond (word (Reply n) == word_of New) 1 0
 abbrev pub HoldsNoLock : Meaning → (Spot → ℕ) → Type 0
 HoldsNoLock m word = (p : ℕ) → m.is_lock p ≡ true → value_of (word (Cell p)) ≡ 0
 
--- where no lock is held: a worker's own slots are all there but for those that Makes used up, which are at most two for each
--- request that added a pair
+-- where no lock is held: a worker's own slots are all there but for those that Makes used up, which are at
+-- most two for each request that added a pair
 abbrev pub MakesAreCounted : Meaning → Layout → List Request → Sight → Type 0
 MakesAreCounted m l requests s = HoldsNoLock m s.word → (r : ℕ) → r < l.runners
     → l.nodes ≤ entry_count (s.part r).nodes + 2 * added s.word (length requests)

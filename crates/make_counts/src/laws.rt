@@ -17,7 +17,8 @@ use runner_parts::Structure;
 /// many as the layout gives it. For each Make that won used up one slot, sections that left won none, and of each
 /// request one section at most has won any: one that is done and answered that it added a pair.
 pub fn makes_are_counted<S: Structure>(structure: &S)
-    ensures { (per_pair : ℕ) (layout : Layout) (requests : List Request) (w : World) → PlannerLaws (S.meaning structure.now) per_pair
+    ensures { (per_pair : ℕ) (layout : Layout) (requests : List Request) (w : World)
+        → PlannerLaws (S.meaning structure.now) per_pair
         → IsWithinLimits layout → AreAllowed requests → Reached (S.meaning structure.now) layout requests w
         → MakesAreCounted (S.meaning structure.now) layout requests (sight (S.meaning structure.now) layout requests w) }
 {

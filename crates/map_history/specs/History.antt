@@ -14,7 +14,8 @@ pub record Answered : Type 0 where
 -- each reply is the one that the map gives at its place, from this map on
 abbrev pub IsLegalFrom : Pairs → List Answered → Type 0
 IsLegalFrom pairs [] = Unit {0}
-IsLegalFrom pairs (answered ∷ history) = (answered.reply ≡ reply_of pairs answered.op) × IsLegalFrom (map_after pairs answered.op) history
+IsLegalFrom pairs (answered ∷ history) =
+    (answered.reply ≡ reply_of pairs answered.op) × IsLegalFrom (map_after pairs answered.op) history
 
 -- the part of a history on one key
 abbrev pub on_key : ℕ → List Answered → List Answered

@@ -2,6 +2,7 @@
 use Rattle.std.specs.Prelude.{◌⊎◌, ◌==◌, ◌&&◌, ◌*◌, not, nat_lt, is_some, slice_index, Bool, true, false, if◌then◌else◌}
 use Rattle.std.proofs.Common.{◌≡◌, ◌≢◌, ℕ, zero, suc, ◌+◌, ◌<◌, ◌≤◌, List, length, inl, inr, ⊎_elim, sym, refl, ap, ◌∙◌, subst, arith, Option, Some, None}
 use Rattle.std.proofs.lemmas.Bool.Decides.{nat_tests}
+use Rattle.std.proofs.lemmas.Option.{none-some}
 use Rattle.map_history.specs.declared.op.Request.{Request}
 use Rattle.section_body.specs.declared.micro.Micro.{Micro}
 use Rattle.section_body.specs.declared.micro.Micro.TheVariants as micros
@@ -77,9 +78,6 @@ cell_low first slots t i low five = omega arith
 asks_when : (test : Bool) (a : Spot) (access : Access) → test ≡ true → when test a access ≡ Some (a, access)
 asks_when test a access e = rw e refl
 
-none_some : {A : Type 0} {B : Type 0} {b : B} → None ≡ Some b → A
-none_some e = absurd (cc)
-
 -- what is known of a state in which the next steps are enabled
 pub record IsKnown (m : Meaning) (l : Layout) (rs : List Request) (s : Sight) : Type 0 where
   pub beside : Beside
@@ -112,7 +110,7 @@ module _ (m : Meaning) (laws : Laws m) (l : Layout) (limits : IsWithinLimits l) 
   enabled_by kind x there asked fit = by p.gone there (ap (ask_by m l rs r kind p) is ∙ asked)
     where
       fitted : (a : Ask) → a ≡ Some x → fitting sizes a ≡ Some x
-      fitted None e = none_some e
+      fitted None e = absurd (none-some _ e)
       fitted (Some y) e = let one : y ≡ x = cc in ap (λ (z : Spot × Access). if fits sizes z.0 then Some z else None) one
           ∙ ap (λ b. if b then Some x else None) fit
 

@@ -21,8 +21,9 @@ use Rattle.next_steps.specs.Steps.{opening_kind, opened_next, kind_at, ask_at, n
 abbrev pub Meets : Meaning → Layout → List Request → ℕ → PartState → EventKind → Spot × Access → Type 0
 Meets m l requests r p kind x = asks m l requests r kind p ≡ Some x
 
--- a run in progress is one of the table's descriptors and loads thirteen words; once it has, its thunk and its body's line are within the
--- table, the body has the shape, and no place of the line and no number of exchanges at the end is refused
+-- a run in progress is one of the table's descriptors and loads thirteen words; once it has, its thunk and
+-- its body's line are within the table, the body has the shape, and no place of the line and no number of
+-- exchanges at the end is refused
 pub record IsInTable (m : Meaning) (l : Layout) (requests : List Request) (q : RunState) : Type 0 where
   pub descriptor : q.descriptor < descriptor_count l
   pub most : length q.opened ≤ 13
@@ -30,8 +31,9 @@ pub record IsInTable (m : Meaning) (l : Layout) (requests : List Request) (q : R
   pub body : length q.opened ≡ 13 → IsShaped (m.body (thunk_of q.opened))
   pub goes : length q.opened ≡ 13 → is_open_run q ≡ true
 
--- whoever is in a run and wasn't joined has an enabled event: in the opening the next load, and then the step of the run's line or end that
--- comes next, but where a Make's first private load finds the free list empty
+-- whoever is in a run and wasn't joined has an enabled event: in the opening the next load, and then the
+-- step of the run's line or end that comes next, but where a Make's first private load finds the free list
+-- empty
 pub record NextIsEnabled (m : Meaning) (l : Layout) (requests : List Request) (s : Sight) : Type 0 where
   pub runs : (r : ℕ) (q : RunState) → (s.part r).run ≡ Some q → IsInTable m l requests q
   pub opening : (r : ℕ) (q : RunState) → (s.part r).gone ≡ false → (s.part r).run ≡ Some q → length q.opened < 13
@@ -49,5 +51,6 @@ pub record CanMake (m : Meaning) (l : Layout) (requests : List Request) (w : Wor
 
 -- so the next event of each run can be made
 abbrev pub RunsGoOn : Meaning → Layout → List Request → World → Type 0
-RunsGoOn m l requests w = (r : ℕ) (p : PartState) (q : RunState) → slice_get w.parts (seat_of l r) ≡ Some p → p.gone ≡ false
+RunsGoOn m l requests w = (r : ℕ) (p : PartState) (q : RunState) → slice_get w.parts (seat_of l r) ≡ Some p
+    → p.gone ≡ false
     → p.run ≡ Some q → has_slot p q (next_of m q) ≡ true → CanMake m l requests w r p (next_kind m p q) (next_ask m p q)

@@ -22,5 +22,7 @@ pub record PartFits (m : Meaning) (l : Layout) (p : PartState) : Type 0 where
 -- these of all runners, and the descriptors that an entered runner holds and the slots that its readings reach
 pub record NumbersFit (m : Meaning) (l : Layout) (s : Sight) : Type 0 where
   pub parts : (r : ℕ) → PartFits m l (s.part r)
-  pub held : (r entry d : ℕ) → (s.part r).stage ≡ Entered entry → has (s.part r).reads.held d ≡ true → d < descriptor_count l
-  pub reached : (r entry t : ℕ) → (s.part r).stage ≡ Entered entry → m.reaches (s.part r).reads.walk t ≡ true → t < slot_count l m.fixed_slots
+  pub held : (r entry d : ℕ) → (s.part r).stage ≡ Entered entry → has (s.part r).reads.held d ≡ true
+      → d < descriptor_count l
+  pub reached : (r entry t : ℕ) → (s.part r).stage ≡ Entered entry
+      → m.reaches (s.part r).reads.walk t ≡ true → t < slot_count l m.fixed_slots

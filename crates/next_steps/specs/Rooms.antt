@@ -34,7 +34,8 @@ pub record ClockIsSmall (requests : List Request) (s : Sight) : Type 0 where
 abbrev pub cell_count : Meaning → Layout → ℕ
 cell_count m l = m.fixed_cells + 5 * slot_count l m.fixed_slots
 
--- the numbers that a thunk and its body's line give are the table's: the request, the outer lock, and each cell that a step meets
+-- the numbers that a thunk and its body's line give are the table's: the request, the outer lock, and each
+-- cell that a step meets
 pub record ThunkFits (m : Meaning) (l : Layout) (requests : List Request) (t : Thunk) : Type 0 where
   pub request : t.request < length requests
   pub lock : t.lock < cell_count m l
@@ -70,7 +71,8 @@ module _ (m : Meaning) (l : Layout) (word : Spot → ℕ) where
   pub record SlotsHaveRoom (p : PartState) : Type 0 where
     pub free : (t i : ℕ) → has p.nodes.free t ≡ true → i < 5 → CellHasRoom t i
     pub made : (q : RunState) (t : ℕ) → p.run ≡ Some q → q.made ≡ Some t → MakeHasRoom q t
-    pub looked : (t i : ℕ) → has p.nodes.hand t ≡ true → (test_of p.nodes.tests t).worn ≡ false → i < (test_of p.nodes.tests t).cells → i < 5
+    pub looked : (t i : ℕ) → has p.nodes.hand t ≡ true → (test_of p.nodes.tests t).worn ≡ false
+        → i < (test_of p.nodes.tests t).cells → i < 5
         → CellHasRoom t i
     -- it has looked at none of any other slot, nor of the one that the Make fills
     pub unlooked : (t : ℕ) → has p.nodes.hand t ≡ false → (test_of p.nodes.tests t).cells ≡ 0

@@ -56,9 +56,11 @@ run_behind m l p q (micros.OutcomeLoad place log) found = Some (goes_on m l q fo
 run_behind m l p q (micros.OutcomeCommit place log) found = Some (agrees m l q (written_once found q.word))
 run_behind m l p q (micros.PrivateLoad cell log) found =
     Some (goes_on m l (filling_slot q.made q (slot_in (make_slot q.made p.nodes.free))) found)
-run_behind m l p q (micros.PrivateStore cell log value) found = let number = next_word q.word (source_value q.trail value) in
+run_behind m l p q (micros.PrivateStore cell log value) found =
+    let number = next_word q.word (source_value q.trail value) in
     Some (goes_on m l (record q { worn = q.worn || version_of number == l.version_max }) q.word)
-run_behind m l p q (micros.MakeCommit log) found = Some (agrees m l (unfilled q) (written_once found (slot_in q.made + 1)))
+run_behind m l p q (micros.MakeCommit log) found =
+    Some (agrees m l (unfilled q) (written_once found (slot_in q.made + 1)))
 run_behind m l p q micros.ClockLoad found = Some (goes_on m l q found)
 run_behind m l p q micros.StampExchange found = Some (goes_on m l q (written_once found (stamp_after q.word)))
 run_behind m l p q micros.ClockRaise found = Some (goes_on m l q q.word)
@@ -67,12 +69,14 @@ run_behind m l p q (micros.EpochForRetire slot log) found = Some (goes_on m l q 
 run_behind m l p q (micros.RetireCommit slot log) found = Some (agrees m l q (written_once found (slot + 1)))
 run_behind m l p q (micros.ReplyExchange reply) found = Some (goes_on m l q q.word)
 run_behind m l p q micros.SetDone found = Some (ended_more q)
-run_behind m l p q (micros.Release place word) found = if is_end (next_of m (ended_more q)) then None else Some (ended_more q)
+run_behind m l p q (micros.Release place word) found =
+    if is_end (next_of m (ended_more q)) then None else Some (ended_more q)
 run_behind m l p q _ found = Some q
 
 -- the own node slots behind it
 abbrev pub nodes_behind : PartState → RunState → Micro → ℕ → NodesState
-nodes_behind p q (micros.PrivateLoad cell log) found = nodes_taking q.made p.nodes (slot_in (make_slot q.made p.nodes.free))
+nodes_behind p q (micros.PrivateLoad cell log) found =
+    nodes_taking q.made p.nodes (slot_in (make_slot q.made p.nodes.free))
 nodes_behind p q (micros.MakeCommit log) found = made p q (slot_in q.made) found
 nodes_behind p q (micros.RetireCommit slot log) found = if found == 0 then slot_retired p.nodes slot q.word else p.nodes
 nodes_behind p q _ found = p.nodes
@@ -122,21 +126,25 @@ module _ (m : Meaning) (l : Layout) (requests : List Request) where
       → Meets m l requests r p (opening_kind q) (opened_next q)
 
   abbrev pub ThenOpened : Type 0
-  ThenOpened = (r : ℕ) (p : PartState) (q : RunState) (x : Spot × Access) (found : ℕ) → p.run ≡ Some q → length q.opened < 13
+  ThenOpened = (r : ℕ) (p : PartState) (q : RunState) (x : Spot × Access) (found : ℕ) → p.run ≡ Some q
+      → length q.opened < 13
       → (after m l r (opening_kind q) x.0 x.1 p found).run ≡ Some (record q { opened = q.opened ++ found ∷ [] })
 
   -- from then on the step that stands next is enabled, but where a Make is to take a slot and has none
   abbrev pub MayStep : Type 0
   MayStep = (r : ℕ) (p : PartState) (q : RunState) (micro : Micro) → IsInRun m l requests r p q → length q.opened ≡ 13
-      → next_of m q ≡ micro → has_slot p q micro ≡ true → Meets m l requests r p (kind_at p q micro) (ask_at m p q micro)
+      → next_of m q ≡ micro → has_slot p q micro ≡ true
+      → Meets m l requests r p (kind_at p q micro) (ask_at m p q micro)
 
   -- a commit goes to the log word behind the words that were agreed on
   abbrev pub CommitsBehind : Type 0
-  CommitsBehind = (r k : ℕ) (p : PartState) (q : RunState) (micro : Micro) → IsInRun m l requests r p q → length q.opened ≡ 13
+  CommitsBehind = (r k : ℕ) (p : PartState) (q : RunState) (micro : Micro) → IsInRun m l requests r p q
+      → length q.opened ≡ 13
       → next_of m q ≡ micro → commits_to micro ≡ Some k → k ≡ length q.trail
 
   -- and the part is then the one behind it
   abbrev pub ThenStepped : Type 0
-  ThenStepped = (r : ℕ) (p : PartState) (q : RunState) (micro : Micro) (x : Spot × Access) (found : ℕ) → IsInRun m l requests r p q
+  ThenStepped = (r : ℕ) (p : PartState) (q : RunState) (micro : Micro) (x : Spot × Access) (found : ℕ)
+      → IsInRun m l requests r p q
       → length q.opened ≡ 13 → next_of m q ≡ micro → has_slot p q micro ≡ true
       → IsBehind m l p q micro found (after m l r (kind_at p q micro) x.0 x.1 p found)

@@ -35,7 +35,8 @@ kind_at p q (micros.OutcomeLoad place log) = kinds.OutcomeLoad
 kind_at p q (micros.OutcomeCommit place log) = kinds.OutcomeCommit
 kind_at p q (micros.CheckHeld place log word) = kinds.SetDone
 kind_at p q (micros.PrivateLoad cell log) = kinds.PrivateLoad (slot_in (make_slot q.made p.nodes.free)) cell
-kind_at p q (micros.PrivateStore cell log value) = kinds.PrivateStore (slot_in q.made) cell (next_word q.word (source_value q.trail value))
+kind_at p q (micros.PrivateStore cell log value) =
+    kinds.PrivateStore (slot_in q.made) cell (next_word q.word (source_value q.trail value))
 kind_at p q (micros.MakeCommit log) = kinds.MakeCommit
 kind_at p q micros.ClockLoad = kinds.ClockLoad
 kind_at p q micros.StampExchange = kinds.StampExchange
@@ -69,7 +70,8 @@ ask_at m p q (micros.NestedHold place word) = (Cell place, Exchanges word (held_
 ask_at m p q (micros.OutcomeLoad place log) = (Cell place, Loads)
 ask_at m p q (micros.OutcomeCommit place log) = (LogWord q.descriptor log, Exchanges 0 q.word)
 ask_at m p q (micros.CheckHeld place log word) = (DoneWord q.descriptor, Exchanges 0 1)
-ask_at m p q (micros.PrivateLoad cell log) = (Cell (cell_of m.fixed_cells (slot_in (make_slot q.made p.nodes.free)) cell), Loads)
+ask_at m p q (micros.PrivateLoad cell log) =
+    (Cell (cell_of m.fixed_cells (slot_in (make_slot q.made p.nodes.free)) cell), Loads)
 ask_at m p q (micros.PrivateStore cell log value) =
     (Cell (cell_of m.fixed_cells (slot_in q.made) cell), Stores (next_word q.word (source_value q.trail value)))
 ask_at m p q (micros.MakeCommit log) = (LogWord q.descriptor log, Exchanges 0 (slot_in q.made + 1))
@@ -88,7 +90,8 @@ ask_at m p q (micros.Release place word) =
 
 -- the word that the opening loads next
 abbrev pub opened_next : RunState → Spot × Access
-opened_next q = if nat_lt (length q.opened) 12 then (ThunkWord q.descriptor (length q.opened), Loads) else (DoneWord q.descriptor, Loads)
+opened_next q =
+    if nat_lt (length q.opened) 12 then (ThunkWord q.descriptor (length q.opened), Loads) else (DoneWord q.descriptor, Loads)
 
 -- the word that a run meets next, and what it does there
 abbrev pub next_ask : Meaning → PartState → RunState → Spot × Access

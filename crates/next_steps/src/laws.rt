@@ -14,21 +14,25 @@ ghost use Rattle.next_steps.specs.Stages.{RunsAreInTable, MayOpen, ThenOpened, M
 
 use runner_parts::Structure;
 
-/// Over every structure, in every state that the machine reaches: a runner that is in a run and wasn't joined has an enabled event. Until the
-/// run has loaded the thunk and the done word it is the next of these loads; from then on it is the step that comes next in the line of the
-/// run's body, or at its end. The one exception is a Make's first private load where the runner's free list is empty. So the machine can make that
-/// event.
+/// Over every structure, in every state that the machine reaches: a runner that is in a run and wasn't
+/// joined has an enabled event. Until the run has loaded the thunk and the done word it is the next of
+/// these loads; from then on it is the step that comes next in the line of the run's body, or at its end.
+/// The one exception is a Make's first private load where the runner's free list is empty. So the machine
+/// can make that event.
 pub fn next_steps_are_enabled<S: Structure>(structure: &S)
-    ensures enabled { (layout : Layout) (requests : List Request) (w : World) → IsWithinLimits layout → AreAllowed requests
+    ensures enabled { (layout : Layout) (requests : List Request) (w : World) → IsWithinLimits layout
+        → AreAllowed requests
         → Reached (S.meaning structure.now) layout requests w
         → NextIsEnabled (S.meaning structure.now) layout requests (sight (S.meaning structure.now) layout requests w) }
-    ensures goes_on { (layout : Layout) (requests : List Request) (w : World) → IsWithinLimits layout → AreAllowed requests
+    ensures goes_on { (layout : Layout) (requests : List Request) (w : World) → IsWithinLimits layout
+        → AreAllowed requests
         → Reached (S.meaning structure.now) layout requests w → RunsGoOn (S.meaning structure.now) layout requests w }
 {
     let _ = structure;
 }
 
-/// In every state that the machine reaches, neither the clock nor half of any stamp is more than the number of requests that have a stamp.
+/// In every state that the machine reaches, neither the clock nor half of any stamp is more than the number
+/// of requests that have a stamp.
 pub fn clocks_are_small<S: Structure>(structure: &S)
     ensures { (layout : Layout) (requests : List Request) (w : World) → IsWithinLimits layout → AreAllowed requests
         → Reached (S.meaning structure.now) layout requests w
@@ -37,8 +41,9 @@ pub fn clocks_are_small<S: Structure>(structure: &S)
     let _ = structure;
 }
 
-/// In every state that the machine reaches, the thunk of each published section whose descriptor isn't free again names one of the
-/// requests, and its outer lock and each cell that its body's line meets are the table's.
+/// In every state that the machine reaches, the thunk of each published section whose descriptor isn't free
+/// again names one of the requests, and its outer lock and each cell that its body's line meets are the
+/// table's.
 pub fn published_thunks_fit<S: Structure>(structure: &S)
     ensures { (layout : Layout) (requests : List Request) (w : World) → IsWithinLimits layout → AreAllowed requests
         → Reached (S.meaning structure.now) layout requests w
@@ -47,9 +52,9 @@ pub fn published_thunks_fit<S: Structure>(structure: &S)
     let _ = structure;
 }
 
-/// In every state that the machine reaches, each cell of a free slot has a version below the greatest; so has each cell of the slot that a
-/// Make fills to which it hasn't stored, and each one that a runner has looked at in a slot of its hand in which it has found no cell with
-/// the greatest version.
+/// In every state that the machine reaches, each cell of a free slot has a version below the greatest; so
+/// has each cell of the slot that a Make fills to which it hasn't stored, and each one that a runner has
+/// looked at in a slot of its hand in which it has found no cell with the greatest version.
 pub fn slots_have_room<S: Structure>(structure: &S)
     ensures { (layout : Layout) (requests : List Request) (w : World) → IsWithinLimits layout → AreAllowed requests
         → Reached (S.meaning structure.now) layout requests w
@@ -58,8 +63,9 @@ pub fn slots_have_room<S: Structure>(structure: &S)
     let _ = structure;
 }
 
-/// In every state that the machine reaches, the numbers that the runners keep are the table's: own descriptors, places that were read since
-/// they entered, and, of an entered runner, the descriptors that it holds and the slots that its readings reach.
+/// In every state that the machine reaches, the numbers that the runners keep are the table's: own
+/// descriptors, places that were read since they entered, and, of an entered runner, the descriptors that
+/// it holds and the slots that its readings reach.
 pub fn numbers_are_the_tables<S: Structure>(structure: &S)
     ensures { (layout : Layout) (requests : List Request) (w : World) → IsWithinLimits layout → AreAllowed requests
         → Reached (S.meaning structure.now) layout requests w
@@ -68,16 +74,18 @@ pub fn numbers_are_the_tables<S: Structure>(structure: &S)
     let _ = structure;
 }
 
-/// What a caller may do with a runner that is in a run, by its part in a state that the machine reaches. The run's descriptor, its thunk and its
-/// body's line are within the table, and the body has the shape. In the opening it may make the next load,
-/// which adds the word that it finds. From then on it may make the step that stands next, but where a Make is to take a slot and has none; a commit
-/// goes to the log word behind the words that were agreed on; and behind the step the part is the one that the step leaves.
+/// What a caller may do with a runner that is in a run, by its part in a state that the machine reaches.
+/// The run's descriptor, its thunk and its body's line are within the table, and the body has the shape. In
+/// the opening it may make the next load, which adds the word that it finds. From then on it may make the
+/// step that stands next, but where a Make is to take a slot and has none; a commit goes to the log word
+/// behind the words that were agreed on; and behind the step the part is the one that the step leaves.
 pub fn runs_may_be_followed<S: Structure>(structure: &S)
     ensures known { (layout : Layout) (requests : List Request) → IsWithinLimits layout → AreAllowed requests
         → RunsAreInTable (S.meaning structure.now) layout requests }
     ensures opening { (layout : Layout) (requests : List Request) → IsWithinLimits layout → AreAllowed requests
         → MayOpen (S.meaning structure.now) layout requests }
-    ensures opened { (layout : Layout) (requests : List Request) → ThenOpened (S.meaning structure.now) layout requests }
+    ensures opened { (layout : Layout) (requests : List Request)
+        → ThenOpened (S.meaning structure.now) layout requests }
     ensures step { (layout : Layout) (requests : List Request) → IsWithinLimits layout → AreAllowed requests
         → MayStep (S.meaning structure.now) layout requests }
     ensures commits { (layout : Layout) (requests : List Request) → IsWithinLimits layout → AreAllowed requests

@@ -1,7 +1,9 @@
-//! The next step of each run is enabled, in every state that the machine reaches, and the numbers that it asks for fit their words.
+//! The next step of each run is enabled, in every state that the machine reaches, and the numbers that it
+//! asks for fit their words.
 //!
-//! The definitions stand in specs: `Steps` is which event a run makes next, `Rooms` and `Numbers` what fits, `Enabled` that the next
-//! event is enabled, and `Stages` what a caller may do in a run and what its part is then.
+//! The definitions stand in specs: `Steps` is which event a run makes next, `Rooms` and `Numbers` what
+//! fits, `Enabled` that the next event is enabled, and `Stages` what a caller may do in a run and what its
+//! part is then.
 #![tactic(auto)]
 
 mod laws;

@@ -2,6 +2,7 @@
 use Rattle.std.specs.Prelude.{◌==◌, ◌⊎◌, Bool, true, false, slice_get, if◌then◌else◌}
 use Rattle.std.proofs.Common.{◌≡◌, ℕ, ◌<◌, ◌≤◌, List, [], refl, sym, ap, ◌∙◌, subst, ⊎_elim, inl, inr, arith, Option, Some, None}
 use Rattle.std.proofs.lemmas.Bool.Decides.{nat_tests}
+use Rattle.std.proofs.lemmas.Bool.{both_ways}
 use Rattle.map_history.specs.declared.op.Request.{Request}
 use Rattle.section_body.specs.Memory.{cell_of}
 use Rattle.table_words.specs.declared.layout.Layout.{Layout}
@@ -58,9 +59,6 @@ pub record Holds (m : Meaning) (s : Sight) : Type 0 where
 pair_same : (a b c d : ℕ) → ◌≡◌ {A = ℕ × ℕ} (a, b) (c, d) → (a ≡ c) × (b ≡ d)
 pair_same a b c d e = (ap (λ (u : ℕ × ℕ). u.0) e, ap (λ (u : ℕ × ℕ). u.1) e)
 
-not_both : {B : Type 0} → (b : Bool) → b ≡ true → b ≡ false → B
-not_both b one two = absurd (let e = sym one ∙ two in cc)
-
 same_test : (a b : ℕ) → a ≡ b → (a == b) ≡ true
 same_test a b e = grind (arith, nat_tests)
 
@@ -111,7 +109,7 @@ module _ (m : Meaning) (l : Layout) (rs : List Request) (s s' : Sight) (r : ℕ)
       ap (λ i. is_entered (before.beside.epochs.stage i)) same ∙ whole.held.entered z.descriptor live in
       let announced : own.stage ≡ stages.Announced = ap (λ i. (s.part i).stage) at ∙ announced_there y.run (subst (λ k. ask_by m l rs r k y y.run ≡ Some x) enters asked) in
       let out : is_entered (before.beside.epochs.stage 0) ≡ false = ap is_entered (whole.slots.entries.stage 0 ∙ ap stage_of announced) in
-      not_both _ entered out
+      absurd (both_ways _ out entered)
     where
       announced_there : (o : Option RunState) → ask_by m l rs r kinds.EnterAgain y o ≡ Some x → y.stage ≡ stages.Announced
       announced_there None e = (enter_again_asked y.stage x e).0

@@ -5,4 +5,5 @@ use Rattle.runner_parts.specs.Lists.{slot_made, slot_back}
 
 -- a Make's slot is live where the exchange won, and comes back otherwise
 abbrev pub slot_decided : PartState → ℕ → Bool → ℕ → PartState
-slot_decided p slot worn found = record p { nodes = if found == 0 then slot_made p.nodes slot else slot_back p.nodes slot worn }
+slot_decided p slot worn found =
+    record p { nodes = if found == 0 then slot_made p.nodes slot else slot_back p.nodes slot worn }

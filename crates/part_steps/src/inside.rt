@@ -1,7 +1,6 @@
 //! What an event of a run makes of the part.
 ghost use Rattle.std.specs.Prelude.{◌≡◌, ◌≤◌, ◌<◌, ◌^◌, length, OnOk, IfOk};
 ghost use Rattle.table_words.specs.Limits.{IsWithinLimits};
-ghost use Rattle.section_body.specs.Run.{written_once};
 ghost use Rattle.runner_steps.specs.Sections.{settles, outcome_of, next_of};
 ghost use Rattle.runner_steps.specs.AfterInRun.{goes_on, agrees, opened_more, cell_loaded, cell_exchanged, number_loaded, word_committed, lock_committed, fill_loaded, fill_stored, make_committed, retire_committed, stamp_agreed, clock_raised, reply_agreed, done_set, finished_of, over_if, run_over, released_more, lock_released, place_of, is_of_lock, commit_after, retired_slot_of, reply_word_of, ended_more};
 ghost use Rattle.runner_steps.specs.After.{line_after, inside_after};
@@ -12,13 +11,6 @@ use runner_steps::{is_end, leaves, reply_in, settled, thunk_of};
 use section_body::{Micro, Outcome, Place, Word, micro_at};
 use std::alloc::{AllocError, Global};
 use table_words::Layout;
-
-/// The word that is written once: what stood there, or else the proposal.
-pub fn agreed_on(found: u64, proposal: u64) -> u64
-    ensures { result ≡ written_once found proposal }
-{
-    if found == 0 { proposal } else { found }
-}
 
 /// The run behind the checks that pass.
 fn settle<S: Structure>(run: &mut Run, structure: &S, layout: Layout)

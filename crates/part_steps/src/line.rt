@@ -4,15 +4,12 @@ ghost use Rattle.table_words.specs.Limits.{IsWithinLimits};
 ghost use Rattle.part_steps.specs.Parts.{slot_decided};
 ghost use Rattle.runner_steps.specs.AfterInRun.{with_run, opened_more, cell_loaded, cell_exchanged, number_loaded, word_committed, lock_committed, fill_loaded, fill_stored, make_committed, retire_committed, stamp_agreed, clock_raised, reply_agreed, done_set, run_over, released_more, lock_released, commit_after};
 
-use crate::inside::{agreed_on, agrees, finished_of, goes_on, is_of_lock, over_if};
+use crate::inside::{agrees, finished_of, goes_on, is_of_lock, over_if};
 use runner_parts::{Part, Run, Structure};
-use runner_steps::{is_end, next_of, thunk_of};
+use runner_steps::{LAST_CLOCK, agreed_on, is_end, next_of, thunk_of};
 use section_body::{Micro, Place, Word};
 use std::alloc::{AllocError, Global};
 use table_words::Layout;
-
-/// The clock number from which on no stamp is made.
-const LAST_CLOCK: u64 = 1 << 62;
 
 /// The opening: one more word.
 pub fn opened_more(part: &mut Part, mut run: Run, found: u64) -> Result<(), AllocError>

@@ -67,8 +67,9 @@ module _ (m : Meaning) (l : Layout) (requests : List Request) (g : Beside) (s : 
     pub reply : m.is_map ≡ true → s.word (Reply n) ≡ word_of entry.reply
     pub once : (i : ℕ) (e : Stamped) → slice_get history i ≡ Some e → e.number ≡ n → i ≡ place
 
-  -- for the worker of this published section the request came before it: the worker knew both its words when it published the
-  -- section, by its own runs or as a helper, or it is another stamped request of the worker's
+  -- for the worker of this published section the request came before it: the worker knew both its words
+  -- when it published the section, by its own runs or as a helper, or it is another stamped request of the
+  -- worker's
   abbrev pub CameBefore : ℕ → Published → ℕ → Type 0
   CameBefore r x n = KnewThen s r x n ⊎ ((asked.worker n ≡ r) × (s.word (Stamp n) ≢ 0) × (n ≢ x.thunk.request))
 
@@ -91,8 +92,8 @@ module _ (m : Meaning) (l : Layout) (requests : List Request) (g : Beside) (s : 
 
   -- what workers know and have published
   pub record RequestsStand (history : List Stamped) : Type 0 where
-    -- each stamped request is known to its worker, or is that of the section which the worker has published and not yet run
-    -- to its end
+    -- each stamped request is known to its worker, or is that of the section which the worker has published
+    -- and not yet run to its end
     pub answered : (n : ℕ) → s.word (Stamp n) ≢ 0 → Knows s (asked.worker n) n ⊎ HasOpen s (asked.worker n) n
     -- the stamp of a worker's published section is above that of each request that came before it for the worker
     pub before : (r n : ℕ) (x : Published) → HasPublished s r x → s.word (Stamp x.thunk.request) ≢ 0 → CameBefore r x n

@@ -36,8 +36,10 @@ module _ (m : Meaning) (l : Layout) (requests : List Request) where
 
   -- so it is in every state that the machine reaches
   abbrev pub ReachedHaveHistories : Type 0
-  ReachedHaveHistories = IsWithinLimits l → AreAllowed requests → (w : World) → Reached m l requests w → HasHistory (sight m l requests w)
+  ReachedHaveHistories = IsWithinLimits l → AreAllowed requests → (w : World) → Reached m l requests w
+      → HasHistory (sight m l requests w)
 
   -- and so after every list of events
   abbrev pub HistoryAfter : List Event → World → Type 0
-  HistoryAfter events w = IsWithinLimits l → AreAllowed requests → IsAfter m l requests events w → HasHistory (sight m l requests w)
+  HistoryAfter events w = IsWithinLimits l → AreAllowed requests → IsAfter m l requests events w
+      → HasHistory (sight m l requests w)

@@ -6,14 +6,15 @@ ghost use Rattle.reached_histories.specs.Laws.{ReachedHaveHistories};
 
 use runner_parts::Structure;
 
-/// Over every structure, in every state that the machine reaches: the requests whose stamp word isn't 0, by stamp and then by
-/// number, are one legal history, and the completed memory stands for its final map; the clock bounds the stamps; a worker's stamped
-/// requests are known to it, or are that of the section which it has published and not run to its end; what it had seen when it
-/// published that has a smaller stamp; who knows both words of a request knows its place in the history; and where no lock names a
-/// section, each stamped request has its reply and the cells stand for the history's final map.
+/// Over every structure, in every state that the machine reaches: the requests whose stamp word isn't 0, by
+/// stamp and then by number, are one legal history, and the completed memory stands for its final map; the
+/// clock bounds the stamps; a worker's stamped requests are known to it, or are that of the section which
+/// it has published and not run to its end; what it had seen when it published that has a smaller stamp;
+/// who knows both words of a request knows its place in the history; and where no lock names a section,
+/// each stamped request has its reply and the cells stand for the history's final map.
 ///
-/// The layout and the requests are within their limits. (After Fraser and Harris, Concurrent programming without locks, 2007, and
-/// Ben-David, Blelloch and Wei, Lock-free locks revisited, 2022.)
+/// The layout and the requests are within their limits. (After Fraser and Harris, Concurrent programming
+/// without locks, 2007, and Ben-David, Blelloch and Wei, Lock-free locks revisited, 2022.)
 pub fn reached_states_have_histories<S: Structure>(structure: &S)
     ensures { (layout : Layout) (requests : List Request)
         → ReachedHaveHistories (S.meaning structure.now) layout requests }

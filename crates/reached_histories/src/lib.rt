@@ -1,7 +1,8 @@
 //! One legal history in every state that the machine reaches, whatever its runners do.
 //!
-//! `specs/Sections` says what a worker knows and has published, `specs/History` what holds of the history, of the clock and of the
-//! requests, in the words of the machine, and `specs/Laws` that it holds of every reached state. `laws` has it on a contract.
+//! `specs/Sections` says what a worker knows and has published, `specs/History` what holds of the history,
+//! of the clock and of the requests, in the words of the machine, and `specs/Laws` that it holds of every
+//! reached state. `laws` has it on a contract.
 #![tactic(auto)]
 
 mod laws;

@@ -17,7 +17,8 @@ pub record Entered : Type 0 where
   pub entry : Entry
 
 abbrev pub entered_of : ℕ × (Request × Option Entry) → Option Entered
-entered_of numbered = option_map (λ entry. record { number = numbered.0; request = numbered.1.0; entry = entry }) numbered.1.1
+entered_of numbered =
+    option_map (λ entry. record { number = numbered.0; request = numbered.1.0; entry = entry }) numbered.1.1
 
 -- the served requests, in the order of the text
 abbrev pub entered_in : List Request → List (Option Entry) → List Entered
@@ -42,9 +43,11 @@ pub record AreLegal (requests : List Request) (entries : List (Option Entry)) (s
   pub all : IsPermutation (entered_in requests entries) history
   pub order : AllPairs (λ earlier later. IsTrue (comes_before (turn_of_entered earlier) (turn_of_entered later))) history
   -- the stamps don't fall along a trace
-  pub rise : AllPairs (λ earlier later. earlier.request.trace ≡ later.request.trace → earlier.entry.stamp ≤ later.entry.stamp) (entered_in requests entries)
+  pub rise : AllPairs (λ earlier later. earlier.request.trace ≡ later.request.trace
+      → earlier.entry.stamp ≤ later.entry.stamp) (entered_in requests entries)
   -- in a trace no served request follows an unserved one
-  pub front : AllPairs (λ earlier later. earlier.0.trace ≡ later.0.trace → IsSome later.1 → IsSome earlier.1) (zip requests entries)
+  pub front : AllPairs (λ earlier later. earlier.0.trace ≡ later.0.trace → IsSome later.1
+      → IsSome earlier.1) (zip requests entries)
   -- the map, replayed in this order, gives the replies
   pub replies : IsLegalFrom empty (map answered_by history)
   -- and ends with this number of pairs

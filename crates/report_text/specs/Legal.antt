@@ -1,4 +1,5 @@
--- A legal report: its ranks are one order of the served requests, and a plain map that serves them in this order gives its replies.
+-- A legal report: its ranks are one order of the served requests, and a plain map that serves them in this
+-- order gives its replies.
 use Rattle.std.specs.Prelude.{◌≡◌, ℕ, ◌<◌, List, Option, length, map, AllPairs, IsPermutation, IsSome}
 use Rattle.std.specs.List.{filter_map, range_with_len}
 use Rattle.std.specs.Option.{option_map}
@@ -40,9 +41,11 @@ pub record IsLegal (rows : List Row) (size : ℕ) : Type 0 where
   -- the ranks are 0, 1, 2 and so on, each once
   pub is_history : IsHistory rows history
   -- they rise along each trace
-  pub rise : AllPairs (λ earlier later. earlier.request.trace ≡ later.request.trace → earlier.answer.rank < later.answer.rank) (served_in rows)
+  pub rise : AllPairs (λ earlier later. earlier.request.trace ≡ later.request.trace
+      → earlier.answer.rank < later.answer.rank) (served_in rows)
   -- in a trace no served request follows an unserved one
-  pub front : AllPairs (λ earlier later. earlier.request.trace ≡ later.request.trace → IsSome later.answer → IsSome earlier.answer) rows
+  pub front : AllPairs (λ earlier later. earlier.request.trace ≡ later.request.trace → IsSome later.answer
+      → IsSome earlier.answer) rows
   -- the map, replayed in the order of the ranks, gives the printed replies
   pub replies : IsLegalFrom empty (map answered history)
   -- and ends with the printed number of pairs

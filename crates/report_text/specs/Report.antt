@@ -24,7 +24,8 @@ pub data Line : Type 0 where
 
 -- the line of a trace, and those of its requests in their order
 abbrev pub lines_of_trace : List Row → ℕ → List Line
-lines_of_trace rows trace = trace_line trace ∷ map (λ row. answer_line row.answer) (filter (λ row. row.request.trace == trace) rows)
+lines_of_trace rows trace =
+    trace_line trace ∷ map (λ row. answer_line row.answer) (filter (λ row. row.request.trace == trace) rows)
 
 -- the lines of each trace in turn, and last the number of pairs that are left
 abbrev pub report_lines : ℕ → List Row → ℕ → List Line
@@ -56,5 +57,6 @@ answer_of _ _ = None
 
 -- the rows of requests with their entries and ranks
 abbrev pub rows_of : List Request → List (Option Entry) → List (Option ℕ) → List Row
-rows_of (request ∷ requests) (entry ∷ entries) (rank ∷ ranks) = record { request = request; answer = answer_of entry rank } ∷ rows_of requests entries ranks
+rows_of (request ∷ requests) (entry ∷ entries) (rank ∷ ranks) =
+    record { request = request; answer = answer_of entry rank } ∷ rows_of requests entries ranks
 rows_of _ _ _ = []

@@ -72,8 +72,10 @@ impl Sink for MemorySink {
         ensures steady { IfOk result (λ count. 0 < count → self.new.faults ≡ self.old.faults) }
 
         ensures planned { IsTrue (is_planned self.old.fails (next_call self.old)) → IsErr result }
-        ensures empty { is_planned self.old.fails (next_call self.old) ≡ false → IsTrue (is_planned self.old.empty (next_call self.old)) → result ≡ Ok 0 }
-        ensures whole { is_planned self.old.empty (next_call self.old) ≡ false → IfOk result (λ count. count ≡ length bytes.now) }
+        ensures empty { is_planned self.old.fails (next_call self.old) ≡ false
+            → IsTrue (is_planned self.old.empty (next_call self.old)) → result ≡ Ok 0 }
+        ensures whole { is_planned self.old.empty (next_call self.old) ≡ false
+            → IfOk result (λ count. count ≡ length bytes.now) }
         ensures plan { self.new ≡ record self.old { bytes = self.new.bytes; calls = next_call self.old; faults = self.new.faults } }
     {
         self.calls = self.calls.saturating_add(1);

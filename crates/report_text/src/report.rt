@@ -48,7 +48,8 @@ pub fn write_report<K: Sink>(
 fn print_traces<K: Sink>(begun: u32, end: u32, page: &mut Page, sink: &mut K) -> Result<(), Failed>
     requires { begun ≤ end }
     ensures ok { OnOk result (Gathers (K.held sink.old) page.old.bytes (traces_text begun end) (K.held sink.new) page.new.bytes) }
-    ensures err { OnErr result (ExtendsInPart (K.held sink.old) (page.old.bytes ++ traces_text begun end) (K.held sink.new)) }
+    ensures err { OnErr result (ExtendsInPart (K.held sink.old) (page.old.bytes
+        ++ traces_text begun end) (K.held sink.new)) }
     ensures later { K.faults sink.old ≤ K.faults sink.new }
     ensures cause { OnErr result (Rose (K.faults sink.old) (K.faults sink.new)) }
     ensures steady { OnOk result (K.faults sink.new ≡ K.faults sink.old) }

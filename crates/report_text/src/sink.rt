@@ -26,7 +26,8 @@ pub trait Sink {
 
         ensures later { faults self.old ≤ faults self.new }
         ensures cause { OnErr result (Rose (faults self.old) (faults self.new)) }
-        ensures stuck { 0 < length bytes.now → IfOk result (λ count. count ≡ 0 → Rose (faults self.old) (faults self.new)) }
+        ensures stuck { 0 < length bytes.now
+            → IfOk result (λ count. count ≡ 0 → Rose (faults self.old) (faults self.new)) }
         ensures steady { IfOk result (λ count. 0 < count → faults self.new ≡ faults self.old) };
 }
 

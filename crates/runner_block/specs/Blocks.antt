@@ -10,20 +10,24 @@ use Rattle.runner_block.specs.Kept.{with_part, with_nodes}
 -- the block after a private load in a run, of which a Make has its slot in the hand, or not yet
 abbrev pub block_filling : Block → ℕ → Bool → Block
 block_filling b slot true = b
-block_filling b slot false = record { lists = with_nodes b.lists (slot_taken b.lists.part.nodes slot); place = record (b.place) { making = true; worn = false } }
+block_filling b slot false =
+    record { lists = with_nodes b.lists (slot_taken b.lists.part.nodes slot); place = record (b.place) { making = true; worn = false } }
 
 -- the block after a private load outside a run: of a descriptor nothing is kept
 abbrev pub block_found : Layout → Block → ℕ → ℕ → ℕ → Bool → Block
-block_found l b slot word found true = record b { lists = with_nodes b.lists (nodes_looked l b.lists.part.nodes slot word found) }
+block_found l b slot word found true =
+    record b { lists = with_nodes b.lists (nodes_looked l b.lists.part.nodes slot word found) }
 block_found l b slot word found false = b
 
 -- the block after a private load
 abbrev pub block_looked : Layout → Block → ℕ → ℕ → ℕ → Block
-block_looked l b slot word found = if b.place.inside then block_filling b slot b.place.making else block_found l b slot word found (nat_lt slot b.lists.room)
+block_looked l b slot word found =
+    if b.place.inside then block_filling b slot b.place.making else block_found l b slot word found (nat_lt slot b.lists.room)
 
 -- after a private store
 abbrev pub block_stored : Layout → Block → ℕ → Block
-block_stored l b number = record b { place = record (b.place) { worn = b.place.worn || version_of number == l.version_max } }
+block_stored l b number =
+    record b { place = record (b.place) { worn = b.place.worn || version_of number == l.version_max } }
 
 -- after the commit of a Make
 abbrev pub block_made : Block → ℕ → Bool → Block

@@ -27,7 +27,8 @@ no_thunk = record { form = 0; request = 0; lock = 0; word = 0; operands = [] }
 -- the section that is published with this descriptor, as the code keeps it
 abbrev pub published_as : Option ℕ → Option Published
 published_as None = None
-published_as (Some descriptor) = Some (record { descriptor = descriptor; thunk = no_thunk; walked = 0; known = 0; over = false })
+published_as (Some descriptor) =
+    Some (record { descriptor = descriptor; thunk = no_thunk; walked = 0; known = 0; over = false })
 
 -- the epoch that a runner loaded and has to announce
 abbrev pub loaded_of : Stage → ℕ
@@ -41,7 +42,8 @@ scanned_of _ = 0
 
 -- of what the code keeps, after a section was published with this descriptor
 abbrev pub published_in : PartState → ℕ → PartState
-published_in p descriptor = record p { published = published_as (Some descriptor); descriptors = record (p.descriptors) { free = without p.descriptors.free descriptor } }
+published_in p descriptor =
+    record p { published = published_as (Some descriptor); descriptors = record (p.descriptors) { free = without p.descriptors.free descriptor } }
 
 -- and after an exchange that was to publish it, which won or lost
 abbrev pub held_in : PartState → ℕ → Bool → PartState

@@ -63,13 +63,15 @@ abbrev pub nodes_are : NodesKept → NodesState → NodesKept
 nodes_are kept lists = record kept { lists = lists }
 
 abbrev pub first_nodes : List ℕ → ℕ → NodesKept
-first_nodes free room = record { lists = record { free = free; hand = []; tests = []; limbo = []; worn = [] }; room = room }
+first_nodes free room =
+    record { lists = record { free = free; hand = []; tests = []; limbo = []; worn = [] }; room = room }
 
 abbrev pub first_descriptors : List ℕ → DescriptorsKept
 first_descriptors free = record { free = free; limbo = []; published = None }
 
 abbrev pub sections_collected : ℕ → DescriptorsKept → DescriptorsKept
-sections_collected epoch d = record d { free = d.free ++ slots_of (filter (is_old epoch) d.limbo); limbo = filter (λ x. not (is_old epoch x)) d.limbo }
+sections_collected epoch d =
+    record d { free = d.free ++ slots_of (filter (is_old epoch) d.limbo); limbo = filter (λ x. not (is_old epoch x)) d.limbo }
 
 -- a section was published with this descriptor
 abbrev pub section_held : DescriptorsKept → ℕ → DescriptorsKept
@@ -78,7 +80,8 @@ section_held d descriptor = record d { free = without d.free descriptor; publish
 -- the published section was retired with this epoch
 abbrev pub retired_with : DescriptorsKept → Option ℕ → ℕ → DescriptorsKept
 retired_with d None epoch = d
-retired_with d (Some descriptor) epoch = record d { limbo = d.limbo ++ record { slot = descriptor; epoch = epoch } ∷ []; published = None }
+retired_with d (Some descriptor) epoch =
+    record d { limbo = d.limbo ++ record { slot = descriptor; epoch = epoch } ∷ []; published = None }
 
 abbrev pub section_retired : DescriptorsKept → ℕ → DescriptorsKept
 section_retired d epoch = retired_with d d.published epoch

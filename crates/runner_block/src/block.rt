@@ -31,7 +31,8 @@ impl Block {
         }
     }
 
-    /// A cell of an own slot was loaded. In a run it is one of the slot that a Make fills, which the first such load takes.
+    /// A cell of an own slot was loaded. In a run it is one of the slot that a Make fills, which the first
+    /// such load takes.
     fn looked(&mut self, layout: Layout, slot: u32, word: u32, found: u64)
         requires own { MayTake self.old slot }
         requires node { slot < self.old.lists.room }
@@ -68,7 +69,8 @@ impl Block {
         self.place.worn = false;
     }
 
-    /// The commit of a retirement won or lost. Where it won the slot goes into limbo, with the epoch that the run loaded last for it.
+    /// The commit of a retirement won or lost. Where it won the slot goes into limbo, with the epoch that
+    /// the run loaded last for it.
     pub fn slot_retired(&mut self, slot: u32, won: bool)
         requires room { won ≡ true
             → AreFew self.old.lists.room (slot_retired self.old.lists.part.nodes slot self.old.place.epoch) }

@@ -20,9 +20,9 @@ use std::alloc::{AllocError, Global};
 use std::marker::Model;
 use table_words::Layout;
 
-/// What a runner's code keeps of its part: its stage, its lists, and of the keeper how many workers were split off. The lists
-/// have room for each slot of their kind, so that no step takes memory. Beside these there is a body, for each run to refill, so that
-/// none is made in a run: contracts don't see it.
+/// What a runner's code keeps of its part: its stage, its lists, and of the keeper how many workers were
+/// split off. The lists have room for each slot of their kind, so that no step takes memory. Beside these
+/// there is a body, for each run to refill, so that none is made in a run: contracts don't see it.
 #[derive(Drop)]
 pub struct Kept {
     stage: StageFields,
@@ -181,7 +181,8 @@ impl Kept {
         self.stage.set(Stage::Idle);
     }
 
-    /// One more announcement was read, the one that came next. After the last one the scan is over, unless an advance may be tried.
+    /// One more announcement was read, the one that came next. After the last one the scan is over, unless
+    /// an advance may be tried.
     pub fn scan_one(&mut self, layout: Layout, announcement: u32, found: u64)
         requires limits { layout.runners < 2 ^ 31 }
         requires next { scan_of self.old.part.stage ≡ kinds.ScanOne announcement }

@@ -4,8 +4,8 @@ ghost use Rattle.runner_block.specs.Places.{opened_place, next_thunk_word};
 
 use section_body::Word;
 
-/// The run's descriptor, how many words of its opening were loaded, the request that they name, and how many words were agreed
-/// on.
+/// The run's descriptor, how many words of its opening were loaded, the request that they name, and how
+/// many words were agreed on.
 #[derive(Clone, Copy)]
 pub struct RunPlace {
     pub descriptor: u32,

@@ -17,7 +17,8 @@ pub enum Phase {
     Scanning,
 }
 
-/// A stage in fields: a step writes those that it changes, and no step waits for a number that an earlier one has just written.
+/// A stage in fields: a step writes those that it changes, and no step waits for a number that an earlier
+/// one has just written.
 #[derive(Drop)]
 pub struct StageFields {
     phase: Phase,

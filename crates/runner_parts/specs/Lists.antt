@@ -25,11 +25,13 @@ slots_of xs = map (λ x. x.slot) xs
 
 -- the slots that have waited long enough go from limbo to the hand
 abbrev pub nodes_collected : ℕ → NodesState → NodesState
-nodes_collected epoch n = record n { hand = n.hand ++ slots_of (filter (is_old epoch) n.limbo); limbo = filter (λ x. not (is_old epoch x)) n.limbo }
+nodes_collected epoch n =
+    record n { hand = n.hand ++ slots_of (filter (is_old epoch) n.limbo); limbo = filter (λ x. not (is_old epoch x)) n.limbo }
 
 -- the descriptors that have waited long enough go from limbo to the free list
 abbrev pub descriptors_collected : ℕ → DescriptorsState → DescriptorsState
-descriptors_collected epoch d = record d { free = d.free ++ slots_of (filter (is_old epoch) d.limbo); limbo = filter (λ x. not (is_old epoch x)) d.limbo }
+descriptors_collected epoch d =
+    record d { free = d.free ++ slots_of (filter (is_old epoch) d.limbo); limbo = filter (λ x. not (is_old epoch x)) d.limbo }
 
 -- how far the slot's cells have been looked at
 abbrev pub test_of : List Tested → ℕ → Tested
@@ -41,12 +43,15 @@ tests_without xs slot = filter (λ x. not (x.slot == slot)) xs
 
 -- a slot comes back to the free list, or to the worn list
 abbrev pub slot_back : NodesState → ℕ → Bool → NodesState
-slot_back n slot true = record n { hand = without n.hand slot; tests = tests_without n.tests slot; worn = n.worn ++ slot ∷ [] }
-slot_back n slot false = record n { hand = without n.hand slot; tests = tests_without n.tests slot; free = n.free ++ slot ∷ [] }
+slot_back n slot true =
+    record n { hand = without n.hand slot; tests = tests_without n.tests slot; worn = n.worn ++ slot ∷ [] }
+slot_back n slot false =
+    record n { hand = without n.hand slot; tests = tests_without n.tests slot; free = n.free ++ slot ∷ [] }
 
 -- a slot in the hand of which one more cell was looked at: after the fifth it comes back
 abbrev pub slot_tested : NodesState → Tested → NodesState
-slot_tested n x = if x.cells == 5 then slot_back n x.slot x.worn else record n { tests = tests_without n.tests x.slot ++ x ∷ [] }
+slot_tested n x =
+    if x.cells == 5 then slot_back n x.slot x.worn else record n { tests = tests_without n.tests x.slot ++ x ∷ [] }
 
 -- one more cell of a slot, with this word
 abbrev pub one_more : Layout → Tested → ℕ → Tested
@@ -70,11 +75,13 @@ slot_retired n slot epoch = record n { limbo = n.limbo ++ record { slot = slot; 
 
 -- this number was stored into a word of an own free descriptor, or found there
 abbrev pub descriptor_stored : DescriptorsState → ℕ → ℕ → ℕ → DescriptorsState
-descriptor_stored d descriptor word number = record d { stored = d.stored ++ record { descriptor = descriptor; word = word; number = number } ∷ [] }
+descriptor_stored d descriptor word number =
+    record d { stored = d.stored ++ record { descriptor = descriptor; word = word; number = number } ∷ [] }
 
 -- a published descriptor leaves the free list, and what was stored into it is forgotten
 abbrev pub descriptor_taken : DescriptorsState → ℕ → DescriptorsState
-descriptor_taken d descriptor = record d { free = without d.free descriptor; stored = filter (λ x. not (x.descriptor == descriptor)) d.stored }
+descriptor_taken d descriptor =
+    record d { free = without d.free descriptor; stored = filter (λ x. not (x.descriptor == descriptor)) d.stored }
 
 abbrev pub descriptor_retired : DescriptorsState → ℕ → ℕ → DescriptorsState
 descriptor_retired d descriptor epoch = record d { limbo = d.limbo ++ record { slot = descriptor; epoch = epoch } ∷ [] }
@@ -93,16 +100,28 @@ holds_named s word = record s { held = s.held ++ named_by word }
 
 -- a cell was read outside a run; a lock's word gives a descriptor to hold
 abbrev pub walked : ReadsState → Bool → ℕ → ℕ → ReadsState
-walked s lock place word = record s { walk = s.walk ++ (place, word) ∷ []; cells = s.cells ++ (place, word) ∷ []; held = s.held ++ (if lock then named_by word else []) }
+walked s lock place word =
+    record s {
+      walk = s.walk ++ (place, word) ∷ [];
+      cells = s.cells ++ (place, word) ∷ [];
+      held = s.held
+          ++ (if lock then named_by word else []);
+    }
 
--- a lock word was agreed on in a run of this descriptor: it gives a descriptor to hold where the section is the runner's own
+-- a lock word was agreed on in a run of this descriptor: it gives a descriptor to hold where the section is
+-- the runner's own
 abbrev pub lock_agreed : ReadsState → ℕ → ℕ → ReadsState
 lock_agreed s descriptor word = if has s.published descriptor then holds_named s word else s
 
 -- a section was published
 abbrev pub section_published : ReadsState → ℕ → ReadsState
-section_published s descriptor = record s { held = s.held ++ descriptor ∷ []; published = s.published ++ descriptor ∷ [] }
+section_published s descriptor =
+    record s { held = s.held ++ descriptor ∷ []; published = s.published ++ descriptor ∷ [] }
 
 -- a stamp or reply word was read: it is known where it isn't 0
 abbrev pub learned : RecordsState → ℕ → Bool → ℕ → RecordsState
-learned s request reply number = if number == 0 then s else record s { known = s.known ++ record { request = request; reply = reply; number = number } ∷ [] }
+learned s request reply number =
+    if number == 0 then s else record s {
+      known = s.known
+          ++ record { request = request; reply = reply; number = number } ∷ [];
+    }

@@ -46,17 +46,20 @@ is_answered known request = knows known request false && knows known request tru
 
 -- each request of this trace below this number has been answered
 abbrev pub are_answered : List Known → ℕ → ℕ → List Request → Bool
-are_answered known trace below requests = list_all (λ x. not (x.trace == trace && nat_lt x.number below) || is_answered known x.number) requests
+are_answered known trace below requests =
+    list_all (λ x. not (x.trace == trace && nat_lt x.number below) || is_answered known x.number) requests
 
 -- the request is this worker's next one: it isn't answered, and each earlier one of its trace is
 abbrev pub is_next : Layout → ℕ → List Request → List Known → Option Request → Bool
 is_next l r requests known None = false
-is_next l r requests known (Some q) = q.trace % l.runners == r && (not (is_answered known q.number) && are_answered known q.trace q.number requests)
+is_next l r requests known (Some q) =
+    q.trace % l.runners == r && (not (is_answered known q.number) && are_answered known q.trace q.number requests)
 
 -- what was stored or found last in this word of a descriptor, if anything was
 abbrev pub last_stored : List Stored → ℕ → ℕ → Option ℕ → Option ℕ
 last_stored [] descriptor word so_far = so_far
-last_stored (x ∷ xs) descriptor word so_far = last_stored xs descriptor word (cond (x.descriptor == descriptor && x.word == word) (Some x.number) so_far)
+last_stored (x ∷ xs) descriptor word so_far =
+    last_stored xs descriptor word (cond (x.descriptor == descriptor && x.word == word) (Some x.number) so_far)
 
 -- this number was stored
 abbrev pub is_some_of : Option ℕ → ℕ → Bool
@@ -66,15 +69,19 @@ is_some_of (Some n) number = n == number
 -- these numbers were stored last into the words from this one on
 unfoldable pub are_stored : List Stored → ℕ → ℕ → List ℕ → Bool
 are_stored stored descriptor word [] = true
-are_stored stored descriptor word (x ∷ xs) = is_some_of (last_stored stored descriptor word None) x && are_stored stored descriptor (word + 1) xs
+are_stored stored descriptor word (x ∷ xs) =
+    is_some_of (last_stored stored descriptor word None) x && are_stored stored descriptor (word + 1) xs
 
 -- the words of a thunk
 abbrev pub thunk_words : Thunk → List ℕ
-thunk_words t = let o = slice_index t.operands in t.form ∷ t.request ∷ t.lock ∷ t.word ∷ o 0 ∷ o 1 ∷ o 2 ∷ o 3 ∷ o 4 ∷ o 5 ∷ o 6 ∷ o 7 ∷ []
+thunk_words t =
+    let o = slice_index t.operands in
+    t.form ∷ t.request ∷ t.lock ∷ t.word ∷ o 0 ∷ o 1 ∷ o 2 ∷ o 3 ∷ o 4 ∷ o 5 ∷ o 6 ∷ o 7 ∷ []
 
 -- the descriptor's words were stored or found with this thunk, no done, and an empty log
 abbrev pub is_prepared : List Stored → ℕ → Thunk → Bool
-is_prepared stored descriptor t = are_stored stored descriptor 0 (thunk_words t) && are_stored stored descriptor 12 (replicate 65 0)
+is_prepared stored descriptor t =
+    are_stored stored descriptor 0 (thunk_words t) && are_stored stored descriptor 12 (replicate 65 0)
 
 -- the outer lock's word is free, isn't spent, and was read
 abbrev pub is_open : Layout → List (ℕ × ℕ) → Thunk → Bool
@@ -87,4 +94,7 @@ serves m l walk t (Some q) = m.fits l q.op walk t
 
 -- the runner may read this place outside a run
 abbrev pub is_readable : Meaning → List (ℕ × ℕ) → ℕ → Bool
-is_readable m walk place = nat_lt place m.fixed_cells || (m.is_lock place || (nat_lt ((place - m.fixed_cells) / 5) m.fixed_slots || m.reaches walk ((place - m.fixed_cells) / 5)))
+is_readable m walk place =
+    nat_lt place m.fixed_cells
+    || (m.is_lock place || (nat_lt ((place - m.fixed_cells) / 5) m.fixed_slots
+    || m.reaches walk ((place - m.fixed_cells) / 5)))

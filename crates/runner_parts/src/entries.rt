@@ -10,8 +10,8 @@ pub struct Retired {
     pub epoch: u64,
 }
 
-/// A node slot in the hand of which some cells have been looked at, in their order: how many, and whether one of them had
-/// the greatest version.
+/// A node slot in the hand of which some cells have been looked at, in their order: how many, and whether
+/// one of them had the greatest version.
 #[derive(Clone, Copy, Debug, PartialEq, Eq)]
 pub struct Tested {
     pub slot: u32,
@@ -35,8 +35,9 @@ pub struct Known {
     pub number: u64,
 }
 
-/// The section that a runner published last and hasn't retired: its descriptor and its thunk, how many readings the runner
-/// had and how many stamp and reply words it knew when it published it, and whether the runner has run it to its end.
+/// The section that a runner published last and hasn't retired: its descriptor and its thunk, how many
+/// readings the runner had and how many stamp and reply words it knew when it published it, and whether the
+/// runner has run it to its end.
 #[derive(Clone, Copy, Debug, PartialEq, Eq)]
 pub struct Published {
     pub descriptor: u32,

@@ -1,8 +1,8 @@
 //! What a runner is at and what it keeps.
 //!
-//! `event` has the kinds of step, `structure` what a structure tells the machine. `part` is a runner's part, with `stage`,
-//! `run`, `lists` and `entries`; `lists_change` has what events do to the lists. `knowledge` and `stores` say what a runner can
-//! tell from what it keeps.
+//! `event` has the kinds of step, `structure` what a structure tells the machine. `part` is a runner's
+//! part, with `stage`, `run`, `lists` and `entries`; `lists_change` has what events do to the lists.
+//! `knowledge` and `stores` say what a runner can tell from what it keeps.
 #![tactic(auto)]
 
 mod entries;

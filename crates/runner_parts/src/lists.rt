@@ -5,8 +5,9 @@ use crate::run::Finished;
 use section_body::{Place, Word};
 use std::marker::Model;
 
-/// The own node slots: the free ones, those in the hand with how far their cells were looked at, those in limbo, and the worn
-/// ones. A Make takes the slot at the end of the free list, and a slot that comes back is put there.
+/// The own node slots: the free ones, those in the hand with how far their cells were looked at, those in
+/// limbo, and the worn ones. A Make takes the slot at the end of the free list, and a slot that comes back
+/// is put there.
 #[derive(Drop)]
 pub struct Nodes {
     pub free: Vec<u32>,
@@ -40,8 +41,8 @@ impl Model for Descriptors {
     ghost view = { λ a. record { free = a.free.items; stored = a.stored.items; limbo = a.limbo.items } };
 }
 
-/// What a runner has read since it entered: the loads outside a run, all loads and exchanges of cells, the descriptors that it
-/// holds, and the descriptors of the sections that it published.
+/// What a runner has read since it entered: the loads outside a run, all loads and exchanges of cells, the
+/// descriptors that it holds, and the descriptors of the sections that it published.
 #[derive(Drop)]
 pub struct Reads {
     pub walk: Vec<(Place, Word)>,
@@ -58,8 +59,9 @@ impl Model for Reads {
     ghost view = { λ a. record { walk = a.walk.items; cells = a.cells.items; held = a.held.items; published = a.published.items } };
 }
 
-/// What a runner keeps for good: the stamp and reply words that it knows, the sections that it ran to their ends, how many
-/// steps it has made and how many of these were exchanges or raises that changed their word; and of the keeper what its steps since the last join left, in order, how many workers were split off,
+/// What a runner keeps for good: the stamp and reply words that it knows, the sections that it ran to their
+/// ends, how many steps it has made and how many of these were exchanges or raises that changed their word;
+/// and of the keeper what its steps since the last join left, in order, how many workers were split off,
 /// and which were joined.
 #[derive(Drop)]
 pub struct Records {

@@ -5,10 +5,11 @@ use std::marker::Model;
 
 /// A run of a section in progress.
 ///
-/// `opened` has the thunk words and then the done word, as far as they were loaded. `at` is the place in the body's line of
-/// atomic steps. `word` is the number that the last step gave and the next one goes by: a cell's word, an epoch, the clock or
-/// the agreed stamp. `made` is the slot that a Make fills, and `worn` says whether one of the cells stored for it now has the
-/// greatest version. `ended` counts the exchanges of the run's end.
+/// `opened` has the thunk words and then the done word, as far as they were loaded. `at` is the place in
+/// the body's line of atomic steps. `word` is the number that the last step gave and the next one goes by:
+/// a cell's word, an epoch, the clock or the agreed stamp. `made` is the slot that a Make fills, and `worn`
+/// says whether one of the cells stored for it now has the greatest version. `ended` counts the exchanges
+/// of the run's end.
 #[derive(Drop)]
 pub struct Run {
     pub descriptor: u32,
@@ -29,8 +30,8 @@ impl Model for Run {
     ghost view = { λ a. record { descriptor = a.descriptor; opened = a.opened.items; at = a.at; word = a.word; trail = a.trail.items; made = a.made; worn = a.worn; ended = a.ended } };
 }
 
-/// A section that the runner ran to its end: its name (its descriptor, and the outer lock with the free word that it had
-/// before), how it ended, and its trail.
+/// A section that the runner ran to its end: its name (its descriptor, and the outer lock with the free
+/// word that it had before), how it ended, and its trail.
 #[derive(Drop)]
 pub struct Finished {
     pub descriptor: u32,

@@ -11,7 +11,7 @@ pub enum Stage {
     Announced,
     /// It is entered, with the epoch that its second load gave.
     Entered(u64),
-    /// It scans the announcements for this epoch. `next` is the announcement that it reads next, and `clear` says whether
-    /// each one read so far was idle or this epoch.
+    /// It scans the announcements for this epoch. `next` is the announcement that it reads next, and
+    /// `clear` says whether each one read so far was idle or this epoch.
     Scanning { epoch: u64, next: u32, clear: bool },
 }

@@ -62,7 +62,8 @@ line_after m l _ p q micro found = p
 
 -- the part after an event of a run
 abbrev pub inside_after : Meaning → Layout → EventKind → PartState → RunState → ℕ → PartState
-inside_after m l kind p q found = if is_open_run q then line_after m l kind p q (next_of m q) found else opened_more p q found
+inside_after m l kind p q found =
+    if is_open_run q then line_after m l kind p q (next_of m q) found else opened_more p q found
 
 -- the part after the event with this run, or with none
 abbrev pub after_by : Meaning → Layout → EventKind → PartState → Option RunState → ℕ → PartState
@@ -82,17 +83,21 @@ abbrev pub left_more : RecordsState → EventKind → Spot → ℕ → RecordsSt
 left_more s (kinds.Join worker) spot number = record s { left = [] }
 left_more s _ spot number = record s { left = s.left ++ record { spot = spot; number = number } ∷ [] }
 
--- one more step was made, which found this number; it is counted among those that won where it changed its word by an exchange or a raise
+-- one more step was made, which found this number; it is counted among those that won where it changed its
+-- word by an exchange or a raise
 abbrev pub tallied : Access → ℕ → RecordsState → RecordsState
-tallied access found s = record s { events = counted s.events; won = (if wins access found then counted s.won else s.won) }
+tallied access found s =
+    record s { events = counted s.events; won = (if wins access found then counted s.won else s.won) }
 
 -- one more step was made, which found this number at this spot
 abbrev pub noted : Layout → ℕ → EventKind → Spot → Access → ℕ → RecordsState → RecordsState
-noted l r kind spot access found s = if r == l.runners then left_more (tallied access found s) kind spot (written access found) else tallied access found s
+noted l r kind spot access found s =
+    if r == l.runners then left_more (tallied access found s) kind spot (written access found) else tallied access found s
 
 -- the stepping runner's part after the event, which met this spot and found this word
 abbrev pub after : Meaning → Layout → ℕ → EventKind → Spot → Access → PartState → ℕ → PartState
-after m l r kind spot access p found = let p' = stepped m l kind p found in record p' { records = noted l r kind spot access found p'.records }
+after m l r kind spot access p found =
+    let p' = stepped m l kind p found in record p' { records = noted l r kind spot access found p'.records }
 
 -- the part of a worker that was joined
 abbrev pub leaves : PartState → PartState

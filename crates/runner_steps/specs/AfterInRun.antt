@@ -34,7 +34,8 @@ cell_loaded m l place p q found = record p { run = Some (goes_on m l q found); r
 
 -- a cell was exchanged; whether it changed plays no part
 abbrev pub cell_exchanged : Meaning → Layout → ℕ → PartState → RunState → ℕ → PartState
-cell_exchanged m l place p q found = record p { run = Some (goes_on m l q q.word); reads = cell_read p.reads place found }
+cell_exchanged m l place p q found =
+    record p { run = Some (goes_on m l q q.word); reads = cell_read p.reads place found }
 
 -- a number was loaded from a word that is no cell
 abbrev pub number_loaded : Meaning → Layout → PartState → RunState → ℕ → PartState
@@ -46,15 +47,18 @@ word_committed m l p q found = with_run p (agrees m l q (written_once found q.wo
 
 -- the same for a lock's word
 abbrev pub lock_committed : Meaning → Layout → PartState → RunState → ℕ → PartState
-lock_committed m l p q found = record p { run = Some (agrees m l q (written_once found q.word)); reads = lock_agreed p.reads q.descriptor (written_once found q.word) }
+lock_committed m l p q found =
+    record p { run = Some (agrees m l q (written_once found q.word)); reads = lock_agreed p.reads q.descriptor (written_once found q.word) }
 
 -- the first private load of a Make takes the slot into the hand
 abbrev pub fill_loaded : Meaning → Layout → ℕ → PartState → RunState → Option ℕ → ℕ → PartState
-fill_loaded m l slot p q None found = record p { run = Some (goes_on m l (record q { made = Some slot; worn = false }) found); nodes = slot_taken p.nodes slot }
+fill_loaded m l slot p q None found =
+    record p { run = Some (goes_on m l (record q { made = Some slot; worn = false }) found); nodes = slot_taken p.nodes slot }
 fill_loaded m l slot p q (Some s) found = with_run p (goes_on m l q found)
 
 abbrev pub fill_stored : Meaning → Layout → ℕ → PartState → RunState → PartState
-fill_stored m l number p q = with_run p (goes_on m l (record q { worn = q.worn || version_of number == l.version_max }) q.word)
+fill_stored m l number p q =
+    with_run p (goes_on m l (record q { worn = q.worn || version_of number == l.version_max }) q.word)
 
 -- where this exchange won, the slot is live; otherwise it comes back
 abbrev pub made : PartState → RunState → ℕ → ℕ → NodesState
@@ -62,11 +66,13 @@ made p q slot found = if found == 0 then slot_made p.nodes slot else slot_back p
 
 abbrev pub make_committed : Meaning → Layout → PartState → RunState → Option ℕ → ℕ → PartState
 make_committed m l p q None found = p
-make_committed m l p q (Some slot) found = record p { run = Some (agrees m l (record q { made = None; worn = false }) (written_once found (slot + 1))); nodes = made p q slot found }
+make_committed m l p q (Some slot) found =
+    record p { run = Some (agrees m l (record q { made = None; worn = false }) (written_once found (slot + 1))); nodes = made p q slot found }
 
 -- only the exchange that won retires
 abbrev pub retire_committed : Meaning → Layout → ℕ → PartState → RunState → ℕ → PartState
-retire_committed m l slot p q found = record p { run = Some (agrees m l q (written_once found (slot + 1))); nodes = (if found == 0 then slot_retired p.nodes slot q.word else p.nodes) }
+retire_committed m l slot p q found =
+    record p { run = Some (agrees m l q (written_once found (slot + 1))); nodes = (if found == 0 then slot_retired p.nodes slot q.word else p.nodes) }
 
 -- the agreed stamp is what then stands there
 abbrev pub stamp_agreed : Meaning → Layout → PartState → RunState → ℕ → PartState
@@ -98,14 +104,16 @@ finished_of m l q = let t = thunk_of q.opened in
     record { descriptor = q.descriptor; lock = t.lock; word = t.word; outcome = outcome_of m l q; trail = q.trail; late = is_late q }
 
 abbrev pub run_over : Meaning → Layout → PartState → RunState → PartState
-run_over m l p q = record p { run = None; published = over_if p.published q.descriptor; records = record (p.records) { finished = p.records.finished ++ finished_of m l q ∷ [] } }
+run_over m l p q =
+    record p { run = None; published = over_if p.published q.descriptor; records = record (p.records) { finished = p.records.finished ++ finished_of m l q ∷ [] } }
 
 -- the run goes on to the next release, and is over after the last
 abbrev pub released_more : Meaning → Layout → PartState → RunState → PartState
 released_more m l p q = if is_end (next_of m q) then run_over m l p q else with_run p q
 
 abbrev pub lock_released : Meaning → Layout → ℕ → PartState → RunState → ℕ → PartState
-lock_released m l place p q found = released_more m l (record p { reads = cell_read p.reads place found }) (ended_more q)
+lock_released m l place p q found =
+    released_more m l (record p { reads = cell_read p.reads place found }) (ended_more q)
 
 -- the cell that a step of a run meets
 abbrev pub place_of : Micro → ℕ
@@ -123,7 +131,8 @@ is_of_lock (micros.NestedCommit place log) = true
 is_of_lock _ = false
 
 abbrev pub commit_after : Meaning → Layout → Micro → PartState → RunState → ℕ → PartState
-commit_after m l micro p q found = if is_of_lock micro then lock_committed m l p q found else word_committed m l p q found
+commit_after m l micro p q found =
+    if is_of_lock micro then lock_committed m l p q found else word_committed m l p q found
 
 abbrev pub retired_slot_of : Micro → ℕ
 retired_slot_of (micros.RetireCommit slot log) = slot

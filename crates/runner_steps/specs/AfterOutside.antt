@@ -20,7 +20,8 @@ entered p found = record p { stage = stages.Entered found; reads = no_reads }
 
 -- a scan is over, and this epoch was reached
 abbrev pub collected : PartState → ℕ → PartState
-collected p epoch = record p { stage = stages.Idle; nodes = nodes_collected epoch p.nodes; descriptors = descriptors_collected epoch p.descriptors }
+collected p epoch =
+    record p { stage = stages.Idle; nodes = nodes_collected epoch p.nodes; descriptors = descriptors_collected epoch p.descriptors }
 
 -- an announcement is idle, or the scan's epoch
 abbrev pub is_clear : ℕ → ℕ → Bool
@@ -33,7 +34,8 @@ scanned l p x next clear = if next == l.runners && not (clear && nat_lt x last_e
     else with_stage p (stages.Scanning x (next + 1) clear)
 
 abbrev pub scan_one_after : Layout → PartState → Stage → ℕ → PartState
-scan_one_after l p (stages.Scanning x next clear) found = if nat_le next l.runners then scanned l p x next (clear && is_clear x found) else p
+scan_one_after l p (stages.Scanning x next clear) found =
+    if nat_le next l.runners then scanned l p x next (clear && is_clear x found) else p
 scan_one_after l p _ found = p
 
 abbrev pub advance_after : PartState → Stage → PartState
@@ -41,7 +43,8 @@ advance_after p (stages.Scanning x next clear) = if nat_lt x last_epoch then col
 advance_after p _ = p
 
 abbrev pub split_after : Layout → PartState → PartState
-split_after l p = if nat_lt p.records.splits l.runners then record p { records = record (p.records) { splits = p.records.splits + 1 } } else p
+split_after l p =
+    if nat_lt p.records.splits l.runners then record p { records = record (p.records) { splits = p.records.splits + 1 } } else p
 
 abbrev pub read_after : Meaning → ℕ → PartState → ℕ → PartState
 read_after m place p found = record p { reads = walked p.reads (m.is_lock place) place found }
@@ -56,11 +59,13 @@ private_load_after m l slot word p found = if nat_lt slot (slot_count l m.fixed_
     else record p { descriptors = descriptor_stored p.descriptors (slot - slot_count l m.fixed_slots) word found }
 
 abbrev pub private_store_after : Meaning → Layout → ℕ → ℕ → ℕ → PartState → PartState
-private_store_after m l slot word number p = record p { descriptors = descriptor_stored p.descriptors (slot - slot_count l m.fixed_slots) word number }
+private_store_after m l slot word number p =
+    record p { descriptors = descriptor_stored p.descriptors (slot - slot_count l m.fixed_slots) word number }
 
 -- the section with this thunk as it is published in this descriptor
 abbrev pub published_by : Thunk → ℕ → PartState → Published
-published_by t d p = record { descriptor = d; thunk = t; walked = length p.reads.walk; known = length p.records.known; over = false }
+published_by t d p =
+    record { descriptor = d; thunk = t; walked = length p.reads.walk; known = length p.records.known; over = false }
 
 -- where the lock was free, the section is published; otherwise the descriptor stays free
 abbrev pub hold_after : Thunk → ℕ → PartState → ℕ → PartState
@@ -74,7 +79,8 @@ hold_after t d p found = if found == t.word
 
 -- a run begins
 abbrev pub opened : ℕ → ℕ → RunState
-opened d found = record { descriptor = d; opened = found ∷ []; at = 0; word = 0; trail = []; made = None; worn = false; ended = 0 }
+opened d found =
+    record { descriptor = d; opened = found ∷ []; at = 0; word = 0; trail = []; made = None; worn = false; ended = 0 }
 
 abbrev pub open_after : ℕ → PartState → ℕ → PartState
 open_after d p found = record p { run = Some (opened d found) }
@@ -82,4 +88,5 @@ open_after d p found = record p { run = Some (opened d found) }
 -- the published section's descriptor goes into limbo
 abbrev pub retire_after : PartState → Option Published → ℕ → PartState
 retire_after p None found = p
-retire_after p (Some x) found = record p { published = None; descriptors = descriptor_retired p.descriptors x.descriptor found }
+retire_after p (Some x) found =
+    record p { published = None; descriptors = descriptor_retired p.descriptors x.descriptor found }

@@ -33,7 +33,8 @@ outside_ask m l requests r (kinds.LoadThunk (Some d)) p = open_ask d p
 outside_ask m l requests r kinds.EpochForRetire p = retire_ask p
 outside_ask m l requests r _ p = None
 
--- what a run asks that has loaded its thunk and its done word, and stands before this step; `free` is the list of free node slots
+-- what a run asks that has loaded its thunk and its done word, and stands before this step; `free` is the
+-- list of free node slots
 abbrev pub line_ask : Meaning → Layout → EventKind → List ℕ → RunState → Micro → Ask
 line_ask m l kinds.Commit free q micro = commit_ask q micro
 line_ask m l (kinds.LoadCell None) free q micro = load_cell_ask q micro
@@ -81,4 +82,5 @@ sizes_for m l requests = sizes_of l (length requests) m.fixed_cells m.fixed_slot
 
 -- the word that this event meets on this part, and what it does there; None where the event isn't enabled
 abbrev pub asks : Meaning → Layout → List Request → ℕ → EventKind → PartState → Ask
-asks m l requests r kind p = if p.gone then None else fitting (sizes_for m l requests) (ask_by m l requests r kind p p.run)
+asks m l requests r kind p =
+    if p.gone then None else fitting (sizes_for m l requests) (ask_by m l requests r kind p p.run)

@@ -40,7 +40,9 @@ abbrev pub can_raise : Layout → ℕ → Bool
 can_raise l word = nat_lt (version_of word) l.version_max
 
 abbrev pub exchange_cell_ask : Layout → RunState → Micro → Ask
-exchange_cell_ask l q (micros.ExchangeCell place log value) = let old = slice_index q.trail log in when (can_raise l old) (spots.Cell place) (Exchanges old (next_word old (source_value q.trail value)))
+exchange_cell_ask l q (micros.ExchangeCell place log value) =
+    let old = slice_index q.trail log in
+    when (can_raise l old) (spots.Cell place) (Exchanges old (next_word old (source_value q.trail value)))
 exchange_cell_ask l q _ = None
 
 -- the last of a list
@@ -61,11 +63,16 @@ abbrev pub is_cell : Meaning → Layout → ℕ → ℕ → Bool
 is_cell m l slot word = nat_lt slot (slot_count l m.fixed_slots) && nat_lt word 5
 
 abbrev pub fill_load_ask : Meaning → Layout → ℕ → ℕ → List ℕ → RunState → Micro → Ask
-fill_load_ask m l slot word free q (micros.PrivateLoad cell log) = when (is_cell m l slot word && (is_slot (make_slot q.made free) slot && word == cell)) (spots.Cell (cell_of m.fixed_cells slot word)) Loads
+fill_load_ask m l slot word free q (micros.PrivateLoad cell log) =
+    when (is_cell m l slot word
+    && (is_slot (make_slot q.made free) slot && word == cell)) (spots.Cell (cell_of m.fixed_cells slot word)) Loads
 fill_load_ask m l slot word free q _ = None
 
 abbrev pub fill_store_ask : Meaning → Layout → ℕ → ℕ → ℕ → RunState → Micro → Ask
-fill_store_ask m l slot word number q (micros.PrivateStore cell log value) = when (is_cell m l slot word && (is_slot q.made slot && (word == cell && (can_raise l q.word && number == next_word q.word (source_value q.trail value))))) (spots.Cell (cell_of m.fixed_cells slot word)) (Stores number)
+fill_store_ask m l slot word number q (micros.PrivateStore cell log value) =
+    when (is_cell m l slot word
+    && (is_slot q.made slot && (word == cell
+    && (can_raise l q.word && number == next_word q.word (source_value q.trail value))))) (spots.Cell (cell_of m.fixed_cells slot word)) (Stores number)
 fill_store_ask m l slot word number q _ = None
 
 abbrev pub make_commit_to : RunState → ℕ → Option ℕ → Ask
@@ -97,7 +104,9 @@ abbrev pub last_clock : ℕ
 last_clock = 2 ^ 62
 
 abbrev pub stamp_exchange_ask : RunState → Micro → Ask
-stamp_exchange_ask q micros.StampExchange = let t = thunk_of q.opened in when (nat_lt q.word last_clock) (spots.Stamp t.request) (Exchanges 0 (stamp_after q.word))
+stamp_exchange_ask q micros.StampExchange =
+    let t = thunk_of q.opened in
+    when (nat_lt q.word last_clock) (spots.Stamp t.request) (Exchanges 0 (stamp_after q.word))
 stamp_exchange_ask q _ = None
 
 abbrev pub clock_raise_ask : RunState → Micro → Ask
@@ -105,7 +114,8 @@ clock_raise_ask q micros.ClockRaise = Some (spots.Clock, Raises (q.word / 2))
 clock_raise_ask q _ = None
 
 abbrev pub reply_exchange_ask : RunState → Micro → Ask
-reply_exchange_ask q (micros.ReplyExchange reply) = let t = thunk_of q.opened in Some (spots.Reply t.request, Exchanges 0 reply)
+reply_exchange_ask q (micros.ReplyExchange reply) =
+    let t = thunk_of q.opened in Some (spots.Reply t.request, Exchanges 0 reply)
 reply_exchange_ask q _ = None
 
 abbrev pub nested_load_ask : RunState → Micro → Ask
@@ -117,7 +127,8 @@ abbrev pub can_hold : Layout → ℕ → ℕ → Bool
 can_hold l descriptor word = nat_lt descriptor (descriptor_count l) && can_raise l word
 
 abbrev pub nested_hold_ask : Layout → RunState → Micro → Ask
-nested_hold_ask l q (micros.NestedHold place word) = when (can_hold l q.descriptor word) (spots.Cell place) (Exchanges word (held_word q.descriptor word))
+nested_hold_ask l q (micros.NestedHold place word) =
+    when (can_hold l q.descriptor word) (spots.Cell place) (Exchanges word (held_word q.descriptor word))
 nested_hold_ask l q _ = None
 
 abbrev pub outcome_load_ask : RunState → Micro → Ask
@@ -133,5 +144,7 @@ set_done_ask q micros.SetDone = Some (spots.DoneWord q.descriptor, Exchanges 0 1
 set_done_ask q _ = None
 
 abbrev pub release_ask : Layout → RunState → Micro → Ask
-release_ask l q (micros.Release place word) = let held = held_word q.descriptor word in when (can_hold l q.descriptor word && can_raise l held) (spots.Cell place) (Exchanges held (next_word held 0))
+release_ask l q (micros.Release place word) =
+    let held = held_word q.descriptor word in
+    when (can_hold l q.descriptor word && can_raise l held) (spots.Cell place) (Exchanges held (next_word held 0))
 release_ask l q _ = None

@@ -53,7 +53,8 @@ last_epoch = 2 ^ 62
 
 -- after the last announcement, where each was idle or the epoch
 abbrev pub advance_ask : Layout → Stage → Ask
-advance_ask l (stages.Scanning x next clear) = when (nat_lt l.runners next && (clear && nat_lt x last_epoch)) spots.Epoch (Exchanges x (x + 1))
+advance_ask l (stages.Scanning x next clear) =
+    when (nat_lt l.runners next && (clear && nat_lt x last_epoch)) spots.Epoch (Exchanges x (x + 1))
 advance_ask l _ = None
 
 -- the keeper splits off each worker once
@@ -62,7 +63,9 @@ split_ask l r p = when (r == l.runners && (is_outside p.run && nat_lt p.records.
 
 -- the keeper joins each worker once
 abbrev pub join_ask : Layout → ℕ → ℕ → PartState → Ask
-join_ask l r worker p = when (r == l.runners && (is_outside p.run && (nat_lt worker l.runners && not (has p.records.joined worker)))) spots.Seat Loads
+join_ask l r worker p =
+    when (r == l.runners && (is_outside p.run
+    && (nat_lt worker l.runners && not (has p.records.joined worker)))) spots.Seat Loads
 
 abbrev pub read_ask : Meaning → ℕ → PartState → Ask
 read_ask m place p = when (is_walking p.stage p.run && is_readable m p.reads.walk place) (spots.Cell place) Loads
@@ -76,34 +79,45 @@ entry_ask request reply p = when (is_resting p.stage p.run) (entry_spot request 
 
 -- a descriptor's word: the thunk words, the done word, the log
 abbrev pub descriptor_spot : ℕ → ℕ → Spot
-descriptor_spot d word = if nat_lt word 12 then spots.ThunkWord d word else (if word == 12 then spots.DoneWord d else spots.LogWord d (word - 13))
+descriptor_spot d word =
+    if nat_lt word 12 then spots.ThunkWord d word else (if word == 12 then spots.DoneWord d else spots.LogWord d (word - 13))
 
 -- a cell of an own free node slot, or of one in the own hand; or a word of an own free descriptor
 abbrev pub private_load_ask : Meaning → Layout → ℕ → ℕ → PartState → Ask
 private_load_ask m l slot word p = let slots = slot_count l m.fixed_slots in
     if nat_lt slot slots
-    then when (is_resting p.stage p.run && (nat_lt word 5 && (has p.nodes.free slot || has p.nodes.hand slot))) (spots.Cell (cell_of m.fixed_cells slot word)) Loads
-    else when (is_resting p.stage p.run && has p.descriptors.free (slot - slots)) (descriptor_spot (slot - slots) word) Loads
+    then when (is_resting p.stage p.run
+    && (nat_lt word 5 && (has p.nodes.free slot
+    || has p.nodes.hand slot))) (spots.Cell (cell_of m.fixed_cells slot word)) Loads
+    else when (is_resting p.stage p.run
+    && has p.descriptors.free (slot - slots)) (descriptor_spot (slot - slots) word) Loads
 
 -- a word of an own free descriptor
 abbrev pub private_store_ask : Meaning → Layout → ℕ → ℕ → ℕ → PartState → Ask
 private_store_ask m l slot word number p = let slots = slot_count l m.fixed_slots in
-    when (nat_le slots slot && (is_resting p.stage p.run && has p.descriptors.free (slot - slots))) (descriptor_spot (slot - slots) word) (Stores number)
+    when (nat_le slots slot && (is_resting p.stage p.run
+    && has p.descriptors.free (slot - slots))) (descriptor_spot (slot - slots) word) (Stores number)
 
 -- the thunk serves the worker's next request
 abbrev pub is_due : Meaning → Layout → List Request → ℕ → List Known → List (ℕ × ℕ) → Thunk → Bool
-is_due m l requests r known walk t = let request = slice_get requests t.request in is_next l r requests known request && serves m l walk t request
+is_due m l requests r known walk t =
+    let request = slice_get requests t.request in is_next l r requests known request && serves m l walk t request
 
 -- the thunk may be published: its lock's word was read free, and no section is left to retire
 abbrev pub is_publishable : Meaning → Layout → List Request → ℕ → Thunk → PartState → Bool
-is_publishable m l requests r t p = is_walking p.stage p.run && (is_none p.published && (is_open l p.reads.cells t && is_due m l requests r p.records.known p.reads.walk t))
+is_publishable m l requests r t p =
+    is_walking p.stage p.run && (is_none p.published
+    && (is_open l p.reads.cells t && is_due m l requests r p.records.known p.reads.walk t))
 
 -- the own free descriptor's words were stored with this thunk, which has eight operands
 abbrev pub is_ready : Layout → PartState → ℕ → Thunk → Bool
-is_ready l p d t = nat_lt d (descriptor_count l) && (has p.descriptors.free d && (length t.operands == 8 && is_prepared p.descriptors.stored d t))
+is_ready l p d t =
+    nat_lt d (descriptor_count l)
+    && (has p.descriptors.free d && (length t.operands == 8 && is_prepared p.descriptors.stored d t))
 
 abbrev pub hold_ask : Meaning → Layout → List Request → ℕ → Thunk → ℕ → PartState → Ask
-hold_ask m l requests r t d p = when (is_ready l p d t && is_publishable m l requests r t p) (spots.Cell t.lock) (Exchanges t.word (held_word d t.word))
+hold_ask m l requests r t d p =
+    when (is_ready l p d t && is_publishable m l requests r t p) (spots.Cell t.lock) (Exchanges t.word (held_word d t.word))
 
 -- a run begins with the first thunk word of a descriptor that the runner holds
 abbrev pub open_ask : ℕ → PartState → Ask

@@ -20,7 +20,8 @@ thunk_of words = record {
   request = slice_index words 1 % 2 ^ 32;
   lock = slice_index words 2 % 2 ^ 32;
   word = slice_index words 3;
-  operands = slice_index words 4 ∷ slice_index words 5 ∷ slice_index words 6 ∷ slice_index words 7 ∷ slice_index words 8 ∷ slice_index words 9 ∷ slice_index words 10 ∷ slice_index words 11 ∷ [];
+  operands = slice_index words 4 ∷ slice_index words 5 ∷ slice_index words 6 ∷ slice_index words 7
+      ∷ slice_index words 8 ∷ slice_index words 9 ∷ slice_index words 10 ∷ slice_index words 11 ∷ [];
 }
 
 -- no run comes to this place of its line, or makes as many exchanges at its end
@@ -77,4 +78,5 @@ outcome_or (Some outcome) reply = outcome
 
 -- how a run ends that rests here: it leaves at a check, or it went through
 abbrev pub outcome_of : Meaning → Layout → RunState → Outcome
-outcome_of m l q = outcome_or (leaves (setting_of l q.descriptor) q.trail (micro_at (line_of m q) q.at)) (reply_in (m.body (thunk_of q.opened)))
+outcome_of m l q =
+    outcome_or (leaves (setting_of l q.descriptor) q.trail (micro_at (line_of m q) q.at)) (reply_in (m.body (thunk_of q.opened)))

@@ -221,7 +221,8 @@ pub fn fill_store_ask<S: Structure>(
 /// Whether this number is the word that follows the one loaded last, with this value.
 fn is_next_word(run: &Run, layout: Layout, value: Source, number: u64) -> bool
     requires { layout.version_max < 2 ^ 32 }
-    ensures { result ≡ (can_raise layout run.now.word && number == next_word run.now.word (source_value run.now.trail value)) }
+    ensures { result ≡ (can_raise layout run.now.word
+        && number == next_word run.now.word (source_value run.now.trail value)) }
 {
     can_raise(layout, run.word) && number == next_word(run.word, source_value(&run.trail, value))
 }

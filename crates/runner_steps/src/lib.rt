@@ -1,7 +1,7 @@
 //! What one runner may do next: the word that an event meets, and how.
 //!
-//! `enabled` has `asks`, by `outside` for a runner in no run and `inside` for one in a run. `section` reads a run's place off
-//! its body's line and its trail.
+//! `enabled` has `asks`, by `outside` for a runner in no run and `inside` for one in a run. `section` reads
+//! a run's place off its body's line and its trail.
 #![tactic(auto)]
 
 mod enabled;
@@ -10,6 +10,6 @@ mod outside;
 mod section;
 
 pub use enabled::{asks, sizes_for};
-pub use inside::{is_open_run, last_of, next_of};
-pub use outside::{LAST_EPOCH, slot_count};
-pub use section::{is_end, leaves, reply_in, settled, source_value, thunk_of};
+pub use inside::{LAST_CLOCK, is_open_run, last_of, next_of};
+pub use outside::{LAST_EPOCH, held_word, slot_count};
+pub use section::{agreed_on, is_end, leaves, reply_in, settled, source_value, thunk_of};

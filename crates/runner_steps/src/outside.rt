@@ -2,7 +2,7 @@
 ghost use Rattle.std.specs.Prelude.{◌≡◌, ◌≤◌, ◌<◌, ◌-◌, ◌^◌};
 ghost use Rattle.table_words.specs.Limits.{IsWithinLimits};
 ghost use Rattle.table_words.specs.Places.{slot_count, descriptor_count};
-ghost use Rattle.section_body.specs.Word.{held_word};
+ghost use Rattle.section_body.specs.Word.{held_word, version_of};
 ghost use Rattle.section_body.specs.Memory.{cell_of};
 ghost use Rattle.runner_parts.specs.Tests.{is_open, serves};
 ghost use Rattle.runner_steps.specs.Outside.{enter_load_ask, announce_ask, enter_again_ask, idle_ask, scan_one_ask, advance_ask, split_ask, join_ask, read_ask, entry_ask, descriptor_spot, private_load_ask, private_store_ask, is_due, is_publishable, is_ready, hold_ask, open_ask, is_over, retire_ask};
@@ -122,9 +122,10 @@ pub fn cell_place<S: Structure>(structure: &S, layout: Layout, slot: u32, cell: 
 }
 
 /// The word of a lock that was free with this word, once the descriptor's section holds it.
+#[inline(always)]
 pub fn held_word(descriptor: u32, free: Word) -> Word
     requires descriptor { descriptor < 2 ^ 32 - 1 }
-    requires version { free < 2 ^ 64 - 2 ^ 32 }
+    requires version { version_of free < 2 ^ 32 - 1 }
     ensures { result ≡ held_word descriptor free }
 {
     Word::pack(descriptor + 1, free.version() + 1)

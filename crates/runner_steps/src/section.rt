@@ -2,12 +2,20 @@
 ghost use Rattle.std.specs.Prelude.{◌&&◌, ◌++◌, ◌∷◌, [], take, slice_index_or, is_none, ◌≡◌, ◌<◌, ◌≤◌, ◌%◌, ◌^◌, ◌==◌, length, slice_index};
 ghost use Rattle.section_body.specs.Word.{held_word};
 ghost use Rattle.section_body.specs.Line.{line, micro_at, is_check, is_end, is_event, ending, releases, next_micro};
-ghost use Rattle.section_body.specs.Run.{leaves, settled, refusal, is_takable, source_value};
+ghost use Rattle.section_body.specs.Run.{leaves, settled, refusal, is_takable, source_value, written_once};
 ghost use Rattle.section_body.specs.declared.micro.Micro.TheVariants.{End, Release};
 ghost use Rattle.runner_steps.specs.Sections.{thunk_of, setting_of, lock_of, reply_in, outcome_or};
 
 use section_body::{Body, Micro, Outcome, Place, Source, Step, Thunk, Word, micro_at};
 use table_words::Layout;
+
+/// What then stands in a word that was exchanged from 0: what stood there, or else the proposal.
+#[inline(always)]
+pub fn agreed_on(found: u64, proposal: u64) -> u64
+    ensures { result ≡ written_once found proposal }
+{
+    if found == 0 { proposal } else { found }
+}
 
 /// The thunk that these words hold.
 pub fn thunk_of(words: &[u64]) -> Thunk
@@ -192,8 +200,8 @@ fn lock_of(micro: Micro) -> Option<(Place, Word)>
     }
 }
 
-/// The release with this number of a run that came to this place of the line: of the nested locks in the order in which they were
-/// taken, and then of the outer one.
+/// The release with this number of a run that came to this place of the line: of the nested locks in the
+/// order in which they were taken, and then of the outer one.
 fn release_at(body: &Body, at: u32, number: u32, lock: Place, word: Word) -> Micro
     ensures { result ≡ slice_index_or (releases (take at (line body.now)) ++ Release lock word ∷ []) number End }
 {
@@ -219,7 +227,8 @@ fn release_at(body: &Body, at: u32, number: u32, lock: Place, word: Word) -> Mic
     }
 }
 
-/// What a run does next on the shared words that stands at this place of the line and has made these many exchanges of its end.
+/// What a run does next on the shared words that stands at this place of the line and has made these many
+/// exchanges of its end.
 pub fn next_micro(body: &Body, at: u32, ended: u32, lock: Place, word: Word) -> Micro
     ensures { result ≡ next_micro (line body.now) at ended lock word }
 {

@@ -28,7 +28,8 @@ IsLogged g count (Made reg) = g.log reg < count
 pub record SlotFits (memory : PlainMemory) : Type 0 where
   pub there : 0 < length memory.free
   pub within : (cell : ℕ) → cell < 5 → cell_of memory.fixed_cells (slice_index memory.free 0) cell < length memory.cells
-  pub room : (cell : ℕ) → cell < 5 → version_of (slice_index memory.cells (cell_of memory.fixed_cells (slice_index memory.free 0) cell)) + 1 < 2 ^ 32
+  pub room : (cell : ℕ) → cell < 5
+      → version_of (slice_index memory.cells (cell_of memory.fixed_cells (slice_index memory.free 0) cell)) + 1 < 2 ^ 32
 
 -- a Store has its cell and its agreed word, and the word isn't the last of its cell
 pub record StoreFits (memory : PlainMemory) (trail : List ℕ) (place log : ℕ) : Type 0 where
@@ -41,10 +42,12 @@ abbrev pub StepFits : ℕ → PlainMemory → List ℕ → Registers → Bool �
 StepFits request memory trail g got (Load place into) = place < length memory.cells
 StepFits request memory trail g got (Want reg word) = g.log reg < length trail
 StepFits request memory trail g got (Fresh reg) = g.log reg < length trail
-StepFits request memory trail g got (Take place word) = (place < length memory.cells) × (got ≡ true → version_of word + 1 < 2 ^ 32)
+StepFits request memory trail g got (Take place word) =
+    (place < length memory.cells) × (got ≡ true → version_of word + 1 < 2 ^ 32)
 StepFits request memory trail g got (Make init into) = SlotFits memory × All (IsLogged g (length trail)) init.cells
 StepFits request memory trail g got Stamp = (request < length memory.stamps) × (memory.clock < 2 ^ 62)
-StepFits request memory trail g got (Store reg value) = StoreFits memory trail (g.place reg) (g.log reg) × IsLogged g (length trail) value
+StepFits request memory trail g got (Store reg value) =
+    StoreFits memory trail (g.place reg) (g.log reg) × IsLogged g (length trail) value
 StepFits request memory trail g got (Retire slot) = length memory.retired < memory.room
 StepFits request memory trail g got (Answer reply) = request < length memory.replies
 
@@ -70,7 +73,8 @@ LockSuits s memory false log place word = BusySuits s memory log place
 pub record SlotSuits (s : Setting) (memory : PlainMemory) (log : ℕ) : Type 0 where
   pub fixed_cells : s.fixed_cells ≡ memory.fixed_cells
   pub slot : s.slot log ≡ slice_index memory.free 0
-  pub first : (cell : ℕ) → cell < 5 → s.first log cell ≡ slice_index memory.cells (cell_of memory.fixed_cells (slice_index memory.free 0) cell)
+  pub first : (cell : ℕ) → cell < 5
+      → s.first log cell ≡ slice_index memory.cells (cell_of memory.fixed_cells (slice_index memory.free 0) cell)
 
 -- a setting goes with the memory as it is at this step
 abbrev pub StepSuits : Setting → PlainMemory → Bool → ℕ → Step → Type 0
@@ -83,4 +87,5 @@ StepSuits s memory got log _ = Unit {0}
 -- the cells after the first k cells of a node slot were given these values
 abbrev pub filled : ℕ → ℕ → List ℕ → List ℕ → ℕ → List ℕ
 filled fixed_cells slot values cells zero = cells
-filled fixed_cells slot values cells (suc k) = slice_set (filled fixed_cells slot values cells k) (cell_of fixed_cells slot k) (next_word (slice_index cells (cell_of fixed_cells slot k)) (slice_index values k))
+filled fixed_cells slot values cells (suc k) =
+    slice_set (filled fixed_cells slot values cells k) (cell_of fixed_cells slot k) (next_word (slice_index cells (cell_of fixed_cells slot k)) (slice_index values k))

@@ -36,7 +36,10 @@ read_steps t =
 abbrev pub insert_steps : Thunk → List Step
 insert_steps t =
     Load (t.lock + 1) 0 ∷ Want 0 (operand t 0) ∷ Fresh 0 ∷ Load (t.lock + 2) 1 ∷ Fresh 1 ∷
-    Make (record { cells = Const 0 ∷ Const (operand t 1) ∷ Const (operand t 2) ∷ Const (operand t 3) ∷ Const 0 ∷ [] }) 2 ∷
+    Make (record {
+      cells = Const 0 ∷ Const (operand t 1) ∷ Const (operand t 2) ∷ Const (operand t 3)
+          ∷ Const 0 ∷ [];
+    }) 2 ∷
     Stamp ∷ Store 1 (Made 2) ∷ Store 0 (Const 0) ∷ Answer (1 * 2 ^ 32) ∷ []
 
 -- form 3, a node taken out: edition word, place of the link to the node, the node's slot, its next link

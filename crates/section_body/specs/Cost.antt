@@ -25,7 +25,8 @@ step_cost (Answer reply) = 1
 abbrev pub cost_of : List Step → ℕ
 cost_of body = opening_cost + sum_by step_cost body + (1 + (count_by is_take body + 1))
 
--- how many atomic steps on shared words a run makes, by its line, that comes to this place of it and no further: the opening, those
--- below the place, and the end of a section with this outer lock and free word
+-- how many atomic steps on shared words a run makes, by its line, that comes to this place of it and no
+-- further: the opening, those below the place, and the end of a section with this outer lock and free word
 abbrev pub steps_to : List Step → ℕ → ℕ → ℕ → ℕ
-steps_to body at lock word = opening_cost + (count_by is_event (take at (line body)) + length (ending (line body) at lock word))
+steps_to body at lock word =
+    opening_cost + (count_by is_event (take at (line body)) + length (ending (line body) at lock word))

@@ -60,7 +60,8 @@ stored_places g (step ∷ steps) = places_of g step ++ stored_places (registers_
 
 -- a Store to a place that an earlier Store has
 abbrev pub is_stored_again : List Step → Step → Bool
-is_stored_again earlier step = list_any (λ place. list_any (λ stored. stored == place) (stored_places no_registers earlier)) (places_of (registers_through no_registers earlier) step)
+is_stored_again earlier step =
+    list_any (λ place. list_any (λ stored. stored == place) (stored_places no_registers earlier)) (places_of (registers_through no_registers earlier) step)
 
 -- the fault of a step that follows these ones, the first that holds
 abbrev pub step_fault : List Step → Step → Option Misshape
@@ -69,7 +70,8 @@ step_fault earlier step =
     (cond (is_second earlier step) (Some (OutOfOrder (length earlier)))
     (cond (nat_le 4 (phase step) && not (list_any is_stamp earlier)) (Some (NoStamp (length earlier)))
     (cond (is_make step && nat_le 2 (count_by is_make earlier)) (Some (TooManyMakes (length earlier)))
-    (cond (not (list_all (is_set earlier) (used_values step)) || not (list_all (is_settable earlier) (set_registers step))) (Some (RegisterUnset (length earlier)))
+    (cond (not (list_all (is_set earlier) (used_values step))
+    || not (list_all (is_settable earlier) (set_registers step))) (Some (RegisterUnset (length earlier)))
     (cond (is_untested earlier step) (Some (NotFresh (length earlier)))
     (cond (is_stored_again earlier step) (Some (StoredTwice (length earlier)))
     None))))))
@@ -93,4 +95,5 @@ fault_at body at = step_or_end_fault body at (slice_get body at)
 -- the first fault of a list of steps: more than 32 of them, else the one at the lowest place
 pub record IsFirstFault (body : List Step) (fault : Misshape) : Type 0 where
   pub length_first : 32 < length body → fault ≡ TooLong 32
-  pub lowest : length body ≤ 32 → (at : ℕ) × (at ≤ length body) × (fault_at body at ≡ Some fault) × ((i : ℕ) → i < at → fault_at body i ≡ None)
+  pub lowest : length body ≤ 32
+      → (at : ℕ) × (at ≤ length body) × (fault_at body at ≡ Some fault) × ((i : ℕ) → i < at → fault_at body i ≡ None)

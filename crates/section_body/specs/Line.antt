@@ -11,7 +11,8 @@ use Rattle.section_body.specs.declared.micro.Source.TheVariants.{Fixed, Agreed}
 use Rattle.section_body.specs.declared.micro.Micro.{Micro}
 use Rattle.section_body.specs.declared.micro.Micro.TheVariants.{LoadCell, Commit, CheckWord, CheckFresh, NestedLoad, NestedCommit, CheckFree, NestedHold, OutcomeLoad, OutcomeCommit, CheckHeld, PrivateLoad, PrivateStore, MakeCommit, ClockLoad, StampExchange, ClockRaise, ExchangeCell, EpochForRetire, RetireCommit, ReplyExchange, End, SetDone, Release}
 
--- what the steps so far have set: the place and the place in the log of each register, and how many words were committed
+-- what the steps so far have set: the place and the place in the log of each register, and how many words
+-- were committed
 pub record Registers : Type 0 where
   pub place : ℕ → ℕ
   pub log : ℕ → ℕ
@@ -35,7 +36,8 @@ log_words (Answer reply) = 0
 
 -- the registers after one more step
 abbrev pub registers_after : Registers → Step → Registers
-registers_after g (Load place into) = record { place = upd g.place into place; log = upd g.log into g.count; count = g.count + 1 }
+registers_after g (Load place into) =
+    record { place = upd g.place into place; log = upd g.log into g.count; count = g.count + 1 }
 registers_after g (Want reg word) = g
 registers_after g (Fresh reg) = g
 registers_after g (Take place word) = record g { count = g.count + 2 }
@@ -62,15 +64,21 @@ source_of g (Made reg) = Agreed (g.log reg)
 
 -- the private load and store of one cell of a new node
 abbrev pub fill_cell : Registers → Init → ℕ → List Micro
-fill_cell g init cell = PrivateLoad cell g.count ∷ PrivateStore cell g.count (source_of g (slice_index_or init.cells cell (Const 0))) ∷ []
+fill_cell g init cell =
+    PrivateLoad cell g.count ∷ PrivateStore cell g.count (source_of g (slice_index_or init.cells cell (Const 0))) ∷ []
 
 -- the atomic steps of one step
 abbrev pub micros : Registers → Step → List Micro
 micros g (Load place into) = LoadCell place g.count ∷ Commit place g.count ∷ []
 micros g (Want reg word) = CheckWord (g.place reg) (g.log reg) word ∷ []
 micros g (Fresh reg) = CheckFresh (g.place reg) (g.log reg) ∷ []
-micros g (Take place word) = NestedLoad place g.count ∷ NestedCommit place g.count ∷ CheckFree place g.count word ∷ NestedHold place word ∷ OutcomeLoad place (g.count + 1) ∷ OutcomeCommit place (g.count + 1) ∷ CheckHeld place (g.count + 1) word ∷ []
-micros g (Make init into) = fill_cell g init 0 ++ (fill_cell g init 1 ++ (fill_cell g init 2 ++ (fill_cell g init 3 ++ (fill_cell g init 4 ++ MakeCommit g.count ∷ []))))
+micros g (Take place word) =
+    NestedLoad place g.count ∷ NestedCommit place g.count ∷ CheckFree place g.count word
+    ∷ NestedHold place word ∷ OutcomeLoad place (g.count + 1) ∷ OutcomeCommit place (g.count + 1)
+    ∷ CheckHeld place (g.count + 1) word ∷ []
+micros g (Make init into) =
+    fill_cell g init 0 ++ (fill_cell g init 1
+    ++ (fill_cell g init 2 ++ (fill_cell g init 3 ++ (fill_cell g init 4 ++ MakeCommit g.count ∷ []))))
 micros g Stamp = ClockLoad ∷ StampExchange ∷ ClockRaise ∷ []
 micros g (Store reg value) = ExchangeCell (g.place reg) (g.log reg) (source_of g value) ∷ []
 micros g (Retire slot) = EpochForRetire slot g.count ∷ RetireCommit slot g.count ∷ []
@@ -145,10 +153,12 @@ abbrev pub releases : List Micro → List Micro
 releases [] = []
 releases (micro ∷ rest) = release_of micro ++ releases rest
 
--- the end of a run that came to this place of the line: done, then the release of each lock that it took, the outer one last
+-- the end of a run that came to this place of the line: done, then the release of each lock that it took,
+-- the outer one last
 abbrev pub ending : List Micro → ℕ → ℕ → ℕ → List Micro
 ending line at lock word = SetDone ∷ (releases (take at line) ++ Release lock word ∷ [])
 
 -- what a run does next on the shared words that stands at this place of the line, and has made `ended` steps of its end
 abbrev pub next_micro : List Micro → ℕ → ℕ → ℕ → ℕ → Micro
-next_micro line at ended lock word = cond (is_event (micro_at line at)) (micro_at line at) (slice_index_or (ending line at lock word) ended End)
+next_micro line at ended lock word =
+    cond (is_event (micro_at line at)) (micro_at line at) (slice_index_or (ending line at lock word) ended End)

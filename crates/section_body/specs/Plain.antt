@@ -19,19 +19,24 @@ pub record Choice : Type 0 where
 abbrev pub no_choice : Choice
 no_choice = record { word = 0; refused = false; slot = 0 }
 
--- a lock that is got gives its free word and the held one, by descriptor 0; one that isn't got gives the word that stands there
+-- a lock that is got gives its free word and the held one, by descriptor 0; one that isn't got gives the
+-- word that stands there
 abbrev pub lock_choices : Bool → ℕ → ℕ → List Choice
 lock_choices true standing free = record no_choice { word = free } ∷ record no_choice { word = held_word 0 free } ∷ []
 lock_choices false standing free = record { word = standing; refused = true; slot = 0 } ∷ no_choice ∷ []
 
--- the choices of a run in one go over these cells: each Take is got as `taken` says in turn, and each Make gets the next free slot
+-- the choices of a run in one go over these cells: each Take is got as `taken` says in turn, and each Make
+-- gets the next free slot
 abbrev pub choices : List ℕ → List Step → List Bool → List ℕ → List Choice
 choices cells [] taken free = []
 choices cells (Load place into ∷ steps) taken free = no_choice ∷ choices cells steps taken free
 choices cells (Want reg word ∷ steps) taken free = choices cells steps taken free
 choices cells (Fresh reg ∷ steps) taken free = choices cells steps taken free
-choices cells (Take place word ∷ steps) taken free = lock_choices (slice_index_or taken 0 false) (slice_index cells place) word ++ choices cells steps (drop 1 taken) free
-choices cells (Make init into ∷ steps) taken free = record no_choice { slot = slice_index free 0 } ∷ choices cells steps taken (drop 1 free)
+choices cells (Take place word ∷ steps) taken free =
+    lock_choices (slice_index_or taken 0 false) (slice_index cells place) word
+    ++ choices cells steps (drop 1 taken) free
+choices cells (Make init into ∷ steps) taken free =
+    record no_choice { slot = slice_index free 0 } ∷ choices cells steps taken (drop 1 free)
 choices cells (Stamp ∷ steps) taken free = choices cells steps taken free
 choices cells (Store reg value ∷ steps) taken free = choices cells steps taken free
 choices cells (Retire slot ∷ steps) taken free = no_choice ∷ choices cells steps taken free
@@ -91,17 +96,22 @@ pub record PlacesFit (body : List Step) (memory : PlainMemory) : Type 0 where
   pub loads : (i place into : ℕ) → IsStep body i (Load place into) → place < length memory.cells
   pub locks : (i place word : ℕ) → IsStep body i (Take place word) → place < length memory.cells
 
--- the first free slots, one for each Make, are there and are different, and none of their cells is at the greatest version
+-- the first free slots, one for each Make, are there and are different, and none of their cells is at the
+-- greatest version
 pub record SlotsFit (body : List Step) (memory : PlainMemory) : Type 0 where
   pub there : count_by is_make body ≤ length memory.free
   pub different : (i j : ℕ) → i < j → j < count_by is_make body → slice_index memory.free i ≢ slice_index memory.free j
-  pub within : (i cell : ℕ) → i < count_by is_make body → cell < 5 → cell_of memory.fixed_cells (slice_index memory.free i) cell < length memory.cells
-  pub unworn : (i cell : ℕ) → i < count_by is_make body → cell < 5 → version_of (slice_index memory.cells (cell_of memory.fixed_cells (slice_index memory.free i) cell)) ≢ memory.version_max
+  pub within : (i cell : ℕ) → i < count_by is_make body → cell < 5
+      → cell_of memory.fixed_cells (slice_index memory.free i) cell < length memory.cells
+  pub unworn : (i cell : ℕ) → i < count_by is_make body → cell < 5
+      → version_of (slice_index memory.cells (cell_of memory.fixed_cells (slice_index memory.free i) cell)) ≢ memory.version_max
 
 -- `taken` has an entry for each Take, and a Take whose lock is got expects a free word that isn't spent
 pub record LocksFit (body : List Step) (memory : PlainMemory) (taken : List Bool) : Type 0 where
   pub given : count_by is_take body ≤ length taken
-  pub takable : (i place word : ℕ) → IsStep body i (Take place word) → slice_index_or taken (count_by is_take (take i body)) false ≡ true → (is_free word ≡ true) × (is_spent memory.version_max word ≡ false)
+  pub takable : (i place word : ℕ) → IsStep body i (Take place word)
+      → slice_index_or taken (count_by is_take (take i body)) false ≡ true
+      → (is_free word ≡ true) × (is_spent memory.version_max word ≡ false)
 
 -- the request's words are there
 abbrev pub HasRequest : ℕ → PlainMemory → Type 0

@@ -28,8 +28,8 @@ pub record Setting : Type 0 where
   -- the clock number of the Stamp
   pub clock : ℕ
 
--- what a run has done so far: the cells, the clock, the stamp and the reply word of its request, the agreed words, the slots that it
--- made and retired, and its outcome once it has one
+-- what a run has done so far: the cells, the clock, the stamp and the reply word of its request, the agreed
+-- words, the slots that it made and retired, and its outcome once it has one
 pub record Run : Type 0 where
   pub cells : ℕ → ℕ
   pub clock : ℕ
@@ -40,9 +40,11 @@ pub record Run : Type 0 where
   pub retired : List ℕ
   pub outcome : Option Outcome
 
--- how a Take ends that read this word and can't go on with it: the word names a descriptor, is free and spent, or differs
+-- how a Take ends that read this word and can't go on with it: the word names a descriptor, is free and
+-- spent, or differs
 abbrev pub refusal : Setting → ℕ → ℕ → ℕ → Outcome
-refusal s place expected read = cond (is_free read) (cond (is_spent s.version_max read) (Spent place read) (Stale place expected read)) (Busy place read)
+refusal s place expected read =
+    cond (is_free read) (cond (is_spent s.version_max read) (Spent place read) (Stale place expected read)) (Busy place read)
 
 -- a Take may be made with this word
 abbrev pub is_takable : Setting → ℕ → ℕ → Bool
@@ -50,10 +52,16 @@ is_takable s expected read = read == expected && (is_free read && not (is_spent 
 
 -- how a run leaves at this check, by the words agreed so far; None where it goes on, and at a step that is no check
 abbrev pub leaves : Setting → List ℕ → Micro → Option Outcome
-leaves s trail (CheckWord place log word) = let read = slice_index trail log in cond (read == word) None (Some (Stale place word read))
-leaves s trail (CheckFresh place log) = let read = slice_index trail log in cond (version_of read == s.version_max) (Some (Spent place read)) None
-leaves s trail (CheckFree place log word) = let read = slice_index trail log in cond (s.refused log) (Some (Busy place read)) (cond (is_takable s word read) None (Some (refusal s place word read)))
-leaves s trail (CheckHeld place log word) = let read = slice_index trail log in cond (read == held_word s.descriptor word) None (Some (refusal s place word read))
+leaves s trail (CheckWord place log word) =
+    let read = slice_index trail log in cond (read == word) None (Some (Stale place word read))
+leaves s trail (CheckFresh place log) =
+    let read = slice_index trail log in cond (version_of read == s.version_max) (Some (Spent place read)) None
+leaves s trail (CheckFree place log word) =
+    let read = slice_index trail log in
+    cond (s.refused log) (Some (Busy place read)) (cond (is_takable s word read) None (Some (refusal s place word read)))
+leaves s trail (CheckHeld place log word) =
+    let read = slice_index trail log in
+    cond (read == held_word s.descriptor word) None (Some (refusal s place word read))
 leaves s trail _ = None
 
 -- the value that a store writes
@@ -87,12 +95,15 @@ acted s (OutcomeLoad place log) r = r
 acted s (OutcomeCommit place log) r = agrees (s.taken log) r
 acted s (CheckHeld place log word) r = record r { outcome = leaves s r.trail (CheckHeld place log word) }
 acted s (PrivateLoad cell log) r = r
-acted s (PrivateStore cell log value) r = record r { cells = upd r.cells (cell_of s.fixed_cells (s.slot log) cell) (next_word (s.first log cell) (source_value r.trail value)) }
+acted s (PrivateStore cell log value) r =
+    record r { cells = upd r.cells (cell_of s.fixed_cells (s.slot log) cell) (next_word (s.first log cell) (source_value r.trail value)) }
 acted s (MakeCommit log) r = record r { trail = r.trail ++ (s.slot log + 1) ∷ []; made = r.made ++ s.slot log ∷ [] }
 acted s ClockLoad r = r
 acted s StampExchange r = record r { stamp = written_once r.stamp (2 * (s.clock + 1)) }
 acted s ClockRaise r = record r { clock = max r.clock (r.stamp / 2) }
-acted s (ExchangeCell place log value) r = let old = slice_index r.trail log in record r { cells = exchanged r.cells place old (next_word old (source_value r.trail value)) }
+acted s (ExchangeCell place log value) r =
+    let old = slice_index r.trail log in
+    record r { cells = exchanged r.cells place old (next_word old (source_value r.trail value)) }
 acted s (EpochForRetire slot log) r = r
 acted s (RetireCommit slot log) r = record r { trail = r.trail ++ (slot + 1) ∷ []; retired = r.retired ++ slot ∷ [] }
 acted s (ReplyExchange reply) r = record r { reply = written_once r.reply reply; outcome = Some (Answered reply) }
@@ -113,7 +124,8 @@ ran s r (micro ∷ rest) = ran s (unless_over r.outcome (acted s micro r) r) res
 -- how many checks at the head of these steps pass
 abbrev pub passed_checks : Setting → List ℕ → List Micro → ℕ
 passed_checks s trail [] = 0
-passed_checks s trail (micro ∷ rest) = cond (is_check micro && is_none (leaves s trail micro)) (passed_checks s trail rest + 1) 0
+passed_checks s trail (micro ∷ rest) =
+    cond (is_check micro && is_none (leaves s trail micro)) (passed_checks s trail rest + 1) 0
 
 -- where a run rests that came to this place of the line: behind the checks that pass
 abbrev pub settled : Setting → List ℕ → List Micro → ℕ → ℕ

@@ -92,7 +92,8 @@ pub record IsShaped (body : List Step) : Type 0 where
   -- at most 32 steps
   pub short : length body ≤ 32
   -- phases never fall
-  pub phases : (i j : ℕ) (earlier later : Step) → i < j → IsStep body i earlier → IsStep body j later → phase earlier ≤ phase later
+  pub phases : (i j : ℕ) (earlier later : Step) → i < j → IsStep body i earlier → IsStep body j later
+      → phase earlier ≤ phase later
   -- at most two Makes, exactly one Stamp, exactly one Answer
   pub makes : count_by is_make body ≤ 2
   pub stamps : count_by is_stamp body ≡ 1
@@ -101,8 +102,10 @@ pub record IsShaped (body : List Step) : Type 0 where
   pub used : (i : ℕ) (step : Step) → IsStep body i step → All (SetBefore body i) (used_values step)
   -- no step sets a register above 15, or one that an earlier step has set
   pub within : (i : ℕ) (step : Step) → IsStep body i step → All (λ reg. reg ≤ 15) (set_registers step)
-  pub set_once : (i j reg : ℕ) (earlier later : Step) → i < j → IsStep body i earlier → IsStep body j later → Contains (set_registers earlier) reg → Contains (set_registers later) reg → ⊥
+  pub set_once : (i j reg : ℕ) (earlier later : Step) → i < j → IsStep body i earlier → IsStep body j later
+      → Contains (set_registers earlier) reg → Contains (set_registers later) reg → ⊥
   -- each Store's register has an earlier Fresh
   pub fresh : (i reg : ℕ) (value : Value) → IsStep body i (Store reg value) → FreshBefore body i reg
   -- no two Stores have the same place
-  pub stored_once : (i j a b : ℕ) (v w : Value) → i < j → IsStep body i (Store a v) → IsStep body j (Store b w) → store_place body i a ≢ store_place body j b
+  pub stored_once : (i j a b : ℕ) (v w : Value) → i < j → IsStep body i (Store a v)
+      → IsStep body j (Store b w) → store_place body i a ≢ store_place body j b

@@ -35,7 +35,8 @@ fn fill_slot(steps: &[Step], n: usize, init: Init, trail: &Trail, memory: &mut M
     requires within { n ≤ length steps.now }
     requires logged { All (IsLogged (registers_before steps.now n) (length trail.now.words)) init.cells }
     requires cells { (cell : ℕ) → cell < 5 → cell_of memory.old.fixed_cells slot cell < length memory.old.cells }
-    requires room { (cell : ℕ) → cell < 5 → version_of (slice_index memory.old.cells (cell_of memory.old.fixed_cells slot cell)) + 1 < 2 ^ 32 }
+    requires room { (cell : ℕ) → cell < 5
+        → version_of (slice_index memory.old.cells (cell_of memory.old.fixed_cells slot cell)) + 1 < 2 ^ 32 }
     ensures { let values = map (λ value. source_value trail.now.words (source_of (registers_before steps.now n) value)) init.cells in memory.new ≡ record memory.old { cells = filled memory.old.fixed_cells slot values memory.old.cells 5 } }
 {
     for cell in 0..5 {
@@ -73,8 +74,14 @@ fn take_lock(
     requires within { place < length memory.now.cells }
     requires room { got ≡ true → version_of word + 1 < 2 ^ 32 }
     requires space { length trail.old.words + 2 ≤ 64 }
-    ensures taken { got ≡ true → (result ≡ None) × (trail.new ≡ record trail.old { words = (trail.old.words ++ word ∷ []) ++ held_word 0 word ∷ [] }) }
-    ensures refused { got ≡ false → let read = slice_index memory.now.cells place in (result ≡ Some (Busy place read)) × (trail.new ≡ record trail.old { words = trail.old.words ++ read ∷ [] }) }
+    ensures taken { got ≡ true
+        → (result ≡ None) × (trail.new ≡ record trail.old {
+          words = (trail.old.words ++ word ∷ [])
+              ++ held_word 0 word ∷ [];
+        }) }
+    ensures refused { got ≡ false
+        → let read = slice_index memory.now.cells place in
+        (result ≡ Some (Busy place read)) × (trail.new ≡ record trail.old { words = trail.old.words ++ read ∷ [] }) }
 {
     if got {
         trail.agree(word.bits());
@@ -95,7 +102,10 @@ fn make_node(steps: &[Step], n: usize, init: Init, memory: &mut Memory, trail: &
     requires logged { All (IsLogged (registers_before steps.now n) (length trail.old.words)) init.cells }
     requires space { length trail.old.words < 64 }
     ensures memory { let values = map (λ value. source_value trail.old.words (source_of (registers_before steps.now n) value)) init.cells in memory.new ≡ record memory.old { cells = filled memory.old.fixed_cells (slice_index memory.old.free 0) values memory.old.cells 5; free = drop 1 memory.old.free } }
-    ensures trail { trail.new ≡ record trail.old { words = trail.old.words ++ (slice_index memory.old.free 0 + 1) ∷ [] } }
+    ensures trail { trail.new ≡ record trail.old {
+      words = trail.old.words
+          ++ (slice_index memory.old.free 0 + 1) ∷ [];
+    } }
 {
     let slot = memory.give_slot();
     fill_slot(steps, n, init, trail, memory, slot);

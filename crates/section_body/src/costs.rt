@@ -44,8 +44,8 @@ fn take_count(steps: &[Step]) -> u64
     steps.iter().filter(|step| step.is_take()).count() as u64
 }
 
-/// The number of atomic steps of one run that leaves at no exit, with its opening and its end. That is the number of events of
-/// the run by its line, and no run that comes to any place of the line makes more.
+/// The number of atomic steps of one run that leaves at no exit, with its opening and its end. That is the
+/// number of events of the run by its line, and no run that comes to any place of the line makes more.
 pub fn cost(body: &Body) -> u64
     ensures exact { result ≡ cost_of body.now }
     ensures whole { (lock word : ℕ) → steps_to body.now (length (line body.now)) lock word ≡ result }

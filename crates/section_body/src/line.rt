@@ -47,8 +47,10 @@ fn log_words(step: &Step) -> u32
 
 /// A register after one more step, before which `count` words were committed.
 fn register_after(step: &Step, reg: u8, register: Register, count: u32) -> Register
-    ensures place { (g : Registers) → register.place ≡ g.place reg → result.place ≡ (registers_after g step.now).place reg }
-    ensures log { (g : Registers) → register.log ≡ g.log reg → count ≡ g.count → result.log ≡ (registers_after g step.now).log reg }
+    ensures place { (g : Registers) → register.place ≡ g.place reg
+        → result.place ≡ (registers_after g step.now).place reg }
+    ensures log { (g : Registers) → register.log ≡ g.log reg → count ≡ g.count
+        → result.log ≡ (registers_after g step.now).log reg }
 {
     match *step {
         Step::Load { place, into } if into == reg => Register { place, log: count },
@@ -121,7 +123,8 @@ fn make_micro(steps: &[Step], n: usize, init: Init, log: u32, part: u32) -> Micr
     requires few { length steps.now ≤ 40 }
     requires within { n ≤ length steps.now }
     requires part { part < 11 }
-    ensures { log ≡ (registers_before steps.now n).count → (into : ℕ) → result ≡ slice_index_or (micros (registers_before steps.now n) (Make init into)) part End }
+    ensures { log ≡ (registers_before steps.now n).count → (into : ℕ)
+        → result ≡ slice_index_or (micros (registers_before steps.now n) (Make init into)) part End }
 {
     let cell = part / 2;
     if cell == 5 {

@@ -64,7 +64,8 @@ impl Memory {
     pub(crate) fn fill(&mut self, slot: u32, cell: u32, value: u32)
         requires within { cell_of self.old.fixed_cells slot cell < length self.old.cells }
         requires room { version_of (slice_index self.old.cells (cell_of self.old.fixed_cells slot cell)) + 1 < 2 ^ 32 }
-        ensures { let place = cell_of self.old.fixed_cells slot cell in self.new ≡ record self.old { cells = slice_set self.old.cells place (next_word (slice_index self.old.cells place) value) } }
+        ensures { let place = cell_of self.old.fixed_cells slot cell in
+            self.new ≡ record self.old { cells = slice_set self.old.cells place (next_word (slice_index self.old.cells place) value) } }
     {
         let index = self.fixed_cells as usize + 5 * slot as usize + cell as usize;
         self.cells[index] = self.cells[index].next(value);
@@ -91,7 +92,8 @@ impl Memory {
     pub(crate) fn stamp(&mut self, request: u32)
         requires within { request < length self.old.stamps }
         requires early { self.old.clock < 2 ^ 62 }
-        ensures { let stamp = written_once (slice_index self.old.stamps request) (2 * (self.old.clock + 1)) in self.new ≡ record self.old { clock = max self.old.clock (stamp / 2); stamps = slice_set self.old.stamps request stamp } }
+        ensures { let stamp = written_once (slice_index self.old.stamps request) (2 * (self.old.clock + 1)) in
+            self.new ≡ record self.old { clock = max self.old.clock (stamp / 2); stamps = slice_set self.old.stamps request stamp } }
     {
         let index = request as usize;
         if self.stamps[index] == 0 {

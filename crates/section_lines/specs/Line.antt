@@ -63,14 +63,19 @@ module _ (code : ℕ → Micro) where
     pub hold_next : (i p w : ℕ) → code i ≡ NestedHold p w → (k : ℕ) × (code (suc i) ≡ OutcomeLoad p k)
     pub hold_before : (i p w : ℕ) → code i ≡ NestedHold p w → (j k : ℕ) × (i ≡ suc j) × (code j ≡ CheckFree p k w)
     pub outcome_next : (i p k : ℕ) → code i ≡ OutcomeLoad p k → code (suc i) ≡ OutcomeCommit p k
-    pub outcome_load_before : (i p k : ℕ) → code i ≡ OutcomeLoad p k → (j w : ℕ) × (i ≡ suc j) × (code j ≡ NestedHold p w)
+    pub outcome_load_before : (i p k : ℕ) → code i ≡ OutcomeLoad p k
+        → (j w : ℕ) × (i ≡ suc j) × (code j ≡ NestedHold p w)
     pub outcome_before : (i p k : ℕ) → code i ≡ OutcomeCommit p k → (j : ℕ) × (i ≡ suc j) × (code j ≡ OutcomeLoad p k)
-    pub held_before : (i p k w : ℕ) → code i ≡ CheckHeld p k w → (j : ℕ) × (i ≡ suc (suc (suc j))) × (code j ≡ NestedHold p w) × (code (suc (suc j)) ≡ OutcomeCommit p k)
+    pub held_before : (i p k w : ℕ) → code i ≡ CheckHeld p k w
+        → (j : ℕ) × (i ≡ suc (suc (suc j))) × (code j ≡ NestedHold p w) × (code (suc (suc j)) ≡ OutcomeCommit p k)
     -- a Make ends with a commit, right after a private store; a private store stands right after the load of its cell
-    pub make_before : (i k : ℕ) → code i ≡ MakeCommit k → (j : ℕ) × (v : Source) × (i ≡ suc j) × (code j ≡ PrivateStore 4 k v)
-    pub fill_before : (i c k : ℕ) (v : Source) → code i ≡ PrivateStore c k v → (j : ℕ) × (i ≡ suc j) × (code j ≡ PrivateLoad c k)
+    pub make_before : (i k : ℕ) → code i ≡ MakeCommit k
+        → (j : ℕ) × (v : Source) × (i ≡ suc j) × (code j ≡ PrivateStore 4 k v)
+    pub fill_before : (i c k : ℕ) (v : Source) → code i ≡ PrivateStore c k v
+        → (j : ℕ) × (i ≡ suc j) × (code j ≡ PrivateLoad c k)
     pub fill_next : (i c k : ℕ) → code i ≡ PrivateLoad c k → (v : Source) × (code (suc i) ≡ PrivateStore c k v)
-    pub refill_before : (i c k : ℕ) → code i ≡ PrivateLoad (suc c) k → (j : ℕ) × (v : Source) × (i ≡ suc j) × (code j ≡ PrivateStore c k v)
+    pub refill_before : (i c k : ℕ) → code i ≡ PrivateLoad (suc c) k
+        → (j : ℕ) × (v : Source) × (i ≡ suc j) × (code j ≡ PrivateStore c k v)
     -- the Stamp is a load of the clock, an exchange and a raise
     pub clock_next : (i m : ℕ) → code i ≡ ClockLoad → m ≡ suc i → code m ≡ StampExchange
     pub stamp_before : (i m : ℕ) → code m ≡ StampExchange → m ≡ suc i → code i ≡ ClockLoad
@@ -137,12 +142,15 @@ module _ (is_lock : ℕ → Bool) (version_max lock : ℕ) (code : ℕ → Micro
     -- no place is loaded twice, taken twice, or stored to twice
     pub load_once : (i j p k k' : ℕ) → code i ≡ LoadCell p k → code j ≡ LoadCell p k' → i ≡ j
     pub take_once : (i j p k k' : ℕ) → code i ≡ NestedLoad p k → code j ≡ NestedLoad p k' → i ≡ j
-    pub store_once : (i j p k k' : ℕ) (v v' : Source) → code i ≡ ExchangeCell p k v → code j ≡ ExchangeCell p k' v' → i ≡ j
+    pub store_once : (i j p k k' : ℕ) (v v' : Source) → code i ≡ ExchangeCell p k v
+        → code j ≡ ExchangeCell p k' v' → i ≡ j
 
--- the fixed numbers that a line stores have 32 bits, a Take's outcome is followed by its check, and it doesn't begin with a raise of the clock
+-- the fixed numbers that a line stores have 32 bits, a Take's outcome is followed by its check, and it
+-- doesn't begin with a raise of the clock
 pub record IsWholeLine (code : ℕ → Micro) : Type 0 where
   pub store_value : (i place log number : ℕ) → code i ≡ ExchangeCell place log (Fixed number) → number < 2 ^ 32
-  pub outcome_check : (i place word : ℕ) → code i ≡ NestedHold place word → (log : ℕ) × (code (suc (suc (suc i))) ≡ CheckHeld place log word)
+  pub outcome_check : (i place word : ℕ) → code i ≡ NestedHold place word
+      → (log : ℕ) × (code (suc (suc (suc i))) ≡ CheckHeld place log word)
   pub start_raise : is_clock_raise (code 0) ≡ false
 
 -- the line of a section whose thunk has the shape

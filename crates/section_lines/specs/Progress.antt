@@ -14,7 +14,8 @@ use Rattle.structure_laws.specs.Scene.{Readings, Section}
 -- how many steps of a body have all their atomic steps below this place of its line
 abbrev pub passed_steps : List Step → ℕ → ℕ
 passed_steps [] edge = 0
-passed_steps (step ∷ steps) edge = if nat_le (micro_count step) edge then suc (passed_steps steps (edge - micro_count step)) else 0
+passed_steps (step ∷ steps) edge =
+    if nat_le (micro_count step) edge then suc (passed_steps steps (edge - micro_count step)) else 0
 
 -- the registers' words after a step, before which so many words were committed
 abbrev pub words_after : (ℕ → ℕ) → ℕ → (ℕ → ℕ) → Step → ℕ → ℕ
@@ -31,7 +32,8 @@ words_after log count reg (Answer reply) = reg
 -- the registers' words after these steps
 abbrev pub words_through : (ℕ → ℕ) → ℕ → (ℕ → ℕ) → List Step → ℕ → ℕ
 words_through log count reg [] = reg
-words_through log count reg (step ∷ steps) = words_through log (count + log_words step) (words_after log count reg step) steps
+words_through log count reg (step ∷ steps) =
+    words_through log (count + log_words step) (words_after log count reg step) steps
 
 -- the registers' words after the first n steps of a body
 abbrev pub words_of : (ℕ → ℕ) → List Step → ℕ → ℕ → ℕ

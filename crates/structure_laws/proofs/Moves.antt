@@ -1,6 +1,7 @@
 -- The core's side of the laws: every move leads from a lawful scene to a lawful scene.
 use Rattle.std.proofs.Common.{◌≡◌, ◌≢◌, ℕ, suc, ◌+◌, ◌*◌, ◌<◌, ◌≤◌, Bool, true, false, cond, refl, sym, ap, ◌∙◌, subst, inl, inr, ⊎_elim, arith}
 use Rattle.std.specs.Prelude.{◌⊎◌, ◌^◌, Option, Some, None, [], ◌∷◌, ◌++◌, nat_lt}
+use Rattle.std.proofs.lemmas.Option.{none-some}
 use mathlib.Core.Logic.{dite}
 use native.Mathlib.Decide.{ℕ_discrete}
 use Rattle.map_history.specs.declared.op.Op.{Op}
@@ -285,10 +286,7 @@ module _ (m : Meaning) (laws : Laws m) (layout : Layout) (limits : IsWithinLimit
       some_inj e = cc
 
   pub leaves_lawful : (r : ℕ) → IsLawful m layout (with_reader s r None)
-  leaves_lawful r = reader_lawful r None (λ readings h. absurd (none_some readings h)) (λ sound'. over.keeps.leaves s r lawful.sound lawful.kept sound')
-    where
-      none_some : (x : Readings) → None ≡ Some x → ⊥
-      none_some x e = cc
+  leaves_lawful r = reader_lawful r None (λ readings h. absurd (none-some readings h)) (λ sound'. over.keeps.leaves s r lawful.sound lawful.kept sound')
 
   pub reads_lawful : (r p : ℕ) (readings : Readings) → s.reader r ≡ Some readings → IsLoadable m readings p → IsLawful m layout (with_reading s r readings p)
   reads_lawful r p readings reader loadable = reader_lawful r (Some (readings ++ (p, s.cells p) ∷ []))

@@ -1,6 +1,7 @@
 -- The test structure gives the core what it relies on.
-use Rattle.std.proofs.Common.{◌≡◌, ◌≢◌, ℕ, suc, ◌+◌, ◌*◌, ◌≤◌, Bool, true, false, cond, refl, sym, ap, ◌∙◌, subst, inl, ⊎_elim, arith}
+use Rattle.std.proofs.Common.{◌≡◌, ◌≢◌, ℕ, suc, ◌+◌, ◌*◌, ◌≤◌, Bool, true, cond, refl, sym, ap, ◌∙◌, subst, inl, ⊎_elim, arith}
 use Rattle.std.specs.Prelude.{◌==◌, ◌&&◌, ◌-◌, Some, [], ◌∷◌, slice_get}
+use Rattle.std.proofs.lemmas.Bool.{true≢false}
 use mathlib.Core.Logic.{dite}
 use native.Mathlib.Decide.{ℕ_discrete}
 use Rattle.section_body.specs.Word.{value_of}
@@ -51,14 +52,11 @@ unlink_live layout s sound kept d x here form low high = dite (ℕ_discrete x.at
     let some = unlink_value x.thunk form in
     kept.linked (value_of word - 1) (ap value_of (loaded ∙ wanted) ∙ omega arith))
 
-true_false : true ≡ false → ⊥
-true_false e = cc
-
 -- a section with nothing to leave at has passed its Want
 settled_passed : (x : Section) → form_of x.thunk ≡ Unlink → Settled tray x → 2 ≤ x.at
 settled_passed x form settled =
     let word = operand_of x.thunk in
-    let passed : x.at ≤ 1 → ⊥ = λ low. true_false (settled 1 (Want 0 word) low (step_at x Unlink 1 form)) in
+    let passed : x.at ≤ 1 → ⊥ = λ low. true≢false (settled 1 (Want 0 word) low (step_at x Unlink 1 form)) in
     omega arith
 
 -- what the readings reach, they reach by a word of place 2
@@ -100,5 +98,5 @@ tray_gives layout s sound kept = record {
   store_used = λ d i j p r x v here settled le store load.
       let step = load_step (form_of x.thunk) (operand_of x.thunk) j p r load in
       inl (⊎_elim (λ one. let e = one.1 in omega arith) (⊎_elim (λ two. let e = two.1 in omega arith) (λ two. let e = two.1 in omega arith)) step.2);
-  one_key = λ map. absurd (true_false (sym map));
+  one_key = λ map. absurd (true≢false (sym map));
 }

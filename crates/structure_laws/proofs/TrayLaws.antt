@@ -1,6 +1,7 @@
 -- The test structure meets the laws.
 use Rattle.std.proofs.Common.{◌≡◌, ◌≢◌, ℕ, suc, ◌+◌, ◌*◌, ◌<◌, ◌≤◌, true, false, refl, sym, ap, ◌∙◌, subst, inl, inr, ⊎_elim, arith}
-use Rattle.std.specs.Prelude.{◌==◌, ◌^◌, ◌⊎◌, Some, None, slice_get, length}
+use Rattle.std.specs.Prelude.{◌==◌, ◌^◌, ◌⊎◌, Some, slice_get, length}
+use Rattle.std.proofs.lemmas.Option.{none-some}
 use Rattle.map_history.specs.Replay.{Pairs}
 use Rattle.section_body.specs.Word.{value_of}
 use Rattle.section_body.specs.declared.value.Value.{Value}
@@ -119,9 +120,6 @@ tray_in_turn layout limits = record {
       let same = ap value_of (upd_other s.cells (3 + 5 * t + i) 2 w (λ e. omega arith)) in let stands = before.stands in omega arith;
 }
 
-none_some : {A : Type 0} (x : A) → None ≡ Some x → ⊥
-none_some x h = cc
-
 first_empty : (s : Scene) → IsFirst tray s → value_of (s.cells 2) ≡ 0
 first_empty s first = ap value_of (first.cells 2) ∙ refl
 
@@ -132,8 +130,8 @@ tray_laws = record {
   over = λ layout limits. record {
     begins = λ s first. record {
       linked = λ t h. absurd (let none = first_empty s first in omega arith);
-      made = λ d x here. absurd (none_some x (sym (first.section d) ∙ here));
-      unlinked = λ d x here. absurd (none_some x (sym (first.section d) ∙ here));
+      made = λ d x here. absurd (none-some x (sym (first.section d) ∙ here));
+      unlinked = λ d x here. absurd (none-some x (sym (first.section d) ∙ here));
     };
     empty = λ s first. let none = first_empty s first in omega arith;
     shape = tray_shape layout;

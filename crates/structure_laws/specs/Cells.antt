@@ -12,14 +12,15 @@ use Rattle.structure_laws.specs.Sections.{Here}
 abbrev pub IsSeen : ℕ → ℕ → Type 0
 IsSeen word cell = (version_of word < version_of cell) ⊎ (word ≡ cell)
 
--- the slot is live, or was retired in this epoch or the one before: it is safe for a runner that was entered when it was
--- retired and hasn't left
+-- the slot is live, or was retired in this epoch or the one before: it is safe for a runner that was
+-- entered when it was retired and hasn't left
 abbrev pub IsSafe : Scene → ℕ → Type 0
 IsSafe s t = (s.status t ≡ Live) ⊎ ((y : ℕ) × (s.status t ≡ Retired y) × (s.epoch ≤ y + 1))
 
 -- these are the readings of an entered runner, or those of an open section
 abbrev pub IsReader : Scene → Readings → Type 0
-IsReader s readings = ((r : ℕ) × (s.reader r ≡ Some readings)) ⊎ ((d : ℕ) × (x : Section) × Here s d x × (readings ≡ x.readings))
+IsReader s readings =
+    ((r : ℕ) × (s.reader r ≡ Some readings)) ⊎ ((d : ℕ) × (x : Section) × Here s d x × (readings ≡ x.readings))
 
 module _ (m : Meaning) where
   -- the place of a node slot's cell
@@ -52,7 +53,8 @@ module _ (m : Meaning) where
 
   -- the readings give this place: a fixed cell, or a cell of a fixed slot or of a slot that they reach
   abbrev pub IsKnown : Readings → ℕ → Type 0
-  IsKnown readings p = (p < m.fixed_cells) ⊎ ((t : ℕ) × IsCellOf t p × ((t < m.fixed_slots) ⊎ (m.reaches readings t ≡ true)))
+  IsKnown readings p =
+      (p < m.fixed_cells) ⊎ ((t : ℕ) × IsCellOf t p × ((t < m.fixed_slots) ⊎ (m.reaches readings t ≡ true)))
 
   -- a runner with these readings may load this place outside a run
   abbrev pub IsLoadable : Readings → ℕ → Type 0

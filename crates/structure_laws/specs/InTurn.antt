@@ -28,16 +28,21 @@ module _ (m : Meaning) where
 
   -- the cells after all the section's Stores
   pub record AfterStores (x : Section) (before after : Cells) : Type 0 where
-    pub changed : (i j p r : ℕ) (v : Value) → IsStep m x i (Store r v) → IsStep m x j (Load p r) → after p ≡ next_word (x.reg r) (value_in x.reg v)
-    pub same : (p : ℕ) → ((i j r : ℕ) (v : Value) → IsStep m x i (Store r v) → IsStep m x j (Load p r) → ⊥) → after p ≡ before p
+    pub changed : (i j p r : ℕ) (v : Value) → IsStep m x i (Store r v) → IsStep m x j (Load p r)
+        → after p ≡ next_word (x.reg r) (value_in x.reg v)
+    pub same : (p : ℕ) → ((i j r : ℕ) (v : Value) → IsStep m x i (Store r v) → IsStep m x j (Load p r) → ⊥)
+        → after p ≡ before p
 
   pub record InTurn (layout : Layout) : Type 0 where
     -- its Answer is the map's reply
-    pub answers : (s : Scene) (pairs : Pairs) (d : ℕ) (x : Section) → StandsFor layout s pairs → AtStamp s d x → m.is_map ≡ true
+    pub answers : (s : Scene) (pairs : Pairs) (d : ℕ) (x : Section) → StandsFor layout s pairs
+        → AtStamp s d x → m.is_map ≡ true
         → (j n : ℕ) → IsStep m x j (Answer n) → n ≡ word_of (reply_of pairs x.op)
     -- its Stores lead to a memory that stands for the map after its operation
     pub stores : (s : Scene) (pairs : Pairs) (d : ℕ) (x : Section) → StandsFor layout s pairs → AtStamp s d x
         → (after : Cells) → AfterStores x s.cells after → m.stands layout after (map_after pairs x.op)
     -- a change of a lock, or in a slot of a hand, leaves what the memory stands for
-    pub lock : (s : Scene) (pairs : Pairs) (p w : ℕ) → StandsFor layout s pairs → m.is_lock p ≡ true → m.stands layout (upd s.cells p w) pairs
-    pub hand : (s : Scene) (pairs : Pairs) (t i w : ℕ) → StandsFor layout s pairs → s.status t ≡ Free → i < 5 → m.stands layout (upd s.cells (cell_of m t i) w) pairs
+    pub lock : (s : Scene) (pairs : Pairs) (p w : ℕ) → StandsFor layout s pairs → m.is_lock p ≡ true
+        → m.stands layout (upd s.cells p w) pairs
+    pub hand : (s : Scene) (pairs : Pairs) (t i w : ℕ) → StandsFor layout s pairs → s.status t ≡ Free
+        → i < 5 → m.stands layout (upd s.cells (cell_of m t i) w) pairs

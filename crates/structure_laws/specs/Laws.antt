@@ -27,7 +27,8 @@ module _ (m : Meaning) where
     pub small : (p : ℕ) → IsFixed m p → m.first_value p < 2 ^ 32
     pub locks_free : (p : ℕ) → IsFixed m p → m.is_lock p ≡ true → m.first_value p ≡ 0
     -- fixed cells and fixed slots link fixed slots alone
-    pub links : (p t : ℕ) → IsFixed m p → m.is_link (first_word m) p ≡ true → m.first_value p ≡ suc t → t < m.fixed_slots
+    pub links : (p t : ℕ) → IsFixed m p → m.is_link (first_word m) p ≡ true → m.first_value p ≡ suc t
+        → t < m.fixed_slots
 
   -- the laws over scenes of one layout
   pub record LawsOver (layout : Layout) : Type 0 where

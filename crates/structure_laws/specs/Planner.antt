@@ -1,5 +1,5 @@
--- What a structure gives to those who plan sections on it, besides the laws: what its thunks expect was read, what its Makes are
--- for, and how many slots stay in use.
+-- What a structure gives to those who plan sections on it, besides the laws: what its thunks expect was
+-- read, what its Makes are for, and how many slots stay in use.
 use Rattle.std.specs.Prelude.{ℕ, ◌*◌, ◌≤◌, ◌≡◌, true, List, None, Some, slice_get, length}
 use Rattle.std.specs.FinMap.{len}
 use Rattle.map_history.specs.declared.op.Op.{Op}
@@ -38,13 +38,16 @@ module _ (m : Meaning) where
   -- the laws over one layout; each pair of the map keeps so many slots in use, at most
   pub record PlannerLawsOver (layout : Layout) (per_pair : ℕ) : Type 0 where
     -- a word that a fitting thunk wants in a cell was read there
-    pub want_read : (readings : Readings) (op : Op) (thunk : Thunk) → IsAllowed op → m.fits layout op readings thunk ≡ true → (i j p r w : ℕ)
+    pub want_read : (readings : Readings) (op : Op) (thunk : Thunk) → IsAllowed op
+        → m.fits layout op readings thunk ≡ true → (i j p r w : ℕ)
         → HasStep m thunk i (Load p r) → HasStep m thunk j (Want r w) → (k : ℕ) × (slice_get readings k ≡ Some (p, w))
     -- a fitting thunk whose body makes a node is for an operation that adds a pair, and answers so
-    pub make_adds : (readings : Readings) (op : Op) (thunk : Thunk) → IsAllowed op → m.fits layout op readings thunk ≡ true → (i j r reply : ℕ) (init : Init)
+    pub make_adds : (readings : Readings) (op : Op) (thunk : Thunk) → IsAllowed op
+        → m.fits layout op readings thunk ≡ true → (i j r reply : ℕ) (init : Init)
         → HasStep m thunk i (Make init r) → HasStep m thunk j (Answer reply) → Adds op reply
     -- where nothing is open, the slots in use are few
-    pub sized : (s : Scene) (pairs : Pairs) (slots : List ℕ) → StandsFor m layout s pairs → IsQuiet s → AreInUse s slots → length slots ≤ per_pair * len pairs
+    pub sized : (s : Scene) (pairs : Pairs) (slots : List ℕ) → StandsFor m layout s pairs → IsQuiet s
+        → AreInUse s slots → length slots ≤ per_pair * len pairs
 
   pub record PlannerLaws (per_pair : ℕ) : Type 0 where
     -- it serves the map

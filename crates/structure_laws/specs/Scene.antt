@@ -1,4 +1,5 @@
--- What the laws speak of: the words of the cells, the open sections, what the runners have read, and where each node slot is.
+-- What the laws speak of: the words of the cells, the open sections, what the runners have read, and where
+-- each node slot is.
 use Rattle.std.specs.Prelude.{ℕ, suc, List, [], ◌∷◌, ◌++◌, Option, Some}
 use Rattle.map_history.specs.declared.op.Op.{Op}
 use Rattle.section_body.specs.declared.thunk.Thunk.{Thunk}
@@ -27,7 +28,8 @@ pub data Status : Type 0 where
   Live : Status
   Retired : (epoch : ℕ) → Status
 
--- a scene: the cells, the epoch, each node slot's status, each entered runner's readings, and each descriptor's open section
+-- a scene: the cells, the epoch, each node slot's status, each entered runner's readings, and each
+-- descriptor's open section
 pub record Scene : Type 0 where
   pub cells : Cells
   pub epoch : ℕ

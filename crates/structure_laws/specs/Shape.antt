@@ -45,13 +45,17 @@ module _ (m : Meaning) where
     pub store_small : (j r : ℕ) (v : Value) → HasStep thunk j (Store r v) → IsSmall v
     -- a Make gives five such values, and 0 to each lock of its slot
     pub make_whole : (j r : ℕ) (init : Init) → HasStep thunk j (Make init r) → length init.cells ≡ 5
-    pub make_small : (j r i : ℕ) (init : Init) (v : Value) → HasStep thunk j (Make init r) → slice_get init.cells i ≡ Some v → IsSmall v
-    pub make_unlocked : (j r i t : ℕ) (init : Init) (v : Value) → HasStep thunk j (Make init r) → slice_get init.cells i ≡ Some v
+    pub make_small : (j r i : ℕ) (init : Init) (v : Value) → HasStep thunk j (Make init r)
+        → slice_get init.cells i ≡ Some v → IsSmall v
+    pub make_unlocked : (j r i t : ℕ) (init : Init) (v : Value) → HasStep thunk j (Make init r)
+        → slice_get init.cells i ≡ Some v
         → m.is_lock (cell_of m t i) ≡ true → v ≡ Const 0
     -- the reply word isn't 0
     pub answers : (j n : ℕ) → HasStep thunk j (Answer n) → 0 < n
 
   -- a thunk that fits the readings of an entered runner, for an operation within the limits, has such a body
   abbrev pub ShapeLaw : Layout → Type 0
-  ShapeLaw layout = (s : Scene) → Sound m layout s → m.kept layout s → (r : ℕ) (readings : Readings) (op : Op) (thunk : Thunk)
-      → s.reader r ≡ Some readings → IsAllowed op → m.fits layout op readings thunk ≡ true → Shaped layout readings thunk
+  ShapeLaw layout = (s : Scene) → Sound m layout s → m.kept layout s
+      → (r : ℕ) (readings : Readings) (op : Op) (thunk : Thunk)
+      → s.reader r ≡ Some readings → IsAllowed op → m.fits layout op readings thunk ≡ true
+      → Shaped layout readings thunk

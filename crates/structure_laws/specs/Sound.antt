@@ -15,11 +15,13 @@ module _ (m : Meaning) where
     -- what was read stands there still, or a later version does
     pub seen : (i p w : ℕ) → slice_get readings i ≡ Some (p, w) → IsSeen w (s.cells p)
     -- later readings of one place have later versions, or the same word
-    pub rising : (i j p v w : ℕ) → i ≤ j → slice_get readings i ≡ Some (p, v) → slice_get readings j ≡ Some (p, w) → IsSeen v w
+    pub rising : (i j p v w : ℕ) → i ≤ j → slice_get readings i ≡ Some (p, v)
+        → slice_get readings j ≡ Some (p, w) → IsSeen v w
     -- no place that was read is a cell of a slot in a hand or in a free list, unless it is a lock
     pub outside : (i p w : ℕ) → slice_get readings i ≡ Some (p, w) → IsOutside m s p
     -- each link that was read leads to a slot that is live or was retired a short while ago
-    pub safe : (i p w t : ℕ) → slice_get readings i ≡ Some (p, w) → m.is_link s.cells p ≡ true → value_of w ≡ suc t → IsSafe s t
+    pub safe : (i p w t : ℕ) → slice_get readings i ≡ Some (p, w) → m.is_link s.cells p ≡ true
+        → value_of w ≡ suc t → IsSafe s t
 
   pub record Sound (layout : Layout) (s : Scene) : Type 0 where
     -- fixed slots are live

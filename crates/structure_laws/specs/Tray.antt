@@ -11,7 +11,8 @@ use Rattle.table_words.specs.Places.{slot_count}
 use Rattle.structure_laws.specs.Scene.{Readings, Section, Live, Scene}
 use Rattle.structure_laws.specs.Meaning.{Meaning}
 
--- what a thunk's section does: it stores a number, makes a node behind the empty link, takes the linked node out, or nothing
+-- what a thunk's section does: it stores a number, makes a node behind the empty link, takes the linked
+-- node out, or nothing
 pub data Form : Type 0 where
   Number : Form
   Link : Form
@@ -23,7 +24,9 @@ abbrev pub operand_of : Thunk → ℕ
 operand_of thunk = slice_index thunk.operands 0
 
 abbrev pub form_of_lock : ℕ → ℕ → Form
-form_of_lock number value = cond (number == 101) Number (cond (number == 102 && (value == 0)) Link (cond (number == 103 && not (value == 0)) Unlink Other))
+form_of_lock number value =
+    cond (number == 101) Number (cond (number == 102
+    && (value == 0)) Link (cond (number == 103 && not (value == 0)) Unlink Other))
 
 -- the forms 101, 102 with a word of value 0, and 103 with a link, behind the lock at place 0
 abbrev pub form_of : Thunk → Form
@@ -37,7 +40,8 @@ zeros = record { cells = Const 0 ∷ Const 0 ∷ Const 0 ∷ Const 0 ∷ Const 0
 abbrev pub body_of : Form → ℕ → List Step
 body_of Number word = Load 1 0 ∷ Fresh 0 ∷ Stamp ∷ Store 0 (Const (value_of word)) ∷ Answer 4294967296 ∷ []
 body_of Link word = Load 2 0 ∷ Want 0 word ∷ Fresh 0 ∷ Make zeros 1 ∷ Stamp ∷ Store 0 (Made 1) ∷ Answer 4294967296 ∷ []
-body_of Unlink word = Load 2 0 ∷ Want 0 word ∷ Fresh 0 ∷ Stamp ∷ Store 0 (Const 0) ∷ Retire (value_of word - 1) ∷ Answer 17179869184 ∷ []
+body_of Unlink word =
+    Load 2 0 ∷ Want 0 word ∷ Fresh 0 ∷ Stamp ∷ Store 0 (Const 0) ∷ Retire (value_of word - 1) ∷ Answer 17179869184 ∷ []
 body_of Other word = Stamp ∷ Answer 4294967296 ∷ []
 
 abbrev pub tray_body : Thunk → List Step
@@ -51,7 +55,8 @@ tray_reaches readings slot = list_any (λ reading. reading.0 == 2 && (value_of r
 -- unlinked is live, and nothing is linked, until it is retired
 pub record TrayKept (s : Scene) : Type 0 where
   pub linked : (t : ℕ) → value_of (s.cells 2) ≡ suc t → s.status t ≡ Live
-  pub made : (d : ℕ) (x : Section) → s.section d ≡ Some x → form_of x.thunk ≡ Link → 4 ≤ x.at → x.at ≤ 5 → (t : ℕ) × (x.reg 1 ≡ suc t) × (s.status t ≡ Live)
+  pub made : (d : ℕ) (x : Section) → s.section d ≡ Some x → form_of x.thunk ≡ Link → 4 ≤ x.at → x.at ≤ 5
+      → (t : ℕ) × (x.reg 1 ≡ suc t) × (s.status t ≡ Live)
   pub unlinked : (d : ℕ) (x : Section) → s.section d ≡ Some x → form_of x.thunk ≡ Unlink → x.at ≡ 5
       → (s.status (value_of (operand_of x.thunk) - 1) ≡ Live) × (value_of (s.cells 2) ≡ 0)
 

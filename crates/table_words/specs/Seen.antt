@@ -42,7 +42,8 @@ put f (Reply q) v (Reply q') = cond (q' == q) v (f (Reply q'))
 put f (Reply q) v b = f b
 put f (Cell p) v (Cell p') = cond (p' == p) v (f (Cell p'))
 put f (Cell p) v b = f b
-put f (ThunkWord d j) v (ThunkWord d' j') = cond (d' == d) (cond (j' == j) v (f (ThunkWord d' j'))) (f (ThunkWord d' j'))
+put f (ThunkWord d j) v (ThunkWord d' j') =
+    cond (d' == d) (cond (j' == j) v (f (ThunkWord d' j'))) (f (ThunkWord d' j'))
 put f (ThunkWord d j) v b = f b
 put f (DoneWord d) v (DoneWord d') = cond (d' == d) v (f (DoneWord d'))
 put f (DoneWord d) v b = f b

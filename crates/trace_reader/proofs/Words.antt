@@ -5,7 +5,7 @@ use Rattle.std.specs.List.{list_all, position_or_len, slice_split, onto_first}
 use Rattle.std.proofs.lemmas.List.{take_all, drop_all, get_or-take, get_or-drop}
 use Rattle.std.proofs.lemmas.List.Splits.{slice_split-cons_yes, slice_split-cons_no}
 use Rattle.std.proofs.Math.Numerals.{one-add}
-use Rattle.std.proofs.lemmas.Bool.{le-ltb, ltb-true, ltb-false, lt-ltb}
+use Rattle.std.proofs.lemmas.Bool.{le-ltb, ltb-true, ltb-false, lt-ltb, and_parts}
 use Rattle.trace_reader.specs.Fields.{is_blank, is_comment, fields_in}
 
 abbrev is_word : List ℕ → Bool
@@ -142,15 +142,11 @@ first_field bytes start end found ends =
     }
 
 -- blanks that were tested before a word is looked for
-both : (a b : Bool) → (a && b) ≡ true → (a ≡ true) × (b ≡ true)
-both true b e = (refl, e)
-both false b e = cc
-
 blanks_past : (bytes : List ℕ) (n : ℕ) → n ≤ length bytes → list_all is_blank (take n bytes) ≡ true → blanks_in bytes ≡ n + blanks_in (drop n bytes)
 blanks_past bytes zero within all = omega arith
 blanks_past [] (suc n) within all = absurd (omega arith)
 blanks_past (byte ∷ bytes) (suc n) within all =
-    let parts = both (is_blank byte) (list_all is_blank (take n bytes)) all in
+    let parts = and_parts (is_blank byte) (list_all is_blank (take n bytes)) all in
     let again = blanks_past bytes n (omega arith) parts.1 in
     omega (arith, again, blanks_in-blank byte bytes parts.0)
 
@@ -181,7 +177,7 @@ run_more [] (suc n) run all more = ap (list_all is_blank) (take-nil (suc n + run
     take-nil zero = refl
     take-nil (suc n) = refl
 run_more (byte ∷ bytes) (suc n) run all more =
-    let parts = both (is_blank byte) (list_all is_blank (take n bytes)) all in
+    let parts = and_parts (is_blank byte) (list_all is_blank (take n bytes)) all in
     let next : suc n + run ≡ suc (n + run) = omega arith in
     ap (λ k. list_all is_blank (take k (byte ∷ bytes))) next ∙ ap (λ b. b && list_all is_blank (take (n + run) bytes)) parts.0 ∙ run_more bytes n run parts.1 more
 

@@ -4,7 +4,7 @@ use Rattle.std.specs.Prelude.{◌==◌, ◌&&◌, ◌||◌, All, filter, nat_le,
 use Rattle.std.specs.Char.{is_ascii, is_ascii_digit}
 use Rattle.std.specs.List.{list_all, IsSplitAt}
 use Rattle.std.specs.Str.{bytes_eq}
-use Rattle.std.proofs.lemmas.Bool.{le-leb, le-ltb, leb-true, lt-ltb, ltb-true, ne_eqb}
+use Rattle.std.proofs.lemmas.Bool.{le-leb, le-ltb, leb-true, lt-ltb, ltb-true, ne_eqb, and_parts}
 use Rattle.std.proofs.lemmas.List.{take-append-drop}
 use Rattle.std.proofs.lemmas.List.Folds.{list_all-append}
 use Rattle.std.proofs.lemmas.List.Splits.{slice_split_at, slice_split_none}
@@ -28,17 +28,13 @@ use Rattle.trace_reader.proofs.Digits.{are_number, digit_bounds}
 abbrev is_printed : ℕ → Bool
 is_printed byte = nat_le 32 byte && nat_le byte 126
 
-both : (a b : Bool) → (a && b) ≡ true → (a ≡ true) × (b ≡ true)
-both true b e = (refl, e)
-both false b e = cc
-
 printed_bounds : (byte : ℕ) → is_printed byte ≡ true → (32 ≤ byte) × (byte ≤ 126)
-printed_bounds byte is = let parts = both (nat_le 32 byte) (nat_le byte 126) is in (leb-true 32 byte parts.0, leb-true byte 126 parts.1)
+printed_bounds byte is = let parts = and_parts (nat_le 32 byte) (nat_le byte 126) is in (leb-true 32 byte parts.0, leb-true byte 126 parts.1)
 
 imply : (p q : ℕ → Bool) → ((byte : ℕ) → p byte ≡ true → q byte ≡ true) → (bytes : List ℕ) → list_all p bytes ≡ true → list_all q bytes ≡ true
 imply p q f [] e = refl
 imply p q f (byte ∷ bytes) e =
-    let parts = both (p byte) (list_all p bytes) e in
+    let parts = and_parts (p byte) (list_all p bytes) e in
     ap (λ b. b && list_all q bytes) (f byte parts.0) ∙ imply p q f bytes parts.1
 
 printed_ascii : (bytes : List ℕ) → list_all is_printed bytes ≡ true → list_all is_ascii bytes ≡ true

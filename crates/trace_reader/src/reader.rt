@@ -1,5 +1,6 @@
 // A text from its bytes: those of the line that has begun, and what the lines before it say.
-ghost use Rattle.std.specs.Prelude.{◌≡◌, ◌||◌, ℕ, List, [], ◌∷◌, ◌++◌, ◌+◌, ◌<◌, ◌≤◌, true, OnOk, OnSome, IfOk, IfErr, IfNone, IfSome, IsTrue, length, nat_lt, position, vec_len, ◌==◌};
+ghost use Rattle.std.specs.Prelude.{◌≡◌, ◌||◌, ℕ, List, [], ◌∷◌, ◌++◌, ◌+◌, ◌<◌, ◌≤◌, ◌==◌, length, vec_len};
+ghost use Rattle.std.specs.Prelude.{true, OnOk, OnSome, IfOk, IfErr, IfNone, IfSome, IsTrue, nat_lt, position};
 
 use crate::limits::MAX_BYTES;
 use crate::line::{Line, read_line};
@@ -47,7 +48,8 @@ impl Reader {
     ghost use Rattle.trace_reader.specs.Answer.{Answers, IsAnswered};
     ghost use Rattle.trace_reader.specs.Lines.{IsOneLine};
     ghost use Rattle.trace_reader.specs.Plain.{IsRequestAt};
-    ghost use Rattle.trace_reader.specs.Reader.{HasTakenLine, MayAsk, StandsAt, StandsAtEnd, StandsBehind, IsRefusedFor, Refuses, TracesAfter, ExcessOf};
+    ghost use Rattle.trace_reader.specs.Reader.{HasTakenLine, MayAsk, StandsAt, StandsAtEnd, StandsBehind};
+    ghost use Rattle.trace_reader.specs.Reader.{IsRefusedFor, Refuses, TracesAfter, ExcessOf};
     ghost use Rattle.trace_reader.specs.Said.{Says, is_counted, IsPlaced};
     ghost use Rattle.trace_reader.specs.Text.{refusal_of};
 
@@ -66,7 +68,8 @@ impl Reader {
     // Takes the next piece of the text.
     pub fn feed(&mut self, piece: &[u8]) -> Result<(), TraceError>
         ensures ok { OnOk result ((text : List ℕ) → StandsAt self.old text → StandsAt self.new (text ++ piece.now)) }
-        ensures err { IfErr result (λ e. (text rest : List ℕ) → StandsAt self.old text → Refuses e (text ++ piece.now ++ rest)) }
+        ensures err { IfErr result (λ e. (text rest : List ℕ) → StandsAt self.old text
+            → Refuses e (text ++ piece.now ++ rest)) }
         ensures nearer { OnOk result (self.new.bytes ≡ self.old.bytes + length piece.now) }
     {
         let mut rest = piece;
@@ -76,11 +79,13 @@ impl Reader {
         self.keep(rest)
     }
 
-    // Takes the line that ends first in these bytes, with its line feed, and says where that stands. None where none ends there.
+    // Takes the line that ends first in these bytes, with its line feed, and says where that stands.
+    // None where none ends there.
     fn take_line(&mut self, bytes: &[u8]) -> Result<Option<usize>, TraceError>
         ensures taken { IfOk result (λ found. IfSome found (HasTakenLine self.old self.new bytes.now)) }
         ensures none { IfOk result (λ found. IfNone found ((self.new ≡ self.old) × IsOneLine bytes.now)) }
-        ensures err { IfErr result (λ e. (text rest : List ℕ) → StandsAt self.old text → Refuses e (text ++ bytes.now ++ rest)) }
+        ensures err { IfErr result (λ e. (text rest : List ℕ) → StandsAt self.old text
+            → Refuses e (text ++ bytes.now ++ rest)) }
     {
         if let Some(request) = self.next_request(bytes) {
             self.take_request(request.op, &bytes[..request.end])?;
@@ -94,7 +99,8 @@ impl Reader {
         Ok(Some(end))
     }
 
-    // The request with which these bytes begin, where it is written plainly, may stand here, and is within the limit of bytes.
+    // The request with which these bytes begin, where it is written plainly, may stand here, and is
+    // within the limit of bytes.
     fn next_request(&self, bytes: &[u8]) -> Option<PlainRequest>
         ensures request { IfSome result (λ found. IsRequestAt bytes.now found.op found.end) }
         ensures placed { OnSome result (MayAsk self.now) }
@@ -124,8 +130,10 @@ impl Reader {
         requires one { IsOneLine line.now }
         requires says { Says (Line.Ask op) true true line.now }
         requires room { self.old.bytes + length line.now < 4194304 }
-        ensures ok { OnOk result ((text : List ℕ) → StandsAt self.old text → StandsAt self.new (text ++ line.now ++ 10 ∷ [])) }
-        ensures err { IfErr result (λ e. (text rest : List ℕ) → StandsAt self.old text → Refuses e (text ++ line.now ++ 10 ∷ rest)) }
+        ensures ok { OnOk result ((text : List ℕ) → StandsAt self.old text
+            → StandsAt self.new (text ++ line.now ++ 10 ∷ [])) }
+        ensures err { IfErr result (λ e. (text rest : List ℕ) → StandsAt self.old text
+            → Refuses e (text ++ line.now ++ 10 ∷ rest)) }
         ensures nearer { OnOk result (self.new.bytes ≡ self.old.bytes + length line.now + 1) }
     {
         self.traces.ask(op)?;
@@ -138,7 +146,8 @@ impl Reader {
     fn keep(&mut self, bytes: &[u8]) -> Result<(), TraceError>
         requires { IsOneLine bytes.now }
         ensures ok { OnOk result ((text : List ℕ) → StandsAt self.old text → StandsAt self.new (text ++ bytes.now)) }
-        ensures err { IfErr result (λ e. (text rest : List ℕ) → StandsAt self.old text → Refuses e (text ++ bytes.now ++ rest)) }
+        ensures err { IfErr result (λ e. (text rest : List ℕ) → StandsAt self.old text
+            → Refuses e (text ++ bytes.now ++ rest)) }
         ensures nearer { OnOk result (self.new.bytes ≡ self.old.bytes + length bytes.now) }
     {
         let room = (MAX_BYTES - self.bytes) as usize;
@@ -165,7 +174,8 @@ impl Reader {
     // Takes a line feed.
     fn take_feed(&mut self) -> Result<(), TraceError>
         ensures ok { OnOk result ((text : List ℕ) → StandsAt self.old text → StandsAt self.new (text ++ 10 ∷ [])) }
-        ensures err { IfErr result (λ e. (text rest : List ℕ) → StandsAt self.old text → Refuses e (text ++ 10 ∷ rest)) }
+        ensures err { IfErr result (λ e. (text rest : List ℕ) → StandsAt self.old text
+            → Refuses e (text ++ 10 ∷ rest)) }
         ensures nearer { OnOk result (self.new.bytes ≡ self.old.bytes + 1) }
     {
         if self.bytes == MAX_BYTES {
@@ -178,10 +188,12 @@ impl Reader {
     // The line that has begun is whole.
     fn end_line(&mut self) -> Result<(), TraceError>
         requires { self.old.lines < self.old.bytes }
-        ensures ok { OnOk result ((lines : List (List ℕ)) → StandsBehind self.old lines → StandsBehind self.new (lines ++ self.old.line.items ∷ [])) }
+        ensures ok { OnOk result ((lines : List (List ℕ)) → StandsBehind self.old lines
+            → StandsBehind self.new (lines ++ self.old.line.items ∷ [])) }
         ensures cleared { OnOk result (self.new.line.items ≡ []) }
         ensures bytes { OnOk result (self.new.bytes ≡ self.old.bytes) }
-        ensures err { IfErr result (λ e. (lines : List (List ℕ)) → StandsBehind self.old lines → IsRefusedFor e (refusal_of lines self.old.line.items)) }
+        ensures err { IfErr result (λ e. (lines : List (List ℕ)) → StandsBehind self.old lines
+            → IsRefusedFor e (refusal_of lines self.old.line.items)) }
     {
         let said = self.read_line()?;
         self.accept(said)?;
@@ -193,8 +205,10 @@ impl Reader {
     // What that line says.
     fn read_line(&self) -> Result<Line, TraceError>
         requires { self.now.lines < self.now.bytes }
-        ensures said { IfOk result (λ said. Says said self.now.has_header (nat_lt 0 self.now.traces.count) self.now.line.items) }
-        ensures err { IfErr result (λ e. (lines : List (List ℕ)) → StandsBehind self.now lines → IsRefusedFor e (refusal_of lines self.now.line.items)) }
+        ensures said { IfOk result (λ said.
+            Says said self.now.has_header (nat_lt 0 self.now.traces.count) self.now.line.items) }
+        ensures err { IfErr result (λ e. (lines : List (List ℕ)) → StandsBehind self.now lines
+            → IsRefusedFor e (refusal_of lines self.now.line.items)) }
     {
         match read_line(&self.line, self.has_header, self.traces.count > 0) {
             Ok(said) => Ok(said),
@@ -207,7 +221,8 @@ impl Reader {
         requires { IsPlaced said self.old.has_header (nat_lt 0 self.old.traces.count) }
         ensures header { OnOk result (self.new.has_header ≡ (self.old.has_header || is_counted said)) }
         ensures traces { OnOk result (TracesAfter said self.old.traces self.new.traces) }
-        ensures same { (self.new.line.items ≡ self.old.line.items) × (self.new.bytes ≡ self.old.bytes) × (self.new.lines ≡ self.old.lines) }
+        ensures same { (self.new.line.items ≡ self.old.line.items) × (self.new.bytes ≡ self.old.bytes)
+            × (self.new.lines ≡ self.old.lines) }
         ensures err { IfErr result (λ e. ExcessOf said self.old.traces e) }
     {
         match said {
@@ -222,7 +237,8 @@ impl Reader {
     // The text ends here.
     pub fn finish(mut self) -> Result<Traces, TraceError>
         ensures answer { (text : List ℕ) → StandsAt self text → IsAnswered result text }
-        ensures ordered { (text : List ℕ) → StandsAt self text → IfOk result (λ traces. AreInOrder traces.requests traces.count) }
+        ensures ordered { (text : List ℕ) → StandsAt self text
+            → IfOk result (λ traces. AreInOrder traces.requests traces.count) }
     {
         self.end_last_line()?;
         if !self.has_header {

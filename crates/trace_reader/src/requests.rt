@@ -30,13 +30,6 @@ impl Requests {
         }
     }
 
-    /// The requests of a `Vec`, in its order.
-    pub fn from_vec(items: Vec<Request>) -> Self
-        ensures { result ≡ items.items }
-    {
-        Self { items }
-    }
-
     /// The same requests as a `Vec`.
     pub fn into_vec(self) -> Vec<Request>
         ensures { result.items ≡ self }

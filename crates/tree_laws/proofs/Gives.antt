@@ -1,7 +1,7 @@
 -- A kept scene of the tree gives the core what it relies on.
 use Rattle.std.specs.Prelude.{◌==◌, ◌&&◌, ◌||◌, not, ◌⊎◌, ◌-◌, ◌%◌, ◌^◌, nat_lt, cond, Bool, true, false, Some, List, [], slice_get}
 use Rattle.std.proofs.Common.{◌≡◌, ◌≢◌, ℕ, suc, ◌+◌, ◌*◌, ◌<◌, ◌≤◌, refl, sym, ap, ◌∙◌, subst, inl, inr, ⊎_elim, arith}
-use Rattle.std.proofs.lemmas.Bool.{cases_eq}
+use Rattle.std.proofs.lemmas.Bool.{cases_eq, both_ways}
 use Rattle.map_history.specs.declared.op.Op.{Op}
 use Rattle.map_history.specs.Keys.{key_of, DependsOn, HaveNoCommonKey}
 use Rattle.section_body.specs.Word.{value_of, next_word}
@@ -32,9 +32,6 @@ use Rattle.tree_laws.proofs.Shown.{some_of, below_of, shown_now}
 use Rattle.tree_laws.proofs.WalkReads.{is_late}
 use Rattle.tree_laws.proofs.Open as open_section
 use Rattle.tree_laws.proofs.Open.{side_cell, child_cell, side_low, side_high}
-
-true_false : {b : Bool} → b ≡ true → b ≡ false → ⊥
-true_false e e' = cc
 
 some_eq : (a b : Section) → Some a ≡ Some b → a ≡ b
 some_eq a b e = cc
@@ -256,7 +253,7 @@ module _ (layout : Layout) (limits : IsWithinLimits layout) (s : Scene) (sound :
 
     -- a section that can't leave any more has passed its exits
     past_exit : (f : Form) → form_of x.thunk ≡ f → (j : ℕ) (step : Step) → slice_get (body_of f x.thunk) j ≡ Some step → is_exit step ≡ true → Settled tree x → j < x.at
-    past_exit f form j step at exit settled = above j x.at (λ low. true_false exit (settled j step low (open_section.step_is layout s sound kept d x here f form j step at)))
+    past_exit f form j step at exit settled = above j x.at (λ low. both_ways _ (settled j step low (open_section.step_is layout s sound kept d x here f form j step at)) exit)
       where
         above : (j n : ℕ) → (n ≤ j → ⊥) → j < n
         above j n none = search arith
@@ -606,10 +603,10 @@ module _ (layout : Layout) (limits : IsWithinLimits layout) (s : Scene) (sound :
       gone low few = out d x here is.form low few
 
       no_link : (k : ℕ) → kept.covers.linked k ≡ false → t ≡ k → kept.covers.linked t ≡ true → ⊥
-      no_link k none same linked = true_false linked (ap kept.covers.linked same ∙ none)
+      no_link k none same linked = both_ways _ (ap kept.covers.linked same ∙ none) linked
 
       no_new : (k : ℕ) → kept.once k ≡ true → t ≡ k → kept.once t ≡ false → ⊥
-      no_new k once same none = true_false (ap kept.once same ∙ once) none
+      no_new k once same none = both_ways _ none (ap kept.once same ∙ once)
 
       by : ((x.at ≡ 15) × (t ≡ (w x).last.from)) ⊎ ((x.at ≡ 16) × (t ≡ node_of (w x))) → Leads t → ⊥
       by (inl a) (Linked linked) = let at = a.0 in no_link (parent_in x.thunk) (gone (omega (arith, at)) (omega (arith, at))).parent_out (a.1 ∙ sym (removing d x here is.form).parent) linked

@@ -1,7 +1,7 @@
 -- An insertion's Store, the link to its new inner node, keeps what the tree keeps.
 use Rattle.std.specs.Prelude.{◌⊎◌, not, nat_lt, Bool, true, false, Some}
 use Rattle.std.proofs.Common.{◌≡◌, ◌≢◌, ℕ, suc, ◌<◌, ◌≤◌, refl, sym, ap, ◌∙◌, subst, inl, inr, ⊎_elim, arith}
-use Rattle.std.proofs.lemmas.Bool.{cases_eq}
+use Rattle.std.proofs.lemmas.Bool.{cases_eq, both_ways}
 use Rattle.map_history.specs.Keys.{key_of}
 use Rattle.section_body.specs.Update.{upd}
 use Rattle.section_body.specs.Word.{value_of}
@@ -28,9 +28,6 @@ use Rattle.tree_laws.proofs.StoreChange.{marked_elsewhere, leaf_out, inner_out, 
 
 suc_eq : (a b : ℕ) → suc a ≡ suc b → a ≡ b
 suc_eq a b e = omega (arith, e)
-
-true_false : {b : Bool} → b ≡ true → b ≡ false → ⊥
-true_false e e' = cc
 
 no_delete : (f : Form) → f ≡ Insert → f ≡ Delete → ⊥
 no_delete f e e' = cc
@@ -154,7 +151,7 @@ module _ (layout : Layout) (s : Scene) (sound : Sound tree layout s) (kept : Tre
 
   -- a node that was linked once is none of the new ones
   old_new : (u : ℕ) → kept.once u ≡ true → (u ≢ f) × (u ≢ t)
-  old_new u was = (λ e. true_false was (ap kept.once e ∙ leaf.new), λ e. true_false was (ap kept.once e ∙ inner.new))
+  old_new u was = (λ e. both_ways _ (ap kept.once e ∙ leaf.new) was, λ e. both_ways _ (ap kept.once e ∙ inner.new) was)
 
   -- and if it wasn't linked either, not the old leaf
   out_new : (u : ℕ) → kept.once u ≡ true → (kept.covers.linked u ≡ false) ⊎ (c.linked u ≡ false)
@@ -162,8 +159,8 @@ module _ (layout : Layout) (s : Scene) (sound : Sound tree layout s) (kept : Tre
   out_new u was off = let new = old_new u was in (
     new.0,
     (λ e. ⊎_elim
-        (λ out. true_false l_linked (ap kept.covers.linked (sym e) ∙ out))
-        (λ out. true_false (is_linked l (inr (inr l_linked))) (ap c.linked (sym e) ∙ out)) off),
+        (λ out. both_ways _ (ap kept.covers.linked (sym e) ∙ out) l_linked)
+        (λ out. both_ways _ (ap c.linked (sym e) ∙ out) (is_linked l (inr (inr l_linked)))) off),
     new.1,
   )
 
@@ -174,7 +171,7 @@ module _ (layout : Layout) (s : Scene) (sound : Sound tree layout s) (kept : Tre
       new = out_new u was (inl off)
 
       by : (b : Bool) → c.linked u ≡ b → c.linked u ≡ false
-      by true on = absurd (⊎_elim new.2 (⊎_elim new.0 (⊎_elim new.1 (λ old. true_false old.0 off))) (which_is u on))
+      by true on = absurd (⊎_elim new.2 (⊎_elim new.0 (⊎_elim new.1 (λ old. both_ways _ off old.0))) (which_is u on))
       by false off' = off'
 
   once_new : (u : ℕ) → kept.once u ≡ false → u ≢ f → u ≢ t → once u ≡ false
@@ -202,11 +199,11 @@ module _ (layout : Layout) (s : Scene) (sound : Sound tree layout s) (kept : Tre
       (λ sides. leaves_apart layout s sound kept e d z x there here ne has_leaf (form, omega (arith, at), few)
       (sym was.new_side ∙ (ap (λ b. (nodes s.cells).child b was.slot) sides
       ∙ (ap ((nodes s.cells).child h) (sym same ∙ is) ∙ inner.new_side))))
-      (λ sides. true_false (kept.linked_once l l_linked) (ap kept.once (suc_eq l its_leaf.slot
+      (λ sides. both_ways _ (ap kept.once (suc_eq l its_leaf.slot
       (sym (inserting.old_side layout s sound kept d x here form past few)
       ∙ (ap ((nodes s.cells).child (not h)) (sym is ∙ same)
       ∙ (ap (λ b. (nodes s.cells).child b was.slot) (sym sides) ∙ (was.new_side ∙ its_leaf.link)))))
-      ∙ its_leaf.new))
+      ∙ its_leaf.new) (kept.linked_once l l_linked))
       (other_side (its_side) h))
     where
       has_leaf : HasLeaf z
@@ -305,7 +302,7 @@ module _ (layout : Layout) (s : Scene) (sound : Sound tree layout s) (kept : Tre
           (λ nf. inl (sym (upd_other (upd kept.once f true) t u true nt ∙ upd_other kept.once f u true nf) ∙ was))
           (cases_eq u f)) (cases_eq u t);
       link = λ b u off. other_child s.cells cells side a (suc t) keys others stored b u
-          (λ e is. true_false a_linked (ap c.linked (sym is) ∙ off));
+          (λ e is. both_ways _ (ap c.linked (sym is) ∙ off) a_linked);
       frozen = λ u was inner_u off. let new = out_new u was (inr off) in
           (lo_same u new.0 new.1 new.2, hi_same u new.0 new.1 new.2);
       out = still_off;

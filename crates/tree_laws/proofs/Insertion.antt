@@ -1,6 +1,7 @@
 -- An insertion keeps the search tree, on either side of both nodes.
 use Rattle.std.proofs.Common.{◌≡◌, ◌≢◌, ℕ, suc, ◌<◌, ◌≤◌, Bool, true, false, cond, refl, sym, ap, ◌∙◌, subst, inl, inr, ⊎_elim, arith}
 use Rattle.std.specs.Prelude.{◌⊎◌, not, Option, Some}
+use Rattle.std.proofs.lemmas.Bool.{both_ways}
 use mathlib.Core.Logic.{dite}
 use native.Mathlib.Decide.{ℕ_discrete}
 use Rattle.section_body.specs.Update.{upd}
@@ -19,9 +20,6 @@ thrice_first g f l t s x y z e nl nt = grind arith
 
 thrice_other : {A : Type 0} (g : ℕ → A) (f l t s : ℕ) (x y z : A) → s ≢ f → s ≢ l → s ≢ t → thrice g f x l y t z s ≡ g s
 thrice_other g f l t s x y z nf nl nt = grind arith
-
-true_false : {b : Bool} → b ≡ true → b ≡ false → ⊥
-true_false x y = cc
 
 -- what lies inside the place of l is apart from what l is apart from
 inside_apart : (lol hil lo hi lox hix : ℕ) → lol ≤ lo → hi ≤ hil → (hil ≤ lox) ⊎ (hix ≤ lol) → (hi ≤ lox) ⊎ (hix ≤ lo)
@@ -47,7 +45,7 @@ module _ (n : Nodes) (g : Covers) (d h : Bool) (a l t f : ℕ) (sh : SearchTree 
   l_key = sh.leaf_key l l_linked is.old_leaf
 
   not_new : (s : ℕ) → g.linked s ≡ true → (s ≢ f) × (s ≢ t)
-  not_new s i = (λ e. true_false (ap g.linked (sym e) ∙ i) is.leaf_out, λ e. true_false (ap g.linked (sym e) ∙ i) is.inner_out)
+  not_new s i = (λ e. both_ways _ is.leaf_out (ap g.linked (sym e) ∙ i), λ e. both_ways _ is.inner_out (ap g.linked (sym e) ∙ i))
 
   l_not_t : l ≢ t
   l_not_t = (not_new l l_linked).1

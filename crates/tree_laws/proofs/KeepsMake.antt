@@ -1,6 +1,7 @@
 -- The tree keeps what it keeps where a section makes its new leaf, or its new inner node.
 use Rattle.std.specs.Prelude.{◌⊎◌, ◌+◌, ◌*◌, nat_lt, cond, not, Bool, true, false, Some, slice_get}
 use Rattle.std.proofs.Common.{◌≡◌, ◌≢◌, ℕ, suc, ◌<◌, ◌≤◌, refl, sym, ap, ◌∙◌, subst, inl, inr, ⊎_elim, arith}
+use Rattle.std.proofs.lemmas.Bool.{both_ways}
 use mathlib.Core.Logic.{dite}
 use native.Mathlib.Decide.{ℕ_discrete}
 use Rattle.section_body.specs.Bucket.{operand}
@@ -31,9 +32,6 @@ suc_eq a b e = omega (arith, e)
 
 some_eq : (a b : Section) → Some a ≡ Some b → a ≡ b
 some_eq a b e = cc
-
-true_false : {b : Bool} → b ≡ true → b ≡ false → ⊥
-true_false e e' = cc
 
 -- the values of a new inner node, by the side of the new leaf
 inner_by : (h : Bool) (a b : ℕ) (new old : Value) → cond h (inner_with b new old) (inner_with a old new) ≡ inner_with
@@ -138,7 +136,7 @@ module _ (layout : Layout) (limits : IsWithinLimits layout) (s : Scene) (sound :
     fresh = λ u some. dite (ℕ_discrete u t)
         (λ e. inr (subst (λ k. IsInner now k → (0 < now.child false k) × (now.mark k ≤ 1)) (sym e) made.fresh))
         (λ ne. inl (λ free. some (other u ne ∙ free)));
-    safe = λ u once safe. let back = sym (other u (λ e. true_false once (ap kept.once e ∙ never))) in
+    safe = λ u once safe. let back = sym (other u (λ e. both_ways _ (ap kept.once e ∙ never) once)) in
         ⊎_elim (λ live. inl (back ∙ live)) (λ retired. inr (retired.0, back ∙ retired.1, retired.2)) safe;
     marks_none = λ form at. insert_delete making.0 form;
     live = λ u live. dite (ℕ_discrete u t) (λ e. inr (inr (made.own u e)))

@@ -2,6 +2,7 @@
 use Rattle.std.specs.Prelude.{◌⊎◌, ◌%◌, Bool, true, false, Option, Some, None, [], slice_get}
 use Rattle.std.proofs.Common.{◌≡◌, ◌≢◌, ℕ, suc, ◌+◌, ◌*◌, ◌<◌, ◌≤◌, refl, sym, ap, ◌∙◌, subst, inl, inr, ⊎_elim, arith}
 use Rattle.std.proofs.lemmas.Bool.{cases_eq}
+use Rattle.std.proofs.lemmas.Option.{none-some}
 use Rattle.map_history.specs.declared.op.Op.{Op}
 use Rattle.map_history.specs.Keys.{key_of}
 use Rattle.section_body.specs.Update.{upd}
@@ -227,12 +228,9 @@ keeps_holds layout s r d readings op thunk reader publishes none sound kept soun
       reader = λ q others h. inl h;
     })
   where
-    none_some : (y : Section) → None ≡ Some y → ⊥
-    none_some y e = cc
-
     stays : (e : ℕ) (y : Section) → s.section e ≡ Some y → upd s.section d (Some (opened op thunk readings)) e ≡ Some y
     stays e y there = upd_other s.section d e (Some (opened op thunk readings))
-        (λ same. none_some y (sym none ∙ (ap s.section (sym same) ∙ there))) ∙ there
+        (λ same. none-some y (sym none ∙ (ap s.section (sym same) ∙ there))) ∙ there
 
     low : key_of op < 4294967294
     low = let key = publishes.allowed.keys (key_of op) (inl refl) in omega (arith, key)

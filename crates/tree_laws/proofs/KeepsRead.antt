@@ -1,7 +1,8 @@
 -- The tree keeps what it keeps, by one more reading of an entered runner.
-use Rattle.std.specs.Prelude.{◌⊎◌, ◌==◌, ◌-◌, nat_lt, nat_le, cond, Bool, true, false, List, Some, None, [], ◌∷◌, ◌++◌, length, slice_get}
+use Rattle.std.specs.Prelude.{◌⊎◌, ◌==◌, ◌-◌, nat_lt, nat_le, cond, Bool, true, false, List, Some, [], ◌∷◌, ◌++◌, length, slice_get}
 use Rattle.std.proofs.Common.{◌≡◌, ◌≢◌, ℕ, zero, suc, ◌+◌, ◌*◌, ◌<◌, ◌≤◌, refl, sym, ap, ◌∙◌, subst, inl, inr, ⊎_elim, arith}
 use Rattle.std.proofs.lemmas.Bool.{cases_eq}
+use Rattle.std.proofs.lemmas.Option.{none-some}
 use Rattle.map_history.specs.declared.op.Op.{Op}
 use Rattle.map_history.specs.Keys.{key_of}
 use Rattle.section_body.specs.Word.{value_of}
@@ -25,9 +26,6 @@ use Rattle.tree_laws.proofs.WalkReads.{IsGiven, Reads, is_past, walk_reads}
 
 some_eq : (a b : ℕ) → Some a ≡ Some b → a ≡ b
 some_eq a b e = cc
-
-none_some : (a : ℕ) → None ≡ Some a → ⊥
-none_some a e = cc
 
 before : (v : ℕ) → 0 < v → v ≡ suc (v - 1)
 before v some = omega (arith, some)
@@ -383,8 +381,8 @@ module _ (layout : Layout) (s : Scene) (kept : TreeKept layout s) where
     fed_good w AtMark p is reads at want outside = tested_good w is reads (ap is_past at)
         (value_of (s.cells p) == 0) AtEnd (fed (bounds layout) op w AtMark (s.cells p)) refl
         (record { deep = refl; grand = refl; last = refl }) (subst (Knows now kept.covers kept.once key w) at is.knows)
-    fed_good w AtEnd p is reads at want outside = absurd (none_some p want)
-    fed_good w Refused p is reads at want outside = absurd (none_some p want)
+    fed_good w AtEnd p is reads at want outside = absurd (none-some p want)
+    fed_good w Refused p is reads at want outside = absurd (none-some p want)
 
     -- the walk in one more reading
     more_good : (p : ℕ) → IsOutside tree s p → IsGood (walk_of layout op readings) → IsGood

@@ -1,7 +1,7 @@
 -- A removal's Store of the link, which takes out the parent and its leaf, keeps what the tree keeps.
 use Rattle.std.specs.Prelude.{not, Bool, true, false, Some}
 use Rattle.std.proofs.Common.{◌≡◌, ◌≢◌, ℕ, suc, ◌<◌, ◌≤◌, refl, sym, ap, ◌∙◌, subst, inl, inr, ⊎_elim, arith}
-use Rattle.std.proofs.lemmas.Bool.{cases_eq}
+use Rattle.std.proofs.lemmas.Bool.{cases_eq, both_ways}
 use Rattle.section_body.specs.Update.{upd}
 use Rattle.section_body.specs.Word.{value_of}
 use Rattle.section_body.specs.declared.value.Value.TheVariants.{Const}
@@ -28,9 +28,6 @@ use Rattle.tree_laws.proofs.StoreChange.{marked_elsewhere, leaf_out, inner_out, 
 
 suc_eq : (a b : ℕ) → suc a ≡ suc b → a ≡ b
 suc_eq a b e = omega (arith, e)
-
-true_false : {b : Bool} → b ≡ true → b ≡ false → ⊥
-true_false e e' = cc
 
 -- what wasn't linked keeps its bounds, and so does the parent
 grown_off : (f : ℕ → Bool) (bound : ℕ → ℕ) (m own p x : ℕ) → f x ≡ false → x ≢ p → grown f bound m own p x ≡ bound x
@@ -103,7 +100,7 @@ module _ (layout : Layout) (limits : IsWithinLimits layout) (s : Scene) (sound :
   still_off u off = by (c.linked u) refl
     where
       by : (on : Bool) → c.linked u ≡ on → c.linked u ≡ false
-      by true on = absurd (true_false (was_on u on).0 off)
+      by true on = absurd (both_ways _ off (was_on u on).0)
       by false off' = off'
 
   a_on : c.linked a ≡ true
@@ -128,7 +125,7 @@ module _ (layout : Layout) (limits : IsWithinLimits layout) (s : Scene) (sound :
 
       by : u ≢ p → (on : Bool) → kept.covers.linked u ≡ on
           → grown kept.covers.linked bound (now.key p) (bound p) p u ≡ bound u
-      by np true on = absurd (true_false (stays_on u on np no_l) off)
+      by np true on = absurd (both_ways _ off (stays_on u on np no_l))
       by np false off' = grown_off kept.covers.linked bound (now.key p) (bound p) p u off' np
 
   -- the parent is marked
@@ -175,7 +172,7 @@ module _ (layout : Layout) (limits : IsWithinLimits layout) (s : Scene) (sound :
 
     link_stays : (k : Bool) (u : ℕ) → c.linked u ≡ false → (nodes cells).child k u ≡ now.child k u
     link_stays k u off = other_child s.cells cells side a (suc b) keys others stored k u
-        (λ e same. true_false a_on (ap c.linked (sym same) ∙ off))
+        (λ e same. both_ways _ (ap c.linked (sym same) ∙ off) a_on)
 
     some_stays : (k : Bool) (u : ℕ) → 0 < now.child k u → 0 < (nodes cells).child k u
     some_stays = changed_some s.cells cells side a (suc b) keys others stored found.grand_inner some
@@ -226,7 +223,7 @@ module _ (layout : Layout) (limits : IsWithinLimits layout) (s : Scene) (sound :
       frozen = λ u was inner off. (frozen kept.covers.lo u inner off, frozen kept.covers.hi u inner off);
       out = λ u was off. still_off u off;
       up = λ u was off. upd_other kept.covers.up b u a
-          (λ same. true_false b_was (ap kept.covers.linked (sym same) ∙ off));
+          (λ same. both_ways _ (ap kept.covers.linked (sym same) ∙ off) b_was);
       right_some = λ u used inner. some_stays false u (kept.right_some u used inner);
       mark_small = λ u used inner. subst (λ k. k ≤ 1) (sym (mark_same u)) (kept.mark_small u used inner);
       mark_new = λ u none. mark_same u;

@@ -1,7 +1,7 @@
 -- A removal's Store of its parent's mark keeps what the tree keeps.
 use Rattle.std.specs.Prelude.{Bool, true, false}
 use Rattle.std.proofs.Common.{◌≡◌, ◌≢◌, ℕ, suc, ◌<◌, ◌≤◌, refl, sym, ap, ◌∙◌, subst, inl, inr, ⊎_elim, arith}
-use Rattle.std.proofs.lemmas.Bool.{cases_eq}
+use Rattle.std.proofs.lemmas.Bool.{cases_eq, both_ways}
 use Rattle.section_body.specs.Update.{upd}
 use Rattle.section_body.specs.Word.{value_of}
 use Rattle.table_words.specs.declared.layout.Layout.{Layout}
@@ -18,9 +18,6 @@ use Rattle.tree_laws.proofs.Apart.{key_no_mark, child_no_mark, mark_other}
 use Rattle.tree_laws.proofs.KeepsFrame.{StaysNode}
 use Rattle.tree_laws.proofs.StoreChange.{marked_elsewhere, leaf_out, inner_out, after_scene, IsChange, store_kept}
 use Rattle.tree_laws.proofs.Open as open_section
-
-true_false : {b : Bool} → b ≡ true → b ≡ false → ⊥
-true_false e e' = cc
 
 pub no_insert : (f : Form) → f ≡ Delete → f ≡ Insert → ⊥
 no_insert f e e' = cc
@@ -95,7 +92,7 @@ module _ (layout : Layout) (s : Scene) (sound : Sound tree layout s) (kept : Tre
     right_some = λ t used inner. subst (λ k. 0 < k) (sym (child_same false t)) (kept.right_some t used inner);
     mark_small = λ t used inner. ⊎_elim (λ same. subst (λ k. k ≤ 1) (sym (mark_there t same)) (omega arith))
         (λ ne. subst (λ k. k ≤ 1) (sym (mark_same t ne)) (kept.mark_small t used inner)) (cases_eq t p);
-    mark_new = λ t none. mark_same t (λ same. true_false p_once (ap kept.once (sym same) ∙ none));
+    mark_new = λ t none. mark_same t (λ same. both_ways _ (ap kept.once (sym same) ∙ none) p_once);
     unmarked = λ t was safe inner mark. ⊎_elim
         (λ same. let one = mark_there t same in absurd (omega (arith, mark, one)))
         (λ ne. kept.unmarked t was safe inner (sym (mark_same t ne) ∙ mark)) (cases_eq t p);

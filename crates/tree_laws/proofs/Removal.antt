@@ -1,6 +1,7 @@
 -- A removal keeps the search tree, on either side of both nodes.
 use Rattle.std.proofs.Common.{◌≡◌, ◌≢◌, ℕ, suc, ◌<◌, ◌≤◌, Bool, true, false, cond, refl, sym, ap, ◌∙◌, subst, inl, inr, ⊎_elim, arith}
 use Rattle.std.specs.Prelude.{◌==◌, ◌&&◌, ◌⊎◌, not, Option, Some, None}
+use Rattle.std.proofs.lemmas.Option.{none-some}
 use mathlib.Core.Logic.{dite}
 use native.Mathlib.Decide.{ℕ_discrete}
 use Rattle.section_body.specs.Update.{upd}
@@ -293,15 +294,12 @@ module _ (n : Nodes) (g : Covers) (d e : Bool) (a p b l : ℕ) (sh : SearchTree 
         let ne : n.key x ≢ n.key l = λ q. ⊎_elim (λ h. absurd (omega arith)) (λ h. absurd (omega arith)) (sh.leaves l x l_linked st.0 is.leaf fx (λ q. st.2 (sym q))) in
         upd_other lookup (n.key l) (n.key x) None ne ∙ contents.pair x st.0 fx big ∙ ap Some (sym (leaf_value x fx));
     leaf = λ key value h.
-        let other : key ≢ n.key l = λ q. none_some value (sym (upd_same lookup (n.key l) key None q) ∙ h) in
+        let other : key ≢ n.key l = λ q. none-some value (sym (upd_same lookup (n.key l) key None q) ∙ h) in
         let old = contents.leaf key value (sym (upd_other lookup (n.key l) key None other) ∙ h) in
         let nl : old.0 ≢ l = λ q. other (sym old.4 ∙ ap n.key q) in
         let np : old.0 ≢ p = λ q. (let h = ap (n.child true) q in let leaf = old.2 in let inner = is.parent_inner in omega arith) in
         (old.0, remains g.linked p l old.0 old.1 np nl, leaf_new old.0 old.2, old.3, old.4);
   }
-    where
-      none_some : (v : ℕ) → None ≡ Some v → ⊥
-      none_some v e = cc
 
   pub removal_keeps : RemovalKeeps n g d a p b l
   removal_keeps = record { tree = removal_tree; contents = removal_contents; lo = lo_falls; hi = hi_rises }

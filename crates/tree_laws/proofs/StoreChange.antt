@@ -1,7 +1,7 @@
 -- A Store of a section of the tree keeps what the tree keeps, where the changed nodes have what this needs.
 use Rattle.std.specs.Prelude.{◌⊎◌, Bool, true, false, cond, Some}
 use Rattle.std.proofs.Common.{◌≡◌, ◌≢◌, ℕ, suc, ◌<◌, ◌≤◌, refl, sym, ap, ◌∙◌, subst, inl, inr, ⊎_elim, arith}
-use Rattle.std.proofs.lemmas.Bool.{cases_eq}
+use Rattle.std.proofs.lemmas.Bool.{cases_eq, both_ways}
 use Rattle.map_history.specs.Keys.{key_of}
 use Rattle.section_body.specs.Update.{upd}
 use Rattle.section_body.specs.Word.{value_of}
@@ -24,9 +24,6 @@ some_eq a b e = cc
 
 suc_eq : (a b : ℕ) → suc a ≡ suc b → a ≡ b
 suc_eq a b e = omega (arith, e)
-
-true_false : {b : Bool} → b ≡ true → b ≡ false → ⊥
-true_false e e' = cc
 
 live_free : (x : Status) → x ≡ Live → x ≡ Free → ⊥
 live_free x live free = cc
@@ -124,7 +121,7 @@ module _ (layout : Layout) (s : Scene) (sound : Sound tree layout s) (kept : Tre
     no_once t none = by (c.linked t) refl
       where
         by : (b : Bool) → c.linked t ≡ b → c.linked t ≡ false
-        by true on = absurd (true_false (change.linked_once t on) none)
+        by true on = absurd (both_ways _ none (change.linked_once t on))
         by false off = off
 
     safe_used : (t : ℕ) → IsSafe s t → s.status t ≢ Free
@@ -235,7 +232,7 @@ module _ (layout : Layout) (s : Scene) (sound : Sound tree layout s) (kept : Tre
         (λ off. ⊎_elim
         (λ before. let stays = change.frozen t before (was_inner t inner) off in
         (stays.0, stays.1, kept.trail t u b before safe (was_inner t inner) (sym (change.link b t off) ∙ leads)))
-        (λ on. absurd (true_false on off))
+        (λ on. absurd (both_ways _ off on))
         (change.once_or t was))
         inner leads
 

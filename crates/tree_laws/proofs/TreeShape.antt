@@ -1,6 +1,7 @@
 -- A thunk that fits an entered runner's readings has a body of the shape of a body, whose places the readings give.
 use Rattle.std.proofs.Common.{◌≡◌, ◌≢◌, ℕ, zero, suc, ◌+◌, ◌*◌, ◌<◌, ◌≤◌, Bool, true, false, cond, refl, sym, ap, ◌∙◌, subst, inl, inr, ⊎_elim, arith}
 use Rattle.std.specs.Prelude.{◌==◌, ◌&&◌, ◌||◌, not, ◌-◌, ◌%◌, ◌^◌, ◌⊎◌, nat_lt, Some, List, [], ◌∷◌, slice_get, slice_index, length}
+use Rattle.std.proofs.lemmas.Bool.{both_ways}
 use Rattle.map_history.specs.declared.op.Op.{Op}
 use Rattle.map_history.specs.declared.op.Op.TheVariants.{Ins, Del}
 use Rattle.map_history.specs.Keys.{key_of, value_given}
@@ -309,11 +310,8 @@ module _ (layout : Layout) (limits : IsWithinLimits layout) (s : Scene) (sound :
       where
         same : {x y : Value} → Some x ≡ Some y → x ≡ y
         same e = cc
-    five_unlocked a b c (suc i) t v h lock = absurd (true_false lock (cell_unlocked t (suc i) (omega arith) (short i h)))
+    five_unlocked a b c (suc i) t v h lock = absurd (both_ways _ (cell_unlocked t (suc i) (omega arith) (short i h)) lock)
       where
-        true_false : {b : Bool} → b ≡ true → b ≡ false → ⊥
-        true_false e e' = cc
-
         short : (i : ℕ) → slice_get (a ∷ b ∷ c ∷ Const 0 ∷ []) i ≡ Some v → suc i < 5
         short zero h = omega arith
         short (suc zero) h = omega arith

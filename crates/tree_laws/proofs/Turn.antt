@@ -1,7 +1,7 @@
 -- A section of the tree at its stamp, with nothing pending, does what the map does.
 use Rattle.std.specs.Prelude.{◌==◌, ◌^◌, is_some, Bool, true, false, Option, Some, None, if◌then◌else◌, slice_get}
 use Rattle.std.proofs.Common.{◌≡◌, ℕ, ◌*◌, ◌<◌, ◌≤◌, refl, sym, ap, ◌∙◌, subst, inl, ⊎_elim, arith}
-use Rattle.std.proofs.lemmas.Bool.{cases_eq}
+use Rattle.std.proofs.lemmas.Bool.{cases_eq, both_ways}
 use Rattle.std.specs.FinMap.{get, contains_key}
 use Rattle.map_history.specs.declared.op.Op.{Op}
 use Rattle.map_history.specs.declared.op.Op.TheVariants.{Get, Ins, Del}
@@ -44,9 +44,6 @@ none_is (Some v) f = absurd (f v refl)
 
 eq_true : (a b : ℕ) → a ≡ b → (a == b) ≡ true
 eq_true a b e = grind arith
-
-true_false : {b : Bool} → b ≡ true → b ≡ false → ⊥
-true_false e e' = cc
 
 unfixed : (n : ℕ) → (n ≡ 0 → ⊥) → (n ≡ 1 → ⊥) → (n ≡ 2 → ⊥) → 3 ≤ n
 unfixed n zero one two = search arith
@@ -117,7 +114,7 @@ module _ (layout : Layout) (limits : IsWithinLimits layout) (s : Scene) (pairs :
       let l = contents.leaf (key_of x.op) v h in
       let inside = kept.tree.leaf_key l.0 l.1 l.2 in
       ⊎_elim
-      (λ same. true_false (eq_true w.key (key_of x.op) (sym (open_section.leaf_key_is layout s before.sound kept d x stamp.here) ∙ (ap now.key (sym same) ∙ l.4))) (sym keyed ∙ missed))
+      (λ same. both_ways _ (sym keyed ∙ missed) (eq_true w.key (key_of x.op) (sym (open_section.leaf_key_is layout s before.sound kept d x stamp.here) ∙ (ap now.key (sym same) ∙ l.4))))
       (λ ne. let at = l.4 in let from = inside.0 in let to = inside.1 in ⊎_elim
       (λ below. omega (arith, below, at, from, to, lo, hi))
       (λ below. omega (arith, below, at, from, to, lo, hi))

@@ -2,7 +2,7 @@
 use Rattle.std.specs.Prelude.{◌⊎◌, ◌%◌, ◌^◌, Bool, true, false, Some, None, if◌then◌else◌, slice_get}
 use Rattle.std.proofs.Common.{◌≡◌, ◌≢◌, ℕ, suc, ◌+◌, ◌*◌, ◌<◌, ◌≤◌, refl, sym, ap, ◌∙◌, subst, inl, inr, ⊎_elim, arith}
 use Rattle.std.proofs.Math.Path.{fun_ext}
-use Rattle.std.proofs.lemmas.Bool.{cases_eq}
+use Rattle.std.proofs.lemmas.Bool.{cases_eq, both_ways}
 use Rattle.std.specs.FinMap.{get, insert}
 use Rattle.map_history.specs.declared.op.Op.{Op}
 use Rattle.map_history.specs.declared.op.Op.TheVariants.{Get, Ins, Del}
@@ -39,9 +39,6 @@ use Rattle.tree_laws.proofs.Alike.{AreAlike, tree_alike, sentinels_alike, conten
 use Rattle.tree_laws.proofs.Turn.{look_stamp, insert_stamp, delete_stamp, contents, key_there, leaf_unfixed, there, found_is, missing_is, turn_answers}
 use Rattle.tree_laws.proofs.Gives.{first_load, fourth_load}
 use Rattle.tree_laws.proofs.Open as open_section
-
-true_false : {b : Bool} → b ≡ true → b ≡ false → ⊥
-true_false e e' = cc
 
 unfixed : (n : ℕ) → (n ≡ 0 → ⊥) → (n ≡ 1 → ⊥) → (n ≡ 2 → ⊥) → 3 ≤ n
 unfixed n zero one two = search arith
@@ -231,9 +228,9 @@ module _ (layout : Layout) (limits : IsWithinLimits layout) (s : Scene) (pairs :
 
     leaf_low : 3 ≤ leaf.slot
     leaf_low = unfixed leaf.slot
-        (λ e. true_false (kept.linked_once 0 kept.tree.root) (ap kept.once (sym e) ∙ leaf.new))
-        (λ e. true_false (kept.linked_once 1 kept.sentinels.first) (ap kept.once (sym e) ∙ leaf.new))
-        (λ e. true_false (kept.linked_once 2 kept.sentinels.last) (ap kept.once (sym e) ∙ leaf.new))
+        (λ e. both_ways _ (ap kept.once (sym e) ∙ leaf.new) (kept.linked_once 0 kept.tree.root))
+        (λ e. both_ways _ (ap kept.once (sym e) ∙ leaf.new) (kept.linked_once 1 kept.sentinels.first))
+        (λ e. both_ways _ (ap kept.once (sym e) ∙ leaf.new) (kept.linked_once 2 kept.sentinels.last))
 
     insert_stands : Stands
     insert_stands = record {

@@ -1,7 +1,8 @@
 -- What a walk of the tree takes from its readings alone.
 use Rattle.std.proofs.Common.{◌≡◌, ℕ, zero, suc, ◌+◌, ◌*◌, ◌<◌, Bool, true, false, cond, refl, sym, ap, ◌∙◌, subst, inl, inr, arith}
-use Rattle.std.specs.Prelude.{◌==◌, ◌&&◌, ◌||◌, ◌-◌, ◌%◌, ◌^◌, ◌⊎◌, nat_le, nat_lt, Some, None, [], ◌∷◌, slice_get}
+use Rattle.std.specs.Prelude.{◌==◌, ◌&&◌, ◌||◌, ◌-◌, ◌%◌, ◌^◌, ◌⊎◌, nat_le, nat_lt, Some, [], ◌∷◌, slice_get}
 use Rattle.std.specs.List.{list_any}
+use Rattle.std.proofs.lemmas.Option.{none-some}
 use Rattle.map_history.specs.declared.op.Op.{Op}
 use Rattle.map_history.specs.Keys.{key_of}
 use Rattle.section_body.specs.Word.{value_of}
@@ -74,9 +75,6 @@ is_marked Refused = false
 
 some_eq : (a b : ℕ) → Some a ≡ Some b → a ≡ b
 some_eq a b e = cc
-
-none_some : (a : ℕ) → None ≡ Some a → ⊥
-none_some a e = cc
 
 or_left : (a b : Bool) → a ≡ true → (a || b) ≡ true
 or_left a b h = grind arith
@@ -408,8 +406,8 @@ module _ (all : Readings) where
     reads_fed w AtMark p word reads at want among = reads_tested w (value_of word == 0) AtEnd w.grand_lock w.grand_mark w.lock word reads (ap is_past at) (ap is_late at) refl refl
         (λ t l. (reads.lock_read (ap is_locked at), reads.lock_ready (ap is_locked at))) (λ e. cc) (λ t m del f. (reads.grand_mark_read (ap is_marked at) del f, reads.grand_unmarked (ap is_marked at) del f))
         (λ t e. (subst (λ p. IsAmong p word) (sym (some_eq (mark_of w.last.from) p want)) among, equal_of (value_of word) 0 t))
-    reads_fed w AtEnd p word reads at want among = absurd (none_some p want)
-    reads_fed w Refused p word reads at want among = absurd (none_some p want)
+    reads_fed w AtEnd p word reads at want among = absurd (none-some p want)
+    reads_fed w Refused p word reads at want among = absurd (none-some p want)
 
     -- the walk in readings that all stand in a list
     reads_walked : (w : Walk) (readings : Readings) → ((i : ℕ) (reading : ℕ × ℕ) → slice_get readings i ≡ Some reading → (j : ℕ) × (slice_get all j ≡ Some reading)) → Reads w

@@ -59,8 +59,8 @@ bounds layout = record { links = slot_count layout 3 + 8; version_max = layout.v
 abbrev pub walk_of : Layout → Op → Readings → Walk
 walk_of layout op readings = walk (bounds layout) op start readings
 
--- the memory is a search tree over the sentinels, no linked inner node is marked, the linked slots are among the memory's, of which
--- there are so many, and the pairs are the map's
+-- the memory is a search tree over the sentinels, no linked inner node is marked, the linked slots are
+-- among the memory's, of which there are so many, and the pairs are the map's
 pub record TreeStands (slots : ℕ) (cells : Cells) (pairs : Pairs) : Type 0 where
   pub covers : Covers
   pub within : (t : ℕ) → covers.linked t ≡ true → t < slots
@@ -72,15 +72,19 @@ pub record TreeStands (slots : ℕ) (cells : Cells) (pairs : Pairs) : Type 0 whe
 -- what a walk may take from the readings of an entered runner alone
 pub record TreeWalked (layout : Layout) (readings : Readings) : Type 0 where
   -- every link that was read leads to a node slot, and those of the root and of inner nodes to one
-  pub within : (i p w t : ℕ) → slice_get readings i ≡ Some (p, w) → shows_link readings p ≡ true → value_of w ≡ suc t → t < slot_count layout 3
+  pub within : (i p w t : ℕ) → slice_get readings i ≡ Some (p, w) → shows_link readings p ≡ true
+      → value_of w ≡ suc t → t < slot_count layout 3
   pub root_left : (i w : ℕ) → slice_get readings i ≡ Some (left_of 0, w) → 0 < value_of w
-  pub right_some : (i t w : ℕ) → slice_get readings i ≡ Some (right_of t, w) → shows_inner readings (left_of t) ≡ true → 0 < value_of w
+  pub right_some : (i t w : ℕ) → slice_get readings i ≡ Some (right_of t, w)
+      → shows_inner readings (left_of t) ≡ true → 0 < value_of w
   -- the root's left link leads to the first sentinel, or to an inner node
-  pub under_root : (i j v w : ℕ) → slice_get readings i ≡ Some (left_of 0, v) → slice_get readings j ≡ Some (left_of (slot_in v), w)
+  pub under_root : (i j v w : ℕ) → slice_get readings i ≡ Some (left_of 0, v)
+      → slice_get readings j ≡ Some (left_of (slot_in v), w)
       → (slot_in v ≡ 1) ⊎ (0 < value_of w)
   pub first_key : (i w : ℕ) → slice_get readings i ≡ Some (key_cell 1, w) → value_of w ≡ 4294967294
   -- an inner node's mark is 0 or 1
-  pub marks : (i t w : ℕ) → slice_get readings i ≡ Some (mark_of t, w) → shows_inner readings (left_of t) ≡ true → value_of w ≤ 1
+  pub marks : (i t w : ℕ) → slice_get readings i ≡ Some (mark_of t, w)
+      → shows_inner readings (left_of t) ≡ true → value_of w ≤ 1
 
 -- what was read of a node stands there: whether it is a leaf, its key, and of a leaf its value
 pub record IsAsRead (n : Nodes) (readings : Readings) : Type 0 where
@@ -89,7 +93,8 @@ pub record IsAsRead (n : Nodes) (readings : Readings) : Type 0 where
   pub key : (i t w : ℕ) → slice_get readings i ≡ Some (key_cell t, w) → value_of w ≡ n.key t
   pub value : (i t w : ℕ) → slice_get readings i ≡ Some (right_of t, w) → IsLeaf n t → value_of w ≡ n.child false t
   pub right : (i t w : ℕ) → slice_get readings i ≡ Some (right_of t, w) → IsInner n t → 0 < value_of w
-  pub under_root : (i v : ℕ) → slice_get readings i ≡ Some (left_of 0, v) → (value_of v ≡ 2) ⊎ ((t : ℕ) × (value_of v ≡ suc t) × IsInner n t)
+  pub under_root : (i v : ℕ) → slice_get readings i ≡ Some (left_of 0, v)
+      → (value_of v ≡ 2) ⊎ ((t : ℕ) × (value_of v ≡ suc t) × IsInner n t)
   pub marks : (i t w : ℕ) → slice_get readings i ≡ Some (mark_of t, w) → IsInner n t → value_of w ≤ 1
 
 module _ (n : Nodes) (c : Covers) (once : ℕ → Bool) (key : ℕ) where
@@ -98,8 +103,8 @@ module _ (n : Nodes) (c : Covers) (once : ℕ → Bool) (key : ℕ) where
     pub once_linked : once s ≡ true
     pub covers : IsInner n s → (c.lo s ≤ key) × (key < c.hi s)
 
-  -- a link on the walk: it led from an inner node on the walk to a node on the walk; keys of inner nodes fall to the left and rise to
-  -- the right
+  -- a link on the walk: it led from an inner node on the walk to a node on the walk; keys of inner nodes
+  -- fall to the left and rise to the right
   pub record IsFollowed (step : Step) : Type 0 where
     pub from : IsPassed step.from
     pub inner : IsInner n step.from
@@ -111,8 +116,8 @@ module _ (n : Nodes) (c : Covers) (once : ℕ → Bool) (key : ℕ) where
     pub left : step.side ≡ true → IsInner n (step_to step) → n.key (step_to step) < n.key step.from
     pub right : step.side ≡ false → IsInner n (step_to step) → n.key step.from < n.key (step_to step)
 
-  -- a left link that was read before the key of its node s: it leads to a node that was linked once, and which, if it is an inner node,
-  -- covers all keys from the walk's to that of s
+  -- a left link that was read before the key of its node s: it leads to a node that was linked once, and
+  -- which, if it is an inner node, covers all keys from the walk's to that of s
   pub record IsLeft (s word : ℕ) : Type 0 where
     pub inner : IsInner n s
     pub once_linked : (t : ℕ) → value_of word ≡ suc t → once t ≡ true
@@ -163,8 +168,8 @@ pub record IsNewInner (s : Scene) (once : ℕ → Bool) (x : Section) : Type 0 w
   pub old_side : (nodes s.cells).child (not (nat_lt (operand x.thunk 3) (operand x.thunk 5))) slot ≡ value_of (operand x.thunk 1)
   pub unmarked : (nodes s.cells).mark slot ≡ 0
 
--- what a section has taken out of the tree: a marked parent and its leaf, no longer linked and not fixed. The leaf is live until its own
--- Retire, the parent until its Retire before that. The sibling is linked
+-- what a section has taken out of the tree: a marked parent and its leaf, no longer linked and not fixed.
+-- The leaf is live until its own Retire, the parent until its Retire before that. The sibling is linked
 pub record IsTaken (s : Scene) (c : Covers) (once : ℕ → Bool) (x : Section) : Type 0 where
   pub parent_once : once (parent_in x.thunk) ≡ true
   pub parent_out : c.linked (parent_in x.thunk) ≡ false
@@ -195,8 +200,9 @@ pub data IsBetween (x : Section) (t : ℕ) : Type 0 where
   OldParent : HasTaken x → x.at ≡ 15 → parent_in x.thunk ≡ t → IsBetween x t
   OldLeaf : HasTaken x → leaf_in x.thunk ≡ t → IsBetween x t
 
--- what holds of a link to the side b of a node that was linked once and is safe: it leads to a node that was linked once; an inner one
--- covers what the link's side of the node covers, and its key lies on this side
+-- what holds of a link to the side b of a node that was linked once and is safe: it leads to a node that
+-- was linked once; an inner one covers what the link's side of the node covers, and its key lies on this
+-- side
 pub record IsTrail (n : Nodes) (c : Covers) (once : ℕ → Bool) (s t : ℕ) (b : Bool) : Type 0 where
   pub once_linked : once t ≡ true
   pub left : b ≡ true → IsInner n t → (c.lo t ≤ c.lo s) × (n.key s ≤ c.hi t) × (n.key t < n.key s)
@@ -219,14 +225,18 @@ pub record TreeKept (layout : Layout) (s : Scene) : Type 0 where
   -- an inner node that was linked once, is safe and isn't marked is linked
   pub unmarked : (t : ℕ) → once t ≡ true → IsSafe s t → IsInner (nodes s.cells) t → (nodes s.cells).mark t ≡ 0 → covers.linked t ≡ true
   -- where the links of such a node lead, marked or not
-  pub trail : (t u : ℕ) (b : Bool) → once t ≡ true → IsSafe s t → IsInner (nodes s.cells) t → (nodes s.cells).child b t ≡ suc u
+  pub trail : (t u : ℕ) (b : Bool) → once t ≡ true → IsSafe s t → IsInner (nodes s.cells) t
+      → (nodes s.cells).child b t ≡ suc u
       → IsTrail (nodes s.cells) covers once t u b
   -- a marked linked node is one that a section takes out: it has marked it, and not yet stored the link
   pub marked : (t : ℕ) → covers.linked t ≡ true → IsInner (nodes s.cells) t → (nodes s.cells).mark t ≢ 0
-      → (d : ℕ) × (x : Section) × (s.section d ≡ Some x) × (form_of x.thunk ≡ Delete) × (x.at ≡ 14) × (parent_in x.thunk ≡ t)
+      → (d : ℕ) × (x : Section) × (s.section d ≡ Some x) × (form_of x.thunk ≡ Delete) × (x.at ≡ 14)
+      × (parent_in x.thunk ≡ t)
   -- a live slot is linked, or between
-  pub live : (t : ℕ) → s.status t ≡ Live → (covers.linked t ≡ true) ⊎ ((d : ℕ) × (x : Section) × (s.section d ≡ Some x) × IsBetween x t)
-  pub limbo : (t y u : ℕ) (b : Bool) → s.status t ≡ Retired y → s.epoch ≤ y + 1 → IsInner (nodes s.cells) t → (nodes s.cells).child b t ≡ suc u
+  pub live : (t : ℕ) → s.status t ≡ Live
+      → (covers.linked t ≡ true) ⊎ ((d : ℕ) × (x : Section) × (s.section d ≡ Some x) × IsBetween x t)
+  pub limbo : (t y u : ℕ) (b : Bool) → s.status t ≡ Retired y → s.epoch ≤ y + 1 → IsInner (nodes s.cells) t
+      → (nodes s.cells).child b t ≡ suc u
       → (s.status u ≡ Live) ⊎ ((z : ℕ) × (s.status u ≡ Retired z) × (y ≤ z))
   -- the sections' new nodes, and what they have taken out
   pub new_leaf : (d : ℕ) (x : Section) → s.section d ≡ Some x → HasLeaf x → IsNewLeaf s once x
@@ -248,7 +258,8 @@ tree = record {
   first_value = first_value;
   is_lock = is_lock_place;
   body = tree_steps;
-  reaches = λ readings slot. list_any (λ reading. shows_link readings reading.0 && (value_of reading.1 == suc slot)) readings;
+  reaches = λ readings slot. list_any (λ reading. shows_link readings reading.0
+      && (value_of reading.1 == suc slot)) readings;
   fits = λ layout op readings thunk. fits_walk op (walk_of layout op readings) thunk;
   is_link = is_link_in;
   guard = λ cells place. place - place % 5;

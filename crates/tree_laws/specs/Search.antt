@@ -1,4 +1,5 @@
--- A search tree by sides: its linked nodes, each with the keys that its place covers. Of each fact both sides are one case.
+-- A search tree by sides: its linked nodes, each with the keys that its place covers. Of each fact both
+-- sides are one case.
 use Rattle.std.specs.Prelude.{ℕ, suc, ◌<◌, ◌≤◌, ◌≡◌, ◌≢◌, ◌⊎◌, Bool, true, false, cond, not, ◌&&◌, ◌==◌, Option, None, Some}
 use Rattle.section_body.specs.Update.{upd}
 
@@ -8,7 +9,8 @@ pub record Nodes : Type 0 where
   pub child : Bool → ℕ → ℕ
   pub mark : ℕ → ℕ
 
--- which slots are linked from the root, the keys that a linked node's place covers, from the first to before the last, and its parent
+-- which slots are linked from the root, the keys that a linked node's place covers, from the first to
+-- before the last, and its parent
 pub record Covers : Type 0 where
   pub linked : ℕ → Bool
   pub lo : ℕ → ℕ
@@ -60,9 +62,12 @@ pub record SearchTree (n : Nodes) (c : Covers) : Type 0 where
   pub inner_key : (s : ℕ) → c.linked s ≡ true → IsInner n s → (c.lo s < n.key s) × (n.key s < c.hi s)
   pub leaf_key : (s : ℕ) → c.linked s ≡ true → IsLeaf n s → (c.lo s ≤ n.key s) × (n.key s < c.hi s)
   -- keys of inner nodes differ; the key of an inner node is inside no leaf's place; two leaves have no key in common
-  pub inner_once : (s t : ℕ) → c.linked s ≡ true → c.linked t ≡ true → IsInner n s → IsInner n t → n.key s ≡ n.key t → s ≡ t
-  pub leaf_inner : (l s : ℕ) → c.linked l ≡ true → c.linked s ≡ true → IsLeaf n l → IsInner n s → (n.key s ≤ c.lo l) ⊎ (c.hi l ≤ n.key s)
-  pub leaves : (l x : ℕ) → c.linked l ≡ true → c.linked x ≡ true → IsLeaf n l → IsLeaf n x → l ≢ x → AreApart c.lo c.hi l x
+  pub inner_once : (s t : ℕ) → c.linked s ≡ true → c.linked t ≡ true → IsInner n s → IsInner n t
+      → n.key s ≡ n.key t → s ≡ t
+  pub leaf_inner : (l s : ℕ) → c.linked l ≡ true → c.linked s ≡ true → IsLeaf n l → IsInner n s
+      → (n.key s ≤ c.lo l) ⊎ (c.hi l ≤ n.key s)
+  pub leaves : (l x : ℕ) → c.linked l ≡ true → c.linked x ≡ true → IsLeaf n l → IsLeaf n x → l ≢ x
+      → AreApart c.lo c.hi l x
 
 -- the slots 0 to 2: the root over the greatest two keys, and their leaves, which no request has
 pub record HasSentinels (n : Nodes) (c : Covers) : Type 0 where
@@ -78,7 +83,8 @@ pub record HasSentinels (n : Nodes) (c : Covers) : Type 0 where
 -- the pairs of the linked leaves, but for the sentinels, are those that the map looks up
 pub record Contents (n : Nodes) (c : Covers) (lookup : ℕ → Option ℕ) : Type 0 where
   pub pair : (l : ℕ) → c.linked l ≡ true → IsLeaf n l → 3 ≤ l → lookup (n.key l) ≡ Some (n.child false l)
-  pub leaf : (key value : ℕ) → lookup key ≡ Some value → (l : ℕ) × (c.linked l ≡ true) × IsLeaf n l × (3 ≤ l) × (n.key l ≡ key)
+  pub leaf : (key value : ℕ) → lookup key ≡ Some value
+      → (l : ℕ) × (c.linked l ≡ true) × IsLeaf n l × (3 ≤ l) × (n.key l ≡ key)
 
 -- the same side
 abbrev pub same_side : Bool → Bool → Bool
@@ -89,7 +95,8 @@ same_side false b = not b
 abbrev pub with_child : Nodes → Bool → ℕ → ℕ → Nodes
 with_child n b s link = record n { child = λ d t. cond (same_side d b && (t == s)) link (n.child d t) }
 
--- a removal: below node a, on its side d, stands the inner node p; its child on side e is b, which stays, and its other child is the leaf l
+-- a removal: below node a, on its side d, stands the inner node p; its child on side e is b, which stays,
+-- and its other child is the leaf l
 pub record IsRemoval (n : Nodes) (c : Covers) (d e : Bool) (a p b l : ℕ) : Type 0 where
   pub above : c.linked a ≡ true
   pub above_inner : IsInner n a
@@ -122,15 +129,16 @@ pub record RemovalKeeps (n : Nodes) (c : Covers) (d : Bool) (a p b l : ℕ) : Ty
   pub hi : (s : ℕ) → c.hi s ≤ (removed n c a p b l).hi s
 
 abbrev pub RemovalLaw : Type 0
-RemovalLaw = (n : Nodes) (c : Covers) (d e : Bool) (a p b l : ℕ) → SearchTree n c → IsRemoval n c d e a p b l → RemovalKeeps n c d a p b l
+RemovalLaw = (n : Nodes) (c : Covers) (d e : Bool) (a p b l : ℕ) → SearchTree n c
+    → IsRemoval n c d e a p b l → RemovalKeeps n c d a p b l
 
 -- which key the new inner node has, by the side of the new leaf: the greater of both leaves' keys
 abbrev pub AreOrdered : Bool → ℕ → ℕ → ℕ → Type 0
 AreOrdered true key old new = (new < old) × (key ≡ old)
 AreOrdered false key old new = (old < new) × (key ≡ new)
 
--- an insertion: below node a, on its side d, stands the leaf l; the node t, not linked yet, is over the new leaf f on its side h and over l
--- on the other; the key of f is one that l covers
+-- an insertion: below node a, on its side d, stands the leaf l; the node t, not linked yet, is over the new
+-- leaf f on its side h and over l on the other; the key of f is one that l covers
 pub record IsInsertion (n : Nodes) (c : Covers) (d h : Bool) (a l t f : ℕ) : Type 0 where
   pub above : c.linked a ≡ true
   pub above_inner : IsInner n a
@@ -166,7 +174,8 @@ pub record InsertionKeeps (n : Nodes) (c : Covers) (d h : Bool) (a l t f : ℕ) 
       → Contents (with_child n d a (suc t)) (inserted n c h a l t f) (upd lookup (n.key f) (Some (n.child false f)))
 
 abbrev pub InsertionLaw : Type 0
-InsertionLaw = (n : Nodes) (c : Covers) (d h : Bool) (a l t f : ℕ) → SearchTree n c → IsInsertion n c d h a l t f → InsertionKeeps n c d h a l t f
+InsertionLaw = (n : Nodes) (c : Covers) (d h : Bool) (a l t f : ℕ) → SearchTree n c
+    → IsInsertion n c d h a l t f → InsertionKeeps n c d h a l t f
 
 -- two views of one memory as a search tree agree on what is linked, and on what a linked node's place covers
 pub record ViewsAgree (c c' : Covers) : Type 0 where

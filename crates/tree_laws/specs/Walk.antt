@@ -35,8 +35,9 @@ step_place step = child_of step.side step.from
 abbrev pub step_to : Step → ℕ
 step_to step = slot_in step.word
 
--- how far a walk has come: how many links it has followed, whether one leads to the parent of the last node, this link, the last
--- link, the last node's left link and key, the value of the key's leaf, whether there is one, and the words of locks and marks
+-- how far a walk has come: how many links it has followed, whether one leads to the parent of the last
+-- node, this link, the last link, the last node's left link and key, the value of the key's leaf, whether
+-- there is one, and the words of locks and marks
 pub record Walk : Type 0 where
   pub stage : Stage
   pub links : ℕ
@@ -118,7 +119,8 @@ followed b w side word = record w {
   last = record { from = node_of w; side = side; word = word };
 }
 
--- what is loaded after a leaf's key: its value, where it is the key's and is to stay; or the locks. A removal needs a link to the parent
+-- what is loaded after a leaf's key: its value, where it is the key's and is to stay; or the locks. A
+-- removal needs a link to the parent
 abbrev pub after_leaf : Op → Bool → Bool → Stage
 after_leaf op deep true = cond (is_del op) (cond deep AtGrandLock Refused) AtValue
 after_leaf op deep false = AtLock
@@ -127,7 +129,8 @@ after_leaf op deep false = AtLock
 abbrev pub is_ready : Bounds → ℕ → Bool
 is_ready b word = is_free word && not (is_spent b.version_max word)
 
--- the walk after its last node's key is loaded: at a leaf it ends; of an inner node it follows the link on its key's side
+-- the walk after its last node's key is loaded: at a leaf it ends; of an inner node it follows the link on
+-- its key's side
 abbrev pub at_key : Bounds → Op → Walk → Bool → Bool → ℕ → Walk
 at_key b op w true left word = record w {
   stage = after_leaf op w.deep (value_of word == key_of op);

@@ -3,7 +3,7 @@ use Rattle.std.proofs.Common.{◌≡◌, ◌≢◌, ℕ, suc, ◌+◌, ◌*◌, 
 use Rattle.std.specs.Prelude.{◌==◌, ◌&&◌, ◌||◌, ◌-◌, ◌^◌, ◌⊎◌, not, nat_lt, drop, slice_index, if◌then◌else◌}
 use Rattle.std.specs.FinMap.{get, insert}
 use Rattle.std.proofs.lemmas.Bool.Decides.{nat_tests}
-use Rattle.std.proofs.lemmas.Bool.{cases_eq}
+use Rattle.std.proofs.lemmas.Bool.{cases_eq, and_from, both_ways}
 use Rattle.map_history.specs.declared.op.Op.{Op}
 use Rattle.map_history.specs.declared.op.Op.TheVariants.{Get, Ins, Del}
 use Rattle.map_history.specs.Keys.{key_of}
@@ -47,9 +47,6 @@ use Rattle.tree_runs.proofs.Filled.{filled, filled_inner, filled_leaf, filled_ot
 false_true : {A : Type 0} → false ≡ true → A
 false_true e = cc
 
-true_false : {A : Type 0} {b : Bool} → b ≡ true → b ≡ false → A
-true_false e e' = absurd (cc)
-
 eq_true : (a b : ℕ) → a ≡ b → (a == b) ≡ true
 eq_true a b e = grind arith
 
@@ -61,9 +58,6 @@ small_is n low = grind (arith, nat_tests)
 
 some_is : (n : ℕ) → 0 < n → nat_lt 0 n ≡ true
 some_is n low = grind (arith, nat_tests)
-
-both : (a b : Bool) → a ≡ true → b ≡ true → (a && b) ≡ true
-both a b h h' = grind arith
 
 -- an exchange from what stands there writes
 exchange_writes : (cells : ℕ → ℕ) (p old new : ℕ) → cells p ≡ old → exchanged cells p old new ≡ upd cells p new
@@ -180,7 +174,7 @@ module _ (slots request : ℕ) (memory : PlainMemory) (pairs : Pairs) (op : Op) 
       let m = stands.contents.leaf key v h in
       let inside = stands.tree.leaf_key m.0 m.1 m.2 in
       ⊎_elim
-      (λ same. true_false (eq_true w.key key (sym ended.keyed ∙ (ap n.key (sym same) ∙ m.4))) (sym keyed ∙ missed))
+      (λ same. absurd (both_ways _ (sym keyed ∙ missed) (eq_true w.key key (sym ended.keyed ∙ (ap n.key (sym same) ∙ m.4)))))
       (λ ne. let k = m.4 in let from = inside.0 in let to = inside.1 in let lo = at.lo in let hi = at.hi in ⊎_elim
       (λ below. omega (arith, below, k, from, to, lo, hi))
       (λ below. omega (arith, below, k, from, to, lo, hi))
@@ -241,7 +235,7 @@ module _ (slots request : ℕ) (memory : PlainMemory) (pairs : Pairs) (op : Op) 
 
     look_case : Does (tree_steps thunk)
     look_case =
-        let fits = both (is_small (thunk.lock + 4)) (is_small (operand thunk 0)) (lock_small (number_at 0 look) (number_at 1 look) (number_at 2 look) look_lock) (link_small (number_at 0 look) (number_at 1 look) (number_at 2 look) look_lock) in
+        let fits = and_from (is_small (thunk.lock + 4)) (is_small (operand thunk 0)) (lock_small (number_at 0 look) (number_at 1 look) (number_at 2 look) look_lock) (link_small (number_at 0 look) (number_at 1 look) (number_at 2 look) look_lock) in
         let ends = look_run (plain_setting (look_steps thunk) (true ∷ []) memory) cells memory.clock (slice_index memory.stamps request) (slice_index memory.replies request) thunk
         (link_wanted (number_at 0 look) (number_at 1 look) (number_at 2 look) look_lock) (mark_wanted (number_at 0 look) (number_at 1 look) (number_at 2 look) look_lock) in
         subst Does (sym (ap (λ f. body_of f thunk) (is_look thunk (fit.form ∙ form) fits))) (record {
@@ -296,7 +290,7 @@ module _ (slots request : ℕ) (memory : PlainMemory) (pairs : Pairs) (op : Op) 
     few : (s : ℕ) → s < slots → suc s < 2 ^ 32
     few s within = let room = contents.room in let places = contents.places in omega (arith, within, room, places)
 
-    -- the cells with both nodes
+    -- the cells with and_from nodes
     abbrev leaf_word : ℕ → ℕ
     leaf_word cell = next_word (cells (cell_of memory.fixed_cells f cell)) (slice_index (leaf_values thunk) cell)
 
@@ -324,10 +318,10 @@ module _ (slots request : ℕ) (memory : PlainMemory) (pairs : Pairs) (op : Op) 
     other_cell s cell low ne ne' = ap both_made (own_place s cell) ∙ (filled_other cells memory.fixed_cells f t leaf_word inner_word free.differ s cell low ne ne' ∙ ap cells (sym (own_place s cell)))
 
     not_leaf_slot : (s : ℕ) → c.linked s ≡ true → s ≢ f
-    not_leaf_slot s on e = true_false on (ap c.linked e ∙ free.leaf_out)
+    not_leaf_slot s on e = absurd (both_ways _ (ap c.linked e ∙ free.leaf_out) on)
 
     not_inner_slot : (s : ℕ) → c.linked s ≡ true → s ≢ t
-    not_inner_slot s on e = true_false on (ap c.linked e ∙ free.inner_out)
+    not_inner_slot s on e = absurd (both_ways _ (ap c.linked e ∙ free.inner_out) on)
 
     linked_cell : (s cell : ℕ) → cell < 5 → c.linked s ≡ true → both_made (cell_of 0 s cell) ≡ cells (cell_of 0 s cell)
     linked_cell s cell low on = other_cell s cell low (not_leaf_slot s on) (not_inner_slot s on)
@@ -402,7 +396,7 @@ module _ (slots request : ℕ) (memory : PlainMemory) (pairs : Pairs) (op : Op) 
     old_key = made_alike.key l at.linked ∙ (ended.keyed ∙ sym (number_at 5 numbers))
 
     keys_differ : operand thunk 3 ≢ operand thunk 5
-    keys_differ same = true_false (eq_true w.key key (sym (number_at 5 numbers) ∙ (sym same ∙ (number_at 3 numbers ∙ key_is)))) (sym keyed ∙ is.3)
+    keys_differ same = absurd (both_ways _ (sym keyed ∙ is.3) (eq_true w.key key (sym (number_at 5 numbers) ∙ (sym same ∙ (number_at 3 numbers ∙ key_is)))))
 
     insertion : IsInsertion made c side h a l t f
     insertion = record {
@@ -462,9 +456,9 @@ module _ (slots request : ℕ) (memory : PlainMemory) (pairs : Pairs) (op : Op) 
 
     leaf_real : 3 ≤ f
     leaf_real = unfixed f
-        (λ e. true_false (stands.tree.root) (ap c.linked (sym e) ∙ free.leaf_out))
-        (λ e. true_false (stands.sentinels.first) (ap c.linked (sym e) ∙ free.leaf_out))
-        (λ e. true_false (stands.sentinels.last) (ap c.linked (sym e) ∙ free.leaf_out))
+        (λ e. absurd (both_ways _ (ap c.linked (sym e) ∙ free.leaf_out) (stands.tree.root)))
+        (λ e. absurd (both_ways _ (ap c.linked (sym e) ∙ free.leaf_out) (stands.sentinels.first)))
+        (λ e. absurd (both_ways _ (ap c.linked (sym e) ∙ free.leaf_out) (stands.sentinels.last)))
 
     leaf_stays : (s : ℕ) → IsLeaf made s → IsInner (nodes after) s → ⊥
     leaf_stays s leaf inner = no_inner s leaf (subst (λ v. 0 < v) (then_child true s (λ e same. not_above s leaf same)) inner)
@@ -513,8 +507,8 @@ module _ (slots request : ℕ) (memory : PlainMemory) (pairs : Pairs) (op : Op) 
     insert_case : Does (tree_steps thunk)
     insert_case =
         let place = number_at 0 numbers in let word = number_at 1 numbers in let mark = number_at 2 numbers in
-        let fits = both (is_small (thunk.lock + 4)) _ (lock_small place word mark insert_lock) (both (is_small (operand thunk 0)) _ (link_small place word mark insert_lock)
-        (both (is_small (operand thunk 3)) _ (small_is (operand thunk 3) key_small) (both (is_small (operand thunk 4)) (is_small (operand thunk 5)) (small_is (operand thunk 4) value_low) (small_is (operand thunk 5) old_small)))) in
+        let fits = and_from (is_small (thunk.lock + 4)) _ (lock_small place word mark insert_lock) (and_from (is_small (operand thunk 0)) _ (link_small place word mark insert_lock)
+        (and_from (is_small (operand thunk 3)) _ (small_is (operand thunk 3) key_small) (and_from (is_small (operand thunk 4)) (is_small (operand thunk 5)) (small_is (operand thunk 4) value_low) (small_is (operand thunk 5) old_small)))) in
         let setting = plain_setting (insert_with thunk (inner_for h thunk)) (true ∷ []) memory in
         let ends = insert_run setting cells memory.clock (slice_index memory.stamps request) (slice_index memory.replies request) thunk h
         (link_wanted place word mark insert_lock) (mark_wanted place word mark insert_lock) (unspent.link (λ e. let form' = fit.form ∙ form in omega (arith, e, form'))) in
@@ -616,7 +610,7 @@ module _ (slots request : ℕ) (memory : PlainMemory) (pairs : Pairs) (op : Op) 
     abbrev left_covers : Covers
     left_covers = removed n c g p b l
 
-    -- the cells after both Stores
+    -- the cells after and_from Stores
     abbrev marked : ℕ
     marked = next_word (cells (mark_of (parent_in thunk))) 1
 
@@ -644,9 +638,9 @@ module _ (slots request : ℕ) (memory : PlainMemory) (pairs : Pairs) (op : Op) 
 
     was_on : (s : ℕ) → left_covers.linked s ≡ true → (c.linked s ≡ true) × (s ≢ p)
     was_on s on = ⊎_elim
-        (λ same. true_false on (upd_same (upd c.linked p false) l s false same))
+        (λ same. absurd (both_ways _ (upd_same (upd c.linked p false) l s false same) on))
         (λ ne. ⊎_elim
-        (λ same. true_false on (upd_other (upd c.linked p false) l s false ne ∙ upd_same c.linked p s false same))
+        (λ same. absurd (both_ways _ (upd_other (upd c.linked p false) l s false ne ∙ upd_same c.linked p s false same) on))
         (λ ne'. (sym (upd_other (upd c.linked p false) l s false ne ∙ upd_other c.linked p s false ne') ∙ on, ne'))
         (cases_eq s p))
         (cases_eq s l)
@@ -699,7 +693,7 @@ module _ (slots request : ℕ) (memory : PlainMemory) (pairs : Pairs) (op : Op) 
       fresh_link = unspent.link (λ e. let form' = fit.form ∙ form in omega (arith, e, form'));
       mark = ap cells (place thunk.lock g delete_lock) ∙ (stood (mark_of g) w.grand_mark (reads.grand_mark_read (ap is_marked fit.stage) is_removal removes.2) ∙ sym (number_at 2 gone_numbers));
       open_lock = refl;
-      takable = both (operand thunk 3 == operand thunk 3) _ (eq_true (operand thunk 3) (operand thunk 3) refl) (both (is_free (operand thunk 3)) (not (is_spent memory.version_max (operand thunk 3))) lock_free
+      takable = and_from (operand thunk 3 == operand thunk 3) _ (eq_true (operand thunk 3) (operand thunk 3) refl) (and_from (is_free (operand thunk 3)) (not (is_spent memory.version_max (operand thunk 3))) lock_free
           (ap not (unspent.lock (fit.form ∙ form))));
       got = eq_true (held_word 0 (operand thunk 3)) (held_word 0 (operand thunk 3)) refl;
       leaf = ap cells (number_at 4 gone_numbers) ∙ (link_there ∙ sym (number_at 5 gone_numbers));
@@ -711,11 +705,11 @@ module _ (slots request : ℕ) (memory : PlainMemory) (pairs : Pairs) (op : Op) 
         place q s e = omega (arith, e)
 
     delete_fits : fits_delete thunk ≡ true
-    delete_fits = both (is_small (thunk.lock + 4)) _ (small_is (thunk.lock + 4) (let high = place_low g 4 grand_link.linked (omega arith) in let e = delete_lock in omega (arith, high, e)))
-        (both (is_small (operand thunk 0)) (names_removed thunk) (small_is (operand thunk 0) (subst (λ q. q < 2 ^ 32) (sym (number_at 0 gone_numbers)) (step_low w.grand grand_link.linked)))
-        (both (nat_lt 0 (value_of (operand thunk 1))) _ (some_is (value_of (operand thunk 1)) (subst (λ v. 0 < value_of v) (sym (number_at 1 gone_numbers)) grand_some))
-        (both (nat_lt 0 (value_of (operand thunk 5))) _ (some_is (value_of (operand thunk 5)) (subst (λ v. 0 < value_of v) (sym (number_at 5 gone_numbers)) some))
-        (both (is_small (mark_of (parent_in thunk))) (is_left thunk || is_right thunk) (small_is (mark_of (parent_in thunk)) (subst (λ s. mark_of s < 2 ^ 32) (sym parent_named) (place_low p 4 parent_on (omega arith))))
+    delete_fits = and_from (is_small (thunk.lock + 4)) _ (small_is (thunk.lock + 4) (let high = place_low g 4 grand_link.linked (omega arith) in let e = delete_lock in omega (arith, high, e)))
+        (and_from (is_small (operand thunk 0)) (names_removed thunk) (small_is (operand thunk 0) (subst (λ q. q < 2 ^ 32) (sym (number_at 0 gone_numbers)) (step_low w.grand grand_link.linked)))
+        (and_from (nat_lt 0 (value_of (operand thunk 1))) _ (some_is (value_of (operand thunk 1)) (subst (λ v. 0 < value_of v) (sym (number_at 1 gone_numbers)) grand_some))
+        (and_from (nat_lt 0 (value_of (operand thunk 5))) _ (some_is (value_of (operand thunk 5)) (subst (λ v. 0 < value_of v) (sym (number_at 5 gone_numbers)) some))
+        (and_from (is_small (mark_of (parent_in thunk))) (is_left thunk || is_right thunk) (small_is (mark_of (parent_in thunk)) (subst (λ s. mark_of s < 2 ^ 32) (sym parent_named) (place_low p 4 parent_on (omega arith))))
         (sides w.last.side refl).0))))
 
     remove_case : Does (tree_steps thunk)

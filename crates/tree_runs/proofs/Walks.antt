@@ -1,6 +1,8 @@
 -- A walk over cells that stand as they were read.
-use Rattle.std.proofs.Common.{◌≡◌, ℕ, suc, ◌<◌, ◌≤◌, Bool, true, false, cond, refl, sym, ap, subst, ◌∙◌, arith, [], ◌∷◌, Some, None}
+use Rattle.std.proofs.Common.{◌≡◌, ℕ, suc, ◌<◌, ◌≤◌, Bool, true, false, cond, refl, sym, ap, subst, ◌∙◌, arith, [], ◌∷◌, Some}
 use Rattle.std.specs.Prelude.{◌==◌, nat_le, nat_lt}
+use Rattle.std.proofs.lemmas.Option.{none-some}
+use Rattle.std.proofs.lemmas.Bool.{true≢false}
 use Rattle.map_history.specs.declared.op.Op.{Op}
 use Rattle.map_history.specs.Keys.{key_of}
 use Rattle.map_history.specs.Replay.{Pairs}
@@ -19,14 +21,8 @@ use Rattle.tree_laws.specs.Landing.{IsOnPath}
 some_eq : (a b : ℕ) → Some a ≡ Some b → a ≡ b
 some_eq a b e = cc
 
-none_some : {A : Type 0} (a : ℕ) → None ≡ Some a → A
-none_some a e = cc
-
 false_true : {A : Type 0} → false ≡ true → A
 false_true e = cc
-
-true_false : {A : Type 0} → true ≡ false → A
-true_false e = cc
 
 not_zero : (a : ℕ) → (a == 0) ≡ false → 0 < a
 not_zero a h = grind arith
@@ -128,7 +124,7 @@ module _ (slots : ℕ) (cells : Cells) (pairs : Pairs) (stands : TreeStands slot
   knows_key w true less word trail left there is_leaf is_less = knows_leaf w (value_of word) (value_of word == key_of op)
       (record { trail = trail; leaf = ap value_of left ∙ equal_of (value_of w.left) 0 is_leaf; keyed = ap value_of there })
   knows_key w false true word trail left there is_leaf is_less = knows_followed w true w.left trail (subst (λ v. 0 < value_of v) (sym left) (not_zero (value_of w.left) is_leaf)) left
-      (λ e. subst (λ v. key < value_of v) (sym there) (below_of key (value_of word) is_less)) (λ e. true_false e)
+      (λ e. subst (λ v. key < value_of v) (sym there) (below_of key (value_of word) is_less)) (λ e. absurd (true≢false e))
   knows_key w false false word trail left there is_leaf is_less = (
     trail,
     subst (λ v. 0 < value_of v) (sym left) (not_zero (value_of w.left) is_leaf),
@@ -147,14 +143,14 @@ module _ (slots : ℕ) (cells : Cells) (pairs : Pairs) (stands : TreeStands slot
         hi = (let e = stands.tree.root_hi in omega (arith, e, low));
       })
       stands.tree.root_inner (leads_to true 0 word there some)
-      (λ e. let k = stands.sentinels.root_key in omega (arith, k, low)) (λ e. true_false e)
+      (λ e. let k = stands.sentinels.root_key in omega (arith, k, low)) (λ e. absurd (true≢false e))
 
   at_place : (p q word : ℕ) → q ≡ p → cells p ≡ word → cells q ≡ word
   at_place p q word same there = ap cells same ∙ there
 
   knows_fed : (w : Walk) (stage : Stage) (p word : ℕ) → Knows w stage → wanted_at w stage ≡ Some p → cells p ≡ word → Knows (fed b op w stage word) (fed b op w stage word).stage
   knows_fed w AtRoot p word shallow want there = knows_link (fed b op w AtRoot word) (value_of word == 0) (nat_le b.links 1) (λ some. record {
-    link = record { linked = stands.tree.root; inner = stands.tree.root_inner; right = λ e. true_false e };
+    link = record { linked = stands.tree.root; inner = stands.tree.root_inner; right = λ e. absurd (true≢false e) };
     above = λ deep. false_true (sym shallow ∙ deep);
     node = root_path word (at_place p (left_of 0) word (some_eq (left_of 0) p want) there) some;
   })
@@ -168,8 +164,8 @@ module _ (slots : ℕ) (cells : Cells) (pairs : Pairs) (stands : TreeStands slot
   knows_fed w AtGrandMark p word known want there = knows_tested (fed b op w AtGrandMark word) AtLock (value_of word == 0) known
   knows_fed w AtLock p word known want there = knows_tested (fed b op w AtLock word) AtMark (is_ready b word) known
   knows_fed w AtMark p word known want there = knows_tested (fed b op w AtMark word) AtEnd (value_of word == 0) known
-  knows_fed w AtEnd p word known want there = none_some p want
-  knows_fed w Refused p word known want there = none_some p want
+  knows_fed w AtEnd p word known want there = absurd (none-some p want)
+  knows_fed w Refused p word known want there = absurd (none-some p want)
 
   knows_walked : (w : Walk) (readings : Readings) → AreRead cells readings → Knows w w.stage → Knows (walk b op w readings) (walk b op w readings).stage
   unfolding walk

@@ -1,7 +1,7 @@
 -- Each step raises a place's version no further than its runner's runs may.
 use Rattle.std.specs.Prelude.{◌==◌, ◌-◌, ◌%◌, ◌^◌, ◌⊎◌, ◌&&◌, ◌||◌, not, cond, Bool, true, false, if◌then◌else◌}
 use Rattle.std.proofs.Common.{◌≡◌, ◌≢◌, ℕ, zero, suc, ◌+◌, ◌*◌, ◌<◌, ◌≤◌, List, length, refl, sym, ap, ◌∙◌, subst, ⊎_elim, inl, inr, arith, Option, Some, None}
-use Rattle.std.proofs.lemmas.Bool.{cases_eq}
+use Rattle.std.proofs.lemmas.Bool.{cases_eq, and_parts}
 use Rattle.std.proofs.lemmas.Bool.Decides.{nat_tests}
 use Rattle.map_history.specs.declared.op.Request.{Request}
 use Rattle.section_body.specs.Line.{micro_at}
@@ -116,10 +116,6 @@ won found old new e = ap (λ b. if b then new else found) e
 -- the value of a released lock, and of a held one
 released_value : (word : ℕ) → value_of (next_word word 0) ≡ 0
 released_value word = omega arith
-
-both : (a b : Bool) → (a && b) ≡ true → (a ≡ true) × (b ≡ true)
-both true b e = (refl, e)
-both false b e = absurd (let z = e in cc)
 
 module _ (m : Meaning) (l : Layout) (g : Beside) (s : Sight) (whole : IsWhole m l g s) where
   -- the thunk of a published section stands in its descriptor
@@ -341,7 +337,7 @@ module _ (m : Meaning) (laws : Laws m) (l : Layout) (limits : IsWithinLimits l) 
 
   section_over : (kind' : EventKind) → outside_ask m l rs r kind' y ≡ Some x → MayGo m p l y found kind'
   section_over (kinds.Hold t d) e = (hold_asked m l rs r t d y x e).unpublished
-  section_over kinds.EpochForRetire e = (both (is_walking y.stage y.run) _ (if_some _ _ x e).0).1
+  section_over kinds.EpochForRetire e = (and_parts (is_walking y.stage y.run) _ (if_some _ _ x e).0).1
   section_over _ e = tt
 
   hold_fine : (none : y.run ≡ None) (t : Thunk) (d : ℕ) → outside_ask m l rs r (kinds.Hold t d) y ≡ Some x → Fine (outside_after m l (kinds.Hold t d) y found)

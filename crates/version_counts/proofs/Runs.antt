@@ -1,6 +1,7 @@
 -- A run raises a place's version four times at most, with its section's publication.
 use Rattle.std.specs.Prelude.{Bool, true, false}
 use Rattle.std.proofs.Common.{◌≡◌, ℕ, ◌≤◌, length, refl, sym, ap, ◌∙◌, arith, Some}
+use Rattle.std.proofs.lemmas.Bool.{both_ways}
 use Rattle.section_body.specs.Line.{micro_at, no_registers}
 use Rattle.section_body.specs.declared.micro.Micro.{Micro}
 use Rattle.section_body.specs.declared.micro.Micro.TheVariants.{NestedHold}
@@ -17,9 +18,6 @@ use Rattle.next_steps.specs.machine_invariant.specs.machine_agreement.proofs.Run
 use Rattle.next_steps.specs.machine_invariant.specs.Whole.{Beside, IsWhole}
 use Rattle.next_steps.proofs.Runs.{shaped}
 use Rattle.version_counts.proofs.Weights.{takes_one, stores_one, fills_one, weight, total, spent, spent_all, nought, never, once, takes_few, stores_few, takes_it, stores_it, total_parts, few_fills}
-
-not_both : {B : Type 0} → (b : Bool) → b ≡ true → b ≡ false → B
-not_both b one two = absurd (let e = sym one ∙ two in cc)
 
 module _ (m : Meaning) (l : Layout) (g : Beside) (s : Sight) (whole : IsWhole m l g s) (r : ℕ) (q : RunState) (is : (s.part r).run ≡ Some q)
     (all : length q.opened ≡ 13) (p index : ℕ) where
@@ -60,11 +58,11 @@ module _ (m : Meaning) (l : Layout) (g : Beside) (s : Sight) (whole : IsWhole m 
   unstored : m.is_lock p ≡ true → total (stores_one p) (line_of m q) ≡ 0
   unstored is_lock = none (stores_one p) (stores_few p)
       (λ i one. let a = stores_it p (micro_at (line_of m q) i) one in
-      not_both (m.is_lock p) is_lock (exchange_unlocked (rules_of m l) x.lock x.code x.slot in_line i p a.0 a.1 (code i ∙ a.2)))
+      absurd (both_ways (m.is_lock p) (exchange_unlocked (rules_of m l) x.lock x.code x.slot in_line i p a.0 a.1 (code i ∙ a.2)) is_lock))
 
   untaken : m.is_lock p ≡ false → total (takes_one p) (line_of m q) ≡ 0
   untaken no_lock = none (takes_one p) (takes_few p)
-      (λ i one. let a = takes_at i one in not_both (m.is_lock p) (hold_lock (rules_of m l) x.lock x.code x.slot in_line i p a.0 a.1) no_lock)
+      (λ i one. let a = takes_at i one in absurd (both_ways (m.is_lock p) no_lock (hold_lock (rules_of m l) x.lock x.code x.slot in_line i p a.0 a.1)))
 
   inner : (thunk_of q.opened).lock ≡ p → total (takes_one p) (line_of m q) ≡ 0
   inner outer = none (takes_one p) (takes_few p)

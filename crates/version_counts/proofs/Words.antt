@@ -1,6 +1,7 @@
 -- The kinds of step that leave each cell as it is.
 use Rattle.std.specs.Prelude.{◌==◌, ◌-◌, nat_lt, Bool, true, false, if◌then◌else◌}
 use Rattle.std.proofs.Common.{◌≡◌, ℕ, List, refl, ap, subst, Some, None}
+use Rattle.std.proofs.lemmas.Bool.{true≢false}
 use Rattle.map_history.specs.declared.op.Request.{Request}
 use Rattle.section_body.specs.declared.micro.Micro.{Micro}
 use Rattle.section_body.specs.declared.micro.Micro.TheVariants as micros
@@ -48,9 +49,6 @@ module _ (f : Spot → ℕ) (p : ℕ) where
   loaded : (a : Spot) (x : Spot × Access) → (a, Loads) ≡ x → Stays x
   loaded a x e = subst Stays e (loads a)
 
-  true_false : {B : Type 0} → true ≡ false → B
-  true_false e = absurd (let z = e in cc)
-
   module _ (m : Meaning) (l : Layout) (q : RunState) (x : Spot × Access) where
     load_stays : (micro : Micro) → load_cell_ask q micro ≡ Some x → Stays x
     load_stays (micros.LoadCell place log) e = loaded (spots.Cell place) x (some_same _ _ e)
@@ -67,21 +65,21 @@ module _ (f : Spot → ℕ) (p : ℕ) where
     pub line_stays : (kind : EventKind) (free : List ℕ) (micro : Micro) → changes_inside kind ≡ false → line_ask m l kind free q micro ≡ Some x → Stays x
     line_stays kinds.Commit free micro no_change e = subst Stays (inside.commit_asked q x micro e).is refl
     line_stays (kinds.LoadCell None) free micro no_change e = load_stays micro e
-    line_stays kinds.ExchangeCell free micro no_change e = true_false no_change
+    line_stays kinds.ExchangeCell free micro no_change e = absurd (true≢false no_change)
     line_stays (kinds.PrivateLoad slot word) free micro no_change e =
         let h = inside.fill_load_asked q x m l slot word free micro e in loaded (spots.Cell h.2) x h.6
-    line_stays (kinds.PrivateStore slot word number) free micro no_change e = true_false no_change
+    line_stays (kinds.PrivateStore slot word number) free micro no_change e = absurd (true≢false no_change)
     line_stays kinds.MakeCommit free micro no_change e = subst Stays (inside.make_commit_asked q x micro e).2.is refl
     line_stays kinds.RetireCommit free micro no_change e = subst Stays (inside.retire_commit_asked q x micro e).1.is refl
     line_stays kinds.EpochForRetire free micro no_change e = loaded spots.Epoch x (inside.epoch_for_retire_asked q x micro e).3
     line_stays kinds.SetDone free micro no_change e = subst Stays (inside.set_done_asked q x micro e).1 refl
-    line_stays kinds.Release free micro no_change e = true_false no_change
+    line_stays kinds.Release free micro no_change e = absurd (true≢false no_change)
     line_stays kinds.ClockLoad free micro no_change e = loaded spots.Clock x (inside.clock_load_asked q x micro e).1
     line_stays kinds.StampExchange free micro no_change e = subst Stays (inside.stamp_exchange_asked q x micro e).3 refl
     line_stays kinds.ClockRaise free micro no_change e = subst Stays (inside.clock_raise_asked q x micro e).2 refl
     line_stays kinds.ReplyExchange free micro no_change e = subst Stays (inside.reply_exchange_asked q x micro e).3 refl
     line_stays kinds.NestedLoad free micro no_change e = nested_stays micro e
-    line_stays kinds.NestedHold free micro no_change e = true_false no_change
+    line_stays kinds.NestedHold free micro no_change e = absurd (true≢false no_change)
     line_stays kinds.OutcomeLoad free micro no_change e = outcome_stays micro e
     line_stays kinds.OutcomeCommit free micro no_change e = subst Stays (inside.outcome_commit_asked q x micro e).is refl
     line_stays _ free micro no_change e = some_none x e
@@ -116,7 +114,7 @@ module _ (f : Spot → ℕ) (p : ℕ) where
     outside_stays (kinds.PrivateLoad slot word) no_change e = let h = outside.private_load_asked m l slot word y x e in loaded h.0 x h.1
     outside_stays (kinds.PrivateStore slot word number) no_change e =
         subst Stays (outside.private_store_asked m l slot word number y x e).1 (store_stays (slot - slot_count l m.fixed_slots) word number)
-    outside_stays (kinds.Hold thunk d) no_change e = true_false no_change
+    outside_stays (kinds.Hold thunk d) no_change e = absurd (true≢false no_change)
     outside_stays (kinds.LoadThunk (Some d)) no_change e = loaded _ x (outside.open_asked d y x e).3
     outside_stays kinds.EpochForRetire no_change e = loaded _ x (outside.retire_asked y x e).4
     outside_stays _ no_change e = some_none x e

@@ -11,10 +11,11 @@ ghost use Rattle.version_counts.specs.Versions.{VersionsAreCounted};
 
 use runner_parts::Structure;
 
-/// In every state that the machine reaches, the version of each cell is at most 1 and four for each run of each runner: those that
-/// came to their end, those in progress, and one for each published section that its publisher hasn't run to its end.
-/// For a publication and its release raise a lock twice; so does a Take of it, and no section takes its outer lock; a
-/// Store raises a cell once, and so does each of two Makes at most that fill a slot.
+/// In every state that the machine reaches, the version of each cell is at most 1 and four for each run of
+/// each runner: those that came to their end, those in progress, and one for each published section that
+/// its publisher hasn't run to its end. For a publication and its release raise a lock twice; so does a
+/// Take of it, and no section takes its outer lock; a Store raises a cell once, and so does each of two
+/// Makes at most that fill a slot.
 pub fn versions_are_counted<S: Structure>(structure: &S)
     ensures { (layout : Layout) (requests : List Request) (w : World) → IsWithinLimits layout → AreAllowed requests
         → Reached (S.meaning structure.now) layout requests w

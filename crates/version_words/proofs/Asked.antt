@@ -20,16 +20,12 @@ use Rattle.runner_steps.specs.Sections.{is_open_run, next_of}
 use Rattle.runner_steps.specs.Outside.{Ask, when, enter_load_ask, announce_ask, enter_again_ask, scan_one_ask}
 use Rattle.runner_steps.specs.Asks.{fitting, sizes_for, asks, ask_by, outside_ask, line_ask, opening_ask}
 use Rattle.std.proofs.lemmas.Bool.Decides.{nat_tests}
+use Rattle.std.proofs.lemmas.Option.{none-some}
+use Rattle.std.proofs.lemmas.Bool.{false≢true}
 use Rattle.runner_block.specs.Scans.{scan_of}
 use Rattle.version_words.specs.RunnerState.{RunnerState}
 use Rattle.version_words.specs.Events.{met_by, IsEnabled}
 use Rattle.machine_states.proofs.Steps.{some_same}
-
-some_none : {A : Type 0} → (a : A) → None ≡ Some a → ⊥
-some_none a e = cc
-
-true_false : false ≡ true → ⊥
-true_false e = cc
 
 -- the kinds of step that are made in no run alone
 abbrev pub is_outer : EventKind → Bool
@@ -48,14 +44,14 @@ is_outer _ = false
 
 met : (s : Sizes) (y x : Spot × Access) (b : Bool) → (if b then Some y else None) ≡ Some x → Some y ≡ Some x
 met s y x true e = e
-met s y x false e = absurd (some_none x e)
+met s y x false e = absurd (none-some x e)
 
 fitted : (s : Sizes) (a : Ask) (x : Spot × Access) → fitting s a ≡ Some x → a ≡ Some x
 fitted s None x e = e
 fitted s (Some y) x e = met s y x (fits s y.0) e
 
 pub unless_gone : (s : Sizes) (gone : Bool) (a : Ask) (x : Spot × Access) → (if gone then None else fitting s a) ≡ Some x → a ≡ Some x
-unless_gone s true a x e = absurd (some_none x e)
+unless_gone s true a x e = absurd (none-some x e)
 unless_gone s false a x e = fitted s a x e
 
 neither : (b : Bool) (a a' : Ask) → a ≡ None → a' ≡ None → (if b then a else a') ≡ None
@@ -75,16 +71,16 @@ module _ (m : Meaning) (l : Layout) where
   no_line (kinds.Join worker) free q micro e = refl
   no_line (kinds.LoadEntry request reply) free q micro e = refl
   no_line (kinds.Hold thunk d) free q micro e = refl
-  no_line _ free q micro e = absurd (true_false e)
+  no_line _ free q micro e = absurd (false≢true e)
 
   no_opening : (k : EventKind) (q : RunState) → is_outer k ≡ true → opening_ask k q ≡ None
-  no_opening (kinds.LoadThunk o) q e = absurd (true_false e)
-  no_opening kinds.LoadDone q e = absurd (true_false e)
+  no_opening (kinds.LoadThunk o) q e = absurd (false≢true e)
+  no_opening kinds.LoadDone q e = absurd (false≢true e)
   no_opening _ q e = refl
 
   by_run : (rs : List Request) (r : ℕ) (k : EventKind) (p : PartState) (o : Option RunState) (x : Spot × Access) → is_outer k ≡ true → ask_by m l rs r k p o ≡ Some x → (o ≡ None) × (outside_ask m l rs r k p ≡ Some x)
   by_run rs r k p None x e h = (refl, h)
-  by_run rs r k p (Some q) x e h = absurd (some_none x (sym (neither (is_open_run q) _ _ (no_line k p.nodes.free q (next_of m q) e) (no_opening k q e)) ∙ h))
+  by_run rs r k p (Some q) x e h = absurd (none-some x (sym (neither (is_open_run q) _ _ (no_line k p.nodes.free q (next_of m q) e) (no_opening k q e)) ∙ h))
 
   -- such an event is enabled in no run alone
   pub outer : (rs : List Request) (r : ℕ) (k : EventKind) (p : PartState) (x : Spot × Access) → is_outer k ≡ true → asks m l rs r k p ≡ Some x → (p.run ≡ None) × (outside_ask m l rs r k p ≡ Some x)
@@ -93,32 +89,32 @@ module _ (m : Meaning) (l : Layout) where
 -- where the test holds
 pub tested : (b : Bool) (spot : Spot) (access : Access) (x : Spot × Access) → when b spot access ≡ Some x → (b ≡ true) × ((spot, access) ≡ x)
 tested true spot access x e = (refl, some_same (spot, access) x e)
-tested false spot access x e = absurd (some_none x e)
+tested false spot access x e = absurd (none-some x e)
 
 pub enters : (stage : Stage) (x : Spot × Access) → enter_load_ask stage ≡ Some x → (spots.Epoch, Loads) ≡ x
 enters stages.Idle x e = some_same (spots.Epoch, Loads) x e
-enters _ x e = absurd (some_none x e)
+enters _ x e = absurd (none-some x e)
 
 pub announces : (r : ℕ) (stage : Stage) (x : Spot × Access) → announce_ask r stage ≡ Some x → (e : ℕ) × (stage ≡ stages.Loaded e) × ((spots.Announcement r, Stores e) ≡ x)
 announces r (stages.Loaded e) x h = (e, refl, some_same (spots.Announcement r, Stores e) x h)
-announces r stages.Idle x h = absurd (some_none x h)
-announces r stages.Announced x h = absurd (some_none x h)
-announces r (stages.Entered g) x h = absurd (some_none x h)
-announces r (stages.Scanning y next clear) x h = absurd (some_none x h)
+announces r stages.Idle x h = absurd (none-some x h)
+announces r stages.Announced x h = absurd (none-some x h)
+announces r (stages.Entered g) x h = absurd (none-some x h)
+announces r (stages.Scanning y next clear) x h = absurd (none-some x h)
 
 pub enters_again : (stage : Stage) (x : Spot × Access) → enter_again_ask stage ≡ Some x → (spots.Epoch, Loads) ≡ x
 enters_again stages.Announced x e = some_same (spots.Epoch, Loads) x e
-enters_again _ x e = absurd (some_none x e)
+enters_again _ x e = absurd (none-some x e)
 
 same_number : (n next : ℕ) (b : Bool) → n == next && b ≡ true → next ≡ n
 same_number n next b h = grind (arith, nat_tests)
 
 scans_next : (l : Layout) (n : ℕ) (stage : Stage) (x : Spot × Access) → scan_one_ask l n stage ≡ Some x → scan_of stage ≡ kinds.ScanOne n
 scans_next l n (stages.Scanning y next clear) x h = let t = tested (n == next && nat_le next l.runners) (spots.Announcement n) Loads x h in ap kinds.ScanOne (same_number n next (nat_le next l.runners) t.0)
-scans_next l n stages.Idle x h = absurd (some_none x h)
-scans_next l n (stages.Loaded e) x h = absurd (some_none x h)
-scans_next l n stages.Announced x h = absurd (some_none x h)
-scans_next l n (stages.Entered g) x h = absurd (some_none x h)
+scans_next l n stages.Idle x h = absurd (none-some x h)
+scans_next l n (stages.Loaded e) x h = absurd (none-some x h)
+scans_next l n stages.Announced x h = absurd (none-some x h)
+scans_next l n (stages.Entered g) x h = absurd (none-some x h)
 
 -- the events of an entry, each with its word and access
 module _ {T : Type 0} (m : Meaning) (r : RunnerState T) where

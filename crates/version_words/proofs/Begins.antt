@@ -1,6 +1,7 @@
 -- The rule holds of a new table.
-use Rattle.std.proofs.Common.{◌≡◌, ℕ, zero, suc, ◌+◌, ◌<◌, List, [], ◌∷◌, ◌++◌, Bool, true, false, length, sym, refl, ap, subst, ◌∙◌, arith, Some, None, slice_get, eq-eqb, length-append}
+use Rattle.std.proofs.Common.{◌≡◌, ℕ, zero, suc, ◌+◌, ◌<◌, List, [], ◌∷◌, ◌++◌, Bool, true, false, length, sym, refl, ap, subst, ◌∙◌, arith, Some, slice_get, eq-eqb, length-append}
 use Rattle.std.specs.Prelude.{if◌then◌else◌}
+use Rattle.std.proofs.lemmas.Option.{none-some}
 use mathlib.Core.Option.{some, some-injective, some-ne-none}
 use mathlib.Core.Logic.{dite}
 use native.Mathlib.Decide.{ℕ_discrete}
@@ -22,11 +23,8 @@ use Rattle.version_words.specs.Rule.{Holds, keeper_view, IsSeatedAt}
 false_true : false ≡ true → ⊥
 false_true e = cc
 
-none_some : {A : Type 0} → (a : A) → None ≡ Some a → ⊥
-none_some a e = cc
-
 get_first : {A : Type 0} (xs ys : List A) (i : ℕ) (a : A) → slice_get xs i ≡ Some a → slice_get (xs ++ ys) i ≡ Some a
-get_first [] ys i a e = absurd (none_some a e)
+get_first [] ys i a e = absurd (none-some a e)
 get_first (x ∷ xs) ys zero a e = e
 get_first (x ∷ xs) ys (suc i) a e = get_first xs ys i a e
 

@@ -1,8 +1,9 @@
 -- In every state that the machine reaches, a runner's lists of node slots have no more entries than there are node slots, and each slot stands
 -- at most once in its free lists.
-use Rattle.std.proofs.Common.{◌≡◌, ℕ, zero, suc, ◌+◌, ◌<◌, ◌≤◌, List, [], ◌∷◌, length, get_or, Bool, true, false, refl, sym, ap, subst, ⊎_elim, arith, Some, None, slice_get}
+use Rattle.std.proofs.Common.{◌≡◌, ℕ, zero, suc, ◌+◌, ◌<◌, ◌≤◌, List, [], ◌∷◌, length, get_or, Bool, true, false, refl, sym, ap, subst, ⊎_elim, arith, Some, slice_get}
 use Rattle.std.specs.Prelude.{◌||◌, ◌==◌, cond}
 use Rattle.std.proofs.lemmas.Bool.{cases_lt}
+use Rattle.std.proofs.lemmas.Option.{none-some}
 use Rattle.map_history.specs.declared.op.Request.{Request}
 use Rattle.table_words.specs.declared.layout.Layout.{Layout}
 use Rattle.table_words.specs.Limits.{IsWithinLimits}
@@ -30,9 +31,6 @@ use Rattle.interleave_core.specs.machine_invariant.proofs.After.{whole_after, sh
 use Rattle.runner_block.specs.Room.{AreFew}
 use Rattle.version_words.specs.ReachedWith.{ReachedWith, ReachedBy}
 use Rattle.version_words.specs.TableState.{HasSmallValue}
-
-some_none : {A : Type 0} → (a : A) → None ≡ Some a → ⊥
-some_none a e = cc
 
 same_item : (xs : List Request) (i : ℕ) (d e : Request) → i < length xs → get_or xs i d ≡ get_or xs i e
 same_item [] i d e there = absurd (omega arith)

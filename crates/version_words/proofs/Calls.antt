@@ -1,5 +1,6 @@
 -- What a step owes to the table, and what its runner has from it, over plain values.
-use Rattle.std.proofs.Common.{◌≡◌, ℕ, ◌<◌, [], Bool, true, false, sym, refl, ap, subst, ◌∙◌, arith}
+use Rattle.std.proofs.Common.{◌≡◌, ℕ, ◌<◌, [], Bool, false, sym, refl, ap, subst, ◌∙◌, arith}
+use Rattle.std.proofs.lemmas.Bool.{true≢false}
 use Rattle.atomic_table.specs.Table.{Me, Step, step, Allows}
 use Rattle.atomic_table.specs.Seated.{TableId}
 use Rattle.section_body.specs.declared.thunk.Thunk.{Thunk}
@@ -28,12 +29,9 @@ use Rattle.version_words.specs.TableState.{TableState, IsOf, IsBuilt}
 use Rattle.version_words.specs.Events.{IsNamed, IsBlind, Makes, Tries, Commits, Announced, step_at, seen_seat}
 use Rattle.version_words.proofs.Ties.{steps, stores}
 
-true_false : true ≡ false → ⊥
-true_false e = cc
-
 -- the seat word is the first
 not_nought : (s : Sizes) (spot : Spot) → is_seat spot ≡ false → address s spot ≡ 0 → ⊥
-not_nought s spots.Seat e h = true_false e
+not_nought s spots.Seat e h = true≢false e
 not_nought s spots.Epoch e h = omega arith
 not_nought s spots.Clock e h = omega arith
 not_nought s (spots.Announcement r) e h = omega arith

@@ -1,6 +1,8 @@
 -- The epoch that a run loaded last for a retirement.
 use Rattle.std.proofs.Common.{◌≡◌, ℕ, ◌+◌, ◌<◌, List, length, Bool, true, false, refl, sym, ap, subst, ◌∙◌, arith, Some, None, if◌then◌else◌}
 use Rattle.std.specs.Prelude.{cond, slice_index_or}
+use Rattle.std.proofs.lemmas.Option.{none-some}
+use Rattle.std.proofs.lemmas.Bool.{true≢false}
 use Rattle.section_body.specs.declared.micro.Micro.{Micro}
 use Rattle.section_body.specs.declared.micro.Micro.TheVariants as micros
 use Rattle.section_body.specs.Line.{is_event, line, micro_at, ending}
@@ -19,12 +21,6 @@ use Rattle.machine_epochs.proofs.RunPlaces.{no_retire_next, open_run}
 use Rattle.machine_states.proofs.Steps.{some_same}
 use Rattle.version_words.specs.Place.{HasEpoch}
 
-some_none : {A : Type 0} → (a : A) → None ≡ Some a → ⊥
-some_none a e = cc
-
-true_false : true ≡ false → ⊥
-true_false e = cc
-
 -- the load of the epoch for a retirement
 abbrev pub is_epoch : EventKind → Bool
 is_epoch kinds.EpochForRetire = true
@@ -33,7 +29,7 @@ is_epoch _ = false
 module _ (m : Meaning) (l : Layout) (free : List ℕ) (q : RunState) where
   -- where the epoch is to be loaded no other kind of step is asked for
   epoch_asks : (k : EventKind) → is_epoch k ≡ false → (slot log : ℕ) → line_ask m l k free q (micros.EpochForRetire slot log) ≡ None
-  epoch_asks kinds.EpochForRetire n slot log = absurd (true_false n)
+  epoch_asks kinds.EpochForRetire n slot log = absurd (true≢false n)
   epoch_asks (kinds.LoadCell None) n slot log = refl
   epoch_asks (kinds.LoadCell (Some place)) n slot log = refl
   epoch_asks _ n slot log = refl
@@ -43,7 +39,7 @@ module _ (m : Meaning) (l : Layout) (free : List ℕ) (q : RunState) where
     no_load slot log e =
         let t = thunk_of q.opened in
         let there : next_of m q ≡ micros.EpochForRetire slot log = ap (λ (micro : Micro). cond (is_event micro) micro (slice_index_or (ending (line_of m q) q.at t.lock t.word) q.ended micros.End)) e in
-        some_none x (sym (ap (line_ask m l k free q) there ∙ epoch_asks k other slot log) ∙ asked)
+        none-some x (sym (ap (line_ask m l k free q) there ∙ epoch_asks k other slot log) ∙ asked)
 
     module _ (ready : is_open_run q ≡ true) (epoch : ℕ) (q' : RunState) (trail : List ℕ) (same : q'.opened ≡ q.opened)
         (rests : q'.at ≡ settled (setting_of l q.descriptor) trail (line_of m q) (q.at + 1)) where

@@ -22,6 +22,8 @@ use Rattle.table_words.specs.Places.{address, descriptor_count, Fits}
 use Rattle.table_words.specs.Limits.{IsWithinLimits}
 use Rattle.std.proofs.Math.Nat.{mul-le-mul_left}
 use Rattle.std.proofs.lemmas.Bool.Decides.{nat_tests}
+use Rattle.std.proofs.lemmas.Option.{none-some}
+use Rattle.std.proofs.lemmas.Bool.{true≢false}
 use Rattle.structure_laws.specs.Meaning.{Meaning}
 use Rattle.runner_parts.specs.declared.event.EventKind.{EventKind}
 use Rattle.runner_parts.specs.declared.event.EventKind.TheVariants as kinds
@@ -49,14 +51,8 @@ use Rattle.version_words.proofs.Keeps.{KeepsPart, no_epoch, was_part, then_kept}
 use Rattle.version_words.proofs.Epochs.{is_epoch, goes_epoch, ended_epoch, epoch_if}
 use Rattle.machine_states.proofs.Steps.{some_same, asked_fits}
 
-some_none : {A : Type 0} → (a : A) → None ≡ Some a → ⊥
-some_none a e = cc
-
 false_true : false ≡ true → ⊥
 false_true e = cc
-
-true_false : true ≡ false → ⊥
-true_false e = cc
 
 -- the kinds of step that are made in a run alone, once it has loaded its opening, and that leave the lists as they are
 abbrev pub is_quiet : EventKind → Bool
@@ -121,7 +117,7 @@ pub record HasOpenRun (p : PartState) : Type 0 where
 open_by : (m : Meaning) (l : Layout) (k : EventKind) (free : List ℕ) (q : RunState) (x : Spot × Access) (b : Bool) → opening_ask k q ≡ None
     → (if b then line_ask m l k free q (next_of m q) else opening_ask k q) ≡ Some x → b ≡ true
 open_by m l k free q x true none e = refl
-open_by m l k free q x false none e = absurd (some_none x (sym none ∙ e))
+open_by m l k free q x false none e = absurd (none-some x (sym none ∙ e))
 
 no_opening : (k : EventKind) (q : RunState) → is_inner k ≡ true → opening_ask k q ≡ None
 no_opening (kinds.LoadThunk o) q e = absurd (false_true e)
@@ -147,7 +143,7 @@ not_outside m l rs r _ p e = absurd (false_true e)
 
 by_run : (m : Meaning) (l : Layout) (rs : List Request) (r : ℕ) (k : EventKind) (p : PartState) (o : Option RunState) (x : Spot × Access) → is_inner k ≡ true → ask_by m l rs r k p o ≡ Some x
     → (q : RunState) × (o ≡ Some q) × (is_open_run q ≡ true)
-by_run m l rs r k p None x e h = absurd (some_none x (sym (not_outside m l rs r k p e) ∙ h))
+by_run m l rs r k p None x e h = absurd (none-some x (sym (not_outside m l rs r k p e) ∙ h))
 by_run m l rs r k p (Some q) x e h = (q, refl, open_by m l k p.nodes.free q x (is_open_run q) (no_opening k q e) h)
 
 pub opened_run : (m : Meaning) (l : Layout) (rs : List Request) (r : ℕ) (k : EventKind) (p : PartState) (x : Spot × Access) → is_inner k ≡ true → asks m l rs r k p ≡ Some x → HasOpenRun p
@@ -211,7 +207,7 @@ pub places : (kept : RunPlace) (made : Option ℕ) (q : RunState) → IsPlaced k
 places kept made q is same y e = let e' = some_same q y e in (subst (IsPlaced kept) e' is, ap (λ (z : RunState). z.made) (sym e') ∙ same)
 
 pub places_none : (kept : RunPlace) (made : Option ℕ) → PlacesRun kept made None
-places_none kept made y e = absurd (some_none y e)
+places_none kept made y e = absurd (none-some y e)
 
 run_if : (kept : RunPlace) (made : Option ℕ) (b : Bool) (p p' : PartState) → PlacesRun kept made p.run → PlacesRun kept made p'.run → PlacesRun kept made (if b then p else p').run
 run_if kept made true p p' e e' = e
@@ -238,8 +234,8 @@ module _ (m : Meaning) (l : Layout) (p : PartState) (q : RunState) (there : p.ru
   stays_place : (k : EventKind) → is_quiet k ≡ true → is_ender k ≡ false → PlacesRun kept q.made (line_after m l k p q micro found).run
   stays_place (kinds.LoadCell None) e n = goes_placed found
   stays_place kinds.ExchangeCell e n = goes_placed q.word
-  stays_place kinds.SetDone e n = absurd (true_false n)
-  stays_place kinds.Release e n = absurd (true_false n)
+  stays_place kinds.SetDone e n = absurd (true≢false n)
+  stays_place kinds.Release e n = absurd (true≢false n)
   stays_place kinds.ClockLoad e n = goes_placed found
   stays_place kinds.StampExchange e n = let stamp = written_once found (stamp_after q.word) in let request = (thunk_of q.opened).request in
       run_if kept q.made (nat_lt q.word last_clock) (record p { run = Some (goes_on m l q stamp); records = learned p.records request false stamp }) p (goes_placed stamp)
@@ -253,24 +249,24 @@ module _ (m : Meaning) (l : Layout) (p : PartState) (q : RunState) (there : p.ru
   stays_place _ e n = absurd (false_true e)
 
   stays_open : (k : EventKind) → is_quiet k ≡ true → is_ender k ≡ false → (line_after m l k p q micro found).run ≡ None → ⊥
-  stays_open kinds.SetDone e n none = true_false n
-  stays_open kinds.Release e n none = true_false n
+  stays_open kinds.SetDone e n none = true≢false n
+  stays_open kinds.Release e n none = true≢false n
   stays_open kinds.StampExchange e n none = let stamp = written_once found (stamp_after q.word) in let request = (thunk_of q.opened).request in
-      some_if (nat_lt q.word last_clock) (record p { run = Some (goes_on m l q stamp); records = learned p.records request false stamp }) p (λ h. some_none (goes_on m l q stamp) (sym h)) (λ h. some_none q (sym h ∙ there)) none
-  stays_open (kinds.LoadCell None) e n none = some_none (goes_on m l q found) (sym none)
-  stays_open kinds.ExchangeCell e n none = some_none (goes_on m l q q.word) (sym none)
-  stays_open kinds.ClockLoad e n none = some_none (goes_on m l q found) (sym none)
-  stays_open kinds.ClockRaise e n none = some_none (goes_on m l q q.word) (sym none)
-  stays_open kinds.ReplyExchange e n none = some_none (goes_on m l q q.word) (sym none)
-  stays_open kinds.NestedLoad e n none = some_none (goes_on m l q found) (sym none)
-  stays_open kinds.NestedHold e n none = some_none (goes_on m l q q.word) (sym none)
-  stays_open kinds.OutcomeLoad e n none = some_none (goes_on m l q found) (sym none)
+      some_if (nat_lt q.word last_clock) (record p { run = Some (goes_on m l q stamp); records = learned p.records request false stamp }) p (λ h. none-some (goes_on m l q stamp) (sym h)) (λ h. none-some q (sym h ∙ there)) none
+  stays_open (kinds.LoadCell None) e n none = none-some (goes_on m l q found) (sym none)
+  stays_open kinds.ExchangeCell e n none = none-some (goes_on m l q q.word) (sym none)
+  stays_open kinds.ClockLoad e n none = none-some (goes_on m l q found) (sym none)
+  stays_open kinds.ClockRaise e n none = none-some (goes_on m l q q.word) (sym none)
+  stays_open kinds.ReplyExchange e n none = none-some (goes_on m l q q.word) (sym none)
+  stays_open kinds.NestedLoad e n none = none-some (goes_on m l q found) (sym none)
+  stays_open kinds.NestedHold e n none = none-some (goes_on m l q q.word) (sym none)
+  stays_open kinds.OutcomeLoad e n none = none-some (goes_on m l q found) (sym none)
   stays_open (kinds.LoadCell (Some place)) e n none = false_true e
   stays_open _ e n none = false_true e
 
   commit_open : (k : EventKind) → is_commit k ≡ true → (line_after m l k p q micro found).run ≡ None → ⊥
-  commit_open kinds.Commit e none = some_if (is_of_lock micro) (lock_committed m l p q found) (word_committed m l p q found) (λ h. some_none (agrees m l q (written_once found q.word)) (sym h)) (λ h. some_none (agrees m l q (written_once found q.word)) (sym h)) none
-  commit_open kinds.OutcomeCommit e none = some_none (agrees m l q (written_once found q.word)) (sym none)
+  commit_open kinds.Commit e none = some_if (is_of_lock micro) (lock_committed m l p q found) (word_committed m l p q found) (λ h. none-some (agrees m l q (written_once found q.word)) (sym h)) (λ h. none-some (agrees m l q (written_once found q.word)) (sym h)) none
+  commit_open kinds.OutcomeCommit e none = none-some (agrees m l q (written_once found q.word)) (sym none)
   commit_open _ e none = false_true e
 
   ends_place : (k : EventKind) → is_ender k ≡ true → PlacesRun (at_end kept) q.made (line_after m l k p q micro found).run
@@ -302,8 +298,8 @@ module _ (m : Meaning) (l : Layout) (p : PartState) (q : RunState) (there : p.ru
   quiet_epoch : ((word : ℕ) → HasEpoch m epoch (Some (goes_on m l q word))) → (k : EventKind) → is_quiet k ≡ true → is_ender k ≡ false → HasEpoch m epoch (line_after m l k p q micro found).run
   quiet_epoch goes (kinds.LoadCell None) e n = goes found
   quiet_epoch goes kinds.ExchangeCell e n = goes q.word
-  quiet_epoch goes kinds.SetDone e n = absurd (true_false n)
-  quiet_epoch goes kinds.Release e n = absurd (true_false n)
+  quiet_epoch goes kinds.SetDone e n = absurd (true≢false n)
+  quiet_epoch goes kinds.Release e n = absurd (true≢false n)
   quiet_epoch goes kinds.ClockLoad e n = goes found
   quiet_epoch goes kinds.StampExchange e n = let stamp = written_once found (stamp_after q.word) in let request = (thunk_of q.opened).request in
       epoch_if m epoch (nat_lt q.word last_clock) (record p { run = Some (goes_on m l q stamp); records = learned p.records request false stamp }) p (goes stamp) (subst (HasEpoch m epoch) (sym there) was)
@@ -323,7 +319,7 @@ module _ (m : Meaning) (l : Layout) (p : PartState) (q : RunState) (there : p.ru
   ender_epoch : (k : EventKind) → is_ender k ≡ true → HasEpoch m epoch (line_after m l k p q micro found).run
   ender_epoch kinds.SetDone e = ended_epoch m epoch q was
   ender_epoch kinds.Release e = let after_release = record p { reads = cell_read p.reads (place_of micro) found } in
-      epoch_if m epoch (is_end (next_of m (ended_more q))) (run_over m l after_release (ended_more q)) (with_run after_release (ended_more q)) (no_epoch m epoch None (λ y e. some_none y e)) (ended_epoch m epoch q was)
+      epoch_if m epoch (is_end (next_of m (ended_more q))) (run_over m l after_release (ended_more q)) (with_run after_release (ended_more q)) (no_epoch m epoch None (λ y e. none-some y e)) (ended_epoch m epoch q was)
   ender_epoch _ e = absurd (false_true e)
 
 quiet_other : (k : EventKind) → is_quiet k ≡ true → is_epoch k ≡ false
@@ -346,15 +342,15 @@ module _ (m : Meaning) (l : Layout) (free : List ℕ) (q : RunState) where
   done_asks : (k : EventKind) → is_ender k ≡ false → line_ask m l k free q micros.SetDone ≡ None
   done_asks (kinds.LoadCell None) n = refl
   done_asks (kinds.LoadCell (Some place)) n = refl
-  done_asks kinds.SetDone n = absurd (true_false n)
-  done_asks kinds.Release n = absurd (true_false n)
+  done_asks kinds.SetDone n = absurd (true≢false n)
+  done_asks kinds.Release n = absurd (true≢false n)
   done_asks _ n = refl
 
   release_asks : (k : EventKind) (place word : ℕ) → is_ender k ≡ false → line_ask m l k free q (micros.Release place word) ≡ None
   release_asks (kinds.LoadCell None) place word n = refl
   release_asks (kinds.LoadCell (Some p)) place word n = refl
-  release_asks kinds.SetDone place word n = absurd (true_false n)
-  release_asks kinds.Release place word n = absurd (true_false n)
+  release_asks kinds.SetDone place word n = absurd (true≢false n)
+  release_asks kinds.Release place word n = absurd (true≢false n)
   release_asks _ place word n = refl
 
   end_asks : (k : EventKind) → line_ask m l k free q micros.End ≡ None
@@ -371,9 +367,9 @@ module _ (m : Meaning) (l : Layout) (free : List ℕ) (q : RunState) where
   -- and where it asks for these it is at its end
   ender_ends : (k : EventKind) → is_ender k ≡ true → (micro : Micro) (x : Spot × Access) → line_ask m l k free q micro ≡ Some x → is_ending micro ≡ true
   ender_ends kinds.SetDone e micros.SetDone x h = refl
-  ender_ends kinds.SetDone e _ x h = absurd (some_none x h)
+  ender_ends kinds.SetDone e _ x h = absurd (none-some x h)
   ender_ends kinds.Release e (micros.Release place word) x h = refl
-  ender_ends kinds.Release e _ x h = absurd (some_none x h)
+  ender_ends kinds.Release e _ x h = absurd (none-some x h)
   ender_ends _ e micro x h = absurd (false_true e)
 
 all_ending : (xs : List Micro) → list_all is_ending xs ≡ true → (i : ℕ) → is_ending (slice_index_or xs i micros.End) ≡ true
@@ -418,7 +414,7 @@ ends_run : (m : Meaning) (l : Layout) (p : PartState) (q : RunState) (micro : Mi
     → (y : RunState) → (line_after m l k p q micro found).run ≡ Some y → is_ending (next_of m y) ≡ true
 ends_run m l p q micro found kinds.SetDone e is = ends_some m (ended_more q) (next_ends m q is)
 ends_run m l p q micro found kinds.Release e is = let after_release = record p { reads = cell_read p.reads (place_of micro) found } in
-    ends_if m (is_end (next_of m (ended_more q))) (run_over m l after_release (ended_more q)) (with_run after_release (ended_more q)) (λ y h. absurd (some_none y h)) (ends_some m (ended_more q) (next_ends m q is))
+    ends_if m (is_end (next_of m (ended_more q))) (run_over m l after_release (ended_more q)) (with_run after_release (ended_more q)) (λ y h. absurd (none-some y h)) (ends_some m (ended_more q) (next_ends m q is))
 ends_run m l p q micro found _ e is = absurd (false_true e)
 
 pub over : (kept : Block) (q : RunState) → IsPlaced kept.place q → is_open_run q ≡ true → 12 ≤ kept.place.opened
@@ -427,7 +423,7 @@ over kept q is ready = let a = is.opened in let b = opened_all q ready in omega 
 -- a run that goes on isn't at its end
 pub goes_inside : (m : Meaning) (l : Layout) (kept : Block) (p : PartState) (q : RunState) (k : EventKind) (x : Spot × Access) → KeepsPart m kept p → p.run ≡ Some q → is_ender k ≡ false
     → line_ask m l k p.nodes.free q (next_of m q) ≡ Some x → kept.place.inside ≡ false → ⊥
-goes_inside m l kept p q k x was there n asked closed = some_none x (sym (ending_asks m l p.nodes.free q k n (next_of m q) (was.run.ending q there closed)) ∙ asked)
+goes_inside m l kept p q k x was there n asked closed = none-some x (sym (ending_asks m l p.nodes.free q k n (next_of m q) (was.run.ending q there closed)) ∙ asked)
 
 module _ (m : Meaning) (l : Layout) (k : EventKind) (kept : Block) (p : PartState) (found : ℕ) (h : HasOpenRun p) (x : Spot × Access) (asked : line_ask m l k p.nodes.free h.run (next_of m h.run) ≡ Some x) (was : KeepsPart m kept p) where
   abbrev q : RunState
@@ -490,7 +486,7 @@ module _ (m : Meaning) (l : Layout) (k : EventKind) (kept : Block) (p : PartStat
 line_by : (m : Meaning) (l : Layout) (k : EventKind) (free : List ℕ) (q : RunState) (x : Spot × Access) (b : Bool) → opening_ask k q ≡ None
     → (if b then line_ask m l k free q (next_of m q) else opening_ask k q) ≡ Some x → line_ask m l k free q (next_of m q) ≡ Some x
 line_by m l k free q x true none e = e
-line_by m l k free q x false none e = absurd (some_none x (sym none ∙ e))
+line_by m l k free q x false none e = absurd (none-some x (sym none ∙ e))
 
 asked_by : (m : Meaning) (l : Layout) (rs : List Request) (r : ℕ) (k : EventKind) (p : PartState) (o : Option RunState) (q : RunState) (x : Spot × Access) → is_inner k ≡ true → o ≡ Some q
     → ask_by m l rs r k p o ≡ Some x → line_ask m l k p.nodes.free q (next_of m q) ≡ Some x
@@ -544,7 +540,7 @@ nested_can : (l : Layout) (q : RunState) (micro : Micro) (x : Spot × Access) �
 nested_can l q (micros.NestedHold place word) x e =
     let t = tested (can_hold l q.descriptor word) (spots.Cell place) (Exchanges word (held_word q.descriptor word)) x e in
     subst (λ (y : Spot × Access). CanHold l q.descriptor (old_of y.1)) t.1 (can_hold_is l q.descriptor word t.0)
-nested_can l q _ x e = absurd (some_none x e)
+nested_can l q _ x e = absurd (none-some x e)
 
 -- these numbers fit
 pub few_descriptors : (l : Layout) → IsWithinLimits l → descriptor_count l < 20000
@@ -568,7 +564,7 @@ release_can l q (micros.Release place word) x e =
     let t = tested (can_hold l q.descriptor word && can_raise l held) (spots.Cell place) (Exchanges held (next_word held 0)) x e in
     let b = both_true (can_hold l q.descriptor word) (can_raise l held) t.0 in let two = b.1 in
     (word, can_hold_is l q.descriptor word b.0, (let low : version_of held < l.version_max = grind (arith, nat_tests, two) in low), ap (λ (y : Spot × Access). old_of y.1) (sym t.1))
-release_can l q _ x e = absurd (some_none x e)
+release_can l q _ x e = absurd (none-some x e)
 
 same_version : (d v v' : ℕ) → 2 ^ 32 * (v + 1) + (d + 1) ≡ 2 ^ 32 * (v' + 1) + (d + 1) → v ≡ v'
 same_version d v v' e = omega arith

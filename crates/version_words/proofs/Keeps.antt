@@ -23,11 +23,9 @@ use Rattle.version_words.specs.Rule.{joining, splitting}
 use Rattle.table_words.specs.declared.layout.Layout.{Layout}
 use Rattle.runner_steps.specs.AfterOutside.{split_after}
 use Rattle.std.specs.Prelude.{nat_lt, ◌+◌, if◌then◌else◌}
+use Rattle.std.proofs.lemmas.Option.{none-some}
 use Rattle.version_words.proofs.Asked.{is_outer, in_no_run}
 use Rattle.version_words.proofs.Told.{told, told_outside, still_outside}
-
-some_none : {A : Type 0} → (a : A) → None ≡ Some a → ⊥
-some_none a e = cc
 
 -- the block is that of this part
 pub record KeepsPart (m : Meaning) (kept : Block) (p : PartState) : Type 0 where
@@ -44,7 +42,7 @@ no_epoch m epoch o none = record { opening = λ q e few. absurd (none q e); reti
 module _ {T : Type 0} (mean : T → Meaning) (number : ℕ) (kept : Block) (me me' : Me Thunk (View T)) (view' : View T) (is : view' ≡ me'.0) (same_number : me.0.number ≡ view'.number) (same_layout : me.0.layout ≡ view'.layout)
     (same_structure : me.0.structure ≡ view'.structure) (slots : me'.1 ≡ me.1) (was : IsKept mean number kept me) (rested : me.0.part.run ≡ None) (rests : view'.part.run ≡ None) where
   none_runs : (q : RunState) → view'.part.run ≡ Some q → ⊥
-  none_runs q e = some_none q (sym rests ∙ e)
+  none_runs q e = none-some q (sym rests ∙ e)
 
   pub resting_kept : (lists : KeptState) → lists.room ≡ kept.lists.room → lists.part ≡ told_part view'.part → IsKept mean number (record kept { lists = lists }) me'
   resting_kept lists room told_so = record {

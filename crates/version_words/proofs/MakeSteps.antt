@@ -1,6 +1,7 @@
 -- The commit of a Make, and the load of the epoch for a retirement.
 use Rattle.std.proofs.Common.{◌≡◌, ℕ, [], ◌+◌, ◌<◌, ◌^◌, ⊎_elim, inl, inr, List, ◌∷◌, ◌++◌, Bool, true, false, refl, sym, ap, subst, ◌∙◌, arith, Option, Some, None, if◌then◌else◌, length-append}
 use Rattle.std.specs.Prelude.{◌==◌, ◌&&◌}
+use Rattle.std.proofs.lemmas.Option.{none-some}
 use Rattle.atomic_table.specs.Table.{Me}
 use Rattle.atomic_table.specs.Seated.{TableId}
 use Rattle.map_history.specs.declared.op.Request.{Request}
@@ -51,16 +52,13 @@ use Rattle.version_words.proofs.OwnLoads.{goes_on_part}
 use Rattle.machine_states.proofs.Steps.{some_same}
 use Rattle.version_words.proofs.Shows.{seen_then}
 
-some_none : {A : Type 0} → (a : A) → None ≡ Some a → ⊥
-some_none a e = cc
-
 -- what an exchange puts there
 abbrev new_of : Access → ℕ
 new_of (Exchanges old new) = new
 new_of _ = 0
 
 slot_by : (q : RunState) (log : ℕ) (o : Option ℕ) (spot : Spot) (slot : ℕ) → make_commit_to q log o ≡ Some (spot, Exchanges 0 (slot + 1)) → o ≡ Some slot
-slot_by q log None spot slot e = absurd (some_none (spot, Exchanges 0 (slot + 1)) e)
+slot_by q log None spot slot e = absurd (none-some (spot, Exchanges 0 (slot + 1)) e)
 slot_by q log (Some s) spot slot e =
     let same = ap (λ (x : Spot × Access). new_of x.1) (some_same (spots.LogWord q.descriptor log, Exchanges 0 (s + 1)) (spot, Exchanges 0 (slot + 1)) e) in
     ap (λ (n : ℕ). Some n) (let is : s ≡ slot = omega (arith, same) in is)
@@ -68,20 +66,20 @@ slot_by q log (Some s) spot slot e =
 -- the commit of a Make proposes the slot that the run has in the hand
 made_slot : (q : RunState) (micro : Micro) (spot : Spot) (slot : ℕ) → make_commit_ask q micro ≡ Some (spot, Exchanges 0 (slot + 1)) → q.made ≡ Some slot
 made_slot q (micros.MakeCommit log) spot slot e = slot_by q log q.made spot slot e
-made_slot q _ spot slot e = absurd (some_none (spot, Exchanges 0 (slot + 1)) e)
+made_slot q _ spot slot e = absurd (none-some (spot, Exchanges 0 (slot + 1)) e)
 
 -- and goes to the log word of the step at which the run is
 log_by : (q : RunState) (log : ℕ) (o : Option ℕ) (x : Spot × Access) → make_commit_to q log o ≡ Some x → x.0 ≡ spots.LogWord q.descriptor log
-log_by q log None x e = absurd (some_none x e)
+log_by q log None x e = absurd (none-some x e)
 log_by q log (Some s) x e = ap (λ (y : Spot × Access). y.0) (sym (some_same (spots.LogWord q.descriptor log, Exchanges 0 (s + 1)) x e))
 
 made_log : (q : RunState) (micro : Micro) (x : Spot × Access) → make_commit_ask q micro ≡ Some x → (log : ℕ) × (micro ≡ micros.MakeCommit log) × (x.0 ≡ spots.LogWord q.descriptor log)
 made_log q (micros.MakeCommit log) x e = (log, refl, log_by q log q.made x e)
-made_log q _ x e = absurd (some_none x e)
+made_log q _ x e = absurd (none-some x e)
 
 module _ (m : Meaning) (l : Layout) (rs : List Request) (r : ℕ) (p : PartState) (x : Spot × Access) where
   make_by : (o : Option RunState) → p.run ≡ o → ask_by m l rs r kinds.MakeCommit p o ≡ Some x → IsOpenFor m l kinds.MakeCommit p x
-  make_by None run e = absurd (some_none x e)
+  make_by None run e = absurd (none-some x e)
   make_by (Some q) run e = let h = open_inside m l kinds.MakeCommit p q (is_open_run q) x refl refl e in record { open_run = record { run = q; there = run; ready = h.0 }; asks_so = h.1 }
 
   make_asked : asks m l rs r kinds.MakeCommit p ≡ Some x → IsOpenFor m l kinds.MakeCommit p x
@@ -89,7 +87,7 @@ module _ (m : Meaning) (l : Layout) (rs : List Request) (r : ℕ) (p : PartState
 
   epoch_spot : (q : RunState) (micro : Micro) → epoch_for_retire_ask q micro ≡ Some x → x ≡ (spots.Epoch, Loads)
   epoch_spot q (micros.EpochForRetire slot log) e = sym (some_same (spots.Epoch, Loads) x e)
-  epoch_spot q _ e = absurd (some_none x e)
+  epoch_spot q _ e = absurd (none-some x e)
 
   epoch_by : (o : Option RunState) → p.run ≡ o → ask_by m l rs r kinds.EpochForRetire p o ≡ Some x → (x ≡ (spots.Epoch, Loads)) × Stands m l kinds.EpochForRetire p x
   epoch_by None run e = (sym (tested (is_walking p.stage p.run && is_over p.published) spots.Epoch Loads x e).1, inl run)
@@ -121,13 +119,13 @@ module _ (m : Meaning) (l : Layout) (found : ℕ) (kept : Block) (p : PartState)
       subst (λ (b : Bool). KeepsPart m (if b then record kept { place = record (kept.place) { epoch = found } } else kept') p') (sym (was.place.outside none)) (record {
         lists = ap (λ (y : PartState). retire_after y y.published found) was.lists ∙ told_retired p p.published found;
         place = record {
-          run = λ q e. absurd (some_none q (sym rests ∙ e));
+          run = λ q e. absurd (none-some q (sym rests ∙ e));
           rest = λ e. was.place.rest none;
           outside = λ e. was.place.outside none;
-          in_hand = λ q s e f. absurd (some_none q (sym rests ∙ e));
+          in_hand = λ q s e f. absurd (none-some q (sym rests ∙ e));
         };
-        run = record { ending = λ q e. absurd (some_none q (sym rests ∙ e)) };
-        epoch = no_epoch m kept.place.epoch p'.run (λ q e. some_none q (sym rests ∙ e));
+        run = record { ending = λ q e. absurd (none-some q (sym rests ∙ e)) };
+        epoch = no_epoch m kept.place.epoch p'.run (λ q e. none-some q (sym rests ∙ e));
       })
 
   in_run_by : (h : IsOpenFor m l kinds.EpochForRetire p x) (b : Bool) → kept.place.inside ≡ b
@@ -206,8 +204,8 @@ module _ {T : Type 0} (mean : T → Meaning) (s : T) (spot : Spot) (slot number 
       place = record {
         run = λ y e. (goes y e).0;
         rest = λ none. over kept q placed opens.open_run.ready;
-        outside = λ none. absurd (some_none q' (sym none));
-        in_hand = λ y n e f. absurd (some_none n (sym (goes y e).1 ∙ f));
+        outside = λ none. absurd (none-some q' (sym none));
+        in_hand = λ y n e f. absurd (none-some n (sym (goes y e).1 ∙ f));
       };
       run = record { ending = λ y e closed. absurd (goes_inside (mean s) me.0.layout kept p q kinds.MakeCommit (spot, Exchanges 0 (slot + 1)) before opens.open_run.there refl opens.asks_so closed) };
       epoch = goes_epoch (mean s) me.0.layout p.nodes.free q kinds.MakeCommit (spot, Exchanges 0 (slot + 1)) refl opens.asks_so opens.open_run.ready kept.place.epoch q' (q.trail ++ written_once found (slot + 1) ∷ []) refl refl;

@@ -2,6 +2,8 @@
 use Rattle.std.proofs.Common.{◌≡◌, ℕ, ◌+◌, ◌<◌, ◌≤◌, List, [], ◌∷◌, ◌++◌, length, Bool, true, false, refl, sym, ap, subst, ◌∙◌, arith, Option, Some, None, if◌then◌else◌, length-append, ne_eqb, suc, ◌-◌, ◌/◌}
 use Rattle.std.specs.Prelude.{◌%◌, ◌^◌, ◌==◌, nat_lt, slice_index}
 use Rattle.std.proofs.lemmas.Bool.Decides.{nat_tests}
+use Rattle.std.proofs.lemmas.Option.{none-some}
+use Rattle.std.proofs.lemmas.Bool.{true≢false}
 use Rattle.atomic_table.specs.Table.{Me}
 use Rattle.atomic_table.specs.Seated.{TableId}
 use Rattle.section_body.specs.declared.thunk.Thunk.{Thunk}
@@ -44,15 +46,9 @@ use Rattle.version_words.proofs.Epochs.{loaded_epoch}
 use Rattle.machine_states.proofs.Steps.{some_same}
 use Rattle.version_words.proofs.Shows.{seen_then}
 
-some_none : {A : Type 0} → (a : A) → None ≡ Some a → ⊥
-some_none a e = cc
-
-true_false : true ≡ false → ⊥
-true_false e = cc
-
 -- a run that loads one more thunk word isn't open yet
 opens_by : (m : Meaning) (l : Layout) (free : List ℕ) (q : RunState) (x : Spot × Access) (b : Bool) → (if b then line_ask m l (kinds.LoadThunk None) free q (next_of m q) else open_more_ask q) ≡ Some x → (b ≡ false) × (open_more_ask q ≡ Some x)
-opens_by m l free q x true e = absurd (some_none x e)
+opens_by m l free q x true e = absurd (none-some x e)
 opens_by m l free q x false e = (refl, e)
 
 still_closed : (m : Meaning) (l : Layout) (p : PartState) (q : RunState) (found : ℕ) → is_open_run q ≡ false → after_by m l (kinds.LoadThunk None) p (Some q) found ≡ opened_more p q found
@@ -107,11 +103,11 @@ module _ (m : Meaning) (kept : Block) (lists : KeptState) (p : PartState) (q : R
     lists = told_is;
     place = record {
       run = λ y e. subst (IsPlaced place) (some_same q y (sym there ∙ e)) is;
-      rest = λ e. absurd (some_none q (sym e ∙ there));
-      outside = λ e. absurd (some_none q (sym e ∙ there));
+      rest = λ e. absurd (none-some q (sym e ∙ there));
+      outside = λ e. absurd (none-some q (sym e ∙ there));
       in_hand = λ y slot e made. in_hand slot (ap (λ (z : RunState). z.made) (some_same q y (sym there ∙ e)) ∙ made);
     };
-    run = record { ending = λ y e closed. absurd (true_false (sym inside ∙ closed)) };
+    run = record { ending = λ y e closed. absurd (true≢false (sym inside ∙ closed)) };
     epoch = subst (HasEpoch m place.epoch) (sym there) (subst (λ (n : ℕ). HasEpoch m n (Some q)) (sym epoch) (loaded_epoch m q));
   }
 
@@ -138,7 +134,7 @@ module _ {T : Type 0} (mean : T → Meaning) (s : T) (descriptor found number : 
       (subst (KeepsPart m kept') (sym step)
       (subst (λ (place : RunPlace). KeepsPart m (record kept { place = place }) (record p { run = Some (opened descriptor found) })) place_is
       (opening_part m kept kept.lists (record p { run = Some (opened descriptor found) }) (opened descriptor found) refl was.lists (first_place descriptor)
-      (record { descriptor = refl; opened = refl; request = λ some. absurd (omega arith); agreed = refl; making = refl; worn = refl }) refl refl (λ slot e. absurd (some_none slot e)))))
+      (record { descriptor = refl; opened = refl; request = λ some. absurd (omega arith); agreed = refl; making = refl; worn = refl }) refl refl (λ slot e. absurd (none-some slot e)))))
 
   -- what the code keeps when one more thunk word was loaded
   more_kept : (q : RunState) → p.run ≡ Some q → met_by m (seen_seat old_table me) (kinds.LoadThunk None) ≡ Some (spots.ThunkWord descriptor (length q.opened), Loads)
@@ -160,12 +156,12 @@ module _ {T : Type 0} (mean : T → Meaning) (s : T) (descriptor found number : 
 
   -- the done word is loaded after the thunk words
   done_opens : (q : RunState) (x : Spot × Access) (b : Bool) → (if b then line_ask m l kinds.LoadDone p.nodes.free q (next_of m q) else load_done_ask q) ≡ Some x → (b ≡ false) × (load_done_ask q ≡ Some x)
-  done_opens q x true e = absurd (some_none x e)
+  done_opens q x true e = absurd (none-some x e)
   done_opens q x false e = (refl, e)
 
   done_by : (o : Option RunState) → p.run ≡ o → (x : Spot × Access) → ask_by m l me.0.requests me.0.number kinds.LoadDone p o ≡ Some x → Makes m kinds.LoadDone found (seen_seat old_table me) (seen_seat new_table me')
       → IsKept mean number (record kept { place = record (kept.place) { opened = 13; inside = true } }) me'
-  done_by None there x e made = absurd (some_none x e)
+  done_by None there x e made = absurd (none-some x e)
   done_by (Some q) there x e made =
       let o = done_opens q x (is_open_run q) e in
       let t = tested (length q.opened == 12) (spots.DoneWord q.descriptor) Loads x o.1 in
@@ -190,7 +186,7 @@ module _ {T : Type 0} (mean : T → Meaning) (s : T) (descriptor found number : 
 
   done_found_by : Laws m → IsWithinLimits me'.0.layout → AreAllowed me'.0.requests → (made : Makes m kinds.LoadDone found (seen_seat old_table me) (seen_seat new_table me')) (o : Option RunState) → p.run ≡ o
       → ask_by m l me.0.requests me.0.number kinds.LoadDone p o ≡ Some made.met → found ≤ 1
-  done_found_by laws limits allowed made None there e = absurd (some_none made.met e)
+  done_found_by laws limits allowed made None there e = absurd (none-some made.met e)
   done_found_by laws limits allowed made (Some q) there e =
       let o = done_opens q made.met (is_open_run q) e in
       let step = ap (λ (o : Option RunState). after_by m l kinds.LoadDone p o found) there ∙ ap (λ (b : Bool). if b then line_after m l kinds.LoadDone p q (next_of m q) found else opened_more p q found) o.0 in

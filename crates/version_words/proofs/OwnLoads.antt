@@ -3,6 +3,8 @@ use Rattle.std.proofs.Common.{◌≡◌, ℕ, zero, suc, [], ◌+◌, ◌-◌, �
 use Rattle.std.specs.Prelude.{◌==◌, ◌&&◌, ◌||◌, nat_lt, slice_index, ◌-◌}
 use Rattle.std.specs.Option.{is_some}
 use Rattle.std.proofs.lemmas.Bool.Decides.{nat_tests}
+use Rattle.std.proofs.lemmas.Option.{none-some}
+use Rattle.std.proofs.lemmas.Bool.{true≢false}
 use Rattle.atomic_table.specs.Table.{Me}
 use Rattle.atomic_table.specs.Seated.{TableId}
 use Rattle.map_history.specs.declared.op.Request.{Request}
@@ -54,12 +56,6 @@ use Rattle.version_words.proofs.Epochs.{goes_epoch}
 use Rattle.version_words.proofs.Inside.{is_ender, HasOpenRun, PlacesRun, both_true, goes_inside, over, places, same_place, step_is}
 use Rattle.version_words.proofs.Privates.{IsPrivate, IsOpenFor, Stands, of_cell, of_word, is_there, open_inside}
 
-some_none : {A : Type 0} → (a : A) → None ≡ Some a → ⊥
-some_none a e = cc
-
-true_false : true ≡ false → ⊥
-true_false e = cc
-
 not_past : (slot n : ℕ) → nat_lt slot n ≡ true → n ≤ slot → ⊥
 not_past slot n e past = grind (arith, nat_tests, e, past)
 
@@ -96,7 +92,7 @@ load_inside m l slot word free q (micros.PrivateLoad cell log) x e =
     let two = both_true (is_cell m l slot word) (is_slot (make_slot q.made free) slot && word == cell) t.0 in
     let b = both_true (nat_lt slot (slot_count l m.fixed_slots)) (nat_lt word 5) two.0 in
     (of_cell m l slot word Loads x b.0 b.1 t.1, (both_true (is_slot (make_slot q.made free) slot) (word == cell) two.1).0, b.0)
-load_inside m l slot word free q _ x e = absurd (some_none x e)
+load_inside m l slot word free q _ x e = absurd (none-some x e)
 
 module _ (m : Meaning) (l : Layout) (rs : List Request) (r : ℕ) (slot word : ℕ) (p : PartState) (x : Spot × Access) where
   load_by : (o : Option RunState) → p.run ≡ o → ask_by m l rs r (kinds.PrivateLoad slot word) p o ≡ Some x → IsPrivate m l slot word Loads x × Stands m l (kinds.PrivateLoad slot word) p x
@@ -147,7 +143,7 @@ last_in (x ∷ xs) zero slot low is = ap (λ (b : Bool). b || has xs slot) (let 
 last_in (x ∷ xs) (suc i) slot low is = let rest = last_in xs i slot (omega arith) is in grind (arith, nat_tests, rest)
 
 last_free : (xs : List ℕ) (slot : ℕ) (b : Bool) → length xs == 0 ≡ b → is_slot (if b then None else Some (slice_index xs (length xs - 1))) slot ≡ true → has xs slot ≡ true
-last_free xs slot true e h = absurd (true_false (sym h))
+last_free xs slot true e h = absurd (true≢false (sym h))
 last_free xs slot false e h = last_in xs (length xs - 1) slot (grind (arith, nat_tests, e)) (let same : slice_index xs (length xs - 1) ≡ slot = grind (arith, nat_tests, h) in same)
 
 has_pushed : (xs : List ℕ) (slot : ℕ) → has (xs ++ slot ∷ []) slot ≡ true
@@ -157,7 +153,7 @@ has_pushed (x ∷ xs) slot = let rest = has_pushed xs slot in grind (arith, nat_
 -- a Make without a slot takes a free one
 taken_free : (o : Option ℕ) (free : List ℕ) (slot : ℕ) → is_some o ≡ false → is_slot (make_slot o free) slot ≡ true → has free slot ≡ true
 taken_free None free slot e h = last_free free slot (length free == 0) refl h
-taken_free (Some s) free slot e h = absurd (true_false e)
+taken_free (Some s) free slot e h = absurd (true≢false e)
 
 -- a run whose next step leaves all but its number to go by
 pub goes_on_part : (m : Meaning) (l : Layout) (k : EventKind) (kept : Block) (epoch : ℕ) (p : PartState) (h : HasOpenRun p) (x : Spot × Access) (found : ℕ) → KeepsPart m kept p → is_ender k ≡ false
@@ -173,7 +169,7 @@ goes_on_part m l k kept epoch p h x found was n asked has_epoch =
       place = record {
         run = λ y e. (run y e).0;
         rest = λ none. over kept q is h.ready;
-        outside = λ none. absurd (some_none (goes_on m l q found) (sym none));
+        outside = λ none. absurd (none-some (goes_on m l q found) (sym none));
         in_hand = λ y slot e made. was.place.in_hand q slot h.there (sym (run y e).1 ∙ made);
       };
       run = record { ending = λ y e closed. absurd (goes_inside m l kept p q k x was h.there n asked closed) };
@@ -187,7 +183,7 @@ module _ (m : Meaning) (l : Layout) (slot word found : ℕ) (kept : Block) (p : 
   pub may_take : kept.lists.room ≡ slot_count l m.fixed_slots → Stands m l k p x → times slot p.nodes.free ≤ 1 → MayTake kept slot
   may_take room at once = record {
     free = λ inside unmade. ⊎_elim
-        (λ (none : p.run ≡ None). absurd (true_false (sym inside ∙ was.place.outside none)))
+        (λ (none : p.run ≡ None). absurd (true≢false (sym inside ∙ was.place.outside none)))
         (λ (h : IsOpenFor m l k p x).
         let q = h.open_run.run in
         ap (λ (y : PartState). has y.nodes.free slot) was.lists
@@ -210,13 +206,13 @@ module _ (m : Meaning) (l : Layout) (slot word found : ℕ) (kept : Block) (p : 
       in_place p' same kept' told = record {
         lists = told;
         place = record {
-          run = λ q e. absurd (some_none q (sym (same ∙ none) ∙ e));
+          run = λ q e. absurd (none-some q (sym (same ∙ none) ∙ e));
           rest = λ e. was.place.rest none;
           outside = λ e. was.place.outside none;
-          in_hand = λ q s e f. absurd (some_none q (sym (same ∙ none) ∙ e));
+          in_hand = λ q s e f. absurd (none-some q (sym (same ∙ none) ∙ e));
         };
-        run = record { ending = λ q e. absurd (some_none q (sym (same ∙ none) ∙ e)) };
-        epoch = no_epoch m kept.place.epoch p'.run (λ q e. some_none q (sym (same ∙ none) ∙ e));
+        run = record { ending = λ q e. absurd (none-some q (sym (same ∙ none) ∙ e)) };
+        epoch = no_epoch m kept.place.epoch p'.run (λ q e. none-some q (sym (same ∙ none) ∙ e));
       }
 
       by : (b : Bool) → KeepsPart m (block_found l kept slot word found b)
@@ -242,7 +238,7 @@ module _ (m : Meaning) (l : Layout) (slot word found : ℕ) (kept : Block) (p : 
           place = record {
             run = λ y e. (run y e).0;
             rest = λ none. over kept q placed h.open_run.ready;
-            outside = λ none. absurd (some_none q' (sym none));
+            outside = λ none. absurd (none-some q' (sym none));
             in_hand = λ y s e made. subst (λ (n : ℕ). has (p.nodes.hand ++ slot ∷ []) n ≡ true) (some_same slot s (sym (run y e).1 ∙ made)) (has_pushed p.nodes.hand slot);
           };
           run = record { ending = λ y e closed. absurd (goes_inside m l kept p q k x was h.open_run.there refl h.asks_so closed) };
@@ -251,8 +247,8 @@ module _ (m : Meaning) (l : Layout) (slot word found : ℕ) (kept : Block) (p : 
 
     filling_part : (o : Option ℕ) (b : Bool) → q.made ≡ o → kept.place.making ≡ b → KeepsPart m (block_filling kept slot b) (fill_loaded m l slot p q o found)
     filling_part None false made e = taking_part made
-    filling_part None true made e = absurd (true_false (sym e ∙ (placed.making ∙ ap is_some made)))
-    filling_part (Some s) false made e = absurd (true_false (sym (sym e ∙ (placed.making ∙ ap is_some made))))
+    filling_part None true made e = absurd (true≢false (sym e ∙ (placed.making ∙ ap is_some made)))
+    filling_part (Some s) false made e = absurd (true≢false (sym (sym e ∙ (placed.making ∙ ap is_some made))))
     filling_part (Some s) true made e = goes_on_part m l k kept kept.place.epoch p h.open_run x found was refl h.asks_so
         (goes_epoch m l p.nodes.free q k x refl h.asks_so h.open_run.ready kept.place.epoch (goes_on m l q found) q.trail refl refl)
 

@@ -2,6 +2,7 @@
 use Rattle.std.proofs.Common.{◌≡◌, ℕ, [], ◌+◌, ◌-◌, ◌*◌, ◌/◌, ◌<◌, ◌≤◌, ◌⊎◌, inl, inr, ⊎_elim, List, Bool, true, false, refl, sym, ap, subst, ◌∙◌, arith, Option, Some, None, if◌then◌else◌}
 use Rattle.std.specs.Prelude.{◌||◌, ◌%◌, ◌==◌, ◌&&◌, nat_lt, nat_le}
 use Rattle.std.proofs.lemmas.Bool.Decides.{nat_tests}
+use Rattle.std.proofs.lemmas.Option.{none-some}
 use Rattle.atomic_table.specs.Table.{Me}
 use Rattle.atomic_table.specs.Seated.{TableId}
 use Rattle.map_history.specs.declared.op.Request.{Request}
@@ -43,9 +44,6 @@ use Rattle.version_words.proofs.Asked.{unless_gone, tested}
 use Rattle.version_words.proofs.Keeps.{KeepsPart, no_epoch, was_part, then_kept}
 use Rattle.version_words.proofs.Epochs.{goes_epoch}
 use Rattle.version_words.proofs.Inside.{HasOpenRun, PlacesRun, both_true, goes_inside, over, places, step_is}
-
-some_none : {A : Type 0} → (a : A) → None ≡ Some a → ⊥
-some_none a e = cc
 
 -- where a descriptor's word stands
 record StandsAt (s : Sizes) (d word at : ℕ) : Type 0 where
@@ -141,7 +139,7 @@ store_inside m l slot word number q (micros.PrivateStore cell log value) x e =
     let t = tested (is_cell m l slot word && (is_slot q.made slot && (word == cell && (can_raise l q.word && number == next_word q.word (source_value q.trail value))))) (spots.Cell (cell_of m.fixed_cells slot word)) (Stores number) x e in
     let b = both_true (nat_lt slot (slot_count l m.fixed_slots)) (nat_lt word 5) (both_true (is_cell m l slot word) _ t.0).0 in
     of_cell m l slot word (Stores number) x b.0 b.1 t.1
-store_inside m l slot word number q _ x e = absurd (some_none x e)
+store_inside m l slot word number q _ x e = absurd (none-some x e)
 
 -- a run that has loaded its opening, and whose next step is of this kind
 pub record IsOpenFor (m : Meaning) (l : Layout) (k : EventKind) (p : PartState) (x : Spot × Access) : Type 0 where
@@ -155,7 +153,7 @@ Stands m l k p x = (p.run ≡ None) ⊎ IsOpenFor m l k p x
 pub open_inside : (m : Meaning) (l : Layout) (k : EventKind) (p : PartState) (q : RunState) (b : Bool) (x : Spot × Access) → opening_ask k q ≡ None → is_open_run q ≡ b
     → (if b then line_ask m l k p.nodes.free q (next_of m q) else opening_ask k q) ≡ Some x → (is_open_run q ≡ true) × (line_ask m l k p.nodes.free q (next_of m q) ≡ Some x)
 open_inside m l k p q true x none e h = (e, h)
-open_inside m l k p q false x none e h = absurd (some_none x (sym none ∙ h))
+open_inside m l k p q false x none e h = absurd (none-some x (sym none ∙ h))
 
 module _ (m : Meaning) (l : Layout) (rs : List Request) (r : ℕ) (slot word number : ℕ) (p : PartState) (x : Spot × Access) where
   abbrev kind : EventKind
@@ -173,7 +171,7 @@ store_node : (m : Meaning) (l : Layout) (slot word number : ℕ) (q : RunState) 
 store_node m l slot word number q (micros.PrivateStore cell log value) x e =
     let t = tested (is_cell m l slot word && (is_slot q.made slot && (word == cell && (can_raise l q.word && number == next_word q.word (source_value q.trail value))))) (spots.Cell (cell_of m.fixed_cells slot word)) (Stores number) x e in
     (both_true (nat_lt slot (slot_count l m.fixed_slots)) (nat_lt word 5) (both_true (is_cell m l slot word) _ t.0).0).0
-store_node m l slot word number q _ x e = absurd (some_none x e)
+store_node m l slot word number q _ x e = absurd (none-some x e)
 
 not_past : (slot n : ℕ) → nat_lt slot n ≡ true → n ≤ slot → ⊥
 not_past slot n e past = grind (arith, nat_tests, e, past)
@@ -255,13 +253,13 @@ module _ {T : Type 0} (mean : T → Meaning) (s : T) (slot word number found own
   store_resting worn none = record {
     lists = was.lists;
     place = record {
-      run = λ q e. absurd (some_none q (sym none ∙ e));
+      run = λ q e. absurd (none-some q (sym none ∙ e));
       rest = λ e. was.place.rest none;
       outside = λ e. was.place.outside none;
-      in_hand = λ q made e f. absurd (some_none q (sym none ∙ e));
+      in_hand = λ q made e f. absurd (none-some q (sym none ∙ e));
     };
-    run = record { ending = λ q e. absurd (some_none q (sym none ∙ e)) };
-    epoch = no_epoch m kept.place.epoch p.run (λ q e. some_none q (sym none ∙ e));
+    run = record { ending = λ q e. absurd (none-some q (sym none ∙ e)) };
+    epoch = no_epoch m kept.place.epoch p.run (λ q e. none-some q (sym none ∙ e));
   }
 
   store_running : (h : HasOpenRun p) (x : Spot × Access) → line_ask m l k p.nodes.free h.run (next_of m h.run) ≡ Some x → KeepsPart m kept' (fill_stored m l number p h.run)
@@ -281,7 +279,7 @@ module _ {T : Type 0} (mean : T → Meaning) (s : T) (slot word number found own
         place = record {
           run = λ y e. (run y e).0;
           rest = λ none. over kept q is h.ready;
-          outside = λ none. absurd (some_none _ (sym none));
+          outside = λ none. absurd (none-some _ (sym none));
           in_hand = λ y made e f. was.place.in_hand q made h.there (sym (run y e).1 ∙ f);
         };
         run = record { ending = λ y e closed. absurd (goes_inside m l kept p q k x before h.there refl asks_so closed) };

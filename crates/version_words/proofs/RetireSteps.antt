@@ -1,6 +1,7 @@
 -- The commit of a Retire.
 use Rattle.std.proofs.Common.{◌≡◌, ℕ, [], ◌+◌, ◌<◌, List, ◌∷◌, ◌++◌, Bool, true, false, refl, sym, ap, subst, ◌∙◌, arith, Option, Some, None, if◌then◌else◌, length-append}
 use Rattle.std.specs.Prelude.{◌==◌}
+use Rattle.std.proofs.lemmas.Option.{none-some}
 use Rattle.atomic_table.specs.Table.{Me}
 use Rattle.atomic_table.specs.Seated.{TableId}
 use Rattle.map_history.specs.declared.op.Request.{Request}
@@ -48,9 +49,6 @@ use Rattle.version_words.proofs.Inside.{PlacesRun, opened_all, goes_inside, log_
 use Rattle.version_words.proofs.Privates.{IsOpenFor, open_inside}
 use Rattle.version_words.proofs.Shows.{seen_then}
 
-some_none : {A : Type 0} → (a : A) → None ≡ Some a → ⊥
-some_none a e = cc
-
 -- what an exchange puts there
 abbrev new_of : Access → ℕ
 new_of (Exchanges old new) = new
@@ -61,11 +59,11 @@ retires_next : (q : RunState) (micro : Micro) (spot : Spot) (slot : ℕ) → ret
 retires_next q (micros.RetireCommit s log) spot slot e =
     let same = ap (λ (x : Spot × Access). new_of x.1) (some_same (spots.LogWord q.descriptor log, Exchanges 0 (s + 1)) (spot, Exchanges 0 (slot + 1)) e) in
     (log, ap (λ (n : ℕ). micros.RetireCommit n log) (let is : s ≡ slot = omega (arith, same) in is), ap (λ (x : Spot × Access). x.0) (sym (some_same (spots.LogWord q.descriptor log, Exchanges 0 (s + 1)) (spot, Exchanges 0 (slot + 1)) e)))
-retires_next q _ spot slot e = absurd (some_none (spot, Exchanges 0 (slot + 1)) e)
+retires_next q _ spot slot e = absurd (none-some (spot, Exchanges 0 (slot + 1)) e)
 
 module _ (m : Meaning) (l : Layout) (rs : List Request) (r : ℕ) (p : PartState) (x : Spot × Access) where
   retire_by : (o : Option RunState) → p.run ≡ o → ask_by m l rs r kinds.RetireCommit p o ≡ Some x → IsOpenFor m l kinds.RetireCommit p x
-  retire_by None run e = absurd (some_none x e)
+  retire_by None run e = absurd (none-some x e)
   retire_by (Some q) run e = let h = open_inside m l kinds.RetireCommit p q (is_open_run q) x refl refl e in record { open_run = record { run = q; there = run; ready = h.0 }; asks_so = h.1 }
 
   retire_asked : asks m l rs r kinds.RetireCommit p ≡ Some x → IsOpenFor m l kinds.RetireCommit p x
@@ -156,7 +154,7 @@ module _ {T : Type 0} (mean : T → Meaning) (s : T) (spot : Spot) (slot number 
     place = record {
       run = λ y e. (goes y e).0;
       rest = λ none. over kept q placed opens.open_run.ready;
-      outside = λ none. absurd (some_none q' (sym none));
+      outside = λ none. absurd (none-some q' (sym none));
       in_hand = λ y n e f. ap (λ (xs : List ℕ). has xs n) (same_hand (found == 0) p.nodes slot q.word) ∙ was.place.in_hand q n opens.open_run.there (sym (goes y e).1 ∙ f);
     };
     run = record { ending = λ y e closed. absurd (goes_inside (mean s) me.0.layout kept p q kinds.RetireCommit (spot, Exchanges 0 (slot + 1)) before opens.open_run.there refl opens.asks_so closed) };

@@ -2,7 +2,7 @@
 use Rattle.std.proofs.Common.{◌≡◌, ◌≢◌, ℕ, zero, suc, ◌+◌, ◌<◌, List, [], ◌∷◌, ◌++◌, Bool, true, false, length, set, sym, refl, ap, subst, ◌∙◌, ⊎_elim, arith, Option, Some, None, slice_get, length-set, length-append, eq-eqb, ne_eqb}
 use Rattle.std.specs.Prelude.{slice_index, ◌==◌, ◌&&◌, not, nat_lt, if◌then◌else◌}
 use Rattle.std.proofs.lemmas.List.{set-get_or}
-use Rattle.std.proofs.lemmas.Option.{slice_get_within}
+use Rattle.std.proofs.lemmas.Option.{slice_get_within, none-some}
 use Rattle.std.proofs.lemmas.Bool.Decides.{nat_tests}
 use Rattle.std.specs.Option.{IsSome}
 use mathlib.Core.Logic.{dite}
@@ -168,9 +168,6 @@ module _ {T : Type 0} (mean : T → Meaning) (s : T) (l : Layout) (rs : List Req
 abbrev spent_of : (T : Type 0) → View T
 spent_of T = spent
 
-none_some : {A : Type 0} → (a : A) → None ≡ Some a → ⊥
-none_some a e = cc
-
 -- a join makes no split
 pub joins_none : (m : Meaning) (l : Layout) (r worker found : ℕ) (p q : PartState) → (knows_also (after m l r (kinds.Join worker) Seat Loads p found) q).records.splits ≡ p.records.splits
 joins_none m l r worker found p q = kept_splits m l r (kinds.Join worker) Seat Loads p found refl
@@ -309,7 +306,7 @@ module _ {T : Type 0} (mean : T → Meaning) (s : T) (l : Layout) (rs : List Req
             parts_else (suc worker) (λ e. omega (arith, past, length_now, b)) (λ e. omega (arith, past, length_now, a)) ∙ h.shown.waiting worker (omega (arith, past, length_now)) few;
       };
       about = λ seat u t. seat_cases (λ seat u. u.structure ≡ Some t → IsSeatedAt s l rs seat t u)
-          (λ is. absurd (none_some t is))
+          (λ is. absurd (none-some t is))
           (λ is. let old = h.about id v t here is in record { same_structure = old.same_structure; same_layout = old.same_layout; same_requests = old.same_requests; own_seat = old.own_seat })
           (λ seat u ne ne' old is. h.about seat u t old is) seat u;
       splits = λ u e. ap (λ (y : View T). y.part.records.splits + 1) (sym (some-injective both u (sym still_first ∙ e)))

@@ -1,6 +1,7 @@
 -- No event but a split changes how many workers were split off.
 use Rattle.std.proofs.Common.{◌≡◌, ℕ, Bool, true, false, refl, ◌∙◌, Option, Some, None, if◌then◌else◌}
 use Rattle.std.specs.Prelude.{◌==◌, nat_lt, nat_le}
+use Rattle.std.proofs.lemmas.Bool.{true≢false}
 use Rattle.section_body.specs.declared.micro.Micro.{Micro}
 use Rattle.table_words.specs.declared.layout.Layout.{Layout}
 use Rattle.table_words.specs.declared.spot.Spot.{Spot}
@@ -20,9 +21,6 @@ use Rattle.runner_parts.specs.Lists.{learned}
 use Rattle.runner_steps.specs.AfterOutside.{scan_one_after, advance_after, retire_after}
 use Rattle.runner_steps.specs.AfterInRun.{goes_on, fill_loaded, make_committed, stamp_agreed}
 use Rattle.runner_steps.specs.After.{outside_after, line_after, after_by, stepped, left_more, noted, after}
-
-true_false : true ≡ false → ⊥
-true_false e = cc
 
 abbrev pub is_split : EventKind → Bool
 is_split kinds.Split = true
@@ -64,7 +62,7 @@ retires p (Some x) found = refl
 
 module _ (m : Meaning) (l : Layout) where
   outside : (k : EventKind) (p : PartState) (found : ℕ) → is_split k ≡ false → splits (outside_after m l k p found) ≡ splits p
-  outside kinds.Split p found e = absurd (true_false e)
+  outside kinds.Split p found e = absurd (true≢false e)
   outside (kinds.ScanOne n) p found e = scans l p p.stage found
   outside kinds.Advance p found e = advances p p.stage
   outside (kinds.LoadCell (Some place)) p found e = refl

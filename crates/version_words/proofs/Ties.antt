@@ -4,6 +4,7 @@ use Rattle.std.specs.Prelude.{slice_index}
 use Rattle.std.proofs.lemmas.List.{set-get_or, get_or-set_same, get_or-set_other}
 use Rattle.std.proofs.lemmas.Option.{slice_get_within}
 use Rattle.std.specs.Option.{IsSome}
+use Rattle.std.proofs.lemmas.Bool.{true≢false}
 use mathlib.Core.Option.{some, some-injective, some-ne-none}
 use lib.ListN.{get_elem?}
 use Rattle.atomic_table.specs.Table.{State, Me, Step, keeps, Allows}
@@ -43,9 +44,6 @@ some_spent e = cc
 false_true : false ≡ true → ⊥
 false_true e = cc
 
-true_false : true ≡ false → ⊥
-true_false e = cc
-
 no_join : (k : EventKind) → is_plain k ≡ true → is_join k ≡ false
 no_join (kinds.Join worker) e = absurd (false_true e)
 no_join _ e = refl
@@ -55,11 +53,11 @@ no_split kinds.Split e = absurd (false_true e)
 no_split _ e = refl
 
 puts_own : (k : EventKind) → is_join k ≡ false → (ps : List PartState) (i : ℕ) (p : PartState) → put_part ps k i p ≡ set ps i p
-puts_own (kinds.Join worker) e ps i p = absurd (true_false e)
+puts_own (kinds.Join worker) e ps i p = absurd (true≢false e)
 puts_own _ e ps i p = refl
 
 settles_own : (k : EventKind) → is_join k ≡ false → (p : PartState) (ps : List PartState) → settled_part k p ps ≡ p
-settles_own (kinds.Join worker) e p ps = absurd (true_false e)
+settles_own (kinds.Join worker) e p ps = absurd (true≢false e)
 settles_own _ e p ps = refl
 
 pub joined_same : {T : Type 0} (views : List (View T)) (id : ℕ) (v w : View T) → get_elem? views id ≡ some v → w.joined ≡ v.joined → joined_in (set views id w) ≡ joined_in views

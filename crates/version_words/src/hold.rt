@@ -5,10 +5,10 @@ ghost use Rattle.version_words.specs.TableState.{IsOf};
 ghost use Rattle.version_words.specs.Events.{IsEnabled, Makes};
 
 use crate::plays;
-use crate::run_ends::held_word;
 use crate::runner::Runner;
 use crate::table::FlockTable;
 use runner_parts::Structure;
+use runner_steps::held_word;
 use section_body::{Thunk, Word};
 use table_words::Spot;
 

@@ -25,7 +25,6 @@ mod view;
 mod words;
 
 pub use laws::{table_is_allowed, words_are_reached};
-pub use run_ends::held_word;
 pub use runner::Runner;
 pub use table::FlockTable;
 pub use words::Words;
@@ -33,3 +32,4 @@ pub use words::Words;
 // Passed on to the layers above, so that they needn't name these libraries themselves.
 pub use interleave_core;
 pub use interleave_core::reached_histories;
+pub use runner_steps::held_word;

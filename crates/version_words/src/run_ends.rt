@@ -13,24 +13,9 @@ use crate::plays;
 use crate::runner::Runner;
 use crate::table::FlockTable;
 use runner_parts::Structure;
+use runner_steps::{agreed_on, held_word};
 use section_body::{Place, Word};
 use table_words::Spot;
-
-/// What then stands in a word that was exchanged from 0.
-pub fn agreed_on(found: u64, proposal: u64) -> u64
-    ensures { result ≡ written_once found proposal }
-{
-    if found == 0 { proposal } else { found }
-}
-
-/// The word of a lock that this descriptor's section holds, where this free word stood before.
-pub fn held_word(descriptor: u32, word: Word) -> Word
-    requires descriptor { descriptor < 2 ^ 32 - 1 }
-    requires version { version_of word < 2 ^ 32 - 1 }
-    ensures { result ≡ held_word descriptor word }
-{
-    Word::pack(descriptor + 1, word.version() + 1)
-}
 
 impl<S: Structure> FlockTable<S> {
     /// The next log word: this word is agreed on, where it is still empty. The answer is the agreed word, and whether this exchange

@@ -15,7 +15,8 @@ use runner_parts::Structure;
 /// number of its slots, of which each has a cell with the greatest version (`worn_slots_are_worn` of `runner_facts`).
 pub fn worn_lists_have_no_repeats<S: Structure>(structure: &S)
     ensures { (layout : Layout) (requests : List Request) (w : World) → IsWithinLimits layout → AreAllowed requests
-        → Reached (S.meaning structure.now) layout requests w → HasNoRepeats (sight (S.meaning structure.now) layout requests w) }
+        → Reached (S.meaning structure.now) layout requests w
+        → HasNoRepeats (sight (S.meaning structure.now) layout requests w) }
 {
     let _ = structure;
 }
