@@ -3,6 +3,7 @@ ghost use Rattle.std.specs.Prelude.{◌≡◌, ◌+◌, ◌<◌, ◌^◌, ◌==�
 ghost use Rattle.tree_bodies.specs.Tree.{tree_steps, look_steps, insert_steps, delete_steps, leaf_with, inner_with, slot_in as link_slot, parent_in, leaf_in, sibling_of, mark_of, names_removed, fits_look, fits_insert, fits_delete};
 ghost use Rattle.section_body.specs.Word.{value_of};
 ghost use Rattle.section_body.specs.Bucket.{operand};
+ghost use Rattle.section_body.specs.declared.step.Step.TheVariants.{Load, Want, Take, Make, Store, Retire};
 
 use section_body::{Body, Init, Place, Step, Thunk, Value, Word};
 
@@ -39,6 +40,54 @@ pub fn tree_body_in(thunk: &Thunk, body: &mut Body)
     }
 }
 
+/// The step that loads the cell at `place` into a register.
+fn load(place: Place, into: u8) -> Step
+    ensures { result ≡ Load place into }
+{
+    Step::Load { place, into }
+}
+
+/// The check that a register holds the word with these bits.
+fn want(reg: u8, bits: u64) -> Step
+    ensures { result ≡ Want reg bits }
+{
+    Step::Want {
+        reg,
+        word: Word::from_bits(bits),
+    }
+}
+
+/// The step that takes the lock at `place`, whose free word has these bits.
+fn take(place: Place, bits: u64) -> Step
+    ensures { result ≡ Take place bits }
+{
+    Step::Take {
+        place,
+        word: Word::from_bits(bits),
+    }
+}
+
+/// The step that makes a node of a node slot.
+fn make(init: Init, into: u8) -> Step
+    ensures { result ≡ Make init into }
+{
+    Step::Make { init, into }
+}
+
+/// The step that stores a value over the word in a register.
+fn store(reg: u8, value: Value) -> Step
+    ensures { result ≡ Store reg value }
+{
+    Step::Store { reg, value }
+}
+
+/// The step that retires a node slot.
+fn retire(slot: u32) -> Step
+    ensures { result ≡ Retire slot }
+{
+    Step::Retire { slot }
+}
+
 /// Form 11: a request that changes nothing. The operands are the place and the word of the link from the
 /// parent to the leaf, the parent's mark word and the reply word.
 fn fill_look(thunk: &Thunk, body: &mut Body) -> Option<()>
@@ -48,22 +97,10 @@ fn fill_look(thunk: &Thunk, body: &mut Body) -> Option<()>
     let mark = thunk.lock.checked_add(4)?;
     let link = u32::try_from(thunk.operands[0]).ok()?;
     body.refill(&[
-        Step::Load {
-            place: link,
-            into: 0,
-        },
-        Step::Want {
-            reg: 0,
-            word: Word::from_bits(thunk.operands[1]),
-        },
-        Step::Load {
-            place: mark,
-            into: 1,
-        },
-        Step::Want {
-            reg: 1,
-            word: Word::from_bits(thunk.operands[2]),
-        },
+        load(link, 0),
+        want(0, thunk.operands[1]),
+        load(mark, 1),
+        want(1, thunk.operands[2]),
         Step::Stamp,
         Step::Answer {
             reply: thunk.operands[3],
@@ -113,41 +150,22 @@ fn fill_insert(thunk: &Thunk, body: &mut Body) -> Option<()>
     let key = u32::try_from(thunk.operands[3]).ok()?;
     let value = u32::try_from(thunk.operands[4]).ok()?;
     let other = u32::try_from(thunk.operands[5]).ok()?;
-    let old = Word::from_bits(thunk.operands[1]);
-    let stays = Value::Const(old.value());
+    let stays = Value::Const(Word::from_bits(thunk.operands[1]).value());
     let parent = if key < other {
         inner(other, Value::Made(2), stays)
     } else {
         inner(key, stays, Value::Made(2))
     };
     body.refill(&[
-        Step::Load {
-            place: link,
-            into: 0,
-        },
-        Step::Want { reg: 0, word: old },
+        load(link, 0),
+        want(0, thunk.operands[1]),
         Step::Fresh { reg: 0 },
-        Step::Load {
-            place: mark,
-            into: 1,
-        },
-        Step::Want {
-            reg: 1,
-            word: Word::from_bits(thunk.operands[2]),
-        },
-        Step::Make {
-            init: leaf(key, value),
-            into: 2,
-        },
-        Step::Make {
-            init: parent,
-            into: 3,
-        },
+        load(mark, 1),
+        want(1, thunk.operands[2]),
+        make(leaf(key, value), 2),
+        make(parent, 3),
         Step::Stamp,
-        Step::Store {
-            reg: 0,
-            value: Value::Made(3),
-        },
+        store(0, Value::Made(3)),
         Step::Answer { reply: NEW },
     ]);
     Some(())
@@ -219,61 +237,23 @@ fn fill_delete(thunk: &Thunk, body: &mut Body) -> Option<()>
     let link = u32::try_from(thunk.operands[0]).ok()?;
     let removed = find_removed(thunk)?;
     body.refill(&[
-        Step::Load {
-            place: link,
-            into: 0,
-        },
-        Step::Want {
-            reg: 0,
-            word: Word::from_bits(thunk.operands[1]),
-        },
+        load(link, 0),
+        want(0, thunk.operands[1]),
         Step::Fresh { reg: 0 },
-        Step::Load {
-            place: mark,
-            into: 1,
-        },
-        Step::Want {
-            reg: 1,
-            word: Word::from_bits(thunk.operands[2]),
-        },
-        Step::Take {
-            place: 5 * removed.parent,
-            word: Word::from_bits(thunk.operands[3]),
-        },
-        Step::Load {
-            place: removed.link,
-            into: 2,
-        },
-        Step::Want {
-            reg: 2,
-            word: Word::from_bits(thunk.operands[5]),
-        },
-        Step::Load {
-            place: removed.sibling,
-            into: 3,
-        },
-        Step::Load {
-            place: 5 * removed.parent + 4,
-            into: 4,
-        },
-        Step::Want {
-            reg: 4,
-            word: Word::from_bits(thunk.operands[6]),
-        },
+        load(mark, 1),
+        want(1, thunk.operands[2]),
+        take(5 * removed.parent, thunk.operands[3]),
+        load(removed.link, 2),
+        want(2, thunk.operands[5]),
+        load(removed.sibling, 3),
+        load(5 * removed.parent + 4, 4),
+        want(4, thunk.operands[6]),
         Step::Fresh { reg: 4 },
         Step::Stamp,
-        Step::Store {
-            reg: 4,
-            value: Value::Const(1),
-        },
-        Step::Store {
-            reg: 0,
-            value: Value::Of(3),
-        },
-        Step::Retire {
-            slot: removed.parent,
-        },
-        Step::Retire { slot: removed.leaf },
+        store(4, Value::Const(1)),
+        store(0, Value::Of(3)),
+        retire(removed.parent),
+        retire(removed.leaf),
         Step::Answer { reply: GONE },
     ]);
     Some(())
