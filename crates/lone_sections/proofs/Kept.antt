@@ -65,12 +65,14 @@ use Rattle.reached_histories.specs.machine_facts.specs.Steps.{WordsStand}
 use Rattle.reached_histories.specs.machine_invariant.specs.Whole.{states_of, IsWhole}
 use Rattle.reached_histories.specs.next_steps.proofs.Parts.{each_part}
 use Rattle.reached_histories.specs.Laws.{HasHistory}
-use Rattle.lone_sections.proofs.Lines.{commit_unique, hold_behind, Wants, wanted_at, rests_behind}
-use Rattle.lone_sections.proofs.Logs.{log_of, carries, LogStays, Commits, line_log, opening_log, outside_log}
-use Rattle.lone_sections.proofs.Runs as runs_of
+use Rattle.runner_facts.proofs.Lines.{commit_unique, rests_behind}
+use Rattle.lone_sections.proofs.Lines.{hold_behind, Wants, wanted_at}
+use Rattle.runner_facts.proofs.Logs.{log_of, carries, LogStays, Commits, line_log, opening_log, outside_log, log_now, log_place}
+use Rattle.runner_facts.proofs.Runs as runs_of
+use Rattle.runner_facts.proofs.Runs.{nested_kind}
 use Rattle.lone_sections.proofs.Cells as cells_of
 use Rattle.lone_sections.proofs.Goes.{Goes, IsUndone}
-use Rattle.lone_sections.proofs.State.{event_commit, not_both, by_zero, held_value, log_now, log_place, nested_kind, sound, in_line, code_is, code_back, log_same, passed_some, done_passed, scene, not_outside, not_locked}
+use Rattle.lone_sections.proofs.State.{event_commit, not_both, by_zero, held_value, sound, in_line, code_is, code_back, log_same, passed_some, done_passed, scene, not_outside, not_locked}
 
 module _ (m : Meaning) (l : Layout) (limits : IsWithinLimits l) (rs : List Request) (over_planner : (per_pair : ℕ) × PlannerLawsOver m l per_pair)
     (s s' : Sight) (r : ℕ) (kind : EventKind) (st : Steps m l rs s s' r kind) (before : HasHistory m l rs s)
@@ -415,7 +417,7 @@ module _ (m : Meaning) (l : Layout) (limits : IsWithinLimits l) (rs : List Reque
               at_same = sym (ap (λ (u : RunState). u.at) same)
 
               rested : (trail : List ℕ) → q'.at ≡ settled (setting_of l q.descriptor) trail (line_of m q) (q.at + 1)
-                  → (kind ≡ kinds.NestedLoad → q1.word ≡ found) → q1.word ≡ w
+                  → (runs_of.loads_lock kind ≡ true → q1.word ≡ found) → q1.word ≡ w
               rested trail place word =
                   let commit = in_section q'.at _ at in
                   let load = line_of_section.ordered.nested_before q'.at p k commit in
@@ -424,7 +426,7 @@ module _ (m : Meaning) (l : Layout) (limits : IsWithinLimits l) (rs : List Reque
                   let here = rests_behind (setting_of l q.descriptor) trail (line_of m q) q.at load.0 (sym place ∙ load.1) (ap is_check in_run) in
                   let event : next_of m q ≡ micros.NestedLoad p k = event_next q (micros.NestedLoad p k) (ap (micro_at (line_of m q)) (sym here) ∙ in_run) refl in
                   let k1 = nested_kind m l y.nodes.free q x p k kind (ap (λ u. line_ask m l kind y.nodes.free q u) (sym event) ∙ e) in
-                  word k1.0 ∙ (ap (λ (u : Spot × Access). f u.0) (sym k1.1) ∙ cell_here (load.1 ∙ ap suc here) (in_section q.at _ (ap cd (sym here) ∙ load_line)))
+                  word (ap runs_of.loads_lock k1.0) ∙ (ap (λ (u : Spot × Access). f u.0) (sym k1.1) ∙ cell_here (load.1 ∙ ap suc here) (in_section q.at _ (ap cd (sym here) ∙ load_line)))
                 where
                   back : (i : ℕ) (micro : Micro) → cd i ≡ micro → micro_at (line_of m q) i ≡ micro
                   back i micro e = sym (run_line q runs full own i _ refl) ∙ e

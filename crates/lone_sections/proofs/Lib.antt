@@ -1,6 +1,4 @@
 mod Lines
-mod Logs
-mod Runs
 mod Parts
 mod Cells
 mod Goes

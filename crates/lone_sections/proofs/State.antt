@@ -59,9 +59,10 @@ use Rattle.reached_histories.specs.machine_facts.specs.Steps.{WordsStand}
 use Rattle.reached_histories.specs.machine_invariant.specs.Whole.{states_of, IsWhole}
 use Rattle.reached_histories.specs.next_steps.proofs.Parts.{each_part}
 use Rattle.reached_histories.specs.Laws.{HasHistory}
-use Rattle.lone_sections.proofs.Lines.{commit_unique, hold_behind, Wants, wanted_at, rests_behind}
-use Rattle.lone_sections.proofs.Logs.{log_of, carries, LogStays, Commits, line_log, opening_log, outside_log}
-use Rattle.lone_sections.proofs.Runs as runs_of
+use Rattle.runner_facts.proofs.Lines.{commit_unique, rests_behind}
+use Rattle.lone_sections.proofs.Lines.{hold_behind, Wants, wanted_at}
+use Rattle.runner_facts.proofs.Logs.{log_of, carries, LogStays, Commits, line_log, opening_log, outside_log, log_now, log_place}
+use Rattle.runner_facts.proofs.Runs as runs_of
 use Rattle.lone_sections.proofs.Cells as cells_of
 use Rattle.lone_sections.proofs.Goes.{Goes, IsUndone}
 
@@ -86,32 +87,6 @@ by_zero (suc n) = inr (λ e. omega (arith, e))
 
 pub held_value : (d w : ℕ) → suc d < 2 ^ 32 → value_of (held_word d w) ≡ suc d
 held_value d w low = omega (arith, low)
-
-one_here : (i v a : ℕ) → cond (i == i) v a ≡ v
-one_here i v a = grind (arith, nat_tests)
-
-pub log_now : (f : Spot → ℕ) (d k new : ℕ) → f (spots.LogWord d k) ≡ 0
-    → put f (spots.LogWord d k) (written (Exchanges 0 new) (f (spots.LogWord d k))) (spots.LogWord d k) ≡ new
-log_now f d k new none = ap (λ n. put f (spots.LogWord d k) (written (Exchanges 0 new) n) (spots.LogWord d k)) none
-    ∙ (one_here d _ _ ∙ one_here k _ _)
-
--- the place in the log of a line's commit
-pub log_place : (is_lock : ℕ → Bool) (version_max lock : ℕ) (code : ℕ → Micro) (slot : ℕ → ℕ) → IsLine is_lock version_max lock code slot
-    → (i : ℕ) (micro : Micro) → code i ≡ micro → is_commit micro ≡ true → log_of micro ≡ slot i
-log_place is_lock version_max lock code slot line i (micros.Commit p k) e commit = line.counted.commit_log i p k e
-log_place is_lock version_max lock code slot line i (micros.NestedCommit p k) e commit = line.counted.nested_log i p k e
-log_place is_lock version_max lock code slot line i (micros.OutcomeCommit p k) e commit = line.counted.outcome_log i p k e
-log_place is_lock version_max lock code slot line i (micros.MakeCommit k) e commit = line.counted.make_log i k e
-log_place is_lock version_max lock code slot line i (micros.RetireCommit t k) e commit = line.counted.retire_log i t k e
-log_place is_lock version_max lock code slot line i micro e commit = absurd (let z = commit in cc)
-
--- a run that stands before the load of a lock loads it
-pub nested_kind : (m : Meaning) (l : Layout) (free : List ℕ) (q : RunState) (x : Spot × Access) (p k : ℕ) (kind : EventKind)
-    → line_ask m l kind free q (micros.NestedLoad p k) ≡ Some x → (kind ≡ kinds.NestedLoad) × ((spots.Cell p, Loads) ≡ x)
-nested_kind m l free q x p k kinds.NestedLoad e = (refl, some_same _ _ e)
-nested_kind m l free q x p k (kinds.LoadCell None) e = some_none x e
-nested_kind m l free q x p k (kinds.LoadCell (Some place)) e = some_none x e
-nested_kind m l free q x p k _ e = some_none x e
 
 -- the section that the worker has published, in a state
 module _ (m : Meaning) (l : Layout) (rs : List Request) (s : Sight) (before : HasHistory m l rs s) (d : ℕ) (t : Thunk)

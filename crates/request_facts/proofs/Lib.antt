@@ -1,2 +1,2 @@
-mod Replies
+pub mod Replies
 pub mod Standing

@@ -3,6 +3,7 @@ use Rattle.std.specs.Prelude.{◌&&◌, not, cond, Bool, true, false, slice_get,
 use Rattle.std.proofs.Common.{◌≡◌, ◌≢◌, ℕ, zero, suc, ◌≤◌, List, refl, sym, ap, ◌∙◌, subst, ⊎_elim, inl, inr, arith, Option, Some, None}
 use Rattle.std.proofs.lemmas.List.Elements.{All-get_or}
 use Rattle.std.proofs.lemmas.Option.{slice_get_within, get_or_from_slice_get}
+use Rattle.std.proofs.lemmas.Bool.{and_parts}
 use Rattle.map_history.specs.declared.op.Request.{Request}
 use Rattle.map_history.specs.Words.{word_of}
 use Rattle.section_body.specs.declared.micro.Micro.{Micro}
@@ -37,10 +38,6 @@ use Rattle.reached_histories.proofs.Histories.{reached_have}
 use Rattle.request_facts.specs.Placed.{IsUnserved}
 use Rattle.request_facts.specs.Laws.{HasEntry, IsKnown, IsStamping, CallersStand, ReachedCallersStand}
 use Rattle.request_facts.proofs.Replies.{IsSmall, replies_small}
-
-both : (a b : Bool) → (a && b) ≡ true → (a ≡ true) × (b ≡ true)
-both true b e = (refl, e)
-both false b e = absurd (let x = e in cc)
 
 each : (xs : List Request) (i : ℕ) (x : Request) → slice_get xs i ≡ Some x → All (λ (y : Request). IsAllowed y.op) xs → IsAllowed x.op
 each xs i x at all = subst (λ (y : Request). IsAllowed y.op) (get_or_from_slice_get xs i x x at)
@@ -92,7 +89,7 @@ module _ (m : Meaning) (l : Layout) (rs : List Request) (allowed : AreAllowed rs
     placed = stands.asked.known r n answered
 
     two : (knows (s.part r).records.known n false ≡ true) × (knows (s.part r).records.known n true ≡ true)
-    two = both _ _ answered
+    two = and_parts _ _ answered
 
     stamp_entry : (x : ℕ) × HasEntry (s.part r).records.known (record { request = n; reply = false; number = x })
     stamp_entry = known_entry (s.part r).records.known n false two.0

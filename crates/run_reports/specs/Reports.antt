@@ -33,8 +33,8 @@ module _ {T : Type 0} (m : Meaning) (w : WordsState T) where
   abbrev pub rows : List (Option Entry) → List Row
   rows entries = rows_of w.requests entries (ranks_of entries)
 
-  -- the bytes are a legal report on the table's requests: each reply is that of the table's words, a request is unserved where
-  -- it has no entry, and the number of pairs is that of the contents
+  -- the bytes are a legal report on the table's requests: each reply is that of the table's words, a
+  -- request is unserved where it has no entry, and the number of pairs is that of the contents
   pub record IsReport (traces unserved : ℕ) (report : List ℕ) : Type 0 where
     pub entries : List (Option Entry)
     pub shown : HaveEntries entries
@@ -46,8 +46,10 @@ module _ {T : Type 0} (m : Meaning) (w : WordsState T) where
 
   -- such a report was added to what the sink holds, where it tells, and nothing else
   abbrev pub Prints : (traces unserved : ℕ) → (before after : Option (List ℕ)) → Type 0
-  Prints traces unserved before after = (report : List ℕ) × (IsReport traces unserved report × Extends before report after)
+  Prints traces unserved before after =
+      (report : List ℕ) × (IsReport traces unserved report × Extends before report after)
 
   -- a part of one, from the front
   abbrev pub PrintsInPart : (traces : ℕ) → (before after : Option (List ℕ)) → Type 0
-  PrintsInPart traces before after = (unserved : ℕ) × (report : List ℕ) × (IsReport traces unserved report × ExtendsInPart before report after)
+  PrintsInPart traces before after =
+      (unserved : ℕ) × (report : List ℕ) × (IsReport traces unserved report × ExtendsInPart before report after)

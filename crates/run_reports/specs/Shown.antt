@@ -4,10 +4,12 @@ use Rattle.map_history.specs.declared.op.Entry.{Entry}
 use Rattle.map_history.specs.declared.op.Request.{Request}
 use Rattle.map_history.specs.Words.{word_of, IsReply}
 
--- what these two words show of a request: no entry where the stamp word is 0, else the stamp and the reply that has the reply word
+-- what these two words show of a request: no entry where the stamp word is 0, else the stamp and the reply
+-- that has the reply word
 abbrev pub IsShown : (stamp reply : ℕ) → Option Entry → Type 0
 IsShown stamp reply None = stamp ≡ 0
-IsShown stamp reply (Some entry) = (stamp ≢ 0) × (entry.stamp ≡ stamp) × (word_of entry.reply ≡ reply) × IsReply entry.reply
+IsShown stamp reply (Some entry) =
+    (stamp ≢ 0) × (entry.stamp ≡ stamp) × (word_of entry.reply ≡ reply) × IsReply entry.reply
 
 -- there is one for each request, and its words show it
 pub record AreShown (stamp reply : ℕ → ℕ) (requests : List Request) (entries : List (Option Entry)) : Type 0 where

@@ -8,6 +8,7 @@ use Rattle.run_reports.specs.declared.printing.PrintError.{PrintError}
 use Rattle.run_reports.specs.declared.printing.PrintError.TheVariants.{Memory, Failed}
 
 -- for want of memory with nothing printed, or by the sink, whose count of faults rose, with a part
-abbrev pub StopsPrinting : {T : Type 0} → Meaning → WordsState T → ℕ → PrintError → (before after : Option (List ℕ)) → (faults faults' : ℕ) → Type 0
+abbrev pub StopsPrinting : {T : Type 0} → Meaning → WordsState T → ℕ → PrintError
+    → (before after : Option (List ℕ)) → (faults faults' : ℕ) → Type 0
 StopsPrinting m w traces Memory before after faults faults' = (after ≡ before) × (faults' ≡ faults)
 StopsPrinting m w traces Failed before after faults faults' = PrintsInPart m w traces before after × Rose faults faults'

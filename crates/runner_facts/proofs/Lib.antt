@@ -6,5 +6,8 @@ mod Counts
 mod Joined
 mod Raising
 mod Worn
-mod Names
+pub mod Names
 mod Keeper
+pub mod Lines
+pub mod Logs
+pub mod Runs

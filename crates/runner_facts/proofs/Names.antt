@@ -68,12 +68,12 @@ and true b e e' = e'
 and false b e e' = absurd (let z = e in cc)
 
 -- a list in which it isn't
-not_has : (b : Bool) → (b ≡ true → ⊥) → b ≡ false
+pub not_has : (b : Bool) → (b ≡ true → ⊥) → b ≡ false
 not_has true h = absurd (h refl)
 not_has false h = refl
 
 -- one more reading
-pair_more : (xs : List (ℕ × ℕ)) (a b place word : ℕ) → has_pair (xs ++ (a, b) ∷ []) place word ≡ true
+pub pair_more : (xs : List (ℕ × ℕ)) (a b place word : ℕ) → has_pair (xs ++ (a, b) ∷ []) place word ≡ true
     → (has_pair xs place word ≡ true) ⊎ ((place ≡ a) × (word ≡ b))
 pair_more [] a b place word e = inr (one a b place word e)
   where
@@ -87,8 +87,17 @@ pair_more (x ∷ xs) a b place word e = by (x.0 == place && x.1 == word) e (pair
     by true e rest = inl refl
     by false e rest = rest e
 
+-- a list has its last pair
+pub pair_last : (xs : List (ℕ × ℕ)) (a b : ℕ) → has_pair (xs ++ (a, b) ∷ []) a b ≡ true
+pair_last [] a b = let e : ((a == a && b == b) || false) ≡ true = grind (arith, nat_tests) in e
+pair_last (x ∷ xs) a b = either (x.0 == a && x.1 == b) (pair_last xs a b)
+  where
+    either : (p : Bool) {q : Bool} → q ≡ true → (p || q) ≡ true
+    either true e = refl
+    either false e = e
+
 -- each entry of a descriptor has this epoch or a later one
-abbrev since : ℕ → ℕ → List Retired → Bool
+abbrev pub since : ℕ → ℕ → List Retired → Bool
 since d g [] = true
 since d g (x ∷ xs) = (not (x.slot == d) || nat_le g x.epoch) && since d g xs
 
@@ -134,9 +143,9 @@ module _ (d g : ℕ) where
       by false is e rest = rest e.1 le
 
   -- a runner neither has the descriptor free, nor retired it before this epoch
-  record Kept (p : PartState) : Type 0 where
-    free : has p.descriptors.free d ≡ false
-    limbo : since d g p.descriptors.limbo ≡ true
+  pub record Kept (p : PartState) : Type 0 where
+    pub free : has p.descriptors.free d ≡ false
+    pub limbo : since d g p.descriptors.limbo ≡ true
 
   kept_same : (p p' : PartState) → p'.descriptors.free ≡ p.descriptors.free → p'.descriptors.limbo ≡ p.descriptors.limbo → Kept p → Kept p'
   kept_same p p' free limbo old = record {
@@ -219,11 +228,11 @@ module _ (d g : ℕ) where
 
 -- what a step adds to the readings of an entered runner: a word that it found in a cell
 module _ (m : Meaning) (l : Layout) (p : PartState) (found : ℕ) (x : Spot × Access) where
-  abbrev IsNew : ℕ → ℕ → Type 0
+  abbrev pub IsNew : ℕ → ℕ → Type 0
   IsNew a w = (x.0 ≡ spots.Cell a) × (w ≡ found)
 
-  record Reads (p' : PartState) : Type 0 where
-    before : (g a w : ℕ) → p'.stage ≡ stages.Entered g → has_pair p'.reads.cells a w ≡ true
+  pub record Reads (p' : PartState) : Type 0 where
+    pub before : (g a w : ℕ) → p'.stage ≡ stages.Entered g → has_pair p'.reads.cells a w ≡ true
         → (p.stage ≡ stages.Entered g) × ((has_pair p.reads.cells a w ≡ true) ⊎ IsNew a w)
 
   -- the readings are the same
@@ -255,9 +264,9 @@ module _ (m : Meaning) (l : Layout) (p : PartState) (found : ℕ) (x : Spot × A
 
   module _ (q : RunState) where
     -- of a step of a run: what it adds to the readings, and that the descriptors are the same
-    record Runs (p' : PartState) : Type 0 where
-      reads : Reads p'
-      descriptors : p'.descriptors ≡ p.descriptors
+    pub record Runs (p' : PartState) : Type 0 where
+      pub reads : Reads p'
+      pub descriptors : p'.descriptors ≡ p.descriptors
 
     runs_same : (p' : PartState) → p'.stage ≡ p.stage → p'.reads.cells ≡ p.reads.cells → p'.descriptors ≡ p.descriptors → Runs p'
     runs_same p' stage cells descriptors = record { reads = reads_same p' stage cells; descriptors = descriptors }
@@ -320,7 +329,7 @@ module _ (m : Meaning) (l : Layout) (p : PartState) (found : ℕ) (x : Spot × A
     line_runs (kinds.LoadCell (Some place)) micro e = some_none x e
     line_runs _ micro e = runs_same _ refl refl refl
 
-    inside_runs : (rs : List Request) (r : ℕ) (kind : EventKind) → ask_by m l rs r kind p (Some q) ≡ Some x → Runs (inside_after m l kind p q found)
+    pub inside_runs : (rs : List Request) (r : ℕ) (kind : EventKind) → ask_by m l rs r kind p (Some q) ≡ Some x → Runs (inside_after m l kind p q found)
     inside_runs rs r kind e = by (is_open_run q) e
       where
         by : (b : Bool) → (if b then line_ask m l kind p.nodes.free q (next_of m q) else opening_ask kind q) ≡ Some x
@@ -375,11 +384,11 @@ module _ (m : Meaning) (l : Layout) (b : Beside) (s : Sight) (whole : IsWhole m 
   few : d < descriptor_count l
   few = whole.tied.within d (whole.sections.sound.live_used d live)
 
-  named_lock : HasLock m s.word d place (s.word (spots.Cell place))
+  pub named_lock : HasLock m s.word d place (s.word (spots.Cell place))
   named_lock = (locks_name m l b.agreement s whole.sections
       (λ d live. let h = whole.tied.publisher d live in (b.publications.runner d, h.0, h.1, h.2))).held place d lock names
 
-  named_kept : (g i : ℕ) → Kept d g (s.part i)
+  pub named_kept : (g i : ℕ) → Kept d g (s.part i)
   named_kept g i = record {
     free = not_has (has (s.part i).descriptors.free d) (λ h.
         let some = has_times (s.part i).descriptors.free d h in
@@ -401,7 +410,7 @@ module _ (m : Meaning) (laws : Laws m) (l : Layout) (limits : IsWithinLimits l) 
   abbrev found : ℕ
   found = s.word x.0
 
-  asks_by : ask_by m l rs r kind p p.run ≡ Some x
+  pub asks_by : ask_by m l rs r kind p p.run ≡ Some x
   asks_by = (unless_gone _ p.gone _ x st.step.asked).1
 
   -- a thunk stands in each descriptor that isn't in the runner's free list
@@ -415,11 +424,11 @@ module _ (m : Meaning) (laws : Laws m) (l : Layout) (limits : IsWithinLimits l) 
   thunk_by k None e d unfree = thunks_after m l s r k x (outside_leaves m l rs r p x k refl e) d
   thunk_by k (Some q) e d unfree = thunks_after m l s r k x (inside_leaves m l q x k p.nodes.free e) d
 
-  thunk_stays : (d : ℕ) → has p.descriptors.free d ≡ false → thunk_in s'.word d ≡ thunk_in s.word d
+  pub thunk_stays : (d : ℕ) → has p.descriptors.free d ≡ false → thunk_in s'.word d ≡ thunk_in s.word d
   thunk_stays d unfree = ap (λ (y : Sight). thunk_in y.word d) st.step.next ∙ thunk_by kind p.run asks_by d unfree
 
   -- so its locks are the same
-  lock_stays : (d place held : ℕ) → has p.descriptors.free d ≡ false → HasLock m s.word d place held → HasLock m s'.word d place held
+  pub lock_stays : (d place held : ℕ) → has p.descriptors.free d ≡ false → HasLock m s.word d place held → HasLock m s'.word d place held
   lock_stays d place held unfree has_lock = subst (λ (t : Thunk). ((place ≡ t.lock) × (held ≡ held_word d t.word))
       ⊎ ((i free : ℕ) × (micro_at (line (m.body t)) i ≡ NestedHold place free) × (held ≡ held_word d free)))
       (sym (thunk_stays d unfree)) has_lock
@@ -429,7 +438,7 @@ module _ (m : Meaning) (laws : Laws m) (l : Layout) (limits : IsWithinLimits l) 
   own_reads None e = outside_reads m l p found x rs r kind e
   own_reads (Some q) e = (inside_runs m l p found x q rs r kind e).reads
 
-  reads_after : (i : ℕ) → Reads m l (s.part i) found x (s'.part i)
+  pub reads_after : (i : ℕ) → Reads m l (s.part i) found x (s'.part i)
   reads_after i = subst (λ (y : Sight). Reads m l (s.part i) found x (y.part i)) (sym st.step.next)
       (each_part m l s r x (λ k p'. Reads m l (s.part k) found x p') (λ k p' records gone h. record { before = h.before }) kind
       (joins m l rs kind r p x st.step.asked) (own_reads p.run asks_by) (λ k ne. same_reads m l (s.part k) found x) i)
@@ -475,15 +484,24 @@ module _ (m : Meaning) (laws : Laws m) (l : Layout) (limits : IsWithinLimits l) 
     own_kept old None e = outside_kept d g m l p old found kind (bounds old kind e)
     own_kept old (Some q) e = same d g m l p old _ (inside_runs m l p found x q rs r kind e).descriptors
 
-    kept_after : ((i : ℕ) → Kept d g (s.part i)) → (i : ℕ) → Kept d g (s'.part i)
+    pub kept_after : ((i : ℕ) → Kept d g (s.part i)) → (i : ℕ) → Kept d g (s'.part i)
     kept_after old i = subst (λ (y : Sight). Kept d g (y.part i)) (sym st.step.next)
         (each_part m l s r x (λ k p'. Kept d g p') (λ k p' records gone h. record { free = h.free; limbo = h.limbo }) kind
         (joins m l rs kind r p x st.step.asked) (own_kept (old r) p.run asks_by) (λ k ne. old k) i)
 
 -- what a word says that names a descriptor
-record Says (m : Meaning) (s : Sight) (g place word d : ℕ) : Type 0 where
-  lock : HasLock m s.word d place word
-  kept : (i : ℕ) → Kept d g (s.part i)
+pub record Says (m : Meaning) (s : Sight) (g place word d : ℕ) : Type 0 where
+  pub lock : HasLock m s.word d place word
+  pub kept : (i : ℕ) → Kept d g (s.part i)
+
+-- it goes on to say so while the runner is entered
+pub says_after : (m : Meaning) (laws : Laws m) (l : Layout) (limits : IsWithinLimits l) (rs : List Request) (s s' : Sight) (r : ℕ) (kind : EventKind)
+    → IsStep m l rs s s' r kind → (i g place word d : ℕ) → (s.part i).stage ≡ stages.Entered g → (s'.part i).stage ≡ stages.Entered g
+    → Says m s g place word d → Says m s' g place word d
+says_after m laws l limits rs s s' r kind st i g place word d at at' says = record {
+  lock = lock_stays m laws l limits rs s s' r kind st d place word (says.kept r).free says.lock;
+  kept = kept_after m laws l limits rs s s' r kind st d i g at at' says.kept;
+}
 
 abbrev AllSay : Meaning → Sight → Type 0
 AllSay m s = (r g place word d : ℕ) → (s.part r).stage ≡ stages.Entered g → has_pair (s.part r).reads.cells place word ≡ true
@@ -501,10 +519,7 @@ all_say m laws l limits rs s s' r kind st old i g place word d at read lock name
       kept = named_kept m l st.beside s st.whole place d lock names' g;
     })
     was.1 in
-    record {
-      lock = lock_stays m laws l limits rs s s' r kind st d place word (says.kept r).free says.lock;
-      kept = kept_after m laws l limits rs s s' r kind st d i g was.0 at says.kept;
-    }
+    says_after m laws l limits rs s s' r kind st i g place word d was.0 at says
 
 pub reached_names : (m : Meaning) → Laws m → (l : Layout) → IsWithinLimits l → (rs : List Request) → AreAllowed rs → (w : World)
     → Reached m l rs w → NamesStand m (sight m l rs w)

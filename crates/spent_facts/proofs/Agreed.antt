@@ -47,7 +47,7 @@ module _ (m : Meaning) (l : Layout) (a : AgreementState) (s : Sight) (joined : I
     in_trail = subst (λ e. TrailIsSound (a.section e) (a.run r)) here.descriptor (joined.sound.runs r here.running).in_trail
 
     -- a step below its place commits here: the trail has the section's word
-    agreed : (j k : ℕ) → j < q.at → is_commit (x.code j) ≡ true → k ≡ x.slot j → slice_index q.trail k ≡ x.log k
+    pub agreed : (j k : ℕ) → j < q.at → is_commit (x.code j) ≡ true → k ≡ x.slot j → slice_index q.trail k ≡ x.log k
     agreed j k below commits place = sym (here.trail k) ∙ in_trail.agreed k
         (let next = line.counted.slot_commit j commits in
         let rises = line.counted.slot_rises (suc j) q.at (omega (arith, below)) in

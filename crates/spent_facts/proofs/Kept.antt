@@ -36,7 +36,7 @@ abbrev pub FinishedStand : Layout → Sight → Type 0
 FinishedStand l s = (r i place spent : ℕ) (f : FinishedState) → slice_get (s.part r).records.finished i ≡ Some f → f.outcome ≡ Spent place spent
     → WasSpent l s.word place spent
 
-open_length : (q : RunState) → is_open_run q ≡ true → length q.opened ≡ 13
+pub open_length : (q : RunState) → is_open_run q ≡ true → length q.opened ≡ 13
 open_length q e = grind (arith, nat_tests)
 
 -- versions don't fall
@@ -48,7 +48,8 @@ risen word word' rise place old past = ⊎_elim
 
 module _ (m : Meaning) (l : Layout) (rs : List Request) (s s' : Sight) (r : ℕ) (kind : EventKind) (step : Steps m l rs s s' r kind) where
   -- the runner's run is over by this step, and this is kept of it
-  record IsNew (r1 : ℕ) (f : FinishedState) : Type 0 where
+  pub record IsNew (r1 : ℕ) (f : FinishedState) : Type 0 where
+    pub own : r1 ≡ r
     pub run : RunState
     pub runs : (s.part r).run ≡ Some run
     pub open_run : is_open_run run ≡ true
@@ -92,7 +93,7 @@ module _ (m : Meaning) (l : Layout) (rs : List Request) (s s' : Sight) (r : ℕ)
       at_kind kind' q = own r1 q
 
   -- what a runner keeps after the step it kept before, or it is of the run that is over
-  entry : (r1 i : ℕ) (f : FinishedState) → slice_get (s'.part r1).records.finished i ≡ Some f
+  pub entry : (r1 i : ℕ) (f : FinishedState) → slice_get (s'.part r1).records.finished i ≡ Some f
       → (slice_get (s.part r1).records.finished i ≡ Some f) ⊎ IsNew r1 f
   entry r1 i f at = ⊎_elim (λ before. inl before) (λ own. by_step own.0 own.1)
       (by_part (λ xs. slice_get xs i ≡ Some f) r1 at)
@@ -105,7 +106,7 @@ module _ (m : Meaning) (l : Layout) (rs : List Request) (s s' : Sight) (r : ℕ)
           (λ same. inl (ap (λ n. slice_get (s.part n).records.finished i) own ∙ (ap (λ xs. slice_get xs i) (sym (noted ∙ same)) ∙ at1)))
           (λ x. ⊎_elim
           (λ before. inl (ap (λ n. slice_get (s.part n).records.finished i) own ∙ before.1))
-          (λ now. inr (record { run = x.0; runs = x.1; open_run = x.2.open_run; is = now.1 }))
+          (λ now. inr (record { own = own; run = x.0; runs = x.1; open_run = x.2.open_run; is = now.1 }))
           (get_more (s.part r).records.finished (finished_of m l (ended_more x.0)) f i (ap (λ xs. slice_get xs i) (sym (noted ∙ x.2.more)) ∙ at1)))
           (stepped_same m l kind (s.part r) (s.word step.ask.0))
 

@@ -1,4 +1,4 @@
 mod Leaving
-mod Agreed
-mod Kept
+pub mod Agreed
+pub mod Kept
 pub mod Reached

@@ -4,8 +4,13 @@ use Rattle.std.proofs.Common.{◌≡◌, ℕ, suc, ◌+◌, List, [], ◌∷◌,
 use Rattle.section_body.specs.Line.{is_end}
 use Rattle.section_body.specs.Run.{settled, written_once}
 use Rattle.section_body.specs.declared.micro.Micro.{Micro}
+use Rattle.section_body.specs.declared.micro.Micro.TheVariants as micros
 use Rattle.section_body.specs.declared.thunk.Thunk.{Thunk}
 use Rattle.table_words.specs.declared.layout.Layout.{Layout}
+use Rattle.table_words.specs.declared.spot.Spot.{Spot}
+use Rattle.table_words.specs.declared.spot.Spot.TheVariants as spots
+use Rattle.table_words.specs.declared.access.Access.{Access}
+use Rattle.table_words.specs.declared.access.Access.TheVariants.{Loads}
 use Rattle.table_words.specs.Places.{slot_count}
 use Rattle.structure_laws.specs.Meaning.{Meaning}
 use Rattle.runner_parts.specs.declared.entries.Published.{Published}
@@ -16,10 +21,34 @@ use Rattle.runner_parts.specs.declared.event.EventKind.TheVariants as kinds
 use Rattle.runner_parts.specs.State.{RunState, PartState}
 use Rattle.runner_steps.specs.Sections.{is_open_run, line_of, next_of, setting_of}
 use Rattle.runner_steps.specs.Outside.{last_epoch}
+use Rattle.runner_steps.specs.Asks.{line_ask}
 use Rattle.runner_steps.specs.InRun.{last_clock}
 use Rattle.runner_steps.specs.AfterInRun as inside
 use Rattle.runner_steps.specs.AfterOutside as outside
 use Rattle.runner_steps.specs.After.{line_after, outside_after}
+use Rattle.machine_states.proofs.Sights.{some_none}
+use Rattle.machine_states.proofs.Steps.{some_same}
+
+-- a load of a lock's word for a Take
+abbrev pub loads_lock : EventKind → Bool
+loads_lock kinds.NestedLoad = true
+loads_lock kinds.OutcomeLoad = true
+loads_lock _ = false
+
+-- a run that stands before the load of a lock loads it
+pub nested_kind : (m : Meaning) (l : Layout) (free : List ℕ) (q : RunState) (x : Spot × Access) (p k : ℕ) (kind : EventKind)
+    → line_ask m l kind free q (micros.NestedLoad p k) ≡ Some x → (kind ≡ kinds.NestedLoad) × ((spots.Cell p, Loads) ≡ x)
+nested_kind m l free q x p k kinds.NestedLoad e = (refl, some_same _ _ e)
+nested_kind m l free q x p k (kinds.LoadCell None) e = some_none x e
+nested_kind m l free q x p k (kinds.LoadCell (Some place)) e = some_none x e
+nested_kind m l free q x p k _ e = some_none x e
+
+pub outcome_kind : (m : Meaning) (l : Layout) (free : List ℕ) (q : RunState) (x : Spot × Access) (p k : ℕ) (kind : EventKind)
+    → line_ask m l kind free q (micros.OutcomeLoad p k) ≡ Some x → (kind ≡ kinds.OutcomeLoad) × ((spots.Cell p, Loads) ≡ x)
+outcome_kind m l free q x p k kinds.OutcomeLoad e = (refl, some_same _ _ e)
+outcome_kind m l free q x p k (kinds.LoadCell None) e = some_none x e
+outcome_kind m l free q x p k (kinds.LoadCell (Some place)) e = some_none x e
+outcome_kind m l free q x p k _ e = some_none x e
 
 module _ (m : Meaning) (l : Layout) (y : PartState) (found : ℕ) (kind : EventKind) where
   -- the run after a step of a run that has loaded its words
@@ -29,7 +58,7 @@ module _ (m : Meaning) (l : Layout) (y : PartState) (found : ℕ) (kind : EventK
       pub descriptor : q'.descriptor ≡ q.descriptor
       -- it stays at its place with its number, or it rests behind the step
       pub at : ((q'.at ≡ q.at) × (q'.word ≡ q.word))
-          ⊎ ((trail : List ℕ) × (q'.at ≡ settled (setting_of l q.descriptor) trail (line_of m q) (q.at + 1)) × (kind ≡ kinds.NestedLoad → q'.word ≡ found))
+          ⊎ ((trail : List ℕ) × (q'.at ≡ settled (setting_of l q.descriptor) trail (line_of m q) (q.at + 1)) × (loads_lock kind ≡ true → q'.word ≡ found))
 
     pub record Runs (z : PartState) : Type 0 where
       pub run : (z.run ≡ None) ⊎ ((q' : RunState) × (z.run ≡ Some q') × Goes q')
@@ -38,22 +67,25 @@ module _ (m : Meaning) (l : Layout) (y : PartState) (found : ℕ) (kind : EventK
     waits z q' is opened descriptor at word = record { run = inr (q', is, record { opened = opened; descriptor = descriptor; at = inl (at, word) }) }
 
     rests : (z : PartState) (q' : RunState) (trail : List ℕ) → z.run ≡ Some q' → q'.opened ≡ q.opened → q'.descriptor ≡ q.descriptor
-        → q'.at ≡ settled (setting_of l q.descriptor) trail (line_of m q) (q.at + 1) → (kind ≡ kinds.NestedLoad → q'.word ≡ found) → Runs z
+        → q'.at ≡ settled (setting_of l q.descriptor) trail (line_of m q) (q.at + 1) → (loads_lock kind ≡ true → q'.word ≡ found) → Runs z
     rests z q' trail is opened descriptor at word = record { run = inr (q', is, record { opened = opened; descriptor = descriptor; at = inr (trail, at, word) }) }
 
     either : (b : Bool) (z z' : PartState) → Runs z → Runs z' → Runs (if b then z else z')
     either true z z' one two = one
     either false z z' one two = two
 
+    no_load : {A : Type 0} {kind' : EventKind} → kind ≡ kind' → loads_lock kind' ≡ false → loads_lock kind ≡ true → A
+    no_load same none e = absurd (let z = sym e ∙ (ap loads_lock same ∙ none) in cc)
+
     module _ (runs : y.run ≡ Some q) where
       as_is : Runs y
       as_is = waits y q runs refl refl refl refl
 
-      fill : (slot : ℕ) (made : Option ℕ) → (kind ≡ kinds.NestedLoad → ⊥) → Runs (inside.fill_loaded m l slot y q made found)
+      fill : (slot : ℕ) (made : Option ℕ) → (loads_lock kind ≡ true → ⊥) → Runs (inside.fill_loaded m l slot y q made found)
       fill slot None other = rests _ _ q.trail refl refl refl refl (λ e. absurd (other e))
       fill slot (Some t) other = rests _ _ q.trail refl refl refl refl (λ e. absurd (other e))
 
-      make : (made : Option ℕ) → (kind ≡ kinds.NestedLoad → ⊥) → Runs (inside.make_committed m l y q made found)
+      make : (made : Option ℕ) → (loads_lock kind ≡ true → ⊥) → Runs (inside.make_committed m l y q made found)
       make None other = as_is
       make (Some t) other = rests _ _ (q.trail ++ written_once found (t + 1) ∷ []) refl refl refl refl (λ e. absurd (other e))
 
@@ -62,25 +94,25 @@ module _ (m : Meaning) (l : Layout) (y : PartState) (found : ℕ) (kind : EventK
 
       pub line_runs : (kind' : EventKind) → kind ≡ kind' → (micro : Micro) → Runs (line_after m l kind' y q micro found)
       line_runs kinds.Commit of_kind micro = either (inside.is_of_lock micro) _ _
-          (rests _ _ (q.trail ++ written_once found q.word ∷ []) refl refl refl refl (λ e. absurd (let z = sym of_kind ∙ e in cc))) (rests _ _ (q.trail ++ written_once found q.word ∷ []) refl refl refl refl (λ e. absurd (let z = sym of_kind ∙ e in cc)))
-      line_runs (kinds.LoadCell place) of_kind micro = rests _ _ q.trail refl refl refl refl (λ e. absurd (let z = sym of_kind ∙ e in cc))
-      line_runs kinds.ExchangeCell of_kind micro = rests _ _ q.trail refl refl refl refl (λ e. absurd (let z = sym of_kind ∙ e in cc))
-      line_runs (kinds.PrivateLoad slot word) of_kind micro = fill slot q.made (λ e. let z = sym of_kind ∙ e in cc)
-      line_runs (kinds.PrivateStore slot word number) of_kind micro = rests _ _ q.trail refl refl refl refl (λ e. absurd (let z = sym of_kind ∙ e in cc))
-      line_runs kinds.MakeCommit of_kind micro = make q.made (λ e. let z = sym of_kind ∙ e in cc)
-      line_runs kinds.RetireCommit of_kind micro = rests _ _ (q.trail ++ written_once found (inside.retired_slot_of micro + 1) ∷ []) refl refl refl refl (λ e. absurd (let z = sym of_kind ∙ e in cc))
-      line_runs kinds.EpochForRetire of_kind micro = rests _ _ q.trail refl refl refl refl (λ e. absurd (let z = sym of_kind ∙ e in cc))
+          (rests _ _ (q.trail ++ written_once found q.word ∷ []) refl refl refl refl (no_load of_kind refl)) (rests _ _ (q.trail ++ written_once found q.word ∷ []) refl refl refl refl (no_load of_kind refl))
+      line_runs (kinds.LoadCell place) of_kind micro = rests _ _ q.trail refl refl refl refl (no_load of_kind refl)
+      line_runs kinds.ExchangeCell of_kind micro = rests _ _ q.trail refl refl refl refl (no_load of_kind refl)
+      line_runs (kinds.PrivateLoad slot word) of_kind micro = fill slot q.made (no_load of_kind refl)
+      line_runs (kinds.PrivateStore slot word number) of_kind micro = rests _ _ q.trail refl refl refl refl (no_load of_kind refl)
+      line_runs kinds.MakeCommit of_kind micro = make q.made (no_load of_kind refl)
+      line_runs kinds.RetireCommit of_kind micro = rests _ _ (q.trail ++ written_once found (inside.retired_slot_of micro + 1) ∷ []) refl refl refl refl (no_load of_kind refl)
+      line_runs kinds.EpochForRetire of_kind micro = rests _ _ q.trail refl refl refl refl (no_load of_kind refl)
       line_runs kinds.SetDone of_kind micro = waits _ _ refl refl refl refl refl
       line_runs kinds.Release of_kind micro = released (inside.place_of micro)
-      line_runs kinds.ClockLoad of_kind micro = rests _ _ q.trail refl refl refl refl (λ e. absurd (let z = sym of_kind ∙ e in cc))
+      line_runs kinds.ClockLoad of_kind micro = rests _ _ q.trail refl refl refl refl (no_load of_kind refl)
       line_runs kinds.StampExchange of_kind micro = either (nat_lt q.word last_clock) _ _
-          (rests _ _ q.trail refl refl refl refl (λ e. absurd (let z = sym of_kind ∙ e in cc))) as_is
-      line_runs kinds.ClockRaise of_kind micro = rests _ _ q.trail refl refl refl refl (λ e. absurd (let z = sym of_kind ∙ e in cc))
-      line_runs kinds.ReplyExchange of_kind micro = rests _ _ q.trail refl refl refl refl (λ e. absurd (let z = sym of_kind ∙ e in cc))
+          (rests _ _ q.trail refl refl refl refl (no_load of_kind refl)) as_is
+      line_runs kinds.ClockRaise of_kind micro = rests _ _ q.trail refl refl refl refl (no_load of_kind refl)
+      line_runs kinds.ReplyExchange of_kind micro = rests _ _ q.trail refl refl refl refl (no_load of_kind refl)
       line_runs kinds.NestedLoad of_kind micro = rests _ _ q.trail refl refl refl refl (λ e. refl)
-      line_runs kinds.NestedHold of_kind micro = rests _ _ q.trail refl refl refl refl (λ e. absurd (let z = sym of_kind ∙ e in cc))
-      line_runs kinds.OutcomeLoad of_kind micro = rests _ _ q.trail refl refl refl refl (λ e. absurd (let z = sym of_kind ∙ e in cc))
-      line_runs kinds.OutcomeCommit of_kind micro = rests _ _ (q.trail ++ written_once found q.word ∷ []) refl refl refl refl (λ e. absurd (let z = sym of_kind ∙ e in cc))
+      line_runs kinds.NestedHold of_kind micro = rests _ _ q.trail refl refl refl refl (no_load of_kind refl)
+      line_runs kinds.OutcomeLoad of_kind micro = rests _ _ q.trail refl refl refl refl (λ e. refl)
+      line_runs kinds.OutcomeCommit of_kind micro = rests _ _ (q.trail ++ written_once found q.word ∷ []) refl refl refl refl (no_load of_kind refl)
       line_runs kind' of_kind micro = as_is
 
   -- a runner in no run is in none behind its step, or has loaded one word

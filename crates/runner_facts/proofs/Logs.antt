@@ -5,6 +5,7 @@ use Rattle.std.proofs.lemmas.Bool.{cases_eq}
 use Rattle.std.proofs.lemmas.Bool.Decides.{nat_tests}
 use Rattle.map_history.specs.declared.op.Request.{Request}
 use Rattle.section_body.specs.Line.{is_commit}
+use Rattle.section_lines.specs.Line.{IsLine}
 use Rattle.section_body.specs.declared.micro.Micro.{Micro}
 use Rattle.section_body.specs.declared.micro.Micro.TheVariants as micros
 use Rattle.table_words.specs.declared.layout.Layout.{Layout}
@@ -44,6 +45,24 @@ carries (micros.Commit place log) = true
 carries (micros.NestedCommit place log) = true
 carries (micros.OutcomeCommit place log) = true
 carries _ = false
+
+-- the place in the log of a line's commit
+pub log_place : (is_lock : ℕ → Bool) (version_max lock : ℕ) (code : ℕ → Micro) (slot : ℕ → ℕ) → IsLine is_lock version_max lock code slot
+    → (i : ℕ) (micro : Micro) → code i ≡ micro → is_commit micro ≡ true → log_of micro ≡ slot i
+log_place is_lock version_max lock code slot line i (micros.Commit p k) e commit = line.counted.commit_log i p k e
+log_place is_lock version_max lock code slot line i (micros.NestedCommit p k) e commit = line.counted.nested_log i p k e
+log_place is_lock version_max lock code slot line i (micros.OutcomeCommit p k) e commit = line.counted.outcome_log i p k e
+log_place is_lock version_max lock code slot line i (micros.MakeCommit k) e commit = line.counted.make_log i k e
+log_place is_lock version_max lock code slot line i (micros.RetireCommit t k) e commit = line.counted.retire_log i t k e
+log_place is_lock version_max lock code slot line i micro e commit = absurd (let z = commit in cc)
+
+one_here : (i v a : ℕ) → cond (i == i) v a ≡ v
+one_here i v a = grind (arith, nat_tests)
+
+pub log_now : (f : Spot → ℕ) (d k new : ℕ) → f (spots.LogWord d k) ≡ 0
+    → put f (spots.LogWord d k) (written (Exchanges 0 new) (f (spots.LogWord d k))) (spots.LogWord d k) ≡ new
+log_now f d k new none = ap (λ n. put f (spots.LogWord d k) (written (Exchanges 0 new) n) (spots.LogWord d k)) none
+    ∙ (one_here d _ _ ∙ one_here k _ _)
 
 module _ (f : Spot → ℕ) (d k : ℕ) where
   abbrev pub LogStays : Spot × Access → Type 0

@@ -1,0 +1,7 @@
+mod Facts
+mod Freeing
+mod Loading
+mod Agreeing
+mod Leaving
+mod Kept
+pub mod Reached
