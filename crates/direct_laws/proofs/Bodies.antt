@@ -35,6 +35,14 @@ module _ (l : ℕ) (t : Thunk) where
   store_in true j r v h = grind arith
   store_in false j r v h = absurd (grind arith)
 
+  pub load_once : (w : Bool) (i j p q r : ℕ) → StepIs w l t i (Load p q) → StepIs w l t j (Load p r) → i ≡ j
+  load_once true i j p q r h h' = grind arith
+  load_once false i j p q r h h' = grind arith
+
+  pub store_once : (w : Bool) (i j r : ℕ) (v u : Value) → StepIs w l t i (Store r v) → StepIs w l t j (Store r u) → i ≡ j
+  store_once true i j r v u h h' = grind arith
+  store_once false i j r v u h h' = absurd (grind arith)
+
   pub answer_in : (w : Bool) (j n : ℕ) → StepIs w l t j (Answer n) → n ≡ operand t 2
   answer_in true j n h = grind arith
   answer_in false j n h = grind arith

@@ -7,8 +7,6 @@ use Rattle.map_history.specs.declared.op.Op.{Op}
 use Rattle.map_history.specs.Keys.{key_of}
 use Rattle.section_body.specs.Bucket.{operand}
 use Rattle.section_body.specs.Word.{value_of}
-use Rattle.section_body.specs.declared.value.Value.{Value}
-use Rattle.section_body.specs.declared.value.Value.TheVariants.{Const}
 use Rattle.section_body.specs.declared.step.Step.TheVariants.{Load, Want}
 use Rattle.section_body.specs.declared.thunk.Thunk.{Thunk}
 use Rattle.table_words.specs.declared.layout.Layout.{Layout}
@@ -19,12 +17,13 @@ use Rattle.structure_laws.specs.Laws.{IsFirst, Laws}
 use Rattle.structure_laws.specs.Planner.{PlannerLaws}
 use Rattle.structure_laws.proofs.Changes.{value_small}
 use Rattle.law_frames.specs.AtKey.{reply_at}
+use Rattle.law_frames.specs.Flagged.{held}
 use Rattle.law_frames.proofs.AtKey.{reply_some, key_is}
 use Rattle.law_frames.specs.Nodeless.{IsNodeless, HoldsItsLock, IsPlainBody}
 use Rattle.law_frames.proofs.Nodeless.{nodeless_begins, nodeless_keeps, nodeless_gives, nodeless_shaped, nodeless_adds, nodeless_sized}
-use Rattle.law_frames.proofs.Numbers.{lt_true, eq_true, eq_false, third, pair_read}
-use Rattle.direct_laws.specs.Direct.{lock_of, held, lock_in, held_in, direct}
-use Rattle.direct_laws.proofs.Bodies.{plain_in, load_in, want_in, store_in, answer_in, shaped}
+use Rattle.law_frames.proofs.Numbers.{lt_true, eq_true, eq_false, third, pair_read, and_false}
+use Rattle.direct_laws.specs.Direct.{lock_of, lock_in, held_in, direct}
+use Rattle.direct_laws.proofs.Bodies.{plain_in, load_in, load_once, want_in, store_in, store_once, answer_in, shaped}
 use Rattle.direct_laws.proofs.Fit.{Fit, fit_of, step_own}
 use Rattle.direct_laws.proofs.Turn.{direct_in_turn}
 
@@ -55,22 +54,12 @@ module _ (keys : ℕ) (few : keys ≤ 4096) (op : Op) (readings : Readings) (t :
         (λ i. lt_true t.lock (3 * keys) (omega (arith, low, is)) i && (eq_true (t.lock % 3) 0 (omega (arith, is)) i));
     lock_fixed = let low = fit.low in let is = fit.lock in omega (arith, low, is);
     load_fixed = λ j p r h. (load_place j p r h).0;
-    load_unlocked = λ j p r h. unlocked (nat_lt p (3 * keys)) _ (eq_false (p % 3) 0 (load_place j p r h).2);
-    load_once = λ i j p q r h h'. once p (lock_of (key_of op)) (load_in (lock_of (key_of op)) t _ i p q (step_own keys few op readings t fit i (Load p q) h)) (load_in (lock_of (key_of op)) t _ j p r (step_own keys few op readings t fit j (Load p r) h'));
-    store_once = λ i j r v w h h'. stores (store_in (lock_in t) t _ i r v h) (store_in (lock_in t) t _ j r w h');
+    load_unlocked = λ j p r h. and_false (nat_lt p (3 * keys)) _ (eq_false (p % 3) 0 (load_place j p r h).2);
+    load_once = load_once (lock_in t) t (t.form == 2);
+    store_once = store_once (lock_in t) t (t.form == 2);
     store_small = λ j r v h. ⊎_elim (λ a. subst IsSmall (sym a.3) (value_small (operand t 4))) (λ b. subst IsSmall (sym b.3) (value_small (operand t 3))) (store_in (lock_in t) t _ j r v h);
     answers = λ j n h. subst (λ n. 0 < n) (sym (answer_in (lock_in t) t _ j n h ∙ fit.reply)) (reply_some (reply_at (held (operand t 0) (operand t 1)) op));
   }
-    where
-      unlocked : (a b : Bool) → b ≡ false → (a && b) ≡ false
-      unlocked true b e = e
-      unlocked false b e = refl
-
-      once : {i j q r k : ℕ} (p l : ℕ) → ((i ≡ 0) × (q ≡ 0) × (p ≡ l + 1)) ⊎ ((i ≡ k) × (q ≡ 1) × (p ≡ l + 2)) → ((j ≡ 0) × (r ≡ 0) × (p ≡ l + 1)) ⊎ ((j ≡ k) × (r ≡ 1) × (p ≡ l + 2)) → i ≡ j
-      once p l a b = ⊎_elim (λ x. ⊎_elim (λ y. x.0 ∙ sym y.0) (λ y. absurd (let e = x.2 in let f = y.2 in omega (arith, e, f))) b) (λ x. ⊎_elim (λ y. absurd (let e = x.2 in let f = y.2 in omega (arith, e, f))) (λ y. x.0 ∙ sym y.0) b) a
-
-      stores : {a : Bool} {i j r m n : ℕ} {v w : Value} → ((a ≡ true) × (i ≡ 7) × (r ≡ 1) × (v ≡ Const m)) ⊎ ((a ≡ true) × (i ≡ 8) × (r ≡ 0) × (v ≡ Const n)) → ((a ≡ true) × (j ≡ 7) × (r ≡ 1) × (w ≡ Const m)) ⊎ ((a ≡ true) × (j ≡ 8) × (r ≡ 0) × (w ≡ Const n)) → i ≡ j
-      stores a b = ⊎_elim (λ x. ⊎_elim (λ y. x.1 ∙ sym y.1) (λ y. absurd (let e = x.2 in let f = y.2 in omega (arith, e, f))) b) (λ x. ⊎_elim (λ y. absurd (let e = x.2 in let f = y.2 in omega (arith, e, f))) (λ y. x.1 ∙ sym y.1) b) a
 
 holds_its_lock : (keys : ℕ) → keys ≤ 4096 → (layout : Layout) → HoldsItsLock (direct keys) layout
 holds_its_lock keys few layout = record {

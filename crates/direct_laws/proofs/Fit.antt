@@ -8,11 +8,12 @@ use Rattle.section_body.specs.Bucket.{operand}
 use Rattle.section_body.specs.declared.step.Step.{Step}
 use Rattle.section_body.specs.declared.thunk.Thunk.{Thunk}
 use Rattle.structure_laws.specs.Scene.{Readings}
-use Rattle.structure_laws.proofs.Changes.{equal_of, both_true}
+use Rattle.structure_laws.proofs.Changes.{equal_of}
 use Rattle.runner_parts.specs.Tests.{has_pair}
 use Rattle.law_frames.specs.AtKey.{reply_at, left_at, changes_at}
+use Rattle.law_frames.specs.Flagged.{held, flag_for, value_for}
 use Rattle.law_frames.proofs.Numbers.{lt_of, lt_true}
-use Rattle.direct_laws.specs.Direct.{lock_of, flag_of, value_at, held, flag_for, value_for, steps_by, lock_in, direct_steps, serves, was_read, is_for, fits_direct}
+use Rattle.direct_laws.specs.Direct.{lock_of, flag_of, value_at, steps_by, lock_in, direct_steps, fits_direct}
 use Rattle.direct_laws.proofs.Bodies.{StepIs}
 
 module _ (keys : ℕ) where
@@ -27,26 +28,16 @@ module _ (keys : ℕ) where
     pub new_value : operand t 4 ≡ value_for (left_at (held (operand t 0) (operand t 1)) op)
 
   pub fit_of : (op : Op) (readings : Readings) (t : Thunk) → fits_direct keys op readings t ≡ true → Fit op readings t
-  fit_of op readings t fits =
-      let served = both_true (serves keys op) _ fits in
-      let had = held (operand t 0) (operand t 1) in
-      let read = both_true (was_read (key_of op) readings t) (is_for op had t) served.1 in
-      let lock = both_true (t.lock == lock_of (key_of op)) _ read.0 in
-      let flag = both_true (has_pair readings (flag_of (key_of op)) (operand t 0)) _ lock.1 in
-      let value = both_true (has_pair readings (value_at (key_of op)) (operand t 1)) _ flag.1 in
-      let form = both_true (t.form == cond (changes_at had op) 2 1) _ read.1 in
-      let reply = both_true (operand t 2 == word_of (reply_at had op)) _ form.1 in
-      let new = both_true (operand t 3 == flag_for (left_at had op)) _ reply.1 in
-      record {
-        low = lt_of (key_of op) keys served.0;
-        lock = equal_of t.lock (lock_of (key_of op)) lock.0;
-        flag = flag.0;
-        value = value.0;
-        form = equal_of t.form _ form.0;
-        reply = equal_of (operand t 2) _ reply.0;
-        new_flag = equal_of (operand t 3) _ new.0;
-        new_value = equal_of (operand t 4) _ new.1;
-      }
+  fit_of op readings t fits = record {
+    low = lt_of (key_of op) keys (grind (arith, fits));
+    lock = equal_of t.lock (lock_of (key_of op)) (grind (arith, fits));
+    flag = grind (arith, fits);
+    value = grind (arith, fits);
+    form = equal_of t.form _ (grind (arith, fits));
+    reply = equal_of (operand t 2) _ (grind (arith, fits));
+    new_flag = equal_of (operand t 3) _ (grind (arith, fits));
+    new_value = equal_of (operand t 4) _ (grind (arith, fits));
+  }
 
   module _ (few : keys ≤ 4096) (op : Op) (readings : Readings) (t : Thunk) (fit : Fit op readings t) where
     abbrev pub had : Option ℕ

@@ -1,11 +1,7 @@
 -- Sections of the direct table one after the other do what the map does.
-use Rattle.std.proofs.Common.{◌≡◌, ◌≢◌, ℕ, ◌+◌, ◌*◌, ◌<◌, ◌≤◌, Bool, true, false, cond, refl, sym, ap, ◌∙◌, subst, ⊎_elim, arith}
-use Rattle.std.specs.Prelude.{◌==◌, ◌&&◌, ◌^◌, ◌%◌, nat_lt, Option, Some, None, is_some, if◌then◌else◌}
+use Rattle.std.proofs.Common.{◌≡◌, ◌≢◌, ℕ, ◌+◌, ◌*◌, ◌<◌, ◌≤◌, Bool, true, false, cond, refl, sym, ap, ◌∙◌, ⊎_elim, arith}
+use Rattle.std.specs.Prelude.{◌==◌, ◌&&◌, ◌%◌, nat_lt, Option, None}
 use Rattle.std.specs.FinMap.{get}
-use mathlib.Core.Logic.{dite}
-use native.Mathlib.Decide.{ℕ_discrete}
-use Rattle.map_history.specs.declared.op.Op.{Op}
-use Rattle.map_history.specs.declared.op.Op.TheVariants.{Get, Ins, Del}
 use Rattle.map_history.specs.Keys.{key_of}
 use Rattle.map_history.specs.Replay.{Pairs, reply_of, map_after}
 use Rattle.map_history.specs.Words.{word_of}
@@ -18,41 +14,18 @@ use Rattle.section_body.specs.declared.thunk.Thunk.{Thunk}
 use Rattle.section_body.specs.declared.step.Step.TheVariants.{Load, Want, Store, Answer}
 use Rattle.table_words.specs.declared.layout.Layout.{Layout}
 use Rattle.structure_laws.specs.Scene.{Cells, Section, Scene}
-use Rattle.structure_laws.specs.Sections.{IsAllowed, IsStep}
+use Rattle.structure_laws.specs.Sections.{IsStep}
 use Rattle.structure_laws.specs.InTurn.{StandsFor, AtStamp, AfterStores, InTurn}
-use Rattle.structure_laws.proofs.Changes.{upd_same, upd_other, value-next_word, value_small, both_true, equal_of}
-use Rattle.structure_laws.proofs.Limits.{value-small}
+use Rattle.structure_laws.proofs.Changes.{upd_other, both_true, equal_of}
 use Rattle.law_frames.specs.AtKey.{reply_at, left_at, changes_at}
-use Rattle.law_frames.proofs.AtKey.{replies, leaves, unchanged}
+use Rattle.law_frames.specs.Flagged.{held}
+use Rattle.law_frames.proofs.AtKey.{replies, stand_after, unchanged, left_small}
 use Rattle.law_frames.proofs.AtStamp.{wanted_now}
+use Rattle.law_frames.proofs.Flagged.{held_small, held_stored}
 use Rattle.law_frames.proofs.Numbers.{bool_cases, lt_of, lt_true}
-use Rattle.direct_laws.specs.Direct.{lock_of, flag_of, value_at, held, flag_for, value_for, held_in, lock_in, direct}
+use Rattle.direct_laws.specs.Direct.{lock_of, flag_of, value_at, held_in, lock_in, direct}
 use Rattle.direct_laws.proofs.Bodies.{StepIs, load_in, store_in, answer_in, shaped}
 use Rattle.direct_laws.proofs.Fit.{Fit, fit_of, step_own, own_step}
-
--- what a key has, has 32 bits
-held_small : (f w v : ℕ) → held f w ≡ Some v → v < 2 ^ 32
-held_small f w v h = by (value_of f == 1) h
-  where
-    by : (b : Bool) → cond b (Some (value_of w)) None ≡ Some v → v < 2 ^ 32
-    by true e = let same : value_of w ≡ v = cc in let small = value_small w in omega arith
-    by false e = absurd (cc)
-
-left_small : (op : Op) → IsAllowed op → (f w v : ℕ) → left_at (held f w) op ≡ Some v → v < 2 ^ 32
-left_small (Get key) allowed f w v h = held_small f w v h
-left_small (Ins key value) allowed f w v h = by (is_some (held f w)) h
-  where
-    by : (b : Bool) → (if b then held f w else Some value) ≡ Some v → v < 2 ^ 32
-    by true e = held_small f w v e
-    by false e = allowed.value v e
-left_small (Del key) allowed f w v h = absurd (cc)
-
--- what is stored for a key that shall have this is read as this
-held_stored : (has : Option ℕ) (old older : ℕ) → ((v : ℕ) → has ≡ Some v → v < 2 ^ 32) → held (next_word old (value_of (flag_for has))) (next_word older (value_of (value_for has))) ≡ has
-held_stored None old older small = ap (λ n. cond (n == 1) (Some (value_of (next_word older (value_of 0)))) None) (value-next_word old (value_of 0) (value_small 0))
-held_stored (Some v) old older small =
-    ap (λ n. cond (n == 1) (Some (value_of (next_word older (value_of v)))) None) (value-next_word old (value_of 1) (value_small 1))
-    ∙ ap (λ n. Some n) (value-next_word older (value_of v) (value_small v) ∙ value-small v (small v refl))
 
 -- what a key has is the same in cells that are the same at its places
 held_same : (keys : ℕ) (cells others : Cells) (q : ℕ) → (q < keys → others (flag_of q) ≡ cells (flag_of q)) → (q < keys → others (value_at q) ≡ cells (value_at q)) → held_in keys cells q ≡ held_in keys others q
@@ -62,22 +35,16 @@ held_same keys cells others q flag value = by (nat_lt q keys) refl
     by true e = let low = lt_of q keys e in (λ i. held (sym (flag low) i) (sym (value low) i))
     by false e = refl
 
--- what each place is loaded for
-first_load : (w : Bool) (l : ℕ) (t : Thunk) → StepIs w l t 0 (Load (l + 1) 0)
-first_load true l t = refl
-first_load false l t = refl
+-- both cells are loaded and wanted, and stored where the body writes
+reads : (w : Bool) (l : ℕ) (t : Thunk) → StepIs w l t 0 (Load (l + 1) 0) × StepIs w l t 1 (Want 0 (operand t 0))
+    × StepIs w l t (cond w 3 2) (Load (l + 2) 1) × StepIs w l t (cond w 4 3) (Want 1 (operand t 1))
+reads true l t = (refl, refl, refl, refl)
+reads false l t = (refl, refl, refl, refl)
 
-first_want : (w : Bool) (l : ℕ) (t : Thunk) → StepIs w l t 1 (Want 0 (operand t 0))
-first_want true l t = refl
-first_want false l t = refl
-
-second_load : (w : Bool) (l : ℕ) (t : Thunk) → StepIs w l t (cond w 3 2) (Load (l + 2) 1)
-second_load true l t = refl
-second_load false l t = refl
-
-second_want : (w : Bool) (l : ℕ) (t : Thunk) → StepIs w l t (cond w 4 3) (Want 1 (operand t 1))
-second_want true l t = refl
-second_want false l t = refl
+stores_both : (w : Bool) (l : ℕ) (t : Thunk) → w ≡ true
+    → StepIs w l t 8 (Store 0 (Const (value_of (operand t 3)))) × StepIs w l t 7 (Store 1 (Const (value_of (operand t 4))))
+stores_both true l t e = (refl, refl)
+stores_both false l t e = absurd (cc)
 
 false_true : {b : Bool} → b ≡ false → b ≡ true → ⊥
 false_true e e' = cc
@@ -106,10 +73,10 @@ module _ (keys : ℕ) (few : keys ≤ 4096) (layout : Layout) (s : Scene) (pairs
   now = wanted_now (direct keys) layout s before.sound d x stamp (shaped (lock_in x.thunk) x.thunk (x.thunk.form == 2))
 
   flag_now : s.cells (flag_of key) ≡ operand x.thunk 0
-  flag_now = now 0 1 (flag_of key) 0 _ (there_step 0 _ (first_load writes (lock_of key) x.thunk)) (there_step 1 _ (first_want writes (lock_of key) x.thunk))
+  flag_now = let at = reads writes (lock_of key) x.thunk in now 0 1 (flag_of key) 0 _ (there_step 0 _ at.0) (there_step 1 _ at.1)
 
   value_now : s.cells (value_at key) ≡ operand x.thunk 1
-  value_now = now (cond writes 3 2) (cond writes 4 3) (value_at key) 1 _ (there_step _ _ (second_load writes (lock_of key) x.thunk)) (there_step _ _ (second_want writes (lock_of key) x.thunk))
+  value_now = let at = reads writes (lock_of key) x.thunk in now (cond writes 3 2) (cond writes 4 3) (value_at key) 1 _ (there_step _ _ at.2) (there_step _ _ at.3)
 
   held_key : (cells : Cells) → held_in keys cells key ≡ held (cells (flag_of key)) (cells (value_at key))
   held_key cells = ap (λ b. cond b (held (cells (flag_of key)) (cells (value_at key))) None) (lt_true key keys fit.low)
@@ -139,13 +106,14 @@ module _ (keys : ℕ) (few : keys ≤ 4096) (layout : Layout) (s : Scene) (pairs
       where
         wrote : writes ≡ true → held (after (flag_of key)) (after (value_at key)) ≡ left_at has x.op
         wrote e =
-            let flag = stores.changed 8 0 (flag_of key) 0 (Const (value_of (operand x.thunk 3))) (there_step 8 _ (subst (λ w. StepIs w (lock_of key) x.thunk 8 (Store 0 (Const (value_of (operand x.thunk 3))))) (sym e) refl))
-            (there_step 0 _ (first_load writes (lock_of key) x.thunk)) in
-            let value = stores.changed 7 (cond writes 3 2) (value_at key) 1 (Const (value_of (operand x.thunk 4))) (there_step 7 _ (subst (λ w. StepIs w (lock_of key) x.thunk 7 (Store 1 (Const (value_of (operand x.thunk 4))))) (sym e) refl))
-            (there_step (cond writes 3 2) _ (second_load writes (lock_of key) x.thunk)) in
+            let at = reads writes (lock_of key) x.thunk in
+            let put = stores_both writes (lock_of key) x.thunk e in
+            let flag = stores.changed 8 0 (flag_of key) 0 _ (there_step 8 _ put.0) (there_step 0 _ at.0) in
+            let value = stores.changed 7 (cond writes 3 2) (value_at key) 1 _ (there_step 7 _ put.1) (there_step _ _ at.2) in
             (λ i. held (flag i) (value i))
             ∙ ((λ i. held (next_word (x.reg 0) (value_of (fit.new_flag i))) (next_word (x.reg 1) (value_of (fit.new_value i))))
-            ∙ held_stored (left_at has x.op) (x.reg 0) (x.reg 1) (left_small x.op (before.sound.allowed d x stamp.here) (operand x.thunk 0) (operand x.thunk 1)))
+            ∙ held_stored (left_at has x.op) (x.reg 0) (x.reg 1)
+            (left_small x.op (before.sound.allowed d x stamp.here) has (held_small (operand x.thunk 0) (operand x.thunk 1))))
 
         none : writes ≡ false → (p : ℕ) → after p ≡ s.cells p
         none e p = stores.same p (λ i j r v store load. ⊎_elim (λ a. false_true e a.0) (λ b. false_true e b.0) (store_in (lock_of key) x.thunk writes i r v (step_there i (Store r v) store)))
@@ -154,9 +122,7 @@ module _ (keys : ℕ) (few : keys ≤ 4096) (layout : Layout) (s : Scene) (pairs
         left e = (λ i. held (none e (flag_of key) i) (none e (value_at key) i)) ∙ ((λ i. held (flag_now i) (value_now i)) ∙ sym (unchanged has x.op e))
 
     stands_after : (q : ℕ) → get (map_after pairs x.op) q ≡ held_in keys after q
-    stands_after q = leaves pairs x.op q ∙ dite (ℕ_discrete q key)
-        (λ e. upd_same (get pairs) key q (left_at (get pairs key) x.op) e ∙ (ap (λ o. left_at o x.op) looked ∙ (sym own_key ∙ ap (held_in keys after) (sym e))))
-        (λ ne. upd_other (get pairs) key q (left_at (get pairs key) x.op) ne ∙ (before.stands q ∙ other_key q ne))
+    stands_after = stand_after pairs x.op (held_in keys s.cells) (held_in keys after) has before.stands has_now own_key other_key
 
 -- a lock is no flag and no value
 lock_apart : (keys p q r : ℕ) → (nat_lt p (3 * keys) && (p % 3 == 0)) ≡ true → 1 ≤ r → r ≤ 2 → 3 * q + r ≢ p

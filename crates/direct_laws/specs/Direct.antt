@@ -1,5 +1,5 @@
 -- The direct table: a map of keys below a bound, where each key has a lock, a flag and a value of its own.
-use Rattle.std.specs.Prelude.{◌≡◌, ℕ, ◌+◌, ◌*◌, ◌-◌, ◌%◌, ◌==◌, ◌&&◌, Bool, true, false, cond, nat_lt, List, [], ◌∷◌, Option, None, Some}
+use Rattle.std.specs.Prelude.{◌≡◌, ℕ, ◌+◌, ◌*◌, ◌-◌, ◌%◌, ◌==◌, ◌&&◌, Bool, true, false, cond, nat_lt, List, [], ◌∷◌, Option, None}
 use Rattle.std.specs.FinMap.{get}
 use Rattle.map_history.specs.declared.op.Op.{Op}
 use Rattle.map_history.specs.Keys.{key_of}
@@ -14,6 +14,7 @@ use Rattle.structure_laws.specs.Scene.{Cells, Readings}
 use Rattle.structure_laws.specs.Meaning.{Meaning}
 use Rattle.runner_parts.specs.Tests.{has_pair}
 use Rattle.law_frames.specs.AtKey.{reply_at, left_at, changes_at}
+use Rattle.law_frames.specs.Flagged.{held, flag_for, value_for}
 use Rattle.law_frames.specs.Nodeless.{NoneLive}
 
 -- the places of a key
@@ -25,19 +26,6 @@ flag_of key = 3 * key + 1
 
 abbrev pub value_at : ℕ → ℕ
 value_at key = 3 * key + 2
-
--- what a key has, by the words of its flag and of its value
-abbrev pub held : ℕ → ℕ → Option ℕ
-held flag value = cond (value_of flag == 1) (Some (value_of value)) None
-
--- the flag and the value of a key that has this
-abbrev pub flag_for : Option ℕ → ℕ
-flag_for None = 0
-flag_for (Some value) = 1
-
-abbrev pub value_for : Option ℕ → ℕ
-value_for None = 0
-value_for (Some value) = value
 
 -- form 1, nothing changes: the words of flag and value as they were read, and the reply word
 abbrev pub read_steps : ℕ → Thunk → List Step

@@ -1,6 +1,6 @@
 -- The walk of a key suits the direct table.
-use Rattle.std.proofs.Common.{◌≡◌, ℕ, ◌+◌, ◌*◌, ◌<◌, ◌≤◌, [], ◌∷◌, map, Bool, true, false, refl, ap, arith, Some}
-use Rattle.std.specs.Prelude.{◌==◌, ◌&&◌, ◌%◌, nat_lt, slice_get}
+use Rattle.std.proofs.Common.{◌≡◌, ℕ, ◌+◌, ◌*◌, ◌<◌, ◌≤◌, [], ◌∷◌, map, true, false, refl, arith}
+use Rattle.std.specs.Prelude.{◌==◌, ◌&&◌, ◌%◌, nat_lt}
 use Rattle.map_history.specs.declared.op.Op.{Op}
 use Rattle.map_history.specs.Keys.{key_of}
 use Rattle.section_body.specs.Bucket.{operand}
@@ -8,19 +8,15 @@ use Rattle.section_body.specs.declared.thunk.Thunk.{Thunk}
 use Rattle.table_words.specs.declared.layout.Layout.{Layout}
 use Rattle.structure_laws.specs.Scene.{Readings}
 use Rattle.runner_parts.specs.Tests.{has_pair}
-use Rattle.law_frames.proofs.Numbers.{lt_of, lt_true, eq_true, eq_false, third, read_pair}
+use Rattle.law_frames.proofs.Numbers.{lt_of, lt_true, eq_true, eq_false, third, and_false, read_at}
 use Rattle.direct_laws.specs.Direct.{lock_of, flag_of, value_at, serves, fits_direct, direct}
 use Rattle.fixed_walks.specs.Fixed.{thunk_for, Suits}
 use Rattle.direct_table.specs.Course.{direct_course}
 
-and_false : (a b : Bool) → b ≡ false → (a && b) ≡ false
-and_false true b e = e
-and_false false b e = refl
-
 self : (n : ℕ) → (n == n) ≡ true
 self n = eq_true n n refl
 
-module _ (keys : ℕ) (some : 0 < keys) (few : keys ≤ 4096) (layout : Layout) (op : Op) where
+module _ (keys : ℕ) (layout : Layout) (op : Op) where
   abbrev key : ℕ
   key = key_of op
 
@@ -40,31 +36,23 @@ module _ (keys : ℕ) (some : 0 < keys) (few : keys ≤ 4096) (layout : Layout) 
   abbrev made : Readings → ℕ → ℕ → Thunk
   made readings word number = thunk_for (direct_course keys) op (map (λ reading. reading.1) readings) (lock_of key) word number
 
-  thunk_fits : serves keys op ≡ true → (readings : Readings) (word number : ℕ) → map (λ reading. reading.0) readings ≡ flag_of key ∷ value_at key ∷ lock_of key ∷ []
-      → slice_get readings 2 ≡ Some (lock_of key, word) → fits_direct keys op readings (made readings word number) ≡ true
-  thunk_fits served [] word number places last = absurd (cc)
-  thunk_fits served (a ∷ []) word number places last = absurd (cc)
-  thunk_fits served (a ∷ b ∷ []) word number places last = absurd (cc)
-  thunk_fits served (a ∷ b ∷ c ∷ readings) word number places last =
-      (λ i. served i && ((self (lock_of key) i && (flag i && (value i && lock i))) && (self (made (a ∷ b ∷ c ∷ readings) word number).form i && (self (operand (made (a ∷ b ∷ c ∷ readings) word number) 2) i && (self (operand (made (a ∷ b ∷ c ∷ readings) word number) 3) i && self (operand (made (a ∷ b ∷ c ∷ readings) word number) 4) i)))))
-    where
-      flag : has_pair (a ∷ b ∷ c ∷ readings) (flag_of key) a.1 ≡ true
-      flag = let e : a.0 ≡ flag_of key = cc in read_pair (a ∷ b ∷ c ∷ readings) (flag_of key) a.1 0 (ap (λ p. Some (p, a.1)) e)
+  thunk_fits : serves keys op ≡ true → (readings : Readings) (word number : ℕ)
+      → map (λ reading. reading.0) readings ≡ flag_of key ∷ value_at key ∷ lock_of key ∷ []
+      → has_pair readings (lock_of key) word ≡ true → fits_direct keys op readings (made readings word number) ≡ true
+  thunk_fits served readings word number places lock =
+      let t = made readings word number in
+      let flag = read_at readings _ 0 (flag_of key) places refl in
+      let value = read_at readings _ 1 (value_at key) places refl in
+      (λ i. served i && ((self (lock_of key) i && (flag i && (value i && lock i)))
+      && (self t.form i && (self (operand t 2) i && (self (operand t 3) i && self (operand t 4) i)))))
 
-      value : has_pair (a ∷ b ∷ c ∷ readings) (value_at key) b.1 ≡ true
-      value = let e : b.0 ≡ value_at key = cc in read_pair (a ∷ b ∷ c ∷ readings) (value_at key) b.1 1 (ap (λ p. Some (p, b.1)) e)
-
-      lock : has_pair (a ∷ b ∷ c ∷ readings) (lock_of key) word ≡ true
-      lock = read_pair (a ∷ b ∷ c ∷ readings) (lock_of key) word 2 last
-
-  pub suits : Suits (direct keys) (direct_course keys) layout op
-  suits = record {
+  pub suits : serves keys op ≡ true → Suits (direct keys) (direct_course keys) layout op
+  suits served = record {
     few = omega arith;
-    cells = λ served. let low = lt_of key keys served in
+    cells = let low = lt_of key keys served in
         let flag = cell low 1 (omega arith) (omega arith) in
         let value = cell low 2 (omega arith) (omega arith) in (flag.0, flag.1, (value.0, value.1, tt));
-    lock = λ served. lock_there (lt_of key keys served);
-    spare = (omega (arith, some), and_false (nat_lt 1 (3 * keys)) (1 % 3 == 0) refl);
+    lock = lock_there (lt_of key keys served);
     operands = λ words. refl;
-    fits = thunk_fits;
+    fits = thunk_fits served;
   }

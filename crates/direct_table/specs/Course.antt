@@ -4,7 +4,8 @@ use Rattle.map_history.specs.declared.op.Op.{Op}
 use Rattle.map_history.specs.Keys.{key_of}
 use Rattle.map_history.specs.Words.{word_of}
 use Rattle.law_frames.specs.AtKey.{reply_at, left_at, changes_at}
-use Rattle.direct_laws.specs.Direct.{lock_of, flag_of, value_at, held, flag_for, value_for, serves}
+use Rattle.law_frames.specs.Flagged.{held, flag_for, value_for}
+use Rattle.direct_laws.specs.Direct.{lock_of, flag_of, value_at, serves}
 use Rattle.fixed_walks.specs.Fixed.{Course}
 
 -- what the key had, by the words of its flag and its value
@@ -21,7 +22,6 @@ direct_course keys = record {
   serves = serves keys;
   cells = λ op. flag_of (key_of op) ∷ value_at (key_of op) ∷ [];
   lock = λ op. lock_of (key_of op);
-  spare = 1;
   form = λ op words. cond (changes_at (had_by words) op) 2 1;
   operands = operands_by;
 }

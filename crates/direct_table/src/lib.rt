@@ -1,11 +1,8 @@
 //! A table addressed by the key itself: the smallest structure on the locks, and the worked example of `docs/OWN_STRUCTURE.md`.
 //!
-//! `table` has the structure, `key` what a key has, `plan` the walk of a key and that requests are planned on the table, and
-//! `contents` the pairs of a closed one.
+//! `table` has the structure, and `plan` the walk of a key, that requests are planned on the table, and the pairs of a closed one.
 #![tactic(auto)]
 
-mod contents;
-mod key;
 mod plan;
 mod table;
 

@@ -1,11 +1,13 @@
 //! The direct table as a structure.
-ghost use Rattle.std.specs.Prelude.{◌≡◌, ◌<◌, ◌≤◌, true, refl};
-ghost use Rattle.direct_laws.specs.Direct.{lock_in, read_steps, write_steps, serves, was_read, is_for, direct};
+ghost use Rattle.std.specs.Prelude.{◌≡◌, ◌<◌, ◌≤◌, true, cond, refl};
+ghost use Rattle.law_frames.specs.AtKey.{changes_at};
+ghost use Rattle.direct_laws.specs.Direct.{lock_in, serves, was_read, is_for, direct};
 ghost use Rattle.direct_laws.proofs.DirectLaws.{direct_laws};
 
-use crate::key::{flag_for, form_at, held, value_for};
 use fixed_walks::has_pair;
-use law_frames::{answer, left_at, load, reply_at, store, want};
+use law_frames::{
+    answer, changes_at, flag_for, held, left_at, load, reply_at, store, value_for, want,
+};
 use map_history::Op;
 use runner_parts::Structure;
 use section_body::{Body, Place, Step, Thunk, Word};
@@ -38,46 +40,19 @@ impl DirectTable {
     }
 }
 
-/// Puts the steps of a body that changes nothing in place of those that a kept body has.
-fn fill_read(lock: Place, thunk: &Thunk, body: &mut Body)
-    requires { lock < 12288 }
-    ensures { body.new ≡ read_steps lock thunk.now }
-{
-    body.refill(&[
-        load(lock + 1, 0),
-        want(0, thunk.operands[0]),
-        load(lock + 2, 1),
-        want(1, thunk.operands[1]),
-        Step::Stamp,
-        answer(thunk.operands[2]),
-    ]);
-}
-
-/// The same for a body that stores flag and value.
-fn fill_write(lock: Place, thunk: &Thunk, body: &mut Body)
-    requires { lock < 12288 }
-    ensures { body.new ≡ write_steps lock thunk.now }
-{
-    body.refill(&[
-        load(lock + 1, 0),
-        want(0, thunk.operands[0]),
-        Step::Fresh { reg: 0 },
-        load(lock + 2, 1),
-        want(1, thunk.operands[1]),
-        Step::Fresh { reg: 1 },
-        Step::Stamp,
-        store(1, thunk.operands[4]),
-        store(0, thunk.operands[3]),
-        answer(thunk.operands[2]),
-    ]);
-}
-
 /// The thunk's lock, where it can be a key's.
 fn lock_in(thunk: &Thunk) -> Place
     ensures lock { result ≡ lock_in thunk.now }
     ensures low { result < 12288 }
 {
     if thunk.lock < 12288 { thunk.lock } else { 0 }
+}
+
+/// The form of the section's body: 2 where the key's cells change, and else 1.
+pub(crate) fn form_at(had: Option<u32>, op: Op) -> u64
+    ensures { result ≡ cond (changes_at had op) 2 1 }
+{
+    if changes_at(had, op) { 2 } else { 1 }
 }
 
 /// Whether the thunk's lock and the words that it wants were read in the places of this key.
@@ -134,10 +109,29 @@ impl Structure for DirectTable {
 
     fn body_in(&self, thunk: &Thunk, body: &mut Body) {
         let lock = lock_in(thunk);
+        let operands = &thunk.operands;
         if thunk.form == 2 {
-            fill_write(lock, thunk, body);
+            body.refill(&[
+                load(lock + 1, 0),
+                want(0, operands[0]),
+                Step::Fresh { reg: 0 },
+                load(lock + 2, 1),
+                want(1, operands[1]),
+                Step::Fresh { reg: 1 },
+                Step::Stamp,
+                store(1, operands[4]),
+                store(0, operands[3]),
+                answer(operands[2]),
+            ]);
         } else {
-            fill_read(lock, thunk, body);
+            body.refill(&[
+                load(lock + 1, 0),
+                want(0, operands[0]),
+                load(lock + 2, 1),
+                want(1, operands[1]),
+                Step::Stamp,
+                answer(operands[2]),
+            ]);
         }
     }
 

@@ -15,6 +15,6 @@ module _ {C : Type 0} (course : C → Course) where
     wants = λ w. first_of w.ahead.items;
     fed = fed_by;
     left = λ w. length w.ahead.items;
-    refused = λ w. refused_by w.served w.version_max w.ahead.items w.word;
+    refused = λ w. refused_by w.version_max w.ahead.items w.word;
     thunk = λ w number. thunk_for (course w.course) w.op w.words.items w.place w.word number;
   }

@@ -1,5 +1,5 @@
 //! What a structure gives for a walk over fixed places.
-ghost use Rattle.std.specs.Prelude.{◌≡◌};
+ghost use Rattle.std.specs.Prelude.{◌≡◌, true};
 ghost use Rattle.fixed_walks.specs.Fixed.{Course, places_for};
 
 use arrayvec::ArrayVec;
@@ -10,12 +10,9 @@ use section_body::Place;
 pub trait FixedPlaces: Drop {
     ghost course: { Self → Course };
 
-    /// Whether it serves this operation.
-    fn serves_op(&self, op: Op) -> bool
-        ensures { result ≡ (course self.now).serves op };
-
-    /// The places that the walk of this operation loads, in order: cells, and the lock last. One cell where the operation isn't served.
+    /// The places that the walk of this operation, which it serves, loads in order: cells, and the lock last.
     fn places(&self, op: Op) -> ArrayVec<Place, 16>
+        requires { (course self.now).serves op ≡ true }
         ensures { result.items ≡ places_for (course self.now) op };
 
     /// The form and the operands of the section, by the words that were found, in order, as bits.

@@ -1,5 +1,5 @@
 //! The walk over fixed places.
-ghost use Rattle.std.specs.Prelude.{◌≡◌, []};
+ghost use Rattle.std.specs.Prelude.{◌≡◌, [], true};
 ghost use Rattle.fixed_walks.specs.Fixed.{places_for};
 ghost use Rattle.fixed_walks.specs.Walk.{fixed_way};
 
@@ -16,7 +16,6 @@ pub struct FixedWalk<C> {
     course: C,
     version_max: u32,
     op: Op,
-    served: bool,
     ahead: ArrayVec<Place, 16>,
     words: ArrayVec<u64, 16>,
     place: Place,
@@ -24,17 +23,16 @@ pub struct FixedWalk<C> {
 }
 
 impl<C: FixedPlaces> FixedWalk<C> {
-    /// A walk that has loaded nothing.
+    /// The walk of an operation that is served, which has loaded nothing.
     pub fn new(course: C, op: Op, version_max: u32) -> FixedWalk<C>
-        ensures { result ≡ record { course = course; version_max = version_max; op = op; served = (C.course course).serves op; ahead = record { items = places_for (C.course course) op }; words = record { items = [] }; place = 0; word = 0 } }
+        requires { (C.course course).serves op ≡ true }
+        ensures { result ≡ record { course = course; version_max = version_max; op = op; ahead = record { items = places_for (C.course course) op }; words = record { items = [] }; place = 0; word = 0 } }
     {
-        let served = course.serves_op(op);
         let ahead = course.places(op);
         FixedWalk {
             course,
             version_max,
             op,
-            served,
             ahead,
             words: ArrayVec::new(),
             place: 0,
@@ -46,8 +44,11 @@ impl<C: FixedPlaces> FixedWalk<C> {
 impl<C: FixedPlaces> Walker for FixedWalk<C> {
     ghost way = { fixed_way C.course };
 
-    fn next_place(&self) -> Option<Place> {
-        self.ahead.as_slice().first().copied()
+    fn wanted(&self) -> Option<u64> {
+        match self.ahead.as_slice().first() {
+            Some(place) => Some(u64::from(*place)),
+            None => None,
+        }
     }
 
     fn feed(&mut self, word: Word) {
@@ -63,7 +64,7 @@ impl<C: FixedPlaces> Walker for FixedWalk<C> {
     fn is_refused(&self) -> bool {
         let free = self.word.value() == 0;
         let spent = u64::from(self.word.version()) + 2 > u64::from(self.version_max);
-        self.ahead.is_empty() && !(self.served && free && !spent)
+        self.ahead.is_empty() && !(free && !spent)
     }
 
     fn is_mark(&self, _place: Place) -> bool {

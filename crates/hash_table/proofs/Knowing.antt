@@ -2,6 +2,8 @@
 use Rattle.std.proofs.Common.{◌≡◌, ◌≢◌, ℕ, zero, suc, ◌<◌, ◌⊎◌, inl, inr, Bool, true, false, cond, refl, sym, ap, subst, ◌∙◌, arith, List, [], ◌∷◌, Option, Some, None}
 use Rattle.std.specs.Prelude.{◌==◌, ◌&&◌, ◌||◌, not, ◌-◌, nat_le, slice_get}
 use Rattle.std.specs.List.{list_any}
+use Rattle.std.proofs.lemmas.Option.{none-some}
+use Rattle.std.proofs.lemmas.Bool.{and_from}
 use Rattle.map_history.specs.declared.op.Op.{Op}
 use Rattle.map_history.specs.Keys.{key_of}
 use Rattle.section_body.specs.Word.{value_of, is_free, is_spent}
@@ -17,9 +19,6 @@ use Rattle.bucket_laws.proofs.WalkFacts.{Gives}
 some_eq : (a b : ℕ) → Some a ≡ Some b → a ≡ b
 some_eq a b e = cc
 
-none_some : {A : Type 0} (a : ℕ) → None ≡ Some a → A
-none_some a e = cc
-
 or_right : (a b : Bool) → b ≡ true → (a || b) ≡ true
 or_right a b h = grind arith
 
@@ -32,9 +31,6 @@ any_of {X} f (y ∷ xs) zero x here passes = ap (λ b. b || list_any f xs) (ap (
     test None = false
     test (Some z) = f z
 any_of f (y ∷ xs) (suc i) x here passes = or_right (f y) (list_any f xs) (any_of f xs i x here passes)
-
-both : (a b : Bool) → a ≡ true → b ≡ true → (a && b) ≡ true
-both a b h h' = grind arith
 
 eq_test : (a b : ℕ) → a ≡ b → (a == b) ≡ true
 eq_test a b e = grind arith
@@ -78,7 +74,7 @@ module _ (buckets : ℕ) (bucket : ℕ → ℕ) (small : (key : ℕ) → bucket 
   link_fed w p word i known at here false true e = tt
   link_fed w p word i known at here false false e =
       any_of (λ reading. is_link_place buckets bucket reading.0 && (value_of reading.1 == suc (value_of word - 1))) all i (p, word) here
-      (both (is_link_place buckets bucket p) (value_of word == suc (value_of word - 1)) (ap (is_link_place buckets bucket) (sym at) ∙ is_link w known)
+      (and_from (is_link_place buckets bucket p) (value_of word == suc (value_of word - 1)) (ap (is_link_place buckets bucket) (sym at) ∙ is_link w known)
       (eq_test (value_of word) (suc (value_of word - 1)) (back (value_of word) (is_not (value_of word) 0 e))))
     where
       back : (v : ℕ) → v ≢ 0 → v ≡ suc (v - 1)
@@ -99,7 +95,7 @@ module _ (buckets : ℕ) (bucket : ℕ → ℕ) (small : (key : ℕ) → bucket 
     open_word.0,
     open_word.1,
     any_of (λ x. x.0 == bucket_lock own && x.1 == word) all i (bucket_lock own, word) here
-        (both (bucket_lock own == bucket_lock own) (word == word) (eq_test (bucket_lock own) (bucket_lock own) refl) (eq_test word word refl)),
+        (and_from (bucket_lock own == bucket_lock own) (word == word) (eq_test (bucket_lock own) (bucket_lock own) refl) (eq_test word word refl)),
   )
   lock_fed w word i here false e = tt
 
@@ -111,8 +107,8 @@ module _ (buckets : ℕ) (bucket : ℕ → ℕ) (small : (key : ℕ) → bucket 
   knows_fed w AtValue p word i known want here = value_fed w (fed buckets bucket b op w AtValue word) refl known (is_del op)
   knows_fed w AtNext p word i known want here = tt
   knows_fed w AtLock p word i known want here = lock_fed w word i (here ∙ ap (λ q. Some (q, word)) (sym (some_eq (bucket_lock own) p want))) (is_free word && not (is_spent b.version_max word)) refl
-  knows_fed w AtEnd p word i known want here = none_some p want
-  knows_fed w Refused p word i known want here = none_some p want
+  knows_fed w AtEnd p word i known want here = absurd (none-some p want)
+  knows_fed w Refused p word i known want here = absurd (none-some p want)
 
   -- so it is behind readings that all stand in the list
   pub knows_walked : (w : Walk) (readings : Readings) → ((i : ℕ) (reading : ℕ × ℕ) → slice_get readings i ≡ Some reading → (j : ℕ) × (slice_get all j ≡ Some reading)) → Knows w w.stage

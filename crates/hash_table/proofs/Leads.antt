@@ -2,6 +2,7 @@
 use Rattle.std.proofs.Common.{◌≡◌, ℕ, suc, ◌+◌, ◌*◌, ◌^◌, ◌<◌, ◌≤◌, ◌⊎◌, inl, inr, List, [], ◌∷◌, ◌++◌, length, Bool, true, false, cond, refl, sym, ap, subst, ◌∙◌, arith, Option, Some, None}
 use Rattle.std.specs.Prelude.{◌==◌, ◌&&◌, ◌||◌, not, ◌-◌, ◌/◌, ◌%◌, nat_lt, nat_le, is_some, if◌then◌else◌}
 use Rattle.std.specs.List.{list_any}
+use Rattle.std.proofs.lemmas.Option.{none-some}
 use Rattle.map_history.specs.declared.op.Op.{Op}
 use Rattle.map_history.specs.declared.op.Op.TheVariants.{Get, Ins, Del}
 use Rattle.map_history.specs.Keys.{key_of}
@@ -11,7 +12,7 @@ use Rattle.table_words.specs.declared.layout.Layout.{Layout}
 use Rattle.table_words.specs.Places.{slot_count}
 use Rattle.structure_laws.specs.Scene.{Readings}
 use Rattle.runner_parts.specs.Tests.{is_readable}
-use Rattle.bucket_laws.specs.Walk.{Stage, AtEdition, AtLink, AtKey, AtValue, AtNext, AtLock, AtEnd, Refused, Walk, is_del, is_end, is_wanted, same_numbers, Bounds, cell_at, wanted_at, fed, walk, form_for, operands_for, fits_walk}
+use Rattle.bucket_laws.specs.Walk.{Stage, AtEdition, AtLink, AtKey, AtValue, AtNext, AtLock, AtEnd, Refused, Walk, is_del, is_end, same_numbers, Bounds, cell_at, wanted_at, fed, form_for, operands_for, fits_walk}
 use Rattle.bucket_laws.specs.Buckets.{buckets_meaning, table, bounds, is_link_place, LinksWithin}
 use Rattle.bucket_laws.proofs.Places.{third, slot_at, lt_true, lt_false, eq_true, eq_false}
 use Rattle.bucket_laws.proofs.TableLaws.{bucket_small}
@@ -22,29 +23,15 @@ use Rattle.lock_walks.specs.try_lock.specs.declared.planned.Planned.TheVariants 
 use Rattle.lock_walks.specs.try_lock.specs.Plans.{refused_by_lock}
 use Rattle.lock_walks.specs.Way.{fed_all, IsLedBy, IsThunkFor, Leads}
 use Rattle.lock_walks.proofs.Each.{each_more}
+use Rattle.lock_walks.proofs.Following.{followed_led}
 use Rattle.hash_table.specs.Walking.{Walking, begun, is_refused_at, is_refused_of, wanted_by, fed_by, thunk_by}
 use Rattle.hash_table.specs.Planned.{bucket_planning, bucket_way, walk_in}
+use Rattle.hash_table.proofs.Following.{in_readings}
 use Rattle.hash_table.proofs.Knowing.{Knows, knows}
 use Rattle.hash_table.proofs.Steps.{walk_nearer}
 
-none_some : {A : Type 0} (a : ℕ) → None ≡ Some a → A
-none_some a e = cc
-
 some_eq : (a b : ℕ) → Some a ≡ Some b → a ≡ b
 some_eq a b e = cc
-
--- the walk after readings by which it led
-walk_led : (w : Walking) (readings : Readings) → IsLedBy bucket_way w readings
-    → fed_all bucket_way w readings ≡ record w { walk = walk (2 ^ w.bits) (λ key. bucket_index key w.bits) w.bounds w.op w.walk readings }
-unfolding walk
-walk_led w [] led = refl
-walk_led w (reading ∷ readings) led =
-    walk_led (fed_by w reading.1) readings (λ i place word here. led (suc i) place word here)
-    ∙ ap (λ c. record w { walk = cond c (walk (2 ^ w.bits) (λ key. bucket_index key w.bits) w.bounds w.op (fed_by w reading.1).walk readings) w.walk })
-    (sym (ap (λ o. is_wanted o reading.0) (led 0 reading.0 reading.1 refl) ∙ same reading.0))
-  where
-    same : (n : ℕ) → (n == n) ≡ true
-    same n = grind arith
 
 -- where a place stands
 module _ (buckets : ℕ) (bucket : ℕ → ℕ) where
@@ -126,7 +113,7 @@ module _ (bits : ℕ) (few : bits ≤ 12) (layout : Layout) (op : Op) where
   small key = bucket_small bits key few
 
   here : (readings : Readings) → IsLedBy bucket_way first readings → fed_all bucket_way first readings ≡ record first { walk = walk_in bits layout op readings }
-  here readings led = walk_led first readings led
+  here readings led = followed_led bucket_way first readings led ∙ in_readings first readings
 
   steady : (w : Walking) (readings : Readings) → bucket_planning (fed_all bucket_way w readings).bits ≡ bucket_planning w.bits
   steady w [] = refl
@@ -161,8 +148,8 @@ module _ (bits : ℕ) (few : bits ≤ 12) (layout : Layout) (op : Op) where
   readable_at readings w AtValue place inside known wants = cell_low readings w.slot 2 place inside (omega arith) known (some_eq _ place wants)
   readable_at readings w AtNext place inside known wants = cell_low readings w.slot 3 place inside (omega arith) known (some_eq _ place wants)
   readable_at readings w AtLock place inside known wants = fixed_low readings 0 place (omega arith) (let e = some_eq _ place wants in omega (arith, e))
-  readable_at readings w AtEnd place inside known wants = none_some place wants
-  readable_at readings w Refused place inside known wants = none_some place wants
+  readable_at readings w AtEnd place inside known wants = absurd (none-some place wants)
+  readable_at readings w Refused place inside known wants = absurd (none-some place wants)
 
   -- the walk is refused exactly where the reading refuses
   abbrev Agrees : Walk → Stage → ℕ → ℕ → Type 0
@@ -195,8 +182,8 @@ module _ (bits : ℕ) (few : bits ≤ 12) (layout : Layout) (op : Op) where
       ∙ ap (λ b. is_some (if b then refused_by_lock layout.version_max place word
       else (if (is_refused_at (fed (2 ^ bits) hash limits op w AtLock word).stage && nat_le limits.links w.links) then Some (answers.Far (slot_count layout 0 + 8)) else None)))
       (sym (ap IsLockPlace (sym (some_eq _ place wants)) ∙ lock_here (2 ^ bits) hash (hash (key_of op)) (small (key_of op))))
-  agrees_at readings w AtEnd place word known wants = none_some place wants
-  agrees_at readings w Refused place word known wants = none_some place wants
+  agrees_at readings w AtEnd place word known wants = absurd (none-some place wants)
+  agrees_at readings w Refused place word known wants = absurd (none-some place wants)
 
   goes_at : (w : Walk) (stage : Stage) (place : ℕ) → wanted_at (2 ^ bits) hash (hash (key_of op)) w stage ≡ Some place → is_refused_at stage ≡ false
   goes_at w AtEdition place wants = refl
@@ -206,7 +193,7 @@ module _ (bits : ℕ) (few : bits ≤ 12) (layout : Layout) (op : Op) where
   goes_at w AtNext place wants = refl
   goes_at w AtLock place wants = refl
   goes_at w AtEnd place wants = refl
-  goes_at w Refused place wants = none_some place wants
+  goes_at w Refused place wants = absurd (none-some place wants)
 
   some_none : {A : Type 0} (p : ℕ) → Some p ≡ None → A
   some_none p e = cc

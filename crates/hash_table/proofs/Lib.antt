@@ -1,7 +1,7 @@
 mod Places
 mod Knowing
 mod Steps
-mod Following
+pub mod Following
 mod Leads
 mod Gathering
 mod Ordering

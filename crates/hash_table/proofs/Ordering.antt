@@ -1,13 +1,13 @@
 -- What was gathered and sorted is the map's pairs, in order of key.
 use Rattle.std.proofs.Common.{◌≡◌, ◌≢◌, ℕ, zero, suc, ◌<◌, ◌==◌, List, [], ◌∷◌, length, get_or, Bool, true, false, cond, refl, sym, ap, subst, ◌∙◌, arith, AllPairs, IsPermutation, Option, Some, None}
-use Rattle.std.specs.Prelude.{◌&&◌, slice_get, T}
+use Rattle.std.specs.Prelude.{slice_get, T}
 use Rattle.std.specs.declared.cmp.Ordering.{Ordering}
 use Rattle.std.specs.Ordering.{nat_cmp, ordering_then, is_lt, eq_by_cmp}
 use Rattle.std.specs.List.{IsDistinct, Contains}
 use Rattle.std.specs.List.Sorted.{IsSorted}
 use Rattle.std.specs.FinMap.{get, entries, entries_sorted, get-entries, nat_cmp-IsAntisymmetric, find, is_sorted}
 use Rattle.std.specs.FinMap.Entries.{below_all, same_entries}
-use Rattle.std.proofs.lemmas.Bool.{ne_eqb}
+use Rattle.std.proofs.lemmas.Bool.{ne_eqb, and_from}
 use Rattle.std.proofs.lemmas.Bool.Decides.{nat_tests}
 use Rattle.std.proofs.lemmas.Cmp.{nat_cmp_total, then_total, on_total}
 use Rattle.std.proofs.lemmas.List.Sorted.{Contains-permutation, sorted_far, ranks_by}
@@ -32,20 +32,17 @@ rises items sorted distinct = λ i j d before within.
     (sorted_far (λ a b. is_lt (pair_cmp a b)) (ranks_by total (λ p. p)) items sorted i j d (omega (arith, before)) within)
     (apart_from_distinct (λ (a b : ℕ × ℕ). a.0 == b.0) items i j d distinct before within)
 
-both : (a b : Bool) → a ≡ true → b ≡ true → (a && b) ≡ true
-both a b h h' = grind arith
-
 less : (a b : ℕ) → a < b → is_lt (nat_cmp a b) ≡ true
 less a b low = grind (arith, nat_tests)
 
 all_below : (x : ℕ) (items : List (ℕ × ℕ)) → ((i : ℕ) (d : ℕ × ℕ) → i < length items → x < (get_or items i d).0) → below_all nat_cmp x items ≡ true
 all_below x [] low = refl
-all_below x (item ∷ items) low = both (is_lt (nat_cmp x item.0)) (below_all nat_cmp x items) (less x item.0 (low 0 item (omega arith)))
+all_below x (item ∷ items) low = and_from (is_lt (nat_cmp x item.0)) (below_all nat_cmp x items) (less x item.0 (low 0 item (omega arith)))
     (all_below x items (λ i d within. low (suc i) d (omega (arith, within))))
 
 in_order : (items : List (ℕ × ℕ)) → AllPairs (λ (a b : ℕ × ℕ). a.0 < b.0) items → is_sorted nat_cmp items ≡ true
 in_order [] rise = refl
-in_order (item ∷ items) rise = both (below_all nat_cmp item.0 items) (is_sorted nat_cmp items)
+in_order (item ∷ items) rise = and_from (below_all nat_cmp item.0 items) (is_sorted nat_cmp items)
     (all_below item.0 items (λ i d within. rise 0 (suc i) d (omega arith) (omega (arith, within))))
     (in_order items (λ i j d before within. rise (suc i) (suc j) d (omega (arith, before)) (omega (arith, within))))
 

@@ -1,15 +1,13 @@
 -- Each load brings a walk nearer to its end.
-use Rattle.std.proofs.Common.{◌≡◌, ℕ, suc, ◌^◌, ◌<◌, Bool, true, false, cond, refl, ap, subst, arith, Some, None}
+use Rattle.std.proofs.Common.{◌≡◌, ℕ, suc, ◌^◌, ◌<◌, Bool, true, false, cond, refl, ap, subst, arith, Some}
 use Rattle.std.specs.Prelude.{◌==◌, ◌&&◌, not, ◌-◌, nat_le}
 use Rattle.std.proofs.lemmas.Bool.Decides.{nat_tests}
+use Rattle.std.proofs.lemmas.Option.{none-some}
 use Rattle.map_history.specs.Keys.{key_of}
 use Rattle.section_body.specs.Word.{value_of, is_free, is_spent}
 use Rattle.section_body.specs.Bucket.{bucket_index}
 use Rattle.bucket_laws.specs.Walk.{Stage, AtEdition, AtLink, AtKey, AtValue, AtNext, AtLock, AtEnd, Refused, Walk, is_del, wanted_at, fed, cell_at}
 use Rattle.hash_table.specs.Walking.{Walking, wanted_by, fed_by, left_at, left_of, bucket_by}
-
-none_some : {A : Type 0} (a : ℕ) → None ≡ Some a → A
-none_some a e = cc
 
 link_nearer : (links limit : ℕ) (none far : Bool) → nat_le limit (suc links) ≡ far → left_at (cond none AtLock (cond far Refused AtKey)) (limit - suc links) < left_at AtLink (limit - links)
 link_nearer links limit true far e = omega arith
@@ -48,8 +46,8 @@ nearer w AtKey place word wants =
 nearer w AtValue place word wants = value_nearer (w.bounds.links - w.walk.links) (is_del w.op)
 nearer w AtNext place word wants = omega arith
 nearer w AtLock place word wants = lock_nearer (w.bounds.links - w.walk.links) (is_free word && not (is_spent w.bounds.version_max word))
-nearer w AtEnd place word wants = none_some place wants
-nearer w Refused place word wants = none_some place wants
+nearer w AtEnd place word wants = absurd (none-some place wants)
+nearer w Refused place word wants = absurd (none-some place wants)
 
 pub walk_nearer : (w : Walking) (place word : ℕ) → wanted_by w ≡ Some place → left_of (fed_by w word) < left_of w
 walk_nearer w place word wants = nearer w w.walk.stage place word wants

@@ -4,8 +4,7 @@ use Rattle.map_history.specs.declared.op.Op.{Op}
 use Rattle.map_history.specs.Keys.{key_of}
 use Rattle.section_body.specs.Bucket.{bucket_index, bucket_lock}
 use Rattle.section_body.specs.declared.thunk.Thunk.{Thunk}
-use Rattle.structure_laws.specs.Scene.{Readings}
-use Rattle.bucket_laws.specs.Walk.{Walk, Bounds, start, is_end, form_for, operands_for, wanted_at, fed, walk}
+use Rattle.bucket_laws.specs.Walk.{Walk, Bounds, start, is_end, form_for, operands_for, wanted_at, fed}
 use Rattle.bucket_laws.specs.Walk as walks
 use Rattle.hash_table.specs.declared.walk.Stage.{Stage}
 use Rattle.hash_table.specs.declared.walk.Stage.TheVariants as codes
@@ -51,10 +50,6 @@ wanted_by w = wanted_at (2 ^ w.bits) (λ key. bucket_index key w.bits) (bucket_b
 -- the walk after a load
 abbrev pub fed_by : Walking → ℕ → Walking
 fed_by w word = record w { walk = fed (2 ^ w.bits) (λ key. bucket_index key w.bits) w.bounds w.op w.walk w.walk.stage word }
-
--- the walk in these readings, from where it stands
-abbrev pub followed : Walking → Readings → Walking
-followed w readings = record w { walk = walk (2 ^ w.bits) (λ key. bucket_index key w.bits) w.bounds w.op w.walk readings }
 
 abbrev pub is_refused_at : walks.Stage → Bool
 is_refused_at walks.Refused = true

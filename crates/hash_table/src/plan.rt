@@ -4,8 +4,10 @@ ghost use Rattle.std.specs.FinMap.{entries};
 ghost use Rattle.map_history.specs.Replay.{Pairs};
 ghost use Rattle.bucket_laws.specs.Buckets.{buckets_meaning};
 ghost use Rattle.lock_walks.specs.try_lock.specs.Contents.{StandFor, NamesNone};
-ghost use Rattle.hash_table.specs.Planned.{bucket_planning};
+ghost use Rattle.hash_table.specs.Planned.{bucket_planning, walk_in};
+ghost use Rattle.hash_table.specs.Walking.{is_refused_at};
 ghost use Rattle.bucket_laws.proofs.Planner.{buckets_plan};
+ghost use Rattle.steady_buckets.proofs.Near.{not_far, no_mark};
 
 use crate::table::HashTable;
 use crate::walk::BucketWalk;
@@ -39,4 +41,10 @@ impl Planner for HashTable {
     }
 
     ghost plans_lawfully = { λ s. buckets_plan s.bits s.few };
+
+    ghost walks_steadily = { λ s. record {
+      unmarked = λ layout op readings walk i place word at free mark. no_mark mark;
+      near = λ layout op readings walk. not_far s.bits s.few layout walk.scene.cells walk.pairs op readings
+          (is_refused_at (walk_in s.bits layout op readings).stage) walk.stands.stands walk.read;
+    } };
 }

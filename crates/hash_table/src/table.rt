@@ -7,6 +7,7 @@ ghost use Rattle.bucket_laws.proofs.TableLaws.{buckets_laws};
 ghost use Rattle.hash_table.specs.Walking.{begun};
 
 use crate::walk::BucketWalk;
+use lock_walks::follow;
 use map_history::Op;
 use runner_parts::Structure;
 use section_body::{Body, Place, Thunk, Word, bucket_body, bucket_body_in};
@@ -105,7 +106,7 @@ impl Structure for HashTable {
     }
 
     fn fits(&self, layout: Layout, op: Op, readings: &[(Place, Word)], thunk: &Thunk) -> bool {
-        let walk = self.begin(layout, op).follow(readings);
+        let walk = follow(self.begin(layout, op), readings);
         walk.fits(thunk)
     }
 

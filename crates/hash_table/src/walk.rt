@@ -1,13 +1,13 @@
 //! The walk of a key through its bucket.
-ghost use Rattle.std.specs.Prelude.{◌≡◌, ◌+◌, ◌*◌, ◌<◌, ◌≤◌, ◌^◌, ℕ, cond, [], ◌∷◌, Some};
+ghost use Rattle.std.specs.Prelude.{◌≡◌, ◌+◌, ◌*◌, ◌<◌, ◌≤◌, ◌^◌, cond, [], ◌∷◌};
 ghost use Rattle.map_history.specs.Keys.{key_of};
 ghost use Rattle.map_history.specs.Words.{word_of};
 ghost use Rattle.section_body.specs.Bucket.{bucket_index};
-ghost use Rattle.bucket_laws.specs.Walk.{AtLink, AtKey, AtNext, AtLock, operands_for, form_for, is_del, is_wanted, same_numbers, fits_walk};
-ghost use Rattle.hash_table.specs.Walking.{stage_of, is_refused_of, begun, fed_by, followed, wanted_by, left_of, thunk_by};
+ghost use Rattle.bucket_laws.specs.Walk.{AtLink, AtKey, AtNext, AtLock, operands_for, form_for, is_del, same_numbers, fits_walk};
+ghost use Rattle.hash_table.specs.Walking.{stage_of, is_refused_of, begun, fed_by, wanted_by, left_of, thunk_by};
 
 use map_history::{Op, Reply};
-use section_body::{Place, Thunk, Word, bucket_of};
+use section_body::{Thunk, Word, bucket_of};
 use std::marker::Model;
 
 /// What the walk loads next; it is at its end, or was refused.
@@ -122,7 +122,7 @@ impl BucketWalk {
     }
 
     /// The place that the walk loads next; None where it is at its end or was refused.
-    fn wanted(&self) -> Option<u64>
+    pub fn wanted(&self) -> Option<u64>
         ensures { result ≡ wanted_by self.now }
     {
         match self.stage {
@@ -133,27 +133,6 @@ impl BucketWalk {
             Stage::Next => Some(self.cell(3)),
             Stage::Lock => Some(u64::from(self.lock())),
             Stage::End | Stage::Refused => None,
-        }
-    }
-
-    /// The same, where it is the place of a cell.
-    pub fn next_place(&self) -> Option<Place>
-        requires small { (place : ℕ) → wanted_by self.now ≡ Some place → place < 2 ^ 32 }
-        ensures { result ≡ wanted_by self.now }
-    {
-        match self.wanted() {
-            Some(place) => Some(place as u32),
-            None => None,
-        }
-    }
-
-    /// Whether the walk loads this place next.
-    pub fn wants(&self, place: Place) -> bool
-        ensures { result ≡ is_wanted (wanted_by self.now) place }
-    {
-        match self.wanted() {
-            Some(wanted) => wanted == u64::from(place),
-            None => false,
         }
     }
 
@@ -182,20 +161,6 @@ impl BucketWalk {
             Stage::Lock => self.feed_lock(word),
             Stage::End | Stage::Refused => {}
         }
-    }
-
-    /// The walk in these readings: goes on by each one that it wants, up to the first that it doesn't want.
-    pub fn follow(self, readings: &[(Place, Word)]) -> BucketWalk
-        ensures { result ≡ followed self readings.now }
-    {
-        let mut walk = self;
-        for &(place, word) in readings {
-            if !walk.wants(place) {
-                return walk;
-            }
-            walk.feed(word);
-        }
-        walk
     }
 
     /// Goes on by a link.

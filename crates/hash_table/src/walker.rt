@@ -8,8 +8,8 @@ use section_body::{Place, Thunk, Word};
 impl Walker for BucketWalk {
     ghost way = { bucket_way };
 
-    fn next_place(&self) -> Option<Place> {
-        self.next_place()
+    fn wanted(&self) -> Option<u64> {
+        self.wanted()
     }
 
     fn feed(&mut self, word: Word) {

@@ -1,7 +1,7 @@
 -- The map's reply and the map afterwards, by what an operation's key had.
-use Rattle.std.proofs.Common.{◌≡◌, ℕ, ◌<◌, Bool, true, false, cond, refl, sym, ap, ◌∙◌, ⊎_elim, arith}
+use Rattle.std.proofs.Common.{◌≡◌, ◌≢◌, ℕ, ◌<◌, Bool, true, false, cond, refl, sym, ap, ◌∙◌, ⊎_elim, arith}
 use Rattle.std.proofs.lemmas.Cmp.{nat_cmp_total}
-use Rattle.std.specs.Prelude.{◌==◌, Option, Some, None, is_some, if◌then◌else◌}
+use Rattle.std.specs.Prelude.{◌==◌, ◌^◌, Option, Some, None, is_some, if◌then◌else◌}
 use Rattle.std.specs.Ordering.{nat_cmp, eq_by_cmp}
 use Rattle.std.specs.FinMap.{get, insert, remove, get-insert, get-remove}
 use mathlib.Core.Logic.{dite}
@@ -14,6 +14,7 @@ use Rattle.map_history.specs.declared.reply.Reply.{Reply}
 use Rattle.map_history.specs.declared.reply.Reply.TheVariants.{New, Dup, Val, Gone, Absent}
 use Rattle.map_history.specs.Replay.{Pairs, reply_of, map_after}
 use Rattle.section_body.specs.Update.{upd}
+use Rattle.structure_laws.specs.Sections.{IsAllowed}
 use Rattle.structure_laws.proofs.Changes.{upd_same, upd_other}
 use Rattle.law_frames.specs.AtKey.{reply_at, left_at, changes_at}
 
@@ -53,6 +54,16 @@ unchanged None (Ins key value) h = absurd (cc)
 unchanged (Some v) (Del key) h = absurd (cc)
 unchanged None (Del key) h = refl
 
+-- so a map that these answers stand for is, after the operation, one that those stand for: at its own key they are what it leaves,
+-- and at each other one the same
+pub stand_after : (pairs : Pairs) (op : Op) (has after : ℕ → Option ℕ) (had : Option ℕ) → ((q : ℕ) → get pairs q ≡ has q)
+    → has (key_of op) ≡ had → after (key_of op) ≡ left_at had op → ((q : ℕ) → q ≢ key_of op → has q ≡ after q)
+    → (q : ℕ) → get (map_after pairs op) q ≡ after q
+stand_after pairs op has after had stand looked own others q = leaves pairs op q ∙ dite (ℕ_discrete q (key_of op))
+    (λ e. upd_same (get pairs) (key_of op) q (left_at (get pairs (key_of op)) op) e
+    ∙ (ap (λ o. left_at o op) (stand (key_of op) ∙ looked) ∙ (sym own ∙ ap after (sym e))))
+    (λ ne. upd_other (get pairs) (key_of op) q (left_at (get pairs (key_of op)) op) ne ∙ (stand q ∙ others q ne))
+
 -- what the map has at the key afterwards
 pub left_own : (pairs : Pairs) (op : Op) (had : Option ℕ) → get pairs (key_of op) ≡ had → left_at had op ≡ get (map_after pairs op) (key_of op)
 left_own pairs op had is = sym (leaves pairs op (key_of op) ∙ (upd_same (get pairs) (key_of op) (key_of op) (left_at (get pairs (key_of op)) op) refl ∙ ap (λ o. left_at o op) is))
@@ -71,3 +82,13 @@ key_is op key on = ⊎_elim (λ same. same) (λ none. absurd (none_some none)) o
   where
     none_some : None ≡ Some key → ⊥
     none_some e = cc
+
+-- what it leaves its key has 32 bits, where what the key had has
+pub left_small : (op : Op) → IsAllowed op → (had : Option ℕ) → ((v : ℕ) → had ≡ Some v → v < 2 ^ 32) → (v : ℕ) → left_at had op ≡ Some v → v < 2 ^ 32
+left_small (Get key) allowed had small v h = small v h
+left_small (Ins key value) allowed had small v h = by (is_some had) h
+  where
+    by : (b : Bool) → (if b then had else Some value) ≡ Some v → v < 2 ^ 32
+    by true e = small v e
+    by false e = allowed.value v e
+left_small (Del key) allowed had small v h = absurd (cc)

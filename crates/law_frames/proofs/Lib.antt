@@ -1,5 +1,6 @@
 pub mod AtKey
 pub mod AtStamp
+pub mod Flagged
 pub mod Listing
 pub mod Nodeless
 pub mod Numbers

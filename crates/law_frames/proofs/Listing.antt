@@ -1,12 +1,13 @@
 -- A map of keys below a bound has the pairs of its keys, in order of key.
-use Rattle.std.proofs.Common.{◌≡◌, ℕ, zero, suc, ◌+◌, ◌<◌, ◌≤◌, ◌==◌, List, [], ◌∷◌, ◌++◌, Bool, true, false, cond, refl, sym, ap, subst, ◌∙◌, arith, Option, Some, None}
-use Rattle.std.specs.Prelude.{◌&&◌, ◌-◌, nat_lt, T}
+use Rattle.std.proofs.Common.{◌≡◌, ℕ, zero, suc, ◌+◌, ◌<◌, ◌≤◌, ◌==◌, List, [], ◌∷◌, ◌++◌, true, false, cond, refl, sym, ap, subst, ◌∙◌, arith, Option, Some, None}
+use Rattle.std.specs.Prelude.{◌-◌, nat_lt, T}
 use Rattle.std.specs.Ordering.{nat_cmp, is_lt, eq_by_cmp}
 use Rattle.std.specs.FinMap.{get, entries, entries_sorted, get-entries, nat_cmp-IsAntisymmetric, find, is_sorted}
 use Rattle.std.specs.FinMap.Entries.{below_all, same_entries}
 use Rattle.std.proofs.lemmas.Bool.Decides.{nat_tests}
 use Rattle.std.proofs.lemmas.List.{append_assoc, append-nil}
 use Rattle.std.proofs.lemmas.Cmp.{nat_cmp_total}
+use Rattle.std.proofs.lemmas.Bool.{and_from}
 use mathlib.Core.Logic.{dite}
 use native.Mathlib.Decide.{ℕ_discrete}
 use Rattle.map_history.specs.Replay.{Pairs}
@@ -25,9 +26,6 @@ other a b ne = grind arith
 self : (a : ℕ) → (a == a) ≡ true
 self a = grind arith
 
-both : (a b : Bool) → a ≡ true → b ≡ true → (a && b) ≡ true
-both a b h h' = grind arith
-
 module _ (has : ℕ → Option ℕ) where
   -- each is above what is below the first key
   above : (x key n : ℕ) → x < key → below_all nat_cmp x (listed has key n) ≡ true
@@ -36,7 +34,7 @@ module _ (has : ℕ → Option ℕ) where
     where
       by : below_all nat_cmp x (listed has (suc key) n) ≡ true → (o : Option ℕ) → below_all nat_cmp x (with_pair key o (listed has (suc key) n)) ≡ true
       by rest None = rest
-      by rest (Some v) = both (is_lt (nat_cmp x key)) (below_all nat_cmp x (listed has (suc key) n)) (less x key low) rest
+      by rest (Some v) = and_from (is_lt (nat_cmp x key)) (below_all nat_cmp x (listed has (suc key) n)) (less x key low) rest
 
   in_order : (key n : ℕ) → is_sorted nat_cmp (listed has key n) ≡ true
   in_order key zero = refl
@@ -44,7 +42,7 @@ module _ (has : ℕ → Option ℕ) where
     where
       by : is_sorted nat_cmp (listed has (suc key) n) ≡ true → (o : Option ℕ) → is_sorted nat_cmp (with_pair key o (listed has (suc key) n)) ≡ true
       by rest None = rest
-      by rest (Some v) = both (below_all nat_cmp key (listed has (suc key) n)) (is_sorted nat_cmp (listed has (suc key) n)) (above key (suc key) n (omega arith)) rest
+      by rest (Some v) = and_from (below_all nat_cmp key (listed has (suc key) n)) (is_sorted nat_cmp (listed has (suc key) n)) (above key (suc key) n (omega arith)) rest
 
   -- a key below the first one is not found
   below : (q key n : ℕ) → q < key → find nat_cmp q (listed has key n) ≡ None
@@ -87,6 +85,16 @@ past_keys has items key n high = ap (λ k. items ++ listed has key k) none ∙ a
   where
     none : n - key ≡ 0
     none = omega (arith, high)
+
+-- one more key was looked at
+pub gathered_more : (has : ℕ → Option ℕ) (items also : List (ℕ × ℕ)) (key keys : ℕ) (o : Option ℕ) → key < keys → o ≡ has key → also ≡ items ++ with_pair key o []
+    → items ++ listed has key (keys - key) ≡ listed has 0 keys → also ++ listed has (key + 1) (keys - (key + 1)) ≡ listed has 0 keys
+gathered_more has items also key keys o low is same rest =
+    let next : key + 1 ≡ suc key = omega arith in
+    ap (λ k. also ++ listed has k (keys - k)) next
+    ∙ ((λ i. same i ++ listed has (suc key) (keys - suc key))
+    ∙ ((λ i. (items ++ with_pair key (is i) []) ++ listed has (suc key) (keys - suc key))
+    ∙ (sym (next_key has items key keys low) ∙ rest)))
 
 -- two answers for each key below the bound are listed alike
 pub same_listed : (has also : ℕ → Option ℕ) (key n : ℕ) → ((q : ℕ) → q < key + n → has q ≡ also q) → listed has key n ≡ listed also key n

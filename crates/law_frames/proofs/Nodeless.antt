@@ -3,6 +3,7 @@ use Rattle.std.proofs.Common.{◌≡◌, ℕ, ◌*◌, ◌≤◌, true, false, c
 use Rattle.std.specs.Prelude.{nat_lt}
 use Rattle.std.specs.FinMap.{len}
 use Rattle.std.proofs.lemmas.Bool.Decides.{nat_tests}
+use Rattle.std.proofs.lemmas.Bool.{true≢false}
 use mathlib.Core.Logic.{dite}
 use native.Mathlib.Decide.{ℕ_discrete}
 use Rattle.map_history.specs.declared.op.Op.{Op}
@@ -23,20 +24,17 @@ use Rattle.structure_laws.proofs.Changes.{upd_same, upd_other}
 use Rattle.law_frames.specs.Nodeless.{NoneLive, IsNodeless, HoldsItsLock, IsPlainBody}
 
 module _ (m : Meaning) (n : IsNodeless m) where
-  true_false : true ≡ false → ⊥
-  true_false e = cc
-
   no_take : (thunk : Thunk) (j p w : ℕ) → HasStep m thunk j (Take p w) → ⊥
-  no_take thunk j p w h = true_false (sym (n.plain thunk j (Take p w) h))
+  no_take thunk j p w h = true≢false (sym (n.plain thunk j (Take p w) h))
 
   no_make : (thunk : Thunk) (j r : ℕ) (init : Init) → HasStep m thunk j (Make init r) → ⊥
-  no_make thunk j r init h = true_false (sym (n.plain thunk j (Make init r) h))
+  no_make thunk j r init h = true≢false (sym (n.plain thunk j (Make init r) h))
 
   no_retire : (thunk : Thunk) (j t : ℕ) → HasStep m thunk j (Retire t) → ⊥
-  no_retire thunk j t h = true_false (sym (n.plain thunk j (Retire t) h))
+  no_retire thunk j t h = true≢false (sym (n.plain thunk j (Retire t) h))
 
   no_link : (s : Scene) (p : ℕ) → m.is_link s.cells p ≡ true → ⊥
-  no_link s p h = true_false (sym h ∙ n.links s.cells p)
+  no_link s p h = true≢false (sym h ∙ n.links s.cells p)
 
   -- in the first scene no slot is live
   pub nodeless_begins : (layout : Layout) (s : Scene) → IsFirst m s → m.kept layout s
@@ -86,7 +84,7 @@ module _ (m : Meaning) (n : IsNodeless m) where
   nodeless_gives layout own s sound kept = record {
     guarded = λ d j p r x here le h. inl ((own.loads x.op x.readings x.thunk s.cells j p r (sound.fits d x here) h).1);
     walked = λ r readings op here allowed. n.walked layout op readings;
-    reach = λ readings t reader h. absurd (true_false (sym h ∙ n.reaches readings t));
+    reach = λ readings t reader h. absurd (true≢false (sym h ∙ n.reaches readings t));
     steady_store = λ d j p q r x v here store load. n.links _ q ∙ sym (n.links s.cells q);
     steady_lock = λ p q w lock. n.links _ q ∙ sym (n.links s.cells q);
     steady_hand = λ t i q w free low other. n.links _ q ∙ sym (n.links s.cells q);

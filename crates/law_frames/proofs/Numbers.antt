@@ -1,6 +1,6 @@
 -- What tests of numbers mean, places by their remainder, and pairs found in readings.
-use Rattle.std.proofs.Common.{◌≡◌, ◌≢◌, ℕ, zero, suc, ◌+◌, ◌*◌, ◌<◌, ◌≤◌, Bool, true, false, refl, ap, ◌∙◌, [], ◌∷◌, arith}
-use Rattle.std.specs.Prelude.{◌==◌, ◌&&◌, ◌||◌, ◌%◌, nat_lt, slice_get, Some}
+use Rattle.std.proofs.Common.{◌≡◌, ◌≢◌, ℕ, zero, suc, ◌+◌, ◌*◌, ◌<◌, ◌≤◌, Bool, true, false, refl, ap, ◌∙◌, List, [], ◌∷◌, map, arith}
+use Rattle.std.specs.Prelude.{◌==◌, ◌&&◌, ◌||◌, ◌%◌, nat_lt, slice_get, slice_index, Some}
 use Rattle.structure_laws.specs.Scene.{Readings}
 use Rattle.structure_laws.proofs.Changes.{equal_of, both_true, or_cases}
 use Rattle.std.specs.List.{list_any}
@@ -23,6 +23,10 @@ eq_true a b h = grind arith
 
 pub eq_false : (a b : ℕ) → a ≢ b → (a == b) ≡ false
 eq_false a b h = grind arith
+
+pub and_false : (a b : Bool) → b ≡ false → (a && b) ≡ false
+and_false true b e = e
+and_false false b e = refl
 
 pub third : (i r : ℕ) → r < 3 → (3 * i + r) % 3 ≡ r
 third i r h = omega arith
@@ -52,3 +56,13 @@ read_pair (reading ∷ readings) p w (suc k) h = ap (λ b. (reading.0 == p && re
     or_true : (a : Bool) → (a || true) ≡ true
     or_true true = refl
     or_true false = refl
+
+-- in each place of a list of readings its word was read
+pub read_at : (readings : Readings) (places : List ℕ) (k p : ℕ) → map (λ reading. reading.0) readings ≡ places → slice_get places k ≡ Some p
+    → list_any (λ reading. reading.0 == p && reading.1 == slice_index (map (λ reading. reading.1) readings) k) readings ≡ true
+read_at readings places k p same there = read_pair readings p (slice_index (map (λ reading. reading.1) readings) k) k (by readings k (ap (λ ps. slice_get ps k) same ∙ there))
+  where
+    by : (readings : Readings) (k : ℕ) → slice_get (map (λ reading. reading.0) readings) k ≡ Some p → slice_get readings k ≡ Some (p, slice_index (map (λ reading. reading.1) readings) k)
+    by [] k h = absurd (cc)
+    by (reading ∷ readings) zero h = let e : reading.0 ≡ p = cc in ap (λ q. Some (q, reading.1)) e
+    by (reading ∷ readings) (suc k) h = by readings k h

@@ -1,3 +1,4 @@
 pub mod Nodeless
 pub mod AtKey
 pub mod Listing
+pub mod Flagged

@@ -47,13 +47,16 @@ module _ (m : Meaning) where
 
   -- the sections of a structure hold the lock of what they load, and two that have a key in common want one lock
   pub record HoldsItsLock (layout : Layout) : Type 0 where
-    pub loads : (op : Op) (readings : Readings) (thunk : Thunk) (cells : Cells) (j p r : ℕ) → m.fits layout op readings thunk ≡ true → HasStep m thunk j (Load p r)
+    pub loads : (op : Op) (readings : Readings) (thunk : Thunk) (cells : Cells) (j p r : ℕ)
+        → m.fits layout op readings thunk ≡ true → HasStep m thunk j (Load p r)
         → (p < m.fixed_cells) × (m.guard cells p ≡ thunk.lock)
-    pub keyed : (a b : Op) (readings others : Readings) (first second : Thunk) (key : ℕ) → m.fits layout a readings first ≡ true → m.fits layout b others second ≡ true
+    pub keyed : (a b : Op) (readings others : Readings) (first second : Thunk) (key : ℕ)
+        → m.fits layout a readings first ≡ true → m.fits layout b others second ≡ true
         → DependsOn a key → DependsOn b key → first.lock ≡ second.lock
 
-  -- what is to be shown of the body of a fitting thunk: it is a body, its lock and the places that it loads are fixed cells, a place is loaded once and a
-  -- register stored to once, what is stored has 32 bits, and the answer isn't 0
+  -- what is to be shown of the body of a fitting thunk: it is a body, its lock and the places that it loads
+  -- are fixed cells, a place is loaded once and a register stored to once, what is stored has 32 bits, and
+  -- the answer isn't 0
   pub record IsPlainBody (thunk : Thunk) : Type 0 where
     pub shape : IsShaped (m.body thunk)
     pub lock : m.is_lock thunk.lock ≡ true

@@ -6,6 +6,8 @@ use Rattle.std.specs.FinMap.{get, entries, entries_sorted, get-entries, nat_cmp-
 use Rattle.std.specs.FinMap.Entries.{below_all, same_entries}
 use Rattle.std.proofs.lemmas.Bool.Decides.{nat_tests}
 use Rattle.std.proofs.lemmas.Cmp.{nat_cmp_total}
+use Rattle.std.proofs.lemmas.Bool.{and_from}
+use Rattle.std.proofs.lemmas.Option.{none-some}
 use mathlib.Core.Logic.{dite}
 use native.Mathlib.Decide.{ℕ_discrete}
 use Rattle.map_history.specs.Replay.{Pairs}
@@ -14,9 +16,6 @@ use Rattle.structure_laws.proofs.Changes.{both_true, or_cases, equal_of}
 use Rattle.tree_laws.specs.Search.{Nodes, Covers, IsInner, IsLeaf, key_end}
 use Rattle.tree_laws.specs.Leaves.{nodes, TreeStands}
 use Rattle.leaf_tree.specs.Gathered.{count, AreNext, is_before, HasPairs, IsGathering}
-
-both : (a b : Bool) → a ≡ true → b ≡ true → (a && b) ≡ true
-both a b h h' = grind arith
 
 or_left : (a b : Bool) → a ≡ true → (a || b) ≡ true
 or_left a b h = grind arith
@@ -38,9 +37,6 @@ eq_test a b e = grind arith
 
 false_true : {A : Type 0} → false ≡ true → A
 false_true e = cc
-
-none_some : {A : Type 0} (a : ℕ) → None ≡ Some a → A
-none_some a e = cc
 
 -- counting
 count_few : (test : ℕ → Bool) (n : ℕ) → count test n ≤ n
@@ -87,14 +83,14 @@ less : (a b : ℕ) → a < b → is_lt (nat_cmp a b) ≡ true
 less a b low = grind (arith, nat_tests)
 
 below_more : (k : ℕ) (items : List (ℕ × ℕ)) (x : ℕ × ℕ) → below_all nat_cmp k items ≡ true → k < x.0 → below_all nat_cmp k (items ++ x ∷ []) ≡ true
-below_more k [] x all low = both (is_lt (nat_cmp k x.0)) true (less k x.0 low) refl
+below_more k [] x all low = and_from (is_lt (nat_cmp k x.0)) true (less k x.0 low) refl
 below_more k (y ∷ items) x all low = let tests = both_true (is_lt (nat_cmp k y.0)) (below_all nat_cmp k items) all in
-    both (is_lt (nat_cmp k y.0)) (below_all nat_cmp k (items ++ x ∷ [])) tests.0 (below_more k items x tests.1 low)
+    and_from (is_lt (nat_cmp k y.0)) (below_all nat_cmp k (items ++ x ∷ [])) tests.0 (below_more k items x tests.1 low)
 
 sorted_more : (items : List (ℕ × ℕ)) (x : ℕ × ℕ) → is_sorted nat_cmp items ≡ true → ((i : ℕ) (y : ℕ × ℕ) → slice_get items i ≡ Some y → y.0 < x.0) → is_sorted nat_cmp (items ++ x ∷ []) ≡ true
 sorted_more [] x sorted low = refl
 sorted_more (y ∷ items) x sorted low = let tests = both_true (below_all nat_cmp y.0 items) (is_sorted nat_cmp items) sorted in
-    both (below_all nat_cmp y.0 (items ++ x ∷ [])) (is_sorted nat_cmp (items ++ x ∷ [])) (below_more y.0 items x tests.0 (low 0 y refl))
+    and_from (below_all nat_cmp y.0 (items ++ x ∷ [])) (is_sorted nat_cmp (items ++ x ∷ [])) (below_more y.0 items x tests.0 (low 0 y refl))
     (sorted_more items x tests.1 (λ i z at. low (suc i) z at))
 
 abbrev or_else : Option ℕ → Option ℕ → Option ℕ
@@ -134,11 +130,11 @@ module _ (c : Covers) where
   )
 
   is_earlier : (s t : ℕ) → c.linked t ≡ true → c.lo t < c.lo s → is_before c s t ≡ true
-  is_earlier s t is low = both (c.linked t) _ is (or_left (nat_lt (c.lo t) (c.lo s)) ((c.lo t == c.lo s) && nat_lt (c.hi s) (c.hi t)) (lt_test (c.lo t) (c.lo s) low))
+  is_earlier s t is low = and_from (c.linked t) _ is (or_left (nat_lt (c.lo t) (c.lo s)) ((c.lo t == c.lo s) && nat_lt (c.hi s) (c.hi t)) (lt_test (c.lo t) (c.lo s) low))
 
   is_over : (s t : ℕ) → c.linked t ≡ true → c.lo t ≡ c.lo s → c.hi s < c.hi t → is_before c s t ≡ true
-  is_over s t is same low = both (c.linked t) _ is (or_right (nat_lt (c.lo t) (c.lo s)) ((c.lo t == c.lo s) && nat_lt (c.hi s) (c.hi t))
-      (both (c.lo t == c.lo s) (nat_lt (c.hi s) (c.hi t)) (eq_test (c.lo t) (c.lo s) same) (lt_test (c.hi s) (c.hi t) low)))
+  is_over s t is same low = and_from (c.linked t) _ is (or_right (nat_lt (c.lo t) (c.lo s)) ((c.lo t == c.lo s) && nat_lt (c.hi s) (c.hi t))
+      (and_from (c.lo t == c.lo s) (nat_lt (c.hi s) (c.hi t)) (eq_test (c.lo t) (c.lo s) same) (lt_test (c.hi s) (c.hi t) low)))
 
   not_itself : (s : ℕ) → is_before c s s ≡ false
   not_itself s = by (is_before c s s) refl
@@ -323,7 +319,7 @@ module _ (slots : ℕ) (cells : Cells) (pairs : Pairs) (stands : TreeStands slot
         many = many_behind;
       }
 
-    -- behind an inner node, both of whose children wait
+    -- behind an inner node, and_from of whose children wait
     pub gathers_inner : (l r : ℕ) → n.child true s ≡ suc l → n.child false s ≡ suc r → Gathers (made + 1) ((waiting ++ r ∷ []) ++ l ∷ []) items
     gathers_inner l r left right =
         let inner : IsInner n s = omega (arith, left) in

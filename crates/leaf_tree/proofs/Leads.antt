@@ -1,15 +1,16 @@
 -- The walk of the tree leads a runner as the tree plans.
-use Rattle.std.proofs.Common.{◌≡◌, ℕ, suc, ◌+◌, ◌≤◌, [], ◌∷◌, ◌++◌, Bool, true, false, cond, refl, sym, ap, subst, ◌∙◌, arith, Option, Some, None}
+use Rattle.std.proofs.Common.{◌≡◌, ℕ, ◌+◌, ◌≤◌, [], ◌∷◌, ◌++◌, Bool, true, false, refl, sym, ap, subst, ◌∙◌, arith, Option, Some, None}
 use Rattle.std.specs.Prelude.{◌==◌, ◌&&◌, ◌-◌, not, nat_le, is_some, if◌then◌else◌}
 use Rattle.std.proofs.lemmas.Bool.Decides.{nat_tests}
+use Rattle.std.proofs.lemmas.Bool.{true≢false}
 use Rattle.map_history.specs.declared.op.Op.{Op}
 use Rattle.section_body.specs.Word.{value_of, version_of, pack, is_free, is_spent}
 use Rattle.structure_laws.proofs.Changes.{equal_of}
 use Rattle.table_words.specs.declared.layout.Layout.{Layout}
 use Rattle.table_words.specs.Places.{slot_count}
 use Rattle.structure_laws.specs.Scene.{Readings}
-use Rattle.bucket_laws.specs.Walk.{is_wanted}
-use Rattle.tree_laws.specs.Walk.{Walk, walk}
+use Rattle.bucket_laws.proofs.Places.{eq_true}
+use Rattle.tree_laws.specs.Walk.{Walk}
 use Rattle.tree_laws.specs.Leaves.{tree, walk_of, is_lock_place}
 use Rattle.tree_walks.specs.Walking.{fed_by, followed_by, is_refused_in}
 use Rattle.tree_walks.specs.Leading.{is_mark_place, wanted_in, fed_in, first_walk, WalkLeads, FarLaw}
@@ -19,20 +20,16 @@ use Rattle.lock_walks.specs.try_lock.specs.declared.planned.Planned.TheVariants 
 use Rattle.lock_walks.specs.try_lock.specs.Plans.{refused_by_lock}
 use Rattle.lock_walks.specs.Way.{fed_all, IsLedBy, IsThunkFor, Leads}
 use Rattle.lock_walks.proofs.Each.{each_more}
+use Rattle.lock_walks.proofs.Following.{followed_led}
 use Rattle.leaf_tree.specs.declared.walker.LeafWalk.{LeafWalk}
 use Rattle.leaf_tree.specs.Planned.{tree_way}
+use Rattle.leaf_tree.proofs.Following.{in_readings}
 
 false_true : false ≡ true → ⊥
 false_true e = cc
 
-true_false : true ≡ false → ⊥
-true_false e = cc
-
 both_true : {a b : Bool} → a ≡ true → b ≡ true → a && b ≡ true
 both_true e f = λ i. e i && f i
-
-equal_test : (a b : ℕ) → a ≡ b → a == b ≡ true
-equal_test a b e = grind (arith, nat_tests, e)
 
 nat_le_true : {a b : ℕ} → a ≤ b → nat_le a b ≡ true
 nat_le_true le = grind (arith, nat_tests, le)
@@ -40,17 +37,6 @@ nat_le_true le = grind (arith, nat_tests, le)
 -- the walk after readings by which it led
 abbrev walked_by : LeafWalk → Readings → LeafWalk
 walked_by w readings = record { walk = followed_by w.walk readings }
-
-walk_led : (w : LeafWalk) (readings : Readings) → IsLedBy tree_way w readings → fed_all tree_way w readings ≡ walked_by w readings
-unfolding walk
-walk_led w [] led = refl
-walk_led w (reading ∷ readings) led =
-    walk_led (record { walk = fed_by w.walk reading.1 }) readings (λ i place word here. led (suc i) place word here)
-    ∙ ap (λ c. record { walk = record (w.walk) { walk = cond c (walk w.walk.bounds w.walk.op (fed_by w.walk reading.1).walk readings) w.walk.walk } })
-    (sym (ap (λ o. is_wanted o reading.0) (led 0 reading.0 reading.1 refl) ∙ same reading.0))
-  where
-    same : (n : ℕ) → (n == n) ≡ true
-    same n = grind arith
 
 fed_last : (w : LeafWalk) (readings : Readings) (place word : ℕ) → fed_all tree_way w (readings ++ (place, word) ∷ []) ≡ tree_way.fed (fed_all tree_way w readings) word
 fed_last w [] place word = refl
@@ -82,7 +68,7 @@ module _ (layout : Layout) (op : Op) (far : FarLaw layout op) where
   its = walk_leads layout op
 
   here : (readings : Readings) → IsLedBy tree_way first readings → fed_all tree_way first readings ≡ walked_by first readings
-  here readings led = walk_led first readings led
+  here readings led = followed_led tree_way first readings led ∙ in_readings first readings
 
   wants_so : (readings : Readings) (o : Option ℕ) → IsLedBy tree_way first readings → tree_way.wants (fed_all tree_way first readings) ≡ o → wanted_in layout op readings ≡ o
   wants_so readings o led wants = sym (ap tree_way.wants (here readings led)) ∙ wants
@@ -105,7 +91,7 @@ module _ (layout : Layout) (op : Op) (far : FarLaw layout op) where
         (λ lock. its.by_lock readings place word wants' lock)
         (λ mark one. its.by_mark readings place word wants' mark (equal_of (value_of word) 1 one))
         (λ open_place whole_mark refused. nat_le_true (far readings place word wants' known open_place
-        (λ mark one. true_false (sym (both_true mark (equal_test (value_of word) 1 one)) ∙ whole_mark)) refused))
+        (λ mark one. true≢false (sym (both_true mark (eq_true (value_of word) 1 one)) ∙ whole_mark)) refused))
         ∙ ap (λ (w : Walk). is_some (if is_lock_place place then refused_by_lock layout.version_max place word
         else (if is_mark_place place && (value_of word == 1) then Some (answers.Stale place (pack 0 (version_of word - 1)) word) else (if (is_refused_in op w && nat_le (slot_count layout 3 + 8) w.links) then Some (answers.Far (slot_count layout 3 + 8)) else None)))) (sym next));
     goes_on = λ readings place led wants. ap tree_way.refused (here readings led) ∙ its.goes_on readings place (wants_so readings (Some place) led wants);

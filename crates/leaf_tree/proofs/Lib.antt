@@ -1,3 +1,4 @@
+pub mod Following
 mod Leads
 mod Gathering
 mod Standing

@@ -4,6 +4,9 @@ ghost use Rattle.std.specs.FinMap.{entries};
 ghost use Rattle.map_history.specs.Replay.{Pairs};
 ghost use Rattle.tree_laws.specs.Leaves.{tree};
 ghost use Rattle.tree_laws.proofs.TreeLaws.{tree_plans};
+ghost use Rattle.tree_laws.specs.Leaves.{walk_of};
+ghost use Rattle.tree_walks.specs.Walking.{is_refused_in};
+ghost use Rattle.steady_trees.proofs.Near.{not_far, no_mark};
 ghost use Rattle.lock_walks.specs.try_lock.specs.Contents.{StandFor, NamesNone};
 ghost use Rattle.leaf_tree.specs.Planned.{tree_planning};
 
@@ -43,4 +46,11 @@ impl Planner for LeafTree {
     }
 
     ghost plans_lawfully = { λ s. tree_plans };
+
+    ghost walks_steadily = { λ s. record {
+      unmarked = λ layout op readings walk i place word at free. no_mark layout walk.scene.cells walk.pairs op readings
+          walk.stands.stands walk.read walk.walk i place word at;
+      near = λ layout op readings walk. not_far layout walk.scene.cells walk.pairs op readings walk.stands.stands
+          walk.read (is_refused_in op (walk_of layout op readings));
+    } };
 }

@@ -6,6 +6,8 @@ ghost use Rattle.tree_laws.specs.Leaves.{tree, shows_inner, shows_link};
 ghost use Rattle.tree_laws.proofs.TreeLaws.{tree_laws};
 ghost use Rattle.tree_walks.specs.Leading.{first_walk};
 
+use crate::walker::LeafWalk;
+use lock_walks::follow;
 use map_history::Op;
 use runner_parts::Structure;
 use section_body::{Body, Place, Thunk, Word};
@@ -106,8 +108,11 @@ impl Structure for LeafTree {
     }
 
     fn fits(&self, layout: Layout, op: Op, readings: &[(Place, Word)], thunk: &Thunk) -> bool {
-        let walk = self.begin(layout, op).follow(readings);
-        walk.fits(thunk)
+        let walk = LeafWalk {
+            walk: self.begin(layout, op),
+        };
+        let whole = follow(walk, readings);
+        whole.walk.fits(thunk)
     }
 
     ghost serves = { λ s. refl };

@@ -14,8 +14,8 @@ pub struct LeafWalk {
 impl Walker for LeafWalk {
     ghost way = { tree_way };
 
-    fn next_place(&self) -> Option<Place> {
-        self.walk.next_place()
+    fn wanted(&self) -> Option<u64> {
+        self.walk.wanted()
     }
 
     fn feed(&mut self, word: Word) {

@@ -1,4 +1,5 @@
 pub mod Each
+pub mod Following
 mod Walking
 mod Leading
 mod Planning

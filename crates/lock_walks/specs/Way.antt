@@ -1,5 +1,6 @@
 -- The way of a walk: what it wants, and how it goes on.
-use Rattle.std.specs.Prelude.{◌≡◌, ℕ, ◌+◌, ◌*◌, ◌<◌, ◌≤◌, ◌⊎◌, [], ◌∷◌, ◌++◌, Bool, true, false, is_some, length, take, slice_get, Option, Some, None}
+use Rattle.std.specs.Prelude.{◌≡◌, ℕ, ◌+◌, ◌*◌, ◌<◌, ◌≤◌, ◌⊎◌, [], ◌∷◌, ◌++◌, length, take, slice_get}
+use Rattle.std.specs.Prelude.{Bool, true, false, Option, Some, None, is_some}
 use Rattle.map_history.specs.declared.op.Op.{Op}
 use Rattle.section_body.specs.Word.{is_free, is_spent}
 use Rattle.section_body.specs.declared.thunk.Thunk.{Thunk}
@@ -11,8 +12,9 @@ use Rattle.runner_parts.specs.Tests.{has_pair, is_readable}
 use Rattle.try_lock.specs.Planning.{Planning}
 use Rattle.try_lock.specs.Plans.{refused_at}
 
--- how a walker of this type goes: for which structure and operation, the place that it wants, how it goes on by a word, how many loads
--- are left at most, whether it was refused, and the thunk for a whole walk, for the request with this number
+-- how a walker of this type goes: for which structure and operation, the place that it wants, how it
+-- goes on by a word, how many loads are left at most, whether it was refused, and the thunk for a
+-- whole walk, for the request with this number
 pub record Way (W : Type 0) : Type 0 where
   pub planning : W → Planning
   pub op : W → Op
@@ -30,7 +32,8 @@ module _ {W : Type 0} (way : Way W) where
 
   -- each reading is of the place that the walker wants after those before it
   abbrev pub IsLedBy : W → Readings → Type 0
-  IsLedBy walk readings = (i place word : ℕ) → slice_get readings i ≡ Some (place, word) → way.wants (fed_all walk (take i readings)) ≡ Some place
+  IsLedBy walk readings = (i place word : ℕ) → slice_get readings i ≡ Some (place, word)
+      → way.wants (fed_all walk (take i readings)) ≡ Some place
 
   module _ (m : Meaning) (layout : Layout) (walk : W) where
     -- the thunk may be published with these readings
@@ -42,19 +45,28 @@ module _ {W : Type 0} (way : Way W) where
       pub unspent : is_spent layout.version_max thunk.word ≡ false
       pub read : has_pair readings thunk.lock thunk.word ≡ true
 
-    -- the walker walks as its structure plans: each load brings it nearer to its end; it wants what the structure's walk wants, which a runner may load; by
-    -- readings of a state that the machine reaches it is refused exactly where the last one refuses; and where it is whole, its thunk fits
+    -- the walker walks as its structure plans: each load brings it nearer to its end; it wants what
+    -- the structure's walk wants, which a runner may load; by readings of a state that the machine
+    -- reaches it is refused exactly where the last one refuses; and where it is whole, its thunk fits
     pub record Leads : Type 0 where
       pub begins : (place : ℕ) × (way.wants walk ≡ Some place)
-      pub shorter : (other : W) (place word : ℕ) → way.wants other ≡ Some place → way.left (way.fed other word) < way.left other
+      pub shorter : (other : W) (place word : ℕ) → way.wants other ≡ Some place
+          → way.left (way.fed other word) < way.left other
       pub steady : (readings : Readings) → way.planning (fed_all walk readings) ≡ way.planning walk
-      pub wanted : (readings : Readings) → IsLedBy walk readings → (way.planning walk).wants layout (way.op walk) readings ≡ way.wants (fed_all walk readings)
-      pub readable : (readings : Readings) (place : ℕ) → IsLedBy walk readings → way.wants (fed_all walk readings) ≡ Some place
-          → (readings ≡ []) ⊎ m.walked layout (way.op walk) readings → (is_readable m readings place ≡ true) × (place < m.fixed_cells + 5 * slots m layout)
-      pub refuses : (readings : Readings) (place word : ℕ) → IsLedBy walk readings → way.wants (fed_all walk readings) ≡ Some place
+      pub wanted : (readings : Readings) → IsLedBy walk readings
+          → (way.planning walk).wants layout (way.op walk) readings ≡ way.wants (fed_all walk readings)
+      pub readable : (readings : Readings) (place : ℕ) → IsLedBy walk readings
+          → way.wants (fed_all walk readings) ≡ Some place
+          → (readings ≡ []) ⊎ m.walked layout (way.op walk) readings
+          → (is_readable m readings place ≡ true) × (place < m.fixed_cells + 5 * slots m layout)
+      pub refuses : (readings : Readings) (place word : ℕ) → IsLedBy walk readings
+          → way.wants (fed_all walk readings) ≡ Some place
           → m.walked layout (way.op walk) (readings ++ (place, word) ∷ [])
-          → way.refused (way.fed (fed_all walk readings) word) ≡ is_some (refused_at m (way.planning walk) layout (way.op walk) readings place word)
-      pub goes_on : (readings : Readings) (place : ℕ) → IsLedBy walk readings → way.wants (fed_all walk readings) ≡ Some place → way.refused (fed_all walk readings) ≡ false
-      pub fits : (number : ℕ) (readings : Readings) → IsLedBy walk readings → way.wants (fed_all walk readings) ≡ None → way.refused (fed_all walk readings) ≡ false
+          → way.refused (way.fed (fed_all walk readings) word)
+          ≡ is_some (refused_at m (way.planning walk) layout (way.op walk) readings place word)
+      pub goes_on : (readings : Readings) (place : ℕ) → IsLedBy walk readings
+          → way.wants (fed_all walk readings) ≡ Some place → way.refused (fed_all walk readings) ≡ false
+      pub fits : (number : ℕ) (readings : Readings) → IsLedBy walk readings
+          → way.wants (fed_all walk readings) ≡ None → way.refused (fed_all walk readings) ≡ false
           → IsThunkFor number readings (way.thunk (fed_all walk readings) number)
       pub few : way.left walk ≤ 6 * slots m layout + 44

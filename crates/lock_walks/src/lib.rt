@@ -1,8 +1,8 @@
 //! Walks without a lock: what plans of all structures share.
 //!
 //! A plan loads cell after cell, asks its gate after each load, and ends where its walk is whole or where a reading refuses it.
-//! `walker` is what a structure gives for its walk, `plans` makes the loads and answers by the first refusal in the order of reading, and
-//! `planner` is what a structure offers to those who plan on it.
+//! `walker` is what a structure gives for its walk, and how that follows readings that were made already, `plans` makes the loads and
+//! answers by the first refusal in the order of reading, and `planner` is what a structure offers to those who plan on it.
 #![tactic(auto)]
 
 mod planner;
@@ -11,7 +11,7 @@ mod walker;
 
 pub use planner::Planner;
 pub use plans::plan_by;
-pub use walker::Walker;
+pub use walker::{Walker, follow};
 
 // Passed on to the layers above, so that they needn't name these libraries themselves.
 pub use runner_facts;

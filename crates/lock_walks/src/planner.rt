@@ -10,6 +10,7 @@ ghost use Rattle.try_lock.specs.Planning.{Planning};
 ghost use Rattle.try_lock.specs.Plans.{MayPlan, HasPlanned};
 ghost use Rattle.try_lock.specs.Contents.{StandFor, NamesNone};
 ghost use Rattle.lock_walks.specs.Way.{Leads};
+ghost use Rattle.lock_walks.specs.Steady.{IsSteady};
 
 use crate::plans::plan_by;
 use crate::walker::Walker;
@@ -34,10 +35,12 @@ pub trait Planner: Structure + Sized + Send + Sync {
     fn serves(&self, op: Op) -> bool
         ensures { result ≡ (planning self.now).serves op };
 
-    /// The walk of an operation that has loaded nothing. It leads a plan as the structure plans.
+    /// The walk of an operation that it serves, which has loaded nothing. It leads a plan as the
+    /// structure plans.
     fn walk(&self, layout: Layout, op: Op) -> Self::Walk
         requires limits { IsWithinLimits layout }
         requires allowed { IsAllowed op }
+        requires served { (planning self.now).serves op ≡ true }
         ensures op { Self.Walk.way.op result ≡ op }
         ensures planning { Self.Walk.way.planning result ≡ planning self.now }
         ensures leads { Leads Self.Walk.way (Self.meaning self.now) layout result };
@@ -86,4 +89,8 @@ pub trait Planner: Structure + Sized + Send + Sync {
 
     /// It serves a map, what its thunks expect was read, its Makes are for new pairs, and each pair keeps few slots in use.
     ghost plans_lawfully: { (s : Self) → PlannerLaws (Self.meaning s) (planning s).per_pair };
+
+    /// A walk that reads what stands, while no section is open, reads no mark of 1 and isn't too far: nothing but a
+    /// lock's word refuses it.
+    ghost walks_steadily: { (s : Self) → IsSteady (Self.meaning s) (planning s) };
 }

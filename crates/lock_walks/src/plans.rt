@@ -46,9 +46,10 @@ fn walk_on<S: Structure, W: Walker, G: Gate, L>(
     let mut place = 0;
     let mut word = Word::from_bits(0);
     for _made in 0..most {
-        let Some(wanted) = walker.next_place() else {
+        let Some(wanted) = walker.wanted() else {
             return (runner, walker, place, word, true);
         };
+        let wanted = wanted as Place;
         let (loaded, found) = table.load_cell(runner, wanted);
         runner = loaded;
         place = wanted;

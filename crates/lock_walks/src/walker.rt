@@ -1,6 +1,7 @@
 //! What a structure gives for a walk.
-ghost use Rattle.std.specs.Prelude.{◌≡◌, ◌<◌, ◌^◌, ℕ, Some};
+ghost use Rattle.std.specs.Prelude.{◌≡◌, ◌<◌, ◌^◌};
 ghost use Rattle.lock_walks.specs.Way.{Way};
+ghost use Rattle.lock_walks.specs.Followed.{is_next, followed};
 
 use section_body::{Place, Thunk, Word};
 
@@ -9,8 +10,7 @@ pub trait Walker: Drop {
     ghost way: { Way Self };
 
     /// The place that it loads next; None where it is at its end, or was refused.
-    fn next_place(&self) -> Option<Place>
-        requires small { (place : ℕ) → way.wants self.now ≡ Some place → place < 2 ^ 32 }
+    fn wanted(&self) -> Option<u64>
         ensures { result ≡ way.wants self.now };
 
     /// Goes on by the word that stood at the place that it wanted.
@@ -33,4 +33,28 @@ pub trait Walker: Drop {
     /// The thunk for the request with this number, once the walk is whole.
     fn thunk(&self, number: u32) -> Thunk
         ensures { result ≡ way.thunk self.now number };
+}
+
+/// Whether the walker loads this place next.
+fn wants<W: Walker>(walker: &W, place: Place) -> bool
+    ensures { result ≡ is_next (W.way.wants walker.now) place }
+{
+    match walker.wanted() {
+        Some(wanted) => wanted == u64::from(place),
+        None => false,
+    }
+}
+
+/// The walk in these readings: goes on by each one that it wants, up to the first that it doesn't want.
+pub fn follow<W: Walker>(walker: W, readings: &[(Place, Word)]) -> W
+    ensures { result ≡ followed W.way walker readings.now }
+{
+    let mut walker = walker;
+    for &(place, word) in readings {
+        if !wants(&walker, place) {
+            return walker;
+        }
+        walker.feed(word);
+    }
+    walker
 }

@@ -1,8 +1,10 @@
 -- A walk that is refused by no lock and by no mark of 1 is a long one.
-use Rattle.std.proofs.Common.{◌≡◌, ◌≢◌, ℕ, zero, suc, ◌<◌, ◌≤◌, inl, inr, ⊎_elim, List, [], ◌∷◌, ◌++◌, length, Bool, true, false, cond, refl, sym, ap, subst, ◌∙◌, arith, Some, None}
+use Rattle.std.proofs.Common.{◌≡◌, ◌≢◌, ℕ, zero, suc, ◌<◌, ◌≤◌, inl, inr, ⊎_elim, List, [], ◌∷◌, ◌++◌, length, Bool, true, false, cond, refl, sym, ap, subst, ◌∙◌, arith, Some}
 use Rattle.std.specs.Prelude.{◌==◌, ◌&&◌, ◌||◌, not, ◌-◌, ◌%◌, ◌^◌, nat_lt, nat_le, slice_get}
 use Rattle.std.specs.List.{list_any}
 use Rattle.std.proofs.lemmas.Bool.Decides.{nat_tests}
+use Rattle.std.proofs.lemmas.Option.{none-some}
+use Rattle.std.proofs.lemmas.Bool.{and_from}
 use Rattle.map_history.specs.declared.op.Op.{Op}
 use Rattle.map_history.specs.Keys.{key_of}
 use Rattle.section_body.specs.Bucket.{is_small}
@@ -27,14 +29,8 @@ use Rattle.tree_walks.proofs.Leading.{lock_cell, low_slot}
 some_eq : (a b : ℕ) → Some a ≡ Some b → a ≡ b
 some_eq a b e = cc
 
-none_some : {A : Type 0} (a : ℕ) → None ≡ Some a → A
-none_some a e = cc
-
 false_true : {A : Type 0} → false ≡ true → A
 false_true e = cc
-
-both : (a b : Bool) → a ≡ true → b ≡ true → (a && b) ≡ true
-both a b h h' = grind arith
 
 below : (a b : ℕ) → nat_le a b ≡ true → a ≤ b
 below a b h = grind (arith, nat_tests)
@@ -77,7 +73,7 @@ module _ (readings : Readings) (last : ℕ × ℕ) where
 
   given_more : (t : ℕ) → IsGiven readings t → IsGiven all t
   given_more t given = any_more (λ reading. shows_link readings reading.0 && (value_of reading.1 == suc t)) (λ reading. shows_link all reading.0 && (value_of reading.1 == suc t))
-      (λ x passes. let tests = both_true (shows_link readings x.0) (value_of x.1 == suc t) passes in both (shows_link all x.0) (value_of x.1 == suc t) (link_more x.0 tests.0) tests.1) given
+      (λ x passes. let tests = both_true (shows_link readings x.0) (value_of x.1 == suc t) passes in and_from (shows_link all x.0) (value_of x.1 == suc t) (link_more x.0 tests.0) tests.1) given
 
   from_more : (t : ℕ) → IsFrom readings t → IsFrom all t
   from_more t (inl fixed) = inl fixed
@@ -168,8 +164,8 @@ module _ (layout : Layout) (limits : IsWithinLimits layout) (op : Op) (allowed :
     far_at AtMark place word known wants among lock mark refused =
         let zero = mark_zero w.last.from place word (some_eq (mark_of w.last.from) place wants) among known.0.inner mark in
         false_true (sym (ap (λ v. is_refused_at (cond (v == 0) AtEnd Refused) || (is_end (cond (v == 0) AtEnd Refused) && not (is_small (lock_by op w)))) zero ∙ ap not small_outer) ∙ refused)
-    far_at AtEnd place word known wants among lock mark refused = none_some place wants
-    far_at Refused place word known wants among lock mark refused = none_some place wants
+    far_at AtEnd place word known wants among lock mark refused = absurd (none-some place wants)
+    far_at Refused place word known wants among lock mark refused = absurd (none-some place wants)
 
 pub far_law : (layout : Layout) (op : Op) → IsWithinLimits layout → IsAllowed op → FarLaw layout op
 far_law layout op limits allowed readings place word wants walked lock mark refused =

@@ -1,6 +1,8 @@
 -- What a walk knows of the nodes that it has come by, and of its first lock.
-use Rattle.std.proofs.Common.{◌≡◌, ℕ, suc, Bool, true, false, cond, refl, sym, subst, ◌∙◌, arith, [], ◌∷◌, Some, None}
+use Rattle.std.proofs.Common.{◌≡◌, ℕ, suc, Bool, true, false, cond, refl, sym, subst, ◌∙◌, arith, [], ◌∷◌, Some}
 use Rattle.std.specs.Prelude.{◌==◌, ◌&&◌, nat_le, nat_lt, slice_get}
+use Rattle.std.proofs.lemmas.Option.{none-some}
+use Rattle.std.proofs.lemmas.Bool.{and_from}
 use Rattle.map_history.specs.declared.op.Op.{Op}
 use Rattle.map_history.specs.Keys.{key_of}
 use Rattle.section_body.specs.Word.{value_of}
@@ -16,14 +18,8 @@ use Rattle.tree_laws.proofs.WalkReads.{IsAmong}
 some_eq : (a b : ℕ) → Some a ≡ Some b → a ≡ b
 some_eq a b e = cc
 
-none_some : {A : Type 0} (a : ℕ) → None ≡ Some a → A
-none_some a e = cc
-
 false_true : {A : Type 0} → false ≡ true → A
 false_true e = cc
-
-both : (a b : Bool) → a ≡ true → b ≡ true → (a && b) ≡ true
-both a b h h' = grind arith
 
 eq_test : (a : ℕ) → (a == a) ≡ true
 eq_test a = grind arith
@@ -34,7 +30,7 @@ some_test a e = grind arith
 -- a left link that was read and isn't 0 shows its node to be inner
 pub shown : (all : Readings) (t word : ℕ) → IsAmong all (left_of t) word → (value_of word == 0) ≡ false → shows_inner all (left_of t) ≡ true
 shown all t word among some = found_any (λ reading. reading.0 == left_of t && nat_lt 0 (value_of reading.1)) all among.0 (left_of t, word) among.1
-    (both (left_of t == left_of t) (nat_lt 0 (value_of word)) (eq_test (left_of t)) (some_test (value_of word) some))
+    (and_from (left_of t == left_of t) (nat_lt 0 (value_of word)) (eq_test (left_of t)) (some_test (value_of word) some))
 
 module _ (b : Bounds) (op : Op) (all : Readings) where
   -- the nodes whose links were followed last were shown to be inner; where there is one alone, it is the root
@@ -113,8 +109,8 @@ module _ (b : Bounds) (op : Op) (all : Readings) where
   knows_fed w AtGrandMark p word known want among = knows_tested (fed b op w AtGrandMark word) AtLock (value_of word == 0) (λ passes. (known.0, known.1))
   knows_fed w AtLock p word known want among = knows_tested (fed b op w AtLock word) AtMark (is_ready b word) (λ passes. known)
   knows_fed w AtMark p word known want among = knows_tested (fed b op w AtMark word) AtEnd (value_of word == 0) (λ passes. known)
-  knows_fed w AtEnd p word known want among = none_some p want
-  knows_fed w Refused p word known want among = none_some p want
+  knows_fed w AtEnd p word known want among = absurd (none-some p want)
+  knows_fed w Refused p word known want among = absurd (none-some p want)
 
   -- so it is behind readings that all stand in the list
   pub knows_walked : (w : Walk) (readings : Readings)

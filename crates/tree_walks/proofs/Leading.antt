@@ -2,6 +2,8 @@
 use Rattle.std.proofs.Common.{◌≡◌, ◌≢◌, ℕ, suc, ◌*◌, ◌<◌, ◌⊎◌, inl, inr, List, [], ◌∷◌, length, Bool, true, false, cond, refl, sym, ap, subst, ◌∙◌, arith, Some, None}
 use Rattle.std.specs.Prelude.{◌==◌, ◌&&◌, ◌||◌, not, ◌-◌, ◌/◌, ◌%◌, nat_lt}
 use Rattle.std.specs.List.{list_any}
+use Rattle.std.proofs.lemmas.Option.{none-some}
+use Rattle.std.proofs.lemmas.Bool.{and_from}
 use Rattle.map_history.specs.declared.op.Op.{Op}
 use Rattle.map_history.specs.declared.op.Op.TheVariants.{Get, Ins, Del}
 use Rattle.section_body.specs.Bucket.{is_small}
@@ -26,9 +28,6 @@ use Rattle.tree_walks.proofs.Steps.{walk_nearer}
 
 some_eq : (a b : ℕ) → Some a ≡ Some b → a ≡ b
 some_eq a b e = cc
-
-none_some : {A : Type 0} (a : ℕ) → None ≡ Some a → A
-none_some a e = cc
 
 some_none : {A : Type 0} (a : ℕ) → Some a ≡ None → A
 some_none a e = cc
@@ -106,8 +105,8 @@ module _ (layout : Layout) (readings : Readings) where
     low_at b op w reads AtGrandMark at place wants = low_cell w.grand.from 4 place (omega arith) (some_eq (mark_of w.grand.from) place wants) reads.grand_from
     low_at b op w reads AtLock at place wants = low_cell w.last.from 0 place (omega arith) (some_eq (lock_of w.last.from) place wants) reads.last_from
     low_at b op w reads AtMark at place wants = low_cell w.last.from 4 place (omega arith) (some_eq (mark_of w.last.from) place wants) reads.last_from
-    low_at b op w reads AtEnd at place wants = none_some place wants
-    low_at b op w reads Refused at place wants = none_some place wants
+    low_at b op w reads AtEnd at place wants = absurd (none-some place wants)
+    low_at b op w reads Refused at place wants = absurd (none-some place wants)
 
 -- how a walk is refused
 module _ (b : Bounds) (op : Op) (w : Walk) where
@@ -121,8 +120,8 @@ module _ (b : Bounds) (op : Op) (w : Walk) where
   goes_at AtGrandMark place wants = refl
   goes_at AtLock place wants = refl
   goes_at AtMark place wants = refl
-  goes_at AtEnd place wants = none_some place wants
-  goes_at Refused place wants = none_some place wants
+  goes_at AtEnd place wants = absurd (none-some place wants)
+  goes_at Refused place wants = absurd (none-some place wants)
 
   tested : (ready c : Bool) (stage : Stage) → is_refused_at stage ≡ false → is_end stage ≡ false
       → (is_refused_at (cond ready stage Refused) || (is_end (cond ready stage Refused) && c)) ≡ not ready
@@ -139,8 +138,8 @@ module _ (b : Bounds) (op : Op) (w : Walk) where
   lock_at AtGrandMark place word wants lock = absurd (no_cell w.grand.from 4 0 place (omega arith) (omega arith) (some_eq (mark_of w.grand.from) place wants) lock)
   lock_at AtLock place word wants lock = tested (is_ready b word) (not (is_small (lock_by op (fed b op w AtLock word)))) AtMark refl refl
   lock_at AtMark place word wants lock = absurd (no_cell w.last.from 4 0 place (omega arith) (omega arith) (some_eq (mark_of w.last.from) place wants) lock)
-  lock_at AtEnd place word wants lock = none_some place wants
-  lock_at Refused place word wants lock = none_some place wants
+  lock_at AtEnd place word wants lock = absurd (none-some place wants)
+  lock_at Refused place word wants lock = absurd (none-some place wants)
 
   one_refuses : (word : ℕ) (stage : Stage) (c : Bool) → value_of word ≡ 1
       → (is_refused_at (cond (value_of word == 0) stage Refused) || (is_end (cond (value_of word == 0) stage Refused) && c)) ≡ true
@@ -156,8 +155,8 @@ module _ (b : Bounds) (op : Op) (w : Walk) where
   mark_at AtGrandMark place word wants mark one = one_refuses word AtLock (not (is_small (lock_by op (fed b op w AtGrandMark word)))) one
   mark_at AtLock place word wants mark one = absurd (no_cell w.last.from 0 4 place (omega arith) (omega arith) (some_eq (lock_of w.last.from) place wants) mark)
   mark_at AtMark place word wants mark one = one_refuses word AtEnd (not (is_small (lock_by op (fed b op w AtMark word)))) one
-  mark_at AtEnd place word wants mark one = none_some place wants
-  mark_at Refused place word wants mark one = none_some place wants
+  mark_at AtEnd place word wants mark one = absurd (none-some place wants)
+  mark_at Refused place word wants mark one = absurd (none-some place wants)
 
   ends_at : (stage : Stage) (c : Bool) → wanted_at w stage ≡ None → (is_refused_at stage || (is_end stage && not c)) ≡ false → (stage ≡ AtEnd) × (c ≡ true)
   ends_at AtRoot c wants goes = some_none (left_of 0) wants
@@ -193,12 +192,9 @@ free_of true true h = absurd (cc)
 free_of true false h = (refl, refl)
 free_of false spent h = absurd (cc)
 
-both : (a b : Bool) → a ≡ true → b ≡ true → (a && b) ≡ true
-both a b h h' = grind arith
-
 -- a word that was read is among the readings
 read_pair : (readings : Readings) (p w : ℕ) → IsAmong readings p w → has_pair readings p w ≡ true
-read_pair readings p w among = found_any (λ x. x.0 == p && x.1 == w) readings among.0 (p, w) among.1 (both (p == p) (w == w) (same_test p) (same_test w))
+read_pair readings p w among = found_any (λ x. x.0 == p && x.1 == w) readings among.0 (p, w) among.1 (and_from (p == p) (w == w) (same_test p) (same_test w))
 
 -- the outer lock was read, free and not spent
 module _ (b : Bounds) (op : Op) (readings : Readings) (w : Walk) (reads : Reads readings b op w) (at : w.stage ≡ AtEnd) (grand : HasGrand b op readings w) where

@@ -1,4 +1,3 @@
-mod Following
 mod Steps
 mod Knowing
 pub mod Leading

@@ -1,16 +1,14 @@
 -- Each load brings a walk nearer to its end.
-use Rattle.std.proofs.Common.{◌≡◌, ℕ, suc, ◌+◌, ◌*◌, ◌<◌, Bool, true, false, cond, refl, arith, Some, None}
+use Rattle.std.proofs.Common.{◌≡◌, ℕ, suc, ◌+◌, ◌*◌, ◌<◌, Bool, true, false, cond, refl, arith, Some}
 use Rattle.std.specs.Prelude.{◌==◌, ◌-◌, nat_le, nat_lt}
 use Rattle.std.proofs.lemmas.Bool.Decides.{nat_tests}
+use Rattle.std.proofs.lemmas.Option.{none-some}
 use Rattle.map_history.specs.declared.op.Op.{Op}
 use Rattle.map_history.specs.Keys.{key_of}
 use Rattle.section_body.specs.Word.{value_of}
 use Rattle.bucket_laws.specs.Walk.{Bounds, is_del}
 use Rattle.tree_laws.specs.Walk.{Stage, AtRoot, AtLeft, AtKey, AtRight, AtValue, AtGrandLock, AtGrandMark, AtLock, AtMark, AtEnd, Refused, Walk, is_ready, after_leaf, at_key, wanted_at, fed}
 use Rattle.tree_walks.specs.Walking.{Walking, wanted_by, fed_by, left_at, left_by}
-
-none_some : {A : Type 0} (a : ℕ) → None ≡ Some a → A
-none_some a e = cc
 
 -- the first link, and each further one
 first_nearer : (limit : ℕ) (none far : Bool) → nat_le limit 1 ≡ far → left_at (cond none Refused (cond far Refused AtLeft)) limit 1 < 3 * limit + 4
@@ -56,8 +54,8 @@ module _ (b : Bounds) (op : Op) (w : Walk) where
   nearer AtGrandMark place word wants = tested_nearer b.links w.links 3 AtLock (value_of word == 0) (omega arith)
   nearer AtLock place word wants = tested_nearer b.links w.links 2 AtMark (is_ready b word) (omega arith)
   nearer AtMark place word wants = tested_nearer b.links w.links 1 AtEnd (value_of word == 0) (omega arith)
-  nearer AtEnd place word wants = none_some place wants
-  nearer Refused place word wants = none_some place wants
+  nearer AtEnd place word wants = absurd (none-some place wants)
+  nearer Refused place word wants = absurd (none-some place wants)
 
 pub walk_nearer : (w : Walking) (place word : ℕ) → wanted_by w ≡ Some place → left_by (fed_by w word) < left_by w
 walk_nearer w place word wants = nearer w.bounds w.op w.walk w.walk.stage place word wants

@@ -1,5 +1,6 @@
 -- What the walk of the tree gives to a plan that it leads.
-use Rattle.std.specs.Prelude.{◌≡◌, ◌≢◌, ◌⊎◌, ℕ, ◌+◌, ◌*◌, ◌<◌, ◌≤◌, ◌%◌, ◌==◌, Bool, true, false, not, [], ◌∷◌, ◌++◌, Some, None, length, Option}
+use Rattle.std.specs.Prelude.{◌≡◌, ◌≢◌, ◌⊎◌, ℕ, ◌+◌, ◌*◌, ◌<◌, ◌≤◌, ◌%◌, ◌==◌, Bool, true, false, not}
+use Rattle.std.specs.Prelude.{[], ◌∷◌, ◌++◌, length, Option, Some, None}
 use Rattle.map_history.specs.declared.op.Op.{Op}
 use Rattle.section_body.specs.Word.{value_of, is_free, is_spent}
 use Rattle.section_body.specs.declared.thunk.Thunk.{Thunk}
@@ -21,7 +22,8 @@ wanted_in layout op readings = wanted_at (walk_of layout op readings) (walk_of l
 
 -- after one more reading
 abbrev pub fed_in : Layout → Op → Readings → ℕ → Walk
-fed_in layout op readings word = fed (bounds layout) op (walk_of layout op readings) (walk_of layout op readings).stage word
+fed_in layout op readings word =
+    fed (bounds layout) op (walk_of layout op readings) (walk_of layout op readings).stage word
 
 -- the walk that a plan begins with
 abbrev pub first_walk : Layout → Op → Walking
@@ -41,21 +43,29 @@ pub record WalkLeads (layout : Layout) (op : Op) : Type 0 where
   pub shorter : (w : Walking) (place word : ℕ) → wanted_by w ≡ Some place → left_by (fed_by w word) < left_by w
   pub few : left_by (first_walk layout op) ≤ 3 * slot_count layout 3 + 28
   -- it wants cells that a runner may load, as long as links lead to node slots
-  pub readable : (readings : Readings) (place : ℕ) → wanted_in layout op readings ≡ Some place → (readings ≡ []) ⊎ TreeWalked layout readings
+  pub readable : (readings : Readings) (place : ℕ) → wanted_in layout op readings ≡ Some place
+      → (readings ≡ []) ⊎ TreeWalked layout readings
       → (is_readable tree readings place ≡ true) × (place < 5 * slot_count layout 3)
   -- a walk that wants something wasn't refused
-  pub goes_on : (readings : Readings) (place : ℕ) → wanted_in layout op readings ≡ Some place → is_refused_in op (walk_of layout op readings) ≡ false
+  pub goes_on : (readings : Readings) (place : ℕ) → wanted_in layout op readings ≡ Some place
+      → is_refused_in op (walk_of layout op readings) ≡ false
   -- by a lock it is refused where that isn't free, or spent; by a mark of 1 always
-  pub by_lock : (readings : Readings) (place word : ℕ) → wanted_in layout op readings ≡ Some place → is_lock_place place ≡ true
+  pub by_lock : (readings : Readings) (place word : ℕ) → wanted_in layout op readings ≡ Some place
+      → is_lock_place place ≡ true
       → is_refused_in op (fed_in layout op readings word) ≡ not (is_ready (bounds layout) word)
-  pub by_mark : (readings : Readings) (place word : ℕ) → wanted_in layout op readings ≡ Some place → is_mark_place place ≡ true → value_of word ≡ 1
+  pub by_mark : (readings : Readings) (place word : ℕ) → wanted_in layout op readings ≡ Some place
+      → is_mark_place place ≡ true → value_of word ≡ 1
       → is_refused_in op (fed_in layout op readings word) ≡ true
   -- a walk that wants nothing more and wasn't refused is whole
-  pub whole : (number : ℕ) (readings : Readings) → wanted_in layout op readings ≡ None → is_refused_in op (walk_of layout op readings) ≡ false
-      → IsThunkOf layout op readings (thunk_by (record (first_walk layout op) { walk = walk_of layout op readings }) number)
+  pub whole : (number : ℕ) (readings : Readings) → wanted_in layout op readings ≡ None
+      → is_refused_in op (walk_of layout op readings) ≡ false
+      → IsThunkOf layout op readings
+      (thunk_by (record (first_walk layout op) { walk = walk_of layout op readings }) number)
 
 -- any other refusal is of a walk that has loaded as many links as there are node slots, and eight more
 abbrev pub FarLaw : Layout → Op → Type 0
 FarLaw layout op = (readings : Readings) (place word : ℕ) → wanted_in layout op readings ≡ Some place
-    → TreeWalked layout (readings ++ (place, word) ∷ []) → is_lock_place place ≡ false → (is_mark_place place ≡ true → value_of word ≢ 1)
-    → is_refused_in op (fed_in layout op readings word) ≡ true → slot_count layout 3 + 8 ≤ (fed_in layout op readings word).links
+    → TreeWalked layout (readings ++ (place, word) ∷ []) → is_lock_place place ≡ false
+    → (is_mark_place place ≡ true → value_of word ≢ 1)
+    → is_refused_in op (fed_in layout op readings word) ≡ true
+    → slot_count layout 3 + 8 ≤ (fed_in layout op readings word).links

@@ -1,13 +1,12 @@
 //! The walk of a key from the root to a leaf.
-ghost use Rattle.std.specs.Prelude.{◌≡◌, ◌<◌, ◌≤◌, ◌^◌, ◌==◌, ℕ, cond, Some};
+ghost use Rattle.std.specs.Prelude.{◌≡◌, ◌<◌, ◌≤◌, ◌^◌, ◌==◌, cond};
 ghost use Rattle.section_body.specs.Word.{value_of};
-ghost use Rattle.bucket_laws.specs.Walk.{is_wanted};
 ghost use Rattle.tree_laws.specs.Walk.{AtRoot, AtKey, Refused, after_link, after_leaf, followed, is_ready};
-ghost use Rattle.tree_walks.specs.Walking.{stage_of, is_refused_of, begun, fed_by, followed_by, wanted_by, left_by};
+ghost use Rattle.tree_walks.specs.Walking.{stage_of, is_refused_of, begun, fed_by, wanted_by, left_by};
 
 use crate::stage::{Link, Stage, cell};
 use map_history::Op;
-use section_body::{Place, Word};
+use section_body::Word;
 use std::marker::Model;
 
 /// How far the walk of an operation's key has come.
@@ -88,7 +87,7 @@ impl TreeWalk {
     }
 
     /// The place that the walk loads next; None where it is at its end or was refused.
-    fn wanted(&self) -> Option<u64>
+    pub fn wanted(&self) -> Option<u64>
         ensures { result ≡ wanted_by self.now }
     {
         match self.stage {
@@ -101,27 +100,6 @@ impl TreeWalk {
             Stage::Lock => Some(cell(self.last.from, 0)),
             Stage::Mark => Some(cell(self.last.from, 4)),
             Stage::End | Stage::Refused => None,
-        }
-    }
-
-    /// The same, where it is the place of a cell.
-    pub fn next_place(&self) -> Option<Place>
-        requires small { (place : ℕ) → wanted_by self.now ≡ Some place → place < 2 ^ 32 }
-        ensures { result ≡ wanted_by self.now }
-    {
-        match self.wanted() {
-            Some(place) => Some(place as u32),
-            None => None,
-        }
-    }
-
-    /// Whether the walk loads this place next.
-    pub fn wants(&self, place: Place) -> bool
-        ensures { result ≡ is_wanted (wanted_by self.now) place }
-    {
-        match self.wanted() {
-            Some(wanted) => wanted == u64::from(place),
-            None => false,
         }
     }
 
@@ -159,20 +137,6 @@ impl TreeWalk {
             }
             Stage::End | Stage::Refused => {}
         }
-    }
-
-    /// The walk in these readings: goes on by each one that it wants, up to the first that it doesn't want.
-    pub fn follow(self, readings: &[(Place, Word)]) -> TreeWalk
-        ensures { result ≡ followed_by self readings.now }
-    {
-        let mut walk = self;
-        for &(place, word) in readings {
-            if !walk.wants(place) {
-                return walk;
-            }
-            walk.feed(word);
-        }
-        walk
     }
 
     /// Goes on by the root's left link.

@@ -1,5 +1,6 @@
 -- Plans of requests: the loads of a walk, and what is answered by them.
-use Rattle.std.specs.Prelude.{◌≡◌, ℕ, ◌+◌, ◌*◌, ◌-◌, ◌≤◌, List, [], ◌∷◌, ◌++◌, Bool, true, false, not, ◌==◌, ◌&&◌, length, take, slice_get, Option, Some, None, if◌then◌else◌}
+use Rattle.std.specs.Prelude.{◌≡◌, ℕ, ◌+◌, ◌*◌, ◌-◌, ◌≤◌, List, [], ◌∷◌, ◌++◌, length, take, slice_get}
+use Rattle.std.specs.Prelude.{Bool, true, false, not, ◌==◌, ◌&&◌, if◌then◌else◌, Option, Some, None}
 use Rattle.map_history.specs.declared.op.Op.{Op}
 use Rattle.map_history.specs.declared.op.Request.{Request}
 use Rattle.section_body.specs.Word.{value_of, version_of, pack, is_free, is_spent}
@@ -27,7 +28,8 @@ use Rattle.try_lock.specs.Planning.{Planning}
 -- how a lock's word refuses a plan
 abbrev pub refused_by_lock : ℕ → ℕ → ℕ → Option Planned
 refused_by_lock version_max place word =
-    if is_free word then (if is_spent version_max word then Some (answers.Spent place word) else None) else Some (answers.Busy place word)
+    if is_free word then (if is_spent version_max word then Some (answers.Spent place word) else None)
+    else Some (answers.Busy place word)
 
 abbrev pub is_halted : Planned → Bool
 is_halted answers.Halted = true
@@ -52,16 +54,20 @@ module _ (m : Meaning) (plans : Planning) (layout : Layout) (op : Op) where
   abbrev pub refused_at : Readings → ℕ → ℕ → Option Planned
   refused_at before place word =
       if m.is_lock place then refused_by_lock layout.version_max place word
-      else (if plans.is_mark place && (value_of word == 1) then Some (answers.Stale place (pack 0 (version_of word - 1)) word)
-      else (if plans.is_far layout op (before ++ (place, word) ∷ []) then Some (answers.Far (slots m layout + 8)) else None))
+      else (if plans.is_mark place && (value_of word == 1)
+      then Some (answers.Stale place (pack 0 (version_of word - 1)) word)
+      else (if plans.is_far layout op (before ++ (place, word) ∷ []) then Some (answers.Far (slots m layout + 8))
+      else None))
 
   -- each reading is of the place that the walk wants after those before it
   abbrev pub IsWalk : Readings → Type 0
-  IsWalk readings = (i place word : ℕ) → slice_get readings i ≡ Some (place, word) → plans.wants layout op (take i readings) ≡ Some place
+  IsWalk readings = (i place word : ℕ) → slice_get readings i ≡ Some (place, word)
+      → plans.wants layout op (take i readings) ≡ Some place
 
   -- none of these readings refuses
   abbrev pub NoneRefuses : Readings → Type 0
-  NoneRefuses readings = (i place word : ℕ) → slice_get readings i ≡ Some (place, word) → refused_at (take i readings) place word ≡ None
+  NoneRefuses readings = (i place word : ℕ) → slice_get readings i ≡ Some (place, word)
+      → refused_at (take i readings) place word ≡ None
 
   -- the last reading refuses so, and it is the first that does
   pub record IsRefused (readings : Readings) (answer : Planned) : Type 0 where
@@ -80,8 +86,8 @@ module _ (m : Meaning) (plans : Planning) (layout : Layout) (op : Op) where
     pub last : readings ≡ before ++ (place, word) ∷ []
     pub first : NoneRefuses before
 
-  -- none refuses, the walk is at its end, and the thunk fits it. It is for the request with this number, and its lock was read free
-  -- and not spent
+  -- none refuses, the walk is at its end, and the thunk fits it. It is for the request with this
+  -- number, and its lock was read free and not spent
   pub record IsFit (number : ℕ) (readings : Readings) (thunk : Thunk) : Type 0 where
     pub none : NoneRefuses readings
     pub whole : plans.wants layout op readings ≡ None
@@ -113,19 +119,22 @@ module _ {T : Type 0} where
     -- cells are loaded outside a run, one after the other, and hold these words
     abbrev pub Loads : Readings → RunnerState T → RunnerState T → Type 0
     Loads [] old new = new ≡ old
-    Loads (reading ∷ readings) old new = (r : RunnerState T) × Makes m (kinds.LoadCell (Some reading.0)) reading.1 old r × Loads readings r new
+    Loads (reading ∷ readings) old new =
+        (r : RunnerState T) × Makes m (kinds.LoadCell (Some reading.0)) reading.1 old r × Loads readings r new
 
     -- the runner made these loads and no other step; it has read what they gave, and all else of it is as before
     pub record HasWalked (readings : Readings) (old new : RunnerState T) : Type 0 where
       pub loads : Loads readings old new
-      pub at : (epoch : ℕ) (section : Option Published) → IsAt old (stages.Entered epoch) section → IsAt new (stages.Entered epoch) section
+      pub at : (epoch : ℕ) (section : Option Published) → IsAt old (stages.Entered epoch) section
+          → IsAt new (stages.Entered epoch) section
       pub reads : new.part.reads ≡ reads_walked m old.part.reads readings
       pub keeps : KeepsOwn old new
       pub same : new ≡ record old { part = new.part }
 
-    -- the plan walked, and answered by what it read. The gate was asked after each load, and the steps were counted; the numbers are the
-    -- gate's halts, its asks, and the steps, before and after
-    pub record HasPlanned (plans : Planning) (request : Request) (answer : Planned) (old new : RunnerState T) (halts halts' asks asks' steps steps' : ℕ) : Type 0 where
+    -- the plan walked, and answered by what it read. The gate was asked after each load, and the
+    -- steps were counted; the numbers are the gate's halts, its asks, and the steps, before and after
+    pub record HasPlanned (plans : Planning) (request : Request) (answer : Planned) (old new : RunnerState T)
+        (halts halts' asks asks' steps steps' : ℕ) : Type 0 where
       pub readings : Readings
       pub walk : IsWalk m plans old.layout request.op readings
       pub walked : HasWalked readings old new

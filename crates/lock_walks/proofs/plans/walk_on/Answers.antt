@@ -14,29 +14,29 @@ loop-made-init g c = record {
   along = along_begins (g.S.Structure.meaning c.args.table.now.structure) g.W.Walker.way (subst (λ s. WalksStandIn (g.S.Structure.meaning s)) c.structure.ensures c.walks_stand.ensures) c.args.table.now c.table_is_allowed.ensures.limits c.table_is_allowed.ensures.requests _ c.requires.allowed c.requires.leads _ c.requires.entered _ _ _ _ _;
 }
 
-pub next_place-requires : goal.next_place-requires
-next_place-requires g c =
+pub overflow_cast-wanted : goal.overflow_cast-wanted
+overflow_cast-wanted g c =
     let met = g.met.S.Structure g.world.𝓛 g.world.𝓜 g.world.𝓡 ((λ s allowed. allowed), (λ patient. patient), (λ alone. alone), (λ cuts. cuts)) in
-    let inv = c.loop-made.invariant in record {
-      small = λ place wants. few_places _ (met.laws c.args.table.now.structure) _ c.table_is_allowed.ensures.limits place
-          (is_low (g.S.Structure.meaning c.args.table.now.structure) g.W.Walker.way (subst (λ s. WalksStandIn (g.S.Structure.meaning s)) c.structure.ensures c.walks_stand.ensures) c.args.table.now c.table_is_allowed.ensures.limits c.table_is_allowed.ensures.requests _ c.requires.allowed c.requires.leads _ c.requires.entered _ _ _
-          _ _ _ _ _ inv.own _ _ _ inv.along place wants);
-    }
+    let inv = c.loop-made.invariant in
+    let low = few_places _ (met.laws c.args.table.now.structure) _ c.table_is_allowed.ensures.limits _
+    (is_low (g.S.Structure.meaning c.args.table.now.structure) g.W.Walker.way (subst (λ s. WalksStandIn (g.S.Structure.meaning s)) c.structure.ensures c.walks_stand.ensures) c.args.table.now c.table_is_allowed.ensures.limits c.table_is_allowed.ensures.requests _ c.requires.allowed c.requires.leads _ c.requires.entered _ _ _
+    _ _ _ _ _ inv.own _ _ _ inv.along _ (sym c.wanted.ensures ∙ c.in-Some.is)) in
+    omega (arith, low)
 
 pub returns-in_default-clause-led : goal.returns-in_default-clause-led
 returns-in_default-clause-led g c =
     led_whole (g.S.Structure.meaning c.args.table.now.structure) g.W.Walker.way (subst (λ s. WalksStandIn (g.S.Structure.meaning s)) c.structure.ensures c.walks_stand.ensures) c.args.table.now c.table_is_allowed.ensures.limits c.table_is_allowed.ensures.requests _ c.requires.allowed c.requires.leads _ c.requires.entered _ _ _
-    _ _ _ _ _ _ _ _ c.loop-made.invariant.along (sym c.next_place.ensures ∙ c.in_default.is)
+    _ _ _ _ _ _ _ _ c.loop-made.invariant.along (sym c.wanted.ensures ∙ c.in_default.is)
 
 pub load_cell-loaded-requires-clause-next : goal.load_cell-loaded-requires-clause-next
 load_cell-loaded-requires-clause-next g c κs within = let inv = c.loop-made.invariant in
     may_load_next (g.S.Structure.meaning c.args.table.now.structure) g.W.Walker.way (subst (λ s. WalksStandIn (g.S.Structure.meaning s)) c.structure.ensures c.walks_stand.ensures) c.args.table.now c.table_is_allowed.ensures.limits c.table_is_allowed.ensures.requests _ c.requires.allowed c.requires.leads _ c.requires.entered _ _ _
-    _ _ _ _ _ inv.own _ _ _ inv.along _ (sym c.next_place.ensures ∙ c.in-Some.is)
+    _ _ _ _ _ inv.own _ _ _ inv.along _ (sym c.wanted.ensures ∙ c.in-Some.is)
 
 pub returns-then-not-passes-clause-led : goal.returns-then-not-passes-clause-led
 returns-then-not-passes-clause-led g c =
     let inv = c.loop-made.invariant in
-    let wants = sym c.next_place.ensures ∙ c.in-Some.is in
+    let wants = sym c.wanted.ensures ∙ c.in-Some.is in
     subst (λ walk. HasLed (g.S.Structure.meaning c.args.table.now.structure) c.args.table.now.layout g.W.Walker.way c.args.walker walk c.in-Some.wanted c.load_cell-loaded.result.1 false c.args.runner
     c.load_cell-loaded.result.0 (g.G.Gate.halts c.args.gate.now) (g.G.Gate.halts c.passes.new.gate) (g.G.Gate.asks c.args.gate.now) (g.G.Gate.asks c.passes.new.gate) c.args.steps.now.count
     c.passes.new.steps.count) (sym c.feed.ensures)
@@ -46,7 +46,7 @@ returns-then-not-passes-clause-led g c =
 pub loop-made-preserved : goal.loop-made-preserved
 loop-made-preserved g c =
     let inv = c.loop-made.invariant in
-    let wants = sym c.next_place.ensures ∙ c.in-Some.is in record {
+    let wants = sym c.wanted.ensures ∙ c.in-Some.is in record {
       own = c.load_cell-loaded.ensures.own;
       along = subst (λ walk. IsAlong (g.S.Structure.meaning c.args.table.now.structure) c.args.table.now.layout g.W.Walker.way (c.loop-made._made + 1) c.args.walker walk c.in-Some.wanted
           c.load_cell-loaded.result.1 c.args.runner c.load_cell-loaded.result.0 (g.G.Gate.halts c.args.gate.now) (g.G.Gate.halts c.passes.new.gate) (g.G.Gate.asks c.args.gate.now)

@@ -12,4 +12,4 @@ pub returns-clause-leads : goal.returns-clause-leads
 returns-clause-leads c =
     let table = c.args.self.now in
     subst (λ walk. Leads (fixed_way (λ (t : DirectTable). direct_course t.keys)) (direct table.keys) c.args.layout walk) (sym c.new.ensures)
-    (leads (λ (t : DirectTable). direct_course t.keys) (direct table.keys) c.args.layout _ c.args.op (suits table.keys table.some table.few c.args.layout c.args.op))
+    (leads (λ (t : DirectTable). direct_course t.keys) (direct table.keys) c.args.layout _ c.args.op (suits table.keys c.args.layout c.args.op c.requires.served))
