@@ -1,0 +1,5 @@
+mod Alone
+mod Planned
+mod Tried
+mod Left
+pub mod Served

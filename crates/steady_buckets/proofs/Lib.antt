@@ -1,0 +1,2 @@
+mod Falling
+pub mod Near
