@@ -14,7 +14,6 @@ use Rattle.machine_states.specs.World.{World}
 use Rattle.machine_states.specs.Reached.{Reached}
 use Rattle.machine_states.specs.Sight.{sight}
 use Rattle.lock_walks.specs.machine_invariant.specs.After.{AreAllowed}
-use Rattle.lock_walks.specs.runner_facts.specs.Names.{NamesStand}
 use Rattle.lock_walks.specs.version_words.specs.RunnerState.{RunnerState}
 use Rattle.lock_walks.specs.version_words.specs.TableState.{TableState, IsOf}
 use Rattle.lock_walks.specs.epoch_slots.specs.Entries.{HasLeave, Exits}
@@ -24,7 +23,7 @@ use Rattle.lock_walks.specs.try_lock.specs.Ends.{EndsSo, IsCutShort}
 use Rattle.attempts.specs.Rests.{MayLeave, HasTurned}
 use Rattle.attempts.specs.declared.answers.Attempt.{Attempt}
 use Rattle.attempts.specs.declared.answers.Attempt.TheVariants as answers
-use Rattle.attempts.proofs.Leaving.{ended_at, turned_by_help, turned_by_halt}
+use Rattle.attempts.proofs.Leaving.{AreNamed, ended_at, turned_by_help, turned_by_halt}
 use Rattle.attempts.proofs.Telling.{ended_learned, ended_cells, cut_is}
 
 module _ {T : Type 0} (m : Meaning) (laws : Laws m) (t : TableState T) (limits : IsWithinLimits t.layout) (allowed : AreAllowed t.requests)
@@ -50,7 +49,7 @@ module _ {T : Type 0} (m : Meaning) (laws : Laws m) (t : TableState T) (limits :
     }
 
     pub help_turned : (new : RunnerState T) → Exits m helped new
-        → ((w : World) → Reached m t.layout t.requests w → NamesStand m (sight m t.layout t.requests w))
+        → ((w : World) → Reached m t.layout t.requests w → AreNamed m t.layout (sight m t.layout t.requests w))
         → (halts halts' asks asks' steps steps' : ℕ) → IsAsked made true halts halts' asks asks' steps steps'
         → HasTurned m answer answer old new halts halts' asks asks' steps steps'
     help_turned new exits names halts halts' asks asks' steps steps' asked =
@@ -60,14 +59,14 @@ module _ {T : Type 0} (m : Meaning) (laws : Laws m) (t : TableState T) (limits :
         (ended_cells m laws t limits allowed old helped own_helped (value_of word - 1) u outcome trail made ends)
         (names_of helped own_helped names) halts halts' asks asks' steps steps' asked)
       where
-        names_of : (r : RunnerState T) → IsOf t r → ((w : World) → Reached m t.layout t.requests w → NamesStand m (sight m t.layout t.requests w))
-            → (w : World) → Reached m r.layout r.requests w → NamesStand m (sight m r.layout r.requests w)
-        names_of r own all = subst (λ (l : Layout). (w : World) → Reached m l r.requests w → NamesStand m (sight m l r.requests w)) (sym own.layout)
-            (subst (λ (rs : List Request). (w : World) → Reached m t.layout rs w → NamesStand m (sight m t.layout rs w)) (sym own.requests) all)
+        names_of : (r : RunnerState T) → IsOf t r → ((w : World) → Reached m t.layout t.requests w → AreNamed m t.layout (sight m t.layout t.requests w))
+            → (w : World) → Reached m r.layout r.requests w → AreNamed m r.layout (sight m r.layout r.requests w)
+        names_of r own all = subst (λ (l : Layout). (w : World) → Reached m l r.requests w → AreNamed m l (sight m l r.requests w)) (sym own.layout)
+            (subst (λ (rs : List Request). (w : World) → Reached m t.layout rs w → AreNamed m t.layout (sight m t.layout rs w)) (sym own.requests) all)
 
   module _ (made : ℕ) (new : RunnerState T) (own_new : IsOf t new) (short : IsCutShort m (value_of word - 1) made old new) where
     pub halt_turned : (halts halts' asks asks' steps steps' : ℕ) → IsAsked made false halts halts' asks asks' steps steps'
         → HasTurned m answer answers.Halted old new halts halts' asks asks' steps steps'
     halt_turned halts halts' asks asks' steps steps' asked =
-        turned_by_halt m laws answer (value_of word - 1) old new limits_old allowed_old may
+        turned_by_halt m laws answer place word held (value_of word - 1) old new limits_old allowed_old may
         (cut_is m laws t limits allowed old new own_new (value_of word - 1) made short) made halts halts' asks asks' steps steps' asked

@@ -1,6 +1,7 @@
 -- The end of an attempt's own section.
 use Rattle.std.specs.Prelude.{true, false, slice_get}
-use Rattle.std.proofs.Common.{◌≡◌, ◌≢◌, ℕ, ◌-◌, ◌≤◌, length, refl, sym, ap, ◌∙◌, subst, inr, Option, Some, None}
+use Rattle.std.proofs.Common.{◌≡◌, ◌≢◌, ℕ, ◌-◌, ◌≤◌, length, refl, sym, ap, ◌∙◌, subst, arith, inr, Option, Some, None, [], ◌∷◌, ◌++◌, ◌+◌}
+use Rattle.std.proofs.lemmas.Bool.{true≢false}
 use Rattle.map_history.specs.declared.op.Request.{Request}
 use Rattle.map_history.specs.declared.reply.Reply.{Reply}
 use Rattle.section_body.specs.Trail.{Agreed}
@@ -15,9 +16,10 @@ use Rattle.structure_laws.specs.Laws.{Laws}
 use Rattle.runner_parts.specs.declared.event.EventKind.TheVariants as kinds
 use Rattle.runner_parts.specs.declared.entries.Published.{Published}
 use Rattle.runner_parts.specs.State.{NodesState, ReadsState}
-use Rattle.runner_parts.specs.Tests.{has, is_answered}
+use Rattle.runner_parts.specs.Tests.{has, has_pair, is_answered}
 use Rattle.runner_steps.specs.AfterOutside.{retire_after}
 use Rattle.lock_walks.specs.machine_invariant.specs.After.{AreAllowed}
+use Rattle.lock_walks.specs.runner_facts.proofs.Names.{pair_last}
 use Rattle.lock_walks.specs.version_words.specs.RunnerState.{RunnerState}
 use Rattle.lock_walks.specs.version_words.specs.TableState.{TableState, IsOf}
 use Rattle.lock_walks.specs.epoch_slots.specs.Entries.{HasLeave}
@@ -27,6 +29,7 @@ use Rattle.lock_walks.specs.try_lock.specs.declared.section.Section.{Section}
 use Rattle.lock_walks.specs.try_lock.specs.Planning.{Planning}
 use Rattle.lock_walks.specs.try_lock.specs.Reached.{IsReached}
 use Rattle.lock_walks.specs.try_lock.specs.Retires.{IsOver, HasRetired}
+use Rattle.lock_walks.proofs.Each.{get_last}
 use Rattle.attempts.specs.Knowing.{KnowsMore, IsStill, IsOwn}
 use Rattle.attempts.specs.Course.{of_outcome, IsEmptyHanded, HasPublished, HasEnded, HasRun, SectionHasLeft}
 use Rattle.attempts.specs.Attempts.{IsServed}
@@ -42,11 +45,8 @@ use Rattle.attempts.proofs.Turning.{may_own, may_unknown, turned_rests}
 use Rattle.attempts.proofs.Trying.{rests_from_still}
 use Rattle.attempts.proofs.Refusing.{left_busy, refusal_of_outcome, busy_outcome}
 use Rattle.attempts.proofs.Along.{ran_back}
-use Rattle.attempts.proofs.Telling.{answered_known, left_known, left_is}
+use Rattle.attempts.proofs.Telling.{answered_known, ended_cells, left_known, left_is}
 use Rattle.attempts.proofs.Stamps.{stamp_above}
-
-true_false : true ≡ false → ⊥
-true_false e = let z = e in cc
 
 module _ {T : Type 0} (m : Meaning) (laws : Laws m) (t : TableState T) (limits : IsWithinLimits t.layout) (allowed : AreAllowed t.requests)
     (planning : Planning) (request : Request) (section : Section) (thunk : Thunk) (outcome : Outcome) (trail : Agreed) (old ran : RunnerState T)
@@ -122,7 +122,13 @@ module _ {T : Type 0} (m : Meaning) (laws : Laws m) (t : TableState T) (limits :
           served = learnt.served;
         }
 
-        pub concluded : (halts asks steps : ℕ) → Rests m planning request true (answers.Done reply stamp) old ran new halts halts asks asks steps steps
+        same_runs : length new.part.records.finished ≡ length ran.part.records.finished
+        same_runs = ap length (learnt.finished ∙ retires.finished)
+
+        none_more : length new.part.records.finished ≡ length ran.part.records.finished + 0
+        none_more = omega (arith, same_runs)
+
+        pub concluded : (halts asks steps : ℕ) → Rests m planning request true 0 (answers.Done reply stamp) old ran new halts halts asks asks steps steps
         concluded halts asks steps = record {
           answers = served;
           knows = whole;
@@ -131,9 +137,15 @@ module _ {T : Type 0} (m : Meaning) (laws : Laws m) (t : TableState T) (limits :
           made = 0;
           published = true;
           tried = λ e. has_published;
-          untried = λ e. absurd (true_false e);
+          untried = λ e. absurd (true≢false e);
           asked = counted_steps 0 true halts halts asks asks steps steps (asked_none halts asks steps);
           entered = refl;
+          runs = λ going. none_more;
+          few_runs = let more : length new.part.records.finished ≤ length ran.part.records.finished + 1 = omega (arith, same_runs) in more;
+          brief = inr (record {
+            few_steps = omega arith;
+            few_runs = let more : length new.part.records.finished ≤ length ran.part.records.finished + 0 = omega (arith, same_runs) in more;
+          });
         }
 
     -- it left
@@ -156,6 +168,17 @@ module _ {T : Type 0} (m : Meaning) (laws : Laws m) (t : TableState T) (limits :
       reads = reads_made m kinds.EpochForRetire retires.epoch ran retired retires.event is.ends.resting
           ∙ ap (λ (o : Option Published). (retire_after ran.part o retires.epoch).reads) over.at.published
 
+      -- the runner had read its own outer lock's free word
+      lock_read : has_pair is.published.part.reads.cells is.ends.finished.lock is.ends.finished.word ≡ true
+      lock_read =
+          let tries = is.tries in
+          let found = tries.publishes.found in
+          let xs = tries.planned.part.reads.cells in
+          ap (λ ys. has_pair ys is.ends.finished.lock is.ends.finished.word) tries.publishes.read
+          ∙ (ap (λ p. has_pair (xs ++ (thunk.lock, found) ∷ []) p is.ends.finished.word) is.ends.lock
+          ∙ (ap (λ w. has_pair (xs ++ (thunk.lock, found) ∷ []) thunk.lock w) (is.ends.word ∙ sym tries.publishes.published.won)
+          ∙ pair_last xs thunk.lock found))
+
       pub left_may_leave : MayLeave m (of_outcome outcome) retired
       left_may_leave = record {
         leave = leave;
@@ -172,6 +195,16 @@ module _ {T : Type 0} (m : Meaning) (laws : Laws m) (t : TableState T) (limits :
               reserve = subst (λ (n : NodesState). 2 ≤ length n.free) (sym (retires.nodes ∙ is.ends.left_nodes other)) is.tries.nodes;
               reached = here;
             };
+        met = λ place word named. inr (record {
+          at = length is.published.part.records.finished;
+          finished = is.ends.finished;
+          kept = ap (λ fs. slice_get fs (length is.published.part.records.finished)) (retires.finished ∙ is.ends.kept)
+              ∙ get_last is.published.part.records.finished is.ends.finished;
+          read = ap (λ (s : ReadsState). has_pair s.cells is.ends.finished.lock is.ends.finished.word) reads
+              ∙ ended_cells m laws t limits allowed is.published ran own_ran section.descriptor thunk outcome trail is.made is.ends
+              is.ends.finished.lock is.ends.finished.word lock_read;
+          left = is.ends.same_outcome ∙ busy_outcome outcome place word named;
+        });
       }
 
       has_left : SectionHasLeft m planning request (of_outcome outcome) old retired
@@ -197,11 +230,11 @@ module _ {T : Type 0} (m : Meaning) (laws : Laws m) (t : TableState T) (limits :
 
       pub left_concluded : (got : Attempt) (new : RunnerState T) → IsOf t new → (halts halts' asks asks' steps steps' : ℕ)
           → HasTurned m (of_outcome outcome) got retired new halts halts' asks asks' steps steps'
-          → Rests m planning request true got old ran new halts halts' asks asks' steps steps'
+          → Rests m planning request true 0 got old ran new halts halts' asks asks' steps steps'
       left_concluded got new own_new halts halts' asks asks' steps steps' turned =
-          rests_from_still m planning request true got old ran retired new halts halts' asks asks' steps steps' still
+          rests_from_still m planning request true 0 got old ran retired new halts halts' asks asks' steps steps' still
           (turned_rests m laws planning request old retired new (of_outcome outcome) got (refusal_of_outcome outcome other)
-          is.tries.plans.entered is.tries.plans.enters (inr (inr has_left)) true (λ e. has_published) (λ e. absurd (true_false e)) own unknown
+          is.tries.plans.entered is.tries.plans.enters (inr (inr has_left)) true (λ e. has_published) (λ e. absurd (true≢false e)) own unknown
           (subst IsWithinLimits (sym own_new.layout) limits) (subst AreAllowed (sym own_new.requests) allowed)
           (own_new.layout ∙ sym own_retired.layout) (own_new.requests ∙ sym own_retired.requests)
-          halts halts' asks asks' steps steps' turned)
+          halts halts' asks asks' steps steps' turned 0)

@@ -1,6 +1,6 @@
 -- How far an attempt came, and what it may do there.
 use Rattle.std.specs.Prelude.{◌==◌, ◌&&◌, ◌||◌, not, cond, Bool, true, false, slice_get, Ok, Err}
-use Rattle.std.proofs.Common.{◌≡◌, ℕ, refl, sym, ap, ◌∙◌, subst, arith, Some, None}
+use Rattle.std.proofs.Common.{◌≡◌, ℕ, [], ◌∷◌, ◌++◌, inl, refl, sym, ap, ◌∙◌, subst, arith, Some, None}
 use Rattle.std.proofs.lemmas.Bool.Decides.{nat_tests}
 use Rattle.map_history.specs.declared.op.Request.{Request}
 use Rattle.section_body.specs.Trail.{Agreed}
@@ -18,6 +18,7 @@ use Rattle.runner_parts.specs.State.{ReadsState}
 use Rattle.runner_parts.specs.Tests.{has_pair, is_next, is_open, serves}
 use Rattle.runner_steps.specs.Outside.{is_due}
 use Rattle.runner_steps.specs.AfterOutside.{published_by}
+use Rattle.lock_walks.specs.runner_facts.proofs.Names.{pair_last}
 use Rattle.lock_walks.specs.version_words.specs.RunnerState.{RunnerState}
 use Rattle.lock_walks.specs.version_words.specs.Stages.{IsAt}
 use Rattle.lock_walks.specs.epoch_slots.specs.Entries.{HasLeave}
@@ -111,17 +112,30 @@ module _ {T : Type 0} (m : Meaning) (planning : Planning) (request : Request) (o
 
     by_word : (free spent : Bool) (expected found place word : ℕ) (e : Refused)
         → e ≡ cond free (cond spent (refusals.Spent found) (refusals.Stale expected found)) (refusals.Busy found)
-        → of_refusal thunk.lock e ≡ answers.Busy place word → (free ≡ false) × (word ≡ found)
+        → of_refusal thunk.lock e ≡ answers.Busy place word → (free ≡ false) × (word ≡ found) × (place ≡ thunk.lock)
     by_word true true expected found place word e is named = absurd (let z = sym (ap (of_refusal thunk.lock) is) ∙ named in cc)
     by_word true false expected found place word e is named = absurd (let z = sym (ap (of_refusal thunk.lock) is) ∙ named in cc)
-    by_word false spent expected found place word e is named = (refl, let z = sym (ap (of_refusal thunk.lock) is) ∙ named in cc)
+    by_word false spent expected found place word e is named = let z = sym (ap (of_refusal thunk.lock) is) ∙ named in (refl, cc, cc)
+
+    cause : (place word : ℕ) → of_refusal thunk.lock refused ≡ answers.Busy place word
+        → (is_free is.publishes.found ≡ false) × (word ≡ is.publishes.found) × (place ≡ thunk.lock)
+    cause place word named = by_word (is_free is.publishes.found) (is_spent is.planned.layout.version_max is.publishes.found) thunk.word
+        is.publishes.found place word refused lost.why named
+
+    -- the exchange read the word
+    lock_read : (place word : ℕ) → of_refusal thunk.lock refused ≡ answers.Busy place word → has_pair r.part.reads.cells place word ≡ true
+    lock_read place word named = let h = cause place word named in
+        ap (λ xs. has_pair xs place word) is.publishes.read
+        ∙ (ap (λ w. has_pair (is.planned.part.reads.cells ++ (thunk.lock, is.publishes.found) ∷ []) place w) h.1
+        ∙ (ap (λ p. has_pair (is.planned.part.reads.cells ++ (thunk.lock, is.publishes.found) ∷ []) p is.publishes.found) h.2
+        ∙ pair_last is.planned.part.reads.cells thunk.lock is.publishes.found))
 
     pub refused_may_leave : MayLeave m (of_refusal thunk.lock refused) r
     refused_may_leave = record {
       leave = record { epoch = is.plans.enters.enters.epoch; at = at };
       hand = is.hand;
       help = λ place word named.
-          let h = by_word (is_free is.publishes.found) (is_spent is.planned.layout.version_max is.publishes.found) thunk.word is.publishes.found place word refused lost.why named in
+          let h = cause place word named in
           subst (MayHelp m r) (sym h.1) (record {
             epoch = is.plans.enters.enters.epoch;
             published = None;
@@ -131,6 +145,7 @@ module _ {T : Type 0} (m : Meaning) (planning : Planning) (request : Request) (o
             reserve = is.nodes;
             reached = is.publishes.reached;
           });
+      met = λ place word named. inl (lock_read place word named);
     }
       where
         at : IsAt r (stages.Entered is.plans.enters.enters.epoch) None

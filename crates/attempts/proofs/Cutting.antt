@@ -1,6 +1,7 @@
 -- An attempt's own run, to its end or to where a gate halted it.
-use Rattle.std.specs.Prelude.{◌&&◌, not, Bool, true, false, Ok, if◌then◌else◌}
-use Rattle.std.proofs.Common.{◌≡◌, ℕ, ◌+◌, List, [], ◌∷◌, ◌++◌, refl, sym, ap, ◌∙◌, subst, Some}
+use Rattle.std.specs.Prelude.{◌&&◌, ◌⊎◌, not, Bool, true, false, Ok, if◌then◌else◌}
+use Rattle.std.proofs.Common.{◌≡◌, ℕ, ◌+◌, ◌≤◌, List, [], ◌∷◌, ◌++◌, length, refl, sym, ap, ◌∙◌, subst, arith, inl, inr, Some}
+use Rattle.std.proofs.lemmas.Bool.{true≢false}
 use Rattle.map_history.specs.declared.op.Request.{Request}
 use Rattle.section_body.specs.Trail.{Agreed}
 use Rattle.section_body.specs.declared.outcome.Outcome.{Outcome}
@@ -27,18 +28,16 @@ use Rattle.attempts.specs.Knowing.{LearnsNoOther}
 use Rattle.attempts.specs.Learned.{StoodAtStamp, IsCut}
 use Rattle.attempts.specs.Course.{HasTried, HasEnded}
 use Rattle.attempts.specs.Counted.{IsCounted}
-use Rattle.attempts.specs.Attempts.{is_halted}
+use Rattle.attempts.specs.Attempts.{is_halted, helped_of, most_of_run, IsBrief, HasMetHeld}
 use Rattle.attempts.specs.Rests.{Rests}
 use Rattle.attempts.specs.declared.answers.Attempt.{Attempt}
 use Rattle.attempts.specs.declared.answers.Attempt.TheVariants as answers
-use Rattle.attempts.proofs.Knowing.{knows_on, no_other_same, no_other_on, no_other_learned, append_none}
+use Rattle.attempts.proofs.Knowing.{knows_on, no_other_same, no_other_on, no_other_learned, append_none, length_on}
 use Rattle.attempts.proofs.Counting.{counted_steps, asked_then, steps_then}
 use Rattle.attempts.proofs.Leaving.{ended_knows}
 use Rattle.attempts.proofs.Trying.{has_published, cut_published, cut_is_published}
 use Rattle.attempts.proofs.Telling.{cut_is}
-
-true_false : true ≡ false → ⊥
-true_false e = let z = e in cc
+use Rattle.attempts.proofs.Costs.{ended_costs, cut_costs}
 
 -- a runner that stood in a run of the section that it has published: the run's thunk is the one with which it was published
 module _ {T : Type 0} (m : Meaning) (laws : Laws m) (r : RunnerState T) (limits : IsWithinLimits r.layout) (allowed : AreAllowed r.requests)
@@ -95,9 +94,14 @@ module _ {T : Type 0} (m : Meaning) (laws : Laws m) (t : TableState T) (limits :
             some_none : x ∷ more ≡ [] → ⊥
             some_none e = let z = e in cc
 
+    one_more : length new.part.records.finished ≤ length here.part.records.finished + 1
+    one_more =
+        let long = length_on here.part.records.finished cut.more new.part.records.finished cut.finished in
+        let few = cut.few in omega (arith, long, few)
+
     pub cut_rests : (halts halts1 halts' asks asks1 asks' steps steps' : ℕ) → IsCounted 0 1 true halts halts1 asks asks1 steps steps
         → IsAsked n false halts1 halts' asks1 asks' steps steps'
-        → Rests m planning request false answers.Halted old here new halts halts' asks asks' steps steps'
+        → Rests m planning request false most_of_run answers.Halted old here new halts halts' asks asks' steps steps'
     cut_rests halts halts1 halts' asks asks1 asks' steps steps' ask asked = record {
       answers = record {
         entered = tried.plans.entered;
@@ -115,10 +119,16 @@ module _ {T : Type 0} (m : Meaning) (laws : Laws m) (t : TableState T) (limits :
       made = n;
       published = true;
       tried = λ e. has_published m planning request old thunk section here tried;
-      untried = λ e. absurd (true_false e);
+      untried = λ e. absurd (true≢false e);
       asked = asked_then 1 n 0 false halts halts1 halts' asks asks1 asks' steps steps' ask
           (counted_steps n false halts1 halts' asks1 asks' steps steps' asked);
       entered = refl;
+      runs = λ going. absurd (true≢false going);
+      few_runs = let few = one_more in let all : length new.part.records.finished ≤ length here.part.records.finished + 2 = omega (arith, few) in all;
+      brief = inr (record {
+        few_steps = cut_costs m laws t limits allowed here new own_new section.descriptor n short;
+        few_runs = one_more;
+      });
     }
 
   -- it comes to its end
@@ -131,10 +141,24 @@ module _ {T : Type 0} (m : Meaning) (laws : Laws m) (t : TableState T) (limits :
     no_more true = refl
     no_more false = refl
 
+    -- the own run is kept
+    own_run : length ran.part.records.finished ≡ length here.part.records.finished + 1
+    own_run = length_on here.part.records.finished (ends.finished ∷ []) ran.part.records.finished ends.kept
+
+    brief_on : {new : RunnerState T} (made : ℕ) → HasMetHeld m planning request old ⊎ IsBrief 0 0 made ran new
+        → HasMetHeld m planning request old ⊎ IsBrief most_of_run 1 (n + made) here new
+    brief_on made (inl held) = inl held
+    brief_on made (inr brief) = inr (record {
+      few_steps =
+          let few = brief.few_steps in
+          let cost = ended_costs m laws t limits allowed here ran own_ran section.descriptor thunk outcome trail n ends in omega (arith, few, cost);
+      few_runs = let few = brief.few_runs in let own = own_run in omega (arith, few, own);
+    })
+
     pub ended_rests : (got : Attempt) (new : RunnerState T) → IsOf t new → (halts halts1 halts2 halts' asks asks1 asks2 asks' steps steps2 steps' : ℕ)
         → IsCounted 0 1 true halts halts1 asks asks1 steps steps → IsAsked n true halts1 halts2 asks1 asks2 steps steps2
-        → Rests m planning request true got old ran new halts2 halts' asks2 asks' steps2 steps'
-        → Rests m planning request false got old here new halts halts' asks asks' steps steps'
+        → Rests m planning request true 0 got old ran new halts2 halts' asks2 asks' steps2 steps'
+        → Rests m planning request false most_of_run got old here new halts halts' asks asks' steps steps'
     ended_rests got new own_new halts halts1 halts2 halts' asks asks1 asks2 asks' steps steps2 steps' ask asked rests = record {
       answers = rests.answers;
       knows = knows_on here ran new (ended_knows m section.descriptor thunk outcome trail n here ran ends) rests.knows;
@@ -147,9 +171,18 @@ module _ {T : Type 0} (m : Meaning) (laws : Laws m) (t : TableState T) (limits :
       made = n + rests.made;
       published = true;
       tried = λ e. has_published m planning request old thunk section here tried;
-      untried = λ e. absurd (true_false e);
+      untried = λ e. absurd (true≢false e);
       asked = asked_then 1 (n + rests.made) 0 (not (is_halted got)) halts halts1 halts' asks asks1 asks' steps steps' ask
           (steps_then n rests.made 0 (not (is_halted got)) halts1 halts2 halts' asks1 asks2 asks' steps steps2 steps' asked
           (subst (λ more. IsCounted rests.made more (not (is_halted got)) halts2 halts' asks2 asks' steps2 steps') (no_more rests.published) rests.asked));
       entered = rests.entered;
+      runs = λ going.
+          let more = rests.runs going ∙ ap (λ k. length ran.part.records.finished + (k + helped_of got)) (no_more rests.published) in
+          let own = own_run in
+          let all : length new.part.records.finished ≡ length here.part.records.finished + (1 + helped_of got) = omega (arith, more, own) in all;
+      few_runs =
+          let few : length new.part.records.finished ≤ length ran.part.records.finished + 1 = rests.few_runs in
+          let own = own_run in
+          let all : length new.part.records.finished ≤ length here.part.records.finished + 2 = omega (arith, few, own) in all;
+      brief = brief_on rests.made rests.brief;
     }

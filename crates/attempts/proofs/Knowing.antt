@@ -1,8 +1,9 @@
 -- What a runner knows, step by step.
 use Rattle.std.specs.Prelude.{◌==◌, ◌&&◌, ◌||◌, cond, not, Bool, true, false, slice_get}
-use Rattle.std.proofs.Common.{◌≡◌, ◌≢◌, ℕ, zero, suc, ◌%◌, List, [], ◌∷◌, ◌++◌, refl, sym, ap, ◌∙◌, arith, Some}
+use Rattle.std.proofs.Common.{◌≡◌, ◌≢◌, ℕ, zero, suc, ◌+◌, ◌%◌, List, [], ◌∷◌, ◌++◌, length, length-append, refl, sym, ap, ◌∙◌, arith, Some}
 use Rattle.std.proofs.lemmas.Bool.Decides.{nat_tests}
 use Rattle.std.proofs.lemmas.List.Folds.{list_any-append}
+use Rattle.std.proofs.lemmas.Bool.{and_parts}
 use Rattle.map_history.specs.declared.op.Request.{Request}
 use Rattle.runner_parts.specs.declared.entries.Known.{Known}
 use Rattle.runner_parts.specs.Tests.{knows, is_answered}
@@ -18,6 +19,10 @@ append_none (x ∷ xs) = ap (λ ys. x ∷ ys) (append_none xs)
 append_on : {A : Type 0} (xs ys zs : List A) → (xs ++ ys) ++ zs ≡ xs ++ (ys ++ zs)
 append_on [] ys zs = refl
 append_on (x ∷ xs) ys zs = ap (λ s. x ∷ s) (append_on xs ys zs)
+
+-- how long a list is behind more entries
+pub length_on : {A : Type 0} (xs ys zs : List A) → zs ≡ xs ++ ys → length zs ≡ length xs + length ys
+length_on xs ys zs e = ap length e ∙ length-append xs ys
 
 pub front_same : {A : Type 0} (xs ys : List A) → ys ≡ xs → IsFront xs ys
 front_same xs ys e = record { back = []; parts = e ∙ sym (append_none xs) }
@@ -79,13 +84,9 @@ answered_of_other known more n request only ne = ap (λ b. b && knows (known ++ 
     word reply = list_any-append (λ x. x.request == n && cond reply x.reply (not x.reply)) known more
         ∙ or_false (knows known n reply) (knows more n reply) (unknown_of more n request reply only ne)
 
-both : (a b : Bool) → (a && b) ≡ true → (a ≡ true) × (b ≡ true)
-both true b e = (refl, e)
-both false b e = absurd (let x = e in cc)
-
 -- what was answered is answered on
 pub answered_on : (known more : List Known) (n : ℕ) → is_answered known n ≡ true → is_answered (known ++ more) n ≡ true
-answered_on known more n e = ap (λ b. b && knows (known ++ more) n true) (word false (both _ _ e).0) ∙ word true (both _ _ e).1
+answered_on known more n e = ap (λ b. b && knows (known ++ more) n true) (word false (and_parts _ _ e).0) ∙ word true (and_parts _ _ e).1
   where
     word : (reply : Bool) → knows known n reply ≡ true → knows (known ++ more) n reply ≡ true
     word reply is = list_any-append (λ x. x.request == n && cond reply x.reply (not x.reply)) known more ∙ or_true (knows known n reply) (knows more n reply) is

@@ -86,18 +86,20 @@ module _ {T : Type 0} (m : Meaning) (n : ℕ) (reply : Bool) (found : ℕ) (r r'
   known_after = known_made m (kinds.LoadEntry n reply) found r r' made idle.resting (record { known = λ s access f spot. refl; finished = λ s access f spot. refl })
       ∙ learned_adds r.part.records n reply found
 
-  pub load_knows : KnowsMore r r'
-  load_knows = record {
-    number = ap (λ (y : RunnerState T). y.number) made.made;
-    known = record { back = entry_of n reply found; parts = known_after };
-    finished = front_same r.part.records.finished r'.part.records.finished
-        (finished_made m (kinds.LoadEntry n reply) found r r' made idle.resting (record { known = λ s access f spot. refl; finished = λ s access f spot. refl })
-        ∙ kept_finished (found == 0));
-  }
+  pub load_finished : r'.part.records.finished ≡ r.part.records.finished
+  load_finished = finished_made m (kinds.LoadEntry n reply) found r r' made idle.resting (record { known = λ s access f spot. refl; finished = λ s access f spot. refl })
+      ∙ kept_finished (found == 0)
     where
       kept_finished : (b : Bool) → (if b then r.part.records else record (r.part.records) { known = r.part.records.known ++ record { request = n; reply = reply; number = found } ∷ [] }).finished ≡ r.part.records.finished
       kept_finished true = refl
       kept_finished false = refl
+
+  pub load_knows : KnowsMore r r'
+  load_knows = record {
+    number = ap (λ (y : RunnerState T). y.number) made.made;
+    known = record { back = entry_of n reply found; parts = known_after };
+    finished = front_same r.part.records.finished r'.part.records.finished load_finished;
+  }
 
   pub load_tidy : IsTidy r → IsTidy r'
   load_tidy tidy = record {
@@ -214,4 +216,5 @@ module _ {T : Type 0} (m : Meaning) (laws : Laws m) (map : m.is_map ≡ true) (r
     knows_stamp = subst (λ x. HasEntry r2.part.records.known (record { request = n; reply = false; number = x })) same_stamp is_known.knows_stamp;
     knows_reply = is_known.knows_reply;
     served = subst (λ x. IsServedAs m r2.layout r2.requests (sight m r2.layout r2.requests two.shown.world) n x is_known.reply) same_stamp is_known.served;
+    finished = load_finished m n true word r1 r2 two tidy_one.at ∙ (load_finished m n false stamp r0 r1 one left.at ∙ exits.keeps.finished);
   }

@@ -1,6 +1,6 @@
 -- How a runner leaves that was turned away.
-use Rattle.std.specs.Prelude.{◌==◌, ◌⊎◌, true, false, not}
-use Rattle.std.proofs.Common.{◌≡◌, ◌≢◌, ℕ, suc, ◌-◌, ◌≤◌, [], ◌∷◌, refl, sym, ap, ◌∙◌, subst, arith, Option, None, inl, inr}
+use Rattle.std.specs.Prelude.{◌==◌, ◌⊎◌, true, false, not, slice_get}
+use Rattle.std.proofs.Common.{◌≡◌, ◌≢◌, ℕ, suc, ◌+◌, ◌-◌, ◌≤◌, [], ◌∷◌, length, refl, sym, ap, ◌∙◌, subst, arith, Option, None, inl, inr, ⊎_elim}
 use Rattle.std.proofs.lemmas.Bool.Decides.{nat_tests}
 use Rattle.section_body.specs.Trail.{Agreed}
 use Rattle.section_body.specs.Word.{value_of, is_free}
@@ -17,9 +17,10 @@ use Rattle.runner_parts.specs.Tests.{has_pair, is_answered}
 use Rattle.runner_steps.specs.AfterInRun.{over_if}
 use Rattle.machine_states.specs.World.{World}
 use Rattle.machine_states.specs.Reached.{Reached}
-use Rattle.machine_states.specs.Sight.{sight, part_or_first}
+use Rattle.machine_states.specs.Sight.{Sight, sight, part_or_first}
 use Rattle.lock_walks.specs.machine_invariant.specs.After.{AreAllowed}
 use Rattle.lock_walks.specs.runner_facts.specs.Names.{NamesStand}
+use Rattle.take_names.specs.Taken.{HasLeftBy, TakenStand}
 use Rattle.lock_walks.specs.version_words.specs.RunnerState.{RunnerState}
 use Rattle.lock_walks.specs.version_words.specs.Stages.{IsAt}
 use Rattle.lock_walks.specs.epoch_slots.specs.Collects.{IsTidy}
@@ -30,11 +31,11 @@ use Rattle.lock_walks.specs.try_lock.specs.Ends.{EndsSo}
 use Rattle.attempts.specs.Learned.{HasLearned, IsCut}
 use Rattle.attempts.specs.Knowing.{KnowsMore}
 use Rattle.attempts.specs.Course.{IsEmptyHanded, HasHelped, IsOfHelped}
-use Rattle.attempts.specs.Attempts.{is_halted, is_refusal, Leaves}
+use Rattle.attempts.specs.Attempts.{is_halted, is_refusal, helped_of, Leaves}
 use Rattle.attempts.specs.Rests.{MayLeave, LearnsNoOwn, HasTurned}
 use Rattle.attempts.specs.declared.answers.Attempt.{Attempt}
 use Rattle.attempts.specs.declared.answers.Attempt.TheVariants as answers
-use Rattle.attempts.proofs.Knowing.{knows_same, knows_on}
+use Rattle.attempts.proofs.Knowing.{knows_same, knows_on, length_on, get_on}
 use Rattle.attempts.proofs.Reaching.{exits_reached}
 use Rattle.attempts.proofs.Helping.{learns_no_own}
 
@@ -53,6 +54,15 @@ refused_going (answers.Spent place word) e = refl
 refused_going (answers.Done reply stamp) e = absurd (let z = e in cc)
 refused_going (answers.Short short) e = absurd (let z = e in cc)
 refused_going answers.Halted e = absurd (let z = e in cc)
+
+helps_none : (answer : Attempt) → ((place word : ℕ) → answer ≢ answers.Busy place word) → helped_of answer ≡ 0
+helps_none (answers.Busy place word) other = absurd (other place word refl)
+helps_none (answers.Stale place expected read) other = refl
+helps_none (answers.Far loads) other = refl
+helps_none (answers.Spent place word) other = refl
+helps_none (answers.Done reply stamp) other = refl
+helps_none (answers.Short short) other = refl
+helps_none answers.Halted other = refl
 
 module _ {T : Type 0} (m : Meaning) where
   leaves_by_exit : (answer : Attempt) → ((place word : ℕ) → answer ≢ answers.Busy place word) → (old new : RunnerState T) → Exits m old new
@@ -77,7 +87,9 @@ module _ {T : Type 0} (m : Meaning) where
       → (old new : RunnerState T) → MayLeave m answer old → Exits m old new → (halts asks steps : ℕ)
       → HasTurned m answer answer old new halts halts asks asks steps steps
   turned_by_exit answer refusal other old new may exits halts asks steps =
-      let going = refused_going answer refusal in record {
+      let going = refused_going answer refusal in
+      let none = helps_none answer other in
+      let same = ap length exits.keeps.finished in record {
         made = 0;
         asked = subst (λ b. IsAsked 0 b halts halts asks asks steps steps) (ap not (sym going)) (asked_none halts asks steps);
         knows = knows_same old new exits.keeps.number exits.keeps.known exits.keeps.finished;
@@ -87,6 +99,9 @@ module _ {T : Type 0} (m : Meaning) where
         leaves = λ e. leaves_by_exit answer other old new exits;
         same = λ e. refl;
         tidy = λ e. exits_tidy old new may.hand exits;
+        runs = λ e. omega (arith, same, none);
+        few_runs = omega (arith, same);
+        brief = inr (record { few_steps = omega arith; few_runs = omega (arith, same) });
       }
 
 -- a run leaves a runner as it was, but for what it learned
@@ -110,6 +125,10 @@ module _ {T : Type 0} (m : Meaning) (d : ℕ) (t : Thunk) (outcome : Outcome) (t
 
   pub ended_hand : IsEmptyHanded old → IsEmptyHanded new
   ended_hand hand = record { hand = ends.nodes.hand ∙ hand.hand; tests = ends.nodes.tests hand.tests }
+
+-- what the words name that an entered runner met
+abbrev pub AreNamed : Meaning → Layout → Sight → Type 0
+AreNamed m l s = NamesStand m s × TakenStand m l s
 
 -- it helps first
 module _ {T : Type 0} (m : Meaning) (laws : Laws m) (place word : ℕ) (old helped new : RunnerState T) (limits : IsWithinLimits old.layout)
@@ -138,18 +157,47 @@ module _ {T : Type 0} (m : Meaning) (laws : Laws m) (place word : ℕ) (old help
     exits = exits;
   }
 
-  module _ (cells : (p w : ℕ) → has_pair old.part.reads.cells p w ≡ true → has_pair helped.part.reads.cells p w ≡ true) (names : (w : World) → Reached m helped.layout helped.requests w → NamesStand m (sight m helped.layout helped.requests w)) where
-    of_lock : m.is_lock place ≡ true → has_pair old.part.reads.cells place word ≡ true → IsOfHelped m place word old new helps
-    of_lock lock read = (names ends.reached.world ends.reached.reached).lock helped.number place word (value_of word - 1) (record {
-      entry = may.leave.epoch;
-      entered = ap (λ (p : PartState). p.stage) here ∙ (ends.stage ∙ may.leave.at.at);
-      read = ap (λ (p : PartState). has_pair p.reads.cells place word) here ∙ cells place word read;
-      lock = lock;
-      names = not_free word (may.help place word refl).names;
-    })
+  module _ (cells : (p w : ℕ) → has_pair old.part.reads.cells p w ≡ true → has_pair helped.part.reads.cells p w ≡ true)
+      (names : (w : World) → Reached m helped.layout helped.requests w → AreNamed m helped.layout (sight m helped.layout helped.requests w)) where
+    of_lock : m.is_lock place ≡ true → IsOfHelped m place word old new helps
+    of_lock lock = ⊎_elim by_read by_left (may.met place word refl)
       where
         here : (sight m helped.layout helped.requests ends.reached.world).part helped.number ≡ helped.part
         here = ap part_or_first ends.reached.own
+
+        all : AreNamed m helped.layout (sight m helped.layout helped.requests ends.reached.world)
+        all = names ends.reached.world ends.reached.reached
+
+        entered : ((sight m helped.layout helped.requests ends.reached.world).part helped.number).stage ≡ stages.Entered may.leave.epoch
+        entered = ap (λ (p : PartState). p.stage) here ∙ (ends.stage ∙ may.leave.at.at)
+
+        by_read : has_pair old.part.reads.cells place word ≡ true → IsOfHelped m place word old new helps
+        by_read read = all.0.lock helped.number place word (value_of word - 1) (record {
+          entry = may.leave.epoch;
+          entered = entered;
+          read = ap (λ (p : PartState). has_pair p.reads.cells place word) here ∙ cells place word read;
+          lock = lock;
+          names = not_free word (may.help place word refl).names;
+        })
+
+        -- by what it keeps of its own section
+        by_left : HasLeftBy old.part place word → IsOfHelped m place word old new helps
+        by_left own = all.1.met helped.number place word (value_of word - 1) (record {
+          entry = may.leave.epoch;
+          entered = entered;
+          by = subst (λ (p : PartState). HasLeftBy p place word) (sym here) (record {
+            at = own.at;
+            finished = own.finished;
+            kept = ap (λ fs. slice_get fs own.at) ends.kept
+                ∙ get_on old.part.records.finished (ends.finished ∷ []) own.at own.finished own.kept;
+            read = cells own.finished.lock own.finished.word own.read;
+            left = own.left;
+          });
+          names = not_free word (may.help place word refl).names;
+        })
+
+    one_more : length new.part.records.finished ≡ length old.part.records.finished + 1
+    one_more = ap length exits.keeps.finished ∙ length_on old.part.records.finished (ends.finished ∷ []) helped.part.records.finished ends.kept
 
     pub turned_by_help : (halts halts' asks asks' steps steps' : ℕ) → IsAsked made true halts halts' asks asks' steps steps'
         → HasTurned m (answers.Busy place word) (answers.Busy place word) old new halts halts' asks asks' steps steps'
@@ -164,11 +212,14 @@ module _ {T : Type 0} (m : Meaning) (laws : Laws m) (place word : ℕ) (old help
       leaves = λ e. record { helps = helps; of_lock = of_lock };
       same = λ e. refl;
       tidy = λ e. exits_tidy m helped new (ended_hand m (value_of word - 1) t outcome trail made old helped ends may.hand) exits;
+      runs = λ e. one_more;
+      few_runs = let more = one_more in omega (arith, more);
+      brief = inl (place, word, refl);
     }
 
 -- a gate halts it as it helps
-module _ {T : Type 0} (m : Meaning) (laws : Laws m) (answer : Attempt) (d : ℕ) (old new : RunnerState T) (limits : IsWithinLimits old.layout)
-    (allowed : AreAllowed old.requests) (may : MayLeave m answer old) (cut : IsCut m d old new) where
+module _ {T : Type 0} (m : Meaning) (laws : Laws m) (answer : Attempt) (place word : ℕ) (held : answer ≡ answers.Busy place word) (d : ℕ) (old new : RunnerState T)
+    (limits : IsWithinLimits old.layout) (allowed : AreAllowed old.requests) (may : MayLeave m answer old) (cut : IsCut m d old new) where
   still_none : (new.part.published ≡ old.part.published) ⊎ (new.part.published ≡ over_if old.part.published d) → new.part.published ≡ None
   still_none (inl same) = same ∙ may.leave.at.published
   still_none (inr over) = over ∙ ap (λ o. over_if o d) may.leave.at.published
@@ -189,4 +240,9 @@ module _ {T : Type 0} (m : Meaning) (laws : Laws m) (answer : Attempt) (d : ℕ)
     leaves = λ e. absurd (let z = e in cc);
     same = λ e. absurd (let z = e in cc);
     tidy = λ e. absurd (let z = e in cc);
+    runs = λ e. absurd (let z = e in cc);
+    few_runs =
+        let long = length_on old.part.records.finished cut.more new.part.records.finished cut.finished in
+        let few = cut.few in omega (arith, long, few);
+    brief = inl (place, word, held);
   }

@@ -9,9 +9,10 @@ mod Turning
 mod Trying
 mod Planning
 mod Refusing
-mod Placing
+pub mod Placing
 mod Along
 mod LastSteps
+mod Costs
 mod Telling
 mod Stamps
 mod Away

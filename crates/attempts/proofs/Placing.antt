@@ -2,6 +2,7 @@
 use Rattle.std.specs.Prelude.{◌==◌, ◌&&◌, ◌||◌, Bool, true, false, if◌then◌else◌}
 use Rattle.std.proofs.Common.{◌≡◌, ℕ, ◌+◌, ◌-◌, ◌<◌, ◌≤◌, List, [], ◌∷◌, ◌++◌, refl, sym, ap, ◌∙◌, subst, arith, Option, Some, None}
 use Rattle.std.proofs.lemmas.List.Folds.{list_any-append}
+use Rattle.std.proofs.lemmas.Bool.{and_parts}
 use Rattle.section_body.specs.declared.micro.Micro.{Micro}
 use Rattle.section_body.specs.declared.micro.Micro.TheVariants as micros
 use Rattle.section_body.specs.Line.{micro_at, is_check, is_end}
@@ -26,10 +27,6 @@ abbrev pub tells : Micro → Bool
 tells micros.StampExchange = true
 tells (micros.ReplyExchange reply) = true
 tells _ = false
-
-both : (a b : Bool) → (a && b) ≡ true → (a ≡ true) × (b ≡ true)
-both true b e = (refl, e)
-both false b e = absurd (let x = e in cc)
 
 module _ (m : Meaning) (l : Layout) (p : PartState) (q : RunState) (found : ℕ) where
   -- behind this step the run is no further back, and between its place before and the one behind there are checks alone
@@ -58,7 +55,7 @@ module _ (m : Meaning) (l : Layout) (p : PartState) (q : RunState) (found : ℕ)
           let over : i ≡ y.at + (i - y.at) = omega (arith, at, above) in
           ap (λ xs. is_check (micro_at (line_of m (record q { opened = xs })) i)) (sym opened)
           ∙ (ap (λ k. is_check (micro_at (line_of m y) k)) over
-          ∙ (both _ _ (ahead m l y (i - y.at) (omega (arith, at, above, below)))).0)
+          ∙ (and_parts _ _ (ahead m l y (i - y.at) (omega (arith, at, above, below)))).0)
 
   -- it stays at its place
   stays : (micro : Micro) (y : RunState) → tells micro ≡ false → y ≡ record q { ended = y.ended }

@@ -14,9 +14,10 @@ use Rattle.table_words.specs.declared.layout.Layout.{Layout}
 use Rattle.structure_laws.specs.Scene.{Readings}
 use Rattle.structure_laws.specs.Meaning.{Meaning}
 use Rattle.runner_parts.specs.Lists.{named_by}
-use Rattle.runner_parts.specs.Tests.{has}
+use Rattle.runner_parts.specs.Tests.{has, has_pair}
 use Rattle.runner_steps.specs.Sections.{setting_of}
 use Rattle.machine_states.proofs.Steps.{some_same, none_some}
+use Rattle.lock_walks.specs.runner_facts.proofs.Names.{pair_last}
 use Rattle.lock_walks.specs.try_lock.specs.declared.planned.Planned.{Planned}
 use Rattle.lock_walks.specs.try_lock.specs.declared.planned.Planned.TheVariants as plans
 use Rattle.lock_walks.specs.try_lock.specs.Planning.{Planning}
@@ -148,12 +149,13 @@ module _ (m : Meaning) (planning : Planning) (l : Layout) (op : Op) (place word 
   module _ (p w : ℕ) where
     by_free : (free spent : Bool) → is_free w ≡ free
         → (if free then (if spent then Some (plans.Spent p w) else None) else Some (plans.Busy p w)) ≡ Some (plans.Busy place word)
-        → (is_free word ≡ false) × (word ≡ w)
+        → (is_free word ≡ false) × (word ≡ w) × (place ≡ p)
     by_free true true is e = absurd (let z = some_same _ _ e in cc)
     by_free true false is e = absurd (none_some _ (sym e))
     by_free false spent is e =
-        let same : w ≡ word = (let z = some_same (plans.Busy p w) (plans.Busy place word) e in cc) in
-        (subst (λ n. is_free n ≡ false) same is, sym same)
+        let z = some_same (plans.Busy p w) (plans.Busy place word) e in
+        let same : w ≡ word = cc in
+        (subst (λ n. is_free n ≡ false) same is, sym same, cc)
 
     by_rest : (marked far : Bool) (expected loads : ℕ)
         → (if marked then Some (plans.Stale p expected w) else (if far then Some (plans.Far loads) else None)) ≡ Some (plans.Busy place word) → ⊥
@@ -163,15 +165,15 @@ module _ (m : Meaning) (planning : Planning) (l : Layout) (op : Op) (place word 
 
     by_lock : (lock : Bool) (rest : Option Planned) → (rest ≡ Some (plans.Busy place word) → ⊥) → m.is_lock p ≡ lock
         → (if lock then plan.refused_by_lock l.version_max p w else rest) ≡ Some (plans.Busy place word)
-        → (is_free word ≡ false) × (word ≡ w) × (m.is_lock p ≡ true)
+        → (is_free word ≡ false) × (word ≡ w) × (m.is_lock p ≡ true) × (place ≡ p)
     by_lock true rest none is e =
         let h = by_free (is_free w) (is_spent l.version_max w) refl e in
-        (h.0, h.1, is)
+        (h.0, h.1, is, h.2)
     by_lock false rest none is e = absurd (none e)
 
   -- a plan that found a lock held read a word there that names a descriptor, which the runner holds since
   pub plan_busy : (readings : Readings) → plan.IsRefused m planning l op readings (plans.Busy place word)
-      → (is_free word ≡ false) × (has (plan.names_read m readings) (value_of word - 1) ≡ true)
+      → (is_free word ≡ false) × (has (plan.names_read m readings) (value_of word - 1) ≡ true) × (has_pair readings place word ≡ true)
   plan_busy readings is =
       let h = by_lock is.place is.word (m.is_lock is.place) _
       (by_rest is.place is.word _ _ _ _) refl is.cause in (
@@ -181,4 +183,7 @@ module _ (m : Meaning) (planning : Planning) (l : Layout) (op : Op) (place word 
             ∙ (list_any-append (λ y. y == value_of word - 1) (plan.names_read m is.before) (plan.names_read m ((is.place, is.word) ∷ []))
             ∙ or_true _ _ (subst (λ n. has (plan.names_read m ((is.place, is.word) ∷ [])) (value_of n - 1) ≡ true) (sym h.1)
             (named_has is.word (is_free is.word) (m.is_lock is.place) (subst (λ n. is_free n ≡ false) h.1 h.0) h.2)))),
+        ap (λ rs. has_pair rs place word) is.last
+            ∙ (ap (λ w. has_pair (is.before ++ (is.place, is.word) ∷ []) place w) h.1
+            ∙ (ap (λ p. has_pair (is.before ++ (is.place, is.word) ∷ []) p is.word) h.3 ∙ pair_last is.before is.place is.word)),
       )

@@ -1,7 +1,8 @@
 -- The stamp of an own section that was run to its end is above those that were known before.
-use Rattle.std.specs.Prelude.{true, false, ◌&&◌, ◌||◌, ◌==◌, Bool, take, slice_get}
+use Rattle.std.specs.Prelude.{true, false, ◌||◌, ◌==◌, Bool, take, slice_get}
 use Rattle.std.proofs.Common.{◌≡◌, ◌≢◌, ℕ, ◌<◌, ◌++◌, length, refl, sym, ap, ◌∙◌, subst, inl, Some}
 use Rattle.std.proofs.Math.Seq.{take-append_seam}
+use Rattle.std.proofs.lemmas.Bool.{and_parts}
 use Rattle.map_history.specs.declared.op.Request.{Request}
 use Rattle.section_body.specs.Trail.{Agreed}
 use Rattle.section_body.specs.declared.outcome.Outcome.{Outcome}
@@ -37,10 +38,6 @@ use Rattle.attempts.specs.Knowing.{IsFront, KnowsMore}
 use Rattle.attempts.specs.Course.{HasEnded}
 use Rattle.attempts.proofs.Knowing.{front_entry}
 use Rattle.attempts.proofs.Telling.{answered_known}
-
-both : (a b : Bool) → (a && b) ≡ true → (a ≡ true) × (b ≡ true)
-both true b e = (refl, e)
-both false b e = absurd (let x = e in cc)
 
 -- a known word of a runner stands in a state in which it has its part
 entry_stands : (s : Sight) (part : PartState) (r : ℕ) → s.part r ≡ part → KnownStand s → (x : Known) (n : ℕ) (reply : Bool)
@@ -90,7 +87,7 @@ module _ {T : Type 0} (m : Meaning) (laws : Laws m) (t : TableState T) (limits :
     -- the stamp's entry
     told : first.HasEntry ran.part.records.known thunk.request false
     told = entry_of ran.part.records.known thunk.request false
-        (both (knows ran.part.records.known thunk.request false) (knows ran.part.records.known thunk.request true) answered).0
+        (and_parts (knows ran.part.records.known thunk.request false) (knows ran.part.records.known thunk.request true) answered).0
 
     told_stands : s.word (spots.Stamp thunk.request) ≡ told.entry.number
     told_stands = entry_stands s ran.part ran.number seen ended.ends.facts.known told.entry thunk.request false (told.place, told.at) told.request told.is

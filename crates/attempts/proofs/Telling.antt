@@ -1,6 +1,6 @@
 -- What a run of a section tells its runner, ended or cut.
 use Rattle.std.specs.Prelude.{true, ◌⊎◌, if◌then◌else◌}
-use Rattle.std.proofs.Common.{◌≡◌, ◌≢◌, ℕ, zero, suc, List, [], ◌∷◌, ◌++◌, refl, sym, ap, ◌∙◌, subst, ⊎_elim, inl, inr, Option, Some, None}
+use Rattle.std.proofs.Common.{◌≡◌, ◌≢◌, ℕ, zero, suc, ◌≤◌, List, [], ◌∷◌, ◌++◌, length, refl, sym, ap, ◌∙◌, subst, ⊎_elim, inl, inr, arith, Option, Some, None}
 use Rattle.section_body.specs.Trail.{Agreed}
 use Rattle.section_body.specs.declared.micro.Micro.TheVariants as micros
 use Rattle.section_body.specs.declared.outcome.Outcome.{Outcome}
@@ -108,6 +108,7 @@ module _ {T : Type 0} (m : Meaning) (laws : Laws m) (t : TableState T) (limits :
       };
       more = [];
       finished = opening.stays.finished ∙ sym (append_none old.part.records.finished);
+      few = omega arith;
       reached = opening.reached;
     }
 
@@ -130,9 +131,10 @@ module _ {T : Type 0} (m : Meaning) (laws : Laws m) (t : TableState T) (limits :
       pub published : (new.part.published ≡ old.part.published) ⊎ (new.part.published ≡ over_if old.part.published d)
       pub more : List FinishedState
       pub finished : new.part.records.finished ≡ old.part.records.finished ++ more
+      pub few : length more ≤ 1
 
     kept_still : new.part.published ≡ old.part.published → new.part.records.finished ≡ old.part.records.finished → IsKept
-    kept_still published finished = record { published = inl published; more = []; finished = finished ∙ sym (append_none old.part.records.finished) }
+    kept_still published finished = record { published = inl published; more = []; finished = finished ∙ sym (append_none old.part.records.finished); few = omega arith }
 
     kept_none : new ≡ short.opened → IsKept
     kept_none same = kept_still
@@ -161,6 +163,7 @@ module _ {T : Type 0} (m : Meaning) (laws : Laws m) (t : TableState T) (limits :
               finished = release.behind.finished
                   ∙ (ap (λ b. if b then last.before.part.records.finished ++ kept ∷ [] else last.before.part.records.finished) over.over
                   ∙ ap (λ fs. fs ++ kept ∷ []) along.finished);
+              few = omega arith;
             }
 
     kept_by : (n : ℕ) → Ran m n short.opened new → IsKept
@@ -177,6 +180,7 @@ module _ {T : Type 0} (m : Meaning) (laws : Laws m) (t : TableState T) (limits :
           learned = telling_learned m laws t limits allowed old d short.thunk new here;
           more = is.more;
           finished = is.finished;
+          few = is.few;
           reached = here.reached;
         }
 

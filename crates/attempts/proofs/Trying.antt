@@ -1,6 +1,7 @@
 -- The publication of an attempt.
-use Rattle.std.specs.Prelude.{◌⊎◌, Bool, Result, Ok, true, false}
-use Rattle.std.proofs.Common.{◌≡◌, ℕ, ◌≤◌, length, refl, sym, ap, ◌∙◌, subst, inl, inr, Option, Some, None}
+use Rattle.std.specs.Prelude.{◌⊎◌, ◌&&◌, not, Bool, Result, Ok, true, false, if◌then◌else◌}
+use Rattle.std.proofs.Common.{◌≡◌, ℕ, ◌+◌, ◌≤◌, length, refl, sym, ap, ◌∙◌, subst, arith, inl, inr, Option, Some, None}
+use Rattle.std.proofs.lemmas.Bool.{true≢false}
 use Rattle.map_history.specs.declared.op.Request.{Request}
 use Rattle.section_body.specs.declared.outcome.Refused.{Refused}
 use Rattle.section_body.specs.declared.outcome.Refused.TheVariants as refusals
@@ -20,7 +21,7 @@ use Rattle.lock_walks.specs.try_lock.specs.Planning.{Planning}
 use Rattle.lock_walks.specs.try_lock.specs.Publishes.{Publishes}
 use Rattle.attempts.specs.Knowing.{IsStill, IsOwn}
 use Rattle.attempts.specs.Course.{of_refusal, MayAttempt, HasPlanned, HasTried, HasPublished}
-use Rattle.attempts.specs.Attempts.{is_refusal}
+use Rattle.attempts.specs.Attempts.{is_refusal, helped_of, IsBrief, HasMetHeld}
 use Rattle.attempts.specs.Counted.{IsCounted}
 use Rattle.attempts.specs.Rests.{Rests}
 use Rattle.attempts.specs.declared.answers.Attempt.{Attempt}
@@ -52,10 +53,27 @@ tried_of m planning request old readings thunk r is answer new publishes layout 
 }
 
 -- the rest from an earlier runner that knew the same
-pub rests_from_still : {T : Type 0} (m : Meaning) (planning : Planning) (request : Request) (held : Bool) (answer : Attempt) (old here mid new : RunnerState T)
+module _ {T : Type 0} (m : Meaning) (planning : Planning) (request : Request) (answer : Attempt) (old here mid new : RunnerState T) (still : IsStill here mid) where
+  pub runs_from_still : (more : ℕ) → length new.part.records.finished ≡ length mid.part.records.finished + more
+      → length new.part.records.finished ≡ length here.part.records.finished + more
+  runs_from_still more e = subst (λ fs. length new.part.records.finished ≡ length fs + more) still.finished e
+
+  pub few_from_still : (more : ℕ) → length new.part.records.finished ≤ length mid.part.records.finished + more
+      → length new.part.records.finished ≤ length here.part.records.finished + more
+  few_from_still more e = subst (λ fs. length new.part.records.finished ≤ length fs + more) still.finished e
+
+  pub brief_from_still : (most runs made most' made' : ℕ) → (made ≤ most → made' ≤ most') → HasMetHeld m planning request old ⊎ IsBrief most runs made mid new
+      → HasMetHeld m planning request old ⊎ IsBrief most' runs made' here new
+  brief_from_still most runs made most' made' low (inl held) = inl held
+  brief_from_still most runs made most' made' low (inr brief) = inr (record {
+    few_steps = low brief.few_steps;
+    few_runs = few_from_still runs brief.few_runs;
+  })
+
+pub rests_from_still : {T : Type 0} (m : Meaning) (planning : Planning) (request : Request) (held : Bool) (most : ℕ) (answer : Attempt) (old here mid new : RunnerState T)
     (halts halts' asks asks' steps steps' : ℕ) → IsStill here mid
-    → Rests m planning request held answer old mid new halts halts' asks asks' steps steps' → Rests m planning request held answer old here new halts halts' asks asks' steps steps'
-rests_from_still m planning request held answer old here mid new halts halts' asks asks' steps steps' still rests = record {
+    → Rests m planning request held most answer old mid new halts halts' asks asks' steps steps' → Rests m planning request held most answer old here new halts halts' asks asks' steps steps'
+rests_from_still m planning request held most answer old here mid new halts halts' asks asks' steps steps' still rests = record {
   answers = rests.answers;
   knows = knows_on here mid new (knows_same here mid still.number still.known still.finished) rests.knows;
   no_other = no_other_on request.number here mid new still.requests still.layout still.number (no_other_same request.number here mid still.known) rests.no_other;
@@ -65,6 +83,9 @@ rests_from_still m planning request held answer old here mid new halts halts' as
   untried = rests.untried;
   asked = rests.asked;
   entered = rests.entered;
+  runs = λ going. runs_from_still m planning request answer old here mid new still ((if rests.published && not held then 1 else 0) + helped_of answer) (rests.runs going);
+  few_runs = few_from_still m planning request answer old here mid new still (if held then 1 else 2) rests.few_runs;
+  brief = brief_from_still m planning request answer old here mid new still most (if held then 0 else 1) rests.made most rests.made (λ low. low) rests.brief;
 }
 
 pub refusal_of_lock : (lock : ℕ) (e : Refused) → is_refusal (of_refusal lock e) ≡ true
@@ -97,12 +118,9 @@ module _ {T : Type 0} (m : Meaning) (planning : Planning) (request : Request) (o
   is_published none = none_some (published_by thunk tried.publishes.descriptor tried.planned.part)
       (sym (tried_at m planning request old thunk section here tried).published ∙ none)
 
-  true_false : true ≡ false → ⊥
-  true_false e = let z = e in cc
-
   pub halted_published : (halts halts' asks asks' steps : ℕ) → IsCounted 0 1 false halts halts' asks asks' steps steps
-      → Rests m planning request false answers.Halted old here here halts halts' asks asks' steps steps
-  halted_published halts halts' asks asks' steps asked = record {
+      → (most : ℕ) → Rests m planning request false most answers.Halted old here here halts halts' asks asks' steps steps
+  halted_published halts halts' asks asks' steps asked most = record {
     answers = record {
       entered = tried.plans.entered;
       enters = tried.plans.enters;
@@ -115,9 +133,15 @@ module _ {T : Type 0} (m : Meaning) (planning : Planning) (request : Request) (o
     made = 0;
     published = true;
     tried = λ e. has_published;
-    untried = λ e. absurd (true_false e);
+    untried = λ e. absurd (true≢false e);
     asked = asked;
     entered = refl;
+    runs = λ going. absurd (true≢false going);
+    few_runs = let more : length here.part.records.finished ≤ length here.part.records.finished + 2 = omega arith in more;
+    brief = inr (record {
+      few_steps = omega arith;
+      few_runs = let more : length here.part.records.finished ≤ length here.part.records.finished + 1 = omega arith in more;
+    });
   }
 
   -- or in its run

@@ -1,6 +1,6 @@
 -- The answers of an attempt that was turned away.
 use Rattle.std.specs.Prelude.{◌==◌, ◌&&◌, ◌⊎◌, not, Bool, true, false, if◌then◌else◌}
-use Rattle.std.proofs.Common.{◌≡◌, ℕ, ◌%◌, refl, sym, ap, ◌∙◌, subst, arith, inr, Some, None}
+use Rattle.std.proofs.Common.{◌≡◌, ℕ, ◌+◌, ◌%◌, ◌≤◌, length, refl, sym, ap, ◌∙◌, subst, arith, inl, inr, Some, None}
 use Rattle.std.proofs.lemmas.Bool.Decides.{nat_tests}
 use Rattle.map_history.specs.declared.op.Request.{Request}
 use Rattle.table_words.specs.Limits.{IsWithinLimits}
@@ -20,7 +20,7 @@ use Rattle.request_facts.proofs.Standing.{callers_stand}
 use Rattle.attempts.specs.Knowing.{IsOwn}
 use Rattle.attempts.specs.Course.{MayAttempt, HasEntered, HasPublished, PlanIsRefused, LockIsRefused, IsRefused}
 use Rattle.attempts.specs.Counted.{IsCounted}
-use Rattle.attempts.specs.Attempts.{is_halted, is_short, is_refusal, IsTurnedAway, IsRefusedBefore, IsHaltedBefore, IsHalted, IsUntouched, PublishedNone, Answers}
+use Rattle.attempts.specs.Attempts.{is_halted, is_short, is_refusal, IsBrief, IsTurnedAway, IsRefusedBefore, IsHaltedBefore, IsHalted, IsUntouched, HasMetHeld, PublishedNone, Answers}
 use Rattle.attempts.specs.Rests.{HasTurned, Rests}
 use Rattle.attempts.specs.declared.answers.Attempt.{Attempt}
 use Rattle.attempts.specs.declared.answers.Attempt.TheVariants as answers
@@ -155,8 +155,21 @@ module _ {T : Type 0} (m : Meaning) (laws : Laws m) (planning : Planning) (reque
   no_more true = refl
   no_more false = refl
 
-  pub turned_rests : Rests m planning request held got old here new halts halts' asks asks' steps steps'
-  turned_rests = record {
+  brief_by : (b : Bool) (most : ℕ) → ((place : ℕ) × (word : ℕ) × (answer ≡ answers.Busy place word)) ⊎ IsBrief 0 0 turned.made here new
+      → HasMetHeld m planning request old ⊎ IsBrief most (if b then 0 else 1) turned.made here new
+  brief_by b most (inl busy) = inl (busy.0, busy.1, here, subst (λ (a : Attempt). IsRefused m planning request a old here) busy.2 cause)
+  brief_by true most (inr brief) = inr (record { few_steps = let few = brief.few_steps in omega (arith, few); few_runs = brief.few_runs })
+  brief_by false most (inr brief) = inr (record {
+    few_steps = let few = brief.few_steps in omega (arith, few);
+    few_runs = let few = brief.few_runs in omega (arith, few);
+  })
+
+  few_by : (b : Bool) → length new.part.records.finished ≤ length here.part.records.finished + (if b then 1 else 2)
+  few_by true = turned.few_runs
+  few_by false = let few = turned.few_runs in omega (arith, few)
+
+  pub turned_rests : (most : ℕ) → Rests m planning request held most got old here new halts halts' asks asks' steps steps'
+  turned_rests most = record {
     answers = all_answers (is_halted got) refl;
     knows = turned.knows;
     no_other = λ q is ne. turned.no_own q is;
@@ -167,4 +180,7 @@ module _ {T : Type 0} (m : Meaning) (laws : Laws m) (planning : Planning) (reque
     asked = subst (λ more. IsCounted turned.made more (not (is_halted got)) halts halts' asks asks' steps steps') (sym (no_more held))
         (counted_steps turned.made (not (is_halted got)) halts halts' asks asks' steps steps' turned.asked);
     entered = long (is_halted got) refl;
+    runs = λ going. let more = turned.runs going in let none = no_more held in omega (arith, more, none);
+    few_runs = few_by held;
+    brief = brief_by held most turned.brief;
   }

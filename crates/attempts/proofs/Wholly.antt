@@ -1,16 +1,19 @@
 -- An attempt as a whole: its entry, its plan, and what follows.
-use Rattle.std.specs.Prelude.{◌&&◌, not, Bool, true, false, if◌then◌else◌, Ok, Err}
-use Rattle.std.proofs.Common.{◌≡◌, ℕ, ◌+◌, ◌-◌, ◌≤◌, length, refl, sym, ap, ◌∙◌, subst, inl, inr, None}
+use Rattle.std.specs.Prelude.{◌&&◌, ◌⊎◌, not, Bool, true, false, if◌then◌else◌, Ok, Err}
+use Rattle.std.proofs.Common.{◌≡◌, ℕ, ◌+◌, ◌*◌, ◌-◌, ◌≤◌, length, refl, sym, ap, ◌∙◌, subst, arith, inl, inr, None}
+use Rattle.std.proofs.lemmas.Bool.{true≢false}
 use Rattle.map_history.specs.declared.op.Request.{Request}
 use Rattle.section_body.specs.Word.{value_of}
 use Rattle.section_body.specs.declared.outcome.Refused.{Refused}
 use Rattle.section_body.specs.declared.thunk.Thunk.{Thunk}
+use Rattle.table_words.specs.declared.layout.Layout.{Layout}
 use Rattle.table_words.specs.Limits.{IsWithinLimits}
 use Rattle.structure_laws.specs.Scene.{Readings}
 use Rattle.structure_laws.specs.Meaning.{Meaning}
+use Rattle.structure_laws.specs.Cells.{slots}
 use Rattle.structure_laws.specs.Laws.{Laws}
 use Rattle.runner_parts.specs.declared.stage.Stage.TheVariants as stages
-use Rattle.runner_parts.specs.Tests.{has, is_answered}
+use Rattle.runner_parts.specs.Tests.{has, has_pair, is_answered}
 use Rattle.runner_parts.specs.State.{NodesState, DescriptorsState, ReadsState}
 use Rattle.machine_states.proofs.Steps.{none_some}
 use Rattle.lock_walks.specs.machine_invariant.specs.After.{AreAllowed}
@@ -32,7 +35,7 @@ use Rattle.lock_walks.specs.try_lock.specs.Publishes.{Publishes}
 use Rattle.attempts.specs.Knowing.{IsStill}
 use Rattle.attempts.specs.Course.{of_plan, of_refusal, MayAttempt, HasReserve, HasEntered, HasPlanned, HasTried, PlanIsRefused, LockIsRefused}
 use Rattle.attempts.specs.Counted.{IsCounted}
-use Rattle.attempts.specs.Attempts.{is_halted, is_short, asks_more, IsFew, IsShort, Attempts}
+use Rattle.attempts.specs.Attempts.{is_halted, is_short, asks_more, runs_of, helped_of, most_of_run, most_of_attempt, IsBrief, HasMetHeld, IsFew, IsShort, PublishedNone, Attempts}
 use Rattle.attempts.specs.Rests.{MayLeave, HasTurned, Rests}
 use Rattle.attempts.specs.declared.answers.Attempt.{Attempt}
 use Rattle.attempts.specs.declared.answers.Attempt.TheVariants as answers
@@ -41,19 +44,26 @@ use Rattle.attempts.proofs.Reaching.{enters_reached, collects_reached}
 use Rattle.attempts.proofs.Counting.{counted_steps, asked_then, steps_then}
 use Rattle.attempts.proofs.Courses.{planned_at, planned_reads, planned_leave}
 use Rattle.attempts.proofs.Turning.{untouched, turned_rests}
-use Rattle.attempts.proofs.Trying.{tried_of, own_here, unknown_here, refusal_of_lock}
+use Rattle.attempts.proofs.Trying.{tried_of, own_here, unknown_here, refusal_of_lock, runs_from_still, few_from_still, brief_from_still}
 use Rattle.attempts.proofs.Planning.{planned_of}
 use Rattle.attempts.proofs.Refusing.{refuses, refusal_of_plan, busy_plan, plan_busy}
 
-true_false : true ≡ false → ⊥
-true_false e = let z = e in cc
+-- the loads of a plan, alone and with the steps of a run
+none_within : (count : ℕ) → 0 ≤ most_of_attempt count
+none_within count = omega arith
+
+loads_within : (loads count : ℕ) → loads ≤ 6 * count + 44 → loads ≤ most_of_attempt count
+loads_within loads count few = omega (arith, few)
+
+loads_and_run : (loads count : ℕ) → loads ≤ 6 * count + 44 → loads + most_of_run ≤ most_of_attempt count
+loads_and_run loads count few = omega (arith, few)
 
 -- the rest, behind counted steps of a runner that learned nothing by them
-pub rests_after : {T : Type 0} (m : Meaning) (planning : Planning) (request : Request) (answer : Attempt) (old here mid new : RunnerState T) (n : ℕ)
+pub rests_after : {T : Type 0} (m : Meaning) (planning : Planning) (request : Request) (most : ℕ) (answer : Attempt) (old here mid new : RunnerState T) (n : ℕ)
     (halts halts1 halts' asks asks1 asks' steps steps1 steps' : ℕ) → IsStill here mid → IsAsked n true halts halts1 asks asks1 steps steps1
-    → Rests m planning request false answer old mid new halts1 halts' asks1 asks' steps1 steps'
-    → Rests m planning request false answer old here new halts halts' asks asks' steps steps'
-rests_after m planning request answer old here mid new n halts halts1 halts' asks asks1 asks' steps steps1 steps' still asked rests = record {
+    → Rests m planning request false most answer old mid new halts1 halts' asks1 asks' steps1 steps'
+    → Rests m planning request false (n + most) answer old here new halts halts' asks asks' steps steps'
+rests_after m planning request most answer old here mid new n halts halts1 halts' asks asks1 asks' steps steps1 steps' still asked rests = record {
   answers = rests.answers;
   knows = knows_on here mid new (knows_same here mid still.number still.known still.finished) rests.knows;
   no_other = no_other_on request.number here mid new still.requests still.layout still.number (no_other_same request.number here mid still.known) rests.no_other;
@@ -63,7 +73,34 @@ rests_after m planning request answer old here mid new n halts halts1 halts' ask
   untried = rests.untried;
   asked = steps_then n rests.made (if rests.published && not false then 1 else 0) (not (is_halted answer)) halts halts1 halts' asks asks1 asks' steps steps1 steps' asked rests.asked;
   entered = rests.entered;
+  runs = λ on. runs_from_still m planning request answer old here mid new still ((if rests.published && not false then 1 else 0) + helped_of answer) (rests.runs on);
+  few_runs = few_from_still m planning request answer old here mid new still 2 rests.few_runs;
+  brief = brief_from_still m planning request answer old here mid new still most 1 rests.made (n + most) (n + rests.made) (λ low. omega (arith, low)) rests.brief;
 }
+
+-- a larger bound
+pub rests_within : {T : Type 0} (m : Meaning) (planning : Planning) (request : Request) (held : Bool) (most more : ℕ) (answer : Attempt) (old here new : RunnerState T)
+    (halts halts' asks asks' steps steps' : ℕ) → most ≤ more → Rests m planning request held most answer old here new halts halts' asks asks' steps steps'
+    → Rests m planning request held more answer old here new halts halts' asks asks' steps steps'
+rests_within m planning request held most more answer old here new halts halts' asks asks' steps steps' low rests = record {
+  answers = rests.answers;
+  knows = rests.knows;
+  no_other = rests.no_other;
+  made = rests.made;
+  published = rests.published;
+  tried = rests.tried;
+  untried = rests.untried;
+  asked = rests.asked;
+  entered = rests.entered;
+  runs = rests.runs;
+  few_runs = rests.few_runs;
+  brief = by rests.brief;
+}
+  where
+    by : HasMetHeld m planning request old ⊎ IsBrief most (if held then 0 else 1) rests.made here new
+        → HasMetHeld m planning request old ⊎ IsBrief more (if held then 0 else 1) rests.made here new
+    by (inl met) = inl met
+    by (inr brief) = inr (record { few_steps = let few = brief.few_steps in omega (arith, few, low); few_runs = brief.few_runs })
 
 -- the lock refused the publication
 module _ {T : Type 0} (m : Meaning) (laws : Laws m) (t : TableState T) (limits : IsWithinLimits t.layout) (allowed : AreAllowed t.requests)
@@ -81,22 +118,22 @@ module _ {T : Type 0} (m : Meaning) (laws : Laws m) (t : TableState T) (limits :
 
   pub lost_rests : (got : Attempt) (new : RunnerState T) → IsOf t new → (halts halts' asks asks' steps steps' : ℕ)
       → HasTurned m (of_refusal thunk.lock refused) got mid new halts halts' asks asks' steps steps'
-      → Rests m planning request false got old r new halts halts' asks asks' steps steps'
+      → Rests m planning request false most_of_run got old r new halts halts' asks asks' steps steps'
   lost_rests got new own_new halts halts' asks asks' steps steps' turned =
-      rests_after m planning request got old r mid new 0 halts halts halts' asks asks asks' steps steps steps' still_lost (asked_none halts asks steps)
+      rests_after m planning request most_of_run got old r mid new 0 halts halts halts' asks asks asks' steps steps steps' still_lost (asked_none halts asks steps)
       (turned_rests m laws planning request old mid new (of_refusal thunk.lock refused) got (refusal_of_lock thunk.lock refused)
-      planned.entered planned.enters (inr (inl lost_cause)) false (λ e. absurd (true_false (sym e))) (λ e. inr lost_cause)
+      planned.entered planned.enters (inr (inl lost_cause)) false (λ e. absurd (true≢false (sym e))) (λ e. inr lost_cause)
       (own_here planning request old planned.enters.may mid lost.still) (unknown_here planning request old planned.enters.may mid lost.still)
       (subst IsWithinLimits (sym own_new.layout) limits) (subst AreAllowed (sym own_new.requests) allowed)
-      (own_new.layout ∙ sym own_mid.layout) (own_new.requests ∙ sym own_mid.requests) halts halts' asks asks' steps steps' turned)
+      (own_new.layout ∙ sym own_mid.layout) (own_new.requests ∙ sym own_mid.requests) halts halts' asks asks' steps steps' turned most_of_run)
 
 -- the section was published: the rest from the plan on
 pub tried_rests : {T : Type 0} (m : Meaning) (planning : Planning) (request : Request) (thunk : Thunk) (section : Section) (old r mid new : RunnerState T) (got : Attempt)
     (publishes : Publishes m thunk (Ok section) r mid) → mid.layout ≡ r.layout → mid.requests ≡ r.requests → (halts halts' asks asks' steps steps' : ℕ)
-    → Rests m planning request false got old mid new halts halts' asks asks' steps steps'
-    → Rests m planning request false got old r new halts halts' asks asks' steps steps'
+    → Rests m planning request false most_of_run got old mid new halts halts' asks asks' steps steps'
+    → Rests m planning request false most_of_run got old r new halts halts' asks asks' steps steps'
 tried_rests m planning request thunk section old r mid new got publishes layout requests halts halts' asks asks' steps steps' rests =
-    rests_after m planning request got old r mid new 0 halts halts halts' asks asks asks' steps steps steps'
+    rests_after m planning request most_of_run got old r mid new 0 halts halts halts' asks asks asks' steps steps steps'
     (record { layout = layout; requests = requests; number = publishes.number; known = publishes.known; finished = publishes.finished })
     (asked_none halts asks steps) rests
 
@@ -126,8 +163,12 @@ module _ {T : Type 0} (m : Meaning) (laws : Laws m) (t : TableState T) (limits :
   pub going : plan.is_halted answer ≡ false → IsAsked (length planned.readings) true halts halts1 asks asks1 steps steps1
   going on = subst (λ b. IsAsked (length planned.readings) b halts halts1 asks asks1 steps steps1) (ap not on) planned.asked
 
+  -- it makes at most so many loads
+  few_loads : length planned.readings ≤ 6 * slots m t.layout + 44
+  few_loads = subst (λ (l : Layout). length planned.readings ≤ 6 * slots m l + 44) own_here'.layout planned.few
+
   -- a gate halted it
-  pub plan_halted : answer ≡ plans.Halted → Rests m planning request false answers.Halted old here r halts halts1 asks asks1 steps steps1
+  pub plan_halted : answer ≡ plans.Halted → Rests m planning request false (most_of_attempt (slots m t.layout)) answers.Halted old here r halts halts1 asks asks1 steps steps1
   plan_halted is = record {
     answers = record {
       entered = here;
@@ -140,18 +181,36 @@ module _ {T : Type 0} (m : Meaning) (laws : Laws m) (t : TableState T) (limits :
     no_other = no_other_same request.number here r still_planned.known;
     made = length planned.readings;
     published = false;
-    tried = λ e. absurd (true_false (sym e));
+    tried = λ e. absurd (true≢false (sym e));
     untried = λ e. inr (inl (planned.readings, subst (λ (a : Planned). HasPlanned m planning request planned.readings a old r) is course));
     asked = counted_steps (length planned.readings) false halts halts1 asks asks1 steps steps1
         (subst (λ (a : Planned). IsAsked (length planned.readings) (not (plan.is_halted a)) halts halts1 asks asks1 steps steps1) is planned.asked);
     entered = refl;
+    runs = λ on. absurd (true≢false on);
+    few_runs = let more : length r.part.records.finished ≤ length here.part.records.finished + 2 = omega (arith, same_runs) in more;
+    brief = inr (record {
+      few_steps = loads_within (length planned.readings) (slots m t.layout) few_loads;
+      few_runs = let more : length r.part.records.finished ≤ length here.part.records.finished + 1 = omega (arith, same_runs) in more;
+    });
   }
     where
+      same_runs : length r.part.records.finished ≡ length here.part.records.finished
+      same_runs = ap length still_planned.finished
+
       at : IsAt r (stages.Entered course.enters.enters.epoch) None
       at = planned_at m planning request old planned.readings answer r course
 
       unknown : is_answered r.part.records.known request.number ≡ false
       unknown = unknown_here planning request old enters.may r course.still
+
+  -- the thunk was tried
+  pub thunk_rests : (got : Attempt) (new : RunnerState T) (halts' asks' steps' : ℕ) → plan.is_halted answer ≡ false
+      → Rests m planning request false most_of_run got old r new halts1 halts' asks1 asks' steps1 steps'
+      → Rests m planning request false (most_of_attempt (slots m t.layout)) got old here new halts halts' asks asks' steps steps'
+  thunk_rests got new halts' asks' steps' on rests =
+      rests_within m planning request false (length planned.readings + most_of_run) (most_of_attempt (slots m t.layout)) got old here new halts halts' asks asks' steps steps'
+      (loads_and_run (length planned.readings) (slots m t.layout) few_loads)
+      (rests_after m planning request most_of_run got old here r new (length planned.readings) halts halts1 halts' asks asks1 asks' steps steps1 steps' still_planned (going on) rests)
 
   -- a reading refused it
   module _ (is : refuses answer ≡ true) where
@@ -161,7 +220,7 @@ module _ {T : Type 0} (m : Meaning) (laws : Laws m) (t : TableState T) (limits :
     not_halted (plans.Spent place word) e = refl
     not_halted (plans.Far loads) e = refl
     not_halted (plans.Thunk thunk) e = refl
-    not_halted plans.Halted e = absurd (true_false (sym e))
+    not_halted plans.Halted e = absurd (true≢false (sym e))
 
     by_busy : (p : Planned) (place word : ℕ) → p ≡ plans.Busy place word → plan.Answers m planning old.layout request.op request.number planned.readings p
         → plan.IsRefused m planning old.layout request.op planned.readings (plans.Busy place word)
@@ -183,6 +242,9 @@ module _ {T : Type 0} (m : Meaning) (laws : Laws m) (t : TableState T) (limits :
             reserve = course.has.nodes;
             reached = course.reached;
           };
+      met = λ place word named.
+          let h = plan_busy m planning old.layout request.op place word planned.readings (by_busy answer place word (busy_plan answer place word named) course.answers) in
+          inl (ap (λ (s : ReadsState). has_pair s.cells place word) (planned_reads m planning request old planned.readings answer r course) ∙ h.2);
     }
 
     cause : PlanIsRefused m planning request (of_plan answer) old r
@@ -190,15 +252,14 @@ module _ {T : Type 0} (m : Meaning) (laws : Laws m) (t : TableState T) (limits :
 
     pub refused_rests : (got : Attempt) (new : RunnerState T) → IsOf t new → (halts' asks' steps' : ℕ)
         → HasTurned m (of_plan answer) got r new halts1 halts' asks1 asks' steps1 steps'
-        → Rests m planning request false got old here new halts halts' asks asks' steps steps'
+        → Rests m planning request false (most_of_attempt (slots m t.layout)) got old here new halts halts' asks asks' steps steps'
     refused_rests got new own_new halts' asks' steps' turned =
-        rests_after m planning request got old here r new (length planned.readings) halts halts1 halts' asks asks1 asks' steps steps1 steps' still_planned
-        (going (not_halted answer is))
+        thunk_rests got new halts' asks' steps' (not_halted answer is)
         (turned_rests m laws planning request old r new (of_plan answer) got (refusal_of_plan answer is) here enters (inl cause) false
-        (λ e. absurd (true_false (sym e))) (λ e. inl cause)
+        (λ e. absurd (true≢false (sym e))) (λ e. inl cause)
         (own_here planning request old enters.may r course.still) (unknown_here planning request old enters.may r course.still)
         (subst IsWithinLimits (sym own_new.layout) limits) (subst AreAllowed (sym own_new.requests) allowed)
-        (own_new.layout ∙ sym own_r.layout) (own_new.requests ∙ sym own_r.requests) halts1 halts' asks1 asks' steps1 steps' turned)
+        (own_new.layout ∙ sym own_r.layout) (own_new.requests ∙ sym own_r.requests) halts1 halts' asks1 asks' steps1 steps' turned most_of_run)
 
 -- the entry
 module _ {T : Type 0} (m : Meaning) (laws : Laws m) (t : TableState T) (limits : IsWithinLimits t.layout) (allowed : AreAllowed t.requests)
@@ -212,6 +273,9 @@ module _ {T : Type 0} (m : Meaning) (laws : Laws m) (t : TableState T) (limits :
     known = collects.known;
     finished = collects.finished;
   }
+
+  ready_runs : length ready.part.records.finished ≡ length old.part.records.finished
+  ready_runs = ap length still_ready.finished
 
   -- too few slots are free
   module _ (short : Short) (few : IsFew ready short.kind) (counts : short ≡ counts_of ready short.kind) where
@@ -232,9 +296,13 @@ module _ {T : Type 0} (m : Meaning) (laws : Laws m) (t : TableState T) (limits :
       no_other = no_other_same request.number old ready still_ready.known;
       made = 0;
       published = false;
-      tried = λ e. absurd (true_false (sym e));
+      tried = λ e. absurd (true≢false (sym e));
       untried = λ e. is_short_of;
       asked = counted_steps 0 true halts halts asks asks steps steps (asked_none halts asks steps);
+      short = λ e. refl;
+      runs = λ on. omega (arith, ready_runs);
+      few_runs = omega (arith, ready_runs);
+      brief = inr (record { few_steps = none_within (slots m old.layout); few_runs = omega (arith, ready_runs) });
     }
 
   -- it enters
@@ -266,6 +334,9 @@ module _ {T : Type 0} (m : Meaning) (laws : Laws m) (t : TableState T) (limits :
       };
     }
 
+    here_runs : length here.part.records.finished ≡ length old.part.records.finished
+    here_runs = ap length still.finished
+
     -- a gate halts it there
     pub entry_halted : (halts halts' asks asks' steps : ℕ) → IsCounted 0 1 false halts halts' asks asks' steps steps
         → Attempts m planning request answers.Halted old here halts halts' asks asks' steps steps
@@ -281,9 +352,13 @@ module _ {T : Type 0} (m : Meaning) (laws : Laws m) (t : TableState T) (limits :
       no_other = no_other_same request.number old here still.known;
       made = 0;
       published = false;
-      tried = λ e. absurd (true_false (sym e));
+      tried = λ e. absurd (true≢false (sym e));
       untried = λ e. inl entered_so;
       asked = asked;
+      short = λ e. refl;
+      runs = λ on. absurd (true≢false on);
+      few_runs = omega (arith, here_runs);
+      brief = inr (record { few_steps = none_within (slots m old.layout); few_runs = omega (arith, here_runs) });
     }
 
     more_of : (a : Attempt) (b : Bool) → is_short a ≡ false → 1 + (if b && not false then 1 else 0) ≡ asks_more a b
@@ -299,11 +374,36 @@ module _ {T : Type 0} (m : Meaning) (laws : Laws m) (t : TableState T) (limits :
     more_of (answers.Done reply stamp) false e = refl
     more_of answers.Halted true e = refl
     more_of answers.Halted false e = refl
-    more_of (answers.Short short) b e = absurd (true_false e)
+    more_of (answers.Short short) b e = absurd (true≢false e)
+
+    runs_are : (a : Attempt) (b : Bool) → is_short a ≡ false → (new : RunnerState T) → (b ≡ false → PublishedNone m planning request a old new)
+        → (if b && not false then 1 else 0) + helped_of a ≡ runs_of a b
+    runs_are (answers.Busy place word) true e new none = refl
+    runs_are (answers.Busy place word) false e new none = refl
+    runs_are (answers.Stale place expected read) true e new none = refl
+    runs_are (answers.Stale place expected read) false e new none = refl
+    runs_are (answers.Far loads) true e new none = refl
+    runs_are (answers.Far loads) false e new none = refl
+    runs_are (answers.Spent place word) true e new none = refl
+    runs_are (answers.Spent place word) false e new none = refl
+    runs_are (answers.Done reply stamp) true e new none = refl
+    runs_are (answers.Done reply stamp) false e new none = absurd (none refl)
+    runs_are answers.Halted true e new none = refl
+    runs_are answers.Halted false e new none = refl
+    runs_are (answers.Short short) b e new none = absurd (true≢false e)
+
+    brief_old : (new : RunnerState T) (made : ℕ) → HasMetHeld m planning request old ⊎ IsBrief (most_of_attempt (slots m t.layout)) 1 made here new
+        → HasMetHeld m planning request old ⊎ IsBrief (most_of_attempt (slots m old.layout)) 1 made old new
+    brief_old new made (inl met) = inl met
+    brief_old new made (inr brief) = inr (record {
+      few_steps = subst (λ (l : Layout). made ≤ most_of_attempt (slots m l)) (sym own_old.layout) brief.few_steps;
+      few_runs = let few = brief.few_runs in omega (arith, few, here_runs);
+    })
 
     -- it goes on
     pub attempts_so : (got : Attempt) (new : RunnerState T) (halts halts1 halts' asks asks1 asks' steps steps' : ℕ)
-        → IsCounted 0 1 true halts halts1 asks asks1 steps steps → Rests m planning request false got old here new halts1 halts' asks1 asks' steps steps'
+        → IsCounted 0 1 true halts halts1 asks asks1 steps steps
+        → Rests m planning request false (most_of_attempt (slots m t.layout)) got old here new halts1 halts' asks1 asks' steps steps'
         → Attempts m planning request got old new halts halts' asks asks' steps steps'
     attempts_so got new halts halts1 halts' asks asks1 asks' steps steps' ask rests = record {
       answers = rests.answers;
@@ -315,4 +415,10 @@ module _ {T : Type 0} (m : Meaning) (laws : Laws m) (t : TableState T) (limits :
       untried = rests.untried;
       asked = subst (λ more. IsCounted rests.made more (not (is_halted got)) halts halts' asks asks' steps steps') (more_of got rests.published rests.entered)
           (asked_then 1 rests.made (if rests.published && not false then 1 else 0) (not (is_halted got)) halts halts1 halts' asks asks1 asks' steps steps' ask rests.asked);
+      short = λ e. absurd (true≢false (sym e ∙ rests.entered));
+      runs = λ on.
+          let more = rests.runs on in
+          let own = runs_are got rests.published rests.entered new rests.untried in omega (arith, more, own, here_runs);
+      few_runs = let few : length new.part.records.finished ≤ length here.part.records.finished + 2 = rests.few_runs in omega (arith, few, here_runs);
+      brief = brief_old new rests.made rests.brief;
     }

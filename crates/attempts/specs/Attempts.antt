@@ -1,5 +1,5 @@
 -- Attempts of requests: what may be attempted, and what each answer says.
-use Rattle.std.specs.Prelude.{◌≡◌, ℕ, ◌<◌, ◌≤◌, ◌⊎◌, Bool, true, false, not, Some, None, length, if◌then◌else◌}
+use Rattle.std.specs.Prelude.{◌≡◌, ℕ, ◌+◌, ◌*◌, ◌<◌, ◌≤◌, ◌⊎◌, Bool, true, false, not, Some, None, length, if◌then◌else◌}
 use Rattle.map_history.specs.declared.op.Request.{Request}
 use Rattle.map_history.specs.declared.reply.Reply.{Reply}
 use Rattle.map_history.specs.Words.{word_of}
@@ -8,16 +8,17 @@ use Rattle.section_body.specs.declared.outcome.Outcome.TheVariants.{Answered}
 use Rattle.section_body.specs.declared.thunk.Thunk.{Thunk}
 use Rattle.structure_laws.specs.Scene.{Readings}
 use Rattle.structure_laws.specs.Meaning.{Meaning}
+use Rattle.structure_laws.specs.Cells.{slots}
 use Rattle.runner_parts.specs.declared.entries.Known.{Known}
 use Rattle.runner_parts.specs.declared.entries.Published.{Published}
-use Rattle.runner_parts.specs.Tests.{is_answered, has_pair}
+use Rattle.runner_parts.specs.Tests.{is_answered}
 use Rattle.machine_states.specs.Sight.{sight}
 use Rattle.lock_walks.specs.version_words.specs.RunnerState.{RunnerState}
 use Rattle.lock_walks.specs.epoch_slots.specs.Collects.{IsTidy, Collects}
 use Rattle.lock_walks.specs.epoch_slots.specs.Entries.{Exits}
 use Rattle.lock_walks.specs.epoch_slots.specs.Reserves.{counts_of}
 use Rattle.lock_walks.specs.epoch_slots.specs.declared.reserves.Kind.{Kind}
-use Rattle.lock_walks.specs.epoch_slots.specs.declared.reserves.Kind.TheVariants as slots
+use Rattle.lock_walks.specs.epoch_slots.specs.declared.reserves.Kind.TheVariants as kinds
 use Rattle.lock_walks.specs.epoch_slots.specs.declared.reserves.Short.{Short}
 use Rattle.lock_walks.specs.try_lock.specs.declared.planned.Planned.TheVariants as plans
 use Rattle.lock_walks.specs.try_lock.specs.Planning.{Planning}
@@ -51,11 +52,36 @@ abbrev pub asks_more : Attempt → Bool → ℕ
 asks_more (answers.Short short) published = 0
 asks_more _ published = if published then 2 else 1
 
+-- how many sections that held a lock the runner runs to their end before it leaves with this answer
+abbrev pub helped_of : Attempt → ℕ
+helped_of (answers.Busy place word) = 1
+helped_of _ = 0
+
+-- how many runs an attempt with this answer brings to their end: that of its own section, where one was
+-- published, and that of the section which held a lock
+abbrev pub runs_of : Attempt → Bool → ℕ
+runs_of (answers.Short short) published = 0
+runs_of (answers.Done reply stamp) published = 1
+runs_of answer published = (if published then 1 else 0) + helped_of answer
+
+-- the steps of a run are at most so many, whatever the body
+abbrev pub most_of_run : ℕ
+most_of_run = 209
+
+-- the loads of a plan and the steps of a run are at most so many, where there are so many node slots
+abbrev pub most_of_attempt : ℕ → ℕ
+most_of_attempt count = 6 * count + 44 + most_of_run
+
 module _ {T : Type 0} where
+  -- at most so many steps were counted, and at most so many runs came to their end
+  pub record IsBrief (steps runs made : ℕ) (old new : RunnerState T) : Type 0 where
+    pub few_steps : made ≤ steps
+    pub few_runs : length new.part.records.finished ≤ length old.part.records.finished + runs
+
   -- fewer than an attempt needs of this kind are free; node slots are asked for first
   abbrev pub IsFew : RunnerState T → Kind → Type 0
-  IsFew r slots.Node = length r.part.nodes.free < 2
-  IsFew r slots.Descriptor = (2 ≤ length r.part.nodes.free) × (length r.part.descriptors.free ≡ 0)
+  IsFew r kinds.Node = length r.part.nodes.free < 2
+  IsFew r kinds.Descriptor = (2 ≤ length r.part.nodes.free) × (length r.part.descriptors.free ≡ 0)
 
   module _ (m : Meaning) where
     -- in a state that the machine reaches, in which the runner has this part, nobody has served the request; so the
@@ -72,13 +98,11 @@ module _ {T : Type 0} where
       pub counts : short ≡ counts_of new short.kind
       pub untouched : IsUntouched number new
 
-    -- the runner ran the section that this lock's word named to its end, and left. Where the runner has
-    -- read the word itself, the section is
-    -- the one of which it was a lock's word
+    -- the runner ran the section that this lock's word named to its end, and left. It is the section of
+    -- which the word was a lock's word
     pub record HasMadeWay (place word : ℕ) (cut new : RunnerState T) : Type 0 where
       pub helps : HasHelped m word cut new
-      pub of_lock : m.is_lock place ≡ true → has_pair cut.part.reads.cells place word ≡ true
-          → IsOfHelped m place word cut new helps
+      pub of_lock : m.is_lock place ≡ true → IsOfHelped m place word cut new helps
 
     -- the runner leaves, where a lock was held with the section helped to its end
     abbrev pub Leaves : Attempt → RunnerState T → RunnerState T → Type 0
@@ -146,6 +170,12 @@ module _ {T : Type 0} where
       PublishedNone answers.Halted old new = IsHaltedBefore old new
       PublishedNone answer old new = IsRefusedBefore answer old new
 
+      -- a lock was held: the plan was refused by it, or the publication, or the section left since it
+      -- found it so
+      abbrev pub HasMetHeld : RunnerState T → Type 0
+      HasMetHeld old = (place : ℕ) × (word : ℕ) × (cut : RunnerState T)
+          × IsRefused m planning request (answers.Busy place word) old cut
+
       abbrev pub Answers : Attempt → RunnerState T → RunnerState T → Type 0
       Answers (answers.Done reply stamp) old new = IsServed reply stamp old new
       Answers (answers.Short short) old new = IsShort short request.number old new
@@ -165,3 +195,10 @@ module _ {T : Type 0} where
         pub untried : published ≡ false → PublishedNone answer old new
         pub asked : IsCounted made (asks_more answer published) (not
             (is_halted answer)) halts halts' asks asks' steps steps'
+        pub short : is_short answer ≡ true → made ≡ 0
+        -- so many runs came to their end, where no gate halted the runner; never more than two
+        pub runs : is_halted answer ≡ false
+            → length new.part.records.finished ≡ length old.part.records.finished + runs_of answer published
+        pub few_runs : length new.part.records.finished ≤ length old.part.records.finished + 2
+        -- where it met no lock that was held, it ran at most its own section
+        pub brief : HasMetHeld old ⊎ IsBrief (most_of_attempt (slots m old.layout)) 1 made old new

@@ -1,5 +1,5 @@
 -- What a run of a section told its runner.
-use Rattle.std.specs.Prelude.{◌≡◌, ◌≢◌, ℕ, ◌⊎◌, List, [], ◌++◌, length, slice_get, Some}
+use Rattle.std.specs.Prelude.{◌≡◌, ◌≢◌, ℕ, ◌≤◌, ◌⊎◌, List, [], ◌++◌, length, slice_get, Some}
 use Rattle.section_body.specs.declared.micro.Micro.TheVariants.{StampExchange}
 use Rattle.section_body.specs.declared.thunk.Thunk.{Thunk}
 use Rattle.structure_laws.specs.Meaning.{Meaning}
@@ -45,4 +45,5 @@ module _ {T : Type 0} (m : Meaning) where
     pub learned : HasLearned d thunk old new
     pub more : List FinishedState
     pub finished : new.part.records.finished ≡ old.part.records.finished ++ more
+    pub few : length more ≤ 1
     pub reached : IsReached m new

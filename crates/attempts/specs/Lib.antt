@@ -14,3 +14,4 @@ pub use Rattle.request_facts
 pub use Rattle.lock_walks.specs.version_words
 pub use Rattle.lock_walks.specs.epoch_slots
 pub use Rattle.lock_walks.specs.try_lock
+pub use Rattle.lock_walks

@@ -1,10 +1,10 @@
 -- What the parts of an attempt do.
-use Rattle.std.specs.Prelude.{◌≡◌, ◌&&◌, ℕ, Bool, true, false, not, None, Some, slice_get, if◌then◌else◌}
+use Rattle.std.specs.Prelude.{◌≡◌, ◌&&◌, ℕ, ◌+◌, ◌≤◌, ◌⊎◌, Bool, true, false, not, None, Some, length, slice_get, if◌then◌else◌}
 use Rattle.map_history.specs.declared.op.Request.{Request}
 use Rattle.map_history.specs.declared.reply.Reply.{Reply}
 use Rattle.map_history.specs.Words.{word_of}
 use Rattle.structure_laws.specs.Meaning.{Meaning}
-use Rattle.runner_parts.specs.Tests.{is_answered}
+use Rattle.runner_parts.specs.Tests.{is_answered, has_pair}
 use Rattle.machine_states.specs.Sight.{sight}
 use Rattle.lock_walks.specs.version_words.specs.RunnerState.{RunnerState}
 use Rattle.lock_walks.specs.epoch_slots.specs.Collects.{IsTidy}
@@ -12,12 +12,13 @@ use Rattle.lock_walks.specs.epoch_slots.specs.Entries.{HasLeave}
 use Rattle.lock_walks.specs.commit_log.specs.Asked.{IsAsked}
 use Rattle.lock_walks.specs.try_lock.specs.Planning.{Planning}
 use Rattle.lock_walks.specs.try_lock.specs.Reached.{IsReached, MayHelp}
+use Rattle.take_names.specs.Taken.{HasLeftBy}
 use Rattle.request_facts.specs.Laws.{HasEntry}
 use Rattle.request_facts.specs.Placed.{IsServedAs}
 use Rattle.attempts.specs.Knowing.{KnowsMore, IsOwn, LearnsNoOther}
 use Rattle.attempts.specs.Counted.{IsCounted}
 use Rattle.attempts.specs.Course.{IsEmptyHanded, HasPublished}
-use Rattle.attempts.specs.Attempts.{is_halted, is_short, Leaves, Answers, PublishedNone}
+use Rattle.attempts.specs.Attempts.{is_halted, is_short, helped_of, IsBrief, Leaves, HasMetHeld, Answers, PublishedNone}
 use Rattle.attempts.specs.declared.answers.Attempt.{Attempt}
 use Rattle.attempts.specs.declared.answers.Attempt.TheVariants as answers
 
@@ -29,6 +30,9 @@ module _ {T : Type 0} (m : Meaning) where
     pub leave : HasLeave r
     pub hand : IsEmptyHanded r
     pub help : (place word : ℕ) → answer ≡ answers.Busy place word → MayHelp m r word
+    -- it has read the word there since it entered, or its own section left by it
+    pub met : (place word : ℕ) → answer ≡ answers.Busy place word
+        → (has_pair r.part.reads.cells place word ≡ true) ⊎ HasLeftBy r.part place word
 
   -- the runner came to know no request of its own
   abbrev pub LearnsNoOwn : RunnerState T → RunnerState T → Type 0
@@ -47,6 +51,12 @@ module _ {T : Type 0} (m : Meaning) where
     pub leaves : is_halted got ≡ false → Leaves m answer old new
     pub same : is_halted got ≡ false → got ≡ answer
     pub tidy : is_halted got ≡ false → IsTidy new
+    -- how many runs came to their end
+    pub runs : is_halted got ≡ false
+        → length new.part.records.finished ≡ length old.part.records.finished + helped_of got
+    pub few_runs : length new.part.records.finished ≤ length old.part.records.finished + 1
+    -- where no lock was held it made no step that is counted, and ran nothing
+    pub brief : ((place : ℕ) × (word : ℕ) × (answer ≡ answers.Busy place word)) ⊎ IsBrief 0 0 made old new
 
   -- the runner may learn the words of this request: it knows both
   pub record MayLearn (request : Request) (r : RunnerState T) : Type 0 where
@@ -67,12 +77,14 @@ module _ {T : Type 0} (m : Meaning) where
         (record { request = request.number; reply = true; number = word_of reply })
     pub served : IsServedAs m new.layout new.requests
         (sight m new.layout new.requests reached.world) request.number stamp reply
+    pub finished : new.part.records.finished ≡ old.part.records.finished
 
   module _ (planning : Planning) (request : Request) where
     -- the rest of an attempt that began with `old`, from here on: its answer, what the runner learned, whether a
     -- section was published in the attempt, and how often the gate was asked; `held` is whether it was asked
-    -- behind the exchange that published before
-    pub record Rests (held : Bool) (answer : Attempt) (old here new : RunnerState T)
+    -- behind the exchange that published, and the own section run, before. Where no lock was held at most so
+    -- many steps are counted from here on
+    pub record Rests (held : Bool) (most : ℕ) (answer : Attempt) (old here new : RunnerState T)
         (halts halts' asks asks' steps steps' : ℕ) : Type 0 where
       pub answers : Answers m planning request answer old new
       pub knows : KnowsMore here new
@@ -84,3 +96,7 @@ module _ {T : Type 0} (m : Meaning) where
       pub asked : IsCounted made (if published && not held then 1 else 0) (not
           (is_halted answer)) halts halts' asks asks' steps steps'
       pub entered : is_short answer ≡ false
+      pub runs : is_halted answer ≡ false
+          → length new.part.records.finished ≡ length here.part.records.finished + ((if published && not held then 1 else 0) + helped_of answer)
+      pub few_runs : length new.part.records.finished ≤ length here.part.records.finished + (if held then 1 else 2)
+      pub brief : HasMetHeld m planning request old ⊎ IsBrief most (if held then 0 else 1) made here new

@@ -1,9 +1,10 @@
 //! One attempt of a request.
 ghost use Rattle.std.specs.Prelude.{◌≡◌, false};
+ghost use Rattle.structure_laws.specs.Cells.{slots};
 ghost use Rattle.lock_walks.specs.version_words.specs.RunnerState.{RunnerState};
 ghost use Rattle.lock_walks.specs.version_words.specs.TableState.{IsOf};
 ghost use Rattle.attempts.specs.Course.{MayAttempt, HasEntered};
-ghost use Rattle.attempts.specs.Attempts.{Attempts};
+ghost use Rattle.attempts.specs.Attempts.{most_of_attempt, Attempts};
 ghost use Rattle.attempts.specs.Rests.{Rests};
 
 use crate::answers::Attempt;
@@ -31,7 +32,7 @@ pub fn plan_and_try<S: Planner, G: Gate, L>(
     requires entered { (old : RunnerState S) × HasEntered (S.meaning table.now.structure) (S.planning table.now.structure) request.now old runner }
     ensures own { IsOf table.now result.0 }
     ensures rests { (old : RunnerState S) → HasEntered (S.meaning table.now.structure) (S.planning table.now.structure) request.now old runner
-        → Rests (S.meaning table.now.structure) (S.planning table.now.structure) request.now false result.1 old runner result.0 (G.halts gate.old) (G.halts gate.new) (G.asks gate.old) (G.asks gate.new) steps.old.count steps.new.count }
+        → Rests (S.meaning table.now.structure) (S.planning table.now.structure) request.now false (most_of_attempt (slots (S.meaning table.now.structure) table.now.layout)) result.1 old runner result.0 (G.halts gate.old) (G.halts gate.new) (G.asks gate.old) (G.asks gate.new) steps.old.count steps.new.count }
 {
     table_is_allowed(table);
     let (runner, planned) = table.structure().plan(table, runner, request, gate, steps);

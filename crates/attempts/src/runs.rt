@@ -5,6 +5,7 @@ ghost use Rattle.section_body.specs.declared.thunk.Thunk.{Thunk};
 ghost use Rattle.lock_walks.specs.version_words.specs.RunnerState.{RunnerState};
 ghost use Rattle.lock_walks.specs.version_words.specs.TableState.{IsOf};
 ghost use Rattle.attempts.specs.Course.{HasTried, HasEnded};
+ghost use Rattle.attempts.specs.Attempts.{most_of_run};
 ghost use Rattle.attempts.specs.Rests.{Rests};
 
 use crate::answers::Attempt;
@@ -33,7 +34,7 @@ pub fn conclude<S: Planner, G: Gate, L>(
     requires ended { (old : RunnerState S) × (thunk : Thunk) × (trail : Agreed) × HasEnded (S.meaning table.now.structure) (S.planning table.now.structure) request.now section thunk outcome trail old runner }
     ensures own { IsOf table.now result.0 }
     ensures rests { (old : RunnerState S) (thunk : Thunk) (trail : Agreed) → HasEnded (S.meaning table.now.structure) (S.planning table.now.structure) request.now section thunk outcome trail old runner
-        → Rests (S.meaning table.now.structure) (S.planning table.now.structure) request.now true result.1 old runner result.0 (G.halts gate.old) (G.halts gate.new) (G.asks gate.old) (G.asks gate.new) steps.old.count steps.new.count }
+        → Rests (S.meaning table.now.structure) (S.planning table.now.structure) request.now true 0 result.1 old runner result.0 (G.halts gate.old) (G.halts gate.new) (G.asks gate.old) (G.asks gate.new) steps.old.count steps.new.count }
 {
     table_is_allowed(table);
     let runner = retire_section(table, runner, section);
@@ -57,7 +58,7 @@ pub fn run_own<S: Planner, G: Gate, L>(
     requires tried { (old : RunnerState S) × (thunk : Thunk) × HasTried (S.meaning table.now.structure) (S.planning table.now.structure) request.now thunk (Ok section) old runner }
     ensures own { IsOf table.now result.0 }
     ensures rests { (old : RunnerState S) (thunk : Thunk) → HasTried (S.meaning table.now.structure) (S.planning table.now.structure) request.now thunk (Ok section) old runner
-        → Rests (S.meaning table.now.structure) (S.planning table.now.structure) request.now false result.1 old runner result.0 (G.halts gate.old) (G.halts gate.new) (G.asks gate.old) (G.asks gate.new) steps.old.count steps.new.count }
+        → Rests (S.meaning table.now.structure) (S.planning table.now.structure) request.now false most_of_run result.1 old runner result.0 (G.halts gate.old) (G.halts gate.new) (G.asks gate.old) (G.asks gate.new) steps.old.count steps.new.count }
 {
     table_is_allowed(table);
     if !goes_on(gate, StepKind::Hold) {

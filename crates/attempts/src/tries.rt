@@ -5,6 +5,7 @@ ghost use Rattle.lock_walks.specs.version_words.specs.RunnerState.{RunnerState};
 ghost use Rattle.lock_walks.specs.version_words.specs.TableState.{IsOf};
 ghost use Rattle.lock_walks.specs.try_lock.specs.declared.planned.Planned.TheVariants as plans;
 ghost use Rattle.attempts.specs.Course.{HasPlanned};
+ghost use Rattle.attempts.specs.Attempts.{most_of_run};
 ghost use Rattle.attempts.specs.Rests.{Rests};
 
 use crate::answers::Attempt;
@@ -31,7 +32,7 @@ pub fn try_section<S: Planner, G: Gate, L>(
     requires planned { (old : RunnerState S) × (readings : Readings) × HasPlanned (S.meaning table.now.structure) (S.planning table.now.structure) request.now readings (plans.Thunk thunk.now) old runner }
     ensures own { IsOf table.now result.0 }
     ensures rests { (old : RunnerState S) (readings : Readings) → HasPlanned (S.meaning table.now.structure) (S.planning table.now.structure) request.now readings (plans.Thunk thunk.now) old runner
-        → Rests (S.meaning table.now.structure) (S.planning table.now.structure) request.now false result.1 old runner result.0 (G.halts gate.old) (G.halts gate.new) (G.asks gate.old) (G.asks gate.new) steps.old.count steps.new.count }
+        → Rests (S.meaning table.now.structure) (S.planning table.now.structure) request.now false most_of_run result.1 old runner result.0 (G.halts gate.old) (G.halts gate.new) (G.asks gate.old) (G.asks gate.new) steps.old.count steps.new.count }
 {
     table_is_allowed(table);
     let (runner, published) = publish(table, runner, thunk);

@@ -11,6 +11,7 @@ use lock_walks::try_lock::{RunEnd, help};
 use lock_walks::version_words::{FlockTable, Runner, table_is_allowed};
 use runner_parts::Structure;
 use section_body::{Gate, Steps};
+use take_names::taken_names_stand;
 
 /// Leaves with this refusal, and answers it; where a lock was held, the section that its word names is run to its end
 /// first.
@@ -33,6 +34,7 @@ pub fn turn_away<S: Structure, G: Gate, L>(
 {
     table_is_allowed(table);
     names_stand(table.structure());
+    taken_names_stand(table.structure());
     if let Attempt::Busy { place: _, word } = answer {
         let (runner, end) = help(table, runner, word, gate, steps);
         match end {

@@ -5,6 +5,7 @@ use Rattle.std.proofs.Common.{◌≡◌, ◌≢◌, ℕ, zero, suc, ◌<◌, ◌
 use Rattle.std.specs.Prelude.{◌⊎◌}
 use Rattle.std.proofs.lemmas.Bool.{cases_eq}
 use Rattle.std.proofs.lemmas.Bool.Decides.{nat_tests}
+use Rattle.std.proofs.lemmas.Option.{none-some}
 use Rattle.table_words.specs.declared.spot.Spot.{Spot}
 use Rattle.table_words.specs.declared.spot.Spot.TheVariants.{Cell}
 use Rattle.runner_parts.specs.declared.entries.Left.{Left}
@@ -174,12 +175,9 @@ few_given f (suc n) ds apart given = by (f n) refl (few_given f n)
     some_same : (a b : ℕ) → Some a ≡ Some b → a ≡ b
     some_same a b e = grind arith
 
-    none_some : (a : ℕ) → None ≡ Some a → ⊥
-    none_some a e = cc
-
     by : (o : Option ℕ) → f n ≡ o → ((es : List ℕ) → AreApart es → ((d : ℕ) → has es d ≡ true → (r : ℕ) × (r < n) × (f r ≡ Some d)) → length es ≤ n) → length ds ≤ suc n
     by None is fewer = let rest = fewer ds apart (λ d h. let g = given d h in
-        (g.0, lower g.0 g.1 (λ same. none_some d (sym is ∙ ap f (sym same) ∙ g.2)), g.2)) in omega (arith, rest)
+        (g.0, lower g.0 g.1 (λ same. none-some d (sym is ∙ ap f (sym same) ∙ g.2)), g.2)) in omega (arith, rest)
     by (Some e) is fewer =
         let rest = fewer (remove e ds) (removed_apart e ds apart) (λ d h.
         let before = removed_has e ds d h in

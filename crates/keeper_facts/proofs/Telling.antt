@@ -37,18 +37,10 @@ use Rattle.runner_facts.specs.machine_invariant.specs.After.{AreAllowed}
 use Rattle.machine_facts.proofs.Following.{facts_after}
 use Rattle.runner_facts.specs.Facts.{JoinedAreGone}
 use Rattle.runner_facts.specs.Keeper.{AllJoined, KeeperStands}
-use Rattle.keeper_facts.specs.Freed.{HasLeft, IsCleared, IsFreed, AreApart, IsAlone, LocksTell}
+use Rattle.keeper_facts.specs.Freed.{HasLeft, IsCleared, IsFreed, IsPublished, AreApart, IsAlone, LocksTell}
 use Rattle.keeper_facts.proofs.Lists.{left_split, StandsLast, last_stands, few_given}
 use Rattle.keeper_facts.proofs.Runs.{IsIn}
 use Rattle.keeper_facts.proofs.Steps as steps
-
--- this worker has published a section in this descriptor, and not retired it
-pub record IsPublished (l : Layout) (s : Sight) (d : ℕ) : Type 0 where
-  pub worker : ℕ
-  pub low : worker < l.runners
-  pub section : Published
-  pub published : (s.part worker).published ≡ Some section
-  pub of_section : section.descriptor ≡ d
 
 -- what is kept along the events
 pub record Tells (m : Meaning) (l : Layout) (s : Sight) : Type 0 where
@@ -345,15 +337,19 @@ module _ (m : Meaning) (laws : Laws m) (l : Layout) (limits : IsWithinLimits l) 
         same : (z y : Published) → Some z ≡ Some y → z ≡ y
         same z y e = cc
 
+    owned_by : AllJoined l here → (d : ℕ) → IsFreed m seen d → IsPublished l here d
+    owned_by joined d f = all_tells.published joined f.place d f.word f.lock f.named f.names
+
     few_freed : AllJoined l here → (ds : List ℕ) → AreApart ds → ((d : ℕ) → has ds d ≡ true → IsFreed m seen d) → length ds ≤ l.runners
     few_freed joined ds apart each = few_given (λ r. descriptor_of (here.part r).published) l.runners ds apart
-        (λ d h. let f = each d h in let p = all_tells.published joined f.place d f.word f.lock f.named f.names in
+        (λ d h. let p = owned_by joined d (each d h) in
         (p.worker, p.low, some_of (here.part p.worker).published p.section d p.published p.of_section))
 
     pub locks_tell : LocksTell m l here
     locks_tell = record {
       freed = never;
       cleared = free;
+      owned = owned_by;
       few = few_freed;
       stands = λ joined place number is. let last = last_of joined place number is in record { number = last.number; has = last.has; is = last.is };
     }

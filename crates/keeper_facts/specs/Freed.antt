@@ -1,10 +1,11 @@
 -- What the keeper's record of its steps tells of the locks, once it has joined all workers.
-use Rattle.std.specs.Prelude.{◌≡◌, ◌≢◌, ◌⊎◌, ℕ, suc, ◌≤◌, List, [], ◌∷◌, true, false, length, slice_get, None, Some}
+use Rattle.std.specs.Prelude.{◌≡◌, ◌≢◌, ◌⊎◌, ℕ, suc, ◌<◌, ◌≤◌, List, [], ◌∷◌, true, false, length, slice_get, None, Some}
 use Rattle.section_body.specs.Word.{value_of}
 use Rattle.table_words.specs.declared.layout.Layout.{Layout}
 use Rattle.table_words.specs.declared.spot.Spot.TheVariants.{Cell}
 use Rattle.structure_laws.specs.Meaning.{Meaning}
 use Rattle.runner_parts.specs.declared.entries.Left.{Left}
+use Rattle.runner_parts.specs.declared.entries.Published.{Published}
 use Rattle.runner_parts.specs.Tests.{has}
 use Rattle.machine_states.specs.Sight.{Sight}
 use Rattle.runner_facts.specs.Keeper.{AllJoined}
@@ -36,6 +37,14 @@ pub record IsFreed (m : Meaning) (left : List Left) (d : ℕ) : Type 0 where
   pub also : HasLeft left place other
   pub differs : other ≢ word
 
+-- this worker has published a section in this descriptor, and not retired it
+pub record IsPublished (l : Layout) (s : Sight) (d : ℕ) : Type 0 where
+  pub worker : ℕ
+  pub low : worker < l.runners
+  pub section : Published
+  pub published : (s.part worker).published ≡ Some section
+  pub of_section : section.descriptor ≡ d
+
 -- no number comes twice
 abbrev pub AreApart : List ℕ → Type 0
 AreApart [] = Unit {0}
@@ -59,6 +68,8 @@ pub record LocksTell (m : Meaning) (l : Layout) (s : Sight) : Type 0 where
   -- a lock that was cleared names no section
   pub cleared : IsAlone l s → (place : ℕ) → IsCleared (s.part l.runners).records.left place → m.is_lock place ≡ true
       → value_of (s.word (Cell place)) ≡ 0
+  -- a section that was freed is one that a worker has published still
+  pub owned : AllJoined l s → (d : ℕ) → IsFreed m (s.part l.runners).records.left d → IsPublished l s d
   -- each worker left one section at most
   pub few : AllJoined l s → (ds : List ℕ) → AreApart ds
       → ((d : ℕ) → has ds d ≡ true → IsFreed m (s.part l.runners).records.left d) → length ds ≤ l.runners

@@ -1,6 +1,6 @@
 -- A list of requests, served one after the other.
 use Rattle.std.specs.Prelude.{◌==◌, ◌&&◌, ◌||◌, ◌⊎◌, nat_lt, ◌%◌, not, Bool, true, false, slice_get}
-use Rattle.std.proofs.Common.{◌≡◌, ◌≢◌, ℕ, ◌+◌, ◌<◌, List, length, refl, sym, ap, ◌∙◌, subst, ⊎_elim, inl, inr, arith, Some, None}
+use Rattle.std.proofs.Common.{◌≡◌, ◌≢◌, ℕ, ◌+◌, ◌<◌, ◌≤◌, List, length, refl, sym, ap, ◌∙◌, subst, ⊎_elim, inl, inr, arith, Some, None}
 use Rattle.std.proofs.lemmas.Bool.{cases_eq, eq-eqb}
 use Rattle.std.proofs.lemmas.Bool.Decides.{nat_tests}
 use Rattle.std.proofs.lemmas.Option.{slice_get_within}
@@ -21,6 +21,7 @@ use Rattle.attempts.specs.epoch_slots.specs.declared.reserves.Short.{Short}
 use Rattle.attempts.specs.try_lock.specs.Planning.{Planning}
 use Rattle.attempts.specs.try_lock.specs.Reached.{IsReached}
 use Rattle.attempts.specs.request_facts.specs.Laws.{HasEntry}
+use Rattle.attempts.specs.try_lock.specs.commit_log.specs.Asked.{counted_on}
 use Rattle.attempts.specs.Knowing.{KnowsMore, IsOwn}
 use Rattle.attempts.specs.Course.{MayAttempt}
 use Rattle.attempts.specs.Attempts.{IsServed, IsShort, IsTurnedAway, IsHalted, Answers}
@@ -29,9 +30,10 @@ use Rattle.attempts.specs.declared.answers.Attempt.TheVariants as attempts
 use Rattle.attempts.proofs.Knowing.{knows_same, knows_on, own_on}
 use Rattle.serving.specs.declared.answers.Served.{Served}
 use Rattle.serving.specs.declared.answers.Served.TheVariants as answers
-use Rattle.serving.specs.Serving.{is_tried_again, stop_of, IsBefore, MayServe, AreServed, Persists, Serves}
+use Rattle.serving.specs.Serving.{is_tried_again, stop_of, IsBefore, TriedRuns, ServedRuns, WasCrossed, TriesBriefly, ServesBriefly, MayServe, AreServed, Persists, Serves}
 use Rattle.serving.proofs.Lists.{and_true, all_pass, where_held, numbered, entry_known}
 use Rattle.serving.proofs.Standing.{entry_on, answered_more, stamp_of, one_stamp}
+use Rattle.serving.proofs.Briefly.{IsBriefSoFar, served_on, stopped_on, ended_brief}
 use Rattle.serving.proofs.Trying.{next_of_parts, same_layout, same_requests}
 
 module _ {T : Type 0} where
@@ -113,7 +115,8 @@ module _ {T : Type 0} where
 module _ {T : Type 0} (m : Meaning) (laws : Laws m) (planning : Planning) (requests : List Request) (retry_short : Bool) (old r new : RunnerState T)
     (t : TableState T) (limits : IsWithinLimits t.layout) (allowed : AreAllowed t.requests) (of_old : IsOf t old) (of_r : IsOf t r) (of_new : IsOf t new)
     (may : MayServe planning requests old) (i : ℕ) (q : Request) (at : slice_get requests i ≡ Some q) (along : IsAlong requests i old r)
-    (answer : Attempt) (persists : Persists m planning retry_short q answer r new) where
+    (answer : Attempt) (asks asks1 asks2 : ℕ) (persists : Persists m planning retry_short q answer r new asks1 asks2)
+    (so_far : WasCrossed m planning old ⊎ IsBriefSoFar m i old r asks asks1) where
   limits_new : IsWithinLimits new.layout
   limits_new = subst IsWithinLimits (sym of_new.layout) limits
 
@@ -221,9 +224,21 @@ module _ {T : Type 0} (m : Meaning) (laws : Laws m) (planning : Planning) (reque
   over_of false limbo e = inl refl
   over_of true limbo e = inr (grind (arith, nat_tests, e))
 
-  serves_short : (short : Short) → is_tried_again retry_short (attempts.Short short) ≡ false → IsShort m short q.number persists.before new
-      → Serves m planning retry_short requests (answers.Short short) old new
-  serves_short short last is = record {
+  abbrev Briefly : Served → Type 0
+  Briefly stopped = WasCrossed m planning old ⊎ ServesBriefly m stopped i old new asks asks2
+
+  stopped_brief : (a : Attempt) (stopped : Served)
+      → ((start before behind : ℕ) → before ≡ start + i → TriedRuns a before behind → ServedRuns stopped i start behind)
+      → WasCrossed m planning r ⊎ TriesBriefly m a r new asks1 asks2 → Briefly stopped
+  stopped_brief a stopped runs tried = stopped_on m planning old r new (same_layout t old r of_old of_r) (same_requests t old r of_old of_r)
+      asks asks1 asks2 i so_far a stopped runs tried
+
+  one_behind : (start before behind : ℕ) → before ≡ start + i → behind ≤ before + 1 → behind ≤ start + (i + 1)
+  one_behind start before behind at runs = omega (arith, at, runs)
+
+  serves_short : (short : Short) → Briefly (answers.Short short) → is_tried_again retry_short (attempts.Short short) ≡ false → IsShort m short q.number persists.before new
+      → Serves m planning retry_short requests (answers.Short short) old new asks asks2
+  serves_short short brief last is = record {
     count = i;
     served = stays is.untouched.reached;
     ends = (
@@ -239,11 +254,12 @@ module _ {T : Type 0} (m : Meaning) (laws : Laws m) (planning : Planning) (reque
     );
     knows = knows_all;
     others = others_all;
+    brief = brief;
   }
 
-  serves_spent : (place word : ℕ) → IsTurnedAway m planning q (attempts.Spent place word) persists.before new
-      → Serves m planning retry_short requests (answers.Spent place word) old new
-  serves_spent place word is = record {
+  serves_spent : (place word : ℕ) → Briefly (answers.Spent place word) → IsTurnedAway m planning q (attempts.Spent place word) persists.before new
+      → Serves m planning retry_short requests (answers.Spent place word) old new asks asks2
+  serves_spent place word brief is = record {
     count = i;
     served = stays is.untouched.reached;
     ends = (
@@ -259,10 +275,12 @@ module _ {T : Type 0} (m : Meaning) (laws : Laws m) (planning : Planning) (reque
     );
     knows = knows_all;
     others = others_all;
+    brief = brief;
   }
 
-  serves_halted : IsHalted m planning q persists.before new → Serves m planning retry_short requests answers.Halted old new
-  serves_halted is = record {
+  serves_halted : Briefly answers.Halted → IsHalted m planning q persists.before new
+      → Serves m planning retry_short requests answers.Halted old new asks asks2
+  serves_halted brief is = record {
     count = i;
     served = stays is.reached;
     ends = record {
@@ -271,23 +289,33 @@ module _ {T : Type 0} (m : Meaning) (laws : Laws m) (planning : Planning) (reque
     };
     knows = knows_all;
     others = others_all;
+    brief = brief;
   }
 
   serves_stopped : (a : Attempt) (stopped : Served) → stop_of a ≡ Some stopped → is_tried_again retry_short a ≡ false
-      → Answers m planning q a persists.before new → Serves m planning retry_short requests stopped old new
-  serves_stopped (attempts.Short short) stopped e last is =
-      subst (λ s. Serves m planning retry_short requests s old new) (some_same (answers.Short short) stopped e) (serves_short short last is)
-  serves_stopped (attempts.Spent place word) stopped e last is =
-      subst (λ s. Serves m planning retry_short requests s old new) (some_same (answers.Spent place word) stopped e) (serves_spent place word is)
-  serves_stopped attempts.Halted stopped e last is =
-      subst (λ s. Serves m planning retry_short requests s old new) (some_same answers.Halted stopped e) (serves_halted is)
-  serves_stopped (attempts.Done reply stamp) stopped e last is = absurd (none_some stopped (sym e))
-  serves_stopped (attempts.Busy place word) stopped e last is = absurd (let z = last in cc)
-  serves_stopped (attempts.Stale place expected read) stopped e last is = absurd (let z = last in cc)
-  serves_stopped (attempts.Far loads) stopped e last is = absurd (let z = last in cc)
+      → WasCrossed m planning r ⊎ TriesBriefly m a r new asks1 asks2
+      → Answers m planning q a persists.before new → Serves m planning retry_short requests stopped old new asks asks2
+  serves_stopped (attempts.Short short) stopped e last tried is =
+      subst (λ s. Serves m planning retry_short requests s old new asks asks2) (some_same (answers.Short short) stopped e)
+      (serves_short short (stopped_brief (attempts.Short short) (answers.Short short) (λ start before behind at runs. runs ∙ at) tried) last is)
+  serves_stopped (attempts.Spent place word) stopped e last tried is =
+      subst (λ s. Serves m planning retry_short requests s old new asks asks2) (some_same (answers.Spent place word) stopped e)
+      (serves_spent place word (stopped_brief (attempts.Spent place word) (answers.Spent place word) one_behind tried) is)
+  serves_stopped attempts.Halted stopped e last tried is =
+      subst (λ s. Serves m planning retry_short requests s old new asks asks2) (some_same answers.Halted stopped e)
+      (serves_halted (stopped_brief attempts.Halted answers.Halted one_behind tried) is)
+  serves_stopped (attempts.Done reply stamp) stopped e last tried is = absurd (none_some stopped (sym e))
+  serves_stopped (attempts.Busy place word) stopped e last tried is = absurd (let z = last in cc)
+  serves_stopped (attempts.Stale place expected read) stopped e last tried is = absurd (let z = last in cc)
+  serves_stopped (attempts.Far loads) stopped e last tried is = absurd (let z = last in cc)
 
-  pub stopped_serves : (stopped : Served) → stop_of answer ≡ Some stopped → Serves m planning retry_short requests stopped old new
-  stopped_serves stopped e = serves_stopped answer stopped e persists.last persists.answers
+  pub stopped_serves : (stopped : Served) → stop_of answer ≡ Some stopped → Serves m planning retry_short requests stopped old new asks asks2
+  stopped_serves stopped e = serves_stopped answer stopped e persists.last persists.brief persists.answers
+
+  -- behind the ask that follows a served request
+  pub brief_along : stop_of answer ≡ None → (asks3 : ℕ) → asks3 ≡ counted_on asks2 1 → WasCrossed m planning old ⊎ IsBriefSoFar m (i + 1) old new asks asks3
+  brief_along e asks3 asked = served_on m planning old r new (same_layout t old r of_old of_r) (same_requests t old r of_old of_r) asks asks1 asks2 i so_far
+      answer e persists.brief asks3 asked
 
   going_on : (a : Attempt) → stop_of a ≡ None → Answers m planning q a persists.before new → IsAlong requests (i + 1) old new
   going_on (attempts.Done reply stamp) e is = along_on reply stamp is
@@ -303,8 +331,8 @@ module _ {T : Type 0} (m : Meaning) (laws : Laws m) (planning : Planning) (reque
 
 -- how the serving ends behind requests that are served
 module _ {T : Type 0} (m : Meaning) (planning : Planning) (requests : List Request) (retry_short : Bool) (old new : RunnerState T) (i : ℕ)
-    (along : IsAlong requests i old new) where
-  pub halted_behind : Serves m planning retry_short requests answers.Halted old new
+    (along : IsAlong requests i old new) (asks asks' : ℕ) (so_far : WasCrossed m planning old ⊎ IsBriefSoFar m i old new asks asks') where
+  pub halted_behind : Serves m planning retry_short requests answers.Halted old new asks asks'
   halted_behind = record {
     count = i;
     served = along.served;
@@ -314,15 +342,17 @@ module _ {T : Type 0} (m : Meaning) (planning : Planning) (requests : List Reque
     };
     knows = along.knows;
     others = along.others;
+    brief = ended_brief m planning i old new asks asks' answers.Halted (λ start behind runs. let low : behind ≤ start + (i + 1) = omega (arith, runs) in low) so_far;
   }
 
-  pub all_served : i ≡ length requests → Serves m planning retry_short requests answers.All old new
+  pub all_served : i ≡ length requests → Serves m planning retry_short requests answers.All old new asks asks'
   all_served e = record {
     count = i;
     served = along.served;
     ends = (e, along.tidy);
     knows = along.knows;
     others = along.others;
+    brief = ended_brief m planning i old new asks asks' answers.All (λ start behind runs. runs) so_far;
   }
 
 -- when a last attempt was halted

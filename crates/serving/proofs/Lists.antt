@@ -2,7 +2,7 @@
 use Rattle.std.specs.Prelude.{◌==◌, ◌&&◌, ◌||◌, cond, not, Bool, true, false, map, slice_get}
 use Rattle.std.specs.List.{list_all, range_with_len}
 use Rattle.std.proofs.Common.{◌≡◌, ℕ, zero, suc, ◌+◌, ◌<◌, List, [], ◌∷◌, length, refl, sym, ap, ◌∙◌, subst, arith, Some, option_map}
-use Rattle.std.proofs.lemmas.Bool.{eq-eqb}
+use Rattle.std.proofs.lemmas.Bool.{eq-eqb, and_parts}
 use Rattle.std.proofs.lemmas.Option.{slice_get-map, slice_get_within, slice_get-get_or}
 use Rattle.std.proofs.lemmas.List.FromFn.{get_or-range_with_len, length-range_with_len}
 use Rattle.map_history.specs.declared.op.Request.{Request}
@@ -19,14 +19,10 @@ pub all_pass : {X : Type 0} (test : X → Bool) (xs : List X) → ((i : ℕ) (x 
 all_pass test [] each = refl
 all_pass test (x ∷ xs) each = and_true (test x) (list_all test xs) (each 0 x refl) (all_pass test xs (λ i y at. each (suc i) y at))
 
-both : (a b : Bool) → (a && b) ≡ true → (a ≡ true) × (b ≡ true)
-both true b e = (refl, e)
-both false b e = absurd (let z = e in cc)
-
 -- what passes a test that is weaker everywhere
 pub all_weaker : {X : Type 0} (test weaker : X → Bool) → ((x : X) → test x ≡ true → weaker x ≡ true) → (xs : List X) → list_all test xs ≡ true → list_all weaker xs ≡ true
 all_weaker test weaker more [] e = refl
-all_weaker test weaker more (x ∷ xs) e = let two = both (test x) (list_all test xs) e in
+all_weaker test weaker more (x ∷ xs) e = let two = and_parts (test x) (list_all test xs) e in
     and_true (weaker x) (list_all weaker xs) (more x two.0) (all_weaker test weaker more xs two.1)
 
 -- a test that holds where a premise does

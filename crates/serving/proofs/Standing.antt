@@ -1,6 +1,7 @@
 -- What a runner knows of stamps, in a state that the machine reaches.
-use Rattle.std.specs.Prelude.{◌&&◌, Bool, true, false, slice_get}
+use Rattle.std.specs.Prelude.{true, false, slice_get}
 use Rattle.std.proofs.Common.{◌≡◌, ℕ, List, refl, sym, ap, ◌∙◌}
+use Rattle.std.proofs.lemmas.Bool.{and_parts}
 use Rattle.table_words.specs.Limits.{IsWithinLimits}
 use Rattle.structure_laws.specs.Meaning.{Meaning}
 use Rattle.structure_laws.specs.Laws.{Laws}
@@ -19,10 +20,6 @@ use Rattle.attempts.specs.request_facts.specs.Laws.{HasEntry}
 use Rattle.attempts.specs.Knowing.{IsFront}
 use Rattle.attempts.proofs.Knowing.{front_entry, answered_on}
 
-both : (a b : Bool) → (a && b) ≡ true → (a ≡ true) × (b ≡ true)
-both true b e = (refl, e)
-both false b e = absurd (let z = e in cc)
-
 -- an entry of what was known is one of what is known
 pub entry_on : (known more : List Known) → IsFront known more → (x : Known) → HasEntry known x → HasEntry more x
 entry_on known more front x h = (h.0, front_entry known more h.0 x front h.1)
@@ -31,10 +28,10 @@ entry_on known more front x h = (h.0, front_entry known more h.0 x front h.1)
 pub answered_more : (known more : List Known) → IsFront known more → (n : ℕ) → is_answered known n ≡ true → is_answered more n ≡ true
 answered_more known more front n e = ap (λ xs. is_answered xs n) front.parts ∙ answered_on known front.back n e
 
--- who knows both words of a request knows a stamp of it
+-- who knows and_parts words of a request knows a stamp of it
 pub stamp_of : (known : List Known) (n : ℕ) → is_answered known n ≡ true
     → (x : Known) × HasEntry known x × (x.request ≡ n) × (x.reply ≡ false)
-stamp_of known n e = let h = entry_of known n false (both _ _ e).0 in (h.entry, (h.place, h.at), h.request, h.is)
+stamp_of known n e = let h = entry_of known n false (and_parts _ _ e).0 in (h.entry, (h.place, h.at), h.request, h.is)
 
 module _ {T : Type 0} (m : Meaning) (laws : Laws m) (r : RunnerState T) (limits : IsWithinLimits r.layout) (allowed : AreAllowed r.requests)
     (reached : IsReached m r) where

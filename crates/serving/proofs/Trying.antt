@@ -1,6 +1,6 @@
 -- A request that is attempted again.
-use Rattle.std.specs.Prelude.{◌==◌, ◌&&◌, ◌||◌, not, nat_lt, ◌%◌, Bool, true, false, slice_get}
-use Rattle.std.proofs.Common.{◌≡◌, ℕ, List, refl, sym, ap, ◌∙◌}
+use Rattle.std.specs.Prelude.{◌==◌, ◌&&◌, ◌||◌, ◌⊎◌, not, nat_lt, ◌%◌, Bool, true, false, slice_get}
+use Rattle.std.proofs.Common.{◌≡◌, ℕ, List, refl, sym, ap, ◌∙◌, inr}
 use Rattle.map_history.specs.declared.op.Request.{Request}
 use Rattle.structure_laws.specs.Meaning.{Meaning}
 use Rattle.runner_parts.specs.Tests.{is_answered, are_answered}
@@ -14,9 +14,10 @@ use Rattle.attempts.specs.Attempts.{is_halted, Answers, Attempts}
 use Rattle.attempts.specs.declared.answers.Attempt.{Attempt}
 use Rattle.attempts.specs.declared.answers.Attempt.TheVariants as attempts
 use Rattle.attempts.proofs.Knowing.{knows_on, knows_same, no_other_on}
-use Rattle.serving.specs.Serving.{is_tried_again, Persists}
+use Rattle.serving.specs.Serving.{is_tried_again, WasCrossed, Persists}
 use Rattle.serving.proofs.Lists.{all_weaker, held_more}
 use Rattle.serving.proofs.Standing.{answered_more}
+use Rattle.serving.proofs.Briefly.{IsQuiet, again_quiet, last_brief, quiet_on, tried_on}
 
 next_parts : (a b c : Bool) → (a && (not b && c)) ≡ true → (a ≡ true) × (b ≡ false) × (c ≡ true)
 next_parts true false true e = (refl, refl, refl)
@@ -63,19 +64,21 @@ pub same_requests : {T : Type 0} (t : TableState T) (old new : RunnerState T) �
 same_requests t old new one two = two.requests ∙ sym one.requests
 
 -- the attempts so far, after each of which the request was attempted again
-pub record IsTrying {T : Type 0} (planning : Planning) (request : Request) (old r : RunnerState T) (halts halts' : ℕ) : Type 0 where
+pub record IsTrying {T : Type 0} (m : Meaning) (planning : Planning) (request : Request) (old r : RunnerState T) (halts halts' asks asks' : ℕ) : Type 0 where
   pub may : MayAttempt planning request r
   pub knows : KnowsMore old r
   pub no_other : LearnsNoOther request.number old r
   pub went : halts' ≡ halts
+  pub quiet : WasCrossed m planning old ⊎ IsQuiet old r asks asks'
 
-pub trying_begins : {T : Type 0} (planning : Planning) (request : Request) (r : RunnerState T) (halts : ℕ) → MayAttempt planning request r
-    → IsTrying planning request r r halts halts
-trying_begins planning request r halts may = record {
+pub trying_begins : {T : Type 0} (m : Meaning) (planning : Planning) (request : Request) (r : RunnerState T) (halts asks : ℕ)
+    → MayAttempt planning request r → IsTrying m planning request r r halts halts asks asks
+trying_begins m planning request r halts asks may = record {
   may = may;
   knows = knows_same r r refl refl refl;
   no_other = λ q own ne. refl;
   went = refl;
+  quiet = inr (record { runs = refl; asked = refl });
 }
 
 -- an answer after which the request is attempted again leaves the runner idle, and the request unserved
@@ -101,8 +104,8 @@ module _ {T : Type 0} (m : Meaning) (planning : Planning) (request : Request) (r
 
 module _ {T : Type 0} (m : Meaning) (planning : Planning) (request : Request) (retry_short : Bool) (t : TableState T)
     (old r new : RunnerState T) (of_r : IsOf t r) (of_old : IsOf t old) (of_new : IsOf t new) (answer : Attempt)
-    (halts halts' halts'' asks asks' steps steps' : ℕ) (trying : IsTrying planning request old r halts halts')
-    (attempted : Attempts m planning request answer r new halts' halts'' asks asks' steps steps') where
+    (halts halts' halts'' asks asks' asks'' steps steps' : ℕ) (trying : IsTrying m planning request old r halts halts' asks asks')
+    (attempted : Attempts m planning request answer r new halts' halts'' asks' asks'' steps steps') where
   knows_all : KnowsMore old new
   knows_all = knows_on old r new trying.knows attempted.knows
 
@@ -111,16 +114,18 @@ module _ {T : Type 0} (m : Meaning) (planning : Planning) (request : Request) (r
       trying.no_other attempted.no_other
 
   -- it is attempted once more
-  pub trying_on : is_tried_again retry_short answer ≡ true → IsTrying planning request old new halts halts''
+  pub trying_on : is_tried_again retry_short answer ≡ true → IsTrying m planning request old new halts halts'' asks asks''
   trying_on again = let now = again_open m planning request retry_short r new answer again attempted.answers in record {
     may = may_again planning request r new trying.may attempted.knows (same_layout t r new of_r of_new) (same_requests t r new of_r of_new) now.0 now.1;
     knows = knows_all;
     no_other = no_other_all;
     went = attempted.asked.went (again_going m planning request retry_short r new answer again) ∙ trying.went;
+    quiet = quiet_on m planning old r new (same_layout t old r of_old of_r) (same_requests t old r of_old of_r) asks asks' asks'' trying.quiet
+        (again_quiet m planning request answer r new halts' halts'' asks' asks'' steps steps' attempted retry_short again);
   }
 
   -- or this was the last attempt
-  pub trying_ends : is_tried_again retry_short answer ≡ false → Persists m planning retry_short request answer old new
+  pub trying_ends : is_tried_again retry_short answer ≡ false → Persists m planning retry_short request answer old new asks asks''
   trying_ends last = record {
     before = r;
     may = trying.may;
@@ -129,4 +134,6 @@ module _ {T : Type 0} (m : Meaning) (planning : Planning) (request : Request) (r
     knew = trying.knows;
     knows = knows_all;
     no_other = no_other_all;
+    brief = tried_on m planning old r new (same_layout t old r of_old of_r) (same_requests t old r of_old of_r) asks asks' asks'' answer trying.quiet
+        (last_brief m planning request answer r new halts' halts'' asks' asks'' steps steps' attempted);
   }

@@ -1,7 +1,8 @@
 -- The serving of a list of requests: what may be served, and what each answer says.
-use Rattle.std.specs.Prelude.{◌≡◌, ◌≢◌, ℕ, ◌<◌, ◌≤◌, ◌⊎◌, List, length, Bool, true, false, not, ◌==◌, ◌&&◌, Option, None, Some, slice_get}
+use Rattle.std.specs.Prelude.{◌≡◌, ◌≢◌, ℕ, ◌+◌, ◌*◌, ◌<◌, ◌≤◌, ◌⊎◌, List, length, Bool, true, false, not, ◌==◌, ◌&&◌, Option, None, Some, slice_get}
 use Rattle.map_history.specs.declared.op.Request.{Request}
 use Rattle.structure_laws.specs.Meaning.{Meaning}
+use Rattle.structure_laws.specs.Cells.{slots}
 use Rattle.runner_parts.specs.declared.entries.Known.{Known}
 use Rattle.runner_parts.specs.declared.entries.Published.{Published}
 use Rattle.runner_parts.specs.Tests.{is_answered}
@@ -11,8 +12,8 @@ use Rattle.attempts.specs.epoch_slots.specs.declared.reserves.Short.{Short}
 use Rattle.attempts.specs.try_lock.specs.Planning.{Planning}
 use Rattle.attempts.specs.request_facts.specs.Laws.{HasEntry}
 use Rattle.attempts.specs.Knowing.{KnowsMore, IsOwn, LearnsNoOther}
-use Rattle.attempts.specs.Course.{MayAttempt}
-use Rattle.attempts.specs.Attempts.{IsShort, IsTurnedAway, Answers}
+use Rattle.attempts.specs.Course.{MayAttempt, IsRefused}
+use Rattle.attempts.specs.Attempts.{most_of_attempt, IsShort, IsTurnedAway, Answers}
 use Rattle.attempts.specs.declared.answers.Attempt.{Attempt}
 use Rattle.attempts.specs.declared.answers.Attempt.TheVariants as attempts
 use Rattle.serving.specs.declared.answers.Served.{Served}
@@ -26,6 +27,33 @@ is_tried_again retry_short (attempts.Stale place expected read) = true
 is_tried_again retry_short (attempts.Far loads) = true
 is_tried_again retry_short (attempts.Short short) = retry_short && not (short.limbo == 0)
 is_tried_again retry_short _ = false
+
+-- whether an attempt with this answer was refused since another one came between: it held a lock, or changed
+-- what the plan had read, or what the walk went along
+abbrev pub is_crossed : Attempt → Bool
+is_crossed (attempts.Busy place word) = true
+is_crossed (attempts.Stale place expected read) = true
+is_crossed (attempts.Far loads) = true
+is_crossed _ = false
+
+-- how many runs came to their end, so many before and so many behind it, in a call whose last attempt answered
+-- so, where no other one came between
+abbrev pub TriedRuns : Attempt → ℕ → ℕ → Type 0
+TriedRuns (attempts.Done reply stamp) before behind = behind ≡ before + 1
+TriedRuns (attempts.Short short) before behind = behind ≡ before
+TriedRuns _ before behind = behind ≤ before + 1
+
+-- and in the serving of a list, where so many requests were served
+abbrev pub ServedRuns : Served → ℕ → ℕ → ℕ → Type 0
+ServedRuns answers.All count before behind = behind ≡ before + count
+ServedRuns (answers.Short short) count before behind = behind ≡ before + count
+ServedRuns _ count before behind = behind ≤ before + (count + 1)
+
+-- the asks for one request, where there are so many node slots and no other one comes between: behind the entry,
+-- behind the exchange that publishes, behind each counted step of the attempt, and once more where the request
+-- is served
+abbrev pub most_asks : ℕ → ℕ
+most_asks count = most_of_attempt count + 3
 
 -- what the serving stops with at this answer of a last attempt; none where the request is served
 abbrev pub stop_of : Attempt → Option Served
@@ -73,10 +101,34 @@ module _ {T : Type 0} where
     pub unanswered : r.part.published ≡ None → (q : Request) → slice_get requests count ≡ Some q
         → is_answered r.part.records.known q.number ≡ false
 
+  -- an attempt on this table was refused since another one came between
+  pub record WasCrossed (m : Meaning) (planning : Planning) (r : RunnerState T) : Type 0 where
+    pub request : Request
+    pub answer : Attempt
+    pub before : RunnerState T
+    pub cut : RunnerState T
+    pub layout : before.layout ≡ r.layout
+    pub requests : before.requests ≡ r.requests
+    pub refused : IsRefused m planning request answer before cut
+    pub crossed : is_crossed answer ≡ true
+
+  -- so many runs, and at most so many asks, of attempts of one request
+  pub record TriesBriefly (m : Meaning) (answer : Attempt) (old new : RunnerState T)
+      (asks asks' : ℕ) : Type 0 where
+    pub runs : TriedRuns answer (length old.part.records.finished) (length new.part.records.finished)
+    pub asked : asks' + 1 ≤ asks + most_asks (slots m old.layout)
+
+  -- so many runs, and at most so many asks, of the serving of a list
+  pub record ServesBriefly (m : Meaning) (answer : Served) (count : ℕ) (old new : RunnerState T)
+      (asks asks' : ℕ) : Type 0 where
+    pub runs : ServedRuns answer count (length old.part.records.finished) (length new.part.records.finished)
+    pub asked : asks' ≤ asks + (count + 1) * most_asks (slots m old.layout)
+
   module _ (m : Meaning) (planning : Planning) (retry_short : Bool) where
     -- the request was attempted until this answer, after which it isn't attempted again. Before the last attempt the
     -- runner was as `before` says
-    pub record Persists (request : Request) (answer : Attempt) (old new : RunnerState T) : Type 0 where
+    pub record Persists (request : Request) (answer : Attempt) (old new : RunnerState T)
+        (asks asks' : ℕ) : Type 0 where
       pub before : RunnerState T
       pub may : MayAttempt planning request before
       pub answers : Answers m planning request answer before new
@@ -84,6 +136,7 @@ module _ {T : Type 0} where
       pub knew : KnowsMore old before
       pub knows : KnowsMore old new
       pub no_other : LearnsNoOther request.number old new
+      pub brief : WasCrossed m planning old ⊎ TriesBriefly m answer old new asks asks'
 
     -- too few slots were free at the last attempt, and such a want isn't waited out, or no slot of the kind is in limbo
     pub record StopsShort (short : Short) (request : Request) (old new : RunnerState T) : Type 0 where
@@ -113,7 +166,8 @@ module _ {T : Type 0} where
         × HasStopped answer q old new
 
     -- what the serving of these requests does
-    pub record Serves (requests : List Request) (answer : Served) (old new : RunnerState T) : Type 0 where
+    pub record Serves (requests : List Request) (answer : Served) (old new : RunnerState T)
+        (asks asks' : ℕ) : Type 0 where
       pub count : ℕ
       pub served : AreServed requests count new
       pub ends : Ends requests answer count old new
@@ -121,3 +175,6 @@ module _ {T : Type 0} where
       -- its other own requests are as they were
       pub others : (q : Request) → IsOwn old q → ((i : ℕ) → slice_get requests i ≢ Some q)
           → is_answered new.part.records.known q.number ≡ is_answered old.part.records.known q.number
+      -- where no attempt was refused since another one came between, so many runs came to their end, and the gate
+      -- was asked at most so often. The numbers are the gate's asks, before and after
+      pub brief : WasCrossed m planning old ⊎ ServesBriefly m answer count old new asks asks'

@@ -1,8 +1,8 @@
 -- One lock is loaded, and the section that it names is run.
 use Rattle.std.specs.Prelude.{◌==◌, ◌&&◌, ◌||◌, ◌/◌, count_by, slice_get, nat_lt, Bool, true, false, if◌then◌else◌}
-use Rattle.std.proofs.Common.{◌≡◌, ◌≢◌, ℕ, suc, ◌+◌, ◌*◌, ◌-◌, ◌<◌, ◌≤◌, List, [], ◌∷◌, ◌++◌, length, ⊎_elim, inl, inr, sym, refl, ap, ◌∙◌, subst, arith, Option, Some, None}
+use Rattle.std.proofs.Common.{◌≡◌, ◌≢◌, ℕ, suc, ◌+◌, ◌*◌, ◌-◌, ◌<◌, ◌≤◌, List, [], ◌∷◌, ◌++◌, length, length-append, ⊎_elim, inl, inr, sym, refl, ap, ◌∙◌, subst, arith, Option, Some, None}
 use Rattle.std.specs.Prelude.{◌⊎◌}
-use Rattle.std.proofs.lemmas.Bool.{cases_lt}
+use Rattle.std.proofs.lemmas.Bool.{cases_lt, both_ways}
 use Rattle.std.proofs.lemmas.Bool.Decides.{nat_tests}
 use Rattle.section_body.specs.Shape.{is_make}
 use Rattle.section_body.specs.Word.{value_of, is_free}
@@ -76,7 +76,7 @@ cleared_in old new front place is = record {
   why = is.why;
 }
 
-freed_in : (m : Meaning) (old new : List Left) → IsFront old new → (d : ℕ) → IsFreed m old d → IsFreed m new d
+pub freed_in : (m : Meaning) (old new : List Left) → IsFront old new → (d : ℕ) → IsFreed m old d → IsFreed m new d
 freed_in m old new front d is = record {
   place = is.place;
   lock = is.lock;
@@ -95,17 +95,37 @@ keeps_on a b c one two = record {
   joined = two.joined ∙ one.joined;
   told = two.told ∙ one.told;
   known = front_on a.part.records.known b.part.records.known c.part.records.known one.known two.known;
+  more = let first = one.more in let second = two.more in omega (arith, first, second);
+  quiet = λ same. let first = one.more in let second = two.more in
+      two.quiet (omega (arith, first, second, same)) ∙ one.quiet (omega (arith, first, second, same));
 }
 
 pub keeps_same : {T : Type 0} (r : RunnerState T) → KeepsJoins r r
-keeps_same r = record { layout = refl; number = refl; joined = refl; told = refl; known = front_same r.part.records.known r.part.records.known refl }
+keeps_same r = record {
+  layout = refl;
+  number = refl;
+  joined = refl;
+  told = refl;
+  known = front_same r.part.records.known r.part.records.known refl;
+  more = omega arith;
+  quiet = λ same. refl;
+}
 
-pub keeps_grown : {T : Type 0} (a b : RunnerState T) → Grows a b → IsFront a.part.records.known b.part.records.known → KeepsJoins a b
-keeps_grown a b grows known = record { layout = grows.layout; number = grows.number; joined = grows.joined; told = grows.told; known = known }
+-- where no run came to its end
+pub keeps_grown : {T : Type 0} (a b : RunnerState T) → Grows a b → KeepsOwn a b → KeepsJoins a b
+keeps_grown a b grows own = record {
+  layout = grows.layout;
+  number = grows.number;
+  joined = grows.joined;
+  told = grows.told;
+  known = front_same a.part.records.known b.part.records.known own.known;
+  more = let same = ap length own.finished in omega (arith, same);
+  quiet = λ same. own.nodes;
+}
 
 -- a place that is no lock
-pub skips : {T : Type 0} (m : Meaning) (place : ℕ) (r : RunnerState T) → m.is_lock place ≡ false → IsClearing m place r → IsClearing m (place + 1) r
-skips m place r other is = record {
+pub skips : {T : Type 0} (m : Meaning) (begun place : ℕ) (r : RunnerState T) → m.is_lock place ≡ false → IsClearing m begun place r → IsClearing m begun (place + 1) r
+skips m begun place r other is = record {
   epoch = is.epoch;
   at = is.at;
   keeper = is.keeper;
@@ -116,16 +136,14 @@ skips m place r other is = record {
   loaded = is.loaded;
   cleared = λ p low lock. ⊎_elim
       (λ before. is.cleared p before lock)
-      (λ same. absurd (not_both lock (ap m.is_lock same ∙ other)))
+      (λ same. absurd (both_ways _ (ap m.is_lock same ∙ other) lock))
       (old_or_this p place low);
   freed = is.freed;
   apart = is.apart;
   each = is.each;
   reserve = is.reserve;
+  runs = is.runs;
 }
-  where
-    not_both : {b : Bool} → b ≡ true → b ≡ false → ⊥
-    not_both one two = let z = sym one ∙ two in cc
 
 -- a word that isn't free names a descriptor
 names_one : (word : ℕ) → value_of word ≢ 0 → value_of word ≡ suc (value_of word - 1)
@@ -148,7 +166,7 @@ module _ {T : Type 0} (m : Meaning) (laws : Laws m) (t : TableState T) (limits :
     pub few : AreAllowed r.requests
     few = subst AreAllowed (sym own.requests) allowed
 
-  module _ (place : ℕ) (lock : m.is_lock place ≡ true) (r : RunnerState T) (own : IsOf t r) (is : IsClearing m place r) where
+  module _ (begun place : ℕ) (lock : m.is_lock place ≡ true) (r : RunnerState T) (own : IsOf t r) (is : IsClearing m begun place r) where
     -- a lock of the table may be loaded
     pub may_load : place < cell_count m r.layout → met_by m r (load_of r.part.run place) ≡ Some (spots.Cell place, Loads)
     may_load low =
@@ -180,7 +198,7 @@ module _ {T : Type 0} (m : Meaning) (laws : Laws m) (t : TableState T) (limits :
           (record { known = λ s access found spot. refl; finished = λ s access found spot. refl }) refl refl refl
 
       pub load_keeps : KeepsJoins r r1
-      load_keeps = keeps_grown r r1 grows (front_same r.part.records.known r1.part.records.known kept.known)
+      load_keeps = keeps_grown r r1 grows kept
 
       met : made.met ≡ (spots.Cell place, Loads)
       met = some_same _ _ (sym made.asked ∙ (ap (λ (o : Option RunState). met_by m r (load_of o place)) (sym is.at.resting) ∙ may_load low))
@@ -258,6 +276,9 @@ module _ {T : Type 0} (m : Meaning) (laws : Laws m) (t : TableState T) (limits :
       nodes1 : r1.part.nodes ≡ r.part.nodes
       nodes1 = kept.nodes
 
+      runs1 : length r1.part.records.finished ≡ begun + length is.freed
+      runs1 = ap length kept.finished ∙ is.runs
+
       reserve1 : 2 * r1.layout.runners + 2 ≤ length r1.part.nodes.free + 2 * length is.freed
       reserve1 = subst (λ l. 2 * l.runners + 2 ≤ length r1.part.nodes.free + 2 * length is.freed) (sym grows.layout)
           (subst (λ (n : NodesState). 2 * r.layout.runners + 2 ≤ length n.free + 2 * length is.freed) (sym nodes1) is.reserve)
@@ -269,7 +290,7 @@ module _ {T : Type 0} (m : Meaning) (laws : Laws m) (t : TableState T) (limits :
           (old_or_this p place low')
 
       -- it was found free
-      pub clears_free : value_of word ≡ 0 → IsClearing m (place + 1) r1
+      pub clears_free : value_of word ≡ 0 → IsClearing m begun (place + 1) r1
       clears_free free = record {
         epoch = is.epoch;
         at = at1;
@@ -285,6 +306,7 @@ module _ {T : Type 0} (m : Meaning) (laws : Laws m) (t : TableState T) (limits :
         apart = is.apart;
         each = each1;
         reserve = reserve1;
+        runs = runs1;
       }
 
       module _ (ne : value_of word ≢ 0) where
@@ -322,8 +344,19 @@ module _ {T : Type 0} (m : Meaning) (laws : Laws m) (t : TableState T) (limits :
           grows2 : Grows r1 r2
           grows2 = grows_on r1 ends.opened r2 (grows_opens m 13 r1 ends.opened ends.opening.loads) (grows_ran m ends.count ends.opened r2 ends.ran)
 
+          one_run : length r2.part.records.finished ≡ length r1.part.records.finished + 1
+          one_run = ap length ends.kept ∙ length-append r1.part.records.finished (ends.finished ∷ [])
+
           pub run_keeps : KeepsJoins r1 r2
-          run_keeps = keeps_grown r1 r2 grows2 (record { back = ends.learns.more; parts = ends.learns.adds })
+          run_keeps = record {
+            layout = grows2.layout;
+            number = grows2.number;
+            joined = grows2.joined;
+            told = grows2.told;
+            known = record { back = ends.learns.more; parts = ends.learns.adds };
+            more = omega (arith, one_run);
+            quiet = λ same. absurd (omega (arith, one_run, same));
+          }
 
           own_opened : IsOf t ends.opened
           own_opened = own_grows t r1 ends.opened (grows_opens m 13 r1 ends.opened ends.opening.loads) own1
@@ -379,7 +412,7 @@ module _ {T : Type 0} (m : Meaning) (laws : Laws m) (t : TableState T) (limits :
               by true same h = subst (IsFreed m r2.part.records.left) (equal d e same) freed2
               by false same h = freed_in m r1.part.records.left r2.part.records.left grows2.left e (each1 e h)
 
-          pub clears_named : IsClearing m (place + 1) r2
+          pub clears_named : IsClearing m begun (place + 1) r2
           clears_named = record {
             epoch = is.epoch;
             at = record {
@@ -402,4 +435,7 @@ module _ {T : Type 0} (m : Meaning) (laws : Laws m) (t : TableState T) (limits :
             each = each2;
             reserve = subst (λ l. 2 * l.runners + 2 ≤ length r2.part.nodes.free + 2 * suc (length is.freed)) (sym ends.layout)
                 (let a = reserve1 in let b = ends.nodes.free in let c = makes in omega (arith, a, b, c));
+            runs =
+                let here = runs1 in
+                let more = one_run in omega (arith, here, more);
           }

@@ -1,6 +1,6 @@
 -- The beginning and the end of settling.
-use Rattle.std.specs.Prelude.{slice_get, slice_index, nat_lt, cond, true, false}
-use Rattle.std.proofs.Common.{◌≡◌, ℕ, ◌+◌, ◌*◌, ◌<◌, ◌≤◌, [], length, ⊎_elim, sym, refl, ap, ◌∙◌, subst, arith, Some, None}
+use Rattle.std.specs.Prelude.{◌==◌, ◌||◌, Bool, slice_get, slice_index, nat_lt, cond, true, false}
+use Rattle.std.proofs.Common.{◌≡◌, ℕ, ◌+◌, ◌*◌, ◌<◌, ◌≤◌, List, [], ◌∷◌, length, ⊎_elim, sym, refl, ap, ◌∙◌, subst, arith, Some, None}
 use Rattle.std.proofs.lemmas.Bool.{cases_lt}
 use Rattle.std.proofs.lemmas.Bool.Decides.{nat_tests}
 use Rattle.section_body.specs.Word.{value_of}
@@ -18,7 +18,7 @@ use Rattle.machine_states.specs.Sight.{Sight, sight, part_or_first}
 use Rattle.machine_states.specs.World.{World, seat_of}
 use Rattle.try_lock.specs.machine_invariant.specs.After.{AreAllowed}
 use Rattle.keeper_facts.specs.runner_facts.specs.Keeper.{AllJoined}
-use Rattle.keeper_facts.specs.Freed.{IsCleared, IsAlone, LocksTell}
+use Rattle.keeper_facts.specs.Freed.{IsCleared, IsFreed, IsAlone, LocksTell}
 use Rattle.try_lock.specs.reached_histories.specs.Laws.{HasHistory}
 use Rattle.try_lock.specs.reached_histories.proofs.Histories.{reached_have}
 use Rattle.try_lock.specs.version_words.specs.RunnerState.{RunnerState}
@@ -28,7 +28,7 @@ use Rattle.try_lock.specs.epoch_slots.proofs.Outside.{reads_made}
 use Rattle.settling.specs.Settled.{LoadsLocks, MaySettle, IsSettled, Settles}
 use Rattle.settling.specs.Clearing.{cell_count, KeepsJoins, IsClearing}
 use Rattle.settling.proofs.Growing.{front_same, Grows, grows_on, own_grows, grows_made}
-use Rattle.settling.proofs.Clears.{RecordTells, cleared_in, keeps_grown}
+use Rattle.settling.proofs.Clears.{RecordTells, cleared_in, freed_in, keeps_grown}
 
 module _ {T : Type 0} (m : Meaning) (laws : Laws m) (t : TableState T) (limits : IsWithinLimits t.layout) (allowed : AreAllowed t.requests) (record_tells : RecordTells m) where
   module _ (old r : RunnerState T) (own : IsOf t old) (may : MaySettle t old) (enters : Enters m old r) where
@@ -40,9 +40,9 @@ module _ {T : Type 0} (m : Meaning) (laws : Laws m) (t : TableState T) (limits :
         grows_on old enters.loading r one (grows_on enters.loading enters.waiting r two three)
 
     pub enter_keeps : KeepsJoins old r
-    enter_keeps = keeps_grown old r entering (front_same old.part.records.known r.part.records.known enters.keeps.known)
+    enter_keeps = keeps_grown old r entering enters.keeps
 
-    pub begins : IsClearing m 0 r
+    pub begins : IsClearing m (length r.part.records.finished) 0 r
     begins = record {
       epoch = enters.epoch;
       at = enters.at;
@@ -58,20 +58,21 @@ module _ {T : Type 0} (m : Meaning) (laws : Laws m) (t : TableState T) (limits :
       each = λ d h. absurd (let z = h in cc);
       reserve = subst (λ l. 2 * l.runners + 2 ≤ length r.part.nodes.free + 0) (sym (entering.layout ∙ own.layout))
           (let a = ap (λ (n : NodesState). length n.free) enters.keeps.nodes in let b = may.free in omega (arith, a, b));
+      runs = omega arith;
     }
       where
         none_read : {x : ℕ × ℕ} → None ≡ Some x → ⊥
         none_read e = cc
 
-  pub may_leave : (below : ℕ) (r : RunnerState T) → IsClearing m below r → HasLeave r
-  may_leave below r is = record { epoch = is.epoch; at = is.at }
+  pub may_leave : (begun below : ℕ) (r : RunnerState T) → IsClearing m begun below r → HasLeave r
+  may_leave begun below r is = record { epoch = is.epoch; at = is.at }
 
-  module _ (r new : RunnerState T) (own : IsOf t r) (is : IsClearing m (cell_count m t.layout) r) (exits : Exits m r new) where
+  module _ (begun : ℕ) (r new : RunnerState T) (own : IsOf t r) (is : IsClearing m begun (cell_count m t.layout) r) (exits : Exits m r new) where
     leaving : Grows r new
     leaving = grows_made m kinds.Idle exits.announce.found r new refl exits.announce.event
 
     pub exit_keeps : KeepsJoins r new
-    exit_keeps = keeps_grown r new leaving (front_same r.part.records.known new.part.records.known exits.keeps.known)
+    exit_keeps = keeps_grown r new leaving exits.keeps
 
     own' : IsOf t new
     own' = own_grows t r new leaving own
@@ -123,8 +124,24 @@ module _ {T : Type 0} (m : Meaning) (laws : Laws m) (t : TableState T) (limits :
       settled : IsSettled m s
       settled = record { free = free; replied = (history.closed free).replied }
 
-    pub settles : (old : RunnerState T) → KeepsJoins old new → Settles m old new
-    settles old keeps = record {
+      -- it ran at most one section for each worker
+      few_freed : length is.freed ≤ new.layout.runners
+      few_freed = tells.few joined is.freed is.apart (λ d h. subst (λ (p : PartState). IsFreed m p.records.left d) (sym seen)
+          (freed_in m r.part.records.left new.part.records.left leaving.left d (is.each d h)))
+
+    -- where it has freed none, it ran none
+    none_freed : ((d : ℕ) → IsFreed m new.part.records.left d → ⊥) → length is.freed ≡ 0
+    none_freed none = by is.freed (λ d h. none d (freed_in m r.part.records.left new.part.records.left leaving.left d (is.each d h)))
+      where
+        by : (ds : List ℕ) → ((d : ℕ) → has ds d ≡ true → ⊥) → length ds ≡ 0
+        by [] empty = refl
+        by (d ∷ ds) empty = absurd (empty d (there d (has ds d)))
+          where
+            there : (d : ℕ) (b : Bool) → ((d == d) || b) ≡ true
+            there d b = grind (arith, nat_tests)
+
+    pub settles : (old : RunnerState T) → begun ≡ length old.part.records.finished → KeepsJoins old new → Settles m old new
+    settles old same keeps = record {
       settled = settled;
       reached = record { world = exits.announce.event.shown.world; reached = exits.announce.event.shown.reached; own = exits.announce.event.shown.own };
       tidy = record {
@@ -137,4 +154,14 @@ module _ {T : Type 0} (m : Meaning) (laws : Laws m) (t : TableState T) (limits :
       told = keeps.told;
       known = keeps.known;
       loaded = subst (LoadsLocks m) (ap (λ (s : ReadsState). s.walk) (sym (reads_made m kinds.Idle exits.announce.found r new exits.announce.event is.at.resting))) is.loaded;
+      few =
+          let shown = exits.announce.event.shown in
+          let freed = few_freed shown.world shown.reached shown.own in
+          let runs = ap length exits.keeps.finished ∙ is.runs in
+          let layout = ap (λ l. l.runners) keeps.layout in omega (arith, freed, runs, layout, same);
+      quiet = λ none.
+          let runs = ap length exits.keeps.finished ∙ is.runs in
+          let freed = none_freed none in
+          let finished : length new.part.records.finished ≡ length old.part.records.finished = omega (arith, runs, freed, same) in
+          (keeps.quiet finished, finished);
     }

@@ -27,11 +27,15 @@ module _ {T : Type 0} where
     pub joined : new.joined ≡ old.joined
     pub told : new.part.records.joined ≡ old.part.records.joined
     pub known : IsFront old.part.records.known new.part.records.known
+    -- it brought no fewer runs to their end, and where no more, its node slots are where they were
+    pub more : length old.part.records.finished ≤ length new.part.records.finished
+    pub quiet : length new.part.records.finished ≡ length old.part.records.finished → new.part.nodes ≡ old.part.nodes
 
   module _ (m : Meaning) where
     -- the keeper is entered and has gone over the locks below this place: each of them is cleared, and of the
-    -- sections that it ran, which are different, no lock names one any more
-    pub record IsClearing (below : ℕ) (r : RunnerState T) : Type 0 where
+    -- sections that it ran, which are different, no lock names one any more. Before the first of these runs it had
+    -- brought so many to their end
+    pub record IsClearing (begun below : ℕ) (r : RunnerState T) : Type 0 where
       pub epoch : ℕ
       pub at : IsAt r (stages.Entered epoch) None
       pub keeper : r.number ≡ r.layout.runners
@@ -45,6 +49,7 @@ module _ {T : Type 0} where
       pub apart : AreApart freed
       pub each : (d : ℕ) → has freed d ≡ true → IsFreed m r.part.records.left d
       pub reserve : 2 * r.layout.runners + 2 ≤ length r.part.nodes.free + 2 * length freed
+      pub runs : length r.part.records.finished ≡ begun + length freed
 
     -- the section in this descriptor was run to its end
     pub record HasRun (d : ℕ) (old new : RunnerState T) : Type 0 where

@@ -1,5 +1,5 @@
 -- What the keeper leaves once it has settled a table.
-use Rattle.std.specs.Prelude.{◌≡◌, ◌≢◌, ℕ, ◌+◌, ◌*◌, ◌<◌, ◌++◌, true, List, length, slice_get, Some}
+use Rattle.std.specs.Prelude.{◌≡◌, ◌≢◌, ℕ, ◌+◌, ◌*◌, ◌<◌, ◌≤◌, ◌++◌, true, List, length, slice_get, Some}
 use Rattle.section_body.specs.Word.{value_of}
 use Rattle.table_words.specs.declared.spot.Spot.TheVariants.{Cell, Stamp, Reply}
 use Rattle.structure_laws.specs.Scene.{Readings}
@@ -8,6 +8,7 @@ use Rattle.runner_parts.specs.Tests.{has}
 use Rattle.machine_states.specs.World.{World, seat_of}
 use Rattle.machine_states.specs.Reached.{Reached}
 use Rattle.machine_states.specs.Sight.{Sight, sight}
+use Rattle.keeper_facts.specs.Freed.{IsFreed}
 use Rattle.try_lock.specs.version_words.specs.RunnerState.{RunnerState}
 use Rattle.try_lock.specs.version_words.specs.TableState.{TableState, HasJoinedAll}
 use Rattle.try_lock.specs.epoch_slots.specs.Collects.{IsTidy}
@@ -54,3 +55,8 @@ module _ (m : Meaning) where
       pub known : IsFront old.part.records.known new.part.records.known
       -- outside its runs it loaded no cell but locks
       pub loaded : LoadsLocks new.part.reads.walk
+      -- it brought at most as many runs to their end as there are workers
+      pub few : length new.part.records.finished ≤ length old.part.records.finished + old.layout.runners
+      -- where it freed no section, it ran none, and its node slots are where they were
+      pub quiet : ((d : ℕ) → IsFreed m new.part.records.left d → ⊥) → (new.part.nodes ≡ old.part.nodes)
+          × (length new.part.records.finished ≡ length old.part.records.finished)

@@ -1,5 +1,5 @@
 //! The locks of a table whose workers have stopped are released.
-ghost use Rattle.std.specs.Prelude.{◌≡◌, ◌+◌, ◌-◌, ◌<◌, true};
+ghost use Rattle.std.specs.Prelude.{◌≡◌, ℕ, ◌+◌, ◌-◌, ◌<◌, true, length};
 ghost use Rattle.table_words.specs.Limits.{IsWithinLimits};
 ghost use Rattle.section_body.specs.Word.{value_of};
 ghost use Rattle.try_lock.specs.version_words.specs.TableState.{IsOf};
@@ -42,9 +42,10 @@ fn clear_lock<S: Structure>(table: &FlockTable<S>, keeper: Runner<S>, place: Pla
     requires own { IsOf table.now keeper }
     requires lock { (S.meaning table.now.structure).is_lock place ≡ true }
     requires within { place < cell_count (S.meaning table.now.structure) table.now.layout }
-    requires next { IsClearing (S.meaning table.now.structure) place keeper }
+    requires next { (begun : ℕ) × IsClearing (S.meaning table.now.structure) begun place keeper }
     ensures own { IsOf table.now result }
-    ensures cleared { IsClearing (S.meaning table.now.structure) (place + 1) result }
+    ensures cleared { (begun : ℕ) → IsClearing (S.meaning table.now.structure) begun place keeper
+        → IsClearing (S.meaning table.now.structure) begun (place + 1) result }
     ensures keeps { KeepsJoins keeper result }
 {
     table_is_allowed(table);
@@ -60,10 +61,10 @@ fn clear_lock<S: Structure>(table: &FlockTable<S>, keeper: Runner<S>, place: Pla
 /// Goes over all locks of the table, in order of place.
 fn clear_locks<S: Structure>(table: &FlockTable<S>, keeper: Runner<S>) -> Runner<S>
     requires own { IsOf table.now keeper }
-    requires next { IsClearing (S.meaning table.now.structure) 0 keeper }
+    requires next { IsClearing (S.meaning table.now.structure) (length keeper.part.records.finished) 0 keeper }
     ensures own { IsOf table.now result }
-    ensures cleared { IsClearing (S.meaning table.now.structure) (cell_count (S.meaning table.now.structure) table.now.layout)
-        result }
+    ensures cleared { IsClearing (S.meaning table.now.structure) (length keeper.part.records.finished)
+        (cell_count (S.meaning table.now.structure) table.now.layout) result }
     ensures keeps { KeepsJoins keeper result }
 {
     table_is_allowed(table);
@@ -80,8 +81,8 @@ fn clear_locks<S: Structure>(table: &FlockTable<S>, keeper: Runner<S>) -> Runner
 /// its end, and leaves.
 ///
 /// The keeper has joined each worker, is idle, and has all its own node slots free. Its two node slots for each worker
-/// and two more are enough, since each worker left at most one section. There is no refusal, no memory is taken, and
-/// nothing waits.
+/// and two more are enough, since each worker left at most one section; so it makes at most as many runs as there are
+/// workers. There is no refusal, no memory is taken, and nothing waits.
 ///
 /// At return no lock names a section, and each request that has a stamp has its reply: in every state that the machine
 /// reaches in which the keeper has the part that it has then, so also in the words that `FlockTable::close` gives for

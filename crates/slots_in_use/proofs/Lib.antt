@@ -1,3 +1,4 @@
+pub mod Quiet
 mod Lists
 mod Live
 pub mod Reached

@@ -1,20 +1,17 @@
 -- Where no lock is held, few slots are in use, in every reached state.
-use Rattle.std.specs.Prelude.{◌==◌, ◌*◌, ◌&&◌, nat_lt, cond, Bool, true, false}
+use Rattle.std.specs.Prelude.{◌==◌, ◌*◌, ◌&&◌, nat_lt, cond, true}
 use Rattle.std.specs.FinMap.{len}
-use Rattle.std.proofs.Common.{◌≡◌, ◌≢◌, ℕ, suc, ◌+◌, ◌<◌, ◌≤◌, List, [], ◌++◌, length-append, refl, sym, ap, ◌∙◌, subst, ⊎_elim, arith, Some, None}
+use Rattle.std.proofs.Common.{◌≡◌, ℕ, suc, ◌+◌, ◌<◌, ◌≤◌, List, [], ◌++◌, length-append, refl, ap, ◌∙◌, ⊎_elim, arith}
 use Rattle.std.proofs.lemmas.Bool.{cases_lt}
 use Rattle.std.proofs.lemmas.Bool.Decides.{nat_tests}
 use Rattle.std.proofs.lemmas.Option.{slice_get_past}
-use mathlib.Core.Path.{fun_ext}
 use Rattle.map_history.specs.declared.op.Request.{Request}
 use Rattle.table_words.specs.declared.layout.Layout.{Layout}
 use Rattle.table_words.specs.Limits.{IsWithinLimits}
 use Rattle.structure_laws.specs.Meaning.{Meaning}
 use Rattle.structure_laws.specs.Scene.{Scene, Free}
-use Rattle.structure_laws.specs.InTurn.{StandsFor}
-use Rattle.structure_laws.specs.Planner.{PlannerLaws, IsQuiet, AreInUse}
+use Rattle.structure_laws.specs.Planner.{PlannerLaws, AreInUse}
 use Rattle.runner_parts.specs.State.{PartState}
-use Rattle.agreement_core.specs.State.{AgreementState}
 use Rattle.epoch_core.specs.declared.location.Location.{Location}
 use Rattle.epoch_core.specs.declared.location.Location.TheVariants as locations
 use Rattle.epoch_core.specs.Lists.{times, in_hand, in_free, in_worn, in_limbo}
@@ -25,13 +22,13 @@ use Rattle.machine_states.specs.Reached.{Reached}
 use Rattle.machine_states.specs.Sight.{Sight, sight, part_or_first}
 use Rattle.machine_states.proofs.Reached.{reached_all}
 use Rattle.machine_epochs.specs.Entries.{counts_of}
-use Rattle.machine_scenes.specs.Shown.{scene_of, status_at, section_of, section_with}
+use Rattle.machine_scenes.specs.Shown.{status_at}
 use Rattle.reached_histories.specs.machine_invariant.specs.Slots.{node_count, times_among, NodesStand}
-use Rattle.reached_histories.specs.machine_invariant.specs.Whole.{states_of, IsWhole}
+use Rattle.reached_histories.specs.machine_invariant.specs.Whole.{IsWhole}
 use Rattle.reached_histories.specs.machine_invariant.proofs.Slots.{nodes_stand}
-use Rattle.reached_histories.specs.History.{IsClosed}
 use Rattle.reached_histories.specs.Laws.{HasHistory}
 use Rattle.slots_in_use.specs.InUse.{entries_below, NoneIsHeld, FewAreInUse}
+use Rattle.slots_in_use.proofs.Quiet.{scene, stands_for, quiet}
 use Rattle.slots_in_use.proofs.Lists.{covered, slots_below, below_length, below_times, retired_waits}
 use Rattle.slots_in_use.proofs.Live.{is_live, live_is, live_from, stands, each, once}
 
@@ -44,9 +41,6 @@ both_here i j = grind (arith, nat_tests)
 less : (a b : ℕ) → a < b → nat_lt a b ≡ true
 less a b low = grind (arith, nat_tests)
 
-some_done : (n : ℕ) → n ≢ 0 → (n == 0) ≡ false
-some_done n ne = grind (arith, nat_tests)
-
 module _ (m : Meaning) (l : Layout) (limits : IsWithinLimits l) (rs : List Request) (per_pair : ℕ) (planner : PlannerLaws m per_pair)
     (s : Sight) (past : (r : ℕ) → l.runners < r → s.part r ≡ first_part [] []) (history : HasHistory m l rs s) (free : NoneIsHeld m s) where
   whole : IsWhole m l history.beside s
@@ -57,9 +51,6 @@ module _ (m : Meaning) (l : Layout) (limits : IsWithinLimits l) (rs : List Reque
 
   nodes : NodesStand m l location s
   nodes = nodes_stand m l history.beside.epochs s whole.slots
-
-  abbrev a : AgreementState
-  a = history.beside.agreement
 
   abbrev many : ℕ
   many = l.nodes * l.runners + (2 * l.runners + 2)
@@ -100,29 +91,10 @@ module _ (m : Meaning) (l : Layout) (limits : IsWithinLimits l) (rs : List Reque
           let one = nodes.limbo r t y node ∙ (ap (in_limbo r y) e ∙ both_here r y) in
           let waits = retired_waits t y (s.part r).nodes.limbo in omega (arith, one, waits))
 
-  abbrev scene : Scene
-  scene = scene_of m (counts_of m l) (states_of history.beside s)
+  abbrev quiet_scene : Scene
+  quiet_scene = scene m l rs s history free
 
-  closed : IsClosed m l rs history.beside s history.state.history history.state.pairs
-  closed = history.closed free
-
-  stands_for : StandsFor m l scene history.state.pairs
-  stands_for = record {
-    sound = whole.kept.lawful.sound;
-    kept = whole.kept.lawful.kept;
-    stands = subst (λ (cells : ℕ → ℕ). m.stands l cells history.state.pairs) (sym (fun_ext (λ p. whole.sections.words.cells p))) closed.settled;
-  }
-
-  -- no section is open
-  quiet : IsQuiet m scene
-  quiet d = by (a.used d) refl
-    where
-      by : (b : Bool) → a.used d ≡ b → section_of m history.beside.publications d b (a.section d) ≡ None
-      by true e = ap (λ c. cond c (Some (section_with m history.beside.publications d (a.section d).log (a.section d).edge)) None)
-          (some_done (a.section d).done (λ z. closed.done d e (sym (whole.sections.sections d).done ∙ z)))
-      by false e = refl
-
-  used : AreInUse m scene in_use
+  used : AreInUse m quiet_scene in_use
   used = record {
     once = λ i j t e e'. once location m.fixed_slots many i j t e e';
     live = λ i t e. let one = each location m.fixed_slots many i t e in
@@ -136,7 +108,7 @@ module _ (m : Meaning) (l : Layout) (limits : IsWithinLimits l) (rs : List Reque
       let all = covered m.fixed_slots many (in_use ++ listed) each_slot in
       let sum = length-append in_use listed in
       let entries = below_length s.part (suc l.runners) in
-      let most = (planner.over l limits).sized scene history.state.pairs in_use stands_for quiet used in
+      let most = (planner.over l limits).sized quiet_scene history.state.pairs in_use (stands_for m l rs s history free) (quiet m l rs s history free) used in
       omega (arith, all, sum, entries, most)
 
 pub reached_few : (m : Meaning) (l : Layout) → IsWithinLimits l → (rs : List Request) (per_pair : ℕ) → PlannerLaws m per_pair → (w : World) → Reached m l rs w

@@ -20,8 +20,8 @@ entries_below part (suc n) = entries_below part n + entry_count (part n).nodes
 abbrev pub NoneIsHeld : Meaning → Sight → Type 0
 NoneIsHeld m s = (p : ℕ) → m.is_lock p ≡ true → value_of (s.word (Cell p)) ≡ 0
 
--- where no lock is held: the workers' node slots and the keeper's are all in their lists, but for so many at most for each pair of
--- the map to which the history leads
+-- where no lock is held: the workers' node slots and the keeper's are all in their lists, but for so many
+-- at most for each pair of the map to which the history leads
 abbrev pub FewAreInUse : ℕ → Meaning → Layout → List Request → Sight → Type 0
 FewAreInUse per_pair m l requests s = (stands : HasHistory m l requests s) → NoneIsHeld m s
     → l.nodes * l.runners + (2 * l.runners + 2) ≤ entries_below s.part (suc l.runners) + per_pair * len stands.state.pairs

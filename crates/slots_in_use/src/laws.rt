@@ -17,7 +17,8 @@ use runner_parts::Structure;
 /// at most for each pair of the map to which the history leads. For each of them is live or in a list, and by the
 /// structure's law few are live.
 pub fn few_slots_are_in_use<S: Structure>(structure: &S)
-    ensures { (per_pair : ℕ) (layout : Layout) (requests : List Request) (w : World) → PlannerLaws (S.meaning structure.now) per_pair
+    ensures { (per_pair : ℕ) (layout : Layout) (requests : List Request) (w : World)
+        → PlannerLaws (S.meaning structure.now) per_pair
         → IsWithinLimits layout → AreAllowed requests → Reached (S.meaning structure.now) layout requests w
         → FewAreInUse per_pair (S.meaning structure.now) layout requests (sight (S.meaning structure.now) layout requests w) }
 {

@@ -1,9 +1,9 @@
-use Rattle.std.proofs.Common.{length, sym, ap, subst}
+use Rattle.std.proofs.Common.{sym, ap, subst}
 use Rattle.lock_walks.specs.try_lock.specs.Plans.{HasPlanned as PlanIs, is_halted}
 use Rattle.attempts.specs.Course.{HasPlanned}
 use Rattle.attempts.specs.Rests.{MayLeave, HasTurned}
 use Rattle.attempts.proofs.Refusing.{refuses_by}
-use Rattle.attempts.proofs.Wholly.{course, still_planned, going, plan_halted, plan_may_leave, refused_rests, rests_after}
+use Rattle.attempts.proofs.Wholly.{course, thunk_rests, plan_halted, plan_may_leave, refused_rests}
 use Rattle.attempts.proofs.attempting.plan_and_try.Goals as goal
 
 pub try_section-requires-clause-planned : goal.try_section-requires-clause-planned
@@ -31,9 +31,8 @@ returns-in-Thunk-clause-rests g c =
     let met = g.met.S.Structure g.world.𝓛 g.world.𝓜 g.world.𝓡 ((λ s allowed. allowed), (λ patient. patient), (λ alone. alone), (λ cuts. cuts)) in
     λ old enters.
     let is = (subst (λ s. PlanIs (g.S.Structure.meaning s) (g.S.Planner.planning s) c.args.request.now c.plan-runner.result.1 c.args.runner c.plan-runner.result.0 (g.G.Gate.halts c.args.gate.now) (g.G.Gate.halts c.plan-runner.new.gate) (g.G.Gate.asks c.args.gate.now) (g.G.Gate.asks c.plan-runner.new.gate) c.args.steps.now.count c.plan-runner.new.steps.count) c.structure.ensures c.plan-runner.ensures.plans) in
-    rests_after (g.S.Structure.meaning c.args.table.now.structure) (g.S.Planner.planning c.args.table.now.structure) c.args.request.now c.try_section.result.1 old c.args.runner c.plan-runner.result.0 c.try_section.result.0 (length is.readings) _ _ _ _ _ _ _ _ _
-    (still_planned (g.S.Structure.meaning c.args.table.now.structure) (met.laws c.args.table.now.structure) c.args.table.now c.table_is_allowed.ensures.limits c.table_is_allowed.ensures.requests (g.S.Planner.planning c.args.table.now.structure) c.args.request.now c.plan-runner.result.1 old c.args.runner c.plan-runner.result.0 c.requires.own c.plan-runner.ensures.own enters _ _ _ _ _ _ is)
-    (going (g.S.Structure.meaning c.args.table.now.structure) (met.laws c.args.table.now.structure) c.args.table.now c.table_is_allowed.ensures.limits c.table_is_allowed.ensures.requests (g.S.Planner.planning c.args.table.now.structure) c.args.request.now c.plan-runner.result.1 old c.args.runner c.plan-runner.result.0 c.requires.own c.plan-runner.ensures.own enters _ _ _ _ _ _ is (ap (λ a. is_halted a) c.in-Thunk.is))
+    thunk_rests (g.S.Structure.meaning c.args.table.now.structure) (met.laws c.args.table.now.structure) c.args.table.now c.table_is_allowed.ensures.limits c.table_is_allowed.ensures.requests (g.S.Planner.planning c.args.table.now.structure) c.args.request.now c.plan-runner.result.1 old c.args.runner c.plan-runner.result.0 c.requires.own c.plan-runner.ensures.own enters _ _ _ _ _ _ is
+    c.try_section.result.1 c.try_section.result.0 _ _ _ (ap (λ a. is_halted a) c.in-Thunk.is)
     (c.try_section.ensures.rests old is.readings (subst (λ a. HasPlanned (g.S.Structure.meaning c.args.table.now.structure) (g.S.Planner.planning c.args.table.now.structure) c.args.request.now is.readings a old c.plan-runner.result.0) c.in-Thunk.is
     (course (g.S.Structure.meaning c.args.table.now.structure) (met.laws c.args.table.now.structure) c.args.table.now c.table_is_allowed.ensures.limits c.table_is_allowed.ensures.requests (g.S.Planner.planning c.args.table.now.structure) c.args.request.now c.plan-runner.result.1 old c.args.runner c.plan-runner.result.0 c.requires.own c.plan-runner.ensures.own enters _ _ _ _ _ _ is)))
 

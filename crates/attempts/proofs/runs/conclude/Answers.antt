@@ -32,7 +32,7 @@ pub returns-in-Answered-clause-rests : goal.returns-in-Answered-clause-rests
 returns-in-Answered-clause-rests g c =
     let met = g.met.S.Structure g.world.𝓛 g.world.𝓜 g.world.𝓡 ((λ s allowed. allowed), (λ patient. patient), (λ alone. alone), (λ cuts. cuts)) in
     let l = c.learn.ensures.learnt in λ old thunk trail is.
-    subst (λ a. Rests (g.S.Structure.meaning c.args.table.now.structure) (g.S.Planner.planning c.args.table.now.structure) c.args.request.now true a old c.args.runner c.learn.result.0 (g.G.Gate.halts c.args.gate.now) (g.G.Gate.halts c.args.gate.now) (g.G.Gate.asks c.args.gate.now) (g.G.Gate.asks c.args.gate.now) c.args.steps.now.count c.args.steps.now.count) (sym l.2)
+    subst (λ a. Rests (g.S.Structure.meaning c.args.table.now.structure) (g.S.Planner.planning c.args.table.now.structure) c.args.request.now true 0 a old c.args.runner c.learn.result.0 (g.G.Gate.halts c.args.gate.now) (g.G.Gate.halts c.args.gate.now) (g.G.Gate.asks c.args.gate.now) (g.G.Gate.asks c.args.gate.now) c.args.steps.now.count c.args.steps.now.count) (sym l.2)
     (concluded (g.S.Structure.meaning c.args.table.now.structure) (met.laws c.args.table.now.structure) c.args.table.now c.table_is_allowed.ensures.limits c.table_is_allowed.ensures.requests (g.S.Planner.planning c.args.table.now.structure) c.args.request.now c.args.section thunk c.args.outcome trail old c.args.runner c.requires.own is c.retire_section-runner.result c.retire_section-runner.ensures.own c.retire_section-runner.ensures.retired c.in-Answered.field-0 c.in-Answered.is l.0 l.1 c.learn.result.0 c.learn.ensures.own l.3 _ _ _)
 
 pub returns-in_default : goal.returns-in_default

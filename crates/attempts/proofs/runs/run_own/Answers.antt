@@ -1,4 +1,5 @@
 use Rattle.std.proofs.Common.{subst}
+use Rattle.attempts.specs.Attempts.{most_of_run}
 use Rattle.attempts.specs.Counted.{IsCounted}
 use Rattle.attempts.proofs.Courses.{may_run}
 use Rattle.attempts.proofs.Trying.{halted_published}
@@ -10,6 +11,7 @@ returns-then-not-goes_on-clause-rests g c =
     λ old thunk tried. halted_published (g.S.Structure.meaning c.args.table.now.structure) (g.S.Planner.planning c.args.table.now.structure) c.args.request.now old thunk c.args.section c.args.runner tried _ _ _ _ _
     (subst (λ b. IsCounted 0 1 b (g.G.Gate.halts c.args.gate.now) (g.G.Gate.halts c.goes_on.new.gate) (g.G.Gate.asks c.args.gate.now) (g.G.Gate.asks c.goes_on.new.gate) c.args.steps.now.count c.args.steps.now.count)
     c.if-not-goes_on.true (c.goes_on.ensures c.args.steps.now.count))
+    most_of_run
 
 pub run_section-runner-requires-clause-next : goal.run_section-runner-requires-clause-next
 run_section-runner-requires-clause-next g c κs within =

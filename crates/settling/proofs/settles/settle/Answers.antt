@@ -1,4 +1,4 @@
-use Rattle.std.proofs.Common.{subst}
+use Rattle.std.proofs.Common.{length, ap, subst}
 use Rattle.settling.proofs.Clears.{RecordTells, keeps_on}
 use Rattle.settling.proofs.Settling.{begins, enter_keeps, exit_keeps, settles}
 use Rattle.settling.proofs.settles.settle.Goals as goal
@@ -18,11 +18,12 @@ returns-clause-settles g c =
     let laws = met.laws c.args.table.now.structure in
     let tells = subst (λ s. RecordTells (g.S.Structure.meaning s)) c.structure.ensures c.what_the_keeper_saw_tells.ensures in
     settles m laws c.args.table.now c.table_is_allowed.ensures.limits c.table_is_allowed.ensures.requests tells
-    c.clear_locks-keeper.result c.exit.result c.clear_locks-keeper.ensures.own c.clear_locks-keeper.ensures.cleared c.exit.ensures.exits c.args.keeper
+    (length c.enter-keeper.result.part.records.finished) c.clear_locks-keeper.result c.exit.result c.clear_locks-keeper.ensures.own c.clear_locks-keeper.ensures.cleared c.exit.ensures.exits c.args.keeper
+    (ap length c.enter-keeper.ensures.enters.keeps.finished)
     (keeps_on c.args.keeper c.clear_locks-keeper.result c.exit.result
     (keeps_on c.args.keeper c.enter-keeper.result c.clear_locks-keeper.result
     (enter_keeps m laws c.args.table.now c.table_is_allowed.ensures.limits c.table_is_allowed.ensures.requests tells
     c.args.keeper c.enter-keeper.result c.requires.own c.requires.next c.enter-keeper.ensures.enters)
     c.clear_locks-keeper.ensures.keeps)
     (exit_keeps m laws c.args.table.now c.table_is_allowed.ensures.limits c.table_is_allowed.ensures.requests tells
-    c.clear_locks-keeper.result c.exit.result c.clear_locks-keeper.ensures.own c.clear_locks-keeper.ensures.cleared c.exit.ensures.exits))
+    (length c.enter-keeper.result.part.records.finished) c.clear_locks-keeper.result c.exit.result c.clear_locks-keeper.ensures.own c.clear_locks-keeper.ensures.cleared c.exit.ensures.exits))

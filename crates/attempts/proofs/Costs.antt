@@ -1,0 +1,95 @@
+-- What a run costs at most, whatever its body.
+use Rattle.std.specs.Prelude.{sum_by, count_by, cond, Bool}
+use Rattle.std.proofs.Common.{ℕ, ◌+◌, ◌*◌, ◌≤◌, List, [], ◌∷◌, length, sym, ap, ◌∙◌, arith, subst, inl, inr, zero, suc}
+use Rattle.std.proofs.lemmas.List.Sums.{sum_by-cons}
+use Rattle.section_body.specs.Cost.{step_cost, cost_of}
+use Rattle.section_body.specs.Shape.{is_take, is_make, is_stamp, is_answer, IsShaped}
+use Rattle.section_body.specs.Trail.{Agreed}
+use Rattle.section_body.specs.declared.outcome.Outcome.{Outcome}
+use Rattle.section_body.specs.declared.step.Step.{Step}
+use Rattle.section_body.specs.declared.step.Step.TheVariants.{Load, Want, Fresh, Take, Make, Stamp, Store, Retire, Answer}
+use Rattle.section_body.specs.declared.thunk.Thunk.{Thunk}
+use Rattle.table_words.specs.Limits.{IsWithinLimits}
+use Rattle.structure_laws.specs.Meaning.{Meaning}
+use Rattle.structure_laws.specs.Laws.{Laws}
+use Rattle.runner_parts.specs.State.{RunState, PartState}
+use Rattle.runner_steps.specs.Sections.{thunk_of}
+use Rattle.machine_states.specs.Sight.{part_or_first}
+use Rattle.lock_walks.specs.machine_invariant.specs.After.{AreAllowed}
+use Rattle.lock_walks.specs.next_steps.proofs.Enabled.{reached_enabled}
+use Rattle.lock_walks.specs.version_words.specs.RunnerState.{RunnerState}
+use Rattle.lock_walks.specs.version_words.specs.TableState.{TableState, IsOf}
+use Rattle.lock_walks.specs.section_runs.specs.Reached.{run_of, run_or}
+use Rattle.lock_walks.specs.section_runs.specs.Opened.{opening, IsOpening, HasOpened}
+use Rattle.lock_walks.specs.section_runs.proofs.Going.{shaped}
+use Rattle.lock_walks.specs.try_lock.specs.Ends.{EndsSo, IsCutShort}
+use Rattle.attempts.specs.Attempts.{most_of_run}
+use Rattle.attempts.proofs.Along.{ran_back}
+
+-- a step, with the lock that it leaves to be released, makes at most six events but for a Make; a Stamp makes three fewer, an Answer five
+step_weighs : (step : Step) → step_cost step + cond (is_take step) 1 0 + 3 * cond (is_stamp step) 1 0 + 5 * cond (is_answer step) 1 0
+    ≤ 6 + 5 * cond (is_make step) 1 0
+step_weighs (Load place into) = omega arith
+step_weighs (Want reg word) = omega arith
+step_weighs (Fresh reg) = omega arith
+step_weighs (Take place word) = omega arith
+step_weighs (Make init into) = omega arith
+step_weighs Stamp = omega arith
+step_weighs (Store reg value) = omega arith
+step_weighs (Retire slot) = omega arith
+step_weighs (Answer reply) = omega arith
+
+steps_weigh : (steps : List Step) → sum_by step_cost steps + count_by is_take steps + 3 * count_by is_stamp steps + 5 * count_by is_answer steps
+    ≤ 6 * length steps + 5 * count_by is_make steps
+steps_weigh [] = omega arith
+steps_weigh (step ∷ steps) =
+    let costs = sum_by-cons step_cost step steps in
+    let takes = sum_by-cons (λ s. cond (is_take s) 1 0) step steps in
+    let stamps = sum_by-cons (λ s. cond (is_stamp s) 1 0) step steps in
+    let answers = sum_by-cons (λ s. cond (is_answer s) 1 0) step steps in
+    let makes = sum_by-cons (λ s. cond (is_make s) 1 0) step steps in
+    let here = step_weighs step in
+    let rest = steps_weigh steps in omega arith
+
+pub shaped_cost : (body : List Step) → IsShaped body → cost_of body ≤ most_of_run
+shaped_cost body whole =
+    let weigh = steps_weigh body in
+    let short = whole.short in
+    let makes = whole.makes in
+    let stamps = whole.stamps in
+    let answers = whole.answers in omega arith
+
+module _ {T : Type 0} (m : Meaning) (laws : Laws m) (t : TableState T) (limits : IsWithinLimits t.layout) (allowed : AreAllowed t.requests)
+    (old new : RunnerState T) (own : IsOf t new) where
+  -- the body of a run that was opened has the shape
+  opened_shaped : (d : ℕ) (thunk : Thunk) (late : Bool) (opened : RunnerState T) → IsOf t opened → HasOpened m d thunk late old opened
+      → IsShaped (m.body thunk)
+  opened_shaped d thunk late opened own_opened is =
+      subst (λ (x : Thunk). IsShaped (m.body x)) is.thunk
+      (subst (λ (q : RunState). IsShaped (m.body (thunk_of q.opened))) (ap run_or is.run)
+      (shaped m laws t limits allowed opened own_opened (run_of opened) is.inside))
+
+  pub ended_costs : (d : ℕ) (thunk : Thunk) (outcome : Outcome) (trail : Agreed) (made : ℕ) → EndsSo m d thunk outcome trail made old new
+      → made ≤ most_of_run
+  ended_costs d thunk outcome trail made ends =
+      let few = ends.few in
+      let cost = shaped_cost (m.body thunk)
+      (opened_shaped d thunk trail.late ends.opened (ran_back m t ends.count ends.opened new ends.ran own) ends.opening) in
+      omega (arith, few, cost)
+
+  opening_costs : (made d : ℕ) (words : List ℕ) → IsOpening m made d words old new → made ≤ most_of_run
+  opening_costs zero d words is = omega arith
+  opening_costs (suc n) d words is =
+      let most = (reached_enabled m laws new.layout (subst IsWithinLimits (sym own.layout) limits) new.requests (subst AreAllowed (sym own.requests) allowed)
+      is.reached.world is.reached.reached).runs new.number (opening d words)
+      (ap (λ (p : PartState). p.run) (ap part_or_first is.reached.own) ∙ is.run) in
+      let few : length words ≤ 13 = most.most in
+      let count = is.count in omega (arith, few, count)
+
+  pub cut_costs : (d made : ℕ) → IsCutShort m d made old new → made ≤ most_of_run
+  cut_costs d made (inl opening) = opening_costs made d opening.0 opening.1
+  cut_costs d made (inr ran) =
+      let few = ran.few in
+      let cost = shaped_cost (m.body ran.thunk)
+      (opened_shaped d ran.thunk ran.late ran.opened (ran_back m t ran.count ran.opened new ran.ran own) ran.opening) in
+      omega (arith, few, cost)
