@@ -1,10 +1,11 @@
 -- From how each command ends to completeness.
 use Rattle.std.specs.Prelude.{◌⊎◌, not, is_some, slice_get}
-use Rattle.std.proofs.Common.{◌≡◌, ◌≢◌, ℕ, zero, suc, ◌+◌, ◌*◌, ◌<◌, ◌≤◌, Bool, true, false, cond, List, [], ◌∷◌, Option, None, Some, IfSome, IsSome, refl, sym, ap, ◌∙◌, ⊎_elim, inl, inr, subst, arith}
+use Rattle.std.proofs.Common.{◌≡◌, ◌≢◌, ℕ, zero, suc, ◌+◌, ◌*◌, ◌<◌, ◌≤◌, Bool, true, false, cond, List, [], ◌∷◌, length, Option, None, Some, IfSome, IsSome, refl, sym, ap, ◌∙◌, ⊎_elim, inl, inr, subst, arith}
 use Rattle.std.proofs.lemmas.List.Sums.{sum_by-cons}
 use Rattle.std.proofs.lemmas.Option.{slice_get-get_or}
 use Rattle.map_history.specs.declared.op.Entry.{Entry}
 use Rattle.map_history.specs.declared.op.Request.{Request}
+use Rattle.map_sizes.specs.Sizes.{peak}
 use Rattle.table_words.specs.declared.layout.Layout.{Layout}
 use Rattle.table_words.specs.declared.spot.Spot.TheVariants.{Stamp}
 use Rattle.structure_laws.specs.Meaning.{Meaning}
@@ -20,14 +21,20 @@ use Rattle.flock_words.specs.declared.command.Command.{Command}
 use Rattle.flock_words.specs.declared.command.Command.TheVariants as commands
 use Rattle.flock_words.specs.declared.generated.LoadOptions.{LoadOptions}
 use Rattle.flock_words.specs.declared.options.RunOptions.{RunOptions}
-use Rattle.flock_tool.specs.Commands.{Ends, GenEnds, LoadEnds, RunEnds}
+use Rattle.threaded_runs.specs.Lone.{ServesAlone}
+use Rattle.threaded_runs.specs.Runs.{AreServed}
+use Rattle.flock_tool.specs.Alone.{HasLoneRoom, IsValidAlone, KeepsVersions, NothingStops}
+use Rattle.flock_tool.specs.Commands.{Ends, GenEnds, LoadEnds, LoadRuns, RunEnds}
 use Rattle.flock_tool.specs.Complete.{Completes, HasEnoughSlots, HasEnoughVersions, IsAnswered}
+use Rattle.flock_tool.specs.Finish.{finish_by, finish_status}
 use Rattle.flock_tool.specs.Loads.{HasCounted, HasLoadRun}
 use Rattle.flock_tool.specs.Plans.{AsksTooMuch, LoadAsksTooMuch, all_nodes, all_requests, layout_by}
-use Rattle.flock_tool.specs.Runs.{words_in, meaning_of, HasEnded, HasRun, IsRunOf, IsRunStatus}
+use Rattle.flock_tool.specs.Runs.{words_in, answers_in, meaning_of, per_pair_in, HasEnded, HasRun, IsRunOf, IsRunStatus}
 use Rattle.flock_tool.specs.Streams.{Gating, Stream}
 use Rattle.flock_tool.specs.Valid.{HasRoom, IsValid, IsWhole, NothingFails}
 use Rattle.flock_tool.specs.declared.ran.Ran.{Ran}
+use Rattle.flock_tool.specs.declared.ran.Ran.TheVariants.{Hash, Tree}
+use Rattle.flock_tool.proofs.EnoughAlone.{never_five, never_six}
 
 -- where none is unserved, each entry is there
 each_there : (entries : List (Option Entry)) → unserved_in entries ≡ 0 → (n : ℕ) → slice_get entries n ≢ Some None
@@ -75,8 +82,8 @@ not_of : (b : Bool) → b ≡ false → not b ≢ false
 not_of true is = absurd (cc)
 not_of false is = λ clash. absurd (cc)
 
--- a run with room, whose status is neither 5 nor 6
-module _ (options : RunOptions) (traces : Traces) (room : HasRoom options traces) (count : ℕ) (count_is : count ≡ traces.count) (ran : Ran)
+-- a run of these options and requests
+module _ (options : RunOptions) (traces : Traces) (count : ℕ) (count_is : count ≡ traces.count) (ran : Ran)
     (requests : (words_in ran).requests ≡ traces.requests) (run : IsRunOf options count ran) where
   layout : (words_in ran).layout ≡ layout_by options traces.count traces.requests
   layout = run.layout ∙ ap (layout_by options count) requests ∙ ap (λ n. layout_by options n traces.requests) count_is
@@ -84,16 +91,75 @@ module _ (options : RunOptions) (traces : Traces) (room : HasRoom options traces
   abbrev waits : Bool
   waits = not (names_below options.halts (words_in ran).layout.runners)
 
-  waited : waits ≢ false
-  waited = not_of (names_below options.halts (words_in ran).layout.runners)
-      (ap (λ (l : Layout). names_below options.halts l.runners) layout ∙ room.unhalted)
+  -- with room, its status isn't 5
+  not_five : HasRoom options traces → (number : ℕ) → Completes (meaning_of ran) (words_in ran) waits number → number ≢ 5
+  not_five room number completes = completes.slots waited enough
+    where
+      waited : waits ≢ false
+      waited = not_of (names_below options.halts (words_in ran).layout.runners)
+          (ap (λ (l : Layout). names_below options.halts l.runners) layout ∙ room.unhalted)
 
-  enough : HasEnoughSlots (meaning_of ran) (words_in ran)
-  enough = subst (λ l. 2 * inserts (words_in ran).requests + 2 ≤ l.nodes) (sym layout)
-      (subst (λ rs. 2 * inserts rs + 2 ≤ (layout_by options traces.count traces.requests).nodes) (sym requests) room.enough)
+      enough : HasEnoughSlots (meaning_of ran) (words_in ran)
+      enough = subst (λ l. 2 * inserts (words_in ran).requests + 2 ≤ l.nodes) (sym layout)
+          (subst (λ rs. 2 * inserts rs + 2 ≤ (layout_by options traces.count traces.requests).nodes) (sym requests) room.enough)
 
-  not_five : (number : ℕ) → Completes (meaning_of ran) (words_in ran) waits number → number ≢ 5
-  not_five number completes = completes.slots waited enough
+  few_per_pair : (back : Ran) → per_pair_in back ≤ 2
+  few_per_pair (Hash words answers) = omega arith
+  few_per_pair (Tree words answers) = omega arith
+
+  -- with room for one runner it is neither 5 nor 6
+  avoids : HasLoneRoom options traces → (number unserved : ℕ) → (number ≢ 9 → number ≡ finish_status (finish_by (answers_in ran) unserved))
+      → (number ≢ 5) × (number ≢ 6)
+  avoids room number unserved status = (
+    λ five. never_five (meaning_of ran) (per_pair_in ran) (words_in ran) waits (answers_in ran) run.served unserved run.lone one some (few_per_pair ran) waited slots
+        (sym (status (λ nine. omega (arith, five, nine))) ∙ five),
+    λ six. never_six (meaning_of ran) (per_pair_in ran) (words_in ran) waits (answers_in ran) run.served unserved run.lone one versions
+        (sym (status (λ nine. omega (arith, six, nine))) ∙ six),
+  )
+    where
+      one : (words_in ran).layout.runners ≡ 1
+      one = ap (λ (l : Layout). l.runners) layout ∙ room.one
+
+      waited : waits ≢ false
+      waited = not_of (names_below options.halts (words_in ran).layout.runners) (ap (names_below options.halts) one ∙ room.unhalted)
+
+      some : 1 ≤ (words_in ran).layout.sections
+      some = subst (λ (l : Layout). 1 ≤ l.sections) (sym layout) room.some
+
+      slots : 2 * peak (words_in ran).requests + 16 ≤ (words_in ran).layout.nodes
+      slots = subst (λ (l : Layout). 2 * peak (words_in ran).requests + 16 ≤ l.nodes) (sym layout)
+          (subst (λ rs. 2 * peak rs + 16 ≤ (layout_by options traces.count traces.requests).nodes) (sym requests) room.slots)
+
+      versions : 8 * length (words_in ran).requests + 8 ≤ (words_in ran).layout.version_max
+      versions = subst (λ (l : Layout). 8 * length (words_in ran).requests + 8 ≤ l.version_max) (sym layout)
+          (subst (λ rs. 8 * length rs + 8 ≤ (layout_by options traces.count traces.requests).version_max) (sym requests) room.versions)
+
+-- what the closed words keep of versions, by the status of a run
+keeps : (ran : Ran) (waits : Bool) → AreServed (meaning_of ran) (words_in ran) waits (answers_in ran)
+    → ServesAlone (meaning_of ran) (per_pair_in ran) (words_in ran) (answers_in ran) → (number unserved : ℕ)
+    → (number ≢ 9 → number ≡ finish_status (finish_by (answers_in ran) unserved)) → (words_in ran).layout.runners ≡ 1
+    → 8 * length (words_in ran).requests + 8 ≤ (words_in ran).layout.version_max → number ≢ 6
+keeps ran waits served lone number unserved status one versions six =
+    never_six (meaning_of ran) (per_pair_in ran) (words_in ran) waits (answers_in ran) served unserved lone one versions
+    (sym (status (λ nine. omega (arith, six, nine))) ∙ six)
+
+if_some : (P Q : Ran → Type 0) (back : Option Ran) → IfSome back P → ((ran : Ran) → P ran → Q ran) → IfSome back Q
+if_some P Q None given step = tt
+if_some P Q (Some ran) given step = step ran given
+
+pub none_keeps : (result : ℕ × Option Ran) → result.1 ≡ None → KeepsVersions result
+none_keeps result none = subst (λ (back : Option Ran). IfSome back (λ ran. (words_in ran).layout.runners ≡ 1
+    → 8 * length (words_in ran).requests + 8 ≤ (words_in ran).layout.version_max → result.0 ≢ 6)) (sym none) tt
+
+pub run_keeps : (options : RunOptions) (result : ℕ × Option Ran) (source sink faults : Stream) (gates : Gating)
+    → RunEnds options result source sink faults gates → KeepsVersions result
+run_keeps options result source sink faults gates ends = if_some _ _ result.1 ends.ended
+    (λ ran ended. keeps ran _ ended.1.run.served ended.1.run.lone result.0 ended.2.unserved ended.2.status)
+
+pub load_keeps : (load : LoadOptions) (result : ℕ × Option Ran) (sink faults : Stream) (gates : Gating)
+    → LoadRuns load result sink faults gates → KeepsVersions result
+load_keeps load result sink faults gates ends = if_some _ _ result.1 ends.ended
+    (λ ran ended. keeps ran _ ended.0.run.served ended.0.run.lone result.0 (unserved_in ended.1.entries) ended.1.status)
 
 abbrev traces_by : LoadOptions → Traces
 traces_by load = record { count = load.plan.traces; requests = generated load.plan }
@@ -108,9 +174,15 @@ module _ (result : ℕ × Option Ran) (source sink faults : Stream) (gates : Gat
       by (inr (inr (inl seven))) = inr seven
       by (inr (inr (inr nine))) = absurd (fine.written (ends.prints.write nine).0)
 
-  run_whole : (options : RunOptions) → RunEnds options result source sink faults gates → IsValid (commands.Run options) source.before
-      → NothingFails result.1 source sink gates → IsWhole result ⊎ (result.0 ≡ 7)
-  run_whole options ends (text, traces, tells, are, room) fine = by (at _ (ends.complete fine.read) are.accepted)
+  -- a run of a text in the grammar, with no more node slots than the limit, is whole where nothing stops it and its status is neither 5
+  -- nor 6
+  run_done : (options : RunOptions) → RunEnds options result source sink faults gates → NothingStops source sink gates
+      → (text : List ℕ) (traces : Traces) → source.before ≡ Some text → AreTracesOf traces text
+      → all_nodes (layout_by options traces.count traces.requests) ≤ 262144
+      → ((ran : Ran) (count : ℕ) → count ≡ traces.count → (words_in ran).requests ≡ traces.requests → IsRunOf options count ran
+      → HasEnded ran count result.0 sink faults → result.1 ≡ Some ran → (result.0 ≢ 5) × (result.0 ≢ 6))
+      → IsWhole result ⊎ (result.0 ≡ 7)
+  run_done options ends fine text traces tells are room avoids = by (at _ (ends.complete fine.read) are.accepted)
     where
       at : (P : List ℕ → Type 0) → IfSome source.before P → P text
       at P given = subst (λ left. IfSome left P) tells given
@@ -120,7 +192,7 @@ module _ (result : ℕ × Option Ran) (source sink faults : Stream) (gates : Gat
           let others = at (AreTracesOf asks.traces) asks.text in
           let same = asks.count ∙ ap (λ n. all_nodes (layout_by options n asks.traces.requests)) (others.count ∙ sym are.count)
           ∙ ap (λ (r : List Request). all_nodes (layout_by options traces.count r)) (others.requests ∙ sym are.requests) in
-          let room = room.few in let much = asks.much in omega (arith, same, room, much)
+          let much = asks.much in omega (arith, same, room, much)
 
       on : (ran : Ran) → result.1 ≡ Some ran → IsRunStatus result.0 → IsWhole result
       on ran back status = record { status = is_0; answered = to_back (λ r. IsAnswered (meaning_of r) (words_in r)) result.1 ran back all }
@@ -133,11 +205,9 @@ module _ (result : ℕ × Option Ran) (source sink faults : Stream) (gates : Gat
           read = at _ ended.1.text
 
           is_0 : result.0 ≡ 0
-          is_0 = zero_of result.0 status (λ one. fine.went (ends.halted one))
-              (not_five options traces room ended.0 (read.count ∙ sym are.count) ran (read.requests ∙ sym are.requests) ended.1.run result.0
-              (ended.2.completes _ ended.1.run.served))
-              ((ended.2.completes _ ended.1.run.served).versions (of_back (λ r. HasEnoughVersions (meaning_of r) (words_in r)) result.1 ran back fine.versions))
-              (λ nine. fine.written (ends.write nine).0)
+          is_0 =
+              let not = avoids ran ended.0 (read.count ∙ sym are.count) (read.requests ∙ sym are.requests) ended.1.run ended.2 back in
+              zero_of result.0 status (λ one. fine.went (ends.halted one)) not.0 not.1 (λ nine. fine.written (ends.write nine).0)
 
           all : IsAnswered (meaning_of ran) (words_in ran)
           all = let report = ended.2.is_report in
@@ -149,9 +219,12 @@ module _ (result : ℕ × Option Ran) (source sink faults : Stream) (gates : Gat
       by (inr (inl seven)) = inr seven
       by (inr (inr (four, slots, asks))) = absurd (few slots asks)
 
-  load_whole : (load : LoadOptions) → LoadEnds load result source sink faults gates → IsValid (commands.Load load) source.before
-      → NothingFails result.1 source sink gates → IsWhole result ⊎ (result.0 ≡ 7)
-  load_whole load ends (few, room) fine = by ends.runs.statuses
+  load_done : (load : LoadOptions) → LoadEnds load result source sink faults gates → NothingStops source sink gates
+      → all_requests load.plan ≤ 131072 → all_nodes (layout_by load.run load.plan.traces (generated load.plan)) ≤ 262144
+      → ((ran : Ran) → (words_in ran).requests ≡ generated load.plan → IsRunOf load.run load.plan.traces ran
+      → HasCounted ran result.0 sink faults → result.1 ≡ Some ran → (result.0 ≢ 5) × (result.0 ≢ 6))
+      → IsWhole result ⊎ (result.0 ≡ 7)
+  load_done load ends fine few room avoids = by ends.runs.statuses
     where
       on : (ran : Ran) → result.1 ≡ Some ran → IsRunStatus result.0 → IsWhole result
       on ran back status = record { status = is_0; answered = to_back (λ r. IsAnswered (meaning_of r) (words_in r)) result.1 ran back all }
@@ -161,26 +234,46 @@ module _ (result : ℕ × Option Ran) (source sink faults : Stream) (gates : Gat
           ended = of_back _ result.1 ran back ends.runs.ended
 
           is_0 : result.0 ≡ 0
-          is_0 = zero_of result.0 status (λ one. fine.went (ends.runs.halted one))
-              (not_five load.run (traces_by load) room load.plan.traces refl ran ended.0.requests ended.0.run result.0 (ended.1.completes _ ended.0.run.served))
-              ((ended.1.completes _ ended.0.run.served).versions (of_back (λ r. HasEnoughVersions (meaning_of r) (words_in r)) result.1 ran back fine.versions))
-              (λ nine. fine.written (ends.runs.write nine).0)
+          is_0 =
+              let not = avoids ran ended.0.requests ended.0.run ended.1 back in
+              zero_of result.0 status (λ one. fine.went (ends.runs.halted one)) not.0 not.1 (λ nine. fine.written (ends.runs.write nine).0)
 
           all : IsAnswered (meaning_of ran) (words_in ran)
           all = answered (meaning_of ran) (words_in ran) ended.1.entries ended.1.shown (ended.1.all (inl is_0))
 
       at_4 : ((131072 < all_requests load.plan) × Unit {0}) ⊎ ((count : ℕ) × LoadAsksTooMuch load count) → ⊥
       at_4 (inl much) = let much = much.0 in omega (arith, much, few)
-      at_4 (inr (slots, asks)) = let same = asks.count in let much = asks.much in let few = room.few in omega (arith, same, much, few)
+      at_4 (inr (slots, asks)) = let same = asks.count in let much = asks.much in omega (arith, same, much, room)
 
       by : IsRunStatus result.0 ⊎ (result.0 ≡ 4) ⊎ (result.0 ≡ 7) → IsWhole result ⊎ (result.0 ≡ 7)
       by (inl status) = let back = some_of result.1 (ends.runs.ran.1 status) in inl (on back.0 back.1 status)
       by (inr (inl four)) = absurd (at_4 (⊎_elim (λ much. inl (much.0, tt)) (λ asks. inr (asks.0, asks.1.0)) (ends.runs.limit four)))
       by (inr (inr seven)) = inr seven
 
+  stops_none : NothingFails result.1 source sink gates → NothingStops source sink gates
+  stops_none fine = record { read = fine.read; written = fine.written; went = fine.went }
+
   -- what is valid is done whole where nothing fails, or memory is wanting
   pub whole : (command : Command) → Ends command result source sink faults gates → IsValid command source.before → NothingFails result.1 source sink gates
       → IsWhole result ⊎ (result.0 ≡ 7)
-  whole (commands.Run options) ends valid fine = run_whole options ends valid fine
+  whole (commands.Run options) ends (text, traces, tells, are, room) fine = run_done options ends (stops_none fine) text traces tells are room.few
+      (λ ran count counted requests run ended back. let completes = ended.completes _ run.served in (
+        not_five options traces count counted ran requests run room result.0 completes,
+        completes.versions (of_back (λ r. HasEnoughVersions (meaning_of r) (words_in r)) result.1 ran back fine.versions),
+      ))
   whole (commands.Gen plan) ends valid fine = gen_whole plan ends valid fine
-  whole (commands.Load load) ends valid fine = load_whole load ends valid fine
+  whole (commands.Load load) ends (few, room) fine = load_done load ends (stops_none fine) few room.few
+      (λ ran requests run counted back. let completes = counted.completes _ run.served in (
+        not_five load.run (traces_by load) load.plan.traces refl ran requests run room result.0 completes,
+        completes.versions (of_back (λ r. HasEnoughVersions (meaning_of r) (words_in r)) result.1 ran back fine.versions),
+      ))
+
+  -- and with one runner
+  pub whole_alone : (command : Command) → Ends command result source sink faults gates → IsValidAlone command source.before
+      → NothingStops source sink gates → IsWhole result ⊎ (result.0 ≡ 7)
+  whole_alone (commands.Run options) ends (text, traces, tells, are, room) fine = run_done options ends fine text traces tells are room.few
+      (λ ran count counted requests run ended back. avoids options traces count counted ran requests run room result.0 ended.unserved ended.status)
+  whole_alone (commands.Gen plan) ends valid fine = absurd valid
+  whole_alone (commands.Load load) ends (few, room) fine = load_done load ends fine few room.few
+      (λ ran requests run counted back. avoids load.run (traces_by load) load.plan.traces refl ran requests run room result.0
+      (unserved_in counted.entries) counted.status)

@@ -18,7 +18,7 @@ use Rattle.flock_tool.specs.declared.finish.Finish.TheVariants.{Whole, Halted, W
 use Rattle.flock_tool.proofs.Finishing.{slots_status, versions_status}
 
 -- a runner that lacked slots, none of which is worn
-abbrev Lacks : List Served → Type 0
+abbrev pub Lacks : List Served → Type 0
 Lacks list = (i : ℕ) × (short : Short) × (slice_get list i ≡ Some (answers.Short short)) × (short.worn ≡ 0)
 
 behind : (answer : Served) (list : List Served) → Lacks list → Lacks (answer ∷ list)
@@ -41,7 +41,7 @@ lacks (answers.Short short ∷ list) runner finish versions is = (0, short, refl
     by false e none = unworn short.worn e
 
 -- so at 5
-five_lacks : (list : List Served) (unserved : ℕ) → finish_status (finish_by list unserved) ≡ 5 → Lacks list
+pub five_lacks : (list : List Served) (unserved : ℕ) → finish_status (finish_by list unserved) ≡ 5 → Lacks list
 five_lacks list unserved status = by (first_from versions_of 0 list) refl (first_from slots_of 0 list) refl (nat_lt 0 unserved) (any_halted list) status
   where
     by : (v : Option Finish) → first_from versions_of 0 list ≡ v → (s : Option Finish) → first_from slots_of 0 list ≡ s → (some halts : Bool)
@@ -53,7 +53,7 @@ five_lacks list unserved status = by (first_from versions_of 0 list) refl (first
     by None is None slots false halts five = absurd (omega (arith, five))
 
 -- a runner that met a word with too few versions, or has worn slots
-data LacksVersions (list : List Served) : Type 0 where
+pub data LacksVersions (list : List Served) : Type 0 where
   Met : (i place word : ℕ) → slice_get list i ≡ Some (answers.Spent place word) → LacksVersions list
   Wears : (i : ℕ) (short : Short) → slice_get list i ≡ Some (answers.Short short) → 1 ≤ short.worn → LacksVersions list
 
@@ -78,7 +78,7 @@ versions_lack (answers.Short short ∷ list) runner finish is = by (nat_lt 0 sho
     by true e here more = Wears 0 short refl (some short.worn e)
     by false e here more = behind_it (answers.Short short) list (more here)
 
-six_lacks : (list : List Served) (unserved : ℕ) → finish_status (finish_by list unserved) ≡ 6 → LacksVersions list
+pub six_lacks : (list : List Served) (unserved : ℕ) → finish_status (finish_by list unserved) ≡ 6 → LacksVersions list
 six_lacks list unserved status = by (first_from versions_of 0 list) refl (first_from slots_of 0 list) refl (nat_lt 0 unserved) (any_halted list) status
   where
     by : (v : Option Finish) → first_from versions_of 0 list ≡ v → (s : Option Finish) → first_from slots_of 0 list ≡ s → (some halts : Bool)
@@ -93,7 +93,7 @@ six_lacks list unserved status = by (first_from versions_of 0 list) refl (first_
 pub ends_otherwise : {T : Type 0} (m : Meaning) (w : WordsState T) (waits : Bool) (number : ℕ) → number ≢ 5 → number ≢ 6 → Completes m w waits number
 ends_otherwise m w waits number not_five not_six = record { slots = λ _ _. not_five; versions = λ _. not_six }
 
-first_of : (xs : List ℕ) → 1 ≤ length xs → (x : ℕ) × (slice_get xs 0 ≡ Some x)
+pub first_of : (xs : List ℕ) → 1 ≤ length xs → (x : ℕ) × (slice_get xs 0 ≡ Some x)
 first_of [] some = absurd (omega (arith, some))
 first_of (x ∷ xs) some = (x, refl)
 

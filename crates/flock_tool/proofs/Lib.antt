@@ -3,6 +3,7 @@ pub mod Completing
 pub mod Counting
 pub mod Ends
 pub mod Enough
+pub mod EnoughAlone
 pub mod Finishing
 pub mod GenPrinting
 pub mod Giving

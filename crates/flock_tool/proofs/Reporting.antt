@@ -36,6 +36,7 @@ run_of plan ran gates layout r = record {
   table = r.table;
   layout = r.layout ∙ layout ∙ ap (layout_by plan.options plan.traces.count) (sym r.requests);
   served = subst (λ n. AreServed (meaning_of ran) (words_in ran) (not (names_below plan.options.halts n)) (answers_in ran)) (ap (λ (l : Layout). l.runners) (sym r.layout)) r.served;
+  lone = r.lone;
 }
 
 pub given_of : (plan : Plan) (ran : Ran) (gates : Gating) → HasRunPlan plan ran gates

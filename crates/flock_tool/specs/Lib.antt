@@ -7,3 +7,4 @@ pub mod Plans
 pub mod Runs
 pub mod Streams
 pub mod Valid
+pub mod Alone

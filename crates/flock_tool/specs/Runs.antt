@@ -11,6 +11,7 @@ use Rattle.threaded_runs.specs.version_words.specs.TableState.{WordsState}
 use Rattle.run_reports.specs.Reports.{IsReport, PrintsInPart}
 use Rattle.threaded_runs.specs.serving.specs.declared.answers.Served.{Served}
 use Rattle.threaded_runs.specs.Counts.{halts_counted}
+use Rattle.threaded_runs.specs.Lone.{ServesAlone}
 use Rattle.threaded_runs.specs.Runs.{AreServed, IsMadeWith}
 use Rattle.flock_words.specs.Halts.{ask_of, names_below}
 use Rattle.flock_words.specs.declared.halts.Halt.{Halt}
@@ -46,6 +47,11 @@ abbrev pub meaning_of : Ran → Meaning
 meaning_of (Hash words answers) = buckets_meaning words.structure.bits
 meaning_of (Tree words answers) = tree
 
+-- how many node slots a pair of the map keeps in use, at most
+abbrev pub per_pair_in : Ran → ℕ
+per_pair_in (Hash words answers) = 1
+per_pair_in (Tree words answers) = 2
+
 -- the table was of the kind and of the size that the options name
 abbrev pub IsTableOf : RunOptions → Ran → Type 0
 IsTableOf options (Hash words answers) = (options.table ≡ kinds.Hash) × (words.structure.bits ≡ options.bucket_bits)
@@ -71,14 +77,16 @@ pub record IsRunOf (options : RunOptions) (traces : ℕ) (ran : Ran) : Type 0 wh
   -- every runner has served its own traces, and has the cause of its answer
   pub served : AreServed (meaning_of ran) (words_in ran)
       (not (names_below options.halts (words_in ran).layout.runners)) (answers_in ran)
+  pub lone : ServesAlone (meaning_of ran) (per_pair_in ran) (words_in ran) (answers_in ran)
 
 -- a run of this plan on a table of this structure left these words and answers; its gates were given out and came back
-module _ {T : Type 0} (meaning : T → Meaning) where
+module _ {T : Type 0} (meaning : T → Meaning) (per_pair : ℕ) where
   pub record HasRunOn (structure : T) (plan : Plan) (words : WordsState T) (answers : List Served) (gates : Gating)
       : Type 0 where
     pub made : IsMadeWith structure plan.layout plan.traces.requests words
     pub served :
         AreServed (meaning words.structure) words (not (names_below plan.options.halts plan.layout.runners)) answers
+    pub lone : ServesAlone (meaning words.structure) per_pair words answers
     pub given : AreGiven plan.options.halts plan.layout.runners answers gates
 
 -- the run was of this plan; its gates were given out and came back
@@ -88,6 +96,7 @@ pub record HasRunPlan (plan : Plan) (ran : Ran) (gates : Gating) : Type 0 where
   pub requests : (words_in ran).requests ≡ plan.traces.requests
   pub served : AreServed (meaning_of ran) (words_in ran)
       (not (names_below plan.options.halts plan.layout.runners)) (answers_in ran)
+  pub lone : ServesAlone (meaning_of ran) (per_pair_in ran) (words_in ran) (answers_in ran)
   pub given : AreGiven plan.options.halts plan.layout.runners (answers_in ran) gates
 
 -- a run that these options and the text ask for; its gates were given out and came back

@@ -71,7 +71,7 @@ where
     requires limits { IsWithinLimits plan.now.layout }
     requires ordered { AreInOrder plan.now.traces.requests plan.now.traces.count }
     requires served { (op : Op) → (S.planning structure).serves op ≡ true }
-    ensures { IfOk result (λ ran. HasRunOn S.meaning structure plan.now ran.0 ran.1.items
+    ensures { IfOk result (λ ran. HasRunOn S.meaning (S.planning structure).per_pair structure plan.now ran.0 ran.1.items
         (gating (G.halts gates.old) (G.halts gates.new) (G.plans gates.old) (G.plans gates.new)
         (G.planned gates.old) (G.planned gates.new))) }
 {

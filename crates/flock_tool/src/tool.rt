@@ -2,6 +2,7 @@
 ghost use Rattle.std.specs.Prelude.{◌≡◌, ◌≢◌, ◌⊎◌, ◌≤◌, IfErr, IfOk, codes};
 ghost use Rattle.flock_words.specs.Commands.{AreAccepted, HasRanges, IsCommand, texts};
 ghost use Rattle.flock_words.specs.declared.command.Command.{Command};
+ghost use Rattle.flock_tool.specs.Alone.{IsValidAlone, KeepsVersions, NothingStops};
 ghost use Rattle.flock_tool.specs.Commands.{Ends, IsNoCommand};
 ghost use Rattle.flock_tool.specs.Runs.{IsRunStatus};
 ghost use Rattle.flock_tool.specs.Streams.{Told, gating, stream};
@@ -20,18 +21,23 @@ use std::sync::Wait;
 use std::thread::Threads;
 use trace_reader::{Source, TraceError};
 
-/// The whole program. With the command `run` it reads a trace text from the source, serves its requests on one table with a thread for each
-/// runner where one can be made, and appends the report to the sink. With `gen` it appends a trace text with generated requests, and with
-/// `load` it serves generated requests and appends how often each reply came. What goes wrong is told in one line to `faults`, whose own
-/// failures change no status. Where a run came to its end the closed words of its table come back, with what each runner answered.
+/// The whole program. With the command `run` it reads a trace text from the source, serves its
+/// requests on one table with a thread for each runner where one can be made, and appends the report
+/// to the sink. With `gen` it appends a trace text with generated requests, and with `load` it serves
+/// generated requests and appends how often each reply came. What goes wrong is told in one line to
+/// `faults`, whose own failures change no status. Where a run came to its end the closed words of its
+/// table come back, with what each runner answered.
 ///
-/// The status is 0 where all went well and every request was answered, 1 where a gate halted its runner and a request is unserved, 2 where the
-/// words are refused, 3 where the text isn't in the grammar, 4 where it or what is to be generated is past a limit or the runners would have too
-/// many node slots, 5 where a runner lacked slots, 6 where one lacked versions, 7 for want of memory, 8 where the source failed, and 9 where the
-/// sink did. The report of `run` is printed whole at 0, 1, 5 and 6, the other texts at 0 alone; at 9 the sink holds a part, and otherwise nothing
-/// is added to it.
+/// The status is 0 where all went well and every request was answered, 1 where a gate halted its
+/// runner and a request is unserved, 2 where the words are refused, 3 where the text isn't in the
+/// grammar, 4 where it or what is to be generated is past a limit or the runners would have too many
+/// node slots, 5 where a runner lacked slots, 6 where one lacked versions, 7 for want of memory, 8
+/// where the source failed, and 9 where the sink did. The report of `run` is printed whole at 0, 1, 5
+/// and 6, the other texts at 0 alone; at 9 the sink holds a part, and otherwise nothing is added to
+/// it.
 ///
-/// It may wait for threads, so its promises hold if it returns (Ben-David, Blelloch, Wei, *Lock-free locks revisited*, 2022).
+/// It may wait for threads, so its promises hold if it returns (Ben-David, Blelloch, Wei, *Lock-free
+/// locks revisited*, 2022).
 pub fn flock<'a, T: Threads + Wait + Sync, R: Source, K: Sink, F: Sink, G: Gates>(
     rt: &T,
     alloc: Global,
@@ -48,7 +54,8 @@ pub fn flock<'a, T: Threads + Wait + Sync, R: Source, K: Sink, F: Sink, G: Gates
         (stream (F.held faults.old) (F.held faults.new) (F.faults faults.old) (F.faults faults.new))
         (gating (G.halts gates.old) (G.halts gates.new) (G.plans gates.old) (G.plans gates.new)
         (G.planned gates.old) (G.planned gates.new)) }
-    // Completeness: what is valid is done whole, with each request answered, where nothing fails and versions are left, or memory is wanting.
+    // Completeness: what is valid is done whole, with each request answered, where nothing fails and
+    // versions are left, or memory is wanting.
     ensures complete { (command : Command) → IsCommand (texts words.now) command → IsValid command (R.left source.old)
         → NothingFails result.1
         (stream (R.left source.old) (R.left source.new) (R.faults source.old) (R.faults source.new))
@@ -56,10 +63,19 @@ pub fn flock<'a, T: Threads + Wait + Sync, R: Source, K: Sink, F: Sink, G: Gates
         (gating (G.halts gates.old) (G.halts gates.new) (G.plans gates.old) (G.plans gates.new)
         (G.planned gates.old) (G.planned gates.new))
         → IsWhole result ⊎ (result.0 ≡ 7) }
+    // And with one runner, whose slots and versions are used again, so many are enough.
+    ensures alone { (command : Command) → IsCommand (texts words.now) command → IsValidAlone command (R.left source.old)
+        → NothingStops (stream (R.left source.old) (R.left source.new) (R.faults source.old) (R.faults source.new))
+        (stream (K.held sink.old) (K.held sink.new) (K.faults sink.old) (K.faults sink.new))
+        (gating (G.halts gates.old) (G.halts gates.new) (G.plans gates.old) (G.plans gates.new)
+        (G.planned gates.old) (G.planned gates.new))
+        → IsWhole result ⊎ (result.0 ≡ 7) }
+    ensures versions { KeepsVersions result }
     // All words but those of a command are refused, and these never are.
     ensures accepted { AreAccepted (texts words.now) → result.0 ≢ 2 }
     ensures words { (AreAccepted (texts words.now) → ⊥) → (result.0 ≡ 2) ⊎ (result.0 ≡ 7) }
-    ensures words_told { result.0 ≡ 2 → Told (codes "flock: words refused\n") (stream (F.held faults.old) (F.held faults.new) (F.faults faults.old) (F.faults faults.new)) }
+    ensures words_told { result.0 ≡ 2 → Told (codes "flock: words refused\n")
+        (stream (F.held faults.old) (F.held faults.new) (F.faults faults.old) (F.faults faults.new)) }
     // No failed read ends but at 8, and no failed write but at 9.
     ensures reads { result.0 ≢ 8 → R.faults source.new ≡ R.faults source.old }
     ensures writes { result.0 ≢ 9 → K.faults sink.new ≡ K.faults sink.old }

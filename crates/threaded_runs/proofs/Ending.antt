@@ -61,7 +61,7 @@ module _ {T : Type 0} (m : Meaning) (planning : Planning) (retry_short : Bool) (
   seat_is : seat_of keeper.layout keeper.number ≡ 0
   seat_is = ap (λ (b : Bool). if b then 0 else suc keeper.number) (eq-eqb keeper.number keeper.layout.runners (number ∙ sym (ap (λ (l : Layout). l.runners) own.layout)))
 
-  settled : IsSettled m (end m t keeper w closing)
+  pub settled : IsSettled m (end m t keeper w closing)
   settled = subst (λ (l : Layout). IsSettled m (sight m l t.requests closing.world)) own.layout
       (subst (λ (rs : List Request). IsSettled m (sight m keeper.layout rs closing.world)) own.requests
       (settles.settled closing.world
@@ -72,9 +72,9 @@ module _ {T : Type 0} (m : Meaning) (planning : Planning) (retry_short : Bool) (
   pub holds_none : HoldsNoLock m w
   holds_none p lock = ap value_of (word_is m t keeper w closing (Cell p)) ∙ settled.free p lock
 
-  module _ {H : Type 0} (halts : H → ℕ) (jobs : List (Job T H)) (finished : List (Finished T H)) (answers : List Served) (each : length answers ≡ t.layout.runners) (as_many : length jobs ≡ t.layout.runners)
-      (back : length finished ≡ length jobs) (seated : AllSeated planning t jobs) (run : AllRun m planning retry_short halts t jobs finished) (kept : AllKept gathered answers finished) (history : HaveHistory m w) where
-    worker_served : (worker : ℕ) (answer : Served) → slice_get answers worker ≡ Some answer → HasServed m w retry_short (own_requests t.layout.runners worker t.requests) answer
+  module _ {H : Type 0} (halts asks : H → ℕ) (jobs : List (Job T H)) (finished : List (Finished T H)) (answers : List Served) (each : length answers ≡ t.layout.runners) (as_many : length jobs ≡ t.layout.runners)
+      (back : length finished ≡ length jobs) (seated : AllSeated planning t jobs) (run : AllRun m planning retry_short halts asks t jobs finished) (kept : AllKept gathered answers finished) (history : HaveHistory m w) where
+    pub worker_served : (worker : ℕ) (answer : Served) → slice_get answers worker ≡ Some answer → HasServed m w retry_short (own_requests t.layout.runners worker t.requests) answer
     worker_served worker answer at =
         let few : worker < length answers = slice_get_within answers worker answer at in
         let low : worker < t.layout.runners = subst (λ (n : ℕ). worker < n) each few in
@@ -91,7 +91,7 @@ module _ {T : Type 0} (m : Meaning) (planning : Planning) (retry_short : Bool) (
         subst (λ (a : Served). HasServed m w retry_short (own_requests t.layout.runners worker t.requests) a) (sym same)
         (subst (λ (rs : List Request). HasServed m w retry_short rs (get_or finished worker f).answer) is_seated.requests
         (has_served m t keeper w closing lawful.is_map (lawful.histories lawful.limits lawful.allowed closing.world closing.reached) (lawful.callers lawful.limits lawful.allowed closing.world closing.reached)
-        worker requests retry_short planning (get_or finished worker f).answer (get_or jobs worker j).runner (get_or finished worker f).runner part has_run.serves
+        worker requests retry_short planning (get_or finished worker f).answer (get_or jobs worker j).runner (get_or finished worker f).runner part _ _ has_run.serves
         (λ i q e. own_there t.layout.runners worker t.requests order i q (subst (λ (rs : List Request). slice_get rs i ≡ Some q) is_seated.requests e))
         (λ i q e. own_trace t.layout.runners worker t.requests order i q (subst (λ (rs : List Request). slice_get rs i ≡ Some q) is_seated.requests e))
         (λ i k q q' e e'. own_once t.layout.runners worker t.requests order i k q q' (subst (λ (rs : List Request). slice_get rs i ≡ Some q) is_seated.requests e) (subst (λ (rs : List Request). slice_get rs k ≡ Some q') is_seated.requests e'))
@@ -115,7 +115,7 @@ module _ {T : Type 0} (m : Meaning) (planning : Planning) (retry_short : Bool) (
         let order = lawful.allowed.in_order in
         let part = part_is m t keeper w closing worker (get_or finished worker f).runner.part low (ap (λ js. left_part js worker) settles.joined ∙ is_kept.part) in
         descriptors_done m t keeper w closing lawful.is_map (lawful.histories lawful.limits lawful.allowed closing.world closing.reached) (lawful.callers lawful.limits lawful.allowed closing.world closing.reached)
-        worker requests retry_short planning (get_or finished worker f).answer (get_or jobs worker j).runner (get_or finished worker f).runner part has_run.serves
+        worker requests retry_short planning (get_or finished worker f).answer (get_or jobs worker j).runner (get_or finished worker f).runner part _ _ has_run.serves
         (λ i q e. own_there t.layout.runners worker t.requests order i q (subst (λ (rs : List Request). slice_get rs i ≡ Some q) is_seated.requests e))
         (λ i q e. own_trace t.layout.runners worker t.requests order i q (subst (λ (rs : List Request). slice_get rs i ≡ Some q) is_seated.requests e))
         (λ i k q q' e e'. own_once t.layout.runners worker t.requests order i k q q' (subst (λ (rs : List Request). slice_get rs i ≡ Some q) is_seated.requests e) (subst (λ (rs : List Request). slice_get rs k ≡ Some q') is_seated.requests e'))

@@ -9,7 +9,7 @@ use Rattle.table_words.specs.declared.access.Access.TheVariants.{Loads}
 use Rattle.structure_laws.specs.Meaning.{Meaning}
 use Rattle.runner_parts.specs.declared.event.EventKind.TheVariants as kinds
 use Rattle.runner_parts.specs.declared.stage.Stage.TheVariants as stages
-use Rattle.runner_parts.specs.State.{RunState, PartState, RecordsState, NodesState}
+use Rattle.runner_parts.specs.State.{FinishedState, RunState, PartState, RecordsState, NodesState}
 use Rattle.runner_parts.specs.Tests.{has}
 use Rattle.runner_steps.specs.AfterOutside.{split_after}
 use Rattle.runner_steps.specs.After.{after, after_by, stepped, leaves, tallied, joins}
@@ -49,6 +49,27 @@ lists_joined : (m : Meaning) (l : Layout) (r worker : ℕ) (p : PartState) → p
 lists_joined m l r worker p none = let s = (stepped m l (kinds.Join worker) p 0).records in
     kept_joined (r == l.runners) _ (tallied Loads 0 s) s.joined refl refl ∙ ap (λ (o : Option RunState). (after_by m l (kinds.Join worker) p o 0).records.joined) none
 
+-- and that of the runs that came to their end
+kept_finished : (b : Bool) (s t : RecordsState) (finished : List FinishedState) → s.finished ≡ finished → t.finished ≡ finished → (if b then s else t).finished ≡ finished
+kept_finished true s t finished one two = one
+kept_finished false s t finished one two = two
+
+split_finished : (m : Meaning) (l : Layout) (r : ℕ) (p : PartState) → p.run ≡ None
+    → (after m l r kinds.Split spots.Seat Loads p 0).records.finished ≡ p.records.finished
+split_finished m l r p none = let s = (stepped m l kinds.Split p 0).records in
+    kept_finished (r == l.runners) _ (tallied Loads 0 s) s.finished refl refl
+    ∙ (ap (λ (o : Option RunState). (after_by m l kinds.Split p o 0).records.finished) none ∙ chosen (nat_lt p.records.splits l.runners))
+  where
+    chosen : (b : Bool) → (if b then record p { records = record (p.records) { splits = p.records.splits + 1 } } else p).records.finished ≡ p.records.finished
+    chosen true = refl
+    chosen false = refl
+
+join_finished : (m : Meaning) (l : Layout) (r worker : ℕ) (p : PartState) → p.run ≡ None
+    → (after m l r (kinds.Join worker) spots.Seat Loads p 0).records.finished ≡ p.records.finished
+join_finished m l r worker p none = let s = (stepped m l (kinds.Join worker) p 0).records in
+    kept_finished (r == l.runners) _ (tallied Loads 0 s) s.finished refl refl
+    ∙ ap (λ (o : Option RunState). (after_by m l (kinds.Join worker) p o 0).records.finished) none
+
 has_last : (xs : List ℕ) (x : ℕ) → has (xs ++ x ∷ []) x ≡ true
 has_last [] x = ap (λ (b : Bool). b || false) (eq-eqb x x refl)
 has_last (y ∷ xs) x = ap (λ (b : Bool). (y == x) || b) (has_last xs x) ∙ or_true (y == x)
@@ -73,6 +94,7 @@ first_is_idle {T} m t r is = subst (λ (y : RunnerState T). IsIdleKeeper m 0 0 y
   joined = record { fresh = λ worker past. refl; parts = λ worker few. absurd (omega (arith, few)) };
   told = λ worker few. absurd (omega (arith, few));
   nodes = refl;
+  finished = refl;
 })
 
 module _ {T : Type 0} (m : Meaning) (r r' : RunnerState T) (splits : ℕ) where
@@ -89,6 +111,8 @@ module _ {T : Type 0} (m : Meaning) (r r' : RunnerState T) (splits : ℕ) where
     joined = split_joined m r r' splits 0 split is.keeper is.joined;
     told = λ worker none. absurd (omega (arith, none));
     nodes = of (λ (q : PartState). q.nodes) (λ q s. refl) ∙ (is.nodes ∙ ap (λ (l : Layout). (keeper_part m l).nodes) (sym (ap (λ (y : RunnerState T). y.layout) split.made)));
+    finished = ap (λ (y : RunnerState T). y.part.records.finished) split.made
+        ∙ (split_finished m r.layout r.number r.part is.at.resting ∙ is.finished);
   }
     where
       of : {B : Type 0} → (f : PartState → B) → IsBlind f → f r'.part ≡ f r.part
@@ -108,6 +132,8 @@ module _ {T : Type 0} (m : Meaning) (keeper worker r' : RunnerState T) (splits c
     joined = then_joined m keeper worker r' splits count joins is.keeper is.joined next;
     told = λ k few. told k few;
     nodes = of (λ (q : PartState). q.nodes) (λ q s. refl) ∙ (is.nodes ∙ ap (λ (l : Layout). (keeper_part m l).nodes) (sym (ap (λ (y : RunnerState T). y.layout) joins)));
+    finished = ap (λ (y : RunnerState T). y.part.records.finished) joins
+        ∙ (join_finished m keeper.layout keeper.number worker.number keeper.part is.at.resting ∙ is.finished);
   }
     where
       of : {B : Type 0} → (f : PartState → B) → IsBlind f → f r'.part ≡ f keeper.part
@@ -131,7 +157,7 @@ module _ {T : Type 0} (m : Meaning) (keeper worker r' : RunnerState T) (splits c
   keeps_parts k ne = ap (λ (y : RunnerState T). left_part y.joined k) joins
       ∙ ap (λ (b : Bool). if b then Some (leaves worker.part) else left_part keeper.joined k) (ne_eqb worker.number k ne)
 
-length-falling : (from n : ℕ) → length (falling from n) ≡ n
+pub length-falling : (from n : ℕ) → length (falling from n) ≡ n
 length-falling from zero = refl
 length-falling from (suc n) = ap suc (length-falling from n)
 

@@ -6,3 +6,5 @@ mod Owning
 mod Stopping
 mod Closing
 mod Ending
+mod Alone
+mod Lone

@@ -1,5 +1,5 @@
 -- What a worker's thread is given, and what it gives back.
-use Rattle.std.specs.Prelude.{◌≡◌, ◌≢◌, ℕ, ◌<◌, Bool, List, length, Some, slice_get, slice_index_or}
+use Rattle.std.specs.Prelude.{◌≡◌, ◌≢◌, ℕ, ◌<◌, Bool, List, [], length, Some, slice_get, slice_index_or}
 use Rattle.structure_laws.specs.Meaning.{Meaning}
 use Rattle.runner_steps.specs.After.{leaves}
 use Rattle.serving.specs.version_words.specs.RunnerState.{RunnerState}
@@ -19,11 +19,12 @@ module _ {T H : Type 0} where
     pub own : IsOf t j.runner
     pub next : MayServe planning j.requests.items j.runner
 
-  -- the worker has this number, and its requests are those of its traces
+  -- the worker has this number, its requests are those of its traces, and it has run no section
   pub record IsSeated (planning : Planning) (t : TableState T) (worker : ℕ) (j : Job T H) : Type 0 where
     pub may : MayRun planning t j
     pub number : j.runner.number ≡ worker
     pub requests : j.requests.items ≡ own_requests t.layout.runners worker t.requests
+    pub fresh : j.runner.part.records.finished ≡ []
 
   abbrev pub AllSeated : Planning → TableState T → List (Job T H) → Type 0
   AllSeated planning t jobs = (worker : ℕ) (d : Job T H) → worker < length jobs → IsSeated planning t worker (slice_index_or jobs worker d)
@@ -32,11 +33,11 @@ module _ {T H : Type 0} where
   abbrev pub AllUnasked : (H → ℕ) → List (Job T H) → Type 0
   AllUnasked halts jobs = (worker : ℕ) (d : Job T H) → worker < length jobs → halts (slice_index_or jobs worker d).gate ≡ 0
 
-  module _ (m : Meaning) (planning : Planning) (retry_short : Bool) (halts : H → ℕ) (t : TableState T) where
+  module _ (m : Meaning) (planning : Planning) (retry_short : Bool) (halts asks : H → ℕ) (t : TableState T) where
     -- the worker has served its requests, as the answer says; its gate halted exactly where the answer is Halted
     pub record HasRun (j : Job T H) (f : Finished T H) : Type 0 where
       pub own : IsOf t f.runner
-      pub serves : Serves m planning retry_short j.requests.items f.answer j.runner f.runner
+      pub serves : Serves m planning retry_short j.requests.items f.answer j.runner f.runner (asks j.gate) (asks f.gate)
       pub halted : halts j.gate ≡ 0 → f.answer ≡ answers.Halted → 0 < halts f.gate
       pub went : halts j.gate ≡ 0 → f.answer ≢ answers.Halted → halts f.gate ≡ 0
 

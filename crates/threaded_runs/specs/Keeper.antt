@@ -1,5 +1,5 @@
 -- The keeper of a table, which makes the workers and takes them back.
-use Rattle.std.specs.Prelude.{◌≡◌, ℕ, ◌<◌, true, None}
+use Rattle.std.specs.Prelude.{◌≡◌, ℕ, ◌<◌, [], true, None}
 use Rattle.structure_laws.specs.Meaning.{Meaning}
 use Rattle.runner_parts.specs.declared.stage.Stage.TheVariants as stages
 use Rattle.runner_parts.specs.Tests.{has}
@@ -14,3 +14,5 @@ pub record IsIdleKeeper {T : Type 0} (m : Meaning) (splits count : ℕ) (r : Run
   pub joined : HasJoined r count
   pub told : (worker : ℕ) → worker < count → has r.part.records.joined worker ≡ true
   pub nodes : r.part.nodes ≡ (keeper_part m r.layout).nodes
+  -- and has run no section
+  pub finished : r.part.records.finished ≡ []

@@ -26,12 +26,13 @@ module _ {T : Type 0} (m : Meaning) (w : WordsState T) where
   abbrev pub stamp_of : Request → ℕ
   stamp_of request = word_of m w (Stamp request.number)
 
-  -- of these requests the first ones, so many, have an entry each, with stamps that rise along them, and those behind them have none
+  -- of these requests the first ones, so many, have an entry each, with stamps that rise along them,
+  -- and those behind them have none
   pub record AreEntered (requests : List Request) (count : ℕ) : Type 0 where
     pub few : count ≤ length requests
     pub entries : (i : ℕ) (q : Request) → i < count → slice_get requests i ≡ Some q → stamp_of q ≢ 0
-    pub rising : (i j : ℕ) (q q' : Request) → i < j → j < count → slice_get requests i ≡ Some q → slice_get requests j ≡ Some q'
-        → stamp_of q < stamp_of q'
+    pub rising : (i j : ℕ) (q q' : Request) → i < j → j < count
+        → slice_get requests i ≡ Some q → slice_get requests j ≡ Some q' → stamp_of q < stamp_of q'
     pub none : (i : ℕ) (q : Request) → count ≤ i → slice_get requests i ≡ Some q → stamp_of q ≡ 0
 
   -- so many different node slots have a cell with the greatest version
@@ -41,14 +42,16 @@ module _ {T : Type 0} (m : Meaning) (w : WordsState T) where
     pub once : (i j slot : ℕ) → slice_get slots i ≡ Some slot → slice_get slots j ≡ Some slot → i ≡ j
     pub each : (i slot : ℕ) → slice_get slots i ≡ Some slot → HasWornCell m w.layout (word_of m w) slot
 
-  -- at the last attempt too few slots of the kind were free, and this isn't waited out, or no slot of the kind was in limbo; where descriptors
-  -- lacked, all of the worker's were in limbo. Its node slots, with two for each request that added a pair, are as many as the layout gives it
+  -- at the last attempt too few slots of the kind were free, and this isn't waited out, or no slot of
+  -- the kind was in limbo; where descriptors lacked, all of the worker's were in limbo. Its node
+  -- slots, with two for each request that added a pair, are as many as the layout gives it
   pub record IsShortOf (retry_short : Bool) (short : Short) : Type 0 where
     pub over : (retry_short ≡ false) ⊎ (short.limbo ≡ 0)
     pub nodes : short.kind ≡ kinds.Node → short.free < 2
     pub counted : short.kind ≡ kinds.Node
         → w.layout.nodes ≤ short.free + (short.limbo + short.worn) + 2 * added (word_of m w) (length w.requests)
-    pub descriptors : short.kind ≡ kinds.Descriptor → (short.free ≡ 0) × (short.worn ≡ 0) × (short.limbo ≡ w.layout.sections)
+    pub descriptors : short.kind ≡ kinds.Descriptor
+        → (short.free ≡ 0) × (short.worn ≡ 0) × (short.limbo ≡ w.layout.sections)
 
   -- why the worker served so many of its requests and no more: at All these are all of them
   abbrev pub IsCause : Bool → List Request → Served → ℕ → Type 0
@@ -57,8 +60,9 @@ module _ {T : Type 0} (m : Meaning) (w : WordsState T) where
   IsCause retry_short requests (answers.Spent place word) count = count < length requests
   IsCause retry_short requests answers.Halted count = Unit {0}
 
-  -- what the closed words show of the answer: the slots that are told worn are worn; behind the word that is told spent fewer than two versions
-  -- are left, and it stands at its place, or a word of a later version does
+  -- what the closed words show of the answer: the slots that are told worn are worn; behind the word
+  -- that is told spent fewer than two versions are left, and it stands at its place, or a word of a
+  -- later version does
   abbrev pub IsShown : Served → Type 0
   IsShown (answers.Short short) = AreWornOut short.worn
   IsShown (answers.Spent place word) = IsLate w.layout word × IsPast (word_of m w) place word
@@ -71,8 +75,9 @@ module _ {T : Type 0} (m : Meaning) (w : WordsState T) where
     pub cause : IsCause retry_short requests answer count
     pub shown : IsShown answer
 
-  -- what is left of a run of all workers with these answers, in order of number: each has served its own traces, no lock word names a
-  -- section, each request that has an entry has its reply, and no more requests added a pair than are inserts
+  -- what is left of a run of all workers with these answers, in order of number: each has served its
+  -- own traces, no lock word names a section, each request that has an entry has its reply, and no
+  -- more requests added a pair than are inserts
   pub record AreServed (retry_short : Bool) (given : List Served) : Type 0 where
     pub each : length given ≡ w.layout.runners
     pub served : (worker : ℕ) (answer : Served) → slice_get given worker ≡ Some answer
@@ -80,6 +85,8 @@ module _ {T : Type 0} (m : Meaning) (w : WordsState T) where
     pub free : HoldsNoLock m w
     pub replied : (n : ℕ) → word_of m w (Stamp n) ≢ 0 → word_of m w (Reply n) ≢ 0
     -- where a worker lacked a descriptor, the section of each of its own is done
-    pub done : (worker : ℕ) (short : Short) → slice_get given worker ≡ Some (answers.Short short) → short.kind ≡ kinds.Descriptor
-        → (d : ℕ) → w.layout.sections * worker ≤ d → d < w.layout.sections * worker + w.layout.sections → word_of m w (DoneWord d) ≡ 1
+    pub done : (worker : ℕ) (short : Short) → slice_get given worker ≡ Some (answers.Short short)
+        → short.kind ≡ kinds.Descriptor
+        → (d : ℕ) → w.layout.sections * worker ≤ d → d < w.layout.sections * worker + w.layout.sections
+        → word_of m w (DoneWord d) ≡ 1
     pub few_added : added (word_of m w) (length w.requests) ≤ inserts w.requests

@@ -20,7 +20,7 @@ fn run_job<R: Threads + Wait + Sync, S: Planner, G: Gate>(
     job: Job<S, G>,
 ) -> Finished<S, G>
     requires { MayRun (S.planning table.now.structure) table.now job }
-    ensures { HasRun (S.meaning table.now.structure) (S.planning table.now.structure) retry_short G.halts table.now job result }
+    ensures { HasRun (S.meaning table.now.structure) (S.planning table.now.structure) retry_short G.halts G.asks table.now job result }
 {
     let Job {
         runner,
@@ -57,11 +57,11 @@ where
     S::Walk: Send + Sync,
     requires { All (MayRun (S.planning table.now.structure) table.now) jobs.items }
     ensures len { IfOk result (λ finished. vec_len finished ≡ vec_len jobs) }
-    ensures each { IfOk result (λ finished. AllRun (S.meaning table.now.structure) (S.planning table.now.structure) retry_short G.halts table.now jobs.items finished.items) }
+    ensures each { IfOk result (λ finished. AllRun (S.meaning table.now.structure) (S.planning table.now.structure) retry_short G.halts G.asks table.now jobs.items finished.items) }
 {
     let run = |job: Job<S, G>| -> Finished<S, G>
         requires { MayRun (S.planning table.now.structure) table.now job }
-        ensures { HasRun (S.meaning table.entry.now.structure) (S.planning table.entry.now.structure) retry_short G.halts table.entry.now job result }
+        ensures { HasRun (S.meaning table.entry.now.structure) (S.planning table.entry.now.structure) retry_short G.halts G.asks table.entry.now job result }
     { run_job(rt, table, retry_short, job) };
     thread::map_vec(rt, jobs, &run)
 }

@@ -1,11 +1,11 @@
-use Rattle.std.proofs.Common.{refl, sym, ◌∙◌, inl, inr, ⊎_elim, subst, arith}
+use Rattle.std.proofs.Common.{refl, sym, ◌∙◌, inl, inr, ⊎_elim, subst, arith, None}
 use Rattle.flock_words.specs.Commands.{IsCommand, texts}
 use Rattle.flock_words.specs.declared.command.Command.TheVariants as commands
 use Rattle.flock_tool.specs.End.{stop_line}
 use Rattle.flock_tool.specs.Streams.{Told, stream}
 use Rattle.flock_tool.specs.declared.status.Stop.{Stop}
 use Rattle.flock_tool.proofs.Commanding.{gen_few, load_few, none_accepted, none_status, of_none, of_one}
-use Rattle.flock_tool.proofs.Completing.{whole}
+use Rattle.flock_tool.proofs.Completing.{load_keeps, none_keeps, run_keeps, whole, whole_alone}
 use Rattle.flock_tool.proofs.Ends.{stop_at_2}
 use Rattle.flock_tool.proofs.tool.flock.Goals as goal
 
@@ -16,6 +16,12 @@ returns-in-Err-clause-commands g c =
 
 pub returns-in-Err-clause-complete : goal.returns-in-Err-clause-complete
 returns-in-Err-clause-complete g c = λ command is. whole c.refuse.result _ _ _ _ command (returns-in-Err-clause-commands g c command is)
+
+pub returns-in-Err-clause-alone : goal.returns-in-Err-clause-alone
+returns-in-Err-clause-alone g c = λ command is. whole_alone c.refuse.result _ _ _ _ command (returns-in-Err-clause-commands g c command is)
+
+pub returns-in-Err-clause-versions : goal.returns-in-Err-clause-versions
+returns-in-Err-clause-versions g c = none_keeps c.refuse.result c.refuse.ensures.none
 
 pub returns-in-Err-clause-accepted : goal.returns-in-Err-clause-accepted
 returns-in-Err-clause-accepted g c = λ accepted two. none_accepted (texts c.args.words.now) c.in-Err.stop c.in-Err.ensures.refused accepted (sym c.refuse.ensures.status ∙ two)
@@ -42,6 +48,12 @@ returns-in-Run-clause-commands g c =
 pub returns-in-Run-clause-complete : goal.returns-in-Run-clause-complete
 returns-in-Run-clause-complete g c = λ command is. whole c.run_command.result _ _ _ _ command (returns-in-Run-clause-commands g c command is)
 
+pub returns-in-Run-clause-alone : goal.returns-in-Run-clause-alone
+returns-in-Run-clause-alone g c = λ command is. whole_alone c.run_command.result _ _ _ _ command (returns-in-Run-clause-commands g c command is)
+
+pub returns-in-Run-clause-versions : goal.returns-in-Run-clause-versions
+returns-in-Run-clause-versions g c = run_keeps c.in-Run.options c.run_command.result _ _ _ _ c.run_command.ensures.ends
+
 pub returns-in-Run-clause-words : goal.returns-in-Run-clause-words
 returns-in-Run-clause-words g c = λ not. absurd (not (c.in-Ok.command, c.in-Ok.ensures.read))
 
@@ -56,6 +68,12 @@ returns-in-Gen-clause-commands g c =
 
 pub returns-in-Gen-clause-complete : goal.returns-in-Gen-clause-complete
 returns-in-Gen-clause-complete g c = λ command is. whole _ _ _ _ _ command (returns-in-Gen-clause-commands g c command is)
+
+pub returns-in-Gen-clause-alone : goal.returns-in-Gen-clause-alone
+returns-in-Gen-clause-alone g c = λ command is. whole_alone _ _ _ _ _ command (returns-in-Gen-clause-commands g c command is)
+
+pub returns-in-Gen-clause-versions : goal.returns-in-Gen-clause-versions
+returns-in-Gen-clause-versions g c = none_keeps (c.gen_command.result, None) refl
 
 pub returns-in-Gen-clause-accepted : goal.returns-in-Gen-clause-accepted
 returns-in-Gen-clause-accepted g c = λ accepted. (gen_few c.in-Gen.plan c.gen_command.result _ _ c.gen_command.ensures).0
@@ -83,6 +101,12 @@ returns-in-Load-clause-commands g c =
 
 pub returns-in-Load-clause-complete : goal.returns-in-Load-clause-complete
 returns-in-Load-clause-complete g c = λ command is. whole c.load_command.result _ _ _ _ command (returns-in-Load-clause-commands g c command is)
+
+pub returns-in-Load-clause-alone : goal.returns-in-Load-clause-alone
+returns-in-Load-clause-alone g c = λ command is. whole_alone c.load_command.result _ _ _ _ command (returns-in-Load-clause-commands g c command is)
+
+pub returns-in-Load-clause-versions : goal.returns-in-Load-clause-versions
+returns-in-Load-clause-versions g c = load_keeps c.in-Load.load c.load_command.result _ _ _ c.load_command.ensures
 
 pub returns-in-Load-clause-accepted : goal.returns-in-Load-clause-accepted
 returns-in-Load-clause-accepted g c = λ accepted. (load_few c.in-Load.load c.load_command.result _ _ _ c.load_command.ensures).0

@@ -28,4 +28,5 @@ returns-in-Ok-clause-job g c =
       };
       number = ap (λ y. y.number) c.in-Ok.ensures.worker ∙ c.requires.keeper.keeper.as_many;
       requests = own ∙ ap (λ n. own_requests n c.args.worker c.args.table.now.requests) as_many;
+      fresh = ap (λ y. y.part.records.finished) c.in-Ok.ensures.worker;
     }

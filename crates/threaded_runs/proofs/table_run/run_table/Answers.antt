@@ -1,4 +1,5 @@
-use Rattle.std.proofs.Common.{rules, ◌≡◌, ℕ, length, subst, sym, ap, ◌∙◌, arith, vec_len}
+use Rattle.std.proofs.Common.{rules, ◌≡◌, ℕ, ◌<◌, length, subst, sym, ap, ◌∙◌, arith, vec_len}
+use Rattle.machine_states.specs.First.{keeper_part}
 use Rattle.machine_states.specs.World.{World}
 use Rattle.machine_states.specs.Reached.{Reached}
 use Rattle.machine_states.specs.Sight.{sight}
@@ -11,16 +12,22 @@ use Rattle.structure_laws.specs.Planner.{PlannerLaws}
 use Rattle.serving.specs.reached_histories.specs.Laws.{ReachedHaveHistories}
 use Rattle.serving.specs.request_facts.specs.Laws.{ReachedCallersStand}
 use Rattle.closed_words.specs.Histories.{HaveHistory}
+use Rattle.version_counts.specs.Versions.{VersionsAreCounted}
+use Rattle.slots_in_use.specs.InUse.{FewAreInUse}
+use Rattle.keeper_facts.specs.Freed.{LocksTell}
+use Rattle.lone_attempts.specs.Lone.{LoneAttemptsAreServed}
+use Rattle.threaded_runs.specs.Lone.{ServesAlone}
 use Rattle.threaded_runs.specs.Runs.{AreServed}
 use Rattle.threaded_runs.proofs.Keeping.{has_all, may_settle, settled_all}
 use Rattle.threaded_runs.proofs.Seats.{are_back}
 use Rattle.threaded_runs.proofs.Ending.{IsLawful, all_served}
+use Rattle.threaded_runs.proofs.Lone.{IsFresh, IsLawfulAlone, served_alone}
 use Rattle.threaded_runs.proofs.table_run.run_table.Goals as goal
 
 pub gather-requires-clause-back : goal.gather-requires-clause-back
 gather-requires-clause-back g c κs within =
     let t = c.in_ok-table.table in
-    are_back (g.S.Structure.meaning t.structure) (g.S.Planner.planning t.structure) c.args.retry_short g.G.Gate.Gate.halts t c.in_ok-keeper.jobs.items c.in_ok-finished.finished.items (search rules)
+    are_back (g.S.Structure.meaning t.structure) (g.S.Planner.planning t.structure) c.args.retry_short g.G.Gate.Gate.halts g.G.Gate.Gate.asks t c.in_ok-keeper.jobs.items c.in_ok-finished.finished.items (search rules)
     c.in_ok-keeper.ensures.jobs c.in_ok-keeper.ensures.unasked c.in_ok-finished.ensures.each
 
 pub settle-keeper-requires-clause-next : goal.settle-keeper-requires-clause-next
@@ -71,6 +78,29 @@ returns-clause-served g c =
     let all = has_all m t keeper (vec_len c.in_ok-finished.finished) c.in_ok-keeper-2.ensures.own c.in_ok-keeper-2.ensures.keeper (search rules) in
     let number = c.settle-keeper.ensures.settles.number ∙ all.number in
     let history : HaveHistory m c.close-words.result = subst (λ s. HaveHistory (g.S.Structure.meaning s) c.close-words.result) c.close-words.ensures.structure c.closed_words_have_a_history.ensures in
-    subst (λ s. AreServed (g.S.Structure.meaning s) c.close-words.result c.args.retry_short c.in_ok-keeper-2.answers.items) c.in_ok-table.ensures.table.structure
-    (all_served m planning c.args.retry_short t lawful keeper settled c.close-words.result c.settle-keeper.ensures.own number c.settle-keeper.ensures.settles c.close-words.ensures g.G.Gate.Gate.halts
-    c.in_ok-keeper.jobs.items c.in_ok-finished.finished.items c.in_ok-keeper-2.answers.items (search rules) (search rules) (search rules) c.in_ok-keeper.ensures.jobs c.in_ok-finished.ensures.each c.in_ok-keeper-2.ensures.kept history)
+    let alone : IsLawfulAlone m planning.per_pair t = record {
+      versions = subst (λ s. (w : World) → Reached (g.S.Structure.meaning s) t.layout t.requests w → VersionsAreCounted t.layout (sight (g.S.Structure.meaning s) t.layout t.requests w)) c.structure-11.ensures
+          (λ w reached. c.versions_are_counted.ensures t.layout t.requests w limits allowed reached);
+      in_use = subst (λ s. (n : ℕ) → PlannerLaws (g.S.Structure.meaning s) n → (w : World) → Reached (g.S.Structure.meaning s) t.layout t.requests w
+          → FewAreInUse n (g.S.Structure.meaning s) t.layout t.requests (sight (g.S.Structure.meaning s) t.layout t.requests w)) c.structure-12.ensures
+          (λ n planner w reached. c.few_slots_are_in_use.ensures n t.layout t.requests w planner limits allowed reached) _ (plans.plans_lawfully t.structure);
+      tells = subst (λ s. (w : World) → Reached (g.S.Structure.meaning s) t.layout t.requests w → LocksTell (g.S.Structure.meaning s) t.layout (sight (g.S.Structure.meaning s) t.layout t.requests w)) c.structure-13.ensures
+          (λ w reached. c.what_the_keeper_saw_tells.ensures t.layout t.requests w limits allowed reached);
+    } in
+    let attempts_go : LoneAttemptsAreServed g.row.S.Denot m planning =
+    subst (λ s. LoneAttemptsAreServed g.row.S.Denot (g.S.Structure.meaning s) (g.S.Planner.planning s)) c.structure-14.ensures c.lone_attempts_are_served.ensures in
+    let idle = c.in_ok-keeper-2.ensures.keeper in
+    let as_many : vec_len c.in_ok-finished.finished ≡ t.layout.runners = search rules in
+    let fresh : IsFresh m t keeper = record {
+      told = λ worker few. idle.told worker (subst (λ n. worker < n) (sym as_many) few);
+      nodes = idle.nodes ∙ ap (λ l. (keeper_part m l).nodes) c.in_ok-keeper-2.ensures.own.layout;
+      finished = ap length idle.finished;
+    } in
+    subst (λ s. AreServed (g.S.Structure.meaning s) c.close-words.result c.args.retry_short c.in_ok-keeper-2.answers.items
+    × ServesAlone (g.S.Structure.meaning s) (g.S.Planner.planning s).per_pair c.close-words.result c.in_ok-keeper-2.answers.items) c.in_ok-table.ensures.table.structure (
+      all_served m planning c.args.retry_short t lawful keeper settled c.close-words.result c.settle-keeper.ensures.own number c.settle-keeper.ensures.settles c.close-words.ensures g.G.Gate.Gate.halts g.G.Gate.Gate.asks
+          c.in_ok-keeper.jobs.items c.in_ok-finished.finished.items c.in_ok-keeper-2.answers.items (search rules) (search rules) (search rules) c.in_ok-keeper.ensures.jobs c.in_ok-finished.ensures.each c.in_ok-keeper-2.ensures.kept history,
+      λ one. served_alone m planning c.args.retry_short t lawful keeper settled c.close-words.result c.settle-keeper.ensures.own number c.settle-keeper.ensures.settles c.close-words.ensures g.G.Gate.Gate.halts g.G.Gate.Gate.asks
+          c.in_ok-keeper.jobs.items c.in_ok-finished.finished.items c.in_ok-keeper-2.answers.items (search rules) (search rules) (search rules) c.in_ok-keeper.ensures.jobs c.in_ok-finished.ensures.each c.in_ok-keeper-2.ensures.kept history
+          planning.per_pair alone fresh (ap (λ l. l.runners) (sym c.close-words.ensures.layout) ∙ one) attempts_go,
+    )

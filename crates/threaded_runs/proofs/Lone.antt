@@ -1,0 +1,197 @@
+-- The end of a run with one worker.
+use Rattle.std.specs.Prelude.{◌*◌, Bool, slice_get}
+use Rattle.std.proofs.Common.{◌≡◌, ◌≢◌, ℕ, ◌+◌, ◌<◌, ◌≤◌, List, [], length, refl, sym, ap, ◌∙◌, subst, arith, ⊎_elim, true, None, Some, get_or}
+use Rattle.std.proofs.lemmas.Option.{slice_get-get_or, get_or_from_slice_get}
+use Rattle.map_history.specs.declared.op.Request.{Request}
+use Rattle.map_sizes.specs.Sizes.{peak}
+use Rattle.section_body.specs.Word.{version_of}
+use Rattle.table_words.specs.declared.layout.Layout.{Layout}
+use Rattle.table_words.specs.declared.spot.Spot.TheVariants.{Cell}
+use Rattle.table_words.specs.Limits.{IsWithinLimits}
+use Rattle.structure_laws.specs.Meaning.{Meaning}
+use Rattle.runner_parts.specs.State.{PartState}
+use Rattle.runner_parts.specs.Tests.{has}
+use Rattle.runner_steps.specs.After.{leaves}
+use Rattle.machine_states.specs.World.{World}
+use Rattle.machine_states.specs.First.{keeper_part}
+use Rattle.machine_states.specs.Reached.{Reached}
+use Rattle.machine_states.specs.Sight.{sight}
+use Rattle.serving.specs.machine_invariant.specs.After.{AreAllowed}
+use Rattle.serving.specs.machine_invariant.specs.Lengths.{entry_count}
+use Rattle.serving.specs.reached_histories.specs.Laws.{HasHistory}
+use Rattle.serving.specs.version_words.specs.RunnerState.{RunnerState}
+use Rattle.serving.specs.version_words.specs.Shown.{left_part}
+use Rattle.serving.specs.version_words.specs.TableState.{TableState, WordsState, IsOf, IsClosing, word_of}
+use Rattle.serving.specs.epoch_slots.specs.Collects.{IsTidy}
+use Rattle.serving.specs.epoch_slots.specs.Reserves.{counts_of}
+use Rattle.serving.specs.epoch_slots.specs.declared.reserves.Kind.TheVariants as slots
+use Rattle.serving.specs.epoch_slots.specs.declared.reserves.Short.{Short}
+use Rattle.serving.specs.try_lock.specs.Planning.{Planning}
+use Rattle.serving.specs.Serving.{is_crossed, Ends, ServedRuns, WasCrossed}
+use Rattle.serving.specs.attempts.specs.declared.answers.Attempt.{Attempt}
+use Rattle.serving.specs.attempts.specs.declared.answers.Attempt.TheVariants as attempts
+use Rattle.lone_attempts.specs.Lone.{LoneAttemptsAreServed, NobodyCameBetween}
+use Rattle.serving.specs.declared.answers.Served.{Served}
+use Rattle.serving.specs.declared.answers.Served.TheVariants as stops
+use Rattle.closed_words.specs.Histories.{HaveHistory}
+use Rattle.version_counts.specs.Versions.{VersionsAreCounted}
+use Rattle.slots_in_use.specs.InUse.{FewAreInUse}
+use Rattle.keeper_facts.specs.Freed.{IsFreed, LocksTell}
+use Rattle.settling.specs.Settled.{Settles}
+use Rattle.threaded_runs.specs.declared.job.Job.{Job}
+use Rattle.threaded_runs.specs.declared.job.Finished.{Finished}
+use Rattle.threaded_runs.specs.Own.{own_requests}
+use Rattle.threaded_runs.specs.Jobs.{AllSeated, AllRun, AllKept, HasRun, IsSeated}
+use Rattle.threaded_runs.specs.Lone.{AreServedAlone, ServesAlone}
+use Rattle.threaded_runs.specs.Runs.{AreEntered, HasServed}
+use Rattle.threaded_runs.proofs.Seats.{some_of}
+use Rattle.threaded_runs.proofs.Closing.{end, part_is}
+use Rattle.threaded_runs.proofs.Ending.{IsLawful, settled, worker_served}
+use Rattle.threaded_runs.proofs.Alone.{all_own, none_freed, few_versions, few_slots}
+
+-- what is known beside it where there is one worker
+pub record IsLawfulAlone {T : Type 0} (m : Meaning) (per_pair : ℕ) (t : TableState T) : Type 0 where
+  pub versions : (w : World) → Reached m t.layout t.requests w → VersionsAreCounted t.layout (sight m t.layout t.requests w)
+  pub in_use : (w : World) → Reached m t.layout t.requests w → FewAreInUse per_pair m t.layout t.requests (sight m t.layout t.requests w)
+  pub tells : (w : World) → Reached m t.layout t.requests w → LocksTell m t.layout (sight m t.layout t.requests w)
+
+-- the keeper once it has joined the workers and before it settles the table: it has run nothing
+pub record IsFresh {T : Type 0} (m : Meaning) (t : TableState T) (keeper : RunnerState T) : Type 0 where
+  pub told : (worker : ℕ) → worker < t.layout.runners → has keeper.part.records.joined worker ≡ true
+  pub nodes : keeper.part.nodes ≡ (keeper_part m t.layout).nodes
+  pub finished : length keeper.part.records.finished ≡ 0
+
+not_crossed : (answer : Attempt) → is_crossed answer ≡ true → NobodyCameBetween answer → ⊥
+not_crossed (attempts.Busy place word) crossed nobody = nobody
+not_crossed (attempts.Stale place expected read) crossed nobody = nobody
+not_crossed (attempts.Far loads) crossed nobody = nobody
+not_crossed (attempts.Done reply stamp) crossed nobody = absurd (let z = crossed in cc)
+not_crossed (attempts.Short short) crossed nobody = absurd (let z = crossed in cc)
+not_crossed (attempts.Spent place word) crossed nobody = absurd (let z = crossed in cc)
+not_crossed attempts.Halted crossed nobody = absurd (let z = crossed in cc)
+
+most_runs : (answer : Served) (count before behind : ℕ) → ServedRuns answer count before behind → behind ≤ before + (count + 1)
+most_runs stops.All count before behind runs = omega (arith, runs)
+most_runs (stops.Short short) count before behind runs = omega (arith, runs)
+most_runs (stops.Spent place word) count before behind runs = runs
+most_runs stops.Halted count before behind runs = runs
+
+module _ {T H : Type 0} (m : Meaning) (planning : Planning) (retry_short : Bool) (t : TableState T) (lawful : IsLawful m t) (gathered keeper : RunnerState T) (w : WordsState T)
+    (own : IsOf t keeper) (number : keeper.number ≡ t.layout.runners) (settles : Settles m gathered keeper) (closing : IsClosing m t keeper w)
+    (halts asks : H → ℕ) (jobs : List (Job T H)) (finished : List (Finished T H)) (answers : List Served) (each : length answers ≡ t.layout.runners) (as_many : length jobs ≡ t.layout.runners)
+    (back : length finished ≡ length jobs) (seated : AllSeated planning t jobs) (run : AllRun m planning retry_short halts asks t jobs finished) (kept : AllKept gathered answers finished) (history : HaveHistory m w)
+    (per_pair : ℕ) (alone : IsLawfulAlone m per_pair t) (fresh : IsFresh m t gathered) (one : t.layout.runners ≡ 1)
+    (attempts_go : LoneAttemptsAreServed T m planning) where
+  low : 0 < t.layout.runners
+  low = omega (arith, one)
+
+  here : 0 < length answers
+  here = omega (arith, each, one)
+
+  seat : 0 < length jobs
+  seat = omega (arith, as_many, one)
+
+  abbrev answer : Served
+  answer = get_or answers 0 stops.All
+
+  at : slice_get answers 0 ≡ Some answer
+  at = slice_get-get_or answers 0 stops.All here
+
+  abbrev j : Job T H
+  j = get_or jobs 0 (some_of jobs 0 seat)
+
+  abbrev f : Finished T H
+  f = get_or finished 0 (some_of finished 0 (subst (λ (n : ℕ). 0 < n) (sym back) seat))
+
+  has_run : HasRun m planning retry_short halts asks t j f
+  has_run = run 0 (some_of jobs 0 seat) (some_of finished 0 (subst (λ (n : ℕ). 0 < n) (sym back) seat)) seat
+
+  is_seated : IsSeated planning t 0 j
+  is_seated = seated 0 (some_of jobs 0 seat) seat
+
+  same : answer ≡ f.answer
+  same = (kept 0 stops.All (some_of finished 0 (subst (λ (n : ℕ). 0 < n) (sym back) seat)) here).same
+
+  abbrev p : PartState
+  p = f.runner.part
+
+  p_is : (end m t keeper w closing).part 0 ≡ leaves p
+  p_is = part_is m t keeper w closing 0 p low (ap (λ js. left_part js 0) settles.joined ∙ (kept 0 stops.All (some_of finished 0 (subst (λ (n : ℕ). 0 < n) (sym back) seat)) here).part)
+
+  -- no attempt was refused since another one came between
+  uncrossed : WasCrossed m planning j.runner → ⊥
+  uncrossed is = not_crossed is.answer is.crossed (attempts_go.refused is.request is.answer is.before is.cut (record {
+    limits = subst IsWithinLimits (sym layout_is) lawful.limits;
+    allowed = subst AreAllowed (sym (is.requests ∙ is_seated.may.own.requests)) lawful.allowed;
+    one = ap (λ (l : Layout). l.runners) layout_is ∙ one;
+  }) is.refused)
+    where
+      layout_is : is.before.layout ≡ t.layout
+      layout_is = is.layout ∙ is_seated.may.own.layout
+
+  few_runs : length p.records.finished ≤ length t.requests + 1
+  few_runs = ⊎_elim (λ crossed. absurd (uncrossed crossed)) (λ brief. by f.answer brief.runs) has_run.serves.brief
+    where
+      served : has_run.serves.count ≤ length t.requests
+      served = subst (λ (rs : List Request). has_run.serves.count ≤ length rs)
+          (is_seated.requests ∙ (ap (λ n. own_requests n 0 t.requests) one ∙ all_own t.requests)) has_run.serves.served.few
+
+      by : (a : Served) → ServedRuns a has_run.serves.count (length j.runner.part.records.finished) (length p.records.finished)
+          → length p.records.finished ≤ length t.requests + 1
+      by a runs = let most = most_runs a has_run.serves.count (length j.runner.part.records.finished) (length p.records.finished) runs in
+          let none : length j.runner.part.records.finished ≡ 0 = ap length is_seated.fresh in omega (arith, most, none, served)
+
+  module _ (went : answer ≢ stops.Halted) where
+    tidy : IsTidy f.runner
+    tidy = by f.answer (λ e. went (same ∙ e)) has_run.serves.ends
+      where
+        by : (a : Served) → a ≢ stops.Halted → Ends m planning retry_short j.requests.items a has_run.serves.count j.runner f.runner → IsTidy f.runner
+        by stops.All not ends = ends.1
+        by (stops.Short short) not ends = ends.2.tidy
+        by (stops.Spent place word) not ends = ends.2.tidy
+        by stops.Halted not ends = absurd (not refl)
+
+    none : (d : ℕ) → IsFreed m keeper.part.records.left d → ⊥
+    none = none_freed m t keeper w closing one p p_is tidy.at.published (alone.tells closing.world closing.reached)
+        (λ worker few. ap (λ xs. has xs worker) settles.told ∙ fresh.told worker few)
+
+    versions : (place : ℕ) → version_of (word_of m w (Cell place)) ≤ 4 * length w.requests + 5
+    versions = few_versions m t keeper w closing one p p_is tidy.at.published (alone.versions closing.world closing.reached) tidy.at.resting
+        settles.tidy.at.resting settles.tidy.at.published ((settles.quiet none).1 ∙ fresh.finished) few_runs
+
+    slots_at : (short : Short) → slice_get answers 0 ≡ Some (stops.Short short) → short.kind ≡ slots.Node
+        → w.layout.nodes ≤ short.free + (short.limbo + short.worn) + per_pair * peak w.requests
+    slots_at short is kind =
+        let free : short.free ≡ length p.nodes.free = ap (λ (x : Short). x.free) counts in
+        let limbo : short.limbo ≡ length p.nodes.limbo = ap (λ (x : Short). x.limbo) counts in
+        let worn_out : short.worn ≡ length p.nodes.worn = ap (λ (x : Short). x.worn) counts in
+        let hand : length p.nodes.hand ≡ 0 = ap length tidy.hand in
+        let nodes : w.layout.nodes ≡ t.layout.nodes = ap (λ (l : Layout). l.nodes) closing.layout in
+        let largest : per_pair * peak w.requests ≡ per_pair * peak t.requests = ap (λ (rs : List Request). per_pair * peak rs) closing.requests in
+        omega (arith, few, free, limbo, worn_out, hand, nodes, largest)
+      where
+        is_short : f.answer ≡ stops.Short short
+        is_short = sym same ∙ get_or_from_slice_get answers 0 (stops.Short short) stops.All is
+
+        ends : Ends m planning retry_short j.requests.items (stops.Short short) has_run.serves.count j.runner f.runner
+        ends = subst (λ (a : Served). Ends m planning retry_short j.requests.items a has_run.serves.count j.runner f.runner) is_short has_run.serves.ends
+
+        counts : short ≡ counts_of f.runner slots.Node
+        counts = ends.2.stops.cause.counts ∙ ap (counts_of f.runner) kind
+
+        served : HasServed m w retry_short (own_requests t.layout.runners 0 t.requests) (stops.Short short)
+        served = worker_served m planning retry_short t lawful gathered keeper w own number settles closing halts asks jobs finished answers each as_many back seated run kept history 0 (stops.Short short) is
+
+        entered : AreEntered m w t.requests served.count
+        entered = subst (λ (rs : List Request). AreEntered m w rs served.count) (ap (λ n. own_requests n 0 t.requests) one ∙ all_own t.requests) served.entered
+
+        few : t.layout.nodes ≤ entry_count p.nodes + per_pair * peak t.requests
+        few = few_slots m t keeper w closing one p p_is tidy.at.published per_pair (alone.in_use closing.world closing.reached)
+            (settled m planning retry_short t lawful gathered keeper w own number settles closing).free
+            (lawful.histories lawful.limits lawful.allowed closing.world closing.reached) lawful.is_map lawful.allowed.in_order
+            ((settles.quiet none).0 ∙ fresh.nodes) served.count entered
+
+  pub served_alone : slice_get answers 0 ≢ Some stops.Halted → AreServedAlone m per_pair w answers
+  served_alone unhalted =
+      let went : answer ≢ stops.Halted = λ e. unhalted (at ∙ ap Some e) in
+      record { versions = versions went; slots = slots_at went }

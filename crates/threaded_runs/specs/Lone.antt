@@ -1,0 +1,25 @@
+-- What a run leaves where there is one worker.
+use Rattle.std.specs.Prelude.{◌≡◌, ◌≢◌, ℕ, ◌+◌, ◌*◌, ◌≤◌, List, length, Some, slice_get}
+use Rattle.map_sizes.specs.Sizes.{peak}
+use Rattle.section_body.specs.Word.{version_of}
+use Rattle.table_words.specs.declared.spot.Spot.TheVariants.{Cell}
+use Rattle.structure_laws.specs.Meaning.{Meaning}
+use Rattle.serving.specs.version_words.specs.TableState.{WordsState, word_of}
+use Rattle.serving.specs.epoch_slots.specs.declared.reserves.Kind.TheVariants as kinds
+use Rattle.serving.specs.epoch_slots.specs.declared.reserves.Short.{Short}
+use Rattle.serving.specs.declared.answers.Served.{Served}
+use Rattle.serving.specs.declared.answers.Served.TheVariants as answers
+
+module _ {T : Type 0} (m : Meaning) (per_pair : ℕ) (w : WordsState T) where
+  -- what the one worker leaves with this answer
+  pub record AreServedAlone (given : List Served) : Type 0 where
+    -- each request was run once at most, and one of them once more; each run raised a cell's version by four at most
+    pub versions : (place : ℕ) → version_of (word_of m w (Cell place)) ≤ 4 * length w.requests + 5
+    -- where it lacked node slots: all its own are free, in limbo or worn, but for so many at most for each pair of the largest map
+    -- that its requests leave on their way
+    pub slots : (short : Short) → slice_get given 0 ≡ Some (answers.Short short) → short.kind ≡ kinds.Node
+        → w.layout.nodes ≤ short.free + (short.limbo + short.worn) + per_pair * peak w.requests
+
+  -- so it is with one worker that wasn't halted
+  abbrev pub ServesAlone : List Served → Type 0
+  ServesAlone given = w.layout.runners ≡ 1 → slice_get given 0 ≢ Some answers.Halted → AreServedAlone given
