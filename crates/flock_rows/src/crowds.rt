@@ -1,4 +1,5 @@
-//! Rows of several runners: scripts by which they run beside one another, and reports that are legal whoever came first.
+//! Rows of several runners: scripts by which they run beside one another, and reports that are
+//! legal whoever came first.
 
 use crate::legal::is_legal;
 use crate::program::{Ended, TABLES, bytes_of, run, run_gated};
@@ -34,8 +35,9 @@ fn script_gives<T: Threads + Wait + Sync>(
     Ok(ended.is(0, &bytes_of(alloc, report)?, b""))
 }
 
-// Runner 0 publishes and waits until runner 1 is through, and runner 1 enters only when it has: so runner 1 meets the lock held and runs the
-// section in it to its end. Workers of one thread, one after the other, wait in vain, in either order, and so do those of whom one holds a mutex
+// Runner 0 publishes and waits until runner 1 is through, and runner 1 enters only when it has: so
+// runner 1 meets the lock held and runs the section in it to its end. Workers of one thread, one
+// after the other, wait in vain, in either order, and so do those of whom one holds a mutex
 // meanwhile: the script halts the runner that waits, and the status is 1.
 #[test]
 fn a_waiting_section_is_helped(rt: HostRuntime) -> Result<(), Fail> {
@@ -56,7 +58,8 @@ fn a_waiting_section_is_helped(rt: HostRuntime) -> Result<(), Fail> {
     Ok(())
 }
 
-// Runner 1 helps runner 0's section, and runner 2 helps runner 1's: three threads, each inside its attempt while the next one goes on.
+// Runner 1 helps runner 0's section, and runner 2 helps runner 1's: three threads, each inside its
+// attempt while the next one goes on.
 #[test]
 fn helpers_are_helped(rt: HostRuntime) -> Result<(), Fail> {
     let alloc = rt.alloc();

@@ -1,5 +1,5 @@
-//! A check of reports that knows nothing of how they came about: it reads the lines, and replays the requests in the order of their
-//! ranks on a plain map.
+//! A check of reports that knows nothing of how they came about: it reads the lines, and replays
+//! the requests in the order of their ranks on a plain map.
 
 use itoa::Buffer;
 use map_history::{Book, Reply, Request};
@@ -55,7 +55,8 @@ fn is_printed(reply: Reply, text: &str) -> bool {
     }
 }
 
-/// The rows of a report, one for each request, and its last number. None where a line isn't what stands in its place.
+/// The rows of a report, one for each request, and its last number. None where a line isn't what
+/// stands in its place.
 fn rows_of<'a>(
     alloc: Global,
     traces: &Traces,
@@ -84,8 +85,8 @@ fn rows_of<'a>(
     }
 }
 
-/// Whether of two rows, one behind the other, the later one may stand behind the earlier one: in one trace ranks rise, and nothing is
-/// served behind an unserved request.
+/// Whether of two rows, one behind the other, the later one may stand behind the earlier one: in
+/// one trace ranks rise, and nothing is served behind an unserved request.
 fn may_follow(earlier: &Row<'_>, later: &Row<'_>) -> bool {
     match (earlier.rank, later.rank) {
         _ if earlier.trace != later.trace => true,
@@ -117,7 +118,8 @@ fn order_of(alloc: Global, rows: &[Row<'_>]) -> Result<Option<Vec<usize>>, Alloc
     Ok(Some(order))
 }
 
-/// Whether a plain map that serves the requests in this order gives the printed replies, and holds so many pairs in the end.
+/// Whether a plain map that serves the requests in this order gives the printed replies, and holds
+/// so many pairs in the end.
 fn is_replayed(
     alloc: Global,
     requests: &[Request],

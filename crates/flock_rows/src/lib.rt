@@ -1,16 +1,17 @@
-//! Worked rows of the whole program, as tests: `flock` of `flock_tool` over streams in memory, on the hash table and on the search tree.
+//! Worked rows of the whole program, as tests: `flock` of `flock_tool` over streams in memory, on
+//! the hash table and on the search tree.
 //!
-//! `program` runs the program on a text, and `legal` is a check of reports of its own. `reports` has the rows whose text one runner
-//! determines, `stops` those in which a runner is stopped at an ask, `crowds` those of several runners, and `streams` those of texts that
-//! are cut off, and of reads and writes that fail.
+//! `program` runs the program on a text, and `legal` is a check of reports of its own. `reports`
+//! has the rows whose text one runner determines, `stops` those in which a runner is stopped at an
+//! ask, `crowds` those of several runners, and `streams` those of texts that are cut off, and of
+//! reads and writes that fail.
 #![tactic(auto)]
 
 #[cfg(test)]
 mod crowds;
 #[cfg(test)]
 mod legal;
-#[cfg(test)]
-mod program;
+pub mod program;
 #[cfg(test)]
 mod reports;
 #[cfg(test)]

@@ -1,12 +1,14 @@
 //! The program over streams in memory.
+ghost use Rattle.std.specs.Prelude.{◌≡◌, ◌≢◌, ◌≤◌, [], IfOk};
+ghost use Rattle.tool_rows.specs.flock_tool.specs.Runs.{IsRunStatus};
 
-use flock_tool::flock;
-use report_text::{MemorySink, Sink};
+use report_text::MemorySink;
 use runner_gate::{Gates, PlannedGates};
 use std::alloc::{AllocError, Global};
 use std::sync::Wait;
 use std::thread::Threads;
-use trace_reader::{Source, SureSource};
+use tool_rows::{quiet_sink, status_of};
+use trace_reader::SureSource;
 
 /// The two tables that serve the requests.
 pub const TABLES: [&str; 2] = ["hash", "tree"];
@@ -42,34 +44,19 @@ pub fn bytes_of(alloc: Global, row: &str) -> Result<Vec<u8>, AllocError> {
     Ok(bytes)
 }
 
-/// A sink that holds nothing, and takes all that it is given.
-pub fn quiet_sink(alloc: Global) -> MemorySink {
-    MemorySink::new(alloc, Vec::new(alloc), Vec::new(alloc))
-}
-
-/// The status of a command over these streams, by these gates.
-pub fn status_of<T: Threads + Wait + Sync, R: Source, K: Sink, F: Sink, G: Gates>(
-    rt: &T,
-    alloc: Global,
-    words: &[&str],
-    source: &mut R,
-    sink: &mut K,
-    faults: &mut F,
-    gates: &mut G,
-) -> u8 {
-    let (status, ran) = flock(rt, alloc, words, source, sink, faults, gates);
-    drop(ran);
-    status
-}
-
-/// Runs the words of a command line on a text, by these gates.
+/// Runs the words of a command line on a text, by these gates. Where the status isn't that of a run
+/// nothing is printed, and but at 9 no write failed.
 pub fn run_gated<T: Threads + Wait + Sync, G: Gates>(
     rt: &T,
     alloc: Global,
     line: &str,
     text: Vec<u8>,
     gates: &mut G,
-) -> Result<Ended, AllocError> {
+) -> Result<Ended, AllocError>
+    ensures statuses { IfOk result (λ ended. ended.status ≤ 9) }
+    ensures silent { IfOk result (λ ended. (IsRunStatus ended.status → ⊥) → ended.sink.bytes ≡ []) }
+    ensures written { IfOk result (λ ended. ended.status ≢ 9 → ended.sink.faults ≡ 0) }
+{
     let words: Vec<&str> = line.split_whitespace().collect(alloc)?;
     let mut source = SureSource::new(text, Vec::new(alloc));
     let (mut sink, mut faults) = (quiet_sink(alloc), quiet_sink(alloc));
@@ -95,6 +82,10 @@ pub fn run<T: Threads + Wait + Sync>(
     alloc: Global,
     line: &str,
     text: Vec<u8>,
-) -> Result<Ended, AllocError> {
+) -> Result<Ended, AllocError>
+    ensures statuses { IfOk result (λ ended. ended.status ≤ 9) }
+    ensures silent { IfOk result (λ ended. (IsRunStatus ended.status → ⊥) → ended.sink.bytes ≡ []) }
+    ensures written { IfOk result (λ ended. ended.status ≢ 9 → ended.sink.faults ≡ 0) }
+{
     run_gated(rt, alloc, line, text, &mut PlannedGates::new())
 }

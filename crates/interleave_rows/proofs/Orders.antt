@@ -3,12 +3,10 @@ use Rattle.std.proofs.Common.{◌≡◌, ℕ, zero, suc, ◌<◌, ◌≤◌, Boo
 use Rattle.std.specs.Prelude.{◌&&◌, nat_lt, nat_le, slice_index_or, map}
 use Rattle.std.specs.List.{list_all, range_with_len}
 use Rattle.std.proofs.lemmas.Bool.Decides.{nat_tests}
+use Rattle.std.proofs.lemmas.Bool.{and_parts}
 use Rattle.map_history.specs.declared.op.Request.{Request}
 use Rattle.map_history.specs.Keys.{key_of}
 use Rattle.map_history.specs.Requests.{AreInOrder}
-
-both : (a b : Bool) → (a && b) ≡ true → (a ≡ true) × (b ≡ true)
-both a b e = (grind arith, grind arith)
 
 below : (a b : ℕ) → nat_lt a b ≡ true → a < b
 below a b e = grind (arith, nat_tests)
@@ -19,8 +17,8 @@ most a b e = grind (arith, nat_tests)
 -- a test passes at each place
 all_of : (p : Request → Bool) (xs : List Request) → list_all p xs ≡ true → (k : ℕ) (d : Request) → k < length xs → p (slice_index_or xs k d) ≡ true
 all_of p [] e k d low = absurd (omega arith)
-all_of p (x ∷ xs) e zero d low = (both (p x) (list_all p xs) e).0
-all_of p (x ∷ xs) e (suc k) d low = all_of p xs (both (p x) (list_all p xs) e).1 k d (omega arith)
+all_of p (x ∷ xs) e zero d low = (and_parts (p x) (list_all p xs) e).0
+all_of p (x ∷ xs) e (suc k) d low = all_of p xs (and_parts (p x) (list_all p xs) e).1 k d (omega arith)
 
 -- no trace is above a later one
 abbrev pub never_fall : List Request → Bool
@@ -30,9 +28,9 @@ never_fall (x ∷ xs) = list_all (λ y. nat_le x.trace y.trace) xs && never_fall
 rising_of : (xs : List Request) → never_fall xs ≡ true → (i j : ℕ) (d : Request) → i ≤ j → j < length xs → (slice_index_or xs i d).trace ≤ (slice_index_or xs j d).trace
 rising_of [] e i j d le low = absurd (omega arith)
 rising_of (x ∷ xs) e zero zero d le low = omega arith
-rising_of (x ∷ xs) e zero (suc j) d le low = most x.trace (slice_index_or xs j d).trace (all_of (λ y. nat_le x.trace y.trace) xs (both _ (never_fall xs) e).0 j d (omega arith))
+rising_of (x ∷ xs) e zero (suc j) d le low = most x.trace (slice_index_or xs j d).trace (all_of (λ y. nat_le x.trace y.trace) xs (and_parts _ (never_fall xs) e).0 j d (omega arith))
 rising_of (x ∷ xs) e (suc i) zero d le low = absurd (omega arith)
-rising_of (x ∷ xs) e (suc i) (suc j) d le low = rising_of xs (both _ (never_fall xs) e).1 i j d (omega arith) (omega arith)
+rising_of (x ∷ xs) e (suc i) (suc j) d le low = rising_of xs (and_parts _ (never_fall xs) e).1 i j d (omega arith) (omega arith)
 
 pub in_order : (xs : List Request) → length xs ≤ 131072 → map (λ (q : Request). q.number) xs ≡ range_with_len 0 (length xs) → list_all (λ q. nat_lt q.trace 64) xs ≡ true
     → never_fall xs ≡ true → list_all (λ q. nat_le (key_of q.op) 4294967293) xs ≡ true → AreInOrder xs 64

@@ -1,14 +1,12 @@
 //! Worked rows and random schedules on the pure machine, over its test structure.
 //!
-//! `rows` has helpers that make steps, and the rows; `random` has the random schedules, on the machine of `two_workers`, and
-//! `plain_runs` the runs in one go that they are compared with.
+//! `rows` has helpers that make steps, and the rows; `random` has the random schedules, on the
+//! machine of `two_workers`, and `plain_runs` the runs in one go that they are compared with.
 #![tactic(auto)]
 
-#[cfg(test)]
-mod plain_runs;
+pub mod plain_runs;
 #[cfg(test)]
 mod random;
 #[cfg(test)]
 mod rows;
-#[cfg(test)]
-mod two_workers;
+pub mod two_workers;

@@ -86,7 +86,8 @@ fn unlink_run(alloc: Global, operand: u64, number: Word, link: Word) -> Result<P
     in_one_go!(alloc, body, number, link)
 }
 
-/// The section that stores a number (form 101), or else makes a node behind the empty link or takes the linked one out.
+/// The section that stores a number (form 101), or else makes a node behind the empty link or takes
+/// the linked one out.
 pub fn plain_run(
     alloc: Global,
     form: u64,

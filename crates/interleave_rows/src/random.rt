@@ -1,4 +1,5 @@
-//! Random schedules of two workers and the keeper, against the plain runs of the sections that they publish.
+//! Random schedules of two workers and the keeper, against the plain runs of the sections that they
+//! publish.
 ghost use Rattle.std.specs.Prelude.{◌≡◌, ◌≤◌, length};
 ghost use Rattle.map_history.specs.Requests.{AreInOrder};
 ghost use Rattle.map_history.specs.declared.op.Op.TheVariants.{Get};
@@ -194,7 +195,8 @@ fn helps(machine: &mut TwoWorkers, runner: u32, numbers: &mut Numbers) -> bool {
     }
 }
 
-/// Stores the worker's next word, and gives the kinds that it may make where it can't or has none to store.
+/// Stores the worker's next word, and gives the kinds that it may make where it can't or has none
+/// to store.
 fn stores(machine: &mut TwoWorkers, worker: &mut Worker) -> Option<u64> {
     if worker.published || worker.next >= 77 {
         return Some(machine.kinds(worker.runner));
@@ -473,7 +475,8 @@ fn published(alloc: Global, machine: &TwoWorkers, worker: &Worker) -> Result<Sec
     })
 }
 
-/// After a worker's or the keeper's turn: a section that it published is run in one go, and one that it released is compared.
+/// After a worker's or the keeper's turn: a section that it published is run in one go, and one
+/// that it released is compared.
 fn agrees(
     alloc: Global,
     machine: &TwoWorkers,
@@ -496,7 +499,8 @@ fn agrees(
     }
 }
 
-/// What a schedule made: its events, sections and finished runs, and whether all of them agreed with the plain runs.
+/// What a schedule made: its events, sections and finished runs, and whether all of them agreed
+/// with the plain runs.
 #[derive(Clone, Copy)]
 struct Seen {
     events: u32,

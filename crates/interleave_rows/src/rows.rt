@@ -200,7 +200,8 @@ fn opens(machine: &mut Machine<Tray>, runner: u32, descriptor: u32) -> bool {
     goes(machine, runner, EventKind::LoadDone)
 }
 
-/// Makes a private step of a Make that fills a node of zeros, and none outside a run, where a request's word may be loaded.
+/// Makes a private step of a Make that fills a node of zeros, and none outside a run, where a
+/// request's word may be loaded.
 fn fills(machine: &mut Machine<Tray>, runner: u32) -> bool {
     if goes(
         machine,

@@ -1,6 +1,11 @@
 //! The machine with two workers and the keeper.
-ghost use Rattle.std.specs.Prelude.{◌≡◌, ◌≤◌, ◌<◌, length};
+ghost use Rattle.std.specs.Prelude.{◌≡◌, ◌≤◌, ◌<◌, IfOk, OnErr, OnOk, Some, true};
 ghost use Rattle.map_history.specs.Requests.{AreInOrder};
+ghost use Rattle.table_words.specs.declared.spot.Spot.TheVariants.{Cell, LogWord};
+ghost use Rattle.structure_laws.specs.Tray.{tray};
+ghost use Rattle.interleave_core.specs.Local.{part_of};
+ghost use Rattle.interleave_core.specs.Machine.{word_of};
+ghost use Rattle.interleave_rows.specs.Steps.{Makes, StandsFirst};
 
 use interleave_core::{Event, EventKind, Machine, StepError, Tray};
 use map_history::Request;
@@ -24,9 +29,11 @@ pub struct TwoWorkers {
 }
 
 impl TwoWorkers {
-    /// The first state.
+    /// The first state, with these requests.
     pub fn new(alloc: Global, requests: &[Request]) -> Result<TwoWorkers, AllocError>
         requires { AreInOrder requests.now 64 }
+        ensures first { IfOk result (λ two. StandsFirst two.machine) }
+        ensures requests { IfOk result (λ two. two.machine.requests ≡ requests.now) }
     {
         let layout = Layout {
             runners: 2,
@@ -38,13 +45,18 @@ impl TwoWorkers {
         Ok(TwoWorkers { machine })
     }
 
-    /// One event.
-    pub fn step(&mut self, runner: u32, kind: EventKind) -> Result<(), StepError> {
+    /// One event. Where it isn't enabled the machine is as it was.
+    pub fn step(&mut self, runner: u32, kind: EventKind) -> Result<(), StepError>
+        ensures made { OnOk result (Makes runner kind self.old.machine self.new.machine) }
+        ensures refused { OnErr result (self.new.machine ≡ self.old.machine) }
+    {
         self.machine.step(Event { runner, kind })
     }
 
     /// Makes this step, and says whether it was enabled.
-    pub fn goes(&mut self, runner: u32, kind: EventKind) -> bool {
+    pub fn goes(&mut self, runner: u32, kind: EventKind) -> bool
+        ensures { result ≡ true → Makes runner kind self.old.machine self.new.machine }
+    {
         self.step(runner, kind).is_ok()
     }
 
@@ -59,6 +71,7 @@ impl TwoWorkers {
     /// The word of the lock, the number or the link.
     pub fn cell(&self, place: Place) -> Word
         requires { place < 3 }
+        ensures { result ≡ word_of tray self.now.machine (Cell place) }
     {
         self.machine.cell(place)
     }
@@ -66,6 +79,7 @@ impl TwoWorkers {
     /// What a worker or the keeper is at and keeps.
     pub fn part(&self, runner: u32) -> &Part
         requires { runner ≤ 2 }
+        ensures { part_of self.now.machine.layout self.now.machine.world runner ≡ Some result.now }
     {
         self.machine.part(runner)
     }
@@ -74,6 +88,7 @@ impl TwoWorkers {
     pub fn log_word(&self, descriptor: u32, index: u32) -> u64
         requires descriptor { descriptor < 18 }
         requires index { index < 64 }
+        ensures { result ≡ word_of tray self.now.machine (LogWord descriptor index) }
     {
         self.machine.log_word(descriptor, index)
     }

@@ -14,15 +14,12 @@ use Rattle.try_lock.specs.version_words.specs.Naming.{load_of}
 use Rattle.try_lock.specs.version_words.proofs.Stages.{then_loaded_cell}
 use Rattle.try_lock.specs.epoch_slots.specs.Entries.{Enters}
 use Rattle.try_lock.specs.epoch_slots.proofs.Outside.{NotesNothing, nodes_made, descriptors_made, reads_made, known_made}
+use Rattle.lock_walks.specs.runner_facts.proofs.Names.{pair_last}
 use Rattle.lock_rows.specs.Workers.{IsReady, HasRead}
 
 either : (p q : Bool) → q ≡ true → (p || q) ≡ true
 either true q e = refl
 either false q e = e
-
-pair_last : (xs : List (ℕ × ℕ)) (a b : ℕ) → has_pair (xs ++ (a, b) ∷ []) a b ≡ true
-pair_last [] a b = let e : ((a == a && b == b) || false) ≡ true = grind (arith, nat_tests) in e
-pair_last (x ∷ xs) a b = either (x.0 == a && x.1 == b) (has_pair (xs ++ (a, b) ∷ []) a b) (pair_last xs a b)
 
 has_last : (xs : List ℕ) (x : ℕ) → has (xs ++ x ∷ []) x ≡ true
 has_last [] x = let e : ((x == x) || false) ≡ true = grind (arith, nat_tests) in e

@@ -207,7 +207,9 @@ fn two_threads_make_one_node(rt: HostRuntime) -> Result<(), AllocError> {
         end.first_free.as_slice() == [1, 0].as_slice()
             && end.second_free.as_slice() == [3].as_slice()
     );
-    assert!(&rt; end.words.cell(3).bits() == 8589934592 && end.words.cell(7).bits() == 8589934592);
+    assert!(&rt; end.words.cell(3).bits() == 8589934592 && end.words.cell(4).bits() == 8589934592);
+    assert!(&rt; end.words.cell(5).bits() == 8589934592 && end.words.cell(6).bits() == 8589934592);
+    assert!(&rt; end.words.cell(7).bits() == 8589934592);
     Ok(())
 }
 

@@ -1,25 +1,23 @@
-// The program over memory: what it prints, and what it says goes wrong. In the tables `/` stands for a line feed,
-// `^` for a carriage return and `~` for a byte above 127; a row is a text, and behind `=>` what has to come out.
+// The program over memory: what it prints, and what it says goes wrong. In the tables `/` stands
+// for a line feed, `^` for a carriage return and `~` for a byte above 127; a row is a text, and
+// behind `=>` what has to come out.
 ghost use Rattle.std.specs.Prelude.{None};
 
-use flock_tool::{StdSink, StdSource, flock};
+use crate::program::{quiet_sink, status_of};
+use flock_tool::{StdSink, StdSource};
 use itoa::Buffer;
 use report_text::{Failed, MemorySink, Sink};
-use runner_gate::{Gates, Pause, PlannedGates, ScriptedGates};
-use section_body::StepKind;
+use runner_gate::PlannedGates;
 use std::alloc::{AllocError, Global};
 use std::process::Abort;
 use std::sync::Wait;
 use std::test::Fail;
 use std::thread::Threads;
-use trace_reader::{MemorySource, Source, SureSource};
+use trace_reader::{Source, SureSource};
 
 const REPORTS: &str = "\
 flock 1/=>final 0/
 flock 1/trace/=>trace 0/final 0/
-flock 1/trace/ins 5 70/get 5/del 5/get 5/=>trace 0/0 new/1 val 70/2 gone/3 none/final 0/
-flock 1/trace/ins 5 70/ins 5 80/get 5/=>trace 0/0 new/1 dup/2 val 70/final 1/
-flock 1/trace/ins 1 10/trace/get 1/=>trace 0/0 new/trace 1/1 val 10/final 1/
 flock 1^/# note^/^/trace^/\tins\t007 1^/get 7=>trace 0/0 new/1 val 1/final 1/
 flock 1/trace/ins 4294967293 4294967295/get 4294967293/=>trace 0/0 new/1 val 4294967295/final 1/
 /# before the header ~/ flock\t1 /trace/del 000/=>trace 0/0 none/final 0/
@@ -28,24 +26,11 @@ flock 1/trace/trace/trace/get 3/=>trace 0/trace 1/trace 2/0 none/final 0/
 
 // Each row: the status and the words, the text, the report, and what is told.
 const RUNS: &str = "\
-0 run --runners 1|flock 1/trace/ins 1 10/trace/get 1/|trace 0/0 new/trace 1/1 val 10/final 1/|
-0 run --buckets 1|flock 1/trace/ins 1 1/ins 2 2/ins 3 3/del 2/get 1/get 3/|trace 0/0 new/1 new/2 new/3 gone/4 val 1/5 val 3/final 2/|
-0 run --table tree|flock 1/trace/ins 1 1/ins 2 2/ins 3 3/del 2/get 1/get 3/|trace 0/0 new/1 new/2 new/3 gone/4 val 1/5 val 3/final 2/|
 0 run --table hash --sections 4 --nodes 4|flock 1/trace/ins 1 1/del 1/ins 2 2/|trace 0/0 new/1 gone/2 new/final 1/|
-1 run --runners 2 --halt 1:1|flock 1/trace/ins 1 1/get 1/trace/get 1/|trace 0/0 new/1 val 1/trace 1/- unserved/final 1/|flock: halted, 1 unserved/
 0 run --runners 1 --halt 1:1|flock 1/trace/get 1/|trace 0/0 none/final 0/|
-5 run --nodes 0|flock 1/trace/get 1/|trace 0/- unserved/final 0/|flock: slots: runner 0 node free 0 limbo 0 worn 0/
 5 run --nodes 4|flock 1/trace/ins 1 1/ins 2 2/ins 3 3/ins 4 4/|trace 0/0 new/1 new/2 new/- unserved/final 3/|flock: slots: runner 0 node free 1 limbo 0 worn 0/
-6 run --buckets 1 --version-max 5|flock 1/trace/get 1/get 1/get 1/|trace 0/0 none/1 none/- unserved/final 0/|flock: versions: place 0 value 0 version 5/
-4 run --runners 2 --nodes 131073|flock 1/trace/ins 1 10/trace/get 1/||flock: limit: nodes 262146/
-2 run --buckets 3|flock 1/||flock: words refused/
-2 run --runners 0|flock 1/||flock: words refused/
-2 run --halt 0:0|flock 1/||flock: words refused/
-2 run --table trees|flock 1/||flock: words refused/
 2 run --nodes 1 --nodes 1|flock 1/||flock: words refused/
-2 run --|flock 1/||flock: words refused/
 2 walk|flock 1/||flock: words refused/
-2 gen --seed=1 --traces 1 --length 3|||flock: words refused/
 2 load --seed=1 --traces 1 --length 3 --keys 100 --halt 0:1|||flock: words refused/
 0 gen --seed=1 --traces 1 --length 3 --keys 100||flock 1/trace/del 58/ins 15 150/get 27/|
 0 gen --seed=1 --traces=0 --length=3 --keys=1||flock 1/|
@@ -116,10 +101,6 @@ impl Ran {
     }
 }
 
-fn quiet_sink(alloc: Global) -> MemorySink {
-    MemorySink::new(alloc, Vec::new(alloc), Vec::new(alloc))
-}
-
 // The status of a command over these streams, with gates that halt as planned.
 fn command<T: Threads + Wait + Sync, R: Source, K: Sink, F: Sink>(
     rt: &T,
@@ -129,29 +110,8 @@ fn command<T: Threads + Wait + Sync, R: Source, K: Sink, F: Sink>(
     sink: &mut K,
     faults: &mut F,
 ) -> u8 {
-    command_with(
-        rt,
-        alloc,
-        words,
-        source,
-        sink,
-        faults,
-        &mut PlannedGates::new(),
-    )
-}
-
-fn command_with<T: Threads + Wait + Sync, R: Source, K: Sink, F: Sink, G: Gates>(
-    rt: &T,
-    alloc: Global,
-    words: &[&str],
-    source: &mut R,
-    sink: &mut K,
-    faults: &mut F,
-    gates: &mut G,
-) -> u8 {
-    let (status, ran) = flock(rt, alloc, words, source, sink, faults, gates);
-    drop(ran);
-    status
+    let gates = &mut PlannedGates::new();
+    status_of(rt, alloc, words, source, sink, faults, gates)
 }
 
 fn run<T: Threads + Wait + Sync>(rt: &T, alloc: Global, text: Vec<u8>, pieces: Vec<usize>) -> Ran {
@@ -175,7 +135,8 @@ fn run_words<T: Threads + Wait + Sync>(
     }
 }
 
-// The text in one piece, or in pieces of one byte; one runner serves it, so its requests are served in their order.
+// The text in one piece, or in pieces of one byte; one runner serves it, so its requests are served
+// in their order.
 fn run_row<T: Threads + Wait + Sync>(
     rt: &T,
     alloc: Global,
@@ -266,26 +227,6 @@ fn run_quiet<T: Threads + Wait + Sync>(
     Ok(run_words(rt, alloc, &words, text, Vec::new(alloc)))
 }
 
-// What `gen` prints is a text that `run` serves.
-#[test]
-fn generated_texts_are_served(rt: HostRuntime) -> Result<(), Fail> {
-    let alloc = rt.alloc();
-    let line = "gen --seed 7 --traces 4 --length 1000 --keys 200";
-    let printed = run_quiet(&rt, alloc, line, Vec::new(alloc))?;
-    assert!(rt; printed.status == 0);
-    let text = printed.sink.bytes().to_vec(alloc)?;
-    let ran = run_quiet(&rt, alloc, "run --runners 4", text)?;
-    assert!(rt; ran.status == 0);
-    let lines = ran
-        .sink
-        .bytes()
-        .iter()
-        .filter(|byte| **byte == b'\n')
-        .count();
-    assert_eq!(rt; lines, 4005);
-    Ok(())
-}
-
 // The counts are the same whoever serves the requests.
 #[test]
 fn loads_give_the_same_counts(rt: HostRuntime) -> Result<(), Fail> {
@@ -302,169 +243,10 @@ fn loads_give_the_same_counts(rt: HostRuntime) -> Result<(), Fail> {
     Ok(())
 }
 
-// A runner waits at its first ask of one kind until another was asked with another kind.
-fn pause(runner: u32, at: StepKind, until_runner: u32, until: StepKind) -> Pause {
-    Pause {
-        runner,
-        at,
-        until_runner,
-        until,
-    }
-}
-
-fn run_script<T: Threads + Wait + Sync>(
-    rt: &T,
-    alloc: Global,
-    words: &[&str],
-    text: &str,
-    pauses: Vec<Pause>,
-) -> Result<Ran, AllocError> {
-    let mut source = SureSource::new(bytes_of(alloc, text)?, Vec::new(alloc));
-    let (mut sink, mut faults) = (quiet_sink(alloc), quiet_sink(alloc));
-    let mut gates = ScriptedGates::new(alloc, pauses)?;
-    let status = command_with(
-        rt,
-        alloc,
-        words,
-        &mut source,
-        &mut sink,
-        &mut faults,
-        &mut gates,
-    );
-    Ok(Ran {
-        status,
-        sink,
-        faults,
-    })
-}
-
-// Runner 1 helps the section that runner 0 leaves waiting behind its publication. Workers that ran one after the other would wait in vain.
-#[test]
-fn a_waiting_section_is_helped(rt: HostRuntime) -> Result<(), Fail> {
-    let alloc = rt.alloc();
-    let mut pauses = Vec::new(alloc);
-    pauses.push(pause(1, StepKind::Entered, 0, StepKind::Hold))?;
-    pauses.push(pause(0, StepKind::Hold, 1, StepKind::Served))?;
-    let text = "flock 1/trace/ins 5 70/get 5/trace/ins 5 80/";
-    let ran = run_script(&rt, alloc, &["run", "--runners", "2"], text, pauses)?;
-    let report = bytes_of(alloc, "trace 0/0 new/2 val 70/trace 1/1 dup/final 1/")?;
-    assert!(rt; ran.status == 0);
-    assert!(rt; ran.sink.bytes() == report.as_slice());
-    Ok(())
-}
-
-// Runner 1 helps runner 0's section, and runner 2 helps runner 1's.
-#[test]
-fn helpers_are_helped(rt: HostRuntime) -> Result<(), Fail> {
-    let alloc = rt.alloc();
-    let mut pauses = Vec::new(alloc);
-    pauses.push(pause(0, StepKind::Hold, 1, StepKind::Served))?;
-    pauses.push(pause(1, StepKind::Entered, 0, StepKind::Hold))?;
-    pauses.push(pause(1, StepKind::Hold, 2, StepKind::Served))?;
-    pauses.push(pause(2, StepKind::Entered, 1, StepKind::Hold))?;
-    let text = "flock 1/trace/ins 5 70/get 5/trace/ins 5 80/trace/get 5/";
-    let ran = run_script(&rt, alloc, &["run", "--runners", "3"], text, pauses)?;
-    let report = bytes_of(
-        alloc,
-        "trace 0/0 new/3 val 70/trace 1/1 dup/trace 2/2 val 70/final 1/",
-    )?;
-    assert!(rt; ran.status == 0);
-    assert!(rt; ran.sink.bytes() == report.as_slice());
-    Ok(())
-}
-
 #[test]
 fn a_line_is_refused_for_its_first_fault(rt: HostRuntime) -> Result<(), Fail> {
     check_table(&rt, rt.alloc(), FAULTS, 3, false)?;
     check_table(&rt, rt.alloc(), FAULTS, 3, true)?;
-    Ok(())
-}
-
-// Which prefixes of the text are in the grammar: `+` where one is.
-#[test]
-fn every_prefix_is_served_or_refused(rt: HostRuntime) -> Result<(), Fail> {
-    let alloc = rt.alloc();
-    let text = b"flock 1\ntrace\nins 5 70\nget 5\n";
-    let served = b"-------++----++------+++----+";
-    for end in 0..text.len() {
-        let whole = run(&rt, alloc, text[..end].to_vec(alloc)?, Vec::new(alloc));
-        let bytewise = run(
-            &rt,
-            alloc,
-            text[..end].to_vec(alloc)?,
-            vec![in alloc; 1usize; end]?,
-        );
-        let expected = if served.get(end) == Some(&b'+') { 0 } else { 3 };
-        assert!(rt; whole.status == expected, "at {end}");
-        assert!(rt; bytewise.status == expected, "at {end}");
-        assert!(rt; bytewise.sink.bytes() == whole.sink.bytes());
-        assert!(rt; bytewise.faults.bytes() == whole.faults.bytes());
-    }
-    Ok(())
-}
-
-#[test]
-fn words_other_than_run_are_refused(rt: HostRuntime) -> Result<(), Fail> {
-    let alloc = rt.alloc();
-    for word in ["walk", "--", "run ", ""] {
-        let mut source = SureSource::new(b"flock 1\n".to_vec(alloc)?, Vec::new(alloc));
-        let (mut sink, mut faults) = (quiet_sink(alloc), quiet_sink(alloc));
-        assert!(rt;
-            command(&rt, alloc, &[word], &mut source, &mut sink, &mut faults) == 2,
-            "{word}"
-        );
-        assert!(rt; sink.bytes().is_empty());
-        assert!(rt; faults.bytes() == b"flock: words refused\n".as_slice());
-    }
-    Ok(())
-}
-
-const TEXT: &str = "flock 1/trace/ins 5 70/ins 5 80/get 5/";
-
-// With four pieces of ten bytes the fifth read is the end of the input.
-#[test]
-fn each_read_fails_in_turn(rt: HostRuntime) -> Result<(), Fail> {
-    let alloc = rt.alloc();
-    for failing in 1..=6u64 {
-        let sizes = vec![in alloc; 10usize; 4]?;
-        let fails = vec![in alloc; failing; 1]?;
-        let mut source = MemorySource::new(bytes_of(alloc, TEXT)?, sizes, fails);
-        let (mut sink, mut faults) = (quiet_sink(alloc), quiet_sink(alloc));
-        let status = command(&rt, alloc, &["run"], &mut source, &mut sink, &mut faults);
-        assert!(rt; status == if failing < 6 { 8 } else { 0 }, "at {failing}");
-        assert!(rt; sink.bytes().is_empty() == (failing < 6), "at {failing}");
-        assert!(rt; faults.bytes().is_empty() == (failing == 6), "at {failing}");
-    }
-    Ok(())
-}
-
-fn run_failing<T: Threads + Wait + Sync>(
-    rt: &T,
-    alloc: Global,
-    fails: u64,
-    empty: u64,
-) -> Result<Ran, AllocError> {
-    let mut source = SureSource::new(bytes_of(alloc, TEXT)?, Vec::new(alloc));
-    let (fails, empty) = (vec![in alloc; fails; 1]?, vec![in alloc; empty; 1]?);
-    let mut sink = MemorySink::new(alloc, fails, empty);
-    let mut faults = quiet_sink(alloc);
-    let status = command(rt, alloc, &["run"], &mut source, &mut sink, &mut faults);
-    Ok(Ran {
-        status,
-        sink,
-        faults,
-    })
-}
-
-#[test]
-fn a_sink_that_fails_or_takes_nothing_is_told(rt: HostRuntime) -> Result<(), Fail> {
-    for failing in [true, false] {
-        let (fails, empty) = if failing { (1, 0) } else { (0, 1) };
-        let ran = run_failing(&rt, rt.alloc(), fails, empty)?;
-        assert!(rt; ran.status == 9);
-        assert!(rt; ran.sink.bytes().is_empty());
-        assert!(rt; ran.faults.bytes() == b"flock: write fault\n".as_slice());
-    }
     Ok(())
 }
 
@@ -570,7 +352,8 @@ fn a_writer_is_a_sink(rt: HostRuntime) -> Result<(), Fail> {
     Ok(())
 }
 
-// Insertions of so many different keys, the greatest first, in so many traces with as many requests each.
+// Insertions of so many different keys, the greatest first, in so many traces with as many requests
+// each.
 fn insertions(alloc: Global, traces: u32, each: u32, greatest: u32) -> Result<Vec<u8>, AllocError> {
     let mut text = b"flock 1\n".to_vec(alloc)?;
     for trace in 0..traces {
@@ -587,17 +370,6 @@ fn insertions(alloc: Global, traces: u32, each: u32, greatest: u32) -> Result<Ve
         }
     }
     Ok(text)
-}
-
-#[test]
-fn as_many_keys_as_requests_are_served(rt: HostRuntime) -> Result<(), Fail> {
-    let alloc = rt.alloc();
-    let text = insertions(alloc, 1, 131_072, 131_071)?;
-    let words = ["run", "--buckets", "4096"];
-    let ran = run_words(&rt, alloc, &words, text, Vec::new(alloc));
-    assert!(rt; ran.status == 0);
-    assert!(rt; ran.sink.bytes().ends_with(b"131071 new\nfinal 131072\n"));
-    Ok(())
 }
 
 #[test]
