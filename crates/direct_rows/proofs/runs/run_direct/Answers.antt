@@ -6,7 +6,7 @@ use Rattle.threaded_runs.specs.try_lock.specs.Contents.{StandFor}
 use Rattle.direct_rows.proofs.runs.run_direct.Goals as goal
 
 pub returns-clause-served : goal.returns-clause-served
-returns-clause-served g c = subst (λ k. AreServed (direct k) c.in_ok-words.words false c.in_ok-words.answers.items) c.new-table.ensures c.in_ok-words.ensures.served
+returns-clause-served g c = subst (λ k. AreServed (direct k) c.in_ok-words.words false c.in_ok-words.answers.items) c.new-table.ensures c.in_ok-words.ensures.served.0
 
 pub returns-clause-contents : goal.returns-clause-contents
 returns-clause-contents g c = λ pairs stand.
