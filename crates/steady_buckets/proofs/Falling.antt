@@ -9,7 +9,8 @@ use Rattle.section_body.specs.Word.{value_of, is_free, is_spent}
 use Rattle.section_body.specs.Bucket.{bucket_head}
 use Rattle.structure_laws.specs.Scene.{Cells, Readings}
 use Rattle.steady_readings.specs.Stand.{StandIn}
-use Rattle.steady_readings.proofs.Lower.{lower, lower_few, lower_falls}
+use Rattle.steady_readings.specs.Ranks.{lower}
+use Rattle.steady_readings.proofs.Lower.{lower_few, lower_falls}
 use Rattle.bucket_laws.specs.Walk.{Stage, AtEdition, AtLink, AtKey, AtValue, AtNext, AtLock, AtEnd, Refused, Walk, start, is_del, is_wanted, Bounds, cell_at, wanted_at, fed, walk}
 use Rattle.bucket_laws.specs.Buckets.{table, BucketsStand}
 use Rattle.bucket_laws.proofs.Places.{third, lt_false, eq_false}
@@ -25,7 +26,7 @@ module _ (buckets : ℕ) (bucket : ℕ → ℕ) (small : (key : ℕ) → bucket 
     (stands : BucketsStand buckets bucket slots cells pairs) (b : Bounds) (op : Op) where
   -- how many slots rank below this one
   abbrev pub ahead : ℕ → ℕ
-  ahead = lower stands.on stands.rank slots stands.within
+  ahead = lower stands.on stands.rank slots
 
   -- the walk's last link leads to a slot in a chain; the links that it has loaded and the slots ahead are no more than there are slots
   pub record IsIn (w : Walk) : Type 0 where

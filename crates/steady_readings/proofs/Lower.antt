@@ -3,11 +3,7 @@ use Rattle.std.specs.Prelude.{◌&&◌, nat_lt, cond, Bool, true, false}
 use Rattle.std.proofs.Common.{◌≡◌, ℕ, zero, suc, ◌+◌, ◌<◌, ◌≤◌, refl, sym, ap, ◌∙◌, ⊎_elim, arith}
 use Rattle.std.proofs.lemmas.Bool.{cases_eq}
 use Rattle.std.proofs.lemmas.Bool.Decides.{nat_tests}
-
--- how many numbers below one pass a test
-abbrev passing : (ℕ → Bool) → ℕ → ℕ
-passing test zero = 0
-passing test (suc n) = passing test n + cond (test n) 1 0
+use Rattle.steady_readings.specs.Ranks.{lower, passing}
 
 is_one : (b : Bool) → b ≡ true → ◌≡◌ {A = ℕ} (cond b 1 0) 1
 is_one b e = grind arith
@@ -51,18 +47,14 @@ below_is : (b : Bool) (a c : ℕ) → b ≡ true → a < c → (b && nat_lt a c)
 below_is b a c on low = grind (arith, nat_tests)
 
 module _ (on : ℕ → Bool) (rank : ℕ → ℕ) (slots : ℕ) (within : (t : ℕ) → on t ≡ true → t < slots) where
-  -- how many of the slots that count rank below this one
-  abbrev pub lower : ℕ → ℕ
-  lower t = passing (λ u. on u && nat_lt (rank u) (rank t)) slots
-
   -- fewer than there are slots
-  pub lower_few : (t : ℕ) → on t ≡ true → lower t < slots
+  pub lower_few : (t : ℕ) → on t ≡ true → lower on rank slots t < slots
   lower_few t on_t =
       let few = fewer (λ u. on u && nat_lt (rank u) (rank t)) (λ u. true) (λ u h. refl) slots t (within t on_t) (not_below (on t) (rank t)) refl in
       let all = all_pass slots in omega (arith, few, all)
 
   -- fewer below one that ranks lower
-  pub lower_falls : (s t : ℕ) → on t ≡ true → rank t < rank s → lower t < lower s
+  pub lower_falls : (s t : ℕ) → on t ≡ true → rank t < rank s → lower on rank slots t < lower on rank slots s
   lower_falls s t on_t falls = fewer (λ u. on u && nat_lt (rank u) (rank t)) (λ u. on u && nat_lt (rank u) (rank s))
       (λ u h. below_too (on u) (rank u) (rank t) (rank s) (omega (arith, falls)) h)
       slots t (within t on_t) (not_below (on t) (rank t)) (below_is (on t) (rank t) (rank s) on_t falls)

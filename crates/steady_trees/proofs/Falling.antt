@@ -8,7 +8,8 @@ use Rattle.map_history.specs.Replay.{Pairs}
 use Rattle.section_body.specs.Word.{value_of}
 use Rattle.structure_laws.specs.Scene.{Cells, Readings}
 use Rattle.steady_readings.specs.Stand.{StandIn}
-use Rattle.steady_readings.proofs.Lower.{lower, lower_few, lower_falls}
+use Rattle.steady_readings.specs.Ranks.{lower}
+use Rattle.steady_readings.proofs.Lower.{lower_few, lower_falls}
 use Rattle.bucket_laws.specs.Walk.{Bounds, is_del, is_wanted}
 use Rattle.bucket_laws.proofs.Places.{eq_false}
 use Rattle.bucket_laws.proofs.Walks.{wanted_eq}
@@ -39,7 +40,7 @@ module _ (slots : ℕ) (cells : Cells) (pairs : Pairs) (stands : TreeStands slot
   rank t = stands.covers.hi t - stands.covers.lo t
 
   abbrev pub below : ℕ → ℕ
-  below = lower linked rank slots stands.within
+  below = lower linked rank slots
 
   -- a linked inner node
   pub record IsLinkedInner (s : ℕ) : Type 0 where
