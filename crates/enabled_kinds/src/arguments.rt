@@ -5,13 +5,14 @@ ghost use Rattle.table_words.specs.Limits.{IsWithinLimits};
 ghost use Rattle.table_words.specs.Places.{slot_count, descriptor_count};
 ghost use Rattle.runner_steps.specs.Asks.{sizes_for};
 ghost use Rattle.runner_parts.specs.declared.event.EventKind.TheVariants as kinds;
-ghost use Rattle.runner_parts.specs.declared.stage.Stage.TheVariants.{Scanning};
+ghost use Rattle.epoch_core.specs.declared.stage.Stage.TheVariants.{Scanning};
 ghost use Rattle.runner_parts.specs.Tests.{last_stored};
 ghost use Rattle.enabled_kinds.specs.May.{is_enabled};
 ghost use Rattle.enabled_kinds.specs.Tried.{stored_thunk, or_zero};
 
+use epoch_core::Stage;
 use map_history::Request;
-use runner_parts::{EventKind, Part, Stage, Stored, Structure, last_stored};
+use runner_parts::{EventKind, Part, Stored, Structure, last_stored};
 use runner_steps::{asks, sizes_for, slot_count, thunk_of};
 use section_body::Thunk;
 use table_words::Layout;
@@ -75,10 +76,12 @@ pub fn may_walk<S: Structure>(
     requires limits { IsWithinLimits layout }
     requires few { length requests.now ≤ 131072 }
     ensures found { result ≡ true
-        → (place : ℕ) × (is_enabled (S.meaning structure.now) layout requests.now runner part.now (kinds.LoadCell (Some place)) ≡ true) }
+        → (place : ℕ)
+        × (is_enabled (S.meaning structure.now) layout requests.now runner part.now (kinds.LoadCell (Some place)) ≡ true) }
     ensures missed { result ≡ false → (place : ℕ)
         → place < (sizes_for (S.meaning structure.now) layout requests.now).cells
-        → is_enabled (S.meaning structure.now) layout requests.now runner part.now (kinds.LoadCell (Some place)) ≡ false }
+        → is_enabled (S.meaning structure.now) layout requests.now runner part.now (kinds.LoadCell (Some place))
+        ≡ false }
 {
     for place in 0..sizes_for(structure, layout, requests).cells {
         let kind = EventKind::LoadCell(Some(place));
@@ -100,7 +103,8 @@ fn may_look<S: Structure>(
 ) -> bool
     requires limits { IsWithinLimits layout }
     requires few { length requests.now ≤ 131072 }
-    ensures { result ≡ list_any (λ slot. is_enabled (S.meaning structure.now) layout requests.now runner part.now (kinds.PrivateLoad slot 0)) slots.now }
+    ensures { result ≡ list_any (λ slot.
+        is_enabled (S.meaning structure.now) layout requests.now runner part.now (kinds.PrivateLoad slot 0)) slots.now }
 {
     for slot in slots {
         let kind = EventKind::PrivateLoad {
@@ -124,7 +128,8 @@ pub fn may_look_free<S: Structure>(
 ) -> bool
     requires limits { IsWithinLimits layout }
     requires few { length requests.now ≤ 131072 }
-    ensures { result ≡ list_any (λ slot. is_enabled (S.meaning structure.now) layout requests.now runner part.now (kinds.PrivateLoad slot 0)) part.now.nodes.free }
+    ensures { result ≡ list_any (λ slot.
+        is_enabled (S.meaning structure.now) layout requests.now runner part.now (kinds.PrivateLoad slot 0)) part.now.nodes.free }
 {
     may_look(part, structure, layout, requests, runner, &part.nodes.free)
 }
@@ -139,7 +144,8 @@ pub fn may_look_hand<S: Structure>(
 ) -> bool
     requires limits { IsWithinLimits layout }
     requires few { length requests.now ≤ 131072 }
-    ensures { result ≡ list_any (λ slot. is_enabled (S.meaning structure.now) layout requests.now runner part.now (kinds.PrivateLoad slot 0)) part.now.nodes.hand }
+    ensures { result ≡ list_any (λ slot.
+        is_enabled (S.meaning structure.now) layout requests.now runner part.now (kinds.PrivateLoad slot 0)) part.now.nodes.hand }
 {
     may_look(part, structure, layout, requests, runner, &part.nodes.hand)
 }
@@ -156,7 +162,8 @@ pub fn may_reread<S: Structure>(
     requires limits { IsWithinLimits layout }
     requires few { length requests.now ≤ 131072 }
     ensures { result ≡ list_any (λ d. nat_lt d (descriptor_count layout)
-        && is_enabled (S.meaning structure.now) layout requests.now runner part.now (kinds.PrivateLoad (slot_count layout (S.meaning structure.now).fixed_slots + d) 0)) part.now.descriptors.free }
+        && is_enabled (S.meaning structure.now) layout requests.now runner part.now
+        (kinds.PrivateLoad (slot_count layout (S.meaning structure.now).fixed_slots + d) 0)) part.now.descriptors.free }
 {
     let slots = slot_count(structure, layout);
     let descriptors = sizes_for(structure, layout, requests).descriptors;
@@ -184,7 +191,8 @@ pub fn may_prepare<S: Structure>(
     requires limits { IsWithinLimits layout }
     requires few { length requests.now ≤ 131072 }
     ensures { result ≡ list_any (λ d. nat_lt d (descriptor_count layout)
-        && is_enabled (S.meaning structure.now) layout requests.now runner part.now (kinds.PrivateStore (slot_count layout (S.meaning structure.now).fixed_slots + d) 0 0)) part.now.descriptors.free }
+        && is_enabled (S.meaning structure.now) layout requests.now runner part.now
+        (kinds.PrivateStore (slot_count layout (S.meaning structure.now).fixed_slots + d) 0 0)) part.now.descriptors.free }
 {
     let slots = slot_count(structure, layout);
     let descriptors = sizes_for(structure, layout, requests).descriptors;
@@ -214,7 +222,8 @@ pub fn may_begin<S: Structure>(
 ) -> bool
     requires limits { IsWithinLimits layout }
     requires few { length requests.now ≤ 131072 }
-    ensures { result ≡ list_any (λ d. is_enabled (S.meaning structure.now) layout requests.now runner part.now (kinds.LoadThunk (Some d))) part.now.reads.held }
+    ensures { result ≡ list_any (λ d.
+        is_enabled (S.meaning structure.now) layout requests.now runner part.now (kinds.LoadThunk (Some d))) part.now.reads.held }
 {
     for descriptor in &part.reads.held {
         let kind = EventKind::LoadThunk(Some(*descriptor));
@@ -265,7 +274,9 @@ pub fn may_publish<S: Structure>(
 ) -> bool
     requires limits { IsWithinLimits layout }
     requires few { length requests.now ≤ 131072 }
-    ensures { result ≡ list_any (λ d. is_enabled (S.meaning structure.now) layout requests.now runner part.now (kinds.Hold (stored_thunk part.now.descriptors.stored d) d)) part.now.descriptors.free }
+    ensures { result ≡ list_any (λ d.
+        is_enabled (S.meaning structure.now) layout requests.now runner part.now
+        (kinds.Hold (stored_thunk part.now.descriptors.stored d) d)) part.now.descriptors.free }
 {
     for descriptor in &part.descriptors.free {
         let kind = EventKind::Hold {
@@ -290,7 +301,8 @@ pub fn may_join<S: Structure>(
     requires limits { IsWithinLimits layout }
     requires few { length requests.now ≤ 131072 }
     ensures found { result ≡ true
-        → (worker : ℕ) × (is_enabled (S.meaning structure.now) layout requests.now runner part.now (kinds.Join worker) ≡ true) }
+        → (worker : ℕ)
+        × (is_enabled (S.meaning structure.now) layout requests.now runner part.now (kinds.Join worker) ≡ true) }
     ensures missed { result ≡ false → (worker : ℕ) → worker < layout.runners
         → is_enabled (S.meaning structure.now) layout requests.now runner part.now (kinds.Join worker) ≡ false }
 {

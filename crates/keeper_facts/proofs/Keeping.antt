@@ -10,20 +10,21 @@ use Rattle.table_words.specs.declared.access.Access.{Access}
 use Rattle.table_words.specs.Access.{written}
 use Rattle.table_words.specs.Places.{slot_count}
 use Rattle.structure_laws.specs.Meaning.{Meaning}
+use Rattle.epoch_core.specs.Moves.{is_clear}
 use Rattle.runner_parts.specs.declared.entries.Left.{Left}
 use Rattle.runner_parts.specs.declared.entries.Published.{Published}
-use Rattle.runner_parts.specs.declared.stage.Stage.{Stage}
-use Rattle.runner_parts.specs.declared.stage.Stage.TheVariants as stages
+use Rattle.epoch_core.specs.declared.stage.Stage.{Stage}
+use Rattle.epoch_core.specs.declared.stage.Stage.TheVariants as stages
 use Rattle.runner_parts.specs.declared.event.EventKind.{EventKind}
 use Rattle.runner_parts.specs.declared.event.EventKind.TheVariants as kinds
 use Rattle.runner_parts.specs.State.{RunState, RecordsState, PartState}
 use Rattle.runner_parts.specs.Lists.{learned}
 use Rattle.runner_steps.specs.Sections.{is_open_run, next_of}
-use Rattle.runner_steps.specs.Outside.{last_epoch}
+use Rattle.epoch_core.specs.State.{last_epoch}
 use Rattle.runner_steps.specs.InRun.{last_clock}
 use Rattle.runner_steps.specs.AfterInRun as inside
 use Rattle.runner_steps.specs.AfterOutside as outside
-use Rattle.runner_steps.specs.After.{line_after, inside_after, outside_after, after_by, left_more, tallied, noted}
+use Rattle.runner_steps.specs.After.{line_after, inside_after, outside_after, after_by, left_more, noted}
 use Rattle.machine_states.specs.World.{is_join}
 
 -- whom the keeper has joined, and what its steps since then left
@@ -68,7 +69,7 @@ module _ (m : Meaning) (l : Layout) (p : PartState) (found : ℕ) where
 
   scan_keeps : (stage : Stage) → Keeps (outside.scan_one_after l p stage found)
   scan_keeps (stages.Scanning x next clear) = either (nat_le next l.runners) _ _
-      (either (next == l.runners && not ((clear && outside.is_clear x found) && nat_lt x last_epoch)) _ _ refl refl) refl
+      (either (next == l.runners && not ((clear && is_clear x found) && nat_lt x last_epoch)) _ _ refl refl) refl
   scan_keeps _ = refl
 
   advance_keeps : (stage : Stage) → Keeps (outside.advance_after p stage)
@@ -97,29 +98,21 @@ module _ (m : Meaning) (l : Layout) (p : PartState) (found : ℕ) where
   after_keeps kind other None = outside_keeps kind other
   after_keeps kind other (Some q) = inside_keeps q kind
 
-left_joined : (z : RecordsState) (kind : EventKind) (spot : Spot) (n : ℕ) → (left_more z kind spot n).joined ≡ z.joined
-left_joined z (kinds.Join worker) spot n = refl
-left_joined z _ spot n = refl
-
 pub noted_joined : (l : Layout) (r : ℕ) (kind : EventKind) (spot : Spot) (access : Access) (n : ℕ) (z : RecordsState)
     → (noted l r kind spot access n z).joined ≡ z.joined
-noted_joined l r kind spot access n z = by (r == l.runners)
-  where
-    by : (b : Bool) → (if b then left_more (tallied access n z) kind spot (written access n) else tallied access n z).joined ≡ z.joined
-    by true = left_joined (tallied access n z) kind spot (written access n)
-    by false = refl
+noted_joined l r kind spot access n z = refl
 
-left_pushed : (z : RecordsState) (kind : EventKind) (spot : Spot) (n : ℕ) → is_join kind ≡ false
-    → (left_more z kind spot n).left ≡ z.left ++ record { spot = spot; number = n } ∷ []
-left_pushed z (kinds.Join worker) spot n other = absurd (let e = other in cc)
-left_pushed z _ spot n other = refl
+left_pushed : (before : List Left) (kind : EventKind) (spot : Spot) (n : ℕ) → is_join kind ≡ false
+    → left_more kind spot n before ≡ before ++ record { spot = spot; number = n } ∷ []
+left_pushed before (kinds.Join worker) spot n other = absurd (let e = other in cc)
+left_pushed before _ spot n other = refl
 
 -- what the keeper's step adds to its record
 pub noted_left : (l : Layout) (r : ℕ) → r ≡ l.runners → (kind : EventKind) (spot : Spot) (access : Access) (found : ℕ) (z : RecordsState) → is_join kind ≡ false
     → (noted l r kind spot access found z).left ≡ z.left ++ record { spot = spot; number = written access found } ∷ []
 noted_left l r is kind spot access found z other =
-    ap (λ (b : Bool). (if b then left_more (tallied access found z) kind spot (written access found) else tallied access found z).left) (same r l.runners is)
-    ∙ left_pushed (tallied access found z) kind spot (written access found) other
+    ap (λ (b : Bool). if b then left_more kind spot (written access found) z.left else z.left) (same r l.runners is)
+    ∙ left_pushed z.left kind spot (written access found) other
   where
     same : (a b : ℕ) → a ≡ b → (a == b) ≡ true
     same a b e = grind (arith, nat_tests)

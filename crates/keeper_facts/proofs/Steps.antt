@@ -1,16 +1,16 @@
 -- A step of the keeper, once it has joined all workers.
-use Rattle.std.specs.Prelude.{◌==◌, ◌&&◌, ◌%◌, cond, is_none, slice_get, Bool, true, false}
+use Rattle.std.specs.Prelude.{◌==◌, ◌%◌, cond, is_none, slice_get, Bool, true, false}
 use Rattle.std.proofs.Common.{◌≡◌, ◌≢◌, ℕ, suc, ◌≤◌, List, [], ◌∷◌, ◌++◌, length, le_of_eq, ⊎_elim, inl, inr, sym, refl, ap, ◌∙◌, subst, arith, Option, Some, None}
 use Rattle.std.specs.Prelude.{◌⊎◌}
 use Rattle.std.proofs.lemmas.Bool.Decides.{nat_tests}
-use Rattle.std.proofs.lemmas.Bool.{cases_lt}
+use Rattle.std.proofs.lemmas.Bool.{cases_lt, and_parts}
 use Rattle.std.proofs.lemmas.Nat.{mod_below}
 use Rattle.map_history.specs.declared.op.Request.{Request}
 use Rattle.section_body.specs.Word.{value_of}
 use Rattle.section_body.specs.declared.thunk.Thunk.{Thunk}
 use Rattle.table_words.specs.declared.layout.Layout.{Layout}
 use Rattle.table_words.specs.declared.spot.Spot.{Spot}
-use Rattle.table_words.specs.declared.spot.Spot.TheVariants.{Seat, Epoch, Clock, Announcement, Stamp, Reply, Cell, ThunkWord, DoneWord, LogWord}
+use Rattle.table_words.specs.declared.spot.Spot.TheVariants.{Cell}
 use Rattle.table_words.specs.declared.access.Access.{Access}
 use Rattle.table_words.specs.Access.{written}
 use Rattle.table_words.specs.Limits.{IsWithinLimits}
@@ -31,7 +31,7 @@ use Rattle.runner_steps.specs.AfterInRun.{ended_more, finished_of}
 use Rattle.runner_steps.specs.After.{after_by, after}
 use Rattle.machine_states.specs.World.{World, happens, is_join}
 use Rattle.machine_states.specs.Reached.{Reached}
-use Rattle.machine_states.specs.Sight.{Sight, sight, Steps}
+use Rattle.machine_states.specs.Sight.{Sight, sight}
 use Rattle.machine_states.specs.Sight as states
 use Rattle.machine_states.proofs.Reached.{more_reached, reached_all}
 use Rattle.machine_states.proofs.Sights.{if_some, some_none, unless_gone, happens_steps}
@@ -39,6 +39,7 @@ use Rattle.machine_states.proofs.Updates.{upd_here, upd_else, upd_split}
 use Rattle.machine_epochs.specs.Slots.{thunk_in}
 use Rattle.machine_epochs.proofs.Joining.{thunk_same}
 use Rattle.runner_facts.specs.machine_agreement.specs.Joined.{IsJoinedToAgreement}
+use Rattle.runner_facts.proofs.Keeper.{put_here}
 use Rattle.runner_facts.specs.machine_agreement.proofs.LineKinds.{noted_finished}
 use Rattle.runner_facts.specs.machine_agreement.proofs.RunPlaces.{opened_thunk}
 use Rattle.runner_facts.specs.machine_invariant.specs.After.{AreAllowed}
@@ -57,34 +58,11 @@ use Rattle.keeper_facts.proofs.Changes.{IsChanged, is_hold, lock_changes}
 use Rattle.keeper_facts.proofs.Keeping.{after_keeps, noted_joined, noted_left}
 use Rattle.keeper_facts.proofs.Runs.{IsIn, IsOver, Behind, inside_behind}
 
--- the word that a step wrote
-one_here : (i v w : ℕ) → cond (i == i) v w ≡ v
-one_here i v w = grind (arith, nat_tests)
-
-two_here : (i j v w w' : ℕ) → cond (i == i) (cond (j == j) v w) w' ≡ v
-two_here i j v w w' = grind (arith, nat_tests)
-
-put_here : (f : Spot → ℕ) (a : Spot) (v : ℕ) → put f a v a ≡ v
-put_here f Seat v = refl
-put_here f Epoch v = refl
-put_here f Clock v = refl
-put_here f (Announcement i) v = one_here i v _
-put_here f (Stamp i) v = one_here i v _
-put_here f (Reply i) v = one_here i v _
-put_here f (Cell i) v = one_here i v _
-put_here f (ThunkWord i j) v = two_here i j v _ _
-put_here f (DoneWord i) v = one_here i v _
-put_here f (LogWord i j) v = two_here i j v _ _
-
-two : (a b : Bool) → (a && b) ≡ true → (a ≡ true) × (b ≡ true)
-two true b e = (refl, e)
-two false b e = absurd (let z = e in cc)
-
 -- no request is the keeper's to serve
 not_next : (l : Layout) → 1 ≤ l.runners → (rs : List Request) (known : List Known) (o : Option Request) → is_next l l.runners rs known o ≡ true → ⊥
 not_next l some rs known None e = absurd (let z = e in cc)
 not_next l some rs known (Some q) e =
-    let same = equal (q.trace % l.runners) l.runners (two (q.trace % l.runners == l.runners) _ e).0 in
+    let same = equal (q.trace % l.runners) l.runners (and_parts (q.trace % l.runners == l.runners) _ e).0 in
     let low = mod_below q.trace l.runners some in omega (arith, same, low)
   where
     equal : (a b : ℕ) → (a == b) ≡ true → a ≡ b
@@ -93,11 +71,11 @@ not_next l some rs known (Some q) e =
 no_hold : (m : Meaning) (l : Layout) → 1 ≤ l.runners → (rs : List Request) (t : Thunk) (d : ℕ) (p : PartState) (x : Spot × Access)
     → hold_ask m l rs l.runners t d p ≡ Some x → ⊥
 no_hold m l some rs t d p x e =
-    let ready = two (is_ready l p d t) (is_publishable m l rs l.runners t p) (if_some _ _ x e).0 in
-    let walks = two (is_walking p.stage p.run) _ ready.1 in
-    let none = two (is_none p.published) _ walks.1 in
-    let lock = two (is_open l p.reads.cells t) _ none.1 in
-    let due = two (is_next l l.runners rs p.records.known (slice_get rs t.request)) _ lock.1 in
+    let ready = and_parts (is_ready l p d t) (is_publishable m l rs l.runners t p) (if_some _ _ x e).0 in
+    let walks = and_parts (is_walking p.stage p.run) _ ready.1 in
+    let none = and_parts (is_none p.published) _ walks.1 in
+    let lock = and_parts (is_open l p.reads.cells t) _ none.1 in
+    let due = and_parts (is_next l l.runners rs p.records.known (slice_get rs t.request)) _ lock.1 in
     not_next l some rs p.records.known (slice_get rs t.request) due.0
 
 module _ (m : Meaning) (laws : Laws m) (l : Layout) (limits : IsWithinLimits l) (rs : List Request) (allowed : AreAllowed rs)
@@ -244,7 +222,7 @@ module _ (m : Meaning) (laws : Laws m) (l : Layout) (limits : IsWithinLimits l) 
           last_get (y ∷ fs) f = last_get fs f
 
           opened_all : is_open_run q ≡ true → length q.opened ≡ 13
-          opened_all opened = equal (length q.opened) 13 (two (length q.opened == 13) _ opened).0
+          opened_all opened = equal (length q.opened) 13 (and_parts (length q.opened == 13) _ opened).0
             where
               equal : (a b : ℕ) → (a == b) ≡ true → a ≡ b
               equal a b e = grind (arith, nat_tests)

@@ -21,7 +21,7 @@ use Rattle.runner_parts.specs.declared.event.EventKind.{EventKind}
 use Rattle.runner_parts.specs.declared.event.EventKind.TheVariants as kinds
 use Rattle.runner_parts.specs.State.{RunState, RecordsState, PartState}
 use Rattle.runner_parts.specs.Tests.{has}
-use Rattle.runner_steps.specs.After.{after, after_by, left_more, tallied, noted, knows_also, leaves}
+use Rattle.runner_steps.specs.After.{after, after_by, left_more, noted, knows_also, leaves}
 use Rattle.machine_states.specs.World.{World, happens, is_join, seat_of}
 use Rattle.machine_states.specs.First.{IsFirst}
 use Rattle.machine_states.specs.Reached.{Reached}
@@ -129,7 +129,7 @@ module _ (m : Meaning) (laws : Laws m) (l : Layout) (limits : IsWithinLimits l) 
 
       noted_none : (spot : Spot) (access : Access) (found : ℕ) (z : RecordsState) → (noted l e.runner (kinds.Join worker) spot access found z).left ≡ []
       noted_none spot access found z =
-          ap (λ (b : Bool). (if b then left_more (tallied access found z) (kinds.Join worker) spot (written access found) else tallied access found z).left)
+          ap (λ (b : Bool). if b then left_more (kinds.Join worker) spot (written access found) z.left else z.left)
           (same_test e.runner l.runners keeper.0)
 
       empty : (s'.part l.runners).records.left ≡ []

@@ -46,12 +46,7 @@ use Rattle.reached_histories.specs.machine_agreement.proofs.LineAsked as asked_l
 use Rattle.reached_histories.specs.machine_invariant.specs.Whole.{Beside, states_of, IsWhole}
 use Rattle.version_counts.proofs.Releases.{released_lock}
 use Rattle.version_counts.proofs.Words.{Stays, line_stays, opening_stays, outside_stays}
-
-test_same : (a b : ℕ) → (a == b) ≡ true → a ≡ b
-test_same a b e = grind (arith, nat_tests)
-
-lost : (found old new : ℕ) → (found == old) ≡ false → exchanged found old new ≡ found
-lost found old new e = ap (λ b. if b then new else found) e
+use Rattle.one_worker.proofs.OneCell.{test_same, other, it, misses}
 
 -- a run of a section: its place, and what a late one does
 module _ (m : Meaning) (l : Layout) (g : Beside) (s : Sight) (whole : IsWhole m l g s) (r : ℕ) (q : RunState) (runs : (s.part r).run ≡ Some q)
@@ -141,24 +136,6 @@ module _ (m : Meaning) (l : Layout) (rs : List Request) (g : Beside) (s : Sight)
   abbrev pub Leaves : Type 0
   Leaves = Stays f p x ⊎ (Fills ⊎ Own)
 
-  other : (place : ℕ) (access : Access) → (spots.Cell place, access) ≡ x → p ≢ place → Stays f p x
-  other place access is ne = subst (Stays f p) is (upd_else (λ i. f (spots.Cell i)) place (written access (f (spots.Cell place))) p ne)
-
-  it : (place : ℕ) (access : Access) → (spots.Cell place, access) ≡ x → p ≡ place → word' ≡ written access (f (spots.Cell p))
-  it place access is e =
-      subst (λ (u : Spot × Access). put f u.0 (written u.1 (f u.0)) (spots.Cell p) ≡ written access (f (spots.Cell p))) is
-      (subst (λ i. put f (spots.Cell place) (written access (f (spots.Cell place))) (spots.Cell i) ≡ written access (f (spots.Cell i))) (sym e)
-      (upd_here (λ i. f (spots.Cell i)) place (written access (f (spots.Cell place)))))
-
-  -- an exchange that doesn't find what it expects
-  misses : (place old new : ℕ) → (spots.Cell place, Exchanges old new) ≡ x → (f (spots.Cell place) ≡ old → ⊥) → Stays f p x
-  misses place old new is never = ⊎_elim
-      (λ at. by at (f (spots.Cell p) == old) refl) (λ ne. other place _ is ne) (cases_eq p place)
-    where
-      by : p ≡ place → (b : Bool) → (f (spots.Cell p) == old) ≡ b → Stays f p x
-      by at true e = absurd (never (ap (λ i. f (spots.Cell i)) (sym at) ∙ test_same (f (spots.Cell p)) old e))
-      by at false e = it place _ is at ∙ lost (f (spots.Cell p)) old new e
-
   module _ (q : RunState) (runs : y.run ≡ Some q) (opened : is_open_run q ≡ true) where
     all : length q.opened ≡ 13
     all = open_run q opened
@@ -187,9 +164,9 @@ module _ (m : Meaning) (l : Layout) (rs : List Request) (g : Beside) (s : Sight)
           of = own;
           by = inl (h.1, h.2, at ∙ ap (λ i. micros.ExchangeCell i h.1 h.2) (sym same));
         })))
-        (λ ne. inl (other h.0 _ h.4 ne))
+        (λ ne. inl (other f p x h.0 _ h.4 ne))
         (cases_eq p h.0))
-        (λ done. inl (misses h.0 (slice_index q.trail h.1) _ h.4 (λ finds.
+        (λ done. inl (misses f p x h.0 (slice_index q.trail h.1) _ h.4 (λ finds.
         let past = (sound m l g s whole r q runs all).section.in_cells.left q.at h.0 h.1 h.2
         (late m l g s whole r q runs all done _ at refl) (code m l g s whole r q runs all _ at) in
         let low = store_logged (rules_of m l) x0.lock x0.code x0.slot (in_line m l g s whole r q runs all) q.at h.0 h.1 h.2 (code m l g s whole r q runs all _ at) in
@@ -211,12 +188,12 @@ module _ (m : Meaning) (l : Layout) (rs : List Request) (g : Beside) (s : Sight)
           by = inr (
             h.1,
             at ∙ ap (λ i. micros.NestedHold i h.1) (sym same),
-            it h.0 _ h.3 same ∙ ap (λ e. exchanged (f (spots.Cell p)) h.1 (held_word e h.1)) own,
+            it f p x h.0 _ h.3 same ∙ ap (λ e. exchanged (f (spots.Cell p)) h.1 (held_word e h.1)) own,
           );
         })))
-        (λ ne. inl (other h.0 _ h.3 ne))
+        (λ ne. inl (other f p x h.0 _ h.3 ne))
         (cases_eq p h.0))
-        (λ done. inl (misses h.0 h.1 _ h.3 (λ finds.
+        (λ done. inl (misses f p x h.0 h.1 _ h.3 (λ finds.
         let past = (sound m l g s whole r q runs all).section.in_locks.nested_past q.at h.0 h.1
         (late m l g s whole r q runs all done _ at refl) (code m l g s whole r q runs all _ at) in
         let v = ap version_of (cell_same h.0 ∙ finds) in omega (arith, past, v))))
@@ -226,7 +203,7 @@ module _ (m : Meaning) (l : Layout) (rs : List Request) (g : Beside) (s : Sight)
     release_leaves e =
         let h = asked_line.release_asked q x l (next_of m q) e in
         let lock = released_lock m l rs g s whole r q runs opened h.0 h.1 h.2 in
-        misses h.0 (held_word q.descriptor h.1) _ h.3 (λ finds.
+        misses f p x h.0 (held_word q.descriptor h.1) _ h.3 (λ finds.
         let own = named h.0 q.descriptor lock (ap value_of finds ∙ held_value q.descriptor h.1 (sound m l g s whole r q runs all).published.link) in
         ended h.0 h.1 h.2 (ap (λ e. (g.agreement.section e).done) own ∙ open_one))
       where
@@ -263,7 +240,7 @@ module _ (m : Meaning) (l : Layout) (rs : List Request) (g : Beside) (s : Sight)
           place = at;
           here = (whole.slots.tied r).run_made q t runs (own_slot q.made t h.3);
         })))
-        (λ ne. inl (other (cell_of m.fixed_cells t cell) _ h.6 ne))
+        (λ ne. inl (other f p x (cell_of m.fixed_cells t cell) _ h.6 ne))
         (cases_eq p (cell_of m.fixed_cells t cell))
 
     line_leaves : (kind' : EventKind) → line_ask m l kind' y.nodes.free q (next_of m q) ≡ Some x → Leaves
@@ -279,7 +256,7 @@ module _ (m : Meaning) (l : Layout) (rs : List Request) (g : Beside) (s : Sight)
   inside_leaves q runs false opened e = inl (opening_stays f p m l q x kind e)
 
   hold_leaves : (t : Thunk) (e : ℕ) → kind ≡ kinds.Hold t e → y.run ≡ None → outside_ask m l rs r (kinds.Hold t e) y ≡ Some x → Leaves
-  hold_leaves t e is none asks = inl (misses t.lock t.word _ asked.is
+  hold_leaves t e is none asks = inl (misses f p x t.lock t.word _ asked.is
       (λ finds. no_hold t e is none (ap (λ (u : Spot × Access). f u.0) (sym asked.is) ∙ finds)))
     where
       asked : HoldAsked m l rs t e y x

@@ -1,18 +1,13 @@
 -- Where the steps of a line stand to one another.
-use Rattle.std.specs.Prelude.{◌⊎◌, ◌&&◌, cond, Bool, true, false, nat_lt, slice_index_or, slice_get, drop, is_none}
-use Rattle.std.proofs.Common.{◌≡◌, ℕ, zero, suc, ◌+◌, ◌<◌, ◌≤◌, List, [], ◌∷◌, length, refl, sym, ap, ◌∙◌, subst, ⊎_elim, arith, Some}
-use Rattle.std.proofs.lemmas.Bool.{cases_lt, cases_eq}
+use Rattle.std.proofs.Common.{◌≡◌, ℕ, suc, List, [], refl, sym, ◌∙◌, subst, arith}
 use Rattle.std.proofs.lemmas.Bool.Decides.{nat_tests}
 use Rattle.std.proofs.lemmas.Option.{slice_get_within}
-use Rattle.section_body.specs.declared.micro.Micro.{Micro}
-use Rattle.section_body.specs.declared.micro.Micro.TheVariants.{CheckWord, CheckFree, NestedHold, End}
+use Rattle.section_body.specs.declared.micro.Micro.TheVariants.{CheckWord, CheckFree, NestedHold}
 use Rattle.section_body.specs.declared.step.Step.{Step}
-use Rattle.section_body.specs.declared.step.Step.TheVariants.{Load, Want, Take}
-use Rattle.section_body.specs.Line.{registers_before, line, micro_at, is_check, is_commit}
-use Rattle.section_body.specs.Run.{Setting, leaves, passed_checks, settled}
+use Rattle.section_body.specs.declared.step.Step.TheVariants.{Load, Want}
+use Rattle.section_body.specs.Line.{registers_before, line, micro_at}
 use Rattle.section_body.specs.Shape.{IsShaped, IsStep}
 use Rattle.section_body.proofs.RegisterLemmas.{loaded_register}
-use Rattle.section_lines.specs.Line.{IsLine}
 use Rattle.section_lines.proofs.Sources.{of_want, of_take, part_there}
 use Rattle.structure_laws.proofs.Bodies.{loaded_before}
 

@@ -1,12 +1,9 @@
 -- A section that the worker has just published, as the first in its entry.
-use Rattle.std.specs.Prelude.{◌==◌, ◌⊎◌, Bool, true, false, slice_get}
-use Rattle.std.proofs.Common.{◌≡◌, ◌≢◌, ℕ, zero, suc, ◌+◌, ◌*◌, ◌<◌, ◌≤◌, List, [], ◌∷◌, ◌++◌, length, refl, sym, ap, ◌∙◌, subst, ⊎_elim, inl, inr, arith, Option, Some, None}
-use Rattle.std.proofs.lemmas.Bool.{cases_lt}
+use Rattle.std.specs.Prelude.{true, false, slice_get}
+use Rattle.std.proofs.Common.{◌≡◌, ◌≢◌, ℕ, List, refl, sym, ap, ◌∙◌, subst, inl, arith, Some}
 use Rattle.map_history.specs.declared.op.Request.{Request}
 use Rattle.section_body.specs.Line.{line, micro_at}
-use Rattle.section_body.specs.Memory.{cell_of}
-use Rattle.section_body.specs.Shape.{IsShaped}
-use Rattle.section_body.specs.declared.step.Step.TheVariants.{Load, Want, Take}
+use Rattle.section_body.specs.declared.step.Step.TheVariants.{Load, Want}
 use Rattle.section_body.specs.declared.micro.Micro.{Micro}
 use Rattle.section_body.specs.declared.micro.Micro.TheVariants as micros
 use Rattle.section_body.specs.declared.thunk.Thunk.{Thunk}
@@ -17,21 +14,17 @@ use Rattle.table_words.specs.declared.spot.Spot.TheVariants as spots
 use Rattle.structure_laws.specs.Meaning.{Meaning}
 use Rattle.structure_laws.specs.Shape.{HasStep, Shaped}
 use Rattle.structure_laws.specs.Planner.{PlannerLawsOver}
-use Rattle.structure_laws.specs.Cells.{IsKnown}
 use Rattle.structure_laws.specs.Scene as scenes
-use Rattle.runner_parts.specs.declared.entries.Published.{Published}
-use Rattle.runner_parts.specs.State.{RunState, PartState}
+use Rattle.runner_parts.specs.State.{RunState}
 use Rattle.agreement_core.specs.State.{AgreementState, Section}
-use Rattle.agreement_core.proofs.Lines.{hold_inner, hold_lock, commit_unlocked}
+use Rattle.agreement_core.proofs.Lines.{hold_inner}
 use Rattle.machine_states.specs.Sight.{Sight}
-use Rattle.machine_epochs.specs.Entries.{counts_of}
 use Rattle.machine_epochs.specs.Slots.{thunk_in}
 use Rattle.machine_scenes.specs.Shown.{rules_of, section_with, section_of}
 use Rattle.machine_scenes.proofs.Shown.{shown_open}
-use Rattle.reached_histories.specs.machine_invariant.specs.Whole.{states_of, IsWhole}
+use Rattle.reached_histories.specs.machine_invariant.specs.Whole.{IsWhole}
 use Rattle.reached_histories.specs.Laws.{HasHistory}
-use Rattle.one_worker.proofs.Kept.{IsIdlePlace}
-use Rattle.lone_sections.proofs.Lines.{Wants, wanted_at}
+use Rattle.lone_sections.proofs.Lines.{wanted_at}
 use Rattle.lone_sections.proofs.State.{not_both, in_line, code_is}
 use Rattle.lone_sections.proofs.Goes.{Goes}
 

@@ -1,12 +1,11 @@
 -- So it is in every reached state with one worker.
 use Rattle.std.specs.Prelude.{◌==◌, ◌⊎◌, cond, not, Bool, true, false, slice_get, if◌then◌else◌}
-use Rattle.std.proofs.Common.{◌≡◌, ◌≢◌, ℕ, zero, suc, ◌+◌, ◌*◌, ◌<◌, ◌≤◌, List, [], ◌∷◌, ◌++◌, length, le_of_eq, refl, sym, ap, ◌∙◌, subst, ⊎_elim, inl, inr, arith, Option, Some, None}
+use Rattle.std.proofs.Common.{◌≡◌, ◌≢◌, ℕ, suc, ◌+◌, ◌≤◌, List, [], ◌∷◌, ◌++◌, length, le_of_eq, refl, sym, ap, ◌∙◌, subst, ⊎_elim, inl, inr, arith, Option, Some, None}
 use Rattle.std.proofs.lemmas.Bool.{cases_lt}
 use Rattle.std.proofs.lemmas.Bool.Decides.{nat_tests}
 use Rattle.map_history.specs.declared.op.Request.{Request}
 use Rattle.section_body.specs.Line.{line, micro_at}
 use Rattle.section_body.specs.Word.{value_of}
-use Rattle.section_body.specs.Memory.{cell_of}
 use Rattle.section_body.specs.declared.micro.Micro.TheVariants as micros
 use Rattle.section_body.specs.declared.thunk.Thunk.{Thunk}
 use Rattle.table_words.specs.declared.layout.Layout.{Layout}
@@ -21,9 +20,8 @@ use Rattle.structure_laws.specs.Laws.{Laws}
 use Rattle.structure_laws.specs.Planner.{PlannerLaws}
 use Rattle.structure_laws.specs.Scene.{Status, Free, Live}
 use Rattle.runner_parts.specs.declared.entries.Published.{Published}
-use Rattle.runner_parts.specs.declared.stage.Stage.TheVariants as stages
+use Rattle.epoch_core.specs.declared.stage.Stage.TheVariants as stages
 use Rattle.runner_parts.specs.declared.event.Event.{Event}
-use Rattle.runner_parts.specs.declared.event.EventKind.{EventKind}
 use Rattle.runner_parts.specs.declared.event.EventKind.TheVariants as kinds
 use Rattle.runner_parts.specs.State.{RunState, NodesState, PartState}
 use Rattle.runner_parts.specs.Lists.{cell_read, holds_named, section_published, descriptor_taken}
@@ -41,10 +39,10 @@ use Rattle.machine_states.specs.World.{World, happens}
 use Rattle.machine_states.specs.First.{IsFirst}
 use Rattle.machine_states.specs.Reached.{Reached}
 use Rattle.machine_states.specs.Sight.{Sight, sight, Steps}
-use Rattle.machine_states.proofs.FirstSights.{first_part_of, first_parts}
+use Rattle.machine_states.proofs.FirstSights.{first_parts}
 use Rattle.machine_states.proofs.Reached.{first_reached, more_reached, reached_has, reached_all}
 use Rattle.machine_states.proofs.Sights.{happens_steps, cond_none, unless_gone, joins}
-use Rattle.machine_states.proofs.Steps.{some_same, none_some}
+use Rattle.machine_states.proofs.Steps.{none_some}
 use Rattle.machine_states.proofs.Updates.{upd_else}
 use Rattle.machine_epochs.specs.Entries.{counts_of}
 use Rattle.machine_epochs.specs.Slots.{thunk_in}
@@ -65,9 +63,8 @@ use Rattle.one_worker.proofs.Idle.{idle_times}
 use Rattle.one_worker.proofs.Kept.{IsIdlePlace, Holds}
 use Rattle.one_worker.proofs.Places.{out, is_free, node, unread}
 use Rattle.one_worker.proofs.Reached.{holds}
-use Rattle.lone_sections.specs.Lone.{IsAnswerOrSpent, IsFirstPublished, LoneSectionsGoThrough}
+use Rattle.lone_sections.specs.Lone.{LoneSectionsGoThrough}
 use Rattle.lone_sections.proofs.Parts.{Had, Published', KeepsBy, inside_keeps, outside_keeps}
-use Rattle.lone_sections.proofs.State.{not_both}
 use Rattle.lone_sections.proofs.Goes.{Goes}
 use Rattle.lone_sections.proofs.Kept.{kept}
 use Rattle.lone_sections.proofs.Published.{published}

@@ -1,70 +1,38 @@
 -- The section that is under way, in a state.
-use Rattle.std.specs.Prelude.{◌==◌, ◌^◌, ◌⊎◌, cond, Bool, true, false, slice_index, slice_get, if◌then◌else◌}
-use Rattle.std.proofs.Common.{◌≡◌, ◌≢◌, ℕ, zero, suc, ◌+◌, ◌*◌, ◌<◌, ◌≤◌, List, [], ◌∷◌, ◌++◌, length, length-append, refl, sym, ap, ◌∙◌, subst, ⊎_elim, inl, inr, arith, Option, Some, None}
-use Rattle.std.proofs.lemmas.Bool.{cases_eq, cases_lt}
+use Rattle.std.specs.Prelude.{◌^◌, ◌⊎◌, Bool, true, false}
+use Rattle.std.proofs.Common.{◌≡◌, ◌≢◌, ℕ, zero, suc, ◌+◌, ◌*◌, ◌<◌, ◌≤◌, List, refl, sym, ap, ◌∙◌, subst, ⊎_elim, inl, inr, arith}
+use Rattle.std.proofs.lemmas.Bool.{cases_lt}
 use Rattle.std.proofs.lemmas.Bool.Decides.{nat_tests}
 use Rattle.map_history.specs.declared.op.Request.{Request}
-use Rattle.section_body.specs.Line.{line, micro_at, is_event, is_commit, is_check}
+use Rattle.section_body.specs.Line.{line, micro_at, is_event, is_commit}
 use Rattle.section_body.specs.Memory.{cell_of}
-use Rattle.section_body.specs.Word.{value_of, version_of, held_word}
-use Rattle.section_body.specs.declared.micro.Source.{Source}
+use Rattle.section_body.specs.Word.{value_of, held_word}
 use Rattle.section_body.specs.declared.micro.Micro.{Micro}
 use Rattle.section_body.specs.declared.micro.Micro.TheVariants as micros
 use Rattle.section_body.specs.declared.thunk.Thunk.{Thunk}
 use Rattle.section_lines.specs.Line.{IsLine}
 use Rattle.table_words.specs.declared.layout.Layout.{Layout}
-use Rattle.table_words.specs.declared.spot.Spot.{Spot}
 use Rattle.table_words.specs.declared.spot.Spot.TheVariants as spots
-use Rattle.table_words.specs.declared.access.Access.{Access}
-use Rattle.table_words.specs.declared.access.Access.TheVariants.{Loads, Exchanges}
-use Rattle.table_words.specs.Access.{written, exchanged}
-use Rattle.table_words.specs.Seen.{put}
-use Rattle.table_words.specs.Limits.{IsWithinLimits}
 use Rattle.structure_laws.specs.Meaning.{Meaning}
-use Rattle.structure_laws.specs.Planner.{PlannerLawsOver}
 use Rattle.structure_laws.specs.Scene.{Scene, Status, Free, Live, Retired}
-use Rattle.structure_laws.specs.Scene as scenes
 use Rattle.structure_laws.specs.Cells.{IsSafe, IsOutside}
-use Rattle.runner_parts.specs.declared.entries.Published.{Published}
-use Rattle.runner_parts.specs.declared.event.EventKind.{EventKind}
-use Rattle.runner_parts.specs.declared.event.EventKind.TheVariants as kinds
-use Rattle.runner_parts.specs.State.{RunState, PartState}
 use Rattle.runner_parts.specs.Tests.{has}
-use Rattle.runner_steps.specs.Asks.{ask_by, line_ask, opening_ask, outside_ask}
-use Rattle.runner_steps.specs.AfterInRun.{opened_more}
-use Rattle.runner_steps.specs.Sections.{thunk_of, is_open_run, line_of, next_of}
-use Rattle.runner_steps.specs.After.{after_by, line_after}
 use Rattle.agreement_core.specs.State.{AgreementState, Section}
 use Rattle.agreement_core.specs.Checks.{is_stop}
 use Rattle.agreement_core.specs.Sound.{UsedIsSound}
-use Rattle.agreement_core.proofs.Lines.{event_goes, hold_lock, hold_inner, hold_once, commit_unlocked, exchange_unlocked}
+use Rattle.agreement_core.proofs.Lines.{event_goes}
 use Rattle.epoch_core.specs.declared.location.Location.TheVariants.{Hand}
 use Rattle.epoch_core.specs.declared.location.Location.{Location}
 use Rattle.epoch_core.specs.Sound.{is_for_nodes}
 use Rattle.epoch_core.specs.State.{IsKept, entry_of}
-use Rattle.epoch_core.specs.History.{is_out}
-use Rattle.machine_states.specs.World.{World}
-use Rattle.machine_states.specs.Sight.{Sight, Steps}
-use Rattle.machine_states.proofs.Sights.{some_none, unless_gone, joins}
-use Rattle.machine_states.proofs.Steps.{some_same, none_some}
+use Rattle.machine_states.specs.Sight.{Sight}
 use Rattle.machine_epochs.specs.Entries.{counts_of}
 use Rattle.machine_epochs.specs.Slots.{thunk_in}
-use Rattle.machine_epochs.proofs.Places.{free_descriptor}
-use Rattle.machine_epochs.proofs.RunPlaces.{next_in_line, open_run}
-use Rattle.machine_scenes.specs.Shown.{rules_of, scene_of, section_with}
+use Rattle.machine_scenes.specs.Shown.{rules_of, scene_of}
 use Rattle.machine_scenes.proofs.JointSteps.{hand_status}
-use Rattle.machine_scenes.proofs.Shown.{shown_open}
-use Rattle.reached_histories.specs.machine_agreement.proofs.RunPlaces.{opened_thunk}
-use Rattle.reached_histories.specs.machine_facts.specs.Steps.{WordsStand}
 use Rattle.reached_histories.specs.machine_invariant.specs.Whole.{states_of, IsWhole}
-use Rattle.reached_histories.specs.next_steps.proofs.Parts.{each_part}
 use Rattle.reached_histories.specs.Laws.{HasHistory}
-use Rattle.runner_facts.proofs.Lines.{commit_unique, rests_behind}
-use Rattle.lone_sections.proofs.Lines.{hold_behind, Wants, wanted_at}
-use Rattle.runner_facts.proofs.Logs.{log_of, carries, LogStays, Commits, line_log, opening_log, outside_log, log_now, log_place}
-use Rattle.runner_facts.proofs.Runs as runs_of
-use Rattle.lone_sections.proofs.Cells as cells_of
-use Rattle.lone_sections.proofs.Goes.{Goes, IsUndone}
+use Rattle.runner_facts.proofs.Logs.{log_of, log_place}
 
 pub event_commit : (micro : Micro) → is_commit micro ≡ true → is_event micro ≡ true
 event_commit micro e = grind arith

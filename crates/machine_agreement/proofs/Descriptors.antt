@@ -22,7 +22,7 @@ use Rattle.runner_steps.specs.Sections.{thunk_of, line_of, settles, setting_of}
 use Rattle.runner_steps.specs.AfterOutside.{opened}
 use Rattle.agreement_core.specs.State.{CellRules, Shared, Section, Run, Finished, AgreementState}
 use Rattle.agreement_core.specs.Events as events
-use Rattle.agreement_core.specs.Events.{IsPublishable, begun, reads, with_cell}
+use Rattle.agreement_core.specs.Events.{IsPublishable, begun, reads}
 use Rattle.machine_states.specs.Sight.{Sight}
 use Rattle.machine_states.proofs.Updates.{upd_here, upd_else, upd_split}
 use Rattle.machine_epochs.specs.Slots.{thunk_in}

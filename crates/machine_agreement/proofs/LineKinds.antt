@@ -20,7 +20,7 @@ use Rattle.runner_parts.specs.State.{RunState, RecordsState, PartState}
 use Rattle.runner_parts.specs.Tests.{has_pair}
 use Rattle.runner_steps.specs.Sections.{is_open_run, next_of}
 use Rattle.runner_steps.specs.AfterInRun.{opened_more}
-use Rattle.runner_steps.specs.After.{after, after_by, line_after, noted, left_more, tallied}
+use Rattle.runner_steps.specs.After.{after, after_by, line_after, noted}
 use Rattle.agreement_core.specs.State.{CellRules, AgreementState, section_of}
 use Rattle.agreement_core.specs.Events as events
 use Rattle.agreement_core.specs.Events.{IsBefore, IsAlone, goes_on, agrees, with_cell, reads}
@@ -35,17 +35,9 @@ use Rattle.machine_agreement.proofs.Components.{own_then, goes_on_own, goes_on_r
 use Rattle.machine_agreement.specs.Goes.{Goes}
 use Rattle.machine_agreement.proofs.Assembly.{LeadBy, ThunksStay, line_goes}
 
-left_finished : (s : RecordsState) (kind : EventKind) (spot : Spot) (n : ℕ) → (left_more s kind spot n).finished ≡ s.finished
-left_finished s (kinds.Join worker) spot n = refl
-left_finished s _ spot n = refl
-
 -- what is noted of a step keeps what came to its end
 pub noted_finished : (l : Layout) (r : ℕ) (kind : EventKind) (spot : Spot) (access : Access) (n : ℕ) (s : RecordsState) → (noted l r kind spot access n s).finished ≡ s.finished
-noted_finished l r kind spot access n s = by (r == l.runners)
-  where
-    by : (b : Bool) → (if b then left_more (tallied access n s) kind spot (written access n) else tallied access n s).finished ≡ s.finished
-    by true = left_finished (tallied access n s) kind spot (written access n)
-    by false = refl
+noted_finished l r kind spot access n s = refl
 
 -- a part with its step noted
 abbrev pub noting : Layout → ℕ → EventKind → Spot → Access → ℕ → PartState → PartState

@@ -16,14 +16,16 @@ use Rattle.table_words.specs.Places.{slot_count}
 use Rattle.table_words.specs.Seen.{put}
 use Rattle.table_words.specs.Seen as table
 use Rattle.structure_laws.specs.Meaning.{Meaning}
+use Rattle.epoch_core.specs.Moves.{is_clear}
 use Rattle.runner_parts.specs.declared.event.EventKind.{EventKind}
 use Rattle.runner_parts.specs.declared.event.EventKind.TheVariants as kinds
-use Rattle.runner_parts.specs.declared.stage.Stage.{Stage}
-use Rattle.runner_parts.specs.declared.stage.Stage.TheVariants as stages
+use Rattle.epoch_core.specs.declared.stage.Stage.{Stage}
+use Rattle.epoch_core.specs.declared.stage.Stage.TheVariants as stages
 use Rattle.runner_parts.specs.declared.entries.Published.{Published}
 use Rattle.runner_parts.specs.State.{RecordsState, NodesState, DescriptorsState, PartState}
 use Rattle.runner_parts.specs.Tests.{has}
-use Rattle.runner_steps.specs.Outside.{last_epoch, descriptor_spot, retire_ask, is_over}
+use Rattle.runner_steps.specs.Outside.{descriptor_spot, retire_ask, is_over}
+use Rattle.epoch_core.specs.State.{last_epoch}
 use Rattle.runner_steps.specs.Asks.{outside_ask}
 use Rattle.runner_parts.specs.Lists as lists
 use Rattle.runner_steps.specs.AfterOutside as outside
@@ -289,7 +291,7 @@ module _ (m : Meaning) (l : Layout) (rs : List Request) (w : AgreementState) (s 
   scan_one n x e idle =
       let h = asked.scan_one_asked l n p.stage x e in
       let found = s.word x.0 in
-      let clear = h.1 && outside.is_clear h.0 found in
+      let clear = h.1 && is_clear h.0 found in
       let after : outside.scan_one_after l p p.stage found ≡ outside.scanned l p h.0 n clear
       = ap (λ q. outside.scan_one_after l p q found) h.2 ∙ ap (λ b. if b then outside.scanned l p h.0 n clear else p) (at_most n l.runners h.3) in
       let collect : collects l (kinds.ScanOne n) p.stage found ≡ (if n == l.runners && not (clear && nat_lt h.0 last_epoch) then Some h.0 else None) = ap (λ q. scan_collects l found q) h.2 in

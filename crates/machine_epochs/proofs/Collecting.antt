@@ -11,8 +11,8 @@ use Rattle.table_words.specs.declared.spot.Spot.TheVariants.{Announcement}
 use Rattle.table_words.specs.declared.access.Access.{Access}
 use Rattle.table_words.specs.Seen.{upd}
 use Rattle.structure_laws.specs.Meaning.{Meaning}
-use Rattle.runner_parts.specs.declared.stage.Stage.{Stage}
-use Rattle.runner_parts.specs.declared.stage.Stage.TheVariants.{Idle, Scanning}
+use Rattle.epoch_core.specs.declared.stage.Stage.{Stage}
+use Rattle.epoch_core.specs.declared.stage.Stage.TheVariants.{Idle, Scanning}
 use Rattle.runner_parts.specs.declared.entries.Retired.{Retired}
 use Rattle.runner_parts.specs.declared.event.EventKind.{EventKind}
 use Rattle.runner_parts.specs.declared.event.EventKind.TheVariants as kinds

@@ -13,8 +13,8 @@ use Rattle.table_words.specs.Seen.{put, upd}
 use Rattle.structure_laws.specs.Meaning.{Meaning}
 use Rattle.runner_parts.specs.declared.event.EventKind.{EventKind}
 use Rattle.runner_parts.specs.declared.event.EventKind.TheVariants as kinds
-use Rattle.runner_parts.specs.declared.stage.Stage.{Stage}
-use Rattle.runner_parts.specs.declared.stage.Stage.TheVariants.{Idle, Loaded, Announced, Entered, Scanning}
+use Rattle.epoch_core.specs.declared.stage.Stage.{Stage}
+use Rattle.epoch_core.specs.declared.stage.Stage.TheVariants.{Idle, Loaded, Announced, Entered, Scanning}
 use Rattle.runner_parts.specs.State.{RunState, PartState, RecordsState}
 use Rattle.runner_steps.specs.Outside.{enter_load_ask, announce_ask, enter_again_ask, idle_ask, scan_one_ask, advance_ask}
 use Rattle.runner_steps.specs.Asks.{asks, ask_by, outside_ask}
@@ -29,7 +29,7 @@ use Rattle.epoch_core.proofs.Keeping.{keeps}
 use Rattle.machine_states.specs.Sight.{Sight, parts_after, sight_after, Steps}
 use Rattle.machine_states.proofs.Sights.{unless_gone, cond_none}
 use Rattle.machine_states.proofs.Updates.{upd_split}
-use Rattle.machine_epochs.specs.Entries.{counts_of, stage_of}
+use Rattle.machine_epochs.specs.Entries.{counts_of}
 use Rattle.machine_epochs.specs.Slots.{ShowsEntries}
 use Rattle.machine_epochs.specs.Scans.{Found, found_one, found_more}
 use Rattle.machine_epochs.proofs.OutsideAsked as asked
@@ -185,7 +185,7 @@ module _ (m : Meaning) (l : Layout) (found : Found) (s : Sight) (old : Entries m
     shows = record {
       epoch = old.shows.epoch ∙ sym epoch;
       announced = λ i. old.shows.announced i ∙ sym (announced i);
-      stage = λ i. old.shows.stage i ∙ ap stage_of (sym (stage i));
+      stage = λ i. old.shows.stage i ∙ (sym (stage i));
     };
     unloaded = old.unloaded;
     clear = λ i r' x n b is. old.clear i r' x n b (sym (stage i) ∙ is);

@@ -14,8 +14,8 @@ use Rattle.table_words.specs.Seen.{upd, put}
 use Rattle.structure_laws.specs.Meaning.{Meaning}
 use Rattle.runner_parts.specs.declared.event.EventKind.{EventKind}
 use Rattle.runner_parts.specs.declared.event.EventKind.TheVariants as kinds
-use Rattle.runner_parts.specs.declared.stage.Stage.{Stage}
-use Rattle.runner_parts.specs.declared.stage.Stage.TheVariants.{Idle, Loaded, Announced, Entered, Scanning}
+use Rattle.epoch_core.specs.declared.stage.Stage.{Stage}
+use Rattle.epoch_core.specs.declared.stage.Stage.TheVariants.{Idle, Loaded, Announced, Entered, Scanning}
 use Rattle.runner_parts.specs.declared.entries.Retired.{Retired}
 use Rattle.runner_parts.specs.State.{PartState, RecordsState}
 use Rattle.runner_parts.specs.Tests.{has, last_stored}
@@ -23,8 +23,6 @@ use Rattle.runner_steps.specs.Outside.{enter_load_ask, announce_ask, enter_again
 use Rattle.runner_parts.specs.Lists as lists
 use Rattle.runner_steps.specs.After.{outside_after}
 use Rattle.runner_steps.specs.AfterOutside as outside
-use Rattle.epoch_core.specs.declared.stage.Stage as component
-use Rattle.epoch_core.specs.declared.stage.Stage.TheVariants as points
 use Rattle.epoch_core.specs.declared.location.Location.{Location}
 use Rattle.epoch_core.specs.declared.location.Location.TheVariants.{Fixed, Live, Hand, Free, Worn, Limbo}
 use Rattle.epoch_core.specs.Moves.{is_clear, is_over, is_old, collected}
@@ -163,7 +161,7 @@ module _ (m : Meaning) (l : Layout) (w : EpochState) (s : Sight) (old : IsJoined
       before d j n last = ap (λ xs. last_stored xs d j None) (sym k.stored) ∙ last
 
   -- a runner at this stage isn't entered
-  unentered : {B : Type 0} → (a : component.Stage) → is_entered a ≡ false → is_entered (upd w.stage r a r) ≡ true → B
+  unentered : {B : Type 0} → (a : Stage) → is_entered a ≡ false → is_entered (upd w.stage r a r) ≡ true → B
   unentered a outside isin = absurd (let x = sym (ap is_entered (upd_here w.stage r a) ∙ outside) ∙ isin in cc)
 
   -- the state after a step of this kind on this word, with these records
@@ -195,8 +193,8 @@ module _ (m : Meaning) (l : Layout) (w : EpochState) (s : Sight) (old : IsJoined
             published = refl;
             stored = refl;
             freed = λ d h. h;
-            named = λ d isin. unentered (points.Loaded w.epoch) refl isin;
-            reached = λ t isin. unentered (points.Loaded w.epoch) refl isin;
+            named = λ d isin. unentered (Loaded w.epoch) refl isin;
+            reached = λ t isin. unentered (Loaded w.epoch) refl isin;
           }),
         )
 
@@ -221,8 +219,8 @@ module _ (m : Meaning) (l : Layout) (w : EpochState) (s : Sight) (old : IsJoined
             published = refl;
             stored = refl;
             freed = λ d h. h;
-            named = λ d isin. unentered points.Announced refl isin;
-            reached = λ t isin. unentered points.Announced refl isin;
+            named = λ d isin. unentered Announced refl isin;
+            reached = λ t isin. unentered Announced refl isin;
           }),
         )
 
@@ -273,8 +271,8 @@ module _ (m : Meaning) (l : Layout) (w : EpochState) (s : Sight) (old : IsJoined
             published = refl;
             stored = refl;
             freed = λ d h. h;
-            named = λ d isin. unentered points.Idle refl isin;
-            reached = λ t isin. unentered points.Idle refl isin;
+            named = λ d isin. unentered Idle refl isin;
+            reached = λ t isin. unentered Idle refl isin;
           }),
         )
 
@@ -299,8 +297,8 @@ module _ (m : Meaning) (l : Layout) (w : EpochState) (s : Sight) (old : IsJoined
             published = refl;
             stored = refl;
             freed = λ d h. h;
-            named = λ d isin. unentered (points.Scanning w.epoch 0 true) refl isin;
-            reached = λ t isin. unentered (points.Scanning w.epoch 0 true) refl isin;
+            named = λ d isin. unentered (Scanning w.epoch 0 true) refl isin;
+            reached = λ t isin. unentered (Scanning w.epoch 0 true) refl isin;
           }),
         )
 
@@ -312,7 +310,7 @@ module _ (m : Meaning) (l : Layout) (w : EpochState) (s : Sight) (old : IsJoined
       own_lists : ◌≡◌ {A = ℕ → Lists} (upd (λ i. lists_of (s.part i)) r (collect_lists epoch (lists_of p))) (λ i. lists_of (upd s.part r over i))
       own_lists = ap (λ (x : Lists). upd (λ i. lists_of (s.part i)) r x) (collect_same epoch p) ∙ sym (map_upd lists_of s.part r over)
 
-      ends : (w' : EpochState) (f : Spot → ℕ) → IsSameSections f s.word → w' ≡ record w { epoch = w'.epoch; stage = upd w.stage r points.Idle; location = after_collect (counts_of m l) w.location r epoch } → KeepsSlots w' f over
+      ends : (w' : EpochState) (f : Spot → ℕ) → IsSameSections f s.word → w' ≡ record w { epoch = w'.epoch; stage = upd w.stage r Idle; location = after_collect (counts_of m l) w.location r epoch } → KeepsSlots w' f over
       ends w' f same is = subst (λ (v : EpochState). KeepsSlots v f over) (sym is) (record {
         holds = λ i ne t h. h;
         hand = λ i t h. collected_hand _ r epoch i (w.location t) h;
@@ -327,8 +325,8 @@ module _ (m : Meaning) (l : Layout) (w : EpochState) (s : Sight) (old : IsJoined
         published = refl;
         stored = refl;
         freed = λ d h. has_more p.descriptors.free _ d h;
-        named = λ d isin. unentered points.Idle refl isin;
-        reached = λ t isin. unentered points.Idle refl isin;
+        named = λ d isin. unentered Idle refl isin;
+        reached = λ t isin. unentered Idle refl isin;
       })
 
     pub advance : (x : Spot × Access) → advance_ask l p.stage ≡ Some x → Leads kinds.Advance records x
@@ -379,8 +377,8 @@ module _ (m : Meaning) (l : Layout) (w : EpochState) (s : Sight) (old : IsJoined
               published = refl;
               stored = refl;
               freed = λ d h. h;
-              named = λ d isin. unentered (points.Scanning x (suc n) (clear && is_clear x (w.announced n))) refl isin;
-              reached = λ t isin. unentered (points.Scanning x (suc n) (clear && is_clear x (w.announced n))) refl isin;
+              named = λ d isin. unentered (Scanning x (suc n) (clear && is_clear x (w.announced n))) refl isin;
+              reached = λ t isin. unentered (Scanning x (suc n) (clear && is_clear x (w.announced n))) refl isin;
             }),
           )
 

@@ -26,7 +26,7 @@ use Rattle.machine_states.specs.First as states
 use Rattle.machine_states.specs.First.{first_part, keeper_part, worker_part, falling}
 use Rattle.machine_states.specs.Sight.{Sight, sight}
 use Rattle.machine_states.proofs.FirstSights.{first_part_of, first_parts, unannounced, unlogged}
-use Rattle.machine_epochs.specs.Entries.{counts_of, stage_of}
+use Rattle.machine_epochs.specs.Entries.{counts_of}
 use Rattle.machine_epochs.specs.Slots.{lists_of}
 use Rattle.machine_epochs.specs.Firsts.{owner_of, first_place}
 use Rattle.machine_epochs.specs.Joined.{IsTied, IsJoinedToEpochs}
@@ -193,7 +193,7 @@ module _ (m : Meaning) (l : Layout) where
       entries = record {
         epoch = sym (start.words.seen Epoch tt);
         announced = λ r. sym (unannounced m l rs w start r);
-        stage = λ r. of_part (λ q. points.Idle ≡ stage_of q.stage) (λ nodes descriptors. refl) r;
+        stage = λ r. of_part (λ q. points.Idle ≡ q.stage) (λ nodes descriptors. refl) r;
       };
       log = λ d k. sym (unlogged m l rs w start d k);
       past = λ d k high. unlogged m l rs w start d k;

@@ -22,7 +22,7 @@ use Rattle.epoch_core.proofs.Keeping.{keeps_all}
 use Rattle.epoch_core.proofs.Listing.{lists_follow_all}
 use Rattle.machine_states.specs.Sight.{Sight}
 use Rattle.machine_states.proofs.Updates.{upd_split, map_same, put_same}
-use Rattle.machine_epochs.specs.Entries.{counts_of, stage_of}
+use Rattle.machine_epochs.specs.Entries.{counts_of}
 use Rattle.machine_epochs.specs.Roles.{role_at}
 use Rattle.machine_epochs.specs.Slots.{lists_of, thunk_in, ShowsEntries}
 pub use Rattle.machine_epochs.specs.Goes.{Goes, GoesBy}
@@ -151,8 +151,8 @@ module _ (m : Meaning) (l : Layout) where
         had : (j : ℕ) (z : Published) → (upd s.part r p j).published ≡ Some z → (y : Published) × ((s.part j).published ≡ Some y) × (y.descriptor ≡ z.descriptor)
         had j z = upd_split s.part r p (λ k q. q.published ≡ Some z → (y : Published) × ((s.part k).published ≡ Some y) × (y.descriptor ≡ z.descriptor)) (back z) (λ k ne at. (z, at, refl)) j
 
-    pub stages_stay : (f : Spot → ℕ) (p : PartState) → p.stage ≡ (s.part r).stage → (i : ℕ) → w.stage i ≡ stage_of (upd s.part r p i).stage
-    stages_stay f p e i = upd_split s.part r p (λ k q. w.stage k ≡ stage_of q.stage) (old.entries.stage r ∙ ap stage_of (sym e)) (λ k ne. old.entries.stage k) i
+    pub stages_stay : (f : Spot → ℕ) (p : PartState) → p.stage ≡ (s.part r).stage → (i : ℕ) → w.stage i ≡ (upd s.part r p i).stage
+    stages_stay f p e i = upd_split s.part r p (λ k q. w.stage k ≡ q.stage) (old.entries.stage r ∙ sym e) (λ k ne. old.entries.stage k) i
 
     pub all_tied : (w' : EpochState) (f : Spot → ℕ) (p : PartState) → IsTied m l w' f r p → ((i : ℕ) → i ≢ r → IsElsewhere w w' s.word f i (s.part i)) → (i : ℕ) → IsTied m l w' f i (upd s.part r p i)
     all_tied w' f p own others = upd_split s.part r p (λ k q. IsTied m l w' f k q) own (λ k ne. still_tied w w' s.word f k (s.part k) (others k ne) (old.tied k))

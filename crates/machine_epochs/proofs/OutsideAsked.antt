@@ -14,12 +14,13 @@ use Rattle.table_words.specs.declared.access.Access.{Access}
 use Rattle.table_words.specs.declared.access.Access.TheVariants.{Loads, Stores, Exchanges}
 use Rattle.structure_laws.specs.Meaning.{Meaning}
 use Rattle.runner_parts.specs.declared.entries.Published.{Published}
-use Rattle.runner_parts.specs.declared.stage.Stage.{Stage}
-use Rattle.runner_parts.specs.declared.stage.Stage.TheVariants.{Idle, Loaded, Announced, Entered, Scanning}
+use Rattle.epoch_core.specs.declared.stage.Stage.{Stage}
+use Rattle.epoch_core.specs.declared.stage.Stage.TheVariants.{Idle, Loaded, Announced, Entered, Scanning}
 use Rattle.runner_parts.specs.State.{RunState, PartState}
 use Rattle.runner_parts.specs.Tests.{has, is_walking, is_prepared}
 use Rattle.runner_parts.specs.Tests as tests
-use Rattle.runner_steps.specs.Outside.{when, last_epoch, enter_load_ask, announce_ask, enter_again_ask, idle_ask, scan_one_ask, advance_ask, split_ask, entry_spot, entry_ask, read_ask, private_load_ask, descriptor_spot, private_store_ask, hold_ask, open_ask, is_over, retire_ask}
+use Rattle.runner_steps.specs.Outside.{when, enter_load_ask, announce_ask, enter_again_ask, idle_ask, scan_one_ask, advance_ask, split_ask, entry_spot, entry_ask, read_ask, private_load_ask, descriptor_spot, private_store_ask, hold_ask, open_ask, is_over, retire_ask}
+use Rattle.epoch_core.specs.State.{last_epoch}
 use Rattle.machine_states.proofs.Steps.{some_same}
 use Rattle.machine_states.proofs.Sights.{if_some, some_none}
 

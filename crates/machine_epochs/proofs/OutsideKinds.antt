@@ -14,7 +14,7 @@ use Rattle.table_words.specs.Seen.{upd, put}
 use Rattle.structure_laws.specs.Meaning.{Meaning}
 use Rattle.runner_parts.specs.declared.event.EventKind.{EventKind}
 use Rattle.runner_parts.specs.declared.event.EventKind.TheVariants as kinds
-use Rattle.runner_parts.specs.declared.stage.Stage.TheVariants.{Entered}
+use Rattle.epoch_core.specs.declared.stage.Stage.TheVariants.{Entered}
 use Rattle.runner_parts.specs.declared.entries.Tested.{Tested}
 use Rattle.runner_parts.specs.State.{RunState, PartState, NodesState, ReadsState, RecordsState}
 use Rattle.runner_parts.specs.Tests.{has}
@@ -33,7 +33,7 @@ use Rattle.epoch_core.specs.Lists.{Lists, times}
 use Rattle.machine_states.specs.Sight.{Sight}
 use Rattle.machine_states.proofs.Steps.{some_same}
 use Rattle.machine_states.proofs.Updates.{map_same, map_upd}
-use Rattle.machine_epochs.specs.Entries.{counts_of, stage_of}
+use Rattle.machine_epochs.specs.Entries.{counts_of}
 use Rattle.machine_epochs.specs.Roles.{role_at}
 use Rattle.machine_epochs.specs.Slots.{lists_of, retiring_of}
 use Rattle.machine_epochs.specs.Joined.{IsTied, IsJoinedToEpochs}
@@ -91,7 +91,7 @@ module _ (m : Meaning) (l : Layout) (w : EpochState) (s : Sight) (old : IsJoined
       p' = record p { nodes = record (p.nodes) { tests = tests }; records = records }
 
   entered_at : (g : ℕ) → p.stage ≡ Entered g → is_entered (w.stage r) ≡ true
-  entered_at g e = ap is_entered (old.entries.stage r ∙ ap stage_of e)
+  entered_at g e = ap is_entered (old.entries.stage r ∙ e)
 
   unretired : w.retire r ≡ no_retire
   unretired = (old.tied r).retire ∙ ap (retiring_of m) none

@@ -15,7 +15,7 @@ use Rattle.table_words.specs.Seen.{upd, put}
 use Rattle.structure_laws.specs.Meaning.{Meaning}
 use Rattle.runner_parts.specs.declared.event.EventKind.{EventKind}
 use Rattle.runner_parts.specs.declared.event.EventKind.TheVariants as kinds
-use Rattle.runner_parts.specs.declared.stage.Stage.TheVariants.{Entered}
+use Rattle.epoch_core.specs.declared.stage.Stage.TheVariants.{Entered}
 use Rattle.runner_parts.specs.State.{RunState, PartState, RecordsState}
 use Rattle.runner_parts.specs.Tests.{has}
 use Rattle.runner_steps.specs.Asks.{asks, ask_by, outside_ask}
@@ -27,7 +27,6 @@ use Rattle.machine_states.specs.First.{IsFirst, first_part}
 use Rattle.machine_states.specs.Sight.{Sight, sight, parts_after, sight_after, Steps}
 use Rattle.machine_states.proofs.Updates.{upd_split}
 use Rattle.machine_states.proofs.FirstSights.{first_part_of, first_parts}
-use Rattle.machine_epochs.specs.Entries.{stage_of}
 use Rattle.machine_epochs.specs.Scans.{Found}
 use Rattle.section_body.specs.Line.{micro_at}
 use Rattle.section_body.specs.declared.micro.Micro.TheVariants.{RetireCommit}
@@ -113,7 +112,7 @@ module _ (m : Meaning) (l : Layout) (rs : List Request) where
     where
       entered : (g : ℕ) → (s.part r).stage ≡ Entered g → g ≤ s.word Epoch
       entered g e =
-          let at = entries.shows.stage r ∙ ap stage_of e in
+          let at = entries.shows.stage r ∙ e in
           subst (λ n. n ≤ s.word Epoch) (ap entry_of at) (subst (λ n. entry_of (entries.state.stage r) ≤ n) entries.shows.epoch (entries.sound.entered_most r (ap is_entered at)))
 
   first_own : (epoch r : ℕ) (nodes descriptors : List ℕ) → ((d : ℕ) → d < descriptor_count l → times d descriptors ≡ cond (owner_of l.sections l.runners d == r) 1 0) → IsOwn m l epoch r (first_part nodes descriptors)

@@ -5,8 +5,8 @@ use Rattle.map_history.specs.declared.op.Request.{Request}
 use Rattle.table_words.specs.declared.layout.Layout.{Layout}
 use Rattle.table_words.specs.declared.spot.Spot.TheVariants.{Epoch, Announcement}
 use Rattle.structure_laws.specs.Meaning.{Meaning}
-use Rattle.runner_parts.specs.declared.stage.Stage.{Stage}
-use Rattle.runner_parts.specs.declared.stage.Stage.TheVariants.{Idle, Loaded, Announced, Entered, Scanning}
+use Rattle.epoch_core.specs.declared.stage.Stage.{Stage}
+use Rattle.epoch_core.specs.declared.stage.Stage.TheVariants.{Idle, Loaded, Announced, Entered, Scanning}
 use Rattle.runner_parts.specs.declared.event.Event.{Event}
 use Rattle.runner_parts.specs.State.{PartState}
 use Rattle.epoch_core.specs.State.{EpochState, last_epoch, is_entered, entry_of, is_announcing}
@@ -20,7 +20,7 @@ use Rattle.machine_states.specs.Sight.{Sight, sight, IsWhole}
 use Rattle.machine_states.proofs.Steps.{some_same}
 use Rattle.machine_states.proofs.Sights.{some_none, happens_steps}
 use Rattle.machine_states.proofs.FirstSights.{first_part_of, first_parts, unannounced, first_whole}
-use Rattle.machine_epochs.specs.Entries.{counts_of, stage_of}
+use Rattle.machine_epochs.specs.Entries.{counts_of}
 use Rattle.machine_epochs.specs.Scans.{Found, nothing_found, found_more, then_found, found_after}
 use Rattle.machine_epochs.specs.Epochs.{EpochsAreSound, SoundAfter}
 use Rattle.machine_epochs.specs.Descriptors.{DescriptorsSoundAfter}
@@ -64,7 +64,7 @@ module _ (m : Meaning) (l : Layout) (rs : List Request) where
       shows = record {
         epoch = sym (start.words.seen Epoch tt);
         announced = λ r. sym (unannounced m l rs w start r);
-        stage = λ r. sym (ap (λ (p : PartState). stage_of p.stage) (first_parts m l w.parts start.parts r) ∙ ap stage_of (first_stage r));
+        stage = λ r. sym (ap (λ (p : PartState). p.stage) (first_parts m l w.parts start.parts r) ∙ first_stage r);
       };
       unloaded = λ r. refl;
       clear = λ r r' x n b is. refl;
@@ -84,16 +84,16 @@ module _ (m : Meaning) (l : Layout) (found : Found) (s : Sight) (entries : Entri
   epoch : w.epoch ≡ s.word Epoch
   epoch = entries.shows.epoch
 
-  sees : (r : ℕ) (stage : Stage) → (s.part r).stage ≡ stage → w.stage r ≡ stage_of stage
-  sees r stage e = entries.shows.stage r ∙ ap stage_of e
+  sees : (r : ℕ) (stage : Stage) → (s.part r).stage ≡ stage → w.stage r ≡ stage
+  sees r stage e = entries.shows.stage r ∙ e
 
   enters : (r g : ℕ) → (s.part r).stage ≡ Entered g → (is_entered (w.stage r) ≡ true) × (entry_of (w.stage r) ≡ g)
   enters r g e = (ap is_entered (sees r (Entered g) e), ap entry_of (sees r (Entered g) e))
 
-  silent : (r : ℕ) (stage : Stage) → (s.part r).stage ≡ stage → is_announcing (stage_of stage) ≡ false → s.word (Announcement r) ≡ 0
+  silent : (r : ℕ) (stage : Stage) → (s.part r).stage ≡ stage → is_announcing stage ≡ false → s.word (Announcement r) ≡ 0
   silent r stage e out = sym (entries.shows.announced r) ∙ old.unannounced r (ap is_announcing (sees r stage e) ∙ out)
 
-  speaking : (r : ℕ) (stage : Stage) → (s.part r).stage ≡ stage → is_announcing (stage_of stage) ≡ true → 1 ≤ s.word (Announcement r)
+  speaking : (r : ℕ) (stage : Stage) → (s.part r).stage ≡ stage → is_announcing stage ≡ true → 1 ≤ s.word (Announcement r)
   speaking r stage e out = subst (λ n. 1 ≤ n) (entries.shows.announced r) (old.announced_some r (ap is_announcing (sees r stage e) ∙ out))
 
   at_most : (n : ℕ) → n ≤ w.epoch → n ≤ s.word Epoch

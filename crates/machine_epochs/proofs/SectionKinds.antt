@@ -17,7 +17,7 @@ use Rattle.table_words.specs.Access.{written}
 use Rattle.table_words.specs.Seen.{upd, put}
 use Rattle.structure_laws.specs.Meaning.{Meaning}
 use Rattle.runner_parts.specs.declared.event.EventKind.TheVariants as kinds
-use Rattle.runner_parts.specs.declared.stage.Stage.TheVariants.{Entered}
+use Rattle.epoch_core.specs.declared.stage.Stage.TheVariants.{Entered}
 use Rattle.runner_parts.specs.declared.entries.Published.{Published}
 use Rattle.runner_parts.specs.declared.entries.Stored.{Stored}
 use Rattle.runner_parts.specs.State.{PartState, RecordsState}
@@ -37,7 +37,7 @@ use Rattle.epoch_core.specs.Lists.{Entry, Lists}
 use Rattle.machine_states.specs.Sight.{Sight}
 use Rattle.machine_states.proofs.Steps.{some_same}
 use Rattle.machine_states.proofs.Updates.{map_upd}
-use Rattle.machine_epochs.specs.Entries.{counts_of, stage_of}
+use Rattle.machine_epochs.specs.Entries.{counts_of}
 use Rattle.machine_epochs.specs.Roles.{role_at}
 use Rattle.machine_epochs.specs.Slots.{entry_of, lists_of, thunk_in}
 use Rattle.machine_epochs.specs.Joined.{IsJoinedToEpochs}
@@ -354,7 +354,7 @@ module _ (m : Meaning) (l : Layout) (w : EpochState) (s : Sight) (old : IsJoined
       lost found = record now { reads = lists.holds_named (lists.cell_read now.reads t.lock found) found }
 
       entered : (g : ℕ) → now.stage ≡ Entered g → is_entered (w.stage r) ≡ true
-      entered g e = ap is_entered (old.entries.stage r ∙ ap stage_of e)
+      entered g e = ap is_entered (old.entries.stage r ∙ e)
 
       by_test : asked.HoldAsked m l rs t d now x → (y : Spot × Access) (b : Bool) → (s.word (Cell t.lock) == t.word) ≡ b
           → ((u : ℕ) → comes_outside m (counts_of m l) (kinds.Hold t d) now (s.word (Cell t.lock)) u ≡ true → w.holds r u ≡ false → MayHold w r u)
@@ -431,5 +431,5 @@ module _ (m : Meaning) (l : Layout) (w : EpochState) (s : Sight) (old : IsJoined
         _,
         (h.1, h.3, refl),
         subst (λ (o : Option Published). Goes m l (events.RetireDescriptor r h.1.descriptor ∷ []) w (next m l w s old r (put s.word Epoch (s.word Epoch)) (record (outside.retire_after now o (s.word Epoch)) { records = records }))) (sym h.3)
-            (retires h.1 h.3 (ap is_entered (old.entries.stage r ∙ ap stage_of h.2))),
+            (retires h.1 h.3 (ap is_entered (old.entries.stage r ∙ h.2))),
       )

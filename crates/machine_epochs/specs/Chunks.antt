@@ -7,7 +7,7 @@ use Rattle.table_words.specs.Places.{slot_count}
 use Rattle.structure_laws.specs.Meaning.{Meaning}
 use Rattle.runner_parts.specs.declared.event.EventKind.{EventKind}
 use Rattle.runner_parts.specs.declared.event.EventKind.TheVariants as kinds
-use Rattle.runner_parts.specs.declared.stage.Stage.TheVariants.{Loaded, Scanning}
+use Rattle.epoch_core.specs.declared.stage.Stage.TheVariants.{Loaded, Scanning}
 use Rattle.runner_parts.specs.declared.entries.Published.{Published}
 use Rattle.runner_parts.specs.State.{RunState, PartState, NodesState}
 use Rattle.runner_steps.specs.Sections.{thunk_of, is_open_run, next_of}

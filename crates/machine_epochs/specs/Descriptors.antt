@@ -7,7 +7,7 @@ use Rattle.table_words.specs.declared.layout.Layout.{Layout}
 use Rattle.table_words.specs.declared.spot.Spot.TheVariants.{Epoch}
 use Rattle.table_words.specs.Places.{descriptor_count}
 use Rattle.structure_laws.specs.Meaning.{Meaning}
-use Rattle.runner_parts.specs.declared.stage.Stage.TheVariants.{Entered}
+use Rattle.epoch_core.specs.declared.stage.Stage.TheVariants.{Entered}
 use Rattle.runner_parts.specs.declared.entries.Retired.{Retired}
 use Rattle.runner_parts.specs.declared.entries.Published.{Published}
 use Rattle.runner_parts.specs.declared.event.Event.{Event}

@@ -3,10 +3,10 @@ use Rattle.std.specs.Prelude.{ℕ, ◌+◌, not, ◌==◌, ◌&&◌, nat_lt, Opt
 use Rattle.table_words.specs.declared.layout.Layout.{Layout}
 use Rattle.runner_parts.specs.declared.event.EventKind.{EventKind}
 use Rattle.runner_parts.specs.declared.event.EventKind.TheVariants as kinds
-use Rattle.runner_parts.specs.declared.stage.Stage.{Stage}
-use Rattle.runner_parts.specs.declared.stage.Stage.TheVariants.{Scanning}
-use Rattle.runner_steps.specs.Outside.{last_epoch}
-use Rattle.runner_steps.specs.AfterOutside.{is_clear}
+use Rattle.epoch_core.specs.declared.stage.Stage.{Stage}
+use Rattle.epoch_core.specs.declared.stage.Stage.TheVariants.{Scanning}
+use Rattle.epoch_core.specs.State.{last_epoch}
+use Rattle.epoch_core.specs.Moves.{is_clear}
 
 -- the epoch for which a scanner collects that reads the last announcement, where no advance is tried
 abbrev pub scan_collects : Layout → ℕ → Stage → Option ℕ

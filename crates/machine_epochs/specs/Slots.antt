@@ -13,7 +13,6 @@ use Rattle.runner_steps.specs.Sections.{thunk_of, line_of}
 use Rattle.epoch_core.specs.State.{EpochState, Retiring, no_retire}
 use Rattle.epoch_core.specs.Lists.{Entry, Lists}
 use Rattle.machine_states.specs.Sight.{Sight}
-use Rattle.machine_epochs.specs.Entries.{stage_of}
 
 -- a slot in limbo, as the component names it
 abbrev pub entry_of : Retired → Entry
@@ -50,4 +49,4 @@ thunk_in word d = let w : ℕ → ℕ = λ j. word (ThunkWord d j) in
 pub record ShowsEntries (w : EpochState) (s : Sight) : Type 0 where
   pub epoch : w.epoch ≡ s.word Epoch
   pub announced : (r : ℕ) → w.announced r ≡ s.word (Announcement r)
-  pub stage : (r : ℕ) → w.stage r ≡ stage_of (s.part r).stage
+  pub stage : (r : ℕ) → w.stage r ≡ (s.part r).stage

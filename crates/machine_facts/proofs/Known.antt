@@ -17,21 +17,23 @@ use Rattle.table_words.specs.declared.access.Access.TheVariants.{Loads}
 use Rattle.table_words.specs.Access.{written}
 use Rattle.table_words.specs.Seen.{upd, put}
 use Rattle.structure_laws.specs.Meaning.{Meaning}
+use Rattle.epoch_core.specs.Moves.{is_clear}
 use Rattle.runner_parts.specs.declared.entries.Known.{Known}
 use Rattle.runner_parts.specs.declared.entries.Published.{Published}
 use Rattle.runner_parts.specs.declared.event.EventKind.{EventKind}
 use Rattle.runner_parts.specs.declared.event.EventKind.TheVariants as kinds
-use Rattle.runner_parts.specs.declared.stage.Stage.{Stage}
-use Rattle.runner_parts.specs.declared.stage.Stage.TheVariants as stages
+use Rattle.epoch_core.specs.declared.stage.Stage.{Stage}
+use Rattle.epoch_core.specs.declared.stage.Stage.TheVariants as stages
 use Rattle.runner_parts.specs.State.{RunState, RecordsState, PartState}
 use Rattle.runner_parts.specs.Lists.{learned, cell_read}
 use Rattle.runner_steps.specs.Sections.{thunk_of, is_open_run, next_of}
 use Rattle.runner_steps.specs.InRun.{last_clock, stamp_after, stamp_exchange_ask, reply_exchange_ask}
-use Rattle.runner_steps.specs.Outside.{last_epoch, entry_spot}
+use Rattle.runner_steps.specs.Outside.{entry_spot}
+use Rattle.epoch_core.specs.State.{last_epoch}
 use Rattle.runner_steps.specs.Asks.{asks, outside_ask, inside_ask, line_ask, opening_ask}
 use Rattle.runner_steps.specs.AfterInRun as inside
 use Rattle.runner_steps.specs.AfterOutside as outside
-use Rattle.runner_steps.specs.After.{outside_after, line_after, inside_after, after_by, stepped, after, left_more, tallied, noted, leaves, knows_also}
+use Rattle.runner_steps.specs.After.{outside_after, line_after, inside_after, after_by, stepped, after, leaves, knows_also}
 use Rattle.machine_states.specs.Sight.{Sight, Steps, parts_after}
 use Rattle.machine_states.proofs.Sights.{if_some, some_none}
 use Rattle.machine_states.proofs.Steps.{some_same}
@@ -104,7 +106,7 @@ module _ (m : Meaning) (l : Layout) (rs : List Request) (r : ℕ) (f : Spot → 
 
   scan_knows : (p : PartState) (stage : Stage) → K p (outside.scan_one_after l p stage found)
   scan_knows p (stages.Scanning e next clear) = same_if (nat_le next l.runners) word' p _ _
-      (same_if (next == l.runners && not ((clear && outside.is_clear e found) && nat_lt e last_epoch)) word' p _ _ (inl refl) (inl refl)) (inl refl)
+      (same_if (next == l.runners && not ((clear && is_clear e found) && nat_lt e last_epoch)) word' p _ _ (inl refl) (inl refl)) (inl refl)
   scan_knows p _ = inl refl
 
   advance_knows : (p : PartState) (stage : Stage) → K p (outside.advance_after p stage)
@@ -193,17 +195,6 @@ module _ (m : Meaning) (l : Layout) (rs : List Request) (r : ℕ) (f : Spot → 
       by None is = outside_knows kind p (asked_by m l r kind p rs x None is asked)
       by (Some q) is = inside_knows p q kind (asked_by m l r kind p rs x (Some q) is asked)
 
-left_known : (s : RecordsState) (kind : EventKind) (spot : Spot) (n : ℕ) → (left_more s kind spot n).known ≡ s.known
-left_known s (kinds.Join worker) spot n = refl
-left_known s _ spot n = refl
-
-noted_known : (l : Layout) (r : ℕ) (kind : EventKind) (spot : Spot) (access : Access) (n : ℕ) (s : RecordsState) → (noted l r kind spot access n s).known ≡ s.known
-noted_known l r kind spot access n s = by (r == l.runners)
-  where
-    by : (b : Bool) → (if b then left_more (tallied access n s) kind spot (written access n) else tallied access n s).known ≡ s.known
-    by true = left_known (tallied access n s) kind spot (written access n)
-    by false = refl
-
 -- an entry of two lists is of the one or of the other
 entry_of_both : (xs ys : List Known) (i : ℕ) (x : Known) → slice_get (xs ++ ys) i ≡ Some x
     → (slice_get xs i ≡ Some x) ⊎ ((n : ℕ) × (slice_get ys n ≡ Some x))
@@ -254,7 +245,7 @@ module _ (m : Meaning) (l : Layout) (rs : List Request) (s s' : Sight) (r : ℕ)
       (stepped_knows m l rs r s.word step.ask kind (s.part r) step.asked)
     where
       noted' : part1.records.known ≡ (stepped m l kind (s.part r) found_here).records.known
-      noted' = noted_known l r kind step.ask.0 step.ask.1 found_here (stepped m l kind (s.part r) found_here).records
+      noted' = refl
 
   all : (r1 i : ℕ) (x : Known) → slice_get (s'.part r1).records.known i ≡ Some x → Stands s'.word x
   unfolding part1

@@ -1,8 +1,7 @@
 -- The outcomes of runs that came to their end agree.
 use Rattle.std.specs.Prelude.{true, slice_get, replicate}
-use Rattle.std.proofs.Common.{◌≡◌, ◌≢◌, ℕ, zero, suc, ◌<◌, List, [], ◌∷◌, ◌++◌, length, sym, ap, ◌∙◌, subst, inl, inr, ⊎_elim, arith, Option, Some}
+use Rattle.std.proofs.Common.{◌≡◌, ◌≢◌, ℕ, zero, suc, ◌<◌, List, [], ◌∷◌, ◌++◌, length, sym, ap, ◌∙◌, subst, ⊎_elim, arith, Option, Some}
 use Rattle.std.specs.Prelude.{◌⊎◌}
-use Rattle.std.proofs.lemmas.Bool.{cases_eq}
 use Rattle.std.proofs.lemmas.Bool.Decides.{nat_tests}
 use Rattle.map_history.specs.declared.op.Request.{Request}
 use Rattle.section_body.specs.Line.{line, micro_at}
@@ -10,25 +9,19 @@ use Rattle.section_body.specs.Run.{leaves}
 use Rattle.section_body.specs.declared.outcome.Outcome.{Outcome}
 use Rattle.section_body.specs.declared.thunk.Thunk.{Thunk}
 use Rattle.table_words.specs.declared.layout.Layout.{Layout}
-use Rattle.table_words.specs.Seen.{upd}
 use Rattle.structure_laws.specs.Meaning.{Meaning}
 use Rattle.runner_parts.specs.declared.event.EventKind.{EventKind}
 use Rattle.runner_parts.specs.declared.event.EventKind.TheVariants as kinds
-use Rattle.runner_parts.specs.State.{RunState, FinishedState, PartState}
+use Rattle.runner_parts.specs.State.{RunState, FinishedState}
 use Rattle.runner_steps.specs.Sections.{thunk_of, is_open_run, setting_of, outcome_or, reply_in}
-use Rattle.runner_steps.specs.AfterInRun.{ended_more, finished_of}
-use Rattle.runner_steps.specs.After.{after, stepped, leaves as leaves_part, knows_also}
 use Rattle.agreement_core.specs.State.{AgreementState}
 use Rattle.agreement_core.specs.Events as agreement
 use Rattle.agreement_core.specs.Schedules as agreement_schedules
-use Rattle.machine_states.specs.Sight.{Sight, Steps, parts_after}
-use Rattle.machine_states.proofs.Updates.{upd_here, upd_else}
+use Rattle.machine_states.specs.Sight.{Sight, Steps}
 use Rattle.machine_epochs.proofs.Joining.{thunk_same}
 use Rattle.machine_scenes.specs.Shown.{rules_of}
 use Rattle.machine_invariant.specs.machine_agreement.specs.Chunks as sections
 use Rattle.machine_invariant.specs.machine_agreement.specs.Joined.{IsJoinedToAgreement, IsRunOf}
-use Rattle.machine_invariant.specs.machine_agreement.proofs.LineKinds.{noted_finished}
-use Rattle.machine_invariant.specs.machine_agreement.proofs.Releases.{get_more}
 use Rattle.machine_invariant.specs.machine_agreement.proofs.RunPlaces.{run_here, used_here, opened_thunk}
 use Rattle.machine_invariant.specs.Along.{Components, components_after, AreEventsOf, AreExact}
 use Rattle.machine_invariant.specs.States.{StateIsSound}
@@ -37,7 +30,7 @@ use Rattle.machine_facts.specs.Steps.{WordsStand}
 use Rattle.machine_facts.specs.States.{NumberAlike}
 use Rattle.machine_facts.proofs.Agreement.{Lasts, ends_all}
 use Rattle.machine_facts.proofs.Going.{goes, goes_inside}
-use Rattle.machine_facts.proofs.Records.{stepped_same}
+use Rattle.machine_facts.proofs.FinishedParts as parts
 
 -- how runs of the section end that this descriptor has, by these agreed words: at the check at which they rest, or with the body's answer
 abbrev pub end_of : Meaning → Layout → AgreementState → Sight → ℕ → List ℕ → Outcome
@@ -71,70 +64,8 @@ module _ (m : Meaning) (l : Layout) (rs : List Request) (k : Components) (s s' :
   joined' = sound'.sections.joined
 
   -- the runner's run is over by this step, and this is kept of it
-  record IsNew (r1 : ℕ) (f : FinishedState) : Type 0 where
-    pub run : RunState
-    pub own : r1 ≡ r
-    pub runs : (s.part r).run ≡ Some run
-    pub release : kind ≡ kinds.Release
-    pub open_run : is_open_run run ≡ true
-    pub is : finished_of m l (ended_more run) ≡ f
-
-  part1 : PartState
-  part1 = after m l r kind step.ask.0 step.ask.1 (s.part r) (s.word step.ask.0)
-
-  -- the parts after the step
-  by_part : (Q : List FinishedState → Type 0) (r1 : ℕ) → Q (s'.part r1).records.finished
-      → Q (s.part r1).records.finished ⊎ ((r1 ≡ r) × Q part1.records.finished)
-  unfolding part1
-  by_part Q r1 q = at_kind kind (subst (λ (t : Sight). Q (t.part r1).records.finished) step.next q)
-    where
-      own : (i : ℕ) → Q (upd s.part r part1 i).records.finished
-          → Q (s.part i).records.finished ⊎ ((i ≡ r) × Q part1.records.finished)
-      own i q = ⊎_elim
-          (λ e. inr (e, subst (λ (p : PartState). Q p.records.finished) (ap (upd s.part r part1) e ∙ upd_here s.part r part1) q))
-          (λ ne. inl (subst (λ (p : PartState). Q p.records.finished) (upd_else s.part r part1 i ne) q))
-          (cases_eq i r)
-
-      joining : (worker : ℕ) → Q (upd (upd s.part r (knows_also part1 (s.part worker))) worker (leaves_part (s.part worker)) r1).records.finished
-          → Q (s.part r1).records.finished ⊎ ((r1 ≡ r) × Q part1.records.finished)
-      joining worker q = ⊎_elim
-          (λ e. inl (subst (λ n. Q (s.part n).records.finished) (sym e) (subst (λ (p : PartState). Q p.records.finished)
-          (ap (upd (upd s.part r (knows_also part1 (s.part worker))) worker (leaves_part (s.part worker))) e
-          ∙ upd_here (upd s.part r (knows_also part1 (s.part worker))) worker (leaves_part (s.part worker))) q)))
-          (λ ne. ⊎_elim
-          (λ e. inr (
-            e,
-            subst (λ (p : PartState). Q p.records.finished) (upd_else (upd s.part r (knows_also part1 (s.part worker))) worker (leaves_part (s.part worker)) r1 ne
-                ∙ (ap (upd s.part r (knows_also part1 (s.part worker))) e ∙ upd_here s.part r (knows_also part1 (s.part worker)))) q,
-          ))
-          (λ ne'. inl (subst (λ (p : PartState). Q p.records.finished) (upd_else (upd s.part r (knows_also part1 (s.part worker))) worker (leaves_part (s.part worker)) r1 ne
-          ∙ upd_else s.part r (knows_also part1 (s.part worker)) r1 ne') q))
-          (cases_eq r1 r))
-          (cases_eq r1 worker)
-
-      at_kind : (kind' : EventKind) → Q (parts_after kind' s.part r part1 r1).records.finished
-          → Q (s.part r1).records.finished ⊎ ((r1 ≡ r) × Q part1.records.finished)
-      at_kind (kinds.Join worker) q = joining worker q
-      at_kind kind' q = own r1 q
-
-  -- what a runner keeps after the step it kept before, or it is of the run that is over
-  entry : (r1 i : ℕ) (f : FinishedState) → slice_get (s'.part r1).records.finished i ≡ Some f
-      → (slice_get (s.part r1).records.finished i ≡ Some f) ⊎ IsNew r1 f
-  unfolding part1
-  entry r1 i f at = ⊎_elim (λ before. inl before) (λ own. by_step own.0 own.1)
-      (by_part (λ xs. slice_get xs i ≡ Some f) r1 at)
-    where
-      noted : part1.records.finished ≡ (stepped m l kind (s.part r) (s.word step.ask.0)).records.finished
-      noted = noted_finished l r kind step.ask.0 step.ask.1 (s.word step.ask.0) (stepped m l kind (s.part r) (s.word step.ask.0)).records
-
-      by_step : r1 ≡ r → slice_get part1.records.finished i ≡ Some f → (slice_get (s.part r1).records.finished i ≡ Some f) ⊎ IsNew r1 f
-      by_step own at1 = ⊎_elim
-          (λ same. inl (ap (λ n. slice_get (s.part n).records.finished i) own ∙ (ap (λ xs. slice_get xs i) (sym (noted ∙ same)) ∙ at1)))
-          (λ x. ⊎_elim
-          (λ before. inl (ap (λ n. slice_get (s.part n).records.finished i) own ∙ before.1))
-          (λ now. inr (record { run = x.0; own = own; runs = x.1; release = x.2.release; open_run = x.2.open_run; is = now.1 }))
-          (get_more (s.part r).records.finished (finished_of m l (ended_more x.0)) f i (ap (λ xs. slice_get xs i) (sym (noted ∙ x.2.more)) ∙ at1)))
-          (stepped_same m l kind (s.part r) (s.word step.ask.0))
+  abbrev IsNew : ℕ → FinishedState → Type 0
+  IsNew r1 f = parts.IsNew m l rs s s' r kind step r1 f
 
   -- the thunk of a used descriptor stands
   thunk_stands : (d : ℕ) → k.agreement.used d ≡ true → thunk_at m j.agreement s' d ≡ thunk_at m k.agreement s d
@@ -240,7 +171,7 @@ module _ (m : Meaning) (l : Layout) (rs : List Request) (k : Components) (s s' :
   ended_after r1 d f used x = ⊎_elim
       (λ before. ended_before r1 d x.at f used before x.lock x.word)
       (λ new. subst (λ n. f.outcome ≡ end_of m l j.agreement s' n f.trail) (one_descriptor r1 f new d used x.lock x.word) (new_ended r1 f new))
-      (entry r1 x.at f x.kept)
+      (parts.entry m l rs s s' r kind step r1 x.at f x.kept)
 
   -- two kept runs of one section, of which the one is over with the step
   equal_new : (r1 r2 i i' : ℕ) (f f' : FinishedState) → IsNew r1 f → slice_get (s'.part r1).records.finished i ≡ Some f
@@ -264,9 +195,9 @@ module _ (m : Meaning) (l : Layout) (rs : List Request) (k : Components) (s s' :
       (λ before. ⊎_elim
       (λ before'. old.equal r1 r2 i i' f f' before before' lock word)
       (λ new'. sym (equal_new r2 r1 i' i f' f new' at' at (sym lock) (sym word)))
-      (entry r2 i' f' at'))
+      (parts.entry m l rs s s' r kind step r2 i' f' at'))
       (λ new. equal_new r1 r2 i i' f f' new at at' lock word)
-      (entry r1 i f at)
+      (parts.entry m l rs s s' r kind step r1 i f at)
 
   pub outcomes_kept : OutcomesKept m l j.agreement s'
   outcomes_kept = record { ended = ended_after; equal = equal_after }

@@ -6,16 +6,17 @@ use Rattle.section_body.specs.declared.micro.Micro.{Micro}
 use Rattle.section_body.specs.Line.{is_end}
 use Rattle.table_words.specs.declared.layout.Layout.{Layout}
 use Rattle.structure_laws.specs.Meaning.{Meaning}
+use Rattle.epoch_core.specs.Moves.{is_clear}
 use Rattle.runner_parts.specs.declared.entries.Published.{Published}
 use Rattle.runner_parts.specs.declared.event.EventKind.{EventKind}
 use Rattle.runner_parts.specs.declared.event.EventKind.TheVariants as kinds
-use Rattle.runner_parts.specs.declared.stage.Stage.{Stage}
-use Rattle.runner_parts.specs.declared.stage.Stage.TheVariants as stages
+use Rattle.epoch_core.specs.declared.stage.Stage.{Stage}
+use Rattle.epoch_core.specs.declared.stage.Stage.TheVariants as stages
 use Rattle.runner_parts.specs.State.{RunState, RecordsState, PartState}
 use Rattle.runner_parts.specs.Lists.{learned, cell_read}
 use Rattle.runner_steps.specs.Sections.{is_open_run, next_of}
 use Rattle.runner_steps.specs.InRun.{last_clock}
-use Rattle.runner_steps.specs.Outside.{last_epoch}
+use Rattle.epoch_core.specs.State.{last_epoch}
 use Rattle.runner_steps.specs.AfterInRun as inside
 use Rattle.runner_steps.specs.AfterOutside as outside
 use Rattle.runner_steps.specs.After.{outside_after, line_after, inside_after, after_by, stepped}
@@ -40,7 +41,7 @@ learned_same s request reply number = by (number == 0)
 module _ (m : Meaning) (l : Layout) where
   scan_same : (p : PartState) (stage : Stage) (found : ℕ) → Same p (outside.scan_one_after l p stage found)
   scan_same p (stages.Scanning x next clear) found = if_same (nat_le next l.runners) p _ _
-      (if_same (next == l.runners && not ((clear && outside.is_clear x found) && nat_lt x last_epoch)) p _ _ refl refl) refl
+      (if_same (next == l.runners && not ((clear && is_clear x found) && nat_lt x last_epoch)) p _ _ refl refl) refl
   scan_same p _ found = refl
 
   advance_same : (p : PartState) (stage : Stage) → Same p (outside.advance_after p stage)

@@ -7,7 +7,7 @@ use Rattle.section_body.specs.declared.micro.Micro.{Micro}
 use Rattle.section_lines.specs.Line.{IsCounted}
 use Rattle.table_words.specs.declared.layout.Layout.{Layout}
 use Rattle.structure_laws.specs.Meaning.{Meaning}
-use Rattle.runner_parts.specs.declared.stage.Stage.TheVariants.{Entered}
+use Rattle.epoch_core.specs.declared.stage.Stage.TheVariants.{Entered}
 use Rattle.runner_parts.specs.Tests.{has}
 use Rattle.runner_steps.specs.Sections.{line_of}
 use Rattle.agreement_core.specs.State.{AgreementState}

@@ -10,7 +10,7 @@ use Rattle.table_words.specs.declared.spot.Spot.{Spot}
 use Rattle.table_words.specs.declared.access.Access.{Access}
 use Rattle.structure_laws.specs.Meaning.{Meaning}
 use Rattle.runner_parts.specs.declared.event.EventKind.{EventKind}
-use Rattle.runner_parts.specs.declared.stage.Stage.TheVariants.{Entered}
+use Rattle.epoch_core.specs.declared.stage.Stage.TheVariants.{Entered}
 use Rattle.runner_parts.specs.State.{RunState, PartState}
 use Rattle.runner_steps.specs.Sections.{is_open_run, next_of}
 use Rattle.runner_steps.specs.Asks.{asks, ask_by}
@@ -21,7 +21,6 @@ use Rattle.epoch_core.specs.State.{EpochState, is_entered}
 use Rattle.epoch_core.specs.Events as epochs
 use Rattle.machine_states.specs.Sight.{Sight}
 use Rattle.machine_states.proofs.Sights.{unless_gone}
-use Rattle.machine_epochs.specs.Entries.{stage_of}
 use Rattle.machine_epochs.specs.Joined as joins
 use Rattle.machine_epochs.specs.Chunks as slots
 use Rattle.machine_agreement.specs.Joined.{IsRunOf}
@@ -53,4 +52,4 @@ source_same run q is (Agreed k) = ap value_of (is.trail k)
 -- who is entered in the machine is so for the component
 pub entered_at : (m : Meaning) (l : Layout) (e : EpochState) (s : Sight) → joins.IsJoinedToEpochs m l e s → (r g : ℕ) → (s.part r).stage ≡ Entered g
     → is_entered (e.stage r) ≡ true
-entered_at m l e s joined r g at = ap is_entered (joined.entries.stage r ∙ ap stage_of at)
+entered_at m l e s joined r g at = ap is_entered (joined.entries.stage r ∙ at)

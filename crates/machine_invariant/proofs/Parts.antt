@@ -7,17 +7,18 @@ use Rattle.table_words.specs.declared.layout.Layout.{Layout}
 use Rattle.table_words.specs.declared.spot.Spot.{Spot}
 use Rattle.table_words.specs.declared.access.Access.{Access}
 use Rattle.structure_laws.specs.Meaning.{Meaning}
+use Rattle.epoch_core.specs.Moves.{is_clear}
 use Rattle.runner_parts.specs.declared.entries.Published.{Published}
 use Rattle.runner_parts.specs.declared.event.EventKind.{EventKind}
 use Rattle.runner_parts.specs.declared.event.EventKind.TheVariants as kinds
-use Rattle.runner_parts.specs.declared.stage.Stage.{Stage}
-use Rattle.runner_parts.specs.declared.stage.Stage.TheVariants as stages
+use Rattle.epoch_core.specs.declared.stage.Stage.{Stage}
+use Rattle.epoch_core.specs.declared.stage.Stage.TheVariants as stages
 use Rattle.runner_parts.specs.State.{RunState, ReadsState, PartState}
 use Rattle.runner_parts.specs.Tests.{has}
 use Rattle.runner_parts.specs.Lists.{lock_agreed, holds_named}
 use Rattle.runner_steps.specs.Sections.{is_open_run, next_of}
 use Rattle.runner_steps.specs.InRun.{last_clock}
-use Rattle.runner_steps.specs.Outside.{last_epoch}
+use Rattle.epoch_core.specs.State.{last_epoch}
 use Rattle.runner_steps.specs.AfterInRun as inside
 use Rattle.runner_steps.specs.AfterOutside as outside
 use Rattle.runner_steps.specs.After.{outside_after, line_after, inside_after, after_by, after}
@@ -124,7 +125,7 @@ module _ (m : Meaning) (l : Layout) where
   module _ (p : PartState) (found : ℕ) where
     scan_same : (stage : Stage) → IsSamePart p (outside.scan_one_after l p stage found)
     scan_same (stages.Scanning x next clear) = if_same (nat_le next l.runners) p _ _
-        (if_same (next == l.runners && not ((clear && outside.is_clear x found) && nat_lt x last_epoch)) p _ _
+        (if_same (next == l.runners && not ((clear && is_clear x found) && nat_lt x last_epoch)) p _ _
         (by_reads p _ refl refl refl) (by_reads p _ refl refl refl))
         (part_same p)
     scan_same _ = part_same p
@@ -216,7 +217,7 @@ module _ (m : Meaning) (l : Layout) where
 
     scan_nothing : (stage : Stage) → MakesNothing (outside.scan_one_after l p stage found)
     scan_nothing (stages.Scanning x next clear) = if_nothing (nat_le next l.runners) _ _
-        (if_nothing (next == l.runners && not ((clear && outside.is_clear x found) && nat_lt x last_epoch)) _ _ (as_before _ refl)
+        (if_nothing (next == l.runners && not ((clear && is_clear x found) && nat_lt x last_epoch)) _ _ (as_before _ refl)
         (as_before _ refl))
         (as_before _ refl)
     scan_nothing _ = as_before _ refl

@@ -8,8 +8,8 @@ use native.Mathlib.Decide.{ℕ_discrete}
 use Rattle.section_body.specs.declared.micro.Micro.TheVariants.{RetireCommit}
 use Rattle.table_words.specs.declared.layout.Layout.{Layout}
 use Rattle.structure_laws.specs.Meaning.{Meaning}
-use Rattle.runner_parts.specs.declared.stage.Stage as machine
-use Rattle.runner_parts.specs.declared.stage.Stage.TheVariants as stages
+use Rattle.epoch_core.specs.declared.stage.Stage as machine
+use Rattle.epoch_core.specs.declared.stage.Stage.TheVariants as stages
 use Rattle.runner_parts.specs.declared.entries.Retired.{Retired}
 use Rattle.epoch_core.specs.declared.location.Location.{Location}
 use Rattle.epoch_core.specs.declared.location.Location.TheVariants.{Fixed, Live, Hand, Free, Worn, Limbo}
@@ -18,7 +18,7 @@ use Rattle.epoch_core.specs.Lists.{times_retired, in_hand, in_free, in_worn, in_
 use Rattle.epoch_core.specs.History.{History, IsExact, is_makes, is_retires, agreed_slot, agreed_count}
 use Rattle.epoch_core.specs.Sound.{is_for_nodes}
 use Rattle.machine_states.specs.Sight.{Sight}
-use Rattle.machine_epochs.specs.Entries.{counts_of, stage_of}
+use Rattle.machine_epochs.specs.Entries.{counts_of}
 use Rattle.machine_epochs.specs.Slots.{retiring_of, retire_before}
 use Rattle.machine_epochs.specs.Roles.{role_at}
 use Rattle.machine_epochs.specs.Slots as shows
@@ -117,7 +117,7 @@ kept_unhanded (Free r') g r h = absurd h
 kept_unhanded (Worn r') g r h = absurd h
 
 -- an entered runner's stage
-entered_with : (x : machine.Stage) → is_entered (stage_of x) ≡ true → (g : ℕ) × (x ≡ stages.Entered g) × (entry_of (stage_of x) ≡ g)
+entered_with : (x : machine.Stage) → is_entered x ≡ true → (g : ℕ) × (x ≡ stages.Entered g) × (entry_of x ≡ g)
 entered_with stages.Idle h = absurd (cc)
 entered_with (stages.Loaded e) h = absurd (cc)
 entered_with stages.Announced h = absurd (cc)
@@ -169,7 +169,7 @@ module _ (m : Meaning) (l : Layout) (e : EpochState) (s : Sight) (joined : IsJoi
 
   -- with which epoch a runner entered
   entry : (r g : ℕ) → (s.part r).stage ≡ stages.Entered g → entry_of (e.stage r) ≡ g
-  entry r g at = ap entry_of (joined.entries.stage r ∙ ap stage_of at)
+  entry r g at = ap entry_of (joined.entries.stage r ∙ at)
 
   held_stand : HeldStand m l e.location e.holds s
   held_stand = record {

@@ -11,7 +11,6 @@ use Rattle.section_body.specs.declared.step.Step.TheVariants.{Stamp, Retire, Ans
 use Rattle.section_body.specs.declared.micro.Micro.{Micro}
 use Rattle.section_body.specs.declared.micro.Micro.TheVariants as micros
 use Rattle.table_words.specs.declared.layout.Layout.{Layout}
-use Rattle.structure_laws.specs.Scene.{Scene}
 use Rattle.structure_laws.specs.Scene as scenes
 use Rattle.structure_laws.specs.Meaning.{Meaning}
 use Rattle.structure_laws.proofs.Changes.{upd_same, upd_other}

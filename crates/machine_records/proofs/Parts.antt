@@ -15,18 +15,20 @@ use Rattle.table_words.specs.declared.spot.Spot.{Spot}
 use Rattle.table_words.specs.declared.access.Access.{Access}
 use Rattle.table_words.specs.Places.{slot_count}
 use Rattle.structure_laws.specs.Meaning.{Meaning}
+use Rattle.epoch_core.specs.Moves.{is_clear}
 use Rattle.runner_parts.specs.declared.entries.Known.{Known}
 use Rattle.runner_parts.specs.declared.entries.Published.{Published}
 use Rattle.runner_parts.specs.declared.event.EventKind.{EventKind}
 use Rattle.runner_parts.specs.declared.event.EventKind.TheVariants as kinds
-use Rattle.runner_parts.specs.declared.stage.Stage.{Stage}
-use Rattle.runner_parts.specs.declared.stage.Stage.TheVariants as stages
+use Rattle.epoch_core.specs.declared.stage.Stage.{Stage}
+use Rattle.epoch_core.specs.declared.stage.Stage.TheVariants as stages
 use Rattle.runner_parts.specs.Lists.{learned, descriptor_taken, section_published, cell_read, holds_named}
 use Rattle.runner_parts.specs.State.{RunState, PartState, RecordsState}
 use Rattle.runner_parts.specs.Tests.{knows, is_walking}
 use Rattle.runner_steps.specs.Sections.{thunk_of, line_of, is_open_run, next_of}
 use Rattle.runner_steps.specs.InRun.{last_clock, stamp_after, release_ask}
-use Rattle.runner_steps.specs.Outside.{last_epoch, is_over}
+use Rattle.runner_steps.specs.Outside.{is_over}
+use Rattle.epoch_core.specs.State.{last_epoch}
 use Rattle.runner_steps.specs.Asks.{asks, outside_ask, line_ask, opening_ask}
 use Rattle.runner_steps.specs.AfterInRun as inside
 use Rattle.runner_steps.specs.AfterOutside as outside
@@ -107,7 +109,7 @@ module _ (m : Meaning) (l : Layout) (p : PartState) where
   module _ (none : p.run ≡ None) (found : ℕ) where
     scan_keeps : (stage : Stage) → KeepsOn p (outside.scan_one_after l p stage found)
     scan_keeps (stages.Scanning e next clear) = either p (nat_le next l.runners) _ _
-        (either p (next == l.runners && not ((clear && outside.is_clear e found) && nat_lt e last_epoch)) _ _ (on p _ refl refl) (on p _ refl refl)) (on p p refl refl)
+        (either p (next == l.runners && not ((clear && is_clear e found) && nat_lt e last_epoch)) _ _ (on p _ refl refl) (on p _ refl refl)) (on p p refl refl)
     scan_keeps _ = on p p refl refl
 
     advance_keeps : (stage : Stage) → KeepsOn p (outside.advance_after p stage)

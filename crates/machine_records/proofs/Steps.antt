@@ -13,19 +13,20 @@ use Rattle.table_words.specs.Access.{written}
 use Rattle.table_words.specs.Places.{slot_count}
 use Rattle.table_words.specs.Seen.{upd}
 use Rattle.structure_laws.specs.Meaning.{Meaning}
+use Rattle.epoch_core.specs.Moves.{is_clear}
 use Rattle.runner_parts.specs.declared.entries.Published.{Published}
 use Rattle.runner_parts.specs.declared.event.EventKind.{EventKind}
 use Rattle.runner_parts.specs.declared.event.EventKind.TheVariants as kinds
-use Rattle.runner_parts.specs.declared.stage.Stage.{Stage}
-use Rattle.runner_parts.specs.declared.stage.Stage.TheVariants as stages
+use Rattle.epoch_core.specs.declared.stage.Stage.{Stage}
+use Rattle.epoch_core.specs.declared.stage.Stage.TheVariants as stages
 use Rattle.runner_parts.specs.State.{RunState, RecordsState, PartState}
 use Rattle.runner_parts.specs.Tests.{knows}
 use Rattle.runner_steps.specs.Sections.{thunk_of, line_of, is_open_run, next_of}
-use Rattle.runner_steps.specs.Outside.{last_epoch}
+use Rattle.epoch_core.specs.State.{last_epoch}
 use Rattle.runner_steps.specs.Asks.{asks, line_ask, opening_ask}
 use Rattle.runner_steps.specs.AfterInRun as inside
 use Rattle.runner_steps.specs.AfterOutside as outside
-use Rattle.runner_steps.specs.After.{outside_after, line_after, after_by, stepped, after, left_more, tallied, noted, leaves, knows_also}
+use Rattle.runner_steps.specs.After.{outside_after, line_after, after_by, stepped, after, noted, leaves, knows_also}
 use Rattle.machine_states.specs.Sight.{Sight, sight, parts_after}
 use Rattle.machine_states.proofs.FirstSights.{first_parts}
 use Rattle.machine_states.proofs.Sights.{if_some, some_none}
@@ -59,7 +60,7 @@ module _ (m : Meaning) (l : Layout) (p : PartState) (none : p.run ≡ None) wher
 
   scan_told : (found : ℕ) (stage : Stage) → PartIsTold m (outside.scan_one_after l p stage found)
   scan_told found (stages.Scanning e next clear) = either (nat_le next l.runners) _ _
-      (either (next == l.runners && not ((clear && outside.is_clear e found) && nat_lt e last_epoch)) _ _ (rest _ refl) (rest _ refl)) (rest p refl)
+      (either (next == l.runners && not ((clear && is_clear e found) && nat_lt e last_epoch)) _ _ (rest _ refl) (rest _ refl)) (rest p refl)
   scan_told found _ = rest p refl
 
   advance_told : (stage : Stage) → PartIsTold m (outside.advance_after p stage)
@@ -104,16 +105,8 @@ few_opened kinds.LoadDone q x asked = last (length q.opened) (if_some _ _ x aske
 few_opened (kinds.LoadThunk (Some d)) q x asked = some_none x asked
 few_opened _ q x asked = some_none x asked
 
-left_known : (s : RecordsState) (kind : EventKind) (spot : Spot) (n : ℕ) → (left_more s kind spot n).known ≡ s.known
-left_known s (kinds.Join worker) spot n = refl
-left_known s _ spot n = refl
-
 pub noted_known : (l : Layout) (r : ℕ) (kind : EventKind) (spot : Spot) (access : Access) (n : ℕ) (s : RecordsState) → (noted l r kind spot access n s).known ≡ s.known
-noted_known l r kind spot access n s = by (r == l.runners)
-  where
-    by : (b : Bool) → (if b then left_more (tallied access n s) kind spot (written access n) else tallied access n s).known ≡ s.known
-    by true = left_known (tallied access n s) kind spot (written access n)
-    by false = refl
+noted_known l r kind spot access n s = refl
 
 module _ (m : Meaning) (l : Layout) (rs : List Request) (g : Beside) (s : Sight) (whole : IsWhole m l g s) (r : ℕ) (x : Spot × Access) (old : PartIsTold m (s.part r)) where
   abbrev p : PartState

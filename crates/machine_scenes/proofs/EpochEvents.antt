@@ -7,7 +7,7 @@ use mathlib.Core.Path.{fun_ext}
 use Rattle.section_body.specs.Update.{upd}
 use Rattle.table_words.specs.declared.layout.Layout.{Layout}
 use Rattle.table_words.specs.Limits.{IsWithinLimits}
-use Rattle.structure_laws.specs.Scene.{Readings, Status, Free, Live, Retired, Scene}
+use Rattle.structure_laws.specs.Scene.{Readings, Status, Free, Retired, Scene}
 use Rattle.structure_laws.specs.Scene as scenes
 use Rattle.structure_laws.specs.Meaning.{Meaning}
 use Rattle.structure_laws.specs.Cells.{IsReader, IsLoadable}

@@ -13,7 +13,7 @@ use Rattle.epoch_core.specs.Moves.{collected, is_old, back, tested, made, retire
 use Rattle.epoch_core.specs.Events.{Event, after, slot_of}
 use Rattle.epoch_core.specs.Events as events
 use Rattle.machine_scenes.specs.Shown.{States}
-use Rattle.machine_scenes.specs.Steps.{Step, Agreement, Epochs, Enter, Read, Leave, Publish, Fill, Make, LoadEpoch, Retire, descriptor_of}
+use Rattle.machine_scenes.specs.Steps.{Step, Epochs, Enter, Leave, Make, LoadEpoch, Retire, descriptor_of}
 use Rattle.machine_scenes.specs.Steps as steps
 
 tested_unfixed : (worn : Bool) (r : ℕ) → tested worn r ≢ Fixed

@@ -8,7 +8,7 @@ use Rattle.section_body.specs.Word.{value_of}
 use Rattle.section_body.specs.Line.{is_event}
 use Rattle.table_words.specs.declared.layout.Layout.{Layout}
 use Rattle.table_words.specs.Limits.{IsWithinLimits}
-use Rattle.structure_laws.specs.Scene.{Readings, Status, Free, Live, Retired}
+use Rattle.structure_laws.specs.Scene.{Status, Free, Live, Retired}
 use Rattle.structure_laws.specs.Scene as scenes
 use Rattle.structure_laws.specs.Meaning.{Meaning}
 use Rattle.structure_laws.specs.Cells.{cell_of, slots, Links}

@@ -9,7 +9,7 @@ use Rattle.table_words.specs.Places.{size, Fits}
 use Rattle.table_words.specs.Seen.{seen}
 use Rattle.structure_laws.specs.Meaning.{Meaning}
 use Rattle.structure_laws.specs.Cells.{first_word}
-use Rattle.runner_parts.specs.declared.stage.Stage.TheVariants as stages
+use Rattle.epoch_core.specs.declared.stage.Stage.TheVariants as stages
 use Rattle.runner_parts.specs.State.{PartState}
 use Rattle.runner_parts.specs.Lists.{no_reads}
 use Rattle.runner_steps.specs.Asks.{sizes_for}
@@ -40,7 +40,7 @@ first_part nodes descriptors = record {
   nodes = record { free = nodes; hand = []; tests = []; limbo = []; worn = [] };
   descriptors = record { free = descriptors; stored = []; limbo = [] };
   reads = no_reads;
-  records = record { known = []; finished = []; events = 0; won = 0; left = []; splits = 0; joined = [] };
+  records = record { known = []; finished = []; events = 0; won = 0; epoch_seen = 0; crossed = false; crosses = false; left = []; splits = 0; joined = [] };
   gone = false;
 }
 

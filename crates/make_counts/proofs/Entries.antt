@@ -11,10 +11,11 @@ use Rattle.section_body.specs.declared.thunk.Thunk.{Thunk}
 use Rattle.table_words.specs.declared.layout.Layout.{Layout}
 use Rattle.table_words.specs.Places.{slot_count}
 use Rattle.structure_laws.specs.Meaning.{Meaning}
+use Rattle.epoch_core.specs.Moves.{is_clear}
 use Rattle.runner_parts.specs.declared.entries.Published.{Published}
 use Rattle.runner_parts.specs.declared.entries.Tested.{Tested}
-use Rattle.runner_parts.specs.declared.stage.Stage.{Stage}
-use Rattle.runner_parts.specs.declared.stage.Stage.TheVariants as stages
+use Rattle.epoch_core.specs.declared.stage.Stage.{Stage}
+use Rattle.epoch_core.specs.declared.stage.Stage.TheVariants as stages
 use Rattle.runner_parts.specs.declared.event.EventKind.{EventKind}
 use Rattle.runner_parts.specs.declared.event.EventKind.TheVariants as kinds
 use Rattle.runner_parts.specs.State.{RunState, NodesState, PartState}
@@ -22,7 +23,7 @@ use Rattle.runner_parts.specs.Lists as lists
 use Rattle.runner_parts.specs.Lists.{without, is_old, slots_of}
 use Rattle.runner_parts.specs.Tests.{has}
 use Rattle.runner_steps.specs.Sections.{is_open_run, next_of}
-use Rattle.runner_steps.specs.Outside.{last_epoch}
+use Rattle.epoch_core.specs.State.{last_epoch}
 use Rattle.runner_steps.specs.InRun.{last_clock}
 use Rattle.runner_steps.specs.AfterInRun as inside
 use Rattle.runner_steps.specs.AfterOutside as outside
@@ -174,7 +175,7 @@ module _ (m : Meaning) (l : Layout) (p : PartState) (once : (t : ℕ) → times_
 
   scan : (n : ℕ) (stage : Stage) → Leaves p (outside.scan_one_after l p stage found) (kinds.ScanOne n) found
   scan n (stages.Scanning x next clear) = either (kinds.ScanOne n) (nat_le next l.runners) _ _
-      (either (kinds.ScanOne n) (next == l.runners && not ((clear && outside.is_clear x found) && nat_lt x last_epoch)) _ _
+      (either (kinds.ScanOne n) (next == l.runners && not ((clear && is_clear x found) && nat_lt x last_epoch)) _ _
       (leaves (kinds.ScanOne n) (outside.collected p x) (inl (collected p.nodes x)) refl) (same (kinds.ScanOne n) _ refl refl)) (same (kinds.ScanOne n) p refl refl)
   scan n _ = same (kinds.ScanOne n) p refl refl
 

@@ -13,15 +13,16 @@ use Rattle.table_words.specs.Limits.{IsWithinLimits}
 use Rattle.table_words.specs.Places.{slot_count}
 use Rattle.structure_laws.specs.Meaning.{Meaning}
 use Rattle.structure_laws.specs.Laws.{Laws}
-use Rattle.runner_parts.specs.declared.stage.Stage.{Stage}
-use Rattle.runner_parts.specs.declared.stage.Stage.TheVariants as stages
+use Rattle.epoch_core.specs.Moves.{is_clear}
+use Rattle.epoch_core.specs.declared.stage.Stage.{Stage}
+use Rattle.epoch_core.specs.declared.stage.Stage.TheVariants as stages
 use Rattle.runner_parts.specs.declared.entries.Published.{Published}
 use Rattle.runner_parts.specs.declared.event.EventKind.{EventKind}
 use Rattle.runner_parts.specs.declared.event.EventKind.TheVariants as kinds
 use Rattle.runner_parts.specs.State.{RunState, PartState}
 use Rattle.runner_steps.specs.Sections.{thunk_of, is_open_run, line_of, next_of}
 use Rattle.runner_parts.specs.Lists.{cell_read}
-use Rattle.runner_steps.specs.Outside.{last_epoch}
+use Rattle.epoch_core.specs.State.{last_epoch}
 use Rattle.runner_steps.specs.InRun.{last_clock}
 use Rattle.runner_steps.specs.Asks.{ask_by, opening_ask, line_ask}
 use Rattle.runner_steps.specs.AfterInRun as inside
@@ -273,7 +274,7 @@ module _ (m : Meaning) (l : Layout) (p : PartState) (none : p.run ≡ None) (fou
 
   scan_next : (stage : Stage) → HaveNext m (outside.scan_one_after l p stage found)
   scan_next (stages.Scanning x next clear) = if_next m (nat_le next l.runners) _ _
-      (if_next m (next == l.runners && not ((clear && outside.is_clear x found) && nat_lt x last_epoch)) _ _ (no_run _ refl) (no_run _ refl)) (no_run _ refl)
+      (if_next m (next == l.runners && not ((clear && is_clear x found) && nat_lt x last_epoch)) _ _ (no_run _ refl) (no_run _ refl)) (no_run _ refl)
   scan_next _ = no_run _ refl
 
   advance_next : (stage : Stage) → HaveNext m (outside.advance_after p stage)

@@ -21,8 +21,9 @@ use Rattle.structure_laws.specs.Meaning.{Meaning}
 use Rattle.structure_laws.specs.Cells.{IsSafe, IsKnown}
 use Rattle.structure_laws.specs.Shape.{Shaped}
 use Rattle.structure_laws.specs.Laws.{Laws}
-use Rattle.runner_parts.specs.declared.stage.Stage.{Stage}
-use Rattle.runner_parts.specs.declared.stage.Stage.TheVariants as stages
+use Rattle.epoch_core.specs.Moves.{is_clear}
+use Rattle.epoch_core.specs.declared.stage.Stage.{Stage}
+use Rattle.epoch_core.specs.declared.stage.Stage.TheVariants as stages
 use Rattle.runner_parts.specs.declared.entries.Published.{Published}
 use Rattle.runner_parts.specs.declared.event.EventKind.{EventKind}
 use Rattle.runner_parts.specs.declared.event.EventKind.TheVariants as kinds
@@ -30,7 +31,7 @@ use Rattle.runner_parts.specs.State.{RunState, PartState}
 use Rattle.runner_parts.specs.Tests.{has}
 use Rattle.runner_parts.specs.Lists.{without}
 use Rattle.runner_steps.specs.Sections.{is_open_run, next_of}
-use Rattle.runner_steps.specs.Outside.{last_epoch}
+use Rattle.epoch_core.specs.State.{last_epoch}
 use Rattle.runner_steps.specs.InRun.{last_clock}
 use Rattle.runner_steps.specs.AfterInRun as inside
 use Rattle.runner_steps.specs.AfterInRun.{place_of}
@@ -253,7 +254,7 @@ module _ (m : Meaning) (l : Layout) (d : ℕ) (p : PartState) where
   module _ (found : ℕ) where
     scan_free : (stage : Stage) → LeavesFree d p (outside.scan_one_after l p stage found)
     scan_free (stages.Scanning x next clear) = if_free (nat_le next l.runners) _ _
-        (if_free (next == l.runners && not ((clear && outside.is_clear x found) && nat_lt x last_epoch)) _ _ (collected_free x)
+        (if_free (next == l.runners && not ((clear && is_clear x found) && nat_lt x last_epoch)) _ _ (collected_free x)
         (by_same _ refl))
         (by_same _ refl)
     scan_free _ = by_same _ refl

@@ -9,7 +9,7 @@ use Rattle.table_words.specs.Places.{slot_count, descriptor_count}
 use Rattle.structure_laws.specs.Meaning.{Meaning}
 use Rattle.structure_laws.specs.Laws.{Laws}
 use Rattle.runner_parts.specs.declared.event.EventKind.{EventKind}
-use Rattle.runner_parts.specs.declared.stage.Stage.TheVariants.{Entered}
+use Rattle.epoch_core.specs.declared.stage.Stage.TheVariants.{Entered}
 use Rattle.runner_parts.specs.State.{RunState, PartState}
 use Rattle.runner_parts.specs.Tests.{has, has_pair}
 use Rattle.runner_parts.specs.Lists.{slots_of}

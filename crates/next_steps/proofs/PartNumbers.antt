@@ -13,17 +13,18 @@ use Rattle.table_words.specs.declared.spot.Spot.TheVariants as spots
 use Rattle.table_words.specs.declared.access.Access.{Access}
 use Rattle.table_words.specs.Places.{Fits, slot_count, descriptor_count}
 use Rattle.structure_laws.specs.Meaning.{Meaning}
+use Rattle.epoch_core.specs.Moves.{is_clear}
 use Rattle.runner_parts.specs.declared.entries.Published.{Published}
 use Rattle.runner_parts.specs.declared.entries.Retired.{Retired}
-use Rattle.runner_parts.specs.declared.stage.Stage.{Stage}
-use Rattle.runner_parts.specs.declared.stage.Stage.TheVariants as stages
+use Rattle.epoch_core.specs.declared.stage.Stage.{Stage}
+use Rattle.epoch_core.specs.declared.stage.Stage.TheVariants as stages
 use Rattle.runner_parts.specs.declared.event.EventKind.{EventKind}
 use Rattle.runner_parts.specs.declared.event.EventKind.TheVariants as kinds
 use Rattle.runner_parts.specs.State.{RunState, PartState, DescriptorsState, ReadsState}
 use Rattle.runner_parts.specs.Tests.{has, has_pair}
 use Rattle.runner_parts.specs.Lists.{slots_of, is_old, cell_read, holds_named}
 use Rattle.runner_steps.specs.Sections.{is_open_run, next_of}
-use Rattle.runner_steps.specs.Outside.{last_epoch}
+use Rattle.epoch_core.specs.State.{last_epoch}
 use Rattle.runner_steps.specs.InRun.{last_clock}
 use Rattle.runner_steps.specs.Asks.{ask_by, outside_ask, line_ask, opening_ask, sizes_for}
 use Rattle.runner_steps.specs.AfterInRun as inside
@@ -204,7 +205,7 @@ module _ (m : Meaning) (l : Layout) (p : PartState) (old : PartFits m l p) where
   module _ (found : ℕ) where
     scan_fits : (stage : Stage) → PartFits m l (outside.scan_one_after l p stage found)
     scan_fits (stages.Scanning x next clear) = if_fits (nat_le next l.runners) _ _
-        (if_fits (next == l.runners && not ((clear && outside.is_clear x found) && nat_lt x last_epoch)) _ _ (collected_fits x)
+        (if_fits (next == l.runners && not ((clear && is_clear x found) && nat_lt x last_epoch)) _ _ (collected_fits x)
         (by_fields _ refl refl refl refl refl)) unchanged
     scan_fits _ = unchanged
 

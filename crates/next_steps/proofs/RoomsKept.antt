@@ -23,8 +23,9 @@ use Rattle.table_words.specs.Seen.{put}
 use Rattle.table_words.specs.Limits.{IsWithinLimits}
 use Rattle.structure_laws.specs.Meaning.{Meaning}
 use Rattle.structure_laws.specs.Laws.{Laws}
-use Rattle.runner_parts.specs.declared.stage.Stage.{Stage}
-use Rattle.runner_parts.specs.declared.stage.Stage.TheVariants as stages
+use Rattle.epoch_core.specs.Moves.{is_clear}
+use Rattle.epoch_core.specs.declared.stage.Stage.{Stage}
+use Rattle.epoch_core.specs.declared.stage.Stage.TheVariants as stages
 use Rattle.runner_parts.specs.declared.event.EventKind.{EventKind}
 use Rattle.runner_parts.specs.declared.event.EventKind.TheVariants as kinds
 use Rattle.runner_parts.specs.State.{RunState, PartState}
@@ -32,7 +33,8 @@ use Rattle.runner_parts.specs.Tests.{has, is_resting}
 use Rattle.runner_parts.specs.Lists.{test_of, slot_made, slot_back, nodes_looked, descriptor_stored}
 use Rattle.runner_steps.specs.Sections.{thunk_of, is_open_run, line_of, next_of, setting_of}
 use Rattle.runner_steps.specs.InRun.{is_slot, make_slot}
-use Rattle.runner_steps.specs.Outside.{last_epoch, private_load_ask, when, descriptor_spot}
+use Rattle.runner_steps.specs.Outside.{private_load_ask, when, descriptor_spot}
+use Rattle.epoch_core.specs.State.{last_epoch}
 use Rattle.runner_steps.specs.Asks.{ask_by, line_ask, opening_ask, outside_ask}
 use Rattle.runner_steps.specs.AfterInRun as inside
 use Rattle.runner_steps.specs.AfterOutside as outside
@@ -521,7 +523,7 @@ module _ (m : Meaning) (laws : Laws m) (l : Layout) (limits : IsWithinLimits l) 
     scan_step : (words : SlotsHaveRoom m l s'.word p) (stage : Stage) (found : ℕ) → MakesNone (outside.scan_one_after l p stage found)
         → SlotsHaveRoom m l s'.word (outside.scan_one_after l p stage found)
     scan_step words (stages.Scanning x next clear) found = either_room (nat_le next l.runners) _ _
-        (either_room (next == l.runners && not ((clear && outside.is_clear x found) && nat_lt x last_epoch)) _ _
+        (either_room (next == l.runners && not ((clear && is_clear x found) && nat_lt x last_epoch)) _ _
         (λ makes. collected_room m l s'.word p x words makes)
         (λ makes. kept words _ (same_nodes p.nodes) makes))
         (λ makes. words)

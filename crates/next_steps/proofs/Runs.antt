@@ -13,7 +13,7 @@ use Rattle.runner_parts.specs.declared.event.EventKind.{EventKind}
 use Rattle.runner_parts.specs.State.{RunState, PartState}
 use Rattle.runner_steps.specs.Sections.{thunk_of, is_open_run, line_of, next_of}
 use Rattle.runner_steps.specs.Asks.{outside_ask, line_ask, opening_ask, ask_by, asks}
-use Rattle.agreement_core.specs.State.{AgreementState, Section, section_of}
+use Rattle.agreement_core.specs.State.{Section}
 use Rattle.agreement_core.specs.State as agreement
 use Rattle.agreement_core.specs.Runs.{RunIsSound}
 use Rattle.agreement_core.specs.Sound.{UsedIsSound}

@@ -24,7 +24,6 @@ use Rattle.runner_steps.specs.AfterInRun as inside
 use Rattle.runner_steps.specs.After.{line_after, after_by, after}
 use Rattle.machine_states.specs.Sight.{Sight, sight, part_or_first}
 use Rattle.machine_epochs.proofs.RunPlaces.{is_of_end, next_in_line}
-use Rattle.table_words.specs.Access.{written}
 use Rattle.machine_invariant.specs.machine_agreement.proofs.LineKinds.{noted_finished}
 use Rattle.machine_invariant.specs.machine_agreement.proofs.LineAsked.{line_asked, stamp_asked, make_commit_asked}
 use Rattle.machine_invariant.specs.After.{AreAllowed}

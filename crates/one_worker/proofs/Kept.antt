@@ -13,7 +13,7 @@ use Rattle.table_words.specs.Access.{written}
 use Rattle.table_words.specs.Seen.{put}
 use Rattle.structure_laws.specs.Meaning.{Meaning}
 use Rattle.runner_parts.specs.declared.entries.Published.{Published}
-use Rattle.runner_parts.specs.declared.stage.Stage.TheVariants as stages
+use Rattle.epoch_core.specs.declared.stage.Stage.TheVariants as stages
 use Rattle.runner_parts.specs.declared.event.EventKind.{EventKind}
 use Rattle.runner_parts.specs.declared.event.EventKind.TheVariants as kinds
 use Rattle.runner_parts.specs.State.{RunState, PartState}
@@ -27,7 +27,6 @@ use Rattle.machine_states.specs.Sight.{Sight, Steps}
 use Rattle.machine_states.proofs.Sights.{cond_none, unless_gone, joins}
 use Rattle.machine_states.proofs.Steps.{none_some}
 use Rattle.machine_states.proofs.Updates.{upd_here}
-use Rattle.machine_epochs.specs.Entries.{stage_of}
 use Rattle.machine_epochs.proofs.OutsideAsked.{enter_again_asked, read_asked}
 use Rattle.reached_histories.specs.machine_agreement.proofs.Releases.{get_more}
 use Rattle.reached_histories.specs.machine_invariant.specs.Whole.{IsWhole}
@@ -108,7 +107,7 @@ module _ (m : Meaning) (l : Layout) (rs : List Request) (s s' : Sight) (r : ℕ)
       let entered : is_entered (before.beside.epochs.stage 0) ≡ true =
       ap (λ i. is_entered (before.beside.epochs.stage i)) same ∙ whole.held.entered z.descriptor live in
       let announced : own.stage ≡ stages.Announced = ap (λ i. (s.part i).stage) at ∙ announced_there y.run (subst (λ k. ask_by m l rs r k y y.run ≡ Some x) enters asked) in
-      let out : is_entered (before.beside.epochs.stage 0) ≡ false = ap is_entered (whole.slots.entries.stage 0 ∙ ap stage_of announced) in
+      let out : is_entered (before.beside.epochs.stage 0) ≡ false = ap is_entered (whole.slots.entries.stage 0 ∙ announced) in
       absurd (both_ways _ out entered)
     where
       announced_there : (o : Option RunState) → ask_by m l rs r kinds.EnterAgain y o ≡ Some x → y.stage ≡ stages.Announced

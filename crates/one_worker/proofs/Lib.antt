@@ -1,7 +1,8 @@
-pub mod Open
-mod Moves
 pub mod Idle
-mod Quiet
 pub mod Kept
+mod Moves
+pub mod OneCell
+pub mod Open
 pub mod Places
+mod Quiet
 pub mod Reached

@@ -7,16 +7,17 @@ use Rattle.section_body.specs.declared.thunk.Thunk.{Thunk}
 use Rattle.table_words.specs.declared.layout.Layout.{Layout}
 use Rattle.table_words.specs.Places.{slot_count}
 use Rattle.structure_laws.specs.Meaning.{Meaning}
+use Rattle.epoch_core.specs.Moves.{is_clear}
 use Rattle.runner_parts.specs.declared.entries.Published.{Published}
-use Rattle.runner_parts.specs.declared.stage.Stage.{Stage}
-use Rattle.runner_parts.specs.declared.stage.Stage.TheVariants as stages
+use Rattle.epoch_core.specs.declared.stage.Stage.{Stage}
+use Rattle.epoch_core.specs.declared.stage.Stage.TheVariants as stages
 use Rattle.runner_parts.specs.declared.event.EventKind.{EventKind}
 use Rattle.runner_parts.specs.declared.event.EventKind.TheVariants as kinds
 use Rattle.runner_parts.specs.State.{RunState, ReadsState, PartState}
 use Rattle.runner_parts.specs.Lists.{lock_agreed, holds_named}
 use Rattle.runner_parts.specs.Tests.{has}
 use Rattle.runner_steps.specs.Sections.{is_open_run, next_of}
-use Rattle.runner_steps.specs.Outside.{last_epoch}
+use Rattle.epoch_core.specs.State.{last_epoch}
 use Rattle.runner_steps.specs.InRun.{last_clock}
 use Rattle.runner_steps.specs.AfterInRun as inside
 use Rattle.runner_steps.specs.AfterOutside as outside
@@ -140,7 +141,7 @@ module _ (m : Meaning) (l : Layout) (y : PartState) (found : ℕ) (kind : EventK
 
   scan : (stage : Stage) → y.stage ≡ stage → Moves (outside.scan_one_after l y stage found)
   scan (stages.Scanning x next clear) at = either (nat_le next l.runners) _ _
-      (either (next == l.runners && not ((clear && outside.is_clear x found) && nat_lt x last_epoch)) _ _
+      (either (next == l.runners && not ((clear && is_clear x found) && nat_lt x last_epoch)) _ _
       (apart _ (λ entry e. absurd (let no = e in cc)) refl refl) (apart _ (λ entry e. absurd (let no = e in cc)) refl refl)) (as_before y refl refl refl refl)
   scan _ at = as_before y refl refl refl refl
 

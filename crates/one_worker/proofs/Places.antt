@@ -7,7 +7,7 @@ use Rattle.structure_laws.specs.Meaning.{Meaning}
 use Rattle.structure_laws.specs.Scene.{Scene, Status, Free, Live, Retired}
 use Rattle.structure_laws.specs.Sound.{IsRead}
 use Rattle.structure_laws.specs.Cells.{IsSafe, IsKnown}
-use Rattle.runner_parts.specs.declared.stage.Stage.TheVariants.{Entered}
+use Rattle.epoch_core.specs.declared.stage.Stage.TheVariants.{Entered}
 use Rattle.epoch_core.specs.declared.location.Location.{Location}
 use Rattle.epoch_core.specs.declared.location.Location.TheVariants as locations
 use Rattle.epoch_core.specs.Lists.{in_hand, in_free, in_worn}

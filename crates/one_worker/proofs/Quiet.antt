@@ -44,13 +44,8 @@ use Rattle.reached_histories.specs.machine_agreement.proofs.LineAsked as asked_l
 use Rattle.reached_histories.specs.machine_invariant.specs.Whole.{Beside, states_of, IsWhole}
 use Rattle.version_counts.proofs.Releases.{released_lock}
 use Rattle.version_counts.proofs.Words.{Stays, line_stays, opening_stays, outside_stays}
+use Rattle.one_worker.proofs.OneCell.{test_same, other, misses}
 use Rattle.one_worker.specs.Alone.{NoneIsOpen}
-
-test_same : (a b : ℕ) → (a == b) ≡ true → a ≡ b
-test_same a b e = grind (arith, nat_tests)
-
-lost : (found old new : ℕ) → (found == old) ≡ false → exchanged found old new ≡ found
-lost found old new e = ap (λ b. if b then new else found) e
 
 -- a step of a runner that has this part in this state, which asks this
 module _ (m : Meaning) (l : Layout) (rs : List Request) (g : Beside) (s : Sight) (whole : IsWhole m l g s) (quiet : NoneIsOpen m s)
@@ -79,25 +74,6 @@ module _ (m : Meaning) (l : Layout) (rs : List Request) (g : Beside) (s : Sight)
 
   abbrev pub Leaves : Type 0
   Leaves = Stays f p x ⊎ (Publishes ⊎ Fills)
-
-  other : (place : ℕ) (access : Access) → (spots.Cell place, access) ≡ x → p ≢ place → Stays f p x
-  other place access is ne = subst (Stays f p) is (upd_else (λ i. f (spots.Cell i)) place (written access (f (spots.Cell place))) p ne)
-
-  it : (place : ℕ) (access : Access) → (spots.Cell place, access) ≡ x → p ≡ place
-      → put f x.0 (written x.1 (f x.0)) (spots.Cell p) ≡ written access (f (spots.Cell p))
-  it place access is e =
-      subst (λ (u : Spot × Access). put f u.0 (written u.1 (f u.0)) (spots.Cell p) ≡ written access (f (spots.Cell p))) is
-      (subst (λ i. put f (spots.Cell place) (written access (f (spots.Cell place))) (spots.Cell i) ≡ written access (f (spots.Cell i))) (sym e)
-      (upd_here (λ i. f (spots.Cell i)) place (written access (f (spots.Cell place)))))
-
-  -- an exchange that doesn't find what it expects
-  misses : (place old new : ℕ) → (spots.Cell place, Exchanges old new) ≡ x → (f (spots.Cell place) ≡ old → ⊥) → Stays f p x
-  misses place old new is never = ⊎_elim
-      (λ at. by at (f (spots.Cell p) == old) refl) (λ ne. other place _ is ne) (cases_eq p place)
-    where
-      by : p ≡ place → (b : Bool) → (f (spots.Cell p) == old) ≡ b → Stays f p x
-      by at true e = absurd (never (ap (λ i. f (spots.Cell i)) (sym at) ∙ test_same (f (spots.Cell p)) old e))
-      by at false e = it place _ is at ∙ lost (f (spots.Cell p)) old new e
 
   module _ (q : RunState) (runs : y.run ≡ Some q) (opened : is_open_run q ≡ true) where
     all : length q.opened ≡ 13
@@ -155,7 +131,7 @@ module _ (m : Meaning) (l : Layout) (rs : List Request) (g : Beside) (s : Sight)
     store_leaves e =
         let h = asked_line.exchange_asked q x l (next_of m q) e in
         let at = next_in_line m q (micros.ExchangeCell h.0 h.1 h.2) refl h.3 in
-        misses h.0 (slice_index q.trail h.1) _ h.4 (λ finds. absurd (
+        misses f p x h.0 (slice_index q.trail h.1) _ h.4 (λ finds. absurd (
         let past = sound.section.in_cells.left q.at h.0 h.1 h.2 (late _ at refl) (code _ at) in
         let count = run_sound.in_trail.counted ∙ ap section.slot here.at in
         let low = store_logged (rules_of m l) section.lock section.code section.slot in_line q.at h.0 h.1 h.2 (code _ at) in
@@ -167,7 +143,7 @@ module _ (m : Meaning) (l : Layout) (rs : List Request) (g : Beside) (s : Sight)
     take_leaves e =
         let h = asked_line.nested_hold_asked q x l (next_of m q) e in
         let at = next_in_line m q (micros.NestedHold h.0 h.1) refl h.2 in
-        misses h.0 h.1 _ h.3 (λ finds. absurd (
+        misses f p x h.0 h.1 _ h.3 (λ finds. absurd (
         let past = sound.section.in_locks.nested_past q.at h.0 h.1 (late _ at refl) (code _ at) in
         let v = ap version_of (cell_same h.0 ∙ finds) in omega (arith, past, v)))
 
@@ -175,7 +151,7 @@ module _ (m : Meaning) (l : Layout) (rs : List Request) (g : Beside) (s : Sight)
     release_leaves e =
         let h = asked_line.release_asked q x l (next_of m q) e in
         let lock = released_lock m l rs g s whole r q runs opened h.0 h.1 h.2 in
-        misses h.0 (held_word q.descriptor h.1) _ h.3 (λ finds. absurd (
+        misses f p x h.0 (held_word q.descriptor h.1) _ h.3 (λ finds. absurd (
         held_value q.descriptor h.1 sound.published.link (sym (ap value_of finds) ∙ quiet.unlocked h.0 lock)))
       where
         held_value : (d w : ℕ) → suc d < 2 ^ 32 → value_of (held_word d w) ≡ 0 → ⊥
@@ -210,7 +186,7 @@ module _ (m : Meaning) (l : Layout) (rs : List Request) (g : Beside) (s : Sight)
           low = fill_low m l (counts_of m l) (states_of g s) whole.kept q.descriptor q.at cell h.0 h.1 used
               (code _ (next_in_line m q (micros.PrivateStore cell h.0 h.1) refl h.2));
         })))
-        (λ ne. inl (other (cell_of m.fixed_cells t cell) _ h.6 ne))
+        (λ ne. inl (other f p x (cell_of m.fixed_cells t cell) _ h.6 ne))
         (cases_eq p (cell_of m.fixed_cells t cell))
 
     line_leaves : (kind' : EventKind) → line_ask m l kind' y.nodes.free q (next_of m q) ≡ Some x → Leaves
@@ -233,7 +209,7 @@ module _ (m : Meaning) (l : Layout) (rs : List Request) (g : Beside) (s : Sight)
 
       by : (b : Bool) → (f x.0 == t.word) ≡ b → Leaves
       by true won = inr (inl (record { thunk = t; descriptor = d; is = is; none = none; won = test_same (f x.0) t.word won }))
-      by false fails = inl (misses t.lock t.word _ asked.is
+      by false fails = inl (misses f p x t.lock t.word _ asked.is
           (λ finds. unlike (f x.0) t.word fails (ap (λ (u : Spot × Access). f u.0) (sym asked.is) ∙ finds)))
         where
           unlike : (i k : ℕ) → (i == k) ≡ false → i ≡ k → ⊥

@@ -3,7 +3,7 @@ ghost use Rattle.std.specs.Prelude.{◌≡◌, ◌<◌, length, OnOk};
 ghost use Rattle.table_words.specs.Limits.{IsWithinLimits};
 ghost use Rattle.table_words.specs.Access.{written, wins};
 ghost use Rattle.runner_steps.specs.AfterInRun.{with_run};
-ghost use Rattle.runner_steps.specs.After.{line_after, stepped, counted, left_more, tallied, noted, after};
+ghost use Rattle.runner_steps.specs.After.{line_after, stepped, counted, epoch_after, own_epoch, is_busy, is_moved, is_late_join, left_more, noted, after};
 
 use crate::inside::{place_of, reply_word_of, retired_slot_of};
 use crate::line::{
@@ -107,35 +107,72 @@ fn counted(number: u64) -> u64
     number.saturating_add(1)
 }
 
+/// The epoch as the runner's steps last saw or left it, when one more left this number at this spot.
+fn epoch_after(spot: Spot, number: u64, epoch: u64) -> u64
+    ensures { result ≡ epoch_after spot number epoch }
+{
+    match spot {
+        Spot::Epoch => number,
+        _ => epoch,
+    }
+}
+
+/// What the epoch is for a runner whose own steps last saw or left this: at first it is 1.
+fn own_epoch(epoch: u64) -> u64
+    ensures { result ≡ own_epoch epoch }
+{
+    if epoch == 0 { 1 } else { epoch }
+}
+
+/// The step read an announcement that isn't idle.
+fn is_busy(kind: &EventKind, found: u64) -> bool
+    ensures { result ≡ is_busy kind.now found }
+{
+    match kind {
+        EventKind::ScanOne(_) => found != 0,
+        _ => false,
+    }
+}
+
+/// The step found the epoch other than the runner's own steps had left it.
+fn is_moved(spot: Spot, found: u64, epoch: u64) -> bool
+    ensures { result ≡ is_moved spot found epoch }
+{
+    match spot {
+        Spot::Epoch => found != own_epoch(epoch),
+        _ => false,
+    }
+}
+
+/// The keeper joins a worker when its own steps have met the epoch.
+fn is_late_join(kind: &EventKind, epoch: u64) -> bool
+    ensures { result ≡ is_late_join kind.now epoch }
+{
+    match kind {
+        EventKind::Join(_) => epoch != 0,
+        _ => false,
+    }
+}
+
 /// What the keeper's steps since the last join left.
 fn left_more(
-    records: &mut Records,
+    left: &mut Vec<Left>,
     alloc: Global,
     kind: &EventKind,
     spot: Spot,
     number: u64,
 ) -> Result<(), AllocError>
-    ensures { OnOk result (records.new ≡ left_more records.old kind.now spot number) }
+    ensures { OnOk result (left.new.items ≡ left_more kind.now spot number left.old.items) }
 {
     match kind {
-        EventKind::Join(_) => records.left = Vec::new(alloc),
-        _ => records.left.push(Left { spot, number })?,
+        EventKind::Join(_) => *left = Vec::new(alloc),
+        _ => left.push(Left { spot, number })?,
     }
     Ok(())
 }
 
-/// One more step was made, which found this number; it is counted among those that won where it changed its word by an
-/// exchange or a raise.
-fn tally(records: &mut Records, access: Access, found: u64)
-    ensures { records.new ≡ tallied access found records.old }
-{
-    records.events = counted(records.events);
-    if access.wins(found) {
-        records.won = counted(records.won);
-    }
-}
-
-/// One more step was made, which found this number at this spot.
+/// One more step was made, which found this number at this spot; it is counted among those that won where it
+/// changed its word by an exchange or a raise.
 fn note(
     records: &mut Records,
     alloc: Global,
@@ -148,9 +185,18 @@ fn note(
 ) -> Result<(), AllocError>
     ensures { OnOk result (records.new ≡ noted layout runner kind.now spot access found records.old) }
 {
-    tally(records, access, found);
+    let number = access.written(found);
+    records.events = counted(records.events);
+    if access.wins(found) {
+        records.won = counted(records.won);
+    }
+    records.crossed = is_busy(kind, found)
+        || is_moved(spot, found, records.epoch_seen)
+        || records.crossed;
+    records.crosses = is_late_join(kind, records.epoch_seen) || records.crosses;
+    records.epoch_seen = epoch_after(spot, number, records.epoch_seen);
     if runner == layout.runners {
-        left_more(records, alloc, kind, spot, access.written(found))
+        left_more(&mut records.left, alloc, kind, spot, number)
     } else {
         Ok(())
     }

@@ -5,8 +5,9 @@ ghost use Rattle.runner_steps.specs.AfterOutside.{with_stage, entered, collected
 ghost use Rattle.runner_parts.specs.Lists.{no_reads};
 ghost use Rattle.runner_steps.specs.After.{joins, outside_after};
 
-use runner_parts::{EventKind, Part, Published, Reads, Run, Stage, Structure};
-use runner_steps::{LAST_EPOCH, slot_count};
+use epoch_core::{LAST_EPOCH, Stage};
+use runner_parts::{EventKind, Part, Published, Reads, Run, Structure};
+use runner_steps::slot_count;
 use section_body::{Place, Thunk};
 use std::alloc::{AllocError, Global};
 use table_words::Layout;

@@ -13,8 +13,7 @@ ghost use Rattle.machine_states.specs.First.{falling, first_part};
 use crate::descriptors::DescriptorLists;
 use crate::nodes::NodeLists;
 use crate::stage_fields::StageFields;
-use runner_parts::Stage;
-use runner_steps::LAST_EPOCH;
+use epoch_core::{LAST_EPOCH, Stage};
 use section_body::Body;
 use std::alloc::{AllocError, Global};
 use std::marker::Model;
@@ -47,7 +46,7 @@ impl Model for Kept {
         nodes = a.nodes.lists;
         descriptors = record { free = a.descriptors.free; stored = []; limbo = a.descriptors.limbo };
         reads = no_reads;
-        records = record { known = []; finished = []; events = 0; won = 0; left = []; splits = a.splits; joined = [] };
+        records = record { known = []; finished = []; events = 0; won = 0; epoch_seen = 0; crossed = false; crosses = false; left = []; splits = a.splits; joined = [] };
         gone = false;
       };
       room = a.nodes.room;

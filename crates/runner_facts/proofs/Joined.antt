@@ -7,7 +7,6 @@ use Rattle.map_history.specs.declared.op.Request.{Request}
 use Rattle.table_words.specs.declared.layout.Layout.{Layout}
 use Rattle.table_words.specs.declared.spot.Spot.{Spot}
 use Rattle.table_words.specs.declared.access.Access.{Access}
-use Rattle.table_words.specs.Access.{written}
 use Rattle.table_words.specs.Limits.{IsWithinLimits}
 use Rattle.table_words.specs.Seen.{upd}
 use Rattle.structure_laws.specs.Meaning.{Meaning}
@@ -18,7 +17,7 @@ use Rattle.runner_parts.specs.declared.entries.Left.{Left}
 use Rattle.runner_parts.specs.State.{RunState, RecordsState, PartState}
 use Rattle.runner_parts.specs.Tests.{has}
 use Rattle.runner_steps.specs.Asks.{ask_by}
-use Rattle.runner_steps.specs.After.{after_by, after, left_more, tallied, noted, knows_also, leaves}
+use Rattle.runner_steps.specs.After.{after_by, after, knows_also, leaves}
 use Rattle.machine_states.specs.World.{World, is_join}
 use Rattle.machine_states.specs.First.{IsFirst}
 use Rattle.machine_states.specs.Reached.{Reached}
@@ -36,18 +35,6 @@ use Rattle.runner_facts.specs.Facts.{JoinedAreGone}
 use Rattle.runner_facts.proofs.Keeping.{Keeps, inside_keeps, outside_keeps}
 use Rattle.runner_facts.proofs.Counts.{may_hold}
 use Rattle.next_steps.specs.machine_invariant.proofs.Basics.{not_both}
-
-left_joined : (z : RecordsState) (kind : EventKind) (spot : Spot) (n : ℕ) → (left_more z kind spot n).joined ≡ z.joined
-left_joined z (kinds.Join worker) spot n = refl
-left_joined z _ spot n = refl
-
-noted_joined : (l : Layout) (r : ℕ) (kind : EventKind) (spot : Spot) (access : Access) (n : ℕ) (z : RecordsState)
-    → (noted l r kind spot access n z).joined ≡ z.joined
-noted_joined l r kind spot access n z = by (r == l.runners)
-  where
-    by : (b : Bool) → (if b then left_more (tallied access n z) kind spot (written access n) else tallied access n z).joined ≡ z.joined
-    by true = left_joined (tallied access n z) kind spot (written access n)
-    by false = refl
 
 -- what two parts have that are alike for this
 pub record Alike (p p' : PartState) : Type 0 where
@@ -74,7 +61,7 @@ module _ (m : Meaning) (l : Layout) (rs : List Request) (s s' : Sight) (r : ℕ)
 
     own_alike : Alike p p'
     own_alike = record {
-      joined = noted_joined l r kind st.step.ask.0 st.step.ask.1 found (after_by m l kind p p.run found).records ∙ ap (λ (z : List ℕ × List Left). z.0) keeps.records;
+      joined = ap (λ (z : List ℕ × List Left). z.0) keeps.records;
       gone = keeps.gone;
     }
 
@@ -111,8 +98,7 @@ module _ (m : Meaning) (l : Layout) (rs : List Request) (s s' : Sight) (r : ℕ)
 
     -- the keeper has joined this worker besides
     keeper_joined : keeper.records.joined ≡ p.records.joined ++ worker ∷ []
-    keeper_joined = noted_joined l r join st.step.ask.0 st.step.ask.1 (s.word st.step.ask.0) (after_by m l join p p.run (s.word st.step.ask.0)).records
-        ∙ ap (λ (o : Option RunState). (after_by m l join p o (s.word st.step.ask.0)).records.joined) outside
+    keeper_joined = ap (λ (o : Option RunState). (after_by m l join p o (s.word st.step.ask.0)).records.joined) outside
 
     keeper_gone : keeper.gone ≡ p.gone
     keeper_gone = ap (λ (o : Option RunState). (after_by m l join p o (s.word st.step.ask.0)).gone) outside

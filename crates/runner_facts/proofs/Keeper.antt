@@ -2,7 +2,7 @@
 use Rattle.std.specs.Prelude.{◌==◌, ◌&&◌, ◌%◌, cond, not, nat_lt, nat_le, slice_get, is_none, Bool, true, false, if◌then◌else◌}
 use Rattle.std.proofs.Common.{◌≡◌, ◌≢◌, ℕ, zero, suc, ◌<◌, ◌≤◌, List, [], ◌∷◌, ◌++◌, length, ⊎_elim, sym, refl, ap, ◌∙◌, subst, arith, Option, Some, None}
 use Rattle.std.proofs.lemmas.Bool.Decides.{nat_tests}
-use Rattle.std.proofs.lemmas.Bool.{cases_lt}
+use Rattle.std.proofs.lemmas.Bool.{cases_lt, and_parts}
 use Rattle.std.proofs.lemmas.Nat.{mod_below}
 use Rattle.map_history.specs.declared.op.Request.{Request}
 use Rattle.section_body.specs.Line.{is_end}
@@ -18,22 +18,24 @@ use Rattle.table_words.specs.Places.{slot_count}
 use Rattle.table_words.specs.Seen.{upd, put}
 use Rattle.structure_laws.specs.Meaning.{Meaning}
 use Rattle.structure_laws.specs.Laws.{Laws}
+use Rattle.epoch_core.specs.Moves.{is_clear}
 use Rattle.runner_parts.specs.declared.entries.Known.{Known}
 use Rattle.runner_parts.specs.declared.entries.Left.{Left}
 use Rattle.runner_parts.specs.declared.entries.Published.{Published}
-use Rattle.runner_parts.specs.declared.stage.Stage.{Stage}
-use Rattle.runner_parts.specs.declared.stage.Stage.TheVariants as stages
+use Rattle.epoch_core.specs.declared.stage.Stage.{Stage}
+use Rattle.epoch_core.specs.declared.stage.Stage.TheVariants as stages
 use Rattle.runner_parts.specs.declared.event.EventKind.{EventKind}
 use Rattle.runner_parts.specs.declared.event.EventKind.TheVariants as kinds
 use Rattle.runner_parts.specs.State.{RunState, RecordsState, PartState}
 use Rattle.runner_parts.specs.Tests.{has, is_next, is_open, is_walking, are_answered, is_answered}
 use Rattle.runner_steps.specs.Asks.{ask_by, outside_ask, sizes_for}
 use Rattle.runner_steps.specs.Sections.{is_open_run, next_of}
-use Rattle.runner_steps.specs.Outside.{last_epoch, hold_ask, is_ready, is_publishable}
+use Rattle.runner_steps.specs.Outside.{hold_ask, is_ready, is_publishable}
+use Rattle.epoch_core.specs.State.{last_epoch}
 use Rattle.runner_steps.specs.InRun.{last_clock}
 use Rattle.runner_steps.specs.AfterInRun as inside
 use Rattle.runner_steps.specs.AfterOutside as outside
-use Rattle.runner_steps.specs.After.{line_after, inside_after, outside_after, after_by, after, left_more, tallied, noted, knows_also, leaves}
+use Rattle.runner_steps.specs.After.{line_after, inside_after, outside_after, after_by, after, left_more, noted, knows_also, leaves}
 use Rattle.machine_states.specs.World.{World, is_join}
 use Rattle.machine_states.specs.First.{IsFirst, first_part, keeper_part, worker_part}
 use Rattle.machine_states.specs.Reached.{Reached}
@@ -50,7 +52,6 @@ use Rattle.next_steps.proofs.Reaching.{IsStep, reached_keeps}
 use Rattle.next_steps.proofs.Parts.{each_part}
 use Rattle.runner_facts.specs.Facts.{JoinedAreGone}
 use Rattle.runner_facts.specs.Keeper.{AllJoined, IsLastLeft, LeftStands, KeeperStands}
-use Rattle.runner_facts.proofs.Basics.{two}
 use Rattle.runner_facts.proofs.Joined.{keeps, alike, gone_kept, first_gone}
 
 -- a list with one more at its end
@@ -70,7 +71,7 @@ one_here i v w = grind (arith, nat_tests)
 two_here : (i j v w w' : ℕ) → cond (i == i) (cond (j == j) v w) w' ≡ v
 two_here i j v w w' = grind (arith, nat_tests)
 
-put_here : (f : Spot → ℕ) (a : Spot) (v : ℕ) → put f a v a ≡ v
+pub put_here : (f : Spot → ℕ) (a : Spot) (v : ℕ) → put f a v a ≡ v
 put_here f Seat v = refl
 put_here f Epoch v = refl
 put_here f Clock v = refl
@@ -111,10 +112,10 @@ put_else f (LogWord i j) (LogWord i' j') v ne = two_else i j i' j' v _ (λ e e'.
 put_else f (LogWord i j) b v ne = refl
 
 -- what the keeper's step adds
-left_pushed : (z : RecordsState) (kind : EventKind) (spot : Spot) (n : ℕ) → is_join kind ≡ false
-    → (left_more z kind spot n).left ≡ z.left ++ record { spot = spot; number = n } ∷ []
-left_pushed z (kinds.Join worker) spot n other = absurd (let e = other in cc)
-left_pushed z _ spot n other = refl
+left_pushed : (before : List Left) (kind : EventKind) (spot : Spot) (n : ℕ) → is_join kind ≡ false
+    → left_more kind spot n before ≡ before ++ record { spot = spot; number = n } ∷ []
+left_pushed before (kinds.Join worker) spot n other = absurd (let e = other in cc)
+left_pushed before _ spot n other = refl
 
 module _ (l : Layout) (r : ℕ) (is : r ≡ l.runners) where
   keeper_test : (r == l.runners) ≡ true
@@ -126,14 +127,13 @@ module _ (l : Layout) (r : ℕ) (is : r ≡ l.runners) where
   noted_left : (kind : EventKind) (spot : Spot) (access : Access) (found : ℕ) (z : RecordsState) → is_join kind ≡ false
       → (noted l r kind spot access found z).left ≡ z.left ++ record { spot = spot; number = written access found } ∷ []
   noted_left kind spot access found z other =
-      ap (λ (b : Bool). (if b then left_more (tallied access found z) kind spot (written access found) else tallied access found z).left) keeper_test
-      ∙ left_pushed (tallied access found z) kind spot (written access found) other
+      ap (λ (b : Bool). if b then left_more kind spot (written access found) z.left else z.left) keeper_test
+      ∙ left_pushed z.left kind spot (written access found) other
 
   joined_left : (worker : ℕ) (spot : Spot) (access : Access) (found : ℕ) (z : RecordsState)
       → (noted l r (kinds.Join worker) spot access found z).left ≡ []
   joined_left worker spot access found z =
-      ap (λ (b : Bool). (if b then left_more (tallied access found z) (kinds.Join worker) spot (written access found) else tallied access found z).left)
-      keeper_test
+      ap (λ (b : Bool). if b then left_more (kinds.Join worker) spot (written access found) z.left else z.left) keeper_test
 
 -- an entry more, and the word as it leaves it
 one_more : (word : Spot → ℕ) (left : List Left) (x0 : Left) → ((x : Left) → IsLastLeft left x → word x.spot ≡ x.number) → (x : Left)
@@ -203,7 +203,7 @@ not_next : (l : Layout) → 1 ≤ l.runners → (rs : List Request) (known : Lis
 not_next l some rs known None e = absurd (let z = e in cc)
 not_next l some rs known (Some q) e =
     let same = equal (q.trace % l.runners) l.runners
-    (two (q.trace % l.runners == l.runners) (not (is_answered known q.number) && are_answered known q.trace q.number rs) e).0 in
+    (and_parts (q.trace % l.runners == l.runners) (not (is_answered known q.number) && are_answered known q.trace q.number rs) e).0 in
     let low = mod_below q.trace l.runners some in omega (arith, same, low)
   where
     equal : (a b : ℕ) → (a == b) ≡ true → a ≡ b
@@ -212,11 +212,11 @@ not_next l some rs known (Some q) e =
 no_hold : (m : Meaning) (l : Layout) → 1 ≤ l.runners → (rs : List Request) (t : Thunk) (d : ℕ) (p : PartState) (x : Spot × Access)
     → hold_ask m l rs l.runners t d p ≡ Some x → ⊥
 no_hold m l some rs t d p x e =
-    let ready = two (is_ready l p d t) (is_publishable m l rs l.runners t p) (if_some _ _ x e).0 in
-    let walks = two (is_walking p.stage p.run) _ ready.1 in
-    let none = two (is_none p.published) _ walks.1 in
-    let lock = two (is_open l p.reads.cells t) _ none.1 in
-    let due = two (is_next l l.runners rs p.records.known (slice_get rs t.request)) _ lock.1 in
+    let ready = and_parts (is_ready l p d t) (is_publishable m l rs l.runners t p) (if_some _ _ x e).0 in
+    let walks = and_parts (is_walking p.stage p.run) _ ready.1 in
+    let none = and_parts (is_none p.published) _ walks.1 in
+    let lock = and_parts (is_open l p.reads.cells t) _ none.1 in
+    let due = and_parts (is_next l l.runners rs p.records.known (slice_get rs t.request)) _ lock.1 in
     not_next l some rs p.records.known (slice_get rs t.request) due.0
 
 -- who has published nothing has published nothing behind a step that is no publication
@@ -264,7 +264,7 @@ module _ (m : Meaning) (l : Layout) (p : PartState) (none : p.published ≡ None
 
   scan_none : (stage : Stage) → IsUnpublished (outside.scan_one_after l p stage found)
   scan_none (stages.Scanning x next clear) = either (nat_le next l.runners) _ _
-      (either (next == l.runners && not ((clear && outside.is_clear x found) && nat_lt x last_epoch)) _ _ none none) none
+      (either (next == l.runners && not ((clear && is_clear x found) && nat_lt x last_epoch)) _ _ none none) none
   scan_none _ = none
 
   advance_none : (stage : Stage) → IsUnpublished (outside.advance_after p stage)

@@ -10,16 +10,17 @@ use Rattle.section_body.specs.declared.thunk.Thunk.{Thunk}
 use Rattle.table_words.specs.declared.layout.Layout.{Layout}
 use Rattle.table_words.specs.Places.{slot_count}
 use Rattle.structure_laws.specs.Meaning.{Meaning}
+use Rattle.epoch_core.specs.Moves.{is_clear}
 use Rattle.runner_parts.specs.declared.entries.Left.{Left}
 use Rattle.runner_parts.specs.declared.entries.Published.{Published}
-use Rattle.runner_parts.specs.declared.stage.Stage.{Stage}
-use Rattle.runner_parts.specs.declared.stage.Stage.TheVariants as stages
+use Rattle.epoch_core.specs.declared.stage.Stage.{Stage}
+use Rattle.epoch_core.specs.declared.stage.Stage.TheVariants as stages
 use Rattle.runner_parts.specs.declared.event.EventKind.{EventKind}
 use Rattle.runner_parts.specs.declared.event.EventKind.TheVariants as kinds
 use Rattle.runner_parts.specs.State.{RunState, RecordsState, PartState}
 use Rattle.runner_parts.specs.Lists.{without, is_old, slots_of, learned}
 use Rattle.runner_steps.specs.Sections.{is_open_run, next_of}
-use Rattle.runner_steps.specs.Outside.{last_epoch}
+use Rattle.epoch_core.specs.State.{last_epoch}
 use Rattle.runner_steps.specs.InRun.{last_clock}
 use Rattle.runner_steps.specs.AfterInRun as inside
 use Rattle.runner_steps.specs.AfterOutside as outside
@@ -118,7 +119,7 @@ module _ (m : Meaning) (l : Layout) (p : PartState) where
   module _ (found : ℕ) where
     scan_keeps : (stage : Stage) → Keeps p (outside.scan_one_after l p stage found)
     scan_keeps (stages.Scanning x next clear) = either (nat_le next l.runners) _ _
-        (either (next == l.runners && not ((clear && outside.is_clear x found) && nat_lt x last_epoch)) _ _ (collected_keeps x) (keeps _ refl refl refl)) same
+        (either (next == l.runners && not ((clear && is_clear x found) && nat_lt x last_epoch)) _ _ (collected_keeps x) (keeps _ refl refl refl)) same
     scan_keeps _ = same
 
     advance_keeps : (stage : Stage) → Keeps p (outside.advance_after p stage)

@@ -1,4 +1,3 @@
-mod Basics
 mod Walks
 mod Limbo
 mod Keeping
@@ -7,7 +6,7 @@ mod Joined
 mod Raising
 mod Worn
 pub mod Names
-mod Keeper
+pub mod Keeper
 pub mod Lines
 pub mod Logs
 pub mod Runs

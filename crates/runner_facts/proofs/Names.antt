@@ -2,6 +2,7 @@
 use Rattle.std.specs.Prelude.{◌==◌, ◌||◌, ◌&&◌, ◌-◌, not, nat_lt, nat_le, Bool, true, false, if◌then◌else◌}
 use Rattle.std.specs.List.{filter}
 use Rattle.std.proofs.Common.{◌⊎◌, inl, inr, ◌≡◌, ℕ, suc, ◌+◌, ◌<◌, ◌≤◌, List, [], ◌∷◌, ◌++◌, ⊎_elim, sym, refl, ap, ◌∙◌, subst, arith, Option, Some, None}
+use Rattle.std.proofs.lemmas.Bool.{and_parts}
 use Rattle.std.proofs.lemmas.Bool.Decides.{nat_tests}
 use Rattle.map_history.specs.declared.op.Request.{Request}
 use Rattle.section_body.specs.Line.{is_end, line, micro_at}
@@ -19,10 +20,11 @@ use Rattle.table_words.specs.Places.{slot_count, descriptor_count}
 use Rattle.table_words.specs.Seen.{put}
 use Rattle.structure_laws.specs.Meaning.{Meaning}
 use Rattle.structure_laws.specs.Laws.{Laws}
+use Rattle.epoch_core.specs.Moves.{is_clear}
 use Rattle.runner_parts.specs.declared.entries.Published.{Published}
 use Rattle.runner_parts.specs.declared.entries.Retired.{Retired}
-use Rattle.runner_parts.specs.declared.stage.Stage.{Stage}
-use Rattle.runner_parts.specs.declared.stage.Stage.TheVariants as stages
+use Rattle.epoch_core.specs.declared.stage.Stage.{Stage}
+use Rattle.epoch_core.specs.declared.stage.Stage.TheVariants as stages
 use Rattle.runner_parts.specs.declared.event.EventKind.{EventKind}
 use Rattle.runner_parts.specs.declared.event.EventKind.TheVariants as kinds
 use Rattle.runner_parts.specs.State.{RunState, DescriptorsState, PartState}
@@ -30,7 +32,7 @@ use Rattle.runner_parts.specs.Lists.{without, is_old, slots_of, holds_named}
 use Rattle.runner_parts.specs.Tests.{has, has_pair}
 use Rattle.runner_steps.specs.Asks.{ask_by, line_ask, opening_ask, outside_ask}
 use Rattle.runner_steps.specs.Sections.{is_open_run, next_of}
-use Rattle.runner_steps.specs.Outside.{last_epoch}
+use Rattle.epoch_core.specs.State.{last_epoch}
 use Rattle.runner_steps.specs.InRun.{last_clock}
 use Rattle.runner_steps.specs.AfterInRun as inside
 use Rattle.runner_steps.specs.AfterOutside as outside
@@ -42,7 +44,6 @@ use Rattle.machine_states.specs.Reached.{Reached}
 use Rattle.machine_states.specs.Sight.{Sight, sight, sight_after}
 use Rattle.machine_states.proofs.FirstSights.{first_parts}
 use Rattle.machine_states.proofs.Sights.{some_none, unless_gone, joins}
-use Rattle.machine_epochs.specs.Entries.{stage_of}
 use Rattle.machine_epochs.specs.Slots.{thunk_in}
 use Rattle.machine_epochs.proofs.FirstJoin as FirstJoin
 use Rattle.machine_epochs.proofs.InsideAsked as asked
@@ -60,7 +61,6 @@ use Rattle.next_steps.proofs.Reaching.{IsStep, reached_keeps}
 use Rattle.next_steps.proofs.Parts.{each_part}
 use Rattle.next_steps.proofs.Tests.{without_has}
 use Rattle.runner_facts.specs.Names.{HasLock, NamesStand}
-use Rattle.runner_facts.proofs.Basics.{two}
 use Rattle.runner_facts.proofs.Limbo.{retired_once}
 
 and : (a b : Bool) → a ≡ true → b ≡ true → (a && b) ≡ true
@@ -113,7 +113,7 @@ module _ (d g : ℕ) where
 
   since_filter : (test : Retired → Bool) (xs : List Retired) → since d g xs ≡ true → since d g (filter test xs) ≡ true
   since_filter test [] e = e
-  since_filter test (x ∷ xs) e = by (test x) (two (not (x.slot == d) || nat_le g x.epoch) (since d g xs) e) (since_filter test xs)
+  since_filter test (x ∷ xs) e = by (test x) (and_parts (not (x.slot == d) || nat_le g x.epoch) (since d g xs) e) (since_filter test xs)
     where
       by : (b : Bool) → ((not (x.slot == d) || nat_le g x.epoch) ≡ true) × (since d g xs ≡ true)
           → (since d g xs ≡ true → since d g (filter test xs) ≡ true) → since d g (if b then x ∷ filter test xs else filter test xs) ≡ true
@@ -125,12 +125,12 @@ module _ (d g : ℕ) where
     where
       one : (a y : ℕ) → g ≤ y → ((not (a == d) || nat_le g y) && true) ≡ true
       one a y le = grind (arith, nat_tests)
-  since_push (y ∷ xs) x e le = let h = two (not (y.slot == d) || nat_le g y.epoch) (since d g xs) e in and _ _ h.0 (since_push xs x h.1 le)
+  since_push (y ∷ xs) x e le = let h = and_parts (not (y.slot == d) || nat_le g y.epoch) (since d g xs) e in and _ _ h.0 (since_push xs x h.1 le)
 
   -- none of these waited long enough where the epoch is at most one later
   since_young : (epoch : ℕ) (xs : List Retired) → since d g xs ≡ true → epoch ≤ g + 1 → has (slots_of (filter (is_old epoch) xs)) d ≡ false
   since_young epoch [] e le = refl
-  since_young epoch (x ∷ xs) e le = by (nat_le (x.epoch + 2) epoch) refl (two (not (x.slot == d) || nat_le g x.epoch) (since d g xs) e)
+  since_young epoch (x ∷ xs) e le = by (nat_le (x.epoch + 2) epoch) refl (and_parts (not (x.slot == d) || nat_le g x.epoch) (since d g xs) e)
       (since_young epoch xs)
     where
       not_here : (a y : ℕ) (rest : Bool) → (not (a == d) || nat_le g y) ≡ true → nat_le (y + 2) epoch ≡ true → rest ≡ false → ((a == d) || rest) ≡ false
@@ -183,7 +183,7 @@ module _ (d g : ℕ) where
       scan_kept : (stage : Stage) → ((x next : ℕ) (clear : Bool) → stage ≡ stages.Scanning x next clear → x ≤ g + 1)
           → Kept (outside.scan_one_after l p stage found)
       scan_kept (stages.Scanning x next clear) most = kept_either (nat_le next l.runners) _ _
-          (kept_either (next == l.runners && not ((clear && outside.is_clear x found) && nat_lt x last_epoch)) _ _
+          (kept_either (next == l.runners && not ((clear && is_clear x found) && nat_lt x last_epoch)) _ _
           (collected x (most x next clear refl)) (same _ refl)) old
       scan_kept _ most = old
 
@@ -340,7 +340,7 @@ module _ (m : Meaning) (l : Layout) (p : PartState) (found : ℕ) (x : Spot × A
   -- a step outside a run
   scan_reads : (stage : Stage) → p.stage ≡ stage → Reads (outside.scan_one_after l p stage found)
   scan_reads (stages.Scanning y next clear) is = reads_either (nat_le next l.runners) _ _
-      (reads_either (next == l.runners && not ((clear && outside.is_clear y found) && nat_lt y last_epoch)) _ _
+      (reads_either (next == l.runners && not ((clear && is_clear y found) && nat_lt y last_epoch)) _ _
       (reads_none _ (λ g e. let z = e in cc)) (reads_none _ (λ g e. let z = e in cc))) same_reads
   scan_reads _ is = same_reads
 
@@ -449,7 +449,7 @@ module _ (m : Meaning) (laws : Laws m) (l : Layout) (limits : IsWithinLimits l) 
         → (g ≤ y.word spots.Epoch) × (y.word spots.Epoch ≤ g + 1)
     entry_is b y whole here =
         let entered = entered_at m l b.epochs y whole.slots i0 g here in
-        let entry = ap entry_number (whole.slots.entries.stage i0 ∙ ap stage_of here) in
+        let entry = ap entry_number (whole.slots.entries.stage i0 ∙ here) in
         let epoch = whole.slots.entries.epoch in
         let most = whole.slots.sound.entered_most i0 entered in
         let least = whole.slots.sound.entered_least i0 entered in
@@ -457,7 +457,7 @@ module _ (m : Meaning) (laws : Laws m) (l : Layout) (limits : IsWithinLimits l) 
 
     scan_is : (y next : ℕ) (clear : Bool) → p.stage ≡ stages.Scanning y next clear → y ≤ s.word spots.Epoch
     scan_is y next clear is = subst (λ n. y ≤ n) st.whole.slots.entries.epoch
-        (st.whole.slots.sound.scan_most r y next clear (st.whole.slots.entries.stage r ∙ ap stage_of is))
+        (st.whole.slots.sound.scan_most r y next clear (st.whole.slots.entries.stage r ∙ is))
 
     raises : (f y : ℕ) → y ≤ f → y + 1 ≤ exchanged f y (y + 1)
     raises f y le = grind (arith, nat_tests)

@@ -1,11 +1,10 @@
 -- What a step leaves of a runner's run, and of what it has published.
 use Rattle.std.specs.Prelude.{◌==◌, ◌&&◌, ◌⊎◌, not, nat_lt, nat_le, Bool, true, false, if◌then◌else◌}
-use Rattle.std.proofs.Common.{◌≡◌, ℕ, suc, ◌+◌, List, [], ◌∷◌, ◌++◌, length, refl, sym, ap, ◌∙◌, inl, inr, Option, Some, None}
+use Rattle.std.proofs.Common.{◌≡◌, ℕ, ◌+◌, List, [], ◌∷◌, ◌++◌, length, refl, sym, ap, ◌∙◌, inl, inr, Option, Some, None}
 use Rattle.section_body.specs.Line.{is_end}
 use Rattle.section_body.specs.Run.{settled, written_once}
 use Rattle.section_body.specs.declared.micro.Micro.{Micro}
 use Rattle.section_body.specs.declared.micro.Micro.TheVariants as micros
-use Rattle.section_body.specs.declared.thunk.Thunk.{Thunk}
 use Rattle.table_words.specs.declared.layout.Layout.{Layout}
 use Rattle.table_words.specs.declared.spot.Spot.{Spot}
 use Rattle.table_words.specs.declared.spot.Spot.TheVariants as spots
@@ -13,14 +12,15 @@ use Rattle.table_words.specs.declared.access.Access.{Access}
 use Rattle.table_words.specs.declared.access.Access.TheVariants.{Loads}
 use Rattle.table_words.specs.Places.{slot_count}
 use Rattle.structure_laws.specs.Meaning.{Meaning}
+use Rattle.epoch_core.specs.Moves.{is_clear}
 use Rattle.runner_parts.specs.declared.entries.Published.{Published}
-use Rattle.runner_parts.specs.declared.stage.Stage.{Stage}
-use Rattle.runner_parts.specs.declared.stage.Stage.TheVariants as stages
+use Rattle.epoch_core.specs.declared.stage.Stage.{Stage}
+use Rattle.epoch_core.specs.declared.stage.Stage.TheVariants as stages
 use Rattle.runner_parts.specs.declared.event.EventKind.{EventKind}
 use Rattle.runner_parts.specs.declared.event.EventKind.TheVariants as kinds
 use Rattle.runner_parts.specs.State.{RunState, PartState}
-use Rattle.runner_steps.specs.Sections.{is_open_run, line_of, next_of, setting_of}
-use Rattle.runner_steps.specs.Outside.{last_epoch}
+use Rattle.runner_steps.specs.Sections.{line_of, next_of, setting_of}
+use Rattle.epoch_core.specs.State.{last_epoch}
 use Rattle.runner_steps.specs.Asks.{line_ask}
 use Rattle.runner_steps.specs.InRun.{last_clock}
 use Rattle.runner_steps.specs.AfterInRun as inside
@@ -129,7 +129,7 @@ module _ (m : Meaning) (l : Layout) (y : PartState) (found : ℕ) (kind : EventK
 
     scan : (stage : Stage) → Begins (outside.scan_one_after l y stage found)
     scan (stages.Scanning x next clear) = begins_either (nat_le next l.runners) _ _
-        (begins_either (next == l.runners && not ((clear && outside.is_clear x found) && nat_lt x last_epoch)) _ _ (still _ refl) (still _ refl)) (still y refl)
+        (begins_either (next == l.runners && not ((clear && is_clear x found) && nat_lt x last_epoch)) _ _ (still _ refl) (still _ refl)) (still y refl)
     scan _ = still y refl
 
     advance : (stage : Stage) → Begins (outside.advance_after y stage)

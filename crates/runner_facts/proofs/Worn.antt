@@ -20,10 +20,11 @@ use Rattle.table_words.specs.Places.{slot_count}
 use Rattle.table_words.specs.Seen.{put}
 use Rattle.structure_laws.specs.Meaning.{Meaning}
 use Rattle.structure_laws.specs.Laws.{Laws}
+use Rattle.epoch_core.specs.Moves.{is_clear}
 use Rattle.runner_parts.specs.declared.entries.Published.{Published}
 use Rattle.runner_parts.specs.declared.entries.Tested.{Tested}
-use Rattle.runner_parts.specs.declared.stage.Stage.{Stage}
-use Rattle.runner_parts.specs.declared.stage.Stage.TheVariants as stages
+use Rattle.epoch_core.specs.declared.stage.Stage.{Stage}
+use Rattle.epoch_core.specs.declared.stage.Stage.TheVariants as stages
 use Rattle.runner_parts.specs.declared.event.EventKind.{EventKind}
 use Rattle.runner_parts.specs.declared.event.EventKind.TheVariants as kinds
 use Rattle.runner_parts.specs.State.{RunState, NodesState, PartState}
@@ -31,7 +32,8 @@ use Rattle.runner_parts.specs.Lists.{test_of, tests_without, slot_back, slot_tes
 use Rattle.runner_parts.specs.Tests.{has, is_resting}
 use Rattle.runner_steps.specs.Asks.{ask_by, line_ask, opening_ask, outside_ask}
 use Rattle.runner_steps.specs.Sections.{is_open_run, next_of}
-use Rattle.runner_steps.specs.Outside.{last_epoch, private_load_ask, when, descriptor_spot}
+use Rattle.runner_steps.specs.Outside.{private_load_ask, when, descriptor_spot}
+use Rattle.epoch_core.specs.State.{last_epoch}
 use Rattle.runner_steps.specs.InRun.{last_clock, is_slot}
 use Rattle.runner_steps.specs.AfterInRun as inside
 use Rattle.runner_steps.specs.AfterOutside as outside
@@ -262,7 +264,7 @@ module _ (m : Meaning) (l : Layout) (word : Spot → ℕ) where
 
     scan_worn : (stage : Stage) → IsWorn (outside.scan_one_after l p stage found)
     scan_worn (stages.Scanning x next clear) = either (nat_le next l.runners) _ _
-        (either (next == l.runners && not ((clear && outside.is_clear x found) && nat_lt x last_epoch)) _ _
+        (either (next == l.runners && not ((clear && is_clear x found) && nat_lt x last_epoch)) _ _
         (rests _ refl (record { worn = refl; tests = refl })) (rests _ refl (same p.nodes))) old
     scan_worn _ = old
 

@@ -9,7 +9,7 @@ use Rattle.table_words.specs.declared.spot.Spot.TheVariants.{Cell, DoneWord}
 use Rattle.structure_laws.specs.Meaning.{Meaning}
 use Rattle.structure_laws.specs.Sections.{IsAllowed}
 use Rattle.runner_parts.specs.declared.entries.Published.{Published}
-use Rattle.runner_parts.specs.declared.stage.Stage.TheVariants.{Entered}
+use Rattle.epoch_core.specs.declared.stage.Stage.TheVariants.{Entered}
 use Rattle.runner_parts.specs.Lists.{slots_of}
 use Rattle.runner_parts.specs.State.{PartState}
 use Rattle.runner_parts.specs.Tests.{has}

@@ -5,7 +5,7 @@ use Rattle.section_body.specs.Word.{value_of, held_word}
 use Rattle.section_body.specs.declared.micro.Micro.TheVariants.{NestedHold}
 use Rattle.table_words.specs.declared.spot.Spot.{Spot}
 use Rattle.structure_laws.specs.Meaning.{Meaning}
-use Rattle.runner_parts.specs.declared.stage.Stage.TheVariants.{Entered}
+use Rattle.epoch_core.specs.declared.stage.Stage.TheVariants.{Entered}
 use Rattle.runner_parts.specs.Tests.{has, has_pair}
 use Rattle.machine_states.specs.Sight.{Sight}
 use Rattle.machine_epochs.specs.Slots.{thunk_in}

@@ -1,7 +1,7 @@
 -- What contracts see of a runner's part.
 use Rattle.std.specs.Prelude.{ℕ, List, Bool, Option}
 use Rattle.section_body.specs.declared.outcome.Outcome.{Outcome}
-use Rattle.runner_parts.specs.declared.stage.Stage.{Stage}
+use Rattle.epoch_core.specs.declared.stage.Stage.{Stage}
 use Rattle.runner_parts.specs.declared.entries.Retired.{Retired}
 use Rattle.runner_parts.specs.declared.entries.Tested.{Tested}
 use Rattle.runner_parts.specs.declared.entries.Stored.{Stored}
@@ -56,6 +56,12 @@ pub record RecordsState : Type 0 where
   pub finished : List FinishedState
   pub events : ℕ
   pub won : ℕ
+  -- the epoch as its own steps last saw or left it; 0 until then
+  pub epoch_seen : ℕ
+  -- others' steps crossed its own: a scan of its met an announcement that wasn't idle, or it found the epoch moved
+  pub crossed : Bool
+  -- it joined a worker when its own steps had met the epoch, so that they may have crossed the worker's
+  pub crosses : Bool
   pub left : List Left
   pub splits : ℕ
   pub joined : List ℕ

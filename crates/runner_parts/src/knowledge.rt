@@ -5,8 +5,8 @@ ghost use Rattle.table_words.specs.Limits.{IsWithinLimits};
 
 use crate::entries::Known;
 use crate::run::Run;
-use crate::stage::Stage;
 use crate::structure::Structure;
+use epoch_core::Stage;
 use map_history::Request;
 use section_body::{Place, Thunk, Word};
 use table_words::Layout;

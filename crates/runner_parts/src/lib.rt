@@ -1,7 +1,7 @@
 //! What a runner is at and what it keeps.
 //!
 //! `event` has the kinds of step, `structure` what a structure tells the machine. `part` is a runner's
-//! part, with `stage`, `run`, `lists` and `entries`; `lists_change` has what events do to the lists.
+//! part, with `run`, `lists` and `entries`; `lists_change` has what events do to the lists.
 //! `knowledge` and `stores` say what a runner can tell from what it keeps.
 #![tactic(auto)]
 
@@ -12,7 +12,6 @@ mod lists;
 mod lists_change;
 mod part;
 mod run;
-mod stage;
 mod stores;
 mod structure;
 
@@ -22,6 +21,5 @@ pub use knowledge::{has, is_next, is_open, is_outside, is_readable, is_resting, 
 pub use lists::{Descriptors, Nodes, Reads, Records};
 pub use part::Part;
 pub use run::{Finished, Run};
-pub use stage::Stage;
 pub use stores::{is_prepared, last_stored, thunk_words};
 pub use structure::Structure;

@@ -61,14 +61,20 @@ impl Model for Reads {
 
 /// What a runner keeps for good: the stamp and reply words that it knows, the sections that it ran to their
 /// ends, how many steps it has made and how many of these were exchanges or raises that changed their word;
-/// and of the keeper what its steps since the last join left, in order, how many workers were split off,
-/// and which were joined.
+/// of the epoch what its own steps last saw or left (0 until one did); whether others' steps crossed its own:
+/// a scan of its met an announcement that wasn't idle, or a step of its found the epoch other than its own
+/// steps had left it; and of the keeper what its steps since the last join left, in order, how many workers
+/// were split off, which were joined, and whether it joined one when its own steps had met the epoch, so that
+/// they may have crossed the worker's.
 #[derive(Drop)]
 pub struct Records {
     pub known: Vec<Known>,
     pub finished: Vec<Finished>,
     pub events: u64,
     pub won: u64,
+    pub epoch_seen: u64,
+    pub crossed: bool,
+    pub crosses: bool,
     pub left: Vec<Left>,
     pub splits: u32,
     pub joined: Vec<u32>,
@@ -79,5 +85,5 @@ impl Model for Records {
 
     ghost Value = { RecordsState };
 
-    ghost view = { λ a. record { known = a.known.items; finished = a.finished.items; events = a.events; won = a.won; left = a.left.items; splits = a.splits; joined = a.joined.items } };
+    ghost view = { λ a. record { known = a.known.items; finished = a.finished.items; events = a.events; won = a.won; epoch_seen = a.epoch_seen; crossed = a.crossed; crosses = a.crosses; left = a.left.items; splits = a.splits; joined = a.joined.items } };
 }

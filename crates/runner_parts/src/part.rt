@@ -3,7 +3,7 @@
 use crate::entries::Published;
 use crate::lists::{Descriptors, Nodes, Reads, Records};
 use crate::run::Run;
-use crate::stage::Stage;
+use epoch_core::Stage;
 use std::marker::Model;
 
 /// What one runner is at and keeps. A worker that was joined makes no further step.

@@ -1,13 +1,15 @@
 -- A runner's part after an event, and the state after it.
-use Rattle.std.specs.Prelude.{ℕ, ◌+◌, [], ◌∷◌, ◌++◌, true, ◌==◌, nat_lt, Option, Some, None, if◌then◌else◌}
+use Rattle.std.specs.Prelude.{ℕ, ◌+◌, List, [], ◌∷◌, ◌++◌, Bool, true, false, not, ◌||◌, ◌==◌, nat_lt, Option, Some, None, if◌then◌else◌}
 use Rattle.table_words.specs.declared.layout.Layout.{Layout}
 use Rattle.table_words.specs.declared.spot.Spot.{Spot}
+use Rattle.table_words.specs.declared.spot.Spot.TheVariants as spots
 use Rattle.table_words.specs.declared.access.Access.{Access}
 use Rattle.table_words.specs.Access.{written, wins}
 use Rattle.structure_laws.specs.Meaning.{Meaning}
 use Rattle.runner_parts.specs.declared.event.EventKind.{EventKind}
 use Rattle.runner_parts.specs.declared.event.EventKind.TheVariants as kinds
-use Rattle.runner_parts.specs.declared.stage.Stage.TheVariants as stages
+use Rattle.epoch_core.specs.declared.stage.Stage.TheVariants as stages
+use Rattle.runner_parts.specs.declared.entries.Left.{Left}
 use Rattle.section_body.specs.declared.micro.Micro.{Micro}
 use Rattle.runner_parts.specs.State.{RunState, PartState, RecordsState}
 use Rattle.runner_steps.specs.Sections.{is_open_run, next_of}
@@ -78,21 +80,46 @@ stepped m l kind p found = after_by m l kind p p.run found
 abbrev pub counted : ℕ → ℕ
 counted n = if nat_lt n 18446744073709551615 then n + 1 else n
 
+-- the epoch as the runner's steps last saw or left it, when one more left this number at this spot
+abbrev pub epoch_after : Spot → ℕ → ℕ → ℕ
+epoch_after spots.Epoch number epoch = number
+epoch_after _ number epoch = epoch
+
+-- what the epoch is for a runner whose own steps last saw or left this: at first it is 1
+abbrev pub own_epoch : ℕ → ℕ
+own_epoch epoch = if epoch == 0 then 1 else epoch
+
+-- the step read an announcement that isn't idle
+abbrev pub is_busy : EventKind → ℕ → Bool
+is_busy (kinds.ScanOne n) found = not (found == 0)
+is_busy _ found = false
+
+-- the step found the epoch other than the runner's own steps had left it
+abbrev pub is_moved : Spot → ℕ → ℕ → Bool
+is_moved spots.Epoch found epoch = not (found == own_epoch epoch)
+is_moved _ found epoch = false
+
+-- the keeper joins a worker when its own steps have met the epoch
+abbrev pub is_late_join : EventKind → ℕ → Bool
+is_late_join (kinds.Join worker) epoch = not (epoch == 0)
+is_late_join _ epoch = false
+
 -- what the keeper's steps since the last join left
-abbrev pub left_more : RecordsState → EventKind → Spot → ℕ → RecordsState
-left_more s (kinds.Join worker) spot number = record s { left = [] }
-left_more s _ spot number = record s { left = s.left ++ record { spot = spot; number = number } ∷ [] }
+abbrev pub left_more : EventKind → Spot → ℕ → List Left → List Left
+left_more (kinds.Join worker) spot number before = []
+left_more _ spot number before = before ++ record { spot = spot; number = number } ∷ []
 
--- one more step was made, which found this number; it is counted among those that won where it changed its
--- word by an exchange or a raise
-abbrev pub tallied : Access → ℕ → RecordsState → RecordsState
-tallied access found s =
-    record s { events = counted s.events; won = (if wins access found then counted s.won else s.won) }
-
--- one more step was made, which found this number at this spot
+-- one more step was made, which found this number at this spot; it is counted among those that won where it
+-- changed its word by an exchange or a raise
 abbrev pub noted : Layout → ℕ → EventKind → Spot → Access → ℕ → RecordsState → RecordsState
-noted l r kind spot access found s =
-    if r == l.runners then left_more (tallied access found s) kind spot (written access found) else tallied access found s
+noted l r kind spot access found s = record s {
+  events = counted s.events;
+  won = (if wins access found then counted s.won else s.won);
+  epoch_seen = epoch_after spot (written access found) s.epoch_seen;
+  crossed = ((is_busy kind found || is_moved spot found s.epoch_seen) || s.crossed);
+  crosses = (is_late_join kind s.epoch_seen || s.crosses);
+  left = (if r == l.runners then left_more kind spot (written access found) s.left else s.left);
+}
 
 -- the stepping runner's part after the event, which met this spot and found this word
 abbrev pub after : Meaning → Layout → ℕ → EventKind → Spot → Access → PartState → ℕ → PartState

@@ -48,12 +48,18 @@ word_committed m l p q found = with_run p (agrees m l q (written_once found q.wo
 -- the same for a lock's word
 abbrev pub lock_committed : Meaning → Layout → PartState → RunState → ℕ → PartState
 lock_committed m l p q found =
-    record p { run = Some (agrees m l q (written_once found q.word)); reads = lock_agreed p.reads q.descriptor (written_once found q.word) }
+    record p {
+      run = Some (agrees m l q (written_once found q.word));
+      reads = lock_agreed p.reads q.descriptor (written_once found q.word);
+    }
 
 -- the first private load of a Make takes the slot into the hand
 abbrev pub fill_loaded : Meaning → Layout → ℕ → PartState → RunState → Option ℕ → ℕ → PartState
 fill_loaded m l slot p q None found =
-    record p { run = Some (goes_on m l (record q { made = Some slot; worn = false }) found); nodes = slot_taken p.nodes slot }
+    record p {
+      run = Some (goes_on m l (record q { made = Some slot; worn = false }) found);
+      nodes = slot_taken p.nodes slot;
+    }
 fill_loaded m l slot p q (Some s) found = with_run p (goes_on m l q found)
 
 abbrev pub fill_stored : Meaning → Layout → ℕ → PartState → RunState → PartState
@@ -67,24 +73,35 @@ made p q slot found = if found == 0 then slot_made p.nodes slot else slot_back p
 abbrev pub make_committed : Meaning → Layout → PartState → RunState → Option ℕ → ℕ → PartState
 make_committed m l p q None found = p
 make_committed m l p q (Some slot) found =
-    record p { run = Some (agrees m l (record q { made = None; worn = false }) (written_once found (slot + 1))); nodes = made p q slot found }
+    record p {
+      run = Some (agrees m l (record q { made = None; worn = false }) (written_once found (slot + 1)));
+      nodes = made p q slot found;
+    }
 
 -- only the exchange that won retires
 abbrev pub retire_committed : Meaning → Layout → ℕ → PartState → RunState → ℕ → PartState
 retire_committed m l slot p q found =
-    record p { run = Some (agrees m l q (written_once found (slot + 1))); nodes = (if found == 0 then slot_retired p.nodes slot q.word else p.nodes) }
+    record p {
+      run = Some (agrees m l q (written_once found (slot + 1)));
+      nodes = (if found == 0 then slot_retired p.nodes slot q.word else p.nodes);
+    }
 
 -- the agreed stamp is what then stands there
 abbrev pub stamp_agreed : Meaning → Layout → PartState → RunState → ℕ → PartState
 stamp_agreed m l p q found = let stamp = written_once found (stamp_after q.word) in let t = thunk_of q.opened in
-    if nat_lt q.word last_clock then record p { run = Some (goes_on m l q stamp); records = learned p.records t.request false stamp } else p
+    if nat_lt q.word last_clock
+    then record p { run = Some (goes_on m l q stamp); records = learned p.records t.request false stamp }
+    else p
 
 abbrev pub clock_raised : Meaning → Layout → PartState → RunState → PartState
 clock_raised m l p q = with_run p (goes_on m l q q.word)
 
 abbrev pub reply_agreed : Meaning → Layout → ℕ → PartState → RunState → ℕ → PartState
 reply_agreed m l reply p q found = let t = thunk_of q.opened in
-    record p { run = Some (goes_on m l q q.word); records = learned p.records t.request true (written_once found reply) }
+    record p {
+      run = Some (goes_on m l q q.word);
+      records = learned p.records t.request true (written_once found reply);
+    }
 
 -- one more exchange of the end
 abbrev pub ended_more : RunState → RunState
@@ -101,11 +118,22 @@ over_if (Some x) descriptor = Some (record x { over = x.over || x.descriptor == 
 -- what is kept of a run at its end
 abbrev pub finished_of : Meaning → Layout → RunState → FinishedState
 finished_of m l q = let t = thunk_of q.opened in
-    record { descriptor = q.descriptor; lock = t.lock; word = t.word; outcome = outcome_of m l q; trail = q.trail; late = is_late q }
+    record {
+      descriptor = q.descriptor;
+      lock = t.lock;
+      word = t.word;
+      outcome = outcome_of m l q;
+      trail = q.trail;
+      late = is_late q;
+    }
 
 abbrev pub run_over : Meaning → Layout → PartState → RunState → PartState
 run_over m l p q =
-    record p { run = None; published = over_if p.published q.descriptor; records = record (p.records) { finished = p.records.finished ++ finished_of m l q ∷ [] } }
+    record p {
+      run = None;
+      published = over_if p.published q.descriptor;
+      records = record (p.records) { finished = p.records.finished ++ finished_of m l q ∷ [] };
+    }
 
 -- the run goes on to the next release, and is over after the last
 abbrev pub released_more : Meaning → Layout → PartState → RunState → PartState

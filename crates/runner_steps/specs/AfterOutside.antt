@@ -1,14 +1,15 @@
 -- A runner's part after an event outside a run, which found this word.
-use Rattle.std.specs.Prelude.{ℕ, ◌+◌, ◌-◌, [], ◌∷◌, Bool, false, not, ◌==◌, ◌&&◌, ◌||◌, nat_lt, nat_le, length, Option, Some, None, if◌then◌else◌}
+use Rattle.std.specs.Prelude.{ℕ, ◌+◌, ◌-◌, [], ◌∷◌, Bool, false, not, ◌==◌, ◌&&◌, nat_lt, nat_le, length, Option, Some, None, if◌then◌else◌}
 use Rattle.section_body.specs.declared.thunk.Thunk.{Thunk}
 use Rattle.table_words.specs.declared.layout.Layout.{Layout}
 use Rattle.table_words.specs.Places.{slot_count}
 use Rattle.structure_laws.specs.Meaning.{Meaning}
-use Rattle.runner_parts.specs.declared.stage.Stage.{Stage}
-use Rattle.runner_parts.specs.declared.stage.Stage.TheVariants as stages
+use Rattle.epoch_core.specs.Moves.{is_clear}
+use Rattle.epoch_core.specs.declared.stage.Stage.{Stage}
+use Rattle.epoch_core.specs.declared.stage.Stage.TheVariants as stages
 use Rattle.runner_parts.specs.declared.entries.Published.{Published}
 use Rattle.runner_parts.specs.State.{RunState, PartState}
-use Rattle.runner_steps.specs.Outside.{last_epoch}
+use Rattle.epoch_core.specs.State.{last_epoch}
 use Rattle.runner_parts.specs.Lists.{nodes_collected, descriptors_collected, nodes_looked, descriptor_stored, descriptor_taken, descriptor_retired, no_reads, cell_read, holds_named, walked, section_published, learned}
 
 abbrev pub with_stage : PartState → Stage → PartState
@@ -22,10 +23,6 @@ entered p found = record p { stage = stages.Entered found; reads = no_reads }
 abbrev pub collected : PartState → ℕ → PartState
 collected p epoch =
     record p { stage = stages.Idle; nodes = nodes_collected epoch p.nodes; descriptors = descriptors_collected epoch p.descriptors }
-
--- an announcement is idle, or the scan's epoch
-abbrev pub is_clear : ℕ → ℕ → Bool
-is_clear epoch found = found == 0 || found == epoch
 
 -- after the last announcement the scan is over, unless an advance may be tried
 abbrev pub scanned : Layout → PartState → ℕ → ℕ → Bool → PartState

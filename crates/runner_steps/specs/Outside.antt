@@ -1,5 +1,5 @@
 -- Which word an event outside a run meets, and how.
-use Rattle.std.specs.Prelude.{ℕ, ◌+◌, ◌-◌, ◌^◌, List, Bool, true, false, not, ◌==◌, ◌&&◌, ◌||◌, nat_lt, nat_le, Option, Some, None, slice_get, length, if◌then◌else◌, is_none}
+use Rattle.std.specs.Prelude.{ℕ, ◌+◌, ◌-◌, List, Bool, true, false, not, ◌==◌, ◌&&◌, ◌||◌, nat_lt, nat_le, Option, Some, None, slice_get, length, if◌then◌else◌, is_none}
 use Rattle.map_history.specs.declared.op.Request.{Request}
 use Rattle.section_body.specs.declared.thunk.Thunk.{Thunk}
 use Rattle.section_body.specs.Word.{held_word}
@@ -11,8 +11,9 @@ use Rattle.table_words.specs.declared.access.Access.{Access}
 use Rattle.table_words.specs.declared.access.Access.TheVariants.{Loads, Stores, Exchanges}
 use Rattle.table_words.specs.Places.{slot_count, descriptor_count}
 use Rattle.structure_laws.specs.Meaning.{Meaning}
-use Rattle.runner_parts.specs.declared.stage.Stage.{Stage}
-use Rattle.runner_parts.specs.declared.stage.Stage.TheVariants as stages
+use Rattle.epoch_core.specs.State.{last_epoch}
+use Rattle.epoch_core.specs.declared.stage.Stage.{Stage}
+use Rattle.epoch_core.specs.declared.stage.Stage.TheVariants as stages
 use Rattle.runner_parts.specs.declared.entries.Published.{Published}
 use Rattle.runner_parts.specs.declared.entries.Known.{Known}
 use Rattle.runner_parts.specs.State.{PartState}
@@ -46,10 +47,6 @@ idle_ask r p = when (is_walking p.stage p.run && is_none p.published) (spots.Ann
 abbrev pub scan_one_ask : Layout → ℕ → Stage → Ask
 scan_one_ask l n (stages.Scanning x next clear) = when (n == next && nat_le next l.runners) (spots.Announcement n) Loads
 scan_one_ask l n _ = None
-
--- no advance is tried from this epoch on
-abbrev pub last_epoch : ℕ
-last_epoch = 2 ^ 62
 
 -- after the last announcement, where each was idle or the epoch
 abbrev pub advance_ask : Layout → Stage → Ask

@@ -11,5 +11,5 @@ mod section;
 
 pub use enabled::{asks, sizes_for};
 pub use inside::{LAST_CLOCK, is_open_run, last_of, next_of};
-pub use outside::{LAST_EPOCH, held_word, slot_count};
+pub use outside::{descriptor_spot, held_word, slot_count};
 pub use section::{agreed_on, is_end, leaves, reply_in, settled, source_value, thunk_of};

@@ -7,16 +7,14 @@ ghost use Rattle.section_body.specs.Memory.{cell_of};
 ghost use Rattle.runner_parts.specs.Tests.{is_open, serves};
 ghost use Rattle.runner_steps.specs.Outside.{enter_load_ask, announce_ask, enter_again_ask, idle_ask, scan_one_ask, advance_ask, split_ask, join_ask, read_ask, entry_ask, descriptor_spot, private_load_ask, private_store_ask, is_due, is_publishable, is_ready, hold_ask, open_ask, is_over, retire_ask};
 
+use epoch_core::{LAST_EPOCH, Stage};
 use map_history::Request;
 use runner_parts::{
-    Part, Published, Reads, Records, Stage, Structure, has, is_next, is_open, is_outside,
-    is_prepared, is_readable, is_resting, is_walking,
+    Part, Published, Reads, Records, Structure, has, is_next, is_open, is_outside, is_prepared,
+    is_readable, is_resting, is_walking,
 };
 use section_body::{Place, Thunk, Word};
 use table_words::{Access, Layout, Spot};
-
-/// The epoch from which on no advance is tried.
-pub const LAST_EPOCH: u64 = 1 << 62;
 
 pub fn enter_load_ask(stage: Stage) -> Option<(Spot, Access)>
     ensures { result ≡ enter_load_ask stage }
@@ -72,7 +70,8 @@ pub fn advance_ask(layout: Layout, stage: Stage) -> Option<(Spot, Access)>
     }
 }
 
-/// A descriptor's word: the thunk words, the done word, the log.
+/// Where a descriptor's word stands: the thunk words, the done word, the log.
+#[inline(always)]
 pub fn descriptor_spot(descriptor: u32, word: u32) -> Spot
     ensures { result ≡ descriptor_spot descriptor word }
 {

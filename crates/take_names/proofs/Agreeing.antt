@@ -5,7 +5,6 @@ use Rattle.std.proofs.lemmas.Bool.Decides.{nat_tests}
 use Rattle.map_history.specs.declared.op.Request.{Request}
 use Rattle.section_body.specs.Line.{line, micro_at, is_commit}
 use Rattle.section_body.specs.declared.micro.Micro.{Micro}
-use Rattle.section_body.specs.declared.micro.Micro.TheVariants as micros
 use Rattle.section_body.specs.declared.thunk.Thunk.{Thunk}
 use Rattle.section_lines.specs.Line.{IsLine}
 use Rattle.table_words.specs.declared.layout.Layout.{Layout}

@@ -5,7 +5,6 @@ use Rattle.std.proofs.lemmas.Bool.Decides.{nat_tests}
 use Rattle.std.proofs.lemmas.Option.{slice_get_within}
 use Rattle.section_body.specs.Line.{line, micro_at}
 use Rattle.section_body.specs.Word.{version_of}
-use Rattle.section_body.specs.declared.micro.Micro.{Micro}
 use Rattle.section_lines.specs.Line.{IsLine}
 use Rattle.table_words.specs.declared.layout.Layout.{Layout}
 use Rattle.table_words.specs.declared.spot.Spot.TheVariants.{Cell}

@@ -13,16 +13,17 @@ use Rattle.table_words.specs.Access.{written}
 use Rattle.table_words.specs.Places.{slot_count}
 use Rattle.table_words.specs.Seen.{put}
 use Rattle.structure_laws.specs.Meaning.{Meaning}
+use Rattle.epoch_core.specs.Moves.{is_clear}
 use Rattle.runner_parts.specs.declared.entries.Published.{Published}
-use Rattle.runner_parts.specs.declared.stage.Stage.{Stage}
-use Rattle.runner_parts.specs.declared.stage.Stage.TheVariants as stages
+use Rattle.epoch_core.specs.declared.stage.Stage.{Stage}
+use Rattle.epoch_core.specs.declared.stage.Stage.TheVariants as stages
 use Rattle.runner_parts.specs.declared.event.EventKind.{EventKind}
 use Rattle.runner_parts.specs.declared.event.EventKind.TheVariants as kinds
-use Rattle.runner_parts.specs.Lists.{without, is_old, slots_of}
+use Rattle.runner_parts.specs.Lists.{is_old, slots_of}
 use Rattle.runner_parts.specs.State.{RunState, DescriptorsState, PartState}
 use Rattle.runner_parts.specs.Tests.{has}
 use Rattle.runner_steps.specs.Asks.{ask_by, outside_ask}
-use Rattle.runner_steps.specs.Outside.{last_epoch}
+use Rattle.epoch_core.specs.State.{last_epoch}
 use Rattle.runner_steps.specs.AfterOutside as outside
 use Rattle.runner_steps.specs.After.{outside_after, after_by}
 use Rattle.machine_states.specs.Sight.{Sight}
@@ -60,7 +61,7 @@ module _ (d : ℕ) (m : Meaning) (l : Layout) (p : PartState) (found : ℕ) (fre
 
   scan : (stage : Stage) → Stays (outside.scan_one_after l p stage found)
   scan (stages.Scanning x next clear) = either (nat_le next l.runners) _ _
-      (either (next == l.runners && not ((clear && outside.is_clear x found) && nat_lt x last_epoch)) _ _
+      (either (next == l.runners && not ((clear && is_clear x found) && nat_lt x last_epoch)) _ _
       (collected x) (same _ refl)) (same _ refl)
   scan _ = same _ refl
 

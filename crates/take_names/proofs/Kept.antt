@@ -6,17 +6,14 @@ use Rattle.section_body.specs.Line.{line, micro_at}
 use Rattle.section_body.specs.Word.{value_of, version_of}
 use Rattle.section_body.specs.declared.micro.Micro.{Micro}
 use Rattle.section_body.specs.declared.thunk.Thunk.{Thunk}
-use Rattle.section_body.specs.declared.outcome.Outcome.TheVariants.{Busy}
 use Rattle.table_words.specs.declared.layout.Layout.{Layout}
-use Rattle.table_words.specs.declared.spot.Spot.{Spot}
-use Rattle.table_words.specs.declared.spot.Spot.TheVariants.{Cell, LogWord}
+use Rattle.table_words.specs.declared.spot.Spot.TheVariants.{Cell}
 use Rattle.table_words.specs.Limits.{IsWithinLimits}
-use Rattle.table_words.specs.Places.{descriptor_count}
 use Rattle.structure_laws.specs.Meaning.{Meaning}
 use Rattle.structure_laws.specs.Laws.{Laws}
-use Rattle.runner_parts.specs.declared.stage.Stage.TheVariants as stages
+use Rattle.epoch_core.specs.declared.stage.Stage.TheVariants as stages
 use Rattle.runner_parts.specs.declared.event.EventKind.{EventKind}
-use Rattle.runner_parts.specs.State.{RunState, FinishedState, PartState}
+use Rattle.runner_parts.specs.State.{FinishedState, PartState}
 use Rattle.runner_parts.specs.Tests.{has, has_pair}
 use Rattle.runner_steps.specs.Sections.{line_of, reply_in, thunk_of}
 use Rattle.machine_states.specs.Sight.{Sight}
@@ -27,7 +24,8 @@ use Rattle.runner_facts.specs.machine_invariant.proofs.Trails.{run_used}
 use Rattle.runner_facts.specs.machine_agreement.proofs.RunPlaces.{code_here}
 use Rattle.runner_facts.specs.next_steps.proofs.Reaching.{IsStep}
 use Rattle.runner_facts.specs.Names.{HasLock}
-use Rattle.runner_facts.proofs.Names.{IsNew, Says, says_after, named_lock, named_kept, reads_after, thunk_stays}
+use Rattle.runner_facts.proofs.Names.{Says, says_after, named_lock, named_kept, reads_after, thunk_stays}
+use Rattle.machine_facts.proofs.FinishedParts as finished_parts
 use Rattle.spent_facts.proofs.Kept as runs_over
 use Rattle.take_names.specs.Taken.{CommitsLock, IsAgreed, IsLoaded, IsTaken, IsSince, HasMet}
 use Rattle.take_names.proofs.Facts.{used_of, unfree_of, outer_past, finished_past, commits_lock}
@@ -174,7 +172,7 @@ module _ (m : Meaning) (laws : Laws m) (l : Layout) (limits : IsWithinLimits l) 
 
   -- what a runner keeps behind the step
   met_after : (i place word named : ℕ) (h : HasMet s' i place word named) → Says m s' h.entry place word named
-  met_after i place word named h = ⊎_elim before now (runs_over.entry m l rs s s' r kind st.step i h.by.at h.by.finished h.by.kept)
+  met_after i place word named h = ⊎_elim before now (finished_parts.entry m l rs s s' r kind st.step i h.by.at h.by.finished h.by.kept)
     where
       before : slice_get (s.part i).records.finished h.by.at ≡ Some h.by.finished → Says m s' h.entry place word named
       before kept =
@@ -186,7 +184,7 @@ module _ (m : Meaning) (laws : Laws m) (l : Layout) (limits : IsWithinLimits l) 
             names = h.names;
           }))
 
-      now : runs_over.IsNew m l rs s s' r kind st.step i h.by.finished → Says m s' h.entry place word named
+      now : finished_parts.IsNew m l rs s s' r kind st.step i h.by.finished → Says m s' h.entry place word named
       now new =
           let q = new.run in
           let used = run_used m l st.beside.agreement s st.whole.sections r q new.runs in

@@ -1,5 +1,5 @@
 -- The word by which a section leaves that finds a lock held is one that it has agreed on for a Take.
-use Rattle.std.specs.Prelude.{◌==◌, ◌&&◌, ◌⊎◌, cond, Bool, true, false, slice_index}
+use Rattle.std.specs.Prelude.{◌==◌, ◌⊎◌, cond, Bool, true, false, slice_index}
 use Rattle.std.proofs.Common.{◌≡◌, ℕ, suc, ◌<◌, List, length, refl, sym, ap, ◌∙◌, subst, ⊎_elim, inl, inr, arith, Option, Some, None}
 use Rattle.section_body.specs.Line.{micro_at, is_commit}
 use Rattle.section_body.specs.Run.{leaves, refusal, is_takable}
@@ -7,12 +7,11 @@ use Rattle.section_body.specs.Word.{version_of, held_word, is_free, is_spent}
 use Rattle.section_body.specs.declared.outcome.Outcome.{Outcome}
 use Rattle.section_body.specs.declared.outcome.Outcome.TheVariants.{Busy, Stale, Spent}
 use Rattle.section_body.specs.declared.micro.Micro.{Micro}
-use Rattle.section_body.specs.declared.micro.Micro.TheVariants.{CheckWord, CheckFresh, CheckFree, CheckHeld, NestedCommit, OutcomeCommit}
+use Rattle.section_body.specs.declared.micro.Micro.TheVariants.{CheckWord, CheckFresh, CheckFree, CheckHeld}
 use Rattle.table_words.specs.declared.layout.Layout.{Layout}
-use Rattle.table_words.specs.declared.spot.Spot.TheVariants.{LogWord}
 use Rattle.structure_laws.specs.Meaning.{Meaning}
 use Rattle.runner_parts.specs.State.{RunState}
-use Rattle.runner_steps.specs.Sections.{setting_of, outcome_or, outcome_of, line_of}
+use Rattle.runner_steps.specs.Sections.{setting_of, outcome_or, line_of}
 use Rattle.agreement_core.specs.State.{AgreementState, Section}
 use Rattle.machine_states.specs.Sight.{Sight}
 use Rattle.machine_states.proofs.Steps.{some_same, none_some}

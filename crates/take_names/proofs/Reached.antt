@@ -1,5 +1,5 @@
 -- So it is in every reached state.
-use Rattle.std.specs.Prelude.{true, false}
+use Rattle.std.specs.Prelude.{false}
 use Rattle.std.proofs.Common.{◌≡◌, ℕ, List, refl, sym, subst}
 use Rattle.map_history.specs.declared.op.Request.{Request}
 use Rattle.table_words.specs.declared.layout.Layout.{Layout}
@@ -17,7 +17,7 @@ use Rattle.machine_epochs.proofs.FirstJoin as FirstJoin
 use Rattle.runner_facts.specs.machine_invariant.specs.After.{AreAllowed}
 use Rattle.runner_facts.specs.machine_invariant.proofs.Basics.{not_both}
 use Rattle.runner_facts.specs.next_steps.proofs.Reaching.{reached_keeps}
-use Rattle.take_names.specs.Taken.{TakenStand, IsSince, HasMet}
+use Rattle.take_names.specs.Taken.{TakenStand}
 use Rattle.take_names.proofs.Kept.{AllSay, all_say}
 
 module _ (m : Meaning) (laws : Laws m) (l : Layout) (limits : IsWithinLimits l) (rs : List Request) (allowed : AreAllowed rs) where

@@ -9,7 +9,7 @@ use Rattle.table_words.specs.declared.layout.Layout.{Layout}
 use Rattle.table_words.specs.declared.spot.Spot.TheVariants.{LogWord}
 use Rattle.table_words.specs.Places.{descriptor_count}
 use Rattle.structure_laws.specs.Meaning.{Meaning}
-use Rattle.runner_parts.specs.declared.stage.Stage.TheVariants.{Entered}
+use Rattle.epoch_core.specs.declared.stage.Stage.TheVariants.{Entered}
 use Rattle.runner_parts.specs.State.{RunState, FinishedState, PartState}
 use Rattle.runner_parts.specs.Tests.{has, has_pair}
 use Rattle.runner_steps.specs.Sections.{line_of}

@@ -8,15 +8,17 @@ use Rattle.section_body.specs.declared.thunk.Thunk.{Thunk}
 use Rattle.table_words.specs.declared.layout.Layout.{Layout}
 use Rattle.table_words.specs.Places.{slot_count}
 use Rattle.structure_laws.specs.Meaning.{Meaning}
+use Rattle.epoch_core.specs.Moves.{is_clear}
 use Rattle.runner_parts.specs.declared.entries.Published.{Published}
-use Rattle.runner_parts.specs.declared.stage.Stage.{Stage}
-use Rattle.runner_parts.specs.declared.stage.Stage.TheVariants as stages
+use Rattle.epoch_core.specs.declared.stage.Stage.{Stage}
+use Rattle.epoch_core.specs.declared.stage.Stage.TheVariants as stages
 use Rattle.runner_parts.specs.declared.event.EventKind.{EventKind}
 use Rattle.runner_parts.specs.declared.event.EventKind.TheVariants as kinds
 use Rattle.runner_parts.specs.State.{RunState, FinishedState, PartState}
 use Rattle.runner_parts.specs.Lists as lists
 use Rattle.runner_steps.specs.Sections.{thunk_of, line_of, next_of}
-use Rattle.runner_steps.specs.Outside.{last_epoch, is_over}
+use Rattle.runner_steps.specs.Outside.{is_over}
+use Rattle.epoch_core.specs.State.{last_epoch}
 use Rattle.runner_steps.specs.InRun.{last_clock}
 use Rattle.runner_steps.specs.AfterInRun as inside
 use Rattle.runner_steps.specs.AfterOutside as outside
@@ -188,7 +190,7 @@ module _ (m : Meaning) (p : ℕ) where
 
     scan : (stage : Stage) → Keeps (outside.scan_one_after l y stage found)
     scan (stages.Scanning x next clear) = either (nat_le next l.runners) _ _
-        (either (next == l.runners && not ((clear && outside.is_clear x found) && nat_lt x last_epoch)) _ _ (collected x) (same _ refl refl refl)) as_is
+        (either (next == l.runners && not ((clear && is_clear x found) && nat_lt x last_epoch)) _ _ (collected x) (same _ refl refl refl)) as_is
     scan _ = as_is
 
     advance : (stage : Stage) → Keeps (outside.advance_after y stage)
