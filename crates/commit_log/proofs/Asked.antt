@@ -1,5 +1,5 @@
 -- Asking on.
-use Rattle.std.proofs.Common.{◌≡◌, ℕ, zero, suc, min, false, ◌+◌, ◌-◌, ◌^◌, ◌≤◌, Bool, true, refl, subst, ap, ◌∙◌, arith}
+use Rattle.std.proofs.Common.{◌≡◌, ℕ, zero, suc, min, ◌+◌, ◌-◌, ◌^◌, ◌≤◌, Bool, true, refl, subst, ap, ◌∙◌, arith}
 use Rattle.fault_count.specs.Rose.{Rose}
 use Rattle.commit_log.specs.Asked.{counted_on, IsAsked}
 

@@ -12,8 +12,8 @@ use Rattle.runner_parts.specs.declared.event.EventKind.TheVariants.{ScanOne}
 use Rattle.runner_parts.specs.State.{PartState, NodesState}
 use Rattle.runner_parts.specs.Tests.{has}
 use Rattle.runner_parts.specs.Lists.{is_old, slots_of, nodes_collected, descriptors_collected}
-use Rattle.runner_steps.specs.Outside.{last_epoch}
-use Rattle.runner_steps.specs.AfterOutside.{is_clear}
+use Rattle.epoch_core.specs.State.{last_epoch}
+use Rattle.epoch_core.specs.Moves.{is_clear}
 use Rattle.epoch_core.specs.Lists.{times}
 use Rattle.machine_states.specs.Sight.{part_or_first, sight}
 use Rattle.version_words.specs.machine_invariant.specs.After.{AreAllowed}

@@ -16,7 +16,7 @@ use Rattle.table_words.specs.Places.{slot_count}
 use Rattle.structure_laws.specs.Meaning.{Meaning}
 use Rattle.runner_parts.specs.declared.entries.Tested.{Tested}
 use Rattle.runner_parts.specs.declared.event.EventKind.TheVariants as kinds
-use Rattle.runner_parts.specs.declared.stage.Stage.TheVariants as stages
+use Rattle.epoch_core.specs.declared.stage.Stage.TheVariants as stages
 use Rattle.runner_parts.specs.State.{NodesState, PartState}
 use Rattle.runner_parts.specs.Tests.{has, is_resting}
 use Rattle.runner_parts.specs.Lists.{without, test_of, tests_without, slot_back, slot_tested, one_more, nodes_looked, descriptor_stored}
@@ -29,7 +29,7 @@ use Rattle.version_words.specs.Stages.{IsAt}
 use Rattle.version_words.proofs.Stages.{enabled, then_loaded_word}
 use Rattle.epoch_slots.specs.Collects.{unworn, worn_out, Looks, IsTested, AreTested}
 use Rattle.epoch_slots.specs.Hands.{looked, given_back, KeepsRest, IsLookedAt, HandIsOwn, IsBack}
-use Rattle.epoch_slots.proofs.Outside.{NotesNothing, nodes_made, descriptors_made, known_made, finished_made}
+use Rattle.epoch_slots.proofs.Outside.{nodes_made, descriptors_made, known_made, finished_made}
 
 -- one test that is kept
 test_here : (slot cells : ℕ) (worn : Bool) → test_of (record { slot = slot; cells = cells; worn = worn } ∷ []) slot ≡ record { slot = slot; cells = cells; worn = worn }
@@ -163,7 +163,6 @@ module _ {T : Type 0} (m : Meaning) where
         ap (λ (b : Bool). if b then record (r.part) { nodes = nodes_looked r.layout r.part.nodes slot cell word }
         else record (r.part) { descriptors = descriptor_stored r.part.descriptors (slot - slot_count r.layout m.fixed_slots) cell word }) within in
         let f = λ (w : ℕ). version_of w == old.layout.version_max in
-        let nothing : NotesNothing (kinds.PrivateLoad slot cell) = record { known = λ s access found spot. refl; finished = λ s access found spot. refl } in
         let resting = so.at.resting in
         record {
           words = so.words ++ word ∷ [];
@@ -178,8 +177,8 @@ module _ {T : Type 0} (m : Meaning) where
             number = ap (λ (y : RunnerState T). y.number) made.made ∙ so.rest.number;
             layout = ap (λ (y : RunnerState T). y.layout) made.made ∙ so.rest.layout;
             descriptors = descriptors_made m (kinds.PrivateLoad slot cell) word r r' made resting ∙ (ap (λ (p : PartState). p.descriptors) part ∙ so.rest.descriptors);
-            known = known_made m (kinds.PrivateLoad slot cell) word r r' made resting nothing ∙ (ap (λ (p : PartState). p.records.known) part ∙ so.rest.known);
-            finished = finished_made m (kinds.PrivateLoad slot cell) word r r' made resting nothing ∙ (ap (λ (p : PartState). p.records.finished) part ∙ so.rest.finished);
+            known = known_made m (kinds.PrivateLoad slot cell) word r r' made resting ∙ (ap (λ (p : PartState). p.records.known) part ∙ so.rest.known);
+            finished = finished_made m (kinds.PrivateLoad slot cell) word r r' made resting ∙ (ap (λ (p : PartState). p.records.finished) part ∙ so.rest.finished);
           };
         }
 

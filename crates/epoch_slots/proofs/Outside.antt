@@ -1,33 +1,16 @@
 -- What a step of a runner in no run makes of its own slots and of what it knows.
-use Rattle.std.proofs.Common.{◌≡◌, ℕ, ap, ◌∙◌, refl, Bool, true, false, Option, None}
-use Rattle.std.specs.Prelude.{◌==◌, if◌then◌else◌}
-use Rattle.table_words.specs.declared.spot.Spot.{Spot}
-use Rattle.table_words.specs.declared.access.Access.{Access}
-use Rattle.table_words.specs.Access.{written}
+use Rattle.std.proofs.Common.{◌≡◌, ℕ, ap, ◌∙◌, Option, None}
 use Rattle.structure_laws.specs.Meaning.{Meaning}
 use Rattle.runner_parts.specs.declared.event.EventKind.{EventKind}
 use Rattle.runner_parts.specs.State.{RunState, PartState, NodesState, DescriptorsState, ReadsState, RecordsState}
-use Rattle.runner_steps.specs.After.{outside_after, after_by, left_more, tallied}
+use Rattle.runner_steps.specs.After.{outside_after, after_by}
 use Rattle.version_words.specs.RunnerState.{RunnerState}
 use Rattle.version_words.specs.Events.{Makes}
 use Rattle.epoch_slots.specs.Entries.{KeepsOwn}
 
-either : {A : Type 0} (f : RecordsState → A) (b : Bool) (s t : RecordsState) (a : A) → f s ≡ a → f t ≡ a → f (if b then s else t) ≡ a
-either f true s t a one two = one
-either f false s t a one two = two
-
--- what is noted of a step of this kind changes neither what is known nor what was run to its end
-pub record NotesNothing (k : EventKind) : Type 0 where
-  pub known : (s : RecordsState) (access : Access) (found : ℕ) (spot : Spot) → (left_more (tallied access found s) k spot (written access found)).known ≡ s.known
-  pub finished : (s : RecordsState) (access : Access) (found : ℕ) (spot : Spot) → (left_more (tallied access found s) k spot (written access found)).finished ≡ s.finished
-
 module _ {T : Type 0} (m : Meaning) (k : EventKind) (found : ℕ) (r r' : RunnerState T) (made : Makes m k found r r') (resting : r.part.run ≡ None) where
   abbrev next : PartState
   next = outside_after m r.layout k r.part found
-
-  -- the records before the step is noted
-  abbrev before : RecordsState
-  before = (after_by m r.layout k r.part r.part.run found).records
 
   pub nodes_made : r'.part.nodes ≡ next.nodes
   nodes_made = ap (λ (y : RunnerState T). y.part.nodes) made.made ∙ ap (λ (o : Option RunState). (after_by m r.layout k r.part o found).nodes) resting
@@ -39,26 +22,22 @@ module _ {T : Type 0} (m : Meaning) (k : EventKind) (found : ℕ) (r r' : Runner
   pub reads_made : r'.part.reads ≡ next.reads
   reads_made = ap (λ (y : RunnerState T). y.part.reads) made.made ∙ ap (λ (o : Option RunState). (after_by m r.layout k r.part o found).reads) resting
 
-  pub known_made : NotesNothing k → r'.part.records.known ≡ next.records.known
-  known_made nothing = ap (λ (y : RunnerState T). y.part.records.known) made.made
-      ∙ (either (λ s. s.known) (r.number == r.layout.runners) (left_more (tallied made.met.1 found before) k made.met.0 (written made.met.1 found))
-      (tallied made.met.1 found before) before.known (nothing.known before made.met.1 found made.met.0) refl
-      ∙ ap (λ (o : Option RunState). (after_by m r.layout k r.part o found).records.known) resting)
+  pub known_made : r'.part.records.known ≡ next.records.known
+  known_made = ap (λ (y : RunnerState T). y.part.records.known) made.made
+      ∙ ap (λ (o : Option RunState). (after_by m r.layout k r.part o found).records.known) resting
 
-  pub finished_made : NotesNothing k → r'.part.records.finished ≡ next.records.finished
-  finished_made nothing = ap (λ (y : RunnerState T). y.part.records.finished) made.made
-      ∙ (either (λ s. s.finished) (r.number == r.layout.runners) (left_more (tallied made.met.1 found before) k made.met.0 (written made.met.1 found))
-      (tallied made.met.1 found before) before.finished (nothing.finished before made.met.1 found made.met.0) refl
-      ∙ ap (λ (o : Option RunState). (after_by m r.layout k r.part o found).records.finished) resting)
+  pub finished_made : r'.part.records.finished ≡ next.records.finished
+  finished_made = ap (λ (y : RunnerState T). y.part.records.finished) made.made
+      ∙ ap (λ (o : Option RunState). (after_by m r.layout k r.part o found).records.finished) resting
 
   -- where the step makes nothing of the own slots and of the records
-  pub own_kept : NotesNothing k → next.nodes ≡ r.part.nodes → next.descriptors ≡ r.part.descriptors → next.records ≡ r.part.records → KeepsOwn r r'
-  own_kept nothing nodes descriptors records = record {
+  pub own_kept : next.nodes ≡ r.part.nodes → next.descriptors ≡ r.part.descriptors → next.records ≡ r.part.records → KeepsOwn r r'
+  own_kept nodes descriptors records = record {
     number = ap (λ (y : RunnerState T). y.number) made.made;
     nodes = nodes_made ∙ nodes;
     descriptors = descriptors_made ∙ descriptors;
-    known = known_made nothing ∙ ap (λ (s : RecordsState). s.known) records;
-    finished = finished_made nothing ∙ ap (λ (s : RecordsState). s.finished) records;
+    known = known_made ∙ ap (λ (s : RecordsState). s.known) records;
+    finished = finished_made ∙ ap (λ (s : RecordsState). s.finished) records;
   }
 
 pub own_kept_on : {T : Type 0} (a b c : RunnerState T) → KeepsOwn a b → KeepsOwn b c → KeepsOwn a c

@@ -5,13 +5,14 @@ use Rattle.std.specs.List.{list_all}
 use Rattle.std.proofs.lemmas.Bool.Decides.{nat_tests}
 use Rattle.table_words.specs.declared.layout.Layout.{Layout}
 use Rattle.structure_laws.specs.Meaning.{Meaning}
+use Rattle.epoch_core.specs.Moves.{is_clear}
 use Rattle.runner_parts.specs.declared.event.EventKind.TheVariants as kinds
-use Rattle.runner_parts.specs.declared.stage.Stage.{Stage}
-use Rattle.runner_parts.specs.declared.stage.Stage.TheVariants as stages
+use Rattle.epoch_core.specs.declared.stage.Stage.{Stage}
+use Rattle.epoch_core.specs.declared.stage.Stage.TheVariants as stages
 use Rattle.runner_parts.specs.State.{PartState}
 use Rattle.runner_parts.specs.Lists.{nodes_collected, descriptors_collected}
-use Rattle.runner_steps.specs.Outside.{last_epoch}
-use Rattle.runner_steps.specs.AfterOutside.{is_clear, collected, with_stage, scan_one_after, advance_after}
+use Rattle.epoch_core.specs.State.{last_epoch}
+use Rattle.runner_steps.specs.AfterOutside.{collected, with_stage, scan_one_after, advance_after}
 use Rattle.version_words.specs.RunnerState.{RunnerState}
 use Rattle.version_words.specs.TableState.{TableState, IsOf}
 use Rattle.version_words.specs.Events.{IsEnabled, Makes, Tries}
@@ -19,7 +20,7 @@ use Rattle.version_words.specs.Stages.{IsAt, stage_scanned}
 use Rattle.version_words.proofs.Stages.{may_scan_one, may_advance, then_scanned, then_advanced, scanned_on, scanned_over, scanned_more}
 use Rattle.epoch_slots.specs.Entries.{KeepsOwn}
 use Rattle.epoch_slots.specs.Collects.{Scans, Advances, HasScanned, EndsScan}
-use Rattle.epoch_slots.proofs.Outside.{NotesNothing, nodes_made, descriptors_made, known_made, finished_made, own_kept, own_kept_on}
+use Rattle.epoch_slots.proofs.Outside.{nodes_made, descriptors_made, known_made, finished_made, own_kept, own_kept_on}
 
 false_true : false ≡ true → ⊥
 false_true e = cc
@@ -91,7 +92,7 @@ module _ {T : Type 0} (m : Meaning) where
             each = length-append so.found (found ∷ []) ∙ (let e = so.each in omega (arith, e));
             told = ap (λ b. b && is_clear epoch found) so.told ∙ sym (clear_more epoch so.found found);
             at = subst (λ (y : Stage). IsAt r' y None) (scanned_more r.layout epoch next clear found low) (then_scanned m found r r' None epoch next clear made so.at (omega (arith, low)));
-            keeps = own_kept_on old r r' so.keeps (own_kept m (kinds.ScanOne next) found r r' made so.at.resting (record { known = λ s access found spot. refl; finished = λ s access found spot. refl })
+            keeps = own_kept_on old r r' so.keeps (own_kept m (kinds.ScanOne next) found r r' made so.at.resting
                 (ap (λ (p : PartState). p.nodes) part) (ap (λ (p : PartState). p.descriptors) part) (ap (λ (p : PartState). p.records) part));
           }
 
@@ -103,7 +104,6 @@ module _ {T : Type 0} (m : Meaning) where
         pub ends_without : (clear && is_clear epoch found) && nat_lt epoch last_epoch ≡ false → EndsScan m next epoch clear r r'
         ends_without over =
             let part : scan_one_after r.layout r.part r.part.stage found ≡ collected r.part epoch = ap (λ (y : Stage). scan_one_after r.layout r.part y found) at.at ∙ part_over r.layout r.part epoch next clear found here over in
-            let nothing : NotesNothing (kinds.ScanOne next) = record { known = λ s access found spot. refl; finished = λ s access found spot. refl } in
             record {
               found = found;
               reached = epoch;
@@ -114,8 +114,8 @@ module _ {T : Type 0} (m : Meaning) where
               descriptors = descriptors_made m (kinds.ScanOne next) found r r' made at.resting ∙ ap (λ (p : PartState). p.descriptors) part;
               at = subst (λ (y : Stage). IsAt r' y None) (scanned_over r.layout epoch next clear found here over) (then_scanned m found r r' None epoch next clear made at (omega (arith, here)));
               number = ap (λ (y : RunnerState T). y.number) made.made;
-              known = known_made m (kinds.ScanOne next) found r r' made at.resting nothing ∙ ap (λ (p : PartState). p.records.known) part;
-              finished = finished_made m (kinds.ScanOne next) found r r' made at.resting nothing ∙ ap (λ (p : PartState). p.records.finished) part;
+              known = known_made m (kinds.ScanOne next) found r r' made at.resting ∙ ap (λ (p : PartState). p.records.known) part;
+              finished = finished_made m (kinds.ScanOne next) found r r' made at.resting ∙ ap (λ (p : PartState). p.records.finished) part;
               shown = record { world = made.shown.world; reached = made.shown.reached; own = made.shown.own };
             }
 
@@ -136,8 +136,6 @@ module _ {T : Type 0} (m : Meaning) where
               ap (λ (y : Stage). scan_one_after r.layout r.part y found) at.at ∙ part_on r.layout r.part epoch next clear found here may in
               let on : nat_lt epoch last_epoch ≡ true = grind (arith, nat_tests, low) in
               let over : advance_after r'.part r'.part.stage ≡ collected r'.part (epoch + 1) = ap (advance_after r'.part) past.at ∙ ap (λ (b : Bool). if b then collected r'.part (epoch + 1) else r'.part) on in
-              let scanning : NotesNothing (kinds.ScanOne next) = record { known = λ s access found spot. refl; finished = λ s access found spot. refl } in
-              let advancing : NotesNothing kinds.Advance = record { known = λ s access found spot. refl; finished = λ s access found spot. refl } in
               record {
                 found = found;
                 reached = epoch + 1;
@@ -150,9 +148,9 @@ module _ {T : Type 0} (m : Meaning) where
                     ∙ ap (descriptors_collected (epoch + 1)) (descriptors_made m (kinds.ScanOne next) found r r' made at.resting ∙ ap (λ (p : PartState). p.descriptors) part));
                 at = then_advanced m tried.found r' r'' None epoch (next + 1) tried.event past low;
                 number = ap (λ (y : RunnerState T). y.number) tried.event.made ∙ ap (λ (y : RunnerState T). y.number) made.made;
-                known = known_made m kinds.Advance tried.found r' r'' tried.event past.resting advancing ∙ (ap (λ (p : PartState). p.records.known) over
-                    ∙ (known_made m (kinds.ScanOne next) found r r' made at.resting scanning ∙ ap (λ (p : PartState). p.records.known) part));
-                finished = finished_made m kinds.Advance tried.found r' r'' tried.event past.resting advancing ∙ (ap (λ (p : PartState). p.records.finished) over
-                    ∙ (finished_made m (kinds.ScanOne next) found r r' made at.resting scanning ∙ ap (λ (p : PartState). p.records.finished) part));
+                known = known_made m kinds.Advance tried.found r' r'' tried.event past.resting ∙ (ap (λ (p : PartState). p.records.known) over
+                    ∙ (known_made m (kinds.ScanOne next) found r r' made at.resting ∙ ap (λ (p : PartState). p.records.known) part));
+                finished = finished_made m kinds.Advance tried.found r' r'' tried.event past.resting ∙ (ap (λ (p : PartState). p.records.finished) over
+                    ∙ (finished_made m (kinds.ScanOne next) found r r' made at.resting ∙ ap (λ (p : PartState). p.records.finished) part));
                 shown = record { world = tried.event.shown.world; reached = tried.event.shown.reached; own = tried.event.shown.own };
               }

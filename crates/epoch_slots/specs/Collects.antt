@@ -4,11 +4,11 @@ use Rattle.std.specs.List.{filter, list_any, list_all}
 use Rattle.section_body.specs.Word.{version_of}
 use Rattle.structure_laws.specs.Meaning.{Meaning}
 use Rattle.runner_parts.specs.declared.event.EventKind.TheVariants as kinds
-use Rattle.runner_parts.specs.declared.stage.Stage.TheVariants as stages
+use Rattle.epoch_core.specs.declared.stage.Stage.TheVariants as stages
 use Rattle.runner_parts.specs.State.{NodesState}
 use Rattle.runner_parts.specs.Lists.{is_old, slots_of, nodes_collected, descriptors_collected}
-use Rattle.runner_steps.specs.Outside.{last_epoch}
-use Rattle.runner_steps.specs.AfterOutside.{is_clear}
+use Rattle.epoch_core.specs.State.{last_epoch}
+use Rattle.epoch_core.specs.Moves.{is_clear}
 use Rattle.version_words.specs.RunnerState.{RunnerState}
 use Rattle.machine_states.specs.World.{World, seat_of}
 use Rattle.machine_states.specs.Reached.{Reached}

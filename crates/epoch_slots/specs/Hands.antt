@@ -4,7 +4,7 @@ use Rattle.std.specs.List.{list_any}
 use Rattle.section_body.specs.Word.{version_of}
 use Rattle.table_words.specs.Places.{slot_count}
 use Rattle.structure_laws.specs.Meaning.{Meaning}
-use Rattle.runner_parts.specs.declared.stage.Stage.TheVariants as stages
+use Rattle.epoch_core.specs.declared.stage.Stage.TheVariants as stages
 use Rattle.runner_parts.specs.State.{NodesState}
 use Rattle.runner_parts.specs.Tests.{has}
 use Rattle.runner_parts.specs.Lists.{slot_back}

@@ -1,15 +1,15 @@
 //! The scan of the announcements, and what comes out of limbo.
 ghost use Rattle.std.specs.Prelude.{◌≡◌, ◌+◌, ◌<◌, ◌≤◌, ◌&&◌, nat_lt, length, None};
-ghost use Rattle.runner_parts.specs.declared.stage.Stage.TheVariants as stages;
-ghost use Rattle.runner_steps.specs.Outside.{last_epoch};
-ghost use Rattle.runner_steps.specs.AfterOutside.{is_clear};
+ghost use Rattle.epoch_core.specs.declared.stage.Stage.TheVariants as stages;
+ghost use Rattle.epoch_core.specs.State.{last_epoch};
+ghost use Rattle.epoch_core.specs.Moves.{is_clear};
 ghost use Rattle.version_words.specs.TableState.{IsOf};
 ghost use Rattle.version_words.specs.Stages.{IsAt};
 ghost use Rattle.epoch_slots.specs.Collects.{IsTidy, Collects, HasScanned, EndsScan};
 
 use crate::hand::look_back;
+use epoch_core::LAST_EPOCH;
 use runner_parts::Structure;
-use runner_steps::LAST_EPOCH;
 use version_words::{FlockTable, Runner, table_is_allowed};
 
 /// Whether each announcement so far was idle or the epoch.

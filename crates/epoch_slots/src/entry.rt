@@ -1,6 +1,6 @@
 //! Entering and leaving.
 ghost use Rattle.std.specs.Prelude.{◌≡◌, None};
-ghost use Rattle.runner_parts.specs.declared.stage.Stage.TheVariants as stages;
+ghost use Rattle.epoch_core.specs.declared.stage.Stage.TheVariants as stages;
 ghost use Rattle.version_words.specs.TableState.{IsOf};
 ghost use Rattle.version_words.specs.Stages.{IsAt};
 ghost use Rattle.epoch_slots.specs.Entries.{HasLeave, Enters, Exits};

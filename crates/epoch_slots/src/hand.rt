@@ -1,7 +1,7 @@
 //! The node slots that came out of limbo, looked at and given back.
 ghost use Rattle.std.specs.Prelude.{◌≡◌, ℕ, ◌<◌, [], true, length, None};
 ghost use Rattle.table_words.specs.Places.{slot_count};
-ghost use Rattle.runner_parts.specs.declared.stage.Stage.TheVariants as stages;
+ghost use Rattle.epoch_core.specs.declared.stage.Stage.TheVariants as stages;
 ghost use Rattle.runner_parts.specs.Tests.{has};
 ghost use Rattle.version_words.specs.TableState.{IsOf};
 ghost use Rattle.version_words.specs.Stages.{IsAt};

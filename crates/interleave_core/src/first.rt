@@ -5,7 +5,8 @@ ghost use Rattle.table_words.specs.Places.{size};
 ghost use Rattle.structure_laws.specs.Cells.{first_word};
 ghost use Rattle.machine_states.specs.First.{falling, IsFilled, first_part, keeper_part, worker_part, workers};
 
-use runner_parts::{Descriptors, Nodes, Part, Reads, Records, Stage, Structure};
+use epoch_core::Stage;
+use runner_parts::{Descriptors, Nodes, Part, Reads, Records, Structure};
 use section_body::{Place, Word};
 use std::alloc::{AllocError, Global};
 use table_words::{Layout, Sizes, Spot, set_word};
@@ -88,6 +89,9 @@ fn first_part(alloc: Global, nodes: Vec<u32>, descriptors: Vec<u32>) -> Part
             finished: Vec::new(alloc),
             events: 0,
             won: 0,
+            epoch_seen: 0,
+            crossed: false,
+            crosses: false,
             left: Vec::new(alloc),
             splits: 0,
             joined: Vec::new(alloc),

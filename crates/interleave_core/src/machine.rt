@@ -53,9 +53,15 @@ impl<S: Structure> Model for Machine<S> {
 
     ghost Value = { MachineState S };
 
-    ghost view = { λ a. record { structure = a.structure; layout = a.layout; requests = a.requests.items; world = record { words = a.words.items; parts = a.parts.items } } };
+    ghost view = { λ a. record {
+      structure = a.structure;
+      layout = a.layout;
+      requests = a.requests.items;
+      world = record { words = a.words.items; parts = a.parts.items };
+    } };
 
-    ghost invariant = { λ a. HasShape (S.meaning a.structure) a.layout a.requests.items (record { words = a.words.items; parts = a.parts.items }) };
+    ghost invariant = { λ a. HasShape (S.meaning a.structure) a.layout a.requests.items
+        (record { words = a.words.items; parts = a.parts.items }) };
 }
 
 /// Where a runner's part stands: the keeper's first, then the workers' in order.
@@ -81,7 +87,8 @@ fn part_after<S: Structure>(
     found: u64,
 ) -> Result<Part, AllocError>
     requires { IsWithinLimits layout }
-    ensures { IfOk result (λ x. x ≡ after (S.meaning structure.now) layout event.now.runner event.now.kind spot access part.now found) }
+    ensures { IfOk result (λ x.
+        x ≡ after (S.meaning structure.now) layout event.now.runner event.now.kind spot access part.now found) }
 {
     let mut next = part_copy(alloc, part)?;
     after(
@@ -165,13 +172,18 @@ impl<S: Structure> Machine<S> {
     /// argument, and names the kinds of step that it may make. `Memory` is want of memory for the runner's
     /// lists.
     pub fn step(&mut self, event: Event) -> Result<(), StepError>
-        ensures event { OnOk result (happens (S.meaning self.old.structure) self.old.layout self.old.requests self.old.world event ≡ Some self.new.world) }
+        ensures event { OnOk result (
+            happens (S.meaning self.old.structure) self.old.layout self.old.requests self.old.world event ≡ Some self.new.world) }
         ensures refused { (enabled : ℕ) → result ≡ Err (NotEnabled enabled)
             → happens (S.meaning self.old.structure) self.old.layout self.old.requests self.old.world event ≡ None }
-        ensures refuses { happens (S.meaning self.old.structure) self.old.layout self.old.requests self.old.world event ≡ None → (enabled : ℕ) × (result ≡ Err (NotEnabled enabled)) }
+        ensures refuses { happens (S.meaning self.old.structure) self.old.layout self.old.requests self.old.world event ≡ None
+            → (enabled : ℕ) × (result ≡ Err (NotEnabled enabled)) }
         ensures kinds { (enabled : ℕ) → result ≡ Err (NotEnabled enabled)
-            → NamesEnabled (S.meaning self.old.structure) self.old.layout self.old.requests self.old.world event.runner enabled }
-        ensures reached { OnOk result (Reached (S.meaning self.old.structure) self.old.layout self.old.requests self.old.world → Reached (S.meaning self.old.structure) self.old.layout self.old.requests self.new.world) }
+            → NamesEnabled (S.meaning self.old.structure) self.old.layout self.old.requests self.old.world
+            event.runner enabled }
+        ensures reached { OnOk result (
+            Reached (S.meaning self.old.structure) self.old.layout self.old.requests self.old.world
+            → Reached (S.meaning self.old.structure) self.old.layout self.old.requests self.new.world) }
         ensures err { OnErr result (self.new ≡ self.old) }
         ensures fixed { IsSameTable self.old self.new }
     {

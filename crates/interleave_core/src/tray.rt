@@ -1,5 +1,5 @@
 //! A structure for tests: a lock, a number and a link.
-ghost use Rattle.std.specs.Prelude.{◌≡◌, ◌<◌, refl, false};
+ghost use Rattle.std.specs.Prelude.{◌≡◌, ◌<◌, refl, false, length};
 ghost use Rattle.structure_laws.specs.Tray.{tray, body_of, Number, Link, Unlink, Other};
 ghost use Rattle.section_body.specs.Word.{value_of};
 ghost use Rattle.structure_laws.proofs.TrayLaws.{tray_laws};
@@ -14,10 +14,30 @@ use table_words::Layout;
 #[derive(Clone, Copy, Debug, PartialEq, Eq)]
 pub struct Tray;
 
-/// What a number's form does: it stores the number at place 1.
+/// What a number's form does, written over the five steps of a body.
+fn renew_number(operand: Word, steps: &mut [Step])
+    requires { length steps.old ≡ 5 }
+    ensures { steps.new ≡ body_of Number operand }
+{
+    steps[0] = Step::Load { place: 1, into: 0 };
+    steps[1] = Step::Fresh { reg: 0 };
+    steps[2] = Step::Stamp;
+    steps[3] = Step::Store {
+        reg: 0,
+        value: Value::Const(operand.value()),
+    };
+    steps[4] = Step::Answer { reply: 4294967296 };
+}
+
+/// What a number's form does: it stores the number at place 1. A body that has five steps is written over, which is cheaper than to
+/// clear it and to copy five others into it.
 fn fill_number(operand: Word, body: &mut Body)
     ensures { body.new ≡ body_of Number operand }
 {
+    if body.steps.len() == 5 {
+        renew_number(operand, body.steps.as_mut_slice());
+        return;
+    }
     body.refill(&[
         Step::Load { place: 1, into: 0 },
         Step::Fresh { reg: 0 },

@@ -1,14 +1,12 @@
 -- What a plan of the worker's next request gives to the publication of its section, and this to its run.
 use Rattle.std.proofs.Common.{◌≡◌, ℕ, ◌≤◌, ◌++◌, length, true, refl, sym, ap, subst, ◌∙◌, Some, None}
-use Rattle.std.specs.Prelude.{◌==◌, ◌&&◌, not, slice_get}
+use Rattle.std.specs.Prelude.{◌&&◌, not, slice_get}
 use Rattle.map_history.specs.declared.op.Request.{Request}
 use Rattle.section_body.specs.Word.{is_spent}
 use Rattle.section_body.specs.declared.thunk.Thunk.{Thunk}
-use Rattle.table_words.specs.declared.layout.Layout.{Layout}
 use Rattle.structure_laws.specs.Meaning.{Meaning}
 use Rattle.runner_parts.specs.State.{DescriptorsState, NodesState, ReadsState}
 use Rattle.runner_parts.specs.Tests.{has_pair, is_next, serves}
-use Rattle.runner_steps.specs.Outside.{is_due}
 use Rattle.try_lock.specs.version_words.specs.RunnerState.{RunnerState}
 use Rattle.try_lock.specs.epoch_slots.specs.Entries.{Enters}
 use Rattle.try_lock.specs.declared.planned.Planned.{Planned}

@@ -1,6 +1,6 @@
 -- What a worker has that has read a lock.
 use Rattle.std.proofs.Common.{◌≡◌, ℕ, ◌-◌, ◌≤◌, List, length, [], ◌∷◌, ◌++◌, Bool, true, false, refl, sym, ap, subst, ◌∙◌, arith, Some, None}
-use Rattle.std.specs.Prelude.{◌==◌, ◌&&◌, ◌||◌, if◌then◌else◌}
+use Rattle.std.specs.Prelude.{◌==◌, ◌||◌, if◌then◌else◌}
 use Rattle.std.proofs.lemmas.Bool.Decides.{nat_tests}
 use Rattle.section_body.specs.Word.{value_of}
 use Rattle.structure_laws.specs.Meaning.{Meaning}
@@ -13,7 +13,7 @@ use Rattle.try_lock.specs.version_words.specs.Events.{Makes}
 use Rattle.try_lock.specs.version_words.specs.Naming.{load_of}
 use Rattle.try_lock.specs.version_words.proofs.Stages.{then_loaded_cell}
 use Rattle.try_lock.specs.epoch_slots.specs.Entries.{Enters}
-use Rattle.try_lock.specs.epoch_slots.proofs.Outside.{NotesNothing, nodes_made, descriptors_made, reads_made, known_made}
+use Rattle.try_lock.specs.epoch_slots.proofs.Outside.{nodes_made, descriptors_made, reads_made, known_made}
 use Rattle.lock_walks.specs.runner_facts.proofs.Names.{pair_last}
 use Rattle.lock_rows.specs.Workers.{IsReady, HasRead}
 
@@ -31,7 +31,6 @@ module _ {T : Type 0} (m : Meaning) where
   then_read idle entered r number place word lock ready enters made =
       let resting = enters.at.resting in
       let load : Makes m (kinds.LoadCell (Some place)) word entered r = subst (λ o. Makes m (load_of o place) word entered r) resting made in
-      let nothing : NotesNothing (kinds.LoadCell (Some place)) = record { known = λ s access found spot. refl; finished = λ s access found spot. refl } in
       let reads = reads_made m (kinds.LoadCell (Some place)) word entered r load resting in
       let nodes : r.part.nodes ≡ idle.part.nodes = nodes_made m (kinds.LoadCell (Some place)) word entered r load resting ∙ enters.keeps.nodes in
       let descriptors : r.part.descriptors ≡ idle.part.descriptors = descriptors_made m (kinds.LoadCell (Some place)) word entered r load resting ∙ enters.keeps.descriptors in
@@ -42,7 +41,7 @@ module _ {T : Type 0} (m : Meaning) where
         names = λ some. ap (λ (s : ReadsState). has s.held (value_of word - 1)) reads
             ∙ (ap (λ b. has (entered.part.reads.held ++ (if b then named_by word else [])) (value_of word - 1)) lock
             ∙ (ap (λ b. has (entered.part.reads.held ++ (if b then [] else (value_of word - 1) ∷ [])) (value_of word - 1)) some ∙ has_last entered.part.reads.held (value_of word - 1)));
-        knows = known_made m (kinds.LoadCell (Some place)) word entered r load resting nothing ∙ (enters.keeps.known ∙ ready.fresh.knows);
+        knows = known_made m (kinds.LoadCell (Some place)) word entered r load resting ∙ (enters.keeps.known ∙ ready.fresh.knows);
         reserve = record {
           nodes = subst (λ (n : NodesState). 2 ≤ length n.free) (sym nodes) ready.reserve.nodes;
           descriptors = subst (λ (d : DescriptorsState). 1 ≤ length d.free) (sym descriptors) ready.reserve.descriptors;

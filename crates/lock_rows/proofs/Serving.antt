@@ -1,17 +1,16 @@
 -- What a worker knows of requests, from one to the next.
 use Rattle.std.specs.Prelude.{◌==◌, ◌&&◌, ◌||◌, ◌%◌, cond, not, nat_lt, slice_get, if◌then◌else◌}
-use Rattle.std.specs.List.{list_all}
-use Rattle.std.proofs.Common.{◌≡◌, ◌≢◌, ℕ, zero, suc, ◌+◌, ◌<◌, ◌≤◌, List, [], ◌∷◌, ◌++◌, Bool, true, false, refl, sym, ap, subst, ◌∙◌, arith, ⊎_elim, Some, None}
+use Rattle.std.proofs.Common.{◌≡◌, ◌≢◌, ℕ, zero, suc, ◌+◌, ◌<◌, List, [], ◌∷◌, ◌++◌, Bool, true, false, refl, sym, ap, ◌∙◌, arith, ⊎_elim, Some, None}
 use Rattle.std.proofs.lemmas.Bool.{cases_eq}
 use Rattle.std.proofs.lemmas.Bool.Decides.{nat_tests}
 use Rattle.map_history.specs.declared.op.Request.{Request}
 use Rattle.structure_laws.specs.Meaning.{Meaning}
 use Rattle.runner_parts.specs.declared.entries.Known.{Known}
 use Rattle.runner_parts.specs.declared.event.EventKind.TheVariants as kinds
-use Rattle.runner_parts.specs.declared.stage.Stage.TheVariants as stages
+use Rattle.epoch_core.specs.declared.stage.Stage.TheVariants as stages
 use Rattle.runner_parts.specs.Lists.{learned}
-use Rattle.runner_parts.specs.State.{NodesState, RecordsState}
-use Rattle.runner_parts.specs.Tests.{knows, is_answered, are_answered, is_next}
+use Rattle.runner_parts.specs.State.{NodesState}
+use Rattle.runner_parts.specs.Tests.{knows, is_answered, are_answered}
 use Rattle.machine_states.proofs.Steps.{some_same, none_some}
 use Rattle.try_lock.specs.version_words.specs.RunnerState.{RunnerState}
 use Rattle.try_lock.specs.version_words.specs.Events.{Makes}
@@ -53,7 +52,7 @@ still_known (x ∷ known) more number reply e = on (x.request == number && cond 
 
 module _ {T : Type 0} (m : Meaning) (number : ℕ) (reply : Bool) (found : ℕ) (r r' : RunnerState T) (made : Makes m (kinds.LoadEntry number reply) found r r') (tidy : IsTidy r) where
   loaded_known : r'.part.records.known ≡ (learned r.part.records number reply found).known
-  loaded_known = known_made m (kinds.LoadEntry number reply) found r r' made tidy.at.resting (record { known = λ s access f spot. refl; finished = λ s access f spot. refl })
+  loaded_known = known_made m (kinds.LoadEntry number reply) found r r' made tidy.at.resting
 
   -- after the load of a request's word
   pub loaded_tidy : IsTidy r'

@@ -1,9 +1,9 @@
 -- Where no lock within the table is held, none is.
 use Rattle.std.specs.Prelude.{◌==◌, ◌&&◌, not, cond, nat_lt, slice_index}
-use Rattle.std.proofs.Common.{◌≡◌, ℕ, ◌+◌, ◌*◌, ◌<◌, ◌≤◌, Bool, true, false, refl, sym, ap, subst, ◌∙◌, arith, ⊎_elim}
+use Rattle.std.proofs.Common.{◌≡◌, ℕ, ◌+◌, ◌<◌, ◌≤◌, Bool, true, false, refl, sym, ap, subst, arith}
 use Rattle.std.proofs.lemmas.Bool.Decides.{nat_tests}
-use Rattle.section_body.specs.Word.{value_of, is_free}
-use Rattle.table_words.specs.Places.{slot_count, address}
+use Rattle.section_body.specs.Word.{value_of}
+use Rattle.table_words.specs.Places.{address}
 use Rattle.table_words.specs.declared.spot.Spot.TheVariants.{Cell}
 use Rattle.table_words.specs.Seen.{blank}
 use Rattle.structure_laws.specs.Meaning.{Meaning}

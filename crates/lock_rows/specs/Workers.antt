@@ -1,9 +1,9 @@
 -- Workers on their way to a section and through it.
-use Rattle.std.specs.Prelude.{◌≡◌, ℕ, ◌-◌, ◌≤◌, [], true, false, length, None}
+use Rattle.std.specs.Prelude.{◌≡◌, ℕ, ◌-◌, [], true, false, None}
 use Rattle.section_body.specs.Word.{value_of, is_free}
 use Rattle.section_body.specs.declared.thunk.Thunk.{Thunk}
 use Rattle.structure_laws.specs.Meaning.{Meaning}
-use Rattle.runner_parts.specs.declared.stage.Stage.TheVariants as stages
+use Rattle.epoch_core.specs.declared.stage.Stage.TheVariants as stages
 use Rattle.runner_parts.specs.Tests.{has, has_pair}
 use Rattle.try_lock.specs.version_words.specs.RunnerState.{RunnerState}
 use Rattle.try_lock.specs.version_words.specs.Stages.{IsAt}

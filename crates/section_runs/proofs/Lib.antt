@@ -1,3 +1,4 @@
+pub mod Apart
 pub mod Records
 pub mod Staying
 pub mod Opening

@@ -8,7 +8,6 @@ use Rattle.section_body.specs.Run.{written_once}
 use Rattle.table_words.specs.declared.layout.Layout.{Layout}
 use Rattle.table_words.specs.declared.spot.Spot.{Spot}
 use Rattle.table_words.specs.declared.access.Access.{Access}
-use Rattle.table_words.specs.Access.{written}
 use Rattle.structure_laws.specs.Meaning.{Meaning}
 use Rattle.runner_parts.specs.declared.event.EventKind.{EventKind}
 use Rattle.runner_parts.specs.declared.event.EventKind.TheVariants as kinds
@@ -18,33 +17,17 @@ use Rattle.runner_parts.specs.Lists.{learned, cell_read}
 use Rattle.runner_steps.specs.InRun.{make_slot, last_clock, stamp_after}
 use Rattle.runner_steps.specs.Sections.{thunk_of, next_of}
 use Rattle.runner_steps.specs.AfterInRun as inside
-use Rattle.runner_steps.specs.After.{line_after, counted, left_more, tallied, noted}
+use Rattle.runner_steps.specs.After.{line_after, counted, noted}
 use Rattle.machine_states.proofs.Steps.{some_same}
 use Rattle.idem_cell.specs.next_steps.specs.Steps.{slot_in, kind_at}
 use Rattle.section_runs.specs.Opened.{Learns}
 
-left_known : (s : RecordsState) (kind : EventKind) (spot : Spot) (n : ℕ) → (left_more s kind spot n).known ≡ s.known
-left_known s (kinds.Join worker) spot n = refl
-left_known s _ spot n = refl
-
-left_events : (s : RecordsState) (kind : EventKind) (spot : Spot) (n : ℕ) → (left_more s kind spot n).events ≡ s.events
-left_events s (kinds.Join worker) spot n = refl
-left_events s _ spot n = refl
-
 module _ (l : Layout) (r : ℕ) (kind : EventKind) (spot : Spot) (access : Access) (n : ℕ) (s : RecordsState) where
   pub noted_known : (noted l r kind spot access n s).known ≡ s.known
-  noted_known = by (r == l.runners)
-    where
-      by : (b : Bool) → (if b then left_more (tallied access n s) kind spot (written access n) else tallied access n s).known ≡ s.known
-      by true = left_known (tallied access n s) kind spot (written access n)
-      by false = refl
+  noted_known = refl
 
   pub noted_events : (noted l r kind spot access n s).events ≡ counted s.events
-  noted_events = by (r == l.runners)
-    where
-      by : (b : Bool) → (if b then left_more (tallied access n s) kind spot (written access n) else tallied access n s).events ≡ counted s.events
-      by true = left_events (tallied access n s) kind spot (written access n)
-      by false = refl
+  noted_events = refl
 
 append_none : {A : Type 0} (xs : List A) → xs ++ [] ≡ xs
 append_none [] = refl

@@ -1,7 +1,7 @@
 -- A runner in a state that the machine reaches, and the run that it is in.
 use Rattle.std.specs.Prelude.{◌≡◌, ℕ, zero, suc, true, false, [], slice_get, Option, Some, None}
 use Rattle.structure_laws.specs.Meaning.{Meaning}
-use Rattle.runner_parts.specs.declared.stage.Stage.TheVariants as stages
+use Rattle.epoch_core.specs.declared.stage.Stage.TheVariants as stages
 use Rattle.runner_parts.specs.declared.entries.Published.{Published}
 use Rattle.runner_parts.specs.State.{RunState}
 use Rattle.runner_parts.specs.Tests.{has}

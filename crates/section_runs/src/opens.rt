@@ -1,12 +1,11 @@
 //! The opening of a run.
-ghost use Rattle.std.specs.Prelude.{◌≡◌, ◌≤◌, [], cond, length, IfSome, IfNone, true, false};
+ghost use Rattle.std.specs.Prelude.{◌≡◌, ◌+◌, ◌≤◌, min, take, cond, length, IfSome, IfNone, true, false};
 ghost use Rattle.runner_steps.specs.Sections.{thunk_of};
 ghost use Rattle.idem_cell.specs.version_words.specs.TableState.{IsOf};
 ghost use Rattle.idem_cell.specs.commit_log.specs.Asked.{IsAsked};
 ghost use Rattle.section_runs.specs.Reached.{MayBegin};
 ghost use Rattle.section_runs.specs.Opened.{IsOpening, HasOpened, HasHalted};
 
-use arrayvec::ArrayVec;
 use idem_cell::commit_log::passes;
 use idem_cell::version_words::{FlockTable, Runner, table_is_allowed};
 use runner_parts::Structure;
@@ -35,37 +34,51 @@ fn done_word(done: bool) -> u64
     if done { 1 } else { 0 }
 }
 
-/// Loads the twelve thunk words of the descriptor, with which a run begins. Each step is counted, and the gate is asked after it: whether
-/// it let the runner go on.
+/// Adds up steps that were counted apart.
+#[inline(always)]
+fn add_up<L>(steps: &mut Steps<L>, made: &Steps<L>)
+    ensures added { steps.new.count ≡ min (steps.old.count + made.now.count) u64.MAX }
+    ensures fits { steps.old.count ≤ u64.MAX }
+{
+    steps.count = steps.count.saturating_add(made.count);
+}
+
+/// Loads the twelve thunk words of the descriptor, with which a run begins, and puts them into the first twelve of these words. Each step is
+/// counted, and the gate is asked after it: whether it let the runner go on.
 fn load_words<S: Structure, G: Gate, L>(
     table: &FlockTable<S>,
     runner: Runner<S>,
     descriptor: u32,
-    words: &mut ArrayVec<u64, 13>,
+    words: &mut [u64],
     gate: &mut G,
     steps: &mut Steps<L>,
 ) -> (Runner<S>, bool)
     requires own { IsOf table.now runner }
     requires next { MayBegin (S.meaning table.now.structure) runner descriptor }
-    requires empty { words.old.items ≡ [] }
+    requires room { length words.old ≡ 13 }
     ensures own { IsOf table.now result.0 }
+    ensures room { length words.new ≡ 13 }
     ensures opening { result.1 ≡ true
-        → IsOpening (S.meaning table.now.structure) 12 descriptor words.new.items runner result.0 }
+        → IsOpening (S.meaning table.now.structure) 12 descriptor (take 12 words.new) runner result.0 }
     ensures asked { result.1 ≡ true → IsAsked 12 true
         (G.halts gate.old) (G.halts gate.new) (G.asks gate.old) (G.asks gate.new) steps.old.count steps.new.count }
     ensures halted { result.1 ≡ false → HasHalted (S.meaning table.now.structure) 12 descriptor runner result.0
         (G.halts gate.old) (G.halts gate.new) (G.asks gate.old) (G.asks gate.new) steps.old.count steps.new.count }
 {
     table_is_allowed(table);
+    let start = table.descriptor_start(descriptor);
     let mut runner = runner;
-    for index in 0..12u32 {
-        let (opened, word) = table.load_thunk(runner, descriptor);
+    let mut made = Steps::<L>::new();
+    for index in 0..12usize {
+        let (opened, word) = table.load_thunk(runner, descriptor, start);
         runner = opened;
-        words.push(word);
-        if !passes(gate, steps, StepKind::Opening) {
+        words[index] = word;
+        if !passes(gate, &mut made, StepKind::Opening) {
+            add_up(steps, &made);
             return (runner, false);
         }
     }
+    add_up(steps, &made);
     (runner, true)
 }
 
@@ -92,7 +105,7 @@ pub fn open<S: Structure, G: Gate, L>(
         (G.halts gate.old) (G.halts gate.new) (G.asks gate.old) (G.asks gate.new) steps.old.count steps.new.count) }
 {
     table_is_allowed(table);
-    let mut words = ArrayVec::new();
+    let mut words = [0; 13];
     let (runner, going) = load_words(table, runner, descriptor, &mut words, gate, steps);
     if !going {
         return (runner, None);
@@ -101,7 +114,7 @@ pub fn open<S: Structure, G: Gate, L>(
     if !passes(gate, steps, StepKind::Opening) {
         return (runner, None);
     }
-    words.push(done_word(done));
-    let thunk = thunk_from(words.as_slice());
+    words[12] = done_word(done);
+    let thunk = thunk_from(&words);
     (runner, Some((thunk, done)))
 }

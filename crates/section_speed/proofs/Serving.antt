@@ -22,7 +22,7 @@ use Rattle.try_lock.specs.version_words.specs.Events.{Makes}
 use Rattle.try_lock.specs.version_words.specs.Naming.{load_of}
 use Rattle.try_lock.specs.version_words.proofs.Stages.{then_loaded_cell}
 use Rattle.try_lock.specs.epoch_slots.specs.Entries.{Enters, Exits}
-use Rattle.try_lock.specs.epoch_slots.proofs.Outside.{NotesNothing, nodes_made, descriptors_made, reads_made, known_made}
+use Rattle.try_lock.specs.epoch_slots.proofs.Outside.{nodes_made, descriptors_made, reads_made, known_made}
 use Rattle.try_lock.specs.commit_log.specs.Runs.{Ran}
 use Rattle.try_lock.specs.declared.section.Section.{Section}
 use Rattle.try_lock.specs.Ends.{EndsSo, IsCutShort}
@@ -99,7 +99,6 @@ module _ {T : Type 0} where
   then_read idle entered r request word before enough some enters made =
       let resting = enters.at.resting in
       let load : Makes tray (kinds.LoadCell (Some 0)) word entered r = subst (λ o. Makes tray (load_of o 0) word entered r) resting made in
-      let nothing : NotesNothing (kinds.LoadCell (Some 0)) = record { known = λ s access found spot. refl; finished = λ s access found spot. refl } in
       let reads = reads_made tray (kinds.LoadCell (Some 0)) word entered r load resting in
       let nodes : r.part.nodes ≡ idle.part.nodes = nodes_made tray (kinds.LoadCell (Some 0)) word entered r load resting ∙ enters.keeps.nodes in
       let descriptors : r.part.descriptors ≡ idle.part.descriptors = descriptors_made tray (kinds.LoadCell (Some 0)) word entered r load resting ∙ enters.keeps.descriptors in
@@ -108,7 +107,7 @@ module _ {T : Type 0} where
         at = then_loaded_cell tray word enters.epoch 0 entered r None made enters.at;
         read = ap (λ (s : ReadsState). has_pair s.cells 0 word) reads ∙ pair_last entered.part.reads.cells 0 word;
         number = ap (λ (y : RunnerState T). y.number) load.made ∙ (enters.keeps.number ∙ before.number);
-        knows = subst (KnowsBelow request) (sym (known_made tray (kinds.LoadCell (Some 0)) word entered r load resting nothing ∙ enters.keeps.known)) before.knows;
+        knows = subst (KnowsBelow request) (sym (known_made tray (kinds.LoadCell (Some 0)) word entered r load resting ∙ enters.keeps.known)) before.knows;
         nodes = subst (λ (n : NodesState). 2 ≤ length n.free) (sym nodes) enough;
         descriptors = subst (λ (d : DescriptorsState). 1 ≤ length d.free) (sym descriptors) some;
         hand = ap (λ (n : NodesState). n.hand) nodes ∙ before.tidy.hand;

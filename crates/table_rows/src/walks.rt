@@ -1,18 +1,20 @@
 //! Steps in the order in which a runner makes them.
 ghost use Rattle.std.specs.Prelude.{◌≡◌, ◌<◌, ◌≤◌, ◌+◌, ◌&&◌, nat_lt, length, IfOk, None};
-ghost use Rattle.runner_parts.specs.declared.stage.Stage.TheVariants as stages;
-ghost use Rattle.runner_steps.specs.Outside.{last_epoch};
-ghost use Rattle.runner_steps.specs.AfterOutside.{is_clear};
+ghost use Rattle.epoch_core.specs.declared.stage.Stage.TheVariants as stages;
+ghost use Rattle.epoch_core.specs.State.{last_epoch};
+ghost use Rattle.epoch_core.specs.Moves.{is_clear};
 ghost use Rattle.structure_laws.specs.Tray.{tray};
 ghost use Rattle.machine_states.specs.First.{worker_part};
 ghost use Rattle.version_words.specs.TableState.{IsOf};
+ghost use Rattle.version_words.specs.Events.{start_of};
 ghost use Rattle.table_words.specs.Limits.{IsWithinLimits};
 ghost use Rattle.table_words.specs.Places.{descriptor_count};
 ghost use Rattle.table_rows.specs.Slots.{slot_of};
 ghost use Rattle.version_words.specs.Stages.{IsAt, IsKeeper, HasJoined, HasFree};
 
+use epoch_core::LAST_EPOCH;
 use map_history::{Op, Request};
-use runner_steps::{LAST_EPOCH, slot_count};
+use runner_steps::slot_count;
 use section_body::{Place, Word};
 use std::alloc::{AllocError, Global};
 use table_words::Layout;
@@ -112,15 +114,17 @@ pub fn fetch(
     table.private_load(runner, slot, word)
 }
 
-/// Loads a word of an own free descriptor, as one of a descriptor.
+/// Loads a word of an own free descriptor, whose words begin at this start, as one of a descriptor.
 #[inline(always)]
 pub fn fetch_word(
     table: &FlockTable<Tray>,
     runner: Runner<Tray>,
     descriptor: u32,
+    start: usize,
     word: u32,
 ) -> (Runner<Tray>, u64)
     requires own { IsOf table.now runner }
+    requires start { start ≡ start_of tray table.now descriptor }
     requires at { IsAt runner stages.Idle None }
     requires free { HasFree runner descriptor }
     requires word { word < 77 }
@@ -129,7 +133,7 @@ pub fn fetch_word(
     ensures free { HasFree result.0 descriptor }
     ensures number { result.0.number ≡ runner.number }
 {
-    table.descriptor_load(runner, descriptor, word)
+    table.descriptor_load(runner, descriptor, start, word)
 }
 
 /// Loads a request's stamp word.

@@ -3,7 +3,7 @@
 //! Each kind's loop stands in a function of its own that is given the table, as in a thread. In one function with all that comes before and
 //! after, the loops' own counters would go through memory.
 ghost use Rattle.std.specs.Prelude.{◌≡◌, ◌<◌, length, None};
-ghost use Rattle.runner_parts.specs.declared.stage.Stage.TheVariants as stages;
+ghost use Rattle.epoch_core.specs.declared.stage.Stage.TheVariants as stages;
 ghost use Rattle.table_words.specs.Limits.{IsWithinLimits};
 ghost use Rattle.table_rows.specs.version_words.specs.TableState.{IsOf};
 ghost use Rattle.table_rows.specs.version_words.specs.Stages.{IsAt, HasFree};
@@ -122,10 +122,11 @@ fn count_others(table: &FlockTable<Tray>, runner: Runner<Tray>, number: u64) -> 
     ensures free { HasFree result.0 0 }
     ensures number { result.0.number ≡ runner.number }
 {
+    let start = table.descriptor_start(0);
     let mut runner = runner;
     let mut others = 0_u64;
     for word in 0..77 {
-        let (loaded, found) = fetch_word(table, runner, 0, word);
+        let (loaded, found) = fetch_word(table, runner, 0, start, word);
         runner = loaded;
         others = others.wrapping_add((found != number) as u64);
     }

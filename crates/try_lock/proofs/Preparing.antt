@@ -11,7 +11,7 @@ use Rattle.structure_laws.specs.Meaning.{Meaning}
 use Rattle.runner_parts.specs.declared.entries.Stored.{Stored}
 use Rattle.runner_parts.specs.declared.event.EventKind.{EventKind}
 use Rattle.runner_parts.specs.declared.event.EventKind.TheVariants as kinds
-use Rattle.runner_parts.specs.declared.stage.Stage.TheVariants as stages
+use Rattle.epoch_core.specs.declared.stage.Stage.TheVariants as stages
 use Rattle.runner_parts.specs.State.{PartState, DescriptorsState}
 use Rattle.runner_parts.specs.Tests.{has, is_some_of, last_stored, are_stored, is_prepared, thunk_words}
 use Rattle.runner_parts.specs.Lists.{descriptor_stored, nodes_looked}
@@ -20,7 +20,7 @@ use Rattle.section_runs.specs.version_words.specs.RunnerState.{RunnerState}
 use Rattle.section_runs.specs.version_words.specs.Events.{IsEnabled, Makes}
 use Rattle.section_runs.specs.version_words.specs.Stages.{IsAt}
 use Rattle.section_runs.specs.version_words.proofs.Stages.{may_load_word, may_store_word, then_loaded_word, then_stored_word}
-use Rattle.epoch_slots.proofs.Outside.{NotesNothing, nodes_made, descriptors_made, reads_made, known_made, finished_made}
+use Rattle.epoch_slots.proofs.Outside.{nodes_made, descriptors_made, reads_made, known_made, finished_made}
 use Rattle.try_lock.specs.Prepares.{MaySet, KeepsElse, Stores, SetsWord, SetsWords, HasSet, IsReady}
 
 -- what is known of a word after one more store
@@ -66,10 +66,10 @@ module _ {T : Type 0} where
     abbrev slots : ℕ
     slots = slot_count r.layout m.fixed_slots
 
-    noted_by : (k : EventKind) (found n : ℕ) (r' : RunnerState T) → Makes m k found r r' → r.part.run ≡ None → NotesNothing k
+    noted_by : (k : EventKind) (found n : ℕ) (r' : RunnerState T) → Makes m k found r r' → r.part.run ≡ None
         → outside_after m r.layout k r.part found ≡ record (r.part) { descriptors = descriptor_stored r.part.descriptors d word n }
         → ((epoch : ℕ) → IsAt r (stages.Entered epoch) None → IsAt r' (stages.Entered epoch) None) → IsNoted d word n r r'
-    noted_by k found n r' made resting nothing part at =
+    noted_by k found n r' made resting part at =
         let stored : r'.part.descriptors ≡ descriptor_stored r.part.descriptors d word n =
         descriptors_made m k found r r' made resting ∙ ap (λ (p : PartState). p.descriptors) part in
         record {
@@ -81,8 +81,8 @@ module _ {T : Type 0} where
             free = ap (λ (x : DescriptorsState). x.free) stored;
             limbo = ap (λ (x : DescriptorsState). x.limbo) stored;
             reads = reads_made m k found r r' made resting ∙ ap (λ (p : PartState). p.reads) part;
-            known = known_made m k found r r' made resting nothing ∙ ap (λ (p : PartState). p.records.known) part;
-            finished = finished_made m k found r r' made resting nothing ∙ ap (λ (p : PartState). p.records.finished) part;
+            known = known_made m k found r r' made resting ∙ ap (λ (p : PartState). p.records.known) part;
+            finished = finished_made m k found r r' made resting ∙ ap (λ (p : PartState). p.records.finished) part;
           };
           at = at;
           here = stored_here r.part.descriptors r'.part.descriptors d word n stored;
@@ -97,7 +97,6 @@ module _ {T : Type 0} where
     noted_loaded found r' made resting =
         let past : nat_lt (slots + d) slots ≡ false = grind (arith, nat_tests) in
         noted_by (kinds.PrivateLoad (slots + d) word) found found r' made resting
-        (record { known = λ s access found spot. refl; finished = λ s access found spot. refl })
         (ap (λ (b : Bool). if b then record (r.part) { nodes = nodes_looked r.layout r.part.nodes (slots + d) word found }
         else record (r.part) { descriptors = descriptor_stored r.part.descriptors (slots + d - slots) word found }) past
         ∙ ap (λ (n : ℕ). record (r.part) { descriptors = descriptor_stored r.part.descriptors n word found }) own_word)
@@ -107,7 +106,6 @@ module _ {T : Type 0} where
     noted_stored : (found n : ℕ) (r' : RunnerState T) → Makes m (kinds.PrivateStore (slots + d) word n) found r r' → r.part.run ≡ None → IsNoted d word n r r'
     noted_stored found n r' made resting =
         noted_by (kinds.PrivateStore (slots + d) word n) found n r' made resting
-        (record { known = λ s access found spot. refl; finished = λ s access found spot. refl })
         (ap (λ (i : ℕ). record (r.part) { descriptors = descriptor_stored r.part.descriptors i word n }) own_word)
         (λ epoch at. then_stored_word m found r r' (stages.Entered epoch) None (slots + d) word at n made)
 

@@ -19,7 +19,7 @@ use Rattle.table_words.specs.Places.{slot_count, descriptor_count}
 use Rattle.structure_laws.specs.Meaning.{Meaning}
 use Rattle.structure_laws.specs.Laws.{Laws}
 use Rattle.runner_parts.specs.declared.event.EventKind.TheVariants as kinds
-use Rattle.runner_parts.specs.declared.stage.Stage.TheVariants as stages
+use Rattle.epoch_core.specs.declared.stage.Stage.TheVariants as stages
 use Rattle.runner_parts.specs.State.{PartState}
 use Rattle.runner_parts.specs.Tests.{has, is_walking, is_open, last_stored, is_prepared}
 use Rattle.runner_parts.specs.Lists.{without, cell_read, holds_named, section_published, descriptor_taken}
@@ -42,7 +42,7 @@ use Rattle.section_runs.specs.version_words.specs.Events.{IsEnabled, Makes}
 use Rattle.section_runs.specs.version_words.specs.Stages.{IsAt}
 use Rattle.section_runs.specs.version_words.proofs.Holds.{holds_so}
 use Rattle.section_runs.specs.version_words.proofs.Stages.{enabled, made_at}
-use Rattle.epoch_slots.proofs.Outside.{NotesNothing, nodes_made, descriptors_made, reads_made, known_made, finished_made}
+use Rattle.epoch_slots.proofs.Outside.{nodes_made, descriptors_made, reads_made, known_made, finished_made}
 use Rattle.try_lock.specs.declared.section.Section.{Section}
 use Rattle.try_lock.specs.Reached.{IsReached, IsSectionOf}
 use Rattle.try_lock.specs.Prepares.{MaySet, KeepsElse, IsReady}
@@ -127,9 +127,6 @@ module _ {T : Type 0} (m : Meaning) (t : Thunk) (d found : ℕ) (r b r' : Runner
   at : IsAt b (stages.Entered entry) None
   at = stays entry was
 
-  nothing : NotesNothing (kinds.Hold t d)
-  nothing = record { known = λ s access n spot. refl; finished = λ s access n spot. refl }
-
   -- whichever way it went
   by_test : {A : Type 0} (f : PartState → A) (a : A) → f (part_won t d b.part found) ≡ a → f (part_lost t b.part found) ≡ a → f (hold_after t d b.part found) ≡ a
   by_test {A} f a one two = by (found == t.word)
@@ -152,10 +149,10 @@ module _ {T : Type 0} (m : Meaning) (t : Thunk) (d found : ℕ) (r b r' : Runner
       ∙ (by_test (λ p. p.reads.cells) (cell_read b.part.reads t.lock found).cells refl refl ∙ ap (λ s. (cell_read s t.lock found).cells) keeps.reads)
 
   pub known_held : r'.part.records.known ≡ r.part.records.known
-  known_held = known_made m (kinds.Hold t d) found b r' made at.resting nothing ∙ (by_test (λ p. p.records.known) b.part.records.known refl refl ∙ keeps.known)
+  known_held = known_made m (kinds.Hold t d) found b r' made at.resting ∙ (by_test (λ p. p.records.known) b.part.records.known refl refl ∙ keeps.known)
 
   pub finished_held : r'.part.records.finished ≡ r.part.records.finished
-  finished_held = finished_made m (kinds.Hold t d) found b r' made at.resting nothing ∙ (by_test (λ p. p.records.finished) b.part.records.finished refl refl ∙ keeps.finished)
+  finished_held = finished_made m (kinds.Hold t d) found b r' made at.resting ∙ (by_test (λ p. p.records.finished) b.part.records.finished refl refl ∙ keeps.finished)
 
   abbrev pub reached_held : IsReached m r'
   reached_held = record { world = made.shown.world; reached = made.shown.reached; own = made.shown.own }

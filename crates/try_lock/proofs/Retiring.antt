@@ -46,8 +46,8 @@ module _ {T : Type 0} (m : Meaning) (r : RunnerState T) (descriptor : ℕ) (is :
       descriptors = descriptors_made m kinds.EpochForRetire found r r' made is.at.resting
           ∙ (ap (λ (o : Option Published). (retired o).descriptors) is.at.published ∙ ap (λ n. descriptor_retired r.part.descriptors n found) is.own);
       nodes = nodes_made m kinds.EpochForRetire found r r' made is.at.resting ∙ ap (λ (o : Option Published). (retired o).nodes) is.at.published;
-      known = known_made m kinds.EpochForRetire found r r' made is.at.resting (record { known = λ s met found spot. refl; finished = λ s met found spot. refl })
+      known = known_made m kinds.EpochForRetire found r r' made is.at.resting
           ∙ ap (λ (o : Option Published). (retired o).records.known) is.at.published;
-      finished = finished_made m kinds.EpochForRetire found r r' made is.at.resting (record { known = λ s met found spot. refl; finished = λ s met found spot. refl })
+      finished = finished_made m kinds.EpochForRetire found r r' made is.at.resting
           ∙ ap (λ (o : Option Published). (retired o).records.finished) is.at.published;
     }

@@ -4,7 +4,7 @@ use Rattle.section_body.specs.declared.thunk.Thunk.{Thunk}
 use Rattle.table_words.specs.Places.{slot_count}
 use Rattle.structure_laws.specs.Meaning.{Meaning}
 use Rattle.runner_parts.specs.declared.event.EventKind.TheVariants as kinds
-use Rattle.runner_parts.specs.declared.stage.Stage.TheVariants as stages
+use Rattle.epoch_core.specs.declared.stage.Stage.TheVariants as stages
 use Rattle.runner_parts.specs.Tests.{last_stored, thunk_words, is_prepared}
 use Rattle.section_runs.specs.version_words.specs.RunnerState.{RunnerState}
 use Rattle.section_runs.specs.version_words.specs.Events.{Makes, IsMade}

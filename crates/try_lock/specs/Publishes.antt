@@ -7,7 +7,7 @@ use Rattle.table_words.specs.declared.spot.Spot.TheVariants.{DoneWord, LogWord}
 use Rattle.table_words.specs.Places.{slot_count}
 use Rattle.structure_laws.specs.Meaning.{Meaning}
 use Rattle.runner_parts.specs.declared.event.EventKind.TheVariants as kinds
-use Rattle.runner_parts.specs.declared.stage.Stage.TheVariants as stages
+use Rattle.epoch_core.specs.declared.stage.Stage.TheVariants as stages
 use Rattle.runner_parts.specs.Lists.{without, cell_read, holds_named, section_published}
 use Rattle.runner_parts.specs.Tests.{has, is_open, thunk_words}
 use Rattle.runner_steps.specs.Outside.{is_due}

@@ -2,6 +2,7 @@
 ghost use Rattle.std.specs.Prelude.{◌≡◌, ◌+◌, ◌<◌, ◌≤◌, length, slice_index};
 ghost use Rattle.table_words.specs.Places.{slot_count};
 ghost use Rattle.section_runs.specs.version_words.specs.TableState.{IsOf};
+ghost use Rattle.section_runs.specs.version_words.specs.Events.{start_of};
 ghost use Rattle.try_lock.specs.Prepares.{MaySet, SetsWord, HasSet, IsReady};
 ghost use Rattle.try_lock.specs.Publishes.{MayPublish, Publishes};
 
@@ -11,28 +12,31 @@ use section_body::{Refused, Thunk};
 use section_runs::nested_lock::refused;
 use section_runs::version_words::{FlockTable, Runner, held_word, table_is_allowed};
 
-/// This word of an own free descriptor becomes this number: it is loaded, and stored where another number stands.
+/// This word of an own free descriptor, whose words begin at this start, becomes this number: it is loaded, and stored where another number
+/// stands.
 #[inline(always)]
 fn set_word<S: Structure>(
     table: &FlockTable<S>,
     runner: Runner<S>,
     descriptor: u32,
+    start: usize,
     word: u32,
     number: u64,
 ) -> Runner<S>
     requires own { IsOf table.now runner }
     requires free { MaySet runner descriptor }
+    requires start { start ≡ start_of (S.meaning table.now.structure) table.now descriptor }
     requires word { word < 77 }
     ensures own { IsOf table.now result }
     ensures set { SetsWord (S.meaning table.now.structure)
         (slot_count runner.layout (S.meaning table.now.structure).fixed_slots + descriptor) word number runner
         result }
 {
-    let (runner, found) = table.descriptor_load(runner, descriptor, word);
+    let (runner, found) = table.descriptor_load(runner, descriptor, start, word);
     if found == number {
         runner
     } else {
-        table.descriptor_store(runner, descriptor, word, number)
+        table.descriptor_store(runner, descriptor, start, word, number)
     }
 }
 
@@ -42,18 +46,21 @@ fn set_words<S: Structure>(
     table: &FlockTable<S>,
     runner: Runner<S>,
     descriptor: u32,
+    start: usize,
     first: u32,
     numbers: &[u64],
 ) -> Runner<S>
     requires own { IsOf table.now runner }
     requires free { MaySet runner descriptor }
+    requires start { start ≡ start_of (S.meaning table.now.structure) table.now descriptor }
     requires few { first + length numbers.now ≤ 77 }
     ensures own { IsOf table.now result }
     ensures set { HasSet (S.meaning table.now.structure) descriptor first numbers.now runner result }
 {
     let mut runner = runner;
     for i in 0..numbers.len() {
-        runner = set_word(table, runner, descriptor, first + i as u32, numbers[i]);
+        let word = first + i as u32;
+        runner = set_word(table, runner, descriptor, start, word, numbers[i]);
     }
     runner
 }
@@ -72,8 +79,9 @@ fn prepare<S: Structure>(
     ensures own { IsOf table.now result }
     ensures ready { IsReady (S.meaning table.now.structure) descriptor thunk.now runner result }
 {
-    let runner = set_words(table, runner, descriptor, 0, &thunk_words(thunk));
-    set_words(table, runner, descriptor, 12, &[0; 65])
+    let start = table.descriptor_start(descriptor);
+    let runner = set_words(table, runner, descriptor, start, 0, &thunk_words(thunk));
+    set_words(table, runner, descriptor, start, 12, &[0; 65])
 }
 
 /// A thunk has eight operands, by its type.

@@ -11,7 +11,7 @@ use Rattle.table_words.specs.declared.spot.Spot.TheVariants as spots
 use Rattle.table_words.specs.declared.access.Access.{Access}
 use Rattle.table_words.specs.declared.access.Access.TheVariants.{Stores}
 use Rattle.table_words.specs.Access.{written, wins}
-use Rattle.table_words.specs.Places.{address, Fits}
+use Rattle.table_words.specs.Places.{address, descriptor_at, Fits}
 use Rattle.table_words.proofs.Seen.{within}
 use Rattle.structure_laws.specs.Meaning.{Meaning}
 use Rattle.runner_parts.specs.declared.event.EventKind.{EventKind}
@@ -26,7 +26,7 @@ use Rattle.version_words.proofs.Shows.{blind_shown}
 use Rattle.version_words.specs.Rule.{Holds, IsTold, Tells}
 use Rattle.version_words.specs.RunnerState.{RunnerState}
 use Rattle.version_words.specs.TableState.{TableState, IsOf, IsBuilt}
-use Rattle.version_words.specs.Events.{IsNamed, IsBlind, Makes, Tries, Commits, Announced, step_at, seen_seat}
+use Rattle.version_words.specs.Events.{IsNamed, IsBlind, Makes, Tries, Commits, Announced, step_at, address_of, start_of, seen_seat}
 use Rattle.version_words.proofs.Ties.{steps, stores}
 
 -- the seat word is the first
@@ -113,6 +113,14 @@ module _ {T : Type 0} (mean : T → Meaning) (table : TableId) (key built : Setu
     pub same_slots : me'.1 ≡ me.1
     same_slots = ap (λ (z : Me Thunk (View T)). z.1) told_here.view
 
+-- where a descriptor's words begin, as the code and as contracts say it
+module _ {T : Type 0} (mean : T → Meaning) (table : TableId) (key built : Setup T) (ok : IsBuilt (mean built.structure) table key built) (t : TableState T) (t_is : seen_table table built ≡ t) (d : ℕ) where
+  pub start_seen : (at : ℕ) → at ≡ descriptor_at built.sizes d → at ≡ start_of (mean t.structure) t d
+  start_seen at is = subst (λ (u : TableState T). at ≡ start_of (mean u.structure) u d) t_is (is ∙ ap (λ (z : Sizes). descriptor_at z d) ok.as_sized)
+
+  pub start_built : (at : ℕ) → at ≡ start_of (mean t.structure) t d → at ≡ descriptor_at built.sizes d
+  start_built at is = subst (λ (u : TableState T). at ≡ start_of (mean u.structure) u d) (sym t_is) is ∙ sym (ap (λ (z : Sizes). descriptor_at z d) ok.as_sized)
+
 -- the same in terms of what contracts see of the table
 module _ {T : Type 0} (mean : T → Meaning) (table : TableId) (key built : Setup T) (ok : IsBuilt (mean built.structure) table key built) (own_table : TableId) (me : Me Thunk (View T)) (naming : Naming)
     (spot : Spot) (access : Access) (first second : ℕ) (said : Announced) (t : TableState T) (t_is : seen_table table built ≡ t) (own : IsOf t (seen_seat own_table me))
@@ -126,6 +134,13 @@ module _ {T : Type 0} (mean : T → Meaning) (table : TableId) (key built : Setu
   named_here : (at : ℕ) → at ≡ address built.sizes spot → IsNamed (mean built.structure) naming r (step table.slots at first second said) (spot, access)
   named_here at at_is = subst (λ (a : ℕ). IsNamed (mean built.structure) naming r (step table.slots a first second said) (spot, access)) (sym (at_is ∙ ap (λ (z : Sizes). address z spot) ok.as_sized))
       (subst (λ (u : TableState T). IsNamed (mean u.structure) naming r (step_at (mean u.structure) u spot first second said) (spot, access)) (sym t_is) named)
+
+  -- where contracts say that the word stands, and where the code says it
+  pub at_built : (at : ℕ) → at ≡ address_of (mean t.structure) t spot → at ≡ address built.sizes spot
+  at_built at is = subst (λ (u : TableState T). at ≡ address_of (mean u.structure) u spot) (sym t_is) is ∙ sym (ap (λ (z : Sizes). address z spot) ok.as_sized)
+
+  pub at_seen : (at : ℕ) → at ≡ address built.sizes spot → at ≡ address_of (mean t.structure) t spot
+  at_seen at is = subst (λ (u : TableState T). at ≡ address_of (mean u.structure) u spot) t_is (is ∙ ap (λ (z : Sizes). address z spot) ok.as_sized)
 
   pub spot_fits : Fits built.sizes spot
   spot_fits = has_word mean table key built ok own_table me own_here naming _ (spot, access) (named_here (address built.sizes spot) refl)

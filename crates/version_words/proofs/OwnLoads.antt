@@ -48,13 +48,13 @@ use Rattle.version_words.specs.Place.{IsPlaced, HasEpoch}
 use Rattle.runner_block.specs.Blocks.{block_looked, block_filling, block_found}
 use Rattle.version_words.specs.Kept.{IsKept}
 use Rattle.runner_block.specs.Looks.{MayTake}
-use Rattle.version_words.specs.Events.{met_by, IsEnabled, IsNamed, Makes, step_at, nothing, seen_seat}
+use Rattle.version_words.specs.Events.{met_by, IsEnabled, IsNamed, Makes, step_at, address_of, start_of, nothing, seen_seat}
 use Rattle.version_words.proofs.Asked.{unless_gone, tested}
 use Rattle.version_words.proofs.Bounds.{node_once}
 use Rattle.version_words.proofs.Keeps.{KeepsPart, no_epoch, was_part, then_kept}
 use Rattle.version_words.proofs.Epochs.{goes_epoch}
 use Rattle.version_words.proofs.Inside.{is_ender, HasOpenRun, PlacesRun, both_true, goes_inside, over, places, same_place, step_is}
-use Rattle.version_words.proofs.Privates.{IsPrivate, IsOpenFor, Stands, of_cell, of_word, is_there, open_inside}
+use Rattle.version_words.proofs.Privates.{IsPrivate, IsOpenFor, Stands, of_cell, of_word, is_there, open_inside, word_stands}
 
 not_past : (slot n : ℕ) → nat_lt slot n ≡ true → n ≤ slot → ⊥
 not_past slot n e past = grind (arith, nat_tests, e, past)
@@ -121,6 +121,12 @@ module _ {T : Type 0} (m : Meaning) (t : TableState T) (r : RunnerState T) (own 
 
     abbrev at : ℕ
     at = address (sizes_for m t.layout t.requests) spot
+
+    -- where the word stands, if it is a descriptor's
+    pub load_at : (d : ℕ) → private_spot m t.layout slot word ≡ descriptor_spot d word → address_of m t spot ≡ start_of m t d + word
+    load_at d there =
+        let s' = sizes_for m t.layout t.requests in
+        ap (address s') (spot_is ∙ there) ∙ (word_stands s' d word (subst (λ (z : Spot). Fits s' z) there fits_there)).is
 
     -- the step's name is that of the event
     pub load_name : kinds.PrivateLoad (slot_at m r.layout r.requests at) (word_at m r.layout r.requests at) ≡ kinds.PrivateLoad slot word

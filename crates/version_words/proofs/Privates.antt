@@ -22,7 +22,7 @@ use Rattle.table_words.specs.Places.{address, Fits, slot_count, cells_at, descri
 use Rattle.structure_laws.specs.Meaning.{Meaning}
 use Rattle.runner_parts.specs.declared.event.EventKind.{EventKind}
 use Rattle.runner_parts.specs.declared.event.EventKind.TheVariants as kinds
-use Rattle.runner_parts.specs.State.{RunState, PartState}
+use Rattle.runner_parts.specs.State.{RunState, PartState, RecordsState}
 use Rattle.runner_parts.specs.Tests.{has, is_resting}
 use Rattle.runner_steps.specs.Sections.{is_open_run, next_of}
 use Rattle.runner_steps.specs.Outside.{descriptor_spot, private_store_ask}
@@ -30,7 +30,7 @@ use Rattle.runner_steps.specs.InRun.{is_cell, is_slot, can_raise, fill_store_ask
 use Rattle.runner_steps.specs.Asks.{asks, ask_by, line_ask, opening_ask, sizes_for}
 use Rattle.runner_steps.specs.AfterInRun.{goes_on, fill_stored}
 use Rattle.runner_steps.specs.AfterOutside.{private_store_after}
-use Rattle.runner_steps.specs.After.{after_by, noted, stepped}
+use Rattle.runner_steps.specs.After.{after_by, counted, epoch_after, is_moved, left_more, noted, stepped}
 use Rattle.machine_states.proofs.Steps.{asked_fits}
 use Rattle.version_words.specs.declared.view.View.{View}
 use Rattle.runner_block.specs.declared.block.Block.{Block}
@@ -39,14 +39,14 @@ use Rattle.version_words.specs.TableState.{TableState, IsOf}
 use Rattle.version_words.specs.Private.{IsWithin, private_spot, slot_at, word_at}
 use Rattle.runner_block.specs.Blocks.{block_stored}
 use Rattle.version_words.specs.Kept.{IsKept}
-use Rattle.version_words.specs.Events.{met_by, IsEnabled, IsNamed, IsBlind, Makes, step_at, nothing, seen_seat}
+use Rattle.version_words.specs.Events.{met_by, IsEnabled, IsNamed, IsBlind, Makes, step_at, address_of, start_of, nothing, seen_seat}
 use Rattle.version_words.proofs.Asked.{unless_gone, tested}
 use Rattle.version_words.proofs.Keeps.{KeepsPart, no_epoch, was_part, then_kept}
 use Rattle.version_words.proofs.Epochs.{goes_epoch}
 use Rattle.version_words.proofs.Inside.{HasOpenRun, PlacesRun, both_true, goes_inside, over, places, step_is}
 
 -- where a descriptor's word stands
-record StandsAt (s : Sizes) (d word at : ℕ) : Type 0 where
+pub record StandsAt (s : Sizes) (d word at : ℕ) : Type 0 where
   pub is : at ≡ descriptor_at s d + word
   pub few : word < 77
 
@@ -56,8 +56,8 @@ stands_by s d word true b' e e' fits = let a = fits.1 in record { is = refl; few
 stands_by s d word false true e e' fits = let a : word ≡ 12 = grind (arith, nat_tests) in record { is = omega (arith, a); few = omega (arith, a) }
 stands_by s d word false false e e' fits = let a : 13 ≤ word = grind (arith, nat_tests) in let b = fits.1 in record { is = omega (arith, a); few = omega (arith, a, b) }
 
-stands : (s : Sizes) (d word : ℕ) → Fits s (descriptor_spot d word) → StandsAt s d word (address s (descriptor_spot d word))
-stands s d word fits = stands_by s d word (nat_lt word 12) (word == 12) refl refl fits
+pub word_stands : (s : Sizes) (d word : ℕ) → Fits s (descriptor_spot d word) → StandsAt s d word (address s (descriptor_spot d word))
+word_stands s d word fits = stands_by s d word (nat_lt word 12) (word == 12) refl refl fits
 
 fifth : (a f slot word at : ℕ) → at ≡ a + (f + 5 * slot + word) → word < 5 → ((at - (a + f)) / 5 ≡ slot) × ((at - (a + f)) % 5 ≡ word)
 fifth a f slot word at is few = (grind arith, grind arith)
@@ -90,7 +90,7 @@ module _ (m : Meaning) (l : Layout) (rs : List Request) where
   there_word : (slot word : ℕ) → slots ≤ slot → Fits s (descriptor_spot (slot - slots) word) → IsThere slot word (address s (descriptor_spot (slot - slots) word))
   there_word slot word past fits =
       let at = address s (descriptor_spot (slot - slots) word) in
-      let st = stands s (slot - slots) word fits in let a = st.is in
+      let st = word_stands s (slot - slots) word fits in let a = st.is in
       let behind : nat_lt at (descriptor_at s 0) ≡ false = grind (arith, nat_tests, a) in
       let f = within (cells_at s + s.cells) (slot - slots) word at a st.few in
       record {
@@ -188,6 +188,24 @@ stored_alike m l slot word number p x at a b = ⊎_elim
     (λ (none : p.run ≡ None). ap (λ (o : Option RunState). after_by m l (kinds.PrivateStore slot word number) p o a) none ∙ sym (ap (λ (o : Option RunState). after_by m l (kinds.PrivateStore slot word number) p o b) none))
     (λ (h : IsOpenFor m l (kinds.PrivateStore slot word number) p x). step_is m l (kinds.PrivateStore slot word number) p a h.open_run ∙ sym (step_is m l (kinds.PrivateStore slot word number) p b h.open_run)) at
 
+-- a word of an own slot isn't the epoch
+own_unmoved : (node thunk done : Bool) (place d word n epoch : ℕ)
+    → is_moved (if node then spots.Cell place else (if thunk then spots.ThunkWord d word else (if done then spots.DoneWord d else spots.LogWord d (word - 13)))) n epoch ≡ false
+own_unmoved true thunk done place d word n epoch = refl
+own_unmoved false true done place d word n epoch = refl
+own_unmoved false false true place d word n epoch = refl
+own_unmoved false false false place d word n epoch = refl
+
+-- so what is noted of a store there doesn't go by what was found
+noted_alike : (l : Layout) (r slot word number : ℕ) (spot : Spot) (a b : ℕ) (z : RecordsState) → is_moved spot a z.epoch_seen ≡ is_moved spot b z.epoch_seen
+    → noted l r (kinds.PrivateStore slot word number) spot (Stores number) a z ≡ noted l r (kinds.PrivateStore slot word number) spot (Stores number) b z
+noted_alike l r slot word number spot a b z e = ap (λ (moved : Bool). record z {
+  events = counted z.events;
+  epoch_seen = epoch_after spot number z.epoch_seen;
+  crossed = (moved || z.crossed);
+  left = (if r == l.runners then left_more (kinds.PrivateStore slot word number) spot number z.left else z.left);
+}) e
+
 module _ {T : Type 0} (m : Meaning) (t : TableState T) (r : RunnerState T) (own : IsOf t r) (slot word number : ℕ) (enabled : IsEnabled m (kinds.PrivateStore slot word number) r) where
   asked : IsPrivate m r.layout slot word (Stores number) enabled.met × Stands m r.layout (kinds.PrivateStore slot word number) r.part enabled.met
   asked = store_asked m r.layout r.requests r.number slot word number r.part enabled.met enabled.asked
@@ -207,6 +225,12 @@ module _ {T : Type 0} (m : Meaning) (t : TableState T) (r : RunnerState T) (own 
     abbrev at : ℕ
     at = address (sizes_for m t.layout t.requests) spot
 
+    -- where the word stands, if it is a descriptor's
+    pub store_at : (d : ℕ) → private_spot m t.layout slot word ≡ descriptor_spot d word → address_of m t spot ≡ start_of m t d + word
+    store_at d there =
+        let s' = sizes_for m t.layout t.requests in
+        ap (address s') (spot_is ∙ there) ∙ (word_stands s' d word (subst (λ (z : Spot). Fits s' z) there fits_there)).is
+
     -- the step's name is that of the event
     pub store_name : kinds.PrivateStore (slot_at m r.layout r.requests at) (word_at m r.layout r.requests at) number ≡ kinds.PrivateStore slot word number
     store_name =
@@ -224,8 +248,18 @@ module _ {T : Type 0} (m : Meaning) (t : TableState T) (r : RunnerState T) (own 
     stored_here : (a b : ℕ) → stepped m r.layout (kinds.PrivateStore (slot_at m r.layout r.requests at) (word_at m r.layout r.requests at) number) r.part a ≡ stepped m r.layout (kinds.PrivateStore (slot_at m r.layout r.requests at) (word_at m r.layout r.requests at) number) r.part b
     stored_here a b = subst (λ (k : EventKind). stepped m r.layout k r.part a ≡ stepped m r.layout k r.part b) (sym store_name) (stored_alike m r.layout slot word number r.part enabled.met asked.1 a b)
 
+    unmoved : (n epoch : ℕ) → is_moved spot n epoch ≡ false
+    unmoved n epoch = ap (λ (z : Spot). is_moved z n epoch) spot_is
+        ∙ own_unmoved (nat_lt slot (slot_count t.layout m.fixed_slots)) (nat_lt word 12) (word == 12) (cell_of m.fixed_cells slot word)
+        (slot - slot_count t.layout m.fixed_slots) word n epoch
+
     pub store_blind : IsBlind m (kinds.PrivateStore (slot_at m r.layout r.requests at) (word_at m r.layout r.requests at) number) (spot, Stores number) r
-    store_blind = record { same = λ found other. ap (λ (q : PartState). record q { records = noted r.layout r.number (kinds.PrivateStore (slot_at m r.layout r.requests at) (word_at m r.layout r.requests at) number) spot (Stores number) found q.records }) (stored_here found other) }
+    store_blind = record {
+      same = λ found other. ap (λ (q : PartState). record q { records = noted r.layout r.number (kinds.PrivateStore (slot_at m r.layout r.requests at) (word_at m r.layout r.requests at) number) spot (Stores number) found q.records }) (stored_here found other)
+          ∙ ap (λ (z : RecordsState). record (stepped m r.layout (kinds.PrivateStore (slot_at m r.layout r.requests at) (word_at m r.layout r.requests at) number) r.part other) { records = z })
+          (noted_alike r.layout r.number (slot_at m r.layout r.requests at) (word_at m r.layout r.requests at) number spot found other
+          (stepped m r.layout (kinds.PrivateStore (slot_at m r.layout r.requests at) (word_at m r.layout r.requests at) number) r.part other).records (unmoved found _ ∙ sym (unmoved other _)));
+    }
 
 -- what the code keeps after such a store
 module _ {T : Type 0} (mean : T → Meaning) (s : T) (slot word number found own_number : ℕ) (kept : Block) (old_table new_table : TableId) (me me' : Me Thunk (View T)) (live : me.0.structure ≡ Some s)

@@ -1,5 +1,6 @@
 -- Splitting off and joining a worker are events of the machine.
-use Rattle.std.proofs.Common.{◌≡◌, ◌≢◌, ℕ, zero, suc, ◌+◌, ◌<◌, List, [], ◌∷◌, ◌++◌, Bool, true, false, length, set, sym, refl, ap, subst, ◌∙◌, ⊎_elim, arith, Option, Some, None, slice_get, length-set, length-append, eq-eqb, ne_eqb}
+use Rattle.std.proofs.Common.{◌≡◌, ◌≢◌, ℕ, zero, suc, ◌+◌, ◌<◌, List, [], ◌∷◌, ◌++◌, Bool, true, length, set, sym, refl, ap, subst, ◌∙◌, ⊎_elim, arith, Option, Some, None, slice_get, length-set, length-append, eq-eqb, ne_eqb}
+use Rattle.std.proofs.lemmas.Bool.{and_parts}
 use Rattle.std.specs.Prelude.{slice_index, ◌==◌, ◌&&◌, not, nat_lt, if◌then◌else◌}
 use Rattle.std.proofs.lemmas.List.{set-get_or}
 use Rattle.std.proofs.lemmas.Option.{slice_get_within, none-some}
@@ -38,13 +39,6 @@ use Rattle.version_words.proofs.Asked.{outer, tested}
 use Rattle.version_words.proofs.Begins.{keeper_seat}
 use Rattle.version_words.proofs.Ties.{view_after, world_after, seat_is, shown_after, about_after, reached_after}
 
-false_true : false ≡ true → ⊥
-false_true e = cc
-
-both_true : (a b : Bool) → a && b ≡ true → (a ≡ true) × (b ≡ true)
-both_true true b e = (refl, e)
-both_true false b e = absurd (false_true e)
-
 pub record IsSplitting (l : Layout) (r : ℕ) (p : PartState) (x : Spot × Access) : Type 0 where
   pub keeper : r ≡ l.runners
   pub resting : p.run ≡ None
@@ -63,7 +57,7 @@ pub split_asked : (m : Meaning) (l : Layout) (rs : List Request) (r : ℕ) (p : 
 split_asked m l rs r p x h =
     let o = outer m l rs r kinds.Split p x refl h in
     let t = tested (r == l.runners && (is_outside p.run && nat_lt p.records.splits l.runners)) Seat Loads x o.1 in
-    let a = both_true (r == l.runners) (is_outside p.run && nat_lt p.records.splits l.runners) t.0 in let b = both_true (is_outside p.run) (nat_lt p.records.splits l.runners) a.1 in
+    let a = and_parts (r == l.runners) (is_outside p.run && nat_lt p.records.splits l.runners) t.0 in let b = and_parts (is_outside p.run) (nat_lt p.records.splits l.runners) a.1 in
     let first = a.0 in let last = b.1 in
     record { keeper = grind (arith, nat_tests); resting = o.0; few = grind (arith, nat_tests); met = sym t.1 }
 
@@ -73,8 +67,8 @@ pub join_asked : (m : Meaning) (l : Layout) (rs : List Request) (r worker : ℕ)
 join_asked m l rs r worker p x h =
     let o = outer m l rs r (kinds.Join worker) p x refl h in
     let t = tested (r == l.runners && (is_outside p.run && (nat_lt worker l.runners && not (has p.records.joined worker)))) Seat Loads x o.1 in
-    let a = both_true (r == l.runners) (is_outside p.run && (nat_lt worker l.runners && not (has p.records.joined worker))) t.0 in
-    let b = both_true (is_outside p.run) (nat_lt worker l.runners && not (has p.records.joined worker)) a.1 in let d = both_true (nat_lt worker l.runners) (not (has p.records.joined worker)) b.1 in
+    let a = and_parts (r == l.runners) (is_outside p.run && (nat_lt worker l.runners && not (has p.records.joined worker))) t.0 in
+    let b = and_parts (is_outside p.run) (nat_lt worker l.runners && not (has p.records.joined worker)) a.1 in let d = and_parts (nat_lt worker l.runners) (not (has p.records.joined worker)) b.1 in
     let first = a.0 in let last = d.0 in
     record { keeper = grind (arith, nat_tests); resting = o.0; few = grind (arith, nat_tests); met = sym t.1 }
 

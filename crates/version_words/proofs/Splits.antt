@@ -6,12 +6,11 @@ use Rattle.section_body.specs.declared.micro.Micro.{Micro}
 use Rattle.table_words.specs.declared.layout.Layout.{Layout}
 use Rattle.table_words.specs.declared.spot.Spot.{Spot}
 use Rattle.table_words.specs.declared.access.Access.{Access}
-use Rattle.table_words.specs.Access.{written}
 use Rattle.structure_laws.specs.Meaning.{Meaning}
 use Rattle.runner_parts.specs.declared.event.EventKind.{EventKind}
 use Rattle.runner_parts.specs.declared.event.EventKind.TheVariants as kinds
-use Rattle.runner_parts.specs.declared.stage.Stage.{Stage}
-use Rattle.runner_parts.specs.declared.stage.Stage.TheVariants as stages
+use Rattle.epoch_core.specs.declared.stage.Stage.{Stage}
+use Rattle.epoch_core.specs.declared.stage.Stage.TheVariants as stages
 use Rattle.runner_parts.specs.declared.entries.Published.{Published}
 use Rattle.runner_parts.specs.State.{RunState, PartState, RecordsState}
 use Rattle.runner_steps.specs.Sections.{is_open_run, next_of, thunk_of}
@@ -20,7 +19,7 @@ use Rattle.runner_steps.specs.InRun.{stamp_after, last_clock}
 use Rattle.runner_parts.specs.Lists.{learned}
 use Rattle.runner_steps.specs.AfterOutside.{scan_one_after, advance_after, retire_after}
 use Rattle.runner_steps.specs.AfterInRun.{goes_on, fill_loaded, make_committed, stamp_agreed}
-use Rattle.runner_steps.specs.After.{outside_after, line_after, after_by, stepped, left_more, noted, after}
+use Rattle.runner_steps.specs.After.{outside_after, line_after, after_by, stepped, noted, after}
 
 abbrev pub is_split : EventKind → Bool
 is_split kinds.Split = true
@@ -41,12 +40,8 @@ known_chosen false s t n left right = right
 pub learns : (s : RecordsState) (request : ℕ) (reply : Bool) (number : ℕ) → (learned s request reply number).splits ≡ s.splits
 learns s request reply number = known_chosen (number == 0) s _ s.splits refl refl
 
-leaves_more : (s : RecordsState) (k : EventKind) (spot : Spot) (number : ℕ) → (left_more s k spot number).splits ≡ s.splits
-leaves_more s (kinds.Join worker) spot number = refl
-leaves_more s _ spot number = refl
-
 pub notes : (l : Layout) (r : ℕ) (k : EventKind) (spot : Spot) (access : Access) (found : ℕ) (s : RecordsState) → (noted l r k spot access found s).splits ≡ s.splits
-notes l r k spot access found s = known_chosen (r == l.runners) _ _ s.splits (leaves_more _ k spot (written access found)) refl
+notes l r k spot access found s = refl
 
 scans : (l : Layout) (p : PartState) (stage : Stage) (found : ℕ) → splits (scan_one_after l p stage found) ≡ splits p
 scans l p (stages.Scanning x next clear) found = chosen (nat_le next l.runners) _ p (splits p) (chosen _ _ _ (splits p) refl refl) refl

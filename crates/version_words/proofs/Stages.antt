@@ -16,17 +16,19 @@ use Rattle.table_words.specs.declared.access.Access.TheVariants.{Loads, Stores, 
 use Rattle.table_words.specs.Places.{Fits, slot_count, descriptor_count}
 use Rattle.table_words.proofs.Seen.{fits_is}
 use Rattle.structure_laws.specs.Meaning.{Meaning}
+use Rattle.epoch_core.specs.Moves.{is_clear}
 use Rattle.runner_parts.specs.declared.event.EventKind.{EventKind}
 use Rattle.runner_parts.specs.declared.event.EventKind.TheVariants as kinds
-use Rattle.runner_parts.specs.declared.stage.Stage.{Stage}
-use Rattle.runner_parts.specs.declared.stage.Stage.TheVariants as stages
+use Rattle.epoch_core.specs.declared.stage.Stage.{Stage}
+use Rattle.epoch_core.specs.declared.stage.Stage.TheVariants as stages
 use Rattle.runner_parts.specs.declared.entries.Published.{Published}
 use Rattle.runner_parts.specs.Tests.{has, is_walking, is_resting, is_outside}
-use Rattle.runner_parts.specs.State.{RunState, PartState, RecordsState}
-use Rattle.runner_steps.specs.Outside.{Ask, when, enter_load_ask, announce_ask, enter_again_ask, scan_one_ask, advance_ask, last_epoch, descriptor_spot}
+use Rattle.runner_parts.specs.State.{RunState, PartState}
+use Rattle.runner_steps.specs.Outside.{Ask, when, enter_load_ask, announce_ask, enter_again_ask, scan_one_ask, advance_ask, descriptor_spot}
+use Rattle.epoch_core.specs.State.{last_epoch}
 use Rattle.runner_steps.specs.Asks.{ask_by, outside_ask, fitting, sizes_for}
-use Rattle.runner_steps.specs.AfterOutside.{with_stage, collected, scanned, scan_one_after, advance_after, is_clear}
-use Rattle.runner_steps.specs.After.{outside_after, after_by, stepped, after, leaves, tallied}
+use Rattle.runner_steps.specs.AfterOutside.{with_stage, collected, scanned, scan_one_after, advance_after}
+use Rattle.runner_steps.specs.After.{outside_after, after_by, after, leaves}
 use Rattle.version_words.specs.RunnerState.{RunnerState}
 use Rattle.version_words.specs.TableState.{TableState, first_keeper}
 use Rattle.version_words.specs.Events.{met_by, IsEnabled, Makes, HasSplit, next_worker, joined_by}
@@ -206,13 +208,9 @@ has_more : (xs : List ℕ) (x y : ℕ) → has xs y ≡ false → x ≢ y → ha
 has_more [] x y none ne = ap (λ (b : Bool). b || false) (ne_eqb x y ne)
 has_more (z ∷ xs) x y none ne = grind (arith, nat_tests, none, ne, has_more xs x y)
 
-kept_joined : (b : Bool) (s t : RecordsState) (joined : List ℕ) → s.joined ≡ joined → t.joined ≡ joined → (if b then s else t).joined ≡ joined
-kept_joined true s t joined one two = one
-kept_joined false s t joined one two = two
-
 lists_joined : (m : Meaning) (l : Layout) (r worker : ℕ) (p : PartState) → p.run ≡ None → (after m l r (kinds.Join worker) spots.Seat Loads p 0).records.joined ≡ p.records.joined ++ worker ∷ []
-lists_joined m l r worker p none = let s = (stepped m l (kinds.Join worker) p 0).records in
-    kept_joined (r == l.runners) _ (tallied Loads 0 s) s.joined refl refl ∙ ap (λ (o : Option RunState). (after_by m l (kinds.Join worker) p o 0).records.joined) none
+lists_joined m l r worker p none =
+    ap (λ (o : Option RunState). (after_by m l (kinds.Join worker) p o 0).records.joined) none
 
 -- a keeper that joins a worker
 module _ {T : Type 0} (m : Meaning) (keeper worker r' : RunnerState T) (splits count : ℕ) (joins : r' ≡ joined_by m worker keeper) where
@@ -255,10 +253,9 @@ module _ (l : Layout) (epoch next : ℕ) (clear : Bool) (found : ℕ) where
 
 -- a split joins no one
 splits_none : (m : Meaning) (l : Layout) (r : ℕ) (spot : Spot) (access : Access) (found : ℕ) (p : PartState) → p.run ≡ None → (after m l r kinds.Split spot access p found).records.joined ≡ p.records.joined
-splits_none m l r spot access found p none = let s = (stepped m l kinds.Split p found).records in
-    kept_joined (r == l.runners) _ (tallied access found s) s.joined refl refl
-    ∙ (ap (λ (o : Option RunState). (after_by m l kinds.Split p o found).records.joined) none
-    ∙ same (λ (q : PartState). q.records.joined) (nat_lt p.records.splits l.runners) (record p { records = record (p.records) { splits = p.records.splits + 1 } }) p p.records.joined refl refl)
+splits_none m l r spot access found p none =
+    ap (λ (o : Option RunState). (after_by m l kinds.Split p o found).records.joined) none
+    ∙ same (λ (q : PartState). q.records.joined) (nat_lt p.records.splits l.runners) (record p { records = record (p.records) { splits = p.records.splits + 1 } }) p p.records.joined refl refl
 
 pub split_joined : {T : Type 0} (m : Meaning) (r r' : RunnerState T) (splits count : ℕ) → HasSplit m r r' → IsKeeper r splits → HasJoined r count → HasJoined r' count
 split_joined m r r' splits count split is joined = record {

@@ -5,13 +5,14 @@ use Rattle.table_words.specs.declared.layout.Layout.{Layout}
 use Rattle.table_words.specs.declared.spot.Spot.{Spot}
 use Rattle.table_words.specs.declared.access.Access.{Access}
 use Rattle.structure_laws.specs.Meaning.{Meaning}
+use Rattle.epoch_core.specs.Moves.{is_clear}
 use Rattle.runner_parts.specs.declared.event.EventKind.{EventKind}
 use Rattle.runner_parts.specs.declared.event.EventKind.TheVariants as kinds
-use Rattle.runner_parts.specs.declared.stage.Stage.{Stage}
-use Rattle.runner_parts.specs.declared.stage.Stage.TheVariants as stages
+use Rattle.epoch_core.specs.declared.stage.Stage.{Stage}
+use Rattle.epoch_core.specs.declared.stage.Stage.TheVariants as stages
 use Rattle.runner_parts.specs.State.{RunState, PartState}
-use Rattle.runner_steps.specs.Outside.{last_epoch}
-use Rattle.runner_steps.specs.AfterOutside.{with_stage, collected, scanned, is_clear, scan_one_after, advance_after}
+use Rattle.epoch_core.specs.State.{last_epoch}
+use Rattle.runner_steps.specs.AfterOutside.{with_stage, collected, scanned, scan_one_after, advance_after}
 use Rattle.runner_steps.specs.After.{outside_after, after_by, stepped, after}
 use Rattle.version_words.specs.RunnerState.{RunnerState, told_part}
 use Rattle.version_words.specs.Events.{Makes}
@@ -24,7 +25,7 @@ false_true e = cc
 
 module _ (m : Meaning) (l : Layout) (r : ℕ) (k : EventKind) (spot : Spot) (access : Access) (p : PartState) (found : ℕ) where
   pub told : told_part (after m l r k spot access p found) ≡ told_part (stepped m l k p found)
-  told = ap (λ (z : ℕ). record (told_part (stepped m l k p found)) { records = record { known = []; finished = []; events = 0; won = 0; left = []; splits = z; joined = [] } })
+  told = ap (λ (z : ℕ). record (told_part (stepped m l k p found)) { records = record { known = []; finished = []; events = 0; won = 0; epoch_seen = 0; crossed = false; crosses = false; left = []; splits = z; joined = [] } })
       (notes l r k spot access found (stepped m l k p found).records)
 
   -- after an event in no run

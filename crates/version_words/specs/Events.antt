@@ -5,7 +5,7 @@ use Rattle.atomic_table.specs.Table.{Me, Step, step}
 use Rattle.atomic_table.specs.Seated.{TableId}
 use Rattle.section_body.specs.declared.thunk.Thunk.{Thunk}
 use Rattle.table_words.specs.Access.{written, wins}
-use Rattle.table_words.specs.Places.{address}
+use Rattle.table_words.specs.Places.{address, descriptor_at}
 use Rattle.table_words.specs.declared.spot.Spot.{Spot}
 use Rattle.table_words.specs.declared.spot.Spot.TheVariants.{Seat}
 use Rattle.table_words.specs.declared.access.Access.{Access}
@@ -97,6 +97,13 @@ module _ {T : Type 0} (m : Meaning) where
   -- the step on this word of the table, with these two operands, that announces this
   abbrev pub step_at : TableState T → Spot → ℕ → ℕ → Announced → Step Thunk
   step_at t spot first second said = step t.table.slots (address (sizes_for m t.layout t.requests) spot) first second said
+
+-- where this word stands in the table, and where the words of this descriptor begin
+abbrev pub address_of : {T : Type 0} → Meaning → TableState T → Spot → ℕ
+address_of m t spot = address (sizes_for m t.layout t.requests) spot
+
+abbrev pub start_of : {T : Type 0} → Meaning → TableState T → ℕ → ℕ
+start_of m t descriptor = descriptor_at (sizes_for m t.layout t.requests) descriptor
 
 -- what contracts see of a seat
 abbrev pub seen_seat : {T : Type 0} → TableId → Me Thunk (View T) → RunnerState T

@@ -3,8 +3,8 @@ use Rattle.std.specs.Prelude.{ℕ, List, [], Option, Some, None, false}
 use Rattle.atomic_table.specs.Seated.{TableId}
 use Rattle.map_history.specs.declared.op.Request.{Request}
 use Rattle.table_words.specs.declared.layout.Layout.{Layout}
-use Rattle.runner_parts.specs.declared.stage.Stage.{Stage}
-use Rattle.runner_parts.specs.declared.stage.Stage.TheVariants as stages
+use Rattle.epoch_core.specs.declared.stage.Stage.{Stage}
+use Rattle.epoch_core.specs.declared.stage.Stage.TheVariants as stages
 use Rattle.runner_parts.specs.declared.entries.Published.{Published}
 use Rattle.runner_parts.specs.State.{PartState}
 use Rattle.runner_parts.specs.Lists.{no_reads}
@@ -38,6 +38,6 @@ told_part p = record {
   nodes = p.nodes;
   descriptors = record (p.descriptors) { stored = [] };
   reads = no_reads;
-  records = record { known = []; finished = []; events = 0; won = 0; left = []; splits = p.records.splits; joined = [] };
+  records = record { known = []; finished = []; events = 0; won = 0; epoch_seen = 0; crossed = false; crosses = false; left = []; splits = p.records.splits; joined = [] };
   gone = false;
 }

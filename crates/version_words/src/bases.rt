@@ -62,15 +62,25 @@ impl Bases {
 }
 
 impl Bases {
-    ghost use Rattle.std.specs.Prelude.{◌≡◌, ◌<◌};
+    ghost use Rattle.std.specs.Prelude.{◌≡◌, ◌+◌};
     ghost use Rattle.table_words.specs.Places.{descriptor_at};
 
     /// Where the words of this descriptor begin.
     #[inline(always)]
-    fn descriptor_at(&self, descriptor: u32) -> usize
-        requires { descriptor < self.now.descriptors }
+    pub fn descriptor_at(&self, descriptor: u32) -> usize
         ensures { result ≡ descriptor_at self.now descriptor }
     {
         self.descriptors + 77 * descriptor as usize
+    }
+
+    /// Where this word stands of a descriptor whose words begin here.
+    #[inline(always)]
+    pub fn word_at(&self, descriptor: u32, start: usize, word: u32) -> usize
+        requires { start ≡ descriptor_at self.now descriptor }
+        ensures { result ≡ start + word }
+    {
+        let _ = descriptor;
+        let _ = &self.sizes;
+        start + word as usize
     }
 }

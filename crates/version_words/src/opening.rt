@@ -6,7 +6,7 @@ ghost use Rattle.runner_parts.specs.declared.event.EventKind.TheVariants as kind
 ghost use Rattle.version_words.specs.Naming.{open_of};
 ghost use Rattle.version_words.specs.Place.{opened_of, own_done};
 ghost use Rattle.version_words.specs.TableState.{IsOf};
-ghost use Rattle.version_words.specs.Events.{met_by, Makes};
+ghost use Rattle.version_words.specs.Events.{met_by, Makes, start_of};
 
 use crate::plays;
 use crate::runner::Runner;
@@ -15,10 +15,17 @@ use runner_parts::Structure;
 use table_words::Spot;
 
 impl<S: Structure> FlockTable<S> {
-    /// The next thunk word of the run's descriptor; outside a run the first one of a descriptor that the runner holds, with which a
-    /// run begins.
-    pub fn load_thunk(&self, mut runner: Runner<S>, descriptor: u32) -> (Runner<S>, u64)
+    /// The next thunk word of the run's descriptor, whose words begin at this start; outside a run the first one of a descriptor that the
+    /// runner holds, with which a run begins.
+    #[inline(always)]
+    pub fn load_thunk(
+        &self,
+        mut runner: Runner<S>,
+        descriptor: u32,
+        start: usize,
+    ) -> (Runner<S>, u64)
         requires own { IsOf self.now runner }
+        requires start { start ≡ start_of (S.meaning self.now.structure) self.now descriptor }
         requires next { met_by (S.meaning self.now.structure) runner (open_of runner.part.run descriptor) ≡ Some
             (spots.ThunkWord descriptor (opened_of runner.part.run), Loads) }
         ensures own { IsOf self.now result.0 }
@@ -26,7 +33,8 @@ impl<S: Structure> FlockTable<S> {
     {
         let index = runner.kept.place.next_thunk_word();
         let spot = Spot::ThunkWord(descriptor, index);
-        let word = self.load::<plays::LoadThunk>(&mut runner.seat, spot);
+        let at = self.setup.sizes.word_at(descriptor, start, index);
+        let word = self.load_at::<plays::LoadThunk>(&mut runner.seat, spot, at);
         runner.kept.place.opened(descriptor, word);
         (runner, word)
     }

@@ -1,31 +1,17 @@
 //! Steps on the words of own slots.
 ghost use Rattle.std.specs.Prelude.{◌≡◌, ◌+◌, ℕ};
 ghost use Rattle.table_words.specs.Places.{slot_count};
-ghost use Rattle.runner_steps.specs.Outside.{descriptor_spot};
 ghost use Rattle.runner_parts.specs.declared.event.EventKind.TheVariants as kinds;
 ghost use Rattle.version_words.specs.Private.{IsWithin, private_spot};
 ghost use Rattle.version_words.specs.TableState.{IsOf};
-ghost use Rattle.version_words.specs.Events.{IsEnabled, Makes};
+ghost use Rattle.version_words.specs.Events.{IsEnabled, Makes, start_of};
 
 use crate::plays;
 use crate::runner::Runner;
 use crate::table::FlockTable;
 use runner_parts::Structure;
+use runner_steps::descriptor_spot;
 use table_words::Spot;
-
-/// A descriptor's word: the thunk words, the done word, the log.
-#[inline(always)]
-fn descriptor_spot(descriptor: u32, word: u32) -> Spot
-    ensures { result ≡ descriptor_spot descriptor word }
-{
-    if word < 12 {
-        Spot::ThunkWord(descriptor, word)
-    } else if word == 12 {
-        Spot::DoneWord(descriptor)
-    } else {
-        Spot::LogWord(descriptor, word - 13)
-    }
-}
 
 impl<S: Structure> FlockTable<S> {
     /// A word of a slot: a cell of a node slot, or a word of a descriptor.
@@ -81,15 +67,18 @@ impl<S: Structure> FlockTable<S> {
         runner
     }
 
-    /// A word of an own free descriptor, as `private_load` of the slot that the descriptor is numbered as: of descriptors nothing is kept.
+    /// A word of an own free descriptor, whose words begin at this start, as `private_load` of the slot that the descriptor is numbered as:
+    /// of descriptors nothing is kept.
     #[inline(always)]
     pub fn descriptor_load(
         &self,
         mut runner: Runner<S>,
         descriptor: u32,
+        start: usize,
         word: u32,
     ) -> (Runner<S>, u64)
         requires own { IsOf self.now runner }
+        requires start { start ≡ start_of (S.meaning self.now.structure) self.now descriptor }
         requires next { let m = S.meaning self.now.structure in
             IsEnabled m (kinds.PrivateLoad (slot_count self.now.layout m.fixed_slots + descriptor) word) runner }
         ensures own { IsOf self.now result.0 }
@@ -97,7 +86,8 @@ impl<S: Structure> FlockTable<S> {
             Makes m (kinds.PrivateLoad (slot_count self.now.layout m.fixed_slots + descriptor) word) result.1 runner result.0 }
     {
         let spot = descriptor_spot(descriptor, word);
-        let found = self.load::<plays::PrivateLoad>(&mut runner.seat, spot);
+        let at = self.setup.sizes.word_at(descriptor, start, word);
+        let found = self.load_at::<plays::PrivateLoad>(&mut runner.seat, spot, at);
         (runner, found)
     }
 
@@ -107,10 +97,12 @@ impl<S: Structure> FlockTable<S> {
         &self,
         mut runner: Runner<S>,
         descriptor: u32,
+        start: usize,
         word: u32,
         number: u64,
     ) -> Runner<S>
         requires own { IsOf self.now runner }
+        requires start { start ≡ start_of (S.meaning self.now.structure) self.now descriptor }
         requires next { let m = S.meaning self.now.structure in
             IsEnabled m (kinds.PrivateStore (slot_count self.now.layout m.fixed_slots + descriptor) word number) runner }
         ensures own { IsOf self.now result }
@@ -118,7 +110,8 @@ impl<S: Structure> FlockTable<S> {
             (found : ℕ) → Makes m (kinds.PrivateStore (slot_count self.now.layout m.fixed_slots + descriptor) word number) found runner result }
     {
         let spot = descriptor_spot(descriptor, word);
-        self.store::<plays::PrivateStore>(&mut runner.seat, spot, number);
+        let at = self.setup.sizes.word_at(descriptor, start, word);
+        self.store_at::<plays::PrivateStore>(&mut runner.seat, spot, at, number);
         runner
     }
 }

@@ -5,8 +5,9 @@ ghost use Rattle.version_words.specs.RunnerState.{entered_of};
 
 use crate::view::View;
 use atomic_table::Seat;
+use epoch_core::Stage;
 use runner_block::Block;
-use runner_parts::{Stage, Structure};
+use runner_parts::Structure;
 use section_body::{Body, Thunk};
 use std::alloc::Global;
 use std::marker::Model;

@@ -7,7 +7,8 @@ ghost use Rattle.version_words.specs.Events.{IsEnabled, Makes, Tries};
 use crate::plays;
 use crate::runner::Runner;
 use crate::table::FlockTable;
-use runner_parts::{Stage, Structure};
+use epoch_core::Stage;
+use runner_parts::Structure;
 use table_words::Spot;
 
 impl<S: Structure> FlockTable<S> {

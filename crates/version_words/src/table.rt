@@ -4,7 +4,7 @@ ghost use Rattle.table_words.specs.declared.access.Access.TheVariants.{Loads, St
 ghost use Rattle.table_words.specs.Access.{written};
 ghost use Rattle.version_words.specs.Naming.{is_seat};
 ghost use Rattle.version_words.specs.TableState.{IsOf};
-ghost use Rattle.version_words.specs.Events.{Makes, Tries, Leaves, Commits, IsNamed, IsBlind, event_by, step_at, nothing, announcing, seen_seat};
+ghost use Rattle.version_words.specs.Events.{Makes, Tries, Leaves, Commits, IsNamed, IsBlind, event_by, step_at, address_of, start_of, nothing, announcing, seen_seat};
 
 use crate::plays::{self, Named};
 use crate::rule::{Setup, Shows};
@@ -34,6 +34,14 @@ impl<S: Structure> Model for FlockTable<S> {
 }
 
 impl<S: Structure> FlockTable<S> {
+    /// Where the words of this descriptor begin. The steps on them take it, so that it is worked out once for all of them.
+    #[inline(always)]
+    pub fn descriptor_start(&self, descriptor: u32) -> usize
+        ensures { result ≡ start_of (S.meaning self.now.structure) self.now descriptor }
+    {
+        self.setup.sizes.descriptor_at(descriptor)
+    }
+
     /// A load that is the event of this name.
     #[inline(always)]
     pub(crate) fn load<E: Named>(&self, seat: &mut Seat<Thunk, View<S>>, spot: Spot) -> u64
@@ -47,6 +55,29 @@ impl<S: Structure> FlockTable<S> {
         ensures slots { seat.new.me.1 ≡ seat.old.me.1 }
     {
         let at = self.setup.sizes.address(spot);
+        self.load_at::<E>(seat, spot, at)
+    }
+
+    /// The same, of a word whose address is known.
+    #[inline(always)]
+    pub(crate) fn load_at<E: Named>(
+        &self,
+        seat: &mut Seat<Thunk, View<S>>,
+        spot: Spot,
+        at: usize,
+    ) -> u64
+        requires own { IsOf self.now (seen_seat seat.old.table_id seat.old.me) }
+        requires named { let m = S.meaning self.now.structure in let r = seen_seat seat.old.table_id seat.old.me in
+            IsNamed m E.naming r (step_at m self.now spot 0 0 nothing) (spot, Loads) }
+        requires at { at ≡ address_of (S.meaning self.now.structure) self.now spot }
+        ensures own { IsOf self.now (seen_seat seat.new.table_id seat.new.me) }
+        ensures event { let m = S.meaning self.now.structure in let r = seen_seat seat.old.table_id seat.old.me in
+            Makes m (event_by m E.naming r (step_at m self.now spot 0 0 nothing)) result r
+            (seen_seat seat.new.table_id seat.new.me) }
+        ensures slots { seat.new.me.1 ≡ seat.old.me.1 }
+    {
+        let _ = spot;
+        let _ = &self.setup;
         self.table.shared.load::<plays::Makes<S, E>>(seat, at)
     }
 
@@ -66,6 +97,33 @@ impl<S: Structure> FlockTable<S> {
         ensures slots { seat.new.me.1 ≡ seat.old.me.1 }
     {
         let at = self.setup.sizes.address(spot);
+        self.store_at::<E>(seat, spot, at, number);
+    }
+
+    /// The same, to a word whose address is known.
+    #[inline(always)]
+    pub(crate) fn store_at<E: Named>(
+        &self,
+        seat: &mut Seat<Thunk, View<S>>,
+        spot: Spot,
+        at: usize,
+        number: u64,
+    )
+        requires own { IsOf self.now (seen_seat seat.old.table_id seat.old.me) }
+        requires named { let m = S.meaning self.now.structure in let r = seen_seat seat.old.table_id seat.old.me in
+            IsNamed m E.naming r (step_at m self.now spot number 0 nothing) (spot, Stores number) }
+        requires apart { is_seat spot ≡ false }
+        requires blind { let m = S.meaning self.now.structure in let r = seen_seat seat.old.table_id seat.old.me in
+            IsBlind m (event_by m E.naming r (step_at m self.now spot number 0 nothing)) (spot, Stores number) r }
+        requires at { at ≡ address_of (S.meaning self.now.structure) self.now spot }
+        ensures own { IsOf self.now (seen_seat seat.new.table_id seat.new.me) }
+        ensures event { let m = S.meaning self.now.structure in let r = seen_seat seat.old.table_id seat.old.me in
+            (found : ℕ) → Makes m (event_by m E.naming r (step_at m self.now spot number 0 nothing)) found r
+            (seen_seat seat.new.table_id seat.new.me) }
+        ensures slots { seat.new.me.1 ≡ seat.old.me.1 }
+    {
+        let _ = spot;
+        let _ = &self.setup;
         self.table
             .shared
             .store::<plays::Makes<S, E>>(seat, at, number)

@@ -30,7 +30,7 @@ returns-clause-enters g c =
       again = again;
       at = then_entered _ _ _ _ _ again announced;
       reads = reads_made _ _ _ _ _ again announced.resting;
-      keeps = own_kept_on _ _ _ (own_kept _ _ _ _ _ load c.requires.idle.resting (record { known = λ s access found spot. refl; finished = λ s access found spot. refl }) refl refl refl)
-          (own_kept_on _ _ _ (own_kept _ _ _ _ _ announce loaded.resting (record { known = λ s access found spot. refl; finished = λ s access found spot. refl }) refl refl refl)
-          (own_kept _ _ _ _ _ again announced.resting (record { known = λ s access found spot. refl; finished = λ s access found spot. refl }) refl refl refl));
+      keeps = own_kept_on _ _ _ (own_kept _ _ _ _ _ load c.requires.idle.resting refl refl refl)
+          (own_kept_on _ _ _ (own_kept _ _ _ _ _ announce loaded.resting refl refl refl)
+          (own_kept _ _ _ _ _ again announced.resting refl refl refl));
     }

@@ -10,5 +10,5 @@ pub returns-clause-exits : goal.returns-clause-exits
 returns-clause-exits g c = let announce = c.idle.ensures.event 0 in let entered = c.requires.entered.at in record {
   announce = record { found = 0; event = announce };
   at = then_idle _ _ _ _ _ _ announce entered;
-  keeps = own_kept _ _ _ _ _ announce entered.resting (record { known = λ s access found spot. refl; finished = λ s access found spot. refl }) refl refl refl;
+  keeps = own_kept _ _ _ _ _ announce entered.resting refl refl refl;
 }

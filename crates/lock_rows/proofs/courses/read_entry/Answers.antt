@@ -1,6 +1,6 @@
-use Rattle.std.proofs.Common.{◌<◌, length, true, false, sym, subst, ◌∙◌, ◌≢◌, None}
+use Rattle.std.proofs.Common.{◌<◌, length, true, false, sym, subst, ◌∙◌, None}
 use Rattle.std.specs.Prelude.{◌&&◌}
-use Rattle.runner_parts.specs.declared.stage.Stage.TheVariants as stages
+use Rattle.epoch_core.specs.declared.stage.Stage.TheVariants as stages
 use Rattle.try_lock.specs.version_words.proofs.Stages.{may_load_entry, then_knows}
 use Rattle.lock_rows.proofs.Serving.{loaded_tidy, loaded_others, loaded_knows, loaded_still}
 use Rattle.lock_rows.proofs.courses.read_entry.Goals as goal

@@ -1,4 +1,5 @@
-use Rattle.std.proofs.Common.{◌≡◌, Bool, ◌∷◌, [], ◌++◌, true, false, refl, arith, sym, ap, ◌∙◌}
+use Rattle.std.proofs.Common.{◌≡◌, ℕ, ◌≤◌, List, length, take, slice_set, Bool, ◌∷◌, [], ◌++◌, true, false, refl, arith, sym, ap, ◌∙◌}
+use Rattle.std.proofs.lemmas.List.{take_all, take_more_set, length-set}
 use Rattle.std.specs.Prelude.{◌==◌, not, if◌then◌else◌}
 use Rattle.nested_lock.proofs.Reading.{index_last}
 use Rattle.runner_steps.specs.Sections.{thunk_of}
@@ -30,6 +31,10 @@ returns-then-not-passes-clause-halted g c =
 pub returns-clause-asked : goal.returns-clause-asked
 returns-clause-asked g c = asked_more 12 1 true _ _ _ _ _ _ _ _ _ (c.load_words-runner.ensures.asked c.if-not-going.false) c.if-not-passes.ensures
 
+-- thirteen words, of which the last was written over
+all_of : (xs : List ℕ) (n : ℕ) → length xs ≡ 13 → slice_set xs 12 n ≡ take 12 xs ++ n ∷ []
+all_of xs n e = let all : length (slice_set xs 12 n) ≤ 13 = (let same = length-set xs 12 n in omega (arith, same, e)) in sym (take_all 13 (slice_set xs 12 n) all) ∙ take_more_set xs 12 n (omega (arith, e))
+
 -- a truth value as a number
 not_zero : (b : Bool) → not ((if b then 1 else 0) == 0) ≡ b
 not_zero true = refl
@@ -42,5 +47,5 @@ returns-clause-opened g c =
     then_opened (g.S.Structure.meaning c.args.table.now.structure) (met.laws c.args.table.now.structure) c.args.table.now c.table_is_allowed.ensures.limits
     c.table_is_allowed.ensures.requests c.args.runner c.args.descriptor c.requires.next 12 _ c.load_words-runner.result.0 c.load_words-runner.ensures.own opening refl
     _ _ c.load_done-runner.ensures.event _ _
-    (c.thunk_from-thunk.ensures ∙ ap thunk_of (c.as_slice.ensures.value ∙ (c.push.ensures.items ∙ ap (λ n. c.load_words-runner.new.words.items ++ n ∷ []) c.done_word.ensures)))
+    (c.thunk_from-thunk.ensures ∙ ap thunk_of (all_of c.load_words-runner.new.words c.done_word.result c.load_words-runner.ensures.room ∙ ap (λ n. take 12 c.load_words-runner.new.words ++ n ∷ []) c.done_word.ensures))
     (sym (ap (λ n. not (n == 0)) (index_last _ _ 12 (sym opening.count)) ∙ not_zero c.load_done-runner.result.1))

@@ -1,5 +1,5 @@
 use Rattle.std.proofs.Common.{◌≡◌, None}
-use Rattle.runner_parts.specs.declared.stage.Stage.TheVariants as stages
+use Rattle.epoch_core.specs.declared.stage.Stage.TheVariants as stages
 use Rattle.version_words.specs.TableState.{IsOf}
 use Rattle.version_words.specs.Stages.{IsAt}
 use Rattle.table_rows.proofs.rows.busy.Given as goal

@@ -1,6 +1,6 @@
 use Rattle.std.proofs.Common.{◌≡◌, ℕ, ◌+◌, Bool, None, sym, subst, ◌∙◌, ap, arith}
 use Rattle.table_words.specs.declared.layout.Layout.{Layout}
-use Rattle.runner_parts.specs.declared.stage.Stage.TheVariants.{Scanning}
+use Rattle.epoch_core.specs.declared.stage.Stage.TheVariants.{Scanning}
 use Rattle.version_words.specs.Stages.{IsAt}
 use Rattle.version_words.proofs.Stages.{may_scan_epoch, then_scanning, same_number}
 use Rattle.table_rows.proofs.Scans.{may_scan, scans_on}

@@ -3,7 +3,7 @@ use Rattle.structure_laws.specs.Tray.{tray}
 use Rattle.table_words.specs.declared.layout.Layout.{Layout}
 use Rattle.table_rows.specs.Slots.{slot_of}
 use Rattle.runner_parts.specs.declared.event.EventKind.TheVariants.{PrivateLoad}
-use Rattle.runner_parts.specs.declared.stage.Stage.TheVariants as stages
+use Rattle.epoch_core.specs.declared.stage.Stage.TheVariants as stages
 use Rattle.version_words.specs.Events.{IsEnabled}
 use Rattle.version_words.proofs.Stages.{may_load_word}
 use Rattle.table_rows.proofs.walks.fetch.Goals as goal

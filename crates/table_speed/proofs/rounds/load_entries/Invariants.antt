@@ -1,5 +1,5 @@
 use Rattle.std.proofs.Common.{◌≡◌, None}
-use Rattle.runner_parts.specs.declared.stage.Stage.TheVariants as stages
+use Rattle.epoch_core.specs.declared.stage.Stage.TheVariants as stages
 use Rattle.table_rows.specs.version_words.specs.TableState.{IsOf}
 use Rattle.table_rows.specs.version_words.specs.Stages.{IsAt}
 use Rattle.table_speed.proofs.rounds.load_entries.Given as goal

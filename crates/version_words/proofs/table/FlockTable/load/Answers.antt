@@ -1,29 +1,12 @@
-use Rattle.std.proofs.Common.{refl}
 use Rattle.table_words.specs.declared.access.Access.TheVariants.{Loads}
 use Rattle.version_words.specs.Events.{nothing}
-use Rattle.version_words.proofs.Calls.{spot_fits, step_owes, own_still, event_made, slots_still}
+use Rattle.version_words.proofs.Calls.{spot_fits, at_seen}
 use Rattle.version_words.proofs.table.FlockTable.load.Goals as goal
 
 pub address-at-requires : goal.address-at-requires
 address-at-requires g c = let t = c.self.inside in let seat = c.args.seat.now in
     spot_fits g.S.Structure.meaning t.table.shared.table_id t.table.shared.key t.setup c.self.invariant seat.table_id seat.me g.E.Named.naming c.args.spot Loads 0 0 nothing c.args.self.now c.self.view_is c.requires.own c.requires.named
 
-pub load-requires : goal.load-requires
-load-requires g c = let t = c.self.inside in let seat = c.args.seat.now in
-    step_owes g.S.Structure.meaning t.table.shared.table_id t.table.shared.key t.setup c.self.invariant seat.table_id seat.me g.E.Named.naming c.args.spot Loads 0 0 nothing c.args.self.now c.self.view_is c.requires.own c.requires.named
-    seat.id c.address-at.result c.address-at.ensures (λ n z. refl)
-
-pub returns-clause-own : goal.returns-clause-own
-returns-clause-own g c = let t = c.self.inside in let seat = c.args.seat.now in
-    own_still g.S.Structure.meaning t.table.shared.table_id t.table.shared.key t.setup c.self.invariant seat.table_id seat.me g.E.Named.naming c.args.spot Loads 0 0 nothing c.args.self.now c.self.view_is c.requires.own c.requires.named
-    c.load.result c.address-at.result c.address-at.ensures c.load.new.seat.table_id c.load.new.seat.me c.load.ensures.0 c.load.ensures.2
-
-pub returns-clause-event : goal.returns-clause-event
-returns-clause-event g c = let t = c.self.inside in let seat = c.args.seat.now in
-    event_made g.S.Structure.meaning t.table.shared.table_id t.table.shared.key t.setup c.self.invariant seat.table_id seat.me g.E.Named.naming c.args.spot Loads 0 0 nothing c.args.self.now c.self.view_is c.requires.own c.requires.named
-    c.load.result c.address-at.result c.address-at.ensures c.load.new.seat.table_id c.load.new.seat.me c.load.ensures.0 c.load.ensures.2
-
-pub returns-clause-slots : goal.returns-clause-slots
-returns-clause-slots g c = let t = c.self.inside in let seat = c.args.seat.now in
-    slots_still g.S.Structure.meaning t.table.shared.table_id t.table.shared.key t.setup c.self.invariant seat.table_id seat.me g.E.Named.naming c.args.spot Loads 0 0 nothing c.args.self.now c.self.view_is c.requires.own c.requires.named
-    c.load.result c.address-at.result c.address-at.ensures c.load.new.seat.table_id c.load.new.seat.me c.load.ensures.0 c.load.ensures.2
+pub load_at-requires-clause-at : goal.load_at-requires-clause-at
+load_at-requires-clause-at g c = let t = c.self.inside in let seat = c.args.seat.now in
+    λ κs lives. at_seen g.S.Structure.meaning t.table.shared.table_id t.table.shared.key t.setup c.self.invariant seat.table_id seat.me g.E.Named.naming c.args.spot Loads 0 0 nothing c.args.self.now c.self.view_is c.requires.own c.requires.named c.address-at.result c.address-at.ensures
