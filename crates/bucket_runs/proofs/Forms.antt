@@ -15,14 +15,14 @@ use Rattle.section_body.specs.declared.micro.Micro.TheVariants.{LoadCell, Commit
 use Rattle.section_body.specs.declared.thunk.Thunk.{Thunk}
 
 -- the check of a Want passes where the word is the wanted one
-word_passes : (place word read : ℕ) → read ≡ word → cond (read == word) None (Some (Stale place word read)) ≡ None
+pub word_passes : (place word read : ℕ) → read ≡ word → cond (read == word) None (Some (Stale place word read)) ≡ None
 word_passes place word read same = ap (λ b. cond b None (Some (Stale place word read))) (equal read word same)
   where
     equal : (a b : ℕ) → a ≡ b → (a == b) ≡ true
     equal a b e = grind (arith, nat_tests)
 
 -- the check of a Fresh passes where the version isn't the greatest
-fresh_passes : (place read max : ℕ) → version_of read ≢ max → cond (version_of read == max) (Some (Spent place read)) None ≡ None
+pub fresh_passes : (place read max : ℕ) → version_of read ≢ max → cond (version_of read == max) (Some (Spent place read)) None ≡ None
 fresh_passes place read max ne = ap (λ b. cond b (Some (Spent place read)) None) (unequal (version_of read) max ne)
   where
     unequal : (a b : ℕ) → a ≢ b → (a == b) ≡ false

@@ -1,4 +1,1 @@
-pub mod Bodies
-pub mod DirectLaws
-pub mod Fit
-pub mod Turn
+pub mod DirectCells

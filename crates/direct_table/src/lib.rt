@@ -1,9 +1,9 @@
 //! A table addressed by the key itself: the smallest structure on the locks, and the worked example of `docs/OWN_STRUCTURE.md`.
 //!
-//! `table` has the structure, and `plan` the walk of a key, that requests are planned on the table, and the pairs of a closed one.
+//! `table` has the table with its keys' cells, and `planner` that it is a structure, and that requests are planned on it.
 #![tactic(auto)]
 
-mod plan;
+mod planner;
 mod table;
 
 pub use table::DirectTable;

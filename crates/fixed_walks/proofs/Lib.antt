@@ -1,2 +1,4 @@
+pub mod Gathering
+pub mod KeySuits
 pub mod Leading
 pub mod Steady

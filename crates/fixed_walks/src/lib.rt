@@ -1,12 +1,13 @@
 //! Walks over fixed places: what the plans of structures share whose walks load the same cells whatever they read, and a lock last.
 //!
-//! `course` is what such a structure gives, `walk` the walk, and `readings` looks into what was read.
+//! `course` is what such a structure gives, `walk` the walk, `keys` the walk of a key and the pairs of a closed table for a structure
+//! of keys' cells.
 #![tactic(auto)]
 
 mod course;
-mod readings;
+mod keys;
 mod walk;
 
 pub use course::FixedPlaces;
-pub use readings::{has_pair, word_at};
+pub use keys::{key_pairs, key_walk};
 pub use walk::FixedWalk;

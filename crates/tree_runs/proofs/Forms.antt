@@ -1,14 +1,13 @@
 -- The runs of the search tree's three bodies.
-use Rattle.std.proofs.Common.{◌≡◌, ◌≢◌, ℕ, ◌+◌, ◌*◌, Bool, true, false, cond, List, [], ◌∷◌, refl, sym, ap, subst, arith, Some, None}
+use Rattle.std.proofs.Common.{◌≡◌, ◌≢◌, ℕ, ◌+◌, ◌*◌, Bool, true, false, cond, List, [], ◌∷◌, refl, sym, ap, subst, Some, None}
 use Rattle.std.specs.Prelude.{◌==◌, ◌^◌, slice_index}
-use Rattle.std.proofs.lemmas.Bool.Decides.{nat_tests}
 use Rattle.section_body.specs.Update.{upd}
 use Rattle.section_body.specs.Word.{value_of, version_of, next_word, held_word}
 use Rattle.section_body.specs.Memory.{cell_of}
 use Rattle.section_body.specs.Bucket.{operand}
 use Rattle.section_body.specs.Line.{line}
 use Rattle.section_body.specs.Run.{Setting, Run, ran, exchanged, is_takable, refusal}
-use Rattle.section_body.specs.declared.outcome.Outcome.TheVariants.{Answered, Busy, Stale, Spent}
+use Rattle.section_body.specs.declared.outcome.Outcome.TheVariants.{Busy}
 use Rattle.section_body.specs.declared.micro.Source.TheVariants.{Fixed, Agreed}
 use Rattle.section_body.specs.declared.micro.Micro.{Micro}
 use Rattle.section_body.specs.declared.micro.Micro.TheVariants.{LoadCell, Commit, CheckWord, CheckFresh, NestedLoad, NestedCommit, CheckFree, NestedHold, OutcomeLoad, OutcomeCommit, CheckHeld, PrivateLoad, PrivateStore, MakeCommit, ClockLoad, StampExchange, ClockRaise, ExchangeCell, EpochForRetire, RetireCommit, ReplyExchange}
@@ -17,26 +16,8 @@ use Rattle.section_body.specs.declared.step.Step.TheVariants.{Load, Want, Fresh,
 use Rattle.section_body.specs.declared.value.Init.{Init}
 use Rattle.section_body.specs.declared.value.Value.TheVariants.{Const, Made}
 use Rattle.section_body.specs.declared.thunk.Thunk.{Thunk}
+use Rattle.bucket_runs.proofs.Forms.{Ends, word_passes, fresh_passes}
 use Rattle.tree_bodies.specs.Tree.{lock_of, mark_of, leaf_init, inner_with, parent_in, leaf_in, sibling_of, look_steps, delete_steps}
-
--- the check of a Want passes where the word is the wanted one
-word_passes : (place word read : ℕ) → read ≡ word → cond (read == word) None (Some (Stale place word read)) ≡ None
-word_passes place word read same = ap (λ b. cond b None (Some (Stale place word read))) (equal read word same)
-  where
-    equal : (a b : ℕ) → a ≡ b → (a == b) ≡ true
-    equal a b e = grind (arith, nat_tests)
-
--- the check of a Fresh passes where the version isn't the greatest
-fresh_passes : (place read max : ℕ) → version_of read ≢ max → cond (version_of read == max) (Some (Spent place read)) None ≡ None
-fresh_passes place read max ne = ap (λ b. cond b (Some (Spent place read)) None) (unequal (version_of read) max ne)
-  where
-    unequal : (a b : ℕ) → a ≢ b → (a == b) ≡ false
-    unequal a b ne = grind (arith, nat_tests)
-
--- a run that ends with this answer and leaves these cells
-pub record Ends (answer : ℕ) (cells : ℕ → ℕ) (r : Run) : Type 0 where
-  pub answered : r.outcome ≡ Some (Answered answer)
-  pub left : r.cells ≡ cells
 
 -- five cells of a slot get these words
 abbrev pub five : (ℕ → ℕ) → (ℕ → ℕ) → (ℕ → ℕ) → ℕ → ℕ

@@ -1,4 +1,4 @@
-use Rattle.direct_laws.proofs.DirectLaws.{direct_laws}
+use Rattle.direct_laws.proofs.DirectCells.{direct_laws}
 use Rattle.direct_laws.proofs.laws.direct_meets_the_laws.Goals as goal
 
 pub returns : goal.returns

@@ -1,4 +1,4 @@
-use Rattle.direct_laws.proofs.DirectLaws.{direct_plans}
+use Rattle.direct_laws.proofs.DirectCells.{direct_plans}
 use Rattle.direct_laws.proofs.laws.direct_meets_the_planners_laws.Goals as goal
 
 pub returns : goal.returns

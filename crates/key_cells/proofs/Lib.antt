@@ -1,0 +1,5 @@
+pub mod CellSteps
+pub mod Fitting
+pub mod KeyedLaws
+pub mod Retiring
+pub mod SectionTurn
