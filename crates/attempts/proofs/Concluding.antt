@@ -113,6 +113,7 @@ module _ {T : Type 0} (m : Meaning) (laws : Laws m) (t : TableState T) (limits :
           retired = retired;
           answer = answer;
           run = subst (λ (o : Outcome). HasRun m planning request thunk o trail old retired) answered run;
+          leaves = learnt.leaves;
           knows_stamp = learnt.knows_stamp;
           knows_reply = learnt.knows_reply;
           above = λ x entry stamped knows. stamp_above m laws t limits allowed planning request section thunk outcome trail old ran new own_ran own_new is whole learnt.reached

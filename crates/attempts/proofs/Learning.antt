@@ -15,7 +15,7 @@ use Rattle.structure_laws.specs.Meaning.{Meaning}
 use Rattle.structure_laws.specs.Laws.{Laws}
 use Rattle.runner_parts.specs.declared.entries.Known.{Known}
 use Rattle.runner_parts.specs.declared.event.EventKind.TheVariants as kinds
-use Rattle.runner_parts.specs.declared.stage.Stage.TheVariants as stages
+use Rattle.epoch_core.specs.declared.stage.Stage.TheVariants as stages
 use Rattle.runner_parts.specs.Lists.{learned}
 use Rattle.runner_parts.specs.State.{RunState, PartState, RecordsState}
 use Rattle.runner_parts.specs.Tests.{is_answered, is_resting}
@@ -83,11 +83,11 @@ module _ {T : Type 0} (m : Meaning) (n : ℕ) (reply : Bool) (found : ℕ) (r r'
       ∙ ap (λ b. fitting (sizes_for m r.layout r.requests) (when b (entry_spot n reply) Loads)) (λ i. is_resting (idle.at i) (idle.resting i)))) ∙ made.asked))
 
   known_after : r'.part.records.known ≡ r.part.records.known ++ entry_of n reply found
-  known_after = known_made m (kinds.LoadEntry n reply) found r r' made idle.resting (record { known = λ s access f spot. refl; finished = λ s access f spot. refl })
+  known_after = known_made m (kinds.LoadEntry n reply) found r r' made idle.resting
       ∙ learned_adds r.part.records n reply found
 
   pub load_finished : r'.part.records.finished ≡ r.part.records.finished
-  load_finished = finished_made m (kinds.LoadEntry n reply) found r r' made idle.resting (record { known = λ s access f spot. refl; finished = λ s access f spot. refl })
+  load_finished = finished_made m (kinds.LoadEntry n reply) found r r' made idle.resting
       ∙ kept_finished (found == 0)
     where
       kept_finished : (b : Bool) → (if b then r.part.records else record (r.part.records) { known = r.part.records.known ++ record { request = n; reply = reply; number = found } ∷ [] }).finished ≡ r.part.records.finished
@@ -208,6 +208,7 @@ module _ {T : Type 0} (m : Meaning) (laws : Laws m) (map : m.is_map ≡ true) (r
 
   pub has_learnt : HasLearnt m request is_known.reply stamp old r2
   has_learnt = record {
+    leaves = record { stamp = stamp; reply = word; idle = r0; stamped = r1; exits = exits; loads_stamp = one; loads_reply = two };
     knows = knows_on old r0 r2 (knows_same old r0 exits.keeps.number exits.keeps.known exits.keeps.finished) (knows_on r0 r1 r2 knows_one knows_two);
     no_own = λ q own. load_no_own m n true word r1 r2 two tidy_one.at known_one q (own_on r0 r1 requests_one layout_one (load_knows m n false stamp r0 r1 one left.at).number q (own_of q own))
         ∙ (load_no_own m n false stamp r0 r1 one left.at known_none q (own_of q own) ∙ ap (λ xs. is_answered xs q.number) exits.keeps.known);

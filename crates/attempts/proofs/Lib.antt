@@ -2,7 +2,7 @@ pub mod Knowing
 mod Helping
 mod Reaching
 mod Leaving
-mod Learning
+pub mod Learning
 mod Counting
 mod Courses
 mod Turning

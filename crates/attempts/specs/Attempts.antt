@@ -27,7 +27,7 @@ use Rattle.attempts.specs.Knowing.{KnowsMore, LearnsNoOther}
 use Rattle.attempts.specs.Counted.{IsCounted}
 use Rattle.request_facts.specs.Laws.{HasEntry}
 use Rattle.request_facts.specs.Placed.{IsServedAs, IsUnserved}
-use Rattle.attempts.specs.Course.{HasEntered, HasPlanned, HasPublished, HasRun, PlanIsRefused, LockIsRefused, IsRefused, HasHelped, IsOfHelped}
+use Rattle.attempts.specs.Course.{HasEntered, HasPlanned, HasPublished, HasRun, PlanIsRefused, LockIsRefused, IsRefused, LeavesAndLoads, HasHelped, IsOfHelped}
 use Rattle.attempts.specs.declared.answers.Attempt.{Attempt}
 use Rattle.attempts.specs.declared.answers.Attempt.TheVariants as answers
 
@@ -129,6 +129,7 @@ module _ {T : Type 0} where
         pub retired : RunnerState T
         pub answer : ℕ
         pub run : HasRun m planning request thunk (Answered answer) trail old retired
+        pub leaves : LeavesAndLoads m request.number retired new
         pub knows_stamp : HasEntry new.part.records.known
             (record { request = request.number; reply = false; number = stamp })
         pub knows_reply : HasEntry new.part.records.known

@@ -12,9 +12,11 @@ use Rattle.structure_laws.specs.Scene.{Readings}
 use Rattle.structure_laws.specs.Meaning.{Meaning}
 use Rattle.machine_states.specs.Sight.{sight}
 use Rattle.lock_walks.specs.machine_invariant.specs.Sections.{IsLeft}
+use Rattle.runner_parts.specs.declared.event.EventKind.TheVariants as kinds
 use Rattle.runner_parts.specs.Tests.{is_next}
 use Rattle.lock_walks.specs.runner_facts.specs.Names.{HasLock}
 use Rattle.lock_walks.specs.version_words.specs.RunnerState.{RunnerState}
+use Rattle.lock_walks.specs.version_words.specs.Events.{Makes}
 use Rattle.lock_walks.specs.epoch_slots.specs.Collects.{IsTidy, Collects}
 use Rattle.lock_walks.specs.epoch_slots.specs.Entries.{Enters, Exits}
 use Rattle.lock_walks.specs.try_lock.specs.declared.section.Section.{Section}
@@ -158,6 +160,16 @@ module _ {T : Type 0} (m : Meaning) (planning : Planning) (request : Request) wh
       (LockIsRefused answer old new ⊎ SectionHasLeft answer old new)
 
 module _ {T : Type 0} (m : Meaning) where
+  -- the runner left, and loaded the stamp word and the reply word of this request
+  pub record LeavesAndLoads (number : ℕ) (old new : RunnerState T) : Type 0 where
+    pub stamp : ℕ
+    pub reply : ℕ
+    pub idle : RunnerState T
+    pub stamped : RunnerState T
+    pub exits : Exits m old idle
+    pub loads_stamp : Makes m (kinds.LoadEntry number false) stamp idle stamped
+    pub loads_reply : Makes m (kinds.LoadEntry number true) reply stamped new
+
   -- the runner ran the section that this word names to its end, and left: the section is done
   pub record HasHelped (word : ℕ) (old new : RunnerState T) : Type 0 where
     pub names : is_free word ≡ false

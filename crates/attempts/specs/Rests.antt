@@ -17,7 +17,7 @@ use Rattle.request_facts.specs.Laws.{HasEntry}
 use Rattle.request_facts.specs.Placed.{IsServedAs}
 use Rattle.attempts.specs.Knowing.{KnowsMore, IsOwn, LearnsNoOther}
 use Rattle.attempts.specs.Counted.{IsCounted}
-use Rattle.attempts.specs.Course.{IsEmptyHanded, HasPublished}
+use Rattle.attempts.specs.Course.{IsEmptyHanded, HasPublished, LeavesAndLoads}
 use Rattle.attempts.specs.Attempts.{is_halted, is_short, helped_of, IsBrief, Leaves, HasMetHeld, Answers, PublishedNone}
 use Rattle.attempts.specs.declared.answers.Attempt.{Attempt}
 use Rattle.attempts.specs.declared.answers.Attempt.TheVariants as answers
@@ -67,6 +67,7 @@ module _ {T : Type 0} (m : Meaning) where
 
   -- it loaded them, and left
   pub record HasLearnt (request : Request) (reply : Reply) (stamp : ℕ) (old new : RunnerState T) : Type 0 where
+    pub leaves : LeavesAndLoads m request.number old new
     pub knows : KnowsMore old new
     pub no_own : LearnsNoOwn old new
     pub tidy : IsTidy new

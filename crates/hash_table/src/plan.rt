@@ -8,6 +8,7 @@ ghost use Rattle.hash_table.specs.Planned.{bucket_planning, walk_in};
 ghost use Rattle.hash_table.specs.Walking.{is_refused_at};
 ghost use Rattle.bucket_laws.proofs.Planner.{buckets_plan};
 ghost use Rattle.steady_buckets.proofs.Near.{not_far, no_mark};
+ghost use Rattle.steady_buckets.proofs.Retiring.{few_retires};
 
 use crate::table::HashTable;
 use crate::walk::BucketWalk;
@@ -47,4 +48,6 @@ impl Planner for HashTable {
       near = λ layout op readings walk. not_far s.bits s.few layout walk.scene.cells walk.pairs op readings
           (is_refused_at (walk_in s.bits layout op readings).stage) walk.stands.stands walk.read;
     } };
+
+    ghost retires_few = { λ s. few_retires };
 }

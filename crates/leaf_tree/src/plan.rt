@@ -9,6 +9,7 @@ ghost use Rattle.tree_walks.specs.Walking.{is_refused_in};
 ghost use Rattle.steady_trees.proofs.Near.{not_far, no_mark};
 ghost use Rattle.lock_walks.specs.try_lock.specs.Contents.{StandFor, NamesNone};
 ghost use Rattle.leaf_tree.specs.Planned.{tree_planning};
+ghost use Rattle.steady_trees.proofs.Retiring.{few_retires};
 
 use crate::tree::LeafTree;
 use crate::walker::LeafWalk;
@@ -53,4 +54,6 @@ impl Planner for LeafTree {
       near = λ layout op readings walk. not_far layout walk.scene.cells walk.pairs op readings walk.stands.stands
           walk.read (is_refused_in op (walk_of layout op readings));
     } };
+
+    ghost retires_few = { λ s. few_retires };
 }

@@ -15,7 +15,7 @@ use Rattle.structure_laws.specs.Laws.{Laws}
 use Rattle.structure_laws.specs.Cells.{slots}
 use Rattle.structure_laws.specs.Sections.{IsAllowed}
 use Rattle.runner_parts.specs.declared.entries.Published.{Published}
-use Rattle.runner_parts.specs.declared.stage.Stage.TheVariants as stages
+use Rattle.epoch_core.specs.declared.stage.Stage.TheVariants as stages
 use Rattle.runner_parts.specs.State.{PartState, ReadsState}
 use Rattle.runner_parts.specs.Tests.{is_readable}
 use Rattle.machine_states.specs.World.{World}

@@ -10,7 +10,7 @@ use Rattle.structure_laws.specs.Scene.{Readings}
 use Rattle.structure_laws.specs.Meaning.{Meaning}
 use Rattle.runner_parts.specs.declared.event.EventKind.TheVariants as kinds
 use Rattle.runner_parts.specs.declared.entries.Published.{Published}
-use Rattle.runner_parts.specs.declared.stage.Stage.TheVariants as stages
+use Rattle.epoch_core.specs.declared.stage.Stage.TheVariants as stages
 use Rattle.runner_parts.specs.Lists.{named_by, walked}
 use Rattle.runner_parts.specs.State.{RunState, ReadsState}
 use Rattle.runner_parts.specs.Tests.{is_walking, is_readable}
@@ -83,6 +83,6 @@ module _ {T : Type 0} (m : Meaning) where
         reads = reads_made m (kinds.LoadCell (Some place)) word r r' made is.resting
             ∙ (ap (λ (s : ReadsState). walked s (m.is_lock place) place word) so.reads ∙ reads_more m old.part.reads readings place word);
         keeps = own_kept_on old r r' so.keeps (own_kept m (kinds.LoadCell (Some place)) word r r' made is.resting
-            (record { known = λ s access found spot. refl; finished = λ s access found spot. refl }) refl refl refl);
+            refl refl refl);
         same = made.made ∙ ((λ i. record r { part = sym (ap (λ (y : RunnerState T). y.part) made.made) i }) ∙ (λ i. record (so.same i) { part = r'.part }));
       }

@@ -2,6 +2,7 @@ pub mod Way
 pub mod Followed
 pub mod Led
 pub mod Steady
+pub mod Retires
 -- Passed on to the layers above, so that they needn't name these libraries themselves.
 pub use Rattle.try_lock.specs.machine_agreement
 pub use Rattle.try_lock.specs.machine_invariant

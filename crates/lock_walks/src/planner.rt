@@ -11,6 +11,7 @@ ghost use Rattle.try_lock.specs.Plans.{MayPlan, HasPlanned};
 ghost use Rattle.try_lock.specs.Contents.{StandFor, NamesNone};
 ghost use Rattle.lock_walks.specs.Way.{Leads};
 ghost use Rattle.lock_walks.specs.Steady.{IsSteady};
+ghost use Rattle.lock_walks.specs.Retires.{RetiresFew};
 
 use crate::plans::plan_by;
 use crate::walker::Walker;
@@ -45,15 +46,17 @@ pub trait Planner: Structure + Sized + Send + Sync {
         ensures planning { Self.Walk.way.planning result ≡ planning self.now }
         ensures leads { Leads Self.Walk.way (Self.meaning self.now) layout result };
 
-    /// Plans a request: walks without a lock to the key's place, loads the locks that a section needs, and answers the thunk of the
-    /// request's section.
+    /// Plans a request: walks without a lock to the key's place, loads the locks that a section needs, and
+    /// answers the thunk of the request's section.
     ///
-    /// The structure is the table's, the runner is entered, in no run and has made no load of a cell since it entered, and the request
-    /// is one of the table's, which the structure serves. The gate is asked after each load. The first reading that refuses decides: Busy
-    /// comes exactly where a lock's word names a descriptor, Spent exactly where it is free and spent, Stale exactly where a reached
-    /// node's mark is 1, Far exactly where as many links were loaded as there are node slots, and eight more, and the walk isn't at its
-    /// end. Halted comes exactly where the gate halted, which its count of halts shows. Else the thunk fits the readings, which are of this
-    /// call. No memory is taken (Ben-David, Blelloch, Wei, *Lock-free locks revisited*, 2022).
+    /// The structure is the table's, the runner is entered, in no run and has made no load of a cell since
+    /// it entered, and the request is one of the table's, which the structure serves. The gate is asked
+    /// after each load. The first reading that refuses decides: Busy comes exactly where a lock's word
+    /// names a descriptor, Spent exactly where it is free and spent, Stale exactly where a reached node's
+    /// mark is 1, Far exactly where as many links were loaded as there are node slots, and eight more, and
+    /// the walk isn't at its end. Halted comes exactly where the gate halted, which its count of halts
+    /// shows. Else the thunk fits the readings, which are of this call. No memory is taken (Ben-David,
+    /// Blelloch, Wei, *Lock-free locks revisited*, 2022).
     final fn plan<G: Gate, L>(
         &self,
         table: &FlockTable<Self>,
@@ -79,18 +82,23 @@ pub trait Planner: Structure + Sized + Send + Sync {
 
     /// The pairs of a closed table's words, in order of key, each once.
     ///
-    /// The structure is the words' own, their cells stand for a map by it, and no lock among them names a descriptor. The Err is want of
-    /// memory.
+    /// The structure is the words' own, their cells stand for a map by it, and no lock among them names a
+    /// descriptor. The Err is want of memory.
     fn contents(&self, alloc: Global, words: &Words<Self>) -> Result<Vec<(u32, u32)>, AllocError>
         requires structure { self.now ≡ words.now.structure }
         requires stand { (pairs : Pairs) × StandFor (Self.meaning self.now) words.now pairs }
         requires closed { NamesNone (Self.meaning self.now) words.now }
-        ensures contents { IfOk result (λ items. (pairs : Pairs) → StandFor (Self.meaning self.now) words.now pairs → items.items ≡ entries pairs) };
+        ensures contents { IfOk result (λ items. (pairs : Pairs)
+            → StandFor (Self.meaning self.now) words.now pairs → items.items ≡ entries pairs) };
 
-    /// It serves a map, what its thunks expect was read, its Makes are for new pairs, and each pair keeps few slots in use.
+    /// It serves a map, what its thunks expect was read, its Makes are for new pairs, and each pair keeps
+    /// few slots in use.
     ghost plans_lawfully: { (s : Self) → PlannerLaws (Self.meaning s) (planning s).per_pair };
 
-    /// A walk that reads what stands, while no section is open, reads no mark of 1 and isn't too far: nothing but a
-    /// lock's word refuses it.
+    /// A walk that reads what stands, while no section is open, reads no mark of 1 and isn't too far:
+    /// nothing but a lock's word refuses it.
     ghost walks_steadily: { (s : Self) → IsSteady (Self.meaning s) (planning s) };
+
+    /// A section retires two slots at most.
+    ghost retires_few: { (s : Self) → RetiresFew (Self.meaning s) };
 }

@@ -10,7 +10,7 @@ use Rattle.structure_laws.specs.Laws.{Laws}
 use Rattle.structure_laws.specs.Cells.{IsKnown}
 use Rattle.structure_laws.specs.Sections.{IsAllowed}
 use Rattle.structure_laws.specs.Shape.{Shaped}
-use Rattle.runner_parts.specs.declared.stage.Stage.TheVariants as stages
+use Rattle.epoch_core.specs.declared.stage.Stage.TheVariants as stages
 use Rattle.runner_parts.specs.State.{PartState}
 use Rattle.machine_states.specs.World.{World, seat_of}
 use Rattle.machine_states.specs.Reached.{Reached}

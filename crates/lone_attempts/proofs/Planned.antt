@@ -21,7 +21,7 @@ use Rattle.structure_laws.specs.Cells.{slots}
 use Rattle.structure_laws.specs.Sections.{IsAllowed}
 use Rattle.structure_laws.proofs.Changes.{both_true, equal_of}
 use Rattle.runner_parts.specs.declared.event.EventKind.TheVariants as kinds
-use Rattle.runner_parts.specs.declared.stage.Stage.TheVariants as stages
+use Rattle.epoch_core.specs.declared.stage.Stage.TheVariants as stages
 use Rattle.runner_parts.specs.Lists.{no_reads}
 use Rattle.runner_parts.specs.State.{RunState, ReadsState}
 use Rattle.runner_steps.specs.Asks.{ask_by, sizes_for}

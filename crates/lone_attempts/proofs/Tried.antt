@@ -19,7 +19,7 @@ use Rattle.structure_laws.specs.Meaning.{Meaning}
 use Rattle.structure_laws.specs.Laws.{Laws}
 use Rattle.law_frames.proofs.Numbers.{pair_read}
 use Rattle.runner_parts.specs.declared.event.EventKind.TheVariants as kinds
-use Rattle.runner_parts.specs.declared.stage.Stage.TheVariants as stages
+use Rattle.epoch_core.specs.declared.stage.Stage.TheVariants as stages
 use Rattle.runner_parts.specs.State.{RunState, ReadsState}
 use Rattle.runner_steps.specs.Asks.{ask_by, sizes_for}
 use Rattle.runner_steps.specs.Sections.{is_open_run}

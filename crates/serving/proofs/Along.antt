@@ -28,12 +28,13 @@ use Rattle.attempts.specs.Attempts.{IsServed, IsShort, IsTurnedAway, IsHalted, A
 use Rattle.attempts.specs.declared.answers.Attempt.{Attempt}
 use Rattle.attempts.specs.declared.answers.Attempt.TheVariants as attempts
 use Rattle.attempts.proofs.Knowing.{knows_same, knows_on, own_on}
+use Rattle.spared_attempts.specs.Spared.{IsSpared, AttemptsSpareSlots}
 use Rattle.serving.specs.declared.answers.Served.{Served}
 use Rattle.serving.specs.declared.answers.Served.TheVariants as answers
 use Rattle.serving.specs.Serving.{is_tried_again, stop_of, IsBefore, TriedRuns, ServedRuns, WasCrossed, TriesBriefly, ServesBriefly, MayServe, AreServed, Persists, Serves}
 use Rattle.serving.proofs.Lists.{and_true, all_pass, where_held, numbered, entry_known}
 use Rattle.serving.proofs.Standing.{entry_on, answered_more, stamp_of, one_stamp}
-use Rattle.serving.proofs.Briefly.{IsBriefSoFar, served_on, stopped_on, ended_brief}
+use Rattle.serving.proofs.Briefly.{IsBriefSoFar, crossed_back, served_on, stopped_on, ended_brief}
 use Rattle.serving.proofs.Trying.{next_of_parts, same_layout, same_requests}
 
 module _ {T : Type 0} where
@@ -111,12 +112,21 @@ module _ {T : Type 0} where
       served = may.served i q at;
     }
 
+-- where few slots were retired lately when the serving began, so it is now, unless another one came between, or wants are
+-- waited out
+abbrev pub IsSparedSoFar : {T : Type 0} → Meaning → Planning → Bool → RunnerState T → RunnerState T → Type 0
+IsSparedSoFar m planning retry_short old r = retry_short ≡ false → IsSpared old → WasCrossed m planning old ⊎ IsSpared r
+
+pub spared_begins : {T : Type 0} (m : Meaning) (planning : Planning) (retry_short : Bool) (r : RunnerState T) → IsSparedSoFar m planning retry_short r r
+spared_begins m planning retry_short r unwaited spared = inr spared
+
 -- the request at this place was attempted to the last
 module _ {T : Type 0} (m : Meaning) (laws : Laws m) (planning : Planning) (requests : List Request) (retry_short : Bool) (old r new : RunnerState T)
     (t : TableState T) (limits : IsWithinLimits t.layout) (allowed : AreAllowed t.requests) (of_old : IsOf t old) (of_r : IsOf t r) (of_new : IsOf t new)
     (may : MayServe planning requests old) (i : ℕ) (q : Request) (at : slice_get requests i ≡ Some q) (along : IsAlong requests i old r)
     (answer : Attempt) (asks asks1 asks2 : ℕ) (persists : Persists m planning retry_short q answer r new asks1 asks2)
-    (so_far : WasCrossed m planning old ⊎ IsBriefSoFar m i old r asks asks1) where
+    (so_far : WasCrossed m planning old ⊎ IsBriefSoFar m i old r asks asks1)
+    (spare : AttemptsSpareSlots T m planning) (spared : IsSparedSoFar m planning retry_short old r) where
   limits_new : IsWithinLimits new.layout
   limits_new = subst IsWithinLimits (sym of_new.layout) limits
 
@@ -125,6 +135,16 @@ module _ {T : Type 0} (m : Meaning) (laws : Laws m) (planning : Planning) (reque
 
   own_here : (x : Request) → IsOwn old x → IsOwn r x
   own_here x own = own_on old r (same_requests t old r of_old of_r) (same_layout t old r of_old of_r) along.knows.number x own
+
+  -- so it was before the last attempt
+  spared_before : IsSparedSoFar m planning retry_short old persists.before
+  spared_before unwaited was = ⊎_elim
+      inl
+      (λ now. ⊎_elim
+      (λ crossed. inl (crossed_back m planning old r (same_layout t old r of_old of_r) (same_requests t old r of_old of_r) crossed))
+      (λ once. inr (subst (λ (y : RunnerState T). IsSpared y) (sym (once unwaited)) now))
+      persists.once)
+      (spared unwaited was)
 
   -- another request of the list
   other_place : (k : ℕ) (x : Request) → slice_get requests k ≡ Some x → k ≢ i → x.number ≢ q.number
@@ -247,6 +267,7 @@ module _ {T : Type 0} (m : Meaning) (laws : Laws m) (planning : Planning) (reque
       record {
         before = persists.before;
         knew = knows_on old r persists.before along.knows persists.knew;
+        spared = spared_before;
         stops = record { cause = is; over = over_of retry_short short.limbo last };
         tidy = is.collects.tidy;
         unanswered = is.untouched.unknown;
@@ -268,6 +289,7 @@ module _ {T : Type 0} (m : Meaning) (laws : Laws m) (planning : Planning) (reque
       record {
         before = persists.before;
         knew = knows_on old r persists.before along.knows persists.knew;
+        spared = spared_before;
         stops = is;
         tidy = is.tidy;
         unanswered = is.untouched.unknown;
@@ -325,6 +347,18 @@ module _ {T : Type 0} (m : Meaning) (laws : Laws m) (planning : Planning) (reque
   going_on (attempts.Busy place word) e is = absurd (none_some _ e)
   going_on (attempts.Stale place expected read) e is = absurd (none_some _ e)
   going_on (attempts.Far loads) e is = absurd (none_some _ e)
+
+  spared_by : (a : Attempt) → stop_of a ≡ None → Answers m planning q a persists.before new → IsSparedSoFar m planning retry_short old new
+  spared_by (attempts.Done reply stamp) e is = λ unwaited was. ⊎_elim inl (λ now. inr (spare.served q reply stamp persists.before new now is)) (spared_before unwaited was)
+  spared_by (attempts.Short short) e is = absurd (none_some _ e)
+  spared_by (attempts.Spent place word) e is = absurd (none_some _ e)
+  spared_by attempts.Halted e is = absurd (none_some _ e)
+  spared_by (attempts.Busy place word) e is = absurd (none_some _ e)
+  spared_by (attempts.Stale place expected read) e is = absurd (none_some _ e)
+  spared_by (attempts.Far loads) e is = absurd (none_some _ e)
+
+  pub spared_along : stop_of answer ≡ None → IsSparedSoFar m planning retry_short old new
+  spared_along e = spared_by answer e persists.answers
 
   pub goes_along : stop_of answer ≡ None → IsAlong requests (i + 1) old new
   goes_along e = going_on answer e persists.answers

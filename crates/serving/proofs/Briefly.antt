@@ -87,21 +87,22 @@ module _ {T : Type 0} (m : Meaning) (planning : Planning) where
     crossed = was.crossed;
   }
 
+  pub crossed_by : (request : Request) (old : RunnerState T) (a : Attempt) (cut : RunnerState T) → is_crossed a ≡ true → IsRefused m planning request a old cut
+      → WasCrossed m planning old
+  crossed_by request old a cut crossed refused = record {
+    request = request;
+    answer = a;
+    before = old;
+    cut = cut;
+    layout = refl;
+    requests = refl;
+    refused = refused;
+    crossed = crossed;
+  }
+
   -- one attempt
   module _ (request : Request) (answer : Attempt) (old new : RunnerState T) (halts halts' asks asks' steps steps' : ℕ)
       (is : Attempts m planning request answer old new halts halts' asks asks' steps steps') where
-    crossed_by : (a : Attempt) (cut : RunnerState T) → is_crossed a ≡ true → IsRefused m planning request a old cut → WasCrossed m planning old
-    crossed_by a cut crossed refused = record {
-      request = request;
-      answer = a;
-      before = old;
-      cut = cut;
-      layout = refl;
-      requests = refl;
-      refused = refused;
-      crossed = crossed;
-    }
-
     few_asks : is.made ≤ most_of_attempt (slots m old.layout) → asks' + 1 ≤ asks + most_asks (slots m old.layout)
     few_asks few =
         let asked = is.asked.asked in
@@ -126,7 +127,7 @@ module _ {T : Type 0} (m : Meaning) (planning : Planning) where
     -- it is the last one
     last_by : HasMetHeld m planning request old ⊎ IsBrief (most_of_attempt (slots m old.layout)) 1 is.made old new
         → WasCrossed m planning old ⊎ TriesBriefly m answer old new asks asks'
-    last_by (inl met) = inl (crossed_by (attempts.Busy met.0 met.1) met.2 refl met.3)
+    last_by (inl met) = inl (crossed_by request old (attempts.Busy met.0 met.1) met.2 refl met.3)
     last_by (inr brief) = inr (record { runs = runs_by answer refl brief.few_runs; asked = few_asks brief.few_steps })
 
     pub last_brief : WasCrossed m planning old ⊎ TriesBriefly m answer old new asks asks'
@@ -135,9 +136,9 @@ module _ {T : Type 0} (m : Meaning) (planning : Planning) where
     -- the request is attempted again
     quiet_by : (a : Attempt) → answer ≡ a → (retry_short : Bool) → is_tried_again retry_short a ≡ true → Answers m planning request a old new
         → WasCrossed m planning old ⊎ IsQuiet old new asks asks'
-    quiet_by (attempts.Busy place word) e retry again turned = inl (crossed_by (attempts.Busy place word) turned.cut refl turned.cause)
-    quiet_by (attempts.Stale place expected read) e retry again turned = inl (crossed_by (attempts.Stale place expected read) turned.cut refl turned.cause)
-    quiet_by (attempts.Far loads) e retry again turned = inl (crossed_by (attempts.Far loads) turned.cut refl turned.cause)
+    quiet_by (attempts.Busy place word) e retry again turned = inl (crossed_by request old (attempts.Busy place word) turned.cut refl turned.cause)
+    quiet_by (attempts.Stale place expected read) e retry again turned = inl (crossed_by request old (attempts.Stale place expected read) turned.cut refl turned.cause)
+    quiet_by (attempts.Far loads) e retry again turned = inl (crossed_by request old (attempts.Far loads) turned.cut refl turned.cause)
     quiet_by (attempts.Short short) e retry again is_short_of = inr (record {
       runs = let same = told (attempts.Short short) e refl in omega (arith, same);
       asked =

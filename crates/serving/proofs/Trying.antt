@@ -1,6 +1,6 @@
 -- A request that is attempted again.
 use Rattle.std.specs.Prelude.{◌==◌, ◌&&◌, ◌||◌, ◌⊎◌, not, nat_lt, ◌%◌, Bool, true, false, slice_get}
-use Rattle.std.proofs.Common.{◌≡◌, ℕ, List, refl, sym, ap, ◌∙◌, inr}
+use Rattle.std.proofs.Common.{◌≡◌, ℕ, List, refl, sym, ap, ◌∙◌, inl, inr}
 use Rattle.map_history.specs.declared.op.Request.{Request}
 use Rattle.structure_laws.specs.Meaning.{Meaning}
 use Rattle.runner_parts.specs.Tests.{is_answered, are_answered}
@@ -17,7 +17,7 @@ use Rattle.attempts.proofs.Knowing.{knows_on, knows_same, no_other_on}
 use Rattle.serving.specs.Serving.{is_tried_again, WasCrossed, Persists}
 use Rattle.serving.proofs.Lists.{all_weaker, held_more}
 use Rattle.serving.proofs.Standing.{answered_more}
-use Rattle.serving.proofs.Briefly.{IsQuiet, again_quiet, last_brief, quiet_on, tried_on}
+use Rattle.serving.proofs.Briefly.{IsQuiet, crossed_by, crossed_back, again_quiet, last_brief, quiet_on, tried_on}
 
 next_parts : (a b c : Bool) → (a && (not b && c)) ≡ true → (a ≡ true) × (b ≡ false) × (c ≡ true)
 next_parts true false true e = (refl, refl, refl)
@@ -64,21 +64,24 @@ pub same_requests : {T : Type 0} (t : TableState T) (old new : RunnerState T) �
 same_requests t old new one two = two.requests ∙ sym one.requests
 
 -- the attempts so far, after each of which the request was attempted again
-pub record IsTrying {T : Type 0} (m : Meaning) (planning : Planning) (request : Request) (old r : RunnerState T) (halts halts' asks asks' : ℕ) : Type 0 where
+pub record IsTrying {T : Type 0} (m : Meaning) (planning : Planning) (request : Request) (retry_short : Bool) (old r : RunnerState T) (halts halts' asks asks' : ℕ) : Type 0 where
   pub may : MayAttempt planning request r
   pub knows : KnowsMore old r
   pub no_other : LearnsNoOther request.number old r
   pub went : halts' ≡ halts
   pub quiet : WasCrossed m planning old ⊎ IsQuiet old r asks asks'
+  -- where no want is waited out, these were crossed
+  pub once : WasCrossed m planning old ⊎ (retry_short ≡ false → r ≡ old)
 
-pub trying_begins : {T : Type 0} (m : Meaning) (planning : Planning) (request : Request) (r : RunnerState T) (halts asks : ℕ)
-    → MayAttempt planning request r → IsTrying m planning request r r halts halts asks asks
-trying_begins m planning request r halts asks may = record {
+pub trying_begins : {T : Type 0} (m : Meaning) (planning : Planning) (request : Request) (retry_short : Bool) (r : RunnerState T) (halts asks : ℕ)
+    → MayAttempt planning request r → IsTrying m planning request retry_short r r halts halts asks asks
+trying_begins m planning request retry_short r halts asks may = record {
   may = may;
   knows = knows_same r r refl refl refl;
   no_other = λ q own ne. refl;
   went = refl;
   quiet = inr (record { runs = refl; asked = refl });
+  once = inr (λ unwaited. refl);
 }
 
 -- an answer after which the request is attempted again leaves the runner idle, and the request unserved
@@ -104,7 +107,7 @@ module _ {T : Type 0} (m : Meaning) (planning : Planning) (request : Request) (r
 
 module _ {T : Type 0} (m : Meaning) (planning : Planning) (request : Request) (retry_short : Bool) (t : TableState T)
     (old r new : RunnerState T) (of_r : IsOf t r) (of_old : IsOf t old) (of_new : IsOf t new) (answer : Attempt)
-    (halts halts' halts'' asks asks' asks'' steps steps' : ℕ) (trying : IsTrying m planning request old r halts halts' asks asks')
+    (halts halts' halts'' asks asks' asks'' steps steps' : ℕ) (trying : IsTrying m planning request retry_short old r halts halts' asks asks')
     (attempted : Attempts m planning request answer r new halts' halts'' asks' asks'' steps steps') where
   knows_all : KnowsMore old new
   knows_all = knows_on old r new trying.knows attempted.knows
@@ -114,7 +117,7 @@ module _ {T : Type 0} (m : Meaning) (planning : Planning) (request : Request) (r
       trying.no_other attempted.no_other
 
   -- it is attempted once more
-  pub trying_on : is_tried_again retry_short answer ≡ true → IsTrying m planning request old new halts halts'' asks asks''
+  pub trying_on : is_tried_again retry_short answer ≡ true → IsTrying m planning request retry_short old new halts halts'' asks asks''
   trying_on again = let now = again_open m planning request retry_short r new answer again attempted.answers in record {
     may = may_again planning request r new trying.may attempted.knows (same_layout t r new of_r of_new) (same_requests t r new of_r of_new) now.0 now.1;
     knows = knows_all;
@@ -122,7 +125,27 @@ module _ {T : Type 0} (m : Meaning) (planning : Planning) (request : Request) (r
     went = attempted.asked.went (again_going m planning request retry_short r new answer again) ∙ trying.went;
     quiet = quiet_on m planning old r new (same_layout t old r of_old of_r) (same_requests t old r of_old of_r) asks asks' asks'' trying.quiet
         (again_quiet m planning request answer r new halts' halts'' asks' asks'' steps steps' attempted retry_short again);
+    once = once_on trying.once;
   }
+    where
+      -- without waits only a crossed attempt is made again
+      crossed_if : retry_short ≡ false → (a : Attempt) → is_tried_again retry_short a ≡ true → Answers m planning request a r new → WasCrossed m planning r
+      crossed_if unwaited (attempts.Busy place word) e is = crossed_by m planning request r (attempts.Busy place word) is.cut refl is.cause
+      crossed_if unwaited (attempts.Stale place expected read) e is = crossed_by m planning request r (attempts.Stale place expected read) is.cut refl is.cause
+      crossed_if unwaited (attempts.Far loads) e is = crossed_by m planning request r (attempts.Far loads) is.cut refl is.cause
+      crossed_if unwaited (attempts.Short short) e is = absurd (let z = ap (λ b. b && not (short.limbo == 0)) (sym unwaited) ∙ e in cc)
+      crossed_if unwaited (attempts.Spent place word) e is = absurd (let z = e in cc)
+      crossed_if unwaited (attempts.Done reply stamp) e is = absurd (let z = e in cc)
+      crossed_if unwaited attempts.Halted e is = absurd (let z = e in cc)
+
+      once_by : (b : Bool) → retry_short ≡ b → WasCrossed m planning old ⊎ (retry_short ≡ false → new ≡ old)
+      once_by true waited = inr (λ unwaited. absurd (let z = sym waited ∙ unwaited in cc))
+      once_by false unwaited = inl (crossed_back m planning old r (same_layout t old r of_old of_r) (same_requests t old r of_old of_r)
+          (crossed_if unwaited answer again attempted.answers))
+
+      once_on : WasCrossed m planning old ⊎ (retry_short ≡ false → r ≡ old) → WasCrossed m planning old ⊎ (retry_short ≡ false → new ≡ old)
+      once_on (inl was) = inl was
+      once_on (inr so_far) = once_by retry_short refl
 
   -- or this was the last attempt
   pub trying_ends : is_tried_again retry_short answer ≡ false → Persists m planning retry_short request answer old new asks asks''
@@ -136,4 +159,5 @@ module _ {T : Type 0} (m : Meaning) (planning : Planning) (request : Request) (r
     no_other = no_other_all;
     brief = tried_on m planning old r new (same_layout t old r of_old of_r) (same_requests t old r of_old of_r) asks asks' asks'' answer trying.quiet
         (last_brief m planning request answer r new halts' halts'' asks' asks'' steps steps' attempted);
+    once = trying.once;
   }

@@ -16,6 +16,7 @@ use Rattle.attempts.specs.Course.{MayAttempt, IsRefused}
 use Rattle.attempts.specs.Attempts.{most_of_attempt, IsShort, IsTurnedAway, Answers}
 use Rattle.attempts.specs.declared.answers.Attempt.{Attempt}
 use Rattle.attempts.specs.declared.answers.Attempt.TheVariants as attempts
+use Rattle.spared_attempts.specs.Spared.{IsSpared}
 use Rattle.serving.specs.declared.answers.Served.{Served}
 use Rattle.serving.specs.declared.answers.Served.TheVariants as answers
 
@@ -137,6 +138,8 @@ module _ {T : Type 0} where
       pub knows : KnowsMore old new
       pub no_other : LearnsNoOther request.number old new
       pub brief : WasCrossed m planning old ⊎ TriesBriefly m answer old new asks asks'
+      -- where no attempt was refused since another one came between, and no want is waited out, there was one attempt
+      pub once : WasCrossed m planning old ⊎ (retry_short ≡ false → before ≡ old)
 
     -- too few slots were free at the last attempt, and such a want isn't waited out, or no slot of the kind is in limbo
     pub record StopsShort (short : Short) (request : Request) (old new : RunnerState T) : Type 0 where
@@ -154,6 +157,9 @@ module _ {T : Type 0} where
     pub record HasStopped (answer : Served) (request : Request) (old new : RunnerState T) : Type 0 where
       pub before : RunnerState T
       pub knew : KnowsMore old before
+      -- where few slots were retired lately when the serving began, so it was before that attempt, unless another one
+      -- came between, or wants are waited out
+      pub spared : retry_short ≡ false → IsSpared old → WasCrossed m planning old ⊎ IsSpared before
       pub stops : Stops answer request before new
       pub tidy : IsTidy new
       pub unanswered : is_answered new.part.records.known request.number ≡ false

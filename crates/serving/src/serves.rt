@@ -12,6 +12,7 @@ use attempts::version_words::{FlockTable, Runner, table_is_allowed};
 use attempts::{Attempt, goes_on};
 use map_history::Request;
 use section_body::{Gate, StepKind, Steps};
+use spared_attempts::attempts_spare_slots;
 use std::sync::Wait;
 use std::thread::Threads;
 
@@ -58,6 +59,7 @@ pub fn serve<R: Threads + Wait + Sync, S: Planner, G: Gate, L>(
     ensures went { result.1 ≢ answers.Halted → G.halts gate.new ≡ G.halts gate.old }
 {
     table_is_allowed(table);
+    attempts_spare_slots(table.structure());
     for request in requests {
         let (next, answer) = persist(rt, table, runner, request, retry_short, gate, steps);
         if let Some(stopped) = stop(answer) {

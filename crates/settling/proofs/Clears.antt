@@ -16,7 +16,7 @@ use Rattle.structure_laws.specs.Laws.{Laws}
 use Rattle.runner_parts.specs.declared.entries.Left.{Left}
 use Rattle.runner_parts.specs.declared.entries.Published.{Published}
 use Rattle.runner_parts.specs.declared.event.EventKind.TheVariants as kinds
-use Rattle.runner_parts.specs.declared.stage.Stage.TheVariants as stages
+use Rattle.epoch_core.specs.declared.stage.Stage.TheVariants as stages
 use Rattle.runner_parts.specs.Lists.{named_by}
 use Rattle.runner_parts.specs.State.{RunState, NodesState, ReadsState, PartState}
 use Rattle.runner_parts.specs.Tests.{has, is_walking, is_readable}
@@ -94,6 +94,7 @@ keeps_on a b c one two = record {
   number = two.number ∙ one.number;
   joined = two.joined ∙ one.joined;
   told = two.told ∙ one.told;
+  crosses = two.crosses ∙ one.crosses;
   known = front_on a.part.records.known b.part.records.known c.part.records.known one.known two.known;
   more = let first = one.more in let second = two.more in omega (arith, first, second);
   quiet = λ same. let first = one.more in let second = two.more in
@@ -106,6 +107,7 @@ keeps_same r = record {
   number = refl;
   joined = refl;
   told = refl;
+  crosses = refl;
   known = front_same r.part.records.known r.part.records.known refl;
   more = omega arith;
   quiet = λ same. refl;
@@ -118,6 +120,7 @@ keeps_grown a b grows own = record {
   number = grows.number;
   joined = grows.joined;
   told = grows.told;
+  crosses = grows.crosses;
   known = front_same a.part.records.known b.part.records.known own.known;
   more = let same = ap length own.finished in omega (arith, same);
   quiet = λ same. own.nodes;
@@ -195,7 +198,7 @@ module _ {T : Type 0} (m : Meaning) (laws : Laws m) (t : TableState T) (limits :
 
       kept : KeepsOwn r r1
       kept = own_kept m (kinds.LoadCell (Some place)) word r r1 made is.at.resting
-          (record { known = λ s access found spot. refl; finished = λ s access found spot. refl }) refl refl refl
+          refl refl refl
 
       pub load_keeps : KeepsJoins r r1
       load_keeps = keeps_grown r r1 grows kept
@@ -353,6 +356,7 @@ module _ {T : Type 0} (m : Meaning) (laws : Laws m) (t : TableState T) (limits :
             number = grows2.number;
             joined = grows2.joined;
             told = grows2.told;
+            crosses = grows2.crosses;
             known = record { back = ends.learns.more; parts = ends.learns.adds };
             more = omega (arith, one_run);
             quiet = λ same. absurd (omega (arith, one_run, same));

@@ -1,5 +1,5 @@
 -- Along the keeper's way it keeps whom it has joined, and the record of what its steps left grows.
-use Rattle.std.specs.Prelude.{◌==◌, Bool, true, false, if◌then◌else◌}
+use Rattle.std.specs.Prelude.{◌==◌, ◌||◌, Bool, true, false, if◌then◌else◌}
 use Rattle.std.proofs.Common.{◌≡◌, ℕ, zero, suc, List, [], ◌∷◌, ◌++◌, append-nil, append_assoc, refl, sym, ap, ◌∙◌, subst}
 use Rattle.section_body.specs.declared.micro.Micro.{Micro}
 use Rattle.section_body.specs.declared.micro.Micro.TheVariants as micros
@@ -12,7 +12,7 @@ use Rattle.runner_parts.specs.declared.entries.Left.{Left}
 use Rattle.runner_parts.specs.declared.event.EventKind.{EventKind}
 use Rattle.runner_parts.specs.declared.event.EventKind.TheVariants as kinds
 use Rattle.runner_parts.specs.State.{RunState, ReadsState, RecordsState, PartState}
-use Rattle.runner_steps.specs.After.{after_by, left_more, tallied, noted}
+use Rattle.runner_steps.specs.After.{after_by, left_more, is_late_join, noted}
 use Rattle.machine_states.specs.World.{is_join}
 use Rattle.try_lock.specs.next_steps.specs.Steps.{kind_at}
 use Rattle.try_lock.specs.next_steps.specs.Stages.{reads_behind}
@@ -20,6 +20,7 @@ use Rattle.section_body.specs.Run.{written_once}
 use Rattle.runner_parts.specs.Lists.{holds_named, lock_agreed}
 use Rattle.runner_parts.specs.Tests.{has}
 use Rattle.keeper_facts.proofs.Keeping.{after_keeps, noted_joined}
+use Rattle.lone_epochs.proofs.Marks.{stays}
 use Rattle.try_lock.specs.version_words.specs.RunnerState.{RunnerState}
 use Rattle.try_lock.specs.version_words.specs.TableState.{TableState, IsOf}
 use Rattle.try_lock.specs.version_words.specs.Events.{Makes}
@@ -43,10 +44,11 @@ module _ {T : Type 0} where
     pub number : new.number ≡ old.number
     pub joined : new.joined ≡ old.joined
     pub told : new.part.records.joined ≡ old.part.records.joined
+    pub crosses : new.part.records.crosses ≡ old.part.records.crosses
     pub left : IsFront old.part.records.left new.part.records.left
 
   pub grows_same : (r : RunnerState T) → Grows r r
-  grows_same r = record { table = refl; structure = refl; layout = refl; requests = refl; number = refl; joined = refl; told = refl; left = front_same r.part.records.left r.part.records.left refl }
+  grows_same r = record { table = refl; structure = refl; layout = refl; requests = refl; number = refl; joined = refl; told = refl; crosses = refl; left = front_same r.part.records.left r.part.records.left refl }
 
   pub grows_on : (a b c : RunnerState T) → Grows a b → Grows b c → Grows a c
   grows_on a b c one two = record {
@@ -57,6 +59,7 @@ module _ {T : Type 0} where
     number = two.number ∙ one.number;
     joined = two.joined ∙ one.joined;
     told = two.told ∙ one.told;
+    crosses = two.crosses ∙ one.crosses;
     left = front_on a.part.records.left b.part.records.left c.part.records.left one.left two.left;
   }
 
@@ -78,16 +81,20 @@ plain_join : (kind : EventKind) → is_plain kind ≡ true → is_join kind ≡ 
 plain_join (kinds.Join worker) is = absurd (let z = is in cc)
 plain_join _ is = refl
 
-left_grows : (z : RecordsState) (kind : EventKind) (spot : Spot) (n : ℕ) → is_plain kind ≡ true → IsFront z.left (left_more z kind spot n).left
-left_grows z (kinds.Join worker) spot n is = absurd (let y = is in cc)
-left_grows z _ spot n is = record { back = record { spot = spot; number = n } ∷ []; parts = refl }
+plain_late : (kind : EventKind) (epoch : ℕ) → is_plain kind ≡ true → is_late_join kind epoch ≡ false
+plain_late (kinds.Join worker) epoch is = absurd (let z = is in cc)
+plain_late _ epoch is = refl
+
+left_grows : (before : List Left) (kind : EventKind) (spot : Spot) (n : ℕ) → is_plain kind ≡ true → IsFront before (left_more kind spot n before)
+left_grows before (kinds.Join worker) spot n is = absurd (let y = is in cc)
+left_grows before _ spot n is = record { back = record { spot = spot; number = n } ∷ []; parts = refl }
 
 noted_grows : (l : Layout) (r : ℕ) (kind : EventKind) (spot : Spot) (access : Access) (n : ℕ) (z : RecordsState) → is_plain kind ≡ true
     → IsFront z.left (noted l r kind spot access n z).left
 noted_grows l r kind spot access n z is = by (r == l.runners)
   where
-    by : (b : Bool) → IsFront z.left (if b then left_more (tallied access n z) kind spot (written access n) else tallied access n z).left
-    by true = left_grows (tallied access n z) kind spot (written access n) is
+    by : (b : Bool) → IsFront z.left (if b then left_more kind spot (written access n) z.left else z.left)
+    by true = left_grows z.left kind spot (written access n) is
     by false = front_same z.left z.left refl
 
 plain_at : (p : PartState) (q : RunState) (micro : Micro) → is_plain (kind_at p q micro) ≡ true
@@ -110,6 +117,9 @@ module _ {T : Type 0} (m : Meaning) where
     joined = ap (λ (y : RunnerState T). y.joined) made.made;
     told = ap (λ (y : RunnerState T). y.part.records.joined) made.made
         ∙ (noted_joined r.layout r.number kind made.met.0 made.met.1 found (after_by m r.layout kind r.part r.part.run found).records ∙ ap (λ (z : List ℕ × List Left). z.0) (after_keeps m r.layout r.part found kind (plain_join kind is) r.part.run));
+    crosses = ap (λ (y : RunnerState T). y.part.records.crosses) made.made
+        ∙ (ap (λ (b : Bool). b || (after_by m r.layout kind r.part r.part.run found).records.crosses) (plain_late kind (after_by m r.layout kind r.part r.part.run found).records.epoch_seen is)
+        ∙ ap (λ (z : ℕ × (Bool × Bool)). z.1.1) (stays m r.layout r.part found kind r.part.run).kept);
     left = subst (IsFront r.part.records.left) (sym (ap (λ (y : RunnerState T). y.part.records.left) made.made))
         (subst (λ xs. IsFront xs (noted r.layout r.number kind made.met.0 made.met.1 found (after_by m r.layout kind r.part r.part.run found).records).left)
         (ap (λ (z : List ℕ × List Left). z.1) (after_keeps m r.layout r.part found kind (plain_join kind is) r.part.run))

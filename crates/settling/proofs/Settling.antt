@@ -27,7 +27,7 @@ use Rattle.try_lock.specs.epoch_slots.specs.Entries.{HasLeave, Enters, Exits}
 use Rattle.try_lock.specs.epoch_slots.proofs.Outside.{reads_made}
 use Rattle.settling.specs.Settled.{LoadsLocks, MaySettle, IsSettled, Settles}
 use Rattle.settling.specs.Clearing.{cell_count, KeepsJoins, IsClearing}
-use Rattle.settling.proofs.Growing.{front_same, Grows, grows_on, own_grows, grows_made}
+use Rattle.settling.proofs.Growing.{Grows, grows_on, own_grows, grows_made}
 use Rattle.settling.proofs.Clears.{RecordTells, cleared_in, freed_in, keeps_grown}
 
 module _ {T : Type 0} (m : Meaning) (laws : Laws m) (t : TableState T) (limits : IsWithinLimits t.layout) (allowed : AreAllowed t.requests) (record_tells : RecordTells m) where
@@ -152,6 +152,7 @@ module _ {T : Type 0} (m : Meaning) (laws : Laws m) (t : TableState T) (limits :
       number = keeps.number;
       joined = keeps.joined;
       told = keeps.told;
+      crosses = keeps.crosses;
       known = keeps.known;
       loaded = subst (LoadsLocks m) (ap (λ (s : ReadsState). s.walk) (sym (reads_made m kinds.Idle exits.announce.found r new exits.announce.event is.at.resting))) is.loaded;
       few =

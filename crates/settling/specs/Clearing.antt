@@ -6,7 +6,7 @@ use Rattle.section_body.specs.declared.thunk.Thunk.{Thunk}
 use Rattle.table_words.specs.Places.{slot_count}
 use Rattle.table_words.specs.declared.layout.Layout.{Layout}
 use Rattle.structure_laws.specs.Meaning.{Meaning}
-use Rattle.runner_parts.specs.declared.stage.Stage.TheVariants as stages
+use Rattle.epoch_core.specs.declared.stage.Stage.TheVariants as stages
 use Rattle.runner_parts.specs.Tests.{has}
 use Rattle.try_lock.specs.version_words.specs.RunnerState.{RunnerState}
 use Rattle.try_lock.specs.version_words.specs.Stages.{IsAt}
@@ -26,6 +26,7 @@ module _ {T : Type 0} where
     pub number : new.number ≡ old.number
     pub joined : new.joined ≡ old.joined
     pub told : new.part.records.joined ≡ old.part.records.joined
+    pub crosses : new.part.records.crosses ≡ old.part.records.crosses
     pub known : IsFront old.part.records.known new.part.records.known
     -- it brought no fewer runs to their end, and where no more, its node slots are where they were
     pub more : length old.part.records.finished ≤ length new.part.records.finished

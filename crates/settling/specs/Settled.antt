@@ -52,6 +52,8 @@ module _ (m : Meaning) where
       pub number : new.number ≡ old.number
       pub joined : new.joined ≡ old.joined
       pub told : new.part.records.joined ≡ old.part.records.joined
+      -- it joined nobody, so whether its steps may have crossed a worker's is as it was
+      pub crosses : new.part.records.crosses ≡ old.part.records.crosses
       pub known : IsFront old.part.records.known new.part.records.known
       -- outside its runs it loaded no cell but locks
       pub loaded : LoadsLocks new.part.reads.walk

@@ -1,2 +1,3 @@
 mod Falling
 pub mod Near
+pub mod Retiring

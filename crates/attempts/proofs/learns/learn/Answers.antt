@@ -4,7 +4,7 @@ use Rattle.table_words.specs.Limits.{IsWithinLimits}
 use Rattle.machine_states.proofs.Steps.{some_same, none_some}
 use Rattle.lock_walks.specs.machine_invariant.specs.After.{AreAllowed}
 use Rattle.lock_walks.specs.version_words.proofs.Stages.{may_load_entry, then_knows}
-use Rattle.runner_parts.specs.declared.stage.Stage.TheVariants as stages
+use Rattle.epoch_core.specs.declared.stage.Stage.TheVariants as stages
 use Rattle.attempts.specs.declared.answers.Attempt.TheVariants as answers
 use Rattle.attempts.proofs.Learning.{is_known, same_word, has_learnt}
 use Rattle.attempts.proofs.learns.learn.Goals as goal

@@ -1,7 +1,8 @@
 use Rattle.std.proofs.Common.{◌≡◌, length, arith, refl, sym, ◌∙◌, subst}
 use Rattle.std.proofs.lemmas.Option.{slice_get-get_or}
 use Rattle.fault_count.specs.Rose.{Rose}
-use Rattle.serving.proofs.Along.{may_next, stopped_serves, goes_along, brief_along, halted_behind, all_served, going_of}
+use Rattle.spared_attempts.specs.Spared.{AttemptsSpareSlots}
+use Rattle.serving.proofs.Along.{may_next, stopped_serves, goes_along, brief_along, spared_along, halted_behind, all_served, going_of}
 use Rattle.serving.proofs.serves.serve.Goals as goal
 
 pub persist-next-requires-clause-next : goal.persist-next-requires-clause-next
@@ -18,7 +19,7 @@ returns-in-Some-clause-serves g c =
     c.args.requests.now c.args.retry_short c.args.runner c.loop-request.runner c.persist-next.result.0
     c.args.table.now c.table_is_allowed.ensures.limits c.table_is_allowed.ensures.requests c.requires.own inv.own c.persist-next.ensures.own
     c.requires.next c.loop-request.request-index _ (slice_get-get_or c.args.requests.now c.loop-request.request-index _ c.loop-request-test.true) inv.along
-    c.persist-next.result.1 _ _ _ c.persist-next.ensures.persists inv.brief c.in-Some.stopped (sym c.in-Some.ensures)
+    c.persist-next.result.1 _ _ _ c.persist-next.ensures.persists inv.brief (subst (λ s. AttemptsSpareSlots g.row.S.Denot (g.S.Structure.meaning s) (g.S.Planner.planning s)) c.structure.ensures c.attempts_spare_slots.ensures) inv.spared c.in-Some.stopped (sym c.in-Some.ensures)
 
 pub returns-then-not-goes_on-clause-serves : goal.returns-then-not-goes_on-clause-serves
 returns-then-not-goes_on-clause-serves g c =
@@ -30,12 +31,12 @@ returns-then-not-goes_on-clause-serves g c =
     c.args.requests.now c.args.retry_short c.args.runner c.loop-request.runner c.persist-next.result.0
     c.args.table.now c.table_is_allowed.ensures.limits c.table_is_allowed.ensures.requests c.requires.own inv.own c.persist-next.ensures.own
     c.requires.next c.loop-request.request-index _ (slice_get-get_or c.args.requests.now c.loop-request.request-index _ c.loop-request-test.true) inv.along
-    c.persist-next.result.1 _ _ _ c.persist-next.ensures.persists inv.brief (sym c.in_default.ensures))
+    c.persist-next.result.1 _ _ _ c.persist-next.ensures.persists inv.brief (subst (λ s. AttemptsSpareSlots g.row.S.Denot (g.S.Structure.meaning s) (g.S.Planner.planning s)) c.structure.ensures c.attempts_spare_slots.ensures) inv.spared (sym c.in_default.ensures))
     _ _ (brief_along (g.S.Structure.meaning c.args.table.now.structure) (met.laws c.args.table.now.structure) (g.S.Planner.planning c.args.table.now.structure)
     c.args.requests.now c.args.retry_short c.args.runner c.loop-request.runner c.persist-next.result.0
     c.args.table.now c.table_is_allowed.ensures.limits c.table_is_allowed.ensures.requests c.requires.own inv.own c.persist-next.ensures.own
     c.requires.next c.loop-request.request-index _ (slice_get-get_or c.args.requests.now c.loop-request.request-index _ c.loop-request-test.true) inv.along
-    c.persist-next.result.1 _ _ _ c.persist-next.ensures.persists inv.brief (sym c.in_default.ensures) _ (c.if-not-goes_on.ensures 0).asked)
+    c.persist-next.result.1 _ _ _ c.persist-next.ensures.persists inv.brief (subst (λ s. AttemptsSpareSlots g.row.S.Denot (g.S.Structure.meaning s) (g.S.Planner.planning s)) c.structure.ensures c.attempts_spare_slots.ensures) inv.spared (sym c.in_default.ensures) _ (c.if-not-goes_on.ensures 0).asked)
 
 pub returns-then-not-goes_on-clause-halted : goal.returns-then-not-goes_on-clause-halted
 returns-then-not-goes_on-clause-halted g c = λ _.
@@ -52,12 +53,17 @@ loop-request-preserved g c =
           c.args.requests.now c.args.retry_short c.args.runner c.loop-request.runner c.persist-next.result.0
           c.args.table.now c.table_is_allowed.ensures.limits c.table_is_allowed.ensures.requests c.requires.own inv.own c.persist-next.ensures.own
           c.requires.next c.loop-request.request-index _ (slice_get-get_or c.args.requests.now c.loop-request.request-index _ c.loop-request-test.true) inv.along
-          c.persist-next.result.1 _ _ _ c.persist-next.ensures.persists inv.brief (sym c.in_default.ensures);
+          c.persist-next.result.1 _ _ _ c.persist-next.ensures.persists inv.brief (subst (λ s. AttemptsSpareSlots g.row.S.Denot (g.S.Structure.meaning s) (g.S.Planner.planning s)) c.structure.ensures c.attempts_spare_slots.ensures) inv.spared (sym c.in_default.ensures);
       brief = brief_along (g.S.Structure.meaning c.args.table.now.structure) (met.laws c.args.table.now.structure) (g.S.Planner.planning c.args.table.now.structure)
           c.args.requests.now c.args.retry_short c.args.runner c.loop-request.runner c.persist-next.result.0
           c.args.table.now c.table_is_allowed.ensures.limits c.table_is_allowed.ensures.requests c.requires.own inv.own c.persist-next.ensures.own
           c.requires.next c.loop-request.request-index _ (slice_get-get_or c.args.requests.now c.loop-request.request-index _ c.loop-request-test.true) inv.along
-          c.persist-next.result.1 _ _ _ c.persist-next.ensures.persists inv.brief (sym c.in_default.ensures) _ (c.if-not-goes_on.ensures 0).asked;
+          c.persist-next.result.1 _ _ _ c.persist-next.ensures.persists inv.brief (subst (λ s. AttemptsSpareSlots g.row.S.Denot (g.S.Structure.meaning s) (g.S.Planner.planning s)) c.structure.ensures c.attempts_spare_slots.ensures) inv.spared (sym c.in_default.ensures) _ (c.if-not-goes_on.ensures 0).asked;
+      spared = spared_along (g.S.Structure.meaning c.args.table.now.structure) (met.laws c.args.table.now.structure) (g.S.Planner.planning c.args.table.now.structure)
+          c.args.requests.now c.args.retry_short c.args.runner c.loop-request.runner c.persist-next.result.0
+          c.args.table.now c.table_is_allowed.ensures.limits c.table_is_allowed.ensures.requests c.requires.own inv.own c.persist-next.ensures.own
+          c.requires.next c.loop-request.request-index _ (slice_get-get_or c.args.requests.now c.loop-request.request-index _ c.loop-request-test.true) inv.along
+          c.persist-next.result.1 _ _ _ c.persist-next.ensures.persists inv.brief (subst (λ s. AttemptsSpareSlots g.row.S.Denot (g.S.Structure.meaning s) (g.S.Planner.planning s)) c.structure.ensures c.attempts_spare_slots.ensures) inv.spared (sym c.in_default.ensures);
       went = (c.if-not-goes_on.ensures 0).went refl
           ∙ (c.persist-next.ensures.went (going_of c.persist-next.result.1 (sym c.in_default.ensures)) ∙ inv.went);
     }

@@ -1,0 +1,9 @@
+-- How many slots a section retires at most.
+use Rattle.std.specs.Prelude.{◌≤◌, count_by}
+use Rattle.section_body.specs.Shape.{is_retire}
+use Rattle.section_body.specs.declared.thunk.Thunk.{Thunk}
+use Rattle.structure_laws.specs.Meaning.{Meaning}
+
+-- no body has more than two Retires
+abbrev pub RetiresFew : Meaning → Type 0
+RetiresFew m = (thunk : Thunk) → count_by is_retire (m.body thunk) ≤ 2

@@ -1,0 +1,4 @@
+mod Recent
+mod Along
+mod Scanned
+mod Attempted
