@@ -13,6 +13,7 @@ use Rattle.threaded_runs.specs.epoch_slots.specs.declared.reserves.Kind.TheVaria
 use Rattle.threaded_runs.specs.epoch_slots.specs.declared.reserves.Short.{Short}
 use Rattle.threaded_runs.specs.serving.specs.declared.answers.Served.{Served}
 use Rattle.threaded_runs.specs.serving.specs.declared.answers.Served.TheVariants as answers
+use Rattle.threaded_runs.specs.spared_attempts.specs.Spared.{most_in_limbo}
 use Rattle.threaded_runs.specs.Lone.{AreServedAlone, ServesAlone}
 use Rattle.threaded_runs.specs.Runs.{AreServed, IsShortOf}
 use Rattle.flock_tool.specs.Finish.{finish_by, finish_status}
@@ -38,8 +39,9 @@ module _ {T : Type 0} (m : Meaning) (per_pair : ℕ) (w : WordsState T) (waits :
   spent_goes : (place word : ℕ) → answers.Spent place word ≢ answers.Halted
   spent_goes place word e = absurd (let z = e in cc)
 
-  pub never_five : 1 ≤ w.layout.sections → per_pair ≤ 2 → waits ≢ false → 2 * peak w.requests + 16 ≤ w.layout.nodes → finish_status (finish_by list unserved) ≢ 5
-  never_five some few waited enough five = by found.1.kind refl
+  pub never_five : 1 ≤ w.layout.sections → (waits ≡ false → 2 ≤ w.layout.sections) → per_pair ≤ 2 → 8 * length w.requests + 8 ≤ w.layout.version_max
+      → 2 * peak w.requests + 16 ≤ w.layout.nodes → finish_status (finish_by list unserved) ≢ 5
+  never_five some two few versions enough five = by found.1.kind refl
     where
       found : Lacks list
       found = five_lacks list unserved five
@@ -47,11 +49,12 @@ module _ {T : Type 0} (m : Meaning) (per_pair : ℕ) (w : WordsState T) (waits :
       is : IsShortOf m w waits found.1
       is = (served.served found.0 (answers.Short found.1) found.2).cause.1
 
-      limbo : found.1.limbo ≡ 0
-      limbo = ⊎_elim (λ clash. absurd (waited clash)) (λ none. none) is.over
-
       at : slice_get list 0 ≡ Some (answers.Short found.1)
       at = only found.0 (answers.Short found.1) found.2
+
+      limbo : (kind : Kind) → found.1.kind ≡ kind → found.1.limbo ≤ most_in_limbo kind
+      limbo kind e = subst (λ (k : Kind). found.1.limbo ≤ most_in_limbo k) e
+          ((alone (answers.Short found.1) (short_goes found.1) at).limbo found.1 versions at)
 
       by : (kind : Kind) → found.1.kind ≡ kind → ⊥
       by slots.Node e =
@@ -59,8 +62,12 @@ module _ {T : Type 0} (m : Meaning) (per_pair : ℕ) (w : WordsState T) (waits :
           let all = (alone (answers.Short found.1) (short_goes found.1) at).slots found.1 at e in
           let double = twice per_pair (peak w.requests) few in
           let unworn = found.3 in
-          absurd (omega (arith, free, all, double, limbo, unworn, enough))
-      by slots.Descriptor e = let all = (is.descriptors e).2 in absurd (omega (arith, all, limbo, some))
+          let left = limbo slots.Node e in
+          absurd (omega (arith, free, all, double, left, unworn, enough))
+      by slots.Descriptor e =
+          let all = (is.descriptors e).2 in
+          let left = limbo slots.Descriptor e in
+          ⊎_elim (λ unwaited. let more = two unwaited in omega (arith, all, left, more)) (λ none. omega (arith, all, none, some)) is.over
 
   pub never_six : 8 * length w.requests + 8 ≤ w.layout.version_max → finish_status (finish_by list unserved) ≢ 6
   never_six enough six = by (six_lacks list unserved six)

@@ -1,3 +1,4 @@
+pub mod Asking
 pub mod Commanding
 pub mod Completing
 pub mod Counting

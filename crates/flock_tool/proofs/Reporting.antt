@@ -52,6 +52,7 @@ run_is options left plan ran gates p r =
       text = IfSome-from (AreTracesOf plan.traces) (AreTracesOf (record { count = plan.traces.count; requests = (words_in ran).requests })) left p.text
           (λ text are. record { accepted = are.accepted; count = are.count; requests = r.requests ∙ are.requests });
       run = run_of plan ran gates p.layout r;
+      asked = r.asked;
       given = given_of plan ran gates r;
     })
 
@@ -61,6 +62,7 @@ pub load_run_is : (load : LoadOptions) (plan : Plan) (ran : Ran) (gates : Gating
 load_run_is load plan ran gates p r = record {
   requests = r.requests ∙ p.requests;
   run = subst (λ (o : RunOptions). IsRunOf o load.plan.traces ran) p.given (subst (λ n. IsRunOf plan.options n ran) p.count (run_of plan ran gates p.layout r));
+  asked = r.asked;
   given = subst (λ (o : RunOptions). AreGiven o.halts (words_in ran).layout.runners (answers_in ran) gates) p.given (given_of plan ran gates r);
 }
 

@@ -8,3 +8,4 @@ pub mod Runs
 pub mod Streams
 pub mod Valid
 pub mod Alone
+pub mod Asks

@@ -9,6 +9,7 @@ use Rattle.trace_reader.specs.Generator.{generated}
 use Rattle.trace_reader.specs.declared.generator.Gen.{Gen}
 use Rattle.report_text.specs.Sink.{Extends, ExtendsInPart}
 use Rattle.threaded_runs.specs.version_words.specs.TableState.{WordsState}
+use Rattle.threaded_runs.specs.Lone.{AsksAlone}
 use Rattle.threaded_runs.specs.Runs.{AreServed}
 use Rattle.run_reports.specs.Reports.{HaveContents, HaveEntries, unserved_in}
 use Rattle.load_counts.specs.Apart.{load_text}
@@ -66,4 +67,5 @@ HasLoaded ran result sink faults = EndsLoad ran result sink faults ⊎ LacksMemo
 pub record HasLoadRun (load : LoadOptions) (ran : Ran) (gates : Gating) : Type 0 where
   pub requests : (words_in ran).requests ≡ generated load.plan
   pub run : IsRunOf load.run load.plan.traces ran
+  pub asked : AsksAlone (meaning_of ran) (words_in ran) gates.asks_before gates.asks_after
   pub given : AreGiven load.run.halts (words_in ran).layout.runners (answers_in ran) gates

@@ -27,20 +27,24 @@ Fails s = Rose s.faults_before s.faults_after
 abbrev pub Told : List ℕ → Stream → Type 0
 Told line s = Tells line s.before s.after s.faults_before s.faults_after
 
--- what the gates have counted before and after a call: the halts, the plans, and what was planned
+-- what the gates have counted before and after a call: the halts, the asks, the plans, and what was planned
 pub record Gating : Type 0 where
   pub halts_before : ℕ
   pub halts_after : ℕ
+  pub asks_before : ℕ
+  pub asks_after : ℕ
   pub plans_before : ℕ
   pub plans_after : ℕ
   pub planned_before : List (Option ℕ)
   pub planned_after : List (Option ℕ)
 
-abbrev pub gating : (halts_before halts_after plans_before plans_after : ℕ) → (planned_before planned_after : List (Option ℕ))
-    → Gating
-gating halts_before halts_after plans_before plans_after planned_before planned_after = record {
+abbrev pub gating : (halts_before halts_after asks_before asks_after plans_before plans_after : ℕ)
+    → (planned_before planned_after : List (Option ℕ)) → Gating
+gating halts_before halts_after asks_before asks_after plans_before plans_after planned_before planned_after = record {
   halts_before = halts_before;
   halts_after = halts_after;
+  asks_before = asks_before;
+  asks_after = asks_after;
   plans_before = plans_before;
   plans_after = plans_after;
   planned_before = planned_before;
@@ -50,6 +54,7 @@ gating halts_before halts_after plans_before plans_after planned_before planned_
 -- they were left alone
 pub record IsIdle (g : Gating) : Type 0 where
   pub halts : g.halts_after ≡ g.halts_before
+  pub asks : g.asks_after ≡ g.asks_before
   pub plans : g.plans_after ≡ g.plans_before
   pub planned : g.planned_after ≡ g.planned_before
 

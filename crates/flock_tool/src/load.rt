@@ -52,8 +52,8 @@ pub fn load_command<T: Threads + Wait + Sync, K: Sink, F: Sink, G: Gates>(
     ensures { LoadRuns load result
         (stream (K.held sink.old) (K.held sink.new) (K.faults sink.old) (K.faults sink.new))
         (stream (F.held faults.old) (F.held faults.new) (F.faults faults.old) (F.faults faults.new))
-        (gating (G.halts gates.old) (G.halts gates.new) (G.plans gates.old) (G.plans gates.new)
-        (G.planned gates.old) (G.planned gates.new)) }
+        (gating (G.halts gates.old) (G.halts gates.new) (G.asks gates.old) (G.asks gates.new)
+        (G.plans gates.old) (G.plans gates.new) (G.planned gates.old) (G.planned gates.new)) }
 {
     let plan = match load_plan(alloc, load) {
         Ok(plan) => plan,

@@ -37,8 +37,8 @@ pub fn run_command<T: Threads + Wait + Sync, R: Source, K: Sink, F: Sink, G: Gat
         (stream (R.left source.old) (R.left source.new) (R.faults source.old) (R.faults source.new))
         (stream (K.held sink.old) (K.held sink.new) (K.faults sink.old) (K.faults sink.new))
         (stream (F.held faults.old) (F.held faults.new) (F.faults faults.old) (F.faults faults.new))
-        (gating (G.halts gates.old) (G.halts gates.new) (G.plans gates.old) (G.plans gates.new)
-        (G.planned gates.old) (G.planned gates.new)) }
+        (gating (G.halts gates.old) (G.halts gates.new) (G.asks gates.old) (G.asks gates.new)
+        (G.plans gates.old) (G.plans gates.new) (G.planned gates.old) (G.planned gates.new)) }
     ensures reads { result.0 ≢ 8 → R.faults source.new ≡ R.faults source.old }
     ensures writes { result.0 ≢ 9 → K.faults sink.new ≡ K.faults sink.old }
     ensures silent { (IsRunStatus result.0 → ⊥) → K.held sink.new ≡ K.held sink.old }

@@ -41,8 +41,8 @@ pub fn run_plan<T: Threads + Wait + Sync, G: Gates>(
     requires limits { IsWithinLimits plan.now.layout }
     requires ordered { AreInOrder plan.now.traces.requests plan.now.traces.count }
     ensures { IfOk result (λ ran. HasRunPlan plan.now ran
-        (gating (G.halts gates.old) (G.halts gates.new) (G.plans gates.old) (G.plans gates.new)
-        (G.planned gates.old) (G.planned gates.new))) }
+        (gating (G.halts gates.old) (G.halts gates.new) (G.asks gates.old) (G.asks gates.new)
+        (G.plans gates.old) (G.plans gates.new) (G.planned gates.old) (G.planned gates.new))) }
 {
     match plan.options.table {
         TableKind::Hash => {
@@ -72,8 +72,8 @@ where
     requires ordered { AreInOrder plan.now.traces.requests plan.now.traces.count }
     requires served { (op : Op) → (S.planning structure).serves op ≡ true }
     ensures { IfOk result (λ ran. HasRunOn S.meaning (S.planning structure).per_pair structure plan.now ran.0 ran.1.items
-        (gating (G.halts gates.old) (G.halts gates.new) (G.plans gates.old) (G.plans gates.new)
-        (G.planned gates.old) (G.planned gates.new))) }
+        (gating (G.halts gates.old) (G.halts gates.new) (G.asks gates.old) (G.asks gates.new)
+        (G.plans gates.old) (G.plans gates.new) (G.planned gates.old) (G.planned gates.new))) }
 {
     let runners = plan.layout.runners;
     let halts = plan.options.halts.asks(alloc, runners)?;

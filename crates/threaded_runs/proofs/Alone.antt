@@ -73,7 +73,7 @@ module _ {T : Type 0} (m : Meaning) (t : TableState T) (keeper : RunnerState T) 
   keeper_is = ap (λ (b : Bool). part_or_first (slice_get closing.world.parts (if b then 0 else suc t.layout.runners)))
       (eq-eqb t.layout.runners t.layout.runners refl) ∙ ap part_or_first closing.keeper_part
 
-  second_is : last.part 1 ≡ keeper.part
+  pub second_is : last.part 1 ≡ keeper.part
   second_is = ap last.part (sym one) ∙ keeper_is
 
   -- a worker that published nothing left no section to the keeper

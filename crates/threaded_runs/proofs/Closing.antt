@@ -77,6 +77,10 @@ module _ {T : Type 0} (m : Meaning) (t : TableState T) (keeper : RunnerState T) 
   added_is = ap (λ (rs : List Request). added (word_of m w) (length rs)) closing.requests
       ∙ ap (λ (f : Spot → ℕ). added f (length t.requests)) (fun_ext word_is)
 
+  -- a request of which a worker knows both words has its entry
+  pub known_entry : HasHistory m t.layout t.requests end → (worker n : ℕ) → is_answered (end.part worker).records.known n ≡ true → word_of m w (Stamp n) ≢ 0
+  known_entry history worker n known_so = λ zero_stamp. (history.asked.known worker n known_so).some (sym (word_is (Stamp n)) ∙ zero_stamp)
+
   -- a joined worker has there the part that the keeper keeps
   pub part_is : (worker : ℕ) (p : PartState) → worker < t.layout.runners → left_part keeper.joined worker ≡ Some (leaves p) → end.part worker ≡ leaves p
   part_is worker p few kept = ap (λ (b : Bool). part_or_first (slice_get closing.world.parts (if b then 0 else suc worker))) (ne_eqb worker t.layout.runners (λ e. omega (arith, few, e)))
@@ -111,7 +115,7 @@ module _ {T : Type 0} (m : Meaning) (t : TableState T) (keeper : RunnerState T) 
     stamped n known_so = (history.asked.known worker n known_so).some
 
     entry : (i : ℕ) (q : Request) → slice_get own i ≡ Some q → is_answered new.part.records.known q.number ≡ true → stamp_of m w q ≢ 0
-    entry i q e known_so = λ zero_stamp. stamped q.number (answered_is q.number true known_so) (sym (word_is (Stamp q.number)) ∙ zero_stamp)
+    entry i q e known_so = known_entry history worker q.number (answered_is q.number true known_so)
 
     -- the stamps of answered requests are those that the worker knows
     before : (q q' : Request) → is_answered new.part.records.known q.number ≡ true → is_answered new.part.records.known q'.number ≡ true

@@ -8,11 +8,10 @@ use Rattle.table_words.specs.declared.spot.Spot.TheVariants as spots
 use Rattle.table_words.specs.declared.access.Access.TheVariants.{Loads}
 use Rattle.structure_laws.specs.Meaning.{Meaning}
 use Rattle.runner_parts.specs.declared.event.EventKind.TheVariants as kinds
-use Rattle.runner_parts.specs.declared.stage.Stage.TheVariants as stages
-use Rattle.runner_parts.specs.State.{FinishedState, RunState, PartState, RecordsState, NodesState}
+use Rattle.runner_parts.specs.State.{RunState, PartState, RecordsState, NodesState}
 use Rattle.runner_parts.specs.Tests.{has}
 use Rattle.runner_steps.specs.AfterOutside.{split_after}
-use Rattle.runner_steps.specs.After.{after, after_by, stepped, leaves, tallied, joins}
+use Rattle.runner_steps.specs.After.{after, after_by, stepped, leaves, joins}
 use Rattle.machine_states.specs.First.{keeper_part, falling}
 use Rattle.serving.specs.version_words.specs.RunnerState.{RunnerState}
 use Rattle.serving.specs.version_words.specs.Shown.{left_part}
@@ -22,6 +21,7 @@ use Rattle.serving.specs.version_words.specs.Events.{HasSplit, joined_by}
 use Rattle.serving.specs.version_words.proofs.Stages.{first_is_keeper, then_split, then_keeper, then_joined, split_joined}
 use Rattle.std.specs.Option.{IsSome}
 use Rattle.settling.specs.Settled.{MaySettle, Settles}
+use Rattle.lone_epochs.proofs.Marks.{Stays, stays}
 use Rattle.threaded_runs.specs.Keeper.{IsIdleKeeper}
 
 -- a part of the machine's that doesn't go by the records
@@ -39,26 +39,17 @@ module _ {B : Type 0} (f : PartState → B) (blind : IsBlind f) (m : Meaning) (l
   pub join_leaves : (worker : ℕ) → f (after m l r (kinds.Join worker) spots.Seat Loads p 0) ≡ f p
   join_leaves worker = blind (stepped m l (kinds.Join worker) p 0) _ ∙ (ap (λ (o : Option RunState). f (after_by m l (kinds.Join worker) p o 0)) none ∙ blind p _)
 
-kept_joined : (b : Bool) (s t : RecordsState) (joined : List ℕ) → s.joined ≡ joined → t.joined ≡ joined → (if b then s else t).joined ≡ joined
-kept_joined true s t joined one two = one
-kept_joined false s t joined one two = two
-
 -- the list of joined workers, after a join and after a split
 lists_joined : (m : Meaning) (l : Layout) (r worker : ℕ) (p : PartState) → p.run ≡ None
     → (after m l r (kinds.Join worker) spots.Seat Loads p 0).records.joined ≡ p.records.joined ++ worker ∷ []
-lists_joined m l r worker p none = let s = (stepped m l (kinds.Join worker) p 0).records in
-    kept_joined (r == l.runners) _ (tallied Loads 0 s) s.joined refl refl ∙ ap (λ (o : Option RunState). (after_by m l (kinds.Join worker) p o 0).records.joined) none
+lists_joined m l r worker p none =
+    ap (λ (o : Option RunState). (after_by m l (kinds.Join worker) p o 0).records.joined) none
 
 -- and that of the runs that came to their end
-kept_finished : (b : Bool) (s t : RecordsState) (finished : List FinishedState) → s.finished ≡ finished → t.finished ≡ finished → (if b then s else t).finished ≡ finished
-kept_finished true s t finished one two = one
-kept_finished false s t finished one two = two
-
 split_finished : (m : Meaning) (l : Layout) (r : ℕ) (p : PartState) → p.run ≡ None
     → (after m l r kinds.Split spots.Seat Loads p 0).records.finished ≡ p.records.finished
-split_finished m l r p none = let s = (stepped m l kinds.Split p 0).records in
-    kept_finished (r == l.runners) _ (tallied Loads 0 s) s.finished refl refl
-    ∙ (ap (λ (o : Option RunState). (after_by m l kinds.Split p o 0).records.finished) none ∙ chosen (nat_lt p.records.splits l.runners))
+split_finished m l r p none =
+    ap (λ (o : Option RunState). (after_by m l kinds.Split p o 0).records.finished) none ∙ chosen (nat_lt p.records.splits l.runners)
   where
     chosen : (b : Bool) → (if b then record p { records = record (p.records) { splits = p.records.splits + 1 } } else p).records.finished ≡ p.records.finished
     chosen true = refl
@@ -66,9 +57,8 @@ split_finished m l r p none = let s = (stepped m l kinds.Split p 0).records in
 
 join_finished : (m : Meaning) (l : Layout) (r worker : ℕ) (p : PartState) → p.run ≡ None
     → (after m l r (kinds.Join worker) spots.Seat Loads p 0).records.finished ≡ p.records.finished
-join_finished m l r worker p none = let s = (stepped m l (kinds.Join worker) p 0).records in
-    kept_finished (r == l.runners) _ (tallied Loads 0 s) s.finished refl refl
-    ∙ ap (λ (o : Option RunState). (after_by m l (kinds.Join worker) p o 0).records.finished) none
+join_finished m l r worker p none =
+    ap (λ (o : Option RunState). (after_by m l (kinds.Join worker) p o 0).records.finished) none
 
 has_last : (xs : List ℕ) (x : ℕ) → has (xs ++ x ∷ []) x ≡ true
 has_last [] x = ap (λ (b : Bool). b || false) (eq-eqb x x refl)
@@ -95,6 +85,8 @@ first_is_idle {T} m t r is = subst (λ (y : RunnerState T). IsIdleKeeper m 0 0 y
   told = λ worker few. absurd (omega (arith, few));
   nodes = refl;
   finished = refl;
+  unmet = refl;
+  apart = refl;
 })
 
 module _ {T : Type 0} (m : Meaning) (r r' : RunnerState T) (splits : ℕ) where
@@ -113,6 +105,10 @@ module _ {T : Type 0} (m : Meaning) (r r' : RunnerState T) (splits : ℕ) where
     nodes = of (λ (q : PartState). q.nodes) (λ q s. refl) ∙ (is.nodes ∙ ap (λ (l : Layout). (keeper_part m l).nodes) (sym (ap (λ (y : RunnerState T). y.layout) split.made)));
     finished = ap (λ (y : RunnerState T). y.part.records.finished) split.made
         ∙ (split_finished m r.layout r.number r.part is.at.resting ∙ is.finished);
+    unmet = ap (λ (y : RunnerState T). y.part.records.epoch_seen) split.made
+        ∙ (ap (λ (z : ℕ × (Bool × Bool)). z.0) (stays m r.layout r.part 0 kinds.Split r.part.run).kept ∙ is.unmet);
+    apart = ap (λ (y : RunnerState T). y.part.records.crosses) split.made
+        ∙ (ap (λ (z : ℕ × (Bool × Bool)). z.1.1) (stays m r.layout r.part 0 kinds.Split r.part.run).kept ∙ is.apart);
   }
     where
       of : {B : Type 0} → (f : PartState → B) → IsBlind f → f r'.part ≡ f r.part
@@ -134,11 +130,23 @@ module _ {T : Type 0} (m : Meaning) (keeper worker r' : RunnerState T) (splits c
     nodes = of (λ (q : PartState). q.nodes) (λ q s. refl) ∙ (is.nodes ∙ ap (λ (l : Layout). (keeper_part m l).nodes) (sym (ap (λ (y : RunnerState T). y.layout) joins)));
     finished = ap (λ (y : RunnerState T). y.part.records.finished) joins
         ∙ (join_finished m keeper.layout keeper.number worker.number keeper.part is.at.resting ∙ is.finished);
+    unmet = ap (λ (y : RunnerState T). y.part.records.epoch_seen) joins ∙ seen;
+    apart = ap (λ (y : RunnerState T). y.part.records.crosses) joins ∙ late (stepped m keeper.layout (kinds.Join worker.number) keeper.part 0).records seen
+        (ap (λ (z : ℕ × (Bool × Bool)). z.1.1) marked.kept ∙ is.apart);
   }
     where
       of : {B : Type 0} → (f : PartState → B) → IsBlind f → f r'.part ≡ f keeper.part
       of f blind = ap (λ (y : RunnerState T). f y.part) joins ∙ (blind (after m keeper.layout keeper.number (kinds.Join worker.number) spots.Seat Loads keeper.part 0) _
           ∙ join_leaves f blind m keeper.layout keeper.number keeper.part is.at.resting worker.number)
+
+      marked : Stays keeper.part (stepped m keeper.layout (kinds.Join worker.number) keeper.part 0)
+      marked = stays m keeper.layout keeper.part 0 (kinds.Join worker.number) keeper.part.run
+
+      seen : (stepped m keeper.layout (kinds.Join worker.number) keeper.part 0).records.epoch_seen ≡ 0
+      seen = ap (λ (z : ℕ × (Bool × Bool)). z.0) marked.kept ∙ is.unmet
+
+      late : (s : RecordsState) → s.epoch_seen ≡ 0 → s.crosses ≡ false → (not (s.epoch_seen == 0) || s.crosses) ≡ false
+      late s unmet apart = ap (λ n. not (n == 0) || s.crosses) unmet ∙ apart
 
       list : r'.part.records.joined ≡ keeper.part.records.joined ++ worker.number ∷ []
       list = ap (λ (y : RunnerState T). y.part.records.joined) joins ∙ lists_joined m keeper.layout keeper.number worker.number keeper.part is.at.resting

@@ -1,6 +1,7 @@
 -- The end of a run with one worker.
-use Rattle.std.specs.Prelude.{◌*◌, Bool, slice_get}
-use Rattle.std.proofs.Common.{◌≡◌, ◌≢◌, ℕ, ◌+◌, ◌<◌, ◌≤◌, List, [], length, refl, sym, ap, ◌∙◌, subst, arith, ⊎_elim, true, None, Some, get_or}
+use Rattle.std.specs.Prelude.{◌*◌, Bool, slice_get, ◌==◌, not, count_by}
+use Rattle.std.proofs.Common.{◌≡◌, ◌≢◌, ℕ, ◌+◌, ◌^◌, ◌<◌, ◌≤◌, List, [], length, refl, sym, ap, ◌∙◌, subst, arith, ⊎_elim, true, false, None, Some, get_or, ne_eqb}
+use Rattle.std.proofs.lemmas.Nat.{mul-le}
 use Rattle.std.proofs.lemmas.Option.{slice_get-get_or, get_or_from_slice_get}
 use Rattle.map_history.specs.declared.op.Request.{Request}
 use Rattle.map_sizes.specs.Sizes.{peak}
@@ -8,9 +9,10 @@ use Rattle.section_body.specs.Word.{version_of}
 use Rattle.table_words.specs.declared.layout.Layout.{Layout}
 use Rattle.table_words.specs.declared.spot.Spot.TheVariants.{Cell}
 use Rattle.table_words.specs.Limits.{IsWithinLimits}
+use Rattle.structure_laws.specs.Cells as cells
 use Rattle.structure_laws.specs.Meaning.{Meaning}
 use Rattle.runner_parts.specs.State.{PartState}
-use Rattle.runner_parts.specs.Tests.{has}
+use Rattle.runner_parts.specs.Tests.{has, is_answered}
 use Rattle.runner_steps.specs.After.{leaves}
 use Rattle.machine_states.specs.World.{World}
 use Rattle.machine_states.specs.First.{keeper_part}
@@ -27,10 +29,12 @@ use Rattle.serving.specs.epoch_slots.specs.Reserves.{counts_of}
 use Rattle.serving.specs.epoch_slots.specs.declared.reserves.Kind.TheVariants as slots
 use Rattle.serving.specs.epoch_slots.specs.declared.reserves.Short.{Short}
 use Rattle.serving.specs.try_lock.specs.Planning.{Planning}
-use Rattle.serving.specs.Serving.{is_crossed, Ends, ServedRuns, WasCrossed}
+use Rattle.serving.specs.Serving.{is_crossed, most_asks, Ends, ServedRuns, WasCrossed}
 use Rattle.serving.specs.attempts.specs.declared.answers.Attempt.{Attempt}
 use Rattle.serving.specs.attempts.specs.declared.answers.Attempt.TheVariants as attempts
 use Rattle.lone_attempts.specs.Lone.{LoneAttemptsAreServed, NobodyCameBetween}
+use Rattle.lone_epochs.specs.Uncrossed.{OneWorkerIsUncrossed}
+use Rattle.spared_attempts.specs.Spared.{most_in_limbo, AttemptsSpareSlots}
 use Rattle.serving.specs.declared.answers.Served.{Served}
 use Rattle.serving.specs.declared.answers.Served.TheVariants as stops
 use Rattle.closed_words.specs.Histories.{HaveHistory}
@@ -41,25 +45,29 @@ use Rattle.settling.specs.Settled.{Settles}
 use Rattle.threaded_runs.specs.declared.job.Job.{Job}
 use Rattle.threaded_runs.specs.declared.job.Finished.{Finished}
 use Rattle.threaded_runs.specs.Own.{own_requests}
-use Rattle.threaded_runs.specs.Jobs.{AllSeated, AllRun, AllKept, HasRun, IsSeated}
-use Rattle.threaded_runs.specs.Lone.{AreServedAlone, ServesAlone}
-use Rattle.threaded_runs.specs.Runs.{AreEntered, HasServed}
+use Rattle.threaded_runs.specs.Jobs.{AllSeated, AllUnasked, AllRun, AllKept, HasRun, IsSeated, asks_counted}
+use Rattle.threaded_runs.specs.Lone.{AreServedAlone, AsksAlone, ServesAlone}
+use Rattle.threaded_runs.specs.Runs.{AreEntered, HasServed, served_in, stamp_of}
 use Rattle.threaded_runs.proofs.Seats.{some_of}
-use Rattle.threaded_runs.proofs.Closing.{end, part_is}
+use Rattle.threaded_runs.proofs.Closing.{end, known_entry, part_is}
+use Rattle.threaded_runs.proofs.Counting.{asks_of_one, rises_within}
+use Rattle.threaded_runs.proofs.Picked.{front_passes}
 use Rattle.threaded_runs.proofs.Ending.{IsLawful, settled, worker_served}
-use Rattle.threaded_runs.proofs.Alone.{all_own, none_freed, few_versions, few_slots}
+use Rattle.threaded_runs.proofs.Alone.{second_is, all_own, none_freed, few_versions, few_slots}
 
 -- what is known beside it where there is one worker
 pub record IsLawfulAlone {T : Type 0} (m : Meaning) (per_pair : ℕ) (t : TableState T) : Type 0 where
   pub versions : (w : World) → Reached m t.layout t.requests w → VersionsAreCounted t.layout (sight m t.layout t.requests w)
   pub in_use : (w : World) → Reached m t.layout t.requests w → FewAreInUse per_pair m t.layout t.requests (sight m t.layout t.requests w)
   pub tells : (w : World) → Reached m t.layout t.requests w → LocksTell m t.layout (sight m t.layout t.requests w)
+  pub uncrossed : (w : World) → Reached m t.layout t.requests w → OneWorkerIsUncrossed t.layout (sight m t.layout t.requests w)
 
 -- the keeper once it has joined the workers and before it settles the table: it has run nothing
 pub record IsFresh {T : Type 0} (m : Meaning) (t : TableState T) (keeper : RunnerState T) : Type 0 where
   pub told : (worker : ℕ) → worker < t.layout.runners → has keeper.part.records.joined worker ≡ true
   pub nodes : keeper.part.nodes ≡ (keeper_part m t.layout).nodes
   pub finished : length keeper.part.records.finished ≡ 0
+  pub apart : keeper.part.records.crosses ≡ false
 
 not_crossed : (answer : Attempt) → is_crossed answer ≡ true → NobodyCameBetween answer → ⊥
 not_crossed (attempts.Busy place word) crossed nobody = nobody
@@ -76,12 +84,18 @@ most_runs (stops.Short short) count before behind runs = omega (arith, runs)
 most_runs (stops.Spent place word) count before behind runs = runs
 most_runs stops.Halted count before behind runs = runs
 
+-- the asks for so many requests, where no fewer are served
+asks_within : (before behind count served most : ℕ) → behind ≤ before + (count + 1) * most → before ≡ 0 → count ≤ served → behind ≤ (served + 1) * most
+asks_within before behind count served most asked none few =
+    let more : (count + 1) * most ≤ (served + 1) * most = mul-le (count + 1) most (served + 1) most (omega (arith, few)) (omega arith) in
+    omega (arith, asked, none, more)
+
 module _ {T H : Type 0} (m : Meaning) (planning : Planning) (retry_short : Bool) (t : TableState T) (lawful : IsLawful m t) (gathered keeper : RunnerState T) (w : WordsState T)
     (own : IsOf t keeper) (number : keeper.number ≡ t.layout.runners) (settles : Settles m gathered keeper) (closing : IsClosing m t keeper w)
     (halts asks : H → ℕ) (jobs : List (Job T H)) (finished : List (Finished T H)) (answers : List Served) (each : length answers ≡ t.layout.runners) (as_many : length jobs ≡ t.layout.runners)
     (back : length finished ≡ length jobs) (seated : AllSeated planning t jobs) (run : AllRun m planning retry_short halts asks t jobs finished) (kept : AllKept gathered answers finished) (history : HaveHistory m w)
     (per_pair : ℕ) (alone : IsLawfulAlone m per_pair t) (fresh : IsFresh m t gathered) (one : t.layout.runners ≡ 1)
-    (attempts_go : LoneAttemptsAreServed T m planning) where
+    (attempts_go : LoneAttemptsAreServed T m planning) (spare : AttemptsSpareSlots T m planning) where
   low : 0 < t.layout.runners
   low = omega (arith, one)
 
@@ -141,6 +155,27 @@ module _ {T H : Type 0} (m : Meaning) (planning : Planning) (retry_short : Bool)
       by a runs = let most = most_runs a has_run.serves.count (length j.runner.part.records.finished) (length p.records.finished) runs in
           let none : length j.runner.part.records.finished ≡ 0 = ap length is_seated.fresh in omega (arith, most, none, served)
 
+  -- each request that the worker has served has its entry
+  all_entered : has_run.serves.count ≤ served_in m w
+  all_entered = subst (λ (rs : List Request). has_run.serves.count ≤ count_by (λ (q : Request). not (stamp_of m w q == 0)) rs)
+      (is_seated.requests ∙ (ap (λ n. own_requests n 0 t.requests) one ∙ (all_own t.requests ∙ sym closing.requests)))
+      (front_passes (λ (q : Request). not (stamp_of m w q == 0)) j.requests.items has_run.serves.count has_run.serves.served.few
+      (λ i q low e. ap not (ne_eqb (stamp_of m w q) 0 (known_entry m t keeper w closing (lawful.histories lawful.limits lawful.allowed closing.world closing.reached) 0 q.number
+      (ap (λ (x : PartState). is_answered x.records.known q.number) p_is ∙ has_run.serves.served.answered i q low e)))))
+
+  few_asks : asks j.gate ≡ 0 → asks f.gate ≤ (served_in m w + 1) * most_asks (cells.slots m w.layout)
+  few_asks none = ⊎_elim (λ crossed. absurd (uncrossed crossed))
+      (λ brief. asks_within (asks j.gate) (asks f.gate) has_run.serves.count (served_in m w) (most_asks (cells.slots m w.layout))
+      (subst (λ (l : Layout). asks f.gate ≤ asks j.gate + (has_run.serves.count + 1) * most_asks (cells.slots m l)) (is_seated.may.own.layout ∙ sym closing.layout) brief.asked)
+      none all_entered)
+      has_run.serves.brief
+
+  pub asked_alone : (before behind : ℕ) → AllUnasked asks jobs → behind ≡ asks_counted asks before finished → AsksAlone m w before behind
+  asked_alone before behind unasked counted = λ _.
+      rises_within before behind (asks_counted asks before finished) (asks f.gate) ((served_in m w + 1) * most_asks (cells.slots m w.layout)) counted
+      (asks_of_one asks before finished (some_of finished 0 (subst (λ (n : ℕ). 0 < n) (sym back) seat)) (back ∙ (as_many ∙ one)))
+      (few_asks (unasked 0 (some_of jobs 0 seat) seat))
+
   module _ (went : answer ≢ stops.Halted) where
     tidy : IsTidy f.runner
     tidy = by f.answer (λ e. went (same ∙ e)) has_run.serves.ends
@@ -191,7 +226,36 @@ module _ {T H : Type 0} (m : Meaning) (planning : Planning) (retry_short : Bool)
             (lawful.histories lawful.limits lawful.allowed closing.world closing.reached) lawful.is_map lawful.allowed.in_order
             ((settles.quiet none).0 ∙ fresh.nodes) served.count entered
 
+    -- nobody crossed its steps
+    alone_here : p.records.crossed ≡ false
+    alone_here = ap (λ (x : PartState). x.records.crossed) (sym p_is)
+        ∙ (alone.uncrossed closing.world closing.reached one).behind (ap (λ (x : PartState). x.gone) p_is)
+        (ap (λ (x : PartState). x.records.crosses) (second_is m t keeper w closing one p p_is tidy.at.published) ∙ (settles.crosses ∙ fresh.apart))
+
+    limbo_at : (short : Short) → 8 * length w.requests + 8 ≤ w.layout.version_max → slice_get answers 0 ≡ Some (stops.Short short) → short.limbo ≤ most_in_limbo short.kind
+    limbo_at short versions_enough is = ⊎_elim unwaited (λ none. omega (arith, none)) ends.2.stops.over
+      where
+        is_short : f.answer ≡ stops.Short short
+        is_short = sym same ∙ get_or_from_slice_get answers 0 (stops.Short short) stops.All is
+
+        ends : Ends m planning retry_short j.requests.items (stops.Short short) has_run.serves.count j.runner f.runner
+        ends = subst (λ (a : Served). Ends m planning retry_short j.requests.items a has_run.serves.count j.runner f.runner) is_short has_run.serves.ends
+
+        low : length p.records.finished < 2 ^ 61
+        low = below (length p.records.finished) (length t.requests) t.layout.version_max few_runs
+            (subst (λ (rs : List Request). 8 * length rs + 8 ≤ t.layout.version_max) closing.requests
+            (subst (λ (l : Layout). 8 * length w.requests + 8 ≤ l.version_max) closing.layout versions_enough)) lawful.limits.few_versions
+          where
+            below : (n k v : ℕ) → n ≤ k + 1 → 8 * k + 8 ≤ v → v < 2 ^ 32 → n < 2 ^ 61
+            below n k v few room low = omega (arith, few, room, low)
+
+        unwaited : retry_short ≡ false → short.limbo ≤ most_in_limbo short.kind
+        unwaited is_so = ⊎_elim
+            (λ crossed. absurd (uncrossed crossed))
+            (λ spared. spare.short short ends.0.number ends.2.before f.runner spared ends.2.stops.cause alone_here low)
+            (ends.2.spared is_so (spare.first j.runner is_seated.nodes is_seated.descriptors is_seated.unmet))
+
   pub served_alone : slice_get answers 0 ≢ Some stops.Halted → AreServedAlone m per_pair w answers
   served_alone unhalted =
       let went : answer ≢ stops.Halted = λ e. unhalted (at ∙ ap Some e) in
-      record { versions = versions went; slots = slots_at went }
+      record { versions = versions went; slots = slots_at went; limbo = limbo_at went }

@@ -1,8 +1,9 @@
 -- The elements of a list that pass a test, by their places.
-use Rattle.std.specs.Prelude.{Bool, true, false, cond, slice_get}
+use Rattle.std.specs.Prelude.{Bool, true, false, cond, count_by, slice_get}
 use Rattle.std.specs.List.{filter}
-use Rattle.std.proofs.Common.{◌≡◌, ℕ, zero, suc, ◌+◌, ◌<◌, List, [], ◌∷◌, ◌++◌, length, take, get_or, refl, sym, ap, ◌∙◌, subst, arith, Some}
+use Rattle.std.proofs.Common.{◌≡◌, ℕ, zero, suc, ◌+◌, ◌<◌, ◌≤◌, List, [], ◌∷◌, ◌++◌, length, take, get_or, refl, sym, ap, ◌∙◌, subst, arith, Some}
 use Rattle.std.proofs.lemmas.List.Elements.{filter-append}
+use Rattle.std.proofs.lemmas.List.Sums.{sum_by-cons}
 use Rattle.std.proofs.lemmas.List.{take_more}
 use Rattle.machine_states.proofs.Steps.{some_same}
 use Rattle.machine_states.proofs.Sights.{some_none}
@@ -74,3 +75,13 @@ module _ {A : Type 0} (test : A → Bool) where
   -- those that pass among one more
   pub one_more : (xs : List A) (k : ℕ) (d : A) → k < length xs → filter test (take (k + 1) xs) ≡ filter test (take k xs) ++ cond (test (get_or xs k d)) (get_or xs k d ∷ []) []
   one_more xs k d low = ap (filter test) (take_more xs k d low) ∙ filter-append test (take k xs) (get_or xs k d ∷ [])
+
+  -- where the first elements, so many, pass, so many do at least
+  pub front_passes : (xs : List A) (n : ℕ) → n ≤ length xs → ((i : ℕ) (x : A) → i < n → slice_get xs i ≡ Some x → test x ≡ true) → n ≤ count_by test xs
+  front_passes xs zero few all = omega arith
+  front_passes [] (suc n) few all = absurd (omega (arith, few))
+  front_passes (x ∷ xs) (suc n) few all =
+      let first : count_by test (x ∷ xs) ≡ cond (test x) 1 0 + count_by test xs = sum_by-cons (λ (y : A). cond (test y) 1 0) x xs in
+      let passes : ◌≡◌ {A = ℕ} (cond (test x) 1 0) 1 = ap (λ (b : Bool). cond b 1 0) (all 0 x (omega arith) refl) in
+      let rest : n ≤ count_by test xs = front_passes xs n (omega (arith, few)) (λ i y low at. all (suc i) y (omega (arith, low)) at) in
+      omega (arith, first, passes, rest)

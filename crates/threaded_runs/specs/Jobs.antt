@@ -1,6 +1,7 @@
 -- What a worker's thread is given, and what it gives back.
-use Rattle.std.specs.Prelude.{◌≡◌, ◌≢◌, ℕ, ◌<◌, Bool, List, [], length, Some, slice_get, slice_index_or}
+use Rattle.std.specs.Prelude.{◌≡◌, ◌≢◌, ℕ, ◌<◌, Bool, List, [], ◌∷◌, length, Some, slice_get, slice_index_or}
 use Rattle.structure_laws.specs.Meaning.{Meaning}
+use Rattle.runner_gate.specs.Counts.{plus}
 use Rattle.runner_steps.specs.After.{leaves}
 use Rattle.serving.specs.version_words.specs.RunnerState.{RunnerState}
 use Rattle.serving.specs.version_words.specs.Shown.{left_part}
@@ -19,19 +20,22 @@ module _ {T H : Type 0} where
     pub own : IsOf t j.runner
     pub next : MayServe planning j.requests.items j.runner
 
-  -- the worker has this number, its requests are those of its traces, and it has run no section
+  -- the worker has this number, its requests are those of its traces, and it has run no section, retired nothing, and met no epoch
   pub record IsSeated (planning : Planning) (t : TableState T) (worker : ℕ) (j : Job T H) : Type 0 where
     pub may : MayRun planning t j
     pub number : j.runner.number ≡ worker
     pub requests : j.requests.items ≡ own_requests t.layout.runners worker t.requests
     pub fresh : j.runner.part.records.finished ≡ []
+    pub nodes : j.runner.part.nodes.limbo ≡ []
+    pub descriptors : j.runner.part.descriptors.limbo ≡ []
+    pub unmet : j.runner.part.records.epoch_seen ≡ 0
 
   abbrev pub AllSeated : Planning → TableState T → List (Job T H) → Type 0
   AllSeated planning t jobs = (worker : ℕ) (d : Job T H) → worker < length jobs → IsSeated planning t worker (slice_index_or jobs worker d)
 
-  -- the gates weren't asked yet
+  -- the gates weren't asked yet: this count of theirs, that of halts or that of asks, is 0
   abbrev pub AllUnasked : (H → ℕ) → List (Job T H) → Type 0
-  AllUnasked halts jobs = (worker : ℕ) (d : Job T H) → worker < length jobs → halts (slice_index_or jobs worker d).gate ≡ 0
+  AllUnasked count jobs = (worker : ℕ) (d : Job T H) → worker < length jobs → count (slice_index_or jobs worker d).gate ≡ 0
 
   module _ (m : Meaning) (planning : Planning) (retry_short : Bool) (halts asks : H → ℕ) (t : TableState T) where
     -- the worker has served its requests, as the answer says; its gate halted exactly where the answer is Halted
@@ -53,6 +57,11 @@ module _ {T H : Type 0} where
 
   abbrev pub AreBack : (H → ℕ) → TableState T → List (Finished T H) → Type 0
   AreBack halts t finished = (i : ℕ) (d : Finished T H) → i < length finished → IsBack halts t i (slice_index_or finished i d)
+
+  -- the count of asks once the gates of these workers came back, one after the other
+  abbrev pub asks_counted : (H → ℕ) → ℕ → List (Finished T H) → ℕ
+  asks_counted asks count [] = count
+  asks_counted asks count (f ∷ finished) = asks_counted asks (plus count (asks f.gate)) finished
 
   -- the answer is the worker's, and the keeper keeps the worker's part as it was joined
   pub record IsKept (keeper : RunnerState T) (worker : ℕ) (answer : Served) (f : Finished T H) : Type 0 where

@@ -1,7 +1,7 @@
 -- The keeper of a table, which makes the workers and takes them back.
-use Rattle.std.specs.Prelude.{◌≡◌, ℕ, ◌<◌, [], true, None}
+use Rattle.std.specs.Prelude.{◌≡◌, ℕ, ◌<◌, [], true, false, None}
 use Rattle.structure_laws.specs.Meaning.{Meaning}
-use Rattle.runner_parts.specs.declared.stage.Stage.TheVariants as stages
+use Rattle.epoch_core.specs.declared.stage.Stage.TheVariants as stages
 use Rattle.runner_parts.specs.Tests.{has}
 use Rattle.machine_states.specs.First.{keeper_part}
 use Rattle.serving.specs.version_words.specs.RunnerState.{RunnerState}
@@ -16,3 +16,6 @@ pub record IsIdleKeeper {T : Type 0} (m : Meaning) (splits count : ℕ) (r : Run
   pub nodes : r.part.nodes ≡ (keeper_part m r.layout).nodes
   -- and has run no section
   pub finished : r.part.records.finished ≡ []
+  -- its own steps have not met the epoch, so they crossed no worker's that it joined
+  pub unmet : r.part.records.epoch_seen ≡ 0
+  pub apart : r.part.records.crosses ≡ false

@@ -11,4 +11,5 @@ pub use Rattle.closed_words
 pub use Rattle.make_counts
 pub use Rattle.serving.specs.epoch_slots
 pub use Rattle.serving.specs.try_lock
+pub use Rattle.spared_attempts
 pub use Rattle.serving

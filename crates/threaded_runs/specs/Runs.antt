@@ -1,5 +1,5 @@
 -- What a run of traces on a table leaves.
-use Rattle.std.specs.Prelude.{◌≡◌, ◌≢◌, ℕ, ◌+◌, ◌*◌, ◌<◌, ◌≤◌, ◌⊎◌, Bool, false, List, length, Some, slice_get}
+use Rattle.std.specs.Prelude.{◌≡◌, ◌≢◌, ℕ, ◌+◌, ◌*◌, ◌<◌, ◌≤◌, ◌⊎◌, ◌==◌, Bool, false, not, List, length, count_by, Some, slice_get}
 use Rattle.map_history.specs.declared.op.Request.{Request}
 use Rattle.table_words.specs.declared.layout.Layout.{Layout}
 use Rattle.table_words.specs.declared.spot.Spot.TheVariants.{Stamp, Reply, DoneWord}
@@ -25,6 +25,10 @@ module _ {T : Type 0} (m : Meaning) (w : WordsState T) where
   -- the request's stamp word, 0 where it has no entry
   abbrev pub stamp_of : Request → ℕ
   stamp_of request = word_of m w (Stamp request.number)
+
+  -- how many requests are served: they have an entry
+  abbrev pub served_in : ℕ
+  served_in = count_by (λ (request : Request). not (stamp_of request == 0)) w.requests
 
   -- of these requests the first ones, so many, have an entry each, with stamps that rise along them,
   -- and those behind them have none

@@ -4,7 +4,7 @@ ghost use Rattle.map_history.specs.Requests.{AreInOrder};
 ghost use Rattle.serving.specs.version_words.specs.TableState.{IsOf};
 ghost use Rattle.threaded_runs.specs.Keeper.{IsIdleKeeper};
 ghost use Rattle.threaded_runs.specs.Counts.{halts_counted, plans_given};
-ghost use Rattle.threaded_runs.specs.Jobs.{IsSeated, AllSeated, AllUnasked, AreBack, AllKept};
+ghost use Rattle.threaded_runs.specs.Jobs.{IsSeated, AllSeated, AllUnasked, AreBack, AllKept, asks_counted};
 
 use crate::job::{Finished, Job};
 use crate::owned::requests_of;
@@ -74,7 +74,9 @@ pub fn make_jobs<S: Planner, G: Gates>(
     ensures len { IfOk result (λ x. vec_len x.1 ≡ length halts.now) }
     ensures jobs { IfOk result (λ x. AllSeated (S.planning table.now.structure) table.now x.1.items) }
     ensures unasked { IfOk result (λ x. AllUnasked G.Gate.halts x.1.items) }
+    ensures no_asks { IfOk result (λ x. AllUnasked G.Gate.asks x.1.items) }
     ensures halts { IfOk result (λ _. G.halts gates.new ≡ G.halts gates.old) }
+    ensures asks { IfOk result (λ _. G.asks gates.new ≡ G.asks gates.old) }
     ensures plans { IfOk result (λ _. G.plans gates.new ≡ plans_given (G.plans gates.old) halts.now) }
     ensures planned { IfOk result (λ _. G.planned gates.old ≡ [] → G.planned gates.new ≡ halts.now) }
 {
@@ -108,6 +110,7 @@ pub fn gather<S: Planner, G: Gates>(
     ensures len { IfOk result (λ x. vec_len x.1 ≡ vec_len finished) }
     ensures kept { IfOk result (λ x. AllKept x.0 x.1.items finished.items) }
     ensures halts { IfOk result (λ x. G.halts gates.new ≡ halts_counted (G.halts gates.old) x.1.items) }
+    ensures asks { IfOk result (λ _. G.asks gates.new ≡ asks_counted G.Gate.asks (G.asks gates.old) finished.items) }
     ensures plans { IfOk result (λ _. G.plans gates.new ≡ G.plans gates.old) }
     ensures planned { IfOk result (λ _. G.planned gates.new ≡ G.planned gates.old) }
 {

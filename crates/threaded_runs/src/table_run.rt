@@ -3,7 +3,7 @@ ghost use Rattle.std.specs.Prelude.{◌≡◌, IfOk, All, [], true, length};
 ghost use Rattle.map_history.specs.Requests.{AreInOrder};
 ghost use Rattle.table_words.specs.Limits.{IsWithinLimits};
 ghost use Rattle.threaded_runs.specs.Counts.{halts_counted, plans_given};
-ghost use Rattle.threaded_runs.specs.Lone.{ServesAlone};
+ghost use Rattle.threaded_runs.specs.Lone.{ServesAlone, AsksAlone};
 ghost use Rattle.threaded_runs.specs.Runs.{IsMadeWith, AreServed};
 
 use crate::running::run_jobs;
@@ -11,6 +11,7 @@ use crate::seating::{gather, make_jobs};
 use closed_words::closed_words_have_a_history;
 use keeper_facts::what_the_keeper_saw_tells;
 use lone_attempts::lone_attempts_are_served;
+use lone_epochs::one_worker_is_uncrossed;
 use make_counts::{few_pairs_are_added, makes_are_counted};
 use map_history::Request;
 use own_descriptors::own_descriptors_stand;
@@ -24,6 +25,7 @@ use serving::spent_facts::spent_words_stand;
 use serving::version_words::{FlockTable, Words, table_is_allowed};
 use settling::settle;
 use slots_in_use::few_slots_are_in_use;
+use spared_attempts::attempts_spare_slots;
 use std::alloc::{AllocError, Global};
 use std::sync::Wait;
 use std::thread::Threads;
@@ -61,7 +63,8 @@ where
     requires halts { length halts.now ≡ layout.runners }
     ensures words { IfOk result (λ x. IsMadeWith structure layout requests.now x.0) }
     ensures served { IfOk result (λ x. AreServed (S.meaning structure) x.0 retry_short x.1.items
-        × ServesAlone (S.meaning structure) (S.planning structure).per_pair x.0 x.1.items) }
+        × ServesAlone (S.meaning structure) (S.planning structure).per_pair x.0 x.1.items
+        × AsksAlone (S.meaning structure) x.0 (G.asks gates.old) (G.asks gates.new)) }
     ensures halts { IfOk result (λ x. G.halts gates.new ≡ halts_counted (G.halts gates.old) x.1.items) }
     ensures plans { IfOk result (λ _. G.plans gates.new ≡ plans_given (G.plans gates.old) halts.now) }
     ensures planned { IfOk result (λ _. G.planned gates.old ≡ [] → G.planned gates.new ≡ halts.now) }
@@ -82,6 +85,8 @@ where
     few_slots_are_in_use(table.structure());
     what_the_keeper_saw_tells(table.structure());
     lone_attempts_are_served(table.structure());
+    one_worker_is_uncrossed(table.structure());
+    attempts_spare_slots(table.structure());
     let (keeper, jobs) = make_jobs(&table, alloc, keeper, requests, halts, gates)?;
     let finished = run_jobs(rt, &table, retry_short, jobs)?;
     let (keeper, answers) = gather(&table, alloc, keeper, finished, gates)?;

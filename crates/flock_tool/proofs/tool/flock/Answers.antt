@@ -4,15 +4,17 @@ use Rattle.flock_words.specs.declared.command.Command.TheVariants as commands
 use Rattle.flock_tool.specs.End.{stop_line}
 use Rattle.flock_tool.specs.Streams.{Told, stream}
 use Rattle.flock_tool.specs.declared.status.Stop.{Stop}
+use Rattle.flock_tool.proofs.Asking.{load_asks, run_asks}
 use Rattle.flock_tool.proofs.Commanding.{gen_few, load_few, none_accepted, none_status, of_none, of_one}
 use Rattle.flock_tool.proofs.Completing.{load_keeps, none_keeps, run_keeps, whole, whole_alone}
 use Rattle.flock_tool.proofs.Ends.{stop_at_2}
+use Rattle.flock_tool.proofs.Running.{if_none}
 use Rattle.flock_tool.proofs.tool.flock.Goals as goal
 
 pub returns-in-Err-clause-commands : goal.returns-in-Err-clause-commands
 returns-in-Err-clause-commands g c =
     of_none c.refuse.result _ _ _ _ (texts c.args.words.now) c.in-Err.stop c.in-Err.ensures.refused c.refuse.ensures.status c.refuse.ensures.none c.refuse.ensures.told
-    (record { same = refl; steady = refl }) (record { same = refl; steady = refl }) (record { halts = refl; plans = refl; planned = refl })
+    (record { same = refl; steady = refl }) (record { same = refl; steady = refl }) (record { halts = refl; asks = refl; plans = refl; planned = refl })
 
 pub returns-in-Err-clause-complete : goal.returns-in-Err-clause-complete
 returns-in-Err-clause-complete g c = λ command is. whole c.refuse.result _ _ _ _ command (returns-in-Err-clause-commands g c command is)
@@ -22,6 +24,9 @@ returns-in-Err-clause-alone g c = λ command is. whole_alone c.refuse.result _ _
 
 pub returns-in-Err-clause-versions : goal.returns-in-Err-clause-versions
 returns-in-Err-clause-versions g c = none_keeps c.refuse.result c.refuse.ensures.none
+
+pub returns-in-Err-clause-asks : goal.returns-in-Err-clause-asks
+returns-in-Err-clause-asks g c = if_none _ c.refuse.result.1 c.refuse.ensures.none
 
 pub returns-in-Err-clause-accepted : goal.returns-in-Err-clause-accepted
 returns-in-Err-clause-accepted g c = λ accepted two. none_accepted (texts c.args.words.now) c.in-Err.stop c.in-Err.ensures.refused accepted (sym c.refuse.ensures.status ∙ two)
@@ -54,6 +59,9 @@ returns-in-Run-clause-alone g c = λ command is. whole_alone c.run_command.resul
 pub returns-in-Run-clause-versions : goal.returns-in-Run-clause-versions
 returns-in-Run-clause-versions g c = run_keeps c.in-Run.options c.run_command.result _ _ _ _ c.run_command.ensures.ends
 
+pub returns-in-Run-clause-asks : goal.returns-in-Run-clause-asks
+returns-in-Run-clause-asks g c = run_asks c.in-Run.options c.run_command.result _ _ _ _ c.run_command.ensures.ends
+
 pub returns-in-Run-clause-words : goal.returns-in-Run-clause-words
 returns-in-Run-clause-words g c = λ not. absurd (not (c.in-Ok.command, c.in-Ok.ensures.read))
 
@@ -64,7 +72,7 @@ pub returns-in-Gen-clause-commands : goal.returns-in-Gen-clause-commands
 returns-in-Gen-clause-commands g c =
     of_one _ _ _ _ _ (texts c.args.words.now) (commands.Gen c.in-Gen.plan) (c.words_mean_one_command.ensures (texts c.args.words.now))
     (subst (IsCommand (texts c.args.words.now)) c.in-Gen.is c.in-Ok.ensures.read)
-    (record { none = refl; unread = record { same = refl; steady = refl }; idle = record { halts = refl; plans = refl; planned = refl }; prints = c.gen_command.ensures })
+    (record { none = refl; unread = record { same = refl; steady = refl }; idle = record { halts = refl; asks = refl; plans = refl; planned = refl }; prints = c.gen_command.ensures })
 
 pub returns-in-Gen-clause-complete : goal.returns-in-Gen-clause-complete
 returns-in-Gen-clause-complete g c = λ command is. whole _ _ _ _ _ command (returns-in-Gen-clause-commands g c command is)
@@ -74,6 +82,9 @@ returns-in-Gen-clause-alone g c = λ command is. whole_alone _ _ _ _ _ command (
 
 pub returns-in-Gen-clause-versions : goal.returns-in-Gen-clause-versions
 returns-in-Gen-clause-versions g c = none_keeps (c.gen_command.result, None) refl
+
+pub returns-in-Gen-clause-asks : goal.returns-in-Gen-clause-asks
+returns-in-Gen-clause-asks g c = tt
 
 pub returns-in-Gen-clause-accepted : goal.returns-in-Gen-clause-accepted
 returns-in-Gen-clause-accepted g c = λ accepted. (gen_few c.in-Gen.plan c.gen_command.result _ _ c.gen_command.ensures).0
@@ -107,6 +118,9 @@ returns-in-Load-clause-alone g c = λ command is. whole_alone c.load_command.res
 
 pub returns-in-Load-clause-versions : goal.returns-in-Load-clause-versions
 returns-in-Load-clause-versions g c = load_keeps c.in-Load.load c.load_command.result _ _ _ c.load_command.ensures
+
+pub returns-in-Load-clause-asks : goal.returns-in-Load-clause-asks
+returns-in-Load-clause-asks g c = load_asks c.in-Load.load c.load_command.result _ _ _ c.load_command.ensures
 
 pub returns-in-Load-clause-accepted : goal.returns-in-Load-clause-accepted
 returns-in-Load-clause-accepted g c = λ accepted. (load_few c.in-Load.load c.load_command.result _ _ _ c.load_command.ensures).0

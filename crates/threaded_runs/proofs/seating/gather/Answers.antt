@@ -1,15 +1,15 @@
-use Rattle.std.proofs.Common.{rules, ◌≡◌, ℕ, ◌+◌, ◌<◌, ◌++◌, ◌∷◌, [], length, get_or, vec_items, vec_len, ◌∙◌, ap, sym, subst, arith}
+use Rattle.std.proofs.Common.{rules, ◌≡◌, ℕ, ◌+◌, ◌<◌, ◌++◌, ◌∷◌, [], length, take, get_or, vec_items, vec_len, ◌∙◌, ap, sym, subst, arith}
 use Rattle.std.specs.Vec.Iter.{into_iter_items, into_iter_len}
 use Rattle.table_words.specs.declared.layout.Layout.{Layout}
 use Rattle.serving.specs.version_words.proofs.Stages.{may_join}
-use Rattle.runner_gate.specs.Counts.{halts_after}
+use Rattle.runner_gate.specs.Counts.{plus, halts_after}
 use Rattle.threaded_runs.specs.declared.job.Finished.{Finished}
 use Rattle.threaded_runs.specs.Keeper.{IsIdleKeeper}
 use Rattle.threaded_runs.specs.Counts.{halts_counted}
-use Rattle.threaded_runs.specs.Jobs.{IsBack}
+use Rattle.threaded_runs.specs.Jobs.{IsBack, asks_counted}
 use Rattle.threaded_runs.proofs.Keeping.{then_gathered}
 use Rattle.threaded_runs.proofs.Seats.{kept_more, rest_behind}
-use Rattle.threaded_runs.proofs.Counting.{halts_more, counted_so}
+use Rattle.threaded_runs.proofs.Counting.{halts_more, counted_so, asks_next}
 use Rattle.threaded_runs.proofs.seating.gather.Goals as goal
 
 pub join_runner-keeper-requires-clause-next : goal.join_runner-keeper-requires-clause-next
@@ -30,6 +30,8 @@ loop-one-preserved g c =
     let given = vec_items c.loop-one.answers in
     let first = g.G.Gates.halts c.args.gates.now in
     let of_gate = g.G.Gate.Gate.halts f.gate in
+    let asks = g.G.Gate.Gate.asks in
+    let asked = g.G.Gates.asks c.args.gates.now in
     let here : (d : Finished g.row.S.Denot g.row.G-Gate.Denot) → get_or (vec_items c.args.finished) past d ≡ f = λ d. let h = was.3 0 d in grind rules in
     let low : past < length (vec_items c.args.finished) = (let sum = was.2 in grind rules) in
     let back = subst (IsBack g.G.Gate.Gate.halts c.args.table.now past) (here f) (c.requires.back past f low) in
@@ -48,4 +50,6 @@ loop-one-preserved g c =
           ∙ (sym (halts_more first given f.answer) ∙ sym (ap (halts_counted first) pushed)))),
       c.back.ensures.plans ∙ was.6,
       c.back.ensures.planned ∙ was.7,
+      c.back.ensures.asks ∙ (ap (λ (n : ℕ). plus n (asks f.gate)) was.8 ∙ (sym (asks_next asks asked (vec_items c.args.finished) past f low here)
+          ∙ ap (λ (n : ℕ). asks_counted asks asked (take n (vec_items c.args.finished))) longer)),
     )

@@ -1,9 +1,9 @@
-use Rattle.std.proofs.Common.{◌≡◌, ℕ, ◌+◌, ◌<◌, vec_len, vec_items, get_or}
+use Rattle.std.proofs.Common.{◌≡◌, ℕ, ◌+◌, ◌<◌, vec_len, vec_items, get_or, take}
 use Rattle.std.specs.Vec.Iter.{into_iter_items, into_iter_len}
 use Rattle.serving.specs.version_words.specs.TableState.{IsOf}
 use Rattle.threaded_runs.specs.Keeper.{IsIdleKeeper}
 use Rattle.threaded_runs.specs.Counts.{halts_counted}
-use Rattle.threaded_runs.specs.Jobs.{AllKept}
+use Rattle.threaded_runs.specs.Jobs.{AllKept, asks_counted}
 use Rattle.threaded_runs.proofs.seating.gather.Given as goal
 
 abbrev pub invariant-loop-one : goal.invariant-loop-one
@@ -17,3 +17,4 @@ invariant-loop-one g l =
     × (g.G.Gates.halts l.gates ≡ halts_counted (g.G.Gates.halts l.initial.gates) (vec_items l.answers))
     × (g.G.Gates.plans l.gates ≡ g.G.Gates.plans l.initial.gates)
     × (g.G.Gates.planned l.gates ≡ g.G.Gates.planned l.initial.gates)
+    × (g.G.Gates.asks l.gates ≡ asks_counted g.G.Gate.Gate.asks (g.G.Gates.asks l.initial.gates) (take past (vec_items l.fn.finished)))

@@ -11,7 +11,8 @@ loop-worker-preserved g c =
     let pushed : vec_items c.push.new.self ≡ vec_items c.loop-worker.jobs ++ job ∷ [] = c.in_ok-push.ensures.items in
     let low : n < length c.args.halts.now = search rules in
     let few = c.requires.few in
-    let halts = g.G.Gate.Gate.halts in (
+    let halts = g.G.Gate.Gate.halts in
+    let asks = g.G.Gate.Gate.asks in (
       search rules,
       search rules,
       search rules,
@@ -20,4 +21,6 @@ loop-worker-preserved g c =
       c.gate-gate.ensures.halts ∙ was.5,
       c.gate-gate.ensures.plans ∙ (ap (λ p. plans_after p (get_or c.args.halts.now n None)) was.6 ∙ plans_more (g.G.Gates.plans c.args.gates.now) c.args.halts.now n None low),
       (λ empty. c.gate-gate.ensures.planned ∙ (ap (λ xs. planned_after xs (get_or c.args.halts.now n None)) (was.7 empty) ∙ next_plan c.args.halts.now n None low few)),
+      unasked_more asks (vec_items c.loop-worker.jobs) (vec_items c.push.new.self) job pushed (ap asks c.in_ok-kept.ensures.gate ∙ c.gate-gate.ensures.unasked.1) was.8,
+      c.gate-gate.ensures.asks ∙ was.9,
     )

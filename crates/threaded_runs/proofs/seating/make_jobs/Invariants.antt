@@ -15,3 +15,5 @@ invariant-loop-worker g l =
     × (g.G.Gates.halts l.gates ≡ g.G.Gates.halts l.initial.gates)
     × (g.G.Gates.plans l.gates ≡ plans_given (g.G.Gates.plans l.initial.gates) (take l.worker l.halts))
     × (g.G.Gates.planned l.initial.gates ≡ [] → g.G.Gates.planned l.gates ≡ take l.worker l.halts)
+    × AllUnasked g.G.Gate.Gate.asks (vec_items l.jobs)
+    × (g.G.Gates.asks l.gates ≡ g.G.Gates.asks l.initial.gates)

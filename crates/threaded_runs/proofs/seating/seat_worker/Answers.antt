@@ -29,4 +29,7 @@ returns-in-Ok-clause-job g c =
       number = ap (λ y. y.number) c.in-Ok.ensures.worker ∙ c.requires.keeper.keeper.as_many;
       requests = own ∙ ap (λ n. own_requests n c.args.worker c.args.table.now.requests) as_many;
       fresh = ap (λ y. y.part.records.finished) c.in-Ok.ensures.worker;
+      nodes = ap (λ y. y.part.nodes.limbo) c.in-Ok.ensures.worker;
+      descriptors = ap (λ y. y.part.descriptors.limbo) c.in-Ok.ensures.worker;
+      unmet = ap (λ y. y.part.records.epoch_seen) c.in-Ok.ensures.worker;
     }

@@ -16,12 +16,15 @@ use Rattle.version_counts.specs.Versions.{VersionsAreCounted}
 use Rattle.slots_in_use.specs.InUse.{FewAreInUse}
 use Rattle.keeper_facts.specs.Freed.{LocksTell}
 use Rattle.lone_attempts.specs.Lone.{LoneAttemptsAreServed}
-use Rattle.threaded_runs.specs.Lone.{ServesAlone}
+use Rattle.threaded_runs.specs.Jobs.{asks_counted}
+use Rattle.threaded_runs.specs.Lone.{AsksAlone, ServesAlone}
 use Rattle.threaded_runs.specs.Runs.{AreServed}
 use Rattle.threaded_runs.proofs.Keeping.{has_all, may_settle, settled_all}
 use Rattle.threaded_runs.proofs.Seats.{are_back}
 use Rattle.threaded_runs.proofs.Ending.{IsLawful, all_served}
-use Rattle.threaded_runs.proofs.Lone.{IsFresh, IsLawfulAlone, served_alone}
+use Rattle.lone_epochs.specs.Uncrossed.{OneWorkerIsUncrossed}
+use Rattle.spared_attempts.specs.Spared.{AttemptsSpareSlots}
+use Rattle.threaded_runs.proofs.Lone.{IsFresh, IsLawfulAlone, served_alone, asked_alone}
 use Rattle.threaded_runs.proofs.table_run.run_table.Goals as goal
 
 pub gather-requires-clause-back : goal.gather-requires-clause-back
@@ -86,7 +89,11 @@ returns-clause-served g c =
           (λ n planner w reached. c.few_slots_are_in_use.ensures n t.layout t.requests w planner limits allowed reached) _ (plans.plans_lawfully t.structure);
       tells = subst (λ s. (w : World) → Reached (g.S.Structure.meaning s) t.layout t.requests w → LocksTell (g.S.Structure.meaning s) t.layout (sight (g.S.Structure.meaning s) t.layout t.requests w)) c.structure-13.ensures
           (λ w reached. c.what_the_keeper_saw_tells.ensures t.layout t.requests w limits allowed reached);
+      uncrossed = subst (λ s. (w : World) → Reached (g.S.Structure.meaning s) t.layout t.requests w → OneWorkerIsUncrossed t.layout (sight (g.S.Structure.meaning s) t.layout t.requests w)) c.structure-15.ensures
+          (λ w reached. c.one_worker_is_uncrossed.ensures t.layout t.requests w reached);
     } in
+    let spare : AttemptsSpareSlots g.row.S.Denot m planning =
+    subst (λ s. AttemptsSpareSlots g.row.S.Denot (g.S.Structure.meaning s) (g.S.Planner.planning s)) c.structure-16.ensures c.attempts_spare_slots.ensures in
     let attempts_go : LoneAttemptsAreServed g.row.S.Denot m planning =
     subst (λ s. LoneAttemptsAreServed g.row.S.Denot (g.S.Structure.meaning s) (g.S.Planner.planning s)) c.structure-14.ensures c.lone_attempts_are_served.ensures in
     let idle = c.in_ok-keeper-2.ensures.keeper in
@@ -95,12 +102,18 @@ returns-clause-served g c =
       told = λ worker few. idle.told worker (subst (λ n. worker < n) (sym as_many) few);
       nodes = idle.nodes ∙ ap (λ l. (keeper_part m l).nodes) c.in_ok-keeper-2.ensures.own.layout;
       finished = ap length idle.finished;
+      apart = idle.apart;
     } in
     subst (λ s. AreServed (g.S.Structure.meaning s) c.close-words.result c.args.retry_short c.in_ok-keeper-2.answers.items
-    × ServesAlone (g.S.Structure.meaning s) (g.S.Planner.planning s).per_pair c.close-words.result c.in_ok-keeper-2.answers.items) c.in_ok-table.ensures.table.structure (
+    × ServesAlone (g.S.Structure.meaning s) (g.S.Planner.planning s).per_pair c.close-words.result c.in_ok-keeper-2.answers.items
+    × AsksAlone (g.S.Structure.meaning s) c.close-words.result (g.G.Gates.asks c.args.gates.now) (g.G.Gates.asks c.gather.new.gates)) c.in_ok-table.ensures.table.structure (
       all_served m planning c.args.retry_short t lawful keeper settled c.close-words.result c.settle-keeper.ensures.own number c.settle-keeper.ensures.settles c.close-words.ensures g.G.Gate.Gate.halts g.G.Gate.Gate.asks
           c.in_ok-keeper.jobs.items c.in_ok-finished.finished.items c.in_ok-keeper-2.answers.items (search rules) (search rules) (search rules) c.in_ok-keeper.ensures.jobs c.in_ok-finished.ensures.each c.in_ok-keeper-2.ensures.kept history,
       λ one. served_alone m planning c.args.retry_short t lawful keeper settled c.close-words.result c.settle-keeper.ensures.own number c.settle-keeper.ensures.settles c.close-words.ensures g.G.Gate.Gate.halts g.G.Gate.Gate.asks
           c.in_ok-keeper.jobs.items c.in_ok-finished.finished.items c.in_ok-keeper-2.answers.items (search rules) (search rules) (search rules) c.in_ok-keeper.ensures.jobs c.in_ok-finished.ensures.each c.in_ok-keeper-2.ensures.kept history
-          planning.per_pair alone fresh (ap (λ l. l.runners) (sym c.close-words.ensures.layout) ∙ one) attempts_go,
+          planning.per_pair alone fresh (ap (λ l. l.runners) (sym c.close-words.ensures.layout) ∙ one) attempts_go spare,
+      λ one. asked_alone m planning c.args.retry_short t lawful keeper settled c.close-words.result c.settle-keeper.ensures.own number c.settle-keeper.ensures.settles c.close-words.ensures g.G.Gate.Gate.halts g.G.Gate.Gate.asks
+          c.in_ok-keeper.jobs.items c.in_ok-finished.finished.items c.in_ok-keeper-2.answers.items (search rules) (search rules) (search rules) c.in_ok-keeper.ensures.jobs c.in_ok-finished.ensures.each c.in_ok-keeper-2.ensures.kept history
+          planning.per_pair alone fresh (ap (λ l. l.runners) (sym c.close-words.ensures.layout) ∙ one) attempts_go spare _ _ c.in_ok-keeper.ensures.no_asks
+          (c.in_ok-keeper-2.ensures.asks ∙ ap (λ (n : ℕ). asks_counted g.G.Gate.Gate.asks n c.in_ok-finished.finished.items) c.in_ok-keeper.ensures.asks) one,
     )
