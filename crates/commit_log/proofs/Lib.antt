@@ -1,3 +1,4 @@
+pub mod Telling
 pub mod Asked
 pub mod Running
 pub mod Next

@@ -1,11 +1,7 @@
 -- What comes between two steps of a run.
-use Rattle.std.specs.Prelude.{◌≡◌, ℕ, zero, suc, ◌+◌, ◌-◌, ◌^◌, ◌≤◌, min, Bool, true, false}
+use Rattle.std.specs.Prelude.{◌≡◌, ℕ, ◌≤◌, Bool, true, false}
 use Rattle.fault_count.specs.Rose.{Rose}
-
--- a count after so many more, each of which adds one up to the last number of 64 bits
-abbrev pub counted_on : ℕ → ℕ → ℕ
-counted_on count zero = count
-counted_on count (suc n) = min (counted_on count n + 1) (2 ^ 64 - 1)
+use Rattle.section_body.specs.Counted.{counted_on}
 
 -- so many steps were counted, and a gate was asked after each, which let the runner go on, or halted it after the last one. The
 -- numbers are the gate's halts, its asks, and the steps, before and after

@@ -1,5 +1,5 @@
 //! Gates that never halt.
-ghost use Rattle.std.specs.Prelude.{◌≡◌, ℕ, List, Option};
+ghost use Rattle.std.specs.Prelude.{◌≡◌, ℕ, List, Option, true};
 ghost use Rattle.runner_gate.specs.Counts.{none_counted};
 
 use crate::counts::Counts;
@@ -37,9 +37,22 @@ impl Gate for Free {
 
     ghost asks = { λ gate. gate };
 
+    ghost free = { λ _. true };
+
     fn after(&mut self, _kind: StepKind) -> Pass {
         self.asks = self.asks.saturating_add(1);
         Pass::Go
+    }
+
+    #[inline(always)]
+    fn is_free(&self) -> bool {
+        true
+    }
+
+    #[inline(always)]
+    #[tactic(auto, using(section_body::proofs::CountedLemmas::counts))]
+    fn count(&mut self, more: u64) {
+        self.asks = self.asks.saturating_add(more);
     }
 }
 

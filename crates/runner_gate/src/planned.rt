@@ -1,5 +1,6 @@
 //! Gates that halt at an ask with a given number.
-ghost use Rattle.std.specs.Prelude.{◌≡◌, ◌≤◌, ◌+◌, ℕ, List, Option, cond, min};
+ghost use Rattle.std.specs.Prelude.{◌≡◌, ◌≤◌, ◌+◌, ℕ, List, Option, cond, min, true};
+ghost use Rattle.std.specs.Option.{is_none};
 ghost use Rattle.fault_count.specs.Rose.{Rose};
 ghost use Rattle.section_body.specs.declared.gate.Pass.TheVariants.{Go, Halt};
 ghost use Rattle.runner_gate.specs.Counts.{plus, halts_after, plans_after, planned_after, none_counted};
@@ -47,11 +48,14 @@ impl Gate for HaltAt {
 
     ghost asks = { λ gate. gate.asks };
 
+    ghost free = { λ gate. is_none gate.at };
+
     fn after(&mut self, _kind: StepKind) -> Pass
         ensures never_falls { self.old.halts ≤ self.new.halts }
         ensures halted { result ≡ Halt → Rose self.old.halts self.new.halts }
         ensures went { result ≡ Go → self.new.halts ≡ self.old.halts }
         ensures asked { self.new.asks ≡ min (self.old.asks + 1) u64.MAX }
+        ensures free { is_none self.old.at ≡ true → (result ≡ Go) × (is_none self.new.at ≡ true) }
 
         // It halts exactly where the number of its plan has come.
         ensures planned { result ≡ cond (halts_next self.old) Halt Go }
@@ -65,6 +69,17 @@ impl Gate for HaltAt {
             }
             _ => Pass::Go,
         }
+    }
+
+    #[inline(always)]
+    fn is_free(&self) -> bool {
+        self.at.is_none()
+    }
+
+    #[inline(always)]
+    #[tactic(auto, using(section_body::proofs::CountedLemmas::counts))]
+    fn count(&mut self, more: u64) {
+        self.asks = self.asks.saturating_add(more);
     }
 }
 

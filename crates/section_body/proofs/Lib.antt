@@ -1,6 +1,7 @@
 pub mod ActLemmas
 pub mod ChoiceLemmas
 pub mod CostLemmas
+pub mod CountedLemmas
 pub mod FaultLemmas
 pub mod FillLemmas
 pub mod FitLemmas

@@ -1,6 +1,7 @@
 pub mod Act
 pub mod Bucket
 pub mod Cost
+pub mod Counted
 pub mod Fault
 pub mod Line
 pub mod Memory

@@ -44,12 +44,14 @@ impl Body {
     }
 
     /// Puts these steps in place of those that the body has. A body has room for 40 steps, so one that is kept
-    /// and refilled is cheaper than another one made.
+    /// and refilled is cheaper than another one made; and steps are written over, not cleared first.
     pub fn refill(&mut self, steps: &[Step])
         requires { length steps.now ≤ 40 }
         ensures { self.new ≡ steps.now }
     {
-        self.steps.clear();
-        let _ = self.steps.try_extend_from_slice(steps);
+        self.steps.truncate(steps.len());
+        let kept = self.steps.len();
+        self.steps.as_mut_slice().copy_from_slice(&steps[..kept]);
+        let _ = self.steps.try_extend_from_slice(&steps[kept..]);
     }
 }

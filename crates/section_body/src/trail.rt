@@ -36,6 +36,27 @@ impl Trail {
         }
     }
 
+    /// Forgets its words, for a run that has agreed on nothing yet and is late or not. A trail that is kept and
+    /// used again is cheaper than another one made.
+    pub fn restart(&mut self, late: bool)
+        ensures words { self.new.words ≡ [] }
+        ensures late { self.new.late ≡ late }
+    {
+        self.words.clear();
+        self.late = late;
+    }
+
+    /// Another trail with the same words.
+    #[inline(always)]
+    pub fn copied(&self) -> Trail
+        ensures { result ≡ self.now }
+    {
+        let mut copy = Trail::new();
+        let _ = copy.words.try_extend_from_slice(self.words.as_slice());
+        copy.late = self.late;
+        copy
+    }
+
     /// The agreed word at this place of the log, as a cell's word.
     pub fn word(&self, log: u32) -> Word
         requires { log < length self.now.words }

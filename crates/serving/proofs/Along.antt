@@ -21,7 +21,7 @@ use Rattle.attempts.specs.epoch_slots.specs.declared.reserves.Short.{Short}
 use Rattle.attempts.specs.try_lock.specs.Planning.{Planning}
 use Rattle.attempts.specs.try_lock.specs.Reached.{IsReached}
 use Rattle.attempts.specs.request_facts.specs.Laws.{HasEntry}
-use Rattle.attempts.specs.try_lock.specs.commit_log.specs.Asked.{counted_on}
+use Rattle.section_body.specs.Counted.{counted_on}
 use Rattle.attempts.specs.Knowing.{KnowsMore, IsOwn}
 use Rattle.attempts.specs.Course.{MayAttempt}
 use Rattle.attempts.specs.Attempts.{IsServed, IsShort, IsTurnedAway, IsHalted, Answers}

@@ -9,7 +9,7 @@ use Rattle.structure_laws.specs.Cells.{slots}
 use Rattle.machine_states.proofs.Steps.{none_some}
 use Rattle.attempts.specs.version_words.specs.RunnerState.{RunnerState}
 use Rattle.attempts.specs.try_lock.specs.Planning.{Planning}
-use Rattle.attempts.specs.try_lock.specs.commit_log.specs.Asked.{counted_on}
+use Rattle.section_body.specs.Counted.{counted_on}
 use Rattle.attempts.specs.Course.{IsRefused}
 use Rattle.attempts.specs.Attempts.{is_halted, is_short, asks_more, runs_of, most_of_attempt, IsBrief, HasMetHeld, Answers, Attempts}
 use Rattle.attempts.specs.declared.answers.Attempt.{Attempt}
