@@ -30,14 +30,23 @@ fn renew_number(operand: Word, steps: &mut [Step])
 }
 
 /// What a number's form does: it stores the number at place 1. A body that has five steps is written over, which is cheaper than to
-/// clear it and to copy five others into it.
+/// copy five others into it.
 fn fill_number(operand: Word, body: &mut Body)
     ensures { body.new ≡ body_of Number operand }
 {
     if body.steps.len() == 5 {
         renew_number(operand, body.steps.as_mut_slice());
-        return;
+    } else {
+        refill_number(operand, body);
     }
+}
+
+/// What a number's form does, in place of any number of steps. It is a call of its own, so that the place of the five isn't cleared where
+/// they are written over.
+#[inline(never)]
+fn refill_number(operand: Word, body: &mut Body)
+    ensures { body.new ≡ body_of Number operand }
+{
     body.refill(&[
         Step::Load { place: 1, into: 0 },
         Step::Fresh { reg: 0 },

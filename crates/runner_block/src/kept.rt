@@ -14,21 +14,38 @@ use crate::descriptors::DescriptorLists;
 use crate::nodes::NodeLists;
 use crate::stage_fields::StageFields;
 use epoch_core::{LAST_EPOCH, Stage};
-use section_body::Body;
+use section_body::{Body, Trail};
 use std::alloc::{AllocError, Global};
 use std::marker::Model;
 use table_words::Layout;
 
+/// Room for a run: a body for it to refill, and a trail to begin anew. So no run makes them.
+#[derive(Drop)]
+pub struct RunRoom {
+    pub body: Body,
+    pub trail: Trail,
+}
+
+impl RunRoom {
+    /// An empty body and an empty trail.
+    fn new() -> RunRoom {
+        RunRoom {
+            body: Body::empty(),
+            trail: Trail::new(),
+        }
+    }
+}
+
 /// What a runner's code keeps of its part: its stage, its lists, and of the keeper how many workers were
 /// split off. The lists have room for each slot of their kind, so that no step takes memory. Beside these
-/// there is a body, for each run to refill, so that none is made in a run: contracts don't see it.
+/// there is the room for a run: contracts don't see it.
 #[derive(Drop)]
 pub struct Kept {
     stage: StageFields,
     nodes: NodeLists,
     descriptors: DescriptorLists,
     splits: u32,
-    body: Option<Box<Body, Global>>,
+    run: Option<Box<RunRoom, Global>>,
 }
 
 impl Model for Kept {
@@ -82,7 +99,7 @@ impl Kept {
                 descriptors.room,
             )?,
             splits: 0,
-            body: Some(Box::new(alloc, Body::empty())?),
+            run: Some(Box::new(alloc, RunRoom::new())?),
         })
     }
 
@@ -151,18 +168,18 @@ impl Kept {
         self.descriptors.limbo()
     }
 
-    /// Hands out the body for a run to refill, unless it is out already.
-    pub fn take_body(&mut self) -> Option<Box<Body, Global>>
+    /// Hands out the room for a run, unless it is out already.
+    pub fn take_room(&mut self) -> Option<Box<RunRoom, Global>>
         ensures { self.new ≡ self.old }
     {
-        self.body.take()
+        self.run.take()
     }
 
-    /// Puts a body back, whatever its steps are.
-    pub fn keep_body(&mut self, body: Box<Body, Global>)
+    /// Puts the room for a run back, whatever is in it.
+    pub fn keep_room(&mut self, room: Box<RunRoom, Global>)
         ensures { self.new ≡ self.old }
     {
-        self.body = Some(body);
+        self.run = Some(room);
     }
 
     pub fn set_stage(&mut self, stage: Stage)

@@ -13,5 +13,5 @@ mod reserved;
 mod stage_fields;
 
 pub use block::Block;
-pub use kept::{Kept, Share};
+pub use kept::{Kept, RunRoom, Share};
 pub use place::RunPlace;

@@ -1,11 +1,12 @@
 -- Steps that are counted apart, and added up behind.
-use Rattle.std.proofs.Common.{◌≡◌, ℕ, zero, suc, ◌+◌, ◌-◌, ◌^◌, ◌≤◌, min, Bool, sym, ap, ◌∙◌, arith}
-use Rattle.idem_cell.specs.commit_log.specs.Asked.{counted_on, IsAsked}
-
--- a count of 64 bits after so many more
-counts : (count n : ℕ) → count ≤ 2 ^ 64 - 1 → counted_on count n ≡ min (count + n) (2 ^ 64 - 1)
-counts count zero low = omega (arith, low)
-counts count (suc n) low = ap (λ k. min (k + 1) (2 ^ 64 - 1)) (counts count n low) ∙ omega (arith, low)
+use Rattle.std.proofs.Common.{◌≡◌, ℕ, ◌+◌, ◌-◌, ◌^◌, ◌≤◌, min, Bool, true, false, sym, ap, subst, ◌∙◌, arith}
+use Rattle.section_body.specs.Counted.{counted_on}
+use Rattle.section_body.proofs.CountedLemmas.{counts}
+use Rattle.structure_laws.specs.Meaning.{Meaning}
+use Rattle.idem_cell.specs.version_words.specs.RunnerState.{RunnerState}
+use Rattle.idem_cell.specs.commit_log.specs.Asked.{IsAsked}
+use Rattle.idem_cell.specs.commit_log.specs.Halted.{IsThrough, IsHalted}
+use Rattle.section_runs.proofs.Testing.{stood}
 
 pub asked_apart : (n : ℕ) (going : Bool) (halts halts' asks asks' steps old made steps' : ℕ) → old ≡ steps → old ≤ 2 ^ 64 - 1 → IsAsked n going halts halts' asks asks' 0 made → steps' ≡ min (old + made) (2 ^ 64 - 1)
     → IsAsked n going halts halts' asks asks' steps steps'
@@ -19,3 +20,19 @@ asked_apart n going halts halts' asks asks' steps old made steps' same low is su
       went = is.went;
       halted = is.halted;
     }
+
+-- a count that began with none
+pub asked_from : (n : ℕ) (going : Bool) (halts halts' asks asks' old made : ℕ) → old ≡ 0 → IsAsked n going halts halts' asks asks' old made → IsAsked n going halts halts' asks asks' 0 made
+asked_from n going halts halts' asks asks' old made none is = subst (λ k. IsAsked n going halts halts' asks asks' k made) none is
+
+-- so it is with what a part of a run tells of its steps
+module _ {T : Type 0} (m : Meaning) (most : ℕ) (a b : RunnerState T) (halts halts' asks asks' steps old made steps' : ℕ) (same : old ≡ steps) (low : old ≤ 2 ^ 64 - 1) where
+  pub through_apart : IsThrough m most a b halts halts' asks asks' 0 made → steps' ≡ min (old + made) (2 ^ 64 - 1) → IsThrough m most a b halts halts' asks asks' steps steps'
+  through_apart is sum = record { made = is.made; few = is.few; ran = is.ran; asked = asked_apart is.made true halts halts' asks asks' steps old made steps' same low is.asked sum }
+
+  pub halted_apart : IsHalted m most a b halts halts' asks asks' 0 made → steps' ≡ min (old + made) (2 ^ 64 - 1) → IsHalted m most a b halts halts' asks asks' steps steps'
+  halted_apart is sum = record { made = is.made; some = is.some; few = is.few; ran = is.ran; asked = asked_apart is.made false halts halts' asks asks' steps old made steps' same low is.asked sum }
+
+-- no step was made and none counted
+pub stood_apart : {T : Type 0} (m : Meaning) (r : RunnerState T) (halts asks made : ℕ) → made ≡ 0 → IsThrough m 0 r r halts halts asks asks 0 made
+stood_apart m r halts asks made none = subst (λ k. IsThrough m 0 r r halts halts asks asks 0 k) (sym none) (stood m r 0 halts asks 0)

@@ -100,8 +100,16 @@ module _ {T : Type 0} (m : Meaning) (laws : Laws m) (t : TableState T) (limits :
         ∙ (next (let c = count in omega (arith, c, low)) runs
         ∙ ap (λ b. Some (if b then (spots.ThunkWord d (length words), Loads) else (spots.DoneWord d, Loads))) test))
 
-    pub may_load : n < 12 → met_by m r (open_of r.part.run d) ≡ Some (spots.ThunkWord d (opened_of r.part.run), Loads)
-    may_load low = loads_by n low refl is.run
+    -- so many words were opened
+    pub opened_so_far : n ≡ opened_of r.part.run
+    opened_so_far = by n refl is.run
+      where
+        by : (k : ℕ) → k ≡ n → r.part.run ≡ opening_of k d words → n ≡ opened_of r.part.run
+        by zero e runs = sym e ∙ sym (ap opened_of runs)
+        by (suc k) e runs = sym is.count ∙ sym (ap opened_of runs)
+
+    pub may_load : n < 12 → met_by m r (open_of r.part.run d) ≡ Some (spots.ThunkWord d n, Loads)
+    may_load low = loads_by n low refl is.run ∙ ap (λ k. Some (spots.ThunkWord d k, Loads)) (sym opened_so_far)
 
     -- behind twelve words the done word is loaded
     run_twelve : n ≡ 12 → r.part.run ≡ Some (opening d words)

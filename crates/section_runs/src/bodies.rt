@@ -13,6 +13,7 @@ ghost use Rattle.section_runs.specs.declared.passed.Walked.TheVariants.{Over, St
 use crate::passed::{Passed, Walked};
 use crate::registers::Places;
 use crate::steps::step_gated;
+use crate::sums::add_up;
 use idem_cell::version_words::{FlockTable, Runner, table_is_allowed};
 use runner_parts::Structure;
 use section_body::{Gate, Outcome, Step, Steps, Trail};
@@ -37,6 +38,8 @@ fn reply_of(body: &[Step]) -> u64
 
 /// Makes the steps of the body one after the other, until it has gone through all or leaves at one. Each atomic step is counted, and the
 /// gate is asked after it. Answers how many steps of the body were passed, and the outcome.
+///
+/// The steps are counted apart and added up at its end, wherever that is.
 ///
 /// The run stands before the first step, and a free node slot is there for each Make. No memory is taken.
 pub fn walk<S: Structure, G: Gate, L>(
@@ -70,19 +73,27 @@ pub fn walk<S: Structure, G: Gate, L>(
     table_is_allowed(table);
     let mut runner = runner;
     let mut kept = Places::new();
+    let mut made = Steps::<L>::new();
     for n in 0..body.len() {
         let count = count_of(trail);
         let step = &body[n];
         let (gone, passed) = step_gated(
-            table, runner, descriptor, n, step, &kept, trail, gate, steps,
+            table, runner, descriptor, n, step, &kept, trail, gate, &mut made,
         );
         runner = gone;
         match passed {
             Passed::On => kept.note(step, count),
-            Passed::Left(outcome) => return (runner, Walked::Over(n, outcome)),
-            Passed::Halted => return (runner, Walked::Stopped),
+            Passed::Left(outcome) => {
+                add_up(steps, &made);
+                return (runner, Walked::Over(n, outcome));
+            }
+            Passed::Halted => {
+                add_up(steps, &made);
+                return (runner, Walked::Stopped);
+            }
         }
     }
+    add_up(steps, &made);
     let outcome = Outcome::Answered(reply_of(body));
     (runner, Walked::Over(body.len(), outcome))
 }

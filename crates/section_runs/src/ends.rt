@@ -139,6 +139,7 @@ fn release_last<S: Structure, G: Gate, L>(
 
 /// Ends the run: sets the done word, and releases each lock that the section took before this step of its body, and the outer one last. Each
 /// step is counted, and the gate is asked after it: whether it let the runner go on.
+#[inline(always)]
 pub fn end<S: Structure, G: Gate, L>(
     table: &FlockTable<S>,
     runner: Runner<S>,

@@ -3,7 +3,7 @@
 //! Whoever runs a section goes by the same line of atomic steps: the thunk's words are loaded, the body's steps are made one after the other, by
 //! the calls of `idem_cell`, `idem_alloc` and `nested_lock`, and at the end the section is marked as done and its locks are released
 //! (Ben-David, Blelloch, Wei, *Lock-free locks revisited*, 2022). `opens` is the opening, `steps` has a call for each kind of step, `registers` and
-//! `values` what is kept of the registers; `bodies` goes through the steps, `ends` is the end, and `runs` the whole.
+//! `values` what is kept of the registers; `bodies` goes through the steps, `sums` adds up what was counted apart, `ends` is the end, and `runs` the whole.
 #![tactic(auto)]
 
 mod bodies;
@@ -13,6 +13,7 @@ mod passed;
 mod registers;
 mod runs;
 mod steps;
+mod sums;
 mod values;
 
 pub use bodies::walk;

@@ -1,11 +1,12 @@
 //! The opening of a run.
-ghost use Rattle.std.specs.Prelude.{◌≡◌, ◌+◌, ◌≤◌, min, take, cond, length, IfSome, IfNone, true, false};
+ghost use Rattle.std.specs.Prelude.{◌≡◌, ◌≤◌, take, cond, length, IfSome, IfNone, true, false};
 ghost use Rattle.runner_steps.specs.Sections.{thunk_of};
 ghost use Rattle.idem_cell.specs.version_words.specs.TableState.{IsOf};
 ghost use Rattle.idem_cell.specs.commit_log.specs.Asked.{IsAsked};
 ghost use Rattle.section_runs.specs.Reached.{MayBegin};
 ghost use Rattle.section_runs.specs.Opened.{IsOpening, HasOpened, HasHalted};
 
+use crate::sums::add_up;
 use idem_cell::commit_log::passes;
 use idem_cell::version_words::{FlockTable, Runner, table_is_allowed};
 use runner_parts::Structure;
@@ -34,15 +35,6 @@ fn done_word(done: bool) -> u64
     if done { 1 } else { 0 }
 }
 
-/// Adds up steps that were counted apart.
-#[inline(always)]
-fn add_up<L>(steps: &mut Steps<L>, made: &Steps<L>)
-    ensures added { steps.new.count ≡ min (steps.old.count + made.now.count) u64.MAX }
-    ensures fits { steps.old.count ≤ u64.MAX }
-{
-    steps.count = steps.count.saturating_add(made.count);
-}
-
 /// Loads the twelve thunk words of the descriptor, with which a run begins, and puts them into the first twelve of these words. Each step is
 /// counted, and the gate is asked after it: whether it let the runner go on.
 fn load_words<S: Structure, G: Gate, L>(
@@ -69,10 +61,10 @@ fn load_words<S: Structure, G: Gate, L>(
     let start = table.descriptor_start(descriptor);
     let mut runner = runner;
     let mut made = Steps::<L>::new();
-    for index in 0..12usize {
-        let (opened, word) = table.load_thunk(runner, descriptor, start);
+    for index in 0..12u32 {
+        let (opened, word) = table.load_thunk(runner, descriptor, start, index);
         runner = opened;
-        words[index] = word;
+        words[index as usize] = word;
         if !passes(gate, &mut made, StepKind::Opening) {
             add_up(steps, &made);
             return (runner, false);

@@ -16,7 +16,8 @@ use crate::bodies::walk;
 use crate::ends::end;
 use crate::opens::open;
 use crate::passed::Walked;
-use idem_cell::version_words::{FlockTable, Runner, table_is_allowed};
+use idem_cell::commit_log::{Unasked, tell};
+use idem_cell::version_words::{FlockTable, RunRoom, Runner, table_is_allowed};
 use runner_parts::Structure;
 use section_body::{Gate, Outcome, Step, Steps, Thunk, Trail};
 
@@ -29,14 +30,14 @@ pub enum RunEnd {
     Halted,
 }
 
-/// The end of a run with this outcome and this trail, where the gate let it go on to there.
+/// The end of a run with this outcome and a copy of this trail, where the gate let it go on to there.
 #[inline(always)]
-fn ended(going: bool, outcome: Outcome, trail: Trail) -> RunEnd
-    ensures done { going ≡ true → result ≡ Done outcome trail }
+fn ended(going: bool, outcome: Outcome, trail: &Trail) -> RunEnd
+    ensures done { going ≡ true → result ≡ Done outcome trail.now }
     ensures halted { going ≡ false → result ≡ Halted }
 {
     if going {
-        RunEnd::Done(outcome, trail)
+        RunEnd::Done(outcome, trail.copied())
     } else {
         RunEnd::Halted
     }
@@ -53,21 +54,63 @@ fn trail_of(late: bool) -> Trail
     trail
 }
 
-/// Goes through the steps of the section's body, and ends the run.
+/// Goes through the steps of the section's body with a trail that is empty yet, and ends the run. Its end has a copy of the trail: where the
+/// caller doesn't look at that, the compiler leaves the copy out.
 #[inline(always)]
 fn run_steps<S: Structure, G: Gate, L>(
     table: &FlockTable<S>,
     runner: Runner<S>,
     descriptor: u32,
     thunk: &Thunk,
-    late: bool,
     line: &[Step],
+    trail: &mut Trail,
+    gate: &mut G,
+    steps: &mut Steps<L>,
+) -> (Runner<S>, RunEnd)
+    requires own { IsOf table.now runner }
+    requires opened { StandsOpened (S.meaning table.now.structure) descriptor thunk.now trail.old.late runner }
+    requires empty { trail.old.words ≡ [] }
+    requires line { line.now ≡ (S.meaning table.now.structure).body thunk.now }
+    requires reserve { 2 ≤ length runner.part.nodes.free }
+    ensures own { IsOf table.now result.0 }
+    ensures done { (before : RunnerState S) (o : Ending) (agreed : Agreed)
+        → HasOpened (S.meaning table.now.structure) descriptor thunk.now trail.old.late before runner
+        → result.1 ≡ Done o agreed → (made : ℕ)
+        × EndsSo (S.meaning table.now.structure) descriptor thunk.now o agreed (13 + made) before result.0
+        × IsAsked made true
+        (G.halts gate.old) (G.halts gate.new) (G.asks gate.old) (G.asks gate.new) steps.old.count steps.new.count }
+    ensures halted { result.1 ≡ Halted
+        → IsHalted (S.meaning table.now.structure) (rest_of ((S.meaning table.now.structure).body thunk.now)) runner
+        result.0
+        (G.halts gate.old) (G.halts gate.new) (G.asks gate.old) (G.asks gate.new) steps.old.count steps.new.count }
+{
+    table_is_allowed(table);
+    let (runner, walked) = walk(table, runner, descriptor, line, trail, gate, steps);
+    match walked {
+        Walked::Over(taken, outcome) => {
+            let (runner, going) = end(
+                table, runner, line, taken, thunk.lock, thunk.word, gate, steps,
+            );
+            (runner, ended(going, outcome, trail))
+        }
+        Walked::Stopped => (runner, RunEnd::Halted),
+    }
+}
+
+/// As `run_opened`, where the room that the runner keeps is out: the run makes a body and a trail. It is a call of its own, since a caller
+/// would clear the places of both before each run, though it seldom needs them.
+#[inline(never)]
+fn run_anew<S: Structure, G: Gate, L>(
+    table: &FlockTable<S>,
+    runner: Runner<S>,
+    descriptor: u32,
+    thunk: &Thunk,
+    late: bool,
     gate: &mut G,
     steps: &mut Steps<L>,
 ) -> (Runner<S>, RunEnd)
     requires own { IsOf table.now runner }
     requires opened { StandsOpened (S.meaning table.now.structure) descriptor thunk.now late runner }
-    requires line { line.now ≡ (S.meaning table.now.structure).body thunk.now }
     requires reserve { 2 ≤ length runner.part.nodes.free }
     ensures own { IsOf table.now result.0 }
     ensures done { (before : RunnerState S) (o : Ending) (trail : Agreed)
@@ -81,22 +124,46 @@ fn run_steps<S: Structure, G: Gate, L>(
         result.0
         (G.halts gate.old) (G.halts gate.new) (G.asks gate.old) (G.asks gate.new) steps.old.count steps.new.count }
 {
-    table_is_allowed(table);
+    let body = table.structure().body(thunk);
+    let line = body.steps.as_slice();
     let mut trail = trail_of(late);
-    let (runner, walked) = walk(table, runner, descriptor, line, &mut trail, gate, steps);
-    match walked {
-        Walked::Over(taken, outcome) => {
-            let (runner, going) = end(
-                table, runner, line, taken, thunk.lock, thunk.word, gate, steps,
-            );
-            (runner, ended(going, outcome, trail))
-        }
-        Walked::Stopped => (runner, RunEnd::Halted),
-    }
+    run_steps(
+        table, runner, descriptor, thunk, line, &mut trail, gate, steps,
+    )
 }
 
-/// Goes on with a run that has loaded this thunk, and found its section done or not. The body that the runner keeps is refilled with the
-/// section's steps; where it is out another one is made.
+/// As `run_anew`, whose answer is moved out of a place of its own: else a caller would clear a place for it before each run.
+#[inline(always)]
+fn run_apart<S: Structure, G: Gate, L>(
+    table: &FlockTable<S>,
+    runner: Runner<S>,
+    descriptor: u32,
+    thunk: &Thunk,
+    late: bool,
+    gate: &mut G,
+    steps: &mut Steps<L>,
+) -> (Runner<S>, RunEnd)
+    requires own { IsOf table.now runner }
+    requires opened { StandsOpened (S.meaning table.now.structure) descriptor thunk.now late runner }
+    requires reserve { 2 ≤ length runner.part.nodes.free }
+    ensures own { IsOf table.now result.0 }
+    ensures done { (before : RunnerState S) (o : Ending) (trail : Agreed)
+        → HasOpened (S.meaning table.now.structure) descriptor thunk.now late before runner
+        → result.1 ≡ Done o trail → (made : ℕ)
+        × EndsSo (S.meaning table.now.structure) descriptor thunk.now o trail (13 + made) before result.0
+        × IsAsked made true
+        (G.halts gate.old) (G.halts gate.new) (G.asks gate.old) (G.asks gate.new) steps.old.count steps.new.count }
+    ensures halted { result.1 ≡ Halted
+        → IsHalted (S.meaning table.now.structure) (rest_of ((S.meaning table.now.structure).body thunk.now)) runner
+        result.0
+        (G.halts gate.old) (G.halts gate.new) (G.asks gate.old) (G.asks gate.new) steps.old.count steps.new.count }
+{
+    let (runner, end) = run_anew(table, runner, descriptor, thunk, late, gate, steps);
+    (runner, end)
+}
+
+/// Goes on with a run that has loaded this thunk, and found its section done or not. In the room that the runner keeps for its runs, the body
+/// is refilled with the section's steps and the trail begins anew.
 #[inline(always)]
 fn run_opened<S: Structure, G: Gate, L>(
     table: &FlockTable<S>,
@@ -122,21 +189,80 @@ fn run_opened<S: Structure, G: Gate, L>(
         result.0
         (G.halts gate.old) (G.halts gate.new) (G.asks gate.old) (G.asks gate.new) steps.old.count steps.new.count }
 {
-    let Some(mut body) = runner.take_body() else {
-        let body = table.structure().body(thunk);
-        let line = body.steps.as_slice();
-        return run_steps(table, runner, descriptor, thunk, late, line, gate, steps);
+    let Some(mut room) = runner.take_room() else {
+        return run_apart(table, runner, descriptor, thunk, late, gate, steps);
     };
-    table.structure().body_in(thunk, &mut body);
+    let RunRoom { body, trail } = &mut *room;
+    table.structure().body_in(thunk, body);
+    trail.restart(late);
     let line = body.steps.as_slice();
-    let (mut runner, end) = run_steps(table, runner, descriptor, thunk, late, line, gate, steps);
-    runner.keep_body(body);
+    let (mut runner, end) = run_steps(table, runner, descriptor, thunk, line, trail, gate, steps);
+    runner.keep_room(room);
     (runner, end)
+}
+
+/// As `run_opened`, with the thunk in a place of its own, which is written once: that of the opening would be cleared before it.
+#[inline(always)]
+fn run_loaded<S: Structure, G: Gate, L>(
+    table: &FlockTable<S>,
+    runner: Runner<S>,
+    descriptor: u32,
+    thunk: Thunk,
+    late: bool,
+    gate: &mut G,
+    steps: &mut Steps<L>,
+) -> (Runner<S>, RunEnd)
+    requires own { IsOf table.now runner }
+    requires opened { StandsOpened (S.meaning table.now.structure) descriptor thunk late runner }
+    requires reserve { 2 ≤ length runner.part.nodes.free }
+    ensures own { IsOf table.now result.0 }
+    ensures done { (before : RunnerState S) (o : Ending) (trail : Agreed)
+        → HasOpened (S.meaning table.now.structure) descriptor thunk late before runner
+        → result.1 ≡ Done o trail → (made : ℕ)
+        × EndsSo (S.meaning table.now.structure) descriptor thunk o trail (13 + made) before result.0
+        × IsAsked made true
+        (G.halts gate.old) (G.halts gate.new) (G.asks gate.old) (G.asks gate.new) steps.old.count steps.new.count }
+    ensures halted { result.1 ≡ Halted
+        → IsHalted (S.meaning table.now.structure) (rest_of ((S.meaning table.now.structure).body thunk)) runner
+        result.0
+        (G.halts gate.old) (G.halts gate.new) (G.asks gate.old) (G.asks gate.new) steps.old.count steps.new.count }
+{
+    let own = thunk;
+    run_opened(table, runner, descriptor, &own, late, gate, steps)
+}
+
+/// Runs the section in this descriptor to its end, and asks the gate after each step.
+#[inline(always)]
+fn run_asked<S: Structure, G: Gate, L>(
+    table: &FlockTable<S>,
+    runner: Runner<S>,
+    descriptor: u32,
+    gate: &mut G,
+    steps: &mut Steps<L>,
+) -> (Runner<S>, RunEnd)
+    requires own { IsOf table.now runner }
+    requires next { MayBegin (S.meaning table.now.structure) runner descriptor }
+    requires reserve { 2 ≤ length runner.part.nodes.free }
+    ensures own { IsOf table.now result.0 }
+    ensures done { (o : Ending) (trail : Agreed) → result.1 ≡ Done o trail → (t : Words) × (made : ℕ)
+        × EndsSo (S.meaning table.now.structure) descriptor t o trail made runner result.0 × IsAsked made true
+        (G.halts gate.old) (G.halts gate.new) (G.asks gate.old) (G.asks gate.new) steps.old.count steps.new.count }
+    ensures halted { result.1 ≡ Halted → (made : ℕ)
+        × IsCutShort (S.meaning table.now.structure) descriptor made runner result.0 × IsAsked made false
+        (G.halts gate.old) (G.halts gate.new) (G.asks gate.old) (G.asks gate.new) steps.old.count steps.new.count }
+{
+    table_is_allowed(table);
+    let (runner, opened) = open(table, runner, descriptor, gate, steps);
+    match opened {
+        Some((thunk, late)) => run_loaded(table, runner, descriptor, thunk, late, gate, steps),
+        None => (runner, RunEnd::Halted),
+    }
 }
 
 /// Runs the section in this descriptor to its end, whatever others do: loads its thunk, makes the steps of its body by the words that were
 /// agreed on, marks it as done and releases its locks. Answers the outcome and the agreed words, which are the same for each run of the
-/// section; the trail says whether the section was done as the run began. Each step is counted, and the gate is asked after it.
+/// section; the trail says whether the section was done as the run began. Each step is counted, and the gate is asked after it; a gate that
+/// says that it never halts any more is told in the end how often.
 ///
 /// The runner has to be entered and in no run, holds the descriptor, and has a reserve of two node slots. It makes at most as many steps
 /// as `cost` of the body says. `Halted` only where the gate halted. No memory is taken, and nothing waits (Ben-David, Blelloch, Wei, 2022).
@@ -159,10 +285,12 @@ pub fn run<S: Structure, G: Gate, L>(
         × IsCutShort (S.meaning table.now.structure) descriptor made runner result.0 × IsAsked made false
         (G.halts gate.old) (G.halts gate.new) (G.asks gate.old) (G.asks gate.new) steps.old.count steps.new.count }
 {
-    table_is_allowed(table);
-    let (runner, opened) = open(table, runner, descriptor, gate, steps);
-    match opened {
-        Some((thunk, late)) => run_opened(table, runner, descriptor, &thunk, late, gate, steps),
-        None => (runner, RunEnd::Halted),
+    if gate.is_free() {
+        let mut made = Steps::<L>::new();
+        let (runner, end) = run_asked(table, runner, descriptor, &mut Unasked, &mut made);
+        tell(gate, steps, &made);
+        (runner, end)
+    } else {
+        run_asked(table, runner, descriptor, gate, steps)
     }
 }

@@ -192,7 +192,7 @@ module _ (m : Meaning) (l : Layout) (p : PartState) (q : RunState) (micro : Micr
 pub same_place : (kept : RunPlace) (q y : RunState) → y.descriptor ≡ q.descriptor → y.opened ≡ q.opened → y.trail ≡ q.trail → y.made ≡ q.made → y.worn ≡ q.worn → IsPlaced kept q → IsPlaced kept y
 same_place kept q y d o t a w is = record {
   descriptor = is.descriptor ∙ sym d;
-  opened = is.opened ∙ ap length (sym o);
+  some = subst (λ (xs : List ℕ). 0 < length xs) (sym o) is.some;
   request = λ some. subst (λ (xs : List ℕ). 1 < length xs → kept.request ≡ slice_index xs 1 % 2 ^ 32) (sym o) is.request some;
   agreed = is.agreed ∙ ap length (sym t);
   making = is.making ∙ ap is_some (sym a);
@@ -222,7 +222,7 @@ abbrev pub at_end : RunPlace → RunPlace
 at_end kept = record kept { inside = false }
 
 at_end_placed : (kept : RunPlace) (q : RunState) → IsPlaced kept q → IsPlaced (at_end kept) q
-at_end_placed kept q is = record { descriptor = is.descriptor; opened = is.opened; request = is.request; agreed = is.agreed; making = is.making; worn = is.worn }
+at_end_placed kept q is = record { descriptor = is.descriptor; some = is.some; request = is.request; agreed = is.agreed; making = is.making; worn = is.worn }
 
 module _ (m : Meaning) (l : Layout) (p : PartState) (q : RunState) (there : p.run ≡ Some q) (micro : Micro) (found : ℕ) (kept : RunPlace) (is : IsPlaced kept q) where
   goes_placed : (word : ℕ) → PlacesRun kept q.made (Some (goes_on m l q word))
@@ -281,7 +281,7 @@ module _ (m : Meaning) (l : Layout) (p : PartState) (q : RunState) (there : p.ru
   agrees_placed : (word : ℕ) → PlacesRun one_more q.made (Some (agrees m l q word))
   agrees_placed word = places one_more q.made (agrees m l q word) (record {
     descriptor = is.descriptor;
-    opened = is.opened;
+    some = is.some;
     request = is.request;
     agreed = (let a = is.agreed in let b = length-append q.trail (word ∷ []) in omega (arith, a, b));
     making = is.making;
@@ -417,13 +417,10 @@ ends_run m l p q micro found kinds.Release e is = let after_release = record p {
     ends_if m (is_end (next_of m (ended_more q))) (run_over m l after_release (ended_more q)) (with_run after_release (ended_more q)) (λ y h. absurd (none-some y h)) (ends_some m (ended_more q) (next_ends m q is))
 ends_run m l p q micro found _ e is = absurd (false_true e)
 
-pub over : (kept : Block) (q : RunState) → IsPlaced kept.place q → is_open_run q ≡ true → 12 ≤ kept.place.opened
-over kept q is ready = let a = is.opened in let b = opened_all q ready in omega (arith, a, b)
-
 -- a run that goes on isn't at its end
-pub goes_inside : (m : Meaning) (l : Layout) (kept : Block) (p : PartState) (q : RunState) (k : EventKind) (x : Spot × Access) → KeepsPart m kept p → p.run ≡ Some q → is_ender k ≡ false
+pub goes_inside : (m : Meaning) (l : Layout) (kept : Block) (p : PartState) (q : RunState) (k : EventKind) (x : Spot × Access) → KeepsPart m kept p → p.run ≡ Some q → is_open_run q ≡ true → is_ender k ≡ false
     → line_ask m l k p.nodes.free q (next_of m q) ≡ Some x → kept.place.inside ≡ false → ⊥
-goes_inside m l kept p q k x was there n asked closed = none-some x (sym (ending_asks m l p.nodes.free q k n (next_of m q) (was.run.ending q there closed)) ∙ asked)
+goes_inside m l kept p q k x was there ready n asked closed = none-some x (sym (ending_asks m l p.nodes.free q k n (next_of m q) (was.run.ending q there ready closed)) ∙ asked)
 
 module _ (m : Meaning) (l : Layout) (k : EventKind) (kept : Block) (p : PartState) (found : ℕ) (h : HasOpenRun p) (x : Spot × Access) (asked : line_ask m l k p.nodes.free h.run (next_of m h.run) ≡ Some x) (was : KeepsPart m kept p) where
   abbrev q : RunState
@@ -439,17 +436,16 @@ module _ (m : Meaning) (l : Layout) (k : EventKind) (kept : Block) (p : PartStat
   hand_stays : (place : RunPlace) → PlacesRun place q.made p'.run → told_part p' ≡ told_part p → (y : RunState) (slot : ℕ) → p'.run ≡ Some y → y.made ≡ Some slot → has p'.nodes.hand slot ≡ true
   hand_stays place run same y slot there made = ap (λ (z : PartState). has z.nodes.hand slot) same ∙ was.place.in_hand q slot h.there (sym (run y there).1 ∙ made)
 
-  goes_part : (kept' : Block) → kept'.place.inside ≡ kept.place.inside → is_ender k ≡ false → kept'.lists.part ≡ told_part p' → PlacesRun kept'.place q.made p'.run → (p'.run ≡ None → ⊥) → 12 ≤ kept'.place.opened
+  goes_part : (kept' : Block) → kept'.place.inside ≡ kept.place.inside → is_ender k ≡ false → kept'.lists.part ≡ told_part p' → PlacesRun kept'.place q.made p'.run → (p'.run ≡ None → ⊥)
       → told_part p' ≡ told_part p → HasEpoch m kept'.place.epoch p'.run → KeepsPart m kept' p'
-  goes_part kept' inside n lists run goes past same epoch = record {
+  goes_part kept' inside n lists run goes same epoch = record {
     lists = lists;
     place = record {
       run = λ y e. (run y e).0;
-      rest = λ none. past;
       outside = λ none. absurd (goes none);
       in_hand = hand_stays kept'.place run same;
     };
-    run = record { ending = λ y e closed. absurd (goes_inside m l kept p q k x was h.there n asked (sym inside ∙ closed)) };
+    run = record { ending = λ y e ready closed. absurd (goes_inside m l kept p q k x was h.there h.ready n asked (sym inside ∙ closed)) };
     epoch = epoch;
   }
 
@@ -460,7 +456,7 @@ module _ (m : Meaning) (l : Layout) (k : EventKind) (kept : Block) (p : PartStat
   stays_part : is_quiet k ≡ true → is_ender k ≡ false → KeepsPart m kept p'
   stays_part quiet n =
       let same = quiet_lists m l p q (next_of m q) found k (quiet_inner k quiet) in
-      goes_part kept refl n (was.lists ∙ sym same) (stays_place m l p q h.there (next_of m q) found kept.place placed k quiet n) (stays_open m l p q h.there (next_of m q) found kept.place placed k quiet n) (over kept q placed h.ready) same
+      goes_part kept refl n (was.lists ∙ sym same) (stays_place m l p q h.there (next_of m q) found kept.place placed k quiet n) (stays_open m l p q h.there (next_of m q) found kept.place placed k quiet n) same
       (quiet_epoch m l p q h.there (next_of m q) found kept.place.epoch was_epoch (λ word. goes_epoch m l p.nodes.free q k x (quiet_other k quiet) asked h.ready kept.place.epoch (goes_on m l q word) q.trail refl refl) k quiet n)
 
   -- after a commit of a loaded word
@@ -468,7 +464,7 @@ module _ (m : Meaning) (l : Layout) (k : EventKind) (kept : Block) (p : PartStat
   commit_part commits =
       let same = quiet_lists m l p q (next_of m q) found k (commit_inner k commits) in
       goes_part (record kept { place = record (kept.place) { agreed = kept.place.agreed + 1 } }) refl (commit_goes k commits) (was.lists ∙ sym same) (commit_place m l p q h.there (next_of m q) found kept.place placed k commits)
-      (commit_open m l p q h.there (next_of m q) found kept.place placed k commits) (over kept q placed h.ready) same
+      (commit_open m l p q h.there (next_of m q) found kept.place placed k commits) same
       (commit_epoch m l p q h.there (next_of m q) found kept.place.epoch was_epoch (λ word. goes_epoch m l p.nodes.free q k x (commit_other k commits) asked h.ready kept.place.epoch (agrees m l q word) (q.trail ++ word ∷ []) refl refl) k commits)
 
   -- after a step of the end
@@ -478,8 +474,8 @@ module _ (m : Meaning) (l : Layout) (k : EventKind) (kept : Block) (p : PartStat
       let run = ends_place m l p q h.there (next_of m q) found kept.place placed k ender in
       record {
         lists = was.lists ∙ sym same;
-        place = record { run = λ y e. (run y e).0; rest = λ none. over kept q placed h.ready; outside = λ none. refl; in_hand = hand_stays (at_end kept.place) run same };
-        run = record { ending = λ y e closed. ends_run m l p q (next_of m q) found k ender (ender_ends m l p.nodes.free q k ender (next_of m q) x asked) y e };
+        place = record { run = λ y e. (run y e).0; outside = λ none. refl; in_hand = hand_stays (at_end kept.place) run same };
+        run = record { ending = λ y e ready closed. ends_run m l p q (next_of m q) found k ender (ender_ends m l p.nodes.free q k ender (next_of m q) x asked) y e };
         epoch = ender_epoch m l p q h.there (next_of m q) found kept.place.epoch was_epoch k ender;
       }
 
@@ -600,7 +596,7 @@ module _ {T : Type 0} (mean : T → Meaning) (s : T) (place found number : ℕ) 
       (subst (KeepsPart (mean s) kept) (sym (ap (λ (o : Option RunState). after_by (mean s) me.0.layout (kinds.LoadCell (Some place)) me.0.part o found) none))
       (record {
         lists = b.lists;
-        place = record { run = b.place.run; rest = b.place.rest; outside = b.place.outside; in_hand = b.place.in_hand };
+        place = record { run = b.place.run; outside = b.place.outside; in_hand = b.place.in_hand };
         run = record { ending = b.run.ending };
         epoch = record { opening = b.epoch.opening; retiring = b.epoch.retiring };
       }))

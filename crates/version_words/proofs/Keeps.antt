@@ -50,7 +50,6 @@ module _ {T : Type 0} (mean : T → Meaning) (number : ℕ) (kept : Block) (me m
     lists = told_so ∙ ap (λ (v : View T). told_part v.part) is;
     place = subst (λ (v : View T). HasPlace kept.place v.part) is (record {
       run = λ q e. absurd (none_runs q e);
-      rest = λ e. was.place.rest rested;
       outside = λ e. was.place.outside rested;
       in_hand = λ q slot e f. absurd (none_runs q e);
     });
@@ -91,7 +90,7 @@ module _ {T : Type 0} (mean : T → Meaning) (s : T) (k : EventKind) (found numb
     then_kept = record {
       same_number = was.same_number ∙ sym (ap (λ (r : RunnerState T). r.number) made.made);
       lists = h.lists ∙ sym (ap told_part part_is ∙ told (mean s) me.0.layout me.0.number k made.met.0 made.met.1 me.0.part found);
-      place = subst (HasPlace kept'.place) (sym part_is) (record { run = h.place.run; rest = h.place.rest; outside = h.place.outside; in_hand = h.place.in_hand });
+      place = subst (HasPlace kept'.place) (sym part_is) (record { run = h.place.run; outside = h.place.outside; in_hand = h.place.in_hand });
       slots = slots ∙ was.slots;
       of_table = of_table;
     }

@@ -46,7 +46,7 @@ use Rattle.version_words.proofs.Asked.{unless_gone, tested}
 use Rattle.version_words.proofs.Keeps.{KeepsPart, no_epoch, was_part, then_kept}
 use Rattle.version_words.proofs.Epochs.{goes_epoch, loaded_epoch}
 use Rattle.version_words.proofs.Founds.{made_word, few_found}
-use Rattle.version_words.proofs.Inside.{PlacesRun, opened_all, goes_inside, log_low, over, places, step_is}
+use Rattle.version_words.proofs.Inside.{PlacesRun, opened_all, goes_inside, log_low, places, step_is}
 use Rattle.version_words.proofs.Privates.{IsOpenFor, Stands, open_inside}
 use Rattle.version_words.proofs.OwnLoads.{goes_on_part}
 use Rattle.machine_states.proofs.Steps.{some_same}
@@ -120,7 +120,6 @@ module _ (m : Meaning) (l : Layout) (found : ℕ) (kept : Block) (p : PartState)
         lists = ap (λ (y : PartState). retire_after y y.published found) was.lists ∙ told_retired p p.published found;
         place = record {
           run = λ q e. absurd (none-some q (sym rests ∙ e));
-          rest = λ e. was.place.rest none;
           outside = λ e. was.place.outside none;
           in_hand = λ q s e f. absurd (none-some q (sym rests ∙ e));
         };
@@ -131,7 +130,7 @@ module _ (m : Meaning) (l : Layout) (found : ℕ) (kept : Block) (p : PartState)
   in_run_by : (h : IsOpenFor m l kinds.EpochForRetire p x) (b : Bool) → kept.place.inside ≡ b
       → KeepsPart m (if b then record kept { place = record (kept.place) { epoch = found } } else record kept { lists = with_part kept.lists (retire_after kept.lists.part kept.lists.part.published found) }) (record p { run = Some (goes_on m l h.open_run.run found) })
   in_run_by h true e = goes_on_part m l kinds.EpochForRetire kept found p h.open_run x found was refl h.asks_so (loaded_epoch m (goes_on m l h.open_run.run found))
-  in_run_by h false e = absurd (goes_inside m l kept p h.open_run.run kinds.EpochForRetire x was h.open_run.there refl h.asks_so e)
+  in_run_by h false e = absurd (goes_inside m l kept p h.open_run.run kinds.EpochForRetire x was h.open_run.there h.open_run.ready refl h.asks_so e)
 
   epoch_part : Stands m l kinds.EpochForRetire p x → KeepsPart m (block_retired kept found) (stepped m l kinds.EpochForRetire p found)
   epoch_part at = ⊎_elim
@@ -191,7 +190,7 @@ module _ {T : Type 0} (mean : T → Meaning) (s : T) (spot : Spot) (slot number 
     goes : PlacesRun kept'.place None (Some q')
     goes = places kept'.place None q' (record {
       descriptor = placed.descriptor;
-      opened = placed.opened;
+      some = placed.some;
       request = placed.request;
       agreed = (let a = placed.agreed in let b = length-append q.trail (written_once found (slot + 1) ∷ []) in omega (arith, a, b));
       making = refl;
@@ -203,11 +202,10 @@ module _ {T : Type 0} (mean : T → Meaning) (s : T) (spot : Spot) (slot number 
       lists = (λ i. record (was.lists i) { nodes = if found == 0 then slot_made (was.lists i).nodes slot else slot_back (was.lists i).nodes slot (placed.worn i) });
       place = record {
         run = λ y e. (goes y e).0;
-        rest = λ none. over kept q placed opens.open_run.ready;
         outside = λ none. absurd (none-some q' (sym none));
         in_hand = λ y n e f. absurd (none-some n (sym (goes y e).1 ∙ f));
       };
-      run = record { ending = λ y e closed. absurd (goes_inside (mean s) me.0.layout kept p q kinds.MakeCommit (spot, Exchanges 0 (slot + 1)) before opens.open_run.there refl opens.asks_so closed) };
+      run = record { ending = λ y e ready closed. absurd (goes_inside (mean s) me.0.layout kept p q kinds.MakeCommit (spot, Exchanges 0 (slot + 1)) before opens.open_run.there opens.open_run.ready refl opens.asks_so closed) };
       epoch = goes_epoch (mean s) me.0.layout p.nodes.free q kinds.MakeCommit (spot, Exchanges 0 (slot + 1)) refl opens.asks_so opens.open_run.ready kept.place.epoch q' (q.trail ++ written_once found (slot + 1) ∷ []) refl refl;
     }
 

@@ -53,7 +53,7 @@ use Rattle.version_words.proofs.Asked.{unless_gone, tested}
 use Rattle.version_words.proofs.Bounds.{node_once}
 use Rattle.version_words.proofs.Keeps.{KeepsPart, no_epoch, was_part, then_kept}
 use Rattle.version_words.proofs.Epochs.{goes_epoch}
-use Rattle.version_words.proofs.Inside.{is_ender, HasOpenRun, PlacesRun, both_true, goes_inside, over, places, same_place, step_is}
+use Rattle.version_words.proofs.Inside.{is_ender, HasOpenRun, PlacesRun, both_true, goes_inside, places, same_place, step_is}
 use Rattle.version_words.proofs.Privates.{IsPrivate, IsOpenFor, Stands, of_cell, of_word, is_there, open_inside, word_stands}
 
 not_past : (slot n : ℕ) → nat_lt slot n ≡ true → n ≤ slot → ⊥
@@ -168,17 +168,16 @@ pub goes_on_part : (m : Meaning) (l : Layout) (k : EventKind) (kept : Block) (ep
 goes_on_part m l k kept epoch p h x found was n asked has_epoch =
     let q = h.run in let is = was.place.run q h.there in
     let place' : RunPlace = record (kept.place) { epoch = epoch } in
-    let is' : IsPlaced place' q = record { descriptor = is.descriptor; opened = is.opened; request = is.request; agreed = is.agreed; making = is.making; worn = is.worn } in
+    let is' : IsPlaced place' q = record { descriptor = is.descriptor; some = is.some; request = is.request; agreed = is.agreed; making = is.making; worn = is.worn } in
     let run : PlacesRun place' q.made (Some (goes_on m l q found)) = places place' q.made (goes_on m l q found) (same_place place' q (goes_on m l q found) refl refl refl refl refl is') refl in
     record {
       lists = was.lists;
       place = record {
         run = λ y e. (run y e).0;
-        rest = λ none. over kept q is h.ready;
         outside = λ none. absurd (none-some (goes_on m l q found) (sym none));
         in_hand = λ y slot e made. was.place.in_hand q slot h.there (sym (run y e).1 ∙ made);
       };
-      run = record { ending = λ y e closed. absurd (goes_inside m l kept p q k x was h.there n asked closed) };
+      run = record { ending = λ y e ready closed. absurd (goes_inside m l kept p q k x was h.there h.ready n asked closed) };
       epoch = has_epoch;
     }
 
@@ -213,7 +212,6 @@ module _ (m : Meaning) (l : Layout) (slot word found : ℕ) (kept : Block) (p : 
         lists = told;
         place = record {
           run = λ q e. absurd (none-some q (sym (same ∙ none) ∙ e));
-          rest = λ e. was.place.rest none;
           outside = λ e. was.place.outside none;
           in_hand = λ q s e f. absurd (none-some q (sym (same ∙ none) ∙ e));
         };
@@ -238,16 +236,15 @@ module _ (m : Meaning) (l : Layout) (slot word found : ℕ) (kept : Block) (p : 
     taking_part unmade =
         let q' : RunState = goes_on m l (record q { made = Some slot; worn = false }) found in
         let kept' : Block = block_filling kept slot false in
-        let run : PlacesRun kept'.place (Some slot) (Some q') = places kept'.place (Some slot) q' (record { descriptor = placed.descriptor; opened = placed.opened; request = placed.request; agreed = placed.agreed; making = refl; worn = refl }) refl in
+        let run : PlacesRun kept'.place (Some slot) (Some q') = places kept'.place (Some slot) q' (record { descriptor = placed.descriptor; some = placed.some; request = placed.request; agreed = placed.agreed; making = refl; worn = refl }) refl in
         record {
           lists = ap (λ (y : PartState). record y { nodes = slot_taken y.nodes slot }) was.lists;
           place = record {
             run = λ y e. (run y e).0;
-            rest = λ none. over kept q placed h.open_run.ready;
             outside = λ none. absurd (none-some q' (sym none));
             in_hand = λ y s e made. subst (λ (n : ℕ). has (p.nodes.hand ++ slot ∷ []) n ≡ true) (some_same slot s (sym (run y e).1 ∙ made)) (has_pushed p.nodes.hand slot);
           };
-          run = record { ending = λ y e closed. absurd (goes_inside m l kept p q k x was h.open_run.there refl h.asks_so closed) };
+          run = record { ending = λ y e ready closed. absurd (goes_inside m l kept p q k x was h.open_run.there h.open_run.ready refl h.asks_so closed) };
           epoch = goes_epoch m l p.nodes.free q k x refl h.asks_so h.open_run.ready kept.place.epoch q' q.trail refl refl;
         }
 
@@ -261,7 +258,7 @@ module _ (m : Meaning) (l : Layout) (slot word found : ℕ) (kept : Block) (p : 
     in_run_by : (b : Bool) → kept.place.inside ≡ b
         → KeepsPart m (if b then block_filling kept slot kept.place.making else block_found l kept slot word found (nat_lt slot kept.lists.room)) (fill_loaded m l slot p q q.made found)
     in_run_by true e = filling_part q.made kept.place.making refl refl
-    in_run_by false e = absurd (goes_inside m l kept p q k x was h.open_run.there refl h.asks_so e)
+    in_run_by false e = absurd (goes_inside m l kept p q k x was h.open_run.there h.open_run.ready refl h.asks_so e)
 
   -- the block after the load is that of the part
   pub load_part : kept.lists.room ≡ slot_count l m.fixed_slots → Stands m l k p x → KeepsPart m (block_looked l kept slot word found) (stepped m l k p found)

@@ -43,7 +43,7 @@ use Rattle.version_words.specs.Events.{met_by, IsEnabled, IsNamed, IsBlind, Make
 use Rattle.version_words.proofs.Asked.{unless_gone, tested}
 use Rattle.version_words.proofs.Keeps.{KeepsPart, no_epoch, was_part, then_kept}
 use Rattle.version_words.proofs.Epochs.{goes_epoch}
-use Rattle.version_words.proofs.Inside.{HasOpenRun, PlacesRun, both_true, goes_inside, over, places, step_is}
+use Rattle.version_words.proofs.Inside.{HasOpenRun, PlacesRun, both_true, goes_inside, places, step_is}
 
 -- where a descriptor's word stands
 pub record StandsAt (s : Sizes) (d word at : ℕ) : Type 0 where
@@ -288,7 +288,6 @@ module _ {T : Type 0} (mean : T → Meaning) (s : T) (slot word number found own
     lists = was.lists;
     place = record {
       run = λ q e. absurd (none-some q (sym none ∙ e));
-      rest = λ e. was.place.rest none;
       outside = λ e. was.place.outside none;
       in_hand = λ q made e f. absurd (none-some q (sym none ∙ e));
     };
@@ -302,7 +301,7 @@ module _ {T : Type 0} (mean : T → Meaning) (s : T) (slot word number found own
       let run : PlacesRun kept'.place q.made (fill_stored m l number p q).run = places kept'.place q.made (goes_on m l (record q { worn = q.worn || version_of number == l.version_max }) q.word)
       (record {
         descriptor = is.descriptor;
-        opened = is.opened;
+        some = is.some;
         request = is.request;
         agreed = is.agreed;
         making = is.making;
@@ -312,11 +311,10 @@ module _ {T : Type 0} (mean : T → Meaning) (s : T) (slot word number found own
         lists = was.lists;
         place = record {
           run = λ y e. (run y e).0;
-          rest = λ none. over kept q is h.ready;
           outside = λ none. absurd (none-some _ (sym none));
           in_hand = λ y made e f. was.place.in_hand q made h.there (sym (run y e).1 ∙ f);
         };
-        run = record { ending = λ y e closed. absurd (goes_inside m l kept p q k x before h.there refl asks_so closed) };
+        run = record { ending = λ y e ready closed. absurd (goes_inside m l kept p q k x before h.there h.ready refl asks_so closed) };
         epoch = goes_epoch m l p.nodes.free q k x refl asks_so h.ready kept.place.epoch (goes_on m l (record q { worn = q.worn || version_of number == l.version_max }) q.word) q.trail refl refl;
       }
 

@@ -45,7 +45,7 @@ use Rattle.version_words.proofs.Asked.{unless_gone}
 use Rattle.version_words.proofs.Keeps.{KeepsPart, was_part, then_kept}
 use Rattle.version_words.proofs.Epochs.{goes_epoch}
 use Rattle.version_words.proofs.Founds.{retired_word, one_found}
-use Rattle.version_words.proofs.Inside.{PlacesRun, opened_all, goes_inside, log_low, over, places, step_is}
+use Rattle.version_words.proofs.Inside.{PlacesRun, opened_all, goes_inside, log_low, places, step_is}
 use Rattle.version_words.proofs.Privates.{IsOpenFor, open_inside}
 use Rattle.version_words.proofs.Shows.{seen_then}
 
@@ -141,7 +141,7 @@ module _ {T : Type 0} (mean : T → Meaning) (s : T) (spot : Spot) (slot number 
   goes : PlacesRun kept'.place q.made (Some q')
   goes = places kept'.place q.made q' (record {
     descriptor = placed.descriptor;
-    opened = placed.opened;
+    some = placed.some;
     request = placed.request;
     agreed = (let a = placed.agreed in let b = length-append q.trail (written_once found (slot + 1) ∷ []) in omega (arith, a, b));
     making = placed.making;
@@ -153,11 +153,10 @@ module _ {T : Type 0} (mean : T → Meaning) (s : T) (spot : Spot) (slot number 
     lists = (λ i. record (was.lists i) { nodes = nodes_are i });
     place = record {
       run = λ y e. (goes y e).0;
-      rest = λ none. over kept q placed opens.open_run.ready;
       outside = λ none. absurd (none-some q' (sym none));
       in_hand = λ y n e f. ap (λ (xs : List ℕ). has xs n) (same_hand (found == 0) p.nodes slot q.word) ∙ was.place.in_hand q n opens.open_run.there (sym (goes y e).1 ∙ f);
     };
-    run = record { ending = λ y e closed. absurd (goes_inside (mean s) me.0.layout kept p q kinds.RetireCommit (spot, Exchanges 0 (slot + 1)) before opens.open_run.there refl opens.asks_so closed) };
+    run = record { ending = λ y e ready closed. absurd (goes_inside (mean s) me.0.layout kept p q kinds.RetireCommit (spot, Exchanges 0 (slot + 1)) before opens.open_run.there opens.open_run.ready refl opens.asks_so closed) };
     epoch = goes_epoch (mean s) me.0.layout p.nodes.free q kinds.RetireCommit (spot, Exchanges 0 (slot + 1)) refl opens.asks_so opens.open_run.ready kept.place.epoch q' (q.trail ++ written_once found (slot + 1) ∷ []) refl refl;
   }
 

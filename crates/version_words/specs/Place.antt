@@ -10,23 +10,22 @@ use Rattle.table_words.specs.declared.spot.Spot.TheVariants as spots
 use Rattle.structure_laws.specs.Meaning.{Meaning}
 use Rattle.runner_parts.specs.State.{RunState, PartState}
 use Rattle.runner_parts.specs.Tests.{has}
-use Rattle.runner_steps.specs.Sections.{line_of, next_of}
+use Rattle.runner_steps.specs.Sections.{is_open_run, line_of, next_of}
 use Rattle.runner_block.specs.declared.place.RunPlace.{RunPlace}
 
--- it has the run's descriptor, how many words of the opening were loaded, the request that they name, how many words were agreed on, whether
--- a Make has its slot in the hand, and whether a cell of that slot came to the greatest version
+-- a word of its opening was loaded, and it has the run's descriptor, the request that its words name, how many words were agreed on, whether a Make has its slot in the hand, and
+-- whether a cell of that slot came to the greatest version
 pub record IsPlaced (kept : RunPlace) (q : RunState) : Type 0 where
   pub descriptor : kept.descriptor ≡ q.descriptor
-  pub opened : kept.opened ≡ length q.opened
+  pub some : 0 < length q.opened
   pub request : 1 < length q.opened → kept.request ≡ slice_index q.opened 1 % 2 ^ 32
   pub agreed : kept.agreed ≡ length q.trail
   pub making : kept.making ≡ is_some q.made
   pub worn : kept.worn ≡ q.worn
 
--- where the runner has a run in progress, in which the slot of a Make is in the hand; and outside a run the last one's opening is over
+-- where the runner has a run in progress, in which the slot of a Make is in the hand
 pub record HasPlace (kept : RunPlace) (p : PartState) : Type 0 where
   pub run : (q : RunState) → p.run ≡ Some q → IsPlaced kept q
-  pub rest : p.run ≡ None → 12 ≤ kept.opened
   pub outside : p.run ≡ None → kept.inside ≡ false
   pub in_hand : (q : RunState) (slot : ℕ) → p.run ≡ Some q → q.made ≡ Some slot → has p.nodes.hand slot ≡ true
 
@@ -42,9 +41,9 @@ pub record HasEpoch (m : Meaning) (epoch : ℕ) (run : Option RunState) : Type 0
   pub opening : (q : RunState) → run ≡ Some q → length q.opened < 13 → epoch ≡ q.word
   pub retiring : (q : RunState) (slot log : ℕ) → run ≡ Some q → micro_at (line_of m q) q.at ≡ micros.RetireCommit slot log → epoch ≡ q.word
 
--- a run that isn't marked as in progress is at its end
+-- an open run that isn't marked as in progress is at its end
 pub record EndsSo (m : Meaning) (kept : RunPlace) (run : Option RunState) : Type 0 where
-  pub ending : (q : RunState) → run ≡ Some q → kept.inside ≡ false → is_ending (next_of m q) ≡ true
+  pub ending : (q : RunState) → run ≡ Some q → is_open_run q ≡ true → kept.inside ≡ false → is_ending (next_of m q) ≡ true
 
 -- the next word of the log of a runner's run
 abbrev pub next_log : Option RunState → Spot

@@ -26,6 +26,7 @@ mod words;
 
 pub use laws::{table_is_allowed, words_are_reached};
 pub use runner::Runner;
+pub use runner_block::RunRoom;
 pub use table::FlockTable;
 pub use words::Words;
 

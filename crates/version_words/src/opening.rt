@@ -16,26 +16,27 @@ use table_words::Spot;
 
 impl<S: Structure> FlockTable<S> {
     /// The next thunk word of the run's descriptor, whose words begin at this start; outside a run the first one of a descriptor that the
-    /// runner holds, with which a run begins.
+    /// runner holds, with which a run begins. Its index is how many were loaded.
     #[inline(always)]
     pub fn load_thunk(
         &self,
         mut runner: Runner<S>,
         descriptor: u32,
         start: usize,
+        index: u32,
     ) -> (Runner<S>, u64)
         requires own { IsOf self.now runner }
         requires start { start ≡ start_of (S.meaning self.now.structure) self.now descriptor }
+        requires index { index ≡ opened_of runner.part.run }
         requires next { met_by (S.meaning self.now.structure) runner (open_of runner.part.run descriptor) ≡ Some
-            (spots.ThunkWord descriptor (opened_of runner.part.run), Loads) }
+            (spots.ThunkWord descriptor index, Loads) }
         ensures own { IsOf self.now result.0 }
         ensures event { Makes (S.meaning self.now.structure) (open_of runner.part.run descriptor) result.1 runner result.0 }
     {
-        let index = runner.kept.place.next_thunk_word();
         let spot = Spot::ThunkWord(descriptor, index);
         let at = self.setup.sizes.word_at(descriptor, start, index);
         let word = self.load_at::<plays::LoadThunk>(&mut runner.seat, spot, at);
-        runner.kept.place.opened(descriptor, word);
+        runner.kept.place.opened(descriptor, index, word);
         (runner, word)
     }
 
@@ -49,7 +50,6 @@ impl<S: Structure> FlockTable<S> {
         let _ = &self.setup;
         let spot = Spot::DoneWord(runner.kept.place.descriptor);
         let found = self.load::<plays::LoadDone>(&mut runner.seat, spot);
-        runner.kept.place.opened = 13;
         runner.kept.place.inside = true;
         (runner, found != 0)
     }

@@ -6,9 +6,9 @@ ghost use Rattle.version_words.specs.RunnerState.{entered_of};
 use crate::view::View;
 use atomic_table::Seat;
 use epoch_core::Stage;
-use runner_block::Block;
+use runner_block::{Block, RunRoom};
 use runner_parts::Structure;
-use section_body::{Body, Thunk};
+use section_body::Thunk;
 use std::alloc::Global;
 use std::marker::Model;
 
@@ -105,18 +105,18 @@ impl<S: Structure> Runner<S> {
         self.kept.lists.worn()
     }
 
-    /// Hands out the body that the runner keeps for its runs, unless it is out already. A run refills it, reads it and puts it back by
-    /// `keep_body`, so that no run makes a body. What the runner is stays the same.
-    pub fn take_body(&mut self) -> Option<Box<Body, Global>>
+    /// Hands out the room that the runner keeps for its runs, unless it is out already. A run refills the body, begins the trail anew, and
+    /// puts the room back by `keep_room`, so that no run makes a body or a trail. What the runner is stays the same.
+    pub fn take_room(&mut self) -> Option<Box<RunRoom, Global>>
         ensures { self.new ≡ self.old }
     {
-        self.kept.lists.take_body()
+        self.kept.lists.take_room()
     }
 
-    /// Puts back the body that `take_body` handed out, or another one, whatever its steps are.
-    pub fn keep_body(&mut self, body: Box<Body, Global>)
+    /// Puts back the room that `take_room` handed out, or another one, whatever is in it.
+    pub fn keep_room(&mut self, room: Box<RunRoom, Global>)
         ensures { self.new ≡ self.old }
     {
-        self.kept.lists.keep_body(body);
+        self.kept.lists.keep_room(room);
     }
 }

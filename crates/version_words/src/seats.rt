@@ -32,7 +32,6 @@ fn boxed(alloc: Global, lists: Kept) -> Result<Box<Block, Global>, AllocError>
 {
     let place = RunPlace {
         descriptor: 0,
-        opened: 13,
         request: 0,
         agreed: 0,
         epoch: 0,

@@ -15,7 +15,7 @@ use Rattle.runner_parts.specs.State.{RunState}
 use Rattle.section_runs.proofs.Going.{run_is}
 use Rattle.section_runs.proofs.Using.{on_not_halted, left_not_halted}
 use Rattle.section_runs.proofs.Through.{through_more, halted_then, through_few}
-use Rattle.section_runs.proofs.Testing.{stood}
+use Rattle.section_runs.proofs.Apart.{stood_apart, through_apart, halted_apart}
 use Rattle.section_runs.proofs.Walking.{none_before, sum_next, sum_most, sum_room, nodes_none, nodes_more, slot_left, same_none, same_more, body_same, walked_left, walked_all, is_over}
 use Rattle.runner_steps.specs.Sections.{reply_in, thunk_of}
 use Rattle.section_runs.proofs.bodies.walk.Goals as goal
@@ -32,7 +32,8 @@ loop-n-init g c =
       late = refl;
       kept = subst (AreKept c.new-kept.result) (sym (none_before c.args.body.now)) c.new-kept.ensures;
       nodes = nodes_none c.args.body.now r.part.nodes;
-      through = stood m r _ _ _ _;
+      uncounted = refl;
+      through = stood_apart m r _ _ _ c.new-made.ensures;
     }
 
 pub step_gated-gone-requires-clause-next : goal.step_gated-gone-requires-clause-next
@@ -102,6 +103,7 @@ loop-n-preserved g c =
       late = went.late ∙ inv.late;
       kept = subst (λ k. AreKept c.note.new.self (registers_before body k)) next (subst (AreKept c.note.new.self) (sym (registers_before_next body n step here)) (c.note.ensures g0 inv.kept count));
       nodes = subst (λ k. NodesGone body k r.part.nodes c.step_gated-gone.result.0.part.nodes) next (nodes_more body n step r.part.nodes now.part.nodes c.step_gated-gone.result.0.part.nodes here inv.nodes (went.nodes on));
+      uncounted = inv.uncounted;
       through = through_more m (sum_by step_cost (take n body)) (step_cost step) (sum_by step_cost (take (n + 1) body)) _ _ _ _ _ _ _ _ _ _ _ _
           (let e = sum_next step_cost body n step here in let d = ap (λ k. sum_by step_cost (take k body)) next in omega (arith, e, d)) inv.through (went.through still);
     }
@@ -154,7 +156,9 @@ returns-in-Left-clause-through g c =
     let went = c.step_gated-gone.ensures.went in
     let out = c.in-Left.is in
     let still = left_not_halted c.step_gated-gone.result.1 c.in-Left.outcome out in
-    λ _. through_more m (sum_by step_cost (take n body)) (step_cost step) (sum_by step_cost body) _ _ _ _ _ _ _ _ _ _ _ _ (sum_room step_cost body n step here) inv.through (went.through still)
+    λ _. through_apart m _ _ _ _ _ _ _ _ _ _ _ inv.uncounted c.add_up.ensures.fits
+    (through_more m (sum_by step_cost (take n body)) (step_cost step) (sum_by step_cost body) _ _ _ _ _ _ _ _ _ _ _ _ (sum_room step_cost body n step here) inv.through (went.through still))
+    c.add_up.ensures.added
 
 pub returns-in-Halted-clause-late : goal.returns-in-Halted-clause-late
 returns-in-Halted-clause-late g c =
@@ -172,7 +176,9 @@ returns-in-Halted-clause-halted g c =
     let step = c.index-body-n.result in
     let here = read_step body n step c.loop-n-test.true c.index-body-n.is in
     let went = c.step_gated-gone.ensures.went in
-    λ _. halted_then m (sum_by step_cost (take n body)) (step_cost step) (sum_by step_cost body) _ _ _ _ _ _ _ _ _ _ _ _ (sum_room step_cost body n step here) inv.through (went.halted c.in-Halted.is)
+    λ _. halted_apart m _ _ _ _ _ _ _ _ _ _ _ inv.uncounted c.add_up-in-Halted.ensures.fits
+    (halted_then m (sum_by step_cost (take n body)) (step_cost step) (sum_by step_cost body) _ _ _ _ _ _ _ _ _ _ _ _ (sum_room step_cost body n step here) inv.through (went.halted c.in-Halted.is))
+    c.add_up-in-Halted.ensures.added
 
 pub returns-clause-over : goal.returns-clause-over
 returns-clause-over g c =
@@ -195,4 +201,5 @@ returns-clause-through g c =
     let m = g.S.Structure.meaning c.args.table.now.structure in
     let body = c.args.body.now in
     let n = c.loop-n.n in
-    λ _. through_few m _ _ _ _ _ _ _ _ _ _ (sum_most step_cost body n) c.loop-n.invariant.through
+    λ _. through_apart m _ _ _ _ _ _ _ _ _ _ _ c.loop-n.invariant.uncounted c.add_up-2.ensures.fits
+    (through_few m _ _ _ _ _ _ _ _ _ _ (sum_most step_cost body n) c.loop-n.invariant.through) c.add_up-2.ensures.added

@@ -17,5 +17,6 @@ invariant-loop-n g l = record {
   late : l.trail.late ≡ l.fn.trail.late;
   kept : AreKept l.kept (registers_before l.body l.n);
   nodes : NodesGone l.body l.n l.fn.runner.part.nodes l.runner.part.nodes;
-  through : IsThrough (g.S.Structure.meaning l.table.structure) (sum_by step_cost (take l.n l.body)) l.fn.runner l.runner (g.G.Gate.halts l.fn.gate) (g.G.Gate.halts l.gate) (g.G.Gate.asks l.fn.gate) (g.G.Gate.asks l.gate) l.fn.steps.count l.steps.count;
+  uncounted : l.steps.count ≡ l.fn.steps.count;
+  through : IsThrough (g.S.Structure.meaning l.table.structure) (sum_by step_cost (take l.n l.body)) l.fn.runner l.runner (g.G.Gate.halts l.fn.gate) (g.G.Gate.halts l.gate) (g.G.Gate.asks l.fn.gate) (g.G.Gate.asks l.gate) 0 l.made.count;
 }

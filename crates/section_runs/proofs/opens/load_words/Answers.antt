@@ -3,7 +3,7 @@ use Rattle.std.proofs.lemmas.List.{take_more_set}
 use Rattle.idem_cell.specs.commit_log.proofs.Asked.{asked_more, asked_as}
 use Rattle.section_runs.specs.Opened.{IsOpening}
 use Rattle.section_runs.proofs.Apart.{asked_apart}
-use Rattle.section_runs.proofs.Opening.{may_load, opens_more}
+use Rattle.section_runs.proofs.Opening.{opened_so_far, may_load, opens_more}
 use Rattle.section_runs.proofs.opens.load_words.Goals as goal
 
 pub load_thunk-opened-requires-clause-next : goal.load_thunk-opened-requires-clause-next
@@ -11,6 +11,12 @@ load_thunk-opened-requires-clause-next g c κs within =
     let met = g.met.S.Structure g.world.𝓛 g.world.𝓜 g.world.𝓡 ((λ s allowed. allowed), (λ patient. patient), (λ alone. alone), (λ cuts. cuts)) in
     may_load (g.S.Structure.meaning c.args.table.now.structure) (met.laws c.args.table.now.structure) c.args.table.now c.table_is_allowed.ensures.limits
     c.table_is_allowed.ensures.requests c.args.runner c.args.descriptor c.requires.next c.loop-index.index _ c.loop-index.runner c.loop-index.invariant.own c.loop-index.invariant.opening c.loop-index-test.true
+
+pub load_thunk-opened-requires-clause-index : goal.load_thunk-opened-requires-clause-index
+load_thunk-opened-requires-clause-index g c κs within =
+    let met = g.met.S.Structure g.world.𝓛 g.world.𝓜 g.world.𝓡 ((λ s allowed. allowed), (λ patient. patient), (λ alone. alone), (λ cuts. cuts)) in
+    opened_so_far (g.S.Structure.meaning c.args.table.now.structure) (met.laws c.args.table.now.structure) c.args.table.now c.table_is_allowed.ensures.limits
+    c.table_is_allowed.ensures.requests c.args.runner c.args.descriptor c.requires.next c.loop-index.index _ c.loop-index.runner c.loop-index.invariant.own c.loop-index.invariant.opening
 
 pub returns-then-not-passes-clause-halted : goal.returns-then-not-passes-clause-halted
 returns-then-not-passes-clause-halted g c = λ _.

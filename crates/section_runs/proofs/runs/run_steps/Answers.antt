@@ -22,7 +22,7 @@ walk-runner-requires-clause-body g c κs within =
     let m = g.S.Structure.meaning c.args.table.now.structure in
     let r = c.args.runner in
     let body = m.body c.args.thunk.now in
-    let same : body_of m r ≡ body = opened_body m c.args.descriptor c.args.thunk.now c.args.late r c.requires.opened in
+    let same : body_of m r ≡ body = opened_body m c.args.descriptor c.args.thunk.now c.args.trail.now.late r c.requires.opened in
     let is_body : c.args.line.now ≡ body = c.requires.line in
     is_body ∙ sym same
 
@@ -36,7 +36,7 @@ walk-runner-requires-clause-shaped g c κs within =
     let allowed = c.table_is_allowed.ensures.requests in
     let r = c.args.runner in
     let body = m.body c.args.thunk.now in
-    let same : body_of m r ≡ body = opened_body m c.args.descriptor c.args.thunk.now c.args.late r c.requires.opened in
+    let same : body_of m r ≡ body = opened_body m c.args.descriptor c.args.thunk.now c.args.trail.now.late r c.requires.opened in
     let is_body : c.args.line.now ≡ body = c.requires.line in
     let whole : IsShaped (body_of m r) = shaped m laws t limits allowed r c.requires.own (run_of r) c.requires.opened.inside in
     subst IsShaped (same ∙ sym is_body) whole
@@ -51,19 +51,19 @@ walk-runner-requires-clause-before g c κs within =
     let allowed = c.table_is_allowed.ensures.requests in
     let r = c.args.runner in
     let whole : IsShaped (body_of m r) = shaped m laws t limits allowed r c.requires.own (run_of r) c.requires.opened.inside in
-    opened_before m c.args.descriptor c.args.thunk.now c.args.late r c.requires.opened whole
+    opened_before m c.args.descriptor c.args.thunk.now c.args.trail.now.late r c.requires.opened whole
 
 pub walk-runner-requires-clause-section : goal.walk-runner-requires-clause-section
 walk-runner-requires-clause-section g c κs within =
     let m = g.S.Structure.meaning c.args.table.now.structure in
     let r = c.args.runner in
-    opened_descriptor m c.args.descriptor c.args.thunk.now c.args.late r c.requires.opened
+    opened_descriptor m c.args.descriptor c.args.thunk.now c.args.trail.now.late r c.requires.opened
 
 pub walk-runner-requires-clause-trail : goal.walk-runner-requires-clause-trail
 walk-runner-requires-clause-trail g c κs within =
     let m = g.S.Structure.meaning c.args.table.now.structure in
     let r = c.args.runner in
-    c.trail_of-trail.ensures.words ∙ sym (opened_trail m c.args.descriptor c.args.thunk.now c.args.late r c.requires.opened)
+    c.requires.empty ∙ sym (opened_trail m c.args.descriptor c.args.thunk.now c.args.trail.now.late r c.requires.opened)
 
 pub walk-runner-requires-clause-reserve : goal.walk-runner-requires-clause-reserve
 walk-runner-requires-clause-reserve g c κs within =
@@ -75,7 +75,7 @@ walk-runner-requires-clause-reserve g c κs within =
     let allowed = c.table_is_allowed.ensures.requests in
     let r = c.args.runner in
     let body = m.body c.args.thunk.now in
-    let same : body_of m r ≡ body = opened_body m c.args.descriptor c.args.thunk.now c.args.late r c.requires.opened in
+    let same : body_of m r ≡ body = opened_body m c.args.descriptor c.args.thunk.now c.args.trail.now.late r c.requires.opened in
     let is_body : c.args.line.now ≡ body = c.requires.line in
     let whole : IsShaped (body_of m r) = shaped m laws t limits allowed r c.requires.own (run_of r) c.requires.opened.inside in
     few_makes c.args.line.now (length r.part.nodes.free) (subst IsShaped (same ∙ sym is_body) whole) c.requires.reserve
@@ -85,7 +85,7 @@ end-runner-requires-clause-body g c κs within =
     let m = g.S.Structure.meaning c.args.table.now.structure in
     let r = c.args.runner in
     let body = m.body c.args.thunk.now in
-    let same : body_of m r ≡ body = opened_body m c.args.descriptor c.args.thunk.now c.args.late r c.requires.opened in
+    let same : body_of m r ≡ body = opened_body m c.args.descriptor c.args.thunk.now c.args.trail.now.late r c.requires.opened in
     let is_body : c.args.line.now ≡ body = c.requires.line in
     let walked = c.walk-runner.ensures.over c.in-Over.taken c.in-Over.outcome c.in-Over.is in
     let r2 = c.walk-runner.result.0 in
@@ -96,7 +96,7 @@ end-runner-requires-clause-within g c κs within =
     let m = g.S.Structure.meaning c.args.table.now.structure in
     let r = c.args.runner in
     let body = m.body c.args.thunk.now in
-    let same : body_of m r ≡ body = opened_body m c.args.descriptor c.args.thunk.now c.args.late r c.requires.opened in
+    let same : body_of m r ≡ body = opened_body m c.args.descriptor c.args.thunk.now c.args.trail.now.late r c.requires.opened in
     let is_body : c.args.line.now ≡ body = c.requires.line in
     let walked = c.walk-runner.ensures.over c.in-Over.taken c.in-Over.outcome c.in-Over.is in
     let e = ap length (is_body ∙ sym same) in let w = walked.within in omega (arith, e, w)
@@ -106,14 +106,14 @@ end-runner-requires-clause-lock g c κs within =
     let m = g.S.Structure.meaning c.args.table.now.structure in
     let r = c.args.runner in
     let walked = c.walk-runner.ensures.over c.in-Over.taken c.in-Over.outcome c.in-Over.is in
-    ap (λ (x : Thunk). x.lock) (sym (ap thunk_of walked.same.opened ∙ opened_thunk m c.args.descriptor c.args.thunk.now c.args.late r c.requires.opened))
+    ap (λ (x : Thunk). x.lock) (sym (ap thunk_of walked.same.opened ∙ opened_thunk m c.args.descriptor c.args.thunk.now c.args.trail.now.late r c.requires.opened))
 
 pub end-runner-requires-clause-word : goal.end-runner-requires-clause-word
 end-runner-requires-clause-word g c κs within =
     let m = g.S.Structure.meaning c.args.table.now.structure in
     let r = c.args.runner in
     let walked = c.walk-runner.ensures.over c.in-Over.taken c.in-Over.outcome c.in-Over.is in
-    ap (λ (x : Thunk). x.word) (sym (ap thunk_of walked.same.opened ∙ opened_thunk m c.args.descriptor c.args.thunk.now c.args.late r c.requires.opened))
+    ap (λ (x : Thunk). x.word) (sym (ap thunk_of walked.same.opened ∙ opened_thunk m c.args.descriptor c.args.thunk.now c.args.trail.now.late r c.requires.opened))
 
 pub end-runner-requires-clause-over : goal.end-runner-requires-clause-over
 end-runner-requires-clause-over g c κs within =
@@ -139,8 +139,8 @@ returns-in-Over-clause-done g c =
     let went = c.walk-runner.ensures.through (λ e. let z = sym c.in-Over.is ∙ e in cc) in
     let last = c.end-runner.ensures.ended going in
     let few : 13 + (went.made + (last.ended.count + 1)) ≤ cost_of body = (let a = went.few in let b = last.few in let x = ap (sum_by step_cost) is_body in let y = ap (count_by is_take) is_body in let z = cost_rest body in omega (arith, a, b, x, y, z)) in
-    let ends = ends_so m laws t limits allowed r r2 c.end-runner.result.0 c.requires.own c.args.descriptor c.args.thunk.now c.args.late c.requires.opened c.in-Over.taken c.in-Over.outcome walked went.made went.ran last.ended
-    before hop _ (c.walk-runner.ensures.trail (λ e. let z = sym c.in-Over.is ∙ e in cc)) (c.walk-runner.ensures.late ∙ c.trail_of-trail.ensures.late) few in (
+    let ends = ends_so m laws t limits allowed r r2 c.end-runner.result.0 c.requires.own c.args.descriptor c.args.thunk.now c.args.trail.now.late c.requires.opened c.in-Over.taken c.in-Over.outcome walked went.made went.ran last.ended
+    before hop _ (c.walk-runner.ensures.trail (λ e. let z = sym c.in-Over.is ∙ e in cc)) c.walk-runner.ensures.late few in (
       went.made + (last.ended.count + 1),
       subst (λ (x : Agreed). EndsSo m c.args.descriptor c.args.thunk.now o x (13 + (went.made + (last.ended.count + 1))) before c.end-runner.result.0) same_as.1
           (subst (λ (x : Outcome). EndsSo m c.args.descriptor c.args.thunk.now x c.walk-runner.new.trail (13 + (went.made + (last.ended.count + 1))) before c.end-runner.result.0) same_as.0 ends),
