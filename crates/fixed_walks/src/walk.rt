@@ -44,6 +44,7 @@ impl<C: FixedPlaces> FixedWalk<C> {
 impl<C: FixedPlaces> Walker for FixedWalk<C> {
     ghost way = { fixed_way C.course };
 
+    #[inline(always)]
     fn wanted(&self) -> Option<u64> {
         match self.ahead.as_slice().first() {
             Some(place) => Some(u64::from(*place)),
@@ -51,6 +52,7 @@ impl<C: FixedPlaces> Walker for FixedWalk<C> {
         }
     }
 
+    #[inline(always)]
     fn feed(&mut self, word: Word) {
         if let Some(place) = self.ahead.pop_at(0) {
             self.place = place;
@@ -69,10 +71,6 @@ impl<C: FixedPlaces> Walker for FixedWalk<C> {
 
     fn is_mark(&self, _place: Place) -> bool {
         false
-    }
-
-    fn most(&self) -> u64 {
-        self.ahead.len() as u64
     }
 
     fn thunk(&self, number: u32) -> Thunk {

@@ -1,10 +1,10 @@
 //! The walk of a key through its bucket.
-ghost use Rattle.std.specs.Prelude.{◌≡◌, ◌+◌, ◌*◌, ◌<◌, ◌≤◌, ◌^◌, cond, [], ◌∷◌};
+ghost use Rattle.std.specs.Prelude.{◌≡◌, ◌+◌, ◌*◌, ◌<◌, ◌≤◌, ◌^◌, ◌==◌, nat_le, cond, [], ◌∷◌};
 ghost use Rattle.map_history.specs.Keys.{key_of};
 ghost use Rattle.map_history.specs.Words.{word_of};
 ghost use Rattle.section_body.specs.Bucket.{bucket_index};
-ghost use Rattle.bucket_laws.specs.Walk.{AtLink, AtKey, AtNext, AtLock, operands_for, form_for, is_del, same_numbers, fits_walk};
-ghost use Rattle.hash_table.specs.Walking.{stage_of, is_refused_of, begun, fed_by, wanted_by, left_of, thunk_by};
+ghost use Rattle.bucket_laws.specs.Walk.{AtLink, AtKey, AtNext, AtLock, Refused, operands_for, form_for, is_del, same_numbers, fits_walk};
+ghost use Rattle.hash_table.specs.Walking.{stage_of, is_refused_of, begun, fed_by, wanted_by, thunk_by};
 
 use map_history::{Op, Reply};
 use section_body::{Thunk, Word, bucket_of};
@@ -36,10 +36,12 @@ pub enum Stage {
 pub struct BucketWalk {
     bits: u32,
     limit: u128,
+    near: u64,
     version_max: u32,
     op: Op,
     stage: Stage,
-    links: u128,
+    links: u64,
+    beyond: u128,
     edition: Word,
     head: u32,
     place: u64,
@@ -51,7 +53,7 @@ pub struct BucketWalk {
 }
 
 impl Model for BucketWalk {
-    ghost use Rattle.std.specs.Prelude.{◌≤◌};
+    ghost use Rattle.std.specs.Prelude.{◌≡◌, ◌+◌, ◌-◌, ◌<◌, ◌≤◌};
     ghost use Rattle.hash_table.specs.Walking.{Walking, HasRoom, stage_of};
 
     ghost Value = { Walking };
@@ -62,7 +64,7 @@ impl Model for BucketWalk {
       op = a.op;
       walk = record {
         stage = stage_of a.stage;
-        links = a.links;
+        links = a.links + a.beyond;
         edition = a.edition;
         head = a.head;
         place = a.place;
@@ -74,7 +76,8 @@ impl Model for BucketWalk {
       };
     } };
 
-    ghost invariant = { λ a. (a.bits ≤ 12) × (a.limit ≤ 73786976294838206464) × HasRoom (stage_of a.stage) a.links a.limit };
+    ghost invariant = { λ a. (a.bits ≤ 12) × (a.limit ≤ 73786976294838206464) × (a.near ≤ a.limit - 1) × (a.links < a.near → a.beyond ≡ 0)
+        × (a.beyond ≤ 73786976294838206464) × HasRoom (stage_of a.stage) (a.links + a.beyond) a.limit };
 }
 
 impl BucketWalk {
@@ -89,10 +92,12 @@ impl BucketWalk {
         BucketWalk {
             bits,
             limit,
+            near: u64::try_from(limit.saturating_sub(1)).unwrap_or(0),
             version_max,
             op,
             stage: Stage::Edition,
             links: 0,
+            beyond: 0,
             edition: Word::from_bits(0),
             head: 0,
             place: 0,
@@ -122,6 +127,7 @@ impl BucketWalk {
     }
 
     /// The place that the walk loads next; None where it is at its end or was refused.
+    #[inline(always)]
     pub fn wanted(&self) -> Option<u64>
         ensures { result ≡ wanted_by self.now }
     {
@@ -137,6 +143,7 @@ impl BucketWalk {
     }
 
     /// Goes on by the word that stood at the place that the walk wanted.
+    #[inline(always)]
     pub fn feed(&mut self, word: Word)
         ensures { self.new ≡ fed_by self.old word }
     {
@@ -164,6 +171,7 @@ impl BucketWalk {
     }
 
     /// Goes on by a link.
+    #[inline(always)]
     fn feed_link(&mut self, link: u32)
         requires { self.old.walk.stage ≡ AtLink }
         ensures { self.new ≡ fed_by self.old link }
@@ -171,19 +179,19 @@ impl BucketWalk {
         if self.place == u64::from(self.lock()) + 2 {
             self.head = link;
         }
-        self.links += 1;
         self.slot = link.saturating_sub(1);
         self.found = false;
-        self.stage = if link == 0 {
-            Stage::Lock
-        } else if self.limit <= self.links {
-            Stage::Refused
+        if self.links < self.near {
+            self.stage = past_near_link(link);
+            self.links += 1;
         } else {
-            Stage::Key
-        };
+            self.stage = past_link(self.limit, u128::from(self.links) + self.beyond + 1, link);
+            self.beyond += 1;
+        }
     }
 
     /// Goes on by the key of the node.
+    #[inline(always)]
     fn feed_key(&mut self, key: u32)
         requires { self.old.walk.stage ≡ AtKey }
         ensures { self.new ≡ fed_by self.old key }
@@ -197,6 +205,7 @@ impl BucketWalk {
     }
 
     /// What comes after the value of the key's node.
+    #[inline(always)]
     fn after_value(&self) -> Stage
         ensures { stage_of result ≡ cond (is_del self.now.op) AtNext AtLock }
     {
@@ -207,6 +216,7 @@ impl BucketWalk {
     }
 
     /// Goes on by the lock's word.
+    #[inline(always)]
     fn feed_lock(&mut self, word: Word)
         requires { self.old.walk.stage ≡ AtLock }
         ensures { self.new ≡ fed_by self.old word }
@@ -220,28 +230,17 @@ impl BucketWalk {
         };
     }
 
+    /// Whether it loads a link next, and the key of its node then.
+    #[inline(always)]
+    pub fn is_on_links(&self) -> bool {
+        self.stage == Stage::Link
+    }
+
     /// Whether the walk was refused.
     pub fn is_refused(&self) -> bool
         ensures { result ≡ is_refused_of self.now }
     {
         self.stage == Stage::Refused
-    }
-
-    /// How many loads are left at most.
-    pub fn most(&self) -> u64
-        requires { left_of self.now < 2 ^ 64 }
-        ensures { result ≡ left_of self.now }
-    {
-        let left = self.limit.saturating_sub(self.links);
-        let most = match self.stage {
-            Stage::Edition | Stage::Key => 2 * left + 4,
-            Stage::Link => 2 * left + 3,
-            Stage::Value => 3,
-            Stage::Next => 2,
-            Stage::Lock => 1,
-            Stage::End | Stage::Refused => 0,
-        };
-        most as u64
     }
 
     /// Whether the walk is whole and this is the thunk for it.
@@ -310,6 +309,27 @@ impl BucketWalk {
             (Op::Get(_) | Op::Del(_), false) => read(edition, Reply::Absent),
         }
     }
+}
+
+/// What comes after a link, where so many have been loaded.
+fn past_link(limit: u128, links: u128, link: u32) -> Stage
+    ensures { stage_of result ≡ cond (link == 0) AtLock (cond (nat_le limit links) Refused AtKey) }
+{
+    if link == 0 {
+        Stage::Lock
+    } else if limit <= links {
+        Stage::Refused
+    } else {
+        Stage::Key
+    }
+}
+
+/// What comes after a link where fewer have been loaded than the limit.
+#[inline(always)]
+fn past_near_link(link: u32) -> Stage
+    ensures { stage_of result ≡ cond (link == 0) AtLock AtKey }
+{
+    if link == 0 { Stage::Lock } else { Stage::Key }
 }
 
 /// The operands of a body that reads alone.

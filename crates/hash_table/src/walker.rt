@@ -8,12 +8,19 @@ use section_body::{Place, Thunk, Word};
 impl Walker for BucketWalk {
     ghost way = { bucket_way };
 
+    #[inline(always)]
     fn wanted(&self) -> Option<u64> {
         self.wanted()
     }
 
+    #[inline(always)]
     fn feed(&mut self, word: Word) {
         self.feed(word);
+    }
+
+    #[inline(always)]
+    fn is_on_links(&self) -> bool {
+        self.is_on_links()
     }
 
     fn is_refused(&self) -> bool {
@@ -22,10 +29,6 @@ impl Walker for BucketWalk {
 
     fn is_mark(&self, _place: Place) -> bool {
         false
-    }
-
-    fn most(&self) -> u64 {
-        self.most()
     }
 
     fn thunk(&self, number: u32) -> Thunk {

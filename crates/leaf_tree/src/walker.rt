@@ -14,12 +14,24 @@ pub struct LeafWalk {
 impl Walker for LeafWalk {
     ghost way = { tree_way };
 
+    #[inline(always)]
     fn wanted(&self) -> Option<u64> {
         self.walk.wanted()
     }
 
+    #[inline(always)]
     fn feed(&mut self, word: Word) {
         self.walk.feed(word);
+    }
+
+    #[inline(always)]
+    fn is_on_links(&self) -> bool {
+        self.walk.is_on_links()
+    }
+
+    #[inline(always)]
+    fn turns_aside(&self) -> bool {
+        self.walk.turns_aside()
     }
 
     fn is_refused(&self) -> bool {
@@ -28,10 +40,6 @@ impl Walker for LeafWalk {
 
     fn is_mark(&self, place: Place) -> bool {
         place % 5 == 4
-    }
-
-    fn most(&self) -> u64 {
-        self.walk.most()
     }
 
     fn thunk(&self, number: u32) -> Thunk {

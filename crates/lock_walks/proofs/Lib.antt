@@ -3,3 +3,4 @@ pub mod Following
 mod Walking
 mod Leading
 mod Planning
+mod Onward

@@ -1,13 +1,14 @@
 -- How far a runner has come on a walk.
-use Rattle.std.specs.Prelude.{◌≡◌, ℕ, ◌+◌, ◌<◌, ◌≤◌, [], ◌∷◌, ◌++◌, Bool, true, length, Some, None}
+use Rattle.std.specs.Prelude.{◌≡◌, ℕ, ◌+◌, ◌<◌, ◌≤◌, [], ◌∷◌, ◌++◌, Bool, true, false, length, Some, None}
 use Rattle.table_words.specs.declared.layout.Layout.{Layout}
 use Rattle.structure_laws.specs.Scene.{Readings}
 use Rattle.structure_laws.specs.Meaning.{Meaning}
+use Rattle.structure_laws.specs.Sections.{IsAllowed}
 use Rattle.try_lock.specs.version_words.specs.RunnerState.{RunnerState}
 use Rattle.try_lock.specs.commit_log.specs.Asked.{IsAsked}
 use Rattle.try_lock.specs.Reached.{IsReached}
-use Rattle.try_lock.specs.Plans.{IsWalk, NoneRefuses, HasWalked}
-use Rattle.lock_walks.specs.Way.{Way, fed_all, IsLedBy}
+use Rattle.try_lock.specs.Plans.{MayPlan, IsWalk, NoneRefuses, HasWalked}
+use Rattle.lock_walks.specs.Way.{Way, fed_all, IsLedBy, Leads}
 
 module _ {W : Type 0} (m : Meaning) (layout : Layout) (way : Way W) where
   -- the last of these readings, and those before it, of which none refuses; they are those of a state that the machine reaches
@@ -46,3 +47,38 @@ module _ {W T : Type 0} (m : Meaning) (layout : Layout) (way : Way W) where
     pub ends : going ≡ true → way.wants walk' ≡ None
     pub reached : IsReached m new
     pub asked : IsAsked (length readings) going halts halts' asks asks' steps steps'
+
+-- where a walk began: with which walker and runner, at how many halts and asks of the gate, and at how many steps
+pub record Start (W T : Type 0) : Type 0 where
+  pub walk : W
+  pub runner : RunnerState T
+  pub halts : ℕ
+  pub asks : ℕ
+  pub steps : ℕ
+
+module _ {W T : Type 0} (m : Meaning) (layout : Layout) (way : Way W) where
+  -- the walk that began there has come this far: a walk that leads a plan, from a runner that may plan
+  pub record IsOnWay (start : Start W T) (walk : W) (place word : ℕ) (runner : RunnerState T) (halts asks steps : ℕ) : Type 0 where
+    pub allowed : IsAllowed (way.op start.walk)
+    pub leads : Leads way m layout start.walk
+    pub entered : MayPlan start.runner
+    pub made : ℕ
+    pub along : IsAlong m layout way made start.walk walk place word start.runner runner start.halts halts start.asks asks start.steps steps
+
+  -- it has come to its end, or to a reading behind which the gate halted
+  abbrev pub IsThrough : Start W T → W → ℕ → ℕ → Bool → RunnerState T → ℕ → ℕ → ℕ → Type 0
+  IsThrough start walk place word going runner halts asks steps =
+      HasLed m layout way start.walk walk place word going start.runner runner start.halts halts start.asks asks start.steps steps
+
+  -- wherever it began, it comes from here to there, or the gate halts there
+  pub record GoesOn (walk walk' : W) (place word place' word' : ℕ) (going : Bool) (runner runner' : RunnerState T) (halts halts' asks asks' steps steps' : ℕ) : Type 0 where
+    pub on : (start : Start W T) → IsOnWay start walk place word runner halts asks steps → going ≡ true
+        → IsOnWay start walk' place' word' runner' halts' asks' steps'
+    pub cut : (start : Start W T) → IsOnWay start walk place word runner halts asks steps → going ≡ false
+        → IsThrough start walk' place' word' false runner' halts' asks' steps'
+
+  -- wherever it began, it comes from here to its end, or the gate halts before
+  abbrev pub GoesThrough : (walk walk' : W) (place word place' word' : ℕ) (going : Bool) (runner runner' : RunnerState T) (halts halts' asks asks' steps steps' : ℕ) → Type 0
+  GoesThrough walk walk' place word place' word' going runner runner' halts halts' asks asks' steps steps' =
+      (start : Start W T) → IsOnWay start walk place word runner halts asks steps
+      → IsThrough start walk' place' word' going runner' halts' asks' steps'

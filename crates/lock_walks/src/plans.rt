@@ -1,5 +1,5 @@
 //! The loads of a plan, and its answer.
-ghost use Rattle.std.specs.Prelude.{◌≡◌, ◌+◌, ℕ, true, is_some, Some};
+ghost use Rattle.std.specs.Prelude.{◌≡◌, ◌+◌, ◌<◌, ℕ, true, is_some, Some};
 ghost use Rattle.map_history.specs.declared.op.Op.{Op};
 ghost use Rattle.table_words.specs.Limits.{IsWithinLimits};
 ghost use Rattle.structure_laws.specs.Scene.{Readings};
@@ -8,7 +8,7 @@ ghost use Rattle.structure_laws.specs.Sections.{IsAllowed};
 ghost use Rattle.try_lock.specs.version_words.specs.TableState.{IsOf};
 ghost use Rattle.try_lock.specs.Plans.{MayPlan, HasPlanned, refused_at};
 ghost use Rattle.lock_walks.specs.Way.{Leads};
-ghost use Rattle.lock_walks.specs.Led.{HasLed};
+ghost use Rattle.lock_walks.specs.Led.{HasLed, Start, IsOnWay, GoesOn, GoesThrough};
 
 use crate::walker::Walker;
 use map_history::Request;
@@ -17,49 +17,216 @@ use runner_parts::Structure;
 use section_body::{Gate, Place, StepKind, Steps, Word};
 use table_words::Layout;
 use try_lock::Planned;
-use try_lock::commit_log::passes;
+use try_lock::commit_log::{Unasked, passes, tell};
 use try_lock::version_words::{FlockTable, Runner, table_is_allowed};
 
-/// Loads what the walker wants, until it wants nothing more or the gate halts, which is asked after each load. Gives the walker, the last
-/// place with its word, and whether the gate let the runner go on.
-fn walk_on<S: Structure, W: Walker, G: Gate, L>(
+/// Makes the load that the walker wants, if it wants one, and goes on by the word; the gate is asked behind it. Gives the last place with its
+/// word, and whether the gate let the runner go on.
+#[inline(always)]
+fn load_next<S: Structure, W: Walker, G: Gate, L>(
     table: &FlockTable<S>,
     runner: Runner<S>,
-    walker: W,
+    walker: &mut W,
+    place: Place,
+    word: Word,
     gate: &mut G,
     steps: &mut Steps<L>,
-) -> (Runner<S>, W, Place, Word, bool)
+) -> (Runner<S>, Place, Word, bool)
     requires own { IsOf table.now runner }
-    requires entered { MayPlan runner }
-    requires allowed { IsAllowed (W.way.op walker) }
-    requires leads { Leads W.way (S.meaning table.now.structure) table.now.layout walker }
+    requires on_way { (start : Start W S) × IsOnWay (S.meaning table.now.structure) table.now.layout W.way start walker.old place word runner
+        (G.halts gate.old) (G.asks gate.old) steps.old.count }
     ensures own { IsOf table.now result.0 }
-    ensures led { HasLed (S.meaning table.now.structure) table.now.layout W.way walker result.1 result.2 result.3 result.4
+    ensures goes { GoesOn (S.meaning table.now.structure) table.now.layout W.way walker.old walker.new place word result.1 result.2 result.3
+        runner result.0
+        (G.halts gate.old) (G.halts gate.new) (G.asks gate.old) (G.asks gate.new) steps.old.count steps.new.count }
+    ensures nearer { is_some (W.way.wants walker.old) ≡ true → W.way.left walker.new < W.way.left walker.old }
+{
+    table_is_allowed(table);
+    walks_stand(table.structure());
+    let Some(wanted) = walker.wanted() else {
+        return (runner, place, word, true);
+    };
+    let wanted = wanted as Place;
+    let (runner, found) = table.load_cell(runner, wanted);
+    walker.feed(found);
+    let going = passes(gate, steps, StepKind::Walk);
+    (runner, wanted, found, going)
+}
+
+/// Makes the loads by which a walk comes past a node: two, and a third where the walker turns aside.
+#[inline(always)]
+fn pass_node<S: Structure, W: Walker, G: Gate, L>(
+    table: &FlockTable<S>,
+    runner: Runner<S>,
+    walker: &mut W,
+    place: Place,
+    word: Word,
+    gate: &mut G,
+    steps: &mut Steps<L>,
+) -> (Runner<S>, Place, Word, bool)
+    requires own { IsOf table.now runner }
+    requires on_way { (start : Start W S) × IsOnWay (S.meaning table.now.structure) table.now.layout W.way start walker.old place word runner
+        (G.halts gate.old) (G.asks gate.old) steps.old.count }
+    ensures own { IsOf table.now result.0 }
+    ensures goes { GoesOn (S.meaning table.now.structure) table.now.layout W.way walker.old walker.new place word result.1 result.2 result.3
+        runner result.0
+        (G.halts gate.old) (G.halts gate.new) (G.asks gate.old) (G.asks gate.new) steps.old.count steps.new.count }
+{
+    let (runner, place, word, going) = load_next(table, runner, walker, place, word, gate, steps);
+    if !going {
+        return (runner, place, word, false);
+    }
+    let (runner, place, word, going) = load_next(table, runner, walker, place, word, gate, steps);
+    if !going {
+        return (runner, place, word, false);
+    }
+    if !walker.turns_aside() {
+        return (runner, place, word, true);
+    }
+    load_next(table, runner, walker, place, word, gate, steps)
+}
+
+/// Goes past nodes as long as the walker is on links.
+#[inline(always)]
+fn pass_nodes<S: Structure, W: Walker, G: Gate, L>(
+    table: &FlockTable<S>,
+    runner: Runner<S>,
+    walker: &mut W,
+    place: Place,
+    word: Word,
+    gate: &mut G,
+    steps: &mut Steps<L>,
+) -> (Runner<S>, Place, Word, bool)
+    requires own { IsOf table.now runner }
+    requires on_way { (start : Start W S) × IsOnWay (S.meaning table.now.structure) table.now.layout W.way start walker.old place word runner
+        (G.halts gate.old) (G.asks gate.old) steps.old.count }
+    ensures own { IsOf table.now result.0 }
+    ensures goes { GoesOn (S.meaning table.now.structure) table.now.layout W.way walker.old walker.new place word result.1 result.2 result.3
+        runner result.0
+        (G.halts gate.old) (G.halts gate.new) (G.asks gate.old) (G.asks gate.new) steps.old.count steps.new.count }
+{
+    let mut runner = runner;
+    let mut place = place;
+    let mut word = word;
+    for _passed in 0..u64::MAX {
+        if !walker.is_on_links() {
+            return (runner, place, word, true);
+        }
+        let (loaded, at, found, going) = pass_node(table, runner, walker, place, word, gate, steps);
+        runner = loaded;
+        place = at;
+        word = found;
+        if !going {
+            return (runner, place, word, false);
+        }
+    }
+    (runner, place, word, true)
+}
+
+/// Makes the loads that are left, until the walker wants nothing more or the gate halts.
+#[inline(always)]
+fn end_walk<S: Structure, W: Walker, G: Gate, L>(
+    table: &FlockTable<S>,
+    runner: Runner<S>,
+    walker: &mut W,
+    place: Place,
+    word: Word,
+    gate: &mut G,
+    steps: &mut Steps<L>,
+) -> (Runner<S>, Place, Word, bool)
+    requires own { IsOf table.now runner }
+    requires on_way { (start : Start W S) × IsOnWay (S.meaning table.now.structure) table.now.layout W.way start walker.old place word runner
+        (G.halts gate.old) (G.asks gate.old) steps.old.count }
+    ensures own { IsOf table.now result.0 }
+    ensures led { GoesThrough (S.meaning table.now.structure) table.now.layout W.way walker.old walker.new place word result.1 result.2 result.3
         runner result.0
         (G.halts gate.old) (G.halts gate.new) (G.asks gate.old) (G.asks gate.new) steps.old.count steps.new.count }
 {
     table_is_allowed(table);
     walks_stand(table.structure());
-    let most = walker.most();
     let mut runner = runner;
-    let mut walker = walker;
-    let mut place = 0;
-    let mut word = Word::from_bits(0);
-    for _made in 0..most {
-        let Some(wanted) = walker.wanted() else {
-            return (runner, walker, place, word, true);
+    let mut place = place;
+    let mut word = word;
+    for _made in 0..u64::MAX {
+        let Some(_wanted) = walker.wanted() else {
+            return (runner, place, word, true);
         };
-        let wanted = wanted as Place;
-        let (loaded, found) = table.load_cell(runner, wanted);
+        let (loaded, at, found, going) = load_next(table, runner, walker, place, word, gate, steps);
         runner = loaded;
-        place = wanted;
+        place = at;
         word = found;
-        walker.feed(found);
-        if !passes(gate, steps, StepKind::Walk) {
-            return (runner, walker, place, word, false);
+        if !going {
+            return (runner, place, word, false);
         }
     }
-    (runner, walker, place, word, true)
+    (runner, place, word, true)
+}
+
+/// Loads what the walker wants, until it wants nothing more or the gate halts, which is asked after each load. Gives the last place with its
+/// word, and whether the gate let the runner go on.
+#[inline(always)]
+fn walk_on<S: Structure, W: Walker, G: Gate, L>(
+    table: &FlockTable<S>,
+    runner: Runner<S>,
+    walker: &mut W,
+    gate: &mut G,
+    steps: &mut Steps<L>,
+) -> (Runner<S>, Place, Word, bool)
+    requires own { IsOf table.now runner }
+    requires entered { MayPlan runner }
+    requires allowed { IsAllowed (W.way.op walker.old) }
+    requires leads { Leads W.way (S.meaning table.now.structure) table.now.layout walker.old }
+    ensures own { IsOf table.now result.0 }
+    ensures led { HasLed (S.meaning table.now.structure) table.now.layout W.way walker.old walker.new result.1 result.2 result.3
+        runner result.0
+        (G.halts gate.old) (G.halts gate.new) (G.asks gate.old) (G.asks gate.new) steps.old.count steps.new.count }
+{
+    table_is_allowed(table);
+    walks_stand(table.structure());
+    let (runner, place, word, going) = load_next(
+        table,
+        runner,
+        walker,
+        0,
+        Word::from_bits(0),
+        gate,
+        steps,
+    );
+    if !going {
+        return (runner, place, word, false);
+    }
+    let (runner, place, word, going) = pass_nodes(table, runner, walker, place, word, gate, steps);
+    if !going {
+        return (runner, place, word, false);
+    }
+    end_walk(table, runner, walker, place, word, gate, steps)
+}
+
+/// Leads the runner on its walk, as `walk_on` does. The asks of a gate that never halts are counted apart, and it is told them in the end.
+#[inline(always)]
+fn lead<S: Structure, W: Walker, G: Gate, L>(
+    table: &FlockTable<S>,
+    runner: Runner<S>,
+    walker: &mut W,
+    gate: &mut G,
+    steps: &mut Steps<L>,
+) -> (Runner<S>, Place, Word, bool)
+    requires own { IsOf table.now runner }
+    requires entered { MayPlan runner }
+    requires allowed { IsAllowed (W.way.op walker.old) }
+    requires leads { Leads W.way (S.meaning table.now.structure) table.now.layout walker.old }
+    ensures own { IsOf table.now result.0 }
+    ensures led { HasLed (S.meaning table.now.structure) table.now.layout W.way walker.old walker.new result.1 result.2 result.3
+        runner result.0
+        (G.halts gate.old) (G.halts gate.new) (G.asks gate.old) (G.asks gate.new) steps.old.count steps.new.count }
+{
+    if !gate.is_free() {
+        return walk_on(table, runner, walker, gate, steps);
+    }
+    let mut made = Steps::<L>::new();
+    let led = walk_on(table, runner, walker, &mut Unasked, &mut made);
+    tell(gate, steps, &made);
+    led
 }
 
 /// How many node slots there are.
@@ -128,7 +295,8 @@ pub fn plan_by<S: Structure, W: Walker, G: Gate, L>(
         (G.halts gate.old) (G.halts gate.new) (G.asks gate.old) (G.asks gate.new) steps.old.count steps.new.count }
 {
     table_is_allowed(table);
-    let (runner, walker, place, word, going) = walk_on(table, runner, walker, gate, steps);
+    let mut walker = walker;
+    let (runner, place, word, going) = lead(table, runner, &mut walker, gate, steps);
     if !going {
         return (runner, Planned::Halted);
     }

@@ -1,5 +1,5 @@
 //! What a structure gives for a walk.
-ghost use Rattle.std.specs.Prelude.{◌≡◌, ◌<◌, ◌^◌};
+ghost use Rattle.std.specs.Prelude.{◌≡◌};
 ghost use Rattle.lock_walks.specs.Way.{Way};
 ghost use Rattle.lock_walks.specs.Followed.{is_next, followed};
 
@@ -17,6 +17,17 @@ pub trait Walker: Drop {
     fn feed(&mut self, word: Word)
         ensures { self.new ≡ way.fed self.old word };
 
+    /// Whether it follows links: then its next two loads are made in one turn, and a third where it `turns_aside` behind them. This serves
+    /// speed alone; a walk is the same whatever is answered.
+    fn is_on_links(&self) -> bool {
+        false
+    }
+
+    /// Whether it makes a third load at this node.
+    fn turns_aside(&self) -> bool {
+        false
+    }
+
     /// Whether it was refused.
     fn is_refused(&self) -> bool
         ensures { result ≡ way.refused self.now };
@@ -24,11 +35,6 @@ pub trait Walker: Drop {
     /// Whether this place is a mark of its structure.
     fn is_mark(&self, place: Place) -> bool
         ensures { result ≡ (way.planning self.now).is_mark place };
-
-    /// How many loads are left at most.
-    fn most(&self) -> u64
-        requires few { way.left self.now < 2 ^ 64 }
-        ensures { result ≡ way.left self.now };
 
     /// The thunk for the request with this number, once the walk is whole.
     fn thunk(&self, number: u32) -> Thunk

@@ -1,8 +1,8 @@
 //! The walk of a key from the root to a leaf.
-ghost use Rattle.std.specs.Prelude.{◌≡◌, ◌<◌, ◌≤◌, ◌^◌, ◌==◌, cond};
+ghost use Rattle.std.specs.Prelude.{◌≡◌, ◌<◌, ◌≤◌, ◌==◌, cond};
 ghost use Rattle.section_body.specs.Word.{value_of};
-ghost use Rattle.tree_laws.specs.Walk.{AtRoot, AtKey, Refused, after_link, after_leaf, followed, is_ready};
-ghost use Rattle.tree_walks.specs.Walking.{stage_of, is_refused_of, begun, fed_by, wanted_by, left_by};
+ghost use Rattle.tree_laws.specs.Walk.{AtRoot, AtLeft, AtKey, Refused, after_link, after_leaf, followed, is_ready};
+ghost use Rattle.tree_walks.specs.Walking.{stage_of, is_refused_of, begun, fed_by, wanted_by};
 
 use crate::stage::{Link, Stage, cell};
 use map_history::Op;
@@ -13,7 +13,9 @@ use std::marker::Model;
 #[derive(Drop)]
 pub struct TreeWalk {
     pub(crate) limit: u128,
-    pub(crate) links: u128,
+    pub(crate) near: u64,
+    pub(crate) links: u64,
+    pub(crate) beyond: u128,
     pub(crate) version_max: u32,
     pub(crate) op: Op,
     pub(crate) stage: Stage,
@@ -31,7 +33,7 @@ pub struct TreeWalk {
 }
 
 impl Model for TreeWalk {
-    ghost use Rattle.std.specs.Prelude.{◌≤◌};
+    ghost use Rattle.std.specs.Prelude.{◌≡◌, ◌+◌, ◌-◌, ◌<◌, ◌≤◌};
     ghost use Rattle.tree_walks.specs.Walking.{Walking, HasRoom, stage_of, step_of};
 
     ghost Value = { Walking };
@@ -41,7 +43,7 @@ impl Model for TreeWalk {
       op = a.op;
       walk = record {
         stage = stage_of a.stage;
-        links = a.links;
+        links = a.links + a.beyond;
         deep = a.deep;
         grand = step_of a.grand;
         last = step_of a.last;
@@ -56,7 +58,8 @@ impl Model for TreeWalk {
       };
     } };
 
-    ghost invariant = { λ a. (a.limit ≤ 73786976294838206464) × HasRoom (stage_of a.stage) a.links a.limit };
+    ghost invariant = { λ a. (a.limit ≤ 73786976294838206464) × (a.near ≤ a.limit - 1) × (a.links < a.near → a.beyond ≡ 0)
+        × (a.beyond ≤ 73786976294838206464) × HasRoom (stage_of a.stage) (a.links + a.beyond) a.limit };
 }
 
 impl TreeWalk {
@@ -68,7 +71,9 @@ impl TreeWalk {
     {
         TreeWalk {
             limit,
+            near: u64::try_from(limit.saturating_sub(1)).unwrap_or(0),
             links: 0,
+            beyond: 0,
             version_max,
             op,
             stage: Stage::Root,
@@ -87,6 +92,7 @@ impl TreeWalk {
     }
 
     /// The place that the walk loads next; None where it is at its end or was refused.
+    #[inline(always)]
     pub fn wanted(&self) -> Option<u64>
         ensures { result ≡ wanted_by self.now }
     {
@@ -104,6 +110,7 @@ impl TreeWalk {
     }
 
     /// Goes on by the word that stood at the place that the walk wanted.
+    #[inline(always)]
     pub fn feed(&mut self, word: Word)
         ensures { self.new ≡ fed_by self.old word }
     {
@@ -140,16 +147,19 @@ impl TreeWalk {
     }
 
     /// Goes on by the root's left link.
+    #[inline(always)]
     fn feed_root(&mut self, word: Word)
         requires { self.old.walk.stage ≡ AtRoot }
         ensures { self.new ≡ fed_by self.old word }
     {
         self.stage = self.past_link(1, word);
         self.links = 1;
+        self.beyond = 0;
         self.last = Link::first(word);
     }
 
     /// Goes on by the last node's key: at a leaf the walk along links ends, of an inner node the link on the key's side is followed.
+    #[inline(always)]
     fn feed_key(&mut self, key: u32)
         requires { self.old.walk.stage ≡ AtKey }
         ensures { self.new ≡ fed_by self.old key }
@@ -167,15 +177,24 @@ impl TreeWalk {
     }
 
     /// Follows this link of the last node.
+    #[inline(always)]
     fn step_down(&mut self, left: bool, word: Word)
         requires { self.old.walk.links < self.old.bounds.links }
         ensures { self.new ≡ record self.old { walk = followed self.old.bounds self.old.walk left word } }
     {
-        let links = self.links + 1;
-        self.stage = self.past_link(links, word);
-        self.links = links;
+        if self.links < self.near {
+            self.stage = past_near_link(word);
+            self.links += 1;
+        } else {
+            self.stage = self.past_link(u128::from(self.links) + self.beyond + 1, word);
+            self.beyond += 1;
+        }
         self.deep = true;
-        self.grand = self.last;
+        self.grand = Link {
+            from: self.last.from,
+            left: self.last.left,
+            word: self.last.word,
+        };
         self.last = Link {
             from: self.last.to(),
             left,
@@ -184,6 +203,7 @@ impl TreeWalk {
     }
 
     /// What comes after a link, where so many have been loaded.
+    #[inline(always)]
     fn past_link(&self, links: u128, word: Word) -> Stage
         ensures { stage_of result ≡ after_link self.now.bounds links word }
     {
@@ -196,6 +216,7 @@ impl TreeWalk {
 
     /// What comes after a leaf's key: its value, where it is the operation's key and the leaf stays; or the locks. A removal needs a parent
     /// of the parent.
+    #[inline(always)]
     fn past_leaf(&self) -> Stage
         ensures { stage_of result ≡ after_leaf self.now.op self.now.walk.deep self.now.walk.found }
     {
@@ -208,6 +229,7 @@ impl TreeWalk {
     }
 
     /// What comes after a lock: the walk goes on where it is free and not spent.
+    #[inline(always)]
     fn past_lock(&self, word: Word, next: Stage) -> Stage
         ensures { stage_of result ≡ cond (is_ready self.now.bounds word) (stage_of next) Refused }
     {
@@ -217,6 +239,18 @@ impl TreeWalk {
         } else {
             Stage::Refused
         }
+    }
+
+    /// Whether it loads a node's left link next, and the node's key then.
+    #[inline(always)]
+    pub fn is_on_links(&self) -> bool {
+        self.stage == Stage::Left
+    }
+
+    /// Whether it loads the last node's right link next.
+    #[inline(always)]
+    pub fn turns_aside(&self) -> bool {
+        self.stage == Stage::Right
     }
 
     /// Whether the walk was refused.
@@ -229,26 +263,6 @@ impl TreeWalk {
             _ => false,
         }
     }
-
-    /// How many loads are left at most.
-    pub fn most(&self) -> u64
-        requires { left_by self.now < 2 ^ 64 }
-        ensures { result ≡ left_by self.now }
-    {
-        let left = self.limit.saturating_sub(self.links);
-        let most = match self.stage {
-            Stage::Root => 3 * self.limit + 4,
-            Stage::Left => 3 * left + 6,
-            Stage::Key => 3 * left + 5,
-            Stage::Right => 3 * left + 4,
-            Stage::GrandLock => 4,
-            Stage::Value | Stage::GrandMark => 3,
-            Stage::Lock => 2,
-            Stage::Mark => 1,
-            Stage::End | Stage::Refused => 0,
-        };
-        most as u64
-    }
 }
 
 /// What comes after a mark: the walk goes on where it is 0.
@@ -259,5 +273,17 @@ fn past_mark(word: Word, next: Stage) -> Stage
         next
     } else {
         Stage::Refused
+    }
+}
+
+/// What comes after a link with fewer links behind than the limit.
+#[inline(always)]
+fn past_near_link(word: Word) -> Stage
+    ensures { stage_of result ≡ cond (value_of word == 0) Refused AtLeft }
+{
+    if word.value() == 0 {
+        Stage::Refused
+    } else {
+        Stage::Left
     }
 }

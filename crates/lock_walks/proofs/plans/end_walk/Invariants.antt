@@ -1,0 +1,12 @@
+use Rattle.std.specs.Prelude.{true, ◌+◌, ◌<◌, ◌^◌}
+use Rattle.try_lock.specs.version_words.specs.TableState.{IsOf}
+use Rattle.lock_walks.specs.Led.{GoesOn}
+use Rattle.lock_walks.proofs.plans.end_walk.Given as goal
+
+abbrev pub invariant-loop-made : goal.invariant-loop-made
+invariant-loop-made g l = record {
+  own : IsOf l.table l.runner;
+  goes : GoesOn (g.S.Structure.meaning l.table.structure) l.table.layout g.W.Walker.way l.fn.walker l.walker l.fn.place l.fn.word l.place l.word true l.fn.runner l.runner
+      (g.G.Gate.halts l.fn.gate) (g.G.Gate.halts l.gate) (g.G.Gate.asks l.fn.gate) (g.G.Gate.asks l.gate) l.fn.steps.count l.steps.count;
+  few : g.W.Walker.way.left l.walker + l._made < 2 ^ 64;
+}
