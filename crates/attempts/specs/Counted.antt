@@ -1,7 +1,7 @@
 -- How often a gate was asked, and how many steps were counted.
 use Rattle.std.specs.Prelude.{◌≡◌, ℕ, ◌+◌, ◌≤◌, Bool, true, false}
 use Rattle.fault_count.specs.Rose.{Rose}
-use Rattle.lock_walks.specs.commit_log.specs.Asked.{counted_on}
+use Rattle.section_body.specs.Counted.{counted_on}
 
 -- so many steps were counted, and a gate was asked after each and so many times more. It let the runner go on
 -- each time, or halted it at

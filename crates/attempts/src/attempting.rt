@@ -29,10 +29,14 @@ pub fn plan_and_try<S: Planner, G: Gate, L>(
     steps: &mut Steps<L>,
 ) -> (Runner<S>, Attempt)
     requires own { IsOf table.now runner }
-    requires entered { (old : RunnerState S) × HasEntered (S.meaning table.now.structure) (S.planning table.now.structure) request.now old runner }
+    requires entered { (old : RunnerState S)
+        × HasEntered (S.meaning table.now.structure) (S.planning table.now.structure) request.now old runner }
     ensures own { IsOf table.now result.0 }
-    ensures rests { (old : RunnerState S) → HasEntered (S.meaning table.now.structure) (S.planning table.now.structure) request.now old runner
-        → Rests (S.meaning table.now.structure) (S.planning table.now.structure) request.now false (most_of_attempt (slots (S.meaning table.now.structure) table.now.layout)) result.1 old runner result.0 (G.halts gate.old) (G.halts gate.new) (G.asks gate.old) (G.asks gate.new) steps.old.count steps.new.count }
+    ensures rests { (old : RunnerState S)
+        → HasEntered (S.meaning table.now.structure) (S.planning table.now.structure) request.now old runner
+        → Rests (S.meaning table.now.structure) (S.planning table.now.structure) request.now false
+        (most_of_attempt (slots (S.meaning table.now.structure) table.now.layout)) result.1 old runner result.0
+        (G.halts gate.old) (G.halts gate.new) (G.asks gate.old) (G.asks gate.new) steps.old.count steps.new.count }
 {
     table_is_allowed(table);
     let (runner, planned) = table.structure().plan(table, runner, request, gate, steps);
@@ -77,7 +81,9 @@ pub fn attempt<S: Planner, G: Gate, L>(
     requires own { IsOf table.now runner }
     requires next { MayAttempt (S.planning table.now.structure) request.now runner }
     ensures own { IsOf table.now result.0 }
-    ensures attempts { Attempts (S.meaning table.now.structure) (S.planning table.now.structure) request.now result.1 runner result.0 (G.halts gate.old) (G.halts gate.new) (G.asks gate.old) (G.asks gate.new) steps.old.count steps.new.count }
+    ensures attempts { Attempts (S.meaning table.now.structure) (S.planning table.now.structure)
+        request.now result.1 runner result.0
+        (G.halts gate.old) (G.halts gate.new) (G.asks gate.old) (G.asks gate.new) steps.old.count steps.new.count }
 {
     table_is_allowed(table);
     let runner = collect(table, runner);

@@ -31,10 +31,16 @@ pub fn conclude<S: Planner, G: Gate, L>(
     steps: &mut Steps<L>,
 ) -> (Runner<S>, Attempt)
     requires own { IsOf table.now runner }
-    requires ended { (old : RunnerState S) × (thunk : Thunk) × (trail : Agreed) × HasEnded (S.meaning table.now.structure) (S.planning table.now.structure) request.now section thunk outcome trail old runner }
+    requires ended { (old : RunnerState S) × (thunk : Thunk) × (trail : Agreed)
+        × HasEnded (S.meaning table.now.structure) (S.planning table.now.structure)
+        request.now section thunk outcome trail old runner }
     ensures own { IsOf table.now result.0 }
-    ensures rests { (old : RunnerState S) (thunk : Thunk) (trail : Agreed) → HasEnded (S.meaning table.now.structure) (S.planning table.now.structure) request.now section thunk outcome trail old runner
-        → Rests (S.meaning table.now.structure) (S.planning table.now.structure) request.now true 0 result.1 old runner result.0 (G.halts gate.old) (G.halts gate.new) (G.asks gate.old) (G.asks gate.new) steps.old.count steps.new.count }
+    ensures rests { (old : RunnerState S) (thunk : Thunk) (trail : Agreed)
+        → HasEnded (S.meaning table.now.structure) (S.planning table.now.structure)
+        request.now section thunk outcome trail old runner
+        → Rests (S.meaning table.now.structure) (S.planning table.now.structure)
+        request.now true 0 result.1 old runner result.0
+        (G.halts gate.old) (G.halts gate.new) (G.asks gate.old) (G.asks gate.new) steps.old.count steps.new.count }
 {
     table_is_allowed(table);
     let runner = retire_section(table, runner, section);
@@ -55,10 +61,16 @@ pub fn run_own<S: Planner, G: Gate, L>(
     steps: &mut Steps<L>,
 ) -> (Runner<S>, Attempt)
     requires own { IsOf table.now runner }
-    requires tried { (old : RunnerState S) × (thunk : Thunk) × HasTried (S.meaning table.now.structure) (S.planning table.now.structure) request.now thunk (Ok section) old runner }
+    requires tried { (old : RunnerState S) × (thunk : Thunk)
+        × HasTried (S.meaning table.now.structure) (S.planning table.now.structure)
+        request.now thunk (Ok section) old runner }
     ensures own { IsOf table.now result.0 }
-    ensures rests { (old : RunnerState S) (thunk : Thunk) → HasTried (S.meaning table.now.structure) (S.planning table.now.structure) request.now thunk (Ok section) old runner
-        → Rests (S.meaning table.now.structure) (S.planning table.now.structure) request.now false most_of_run result.1 old runner result.0 (G.halts gate.old) (G.halts gate.new) (G.asks gate.old) (G.asks gate.new) steps.old.count steps.new.count }
+    ensures rests { (old : RunnerState S) (thunk : Thunk)
+        → HasTried (S.meaning table.now.structure) (S.planning table.now.structure)
+        request.now thunk (Ok section) old runner
+        → Rests (S.meaning table.now.structure) (S.planning table.now.structure)
+        request.now false most_of_run result.1 old runner result.0
+        (G.halts gate.old) (G.halts gate.new) (G.asks gate.old) (G.asks gate.new) steps.old.count steps.new.count }
 {
     table_is_allowed(table);
     if !goes_on(gate, StepKind::Hold) {

@@ -29,10 +29,16 @@ pub fn try_section<S: Planner, G: Gate, L>(
     steps: &mut Steps<L>,
 ) -> (Runner<S>, Attempt)
     requires own { IsOf table.now runner }
-    requires planned { (old : RunnerState S) × (readings : Readings) × HasPlanned (S.meaning table.now.structure) (S.planning table.now.structure) request.now readings (plans.Thunk thunk.now) old runner }
+    requires planned { (old : RunnerState S) × (readings : Readings)
+        × HasPlanned (S.meaning table.now.structure) (S.planning table.now.structure)
+        request.now readings (plans.Thunk thunk.now) old runner }
     ensures own { IsOf table.now result.0 }
-    ensures rests { (old : RunnerState S) (readings : Readings) → HasPlanned (S.meaning table.now.structure) (S.planning table.now.structure) request.now readings (plans.Thunk thunk.now) old runner
-        → Rests (S.meaning table.now.structure) (S.planning table.now.structure) request.now false most_of_run result.1 old runner result.0 (G.halts gate.old) (G.halts gate.new) (G.asks gate.old) (G.asks gate.new) steps.old.count steps.new.count }
+    ensures rests { (old : RunnerState S) (readings : Readings)
+        → HasPlanned (S.meaning table.now.structure) (S.planning table.now.structure)
+        request.now readings (plans.Thunk thunk.now) old runner
+        → Rests (S.meaning table.now.structure) (S.planning table.now.structure)
+        request.now false most_of_run result.1 old runner result.0
+        (G.halts gate.old) (G.halts gate.new) (G.asks gate.old) (G.asks gate.new) steps.old.count steps.new.count }
 {
     table_is_allowed(table);
     let (runner, published) = publish(table, runner, thunk);

@@ -30,7 +30,8 @@ pub fn turn_away<S: Structure, G: Gate, L>(
     requires refusal { is_refusal answer ≡ true }
     requires next { MayLeave (S.meaning table.now.structure) answer runner }
     ensures own { IsOf table.now result.0 }
-    ensures turned { HasTurned (S.meaning table.now.structure) answer result.1 runner result.0 (G.halts gate.old) (G.halts gate.new) (G.asks gate.old) (G.asks gate.new) steps.old.count steps.new.count }
+    ensures turned { HasTurned (S.meaning table.now.structure) answer result.1 runner result.0
+        (G.halts gate.old) (G.halts gate.new) (G.asks gate.old) (G.asks gate.new) steps.old.count steps.new.count }
 {
     table_is_allowed(table);
     names_stand(table.structure());
