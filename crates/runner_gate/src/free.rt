@@ -45,7 +45,9 @@ impl Gate for Free {
     }
 
     #[inline(always)]
-    fn is_free(&self) -> bool {
+    fn is_free(&self) -> bool
+        ensures { result ≡ true }
+    {
         true
     }
 

@@ -2,6 +2,7 @@
 ghost use Rattle.std.specs.Prelude.{◌≡◌, ◌≤◌, ◌+◌, ℕ, List, Option, cond, min, true};
 ghost use Rattle.std.specs.Option.{is_none};
 ghost use Rattle.fault_count.specs.Rose.{Rose};
+ghost use Rattle.section_body.specs.Counted.{counted_on};
 ghost use Rattle.section_body.specs.declared.gate.Pass.TheVariants.{Go, Halt};
 ghost use Rattle.runner_gate.specs.Counts.{plus, halts_after, plans_after, planned_after, none_counted};
 ghost use Rattle.runner_gate.specs.Planned.{unasked, halts_next, asked};
@@ -72,13 +73,17 @@ impl Gate for HaltAt {
     }
 
     #[inline(always)]
-    fn is_free(&self) -> bool {
+    fn is_free(&self) -> bool
+        ensures { result ≡ is_none self.now.at }
+    {
         self.at.is_none()
     }
 
     #[inline(always)]
     #[tactic(auto, using(section_body::proofs::CountedLemmas::counts))]
-    fn count(&mut self, more: u64) {
+    fn count(&mut self, more: u64)
+        ensures { self.new ≡ record self.old { asks = counted_on self.old.asks more } }
+    {
         self.asks = self.asks.saturating_add(more);
     }
 }
