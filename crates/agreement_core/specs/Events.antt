@@ -81,7 +81,8 @@ finished_of s q = record { lock = s.lock; word = s.word; descriptor = q.descript
 -- the state after an event
 abbrev pub after : AgreementState → Event → AgreementState
 after w (Publish d lock word request code slot) = record (with_cell w lock (held_word d word)) {
-  section = upd w.section d (record (w.section d) { lock = lock; word = word; request = request; code = code; slot = slot; edge = 0 });
+  section = upd w.section d
+      (record (w.section d) { lock = lock; word = word; request = request; code = code; slot = slot; edge = 0 });
   used = upd w.used d true;
   live = upd w.live d true;
   over = upd w.over d false;
@@ -127,7 +128,8 @@ after w (ClockRaise r) = record (goes_on w r ((w.run r).word)) {
   shared = record (w.shared) { clock = max w.shared.clock ((w.run r).word / 2) };
 }
 after w (ExchangeCell r place log value) = let q = w.run r in
-    with_cell (goes_on w r q.word) place (exchanged (w.shared.cells place) (q.trail log) (stored_word q.trail log value))
+    with_cell (goes_on w r q.word) place
+    (exchanged (w.shared.cells place) (q.trail log) (stored_word q.trail log value))
 after w (EpochForRetire r slot log epoch) = goes_on w r epoch
 after w (RetireCommit r slot log) = agrees w r log (suc slot)
 after w (ReplyExchange r reply) = let request = (section_of w r).request in

@@ -130,7 +130,8 @@ pub record HasLeft (s : Section) : Type 0 where
 -- each effect of a section that answered came once
 pub record HappenedOnce (w : AgreementState) (h : History) (d : ℕ) : Type 0 where
   pub moved : (i place k : ℕ) (value : Source) → (w.section d).code i ≡ micros.ExchangeCell place k value
-      → h.moved (h.section d) i ≡ record { place = place; old = (w.section d).log k; new = stored_word ((w.section d).log) k value } ∷ []
+      → h.moved (h.section d) i
+      ≡ record { place = place; old = (w.section d).log k; new = stored_word ((w.section d).log) k value } ∷ []
   pub stamp : h.stamps (w.section d).request ≡ w.shared.stamp (w.section d).request ∷ []
   pub reply : h.replies (w.section d).request ≡ w.shared.reply (w.section d).request ∷ []
 

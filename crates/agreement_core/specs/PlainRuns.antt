@@ -66,7 +66,8 @@ start_over s = record {
 -- begins with it; once the section is done it is the whole run's trail
 pub record FollowsPlainRun (s : Section) (body : List Step) (setting : Setting) (start : Run) : Type 0 where
   pub so_far : (ran setting start (take s.edge (line body))).trail ≡ agreed (line body) s.log s.edge
-  pub prefix : take (committed (line body) s.edge) (ran setting start (line body)).trail ≡ agreed (line body) s.log s.edge
+  pub prefix : take (committed (line body) s.edge) (ran setting start (line body)).trail
+      ≡ agreed (line body) s.log s.edge
   pub whole : s.done ≢ 0 → (ran setting start (line body)).trail ≡ agreed (line body) s.log s.edge
   -- where the section has left at a check, the whole run leaves there, with that check's outcome
   pub left : HasLeft s → (outcome : Outcome) × (leaves setting (agreed (line body) s.log s.edge)

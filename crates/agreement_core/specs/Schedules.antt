@@ -7,7 +7,8 @@ use Rattle.agreement_core.specs.Events.{Event, Enabled, after}
 
 -- a descriptor that was never published, and a runner that was in no run
 abbrev pub no_section : Section
-no_section = record { lock = 0; word = 0; request = 0; code = λ i. End; slot = λ i. 0; log = λ k. 0; done = 0; edge = 0 }
+no_section =
+    record { lock = 0; word = 0; request = 0; code = λ i. End; slot = λ i. 0; log = λ k. 0; done = 0; edge = 0 }
 
 abbrev pub no_run : Run
 no_run = record { running = false; descriptor = 0; at = 0; word = 0; count = 0; trail = λ k. 0; ended = false; released = λ p. false }

@@ -106,7 +106,8 @@ pub fn logs_follow_plain_runs()
     ensures start { (c : CellRules) (w : AgreementState) (d : ℕ) → IsSound c w → w.used d ≡ true
         → IsOver (w.section d) (start_over (w.section d)) }
     ensures follows { (c : CellRules) (w : AgreementState) (d : ℕ) (body : List Step) (fixed_cells : ℕ)
-        (first : ℕ → ℕ → ℕ) (clock : ℕ) (start : Run) → IsSound c w → w.used d ≡ true → IsOfBody (w.section d) body → IsOver (w.section d) start
+        (first : ℕ → ℕ → ℕ) (clock : ℕ) (start : Run)
+        → IsSound c w → w.used d ≡ true → IsOfBody (w.section d) body → IsOver (w.section d) start
         → FollowsPlainRun (w.section d) body (chosen c d (w.section d) fixed_cells first clock) start }
 {}
 

@@ -36,5 +36,6 @@ module _ {T : Type 0} (m : Meaning) where
     pub loaded : commits_loaded micro ≡ true
     pub told : agreed ≡ written_once found q.word
     pub won : first ≡ (found == 0)
-    pub stands : ReachedWith m new.layout new.requests new.number new.part (LogWord q.descriptor (length q.trail)) agreed
+    pub stands : ReachedWith m new.layout new.requests new.number new.part
+        (LogWord q.descriptor (length q.trail)) agreed
     pub goes_on : IsRunning m new (agrees m old.layout q agreed)

@@ -26,4 +26,5 @@ module _ {T : Type 0} (m : Meaning) where
   -- the runner made so many steps of its run, and no others
   abbrev pub Ran : ℕ → RunnerState T → RunnerState T → Type 0
   Ran zero old new = new ≡ old
-  Ran (suc n) old new = (r : RunnerState T) × (q : RunState) × (micro : Micro) × (found : ℕ) × Stepped q micro found old r × Ran n r new
+  Ran (suc n) old new = (r : RunnerState T) × (q : RunState) × (micro : Micro) × (found : ℕ)
+      × Stepped q micro found old r × Ran n r new

@@ -25,7 +25,8 @@ impl Gate for Unasked {
 #[inline(always)]
 pub fn tell<G: Gate, L>(gate: &mut G, steps: &mut Steps<L>, made: &Steps<L>)
     requires free { G.free gate.old ≡ true }
-    ensures told { (n : ℕ) (going : Bool) (asks asks' : ℕ) → IsAsked n going 0 0 asks asks' 0 made.now.count → IsAsked n going
+    ensures told { (n : ℕ) (going : Bool) (asks asks' : ℕ) → IsAsked n going 0 0 asks asks' 0 made.now.count
+        → IsAsked n going
         (G.halts gate.old) (G.halts gate.new) (G.asks gate.old) (G.asks gate.new) steps.old.count steps.new.count }
 {
     gate.count(made.count);

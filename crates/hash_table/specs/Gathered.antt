@@ -30,7 +30,9 @@ module _ (bucket : ℕ → ℕ) (n : Nodes) (on : ℕ → Bool) where
     pub seen : List ℕ
     pub are : AreSeen seen items
     pub many : made ≤ length seen
-    pub low : (t : ℕ) → IsAmong seen t → (bucket (n.key t) < i) ⊎ ((bucket (n.key t) ≡ i) × ((u : ℕ) → link ≡ suc u → rank u < rank t))
+    pub low : (t : ℕ) → IsAmong seen t
+        → (bucket (n.key t) < i) ⊎ ((bucket (n.key t) ≡ i) × ((u : ℕ) → link ≡ suc u → rank u < rank t))
     pub all : (t : ℕ) → on t ≡ true → bucket (n.key t) < i → IsAmong seen t
-    pub chain : (t : ℕ) → on t ≡ true → bucket (n.key t) ≡ i → IsAmong seen t ⊎ ((u : ℕ) × (link ≡ suc u) × (rank t ≤ rank u))
+    pub chain : (t : ℕ) → on t ≡ true → bucket (n.key t) ≡ i
+        → IsAmong seen t ⊎ ((u : ℕ) × (link ≡ suc u) × (rank t ≤ rank u))
     pub at : (u : ℕ) → link ≡ suc u → (on u ≡ true) × (bucket (n.key u) ≡ i)

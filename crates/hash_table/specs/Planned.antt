@@ -20,8 +20,11 @@ module _ (bits : ℕ) where
   abbrev pub bucket_planning : Planning
   bucket_planning = record {
     serves = λ op. true;
-    wants = λ layout op readings. wanted_at (2 ^ bits) (λ key. bucket_index key bits) (bucket_index (key_of op) bits) (walk_in layout op readings) (walk_in layout op readings).stage;
-    is_far = λ layout op readings. is_refused_at (walk_in layout op readings).stage && nat_le (bounds (2 ^ bits) (λ key. bucket_index key bits) layout).links (walk_in layout op readings).links;
+    wants = λ layout op readings. wanted_at (2 ^ bits) (λ key. bucket_index key bits)
+        (bucket_index (key_of op) bits) (walk_in layout op readings) (walk_in layout op readings).stage;
+    is_far = λ layout op readings. is_refused_at (walk_in layout op readings).stage
+        && nat_le (bounds (2 ^ bits) (λ key. bucket_index key bits) layout).links
+        (walk_in layout op readings).links;
     is_mark = λ place. false;
     per_pair = 1;
   }

@@ -7,11 +7,15 @@ use Rattle.lock_walks.specs.version_words.specs.TableState.{WordsState}
 use Rattle.lock_walks.specs.try_lock.specs.Contents.{StandFor}
 use Rattle.hash_table.specs.Gathered.{IsGathered, IsGathering}
 
-module _ {T : Type 0} (bits : ℕ) (words : WordsState T) (pairs : Pairs) (stand : StandFor (buckets_meaning bits) words pairs) where
+module _ {T : Type 0} (bits : ℕ) (words : WordsState T) (pairs : Pairs)
+    (stand : StandFor (buckets_meaning bits) words pairs) where
   -- the pairs of the chains of all buckets below this one
   abbrev pub HasGathered : ℕ → List (ℕ × ℕ) → Type 0
-  HasGathered below items = IsGathered (λ key. bucket_index key bits) (nodes (2 ^ bits) (λ key. bucket_index key bits) stand.cells) stand.stands.on below items
+  HasGathered below items = IsGathered (λ key. bucket_index key bits)
+      (nodes (2 ^ bits) (λ key. bucket_index key bits) stand.cells) stand.stands.on below items
 
   -- and those of this one's own, before the slot to which this link leads
   abbrev pub Gathers : ℕ → ℕ → ℕ → List (ℕ × ℕ) → Type 0
-  Gathers bucket link made items = IsGathering (λ key. bucket_index key bits) (nodes (2 ^ bits) (λ key. bucket_index key bits) stand.cells) stand.stands.on stand.stands.rank bucket link made items
+  Gathers bucket link made items = IsGathering (λ key. bucket_index key bits)
+      (nodes (2 ^ bits) (λ key. bucket_index key bits) stand.cells)
+      stand.stands.on stand.stands.rank bucket link made items

@@ -38,7 +38,8 @@ HasRoom walks.Refused links limit = Unit {0}
 
 -- a walk that has loaded nothing
 abbrev pub begun : ℕ → Op → ℕ → ℕ → Walking
-begun bits op limit version_max = record { bits = bits; bounds = record { links = limit; version_max = version_max }; op = op; walk = start }
+begun bits op limit version_max =
+    record { bits = bits; bounds = record { links = limit; version_max = version_max }; op = op; walk = start }
 
 abbrev pub bucket_by : Walking → ℕ
 bucket_by w = bucket_index (key_of w.op) w.bits
@@ -49,7 +50,8 @@ wanted_by w = wanted_at (2 ^ w.bits) (λ key. bucket_index key w.bits) (bucket_b
 
 -- the walk after a load
 abbrev pub fed_by : Walking → ℕ → Walking
-fed_by w word = record w { walk = fed (2 ^ w.bits) (λ key. bucket_index key w.bits) w.bounds w.op w.walk w.walk.stage word }
+fed_by w word =
+    record w { walk = fed (2 ^ w.bits) (λ key. bucket_index key w.bits) w.bounds w.op w.walk w.walk.stage word }
 
 abbrev pub is_refused_at : walks.Stage → Bool
 is_refused_at walks.Refused = true

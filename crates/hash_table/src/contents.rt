@@ -24,7 +24,8 @@ impl HashTable {
         requires structure { self.now ≡ words.now.structure }
         requires slot { slot < slot_count words.now.layout 0 }
         requires cell { cell < 5 }
-        ensures { result ≡ value_of (word_of (buckets_meaning self.now.bits) words.now (Cell (cell_of (3 * 2 ^ self.now.bits) slot cell))) }
+        ensures { result ≡ value_of (word_of (buckets_meaning self.now.bits) words.now
+            (Cell (cell_of (3 * 2 ^ self.now.bits) slot cell))) }
     {
         words_are_reached(words);
         words.cell(self.cells() + 5 * slot + cell).value()
@@ -49,8 +50,11 @@ impl HashTable {
         requires structure { self.now ≡ words.now.structure }
         requires bucket { bucket < 2 ^ self.now.bits }
         requires stand { (pairs : Pairs) × StandFor (buckets_meaning self.now.bits) words.now pairs }
-        requires before { (pairs : Pairs) (stand : StandFor (buckets_meaning self.now.bits) words.now pairs) → HasGathered self.now.bits words.now pairs stand bucket items.old.items }
-        ensures gathered { OnOk result ((pairs : Pairs) (stand : StandFor (buckets_meaning self.now.bits) words.now pairs) → HasGathered self.now.bits words.now pairs stand (bucket + 1) items.new.items) }
+        requires before { (pairs : Pairs) (stand : StandFor (buckets_meaning self.now.bits) words.now pairs)
+            → HasGathered self.now.bits words.now pairs stand bucket items.old.items }
+        ensures gathered { OnOk result ((pairs : Pairs)
+            (stand : StandFor (buckets_meaning self.now.bits) words.now pairs)
+            → HasGathered self.now.bits words.now pairs stand (bucket + 1) items.new.items) }
     {
         words_are_reached(words);
         let mut link = self.head(words, bucket);
@@ -75,7 +79,8 @@ impl HashTable {
     ) -> Result<Vec<(u32, u32)>, AllocError>
         requires structure { self.now ≡ words.now.structure }
         requires stand { (pairs : Pairs) × StandFor (buckets_meaning self.now.bits) words.now pairs }
-        ensures contents { IfOk result (λ items. (pairs : Pairs) → StandFor (buckets_meaning self.now.bits) words.now pairs → items.items ≡ entries pairs) }
+        ensures contents { IfOk result (λ items. (pairs : Pairs)
+            → StandFor (buckets_meaning self.now.bits) words.now pairs → items.items ≡ entries pairs) }
     {
         let mut items = Vec::new(alloc);
         for bucket in 0..1u32 << self.bits {

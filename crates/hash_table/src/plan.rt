@@ -36,7 +36,8 @@ impl Planner for HashTable {
         requires structure { self.now ≡ words.now.structure }
         requires stand { (pairs : Pairs) × StandFor (buckets_meaning self.now.bits) words.now pairs }
         requires closed { NamesNone (buckets_meaning self.now.bits) words.now }
-        ensures contents { IfOk result (λ items. (pairs : Pairs) → StandFor (buckets_meaning self.now.bits) words.now pairs → items.items ≡ entries pairs) }
+        ensures contents { IfOk result (λ items. (pairs : Pairs)
+            → StandFor (buckets_meaning self.now.bits) words.now pairs → items.items ≡ entries pairs) }
     {
         self.pairs(alloc, words)
     }

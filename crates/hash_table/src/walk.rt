@@ -76,7 +76,8 @@ impl Model for BucketWalk {
       };
     } };
 
-    ghost invariant = { λ a. (a.bits ≤ 12) × (a.limit ≤ 73786976294838206464) × (a.near ≤ a.limit - 1) × (a.links < a.near → a.beyond ≡ 0)
+    ghost invariant = { λ a. (a.bits ≤ 12) × (a.limit ≤ 73786976294838206464) × (a.near ≤ a.limit - 1)
+        × (a.links < a.near → a.beyond ≡ 0)
         × (a.beyond ≤ 73786976294838206464) × HasRoom (stage_of a.stage) (a.links + a.beyond) a.limit };
 }
 
@@ -245,7 +246,8 @@ impl BucketWalk {
 
     /// Whether the walk is whole and this is the thunk for it.
     pub fn fits(&self, thunk: &Thunk) -> bool
-        ensures { result ≡ fits_walk (2 ^ self.now.bits) (λ key. bucket_index key self.now.bits) self.now.op self.now.walk thunk.now }
+        ensures { result ≡ fits_walk (2 ^ self.now.bits) (λ key. bucket_index key self.now.bits)
+            self.now.op self.now.walk thunk.now }
     {
         self.stage == Stage::End
             && thunk.form == self.form()

@@ -12,4 +12,5 @@ module _ {W : Type 0} (way : Way W) where
   -- the walker goes on by each reading that it wants, up to the first that it doesn't want
   abbrev pub followed : W → Readings → W
   followed walk [] = walk
-  followed walk (reading ∷ readings) = cond (is_next (way.wants walk) reading.0) (followed (way.fed walk reading.1) readings) walk
+  followed walk (reading ∷ readings) = cond (is_next (way.wants walk) reading.0)
+      (followed (way.fed walk reading.1) readings) walk

@@ -23,7 +23,8 @@ module _ {W : Type 0} (m : Meaning) (layout : Layout) (way : Way W) where
 module _ {W T : Type 0} (m : Meaning) (layout : Layout) (way : Way W) where
   -- the walker led the runner by these readings, so many; the gate was asked after each, and let it go on. The walker is behind them, and
   -- this is the last one
-  pub record IsAlong (made : ℕ) (walk walk' : W) (place word : ℕ) (old new : RunnerState T) (halts halts' asks asks' steps steps' : ℕ) : Type 0 where
+  pub record IsAlong (made : ℕ) (walk walk' : W) (place word : ℕ) (old new : RunnerState T)
+      (halts halts' asks asks' steps steps' : ℕ) : Type 0 where
     pub readings : Readings
     pub each : length readings ≡ made
     pub led : IsLedBy way walk readings
@@ -36,7 +37,8 @@ module _ {W T : Type 0} (m : Meaning) (layout : Layout) (way : Way W) where
     pub asked : IsAsked made true halts halts' asks asks' steps steps'
 
   -- so it led the runner, to the end of its walk or to a reading behind which the gate halted
-  pub record HasLed (walk walk' : W) (place word : ℕ) (going : Bool) (old new : RunnerState T) (halts halts' asks asks' steps steps' : ℕ) : Type 0 where
+  pub record HasLed (walk walk' : W) (place word : ℕ) (going : Bool) (old new : RunnerState T)
+      (halts halts' asks asks' steps steps' : ℕ) : Type 0 where
     pub readings : Readings
     pub led : IsLedBy way walk readings
     pub walks : IsWalk m (way.planning walk) layout (way.op walk) readings
@@ -58,27 +60,32 @@ pub record Start (W T : Type 0) : Type 0 where
 
 module _ {W T : Type 0} (m : Meaning) (layout : Layout) (way : Way W) where
   -- the walk that began there has come this far: a walk that leads a plan, from a runner that may plan
-  pub record IsOnWay (start : Start W T) (walk : W) (place word : ℕ) (runner : RunnerState T) (halts asks steps : ℕ) : Type 0 where
+  pub record IsOnWay (start : Start W T) (walk : W) (place word : ℕ) (runner : RunnerState T)
+      (halts asks steps : ℕ) : Type 0 where
     pub allowed : IsAllowed (way.op start.walk)
     pub leads : Leads way m layout start.walk
     pub entered : MayPlan start.runner
     pub made : ℕ
-    pub along : IsAlong m layout way made start.walk walk place word start.runner runner start.halts halts start.asks asks start.steps steps
+    pub along : IsAlong m layout way made start.walk walk place word start.runner runner
+        start.halts halts start.asks asks start.steps steps
 
   -- it has come to its end, or to a reading behind which the gate halted
   abbrev pub IsThrough : Start W T → W → ℕ → ℕ → Bool → RunnerState T → ℕ → ℕ → ℕ → Type 0
   IsThrough start walk place word going runner halts asks steps =
-      HasLed m layout way start.walk walk place word going start.runner runner start.halts halts start.asks asks start.steps steps
+      HasLed m layout way start.walk walk place word going start.runner runner
+      start.halts halts start.asks asks start.steps steps
 
   -- wherever it began, it comes from here to there, or the gate halts there
-  pub record GoesOn (walk walk' : W) (place word place' word' : ℕ) (going : Bool) (runner runner' : RunnerState T) (halts halts' asks asks' steps steps' : ℕ) : Type 0 where
+  pub record GoesOn (walk walk' : W) (place word place' word' : ℕ) (going : Bool)
+      (runner runner' : RunnerState T) (halts halts' asks asks' steps steps' : ℕ) : Type 0 where
     pub on : (start : Start W T) → IsOnWay start walk place word runner halts asks steps → going ≡ true
         → IsOnWay start walk' place' word' runner' halts' asks' steps'
     pub cut : (start : Start W T) → IsOnWay start walk place word runner halts asks steps → going ≡ false
         → IsThrough start walk' place' word' false runner' halts' asks' steps'
 
   -- wherever it began, it comes from here to its end, or the gate halts before
-  abbrev pub GoesThrough : (walk walk' : W) (place word place' word' : ℕ) (going : Bool) (runner runner' : RunnerState T) (halts halts' asks asks' steps steps' : ℕ) → Type 0
+  abbrev pub GoesThrough : (walk walk' : W) (place word place' word' : ℕ) (going : Bool)
+      (runner runner' : RunnerState T) (halts halts' asks asks' steps steps' : ℕ) → Type 0
   GoesThrough walk walk' place word place' word' going runner runner' halts halts' asks asks' steps steps' =
       (start : Start W T) → IsOnWay start walk place word runner halts asks steps
       → IsThrough start walk' place' word' going runner' halts' asks' steps'

@@ -33,11 +33,12 @@ fn load_next<S: Structure, W: Walker, G: Gate, L>(
     steps: &mut Steps<L>,
 ) -> (Runner<S>, Place, Word, bool)
     requires own { IsOf table.now runner }
-    requires on_way { (start : Start W S) × IsOnWay (S.meaning table.now.structure) table.now.layout W.way start walker.old place word runner
+    requires on_way { (start : Start W S)
+        × IsOnWay (S.meaning table.now.structure) table.now.layout W.way start walker.old place word runner
         (G.halts gate.old) (G.asks gate.old) steps.old.count }
     ensures own { IsOf table.now result.0 }
-    ensures goes { GoesOn (S.meaning table.now.structure) table.now.layout W.way walker.old walker.new place word result.1 result.2 result.3
-        runner result.0
+    ensures goes { GoesOn (S.meaning table.now.structure) table.now.layout W.way
+        walker.old walker.new place word result.1 result.2 result.3 runner result.0
         (G.halts gate.old) (G.halts gate.new) (G.asks gate.old) (G.asks gate.new) steps.old.count steps.new.count }
     ensures nearer { is_some (W.way.wants walker.old) ≡ true → W.way.left walker.new < W.way.left walker.old }
 {
@@ -65,11 +66,12 @@ fn pass_node<S: Structure, W: Walker, G: Gate, L>(
     steps: &mut Steps<L>,
 ) -> (Runner<S>, Place, Word, bool)
     requires own { IsOf table.now runner }
-    requires on_way { (start : Start W S) × IsOnWay (S.meaning table.now.structure) table.now.layout W.way start walker.old place word runner
+    requires on_way { (start : Start W S)
+        × IsOnWay (S.meaning table.now.structure) table.now.layout W.way start walker.old place word runner
         (G.halts gate.old) (G.asks gate.old) steps.old.count }
     ensures own { IsOf table.now result.0 }
-    ensures goes { GoesOn (S.meaning table.now.structure) table.now.layout W.way walker.old walker.new place word result.1 result.2 result.3
-        runner result.0
+    ensures goes { GoesOn (S.meaning table.now.structure) table.now.layout W.way
+        walker.old walker.new place word result.1 result.2 result.3 runner result.0
         (G.halts gate.old) (G.halts gate.new) (G.asks gate.old) (G.asks gate.new) steps.old.count steps.new.count }
 {
     let (runner, place, word, going) = load_next(table, runner, walker, place, word, gate, steps);
@@ -98,11 +100,12 @@ fn pass_nodes<S: Structure, W: Walker, G: Gate, L>(
     steps: &mut Steps<L>,
 ) -> (Runner<S>, Place, Word, bool)
     requires own { IsOf table.now runner }
-    requires on_way { (start : Start W S) × IsOnWay (S.meaning table.now.structure) table.now.layout W.way start walker.old place word runner
+    requires on_way { (start : Start W S)
+        × IsOnWay (S.meaning table.now.structure) table.now.layout W.way start walker.old place word runner
         (G.halts gate.old) (G.asks gate.old) steps.old.count }
     ensures own { IsOf table.now result.0 }
-    ensures goes { GoesOn (S.meaning table.now.structure) table.now.layout W.way walker.old walker.new place word result.1 result.2 result.3
-        runner result.0
+    ensures goes { GoesOn (S.meaning table.now.structure) table.now.layout W.way
+        walker.old walker.new place word result.1 result.2 result.3 runner result.0
         (G.halts gate.old) (G.halts gate.new) (G.asks gate.old) (G.asks gate.new) steps.old.count steps.new.count }
 {
     let mut runner = runner;
@@ -135,11 +138,12 @@ fn end_walk<S: Structure, W: Walker, G: Gate, L>(
     steps: &mut Steps<L>,
 ) -> (Runner<S>, Place, Word, bool)
     requires own { IsOf table.now runner }
-    requires on_way { (start : Start W S) × IsOnWay (S.meaning table.now.structure) table.now.layout W.way start walker.old place word runner
+    requires on_way { (start : Start W S)
+        × IsOnWay (S.meaning table.now.structure) table.now.layout W.way start walker.old place word runner
         (G.halts gate.old) (G.asks gate.old) steps.old.count }
     ensures own { IsOf table.now result.0 }
-    ensures led { GoesThrough (S.meaning table.now.structure) table.now.layout W.way walker.old walker.new place word result.1 result.2 result.3
-        runner result.0
+    ensures led { GoesThrough (S.meaning table.now.structure) table.now.layout W.way
+        walker.old walker.new place word result.1 result.2 result.3 runner result.0
         (G.halts gate.old) (G.halts gate.new) (G.asks gate.old) (G.asks gate.new) steps.old.count steps.new.count }
 {
     table_is_allowed(table);
@@ -177,8 +181,8 @@ fn walk_on<S: Structure, W: Walker, G: Gate, L>(
     requires allowed { IsAllowed (W.way.op walker.old) }
     requires leads { Leads W.way (S.meaning table.now.structure) table.now.layout walker.old }
     ensures own { IsOf table.now result.0 }
-    ensures led { HasLed (S.meaning table.now.structure) table.now.layout W.way walker.old walker.new result.1 result.2 result.3
-        runner result.0
+    ensures led { HasLed (S.meaning table.now.structure) table.now.layout W.way
+        walker.old walker.new result.1 result.2 result.3 runner result.0
         (G.halts gate.old) (G.halts gate.new) (G.asks gate.old) (G.asks gate.new) steps.old.count steps.new.count }
 {
     table_is_allowed(table);
@@ -216,8 +220,8 @@ fn lead<S: Structure, W: Walker, G: Gate, L>(
     requires allowed { IsAllowed (W.way.op walker.old) }
     requires leads { Leads W.way (S.meaning table.now.structure) table.now.layout walker.old }
     ensures own { IsOf table.now result.0 }
-    ensures led { HasLed (S.meaning table.now.structure) table.now.layout W.way walker.old walker.new result.1 result.2 result.3
-        runner result.0
+    ensures led { HasLed (S.meaning table.now.structure) table.now.layout W.way
+        walker.old walker.new result.1 result.2 result.3 runner result.0
         (G.halts gate.old) (G.halts gate.new) (G.asks gate.old) (G.asks gate.new) steps.old.count steps.new.count }
 {
     if !gate.is_free() {
@@ -291,7 +295,8 @@ pub fn plan_by<S: Structure, W: Walker, G: Gate, L>(
     requires allowed { IsAllowed request.now.op }
     requires leads { Leads W.way (S.meaning table.now.structure) table.now.layout walker }
     ensures own { IsOf table.now result.0 }
-    ensures plans { HasPlanned (S.meaning table.now.structure) (W.way.planning walker) request.now result.1 runner result.0
+    ensures plans { HasPlanned (S.meaning table.now.structure) (W.way.planning walker) request.now
+        result.1 runner result.0
         (G.halts gate.old) (G.halts gate.new) (G.asks gate.old) (G.asks gate.new) steps.old.count steps.new.count }
 {
     table_is_allowed(table);

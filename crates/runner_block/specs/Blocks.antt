@@ -22,7 +22,8 @@ block_found l b slot word found false = b
 -- the block after a private load
 abbrev pub block_looked : Layout → Block → ℕ → ℕ → ℕ → Block
 block_looked l b slot word found =
-    if b.place.inside then block_filling b slot b.place.making else block_found l b slot word found (nat_lt slot b.lists.room)
+    if b.place.inside then block_filling b slot b.place.making
+    else block_found l b slot word found (nat_lt slot b.lists.room)
 
 -- after a private store
 abbrev pub block_stored : Layout → Block → ℕ → Block
@@ -32,7 +33,8 @@ block_stored l b number =
 -- after the commit of a Make
 abbrev pub block_made : Block → ℕ → Bool → Block
 block_made b slot won = record {
-  lists = with_nodes b.lists (if won then slot_made b.lists.part.nodes slot else slot_back b.lists.part.nodes slot b.place.worn);
+  lists = with_nodes b.lists
+      (if won then slot_made b.lists.part.nodes slot else slot_back b.lists.part.nodes slot b.place.worn);
   place = record (b.place) { agreed = b.place.agreed + 1; making = false; worn = false };
 }
 

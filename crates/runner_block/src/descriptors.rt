@@ -27,7 +27,8 @@ impl Model for DescriptorLists {
 
     ghost view = { λ a. record { free = a.free.items; limbo = a.limbo.items; published = a.published } };
 
-    ghost invariant = { λ a. DescriptorsFit (vec_len a.free + vec_len a.limbo + owed a.published) (vec_capacity a.free) (vec_capacity a.limbo) };
+    ghost invariant = { λ a. DescriptorsFit (vec_len a.free + vec_len a.limbo + owed a.published)
+        (vec_capacity a.free) (vec_capacity a.limbo) };
 }
 
 impl DescriptorLists {

@@ -36,7 +36,11 @@ impl Model for NodeLists {
       room = a.room;
     } };
 
-    ghost invariant = { λ a. NodesFit a.room (vec_len a.free + vec_len a.hand + vec_len a.limbo + vec_len a.worn) (vec_capacity a.free) (vec_capacity a.hand) (vec_capacity a.tests) (vec_capacity a.limbo) (vec_capacity a.worn) (record { free = a.free.items; hand = a.hand.items; tests = a.tests.items; limbo = a.limbo.items; worn = a.worn.items }) };
+    ghost invariant = { λ a. NodesFit a.room
+        (vec_len a.free + vec_len a.hand + vec_len a.limbo + vec_len a.worn)
+        (vec_capacity a.free) (vec_capacity a.hand) (vec_capacity a.tests)
+        (vec_capacity a.limbo) (vec_capacity a.worn)
+        (record { free = a.free.items; hand = a.hand.items; tests = a.tests.items; limbo = a.limbo.items; worn = a.worn.items }) };
 }
 
 impl NodeLists {

@@ -13,7 +13,8 @@ use Rattle.section_body.specs.declared.step.Step.TheVariants.{Load, Want, Fresh,
 use Rattle.section_body.specs.declared.outcome.Outcome.{Outcome}
 
 -- this memory, this trail and this outcome are what this run for this request has left, which began over `start`
-pub record Shows (request : ℕ) (start : PlainMemory) (run : Run) (memory : PlainMemory) (trail : Agreement) (outcome : Option Outcome) : Type 0 where
+pub record Shows (request : ℕ) (start : PlainMemory) (run : Run)
+    (memory : PlainMemory) (trail : Agreement) (outcome : Option Outcome) : Type 0 where
   pub left : memory ≡ memory_after request start run
   pub agreed : trail ≡ record { words = run.trail; late = false }
   pub ended : run.outcome ≡ outcome
@@ -88,4 +89,5 @@ StepSuits s memory got log _ = Unit {0}
 abbrev pub filled : ℕ → ℕ → List ℕ → List ℕ → ℕ → List ℕ
 filled fixed_cells slot values cells zero = cells
 filled fixed_cells slot values cells (suc k) =
-    slice_set (filled fixed_cells slot values cells k) (cell_of fixed_cells slot k) (next_word (slice_index cells (cell_of fixed_cells slot k)) (slice_index values k))
+    slice_set (filled fixed_cells slot values cells k) (cell_of fixed_cells slot k)
+    (next_word (slice_index cells (cell_of fixed_cells slot k)) (slice_index values k))

@@ -61,12 +61,14 @@ stored_places g (step ∷ steps) = places_of g step ++ stored_places (registers_
 -- a Store to a place that an earlier Store has
 abbrev pub is_stored_again : List Step → Step → Bool
 is_stored_again earlier step =
-    list_any (λ place. list_any (λ stored. stored == place) (stored_places no_registers earlier)) (places_of (registers_through no_registers earlier) step)
+    list_any (λ place. list_any (λ stored. stored == place) (stored_places no_registers earlier))
+    (places_of (registers_through no_registers earlier) step)
 
 -- the fault of a step that follows these ones, the first that holds
 abbrev pub step_fault : List Step → Step → Option Misshape
 step_fault earlier step =
-    cond (nat_lt (phase step) (phase_before earlier)) (Some (cond (phase step == 1) (ExitAfterEffect (length earlier)) (OutOfOrder (length earlier))))
+    cond (nat_lt (phase step) (phase_before earlier))
+    (Some (cond (phase step == 1) (ExitAfterEffect (length earlier)) (OutOfOrder (length earlier))))
     (cond (is_second earlier step) (Some (OutOfOrder (length earlier)))
     (cond (nat_le 4 (phase step) && not (list_any is_stamp earlier)) (Some (NoStamp (length earlier)))
     (cond (is_make step && nat_le 2 (count_by is_make earlier)) (Some (TooManyMakes (length earlier)))

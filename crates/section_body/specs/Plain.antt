@@ -104,7 +104,8 @@ pub record SlotsFit (body : List Step) (memory : PlainMemory) : Type 0 where
   pub within : (i cell : ℕ) → i < count_by is_make body → cell < 5
       → cell_of memory.fixed_cells (slice_index memory.free i) cell < length memory.cells
   pub unworn : (i cell : ℕ) → i < count_by is_make body → cell < 5
-      → version_of (slice_index memory.cells (cell_of memory.fixed_cells (slice_index memory.free i) cell)) ≢ memory.version_max
+      → version_of (slice_index memory.cells (cell_of memory.fixed_cells (slice_index memory.free i) cell))
+      ≢ memory.version_max
 
 -- `taken` has an entry for each Take, and a Take whose lock is got expects a free word that isn't spent
 pub record LocksFit (body : List Step) (memory : PlainMemory) (taken : List Bool) : Type 0 where

@@ -44,7 +44,8 @@ pub record Run : Type 0 where
 -- spent, or differs
 abbrev pub refusal : Setting → ℕ → ℕ → ℕ → Outcome
 refusal s place expected read =
-    cond (is_free read) (cond (is_spent s.version_max read) (Spent place read) (Stale place expected read)) (Busy place read)
+    cond (is_free read)
+    (cond (is_spent s.version_max read) (Spent place read) (Stale place expected read)) (Busy place read)
 
 -- a Take may be made with this word
 abbrev pub is_takable : Setting → ℕ → ℕ → Bool
@@ -58,7 +59,8 @@ leaves s trail (CheckFresh place log) =
     let read = slice_index trail log in cond (version_of read == s.version_max) (Some (Spent place read)) None
 leaves s trail (CheckFree place log word) =
     let read = slice_index trail log in
-    cond (s.refused log) (Some (Busy place read)) (cond (is_takable s word read) None (Some (refusal s place word read)))
+    cond (s.refused log) (Some (Busy place read))
+    (cond (is_takable s word read) None (Some (refusal s place word read)))
 leaves s trail (CheckHeld place log word) =
     let read = slice_index trail log in
     cond (read == held_word s.descriptor word) None (Some (refusal s place word read))

@@ -37,7 +37,10 @@ fn fill_slot(steps: &[Step], n: usize, init: Init, trail: &Trail, memory: &mut M
     requires cells { (cell : ℕ) → cell < 5 → cell_of memory.old.fixed_cells slot cell < length memory.old.cells }
     requires room { (cell : ℕ) → cell < 5
         → version_of (slice_index memory.old.cells (cell_of memory.old.fixed_cells slot cell)) + 1 < 2 ^ 32 }
-    ensures { let values = map (λ value. source_value trail.now.words (source_of (registers_before steps.now n) value)) init.cells in memory.new ≡ record memory.old { cells = filled memory.old.fixed_cells slot values memory.old.cells 5 } }
+    ensures { let values = map (λ value. source_value trail.now.words
+        (source_of (registers_before steps.now n) value)) init.cells in
+        memory.new
+        ≡ record memory.old { cells = filled memory.old.fixed_cells slot values memory.old.cells 5 } }
 {
     for cell in 0..5 {
         let value = value_at(steps, n, init.cells[cell as usize], trail);
@@ -101,7 +104,9 @@ fn make_node(steps: &[Step], n: usize, init: Init, memory: &mut Memory, trail: &
     requires slot { SlotFits memory.old }
     requires logged { All (IsLogged (registers_before steps.now n) (length trail.old.words)) init.cells }
     requires space { length trail.old.words < 64 }
-    ensures memory { let values = map (λ value. source_value trail.old.words (source_of (registers_before steps.now n) value)) init.cells in memory.new ≡ record memory.old { cells = filled memory.old.fixed_cells (slice_index memory.old.free 0) values memory.old.cells 5; free = drop 1 memory.old.free } }
+    ensures memory { let values = map (λ value. source_value trail.old.words
+        (source_of (registers_before steps.now n) value)) init.cells in
+        memory.new ≡ record memory.old { cells = filled memory.old.fixed_cells (slice_index memory.old.free 0) values memory.old.cells 5; free = drop 1 memory.old.free } }
     ensures trail { trail.new ≡ record trail.old {
       words = trail.old.words
           ++ (slice_index memory.old.free 0 + 1) ∷ [];
@@ -127,7 +132,8 @@ pub fn act(
     requires fits { StepFits request memory.old trail.old.words (registers_before steps.now n) got step.now }
     requires space { length trail.old.words + log_words step.now ≤ 64 }
     ensures { (start : PlainMemory) (s : Setting) (run : Run) → let g = registers_before steps.now n in
-        Shows request start run memory.old trail.old None → StepSuits s memory.old got g.count step.now → g.count ≡ length trail.old.words → request < length start.stamps → request < length start.replies
+        Shows request start run memory.old trail.old None → StepSuits s memory.old got g.count step.now
+        → g.count ≡ length trail.old.words → request < length start.stamps → request < length start.replies
         → Shows request start (ran s run (micros g step.now)) memory.new trail.new result }
 {
     match *step {

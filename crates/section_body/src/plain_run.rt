@@ -26,7 +26,8 @@ pub fn plain(body: &Body, request: u32, memory: &mut Memory, taken: &[bool]) -> 
     requires room { HasRoom body.now memory.old }
 
     ensures outcome { (plain_run body.now request memory.old taken.now).outcome ≡ Some result.0 }
-    ensures trail { result.1 ≡ record { words = (plain_run body.now request memory.old taken.now).trail; late = false } }
+    ensures trail { result.1
+        ≡ record { words = (plain_run body.now request memory.old taken.now).trail; late = false } }
     ensures memory { memory.new ≡ memory_after request memory.old (plain_run body.now request memory.old taken.now) }
 {
     let version_max = memory.version_max;
@@ -60,7 +61,8 @@ fn run_steps(
     requires greatest { version_max ≡ memory.old.version_max }
 
     ensures outcome { (plain_run steps.now request memory.old taken.now).outcome ≡ Some result.0 }
-    ensures trail { result.1 ≡ record { words = (plain_run steps.now request memory.old taken.now).trail; late = false } }
+    ensures trail { result.1
+        ≡ record { words = (plain_run steps.now request memory.old taken.now).trail; late = false } }
     ensures memory { memory.new ≡ memory_after request memory.old (plain_run steps.now request memory.old taken.now) }
 {
     let mut trail = Trail::new();

@@ -125,7 +125,8 @@ module _ (code : ℕ → Micro) (slot : ℕ → ℕ) where
     pub word_loaded : (i p k w : ℕ) → code i ≡ CheckWord p k w → LoadedBefore code i p k
     pub fresh_loaded : (i p k : ℕ) → code i ≡ CheckFresh p k → LoadedBefore code i p k
     pub store_loaded : (i p k : ℕ) (v : Source) → code i ≡ ExchangeCell p k v → LoadedBefore code i p k
-    pub store_fresh : (i p k : ℕ) (v : Source) → code i ≡ ExchangeCell p k v → (j : ℕ) × (j < i) × (code j ≡ CheckFresh p k)
+    pub store_fresh : (i p k : ℕ) (v : Source) → code i ≡ ExchangeCell p k v
+        → (j : ℕ) × (j < i) × (code j ≡ CheckFresh p k)
     pub store_source : (i p k : ℕ) (v : Source) → code i ≡ ExchangeCell p k v → IsSourceBefore i v
     pub fill_source : (i c k : ℕ) (v : Source) → code i ≡ PrivateStore c k v → IsSourceBefore i v
 

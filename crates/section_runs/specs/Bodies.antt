@@ -90,7 +90,8 @@ module _ {T : Type 0} (m : Meaning) where
     pub same : IsSameRun old new
     pub nodes : new.part.nodes ≡ old.part.nodes
     -- an own section that found a lock held by another: that one's descriptor is held
-    pub names : (place word : ℕ) → outcome ≡ Busy place word → has old.part.reads.published (run_of old).descriptor ≡ true
+    pub names : (place word : ℕ) → outcome ≡ Busy place word
+        → has old.part.reads.published (run_of old).descriptor ≡ true
         → has new.part.reads.held (value_of word - 1) ≡ true
 
   -- the run went through so many steps of its body, and is to end with this outcome
@@ -101,5 +102,6 @@ module _ {T : Type 0} (m : Meaning) where
     pub nodes : NodesGone (body_of old) n old.part.nodes new.part.nodes
     -- a run that leaves has made and retired nothing
     pub left : ((reply : ℕ) → outcome ≢ Answered reply) → new.part.nodes ≡ old.part.nodes
-    pub names : (place word : ℕ) → outcome ≡ Busy place word → has old.part.reads.published (run_of old).descriptor ≡ true
+    pub names : (place word : ℕ) → outcome ≡ Busy place word
+        → has old.part.reads.published (run_of old).descriptor ≡ true
         → has new.part.reads.held (value_of word - 1) ≡ true

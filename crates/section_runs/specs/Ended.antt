@@ -50,7 +50,8 @@ module _ {T : Type 0} (m : Meaning) where
   -- the runner ran this section to its end, in so many steps, with this outcome and this trail. What is kept of the run says so, the
   -- section is done, and all that is known of a reached state is known of this one: so outcome and trail are those of the plain run of the
   -- body with the choices of the log, and those of each other run of the section
-  pub record EndsSo (d : ℕ) (t : Thunk) (outcome : Outcome) (trail : Agreed) (made : ℕ) (old new : RunnerState T) : Type 0 where
+  pub record EndsSo (d : ℕ) (t : Thunk) (outcome : Outcome) (trail : Agreed) (made : ℕ)
+      (old new : RunnerState T) : Type 0 where
     pub finished : FinishedState
     pub kept : new.part.records.finished ≡ old.part.records.finished ++ finished ∷ []
     pub of_descriptor : finished.descriptor ≡ d
@@ -88,9 +89,12 @@ module _ {T : Type 0} (m : Meaning) where
     pub entry : new.part.reads.published ≡ old.part.reads.published
     pub learns : Learns t.request old.part.records.known new.part.records.known
     -- a section that left did so at a check of its body's line, by the words of the trail
-    pub cause : ((reply : ℕ) → outcome ≢ Answered reply) → (at : ℕ) × (leaves (setting_of new.layout d) trail.words (micro_at (line (m.body t)) at) ≡ Some outcome)
+    pub cause : ((reply : ℕ) → outcome ≢ Answered reply)
+        → (at : ℕ)
+        × (leaves (setting_of new.layout d) trail.words (micro_at (line (m.body t)) at) ≡ Some outcome)
     -- an own section that found a lock held by another: that one may be helped
-    pub names : (place read : ℕ) → outcome ≡ Busy place read → has old.part.reads.published d ≡ true → has new.part.reads.held (value_of read - 1) ≡ true
+    pub names : (place read : ℕ) → outcome ≡ Busy place read → has old.part.reads.published d ≡ true
+        → has new.part.reads.held (value_of read - 1) ≡ true
 
   -- behind its opening, a gate halted the runner in its run
   pub record RanShort (d made : ℕ) (old new : RunnerState T) : Type 0 where

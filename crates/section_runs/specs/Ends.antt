@@ -33,7 +33,8 @@ module _ {T : Type 0} (m : Meaning) where
   -- the run released its outer lock, and is over
   pub record HasReleased (old new : RunnerState T) : Type 0 where
     pub found : ℕ
-    pub step : Stepped m (run_of old) (Release (thunk_of (run_of old).opened).lock (thunk_of (run_of old).opened).word) found old new
+    pub step : Stepped m (run_of old)
+        (Release (thunk_of (run_of old).opened).lock (thunk_of (run_of old).opened).word) found old new
     pub over : is_end (next_of m (ended_more (run_of old))) ≡ true
 
   -- the run set its done word and released its locks, the outer one last, and is over

@@ -32,13 +32,15 @@ pub record MayGoAt {T : Type 0} (m : Meaning) (n : ℕ) (step : Step) (kept : Pl
 
 -- the run came through step n so: it goes on to the next one, leaves, which only a step of the first phase lets it, or was halted; the trail
 -- has the agreed words then, and the atomic steps are counted
-pub record Went {T : Type 0} (m : Meaning) (n : ℕ) (step : Step) (passed : Passed) (old new : RunnerState T) (trail trail' : Agreed) (halts halts' asks asks' steps steps' : ℕ) : Type 0 where
+pub record Went {T : Type 0} (m : Meaning) (n : ℕ) (step : Step) (passed : Passed) (old new : RunnerState T)
+    (trail trail' : Agreed) (halts halts' asks asks' steps steps' : ℕ) : Type 0 where
   pub before : passed ≡ On → IsBefore m (suc n) new
   pub nodes : passed ≡ On → NodesStepped step old.part.nodes new.part.nodes
   pub over : (o : Outcome) → passed ≡ Left o → IsOver m n o new
   pub exit : (o : Outcome) → passed ≡ Left o → phase step ≡ 1
   pub unchanged : (o : Outcome) → passed ≡ Left o → new.part.nodes ≡ old.part.nodes
-  pub names : (o : Outcome) (place word : ℕ) → passed ≡ Left o → o ≡ Busy place word → has old.part.reads.published (run_of old).descriptor ≡ true
+  pub names : (o : Outcome) (place word : ℕ) → passed ≡ Left o → o ≡ Busy place word
+      → has old.part.reads.published (run_of old).descriptor ≡ true
       → has new.part.reads.held (value_of word - 1) ≡ true
   pub same : passed ≢ Halted → IsSameRun m old new
   pub words : passed ≢ Halted → trail'.words ≡ (run_of new).trail

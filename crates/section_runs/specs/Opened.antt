@@ -54,7 +54,8 @@ module _ {T : Type 0} (m : Meaning) where
   -- the runner made so many such loads, and no other step
   abbrev pub Opens : ℕ → RunnerState T → RunnerState T → Type 0
   Opens zero old new = new ≡ old
-  Opens (suc n) old new = (r : RunnerState T) × (kind : EventKind) × (found : ℕ) × Opens n old r × (is_opening kind ≡ true) × Makes m kind found r new
+  Opens (suc n) old new = (r : RunnerState T) × (kind : EventKind) × (found : ℕ)
+      × Opens n old r × (is_opening kind ≡ true) × Makes m kind found r new
 
   -- the runner has loaded so many words of this descriptor
   pub record IsOpening (n d : ℕ) (words : List ℕ) (old new : RunnerState T) : Type 0 where
@@ -83,7 +84,8 @@ module _ {T : Type 0} (m : Meaning) where
     pub loads : Opens 13 old new
 
 -- a gate halted the runner behind one of these loads: it made the loads up to that one, or all
-pub record HasHalted {T : Type 0} (m : Meaning) (most d : ℕ) (old new : RunnerState T) (halts halts' asks asks' steps steps' : ℕ) : Type 0 where
+pub record HasHalted {T : Type 0} (m : Meaning) (most d : ℕ) (old new : RunnerState T)
+    (halts halts' asks asks' steps steps' : ℕ) : Type 0 where
   pub made : ℕ
   pub some : 1 ≤ made
   pub few : made ≤ most

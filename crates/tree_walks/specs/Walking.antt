@@ -48,7 +48,8 @@ HasRoom walks.Refused links limit = Unit {0}
 
 -- a walk that has loaded nothing
 abbrev pub begun : Op → ℕ → ℕ → Walking
-begun op limit version_max = record { bounds = record { links = limit; version_max = version_max }; op = op; walk = start }
+begun op limit version_max =
+    record { bounds = record { links = limit; version_max = version_max }; op = op; walk = start }
 
 -- the place that it loads next
 abbrev pub wanted_by : Walking → Option ℕ

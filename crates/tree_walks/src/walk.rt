@@ -58,7 +58,8 @@ impl Model for TreeWalk {
       };
     } };
 
-    ghost invariant = { λ a. (a.limit ≤ 73786976294838206464) × (a.near ≤ a.limit - 1) × (a.links < a.near → a.beyond ≡ 0)
+    ghost invariant = { λ a. (a.limit ≤ 73786976294838206464) × (a.near ≤ a.limit - 1)
+        × (a.links < a.near → a.beyond ≡ 0)
         × (a.beyond ≤ 73786976294838206464) × HasRoom (stage_of a.stage) (a.links + a.beyond) a.limit };
 }
 

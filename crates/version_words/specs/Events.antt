@@ -83,7 +83,9 @@ module _ {T : Type 0} (m : Meaning) where
 
   -- a plain store doesn't tell what it found, and the part afterwards doesn't go by it
   pub record IsBlind (kind : EventKind) (x : Spot × Access) (r : RunnerState T) : Type 0 where
-    pub same : (found other : ℕ) → after m r.layout r.number kind x.0 x.1 r.part found ≡ after m r.layout r.number kind x.0 x.1 r.part other
+    pub same : (found other : ℕ)
+        → after m r.layout r.number kind x.0 x.1 r.part found
+        ≡ after m r.layout r.number kind x.0 x.1 r.part other
 
   -- a step of this name, with these operands, is an event of this runner that meets this spot in this way
   pub record IsNamed (naming : Naming) (r : RunnerState T) (step : Step Thunk) (x : Spot × Access) : Type 0 where
@@ -96,7 +98,8 @@ module _ {T : Type 0} (m : Meaning) where
 
   -- the step on this word of the table, with these two operands, that announces this
   abbrev pub step_at : TableState T → Spot → ℕ → ℕ → Announced → Step Thunk
-  step_at t spot first second said = step t.table.slots (address (sizes_for m t.layout t.requests) spot) first second said
+  step_at t spot first second said =
+      step t.table.slots (address (sizes_for m t.layout t.requests) spot) first second said
 
 -- where this word stands in the table, and where the words of this descriptor begin
 abbrev pub address_of : {T : Type 0} → Meaning → TableState T → Spot → ℕ
@@ -116,6 +119,7 @@ next_worker m keeper = record keeper { number = keeper.part.records.splits; part
 -- the keeper after it joined this worker: it knows also what the worker knew, and keeps the worker's part
 abbrev pub joined_by : {T : Type 0} → Meaning → RunnerState T → RunnerState T → RunnerState T
 joined_by m worker keeper = record keeper {
-  part = knows_also (after m keeper.layout keeper.number (kinds.Join worker.number) Seat Loads keeper.part 0) worker.part;
+  part = knows_also
+      (after m keeper.layout keeper.number (kinds.Join worker.number) Seat Loads keeper.part 0) worker.part;
   joined = (worker.number, worker.part) ∷ keeper.joined;
 }

@@ -39,11 +39,13 @@ is_ending _ = false
 -- while a run's opening is loaded, and before its commit of a retirement, this is the number that it loaded last
 pub record HasEpoch (m : Meaning) (epoch : ℕ) (run : Option RunState) : Type 0 where
   pub opening : (q : RunState) → run ≡ Some q → length q.opened < 13 → epoch ≡ q.word
-  pub retiring : (q : RunState) (slot log : ℕ) → run ≡ Some q → micro_at (line_of m q) q.at ≡ micros.RetireCommit slot log → epoch ≡ q.word
+  pub retiring : (q : RunState) (slot log : ℕ) → run ≡ Some q
+      → micro_at (line_of m q) q.at ≡ micros.RetireCommit slot log → epoch ≡ q.word
 
 -- an open run that isn't marked as in progress is at its end
 pub record EndsSo (m : Meaning) (kept : RunPlace) (run : Option RunState) : Type 0 where
-  pub ending : (q : RunState) → run ≡ Some q → is_open_run q ≡ true → kept.inside ≡ false → is_ending (next_of m q) ≡ true
+  pub ending : (q : RunState) → run ≡ Some q → is_open_run q ≡ true → kept.inside ≡ false
+      → is_ending (next_of m q) ≡ true
 
 -- the next word of the log of a runner's run
 abbrev pub next_log : Option RunState → Spot

@@ -22,7 +22,8 @@ private_spot m l slot word = let slots = slot_count l m.fixed_slots in
 -- the slot that has the word at this address
 abbrev pub slot_at : Meaning → Layout → List Request → ℕ → ℕ
 slot_at m l requests at = let s = sizes_for m l requests in
-    if nat_lt at (descriptor_at s 0) then (at - (cells_at s + m.fixed_cells)) / 5 else slot_count l m.fixed_slots + (at - descriptor_at s 0) / 77
+    if nat_lt at (descriptor_at s 0) then (at - (cells_at s + m.fixed_cells)) / 5
+    else slot_count l m.fixed_slots + (at - descriptor_at s 0) / 77
 
 -- which of the slot's words stands there
 abbrev pub word_at : Meaning → Layout → List Request → ℕ → ℕ

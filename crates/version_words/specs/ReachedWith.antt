@@ -15,7 +15,8 @@ use Rattle.machine_states.specs.World.{World, seat_of, happens}
 use Rattle.machine_states.specs.Reached.{Reached}
 
 -- the machine reaches a state in which this runner has this part, and the word at this spot is this number
-pub record ReachedWith (m : Meaning) (l : Layout) (requests : List Request) (runner : ℕ) (part : PartState) (spot : Spot) (number : ℕ) : Type 0 where
+pub record ReachedWith (m : Meaning) (l : Layout) (requests : List Request)
+    (runner : ℕ) (part : PartState) (spot : Spot) (number : ℕ) : Type 0 where
   pub world : World
   pub reached : Reached m l requests world
   pub own : slice_get world.parts (seat_of l runner) ≡ Some part
@@ -28,7 +29,8 @@ is_told _ = true
 
 -- the machine reaches a state in which this runner has the one part and finds this number in the word that it meets, and by its event of
 -- this kind a state in which it has the other part and the word is what the event left there
-pub record ReachedBy (m : Meaning) (l : Layout) (requests : List Request) (runner : ℕ) (kind : EventKind) (old new : PartState) (met : Spot × Access) (found : ℕ) : Type 0 where
+pub record ReachedBy (m : Meaning) (l : Layout) (requests : List Request) (runner : ℕ)
+    (kind : EventKind) (old new : PartState) (met : Spot × Access) (found : ℕ) : Type 0 where
   pub before : World
   pub was_reached : Reached m l requests before
   pub was_own : slice_get before.parts (seat_of l runner) ≡ Some old

@@ -24,18 +24,21 @@ use Rattle.version_words.specs.Naming.{Naming}
 use Rattle.version_words.specs.ReachedWith.{ReachedBy}
 
 -- the view is of this table, and its runner has this seat
-pub record IsSeatedAt {T : Type 0} (s : T) (l : Layout) (requests : List Request) (seat : ℕ) (t : T) (v : View T) : Type 0 where
+pub record IsSeatedAt {T : Type 0} (s : T) (l : Layout) (requests : List Request)
+    (seat : ℕ) (t : T) (v : View T) : Type 0 where
   pub same_structure : t ≡ s
   pub same_layout : v.layout ≡ l
   pub same_requests : v.requests ≡ requests
   pub own_seat : seat_of l v.number ≡ seat
 
 -- the words and all views show a state of the machine that enabled events lead to
-pub record Holds {T : Type 0} (m : Meaning) (s : T) (l : Layout) (requests : List Request) (st : State Thunk (View T)) : Type 0 where
+pub record Holds {T : Type 0} (m : Meaning) (s : T) (l : Layout) (requests : List Request)
+    (st : State Thunk (View T)) : Type 0 where
   pub world : World
   pub reached : Reached m l requests world
   pub shown : IsShown m l st.words st.views world
-  pub about : (seat : ℕ) (v : View T) (t : T) → get_elem? st.views seat ≡ some v → v.structure ≡ Some t → IsSeatedAt s l requests seat t v
+  pub about : (seat : ℕ) (v : View T) (t : T) → get_elem? st.views seat ≡ some v
+      → v.structure ≡ Some t → IsSeatedAt s l requests seat t v
   pub splits : (v : View T) → get_elem? st.views 0 ≡ some v → v.part.records.splits + 1 ≡ length st.views
   pub seat_word : slice_index st.words 0 ≡ 0
 
@@ -49,14 +52,16 @@ module _ {T : Type 0} where
 
   -- the seat's view is the one after this event, which met this spot and found this number; and the machine reaches a state in which its
   -- runner has the part before and the word is that number, and by this event one in which it has the part after and the word is what was left
-  pub record IsTold (m : Meaning) (kind : EventKind) (met : Spot × Access) (me : Me Thunk (View T)) (found : ℕ) (me' : Me Thunk (View T)) : Type 0 where
+  pub record IsTold (m : Meaning) (kind : EventKind) (met : Spot × Access)
+      (me : Me Thunk (View T)) (found : ℕ) (me' : Me Thunk (View T)) : Type 0 where
     pub view : me' ≡ (stepped m kind met.0 met.1 me.0 found, me.1)
     pub shown : ReachedBy m me'.0.layout me'.0.requests me'.0.number kind me.0.part me'.0.part met found
 
   -- what a step tells its seat: it was the event of this name on the own part, and the word had this number
   abbrev pub Tells : (T → Meaning) → Naming → Step Thunk → Me Thunk (View T) → ℕ → Me Thunk (View T) → Type 0
   Tells mean naming step me found me' = (s : T) (x : Spot × Access) → me.0.structure ≡ Some s
-      → asks (mean s) me.0.layout me.0.requests me.0.number (naming (mean s) me.0.layout me.0.requests me.0.part step) me.0.part ≡ Some x
+      → asks (mean s) me.0.layout me.0.requests me.0.number
+      (naming (mean s) me.0.layout me.0.requests me.0.part step) me.0.part ≡ Some x
       → IsTold (mean s) (naming (mean s) me.0.layout me.0.requests me.0.part step) x me found me'
 
   -- the keeper's view once it has split off one more worker

@@ -35,9 +35,12 @@ pub record IsSpent {T : Type 0} (views : List (View T)) (seat : ℕ) : Type 0 wh
 
 -- the words and the views show this state: each seat its part, the keeper the parts of those that were joined and no others, and
 -- a worker that wasn't split off yet is in its first state
-pub record IsShown {T : Type 0} (m : Meaning) (l : Layout) (held : List ℕ) (views : List (View T)) (w : World) : Type 0 where
+pub record IsShown {T : Type 0} (m : Meaning) (l : Layout) (held : List ℕ)
+    (views : List (View T)) (w : World) : Type 0 where
   pub words : w.words ≡ held
   pub parts : length w.parts ≡ l.runners + 1
-  pub seated : (seat : ℕ) (v : View T) → get_elem? views seat ≡ some v → slice_get w.parts seat ≡ part_at (joined_in views) seat v.part v.structure
+  pub seated : (seat : ℕ) (v : View T) → get_elem? views seat ≡ some v
+      → slice_get w.parts seat ≡ part_at (joined_in views) seat v.part v.structure
   pub left : (worker : ℕ) → IsSome (left_part (joined_in views) worker) → IsSpent views (suc worker)
-  pub waiting : (worker : ℕ) → length views ≤ suc worker → worker < l.runners → slice_get w.parts (suc worker) ≡ Some (worker_part m l worker)
+  pub waiting : (worker : ℕ) → length views ≤ suc worker → worker < l.runners
+      → slice_get w.parts (suc worker) ≡ Some (worker_part m l worker)

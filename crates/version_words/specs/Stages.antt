@@ -30,7 +30,8 @@ pub record IsKeeper {T : Type 0} (r : RunnerState T) (splits : ℕ) : Type 0 whe
 -- the stage after one more announcement was read
 abbrev pub stage_scanned : Layout → ℕ → ℕ → Bool → ℕ → Stage
 stage_scanned l epoch next clear found = let still = clear && is_clear epoch found in
-    if next == l.runners && not (still && nat_lt epoch last_epoch) then stages.Idle else stages.Scanning epoch (next + 1) still
+    if next == l.runners && not (still && nat_lt epoch last_epoch) then stages.Idle
+    else stages.Scanning epoch (next + 1) still
 
 -- a keeper that has joined the first workers, so many, and no others
 pub record HasJoined {T : Type 0} (r : RunnerState T) (count : ℕ) : Type 0 where

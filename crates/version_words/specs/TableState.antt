@@ -56,7 +56,8 @@ pub record AreShown (m : Meaning) (l : Layout) (requests : List Request) (held :
   pub world : World
   pub reached : Reached m l requests world
   pub words : world.words ≡ held
-  pub gone : (worker : ℕ) → worker < l.runners → (p : PartState) × (slice_get world.parts (suc worker) ≡ Some p) × (p.gone ≡ true)
+  pub gone : (worker : ℕ) → worker < l.runners
+      → (p : PartState) × (slice_get world.parts (suc worker) ≡ Some p) × (p.gone ≡ true)
 
 -- the word at this spot
 abbrev pub word_of : {T : Type 0} → Meaning → WordsState T → Spot → ℕ
@@ -77,7 +78,8 @@ pub record HasJoinedAll {T : Type 0} (t : TableState T) (keeper : RunnerState T)
 
 -- the words are those of a state that enabled events lead to, in which the keeper's part is the one that it kept, and each
 -- worker's the one that it had when it was joined
-pub record IsClosing {T : Type 0} (m : Meaning) (t : TableState T) (keeper : RunnerState T) (w : WordsState T) : Type 0 where
+pub record IsClosing {T : Type 0} (m : Meaning) (t : TableState T) (keeper : RunnerState T)
+    (w : WordsState T) : Type 0 where
   pub structure : w.structure ≡ t.structure
   pub layout : w.layout ≡ t.layout
   pub requests : w.requests ≡ t.requests
@@ -85,7 +87,8 @@ pub record IsClosing {T : Type 0} (m : Meaning) (t : TableState T) (keeper : Run
   pub reached : Reached m t.layout t.requests world
   pub words : world.words ≡ w.words
   pub keeper_part : slice_get world.parts 0 ≡ Some keeper.part
-  pub worker_parts : (worker : ℕ) → worker < t.layout.runners → slice_get world.parts (suc worker) ≡ left_part keeper.joined worker
+  pub worker_parts : (worker : ℕ) → worker < t.layout.runners
+      → slice_get world.parts (suc worker) ≡ left_part keeper.joined worker
 
 -- the value that the operation gives, if any, has 32 bits
 abbrev pub HasSmallValue : Op → Type 0

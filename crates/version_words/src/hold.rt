@@ -24,7 +24,8 @@ impl<S: Structure> FlockTable<S> {
         requires own { IsOf self.now runner }
         requires next { IsEnabled (S.meaning self.now.structure) (kinds.Hold thunk.now descriptor) runner }
         ensures own { IsOf self.now result.0 }
-        ensures event { Makes (S.meaning self.now.structure) (kinds.Hold thunk.now descriptor) result.1 runner result.0 }
+        ensures event { Makes (S.meaning self.now.structure) (kinds.Hold thunk.now descriptor)
+            result.1 runner result.0 }
         ensures published { result.2 ≡ (result.1 == thunk.now.word) }
     {
         let _ = &self.setup;

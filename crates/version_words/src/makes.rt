@@ -29,8 +29,8 @@ impl<S: Structure> FlockTable<S> {
         requires next { met_by (S.meaning self.now.structure) runner kinds.MakeCommit ≡ Some
             (next_log runner.part.run, Exchanges 0 (slot + 1)) }
         ensures own { IsOf self.now result.0 }
-        ensures event { Makes (S.meaning self.now.structure) kinds.MakeCommit (if result.2 then 0 else result.1 + 1) runner
-            result.0 }
+        ensures event { Makes (S.meaning self.now.structure) kinds.MakeCommit
+            (if result.2 then 0 else result.1 + 1) runner result.0 }
         ensures proposal { result.2 ≡ true → result.1 ≡ slot }
     {
         let _ = &self.setup;
@@ -49,8 +49,8 @@ impl<S: Structure> FlockTable<S> {
         requires next { met_by (S.meaning self.now.structure) runner kinds.RetireCommit ≡ Some
             (next_log runner.part.run, Exchanges 0 (slot + 1)) }
         ensures own { IsOf self.now result.0 }
-        ensures event { Makes (S.meaning self.now.structure) kinds.RetireCommit (if result.1 then 0 else slot + 1) runner
-            result.0 }
+        ensures event { Makes (S.meaning self.now.structure) kinds.RetireCommit
+            (if result.1 then 0 else slot + 1) runner result.0 }
     {
         let _ = &self.setup;
         let place = runner.kept.place;

@@ -31,7 +31,8 @@ impl<S: Structure> FlockTable<S> {
         requires next { met_by (S.meaning self.now.structure) runner (open_of runner.part.run descriptor) ≡ Some
             (spots.ThunkWord descriptor index, Loads) }
         ensures own { IsOf self.now result.0 }
-        ensures event { Makes (S.meaning self.now.structure) (open_of runner.part.run descriptor) result.1 runner result.0 }
+        ensures event { Makes (S.meaning self.now.structure) (open_of runner.part.run descriptor)
+            result.1 runner result.0 }
     {
         let spot = Spot::ThunkWord(descriptor, index);
         let at = self.setup.sizes.word_at(descriptor, start, index);
@@ -43,9 +44,11 @@ impl<S: Structure> FlockTable<S> {
     /// The done word of the run's descriptor: whether it is set.
     pub fn load_done(&self, mut runner: Runner<S>) -> (Runner<S>, bool)
         requires own { IsOf self.now runner }
-        requires next { met_by (S.meaning self.now.structure) runner kinds.LoadDone ≡ Some (own_done runner.part.run, Loads) }
+        requires next { met_by (S.meaning self.now.structure) runner kinds.LoadDone
+            ≡ Some (own_done runner.part.run, Loads) }
         ensures own { IsOf self.now result.0 }
-        ensures event { Makes (S.meaning self.now.structure) kinds.LoadDone (if result.1 then 1 else 0) runner result.0 }
+        ensures event { Makes (S.meaning self.now.structure) kinds.LoadDone
+            (if result.1 then 1 else 0) runner result.0 }
     {
         let _ = &self.setup;
         let spot = Spot::DoneWord(runner.kept.place.descriptor);

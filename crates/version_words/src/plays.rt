@@ -188,7 +188,8 @@ impl Named for LoadThunk {
     ghost use Rattle.runner_steps.specs.Asks.{sizes_for};
     ghost use Rattle.version_words.specs.Naming.{open_of};
 
-    ghost naming = { λ m layout requests part step. open_of part.run ((step.word - descriptor_at (sizes_for m layout requests) 0) / 77) };
+    ghost naming = { λ m layout requests part step.
+        open_of part.run ((step.word - descriptor_at (sizes_for m layout requests) 0) / 77) };
 }
 
 /// In a run the cell is the one that comes next; outside it is read off the step's word.
@@ -198,7 +199,8 @@ impl Named for LoadCell {
     ghost use Rattle.std.specs.Prelude.{◌+◌, ◌*◌, ◌-◌, length};
     ghost use Rattle.version_words.specs.Naming.{load_of};
 
-    ghost naming = { λ m layout requests part step. load_of part.run (step.word - (4 + layout.runners + 2 * length requests)) };
+    ghost naming = { λ m layout requests part step.
+        load_of part.run (step.word - (4 + layout.runners + 2 * length requests)) };
 }
 
 /// The thunk is the one that the step announces, and the descriptor is read off the word that is to stand in the lock.
@@ -219,7 +221,9 @@ impl Named for PrivateStore {
     ghost use Rattle.runner_parts.specs.declared.event.EventKind.TheVariants as kinds;
     ghost use Rattle.version_words.specs.Private.{slot_at, word_at};
 
-    ghost naming = { λ m layout requests part step. kinds.PrivateStore (slot_at m layout requests step.word) (word_at m layout requests step.word) step.first };
+    ghost naming = { λ m layout requests part step.
+        kinds.PrivateStore (slot_at m layout requests step.word) (word_at m layout requests step.word)
+        step.first };
 }
 
 /// The slot and its word are read off the step's word.
@@ -229,7 +233,8 @@ impl Named for PrivateLoad {
     ghost use Rattle.runner_parts.specs.declared.event.EventKind.TheVariants as kinds;
     ghost use Rattle.version_words.specs.Private.{slot_at, word_at};
 
-    ghost naming = { λ m layout requests part step. kinds.PrivateLoad (slot_at m layout requests step.word) (word_at m layout requests step.word) };
+    ghost naming = { λ m layout requests part step.
+        kinds.PrivateLoad (slot_at m layout requests step.word) (word_at m layout requests step.word) };
 }
 
 pub struct MakeCommit;

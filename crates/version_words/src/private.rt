@@ -59,7 +59,8 @@ impl<S: Structure> FlockTable<S> {
         requires own { IsOf self.now runner }
         requires next { IsEnabled (S.meaning self.now.structure) (kinds.PrivateStore slot word number) runner }
         ensures own { IsOf self.now result }
-        ensures event { (found : ℕ) → Makes (S.meaning self.now.structure) (kinds.PrivateStore slot word number) found runner result }
+        ensures event { (found : ℕ)
+            → Makes (S.meaning self.now.structure) (kinds.PrivateStore slot word number) found runner result }
     {
         let spot = self.private_spot(slot, word);
         self.store::<plays::PrivateStore>(&mut runner.seat, spot, number);
@@ -83,7 +84,8 @@ impl<S: Structure> FlockTable<S> {
             IsEnabled m (kinds.PrivateLoad (slot_count self.now.layout m.fixed_slots + descriptor) word) runner }
         ensures own { IsOf self.now result.0 }
         ensures event { let m = S.meaning self.now.structure in
-            Makes m (kinds.PrivateLoad (slot_count self.now.layout m.fixed_slots + descriptor) word) result.1 runner result.0 }
+            Makes m (kinds.PrivateLoad (slot_count self.now.layout m.fixed_slots + descriptor) word)
+            result.1 runner result.0 }
     {
         let spot = descriptor_spot(descriptor, word);
         let at = self.setup.sizes.word_at(descriptor, start, word);
@@ -104,10 +106,13 @@ impl<S: Structure> FlockTable<S> {
         requires own { IsOf self.now runner }
         requires start { start ≡ start_of (S.meaning self.now.structure) self.now descriptor }
         requires next { let m = S.meaning self.now.structure in
-            IsEnabled m (kinds.PrivateStore (slot_count self.now.layout m.fixed_slots + descriptor) word number) runner }
+            IsEnabled m
+            (kinds.PrivateStore (slot_count self.now.layout m.fixed_slots + descriptor) word number) runner }
         ensures own { IsOf self.now result }
         ensures event { let m = S.meaning self.now.structure in
-            (found : ℕ) → Makes m (kinds.PrivateStore (slot_count self.now.layout m.fixed_slots + descriptor) word number) found runner result }
+            (found : ℕ)
+            → Makes m (kinds.PrivateStore (slot_count self.now.layout m.fixed_slots + descriptor) word number)
+            found runner result }
     {
         let spot = descriptor_spot(descriptor, word);
         let at = self.setup.sizes.word_at(descriptor, start, word);

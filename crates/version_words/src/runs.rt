@@ -52,7 +52,8 @@ impl<S: Structure> FlockTable<S> {
     /// The nested lock's word, after the exchange that was to take it.
     pub fn outcome_load(&self, mut runner: Runner<S>, place: Place) -> (Runner<S>, Word)
         requires own { IsOf self.now runner }
-        requires next { met_by (S.meaning self.now.structure) runner kinds.OutcomeLoad ≡ Some (spots.Cell place, Loads) }
+        requires next { met_by (S.meaning self.now.structure) runner kinds.OutcomeLoad
+            ≡ Some (spots.Cell place, Loads) }
         ensures own { IsOf self.now result.0 }
         ensures event { Makes (S.meaning self.now.structure) kinds.OutcomeLoad result.1 runner result.0 }
     {
@@ -63,7 +64,8 @@ impl<S: Structure> FlockTable<S> {
     /// The clock goes up to this number, if it is below.
     pub fn clock_raise(&self, mut runner: Runner<S>, number: u64) -> Runner<S>
         requires own { IsOf self.now runner }
-        requires next { met_by (S.meaning self.now.structure) runner kinds.ClockRaise ≡ Some (spots.Clock, Raises number) }
+        requires next { met_by (S.meaning self.now.structure) runner kinds.ClockRaise
+            ≡ Some (spots.Clock, Raises number) }
         ensures own { IsOf self.now result }
         ensures event { IsMade (S.meaning self.now.structure) kinds.ClockRaise runner result }
     {

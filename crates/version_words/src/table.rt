@@ -149,10 +149,12 @@ impl<S: Structure> FlockTable<S> {
             Tries m (event_by m E.naming r (step_at m self.now spot old new nothing)) (result == old) r
             (seen_seat seat.new.table_id seat.new.me) }
         ensures commits { let m = S.meaning self.now.structure in let r = seen_seat seat.old.table_id seat.old.me in
-            Commits m (event_by m E.naming r (step_at m self.now spot old new nothing)) (written (Exchanges old new) result) (result == old) r
+            Commits m (event_by m E.naming r (step_at m self.now spot old new nothing))
+            (written (Exchanges old new) result) (result == old) r
             (seen_seat seat.new.table_id seat.new.me) }
         ensures leaves { let m = S.meaning self.now.structure in let r = seen_seat seat.old.table_id seat.old.me in
-            Leaves m (event_by m E.naming r (step_at m self.now spot old new nothing)) (written (Exchanges old new) result) r
+            Leaves m (event_by m E.naming r (step_at m self.now spot old new nothing))
+            (written (Exchanges old new) result) r
             (seen_seat seat.new.table_id seat.new.me) }
         ensures slots { seat.new.me.1 ≡ seat.old.me.1 }
     {
