@@ -50,7 +50,16 @@ pub data Event : Type 0 where
 
 -- a run at the start of its line
 abbrev pub begun : ℕ → Run
-begun d = record { running = true; descriptor = d; at = 0; word = 0; count = 0; trail = λ k. 0; ended = false; released = λ p. false }
+begun d = record {
+  running = true;
+  descriptor = d;
+  at = 0;
+  word = 0;
+  count = 0;
+  trail = λ k. 0;
+  ended = false;
+  released = λ p. false;
+}
 
 -- the run goes on behind its step, with this number to go by
 abbrev pub goes_on : AgreementState → ℕ → ℕ → AgreementState

@@ -11,7 +11,16 @@ no_section =
     record { lock = 0; word = 0; request = 0; code = λ i. End; slot = λ i. 0; log = λ k. 0; done = 0; edge = 0 }
 
 abbrev pub no_run : Run
-no_run = record { running = false; descriptor = 0; at = 0; word = 0; count = 0; trail = λ k. 0; ended = false; released = λ p. false }
+no_run = record {
+  running = false;
+  descriptor = 0;
+  at = 0;
+  word = 0;
+  count = 0;
+  trail = λ k. 0;
+  ended = false;
+  released = λ p. false;
+}
 
 abbrev pub not_finished : Finished
 not_finished = record { lock = 0; word = 0; descriptor = 0; count = 0; trail = λ k. 0 }

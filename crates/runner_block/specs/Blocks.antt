@@ -11,7 +11,10 @@ use Rattle.runner_block.specs.Kept.{with_part, with_nodes}
 abbrev pub block_filling : Block → ℕ → Bool → Block
 block_filling b slot true = b
 block_filling b slot false =
-    record { lists = with_nodes b.lists (slot_taken b.lists.part.nodes slot); place = record (b.place) { making = true; worn = false } }
+    record {
+      lists = with_nodes b.lists (slot_taken b.lists.part.nodes slot);
+      place = record (b.place) { making = true; worn = false };
+    }
 
 -- the block after a private load outside a run: of a descriptor nothing is kept
 abbrev pub block_found : Layout → Block → ℕ → ℕ → ℕ → Bool → Block

@@ -43,7 +43,10 @@ scanned_of _ = 0
 -- of what the code keeps, after a section was published with this descriptor
 abbrev pub published_in : PartState → ℕ → PartState
 published_in p descriptor =
-    record p { published = published_as (Some descriptor); descriptors = record (p.descriptors) { free = without p.descriptors.free descriptor } }
+    record p {
+      published = published_as (Some descriptor);
+      descriptors = record (p.descriptors) { free = without p.descriptors.free descriptor };
+    }
 
 -- and after an exchange that was to publish it, which won or lost
 abbrev pub held_in : PartState → ℕ → Bool → PartState

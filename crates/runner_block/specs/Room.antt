@@ -71,7 +71,10 @@ first_descriptors free = record { free = free; limbo = []; published = None }
 
 abbrev pub sections_collected : ℕ → DescriptorsKept → DescriptorsKept
 sections_collected epoch d =
-    record d { free = d.free ++ slots_of (filter (is_old epoch) d.limbo); limbo = filter (λ x. not (is_old epoch x)) d.limbo }
+    record d {
+      free = d.free ++ slots_of (filter (is_old epoch) d.limbo);
+      limbo = filter (λ x. not (is_old epoch x)) d.limbo;
+    }
 
 -- a section was published with this descriptor
 abbrev pub section_held : DescriptorsKept → ℕ → DescriptorsKept

@@ -63,7 +63,18 @@ impl Model for Kept {
         nodes = a.nodes.lists;
         descriptors = record { free = a.descriptors.free; stored = []; limbo = a.descriptors.limbo };
         reads = no_reads;
-        records = record { known = []; finished = []; events = 0; won = 0; epoch_seen = 0; crossed = false; crosses = false; left = []; splits = a.splits; joined = [] };
+        records = record {
+          known = [];
+          finished = [];
+          events = 0;
+          won = 0;
+          epoch_seen = 0;
+          crossed = false;
+          crosses = false;
+          left = [];
+          splits = a.splits;
+          joined = [];
+        };
         gone = false;
       };
       room = a.nodes.room;

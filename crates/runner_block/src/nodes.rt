@@ -32,7 +32,13 @@ impl Model for NodeLists {
     ghost Value = { NodesKept };
 
     ghost view = { λ a. record {
-      lists = record { free = a.free.items; hand = a.hand.items; tests = a.tests.items; limbo = a.limbo.items; worn = a.worn.items };
+      lists = record {
+        free = a.free.items;
+        hand = a.hand.items;
+        tests = a.tests.items;
+        limbo = a.limbo.items;
+        worn = a.worn.items;
+      };
       room = a.room;
     } };
 
@@ -40,7 +46,13 @@ impl Model for NodeLists {
         (vec_len a.free + vec_len a.hand + vec_len a.limbo + vec_len a.worn)
         (vec_capacity a.free) (vec_capacity a.hand) (vec_capacity a.tests)
         (vec_capacity a.limbo) (vec_capacity a.worn)
-        (record { free = a.free.items; hand = a.hand.items; tests = a.tests.items; limbo = a.limbo.items; worn = a.worn.items }) };
+        (record {
+          free = a.free.items;
+          hand = a.hand.items;
+          tests = a.tests.items;
+          limbo = a.limbo.items;
+          worn = a.worn.items;
+        }) };
 }
 
 impl NodeLists {

@@ -98,7 +98,10 @@ acted s (OutcomeCommit place log) r = agrees (s.taken log) r
 acted s (CheckHeld place log word) r = record r { outcome = leaves s r.trail (CheckHeld place log word) }
 acted s (PrivateLoad cell log) r = r
 acted s (PrivateStore cell log value) r =
-    record r { cells = upd r.cells (cell_of s.fixed_cells (s.slot log) cell) (next_word (s.first log cell) (source_value r.trail value)) }
+    record r {
+      cells = upd r.cells (cell_of s.fixed_cells (s.slot log) cell)
+          (next_word (s.first log cell) (source_value r.trail value));
+    }
 acted s (MakeCommit log) r = record r { trail = r.trail ++ (s.slot log + 1) ∷ []; made = r.made ++ s.slot log ∷ [] }
 acted s ClockLoad r = r
 acted s StampExchange r = record r { stamp = written_once r.stamp (2 * (s.clock + 1)) }

@@ -106,7 +106,10 @@ fn make_node(steps: &[Step], n: usize, init: Init, memory: &mut Memory, trail: &
     requires space { length trail.old.words < 64 }
     ensures memory { let values = map (λ value. source_value trail.old.words
         (source_of (registers_before steps.now n) value)) init.cells in
-        memory.new ≡ record memory.old { cells = filled memory.old.fixed_cells (slice_index memory.old.free 0) values memory.old.cells 5; free = drop 1 memory.old.free } }
+        memory.new ≡ record memory.old {
+          cells = filled memory.old.fixed_cells (slice_index memory.old.free 0) values memory.old.cells 5;
+          free = drop 1 memory.old.free;
+        } }
     ensures trail { trail.new ≡ record trail.old {
       words = trail.old.words
           ++ (slice_index memory.old.free 0 + 1) ∷ [];

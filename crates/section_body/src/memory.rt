@@ -36,7 +36,17 @@ impl Model for Memory {
 
     ghost Value = { PlainMemory };
 
-    ghost view = { λ m. record { cells = m.cells.items; free = m.free.items; retired = m.retired.items; room = vec_capacity m.retired; clock = m.clock; stamps = m.stamps.items; replies = m.replies.items; version_max = m.version_max; fixed_cells = m.fixed_cells } };
+    ghost view = { λ m. record {
+      cells = m.cells.items;
+      free = m.free.items;
+      retired = m.retired.items;
+      room = vec_capacity m.retired;
+      clock = m.clock;
+      stamps = m.stamps.items;
+      replies = m.replies.items;
+      version_max = m.version_max;
+      fixed_cells = m.fixed_cells;
+    } };
 }
 
 impl Memory {
@@ -52,7 +62,11 @@ impl Memory {
     pub(crate) fn exchange(&mut self, place: Place, old: Word, value: u32)
         requires within { place < length self.old.cells }
         requires room { slice_index self.old.cells place ≡ old → version_of old + 1 < 2 ^ 32 }
-        ensures { self.new ≡ record self.old { cells = slice_set self.old.cells place (cond (slice_index self.old.cells place == old) (next_word old value) (slice_index self.old.cells place)) } }
+        ensures { self.new ≡ record self.old {
+          cells = slice_set self.old.cells place
+              (cond (slice_index self.old.cells place == old)
+              (next_word old value) (slice_index self.old.cells place));
+        } }
     {
         let index = place as usize;
         if self.cells[index] == old {
@@ -65,7 +79,9 @@ impl Memory {
         requires within { cell_of self.old.fixed_cells slot cell < length self.old.cells }
         requires room { version_of (slice_index self.old.cells (cell_of self.old.fixed_cells slot cell)) + 1 < 2 ^ 32 }
         ensures { let place = cell_of self.old.fixed_cells slot cell in
-            self.new ≡ record self.old { cells = slice_set self.old.cells place (next_word (slice_index self.old.cells place) value) } }
+            self.new ≡ record self.old {
+              cells = slice_set self.old.cells place (next_word (slice_index self.old.cells place) value);
+            } }
     {
         let index = self.fixed_cells as usize + 5 * slot as usize + cell as usize;
         self.cells[index] = self.cells[index].next(value);
@@ -93,7 +109,10 @@ impl Memory {
         requires within { request < length self.old.stamps }
         requires early { self.old.clock < 2 ^ 62 }
         ensures { let stamp = written_once (slice_index self.old.stamps request) (2 * (self.old.clock + 1)) in
-            self.new ≡ record self.old { clock = max self.old.clock (stamp / 2); stamps = slice_set self.old.stamps request stamp } }
+            self.new ≡ record self.old {
+              clock = max self.old.clock (stamp / 2);
+              stamps = slice_set self.old.stamps request stamp;
+            } }
     {
         let index = request as usize;
         if self.stamps[index] == 0 {
@@ -105,7 +124,10 @@ impl Memory {
     /// Gives a request its reply word, unless it has one.
     pub(crate) fn answer(&mut self, request: u32, reply: u64)
         requires { request < length self.old.replies }
-        ensures { self.new ≡ record self.old { replies = slice_set self.old.replies request (written_once (slice_index self.old.replies request) reply) } }
+        ensures { self.new ≡ record self.old {
+          replies = slice_set self.old.replies request
+              (written_once (slice_index self.old.replies request) reply);
+        } }
     {
         let index = request as usize;
         if self.replies[index] == 0 {

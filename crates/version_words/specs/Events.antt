@@ -110,11 +110,23 @@ start_of m t descriptor = descriptor_at (sizes_for m t.layout t.requests) descri
 
 -- what contracts see of a seat
 abbrev pub seen_seat : {T : Type 0} → TableId → Me Thunk (View T) → RunnerState T
-seen_seat table me = record { table = table; structure = me.0.structure; layout = me.0.layout; requests = me.0.requests; number = me.0.number; part = me.0.part; joined = me.0.joined }
+seen_seat table me = record {
+  table = table;
+  structure = me.0.structure;
+  layout = me.0.layout;
+  requests = me.0.requests;
+  number = me.0.number;
+  part = me.0.part;
+  joined = me.0.joined;
+}
 
 -- the next worker that a keeper splits off, in its first state
 abbrev pub next_worker : {T : Type 0} → Meaning → RunnerState T → RunnerState T
-next_worker m keeper = record keeper { number = keeper.part.records.splits; part = worker_part m keeper.layout keeper.part.records.splits; joined = [] }
+next_worker m keeper = record keeper {
+  number = keeper.part.records.splits;
+  part = worker_part m keeper.layout keeper.part.records.splits;
+  joined = [];
+}
 
 -- the keeper after it joined this worker: it knows also what the worker knew, and keeps the worker's part
 abbrev pub joined_by : {T : Type 0} → Meaning → RunnerState T → RunnerState T → RunnerState T

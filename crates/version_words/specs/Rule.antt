@@ -44,7 +44,14 @@ pub record Holds {T : Type 0} (m : Meaning) (s : T) (l : Layout) (requests : Lis
 
 module _ {T : Type 0} where
   abbrev pub keeper_view : Meaning → T → Layout → List Request → View T
-  keeper_view m s l requests = record { structure = Some s; layout = l; requests = requests; number = l.runners; part = keeper_part m l; joined = [] }
+  keeper_view m s l requests = record {
+    structure = Some s;
+    layout = l;
+    requests = requests;
+    number = l.runners;
+    part = keeper_part m l;
+    joined = [];
+  }
 
   -- the view after this event, which met this spot and found this number
   abbrev pub stepped : Meaning → EventKind → Spot → Access → View T → ℕ → View T
@@ -72,13 +79,27 @@ module _ {T : Type 0} where
   -- the view of the next worker
   abbrev pub split_off : (T → Meaning) → View T → Option T → View T
   split_off mean v None = v
-  split_off mean v (Some s) = record v { number = v.part.records.splits; part = worker_part (mean s) v.layout v.part.records.splits; joined = [] }
+  split_off mean v (Some s) = record v {
+    number = v.part.records.splits;
+    part = worker_part (mean s) v.layout v.part.records.splits;
+    joined = [];
+  }
 
   -- the keeper's view once it has joined a worker: it knows also what the worker knew, and keeps its part
   abbrev pub joining : (T → Meaning) → View T → View T → Option T → View T
   joining mean v w None = v
-  joining mean v w (Some s) = record v { part = knows_also (after (mean s) v.layout v.number (kinds.Join w.number) Seat Loads v.part 0) w.part; joined = (w.number, w.part) ∷ v.joined }
+  joining mean v w (Some s) = record v {
+    part = knows_also (after (mean s) v.layout v.number (kinds.Join w.number) Seat Loads v.part 0) w.part;
+    joined = (w.number, w.part) ∷ v.joined;
+  }
 
   -- what is left of the view of a joined worker
   abbrev pub spent : View T
-  spent = record { structure = None; layout = record { runners = 0; nodes = 0; sections = 0; version_max = 0 }; requests = []; number = 0; part = first_part [] []; joined = [] }
+  spent = record {
+    structure = None;
+    layout = record { runners = 0; nodes = 0; sections = 0; version_max = 0 };
+    requests = [];
+    number = 0;
+    part = first_part [] [];
+    joined = [];
+  }

@@ -38,6 +38,17 @@ told_part p = record {
   nodes = p.nodes;
   descriptors = record (p.descriptors) { stored = [] };
   reads = no_reads;
-  records = record { known = []; finished = []; events = 0; won = 0; epoch_seen = 0; crossed = false; crosses = false; left = []; splits = p.records.splits; joined = [] };
+  records = record {
+    known = [];
+    finished = [];
+    events = 0;
+    won = 0;
+    epoch_seen = 0;
+    crossed = false;
+    crosses = false;
+    left = [];
+    splits = p.records.splits;
+    joined = [];
+  };
   gone = false;
 }

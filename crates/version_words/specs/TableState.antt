@@ -42,7 +42,15 @@ pub record IsNew {T : Type 0} (given : T) (l : Layout) (rs : List Request) (t : 
 
 -- the keeper of a new table: it has the number after the last worker's, and has done nothing
 abbrev pub first_keeper : {T : Type 0} → Meaning → TableState T → RunnerState T
-first_keeper m t = record { table = t.table; structure = Some t.structure; layout = t.layout; requests = t.requests; number = t.layout.runners; part = keeper_part m t.layout; joined = [] }
+first_keeper m t = record {
+  table = t.table;
+  structure = Some t.structure;
+  layout = t.layout;
+  requests = t.requests;
+  number = t.layout.runners;
+  part = keeper_part m t.layout;
+  joined = [];
+}
 
 -- the words of a closed table
 pub record WordsState (T : Type 0) : Type 0 where

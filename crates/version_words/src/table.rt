@@ -28,7 +28,12 @@ impl<S: Structure> Model for FlockTable<S> {
 
     ghost Value = { TableState S };
 
-    ghost view = { λ a. record { table = a.table.shared.table_id; structure = a.setup.structure; layout = a.setup.layout; requests = a.setup.requests.items } };
+    ghost view = { λ a. record {
+      table = a.table.shared.table_id;
+      structure = a.setup.structure;
+      layout = a.setup.layout;
+      requests = a.setup.requests.items;
+    } };
 
     ghost invariant = { λ a. IsBuilt (S.meaning a.setup.structure) a.table.shared.table_id a.table.shared.key a.setup };
 }

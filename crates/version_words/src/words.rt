@@ -25,7 +25,12 @@ impl<S: Structure> Model for Words<S> {
 
     ghost Value = { WordsState S };
 
-    ghost view = { λ a. record { structure = a.setup.structure; layout = a.setup.layout; requests = a.setup.requests.items; words = slots_items a.closed.words } };
+    ghost view = { λ a. record {
+      structure = a.setup.structure;
+      layout = a.setup.layout;
+      requests = a.setup.requests.items;
+      words = slots_items a.closed.words;
+    } };
 
     ghost invariant = { λ a. IsLaid (S.meaning a.setup.structure) a.closed a.setup };
 }
