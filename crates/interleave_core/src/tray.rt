@@ -14,37 +14,8 @@ use table_words::Layout;
 #[derive(Clone, Copy, Debug, PartialEq, Eq)]
 pub struct Tray;
 
-/// What a number's form does, written over the five steps of a body.
-fn renew_number(operand: Word, steps: &mut [Step])
-    requires { length steps.old ≡ 5 }
-    ensures { steps.new ≡ body_of Number operand }
-{
-    steps[0] = Step::Load { place: 1, into: 0 };
-    steps[1] = Step::Fresh { reg: 0 };
-    steps[2] = Step::Stamp;
-    steps[3] = Step::Store {
-        reg: 0,
-        value: Value::Const(operand.value()),
-    };
-    steps[4] = Step::Answer { reply: 4294967296 };
-}
-
-/// What a number's form does: it stores the number at place 1. A body that has five steps is written over, which is cheaper than to
-/// copy five others into it.
+/// What a number's form does: it stores the number at place 1.
 fn fill_number(operand: Word, body: &mut Body)
-    ensures { body.new ≡ body_of Number operand }
-{
-    if body.steps.len() == 5 {
-        renew_number(operand, body.steps.as_mut_slice());
-    } else {
-        refill_number(operand, body);
-    }
-}
-
-/// What a number's form does, in place of any number of steps. It is a call of its own, so that the place of the five isn't cleared where
-/// they are written over.
-#[inline(never)]
-fn refill_number(operand: Word, body: &mut Body)
     ensures { body.new ≡ body_of Number operand }
 {
     body.refill(&[

@@ -1,7 +1,8 @@
--- Numbers that stand at most once in a list.
-use Rattle.std.proofs.Common.{◌≡◌, ℕ, ◌+◌, ◌≤◌, List, [], ◌∷◌, ◌++◌, Bool, true, false, refl, ap, ◌∙◌, cond, eq-eqb, arith}
+-- Numbers and tests that stand at most once in a list.
+use Rattle.std.proofs.Common.{◌≡◌, ℕ, ◌+◌, ◌≤◌, List, [], ◌∷◌, ◌++◌, Bool, true, false, refl, sym, ap, ◌∙◌, cond, eq-eqb, length, get_or, set, arith}
 use Rattle.std.specs.Prelude.{◌==◌, not}
-use Rattle.runner_parts.specs.Lists.{without}
+use Rattle.runner_parts.specs.Lists.{without, tests_without}
+use Rattle.runner_parts.specs.declared.entries.Tested.{Tested}
 use Rattle.epoch_core.specs.Lists.{times}
 
 -- how often it stands there, by whether it is the first
@@ -25,3 +26,9 @@ gone_by false x y ys e once rest = let a = times_by false x y (ys ++ x ∷ []) e
 pub last_gone : (x : ℕ) (ys : List ℕ) → times x (ys ++ x ∷ []) ≤ 1 → without (ys ++ x ∷ []) x ≡ ys
 last_gone x [] once = ap (λ b. cond (not b) (x ∷ []) []) (eq-eqb x x refl)
 last_gone x (y ∷ ys) once = gone_by (y == x) x y ys refl once (last_gone x ys)
+
+-- the only test, which is of this slot, is replaced
+pub only_renewed : (xs : List Tested) (test : Tested) (found : Tested) → length xs ≡ 1 → found ≡ get_or xs 0 found → found.slot ≡ test.slot → set xs 0 test ≡ tests_without xs test.slot ++ test ∷ []
+only_renewed [] test found one here same = absurd (omega (arith, one))
+only_renewed (x ∷ []) test found one here same = ap (λ b. cond (not b) (x ∷ []) [] ++ test ∷ []) (sym (eq-eqb x.slot test.slot (ap (λ (t : Tested). t.slot) (sym here) ∙ same)))
+only_renewed (x ∷ y ∷ xs) test found one here same = absurd (omega (arith, one))

@@ -32,7 +32,8 @@ impl Block {
     }
 
     /// A cell of an own slot was loaded. In a run it is one of the slot that a Make fills, which the first
-    /// such load takes.
+    /// such load takes: so of the others nothing is kept, and they make no call.
+    #[inline(always)]
     fn looked(&mut self, layout: Layout, slot: u32, word: u32, found: u64)
         requires own { MayTake self.old slot }
         requires node { slot < self.old.lists.room }

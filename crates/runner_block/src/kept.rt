@@ -19,18 +19,21 @@ use std::alloc::{AllocError, Global};
 use std::marker::Model;
 use table_words::Layout;
 
-/// Room for a run: a body for it to refill, and a trail to begin anew. So no run makes them.
+/// Room for a run: bodies for it to refill, and a trail to begin anew. So no run makes them.
+///
+/// There are four bodies, of which a thunk's form says which one is refilled: those of one form have mostly the same
+/// number of steps, and a body is refilled faster where that stays.
 #[derive(Drop)]
 pub struct RunRoom {
-    pub body: Body,
+    pub bodies: [Body; 4],
     pub trail: Trail,
 }
 
 impl RunRoom {
-    /// An empty body and an empty trail.
+    /// Empty bodies and an empty trail.
     fn new() -> RunRoom {
         RunRoom {
-            body: Body::empty(),
+            bodies: [Body::empty(), Body::empty(), Body::empty(), Body::empty()],
             trail: Trail::new(),
         }
     }
@@ -277,6 +280,7 @@ impl Kept {
     }
 
     /// A Make takes a free slot into the hand.
+    #[inline(never)]
     pub fn take(&mut self, slot: u32)
         requires own { has self.old.part.nodes.free slot ≡ true }
         requires once { times slot self.old.part.nodes.free ≤ 1 }
@@ -303,6 +307,7 @@ impl Kept {
     }
 
     /// A cell of an own node slot was loaded outside a run.
+    #[inline(never)]
     pub fn look(&mut self, layout: Layout, slot: u32, cell: u32, word: u64)
         ensures { self.new ≡ with_nodes self.old (nodes_looked layout self.old.part.nodes slot cell word) }
     {

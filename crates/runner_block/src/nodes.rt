@@ -6,7 +6,7 @@ ghost use Rattle.epoch_core.specs.Lists.{times};
 ghost use Rattle.machine_states.specs.First.{falling};
 ghost use Rattle.runner_block.specs.Room.{AreFew, first_nodes, nodes_are};
 
-use crate::reserved::{falling, forget, has, remove, take_out, test_of, wait_over};
+use crate::reserved::{falling, forget, has, remove, renew, take_out, test_of, wait_over};
 use runner_parts::{Retired, Tested};
 use section_body::Word;
 use std::alloc::{AllocError, Global};
@@ -158,12 +158,12 @@ impl NodeLists {
         if test.cells == 5 {
             self.slot_back(test.slot, test.worn);
         } else {
-            forget(&mut self.tests, test.slot);
-            self.tests.push_reserved(test);
+            renew(&mut self.tests, test);
         }
     }
 
     /// After a private load outside a run: only the next cell of a slot in the hand counts.
+    #[inline(always)]
     pub fn look(&mut self, layout: Layout, slot: u32, cell: u32, word: u64)
         ensures { self.new ≡ nodes_are self.old (nodes_looked layout self.old.lists slot cell word) }
     {

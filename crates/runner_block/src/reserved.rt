@@ -1,5 +1,5 @@
 //! Lists with reserved room.
-ghost use Rattle.std.specs.Prelude.{◌≡◌, ◌+◌, ◌<◌, ◌≤◌, ◌^◌, ◌++◌, IfOk, vec_len, length, not};
+ghost use Rattle.std.specs.Prelude.{◌≡◌, ◌+◌, ◌<◌, ◌≤◌, ◌^◌, [], ◌∷◌, ◌++◌, IfOk, vec_len, length, not};
 ghost use Rattle.std.specs.List.{filter};
 ghost use Rattle.std.specs.Vec.{vec_capacity};
 ghost use Rattle.runner_parts.specs.Lists.{is_old, slots_of, without, test_of, tests_without};
@@ -31,6 +31,7 @@ fn add_old(list: &mut Vec<u32>, limbo: &[Retired], epoch: u64)
 }
 
 /// The slots that have waited long enough go from limbo into the list.
+#[inline(never)]
 fn move_old(list: &mut Vec<u32>, limbo: &mut Vec<Retired>, epoch: u64)
     requires { vec_len list.old + vec_len limbo.old ≤ vec_capacity list.old }
     ensures list { list.new.items ≡ list.old.items ++ slots_of (filter (is_old epoch) limbo.old.items) }
@@ -44,6 +45,7 @@ fn move_old(list: &mut Vec<u32>, limbo: &mut Vec<Retired>, epoch: u64)
 }
 
 /// The slots that have waited long enough go from limbo into the list. Mostly none is in limbo, and nothing is written.
+#[inline(always)]
 pub fn wait_over(list: &mut Vec<u32>, limbo: &mut Vec<Retired>, epoch: u64)
     requires { vec_len list.old + vec_len limbo.old ≤ vec_capacity list.old }
     ensures list { list.new.items ≡ list.old.items ++ slots_of (filter (is_old epoch) limbo.old.items) }
@@ -123,4 +125,19 @@ pub fn forget(tests: &mut Vec<Tested>, slot: u32)
     ensures room { vec_capacity tests.new ≡ vec_capacity tests.old }
 {
     tests.retain(|x| !(x.slot == slot));
+}
+
+/// This test comes behind the others, in place of those of its slot. Where it is the only one it is written over.
+#[inline(always)]
+pub fn renew(tests: &mut Vec<Tested>, test: Tested)
+    requires { length (tests_without tests.old.items test.slot) < vec_capacity tests.old }
+    ensures items { tests.new.items ≡ tests_without tests.old.items test.slot ++ test ∷ [] }
+    ensures room { vec_capacity tests.new ≡ vec_capacity tests.old }
+{
+    if tests.len() == 1 && tests[0].slot == test.slot {
+        tests[0] = test;
+    } else {
+        forget(tests, test.slot);
+        tests.push_reserved(test);
+    }
 }

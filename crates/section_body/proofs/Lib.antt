@@ -12,3 +12,4 @@ pub mod RunLemmas
 pub mod ShapeLemmas
 pub mod SoundLemmas
 pub mod ValueLemmas
+pub mod WrittenLemmas

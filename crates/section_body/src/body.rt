@@ -1,5 +1,5 @@
 //! A section's body: its list of steps.
-ghost use Rattle.std.specs.Prelude.{◌≡◌, ◌≤◌, [], length};
+ghost use Rattle.std.specs.Prelude.{◌≡◌, ◌+◌, ◌≤◌, [], length, take};
 
 use crate::step::Step;
 use arrayvec::ArrayVec;
@@ -43,15 +43,58 @@ impl Body {
         }
     }
 
+    /// Gives the body this many steps: its first ones, and `Stamp` for each that it hasn't.
+    #[inline(never)]
+    fn resize(&mut self, count: usize)
+        requires { count ≤ 40 }
+        ensures { length self.new ≡ count }
+    {
+        self.steps.truncate(count);
+        for _ in self.steps.len()..count {
+            self.steps.push(Step::Stamp);
+        }
+    }
+
     /// Puts these steps in place of those that the body has. A body has room for 40 steps, so one that is kept
-    /// and refilled is cheaper than another one made; and steps are written over, not cleared first.
+    /// and refilled is cheaper than another one made. Each step is written once, over what stands there: where the
+    /// caller lists the steps in the call, the compiler makes no list of them.
+    #[inline(always)]
     pub fn refill(&mut self, steps: &[Step])
         requires { length steps.now ≤ 40 }
         ensures { self.new ≡ steps.now }
     {
-        self.steps.truncate(steps.len());
-        let kept = self.steps.len();
-        self.steps.as_mut_slice().copy_from_slice(&steps[..kept]);
-        let _ = self.steps.try_extend_from_slice(&steps[kept..]);
+        if self.steps.len() != steps.len() {
+            self.resize(steps.len());
+        }
+        write_over(self.steps.as_mut_slice(), steps);
     }
+}
+
+/// Writes the next ten of these steps, from this one on, over those that stand there; the ones before are written. Where
+/// the list is known the compiler unrolls ten turns, and not many more.
+#[inline(always)]
+fn write_ten(place: &mut [Step], steps: &[Step], from: usize)
+    requires few { from ≤ 30 }
+    requires room { length place.old ≡ length steps.now }
+    requires before { take from place.old ≡ take from steps.now }
+    ensures room { length place.new ≡ length steps.now }
+    ensures written { take (from + 10) place.new ≡ take (from + 10) steps.now }
+{
+    let end = steps.len().min(from + 10);
+    for n in from..end {
+        place[n] = steps[n];
+    }
+}
+
+/// Writes these steps over so many others.
+#[inline(always)]
+fn write_over(place: &mut [Step], steps: &[Step])
+    requires few { length steps.now ≤ 40 }
+    requires room { length place.old ≡ length steps.now }
+    ensures { place.new ≡ steps.now }
+{
+    write_ten(place, steps, 0);
+    write_ten(place, steps, 10);
+    write_ten(place, steps, 20);
+    write_ten(place, steps, 30);
 }

@@ -148,7 +148,7 @@ module _ {T : Type 0} (m : Meaning) (laws : Laws m) (t : TableState T) (limits :
             ∙ (λ i. over_if ((passed.stays.published ∙ hop.stays.published) i) (q_descriptor i)));
         descriptors = behind.descriptors ∙ (passed.stays.descriptors ∙ hop.stays.descriptors);
         nodes = subst (λ (ns : NodesState). NodesRan (m.body thunk) ns new.part.nodes) hop.nodes (subst (λ xs. NodesRan xs r1.part.nodes new.part.nodes) body1
-            (nodes_ran (body_of m r1) n r1.part.nodes new.part.nodes (subst (NodesGone (body_of m r1) n r1.part.nodes) (sym (behind.nodes ∙ ended.on.nodes)) walked.nodes)));
+            (nodes_ran (body_of m r1) walked.passed r1.part.nodes new.part.nodes (subst (NodesGone (body_of m r1) walked.passed r1.part.nodes) (sym (behind.nodes ∙ ended.on.nodes)) walked.nodes)));
         left_nodes = λ other. behind.nodes ∙ (ended.on.nodes ∙ (walked.left other ∙ hop.nodes));
         held = λ i h. held i (hop.stays.held i h);
         entry = ap (λ (s : ReadsState). s.published) behind.reads ∙ (passed.stays.entry ∙ hop.stays.entry);

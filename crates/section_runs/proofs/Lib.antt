@@ -15,4 +15,5 @@ pub mod Facts
 pub mod Using
 pub mod Ended
 pub mod Wents
+pub mod Noting
 pub mod Openeds

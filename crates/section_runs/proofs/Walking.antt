@@ -1,5 +1,5 @@
 -- A run goes through its body.
-use Rattle.std.proofs.Common.{◌≡◌, ℕ, zero, suc, ◌+◌, ◌-◌, ◌≤◌, List, [], ◌∷◌, ◌++◌, length, length-append, append_assoc, take, true, false, refl, sym, ap, ◌∙◌, subst, arith}
+use Rattle.std.proofs.Common.{◌≡◌, ℕ, zero, suc, ◌+◌, ◌-◌, ◌≤◌, List, [], ◌∷◌, ◌++◌, length, length-append, append_assoc, take, Bool, true, false, refl, sym, ap, ◌∙◌, subst, arith}
 use Rattle.std.specs.Prelude.{cond, count_by, sum_by}
 use Rattle.std.proofs.lemmas.List.Sums.{sum_by-cons}
 use Rattle.section_body.specs.declared.micro.Micro.{Micro}
@@ -9,7 +9,7 @@ use Rattle.section_body.specs.declared.outcome.Outcome.TheVariants as outcomes
 use Rattle.section_body.specs.declared.step.Step.{Step}
 use Rattle.section_body.specs.declared.step.Step.TheVariants.{Load, Want, Fresh, Take, Make, Stamp, Store, Retire, Answer}
 use Rattle.section_body.specs.Line.{no_registers, line, micro_at, is_event, releases, registers_before}
-use Rattle.section_body.specs.Shape.{IsStep, IsShaped, phase, is_make, is_retire}
+use Rattle.section_body.specs.Shape.{IsStep, IsShaped, phase, is_make, is_retire, is_take}
 use Rattle.section_body.specs.Word.{value_of}
 use Rattle.section_body.proofs.LineLemmas.{take_next, take_all, past_line}
 use Rattle.section_lines.specs.Rests.{taken_releases}
@@ -144,6 +144,7 @@ module _ {T : Type 0} (m : Meaning) where
         over = over;
         within = let i = step_inside (body_of m old) n step here in omega (arith, i);
         same = same_more old a new same same';
+        passed = n;
         nodes = subst (NodesGone (body_of m old) n old.part.nodes) (sym unchanged) gone;
         left = λ other. unchanged ∙ kept;
         names = λ p w busy own. names p w busy ((λ i. has (entry i) (same.descriptor i)) ∙ own);
@@ -171,6 +172,7 @@ module _ {T : Type 0} (m : Meaning) where
         };
         within = omega (arith, all);
         same = same;
+        passed = n;
         nodes = gone;
         left = λ other. absurd (other (reply_in (body_of m old)) refl);
         names = λ p w busy own. absurd (let z = busy in cc);
@@ -182,6 +184,74 @@ module _ {T : Type 0} (m : Meaning) where
           whole : (ms : List Micro) → take (length ms) ms ≡ ms
           whole [] = refl
           whole (x ∷ ms) = ap (λ xs. x ∷ xs) (whole ms)
+
+  -- it is enough to look for Takes among fewer steps, where no Take stands behind them
+  pub walked_taken : (n taken : ℕ) (o : Outcome) (old new : RunnerState T) → taken ≤ n → taken_releases (take n (body_of m old)) ≡ taken_releases (take taken (body_of m old))
+      → HasWalked m n o old new → HasWalked m taken o old new
+  walked_taken n taken o old new few fewer w =
+      let over = w.over in
+      record {
+        over = record {
+          running = over.running;
+          unended = over.unended;
+          none = over.none;
+          no_event = over.no_event;
+          locks = over.locks ∙ subst (λ (body : List Step). taken_releases (take n body) ≡ taken_releases (take taken body)) (sym (body_same old new w.same)) fewer;
+          outcome = over.outcome;
+        };
+        within = let within = w.within in omega (arith, few, within);
+        same = w.same;
+        passed = w.passed;
+        nodes = w.nodes;
+        left = w.left;
+        names = w.names;
+      }
+
+-- the Takes that were passed are among the first steps, as many as were told
+releases_last : (steps : List Step) (step : Step) → is_take step ≡ false → taken_releases (steps ++ step ∷ []) ≡ taken_releases steps
+releases_last [] (Load place into) other = refl
+releases_last [] (Want reg word) other = refl
+releases_last [] (Fresh reg) other = refl
+releases_last [] (Take place word) other = absurd (let z = other in cc)
+releases_last [] (Make init into) other = refl
+releases_last [] Stamp other = refl
+releases_last [] (Store reg value) other = refl
+releases_last [] (Retire slot) other = refl
+releases_last [] (Answer reply) other = refl
+releases_last (Load place into ∷ steps) step other = releases_last steps step other
+releases_last (Want reg word ∷ steps) step other = releases_last steps step other
+releases_last (Fresh reg ∷ steps) step other = releases_last steps step other
+releases_last (Take place word ∷ steps) step other = ap (λ ms. micros.Release place word ∷ ms) (releases_last steps step other)
+releases_last (Make init into ∷ steps) step other = releases_last steps step other
+releases_last (Stamp ∷ steps) step other = releases_last steps step other
+releases_last (Store reg value ∷ steps) step other = releases_last steps step other
+releases_last (Retire slot ∷ steps) step other = releases_last steps step other
+releases_last (Answer reply ∷ steps) step other = releases_last steps step other
+
+releases_by : (b : Bool) (body : List Step) (n taken : ℕ) (step : Step) → IsStep body n step → is_take step ≡ b → taken_releases (take n body) ≡ taken_releases (take taken body)
+    → taken_releases (take (n + 1) body) ≡ taken_releases (take (cond b (n + 1) taken) body)
+releases_by true body n taken step here is so = refl
+releases_by false body n taken step here is so =
+    ap (λ k. taken_releases (take k body)) (let e : n + 1 ≡ suc n = omega arith in e) ∙ (ap taken_releases (take_next body n step here)
+    ∙ (releases_last (take n body) step is ∙ so))
+
+taken_by : (b : Bool) (n taken : ℕ) → taken ≤ n → cond b (n + 1) taken ≤ n + 1
+taken_by true n taken few = omega arith
+taken_by false n taken few = omega (arith, few)
+
+-- the steps among which the Takes are that were passed, once one more step was
+pub record TakesAmong (body : List Step) (n taken : ℕ) : Type 0 where
+  pub few : taken ≤ n
+  pub same : taken_releases (take n body) ≡ taken_releases (take taken body)
+
+pub takes_none : (body : List Step) → TakesAmong body 0 0
+takes_none body = record { few = omega arith; same = refl }
+
+pub takes_more : (body : List Step) (n taken next : ℕ) (step : Step) → IsStep body n step → next ≡ cond (is_take step) (n + 1) taken → TakesAmong body n taken → TakesAmong body (n + 1) next
+takes_more body n taken next step here is so = subst (TakesAmong body (n + 1)) (sym is) (record {
+  few = taken_by (is_take step) n taken so.few;
+  same = releases_by (is_take step) body n taken step here refl so.same;
+})
 
 -- the end that is told
 abbrev over_count : Walked → ℕ

@@ -94,12 +94,13 @@ module _ {T : Type 0} (m : Meaning) where
         → has old.part.reads.published (run_of old).descriptor ≡ true
         → has new.part.reads.held (value_of word - 1) ≡ true
 
-  -- the run went through so many steps of its body, and is to end with this outcome
-  pub record HasWalked (n : ℕ) (outcome : Outcome) (old new : RunnerState T) : Type 0 where
-    pub over : IsOver n outcome new
-    pub within : n ≤ length (body_of old)
+  -- the run went through some steps of its body, and is to end with this outcome; the Takes among them are among so many first ones
+  pub record HasWalked (taken : ℕ) (outcome : Outcome) (old new : RunnerState T) : Type 0 where
+    pub over : IsOver taken outcome new
+    pub within : taken ≤ length (body_of old)
     pub same : IsSameRun old new
-    pub nodes : NodesGone (body_of old) n old.part.nodes new.part.nodes
+    pub passed : ℕ
+    pub nodes : NodesGone (body_of old) passed old.part.nodes new.part.nodes
     -- a run that leaves has made and retired nothing
     pub left : ((reply : ℕ) → outcome ≢ Answered reply) → new.part.nodes ≡ old.part.nodes
     pub names : (place word : ℕ) → outcome ≡ Busy place word

@@ -25,8 +25,12 @@ use Rattle.idem_cell.specs.machine_invariant.specs.Trails.{IsEndOf}
 use Rattle.idem_cell.specs.machine_facts.specs.States.{FactsStand}
 use Rattle.idem_cell.specs.version_words.specs.RunnerState.{RunnerState}
 use Rattle.idem_cell.specs.commit_log.specs.Runs.{Ran}
+use Rattle.idem_cell.specs.commit_log.specs.Asked.{IsAsked}
+use Rattle.idem_cell.specs.commit_log.specs.Halted.{IsHalted}
 use Rattle.section_runs.specs.Reached.{IsReached, events_after}
 use Rattle.section_runs.specs.Opened.{Learns, IsOpening, HasOpened}
+use Rattle.section_runs.specs.declared.runs.RunEnd.{RunEnd}
+use Rattle.section_runs.specs.declared.runs.RunEnd.TheVariants.{Done, Halted}
 
 -- what a run leaves of the own node slots: at most one free slot fewer for each Make, the hand and what was looked at as before, and in limbo
 -- also what was retired in the run, at most one slot for each Retire
@@ -114,3 +118,18 @@ module _ {T : Type 0} (m : Meaning) where
 -- how many steps a run makes behind its opening
 abbrev pub rest_of : List Step → ℕ
 rest_of body = sum_by step_cost body + (2 + count_by is_take body)
+
+-- what a run tells behind its opening, of the section of this descriptor, with this thunk, which it found done or not
+module _ {T : Type 0} (m : Meaning) where
+  -- where it came to its end
+  abbrev pub EndsOpened : ℕ → Thunk → Bool → RunEnd → RunnerState T → RunnerState T
+      → ℕ → ℕ → ℕ → ℕ → ℕ → ℕ → Type 0
+  EndsOpened d t late end old new halts halts' asks asks' steps steps' =
+      (before : RunnerState T) (o : Outcome) (trail : Agreed) → HasOpened m d t late before old → end ≡ Done o trail
+      → (made : ℕ) × EndsSo m d t o trail (13 + made) before new
+      × IsAsked made true halts halts' asks asks' steps steps'
+
+  -- and where the gate halted it
+  abbrev pub HaltsOpened : Thunk → RunEnd → RunnerState T → RunnerState T → ℕ → ℕ → ℕ → ℕ → ℕ → ℕ → Type 0
+  HaltsOpened t end old new halts halts' asks asks' steps steps' =
+      end ≡ Halted → IsHalted m (rest_of (m.body t)) old new halts halts' asks asks' steps steps'

@@ -1,7 +1,7 @@
 //! The steps of a run's body, one after the other.
-ghost use Rattle.std.specs.Prelude.{◌≡◌, ◌≢◌, ℕ, ◌≤◌, length, count_by, sum_by};
+ghost use Rattle.std.specs.Prelude.{◌≡◌, ◌≢◌, ℕ, ◌+◌, ◌<◌, ◌≤◌, cond, length, count_by, sum_by};
 ghost use Rattle.section_body.specs.Cost.{step_cost};
-ghost use Rattle.section_body.specs.Shape.{IsShaped, is_make};
+ghost use Rattle.section_body.specs.Shape.{IsShaped, is_make, is_take};
 ghost use Rattle.section_body.specs.declared.outcome.Outcome.{Outcome as Ending};
 ghost use Rattle.runner_steps.specs.Sections.{reply_in};
 ghost use Rattle.idem_cell.specs.version_words.specs.TableState.{IsOf};
@@ -18,13 +18,6 @@ use idem_cell::version_words::{FlockTable, Runner, table_is_allowed};
 use runner_parts::Structure;
 use section_body::{Gate, Outcome, Step, Steps, Trail};
 
-/// How many words were agreed on.
-fn count_of(trail: &Trail) -> u32
-    ensures { result ≡ length trail.now.words }
-{
-    trail.words.len() as u32
-}
-
 /// The reply of a body's Answer, which is its last step.
 fn reply_of(body: &[Step]) -> u64
     requires { IsShaped body.now }
@@ -36,8 +29,20 @@ fn reply_of(body: &[Step]) -> u64
     }
 }
 
+/// Among how many of the first steps the Takes are that were passed, once one more step was: this one, behind `n` others.
+fn taken_behind(taken: usize, n: usize, step: &Step) -> usize
+    requires { n < u64.MAX }
+    ensures { result ≡ cond (is_take step.now) (n + 1) taken }
+{
+    match step {
+        Step::Take { place: _, word: _ } => n + 1,
+        _ => taken,
+    }
+}
+
 /// Makes the steps of the body one after the other, until it has gone through all or leaves at one. Each atomic step is counted, and the
-/// gate is asked after it. Answers how many steps of the body were passed, and the outcome.
+/// gate is asked after it. Answers among how many of the first steps the Takes are that were passed, so that the end looks at no others,
+/// and the outcome.
 ///
 /// The steps are counted apart and added up at its end, wherever that is.
 ///
@@ -74,18 +79,18 @@ pub fn walk<S: Structure, G: Gate, L>(
     let mut runner = runner;
     let mut kept = Places::new();
     let mut made = Steps::<L>::new();
+    let mut taken = 0;
     for n in 0..body.len() {
-        let count = count_of(trail);
         let step = &body[n];
         let (gone, passed) = step_gated(
-            table, runner, descriptor, n, step, &kept, trail, gate, &mut made,
+            table, runner, descriptor, n, step, &mut kept, trail, gate, &mut made,
         );
         runner = gone;
         match passed {
-            Passed::On => kept.note(step, count),
+            Passed::On => taken = taken_behind(taken, n, step),
             Passed::Left(outcome) => {
                 add_up(steps, &made);
-                return (runner, Walked::Over(n, outcome));
+                return (runner, Walked::Over(taken, outcome));
             }
             Passed::Halted => {
                 add_up(steps, &made);
@@ -95,5 +100,5 @@ pub fn walk<S: Structure, G: Gate, L>(
     }
     add_up(steps, &made);
     let outcome = Outcome::Answered(reply_of(body));
-    (runner, Walked::Over(body.len(), outcome))
+    (runner, Walked::Over(taken, outcome))
 }

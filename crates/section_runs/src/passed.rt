@@ -16,7 +16,7 @@ pub enum Passed {
 /// Where a run left its body.
 #[derive(Clone, Copy, Debug, PartialEq, Eq)]
 pub enum Walked {
-    /// It went through so many steps, and is to end with this outcome.
+    /// It is to end with this outcome. The Takes that it passed are among so many of the body's first steps.
     Over(usize, Outcome),
     /// The gate halted the runner.
     Stopped,

@@ -10,7 +10,7 @@ use section_body::{Place, Step};
 #[derive(Clone, Copy, Debug, PartialEq, Eq)]
 pub struct Places {
     pub places: [Place; 16],
-    pub logs: [u32; 16],
+    pub logs: [u8; 16],
 }
 
 impl Places {
@@ -25,7 +25,7 @@ impl Places {
     }
 
     /// One more step was made, before which so many words were agreed on.
-    pub fn note(&mut self, step: &Step, count: u32)
+    pub fn note(&mut self, step: &Step, count: u8)
         requires within { IsWithin step.now }
         ensures { (g : Registers) → AreKept self.old g → count ≡ g.count
             → AreKept self.new (registers_after g step.now) }

@@ -1,15 +1,13 @@
 //! A whole run of a section.
-ghost use Rattle.std.specs.Prelude.{◌≡◌, ℕ, ◌+◌, ◌≤◌, [], true, false, length};
+ghost use Rattle.std.specs.Prelude.{◌≡◌, ℕ, ◌≤◌, [], true, false, length};
 ghost use Rattle.section_body.specs.Trail.{Agreed};
 ghost use Rattle.section_body.specs.declared.outcome.Outcome.{Outcome as Ending};
 ghost use Rattle.section_body.specs.declared.thunk.Thunk.{Thunk as Words};
-ghost use Rattle.idem_cell.specs.version_words.specs.RunnerState.{RunnerState};
 ghost use Rattle.idem_cell.specs.version_words.specs.TableState.{IsOf};
 ghost use Rattle.idem_cell.specs.commit_log.specs.Asked.{IsAsked};
-ghost use Rattle.idem_cell.specs.commit_log.specs.Halted.{IsHalted};
 ghost use Rattle.section_runs.specs.Reached.{MayBegin};
-ghost use Rattle.section_runs.specs.Opened.{HasOpened, StandsOpened};
-ghost use Rattle.section_runs.specs.Ended.{EndsSo, IsCutShort, rest_of};
+ghost use Rattle.section_runs.specs.Opened.{StandsOpened};
+ghost use Rattle.section_runs.specs.Ended.{EndsSo, IsCutShort, EndsOpened, HaltsOpened};
 ghost use Rattle.section_runs.specs.declared.runs.RunEnd.TheVariants.{Done, Halted};
 
 use crate::bodies::walk;
@@ -73,15 +71,9 @@ fn run_steps<S: Structure, G: Gate, L>(
     requires line { line.now ≡ (S.meaning table.now.structure).body thunk.now }
     requires reserve { 2 ≤ length runner.part.nodes.free }
     ensures own { IsOf table.now result.0 }
-    ensures done { (before : RunnerState S) (o : Ending) (agreed : Agreed)
-        → HasOpened (S.meaning table.now.structure) descriptor thunk.now trail.old.late before runner
-        → result.1 ≡ Done o agreed → (made : ℕ)
-        × EndsSo (S.meaning table.now.structure) descriptor thunk.now o agreed (13 + made) before result.0
-        × IsAsked made true
+    ensures done { EndsOpened (S.meaning table.now.structure) descriptor thunk.now trail.old.late result.1 runner result.0
         (G.halts gate.old) (G.halts gate.new) (G.asks gate.old) (G.asks gate.new) steps.old.count steps.new.count }
-    ensures halted { result.1 ≡ Halted
-        → IsHalted (S.meaning table.now.structure) (rest_of ((S.meaning table.now.structure).body thunk.now)) runner
-        result.0
+    ensures halted { HaltsOpened (S.meaning table.now.structure) thunk.now result.1 runner result.0
         (G.halts gate.old) (G.halts gate.new) (G.asks gate.old) (G.asks gate.new) steps.old.count steps.new.count }
 {
     table_is_allowed(table);
@@ -113,15 +105,9 @@ fn run_anew<S: Structure, G: Gate, L>(
     requires opened { StandsOpened (S.meaning table.now.structure) descriptor thunk.now late runner }
     requires reserve { 2 ≤ length runner.part.nodes.free }
     ensures own { IsOf table.now result.0 }
-    ensures done { (before : RunnerState S) (o : Ending) (trail : Agreed)
-        → HasOpened (S.meaning table.now.structure) descriptor thunk.now late before runner
-        → result.1 ≡ Done o trail → (made : ℕ)
-        × EndsSo (S.meaning table.now.structure) descriptor thunk.now o trail (13 + made) before result.0
-        × IsAsked made true
+    ensures done { EndsOpened (S.meaning table.now.structure) descriptor thunk.now late result.1 runner result.0
         (G.halts gate.old) (G.halts gate.new) (G.asks gate.old) (G.asks gate.new) steps.old.count steps.new.count }
-    ensures halted { result.1 ≡ Halted
-        → IsHalted (S.meaning table.now.structure) (rest_of ((S.meaning table.now.structure).body thunk.now)) runner
-        result.0
+    ensures halted { HaltsOpened (S.meaning table.now.structure) thunk.now result.1 runner result.0
         (G.halts gate.old) (G.halts gate.new) (G.asks gate.old) (G.asks gate.new) steps.old.count steps.new.count }
 {
     let body = table.structure().body(thunk);
@@ -147,15 +133,9 @@ fn run_apart<S: Structure, G: Gate, L>(
     requires opened { StandsOpened (S.meaning table.now.structure) descriptor thunk.now late runner }
     requires reserve { 2 ≤ length runner.part.nodes.free }
     ensures own { IsOf table.now result.0 }
-    ensures done { (before : RunnerState S) (o : Ending) (trail : Agreed)
-        → HasOpened (S.meaning table.now.structure) descriptor thunk.now late before runner
-        → result.1 ≡ Done o trail → (made : ℕ)
-        × EndsSo (S.meaning table.now.structure) descriptor thunk.now o trail (13 + made) before result.0
-        × IsAsked made true
+    ensures done { EndsOpened (S.meaning table.now.structure) descriptor thunk.now late result.1 runner result.0
         (G.halts gate.old) (G.halts gate.new) (G.asks gate.old) (G.asks gate.new) steps.old.count steps.new.count }
-    ensures halted { result.1 ≡ Halted
-        → IsHalted (S.meaning table.now.structure) (rest_of ((S.meaning table.now.structure).body thunk.now)) runner
-        result.0
+    ensures halted { HaltsOpened (S.meaning table.now.structure) thunk.now result.1 runner result.0
         (G.halts gate.old) (G.halts gate.new) (G.asks gate.old) (G.asks gate.new) steps.old.count steps.new.count }
 {
     let (runner, end) = run_anew(table, runner, descriptor, thunk, late, gate, steps);
@@ -178,21 +158,16 @@ fn run_opened<S: Structure, G: Gate, L>(
     requires opened { StandsOpened (S.meaning table.now.structure) descriptor thunk.now late runner }
     requires reserve { 2 ≤ length runner.part.nodes.free }
     ensures own { IsOf table.now result.0 }
-    ensures done { (before : RunnerState S) (o : Ending) (trail : Agreed)
-        → HasOpened (S.meaning table.now.structure) descriptor thunk.now late before runner
-        → result.1 ≡ Done o trail → (made : ℕ)
-        × EndsSo (S.meaning table.now.structure) descriptor thunk.now o trail (13 + made) before result.0
-        × IsAsked made true
+    ensures done { EndsOpened (S.meaning table.now.structure) descriptor thunk.now late result.1 runner result.0
         (G.halts gate.old) (G.halts gate.new) (G.asks gate.old) (G.asks gate.new) steps.old.count steps.new.count }
-    ensures halted { result.1 ≡ Halted
-        → IsHalted (S.meaning table.now.structure) (rest_of ((S.meaning table.now.structure).body thunk.now)) runner
-        result.0
+    ensures halted { HaltsOpened (S.meaning table.now.structure) thunk.now result.1 runner result.0
         (G.halts gate.old) (G.halts gate.new) (G.asks gate.old) (G.asks gate.new) steps.old.count steps.new.count }
 {
     let Some(mut room) = runner.take_room() else {
         return run_apart(table, runner, descriptor, thunk, late, gate, steps);
     };
-    let RunRoom { body, trail } = &mut *room;
+    let RunRoom { bodies, trail } = &mut *room;
+    let body = &mut bodies[(thunk.form % 4) as usize];
     table.structure().body_in(thunk, body);
     trail.restart(late);
     let line = body.steps.as_slice();
@@ -216,15 +191,9 @@ fn run_loaded<S: Structure, G: Gate, L>(
     requires opened { StandsOpened (S.meaning table.now.structure) descriptor thunk late runner }
     requires reserve { 2 ≤ length runner.part.nodes.free }
     ensures own { IsOf table.now result.0 }
-    ensures done { (before : RunnerState S) (o : Ending) (trail : Agreed)
-        → HasOpened (S.meaning table.now.structure) descriptor thunk late before runner
-        → result.1 ≡ Done o trail → (made : ℕ)
-        × EndsSo (S.meaning table.now.structure) descriptor thunk o trail (13 + made) before result.0
-        × IsAsked made true
+    ensures done { EndsOpened (S.meaning table.now.structure) descriptor thunk late result.1 runner result.0
         (G.halts gate.old) (G.halts gate.new) (G.asks gate.old) (G.asks gate.new) steps.old.count steps.new.count }
-    ensures halted { result.1 ≡ Halted
-        → IsHalted (S.meaning table.now.structure) (rest_of ((S.meaning table.now.structure).body thunk)) runner
-        result.0
+    ensures halted { HaltsOpened (S.meaning table.now.structure) thunk result.1 runner result.0
         (G.halts gate.old) (G.halts gate.new) (G.asks gate.old) (G.asks gate.new) steps.old.count steps.new.count }
 {
     let own = thunk;

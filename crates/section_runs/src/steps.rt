@@ -1,5 +1,6 @@
 //! One step of a run's body.
 ghost use Rattle.std.specs.Prelude.{◌≡◌, ◌≢◌, ℕ, ◌≤◌, true, false, length, cond};
+ghost use Rattle.section_body.specs.Line.{Registers, registers_after};
 ghost use Rattle.section_body.specs.Shape.{is_make};
 ghost use Rattle.section_body.specs.declared.outcome.Outcome.{Outcome};
 ghost use Rattle.section_body.specs.declared.step.Step.TheVariants as kinds;
@@ -8,6 +9,7 @@ ghost use Rattle.idem_cell.specs.commit_log.specs.Halted.{IsThrough, IsHalted};
 ghost use Rattle.section_runs.specs.Reached.{run_of};
 ghost use Rattle.section_runs.specs.Bodies.{MayGo, GoesOn, Leaves};
 ghost use Rattle.section_runs.specs.Goes.{MayGoBy, MayGoAt, Went};
+ghost use Rattle.section_runs.specs.Registers.{AreKept, IsWithin};
 ghost use Rattle.section_runs.specs.declared.passed.Passed.TheVariants.{On, Left, Halted};
 
 use crate::passed::Passed;
@@ -121,7 +123,7 @@ fn store_step<S: Structure, G: Gate, L>(
 {
     table_is_allowed(table);
     let place = kept.places[reg as usize];
-    let old = trail.word(kept.logs[reg as usize]);
+    let old = trail.word(kept.logs[reg as usize] as u32);
     let number = value_in(kept, trail, value);
     let runner = store(table, runner, place, old, number);
     let going = passes(gate, steps, StepKind::CellExchange);
@@ -254,32 +256,46 @@ fn passed(going: bool) -> Passed
     if going { Passed::On } else { Passed::Halted }
 }
 
-/// Makes step `n` of the body. Each atomic step is counted, and the gate is asked after it.
+/// How many words were agreed on.
+fn count_of(trail: &Trail) -> u8
+    ensures { result ≡ length trail.now.words }
+{
+    trail.words.len() as u8
+}
+
+/// Makes step `n` of the body, and notes the register that it sets. Each atomic step is counted, and the gate is asked after it.
+///
+/// The register is noted here, by the kinds that set one, and not behind: so the kind is looked at once.
 pub fn step_gated<S: Structure, G: Gate, L>(
     table: &FlockTable<S>,
     runner: Runner<S>,
     descriptor: u32,
     n: usize,
     step: &Step,
-    kept: &Places,
+    kept: &mut Places,
     trail: &mut Trail,
     gate: &mut G,
     steps: &mut Steps<L>,
 ) -> (Runner<S>, Passed)
     requires own { IsOf table.now runner }
-    requires next { MayGoAt (S.meaning table.now.structure) n step.now kept.now runner }
+    requires next { MayGoAt (S.meaning table.now.structure) n step.now kept.old runner }
+    requires within { IsWithin step.now }
     requires section { descriptor ≡ (run_of runner).descriptor }
     requires trail { trail.old.words ≡ (run_of runner).trail }
     requires reserve { is_make step.now ≡ true → 1 ≤ length runner.part.nodes.free }
     ensures own { IsOf table.now result.0 }
     ensures went { Went (S.meaning table.now.structure) n step.now result.1 runner result.0 trail.old trail.new
         (G.halts gate.old) (G.halts gate.new) (G.asks gate.old) (G.asks gate.new) steps.old.count steps.new.count }
+    ensures kept { (g : Registers) → AreKept kept.old g → length trail.old.words ≡ g.count
+        → AreKept kept.new (registers_after g step.now) }
 {
     let _ = n;
     table_is_allowed(table);
     match *step {
         Step::Load { place, into: _ } => {
+            let count = count_of(trail);
             let (runner, going) = load_step(table, runner, place, trail, gate, steps);
+            kept.note(step, count);
             (runner, passed(going))
         }
         Step::Want { reg, word } => (runner, wanted(kept, trail, reg, word)),
@@ -288,7 +304,9 @@ pub fn step_gated<S: Structure, G: Gate, L>(
             take_step(table, runner, descriptor, place, word, trail, gate, steps)
         }
         Step::Make { init, into: _ } => {
+            let count = count_of(trail);
             let (runner, going) = make_step(table, runner, init, kept, trail, gate, steps);
+            kept.note(step, count);
             (runner, passed(going))
         }
         Step::Stamp => {

@@ -23,7 +23,7 @@ pub fn value_in(kept: &Places, trail: &Trail, value: Value) -> u32
 {
     match value {
         Value::Const(number) => number,
-        Value::Of(reg) | Value::Made(reg) => trail.word(kept.logs[reg as usize]).value(),
+        Value::Of(reg) | Value::Made(reg) => trail.word(kept.logs[reg as usize] as u32).value(),
     }
 }
 
@@ -35,7 +35,7 @@ pub fn wanted(kept: &Places, trail: &Trail, reg: u8, expected: Word) -> Passed
         (Left (Stale (g.place reg) expected read)) }
 {
     let place = kept.places[reg as usize];
-    let read = trail.word(kept.logs[reg as usize]);
+    let read = trail.word(kept.logs[reg as usize] as u32);
     if read == expected {
         Passed::On
     } else {
@@ -55,7 +55,7 @@ pub fn tested(kept: &Places, trail: &Trail, reg: u8, version_max: u32) -> Passed
         (Left (Spent (g.place reg) read)) On }
 {
     let place = kept.places[reg as usize];
-    let read = trail.word(kept.logs[reg as usize]);
+    let read = trail.word(kept.logs[reg as usize] as u32);
     if read.version() == version_max {
         Passed::Left(Outcome::Spent(place, read))
     } else {

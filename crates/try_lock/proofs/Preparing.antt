@@ -4,7 +4,7 @@ use Rattle.std.specs.Prelude.{◌==◌, ◌&&◌, nat_lt, slice_index, if◌then
 use Rattle.std.proofs.lemmas.Bool.{cases_lt}
 use Rattle.std.proofs.lemmas.Bool.Decides.{nat_tests}
 use Rattle.std.proofs.lemmas.List.{get_or_append_left}
-use Rattle.std.proofs.Math.Seq.{get_or-append_seam}
+use Rattle.std.proofs.Math.Seq.{get_or-append_seam, get_or-append_right}
 use Rattle.section_body.specs.declared.thunk.Thunk.{Thunk}
 use Rattle.table_words.specs.Places.{slot_count, descriptor_count}
 use Rattle.structure_laws.specs.Meaning.{Meaning}
@@ -170,6 +170,23 @@ module _ {T : Type 0} where
     -- no word is set yet
     pub set_none : (d first : ℕ) (r : RunnerState T) → HasSet m d first [] r r
     set_none d first r = record { sets = refl; at = λ epoch at. at; keeps = keeps_all r; stored = λ i few. absurd (omega (arith, few)); others = λ w few. refl }
+
+    -- and more words behind those that are set
+    pub set_all : (d first behind : ℕ) (ns ks : List ℕ) (old r r' : RunnerState T) → first + length ns ≡ behind → HasSet m d first ns old r → HasSet m d behind ks r r' → HasSet m d first (ns ++ ks) old r'
+    set_all d first behind ns ks old r r' is one two = record {
+      sets = sets_all ns ks (slot_count old.layout m.fixed_slots + d) first behind old r r' is one.sets
+          (subst (λ l. SetsWords m (slot_count l m.fixed_slots + d) behind ks r r') one.keeps.layout two.sets);
+      at = λ epoch at. two.at epoch (one.at epoch at);
+      keeps = keeps_on old r r' one.keeps two.keeps;
+      stored = λ i low. ⊎_elim (λ less. two.others (first + i) (omega (arith, is, less)) ∙ (one.stored i less ∙ ap Some (sym (get_or_append_left ns ks 0 i less)))) (λ past. later i past low) (cases_lt i (length ns));
+      others = λ w low. two.others w (omega (arith, is, low)) ∙ one.others w low;
+    }
+      where
+        later : (i : ℕ) → length ns ≤ i → i < length (ns ++ ks) → last_stored r'.part.descriptors.stored d (first + i) None ≡ Some (slice_index (ns ++ ks) i)
+        later i past low =
+            let len = length-append ns ks in
+            ap (λ w. last_stored r'.part.descriptors.stored d w None) (let e : first + i ≡ behind + (i - length ns) = omega (arith, is, past) in e)
+            ∙ (two.stored (i - length ns) (omega (arith, past, low, len)) ∙ ap Some (sym (get_or-append_right ns ks i 0 past)))
 
     -- and one more
     module _ (d first : ℕ) (ns : List ℕ) (n : ℕ) (old r r' : RunnerState T) (so : HasSet m d first ns old r) (may : MaySet old d) (few : first + length ns < 77)

@@ -1,5 +1,5 @@
 -- The retirement of a section.
-use Rattle.std.proofs.Common.{◌≡◌, ℕ, ap, ◌∙◌, sym, subst, refl, ◌≤◌, Option, Some}
+use Rattle.std.proofs.Common.{◌≡◌, ℕ, ap, ◌∙◌, sym, subst, ◌≤◌, Option, Some}
 use Rattle.std.specs.Prelude.{◌&&◌}
 use Rattle.table_words.specs.declared.spot.Spot.TheVariants.{Epoch}
 use Rattle.table_words.specs.declared.access.Access.TheVariants.{Loads}

@@ -1,5 +1,5 @@
 //! The publication of a section.
-ghost use Rattle.std.specs.Prelude.{◌≡◌, ◌+◌, ◌<◌, ◌≤◌, length, slice_index};
+ghost use Rattle.std.specs.Prelude.{◌≡◌, ◌+◌, ◌<◌, ◌≤◌, length, replicate, slice_index};
 ghost use Rattle.table_words.specs.Places.{slot_count};
 ghost use Rattle.section_runs.specs.version_words.specs.TableState.{IsOf};
 ghost use Rattle.section_runs.specs.version_words.specs.Events.{start_of};
@@ -65,6 +65,28 @@ fn set_words<S: Structure>(
     runner
 }
 
+/// The done word of an own free descriptor and the words of its log become 0. They are set thirteen by thirteen: so
+/// many turns the compiler unrolls, and not all of them.
+#[inline(always)]
+fn clear_words<S: Structure>(
+    table: &FlockTable<S>,
+    runner: Runner<S>,
+    descriptor: u32,
+    start: usize,
+) -> Runner<S>
+    requires own { IsOf table.now runner }
+    requires free { MaySet runner descriptor }
+    requires start { start ≡ start_of (S.meaning table.now.structure) table.now descriptor }
+    ensures own { IsOf table.now result }
+    ensures set { HasSet (S.meaning table.now.structure) descriptor 12 (replicate 65 0) runner result }
+{
+    let mut runner = runner;
+    for part in 0..5u32 {
+        runner = set_words(table, runner, descriptor, start, 12 + 13 * part, &[0; 13]);
+    }
+    runner
+}
+
 /// The words of an own free descriptor become those of a section with this thunk that no run has begun: the
 /// thunk's, no done, an empty log.
 #[inline(always)]
@@ -81,7 +103,7 @@ fn prepare<S: Structure>(
 {
     let start = table.descriptor_start(descriptor);
     let runner = set_words(table, runner, descriptor, start, 0, &thunk_words(thunk));
-    set_words(table, runner, descriptor, start, 12, &[0; 65])
+    clear_words(table, runner, descriptor, start)
 }
 
 /// A thunk has eight operands, by its type.

@@ -7,6 +7,7 @@ use Rattle.section_body.specs.declared.outcome.Outcome.{Outcome}
 use Rattle.section_body.specs.declared.outcome.Outcome.TheVariants.{Answered}
 use Rattle.section_body.specs.declared.step.Step.{Step}
 use Rattle.section_body.proofs.LineLemmas.{read_step, registers_before_next}
+use Rattle.section_lines.specs.Rests.{taken_releases}
 use Rattle.section_runs.specs.Reached.{run_of}
 use Rattle.section_runs.specs.Registers.{AreKept}
 use Rattle.section_runs.specs.Bodies.{NodesGone, body_of, IsBefore, HasWalked}
@@ -16,7 +17,7 @@ use Rattle.section_runs.proofs.Going.{run_is}
 use Rattle.section_runs.proofs.Using.{on_not_halted, left_not_halted}
 use Rattle.section_runs.proofs.Through.{through_more, halted_then, through_few}
 use Rattle.section_runs.proofs.Apart.{stood_apart, through_apart, halted_apart}
-use Rattle.section_runs.proofs.Walking.{none_before, sum_next, sum_most, sum_room, nodes_none, nodes_more, slot_left, same_none, same_more, body_same, walked_left, walked_all, is_over}
+use Rattle.section_runs.proofs.Walking.{none_before, sum_next, sum_most, sum_room, nodes_none, nodes_more, slot_left, same_none, same_more, body_same, walked_left, walked_all, walked_taken, takes_none, takes_more, is_over}
 use Rattle.runner_steps.specs.Sections.{reply_in, thunk_of}
 use Rattle.section_runs.proofs.bodies.walk.Goals as goal
 
@@ -32,6 +33,7 @@ loop-n-init g c =
       late = refl;
       kept = subst (AreKept c.new-kept.result) (sym (none_before c.args.body.now)) c.new-kept.ensures;
       nodes = nodes_none c.args.body.now r.part.nodes;
+      among = takes_none c.args.body.now;
       uncounted = refl;
       through = stood_apart m r _ _ _ c.new-made.ensures;
     }
@@ -70,13 +72,13 @@ step_gated-gone-requires-clause-reserve g c κs within =
     let here = read_step body n step c.loop-n-test.true c.index-body-n.is in
     slot_left body n step r.part.nodes now.part.nodes here inv.nodes c.requires.reserve
 
-pub note-requires : goal.note-requires
-note-requires g c =
+pub step_gated-gone-requires-clause-within : goal.step_gated-gone-requires-clause-within
+step_gated-gone-requires-clause-within g c κs within =
     let body = c.args.body.now in
     let n = c.loop-n.n in
     let step = c.index-body-n.result in
     let here = read_step body n step c.loop-n-test.true c.index-body-n.is in
-    record { within = c.requires.shaped.within n step here }
+    c.requires.shaped.within n step here
 
 pub loop-n-preserved : goal.loop-n-preserved
 loop-n-preserved g c =
@@ -94,15 +96,16 @@ loop-n-preserved g c =
     let still = on_not_halted c.step_gated-gone.result.1 on in
     let next : suc n ≡ n + 1 = omega arith in
     let g0 = registers_before body n in
-    let count = c.count_of-count.ensures ∙ (ap length inv.trail ∙ (inv.before.count ∙ ap (λ (xs : List Step). (registers_before xs n).count) (sym same_body))) in
+    let count = ap length inv.trail ∙ (inv.before.count ∙ ap (λ (xs : List Step). (registers_before xs n).count) (sym same_body)) in
     record {
       own = c.step_gated-gone.ensures.own;
       before = subst (λ k. IsBefore m k c.step_gated-gone.result.0) next (went.before on);
       same = same_more m r now c.step_gated-gone.result.0 inv.same (went.same still);
       trail = went.words still;
       late = went.late ∙ inv.late;
-      kept = subst (λ k. AreKept c.note.new.self (registers_before body k)) next (subst (AreKept c.note.new.self) (sym (registers_before_next body n step here)) (c.note.ensures g0 inv.kept count));
+      kept = subst (λ k. AreKept c.step_gated-gone.new.kept (registers_before body k)) next (subst (AreKept c.step_gated-gone.new.kept) (sym (registers_before_next body n step here)) (c.step_gated-gone.ensures.kept g0 inv.kept count));
       nodes = subst (λ k. NodesGone body k r.part.nodes c.step_gated-gone.result.0.part.nodes) next (nodes_more body n step r.part.nodes now.part.nodes c.step_gated-gone.result.0.part.nodes here inv.nodes (went.nodes on));
+      among = takes_more body n c.loop-n.taken c.taken_behind-taken.result step here c.taken_behind-taken.ensures inv.among;
       uncounted = inv.uncounted;
       through = through_more m (sum_by step_cost (take n body)) (step_cost step) (sum_by step_cost (take (n + 1) body)) _ _ _ _ _ _ _ _ _ _ _ _
           (let e = sum_next step_cost body n step here in let d = ap (λ k. sum_by step_cost (take k body)) next in omega (arith, e, d)) inv.through (went.through still);
@@ -127,9 +130,11 @@ returns-in-Left-clause-over g c =
     let out = c.in-Left.is in
     let still = left_not_halted c.step_gated-gone.result.1 c.in-Left.outcome out in
     let here0 = subst (λ (xs : List Step). IsStep xs n step) c.requires.body here in
-    λ n' o' e. is_over m r _ n c.in-Left.outcome n' o' e
+    λ n' o' e. is_over m r _ c.loop-n.taken c.in-Left.outcome n' o' e
+    (walked_taken m n c.loop-n.taken c.in-Left.outcome r c.step_gated-gone.result.0 inv.among.few
+    (subst (λ (xs : List Step). taken_releases (take n xs) ≡ taken_releases (take c.loop-n.taken xs)) c.requires.body inv.among.same)
     (walked_left m n step c.in-Left.outcome r now c.step_gated-gone.result.0 (subst IsShaped c.requires.body c.requires.shaped) here0 (went.exit _ out) inv.same
-    (subst (λ (xs : List Step). NodesGone xs n r.part.nodes now.part.nodes) c.requires.body inv.nodes) (ran_passed m laws t limits allowed inv.through.made (thunk_of (run_of r).opened).request r now c.requires.own inv.through.ran _ inv.before.running (λ p is. ap (λ (y : RunState). (thunk_of y.opened).request) (run_is m r p is))).stays.entry (went.over _ out) (went.same still) (went.unchanged _ out) (λ p w busy own. went.names _ p w out busy own))
+    (subst (λ (xs : List Step). NodesGone xs n r.part.nodes now.part.nodes) c.requires.body inv.nodes) (ran_passed m laws t limits allowed inv.through.made (thunk_of (run_of r).opened).request r now c.requires.own inv.through.ran _ inv.before.running (λ p is. ap (λ (y : RunState). (thunk_of y.opened).request) (run_is m r p is))).stays.entry (went.over _ out) (went.same still) (went.unchanged _ out) (λ p w busy own. went.names _ p w out busy own)))
 
 pub returns-in-Left-clause-trail : goal.returns-in-Left-clause-trail
 returns-in-Left-clause-trail g c =
@@ -188,8 +193,9 @@ returns-clause-over g c =
     let inv = c.loop-n.invariant in
     let n = c.loop-n.n in
     let all : n ≡ length body = (let a = c.loop-n-test.false in let b = c.loop-n.auto.n-end in omega (arith, a, b)) in
-    λ n' o' e. is_over m r _ _ _ n' o' e (subst (λ (o : Outcome). HasWalked m (length body) o r c.loop-n.runner) (ap (λ (xs : List Step). Answered (reply_in xs)) (sym c.requires.body) ∙ ap Answered (sym c.reply_of.ensures))
-    (subst (λ k. HasWalked m k (Answered (reply_in (body_of m r))) r c.loop-n.runner) all
+    λ n' o' e. is_over m r _ c.loop-n.taken _ n' o' e (subst (λ (o : Outcome). HasWalked m c.loop-n.taken o r c.loop-n.runner) (ap (λ (xs : List Step). Answered (reply_in xs)) (sym c.requires.body) ∙ ap Answered (sym c.reply_of.ensures))
+    (walked_taken m n c.loop-n.taken (Answered (reply_in (body_of m r))) r c.loop-n.runner inv.among.few
+    (subst (λ (xs : List Step). taken_releases (take n xs) ≡ taken_releases (take c.loop-n.taken xs)) c.requires.body inv.among.same)
     (walked_all m n r c.loop-n.runner (all ∙ ap length c.requires.body) inv.before inv.same (subst (λ (xs : List Step). NodesGone xs n r.part.nodes c.loop-n.runner.part.nodes) c.requires.body inv.nodes))))
 
 pub returns-clause-trail : goal.returns-clause-trail

@@ -15,6 +15,7 @@ use Rattle.section_runs.specs.declared.passed.Passed.TheVariants.{On, Left}
 use Rattle.section_runs.proofs.Going.{shaped}
 use Rattle.section_runs.proofs.Using.{used_at}
 use Rattle.section_runs.proofs.Wents.{as_step, went_by, went_all, went_tested, want_left, fresh_left, want_busy, fresh_busy}
+use Rattle.section_runs.proofs.Noting.{none_noted}
 use Rattle.section_runs.proofs.steps.step_gated.Goals as goal
 
 pub load_step-runner-requires-clause-next : goal.load_step-runner-requires-clause-next
@@ -166,3 +167,36 @@ returns-in-Fresh-clause-went g c =
     (c.tested.ensures g0 c.requires.next.registers ∙ ((λ i. let k = slice_index (c.requires.trail i) (g0.log c.in-Fresh.reg) in cond (version_of k == vm i) (Left (Spent (g0.place c.in-Fresh.reg) k)) On)
     ∙ fresh_left (g0.place c.in-Fresh.reg) read r.layout.version_max))
     (fresh_busy (g0.place c.in-Fresh.reg) read r.layout.version_max) c.requires.trail refl
+
+pub returns-in-Want-clause-kept : goal.returns-in-Want-clause-kept
+returns-in-Want-clause-kept g c = λ g0 are _. none_noted c.args.kept.now g0 c.args.step.now (kinds.Want c.in-Want.reg c.in-Want.word) c.in-Want.is refl are
+
+pub returns-in-Fresh-clause-kept : goal.returns-in-Fresh-clause-kept
+returns-in-Fresh-clause-kept g c = λ g0 are _. none_noted c.args.kept.now g0 c.args.step.now (kinds.Fresh c.in-Fresh.reg) c.in-Fresh.is refl are
+
+pub returns-in-Take-clause-kept : goal.returns-in-Take-clause-kept
+returns-in-Take-clause-kept g c = λ g0 are _. none_noted c.args.kept.now g0 c.args.step.now (kinds.Take c.in-Take.place c.in-Take.word) c.in-Take.is refl are
+
+pub returns-in-Stamp-clause-kept : goal.returns-in-Stamp-clause-kept
+returns-in-Stamp-clause-kept g c = λ g0 are _. none_noted c.args.kept.now g0 c.args.step.now kinds.Stamp c.in-Stamp.is refl are
+
+pub returns-in-Store-clause-kept : goal.returns-in-Store-clause-kept
+returns-in-Store-clause-kept g c = λ g0 are _. none_noted c.args.kept.now g0 c.args.step.now (kinds.Store c.in-Store.reg c.in-Store.value) c.in-Store.is refl are
+
+pub returns-in-Retire-clause-kept : goal.returns-in-Retire-clause-kept
+returns-in-Retire-clause-kept g c = λ g0 are _. none_noted c.args.kept.now g0 c.args.step.now (kinds.Retire c.in-Retire.slot) c.in-Retire.is refl are
+
+pub returns-in-Answer-clause-kept : goal.returns-in-Answer-clause-kept
+returns-in-Answer-clause-kept g c = λ g0 are _. none_noted c.args.kept.now g0 c.args.step.now (kinds.Answer c.in-Answer.reply) c.in-Answer.is refl are
+
+pub note-requires : goal.note-requires
+note-requires g c = record { within = c.requires.within }
+
+pub returns-in-Load-clause-kept : goal.returns-in-Load-clause-kept
+returns-in-Load-clause-kept g c = λ g0 are count. c.note.ensures g0 are (c.count_of-count.ensures ∙ count)
+
+pub note-requires-in-Make : goal.note-requires-in-Make
+note-requires-in-Make g c = record { within = c.requires.within }
+
+pub returns-in-Make-clause-kept : goal.returns-in-Make-clause-kept
+returns-in-Make-clause-kept g c = λ g0 are count. c.note-in-Make.ensures g0 are (c.count_of-count-in-Make.ensures ∙ count)
