@@ -1,11 +1,8 @@
 -- What a scan leaves: the slots in the hand, and then none.
-use Rattle.std.proofs.Common.{◌≡◌, ℕ, suc, ◌+◌, ◌<◌, ◌≤◌, List, [], ◌∷◌, ◌++◌, length, length-append, take, drop, Bool, true, false, refl, sym, ap, subst, ◌∙◌, cond, arith, Some, None}
-use Rattle.std.specs.Prelude.{◌==◌, ◌&&◌, ◌||◌, nat_lt, not}
-use Rattle.std.specs.List.{filter, list_all}
-use Rattle.std.proofs.lemmas.Bool.Decides.{nat_tests}
-use Rattle.table_words.specs.declared.layout.Layout.{Layout}
+use Rattle.std.proofs.Common.{◌≡◌, ℕ, ◌+◌, ◌≤◌, List, [], ◌∷◌, ◌++◌, length, length-append, take, drop, Bool, true, false, refl, sym, ap, subst, ◌∙◌, cond, arith}
+use Rattle.std.specs.Prelude.{◌==◌, ◌&&◌, ◌||◌, nat_lt}
+use Rattle.std.specs.List.{filter}
 use Rattle.table_words.specs.Limits.{IsWithinLimits}
-use Rattle.table_words.specs.Places.{slot_count}
 use Rattle.structure_laws.specs.Meaning.{Meaning}
 use Rattle.structure_laws.specs.Laws.{Laws}
 use Rattle.runner_parts.specs.declared.event.EventKind.TheVariants.{ScanOne}
@@ -21,8 +18,7 @@ use Rattle.version_words.specs.machine_invariant.specs.Slots.{times_among}
 use Rattle.version_words.specs.machine_invariant.proofs.After.{whole_after}
 use Rattle.version_words.specs.RunnerState.{RunnerState}
 use Rattle.version_words.specs.Events.{Makes}
-use Rattle.epoch_slots.specs.Entries.{KeepsOwn}
-use Rattle.epoch_slots.specs.Collects.{unworn, worn_out, come_back, IsTidy, IsShown, Scans, Advances, AreTested, HasScanned, EndsScan, Collects}
+use Rattle.epoch_slots.specs.Collects.{unworn, worn_out, come_back, IsTidy, IsShown, Advances, AreTested, HasScanned, EndsScan, Collects}
 use Rattle.epoch_slots.specs.Hands.{given_back, HandIsOwn, IsBack}
 use Rattle.epoch_slots.proofs.Scanning.{scans_more, clear_more}
 

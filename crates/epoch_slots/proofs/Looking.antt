@@ -1,12 +1,10 @@
 -- The slots of a hand, looked at and given back.
-use Rattle.std.proofs.Common.{◌≡◌, ◌≢◌, ℕ, zero, suc, ◌+◌, ◌-◌, ◌*◌, ◌<◌, ◌≤◌, List, [], ◌∷◌, ◌++◌, length, length-append, take, drop, get_or, Bool, true, false, refl, sym, ap, subst, ◌∙◌, eq-eqb, ne_eqb, cond, arith, Some, None}
+use Rattle.std.proofs.Common.{◌≡◌, ℕ, zero, suc, ◌+◌, ◌-◌, ◌<◌, ◌≤◌, List, [], ◌∷◌, ◌++◌, length, length-append, take, drop, get_or, Bool, true, false, refl, sym, ap, subst, ◌∙◌, eq-eqb, cond, arith, None}
 use Rattle.std.specs.Prelude.{◌==◌, ◌&&◌, ◌||◌, nat_lt, not, if◌then◌else◌}
-use Rattle.std.specs.List.{filter, list_any}
+use Rattle.std.specs.List.{list_any}
 use Rattle.std.proofs.lemmas.Bool.Decides.{nat_tests}
 use Rattle.std.proofs.lemmas.List.{append_assoc, append-nil, length-take-le}
 use Rattle.std.proofs.Math.Seq.{drop-cons, take-suc}
-use mathlib.Core.Logic.{dite}
-use native.Mathlib.Decide.{ℕ_discrete}
 use Rattle.section_body.specs.Word.{version_of}
 use Rattle.section_body.specs.Memory.{cell_of}
 use Rattle.table_words.specs.declared.layout.Layout.{Layout}
@@ -28,7 +26,7 @@ use Rattle.version_words.specs.Events.{IsEnabled, Makes}
 use Rattle.version_words.specs.Stages.{IsAt}
 use Rattle.version_words.proofs.Stages.{enabled, then_loaded_word}
 use Rattle.epoch_slots.specs.Collects.{unworn, worn_out, Looks, IsTested, AreTested}
-use Rattle.epoch_slots.specs.Hands.{looked, given_back, KeepsRest, IsLookedAt, HandIsOwn, IsBack}
+use Rattle.epoch_slots.specs.Hands.{looked, given_back, IsLookedAt, HandIsOwn, IsBack}
 use Rattle.epoch_slots.proofs.Outside.{nodes_made, descriptors_made, known_made, finished_made}
 
 -- one test that is kept

@@ -1,6 +1,6 @@
 -- A scan, announcement by announcement.
 use Rattle.std.proofs.Common.{◌≡◌, ℕ, suc, ◌+◌, ◌<◌, ◌≤◌, ◌^◌, List, [], ◌∷◌, ◌++◌, length, length-append, Bool, true, false, refl, sym, ap, subst, ◌∙◌, eq-eqb, ne_eqb, arith, None}
-use Rattle.std.specs.Prelude.{◌==◌, ◌&&◌, nat_lt, nat_le, not, if◌then◌else◌}
+use Rattle.std.specs.Prelude.{◌&&◌, nat_lt, nat_le, not, if◌then◌else◌}
 use Rattle.std.specs.List.{list_all}
 use Rattle.std.proofs.lemmas.Bool.Decides.{nat_tests}
 use Rattle.table_words.specs.declared.layout.Layout.{Layout}
@@ -16,9 +16,8 @@ use Rattle.runner_steps.specs.AfterOutside.{collected, with_stage, scan_one_afte
 use Rattle.version_words.specs.RunnerState.{RunnerState}
 use Rattle.version_words.specs.TableState.{TableState, IsOf}
 use Rattle.version_words.specs.Events.{IsEnabled, Makes, Tries}
-use Rattle.version_words.specs.Stages.{IsAt, stage_scanned}
+use Rattle.version_words.specs.Stages.{IsAt}
 use Rattle.version_words.proofs.Stages.{may_scan_one, may_advance, then_scanned, then_advanced, scanned_on, scanned_over, scanned_more}
-use Rattle.epoch_slots.specs.Entries.{KeepsOwn}
 use Rattle.epoch_slots.specs.Collects.{Scans, Advances, HasScanned, EndsScan}
 use Rattle.epoch_slots.proofs.Outside.{nodes_made, descriptors_made, known_made, finished_made, own_kept, own_kept_on}
 

@@ -1,5 +1,5 @@
 -- How far the slots in a runner's hand are looked at and given back.
-use Rattle.std.specs.Prelude.{◌≡◌, ℕ, ◌<◌, ◌≤◌, List, [], ◌∷◌, ◌++◌, Bool, true, false, ◌==◌, take, drop, length, None, if◌then◌else◌}
+use Rattle.std.specs.Prelude.{◌≡◌, ℕ, ◌<◌, ◌≤◌, List, [], ◌∷◌, ◌++◌, Bool, true, ◌==◌, take, drop, length, None, if◌then◌else◌}
 use Rattle.std.specs.List.{list_any}
 use Rattle.section_body.specs.Word.{version_of}
 use Rattle.table_words.specs.Places.{slot_count}

@@ -1,13 +1,12 @@
 -- What a step that isn't crossed makes of the epoch that the runner has seen.
 use Rattle.std.specs.Prelude.{◌==◌, ◌||◌, not, Bool, true, false, if◌then◌else◌}
-use Rattle.std.proofs.Common.{◌≡◌, ℕ, ◌+◌, ◌≤◌, List, refl, sym, ap, ◌∙◌, subst, arith, ⊎_elim, Option, Some, None}
+use Rattle.std.proofs.Common.{◌≡◌, ℕ, ◌≤◌, List, refl, sym, ap, ◌∙◌, subst, arith, ⊎_elim, Option, Some, None}
 use Rattle.std.proofs.lemmas.Bool.Decides.{nat_tests}
 use Rattle.map_history.specs.declared.op.Request.{Request}
 use Rattle.table_words.specs.declared.layout.Layout.{Layout}
 use Rattle.table_words.specs.declared.spot.Spot.{Spot}
-use Rattle.table_words.specs.declared.spot.Spot.TheVariants.{Epoch, Announcement}
+use Rattle.table_words.specs.declared.spot.Spot.TheVariants.{Epoch}
 use Rattle.table_words.specs.declared.access.Access.{Access}
-use Rattle.table_words.specs.declared.access.Access.TheVariants.{Loads}
 use Rattle.table_words.specs.Access.{written}
 use Rattle.table_words.specs.Seen.{put}
 use Rattle.structure_laws.specs.Meaning.{Meaning}
@@ -20,7 +19,7 @@ use Rattle.machine_states.proofs.Sights.{unless_gone, cond_none}
 use Rattle.machine_epochs.proofs.OutsideAsked as asked
 use Rattle.machine_epochs.proofs.Elsewhere.{quiet_asks}
 use Rattle.lone_epochs.proofs.Marks.{Stays, stays}
-use Rattle.lone_epochs.proofs.Reached.{IsElse, elsewhere, or_left, or_right}
+use Rattle.lone_epochs.proofs.Reached.{elsewhere, or_left, or_right}
 
 abbrev pub is_advance : EventKind → Bool
 is_advance kinds.Advance = true

@@ -9,34 +9,33 @@ use Rattle.table_words.specs.declared.layout.Layout.{Layout}
 use Rattle.table_words.specs.declared.spot.Spot.{Spot}
 use Rattle.table_words.specs.declared.spot.Spot.TheVariants.{Seat, Epoch, Clock, Announcement, Stamp, Reply, Cell, ThunkWord, DoneWord, LogWord}
 use Rattle.table_words.specs.declared.access.Access.{Access}
-use Rattle.table_words.specs.declared.access.Access.TheVariants.{Loads, Stores}
+use Rattle.table_words.specs.declared.access.Access.TheVariants.{Loads}
 use Rattle.table_words.specs.Access.{written}
 use Rattle.table_words.specs.Seen.{upd, put}
 use Rattle.structure_laws.specs.Meaning.{Meaning}
 use Rattle.runner_parts.specs.declared.event.Event.{Event}
 use Rattle.runner_parts.specs.declared.event.EventKind.{EventKind}
 use Rattle.runner_parts.specs.declared.event.EventKind.TheVariants as kinds
-use Rattle.epoch_core.specs.declared.stage.Stage.{Stage}
-use Rattle.epoch_core.specs.declared.stage.Stage.TheVariants.{Idle, Loaded, Announced, Entered, Scanning}
+use Rattle.epoch_core.specs.declared.stage.Stage.TheVariants.{Idle, Scanning}
 use Rattle.runner_parts.specs.State.{RunState, RecordsState, PartState}
-use Rattle.runner_steps.specs.Asks.{asks, ask_by}
-use Rattle.runner_steps.specs.After.{after, after_by, stepped, leaves, knows_also, own_epoch, epoch_after, is_busy, is_moved, is_late_join}
+use Rattle.runner_steps.specs.Asks.{ask_by}
+use Rattle.runner_steps.specs.After.{after, stepped, leaves, knows_also, own_epoch, epoch_after, is_busy, is_moved, is_late_join}
 use Rattle.machine_states.specs.World.{World, happens, is_join}
 use Rattle.machine_states.specs.First.{IsFirst, first_part, keeper_part, worker_part}
 use Rattle.machine_states.specs.Reached.{Reached}
 use Rattle.machine_states.specs.Sight.{Sight, sight, sight_after, Steps}
-use Rattle.machine_states.proofs.FirstSights.{first_part_of, first_parts, unannounced}
+use Rattle.machine_states.proofs.FirstSights.{first_parts, unannounced}
 use Rattle.machine_states.proofs.Reached.{first_reached, more_reached, reached_has, reached_all}
 use Rattle.machine_states.proofs.Sights.{happens_steps, unless_gone, cond_none, joins}
 use Rattle.machine_states.proofs.Updates.{upd_here, upd_else, put_same}
 use Rattle.machine_epochs.specs.Epochs.{EpochsAreSound}
-use Rattle.machine_epochs.specs.Scans.{Found, nothing_found, found_after}
+use Rattle.machine_epochs.specs.Scans.{Found}
 use Rattle.machine_epochs.proofs.OutsideAsked as asked
 use Rattle.machine_epochs.proofs.Elsewhere.{is_entry, quiet_asks, stage_kept}
 use Rattle.machine_epochs.proofs.FirstJoin as FirstJoin
 use Rattle.machine_epochs.proofs.Reached.{sound_after}
-use Rattle.lone_epochs.specs.Uncrossed.{IsUncrossed, EpochIsOwn, OneWorkerIsUncrossed}
-use Rattle.lone_epochs.proofs.Marks.{marks, Stays, stays}
+use Rattle.lone_epochs.specs.Uncrossed.{IsUncrossed, EpochIsOwn}
+use Rattle.lone_epochs.proofs.Marks.{Stays, stays}
 
 -- a step on this word is none on the epoch
 pub record IsElse (a : Spot) : Type 0 where

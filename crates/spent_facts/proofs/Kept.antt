@@ -1,6 +1,5 @@
 -- What runners keep of sections that left by spent words, over one step of the machine.
 use Rattle.std.specs.Prelude.{slice_get, true}
-use Rattle.std.specs.Prelude.{◌⊎◌}
 use Rattle.std.proofs.Common.{◌≡◌, ℕ, ◌≤◌, List, length, sym, ap, ◌∙◌, subst, ⊎_elim, arith, Some}
 use Rattle.std.proofs.lemmas.Bool.Decides.{nat_tests}
 use Rattle.map_history.specs.declared.op.Request.{Request}
@@ -12,7 +11,6 @@ use Rattle.table_words.specs.declared.layout.Layout.{Layout}
 use Rattle.table_words.specs.declared.spot.Spot.{Spot}
 use Rattle.structure_laws.specs.Meaning.{Meaning}
 use Rattle.runner_parts.specs.declared.event.EventKind.{EventKind}
-use Rattle.runner_parts.specs.declared.event.EventKind.TheVariants as kinds
 use Rattle.runner_parts.specs.State.{RunState, FinishedState}
 use Rattle.runner_steps.specs.Sections.{is_open_run, setting_of, line_of, reply_in, thunk_of}
 use Rattle.agreement_core.specs.State.{AgreementState}

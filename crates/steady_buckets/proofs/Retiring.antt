@@ -1,6 +1,6 @@
 -- A section of the hash table retires one slot at most.
 use Rattle.std.specs.Prelude.{◌==◌, cond, count_by, Bool, true, false, []}
-use Rattle.std.proofs.Common.{◌≤◌, ℕ, arith}
+use Rattle.std.proofs.Common.{◌≤◌, arith}
 use Rattle.section_body.specs.Shape.{is_retire}
 use Rattle.section_body.specs.Bucket.{fits_read, fits_insert, fits_remove, read_steps, insert_steps, remove_steps, bucket_steps}
 use Rattle.section_body.specs.declared.thunk.Thunk.{Thunk}

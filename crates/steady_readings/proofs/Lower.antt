@@ -1,6 +1,6 @@
 -- How many slots rank below another one: fewer at each step of a walk along which ranks fall.
 use Rattle.std.specs.Prelude.{◌&&◌, nat_lt, cond, Bool, true, false}
-use Rattle.std.proofs.Common.{◌≡◌, ℕ, zero, suc, ◌+◌, ◌<◌, ◌≤◌, refl, sym, ap, ◌∙◌, ⊎_elim, arith}
+use Rattle.std.proofs.Common.{◌≡◌, ℕ, zero, suc, ◌<◌, ◌≤◌, refl, sym, ap, ◌∙◌, ⊎_elim, arith}
 use Rattle.std.proofs.lemmas.Bool.{cases_eq}
 use Rattle.std.proofs.lemmas.Bool.Decides.{nat_tests}
 use Rattle.steady_readings.specs.Ranks.{lower, passing}

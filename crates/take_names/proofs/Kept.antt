@@ -1,5 +1,5 @@
 -- What the words of Takes name, over one step of the machine.
-use Rattle.std.specs.Prelude.{◌⊎◌, Bool, true, false, slice_get}
+use Rattle.std.specs.Prelude.{Bool, true, false, slice_get}
 use Rattle.std.proofs.Common.{◌≡◌, ℕ, suc, ◌<◌, List, length, refl, sym, ap, ◌∙◌, subst, ⊎_elim, inl, inr, arith, Some}
 use Rattle.map_history.specs.declared.op.Request.{Request}
 use Rattle.section_body.specs.Line.{line, micro_at}

@@ -1,6 +1,6 @@
 -- The word by which a section leaves that finds a lock held is one that it has agreed on for a Take.
 use Rattle.std.specs.Prelude.{◌==◌, ◌⊎◌, cond, Bool, true, false, slice_index}
-use Rattle.std.proofs.Common.{◌≡◌, ℕ, suc, ◌<◌, List, length, refl, sym, ap, ◌∙◌, subst, ⊎_elim, inl, inr, arith, Option, Some, None}
+use Rattle.std.proofs.Common.{◌≡◌, ℕ, suc, ◌<◌, List, length, sym, ap, ◌∙◌, subst, ⊎_elim, inl, inr, arith, Option, Some, None}
 use Rattle.section_body.specs.Line.{micro_at, is_commit}
 use Rattle.section_body.specs.Run.{leaves, refusal, is_takable}
 use Rattle.section_body.specs.Word.{version_of, held_word, is_free, is_spent}

@@ -1,4 +1,4 @@
-use Rattle.std.proofs.Common.{◌≡◌, ℕ, ◌∙◌, ap, sym, subst, arith, None}
+use Rattle.std.proofs.Common.{◌∙◌, ap, sym, subst, arith, None}
 use Rattle.table_words.specs.declared.layout.Layout.{Layout}
 use Rattle.epoch_core.specs.declared.stage.Stage.TheVariants as stages
 use Rattle.version_words.specs.Stages.{IsAt}

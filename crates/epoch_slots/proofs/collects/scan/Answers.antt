@@ -1,4 +1,4 @@
-use Rattle.std.proofs.Common.{◌≡◌, ℕ, ◌+◌, Bool, sym, subst, ap, arith}
+use Rattle.std.proofs.Common.{◌+◌, Bool, sym, subst, ap, arith}
 use Rattle.table_words.specs.declared.layout.Layout.{Layout}
 use Rattle.version_words.proofs.Stages.{may_scan_epoch}
 use Rattle.epoch_slots.specs.Collects.{HasScanned}
