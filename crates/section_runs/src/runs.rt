@@ -71,7 +71,8 @@ fn run_steps<S: Structure, G: Gate, L>(
     requires line { line.now ≡ (S.meaning table.now.structure).body thunk.now }
     requires reserve { 2 ≤ length runner.part.nodes.free }
     ensures own { IsOf table.now result.0 }
-    ensures done { EndsOpened (S.meaning table.now.structure) descriptor thunk.now trail.old.late result.1 runner result.0
+    ensures done { EndsOpened (S.meaning table.now.structure) descriptor thunk.now trail.old.late result.1
+        runner result.0
         (G.halts gate.old) (G.halts gate.new) (G.asks gate.old) (G.asks gate.new) steps.old.count steps.new.count }
     ensures halted { HaltsOpened (S.meaning table.now.structure) thunk.now result.1 runner result.0
         (G.halts gate.old) (G.halts gate.new) (G.asks gate.old) (G.asks gate.new) steps.old.count steps.new.count }
