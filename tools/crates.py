@@ -36,13 +36,10 @@ class Crate:
         return sum(it.read_bytes().count(b"\n") for it in files if it.suffix in suffixes)
 
     def about(self) -> str:
-        """The first sentence behind the title of its README.md, or nothing."""
+        """The first line behind the title of its README.md, or nothing."""
         page = self.folder / "README.md"
-        text = page.read_text() if page.is_file() else ""
-        paragraph = re.search(r"\A#[^\n]*\n\s*([^#|`\s][^\n]*(?:\n[^\n]+)*)", text)
-        if not paragraph:
-            return ""
-        return re.split(r"(?<=[.!?:])\s+(?=[A-Z`])", " ".join(paragraph[1].split()), maxsplit=1)[0]
+        lines = [it for it in page.read_text().splitlines()[1:] if it.strip()] if page.is_file() else []
+        return lines[0].strip() if lines and lines[0][0] not in "#|" else ""
 
 
 def read() -> tuple[dict[str, Crate], list[Group]]:

@@ -7,6 +7,7 @@ import signal
 import subprocess
 import sys
 import time
+from collections.abc import Collection
 
 MEMORY_OF_ONE = 3 << 30
 STOPS = (signal.SIGHUP, signal.SIGINT, signal.SIGQUIT, signal.SIGTERM)
@@ -26,6 +27,19 @@ def processors() -> int:
     words = dict(it.split(":", 1) for it in pathlib.Path("/proc/meminfo").read_text().splitlines())
     free = 1024 * int(words["MemAvailable"].split()[0])
     return max(1, min(len(os.sched_getaffinity(0)), free // MEMORY_OF_ONE))
+
+
+def read_words(usage: str, known: Collection[str]) -> tuple[int, list[str]]:
+    """The number behind -j, or one for each processor, and the names among the words of the command line; a word too many or a name that isn't
+    known ends the program."""
+    words, jobs = sys.argv[1:], processors()
+    if len(words) > 1 and words[0] == "-j" and words[1].isdigit():
+        jobs, words = max(1, int(words[1])), words[2:]
+    unknown = [it for it in words if it not in known]
+    if unknown:
+        print(f"no crate is called {unknown[0]}", usage, sep="\n\n", file=sys.stderr)
+        sys.exit(2)
+    return jobs, words
 
 
 class SideBySide:
