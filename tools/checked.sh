@@ -37,6 +37,7 @@ build_checked() {
   printf '%s\n' load --seed=1 --traces=1 --length=131072 --keys=32768 --buckets=1 > "$room/cases/long.args"
   (cd "$top/crates/flock" && TMPDIR=$room/files exec rt try --cases "$room/cases") > "$room/log" 2>&1 < /dev/null &
   trying=$!
+  echo "$trying" > "$room/runs"
   while [ -z "$is_kept" ] && kill -0 "$trying" 2> /dev/null; do
     sleep 0.1
     while IFS= read -r file; do

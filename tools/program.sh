@@ -92,11 +92,14 @@ current_sum() {
   printf '%s\n' "$sum"
 }
 
-# A new folder in `out`, where it can be made. What commands that were killed left there goes.
+# A new folder in `out`, where it can be made. What commands that were killed left there goes, with what still runs for
+# them: in such a folder, `runs` has its number.
 new_room() {
   local room
   for room in "$out"/new-*; do
-    [[ $room =~ new-([0-9]+)- && -d /proc/${BASH_REMATCH[1]} ]] || rm -rf "$room"
+    [[ $room =~ new-([0-9]+)- && -d /proc/${BASH_REMATCH[1]} ]] && continue
+    [ -s "$room/runs" ] && grep -qzF "$room/" "/proc/$(< "$room/runs")/environ" && kill "$(< "$room/runs")"
+    rm -rf "$room"
   done
   mkdir -p "$out" && mktemp -d "$out/new-$$-XXXXXX"
 } 2> /dev/null
