@@ -58,6 +58,16 @@ def read() -> tuple[dict[str, Crate], list[Group]]:
     return crates, groups
 
 
+def measured() -> dict[str, dict[str, tuple[float, str]]]:
+    """By crate and kind of work, the processor seconds in bench/gate.table and the day on which they were measured."""
+    rows: dict[str, dict[str, tuple[float, str]]] = {}
+    table = TOP / "bench" / "gate.table"
+    for line in table.read_text().splitlines() if table.exists() else []:
+        kind, name, seconds, day = line.split()
+        rows.setdefault(name, {})[kind] = float(seconds), day
+    return rows
+
+
 def above(crates: dict[str, Crate]) -> dict[str, list[str]]:
     """The crates in whose lines each crate stands."""
     return {name: [it.name for it in crates.values() if name in it.uses] for name in crates}
