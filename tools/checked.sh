@@ -42,12 +42,12 @@ build_checked() {
     sleep 0.1
     while IFS= read -r file; do
       # While the file is written it doesn't run. A second name for it takes no time.
-      if ln "$file" "$room/flock" && refuses_no_words "$room/flock" && keep checked "$1" "$room/flock"; then
+      if ln "$file" "$room/flock" 2> /dev/null && refuses_no_words "$room/flock" && keep checked "$1" "$room/flock"; then
         is_kept=1
         break
       fi
       rm -f "$room/flock"
-    done < <(find "$room/files" -type f -perm -u+x -size +16k 2> /dev/null) 2> /dev/null
+    done < <(find "$room/files" -type f -perm -u+x -size +16k 2> /dev/null)
   done
   if [ -z "$is_kept" ]; then
     cp "$room/log" "$out/checked.log" 2> /dev/null
