@@ -3,12 +3,17 @@
 
 Usage: bench/gate.py run [NAME..]    runs `rt ci [NAME..]`, hands its output through, writes bench/gate.log and prints the table
        bench/gate.py table [LOG]     prints the table of a log again      (default: bench/gate.log)
+       bench/gate.py keep [LOG]      puts what a log says of crates into bench/gate.table, with today's date
+
+bench/gate.table is read by tools/what-changes and tools/test: in each line `proofs`, `tests`, `edits` or `try` (the tests without
+proofs), a crate, processor seconds and a day.
 
 Twice a second it reads from /proc which of the prover's processes are at work, for which crate, and whether in a copy that holds an
 edit. An edit's seconds are those of the copy that ended last before its line came. What `rt ci` keeps from earlier runs costs nothing
 and has no row: `bench/gate.py run --anew` measures everything.
 """
 import collections
+import datetime
 import os
 import pathlib
 import re
@@ -18,6 +23,7 @@ import threading
 
 TOP = pathlib.Path(__file__).resolve().parent.parent
 LOG = TOP / "bench" / "gate.log"
+TABLE = TOP / "bench" / "gate.table"
 TICKS = os.sysconf("SC_CLK_TCK")
 PAUSE = 0.5
 
@@ -112,11 +118,25 @@ def table(path: pathlib.Path) -> None:
         print(f"{spent:>7.0f}  {name}")
 
 
+def keep(path: pathlib.Path) -> None:
+    """Puts the rows of a log in place of the table's for the same crates, and leaves the others."""
+    rows = {}
+    for line in TABLE.read_text().splitlines() if TABLE.exists() else []:
+        kind, name, spent, day = line.split()
+        rows[name, kind] = spent, day
+    for line in path.read_text().splitlines():
+        kind, name, spent = line.split()
+        if kind != "edit":
+            rows[name, kind] = spent, datetime.date.today().isoformat()
+    TABLE.write_text("".join(f"{kind} {name} {spent} {day}\n" for (name, kind), (spent, day) in sorted(rows.items())))
+
+
 def main() -> int:
+    log = pathlib.Path(sys.argv[2]) if len(sys.argv) > 2 else LOG
     if len(sys.argv) > 1 and sys.argv[1] == "run":
         return run(sys.argv[2:])
-    if len(sys.argv) > 1 and sys.argv[1] == "table":
-        table(pathlib.Path(sys.argv[2]) if len(sys.argv) > 2 else LOG)
+    if len(sys.argv) > 1 and sys.argv[1] in ("table", "keep"):
+        (table if sys.argv[1] == "table" else keep)(log)
         return 0
     print(__doc__, file=sys.stderr)
     return 2

@@ -3,10 +3,18 @@
 
 out=$top/out
 
-# Says in one sentence that the program can't be run, and with what command it can. 70 is no status of the program.
+# Says in one line that the program can't be run, and why. 70 is no status of the program.
 cannot() {
-  printf 'flock: the program cannot be run: %s; %q makes the proved one\n' "$1" "$top/prove" >&2
+  printf 'flock: the program cannot be run: %s\n' "$1" >&2
   exit 70
+}
+
+# Has the function that is named called with its number when one of the signals comes by which scripts are stopped.
+stop_by() {
+  trap "$1 1" HUP
+  trap "$1 2" INT
+  trap "$1 3" QUIT
+  trap "$1 15" TERM
 }
 
 # The lines of crates.txt of the program and of every crate that it uses, itself or by another, in their order.
@@ -62,6 +70,40 @@ sum_of_program() {
   } | sha256sum | cut -c1-32
 }
 
+# What tells that one of these files is another: its time, which no command can set back, its length and its number. The files of crates that the program doesn't use stand
+# there too, since to leave them out takes longer.
+times_of_files() {
+  (cd "$top" && find crates.txt HANDLES crates/*/{src,specs,proofs} -type f -printf '%p %C@ %s %i\n' 2> /dev/null)
+}
+
+# The sum of the program, without reading the files where none of them is another than when it was taken.
+current_sum() {
+  local kept sum room
+  for kept in "$out"/times-*; do
+    [ -s "$kept" ] && cmp -s "$kept" <(times_of_files) && printf '%s\n' "${kept##*-}" && return
+  done
+  [ -d "$out" ] && room=$(new_room) && times_of_files > "$room/times"
+  sum=$(sum_of_program)
+  if [ -n "${room:-}" ]; then
+    rm -f "$out"/times-*
+    mv "$room/times" "$out/times-$sum"
+    rm -rf "$room"
+  fi
+  printf '%s\n' "$sum"
+}
+
+# A new folder in `out`, where it can be made. What commands that were killed left there goes, with what still runs for
+# them: in such a folder, `runs` has its number.
+new_room() {
+  local room
+  for room in "$out"/new-*; do
+    [[ $room =~ new-([0-9]+)- && -d /proc/${BASH_REMATCH[1]} ]] && continue
+    [ -s "$room/runs" ] && grep -qzF "$room/" "/proc/$(< "$room/runs")/environ" && kill "$(< "$room/runs")"
+    rm -rf "$room"
+  done
+  mkdir -p "$out" && mktemp -d "$out/new-$$-XXXXXX"
+} 2> /dev/null
+
 # The line that names the toolchain; nothing where none is here.
 toolchain() {
   local rt kit
@@ -85,7 +127,7 @@ built() {
 keep() {
   local room
   built "$1" "$2" > /dev/null && return
-  room=$(mktemp -d "$out/new-XXXXXX") || return 1
+  room=$(new_room) || return 1
   cp "$3" "$room/flock" && chmod 755 "$room" "$room/flock" && toolchain > "$room/toolchain" || return 1
   rm -rf "$out/$1"-*
   mv -T "$room" "$out/$1-$2" 2> /dev/null || rm -rf "$room"
