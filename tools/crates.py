@@ -35,6 +35,10 @@ class Crate:
         files = (it for part in ("src", "specs", "proofs") for it in (self.folder / part).rglob("*"))
         return sum(it.read_bytes().count(b"\n") for it in files if it.suffix in suffixes)
 
+    def proof_seconds(self) -> float:
+        """About how many processor seconds its proof takes from nothing: most measured ones are within a third of it."""
+        return 9 + 0.09 * self.lines(".rt") + 0.003 * self.lines(".antt")
+
     def about(self) -> str:
         """The first line behind the title of its README.md, or nothing."""
         page = self.folder / "README.md"
