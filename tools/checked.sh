@@ -24,7 +24,7 @@ interrupted() {
 
 # Builds the program of the sources with this sum, and keeps it in the folder `out`.
 build_checked() {
-  local is_kept='' file
+  local is_kept='' file why
   command -v rt > /dev/null || cannot 'neither a build of it nor the command rt, which builds it, is here'
   trying=
   room=$(new_room) || cannot "no file can be written in $out"
@@ -50,8 +50,10 @@ build_checked() {
     done < <(find "$room/files" -type f -perm -u+x -size +16k 2> /dev/null)
   done
   if [ -z "$is_kept" ]; then
+    wait "$trying"
+    [ $? = 1 ] && why='its sources do not build' || why='the command rt could not build it'
     cp "$room/log" "$out/checked.log" 2> /dev/null
-    cannot "its sources do not build, as $out/checked.log says"
+    cannot "$why, as $out/checked.log says"
   fi
   end_build
   [ "$(sum_of_program)" = "$1" ] && return
