@@ -5,8 +5,8 @@ Usage: bench/gate.py run [NAME..]    runs `rt ci [NAME..]`, hands its output thr
        bench/gate.py table [LOG]     prints the table of a log again      (default: bench/gate.log)
        bench/gate.py keep [LOG]      puts what a log says of crates into bench/gate.table, with today's date
 
-bench/gate.table is read by tools/what-changes and tools/test: in each line `proofs`, `tests`, `edits` or `try` (the tests without
-proofs), a crate, processor seconds and a day.
+bench/gate.table is read by tools/what-changes and tools/test: in each line `proofs`, `tests`, `edits` or `try` (the
+tests without proofs), a crate, processor seconds and a day.
 
 Twice a second it reads from /proc which of the prover's processes are at work, for which crate, and whether in a copy that holds an
 edit. An edit's seconds are those of the copy that ended last before its line came. What `rt ci` keeps from earlier runs costs nothing

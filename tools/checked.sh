@@ -1,7 +1,7 @@
 # The program built without proofs and with checks in it. ./flock reads this file after tools/program.sh.
 #
-# The kit builds only what is proved, but for `rt try`. That makes such a build, runs it and keeps no file of it. So it is given a long run to make,
-# and the program is kept by a second name while it runs.
+# The kit builds only what is proved, but for `rt try`. That makes such a build, runs it and keeps no file of it. So it
+# is given a long run to make, and the program is kept by a second name while it runs.
 
 # Whether this is the whole program: with no words it refuses them.
 refuses_no_words() {
@@ -42,7 +42,8 @@ build_checked() {
     sleep 0.1
     while IFS= read -r file; do
       # While the file is written it doesn't run. A second name for it takes no time.
-      if ln "$file" "$room/flock" 2> /dev/null && refuses_no_words "$room/flock" && keep checked "$1" "$room/flock"; then
+      if ln "$file" "$room/flock" 2> /dev/null && refuses_no_words "$room/flock" &&
+        keep checked "$1" "$room/flock"; then
         is_kept=1
         break
       fi

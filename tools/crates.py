@@ -36,7 +36,7 @@ class Crate:
         return sum(it.read_bytes().count(b"\n") for it in files if it.suffix in suffixes)
 
     def proof_seconds(self) -> float:
-        """About how many processor seconds its proof takes from nothing: most measured ones are within a third of it."""
+        """About how many processor seconds its proof takes from nothing; what was measured is mostly within a third."""
         return 9 + 0.09 * self.lines(".rt") + 0.003 * self.lines(".antt")
 
     def about(self) -> str:

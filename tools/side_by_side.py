@@ -30,8 +30,7 @@ def processors() -> int:
 
 
 def read_words(usage: str, known: Collection[str]) -> tuple[int, list[str]]:
-    """The number behind -j, or one for each processor, and the names among the words of the command line; a word too many or a name that isn't
-    known ends the program."""
+    """The number behind -j, or one for each processor, and the names behind it; a name that isn't known ends this."""
     words, jobs = sys.argv[1:], processors()
     if len(words) > 1 and words[0] == "-j" and words[1].isdigit():
         jobs, words = max(1, int(words[1])), words[2:]
