@@ -67,8 +67,9 @@ def measured() -> dict[str, dict[str, tuple[float, str]]]:
     rows: dict[str, dict[str, tuple[float, str]]] = {}
     table = TOP / "bench" / "gate.table"
     for line in table.read_text().splitlines() if table.exists() else []:
-        kind, name, seconds, day = line.split()
-        rows.setdefault(name, {})[kind] = float(seconds), day
+        if not line.startswith("#"):
+            kind, name, seconds, day = line.split()
+            rows.setdefault(name, {})[kind] = float(seconds), day
     return rows
 
 
