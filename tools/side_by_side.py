@@ -3,6 +3,7 @@ import contextlib
 import dataclasses
 import os
 import pathlib
+import shutil
 import signal
 import subprocess
 import sys
@@ -39,6 +40,17 @@ def read_words(usage: str, known: Collection[str]) -> tuple[int, list[str]]:
         print(f"no crate is called {unknown[0]}", usage, sep="\n\n", file=sys.stderr)
         sys.exit(2)
     return jobs, words
+
+
+def prepare(logs: pathlib.Path) -> None:
+    """Makes the folder for logs; ends this where it can't be made, or where there is no `rt`."""
+    try:
+        logs.mkdir(parents=True, exist_ok=True)
+        (logs / "spent").write_text("")
+    except OSError:
+        sys.exit(f"no file can be written in {logs}")
+    if not shutil.which("rt"):
+        sys.exit("the command rt is not here")
 
 
 class SideBySide:
