@@ -10,6 +10,7 @@ cannot() {
 }
 
 # Has the function that is named called with its number when one of the signals comes by which scripts are stopped.
+# shellcheck disable=SC2064
 stop_by() {
   trap "$1 1" HUP
   trap "$1 2" INT
