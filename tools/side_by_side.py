@@ -20,6 +20,7 @@ class Ended:
     status: int
     seconds: float
     processor_seconds: float
+    share: int
     log: pathlib.Path
 
 
@@ -88,7 +89,7 @@ class SideBySide:
         pid = None
         while pid not in self.running:
             pid, status, usage = os.wait4(-1, 0)
-        name, process, since, _, log = self.running.pop(pid)
+        name, process, since, share, log = self.running.pop(pid)
         process.returncode = os.WEXITSTATUS(status) if os.WIFEXITED(status) else 128 + os.WTERMSIG(status)
         spent = usage.ru_utime + usage.ru_stime
-        return Ended(name, process.returncode, time.monotonic() - since, spent, log)
+        return Ended(name, process.returncode, time.monotonic() - since, spent, share, log)
