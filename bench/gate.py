@@ -5,8 +5,8 @@ Usage: bench/gate.py run [NAME..]    runs `rt ci [NAME..]`, hands its output thr
        bench/gate.py table [LOG]     prints the table of a log again      (default: bench/gate.log)
        bench/gate.py keep [LOG]      puts what a log says of crates into bench/gate.table, with today's date
 
-bench/gate.table is read by tools/what-changes and tools/test: in each line `proofs`, `tests`, `edits` or `try` (the tests without
-proofs), a crate, processor seconds and a day.
+bench/gate.table is read by tools/what-changes and tools/test: in each line `proofs`, `tests`, `edits` or `try` (the
+tests without proofs), a crate, processor seconds and a day.
 
 Twice a second it reads from /proc which of the prover's processes are at work, for which crate, and whether in a copy that holds an
 edit. An edit's seconds are those of the copy that ended last before its line came. What `rt ci` keeps from earlier runs costs nothing
@@ -24,6 +24,7 @@ import threading
 TOP = pathlib.Path(__file__).resolve().parent.parent
 LOG = TOP / "bench" / "gate.log"
 TABLE = TOP / "bench" / "gate.table"
+HEAD = "# Kind of work, crate, processor seconds, and the day on which they were measured; `bench/gate.py keep` writes this."
 TICKS = os.sysconf("SC_CLK_TCK")
 PAUSE = 0.5
 
@@ -122,13 +123,15 @@ def keep(path: pathlib.Path) -> None:
     """Puts the rows of a log in place of the table's for the same crates, and leaves the others."""
     rows = {}
     for line in TABLE.read_text().splitlines() if TABLE.exists() else []:
-        kind, name, spent, day = line.split()
-        rows[name, kind] = spent, day
+        if not line.startswith("#"):
+            kind, name, spent, day = line.split()
+            rows[name, kind] = spent, day
     for line in path.read_text().splitlines():
         kind, name, spent = line.split()
         if kind != "edit":
             rows[name, kind] = spent, datetime.date.today().isoformat()
-    TABLE.write_text("".join(f"{kind} {name} {spent} {day}\n" for (name, kind), (spent, day) in sorted(rows.items())))
+    lines = [f"{kind} {name} {spent} {day}" for (name, kind), (spent, day) in sorted(rows.items())]
+    TABLE.write_text("\n".join([HEAD, *lines, ""]))
 
 
 def main() -> int:

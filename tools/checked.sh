@@ -1,7 +1,7 @@
 # The program built without proofs and with checks in it. ./flock reads this file after tools/program.sh.
 #
-# The kit builds only what is proved, but for `rt try`. That makes such a build, runs it and keeps no file of it. So it is given a long run to make,
-# and the program is kept by a second name while it runs.
+# The kit builds only what is proved, but for `rt try`. That makes such a build, runs it and keeps no file of it. So it
+# is given a long run to make, and the program is kept by a second name while it runs.
 
 # Whether this is the whole program: with no words it refuses them.
 refuses_no_words() {
@@ -24,7 +24,7 @@ interrupted() {
 
 # Builds the program of the sources with this sum, and keeps it in the folder `out`.
 build_checked() {
-  local is_kept='' file
+  local is_kept='' file why
   command -v rt > /dev/null || cannot 'neither a build of it nor the command rt, which builds it, is here'
   trying=
   room=$(new_room) || cannot "no file can be written in $out"
@@ -42,7 +42,8 @@ build_checked() {
     sleep 0.1
     while IFS= read -r file; do
       # While the file is written it doesn't run. A second name for it takes no time.
-      if ln "$file" "$room/flock" 2> /dev/null && refuses_no_words "$room/flock" && keep checked "$1" "$room/flock"; then
+      if ln "$file" "$room/flock" 2> /dev/null && refuses_no_words "$room/flock" &&
+        keep checked "$1" "$room/flock"; then
         is_kept=1
         break
       fi
@@ -50,8 +51,10 @@ build_checked() {
     done < <(find "$room/files" -type f -perm -u+x -size +16k 2> /dev/null)
   done
   if [ -z "$is_kept" ]; then
+    wait "$trying"
+    [ $? = 1 ] && why='its sources do not build' || why='the command rt could not build it'
     cp "$room/log" "$out/checked.log" 2> /dev/null
-    cannot "its sources do not build, as $out/checked.log says"
+    cannot "$why, as $out/checked.log says"
   fi
   end_build
   [ "$(sum_of_program)" = "$1" ] && return

@@ -1,5 +1,5 @@
-# What ./flock and ./prove share: of which files the program is built, and where what was built of them is kept. It is read by these two, with
-# `top` set to the repository's folder.
+# What ./flock and ./prove share: of which files the program is built, and where what was built of them is kept. It is
+# read by these two, with `top` set to the repository's folder.
 
 out=$top/out
 
@@ -10,6 +10,7 @@ cannot() {
 }
 
 # Has the function that is named called with its number when one of the signals comes by which scripts are stopped.
+# shellcheck disable=SC2064
 stop_by() {
   trap "$1 1" HUP
   trap "$1 2" INT
@@ -70,8 +71,8 @@ sum_of_program() {
   } | sha256sum | cut -c1-32
 }
 
-# What tells that one of these files is another: its time, which no command can set back, its length and its number. The files of crates that the program doesn't use stand
-# there too, since to leave them out takes longer.
+# What tells that one of these files is another: the time of its last change, which no command can set back, its length
+# and its number. Files of crates that the program doesn't use stand there too, since to leave them out takes longer.
 times_of_files() {
   (cd "$top" && find crates.txt HANDLES crates/*/{src,specs,proofs} -type f -printf '%p %C@ %s %i\n' 2> /dev/null)
 }
@@ -112,8 +113,8 @@ toolchain() {
   cat "$kit/KIT-ID" 2> /dev/null || rt version
 }
 
-# The program that was built so (proved, or checked), if it was built of these very files, by the toolchain that is here; with no toolchain here it
-# is taken as it is.
+# The program that was built so (proved, or checked), if it was built of these very files, by the toolchain that is
+# here; with no toolchain here it is taken as it is.
 built() {
   local at=$out/$1-$2 here
   [ -x "$at/flock" ] || return 1
@@ -122,8 +123,8 @@ built() {
   printf '%s\n' "$at/flock"
 }
 
-# Keeps a program that was built so of the files with this sum, in place of those that were built so before; where another command has kept the
-# same meanwhile, that one stays.
+# Keeps a program that was built so of the files with this sum, in place of those that were built so before; where
+# another command has kept the same meanwhile, that one stays.
 keep() {
   local room
   built "$1" "$2" > /dev/null && return

@@ -3,6 +3,7 @@ import contextlib
 import dataclasses
 import os
 import pathlib
+import shutil
 import signal
 import subprocess
 import sys
@@ -19,6 +20,7 @@ class Ended:
     status: int
     seconds: float
     processor_seconds: float
+    share: int
     log: pathlib.Path
 
 
@@ -30,8 +32,7 @@ def processors() -> int:
 
 
 def read_words(usage: str, known: Collection[str]) -> tuple[int, list[str]]:
-    """The number behind -j, or one for each processor, and the names among the words of the command line; a word too many or a name that isn't
-    known ends the program."""
+    """The number behind -j, or one for each processor, and the names behind it; a name that isn't known ends this."""
     words, jobs = sys.argv[1:], processors()
     if len(words) > 1 and words[0] == "-j" and words[1].isdigit():
         jobs, words = max(1, int(words[1])), words[2:]
@@ -40,6 +41,17 @@ def read_words(usage: str, known: Collection[str]) -> tuple[int, list[str]]:
         print(f"no crate is called {unknown[0]}", usage, sep="\n\n", file=sys.stderr)
         sys.exit(2)
     return jobs, words
+
+
+def prepare(logs: pathlib.Path) -> None:
+    """Makes the folder for logs; ends this where it can't be made, or where there is no `rt`."""
+    try:
+        logs.mkdir(parents=True, exist_ok=True)
+        (logs / "spent").write_text("")
+    except OSError:
+        sys.exit(f"no file can be written in {logs}")
+    if not shutil.which("rt"):
+        sys.exit("the command rt is not here")
 
 
 class SideBySide:
@@ -77,7 +89,7 @@ class SideBySide:
         pid = None
         while pid not in self.running:
             pid, status, usage = os.wait4(-1, 0)
-        name, process, since, _, log = self.running.pop(pid)
+        name, process, since, share, log = self.running.pop(pid)
         process.returncode = os.WEXITSTATUS(status) if os.WIFEXITED(status) else 128 + os.WTERMSIG(status)
         spent = usage.ru_utime + usage.ru_stime
-        return Ended(name, process.returncode, time.monotonic() - since, spent, log)
+        return Ended(name, process.returncode, time.monotonic() - since, spent, share, log)
