@@ -1,6 +1,6 @@
 -- Lists of numbers, and how many numbers pass a test.
 use Rattle.std.proofs.Common.{◌≡◌, ℕ, zero, suc, ◌+◌, ◌≤◌, Bool, true, false, cond, List, [], ◌∷◌, ◌++◌, length, refl, arith}
-use Rattle.std.specs.Prelude.{◌||◌, ◌&&◌, ◌==◌, not, nat_lt}
+use Rattle.std.specs.Prelude.{◌⊎◌, ◌||◌, ◌&&◌, ◌==◌, not, nat_lt}
 use Rattle.std.proofs.lemmas.Bool.Decides.{nat_tests}
 use Rattle.guard_core.specs.Update.{has, count}
 use Rattle.guard_core.specs.Sound.{named}
@@ -30,3 +30,13 @@ count_listed f [] (suc n) all = let rest = count_listed f [] n all in let here =
 count_listed f (x ∷ xs) n all =
     let rest = count_listed (λ i. f i && not (i == x)) xs n (λ i both. let here = all i in grind (arith, nat_tests)) in
     let but = count_but f x n in grind arith
+
+-- tests that let the same through
+pub count_same : (f g : ℕ → Bool) (n : ℕ) → ((i : ℕ) → f i ≡ g i) → count f n ≡ count g n
+count_same f g zero same = refl
+count_same f g (suc n) same = let rest = count_same f g n same in let here = same n in grind arith
+
+-- what passes a test passes one of two others
+pub count_either : (f g h : ℕ → Bool) (n : ℕ) → ((i : ℕ) → f i ≡ true → (g i ≡ true) ⊎ (h i ≡ true)) → count f n ≤ count g n + count h n
+count_either f g h zero split = grind arith
+count_either f g h (suc n) split = let rest = count_either f g h n split in let here = split n in grind arith

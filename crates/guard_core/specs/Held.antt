@@ -29,6 +29,13 @@ pub record HeldAreSafe (w : GuardState) : Type 0 where
   -- where a linked block is in limbo, a run of that section came to its end
   pub ended : (b r d : ℕ) → w.block b ≡ Limbo r d → has (w.linked d) b ≡ true → w.over d ≡ true
 
+-- an event takes something out of a limbo only where nobody holds it: nobody is sure of the descriptor, and the block
+-- is linked in none that somebody is sure of
+pub record LeavesUnheld (w w' : GuardState) : Type 0 where
+  pub descriptor : (d r e p : ℕ) → w.descriptor d ≡ Limbo r e → w'.descriptor d ≢ Limbo r e → IsSureOf w p d → ⊥
+  pub block : (b r e p d : ℕ) → w.block b ≡ Limbo r e → w'.block b ≢ Limbo r e → IsSureOf w p d
+      → has (w.linked d) b ≡ false
+
 module _ (c : Counts) where
   -- each runner's limbo has at most eight blocks of each descriptor
   abbrev pub LimboIsSmall : GuardState → Type 0

@@ -1,9 +1,10 @@
 -- A sweep frees exactly what no guard names, and leaves enough free.
-use Rattle.std.specs.Prelude.{ℕ, suc, ◌+◌, ◌*◌, ◌≤◌, ◌≡◌, ◌≢◌, ◌⊎◌, ◌==◌, Bool, true, false, List, [], ◌∷◌, Some}
-use Rattle.guard_core.specs.State.{Counts, Location, Free, Live, Limbo, GuardState, word_of, IsSureOf}
+use Rattle.std.specs.Prelude.{ℕ, suc, ◌+◌, ◌*◌, ◌<◌, ◌≤◌, ◌≡◌, ◌≢◌, ◌⊎◌, ◌==◌, Bool, true, false, List, [], ◌∷◌, Some}
+use Rattle.guard_core.specs.State.{Counts, Location, Free, Live, Limbo, GuardState, IsSureOf, most_linked}
 use Rattle.guard_core.specs.Events.{Event, LoadLast, Enabled, with_next, after}
-use Rattle.guard_core.specs.Schedules.{AllEnabled, after_all}
+use Rattle.guard_core.specs.Schedules.{IsFirst, first_state, AllEnabled, after_all}
 use Rattle.guard_core.specs.Update.{has, count}
+use Rattle.guard_core.specs.Sound.{named}
 use Rattle.guard_core.specs.Owners.{owner_of}
 
 -- what the end of this runner's sweep does. `with_next w r` is the guard words that it read
@@ -62,17 +63,26 @@ module _ (c : Counts) where
   abbrev pub blocks_that : (Location → Bool) → GuardState → ℕ
   blocks_that f w = count (λ b. f (w.block b)) c.blocks
 
-  -- after the end of a sweep each other guard word keeps at most one own descriptor and eight own blocks; all
-  -- the others are free
+  -- at the end of a sweep each other guard word keeps at most one own descriptor and eight own blocks in limbo;
+  -- all the others are free
   pub record LeavesEnough (w : GuardState) (r : ℕ) : Type 0 where
-    pub few_descriptors : descriptors_that (is_limbo_of r) (after w (LoadLast r)) ≤ c.runners
-    pub few_blocks : blocks_that (is_limbo_of r) (after w (LoadLast r)) ≤ 8 * c.runners
+    -- of the guard words that it read, its own names nothing
+    pub words : named (with_next w r) ≤ c.runners
+    pub few_descriptors : descriptors_that (is_limbo_of r) (after w (LoadLast r)) ≤ named (with_next w r)
+    pub few_blocks : blocks_that (is_limbo_of r) (after w (LoadLast r)) ≤ most_linked * named (with_next w r)
     pub free_descriptors : descriptors_that (is_own r) w
-        ≤ descriptors_that (is_free_of r) (after w (LoadLast r)) + c.runners
-    pub free_blocks : blocks_that (is_own r) w ≤ blocks_that (is_free_of r) (after w (LoadLast r)) + 8 * c.runners
-    -- with at least one descriptor more than there are other guard words, and eight blocks for each
-    -- descriptor and eight more, a descriptor and sixteen blocks are free
-    pub enough : (sections : ℕ) → c.runners + 1 ≤ sections → descriptors_that (is_own r) w ≡ sections
-        → blocks_that (is_own r) w ≡ 8 * sections + 8
-        → (1 ≤ descriptors_that (is_free_of r) (after w (LoadLast r)))
-        × (16 ≤ blocks_that (is_free_of r) (after w (LoadLast r)))
+        ≤ descriptors_that (is_free_of r) (after w (LoadLast r)) + named (with_next w r)
+    pub free_blocks : blocks_that (is_own r) w
+        ≤ blocks_that (is_free_of r) (after w (LoadLast r)) + most_linked * named (with_next w r)
+
+  -- a runner with more descriptors than there are other guard words, with eight blocks for each of them and
+  -- eight more, has a free descriptor and sixteen free blocks after each sweep, whatever the others do
+  abbrev pub IsNeverShort : Type 0
+  IsNeverShort = (descriptor block : ℕ → Location) (es : List Event) (r sections : ℕ) → IsFirst descriptor block
+      → r ≤ c.runners → c.runners < sections
+      → descriptors_that (is_own r) (first_state descriptor block) ≡ sections
+      → blocks_that (is_own r) (first_state descriptor block) ≡ 8 * sections + 8
+      → AllEnabled c (first_state descriptor block) es
+      → Enabled c (after_all (first_state descriptor block) es) (LoadLast r)
+      → (1 ≤ descriptors_that (is_free_of r) (after (after_all (first_state descriptor block) es) (LoadLast r)))
+      × (16 ≤ blocks_that (is_free_of r) (after (after_all (first_state descriptor block) es) (LoadLast r)))

@@ -5,9 +5,9 @@ ghost use Rattle.guard_core.specs.Events.{Event, LoadLast, Enabled, after};
 ghost use Rattle.guard_core.specs.Sound.{IsSound};
 ghost use Rattle.guard_core.specs.Schedules.{IsFirst, first_state, AllEnabled, after_all};
 ghost use Rattle.guard_core.specs.Frame.{IsSame};
-ghost use Rattle.guard_core.specs.Held.{HeldAreSafe, LimboIsSmall};
+ghost use Rattle.guard_core.specs.Held.{HeldAreSafe, LeavesUnheld, LimboIsSmall};
 ghost use Rattle.guard_core.specs.Owners.{StaysWithOwner};
-ghost use Rattle.guard_core.specs.Sweeps.{SweepsExactly, FreesUnnamed, LeavesEnough};
+ghost use Rattle.guard_core.specs.Sweeps.{SweepsExactly, FreesUnnamed, LeavesEnough, IsNeverShort};
 ghost use Rattle.guard_core.specs.Round.{ComesRound};
 
 /// Every enabled event leads from a state that meets the invariant to one that meets it.
@@ -35,6 +35,12 @@ pub fn held_descriptors_and_blocks_are_safe()
         → HeldAreSafe (after_all (first_state descriptor block) es) }
 {}
 
+/// No event takes anything out of a limbo while somebody holds it.
+pub fn limbos_are_left_late()
+    ensures { (c : Counts) (w : GuardState) (e : Event) → Enabled c w e → IsSound c w
+        → LeavesUnheld w (after w e) }
+{}
+
 /// After every list of enabled events each runner's limbo has at most eight blocks of each descriptor.
 pub fn limbos_are_small()
     ensures { (c : Counts) (descriptor block : ℕ → Location) (es : List Event) → IsFirst descriptor block
@@ -52,11 +58,12 @@ pub fn sweeps_free_what_no_guard_names()
 {}
 
 /// Of a runner's descriptors and blocks, each other guard word keeps at most one descriptor and eight blocks
-/// at the end of its sweep. With a descriptor more than there are other guard words, one is free, and
-/// sixteen blocks.
+/// at the end of its sweep. A runner with more descriptors than there are other guard words has a free one
+/// after each sweep, and sixteen free blocks, whatever the others do, and wherever one of them stops.
 pub fn sweeps_leave_enough()
-    ensures { (c : Counts) (w : GuardState) (r : ℕ) → IsSound c w → r ≤ c.runners → Enabled c w (LoadLast r)
-        → LeavesEnough c w r }
+    ensures few { (c : Counts) (w : GuardState) (r : ℕ) → IsSound c w → r ≤ c.runners
+        → Enabled c w (LoadLast r) → LeavesEnough c w r }
+    ensures enough { (c : Counts) → IsNeverShort c }
 {}
 
 /// Each descriptor and each block stays with its runner: no event moves it to another one's lists.
