@@ -54,7 +54,7 @@ per_word r m n (zero ∷ words) place most =
 per_word r m n (suc d ∷ words) place most =
     let rest = per_word r m n words place most in let here = most d in
     let split = count_either (λ i. under_some r (suc d ∷ words) (place i)) (λ i. is_under r d (place i)) (λ i. under_some r words (place i)) n
-        (λ i at. under_more r d words (place i) at) in
+    (λ i at. under_more r d words (place i) at) in
     let one_more : named (suc d ∷ words) ≡ suc (named words) = grind arith in
     let times = mul-suc m (named words) in
     let product : m * named (suc d ∷ words) ≡ m * named words + m = rw one_more times in
@@ -85,7 +85,7 @@ rest_free : (r m n : ℕ) (words : List ℕ) (place : ℕ → Location) → ((i 
     → count (λ i. is_own r (place i)) n ≤ count (λ i. is_free_of r (swept r words (place i))) n + m
 rest_free r m n words place out few =
     let split = count_either (λ i. is_own r (place i)) (λ i. is_free_of r (swept r words (place i))) (λ i. is_limbo_of r (swept r words (place i))) n
-        (λ i own. own_split r words (place i) (out i) own) in
+    (λ i own. own_split r words (place i) (out i) own) in
     omega arith
 
 -- an own descriptor lies in limbo under itself alone
@@ -113,9 +113,9 @@ pub leaves_enough : (c : Counts) (w : GuardState) (r : ℕ) → IsSound c w → 
 leaves_enough c w r sound le ok =
     let words = with_next w r in let idle = sound.idle r ok.0 in
     let descriptors : count (λ d. is_limbo_of r (swept r words (w.descriptor d))) c.descriptors ≤ named words =
-        let few = stay_few r 1 c.descriptors words w.descriptor
-            (λ d. count_listed (λ i. is_under r d (w.descriptor i)) (d ∷ []) c.descriptors (λ i at. under_itself r d i (w.descriptor i) (λ e. sound.own r i e) at)) in
-        omega arith in
+    let few = stay_few r 1 c.descriptors words w.descriptor
+    (λ d. count_listed (λ i. is_under r d (w.descriptor i)) (d ∷ []) c.descriptors (λ i at. under_itself r d i (w.descriptor i) (λ e. sound.own r i e) at)) in
+    omega arith in
     let blocks = stay_few r most_linked c.blocks words w.block (λ d. sound.eight r d) in
     record {
       words = words_few c w r sound le ok;

@@ -45,9 +45,9 @@ sweeps_exactly c w r sound ok =
       unlinked = λ b p d moved s.
           let m = swept_moved r (with_next w r) (w.block b) moved in let none = unheld c w r ok sound p d s in
           not_true (has (w.linked d) b) (λ l.
-              let same = sound.held_limbo p d b r m.0 s l m.1 in
-              let no : has (with_next w r) (suc d) ≡ false = grind arith in let here : w.block b ≡ Limbo r d = grind arith in
-              none.1 no b l here);
+          let same = sound.held_limbo p d b r m.0 s l m.1 in
+          let no : has (with_next w r) (suc d) ≡ false = grind arith in let here : w.block b ≡ Limbo r d = grind arith in
+          none.1 no b l here);
     }
 
 -- a word that names a descriptor
@@ -66,7 +66,7 @@ loaded : (w : GuardState) (q r d : ℕ) → has ((after w (LoadGuard q)).looked 
 loaded w q r d at =
     dite (ℕ_discrete r q)
     (λ own. let l = w.looked r in let p = length l in let here : has (l ++ word_of (w.guard p) ∷ []) (suc d) ≡ true = grind arith in
-        ⊎_elim (λ before. inl before) (λ names. inr (p, names)) (named_more l (w.guard p) d here))
+    ⊎_elim (λ before. inl before) (λ names. inr (p, names)) (named_more l (w.guard p) d here))
     (λ other. inl (grind arith))
 
 -- a word that a sweep has read was there at that time
@@ -102,9 +102,9 @@ unread w es r d empty never =
     let last = after_all w es in let l = last.looked r in let p = length l in
     not_true (has (l ++ word_of (last.guard p) ∷ []) (suc d))
     (λ at. ⊎_elim
-        (λ before. ⊎_elim (λ first. absurd (grind arith)) (λ along. never along) (along_named w es r d before))
-        (λ names. never (end_named w es d (p, names)))
-        (named_more l (last.guard p) d at))
+    (λ before. ⊎_elim (λ first. absurd (grind arith)) (λ along. never along) (along_named w es r d before))
+    (λ names. never (end_named w es d (p, names)))
+    (named_more l (last.guard p) d at))
 
 pub frees_unnamed : (c : Counts) → FreesUnnamed c
 frees_unnamed c w es r d empty all ok never =

@@ -81,14 +81,14 @@ eight_finished : (c : Counts) (w : GuardState) (r d : ℕ) → Enabled c w (Fini
 eight_finished c w r d ok old r1 d1 =
     dite (ℕ_discrete r1 r)
     (λ own. dite (ℕ_discrete d1 d)
-      (λ same. let all = count_listed (λ b. is_under r1 d1 (retired r d (w.block b))) (w.linked d) c.blocks
-          (λ b at. let place = under r1 d1 (retired r d (w.block b)) at in let moved = retired_limbo r d r1 d1 (w.block b) place in
-              let sure = old.running r d ok in let fresh = old.fresh b r d in let won = old.won b r d in grind arith) in
-          let few = old.few d in omega arith)
-      (λ apart. let less = count_more (λ b. is_under r1 d1 (retired r d (w.block b))) (λ b. is_under r1 d1 (w.block b)) c.blocks
-          (λ b at. stays r d r1 d1 (w.block b) (λ x y. apart y) at) in let before = old.eight r1 d1 in omega arith))
+    (λ same. let all = count_listed (λ b. is_under r1 d1 (retired r d (w.block b))) (w.linked d) c.blocks
+    (λ b at. let place = under r1 d1 (retired r d (w.block b)) at in let moved = retired_limbo r d r1 d1 (w.block b) place in
+    let sure = old.running r d ok in let fresh = old.fresh b r d in let won = old.won b r d in grind arith) in
+    let few = old.few d in omega arith)
+    (λ apart. let less = count_more (λ b. is_under r1 d1 (retired r d (w.block b))) (λ b. is_under r1 d1 (w.block b)) c.blocks
+    (λ b at. stays r d r1 d1 (w.block b) (λ x y. apart y) at) in let before = old.eight r1 d1 in omega arith))
     (λ other. let less = count_more (λ b. is_under r1 d1 (retired r d (w.block b))) (λ b. is_under r1 d1 (w.block b)) c.blocks
-        (λ b at. stays r d r1 d1 (w.block b) (λ x y. other x) at) in let before = old.eight r1 d1 in omega arith)
+    (λ b at. stays r d r1 d1 (w.block b) (λ x y. other x) at) in let before = old.eight r1 d1 in omega arith)
 
 pub finish : (c : Counts) (w : GuardState) (r : ℕ) (d : ℕ) → Enabled c w (Finish r d) → IsSound c w → IsSound c (after w (Finish r d))
 finish c w r d ok old =

@@ -9,6 +9,6 @@ mod laws;
 pub use laws::{
     a_block_comes_round, changes_elsewhere_keep_the_invariant, events_keep_the_invariant,
     held_descriptors_and_blocks_are_safe, limbos_are_left_late, limbos_are_small,
-    nothing_changes_hands,
-    schedules_meet_the_invariant, sweeps_free_what_no_guard_names, sweeps_leave_enough,
+    nothing_changes_hands, schedules_meet_the_invariant, sweeps_free_what_no_guard_names,
+    sweeps_leave_enough,
 };
