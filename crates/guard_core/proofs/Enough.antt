@@ -141,7 +141,7 @@ own_all c w (e ∷ es) ok sound =
     }
 
 pub never_short : (c : Counts) → IsNeverShort c
-never_short c descriptor block es r sections start le more own_descriptors own_blocks all ok =
+never_short c descriptor block es r sections start le more owns all ok =
     let begin = first_state descriptor block in
     let sound = keeps_all c begin es all (first c descriptor block start) in
     let last = after_all begin es in
@@ -150,4 +150,4 @@ never_short c descriptor block es r sections start le more own_descriptors own_b
     let e1 = owned_same r c.descriptors descriptor last.descriptor own.descriptor in
     let e2 = owned_same r c.blocks block last.block own.block in
     let f1 = enough.words in let f2 = enough.free_descriptors in let f3 = enough.free_blocks in
-    (omega arith, omega arith)
+    let o1 = owns.descriptors in let o2 = owns.blocks in record { descriptor = omega arith; blocks = omega arith }

@@ -108,4 +108,4 @@ unread w es r d empty never =
 
 pub frees_unnamed : (c : Counts) → FreesUnnamed c
 frees_unnamed c w es r d empty all ok never =
-    let no = unread w es r d empty never in (λ e at. grind arith, λ b at. grind arith)
+    let no = unread w es r d empty never in record { descriptors = λ e at. grind arith; blocks = λ b at. grind arith }

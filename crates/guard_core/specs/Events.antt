@@ -68,7 +68,8 @@ module _ (c : Counts) where
   Enabled w (Exit r) = w.guard r ≡ None
   Enabled w (StoreGuard r d) = (r ≤ c.runners) × (w.entered r ≡ true) × MayMove w r
   Enabled w (ClearGuard r) = MayMove w r
-  Enabled w (Validate r d) = (w.guard r ≡ Some d) × (w.run r ≡ None) × (w.over d ≡ false) × ((q : ℕ) × (w.descriptor d ≡ Live q))
+  Enabled w (Validate r d) = (w.guard r ≡ Some d) × (w.run r ≡ None) × (w.over d ≡ false)
+      × ((q : ℕ) × (w.descriptor d ≡ Live q))
   Enabled w (Publish r d) = (w.guard r ≡ Some d) × (w.descriptor d ≡ Free r)
   Enabled w (Begin r d) = IsSureOf w r d × (w.run r ≡ None)
   Enabled w (Link r d b) = (w.run r ≡ Some d) × (w.block b ≡ Free r) × (length (w.linked d) < most_linked)

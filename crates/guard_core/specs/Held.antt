@@ -11,7 +11,8 @@ IsKeptUnder w d b = ((q : ℕ) × (w.block b ≡ Live q) × (w.run q ≡ Some d)
 
 pub record HeldAreSafe (w : GuardState) : Type 0 where
   -- a descriptor that somebody is sure of is published, or in a limbo: it is in no free list, and nobody gives it out
-  pub kept : (r d : ℕ) → IsSureOf w r d → ((q : ℕ) × (w.descriptor d ≡ Live q)) ⊎ ((q : ℕ) × (w.descriptor d ≡ Limbo q d))
+  pub kept : (r d : ℕ) → IsSureOf w r d
+      → ((q : ℕ) × (w.descriptor d ≡ Live q)) ⊎ ((q : ℕ) × (w.descriptor d ≡ Limbo q d))
   pub unfree : (r d q : ℕ) → IsSureOf w r d → w.descriptor d ≢ Free q
   -- each block that is linked in it is kept: it is in no free list and in no hand
   pub held : (r d b : ℕ) → IsSureOf w r d → has (w.linked d) b ≡ true → IsKeptUnder w d b

@@ -40,8 +40,9 @@ module _ (c : Counts) where
     pub ended : (b r d : ℕ) → w.block b ≡ Limbo r d → has (w.linked d) b ≡ true → w.over d ≡ true
     -- what lies in limbo under the descriptor that its runner is sure of is of the latest publication
     pub fresh : (b r d : ℕ) → w.block b ≡ Limbo r d → IsSureOf w r d → has (w.linked d) b ≡ true
-    -- who is entered isn't in a sweep. What lies in the sweeper's limbo under a descriptor that no word read so
-    -- far names: of a descriptor itself nobody read so far is sure, and a block is linked in nothing that one of them is sure of
+    -- who is entered isn't in a sweep. Where no word that a sweep has read so far names a descriptor, of the runners
+    -- read so far nobody is sure of it: if it lies in the sweeper's limbo itself, and if a block lies there under it
+    -- that is linked in its latest publication
     pub sweeping : (r : ℕ) → w.entered r ≡ true → w.looked r ≡ []
     pub looked_most : (r : ℕ) → length (w.looked r) ≤ c.runners
     pub swept : (r p d : ℕ) → p < length (w.looked r) → has (w.looked r) (suc d) ≡ false → IsSureOf w p d

@@ -26,40 +26,47 @@ pub record SweepsExactly (w : GuardState) (r : ℕ) : Type 0 where
   pub unheld : (d p : ℕ) → (after w (LoadLast r)).descriptor d ≢ w.descriptor d → IsSureOf w p d → ⊥
   pub unlinked : (b p d : ℕ) → (after w (LoadLast r)).block b ≢ w.block b → IsSureOf w p d → has (w.linked d) b ≡ false
 
--- some guard word names this descriptor in this state, or in one that these events lead to
+-- some guard word names this descriptor
 abbrev pub IsNamed : GuardState → ℕ → Type 0
 IsNamed w d = (p : ℕ) × (w.guard p ≡ Some d)
 
+-- one does so in this state, or in one that these events lead to
 abbrev pub IsNamedAlong : GuardState → List Event → ℕ → Type 0
 IsNamedAlong w [] d = IsNamed w d
 IsNamedAlong w (e ∷ es) d = IsNamed w d ⊎ IsNamedAlong (after w e) es d
 
--- what no guard word names from the beginning of a sweep to its end is free after it
+-- all that lies in this runner's limbo under this descriptor is free at the end of the runner's sweep
+pub record FreesUnder (w : GuardState) (r d : ℕ) : Type 0 where
+  pub descriptors : (e : ℕ) → w.descriptor e ≡ Limbo r d → (after w (LoadLast r)).descriptor e ≡ Free r
+  pub blocks : (b : ℕ) → w.block b ≡ Limbo r d → (after w (LoadLast r)).block b ≡ Free r
+
+-- a sweep frees what lies under a descriptor that no guard word names from the beginning of the sweep to its end
 abbrev pub FreesUnnamed : Counts → Type 0
 FreesUnnamed c = (w : GuardState) (es : List Event) (r d : ℕ) → w.looked r ≡ [] → AllEnabled c w es
-    → Enabled c (after_all w es) (LoadLast r) → (IsNamedAlong w es d → ⊥)
-    → ((e : ℕ) → (after_all w es).descriptor e ≡ Limbo r d → (after (after_all w es) (LoadLast r)).descriptor e ≡ Free r)
-    × ((b : ℕ) → (after_all w es).block b ≡ Limbo r d → (after (after_all w es) (LoadLast r)).block b ≡ Free r)
+    → Enabled c (after_all w es) (LoadLast r) → (IsNamedAlong w es d → ⊥) → FreesUnder (after_all w es) r d
 
--- it lies in this runner's limbo; it is in its free list or its hand; it belongs to it
+-- it lies in this runner's limbo
 abbrev pub is_limbo_of : ℕ → Location → Bool
 is_limbo_of r (Limbo q d) = q == r
 is_limbo_of r (Free q) = false
 is_limbo_of r (Live q) = false
 
+-- it is in this runner's free list or hand
 abbrev pub is_free_of : ℕ → Location → Bool
 is_free_of r (Free q) = q == r
 is_free_of r (Live q) = false
 is_free_of r (Limbo q d) = false
 
+-- it belongs to this runner
 abbrev pub is_own : ℕ → Location → Bool
 is_own r x = owner_of x == r
 
 module _ (c : Counts) where
-  -- how many own descriptors and own blocks pass a test
+  -- how many descriptors are at a place that passes the test
   abbrev pub descriptors_that : (Location → Bool) → GuardState → ℕ
   descriptors_that f w = count (λ d. f (w.descriptor d)) c.descriptors
 
+  -- the same of blocks
   abbrev pub blocks_that : (Location → Bool) → GuardState → ℕ
   blocks_that f w = count (λ b. f (w.block b)) c.blocks
 
@@ -75,14 +82,21 @@ module _ (c : Counts) where
     pub free_blocks : blocks_that (is_own r) w
         ≤ blocks_that (is_free_of r) (after w (LoadLast r)) + most_linked * named (with_next w r)
 
-  -- a runner with more descriptors than there are other guard words, with eight blocks for each of them and
-  -- eight more, has a free descriptor and sixteen free blocks after each sweep, whatever the others do
+  -- this runner has so many descriptors, eight blocks for each of them, and eight more
+  pub record Owns (w : GuardState) (r sections : ℕ) : Type 0 where
+    pub descriptors : descriptors_that (is_own r) w ≡ sections
+    pub blocks : blocks_that (is_own r) w ≡ 8 * sections + 8
+
+  -- it has a free descriptor, and the sixteen free blocks that two runs may link
+  pub record HasEnough (w : GuardState) (r : ℕ) : Type 0 where
+    pub descriptor : 1 ≤ descriptors_that (is_free_of r) w
+    pub blocks : 16 ≤ blocks_that (is_free_of r) w
+
+  -- a runner with more descriptors than there are other guard words has enough after each sweep, whatever the
+  -- others do, and wherever one of them stops
   abbrev pub IsNeverShort : Type 0
   IsNeverShort = (descriptor block : ℕ → Location) (es : List Event) (r sections : ℕ) → IsFirst descriptor block
-      → r ≤ c.runners → c.runners < sections
-      → descriptors_that (is_own r) (first_state descriptor block) ≡ sections
-      → blocks_that (is_own r) (first_state descriptor block) ≡ 8 * sections + 8
+      → r ≤ c.runners → c.runners < sections → Owns (first_state descriptor block) r sections
       → AllEnabled c (first_state descriptor block) es
       → Enabled c (after_all (first_state descriptor block) es) (LoadLast r)
-      → (1 ≤ descriptors_that (is_free_of r) (after (after_all (first_state descriptor block) es) (LoadLast r)))
-      × (16 ≤ blocks_that (is_free_of r) (after (after_all (first_state descriptor block) es) (LoadLast r)))
+      → HasEnough (after (after_all (first_state descriptor block) es) (LoadLast r)) r

@@ -48,9 +48,9 @@ pub fn limbos_are_small()
         → LimboIsSmall c (after_all (first_state descriptor block) es) }
 {}
 
-/// The end of a sweep frees exactly what no guard word that it read names: of that, nobody is sure of a
-/// descriptor, and no block is linked in a descriptor that somebody is sure of. What no guard word names from
-/// the beginning of a sweep to its end is free.
+/// The end of a sweep frees exactly what lies in the own limbo under a descriptor that no guard word which
+/// it read names: of that, nobody is sure of a descriptor, and no block is linked in a descriptor that
+/// somebody is sure of. What no guard word names from the beginning of a sweep to its end is free behind it.
 pub fn sweeps_free_what_no_guard_names()
     ensures exact { (c : Counts) (w : GuardState) (r : ℕ) → IsSound c w → Enabled c w (LoadLast r)
         → SweepsExactly w r }
