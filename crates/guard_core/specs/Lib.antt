@@ -8,4 +8,5 @@ pub mod Frame
 pub mod Held
 pub mod Sweeps
 pub mod Owners
+pub mod Lists
 pub mod Round
