@@ -1,0 +1,12 @@
+pub mod Update
+pub mod State
+pub mod Moves
+pub mod Events
+pub mod Sound
+pub mod Schedules
+pub mod Frame
+pub mod Held
+pub mod Sweeps
+pub mod Owners
+pub mod Lists
+pub mod Round
