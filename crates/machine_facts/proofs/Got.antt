@@ -1,5 +1,5 @@
 -- A lock that a section has got by a Take has the section's word until the section is done.
-use Rattle.std.specs.Prelude.{slice_index, slice_get}
+use Rattle.std.specs.Prelude.{slice_index}
 use Rattle.std.proofs.Common.{◌≡◌, ℕ, suc, ◌<◌, true, List, length, Some, refl, sym, ap, ◌∙◌, subst, ⊎_elim, arith}
 use Rattle.std.proofs.lemmas.Bool.{cases_lt}
 use Rattle.std.proofs.lemmas.Option.{slice_get_within, get_or_from_slice_get}
@@ -24,7 +24,7 @@ use Rattle.machine_invariant.specs.Trails.{log_of}
 use Rattle.machine_invariant.specs.Whole.{Beside, IsWhole}
 use Rattle.machine_invariant.proofs.After.{reached_whole}
 use Rattle.machine_invariant.proofs.Trails.{run_used, trails_agree}
-use Rattle.machine_facts.specs.Got.{HasGot, GotLocksAreHeld, ReachedGotLocksAreHeld}
+use Rattle.machine_facts.specs.Got.{HasGot, ReachedGotLocksAreHeld}
 
 module _ (m : Meaning) (l : Layout) (g : Beside) (s : Sight) (whole : IsWhole m l g s) (r place free : ℕ) (q : RunState)
     (is : (s.part r).run ≡ Some q) (opened : length q.opened ≡ 13) (got : HasGot m q place free) where

@@ -1,9 +1,8 @@
 -- What is answered in a state comes before what isn't asked there.
 use Rattle.std.specs.Prelude.{take}
-use Rattle.std.proofs.Common.{◌≡◌, ◌≢◌, ℕ, ◌<◌, le_of_eq, zero, suc, List, [], ◌∷◌, Option, None, refl, sym, ap, ◌∙◌, subst, Some, arith}
+use Rattle.std.proofs.Common.{◌≡◌, ℕ, le_of_eq, zero, suc, List, [], ◌∷◌, Option, None, sym, ◌∙◌, subst, Some, arith}
 use Rattle.map_history.specs.declared.op.Request.{Request}
 use Rattle.table_words.specs.declared.layout.Layout.{Layout}
-use Rattle.table_words.specs.declared.spot.Spot.TheVariants.{Stamp, Reply}
 use Rattle.table_words.specs.Limits.{IsWithinLimits}
 use Rattle.structure_laws.specs.Meaning.{Meaning}
 use Rattle.structure_laws.specs.Laws.{Laws}
@@ -18,7 +17,7 @@ use Rattle.machine_states.proofs.Reached.{more_reached, reached_all, run_has}
 use Rattle.machine_states.proofs.Sights.{happens_steps}
 use Rattle.machine_records.specs.machine_invariant.specs.After.{AreAllowed}
 use Rattle.machine_records.specs.Requests.{requests_of}
-use Rattle.reached_histories.specs.RealTime.{IsUnasked, AreInRealTime, ReachedAreLinearizable, LinearizableAfter}
+use Rattle.reached_histories.specs.RealTime.{AreInRealTime, ReachedAreLinearizable, LinearizableAfter}
 use Rattle.reached_histories.proofs.Steps.{Stands, step_stands, step_passes}
 use Rattle.reached_histories.proofs.Reached.{reached_stands, known_at}
 use Rattle.reached_histories.proofs.Words.{stamp_is, reply_is, open_of}
