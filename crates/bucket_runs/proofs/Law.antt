@@ -422,7 +422,7 @@ module _ (bits slots request : ℕ) (memory : PlainMemory) (pairs : Pairs) (op :
 
     insert_case : Does (bucket_steps thunk)
     insert_case =
-        let ends = insert_run (plain_setting (insert_steps thunk) [] memory) cells memory.clock (slice_index memory.stamps request) (slice_index memory.replies request) thunk wanted unspent.edition (unspent.head (fit.form ∙ form)) in
+        let ends = insert_run (plain_setting (insert_steps thunk) [] memory) cells memory.clock (slice_index memory.stamps request) (slice_index memory.replies request) thunk wanted (unspent.edition (λ one. let own = fit.form ∙ form in omega arith)) (unspent.head (fit.form ∙ form)) in
         let written : inserted_cells (plain_setting (insert_steps thunk) [] memory) cells memory.clock (slice_index memory.stamps request) (slice_index memory.replies request) thunk ≡ after =
         exchanges_write filled (thunk.lock + 2) (thunk.lock + 1) (cells (thunk.lock + 2)) link_word (cells (thunk.lock + 1)) edition_word
         (low_stays (thunk.lock + 2) (let at = fit.lock in let low = own_low in omega arith)) (low_stays (thunk.lock + 1) (let at = fit.lock in let low = own_low in omega arith)) (λ e. omega arith) in
@@ -515,7 +515,7 @@ module _ (bits slots request : ℕ) (memory : PlainMemory) (pairs : Pairs) (op :
 
     remove_case : Does (bucket_steps thunk)
     remove_case =
-        let ends = remove_run (plain_setting (remove_steps thunk) [] memory) cells memory.clock (slice_index memory.stamps request) (slice_index memory.replies request) thunk wanted unspent.edition (unspent.link (fit.form ∙ form)) in
+        let ends = remove_run (plain_setting (remove_steps thunk) [] memory) cells memory.clock (slice_index memory.stamps request) (slice_index memory.replies request) thunk wanted (unspent.edition (λ one. let own = fit.form ∙ form in omega arith)) (unspent.link (fit.form ∙ form)) in
         let written : removed_cells (plain_setting (remove_steps thunk) [] memory) cells memory.clock (slice_index memory.stamps request) (slice_index memory.replies request) thunk ≡ left =
         exchanges_write cells (operand thunk 1) (thunk.lock + 1) (cells (operand thunk 1)) new_link (cells (thunk.lock + 1)) new_edition refl refl edition_apart in
         subst Does (sym (remove_body thunk (fit.form ∙ form) removal_fits)) (record {

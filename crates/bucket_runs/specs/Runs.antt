@@ -51,9 +51,9 @@ module _ (bits : ℕ) where
     pub read : AreRead (cells_of memory) readings
     pub fits : fits_walk (2 ^ bits) bucket op (walk (2 ^ bits) bucket bounds op start readings) thunk ≡ true
 
-  -- no Fresh leaves: the cells that the body stores to have a version left
+  -- no Fresh leaves: the cells that the body stores to have a version left; form 1 stores to none
   pub record IsUnspent (memory : PlainMemory) (thunk : Thunk) : Type 0 where
-    pub edition : version_of (cells_of memory (thunk.lock + 1)) ≢ memory.version_max
+    pub edition : thunk.form ≢ 1 → version_of (cells_of memory (thunk.lock + 1)) ≢ memory.version_max
     pub head : thunk.form ≡ 2 → version_of (cells_of memory (thunk.lock + 2)) ≢ memory.version_max
     pub link : thunk.form ≡ 3 → version_of (cells_of memory (operand thunk 1)) ≢ memory.version_max
 

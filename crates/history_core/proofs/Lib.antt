@@ -5,6 +5,7 @@ pub mod Histories
 pub mod Keeping
 pub mod Making
 pub mod Publishing
+pub mod RealTime
 pub mod Running
 pub mod Stamping
 pub mod Standing

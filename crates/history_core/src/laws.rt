@@ -5,6 +5,7 @@ ghost use Rattle.history_core.specs.Events.{Event, Enabled, after};
 ghost use Rattle.history_core.specs.Sound.{IsSound};
 ghost use Rattle.history_core.specs.Schedules.{first_state, AllEnabled, after_all};
 ghost use Rattle.history_core.specs.Legal.{HistoryIsLegal, ClockStands, KnowledgeStands, IsClosed, AreAllDone, WordsStand};
+ghost use Rattle.history_core.specs.RealTime.{EventsKeepRealTime, PublicationsAsk};
 ghost use Rattle.history_core.specs.Frame.{IsSame};
 ghost use Rattle.history_core.specs.Made.{IsMade};
 
@@ -30,6 +31,14 @@ pub fn histories_are_legal()
 /// stamped requests. A run's clock is loaded after its section's publication and before its stamp.
 pub fn the_clock_bounds_the_stamps()
     ensures { (c : Requests) (w : HistoryState) → IsSound c w → ClockStands c w }
+{}
+
+/// The history is linearizable (Herlihy and Wing, Linearizability, 1990): a request with a reply has a smaller
+/// stamp than each request that isn't asked yet in that state, whatever events come next. A request for
+/// which a section may be published isn't asked yet.
+pub fn the_history_is_linearizable()
+    ensures order { (c : Requests) → EventsKeepRealTime c }
+    ensures asked { (c : Requests) → PublicationsAsk c }
 {}
 
 /// Who knows both words of a request knows that it stands once in the history, with that stamp and the

@@ -9,5 +9,5 @@ mod laws;
 pub use laws::{
     a_history_is_made, changes_elsewhere_keep_the_invariant, closed_histories_are_answered,
     events_keep_the_invariant, histories_are_legal, schedules_meet_the_invariant,
-    the_clock_bounds_the_stamps, what_is_known_stands, words_stand,
+    the_clock_bounds_the_stamps, the_history_is_linearizable, what_is_known_stands, words_stand,
 };

@@ -11,6 +11,7 @@ ghost use Rattle.reached_histories.specs.machine_invariant.specs.LogWords.{LogWo
 ghost use Rattle.reached_histories.specs.machine_invariant.specs.Rising.{RisesAfter};
 ghost use Rattle.reached_histories.specs.machine_facts.specs.After.{FactsAfter, StepFactsAfter};
 ghost use Rattle.reached_histories.specs.Laws.{HistoryAfter};
+ghost use Rattle.reached_histories.specs.RealTime.{LinearizableAfter};
 ghost use Rattle.interleave_core.specs.Enabled.{StopsNaming};
 ghost use Rattle.interleave_core.specs.NextSteps.{NextStepsAfter};
 
@@ -37,7 +38,9 @@ pub enum ScheduleError {
 /// effects once, for good, or none; outcomes that were kept agree; publishers hold what the locks of their
 /// Takes named; and the next event leaves the words that stand. The stamped requests are one legal history,
 /// the clock bounds their stamps, what a worker has seen comes before what it asks next, and where no lock
-/// names a section each stamped request has its reply and the cells stand for the history's final map.
+/// names a section each stamped request has its reply and the cells stand for the history's final map. The
+/// history is linearizable: what was answered after any number of the events has a smaller stamp than what
+/// wasn't asked by then.
 /// Whoever is in a run and wasn't joined has an enabled event, the next one of its opening, line or end,
 /// but where a Make finds no free slot. `NotEnabled` comes exactly where an event isn't enabled, and names
 /// the first.
@@ -59,6 +62,7 @@ pub fn all_schedules<S: Structure>(
     ensures facts { IfOk result (λ x. FactsAfter (S.meaning structure) layout requests.now events.now x.world) }
     ensures steps { IfOk result (λ x. StepFactsAfter (S.meaning structure) layout requests.now events.now x.world) }
     ensures history { IfOk result (λ x. HistoryAfter (S.meaning structure) layout requests.now events.now x.world) }
+    ensures order { IfOk result (λ x. LinearizableAfter (S.meaning structure) layout requests.now events.now x.world) }
     ensures next { IfOk result (λ x. NextStepsAfter (S.meaning structure) layout requests.now events.now x.world) }
     ensures structure { IfOk result (λ x. x.structure ≡ structure) }
     ensures layout { IfOk result (λ x. x.layout ≡ layout) }

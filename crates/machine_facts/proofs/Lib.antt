@@ -5,6 +5,7 @@ pub mod Epochs
 pub mod FinishedParts
 pub mod Following
 pub mod Going
+pub mod Got
 pub mod Known
 pub mod Locks
 pub mod Once

@@ -5,6 +5,7 @@ ghost use Rattle.table_words.specs.declared.layout.Layout.{Layout};
 ghost use Rattle.runner_parts.specs.declared.event.Event.{Event};
 ghost use Rattle.machine_states.specs.World.{World};
 ghost use Rattle.machine_facts.specs.After.{FactsAfter, StepFactsAfter};
+ghost use Rattle.machine_facts.specs.Got.{ReachedGotLocksAreHeld};
 
 use runner_parts::Structure;
 
@@ -23,6 +24,15 @@ pub fn reached_states_show_facts<S: Structure>(structure: &S)
 pub fn steps_show_facts<S: Structure>(structure: &S)
     ensures { (layout : Layout) (requests : List Request) (events : List Event) (w : World)
         → StepFactsAfter (S.meaning structure.now) layout requests events w }
+{
+    let _ = structure;
+}
+
+/// In each state that the machine reaches, a lock that a run's section has got by a Take, as the outcome says
+/// on which it has agreed, has the word that names the section, until that is done.
+pub fn got_locks_are_held<S: Structure>(structure: &S)
+    ensures { (layout : Layout) (requests : List Request)
+        → ReachedGotLocksAreHeld (S.meaning structure.now) layout requests }
 {
     let _ = structure;
 }

@@ -6,4 +6,4 @@
 
 mod laws;
 
-pub use laws::{reached_states_show_facts, steps_show_facts};
+pub use laws::{got_locks_are_held, reached_states_show_facts, steps_show_facts};

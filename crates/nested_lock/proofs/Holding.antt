@@ -1,12 +1,12 @@
 -- The second half of a Take in a run.
-use Rattle.std.proofs.Common.{◌≡◌, ℕ, ◌+◌, ◌-◌, ◌^◌, ◌<◌, true, refl, sym, ap, ◌∙◌, arith, Option, Some}
-use Rattle.std.specs.Prelude.{◌&&◌, nat_lt, Result}
+use Rattle.std.proofs.Common.{◌≡◌, ℕ, suc, ◌+◌, ◌-◌, ◌^◌, ◌<◌, List, [], ◌∷◌, ◌++◌, length, Bool, true, false, cond, refl, sym, ap, ◌∙◌, subst, arith, Option, Some, None}
+use Rattle.std.specs.Prelude.{◌&&◌, ◌==◌, nat_lt, Result, slice_get}
 use Rattle.std.proofs.lemmas.Bool.Decides.{nat_tests}
 use Rattle.section_body.specs.declared.outcome.Refused.{Refused}
 use Rattle.section_body.specs.declared.micro.Micro.TheVariants.{NestedHold, OutcomeLoad, OutcomeCommit}
 use Rattle.section_body.specs.Line.{micro_at}
 use Rattle.section_body.specs.Run.{written_once}
-use Rattle.section_body.specs.Word.{version_of}
+use Rattle.section_body.specs.Word.{version_of, held_word}
 use Rattle.table_words.specs.Access.{written}
 use Rattle.table_words.specs.Places.{descriptor_count}
 use Rattle.table_words.specs.declared.layout.Layout.{Layout}
@@ -18,12 +18,15 @@ use Rattle.table_words.specs.Limits.{IsWithinLimits}
 use Rattle.structure_laws.specs.Meaning.{Meaning}
 use Rattle.structure_laws.specs.Laws.{Laws}
 use Rattle.runner_parts.specs.declared.event.EventKind.TheVariants as kinds
-use Rattle.runner_parts.specs.State.{RunState}
+use Rattle.runner_parts.specs.State.{RunState, PartState}
 use Rattle.runner_steps.specs.Sections.{line_of, next_of}
 use Rattle.runner_steps.specs.AfterInRun.{goes_on, agrees}
+use Rattle.machine_states.specs.Sight.{part_or_first}
 use Rattle.machine_states.proofs.Sights.{if_some}
 use Rattle.machine_states.proofs.Steps.{some_same}
 use Rattle.commit_log.specs.machine_invariant.specs.After.{AreAllowed}
+use Rattle.commit_log.specs.version_words.specs.machine_facts.specs.Got.{HasGot}
+use Rattle.commit_log.specs.version_words.specs.machine_facts.proofs.Got.{reached_got_held}
 use Rattle.commit_log.specs.version_words.specs.RunnerState.{RunnerState}
 use Rattle.commit_log.specs.version_words.specs.TableState.{TableState, IsOf}
 use Rattle.commit_log.specs.version_words.specs.Events.{met_by, Makes, Leaves}
@@ -32,12 +35,35 @@ use Rattle.commit_log.specs.version_words.proofs.Inside.{few_descriptors}
 use Rattle.commit_log.specs.Runs.{IsRunning, Stepped}
 use Rattle.commit_log.proofs.Running.{may_make, asked_there, goes_behind, then_made}
 use Rattle.commit_log.proofs.Next.{next_here, settled_at, settled_next}
-use Rattle.nested_lock.specs.Answers.{second_outcome, outcome_at}
+use Rattle.nested_lock.specs.Answers.{left_by, second_outcome, outcome_at}
+use Rattle.nested_lock.specs.Held.{IsHeld}
 use Rattle.nested_lock.specs.Taken.{MayHold, HasHeld}
 use Rattle.nested_lock.proofs.Reading.{log_of, stands}
+use Rattle.nested_lock.proofs.Halves.{ok_none}
 
 both : (a b c d : ℕ) → (nat_lt a b && nat_lt c d) ≡ true → (a < b) × (c < d)
 both a b c d e = (grind (arith, nat_tests, e), grind (arith, nat_tests, e))
+
+-- the last of a list
+get_behind : (xs : List ℕ) (x k : ℕ) → k ≡ length xs → slice_get (xs ++ x ∷ []) k ≡ Some x
+get_behind xs x k e = ap (slice_get (xs ++ x ∷ [])) e ∙ last xs
+  where
+    last : (ys : List ℕ) → slice_get (ys ++ x ∷ []) (length ys) ≡ Some x
+    last [] = refl
+    last (y ∷ ys) = last ys
+
+-- no outcome: the word names the section
+named_by : (version_max descriptor place expected read : ℕ) → second_outcome version_max descriptor place expected read ≡ None
+    → read ≡ held_word descriptor expected
+named_by version_max descriptor place expected read none = by (read == held_word descriptor expected) refl none
+  where
+    same : (a b : ℕ) → (a == b) ≡ true → a ≡ b
+    same a b e = grind (arith, nat_tests)
+
+    by : (b : Bool) → (read == held_word descriptor expected) ≡ b → cond b None (Some (left_by version_max place expected read)) ≡ None
+        → read ≡ held_word descriptor expected
+    by true is e = same read (held_word descriptor expected) is
+    by false is e = absurd (let z = e in cc)
 
 module _ {T : Type 0} (m : Meaning) (laws : Laws m) (t : TableState T) (limits : IsWithinLimits t.layout) (allowed : AreAllowed t.requests) (r : RunnerState T) (own : IsOf t r) (place expected : ℕ) (q : RunState) (may : MayHold m r place expected q) where
   abbrev log : ℕ
@@ -99,6 +125,9 @@ module _ {T : Type 0} (m : Meaning) (laws : Laws m) (t : TableState T) (limits :
       same3 : r3.layout ≡ r.layout
       same3 = ap (λ (y : RunnerState T). y.layout) look.event.made ∙ same2
 
+      requests3 : r3.requests ≡ r.requests
+      requests3 = ap (λ (y : RunnerState T). y.requests) look.event.made ∙ ap (λ (y : RunnerState T). y.requests) hold.event.made
+
       commit_ahead : next_of m looked ≡ OutcomeCommit place log
       commit_ahead = settled_next m r.layout (record held { at = held.at + 1; word = loaded }) (OutcomeCommit place log)
           (stands m place expected 3 q may.next 5 (held.at + 1) (omega arith) (let e = may.next.at in let f = held_at in omega (arith, e, f))) refl
@@ -111,12 +140,33 @@ module _ {T : Type 0} (m : Meaning) (laws : Laws m) (t : TableState T) (limits :
       pub commits : (r4 : RunnerState T) (other : ℕ) → Makes m kinds.OutcomeCommit other r3 r4 → Stepped m looked (OutcomeCommit place log) other r3 r4
       commits r4 other made = then_made m laws t limits allowed r3 own3 looked running3 (OutcomeCommit place log) commit_ahead refl other r4 made
 
+      -- where the agreed word names the section, the lock is held by it
+      module _ (read : ℕ) (r4 : RunnerState T) (layout : r4.layout ≡ r.layout) (requests : r4.requests ≡ r.requests)
+          (running4 : IsRunning m r4 (agrees m r.layout looked read)) (names : read ≡ held_word q.descriptor expected) where
+        got : HasGot m (agrees m r.layout looked read) place expected
+        got = record {
+          at = q.at;
+          log = log;
+          takes = stands m place expected 3 q may.next 3 q.at (omega arith) may.next.at;
+          commits = stands m place expected 3 q may.next 5 (suc (suc q.at)) (omega arith) (let e = may.next.at in omega (arith, e));
+          agreed = get_behind looked.trail read log
+              (goes_behind m laws t limits allowed r3 own3 looked running3 (OutcomeCommit place log) commit_ahead log refl) ∙ ap Some names;
+        }
+
+        is_held : IsHeld m place expected q.descriptor r4
+        is_held w reached own4 = reached_got_held m laws r4.layout r4.requests
+            (subst IsWithinLimits (sym (layout ∙ own.layout)) limits) (subst AreAllowed (sym (requests ∙ own.requests)) allowed)
+            w reached r4.number place expected (agrees m r.layout looked read)
+            (ap (λ (p : PartState). p.run) (ap part_or_first own4) ∙ running4.inside.running) running4.opened got
+
       pub then_held : (read : ℕ) (r4 : RunnerState T) (made : Leaves m kinds.OutcomeCommit read r3 r4) (answer : Result (Unit {0}) Refused)
           → Stepped m looked (OutcomeCommit place log) made.found r3 r4
           → second_outcome r.layout.version_max q.descriptor place expected read ≡ outcome_at place answer → HasHeld m place expected read answer r r4 q
       then_held read r4 made answer commit told =
           let met = some_same made.event.met (next_log r3.part.run, Exchanges 0 loaded) (sym made.event.asked ∙ may_agree) in
           let agreed : read ≡ written_once made.found loaded = made.told ∙ ap (λ (x : Spot × Access). written x.1 made.found) met in
+          let on = commit.goes_on (agrees m r.layout looked read) (commit.behind.run
+          ∙ (ap (λ (l : Layout). Some (agrees m l looked (written_once made.found loaded))) same3 ∙ ap (λ n. Some (agrees m r.layout looked n)) (sym agreed))) in
           record {
             log = log;
             held = found;
@@ -129,6 +179,8 @@ module _ {T : Type 0} (m : Meaning) (laws : Laws m) (t : TableState T) (limits :
             commit = commit;
             agreed = agreed;
             told = told;
-            goes_on = commit.goes_on (agrees m r.layout looked read) (commit.behind.run
-                ∙ (ap (λ (l : Layout). Some (agrees m l looked (written_once made.found loaded))) same3 ∙ ap (λ n. Some (agrees m r.layout looked n)) (sym agreed)));
+            got = λ ok. is_held read r4 (ap (λ (y : RunnerState T). y.layout) commit.event.made ∙ same3)
+                (ap (λ (y : RunnerState T). y.requests) commit.event.made ∙ requests3) on
+                (named_by r.layout.version_max q.descriptor place expected read (told ∙ ok_none place answer ok));
+            goes_on = on;
           }

@@ -1,3 +1,4 @@
 pub mod Answers
+pub mod Held
 pub mod Taken
 pub mod Dropped

@@ -1,5 +1,5 @@
 -- Takes of further locks in a run.
-use Rattle.std.specs.Prelude.{◌≡◌, ℕ, ◌+◌, ◌⊎◌, Bool, true, Result, is_err, None, Some}
+use Rattle.std.specs.Prelude.{◌≡◌, ℕ, ◌+◌, ◌⊎◌, Bool, true, false, Result, is_err, None, Some}
 use Rattle.section_body.specs.declared.outcome.Refused.{Refused}
 use Rattle.section_body.specs.declared.step.Step.TheVariants.{Take}
 use Rattle.section_body.specs.declared.micro.Micro.TheVariants.{NestedLoad, NestedHold, OutcomeLoad, OutcomeCommit}
@@ -15,6 +15,7 @@ use Rattle.commit_log.specs.Runs.{IsRunning, Stepped}
 use Rattle.commit_log.specs.Committed.{HasCommitted}
 use Rattle.nested_lock.specs.declared.takes.TakeEnd.{TakeEnd}
 use Rattle.nested_lock.specs.Answers.{first_outcome, second_outcome, outcome_at}
+use Rattle.nested_lock.specs.Held.{IsHeld}
 
 -- this run stands so many atomic steps into a Take of this lock, with this word
 pub record IsInTake (m : Meaning) (place expected past : ℕ) (q : RunState) : Type 0 where
@@ -47,6 +48,8 @@ module _ {T : Type 0} (m : Meaning) where
     pub commit : Stepped m (goes_on m old.layout (goes_on m old.layout q q.word) loaded) (OutcomeCommit place log) found looking new
     pub agreed : read ≡ written_once found loaded
     pub told : second_outcome old.layout.version_max q.descriptor place expected read ≡ outcome_at place answer
+    -- where the lock was got, the section holds it until it is done
+    pub got : is_err answer ≡ false → IsHeld m place expected q.descriptor new
     pub goes_on : IsRunning m new (agrees m old.layout (goes_on m old.layout (goes_on m old.layout q q.word) loaded) read)
 
   -- the lock's word was loaded and agreed on

@@ -4,4 +4,5 @@ pub mod Publications
 pub mod Steps
 pub mod Reached
 mod Words
+pub mod RealTime
 pub mod Histories

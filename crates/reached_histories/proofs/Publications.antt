@@ -10,6 +10,7 @@ use Rattle.history_core.specs.State.{Requests, HistoryState}
 use Rattle.history_core.specs.Events as history
 use Rattle.history_core.specs.Schedules.{after_all}
 use Rattle.history_core.specs.Sound.{IsSound}
+use Rattle.history_core.proofs.RealTime.{Passes, passes_nowhere, passes_more, event_passes}
 use Rattle.machine_records.specs.Keeping.{learns, ends}
 use Rattle.reached_histories.proofs.Quietly.{GoesOn, IsStampedBy, zero_or_some, up_to}
 
@@ -54,6 +55,23 @@ ended_same c r before now w = by (before == now)
     by : (b : Bool) → IsSame w (after_all c w (cond b [] (history.Over r ∷ [])))
     by true = record { request = refl; knew = refl; stage = refl; stamp = refl }
     by false = record { request = refl; knew = refl; stage = refl; stamp = refl }
+
+learned_passes : (c : Requests) (r : ℕ) (ns : List ℕ) (w : HistoryState) → Passes w (after_all c w (learns r ns))
+learned_passes c r [] w = passes_nowhere w
+learned_passes c r (n ∷ ns) w = passes_more w (history.after c w (history.Learn r n)) (after_all c w (learns r (n ∷ ns)))
+    (event_passes c w (history.Learn r n) tt) (learned_passes c r ns (history.after c w (history.Learn r n)))
+
+ended_passes : (c : Requests) (r before now : ℕ) (w : HistoryState) → Passes w (after_all c w (ends r before now))
+ended_passes c r before now w = by (before == now)
+  where
+    by : (b : Bool) → Passes w (after_all c w (cond b [] (history.Over r ∷ [])))
+    by true = passes_nowhere w
+    by false = event_passes c w (history.Over r) tt
+
+pub passes_between : (c : Requests) (r before now : ℕ) (ns : List ℕ) (w v : HistoryState)
+    → Passes (after_all c w (ends r before now)) v → Passes w (after_all c v (learns r ns))
+passes_between c r before now ns w v on = passes_more w v (after_all c v (learns r ns))
+    (passes_more w (after_all c w (ends r before now)) v (ended_passes c r before now w) on) (learned_passes c r ns v)
 
 -- the end of an own run, then steps that publish nothing, then what is learned
 pub later_between : (c : Requests) (r before now : ℕ) (ns : List ℕ) (w v : HistoryState)

@@ -19,6 +19,7 @@ use Rattle.history_core.specs.State.{Requests, HistoryState}
 use Rattle.history_core.specs.Events as history
 use Rattle.history_core.specs.Schedules as schedules
 use Rattle.history_core.specs.Sound.{IsSound}
+use Rattle.history_core.proofs.RealTime.{Passes, passes_nowhere, passes_more, event_passes}
 use Rattle.machine_epochs.specs.Entries.{counts_of}
 use Rattle.machine_scenes.specs.Shown.{States}
 use Rattle.machine_scenes.specs.Steps as scenes
@@ -50,6 +51,7 @@ pub record GoesOn (c : Requests) (w v : HistoryState) : Type 0 where
   pub knew : v.knew ≡ w.knew
   pub stage : (d : ℕ) → w.stage d ≤ v.stage d
   pub stamped : (n : ℕ) → w.stamp n ≡ 0 → v.stamp n ≢ 0 → IsStampedBy c w v n
+  pub passes : Passes w v
 
 pub goes_alike : (c : Requests) (w v : HistoryState) → GoesOn c w v → KnowsAlike w v
 goes_alike c w v on = record { known = on.known; published = on.published }
@@ -62,6 +64,7 @@ goes_nowhere c w = record {
   knew = refl;
   stage = λ d. omega arith;
   stamped = λ n none some. absurd (some none);
+  passes = passes_nowhere w;
 }
 
 pub zero_or_some : (n : ℕ) → (n ≡ 0) ⊎ (n ≢ 0)
@@ -92,40 +95,44 @@ goes_more c u w v one two = record {
         far = up_to _ _ _ (two.stage by.descriptor) by.far;
       })
       (zero_or_some (w.stamp n));
+  passes = passes_more u w v one.passes two.passes;
 }
 
--- a section gets further, and no stamp is written
-further : (c : Requests) (w v : HistoryState) (d stage : ℕ) → v.known ≡ w.known → v.published ≡ w.published → v.request ≡ w.request
-    → v.knew ≡ w.knew → v.stage ≡ history.comes c w d stage → v.stamp ≡ w.stamp → GoesOn c w v
-further c w v d stage known published request knew comes stamp = record {
-  known = known;
-  published = published;
-  request = request;
-  knew = knew;
-  stage = λ e. subst (λ n. w.stage e ≤ n) (sym (ap (λ (f : ℕ → ℕ). f e) comes)) (no_lower e);
-  stamped = λ n none some. absurd (some (ap (λ (f : ℕ → ℕ). f n) stamp ∙ none));
-}
+-- a section that comes so far is no less far than it was, and no other one is
+comes_no_lower : (c : Requests) (w : HistoryState) (d stage e : ℕ) → w.stage e ≤ history.comes c w d stage e
+comes_no_lower c w d stage e = ⊎_elim
+    (λ same. subst (λ n. w.stage e ≤ n) (sym (upd_same w.stage d e (max (w.stage d) stage) same))
+    (subst (λ k. w.stage k ≤ max (w.stage d) stage) (sym same) (greater (w.stage d) stage)))
+    (λ ne. subst (λ n. w.stage e ≤ n) (sym (upd_other w.stage d e (max (w.stage d) stage) ne)) (omega arith))
+    (cases_eq e d)
   where
     greater : (a b : ℕ) → a ≤ max a b
     greater a b = grind (arith, nat_tests)
 
-    no_lower : (e : ℕ) → w.stage e ≤ history.comes c w d stage e
-    no_lower e = ⊎_elim
-        (λ same. subst (λ n. w.stage e ≤ n) (sym (upd_same w.stage d e (max (w.stage d) stage) same))
-        (subst (λ k. w.stage k ≤ max (w.stage d) stage) (sym same) (greater (w.stage d) stage)))
-        (λ ne. subst (λ n. w.stage e ≤ n) (sym (upd_other w.stage d e (max (w.stage d) stage) ne)) (omega arith))
-        (cases_eq e d)
+-- a section gets further, and no stamp is written
+further : (c : Requests) (w v : HistoryState) (d stage : ℕ) → v.known ≡ w.known → v.published ≡ w.published → v.request ≡ w.request
+    → v.knew ≡ w.knew → v.stage ≡ history.comes c w d stage → v.stamp ≡ w.stamp → Passes w v → GoesOn c w v
+further c w v d stage known published request knew comes stamp passes = record {
+  known = known;
+  published = published;
+  request = request;
+  knew = knew;
+  stage = λ e. subst (λ n. w.stage e ≤ n) (sym (ap (λ (f : ℕ → ℕ). f e) comes)) (comes_no_lower c w d stage e);
+  stamped = λ n none some. absurd (some (ap (λ (f : ℕ → ℕ). f n) stamp ∙ none));
+  passes = passes;
+}
 
 -- where nothing of this changes
 still : (c : Requests) (w v : HistoryState) → v.known ≡ w.known → v.published ≡ w.published → v.request ≡ w.request
-    → v.knew ≡ w.knew → v.stage ≡ w.stage → v.stamp ≡ w.stamp → GoesOn c w v
-still c w v known published request knew stage stamp = record {
+    → v.knew ≡ w.knew → v.stage ≡ w.stage → v.stamp ≡ w.stamp → Passes w v → GoesOn c w v
+still c w v known published request knew stage stamp passes = record {
   known = known;
   published = published;
   request = request;
   knew = knew;
   stage = λ d. subst (λ n. w.stage d ≤ n) (sym (ap (λ (f : ℕ → ℕ). f d) stage)) (omega arith);
   stamped = λ n none some. absurd (some (ap (λ (f : ℕ → ℕ). f n) stamp ∙ none));
+  passes = passes;
 }
 
 -- a section that isn't done, or has come behind its clock's load with its request unstamped, is its worker's published one
@@ -144,13 +151,13 @@ module _ (c : Requests) (w : HistoryState) (sound : IsSound c w) (r : ℕ) (load
           (sound.sections.ended d (sound.sections.running r loaded).0 e)
 
   -- a stamp is written
-  stamps_on : GoesOn c w (history.stamped c w r)
-  stamps_on = record {
+  stamps_on : Passes w (history.stamped c w r) → GoesOn c w (history.stamped c w r)
+  stamps_on passes = record {
     known = refl;
     published = refl;
     request = refl;
     knew = refl;
-    stage = (further c w (record w { stage = history.comes c w d 2 }) d 2 refl refl refl refl refl refl).stage;
+    stage = comes_no_lower c w d 2;
     stamped = λ n unstamped some. ⊎_elim
         (λ same. record {
           descriptor = d;
@@ -161,6 +168,7 @@ module _ (c : Requests) (w : HistoryState) (sound : IsSound c w) (r : ℕ) (load
         })
         (λ ne. absurd (some (upd_other w.stamp (w.request d) n (history.stamp_by (w.hand r)) ne ∙ unstamped)))
         (cases_eq n (w.request d));
+    passes = passes;
   }
     where
       two_there : (a : ℕ) → 2 ≤ max a 2
@@ -176,7 +184,7 @@ goes_by_step : (c : Requests) (j : States) (w : HistoryState) → IsSound c w
     → ((r : ℕ) → step ≡ scenes.Agreement (agreement.StampExchange r) → agreement.IsBefore j.agreement r micros.StampExchange)
     → GoesOn c w (schedules.after_all c w (events_of j step))
 goes_by_step c j w sound loads (scenes.Agreement (agreement.ClockLoad r)) before =
-    further c w _ (scenes.descriptor_of j r) 1 refl refl refl refl refl refl
+    further c w _ (scenes.descriptor_of j r) 1 refl refl refl refl refl refl (event_passes c w (history.LoadClock r (scenes.descriptor_of j r)) tt)
 goes_by_step c j w sound loads (scenes.Agreement (agreement.StampExchange r)) before =
     by (w.stamp (w.request (w.run r)) == 0) refl
   where
@@ -189,18 +197,25 @@ goes_by_step c j w sound loads (scenes.Agreement (agreement.StampExchange r)) be
     is_zero : (n : ℕ) → (n == 0) ≡ true → n ≡ 0
     is_zero n e = grind (arith, nat_tests)
 
+    passed_by : (b : Bool) → (w.stamp (w.request (w.run r)) == 0) ≡ b
+        → Passes w (cond b (history.stamped c w r) (record w { loaded = upd w.loaded r false }))
+    passed_by b is = subst (λ t. Passes w (cond t (history.stamped c w r) (record w { loaded = upd w.loaded r false }))) is
+        (event_passes c w (history.StampExchange r) loaded)
+
     by : (b : Bool) → (w.stamp (w.request (w.run r)) == 0) ≡ b
         → GoesOn c w (cond b (history.stamped c w r) (record w { loaded = upd w.loaded r false }))
-    by true none = stamps_on c w sound r loaded (is_zero _ none)
-    by false some = still c w (record w { loaded = upd w.loaded r false }) refl refl refl refl refl refl
+    by true none = stamps_on c w sound r loaded (is_zero _ none) (passed_by true none)
+    by false some = still c w (record w { loaded = upd w.loaded r false }) refl refl refl refl refl refl (passed_by false some)
 goes_by_step c j w sound loads (scenes.Agreement (agreement.ClockRaise r)) before =
-    further c w _ (scenes.descriptor_of j r) 3 refl refl refl refl refl refl
+    further c w _ (scenes.descriptor_of j r) 3 refl refl refl refl refl refl (event_passes c w (history.RaiseClock (scenes.descriptor_of j r)) tt)
 goes_by_step c j w sound loads (scenes.Agreement (agreement.ReplyExchange r reply)) before =
-    further c w _ (scenes.descriptor_of j r) 4 refl refl refl refl refl refl
+    further c w _ (scenes.descriptor_of j r) 4 refl refl refl refl refl refl (event_passes c w (history.WriteReply (scenes.descriptor_of j r)) tt)
 goes_by_step c j w sound loads (scenes.Agreement (agreement.SetDone r)) before =
     still c w (schedules.after_all c w (events_of j (scenes.Agreement (agreement.SetDone r)))) refl refl refl refl refl refl
+    (event_passes c w (history.SetDone (scenes.descriptor_of j r)) tt)
 goes_by_step c j w sound loads (scenes.Agreement (agreement.Free d)) before =
     still c w (schedules.after_all c w (events_of j (scenes.Agreement (agreement.Free d)))) refl refl refl refl refl refl
+    (event_passes c w (history.Free d) tt)
 goes_by_step c j w sound loads step before = goes_nowhere c w
 
 -- what wasn't used is not used where it is taken out of use

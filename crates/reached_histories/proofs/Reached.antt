@@ -50,7 +50,7 @@ module _ (m : Meaning) (laws : Laws m) (l : Layout) (limits : IsWithinLimits l) 
       none_published r = subst (λ (p : PartState). p.published ≡ None) (sym (first_parts m l w.parts first.parts r))
           (each_part m l (λ p. p.published ≡ None) refl (λ n. refl) refl r)
 
-  known_at : (w : World) → Reached m l rs w → KnownStand (sight m l rs w)
+  pub known_at : (w : World) → Reached m l rs w → KnownStand (sight m l rs w)
   known_at w reached = (facts_after m laws l rs reached.events w limits allowed reached.after).here.known
 
   -- a reached state with it

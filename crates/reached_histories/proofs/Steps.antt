@@ -1,6 +1,6 @@
 -- Each step of the machine is steps of the joint states with the history.
-use Rattle.std.specs.Prelude.{◌==◌, cond, slice_get, Bool, true, false, []}
-use Rattle.std.proofs.Common.{◌≡◌, ◌≢◌, ℕ, suc, List, ◌∷◌, ◌++◌, length, refl, sym, ap, ◌∙◌, subst, ⊎_elim, arith, Option, Some, None}
+use Rattle.std.specs.Prelude.{◌⊎◌, ◌==◌, cond, slice_get, Bool, true, false, []}
+use Rattle.std.proofs.Common.{◌≡◌, ◌≢◌, ℕ, suc, List, ◌∷◌, ◌++◌, length, inl, inr, refl, sym, ap, ◌∙◌, subst, ⊎_elim, arith, Option, Some, None}
 use Rattle.std.proofs.lemmas.Bool.{cases_eq}
 use Rattle.std.proofs.lemmas.List.{append-nil}
 use Rattle.map_history.specs.declared.op.Request.{Request}
@@ -26,6 +26,7 @@ use Rattle.epoch_core.specs.Schedules as epoch_schedules
 use Rattle.history_core.specs.State.{Requests, HistoryState}
 use Rattle.history_core.specs.Events as history
 use Rattle.history_core.specs.Schedules.{after_all}
+use Rattle.history_core.proofs.RealTime.{Passes, passes_more, event_passes, unused_apart}
 use Rattle.machine_states.specs.Sight.{Sight, Steps, sight_after}
 use Rattle.machine_states.proofs.Steps.{some_same}
 use Rattle.machine_epochs.specs.Entries.{counts_of}
@@ -51,7 +52,7 @@ use Rattle.machine_records.proofs.Parts.{WasPublished}
 use Rattle.machine_records.proofs.Publishing.{publications_may_come}
 use Rattle.machine_records.proofs.Steps.{steps_tell}
 use Rattle.reached_histories.proofs.Quietly.{KnowsAlike, goes_alike, goes_nowhere, JoinedAlike, with_history, passes_joined}
-use Rattle.reached_histories.proofs.Publications.{IsOwn, goes_later, later_between, own_later, own_published, own_elsewhere}
+use Rattle.reached_histories.proofs.Publications.{IsOwn, passes_between, goes_later, later_between, own_later, own_published, own_elsewhere}
 use Rattle.reached_histories.proofs.Learning.{learns_alike, learns_joined, ends_joined}
 
 -- what runners keep, by what is known and published
@@ -221,6 +222,10 @@ module _ (m : Meaning) (laws : Laws m) (l : Layout) (limits : IsWithinLimits l) 
         publications = publications_stay;
       }
 
+      pub quietly_passes : Passes w quietly.history
+      unfolding quietly ended
+      quietly_passes = passes_between requests r (link_of (s.part r).published) now ns w passed.history passed.on.passes
+
     -- a section is published
     module _ (goes : GoesByPublishing m l g s r kind (s.word one.ask.0) (states_of g' s')) where
       abbrev t : Thunk
@@ -336,5 +341,21 @@ module _ (m : Meaning) (laws : Laws m) (l : Layout) (limits : IsWithinLimits l) 
         publications = publications_go;
       }
 
+      pub publishing_passes : Passes w publishing.history
+      unfolding publishing
+      publishing_passes = passes_more w published passed_on.history
+          (event_passes requests w (history.Publish r d t.request publication.reply)
+          (unused_apart requests w d old.joined.sound (old.joined.tied.used d ∙ publication.may.enabled.enabled.0)))
+          passed_on.on.passes
+
     pub step_stands : Stands s'
     step_stands = ⊎_elim quietly publishing one.goes
+
+    pub step_passes : Passes w step_stands.history
+    unfolding step_stands
+    step_passes = by one.goes
+      where
+        by : (goes : GoesQuietly m l g s kind (s.word one.ask.0) (states_of g' s') ⊎ GoesByPublishing m l g s r kind (s.word one.ask.0) (states_of g' s'))
+            → Passes w (⊎_elim quietly publishing goes).history
+        by (inl quiet) = quietly_passes quiet
+        by (inr goes) = publishing_passes goes

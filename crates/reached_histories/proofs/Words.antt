@@ -70,13 +70,13 @@ module _ (m : Meaning) (laws : Laws m) (l : Layout) (limits : IsWithinLimits l) 
   clock_is : w.clock ≡ s.word Clock
   clock_is = tied.clock ∙ at.whole.sections.words.clock
 
-  stamp_is : (n : ℕ) → w.stamp n ≡ s.word (Stamp n)
+  pub stamp_is : (n : ℕ) → w.stamp n ≡ s.word (Stamp n)
   stamp_is n = tied.stamp n ∙ at.whole.sections.words.stamp n
 
   stamps_are : w.stamp ≡ (λ n. s.word (Stamp n))
   stamps_are = λ i n. stamp_is n i
 
-  reply_is : (n : ℕ) → w.reply n ≡ s.word (Reply n)
+  pub reply_is : (n : ℕ) → w.reply n ≡ s.word (Reply n)
   reply_is n = tied.reply n ∙ at.whole.sections.words.reply n
 
   some_stamp : (n : ℕ) → s.word (Stamp n) ≢ 0 → w.stamp n ≢ 0
@@ -204,7 +204,7 @@ module _ (m : Meaning) (laws : Laws m) (l : Layout) (limits : IsWithinLimits l) 
   }
 
   -- the published section that isn't run to its end
-  open_of : (r n d : ℕ) → w.published r ≡ suc d → w.request d ≡ n → HasOpen s r n
+  pub open_of : (r n d : ℕ) → w.published r ≡ suc d → w.request d ≡ n → HasOpen s r n
   open_of r n d own request = by (s.part r).published refl (sym (at.kept.published r) ∙ own)
     where
       linked : (over : Bool) (k : ℕ) → cond over 0 (suc k) ≡ suc d → (over ≡ false) × (k ≡ d)

@@ -1,5 +1,6 @@
 pub mod Sections
 pub mod History
+pub mod RealTime
 pub mod Laws
 -- Passed on to the layers above, so that they needn't name these libraries themselves.
 pub use Rattle.machine_records.specs.machine_history

@@ -3,6 +3,7 @@ ghost use Rattle.std.specs.Prelude.{List};
 ghost use Rattle.map_history.specs.declared.op.Request.{Request};
 ghost use Rattle.table_words.specs.declared.layout.Layout.{Layout};
 ghost use Rattle.reached_histories.specs.Laws.{ReachedHaveHistories};
+ghost use Rattle.reached_histories.specs.RealTime.{ReachedAreLinearizable};
 
 use runner_parts::Structure;
 
@@ -18,6 +19,19 @@ use runner_parts::Structure;
 pub fn reached_states_have_histories<S: Structure>(structure: &S)
     ensures { (layout : Layout) (requests : List Request)
         → ReachedHaveHistories (S.meaning structure.now) layout requests }
+{
+    let _ = structure;
+}
+
+/// Over every structure the history is linearizable. Take a state that the machine reaches, a request that is
+/// answered in it, and one that isn't asked in it: it has no stamp, and its worker has no section on the way for
+/// it. Whatever events come next, the first keeps its stamp, and the second one's is greater once it has one.
+///
+/// The layout and the requests are within their limits. (After Herlihy and Wing, Linearizability: a correctness
+/// condition for concurrent objects, 1990.)
+pub fn reached_histories_are_linearizable<S: Structure>(structure: &S)
+    ensures { (layout : Layout) (requests : List Request)
+        → ReachedAreLinearizable (S.meaning structure.now) layout requests }
 {
     let _ = structure;
 }

@@ -7,4 +7,4 @@
 
 mod laws;
 
-pub use laws::reached_states_have_histories;
+pub use laws::{reached_histories_are_linearizable, reached_states_have_histories};

@@ -34,9 +34,11 @@ use Rattle.reached_histories.specs.machine_records.specs.Kept.{link_of}
 use Rattle.reached_histories.specs.machine_records.proofs.First.{entry_of}
 use Rattle.reached_histories.specs.History.{IsPlaced}
 use Rattle.reached_histories.specs.Laws.{HasHistory}
+use Rattle.reached_histories.specs.RealTime.{IsUnasked}
 use Rattle.reached_histories.proofs.Histories.{reached_have}
+use Rattle.reached_histories.proofs.RealTime.{reached_linearizable}
 use Rattle.request_facts.specs.Placed.{IsUnserved}
-use Rattle.request_facts.specs.Laws.{HasEntry, IsKnown, IsStamping, CallersStand, ReachedCallersStand}
+use Rattle.request_facts.specs.Laws.{HasEntry, IsKnown, IsStamping, CallersStand, ReachedCallersStand, IsToAsk, AnsweredComeFirst}
 use Rattle.request_facts.proofs.Replies.{IsSmall, replies_small}
 
 each : (xs : List Request) (i : ℕ) (x : Request) → slice_get xs i ≡ Some x → All (λ (y : Request). IsAllowed y.op) xs → IsAllowed x.op
@@ -116,14 +118,15 @@ module _ (m : Meaning) (l : Layout) (rs : List Request) (allowed : AreAllowed rs
       };
     }
 
+  -- what has no link isn't on the way
+  closed : (o : Option Published) (x : Published) → o ≡ Some x → link_of o ≡ 0 → x.over ≡ false → ⊥
+  closed o x is none going =
+      let clash : 0 ≡ suc x.descriptor = sym none ∙ (ap link_of is ∙ ap (λ b. cond b 0 (suc x.descriptor)) going) in cc
+
   -- a request of its own that it doesn't know, while it has no section on the way
   is_unserved : (r n : ℕ) → c.worker n ≡ r → link_of (s.part r).published ≡ 0 → is_answered (s.part r).records.known n ≡ false → IsUnserved m l rs s n
   is_unserved r n own idle unknown = record { stamp = no_stamp; reply = no_reply }
     where
-      closed : (o : Option Published) (x : Published) → o ≡ Some x → link_of o ≡ 0 → x.over ≡ false → ⊥
-      closed o x is none going =
-          let clash : 0 ≡ suc x.descriptor = sym none ∙ (ap link_of is ∙ ap (λ b. cond b 0 (suc x.descriptor)) going) in cc
-
       no_stamp : s.word (spots.Stamp n) ≡ 0
       no_stamp = ⊎_elim (λ none. none)
           (λ some. ⊎_elim
@@ -134,6 +137,13 @@ module _ (m : Meaning) (l : Layout) (rs : List Request) (allowed : AreAllowed rs
 
       no_reply : s.word (spots.Reply n) ≡ 0
       no_reply = ⊎_elim (λ none. none) (λ some. absurd (stands.legal.stamped n some no_stamp)) (zero_or (s.word (spots.Reply n)))
+
+  -- so it hasn't asked it
+  pub unasked : (r n : ℕ) → IsToAsk m l rs s r n → IsUnasked m l rs s n
+  unasked r n is = record {
+    unstamped = (is_unserved r n is.own is.idle is.unknown).stamp;
+    unpublished = λ asked. closed (s.part r).published asked.section (ap (λ i. (s.part i).published) (sym is.own) ∙ asked.published) is.idle asked.going;
+  }
 
   -- a run before the exchange of its stamp, of a request of the runner's own that isn't its own section's
   module _ (r n : ℕ) (q : RunState) (own : c.worker n ≡ r) (at : IsStamping m l rs s r n q) where
@@ -191,3 +201,9 @@ module _ (m : Meaning) (l : Layout) (rs : List Request) (allowed : AreAllowed rs
 pub callers_stand : (m : Meaning) → Laws m → (l : Layout) (rs : List Request) → ReachedCallersStand m l rs
 callers_stand m laws l rs limits allowed w reached =
     all_stand m l rs allowed (sight m l rs w) (reached_have m laws l rs limits allowed w reached) (facts_after m laws l rs reached.events w limits allowed reached.after).here.known
+
+pub answered_come_first : (m : Meaning) → Laws m → (l : Layout) (rs : List Request) → AnsweredComeFirst m l rs
+answered_come_first m laws l rs limits allowed w v reached leads r n k is =
+    reached_linearizable m laws l rs limits allowed w v reached leads k n
+    (unasked m l rs allowed (sight m l rs w) (reached_have m laws l rs limits allowed w reached)
+    (facts_after m laws l rs reached.events w limits allowed reached.after).here.known r n is)

@@ -17,6 +17,7 @@ use Rattle.machine_states.specs.Sight.{Sight, sight}
 use Rattle.reached_histories.specs.machine_invariant.specs.After.{AreAllowed}
 use Rattle.reached_histories.specs.machine_records.specs.Requests.{requests_of}
 use Rattle.reached_histories.specs.machine_records.specs.Kept.{link_of}
+use Rattle.reached_histories.specs.RealTime.{LeadsTo, ComesBefore}
 use Rattle.request_facts.specs.Placed.{IsServedAs, IsUnserved}
 
 -- the list has this entry
@@ -55,3 +56,15 @@ module _ (m : Meaning) (l : Layout) (requests : List Request) where
   abbrev pub ReachedCallersStand : Type 0
   ReachedCallersStand = IsWithinLimits l → AreAllowed requests → (w : World) → Reached m l requests w
       → CallersStand (sight m l requests w)
+
+  -- a worker that has no section on the way hasn't asked a request of its own that it doesn't know
+  pub record IsToAsk (s : Sight) (r number : ℕ) : Type 0 where
+    pub own : (requests_of m l requests).worker number ≡ r
+    pub idle : link_of (s.part r).published ≡ 0
+    pub unknown : is_answered (s.part r).records.known number ≡ false
+
+  -- real-time order, for whoever asks: in each later state the request's stamp is above that of each request that was
+  -- answered before it was asked, by whomever
+  abbrev pub AnsweredComeFirst : Type 0
+  AnsweredComeFirst = IsWithinLimits l → AreAllowed requests → (w v : World) → Reached m l requests w → LeadsTo m l requests w v
+      → (r n k : ℕ) → IsToAsk (sight m l requests w) r n → ComesBefore (sight m l requests w) (sight m l requests v) k n

@@ -2,7 +2,7 @@
 ghost use Rattle.std.specs.Prelude.{List};
 ghost use Rattle.map_history.specs.declared.op.Request.{Request};
 ghost use Rattle.table_words.specs.declared.layout.Layout.{Layout};
-ghost use Rattle.request_facts.specs.Laws.{ReachedCallersStand};
+ghost use Rattle.request_facts.specs.Laws.{ReachedCallersStand, AnsweredComeFirst};
 
 use runner_parts::Structure;
 
@@ -12,6 +12,16 @@ use runner_parts::Structure;
 pub fn reached_callers_stand<S: Structure>(structure: &S)
     ensures { (layout : Layout) (requests : List Request)
         → ReachedCallersStand (S.meaning structure.now) layout requests }
+{
+    let _ = structure;
+}
+
+/// Over every structure: take a state that the machine reaches, and a worker that has no section on the way in it
+/// and doesn't know a request of its own. Once that request has its stamp, in whatever state comes later, it is
+/// above that of each request that was answered in the first state.
+pub fn answered_requests_come_first<S: Structure>(structure: &S)
+    ensures { (layout : Layout) (requests : List Request)
+        → AnsweredComeFirst (S.meaning structure.now) layout requests }
 {
     let _ = structure;
 }

@@ -1,4 +1,4 @@
-mod Walks
+pub mod Walks
 mod Limbo
 mod Keeping
 mod Counts

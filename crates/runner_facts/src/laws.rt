@@ -9,7 +9,7 @@ ghost use Rattle.machine_states.specs.Sight.{sight};
 ghost use Rattle.next_steps.specs.machine_invariant.specs.After.{AreAllowed};
 ghost use Rattle.runner_facts.specs.Keeper.{KeeperStands};
 ghost use Rattle.runner_facts.specs.Names.{NamesStand};
-ghost use Rattle.runner_facts.specs.Facts.{DescriptorsAreKept, JoinedAreGone, LimboIsDone, WalksStand, WornAreWorn};
+ghost use Rattle.runner_facts.specs.Facts.{DescriptorsAreKept, FittingAreShaped, JoinedAreGone, LimboIsDone, WalksStand, WornAreWorn};
 
 use runner_parts::Structure;
 
@@ -19,6 +19,16 @@ pub fn walks_stand<S: Structure>(structure: &S)
     ensures { (layout : Layout) (requests : List Request) (w : World) → IsWithinLimits layout → AreAllowed requests
         → Reached (S.meaning structure.now) layout requests w
         → WalksStand (S.meaning structure.now) layout (sight (S.meaning structure.now) layout requests w) }
+{
+    let _ = structure;
+}
+
+/// In every state that the machine reaches, a thunk that fits the readings of an entered runner, for an operation within the limits, is shaped:
+/// it has a body, and its outer lock and the places of its Takes are locks that the readings give, and their words.
+pub fn fitting_thunks_are_shaped<S: Structure>(structure: &S)
+    ensures { (layout : Layout) (requests : List Request) (w : World) → IsWithinLimits layout → AreAllowed requests
+        → Reached (S.meaning structure.now) layout requests w
+        → FittingAreShaped (S.meaning structure.now) layout (sight (S.meaning structure.now) layout requests w) }
 {
     let _ = structure;
 }

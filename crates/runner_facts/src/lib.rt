@@ -6,6 +6,6 @@
 mod laws;
 
 pub use laws::{
-    descriptors_are_kept, joined_workers_are_gone, limbo_is_done, names_stand, walks_stand,
-    what_the_keeper_left_stands, worn_slots_are_worn,
+    descriptors_are_kept, fitting_thunks_are_shaped, joined_workers_are_gone, limbo_is_done,
+    names_stand, walks_stand, what_the_keeper_left_stands, worn_slots_are_worn,
 };

@@ -9,6 +9,7 @@ use Rattle.reached_histories.specs.machine_invariant.proofs.After.{whole_after, 
 use Rattle.reached_histories.specs.machine_invariant.proofs.Rising.{rises_after}
 use Rattle.reached_histories.specs.machine_facts.proofs.Following.{facts_after, step_facts_after}
 use Rattle.reached_histories.proofs.Histories.{history_after}
+use Rattle.reached_histories.proofs.RealTime.{linearizable_after}
 use Rattle.reached_histories.specs.next_steps.proofs.Enabled.{reached_enabled}
 use Rattle.reached_histories.specs.next_steps.proofs.GoingOn.{reached_goes_on}
 use Rattle.interleave_core.proofs.Stops.{stops}
@@ -66,6 +67,11 @@ pub returns-clause-history : goal.returns-clause-history
 returns-clause-history g c =
     let met = g.met.S.Structure g.world.𝓛 g.world.𝓜 g.world.𝓡 ((λ s allowed. allowed), (λ patient. patient), (λ alone. alone), (λ cuts. cuts)) in
     history_after (g.S.Structure.meaning c.args.structure) (met.laws c.args.structure) c.args.layout c.args.requests.now c.args.events.now c.loop-at.machine.world
+
+pub returns-clause-order : goal.returns-clause-order
+returns-clause-order g c =
+    let met = g.met.S.Structure g.world.𝓛 g.world.𝓜 g.world.𝓡 ((λ s allowed. allowed), (λ patient. patient), (λ alone. alone), (λ cuts. cuts)) in
+    linearizable_after (g.S.Structure.meaning c.args.structure) (met.laws c.args.structure) c.args.layout c.args.requests.now c.args.events.now c.loop-at.machine.world
 
 pub returns-clause-next : goal.returns-clause-next
 returns-clause-next g c = λ limits allowed after.
