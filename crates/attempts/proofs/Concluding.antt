@@ -45,7 +45,7 @@ use Rattle.attempts.proofs.Turning.{may_own, may_unknown, turned_rests}
 use Rattle.attempts.proofs.Trying.{rests_from_still}
 use Rattle.attempts.proofs.Refusing.{left_busy, refusal_of_outcome, busy_outcome}
 use Rattle.attempts.proofs.Along.{ran_back}
-use Rattle.attempts.proofs.Telling.{answered_known, ended_cells, left_known, left_is}
+use Rattle.attempts.proofs.Telling.{ended_cells, left_known, left_is}
 use Rattle.attempts.proofs.Stamps.{stamp_above}
 
 module _ {T : Type 0} (m : Meaning) (laws : Laws m) (t : TableState T) (limits : IsWithinLimits t.layout) (allowed : AreAllowed t.requests)
@@ -97,7 +97,7 @@ module _ {T : Type 0} (m : Meaning) (laws : Laws m) (t : TableState T) (limits :
       known : is_answered retired.part.records.known request.number ≡ true
       known = ap (λ xs. is_answered xs request.number) retires.known
           ∙ subst (λ n. is_answered ran.part.records.known n ≡ true) request_same
-          (answered_known m laws t limits allowed is.published ran own_ran section.descriptor thunk outcome trail is.made is.ends answer answered)
+          (is.ends.told answer answered)
 
       pub may_learn : MayLearn m request retired
       may_learn = record { leave = leave; hand = hand; there = there; knows = known }
