@@ -99,6 +99,7 @@ module _ {T : Type 0} (m : Meaning) where
       pub made_is : before + made ≡ steps_of m planning request answer old new answers
       pub published : Bool
       pub published_is : published ≡ has_published m planning request answer old new answers
+      pub late : held ≡ true → published ≡ true
       pub asked : IsCounted made (if published && not held then 1 else 0) (not (is_halted answer))
           halts halts' asks asks' steps steps'
       -- where the gate halted the runner, it was seen with so many more asks before the part of the attempt in which it did
