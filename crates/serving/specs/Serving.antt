@@ -198,6 +198,7 @@ module _ {T : Type 0} where
       pub last : Try
       pub tried : AreTried m planning retry_short (request ∷ []) again old before
       pub follows : GoesOn retry_short again
+      pub unserved : served_in again ≡ 0
       pub ends : IsTry m planning last before new
       pub of_request : last.request ≡ request
       pub answered : last.answer ≡ answer
