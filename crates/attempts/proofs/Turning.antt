@@ -163,26 +163,25 @@ module _ {T : Type 0} (m : Meaning) (laws : Laws m) (planning : Planning) (reque
       (refused_told most answer refusal (away going) before_is (turned.made_is going) held_is
       (turned.runs going ∙ ap (λ a. length here.part.records.finished + helped_of a) (turned.same going)))
 
-  -- the cause, where it was a lock that was held
-  record IsByLock (a : Attempt) : Type 0 where
-    pub cause : IsRefused m planning request a old here
-    pub before_is : before ≡ refused_steps m planning request a old here cause
-    pub held_is : held ≡ is_refused_late m planning request a old here cause
+  -- this answer's cause, and what is counted of it
+  abbrev ByAnswer : Attempt → Type 0
+  ByAnswer a = (by : IsRefused m planning request a old here) × (before ≡ refused_steps m planning request a old here by)
+      × (held ≡ is_refused_late m planning request a old here by)
 
   -- or a gate halted it as it helped
   module _ (halted : is_halted got ≡ true) where
     at : (place : ℕ) × (word : ℕ) × (answer ≡ answers.Busy place word) × IsCutShort m (value_of word - 1) turned.made here new
     at = turned.short halted
 
-    by : IsByLock (answers.Busy at.0 at.1)
-    by = subst IsByLock at.2 (record { cause = cause; before_is = before_is; held_is = held_is })
+    by : ByAnswer (answers.Busy at.0 at.1)
+    by = subst ByAnswer at.2 (cause, before_is, held_is)
 
     some_none : (x : Published) → Some x ≡ None → ⊥
     some_none x e = let z = e in cc
 
     abbrev was_halted : IsHalted m planning request old new
     was_halted = record {
-      at = InHelpedRun (record { place = at.0; word = at.1; cut = here; cause = by.cause; made = turned.made; short = at.3 });
+      at = InHelpedRun (record { place = at.0; word = at.1; cut = here; cause = by.0; made = turned.made; short = at.3 });
       published = λ x is. absurd (some_none x (sym is ∙ turned.halted halted));
       unknown = λ none. unknown_still;
       reached = turned.reached;
@@ -194,9 +193,9 @@ module _ {T : Type 0} (m : Meaning) (laws : Laws m) (planning : Planning) (reque
     halted_told : (most : ℕ) → IsTold most answers.Halted
     halted_told most = record {
       answers = was_halted;
-      made_is = ap (λ n. n + turned.made) by.before_is;
-      published_is = by.held_is;
-      let_go = λ e. (0, none_more ((if held then 2 else 1) + before) ∙ (λ i. (if by.held_is i then 2 else 1) + by.before_is i), seen);
+      made_is = ap (λ n. n + turned.made) by.1;
+      published_is = by.2;
+      let_go = λ e. (0, none_more ((if held then 2 else 1) + before) ∙ (λ i. (if by.2 i then 2 else 1) + by.1 i), seen);
       brief = λ e. absurd (true≢false e);
     }
 
