@@ -67,27 +67,28 @@ knows_entry (x ∷ known) (suc i) number found reply at = either (x.request == n
     either false q e = e
 
 module _ {T : Type 0} (m : Meaning) (planning : Planning) (t : TableState T) (scene : IsScene planning t) (old new : RunnerState T) (own_old : IsOf t old) (own : IsOf t new)
-    (q : Request) (answer : Attempt) (halts halts' asked asked' steps steps' : ℕ) (attempts : Attempts m planning q answer old new halts halts' asked asked' steps steps') where
+    (q : Request) (answer : Attempt) (Seen : ℕ → ℕ → Type 0) (halts halts' asked asked' steps steps' : ℕ)
+    (attempts : Attempts m planning q answer old new Seen halts halts' asked asked' steps steps') where
   -- where a lock was held, the second worker may attempt its request again
   pub may_ask_again : old.number ≡ 1 → q ≡ asks → (place word : ℕ) → answer ≡ answers.Busy place word → MayAttempt planning q new
   may_ask_again one same place word busy =
-      let away = subst (λ (a : Attempt). Answers m planning q a old new) busy attempts.answers in
+      let away = subst (λ (a : Attempt). Answers m planning q a old new) busy attempts.is.answers in
       subst (λ (x : Request). MayAttempt planning x new) (sym same)
-      (may_ask planning t scene new own away.tidy (attempts.knows.number ∙ one)
+      (may_ask planning t scene new own away.tidy (attempts.is.knows.number ∙ one)
       (subst (λ n. is_answered new.part.records.known n ≡ false) (ap (λ (x : Request). x.number) same) away.untouched.unknown))
 
   -- where the pair was added, the first worker may take it out
   pub may_take_then : IsFresh 0 old → q ≡ adds → (reply : Reply) (stamp : ℕ) → answer ≡ answers.Done reply stamp → MayAttempt planning takes new
   may_take_then fresh same reply stamp done =
-      let served = subst (λ (a : Attempt). Answers m planning q a old new) done attempts.answers in
+      let served = subst (λ (a : Attempt). Answers m planning q a old new) done attempts.is.answers in
       let known : is_answered new.part.records.known q.number ≡ true
       = (λ i. knows_entry new.part.records.known served.knows_stamp.0 q.number stamp false served.knows_stamp.1 i && knows_entry new.part.records.known served.knows_reply.0 q.number (word_of reply) true served.knows_reply.1 i) in
       let unknown : is_answered new.part.records.known 1 ≡ false
-      = attempts.no_other takes (record {
+      = attempts.is.no_other takes (record {
         there = ap (λ rs. slice_get rs 1) (own_old.requests ∙ scene.requests);
         own = (λ i. 0 % (ap (λ (l : Layout). l.runners) own_old.layout ∙ scene.runners) i) ∙ sym fresh.number;
       }) (λ one. other q.number (ap (λ (x : Request). x.number) same) one) ∙ ap (λ xs. is_answered xs 1) fresh.knows in
-      may_take planning t scene new own served.tidy (attempts.knows.number ∙ fresh.number) (ap (λ (x : Request). is_answered new.part.records.known x.number) (sym same) ∙ known) unknown
+      may_take planning t scene new own served.tidy (attempts.is.knows.number ∙ fresh.number) (ap (λ (x : Request). is_answered new.part.records.known x.number) (sym same) ∙ known) unknown
     where
       other : (n : ℕ) → n ≡ 0 → 1 ≡ n → ⊥
       other n none one = omega (arith, none, one)

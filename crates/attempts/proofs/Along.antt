@@ -4,15 +4,10 @@ use Rattle.std.proofs.Common.{◌≡◌, ◌≢◌, ℕ, zero, suc, ◌+◌, ◌
 use Rattle.std.proofs.lemmas.Bool.{cases_eq, cases_lt}
 use Rattle.section_body.specs.declared.micro.Micro.{Micro}
 use Rattle.section_body.specs.declared.micro.Micro.TheVariants as micros
-use Rattle.section_body.specs.declared.step.Step.{Step}
-use Rattle.section_body.specs.declared.step.Step.TheVariants.{Stamp}
 use Rattle.section_body.specs.declared.thunk.Thunk.{Thunk}
-use Rattle.section_body.specs.Line.{line, micro_at, is_check, begins}
-use Rattle.section_body.specs.Shape.{IsShaped, IsStep}
-use Rattle.section_body.specs.Shape as shape
-use Rattle.section_lines.specs.Line.{phase}
-use Rattle.section_lines.proofs.Phases.{sole, is_the_stamp, is_in_phases}
-use Rattle.section_lines.proofs.Places.{stands_there}
+use Rattle.section_body.specs.Line.{line, micro_at, is_check}
+use Rattle.section_body.specs.Shape.{IsShaped}
+use Rattle.section_lines.proofs.Phases.{is_in_phases}
 use Rattle.section_lines.proofs.Resting.{rests_at}
 use Rattle.table_words.specs.declared.layout.Layout.{Layout}
 use Rattle.table_words.specs.Limits.{IsWithinLimits}
@@ -38,44 +33,11 @@ use Rattle.lock_walks.specs.section_runs.specs.Reached.{IsReached, run_or}
 use Rattle.lock_walks.specs.section_runs.specs.Opened.{Learns, HasOpened, opening}
 use Rattle.lock_walks.specs.section_runs.proofs.Going.{shaped}
 use Rattle.lock_walks.specs.section_runs.proofs.Records.{noted_known}
+use Rattle.lock_walks.specs.section_runs.proofs.Told.{HasStamp, stamp_of}
 use Rattle.lock_walks.specs.section_runs.proofs.Staying.{run_open, still_of, step_learns, step_stays, learns_more}
 use Rattle.attempts.specs.Learned.{StoodAtStamp, HasLearned}
 use Rattle.attempts.proofs.Knowing.{append_none}
 use Rattle.attempts.proofs.Placing.{tells, IsOn, is_on, quiet_known, cells_stay}
-
--- where the stamp's exchange stands in a line: before the reply's, and behind all checks
-pub record HasStamp (code : ℕ → Micro) : Type 0 where
-  pub place : ℕ
-  pub here : code place ≡ micros.StampExchange
-  pub before : (i n : ℕ) → code i ≡ micros.ReplyExchange n → place < i
-  pub behind : (i : ℕ) → is_check (code i) ≡ true → i ≤ place
-  -- and all of them stand before the line's end
-  pub inside : (i : ℕ) → code i ≡ micros.End → place < i
-
-check_early : (micro : Micro) → is_check micro ≡ true → phase micro ≡ 1
-check_early micro check = grind arith
-
-pub stamp_of : (body : List Step) → IsShaped body → HasStamp (λ i. micro_at (line body) i)
-stamp_of body whole =
-    let a = sole shape.is_stamp body whole.stamps in
-    let at : IsStep body a.n Stamp = subst (IsStep body a.n) (is_the_stamp a.step a.passes) a.here in
-    let here = stands_there body a.n 1 Stamp at (omega arith) in
-    let third = ap phase here in
-    let rises = (is_in_phases body whole).phases in
-    record {
-      place = begins body a.n + 1;
-      here = here;
-      before = λ i n reply. above (begins body a.n + 1) i (λ low. let falls = rises i (begins body a.n + 1) low in let sixth = ap phase reply in omega (arith, falls, sixth, third));
-      behind = λ i check. below i (begins body a.n + 1) (λ over. let falls = rises (begins body a.n + 1) i (omega (arith, over)) in
-          let first = check_early (micro_at (line body) i) check in omega (arith, falls, first, third));
-      inside = λ i end. above (begins body a.n + 1) i (λ low. let falls = rises i (begins body a.n + 1) low in let last = ap phase end in omega (arith, falls, last, third));
-    }
-  where
-    above : (i j : ℕ) → (j ≤ i → ⊥) → i < j
-    above i j none = search arith
-
-    below : (i j : ℕ) → (j < i → ⊥) → i ≤ j
-    below i j none = search arith
 
 module _ {T : Type 0} (m : Meaning) (laws : Laws m) (t : TableState T) (limits : IsWithinLimits t.layout) (allowed : AreAllowed t.requests)
     (old : RunnerState T) (d : ℕ) (thunk : Thunk) where

@@ -69,4 +69,4 @@ module _ {T : Type 0} (m : Meaning) (laws : Laws m) (t : TableState T) (limits :
         → HasTurned m answer answers.Halted old new halts halts' asks asks' steps steps'
     halt_turned halts halts' asks asks' steps steps' asked =
         turned_by_halt m laws answer place word held (value_of word - 1) old new limits_old allowed_old may
-        (cut_is m laws t limits allowed old new own_new (value_of word - 1) made short) made halts halts' asks asks' steps steps' asked
+        (cut_is m laws t limits allowed old new own_new (value_of word - 1) made short) made short halts halts' asks asks' steps steps' asked

@@ -31,7 +31,7 @@ use Rattle.lock_walks.specs.try_lock.specs.Reached.{IsReached}
 use Rattle.lock_walks.specs.try_lock.specs.Retires.{IsOver, HasRetired}
 use Rattle.lock_walks.proofs.Each.{get_last}
 use Rattle.attempts.specs.Knowing.{KnowsMore, IsStill, IsOwn}
-use Rattle.attempts.specs.Course.{of_outcome, IsEmptyHanded, HasPublished, HasEnded, HasRun, SectionHasLeft}
+use Rattle.attempts.specs.Course.{of_outcome, IsEmptyHanded, HasEnded, HasRun, SectionHasLeft}
 use Rattle.attempts.specs.Attempts.{IsServed}
 use Rattle.attempts.specs.Rests.{MayLeave, MayLearn, HasLearnt, HasTurned, Rests}
 use Rattle.attempts.specs.declared.answers.Attempt.{Attempt}
@@ -45,7 +45,7 @@ use Rattle.attempts.proofs.Turning.{may_own, may_unknown, turned_rests}
 use Rattle.attempts.proofs.Trying.{rests_from_still}
 use Rattle.attempts.proofs.Refusing.{left_busy, refusal_of_outcome, busy_outcome}
 use Rattle.attempts.proofs.Along.{ran_back}
-use Rattle.attempts.proofs.Telling.{answered_known, ended_cells, left_known, left_is}
+use Rattle.attempts.proofs.Telling.{ended_cells, left_known, left_is}
 use Rattle.attempts.proofs.Stamps.{stamp_above}
 
 module _ {T : Type 0} (m : Meaning) (laws : Laws m) (t : TableState T) (limits : IsWithinLimits t.layout) (allowed : AreAllowed t.requests)
@@ -66,8 +66,9 @@ module _ {T : Type 0} (m : Meaning) (laws : Laws m) (t : TableState T) (limits :
   ran_hand : IsEmptyHanded ran
   ran_hand = ended_hand m section.descriptor thunk outcome trail is.made is.published ran is.ends is.tries.hand
 
-  has_published : HasPublished m planning request old
-  has_published = record { thunk = thunk; section = section; published = is.published; tries = is.tries }
+  -- so many steps were counted to the run's end
+  abbrev counted : ℕ
+  counted = length is.tries.readings + is.made
 
   -- it is retired
   module _ (retired : RunnerState T) (own_retired : IsOf t retired) (retires : HasRetired m section.descriptor ran retired) where
@@ -97,7 +98,7 @@ module _ {T : Type 0} (m : Meaning) (laws : Laws m) (t : TableState T) (limits :
       known : is_answered retired.part.records.known request.number ≡ true
       known = ap (λ xs. is_answered xs request.number) retires.known
           ∙ subst (λ n. is_answered ran.part.records.known n ≡ true) request_same
-          (answered_known m laws t limits allowed is.published ran own_ran section.descriptor thunk outcome trail is.made is.ends answer answered)
+          (is.ends.told answer answered)
 
       pub may_learn : MayLearn m request retired
       may_learn = record { leave = leave; hand = hand; there = there; knows = known }
@@ -106,13 +107,20 @@ module _ {T : Type 0} (m : Meaning) (laws : Laws m) (t : TableState T) (limits :
         whole : KnowsMore ran new
         whole = knows_on ran retired new (knows_same ran retired number retires.known retires.finished) learnt.knows
 
-        served : IsServed m planning request reply stamp old new
+        -- the own run, with its answer, in as many steps
+        abbrev Answering : Outcome → Type 0
+        Answering o = (r : HasRun m planning request thunk o trail old retired) × (counted ≡ length r.ended.tries.readings + r.ended.made)
+
+        answering : Answering (outcomes.Answered answer)
+        answering = subst Answering answered (run, refl)
+
+        abbrev served : IsServed m planning request reply stamp old new
         served = record {
           thunk = thunk;
           trail = trail;
           retired = retired;
           answer = answer;
-          run = subst (λ (o : Outcome). HasRun m planning request thunk o trail old retired) answered run;
+          run = answering.0;
           leaves = learnt.leaves;
           knows_stamp = learnt.knows_stamp;
           knows_reply = learnt.knows_reply;
@@ -129,24 +137,30 @@ module _ {T : Type 0} (m : Meaning) (laws : Laws m) (t : TableState T) (limits :
         none_more : length new.part.records.finished ≡ length ran.part.records.finished + 0
         none_more = omega (arith, same_runs)
 
-        pub concluded : (halts asks steps : ℕ) → Rests m planning request true 0 (answers.Done reply stamp) old ran new halts halts asks asks steps steps
-        concluded halts asks steps = record {
+        no_steps : (n : ℕ) → n + 0 ≡ n
+        no_steps n = omega arith
+
+        pub concluded : (Seen : ℕ → ℕ → Type 0) (halts asks steps : ℕ)
+            → Rests m planning request true counted 0 (answers.Done reply stamp) old ran new Seen halts halts asks asks steps steps
+        concluded Seen halts asks steps = record {
           answers = served;
           knows = whole;
           no_other = no_other_on request.number ran retired new (own_retired.requests ∙ sym own_ran.requests) (own_retired.layout ∙ sym own_ran.layout) number
               (no_other_same request.number ran retired retires.known) (λ q own ne. learnt.no_own q own);
           made = 0;
+          made_is = no_steps counted ∙ answering.1;
           published = true;
-          tried = λ e. has_published;
-          untried = λ e. absurd (true≢false e);
+          published_is = refl;
+          late = λ e. refl;
           asked = counted_steps 0 true halts halts asks asks steps steps (asked_none halts asks steps);
+          let_go = λ e. absurd (true≢false (sym e));
           entered = refl;
           runs = λ going. none_more;
           few_runs = let more : length new.part.records.finished ≤ length ran.part.records.finished + 1 = omega (arith, same_runs) in more;
-          brief = inr (record {
+          brief = λ none. record {
             few_steps = omega arith;
             few_runs = let more : length new.part.records.finished ≤ length ran.part.records.finished + 0 = omega (arith, same_runs) in more;
-          });
+          };
         }
 
     -- it left
@@ -208,7 +222,7 @@ module _ {T : Type 0} (m : Meaning) (laws : Laws m) (t : TableState T) (limits :
         });
       }
 
-      has_left : SectionHasLeft m planning request (of_outcome outcome) old retired
+      abbrev has_left : SectionHasLeft m planning request (of_outcome outcome) old retired
       has_left = record {
         thunk = thunk;
         outcome = outcome;
@@ -229,13 +243,13 @@ module _ {T : Type 0} (m : Meaning) (laws : Laws m) (t : TableState T) (limits :
         finished = retires.finished;
       }
 
-      pub left_concluded : (got : Attempt) (new : RunnerState T) → IsOf t new → (halts halts' asks asks' steps steps' : ℕ)
-          → HasTurned m (of_outcome outcome) got retired new halts halts' asks asks' steps steps'
-          → Rests m planning request true 0 got old ran new halts halts' asks asks' steps steps'
-      left_concluded got new own_new halts halts' asks asks' steps steps' turned =
-          rests_from_still m planning request true 0 got old ran retired new halts halts' asks asks' steps steps' still
+      pub left_concluded : (got : Attempt) (new : RunnerState T) → IsOf t new → (Seen : ℕ → ℕ → Type 0) (halts halts' asks asks' steps steps' : ℕ)
+          → Seen halts asks → HasTurned m (of_outcome outcome) got retired new halts halts' asks asks' steps steps'
+          → Rests m planning request true counted 0 got old ran new Seen halts halts' asks asks' steps steps'
+      left_concluded got new own_new Seen halts halts' asks asks' steps steps' seen turned =
+          rests_from_still m planning request true counted 0 got old ran retired new Seen halts halts' asks asks' steps steps' still
           (turned_rests m laws planning request old retired new (of_outcome outcome) got (refusal_of_outcome outcome other)
-          is.tries.plans.entered is.tries.plans.enters (inr (inr has_left)) true (λ e. has_published) (λ e. absurd (true≢false e)) own unknown
+          (inr (inr has_left)) true counted refl refl own unknown
           (subst IsWithinLimits (sym own_new.layout) limits) (subst AreAllowed (sym own_new.requests) allowed)
           (own_new.layout ∙ sym own_retired.layout) (own_new.requests ∙ sym own_retired.requests)
-          halts halts' asks asks' steps steps' turned 0)
+          Seen halts halts' asks asks' steps steps' seen turned 0)

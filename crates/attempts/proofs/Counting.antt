@@ -59,3 +59,10 @@ pub steps_then : (n k b : ℕ) (going : Bool) (halts halts' halts'' asks asks' a
 steps_then n k b going halts halts' halts'' asks asks' asks'' steps steps' steps'' one two =
     subst (λ j. IsCounted (n + k) j going halts halts'' asks asks'' steps steps'') (let e : 0 + b ≡ b = omega arith in e)
     (counted_then n 0 k b going halts halts' halts'' asks asks' asks'' steps steps' steps'' (counted_steps n true halts halts' asks asks' steps steps' one) two)
+
+-- a gate that was seen behind asks at which it let the runner go on
+pub seen_then : (Seen : ℕ → ℕ → Type 0) (halts halts1 asks asks1 n more : ℕ) → halts1 ≡ halts → asks1 ≡ counted_on asks n
+    → Seen halts1 (counted_on asks1 more) → Seen halts (counted_on asks (n + more))
+seen_then Seen halts halts1 asks asks1 n more same asked seen =
+    subst (λ h. Seen h (counted_on asks (n + more))) same
+    (subst (Seen halts1) (ap (λ c. counted_on c more) asked ∙ counted_more asks n more) seen)

@@ -1,6 +1,6 @@
 -- An attempt's own run, to its end or to where a gate halted it.
-use Rattle.std.specs.Prelude.{◌&&◌, ◌⊎◌, not, Bool, true, false, Ok, if◌then◌else◌}
-use Rattle.std.proofs.Common.{◌≡◌, ℕ, ◌+◌, ◌≤◌, List, [], ◌∷◌, ◌++◌, length, refl, sym, ap, ◌∙◌, subst, arith, inl, inr, Some}
+use Rattle.std.specs.Prelude.{◌&&◌, not, Bool, true, false, Ok, if◌then◌else◌}
+use Rattle.std.proofs.Common.{◌≡◌, ℕ, ◌+◌, ◌≤◌, List, [], ◌∷◌, ◌++◌, length, refl, sym, ap, ◌∙◌, subst, arith, Some}
 use Rattle.std.proofs.lemmas.Bool.{true≢false}
 use Rattle.map_history.specs.declared.op.Request.{Request}
 use Rattle.section_body.specs.Trail.{Agreed}
@@ -28,14 +28,14 @@ use Rattle.attempts.specs.Knowing.{LearnsNoOther}
 use Rattle.attempts.specs.Learned.{StoodAtStamp, IsCut}
 use Rattle.attempts.specs.Course.{HasTried, HasEnded}
 use Rattle.attempts.specs.Counted.{IsCounted}
-use Rattle.attempts.specs.Attempts.{is_halted, helped_of, most_of_run, IsBrief, HasMetHeld}
+use Rattle.attempts.specs.Attempts.{is_halted, helped_of, most_of_run, IsBrief, InOwnRun, IsHalted}
 use Rattle.attempts.specs.Rests.{Rests}
 use Rattle.attempts.specs.declared.answers.Attempt.{Attempt}
 use Rattle.attempts.specs.declared.answers.Attempt.TheVariants as answers
 use Rattle.attempts.proofs.Knowing.{knows_on, no_other_same, no_other_on, no_other_learned, append_none, length_on}
-use Rattle.attempts.proofs.Counting.{counted_steps, asked_then, steps_then}
+use Rattle.attempts.proofs.Counting.{counted_steps, asked_then, steps_then, seen_then}
 use Rattle.attempts.proofs.Leaving.{ended_knows}
-use Rattle.attempts.proofs.Trying.{has_published, cut_published, cut_is_published}
+use Rattle.attempts.proofs.Trying.{cut_published, cut_is_published}
 use Rattle.attempts.proofs.Telling.{cut_is}
 use Rattle.attempts.proofs.Costs.{ended_costs, cut_costs}
 
@@ -99,17 +99,22 @@ module _ {T : Type 0} (m : Meaning) (laws : Laws m) (t : TableState T) (limits :
         let long = length_on here.part.records.finished cut.more new.part.records.finished cut.finished in
         let few = cut.few in omega (arith, long, few)
 
-    pub cut_rests : (halts halts1 halts' asks asks1 asks' steps steps' : ℕ) → IsCounted 0 1 true halts halts1 asks asks1 steps steps
-        → IsAsked n false halts1 halts' asks1 asks' steps steps'
-        → Rests m planning request false most_of_run answers.Halted old here new halts halts' asks asks' steps steps'
-    cut_rests halts halts1 halts' asks asks1 asks' steps steps' ask asked = record {
-      answers = record {
-        entered = tried.plans.entered;
-        enters = tried.plans.enters;
-        published = cut_published m planning request old thunk section here tried section.descriptor new cut.published;
-        unknown = λ none. absurd (cut_is_published m planning request old thunk section here tried section.descriptor new cut.published none);
-        reached = cut.reached;
-      };
+    abbrev was_halted : IsHalted m planning request old new
+    was_halted = record {
+      at = InOwnRun thunk section here n tried short;
+      published = cut_published m planning request old thunk section here tried section.descriptor new cut.published;
+      unknown = λ none. absurd (cut_is_published m planning request old thunk section here tried section.descriptor new cut.published none);
+      reached = cut.reached;
+    }
+
+    one_ask : (readings : ℕ) → 1 + readings + 1 ≡ 2 + readings
+    one_ask readings = omega arith
+
+    pub cut_rests : (Seen : ℕ → ℕ → Type 0) (halts halts1 halts' asks asks1 asks' steps steps' : ℕ) → Seen halts1 asks1
+        → IsCounted 0 1 true halts halts1 asks asks1 steps steps → IsAsked n false halts1 halts' asks1 asks' steps steps'
+        → Rests m planning request false (length tried.readings) most_of_run answers.Halted old here new Seen halts halts' asks asks' steps steps'
+    cut_rests Seen halts halts1 halts' asks asks1 asks' steps steps' seen ask asked = record {
+      answers = was_halted;
       knows = record {
         number = cut.number;
         known = record { back = cut.learned.learns.more; parts = cut.learned.learns.adds };
@@ -117,24 +122,26 @@ module _ {T : Type 0} (m : Meaning) (laws : Laws m) (t : TableState T) (limits :
       };
       no_other = no_other;
       made = n;
+      made_is = refl;
       published = true;
-      tried = λ e. has_published m planning request old thunk section here tried;
-      untried = λ e. absurd (true≢false e);
+      published_is = refl;
+      late = λ e. refl;
       asked = asked_then 1 n 0 false halts halts1 halts' asks asks1 asks' steps steps' ask
           (counted_steps n false halts1 halts' asks1 asks' steps steps' asked);
+      let_go = λ e. (1, one_ask (length tried.readings), seen_then Seen halts halts1 asks asks1 1 0 (ask.went refl) ask.asked seen);
       entered = refl;
       runs = λ going. absurd (true≢false going);
       few_runs = let few = one_more in let all : length new.part.records.finished ≤ length here.part.records.finished + 2 = omega (arith, few) in all;
-      brief = inr (record {
+      brief = λ none. record {
         few_steps = cut_costs m laws t limits allowed here new own_new section.descriptor n short;
         few_runs = one_more;
-      });
+      };
     }
 
   -- it comes to its end
   module _ (outcome : Outcome) (trail : Agreed) (ran : RunnerState T) (own_ran : IsOf t ran) (n : ℕ)
       (ends : EndsSo m section.descriptor thunk outcome trail n here ran) where
-    pub ended : HasEnded m planning request section thunk outcome trail old ran
+    abbrev pub ended : HasEnded m planning request section thunk outcome trail old ran
     ended = record { published = here; made = n; tries = tried; ends = ends }
 
     no_more : (b : Bool) → ◌≡◌ {A = ℕ} (if b && not true then 1 else 0) 0
@@ -145,21 +152,26 @@ module _ {T : Type 0} (m : Meaning) (laws : Laws m) (t : TableState T) (limits :
     own_run : length ran.part.records.finished ≡ length here.part.records.finished + 1
     own_run = length_on here.part.records.finished (ends.finished ∷ []) ran.part.records.finished ends.kept
 
-    brief_on : {new : RunnerState T} (made : ℕ) → HasMetHeld m planning request old ⊎ IsBrief 0 0 made ran new
-        → HasMetHeld m planning request old ⊎ IsBrief most_of_run 1 (n + made) here new
-    brief_on made (inl held) = inl held
-    brief_on made (inr brief) = inr (record {
+    brief_on : (new : RunnerState T) (made : ℕ) → IsBrief 0 0 made ran new → IsBrief most_of_run 1 (n + made) here new
+    brief_on new made brief = record {
       few_steps =
           let few = brief.few_steps in
           let cost = ended_costs m laws t limits allowed here ran own_ran section.descriptor thunk outcome trail n ends in omega (arith, few, cost);
       few_runs = let few = brief.few_runs in let own = own_run in omega (arith, few, own);
-    })
+    }
 
-    pub ended_rests : (got : Attempt) (new : RunnerState T) → IsOf t new → (halts halts1 halts2 halts' asks asks1 asks2 asks' steps steps2 steps' : ℕ)
+    steps_on : (readings made : ℕ) → readings + (n + made) ≡ readings + n + made
+    steps_on readings made = omega arith
+
+    asks_on : (readings more : ℕ) → 1 + readings + (1 + (n + more)) ≡ 2 + (readings + n) + more
+    asks_on readings more = omega arith
+
+    pub ended_rests : (got : Attempt) (new : RunnerState T) → IsOf t new → (Seen : ℕ → ℕ → Type 0)
+        (halts halts1 halts2 halts' asks asks1 asks2 asks' steps steps2 steps' : ℕ)
         → IsCounted 0 1 true halts halts1 asks asks1 steps steps → IsAsked n true halts1 halts2 asks1 asks2 steps steps2
-        → Rests m planning request true 0 got old ran new halts2 halts' asks2 asks' steps2 steps'
-        → Rests m planning request false most_of_run got old here new halts halts' asks asks' steps steps'
-    ended_rests got new own_new halts halts1 halts2 halts' asks asks1 asks2 asks' steps steps2 steps' ask asked rests = record {
+        → Rests m planning request true (length tried.readings + n) 0 got old ran new Seen halts2 halts' asks2 asks' steps2 steps'
+        → Rests m planning request false (length tried.readings) most_of_run got old here new Seen halts halts' asks asks' steps steps'
+    ended_rests got new own_new Seen halts halts1 halts2 halts' asks asks1 asks2 asks' steps steps2 steps' ask asked rests = record {
       answers = rests.answers;
       knows = knows_on here ran new (ended_knows m section.descriptor thunk outcome trail n here ran ends) rests.knows;
       no_other = no_other_on request.number here ran new (own_ran.requests ∙ sym own_here.requests) (own_ran.layout ∙ sym own_here.layout) ends.number
@@ -169,12 +181,19 @@ module _ {T : Type 0} (m : Meaning) (laws : Laws m) (t : TableState T) (limits :
             only = λ i y there. ends.learns.only i y there ∙ tried.plans.answers.request;
           })) rests.no_other;
       made = n + rests.made;
+      made_is = steps_on (length tried.readings) rests.made ∙ rests.made_is;
       published = true;
-      tried = λ e. has_published m planning request old thunk section here tried;
-      untried = λ e. absurd (true≢false e);
+      published_is = sym (rests.late refl) ∙ rests.published_is;
+      late = λ e. refl;
       asked = asked_then 1 (n + rests.made) 0 (not (is_halted got)) halts halts1 halts' asks asks1 asks' steps steps' ask
           (steps_then n rests.made 0 (not (is_halted got)) halts1 halts2 halts' asks1 asks2 asks' steps steps2 steps' asked
           (subst (λ more. IsCounted rests.made more (not (is_halted got)) halts2 halts' asks2 asks' steps2 steps') (no_more rests.published) rests.asked));
+      let_go = λ halted. let last = rests.let_go halted in (
+        1 + (n + last.0),
+        asks_on (length tried.readings) last.0 ∙ last.1,
+        seen_then Seen halts halts1 asks asks1 1 (n + last.0) (ask.went refl) ask.asked
+            (seen_then Seen halts1 halts2 asks1 asks2 n last.0 (asked.went refl) asked.asked last.2),
+      );
       entered = rests.entered;
       runs = λ going.
           let more = rests.runs going ∙ ap (λ k. length ran.part.records.finished + (k + helped_of got)) (no_more rests.published) in
@@ -184,5 +203,5 @@ module _ {T : Type 0} (m : Meaning) (laws : Laws m) (t : TableState T) (limits :
           let few : length new.part.records.finished ≤ length ran.part.records.finished + 1 = rests.few_runs in
           let own = own_run in
           let all : length new.part.records.finished ≤ length here.part.records.finished + 2 = omega (arith, few, own) in all;
-      brief = brief_on rests.made rests.brief;
+      brief = λ none. brief_on new rests.made (rests.brief none);
     }

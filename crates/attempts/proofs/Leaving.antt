@@ -27,11 +27,11 @@ use Rattle.lock_walks.specs.epoch_slots.specs.Collects.{IsTidy}
 use Rattle.lock_walks.specs.epoch_slots.specs.Entries.{HasLeave, Exits}
 use Rattle.lock_walks.specs.commit_log.specs.Asked.{IsAsked}
 use Rattle.lock_walks.specs.commit_log.proofs.Asked.{asked_none}
-use Rattle.lock_walks.specs.try_lock.specs.Ends.{EndsSo}
+use Rattle.lock_walks.specs.try_lock.specs.Ends.{EndsSo, IsCutShort}
 use Rattle.attempts.specs.Learned.{HasLearned, IsCut}
 use Rattle.attempts.specs.Knowing.{KnowsMore}
 use Rattle.attempts.specs.Course.{IsEmptyHanded, HasHelped, IsOfHelped}
-use Rattle.attempts.specs.Attempts.{is_halted, is_refusal, helped_of, Leaves}
+use Rattle.attempts.specs.Attempts.{is_halted, is_refusal, helped_of, Leaves, leaving_steps}
 use Rattle.attempts.specs.Rests.{MayLeave, LearnsNoOwn, HasTurned}
 use Rattle.attempts.specs.declared.answers.Attempt.{Attempt}
 use Rattle.attempts.specs.declared.answers.Attempt.TheVariants as answers
@@ -75,6 +75,17 @@ module _ {T : Type 0} (m : Meaning) where
   leaves_by_exit (answers.Short short) other old new exits = exits
   leaves_by_exit answers.Halted other old new exits = exits
 
+  -- in no counted step
+  exit_steps : (answer : Attempt) (other : (place word : ℕ) → answer ≢ answers.Busy place word) (old new : RunnerState T) (exits : Exits m old new)
+      → 0 ≡ leaving_steps m answer old new (leaves_by_exit answer other old new exits)
+  exit_steps (answers.Busy place word) other old new exits = absurd (other place word refl)
+  exit_steps (answers.Stale place expected read) other old new exits = refl
+  exit_steps (answers.Far loads) other old new exits = refl
+  exit_steps (answers.Spent place word) other old new exits = refl
+  exit_steps (answers.Done reply stamp) other old new exits = refl
+  exit_steps (answers.Short short) other old new exits = refl
+  exit_steps answers.Halted other old new exits = refl
+
   exits_tidy : (old new : RunnerState T) → IsEmptyHanded old → Exits m old new → IsTidy new
   exits_tidy old new hand exits = record {
     at = exits.at;
@@ -96,12 +107,13 @@ module _ {T : Type 0} (m : Meaning) where
         no_own = λ q own. ap (λ xs. is_answered xs q.number) exits.keeps.known;
         reached = exits_reached m old new exits;
         halted = λ e. absurd (let z = sym going ∙ e in cc);
+        short = λ e. absurd (let z = sym going ∙ e in cc);
         leaves = λ e. leaves_by_exit answer other old new exits;
+        made_is = λ e. exit_steps answer other old new exits;
         same = λ e. refl;
         tidy = λ e. exits_tidy old new may.hand exits;
         runs = λ e. omega (arith, same, none);
         few_runs = omega (arith, same);
-        brief = inr (record { few_steps = omega arith; few_runs = omega (arith, same) });
       }
 
 -- a run leaves a runner as it was, but for what it learned
@@ -155,6 +167,7 @@ module _ {T : Type 0} (m : Meaning) (laws : Laws m) (place word : ℕ) (old help
     helped = helped;
     ends = ends;
     exits = exits;
+    told = λ answer answered. ap (λ xs. is_answered xs t.request) exits.keeps.known ∙ ends.told answer answered;
   }
 
   module _ (cells : (p w : ℕ) → has_pair old.part.reads.cells p w ≡ true → has_pair helped.part.reads.cells p w ≡ true)
@@ -209,12 +222,13 @@ module _ {T : Type 0} (m : Meaning) (laws : Laws m) (place word : ℕ) (old help
       no_own = no_own;
       reached = exits_reached m helped new exits;
       halted = λ e. absurd (let z = e in cc);
+      short = λ e. absurd (let z = e in cc);
       leaves = λ e. record { helps = helps; of_lock = of_lock };
+      made_is = λ e. refl;
       same = λ e. refl;
       tidy = λ e. exits_tidy m helped new (ended_hand m (value_of word - 1) t outcome trail made old helped ends may.hand) exits;
       runs = λ e. one_more;
       few_runs = let more = one_more in omega (arith, more);
-      brief = inl (place, word, refl);
     }
 
 -- a gate halts it as it helps
@@ -224,9 +238,10 @@ module _ {T : Type 0} (m : Meaning) (laws : Laws m) (answer : Attempt) (place wo
   still_none (inl same) = same ∙ may.leave.at.published
   still_none (inr over) = over ∙ ap (λ o. over_if o d) may.leave.at.published
 
-  pub turned_by_halt : (made halts halts' asks asks' steps steps' : ℕ) → IsAsked made false halts halts' asks asks' steps steps'
+  pub turned_by_halt : (made : ℕ) → IsCutShort m (value_of word - 1) made old new → (halts halts' asks asks' steps steps' : ℕ)
+      → IsAsked made false halts halts' asks asks' steps steps'
       → HasTurned m answer answers.Halted old new halts halts' asks asks' steps steps'
-  turned_by_halt made halts halts' asks asks' steps steps' asked = record {
+  turned_by_halt made short halts halts' asks asks' steps steps' asked = record {
     made = made;
     asked = asked;
     knows = record {
@@ -237,12 +252,13 @@ module _ {T : Type 0} (m : Meaning) (laws : Laws m) (answer : Attempt) (place wo
     no_own = learns_no_own m laws old new limits allowed d cut.thunk cut.learned may.leave.at.published;
     reached = cut.reached;
     halted = λ e. still_none cut.published;
+    short = λ e. (place, word, held, short);
     leaves = λ e. absurd (let z = e in cc);
+    made_is = λ e. absurd (let z = e in cc);
     same = λ e. absurd (let z = e in cc);
     tidy = λ e. absurd (let z = e in cc);
     runs = λ e. absurd (let z = e in cc);
     few_runs =
         let long = length_on old.part.records.finished cut.more new.part.records.finished cut.finished in
         let few = cut.few in omega (arith, long, few);
-    brief = inl (place, word, held);
   }

@@ -37,7 +37,6 @@ use Rattle.request_facts.specs.Laws.{HasEntry}
 use Rattle.attempts.specs.Knowing.{IsFront, KnowsMore}
 use Rattle.attempts.specs.Course.{HasEnded}
 use Rattle.attempts.proofs.Knowing.{front_entry}
-use Rattle.attempts.proofs.Telling.{answered_known}
 
 -- a known word of a runner stands in a state in which it has its part
 entry_stands : (s : Sight) (part : PartState) (r : ℕ) → s.part r ≡ part → KnownStand s → (x : Known) (n : ℕ) (reply : Bool)
@@ -79,7 +78,7 @@ module _ {T : Type 0} (m : Meaning) (laws : Laws m) (t : TableState T) (limits :
   -- `ran` is the runner at the run's end, `new` the same one later
   module _ (answer : ℕ) (is : outcome ≡ Answered answer) where
     answered : is_answered ran.part.records.known thunk.request ≡ true
-    answered = answered_known m laws t limits allowed ended.published ran own_ran section.descriptor thunk outcome trail ended.made ended.ends answer is
+    answered = ended.ends.told answer is
 
     placed : IsPlaced m ran.layout ran.requests history.beside s history.state.history thunk.request
     placed = history.asked.known ran.number thunk.request (ap (λ (p : PartState). is_answered p.records.known thunk.request) seen ∙ answered)

@@ -10,7 +10,7 @@ use Rattle.table_words.specs.Limits.{IsWithinLimits}
 use Rattle.structure_laws.specs.Meaning.{Meaning}
 use Rattle.structure_laws.specs.Laws.{Laws}
 use Rattle.runner_parts.specs.State.{RunState, FinishedState, ReadsState}
-use Rattle.runner_parts.specs.Tests.{has_pair, is_answered}
+use Rattle.runner_parts.specs.Tests.{has_pair}
 use Rattle.runner_steps.specs.AfterInRun.{ended_more, over_if, finished_of}
 use Rattle.runner_steps.specs.Sections.{thunk_of, outcome_of}
 use Rattle.machine_states.specs.Sight.{sight}
@@ -27,7 +27,7 @@ use Rattle.attempts.specs.Learned.{HasLearned, IsCut}
 use Rattle.attempts.proofs.Knowing.{append_none}
 use Rattle.attempts.proofs.Placing.{IsLast, is_last}
 use Rattle.attempts.proofs.Along.{IsAlong, IsTelling, telling_learned, opened_tells, ran_tells, HasLastStep, ran_last, ran_back, ran_cells}
-use Rattle.attempts.proofs.LastSteps.{last_same, last_left, last_answered}
+use Rattle.attempts.proofs.LastSteps.{last_same, last_left}
 
 module _ {T : Type 0} (m : Meaning) (laws : Laws m) (t : TableState T) (limits : IsWithinLimits t.layout) (allowed : AreAllowed t.requests)
     (old new : RunnerState T) (own : IsOf t new) where
@@ -84,11 +84,6 @@ module _ {T : Type 0} (m : Meaning) (laws : Laws m) (t : TableState T) (limits :
         absurd (other _ (sym ends.same_outcome ∙ ends.facts.outcomes.answered new.number d ends.finished ends.used ends.ends answered)))
         (λ (left : IsLeft m ends.components.agreement (sight m new.layout new.requests ends.reached.world) d). left)
         (ends.facts.sound.sections.in_effects.over d ends.used ends.is_done.done)
-
-    -- one that answered told both words of its request
-    pub answered_known : (answer : ℕ) → outcome ≡ Answered answer → is_answered new.part.records.known thunk.request ≡ true
-    answered_known answer is = last_answered m laws t limits allowed old d thunk last.before new last.own last.run over.place over.word last.found release last.telling
-        answer (outcome_is ∙ is)
 
     -- and no cell that was read is forgotten
     pub ended_cells : (place word : ℕ) → has_pair old.part.reads.cells place word ≡ true → has_pair new.part.reads.cells place word ≡ true

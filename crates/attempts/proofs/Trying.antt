@@ -20,8 +20,8 @@ use Rattle.lock_walks.specs.try_lock.specs.declared.planned.Planned.TheVariants 
 use Rattle.lock_walks.specs.try_lock.specs.Planning.{Planning}
 use Rattle.lock_walks.specs.try_lock.specs.Publishes.{Publishes}
 use Rattle.attempts.specs.Knowing.{IsStill, IsOwn}
-use Rattle.attempts.specs.Course.{of_refusal, MayAttempt, HasPlanned, HasTried, HasPublished}
-use Rattle.attempts.specs.Attempts.{is_refusal, helped_of, IsBrief, HasMetHeld}
+use Rattle.attempts.specs.Course.{of_refusal, MayAttempt, HasPlanned, HasTried}
+use Rattle.attempts.specs.Attempts.{is_refusal, helped_of, IsBrief, BehindHold, IsHalted}
 use Rattle.attempts.specs.Counted.{IsCounted}
 use Rattle.attempts.specs.Rests.{Rests}
 use Rattle.attempts.specs.declared.answers.Attempt.{Attempt}
@@ -30,7 +30,7 @@ use Rattle.attempts.proofs.Knowing.{knows_same, knows_on, no_other_same, no_othe
 use Rattle.attempts.proofs.Courses.{tried_at}
 use Rattle.attempts.proofs.Turning.{may_own, may_unknown}
 
-pub tried_of : {T : Type 0} (m : Meaning) (planning : Planning) (request : Request) (old : RunnerState T) (readings : Readings) (thunk : Thunk) (r : RunnerState T)
+abbrev pub tried_of : {T : Type 0} (m : Meaning) (planning : Planning) (request : Request) (old : RunnerState T) (readings : Readings) (thunk : Thunk) (r : RunnerState T)
     → HasPlanned m planning request readings (plans.Thunk thunk) old r → (answer : Result Section Refused) (new : RunnerState T)
     → Publishes m thunk answer r new → new.layout ≡ r.layout → new.requests ≡ r.requests → HasTried m planning request thunk answer old new
 tried_of m planning request old readings thunk r is answer new publishes layout requests = record {
@@ -62,30 +62,31 @@ module _ {T : Type 0} (m : Meaning) (planning : Planning) (request : Request) (a
       → length new.part.records.finished ≤ length here.part.records.finished + more
   few_from_still more e = subst (λ fs. length new.part.records.finished ≤ length fs + more) still.finished e
 
-  pub brief_from_still : (most runs made most' made' : ℕ) → (made ≤ most → made' ≤ most') → HasMetHeld m planning request old ⊎ IsBrief most runs made mid new
-      → HasMetHeld m planning request old ⊎ IsBrief most' runs made' here new
-  brief_from_still most runs made most' made' low (inl held) = inl held
-  brief_from_still most runs made most' made' low (inr brief) = inr (record {
+  pub brief_from_still : (most runs made most' made' : ℕ) → (made ≤ most → made' ≤ most') → IsBrief most runs made mid new → IsBrief most' runs made' here new
+  brief_from_still most runs made most' made' low brief = record {
     few_steps = low brief.few_steps;
     few_runs = few_from_still runs brief.few_runs;
-  })
+  }
 
-pub rests_from_still : {T : Type 0} (m : Meaning) (planning : Planning) (request : Request) (held : Bool) (most : ℕ) (answer : Attempt) (old here mid new : RunnerState T)
-    (halts halts' asks asks' steps steps' : ℕ) → IsStill here mid
-    → Rests m planning request held most answer old mid new halts halts' asks asks' steps steps' → Rests m planning request held most answer old here new halts halts' asks asks' steps steps'
-rests_from_still m planning request held most answer old here mid new halts halts' asks asks' steps steps' still rests = record {
+pub rests_from_still : {T : Type 0} (m : Meaning) (planning : Planning) (request : Request) (held : Bool) (before most : ℕ) (answer : Attempt) (old here mid new : RunnerState T)
+    (Seen : ℕ → ℕ → Type 0) (halts halts' asks asks' steps steps' : ℕ) → IsStill here mid
+    → Rests m planning request held before most answer old mid new Seen halts halts' asks asks' steps steps'
+    → Rests m planning request held before most answer old here new Seen halts halts' asks asks' steps steps'
+rests_from_still m planning request held before most answer old here mid new Seen halts halts' asks asks' steps steps' still rests = record {
   answers = rests.answers;
   knows = knows_on here mid new (knows_same here mid still.number still.known still.finished) rests.knows;
   no_other = no_other_on request.number here mid new still.requests still.layout still.number (no_other_same request.number here mid still.known) rests.no_other;
   made = rests.made;
+  made_is = rests.made_is;
   published = rests.published;
-  tried = rests.tried;
-  untried = rests.untried;
+  published_is = rests.published_is;
+  late = rests.late;
   asked = rests.asked;
+  let_go = rests.let_go;
   entered = rests.entered;
   runs = λ going. runs_from_still m planning request answer old here mid new still ((if rests.published && not held then 1 else 0) + helped_of answer) (rests.runs going);
   few_runs = few_from_still m planning request answer old here mid new still (if held then 1 else 2) rests.few_runs;
-  brief = brief_from_still m planning request answer old here mid new still most (if held then 0 else 1) rests.made most rests.made (λ low. low) rests.brief;
+  brief = λ none. brief_from_still m planning request answer old here mid new still most (if held then 0 else 1) rests.made most rests.made (λ low. low) (rests.brief none);
 }
 
 pub refusal_of_lock : (lock : ℕ) (e : Refused) → is_refusal (of_refusal lock e) ≡ true
@@ -110,38 +111,42 @@ module _ {T : Type 0} (m : Meaning) (planning : Planning) (request : Request) (o
       (some_same x (published_by thunk tried.publishes.descriptor tried.planned.part) (sym is ∙ (tried_at m planning request old thunk section here tried).published))
       ∙ tried.plans.answers.request
 
-  -- and it has published one
-  pub has_published : HasPublished m planning request old
-  has_published = record { thunk = thunk; section = section; published = here; tries = tried }
-
   pub is_published : here.part.published ≡ None → ⊥
   is_published none = none_some (published_by thunk tried.publishes.descriptor tried.planned.part)
       (sym (tried_at m planning request old thunk section here tried).published ∙ none)
 
-  pub halted_published : (halts halts' asks asks' steps : ℕ) → IsCounted 0 1 false halts halts' asks asks' steps steps
-      → (most : ℕ) → Rests m planning request false most answers.Halted old here here halts halts' asks asks' steps steps
-  halted_published halts halts' asks asks' steps asked most = record {
-    answers = record {
-      entered = tried.plans.entered;
-      enters = tried.plans.enters;
-      published = published_for;
-      unknown = λ none. absurd (is_published none);
-      reached = tried.publishes.reached;
-    };
+  abbrev was_halted : IsHalted m planning request old here
+  was_halted = record {
+    at = BehindHold thunk section tried;
+    published = published_for;
+    unknown = λ none. absurd (is_published none);
+    reached = tried.publishes.reached;
+  }
+
+  none_more : (n : ℕ) → n + 0 ≡ n
+  none_more n = omega arith
+
+  pub halted_published : (Seen : ℕ → ℕ → Type 0) (halts halts' asks asks' steps : ℕ) → Seen halts asks
+      → IsCounted 0 1 false halts halts' asks asks' steps steps
+      → (most : ℕ) → Rests m planning request false (length tried.readings) most answers.Halted old here here Seen halts halts' asks asks' steps steps
+  halted_published Seen halts halts' asks asks' steps seen asked most = record {
+    answers = was_halted;
     knows = knows_same here here refl refl refl;
     no_other = λ q own ne. refl;
     made = 0;
+    made_is = none_more (length tried.readings);
     published = true;
-    tried = λ e. has_published;
-    untried = λ e. absurd (true≢false e);
+    published_is = refl;
+    late = λ e. refl;
     asked = asked;
+    let_go = λ e. (0, none_more (1 + length tried.readings), seen);
     entered = refl;
     runs = λ going. absurd (true≢false going);
     few_runs = let more : length here.part.records.finished ≤ length here.part.records.finished + 2 = omega arith in more;
-    brief = inr (record {
+    brief = λ none. record {
       few_steps = omega arith;
       few_runs = let more : length here.part.records.finished ≤ length here.part.records.finished + 1 = omega arith in more;
-    });
+    };
   }
 
   -- or in its run

@@ -1,8 +1,11 @@
 -- The answers of an attempt that was turned away.
-use Rattle.std.specs.Prelude.{◌==◌, ◌&&◌, ◌⊎◌, not, Bool, true, false, if◌then◌else◌}
-use Rattle.std.proofs.Common.{◌≡◌, ℕ, ◌+◌, ◌%◌, ◌≤◌, length, refl, sym, ap, ◌∙◌, subst, arith, inl, inr, Some, None}
+use Rattle.std.specs.Prelude.{◌==◌, ◌&&◌, not, Bool, true, false, if◌then◌else◌}
+use Rattle.std.proofs.Common.{◌≡◌, ℕ, ◌+◌, ◌-◌, ◌%◌, ◌≤◌, length, refl, sym, ap, ◌∙◌, subst, arith, Some, None}
+use Rattle.std.proofs.lemmas.Bool.{true≢false}
 use Rattle.std.proofs.lemmas.Bool.Decides.{nat_tests}
 use Rattle.map_history.specs.declared.op.Request.{Request}
+use Rattle.section_body.specs.Counted.{counted_on}
+use Rattle.section_body.specs.Word.{value_of}
 use Rattle.table_words.specs.Limits.{IsWithinLimits}
 use Rattle.structure_laws.specs.Meaning.{Meaning}
 use Rattle.structure_laws.specs.Laws.{Laws}
@@ -16,11 +19,12 @@ use Rattle.lock_walks.specs.machine_records.specs.Kept.{link_of}
 use Rattle.lock_walks.specs.version_words.specs.RunnerState.{RunnerState}
 use Rattle.lock_walks.specs.try_lock.specs.Planning.{Planning}
 use Rattle.lock_walks.specs.try_lock.specs.Reached.{IsReached}
+use Rattle.lock_walks.specs.try_lock.specs.Ends.{IsCutShort}
 use Rattle.request_facts.proofs.Standing.{callers_stand}
 use Rattle.attempts.specs.Knowing.{IsOwn}
-use Rattle.attempts.specs.Course.{MayAttempt, HasEntered, HasPublished, PlanIsRefused, LockIsRefused, IsRefused}
+use Rattle.attempts.specs.Course.{MayAttempt, IsRefused, refused_steps, is_refused_late}
 use Rattle.attempts.specs.Counted.{IsCounted}
-use Rattle.attempts.specs.Attempts.{is_halted, is_short, is_refusal, IsBrief, IsTurnedAway, IsRefusedBefore, IsHaltedBefore, IsHalted, IsUntouched, HasMetHeld, PublishedNone, Answers}
+use Rattle.attempts.specs.Attempts.{is_halted, is_short, is_refusal, helped_of, IsBrief, leaving_steps, IsTurnedAway, InHelpedRun, IsHalted, IsUntouched, Answers, steps_of, has_published, has_met_held, asks_before}
 use Rattle.attempts.specs.Rests.{HasTurned, Rests}
 use Rattle.attempts.specs.declared.answers.Attempt.{Attempt}
 use Rattle.attempts.specs.declared.answers.Attempt.TheVariants as answers
@@ -80,16 +84,26 @@ untouched m laws r request limits allowed reached none own unknown = record {
     here = ap part_or_first reached.own
 
 module _ {T : Type 0} (m : Meaning) (laws : Laws m) (planning : Planning) (request : Request) (old here new : RunnerState T) (answer got : Attempt)
-    (refusal : is_refusal answer ≡ true) (entered : RunnerState T) (enters : HasEntered m planning request old entered)
-    (cause : IsRefused m planning request answer old here) (held : Bool) (tried : held ≡ true → HasPublished m planning request old)
-    (untried : held ≡ false → PlanIsRefused m planning request answer old here ⊎ LockIsRefused m planning request answer old here)
+    (refusal : is_refusal answer ≡ true) (cause : IsRefused m planning request answer old here) (held : Bool) (before : ℕ)
+    (before_is : before ≡ refused_steps m planning request answer old here cause) (held_is : held ≡ is_refused_late m planning request answer old here cause)
     (own : IsOwn here request) (unknown : is_answered here.part.records.known request.number ≡ false)
     (limits : IsWithinLimits new.layout) (allowed : AreAllowed new.requests) (layout : new.layout ≡ here.layout) (requests : new.requests ≡ here.requests)
-    (halts halts' asks asks' steps steps' : ℕ) (turned : HasTurned m answer got here new halts halts' asks asks' steps steps') where
+    (Seen : ℕ → ℕ → Type 0) (halts halts' asks asks' steps steps' : ℕ) (seen : Seen halts asks)
+    (turned : HasTurned m answer got here new halts halts' asks asks' steps steps') where
   unknown_still : is_answered new.part.records.known request.number ≡ false
   unknown_still = turned.no_own request own ∙ unknown
 
-  away : is_halted got ≡ false → IsTurnedAway m planning request answer old new
+  -- an answer, and what is counted of it
+  record IsTold (most : ℕ) (a : Attempt) : Type 0 where
+    pub answers : Answers m planning request a old new
+    pub made_is : before + turned.made ≡ steps_of m planning request a old new answers
+    pub published_is : held ≡ has_published m planning request a old new answers
+    pub let_go : is_halted a ≡ true → (more : ℕ)
+        × ((if held then 2 else 1) + before + more ≡ asks_before m planning request a old new answers) × Seen halts (counted_on asks more)
+    pub brief : has_met_held m planning request a old new answers ≡ false → IsBrief most (if held then 0 else 1) turned.made here new
+
+  -- it left with its refusal
+  abbrev away : is_halted got ≡ false → IsTurnedAway m planning request answer old new
   away going = record {
     cut = here;
     cause = cause;
@@ -99,53 +113,98 @@ module _ {T : Type 0} (m : Meaning) (laws : Laws m) (planning : Planning) (reque
         (own_on here new requests layout turned.knows.number request own) unknown_still;
   }
 
-  none : (b : Bool) → is_halted got ≡ b → new.part.published ≡ None
-  none true halted = turned.halted halted
-  none false going = (turned.tidy going).at.published
+  -- where it helped nobody, it made no step
+  brief_of : (b : Bool) (most : ℕ) → turned.made ≡ 0 → length new.part.records.finished ≡ length here.part.records.finished + 0
+      → IsBrief most (if b then 0 else 1) turned.made here new
+  brief_of true most none runs = record { few_steps = omega (arith, none); few_runs = omega (arith, runs) }
+  brief_of false most none runs = record { few_steps = omega (arith, none); few_runs = omega (arith, runs) }
 
-  before : held ≡ false → IsRefusedBefore m planning request answer old new
-  before unheld = record { cut = here; cause = untried unheld; none = none (is_halted got) refl }
+  no_halt : {A : Type 0} → false ≡ true → A
+  no_halt e = absurd (true≢false (sym e))
 
-  refused_answers : (a : Attempt) → is_refusal a ≡ true → IsTurnedAway m planning request a old new → Answers m planning request a old new
-  refused_answers (answers.Busy place word) e is = is
-  refused_answers (answers.Stale place expected read) e is = is
-  refused_answers (answers.Far loads) e is = is
-  refused_answers (answers.Spent place word) e is = is
-  refused_answers (answers.Done reply stamp) e is = absurd (let z = e in cc)
-  refused_answers (answers.Short short) e is = absurd (let z = e in cc)
-  refused_answers answers.Halted e is = absurd (let z = e in cc)
-
-  refused_before : (a : Attempt) → is_refusal a ≡ true → IsRefusedBefore m planning request a old new → PublishedNone m planning request a old new
-  refused_before (answers.Busy place word) e is = is
-  refused_before (answers.Stale place expected read) e is = is
-  refused_before (answers.Far loads) e is = is
-  refused_before (answers.Spent place word) e is = is
-  refused_before (answers.Done reply stamp) e is = absurd (let z = e in cc)
-  refused_before (answers.Short short) e is = absurd (let z = e in cc)
-  refused_before answers.Halted e is = absurd (let z = e in cc)
-
-  some_none : (x : Published) → Some x ≡ None → ⊥
-  some_none x e = let z = e in cc
-
-  was_halted : is_halted got ≡ true → IsHalted m planning request old new
-  was_halted halted = record {
-    entered = entered;
-    enters = enters;
-    published = λ x is. absurd (some_none x (sym is ∙ turned.halted halted));
-    unknown = λ none. unknown_still;
-    reached = turned.reached;
+  refused_told : (most : ℕ) (a : Attempt) → is_refusal a ≡ true → (is : IsTurnedAway m planning request a old new)
+      → before ≡ refused_steps m planning request a old is.cut is.cause → turned.made ≡ leaving_steps m a is.cut new is.leaves
+      → held ≡ is_refused_late m planning request a old is.cut is.cause
+      → length new.part.records.finished ≡ length here.part.records.finished + helped_of a → IsTold most a
+  refused_told most (answers.Busy place word) e is before made late runs = record {
+    answers = is;
+    made_is = λ i. before i + made i;
+    published_is = late;
+    let_go = λ z. no_halt z;
+    brief = λ z. absurd (true≢false z);
   }
+  refused_told most (answers.Stale place expected read) e is before made late runs = record {
+    answers = is;
+    made_is = λ i. before i + made i;
+    published_is = late;
+    let_go = λ z. no_halt z;
+    brief = λ z. brief_of held most made runs;
+  }
+  refused_told most (answers.Far loads) e is before made late runs = record {
+    answers = is;
+    made_is = λ i. before i + made i;
+    published_is = late;
+    let_go = λ z. no_halt z;
+    brief = λ z. brief_of held most made runs;
+  }
+  refused_told most (answers.Spent place word) e is before made late runs = record {
+    answers = is;
+    made_is = λ i. before i + made i;
+    published_is = late;
+    let_go = λ z. no_halt z;
+    brief = λ z. brief_of held most made runs;
+  }
+  refused_told most (answers.Done reply stamp) e is before made late runs = no_halt e
+  refused_told most (answers.Short short) e is before made late runs = no_halt e
+  refused_told most answers.Halted e is before made late runs = no_halt e
 
-  halted_before : held ≡ false → IsHaltedBefore m planning request old new
-  halted_before unheld = inr (inr (answer, before unheld))
+  going_told : (most : ℕ) → is_halted got ≡ false → IsTold most got
+  going_told most going = subst (IsTold most) (sym (turned.same going))
+      (refused_told most answer refusal (away going) before_is (turned.made_is going) held_is
+      (turned.runs going ∙ ap (λ a. length here.part.records.finished + helped_of a) (turned.same going)))
 
-  all_answers : (b : Bool) → is_halted got ≡ b → Answers m planning request got old new
-  all_answers true e = subst (λ a. Answers m planning request a old new) (sym (halted_is got e)) (was_halted e)
-  all_answers false e = subst (λ a. Answers m planning request a old new) (sym (turned.same e)) (refused_answers answer refusal (away e))
+  -- this answer's cause, and what is counted of it
+  abbrev ByAnswer : Attempt → Type 0
+  ByAnswer a = (by : IsRefused m planning request a old here) × (before ≡ refused_steps m planning request a old here by)
+      × (held ≡ is_refused_late m planning request a old here by)
 
-  all_before : (b : Bool) → is_halted got ≡ b → held ≡ false → PublishedNone m planning request got old new
-  all_before true e unheld = subst (λ a. PublishedNone m planning request a old new) (sym (halted_is got e)) (halted_before unheld)
-  all_before false e unheld = subst (λ a. PublishedNone m planning request a old new) (sym (turned.same e)) (refused_before answer refusal (before unheld))
+  -- or a gate halted it as it helped
+  module _ (halted : is_halted got ≡ true) where
+    at : (place : ℕ) × (word : ℕ) × (answer ≡ answers.Busy place word) × IsCutShort m (value_of word - 1) turned.made here new
+    at = turned.short halted
+
+    by : ByAnswer (answers.Busy at.0 at.1)
+    by = subst ByAnswer at.2 (cause, before_is, held_is)
+
+    some_none : (x : Published) → Some x ≡ None → ⊥
+    some_none x e = let z = e in cc
+
+    abbrev was_halted : IsHalted m planning request old new
+    was_halted = record {
+      at = InHelpedRun (record { place = at.0; word = at.1; cut = here; cause = by.0; made = turned.made; short = at.3 });
+      published = λ x is. absurd (some_none x (sym is ∙ turned.halted halted));
+      unknown = λ none. unknown_still;
+      reached = turned.reached;
+    }
+
+    none_more : (n : ℕ) → n + 0 ≡ n
+    none_more n = omega arith
+
+    halted_told : (most : ℕ) → IsTold most answers.Halted
+    halted_told most = record {
+      answers = was_halted;
+      made_is = ap (λ n. n + turned.made) by.1;
+      published_is = by.2;
+      let_go = λ e. (0, none_more ((if held then 2 else 1) + before) ∙ (λ i. (if by.2 i then 2 else 1) + by.1 i), seen);
+      brief = λ e. absurd (true≢false e);
+    }
+
+  told : (most : ℕ) → IsTold most got
+  told most = choose (is_halted got) refl
+    where
+      choose : (b : Bool) → is_halted got ≡ b → IsTold most got
+      choose true e = subst (IsTold most) (sym (halted_is got e)) (halted_told e most)
+      choose false e = going_told most e
 
   long : (b : Bool) → is_halted got ≡ b → is_short got ≡ false
   long true e = ap is_short (halted_is got e)
@@ -155,32 +214,27 @@ module _ {T : Type 0} (m : Meaning) (laws : Laws m) (planning : Planning) (reque
   no_more true = refl
   no_more false = refl
 
-  brief_by : (b : Bool) (most : ℕ) → ((place : ℕ) × (word : ℕ) × (answer ≡ answers.Busy place word)) ⊎ IsBrief 0 0 turned.made here new
-      → HasMetHeld m planning request old ⊎ IsBrief most (if b then 0 else 1) turned.made here new
-  brief_by b most (inl busy) = inl (busy.0, busy.1, here, subst (λ (a : Attempt). IsRefused m planning request a old here) busy.2 cause)
-  brief_by true most (inr brief) = inr (record { few_steps = let few = brief.few_steps in omega (arith, few); few_runs = brief.few_runs })
-  brief_by false most (inr brief) = inr (record {
-    few_steps = let few = brief.few_steps in omega (arith, few);
-    few_runs = let few = brief.few_runs in omega (arith, few);
-  })
-
   few_by : (b : Bool) → length new.part.records.finished ≤ length here.part.records.finished + (if b then 1 else 2)
   few_by true = turned.few_runs
   few_by false = let few = turned.few_runs in omega (arith, few)
 
-  pub turned_rests : (most : ℕ) → Rests m planning request held most got old here new halts halts' asks asks' steps steps'
-  turned_rests most = record {
-    answers = all_answers (is_halted got) refl;
-    knows = turned.knows;
-    no_other = λ q is ne. turned.no_own q is;
-    made = turned.made;
-    published = held;
-    tried = tried;
-    untried = all_before (is_halted got) refl;
-    asked = subst (λ more. IsCounted turned.made more (not (is_halted got)) halts halts' asks asks' steps steps') (sym (no_more held))
-        (counted_steps turned.made (not (is_halted got)) halts halts' asks asks' steps steps' turned.asked);
-    entered = long (is_halted got) refl;
-    runs = λ going. let more = turned.runs going in let none = no_more held in omega (arith, more, none);
-    few_runs = few_by held;
-    brief = brief_by held most turned.brief;
-  }
+  pub turned_rests : (most : ℕ) → Rests m planning request held before most got old here new Seen halts halts' asks asks' steps steps'
+  turned_rests most =
+      let t = told most in
+      record {
+        answers = t.answers;
+        knows = turned.knows;
+        no_other = λ q is ne. turned.no_own q is;
+        made = turned.made;
+        made_is = t.made_is;
+        published = held;
+        published_is = t.published_is;
+        late = λ e. e;
+        asked = subst (λ more. IsCounted turned.made more (not (is_halted got)) halts halts' asks asks' steps steps') (sym (no_more held))
+            (counted_steps turned.made (not (is_halted got)) halts halts' asks asks' steps steps' turned.asked);
+        let_go = t.let_go;
+        entered = long (is_halted got) refl;
+        runs = λ going. let more = turned.runs going in let none = no_more held in omega (arith, more, none);
+        few_runs = few_by held;
+        brief = t.brief;
+      }

@@ -1,8 +1,9 @@
 -- An attempt as a whole: its entry, its plan, and what follows.
-use Rattle.std.specs.Prelude.{◌&&◌, ◌⊎◌, not, Bool, true, false, if◌then◌else◌, Ok, Err}
+use Rattle.std.specs.Prelude.{◌&&◌, not, Bool, true, false, if◌then◌else◌, Ok, Err}
 use Rattle.std.proofs.Common.{◌≡◌, ℕ, ◌+◌, ◌*◌, ◌-◌, ◌≤◌, length, refl, sym, ap, ◌∙◌, subst, arith, inl, inr, None}
 use Rattle.std.proofs.lemmas.Bool.{true≢false}
 use Rattle.map_history.specs.declared.op.Request.{Request}
+use Rattle.section_body.specs.Counted.{counted_on}
 use Rattle.section_body.specs.Word.{value_of}
 use Rattle.section_body.specs.declared.outcome.Refused.{Refused}
 use Rattle.section_body.specs.declared.thunk.Thunk.{Thunk}
@@ -35,13 +36,13 @@ use Rattle.lock_walks.specs.try_lock.specs.Publishes.{Publishes}
 use Rattle.attempts.specs.Knowing.{IsStill}
 use Rattle.attempts.specs.Course.{of_plan, of_refusal, MayAttempt, HasReserve, HasEntered, HasPlanned, HasTried, PlanIsRefused, LockIsRefused}
 use Rattle.attempts.specs.Counted.{IsCounted}
-use Rattle.attempts.specs.Attempts.{is_halted, is_short, asks_more, runs_of, helped_of, most_of_run, most_of_attempt, IsBrief, HasMetHeld, IsFew, IsShort, PublishedNone, Attempts}
+use Rattle.attempts.specs.Attempts.{is_halted, is_short, asks_more, runs_of, helped_of, most_of_run, most_of_attempt, IsBrief, IsFew, IsShort, AtEntry, InPlan, IsHalted, Answers, has_published, Attempts}
 use Rattle.attempts.specs.Rests.{MayLeave, HasTurned, Rests}
 use Rattle.attempts.specs.declared.answers.Attempt.{Attempt}
 use Rattle.attempts.specs.declared.answers.Attempt.TheVariants as answers
 use Rattle.attempts.proofs.Knowing.{knows_same, knows_on, no_other_same, no_other_on}
 use Rattle.attempts.proofs.Reaching.{enters_reached, collects_reached}
-use Rattle.attempts.proofs.Counting.{counted_steps, asked_then, steps_then}
+use Rattle.attempts.proofs.Counting.{counted_steps, asked_then, steps_then, seen_then}
 use Rattle.attempts.proofs.Courses.{planned_at, planned_reads, planned_leave}
 use Rattle.attempts.proofs.Turning.{untouched, turned_rests}
 use Rattle.attempts.proofs.Trying.{tried_of, own_here, unknown_here, refusal_of_lock, runs_from_still, few_from_still, brief_from_still}
@@ -58,84 +59,102 @@ loads_within loads count few = omega (arith, few)
 loads_and_run : (loads count : ℕ) → loads ≤ 6 * count + 44 → loads + most_of_run ≤ most_of_attempt count
 loads_and_run loads count few = omega (arith, few)
 
+steps_on : (b n k : ℕ) → b + (n + k) ≡ b + n + k
+steps_on b n k = omega arith
+
+asks_on : (b n k : ℕ) → 1 + b + (n + k) ≡ 1 + (b + n) + k
+asks_on b n k = omega arith
+
+no_steps : (n : ℕ) → n + 0 ≡ n
+no_steps n = omega arith
+
+from_none : (n : ℕ) → 0 + n ≡ n
+from_none n = omega arith
+
 -- the rest, behind counted steps of a runner that learned nothing by them
-pub rests_after : {T : Type 0} (m : Meaning) (planning : Planning) (request : Request) (most : ℕ) (answer : Attempt) (old here mid new : RunnerState T) (n : ℕ)
-    (halts halts1 halts' asks asks1 asks' steps steps1 steps' : ℕ) → IsStill here mid → IsAsked n true halts halts1 asks asks1 steps steps1
-    → Rests m planning request false most answer old mid new halts1 halts' asks1 asks' steps1 steps'
-    → Rests m planning request false (n + most) answer old here new halts halts' asks asks' steps steps'
-rests_after m planning request most answer old here mid new n halts halts1 halts' asks asks1 asks' steps steps1 steps' still asked rests = record {
+pub rests_after : {T : Type 0} (m : Meaning) (planning : Planning) (request : Request) (before n most : ℕ) (answer : Attempt) (old here mid new : RunnerState T)
+    (Seen : ℕ → ℕ → Type 0) (halts halts1 halts' asks asks1 asks' steps steps1 steps' : ℕ) → IsStill here mid → IsAsked n true halts halts1 asks asks1 steps steps1
+    → (since : ℕ) → before + n ≡ since → Rests m planning request false since most answer old mid new Seen halts1 halts' asks1 asks' steps1 steps'
+    → Rests m planning request false before (n + most) answer old here new Seen halts halts' asks asks' steps steps'
+rests_after m planning request before n most answer old here mid new Seen halts halts1 halts' asks asks1 asks' steps steps1 steps' still asked since sums rests = record {
   answers = rests.answers;
   knows = knows_on here mid new (knows_same here mid still.number still.known still.finished) rests.knows;
   no_other = no_other_on request.number here mid new still.requests still.layout still.number (no_other_same request.number here mid still.known) rests.no_other;
   made = n + rests.made;
+  made_is = steps_on before n rests.made ∙ (ap (λ b. b + rests.made) sums ∙ rests.made_is);
   published = rests.published;
-  tried = rests.tried;
-  untried = rests.untried;
+  published_is = rests.published_is;
+  late = rests.late;
   asked = steps_then n rests.made (if rests.published && not false then 1 else 0) (not (is_halted answer)) halts halts1 halts' asks asks1 asks' steps steps1 steps' asked rests.asked;
+  let_go = λ halted. let last = rests.let_go halted in (
+    n + last.0,
+    asks_on before n last.0 ∙ (ap (λ b. 1 + b + last.0) sums ∙ last.1),
+    seen_then Seen halts halts1 asks asks1 n last.0 (asked.went refl) asked.asked last.2,
+  );
   entered = rests.entered;
   runs = λ on. runs_from_still m planning request answer old here mid new still ((if rests.published && not false then 1 else 0) + helped_of answer) (rests.runs on);
   few_runs = few_from_still m planning request answer old here mid new still 2 rests.few_runs;
-  brief = brief_from_still m planning request answer old here mid new still most 1 rests.made (n + most) (n + rests.made) (λ low. omega (arith, low)) rests.brief;
+  brief = λ none. brief_from_still m planning request answer old here mid new still most 1 rests.made (n + most) (n + rests.made) (λ low. omega (arith, low)) (rests.brief none);
 }
 
 -- a larger bound
-pub rests_within : {T : Type 0} (m : Meaning) (planning : Planning) (request : Request) (held : Bool) (most more : ℕ) (answer : Attempt) (old here new : RunnerState T)
-    (halts halts' asks asks' steps steps' : ℕ) → most ≤ more → Rests m planning request held most answer old here new halts halts' asks asks' steps steps'
-    → Rests m planning request held more answer old here new halts halts' asks asks' steps steps'
-rests_within m planning request held most more answer old here new halts halts' asks asks' steps steps' low rests = record {
+pub rests_within : {T : Type 0} (m : Meaning) (planning : Planning) (request : Request) (held : Bool) (before most more : ℕ) (answer : Attempt) (old here new : RunnerState T)
+    (Seen : ℕ → ℕ → Type 0) (halts halts' asks asks' steps steps' : ℕ) → most ≤ more
+    → Rests m planning request held before most answer old here new Seen halts halts' asks asks' steps steps'
+    → Rests m planning request held before more answer old here new Seen halts halts' asks asks' steps steps'
+rests_within m planning request held before most more answer old here new Seen halts halts' asks asks' steps steps' low rests = record {
   answers = rests.answers;
   knows = rests.knows;
   no_other = rests.no_other;
   made = rests.made;
+  made_is = rests.made_is;
   published = rests.published;
-  tried = rests.tried;
-  untried = rests.untried;
+  published_is = rests.published_is;
+  late = rests.late;
   asked = rests.asked;
+  let_go = rests.let_go;
   entered = rests.entered;
   runs = rests.runs;
   few_runs = rests.few_runs;
-  brief = by rests.brief;
+  brief = λ none. let brief = rests.brief none in record { few_steps = let few = brief.few_steps in omega (arith, few, low); few_runs = brief.few_runs };
 }
-  where
-    by : HasMetHeld m planning request old ⊎ IsBrief most (if held then 0 else 1) rests.made here new
-        → HasMetHeld m planning request old ⊎ IsBrief more (if held then 0 else 1) rests.made here new
-    by (inl met) = inl met
-    by (inr brief) = inr (record { few_steps = let few = brief.few_steps in omega (arith, few, low); few_runs = brief.few_runs })
 
 -- the lock refused the publication
 module _ {T : Type 0} (m : Meaning) (laws : Laws m) (t : TableState T) (limits : IsWithinLimits t.layout) (allowed : AreAllowed t.requests)
     (planning : Planning) (request : Request) (thunk : Thunk) (refused : Refused) (old r mid : RunnerState T) (own_mid : IsOf t mid)
     (readings : Readings) (planned : HasPlanned m planning request readings (plans.Thunk thunk) old r)
     (publishes : Publishes m thunk (Err refused) r mid) (layout : mid.layout ≡ r.layout) (requests : mid.requests ≡ r.requests) where
-  pub lost : HasTried m planning request thunk (Err refused) old mid
+  abbrev pub lost : HasTried m planning request thunk (Err refused) old mid
   lost = tried_of m planning request old readings thunk r planned (Err refused) mid publishes layout requests
 
   still_lost : IsStill r mid
   still_lost = record { layout = layout; requests = requests; number = publishes.number; known = publishes.known; finished = publishes.finished }
 
-  lost_cause : LockIsRefused m planning request (of_refusal thunk.lock refused) old mid
+  abbrev lost_cause : LockIsRefused m planning request (of_refusal thunk.lock refused) old mid
   lost_cause = record { thunk = thunk; refusal = refused; tries = lost; same = refl }
 
-  pub lost_rests : (got : Attempt) (new : RunnerState T) → IsOf t new → (halts halts' asks asks' steps steps' : ℕ)
-      → HasTurned m (of_refusal thunk.lock refused) got mid new halts halts' asks asks' steps steps'
-      → Rests m planning request false most_of_run got old r new halts halts' asks asks' steps steps'
-  lost_rests got new own_new halts halts' asks asks' steps steps' turned =
-      rests_after m planning request most_of_run got old r mid new 0 halts halts halts' asks asks asks' steps steps steps' still_lost (asked_none halts asks steps)
+  pub lost_rests : (got : Attempt) (new : RunnerState T) → IsOf t new → (Seen : ℕ → ℕ → Type 0) (halts halts' asks asks' steps steps' : ℕ)
+      → Seen halts asks → HasTurned m (of_refusal thunk.lock refused) got mid new halts halts' asks asks' steps steps'
+      → Rests m planning request false (length readings) most_of_run got old r new Seen halts halts' asks asks' steps steps'
+  lost_rests got new own_new Seen halts halts' asks asks' steps steps' seen turned =
+      rests_after m planning request (length readings) 0 most_of_run got old r mid new Seen halts halts halts' asks asks asks' steps steps steps' still_lost (asked_none halts asks steps)
+      (length readings) (no_steps (length readings))
       (turned_rests m laws planning request old mid new (of_refusal thunk.lock refused) got (refusal_of_lock thunk.lock refused)
-      planned.entered planned.enters (inr (inl lost_cause)) false (λ e. absurd (true≢false (sym e))) (λ e. inr lost_cause)
+      (inr (inl lost_cause)) false (length readings) refl refl
       (own_here planning request old planned.enters.may mid lost.still) (unknown_here planning request old planned.enters.may mid lost.still)
       (subst IsWithinLimits (sym own_new.layout) limits) (subst AreAllowed (sym own_new.requests) allowed)
-      (own_new.layout ∙ sym own_mid.layout) (own_new.requests ∙ sym own_mid.requests) halts halts' asks asks' steps steps' turned most_of_run)
+      (own_new.layout ∙ sym own_mid.layout) (own_new.requests ∙ sym own_mid.requests) Seen halts halts' asks asks' steps steps' seen turned most_of_run)
 
 -- the section was published: the rest from the plan on
-pub tried_rests : {T : Type 0} (m : Meaning) (planning : Planning) (request : Request) (thunk : Thunk) (section : Section) (old r mid new : RunnerState T) (got : Attempt)
-    (publishes : Publishes m thunk (Ok section) r mid) → mid.layout ≡ r.layout → mid.requests ≡ r.requests → (halts halts' asks asks' steps steps' : ℕ)
-    → Rests m planning request false most_of_run got old mid new halts halts' asks asks' steps steps'
-    → Rests m planning request false most_of_run got old r new halts halts' asks asks' steps steps'
-tried_rests m planning request thunk section old r mid new got publishes layout requests halts halts' asks asks' steps steps' rests =
-    rests_after m planning request most_of_run got old r mid new 0 halts halts halts' asks asks asks' steps steps steps'
+pub tried_rests : {T : Type 0} (m : Meaning) (planning : Planning) (request : Request) (thunk : Thunk) (section : Section) (before : ℕ) (old r mid new : RunnerState T)
+    (got : Attempt) (publishes : Publishes m thunk (Ok section) r mid) → mid.layout ≡ r.layout → mid.requests ≡ r.requests
+    → (Seen : ℕ → ℕ → Type 0) (halts halts' asks asks' steps steps' : ℕ)
+    → Rests m planning request false before most_of_run got old mid new Seen halts halts' asks asks' steps steps'
+    → Rests m planning request false before most_of_run got old r new Seen halts halts' asks asks' steps steps'
+tried_rests m planning request thunk section before old r mid new got publishes layout requests Seen halts halts' asks asks' steps steps' rests =
+    rests_after m planning request before 0 most_of_run got old r mid new Seen halts halts halts' asks asks asks' steps steps steps'
     (record { layout = layout; requests = requests; number = publishes.number; known = publishes.known; finished = publishes.finished })
-    (asked_none halts asks steps) rests
+    (asked_none halts asks steps) before (no_steps before) rests
 
 -- the plan
 module _ {T : Type 0} (m : Meaning) (laws : Laws m) (t : TableState T) (limits : IsWithinLimits t.layout) (allowed : AreAllowed t.requests)
@@ -168,11 +187,11 @@ module _ {T : Type 0} (m : Meaning) (laws : Laws m) (t : TableState T) (limits :
   few_loads = subst (λ (l : Layout). length planned.readings ≤ 6 * slots m l + 44) own_here'.layout planned.few
 
   -- a gate halted it
-  pub plan_halted : answer ≡ plans.Halted → Rests m planning request false (most_of_attempt (slots m t.layout)) answers.Halted old here r halts halts1 asks asks1 steps steps1
-  plan_halted is = record {
+  pub plan_halted : answer ≡ plans.Halted → (Seen : ℕ → ℕ → Type 0) → Seen halts asks
+      → Rests m planning request false 0 (most_of_attempt (slots m t.layout)) answers.Halted old here r Seen halts halts1 asks asks1 steps steps1
+  plan_halted is Seen seen = record {
     answers = record {
-      entered = here;
-      enters = enters;
+      at = InPlan planned.readings (subst (λ (a : Planned). HasPlanned m planning request planned.readings a old r) is course);
       published = λ x some. absurd (none_some x (sym some ∙ at.published));
       unknown = λ none. unknown;
       reached = planned.reached;
@@ -180,18 +199,20 @@ module _ {T : Type 0} (m : Meaning) (laws : Laws m) (t : TableState T) (limits :
     knows = knows_same here r still_planned.number still_planned.known still_planned.finished;
     no_other = no_other_same request.number here r still_planned.known;
     made = length planned.readings;
+    made_is = from_none (length planned.readings);
     published = false;
-    tried = λ e. absurd (true≢false (sym e));
-    untried = λ e. inr (inl (planned.readings, subst (λ (a : Planned). HasPlanned m planning request planned.readings a old r) is course));
+    published_is = refl;
+    late = λ e. absurd (true≢false (sym e));
     asked = counted_steps (length planned.readings) false halts halts1 asks asks1 steps steps1
         (subst (λ (a : Planned). IsAsked (length planned.readings) (not (plan.is_halted a)) halts halts1 asks asks1 steps steps1) is planned.asked);
+    let_go = λ e. (0, refl, seen);
     entered = refl;
     runs = λ on. absurd (true≢false on);
     few_runs = let more : length r.part.records.finished ≤ length here.part.records.finished + 2 = omega (arith, same_runs) in more;
-    brief = inr (record {
+    brief = λ none. record {
       few_steps = loads_within (length planned.readings) (slots m t.layout) few_loads;
       few_runs = let more : length r.part.records.finished ≤ length here.part.records.finished + 1 = omega (arith, same_runs) in more;
-    });
+    };
   }
     where
       same_runs : length r.part.records.finished ≡ length here.part.records.finished
@@ -204,13 +225,14 @@ module _ {T : Type 0} (m : Meaning) (laws : Laws m) (t : TableState T) (limits :
       unknown = unknown_here planning request old enters.may r course.still
 
   -- the thunk was tried
-  pub thunk_rests : (got : Attempt) (new : RunnerState T) (halts' asks' steps' : ℕ) → plan.is_halted answer ≡ false
-      → Rests m planning request false most_of_run got old r new halts1 halts' asks1 asks' steps1 steps'
-      → Rests m planning request false (most_of_attempt (slots m t.layout)) got old here new halts halts' asks asks' steps steps'
-  thunk_rests got new halts' asks' steps' on rests =
-      rests_within m planning request false (length planned.readings + most_of_run) (most_of_attempt (slots m t.layout)) got old here new halts halts' asks asks' steps steps'
+  pub thunk_rests : (got : Attempt) (new : RunnerState T) (Seen : ℕ → ℕ → Type 0) (halts' asks' steps' : ℕ) → plan.is_halted answer ≡ false
+      → Rests m planning request false (length planned.readings) most_of_run got old r new Seen halts1 halts' asks1 asks' steps1 steps'
+      → Rests m planning request false 0 (most_of_attempt (slots m t.layout)) got old here new Seen halts halts' asks asks' steps steps'
+  thunk_rests got new Seen halts' asks' steps' on rests =
+      rests_within m planning request false 0 (length planned.readings + most_of_run) (most_of_attempt (slots m t.layout)) got old here new Seen halts halts' asks asks' steps steps'
       (loads_and_run (length planned.readings) (slots m t.layout) few_loads)
-      (rests_after m planning request most_of_run got old here r new (length planned.readings) halts halts1 halts' asks asks1 asks' steps steps1 steps' still_planned (going on) rests)
+      (rests_after m planning request 0 (length planned.readings) most_of_run got old here r new Seen halts halts1 halts' asks asks1 asks' steps steps1 steps'
+      still_planned (going on) (length planned.readings) (from_none (length planned.readings)) rests)
 
   -- a reading refused it
   module _ (is : refuses answer ≡ true) where
@@ -247,19 +269,18 @@ module _ {T : Type 0} (m : Meaning) (laws : Laws m) (t : TableState T) (limits :
           inl (ap (λ (s : ReadsState). has_pair s.cells place word) (planned_reads m planning request old planned.readings answer r course) ∙ h.2);
     }
 
-    cause : PlanIsRefused m planning request (of_plan answer) old r
+    abbrev cause : PlanIsRefused m planning request (of_plan answer) old r
     cause = record { readings = planned.readings; refusal = answer; plans = course; same = refl }
 
-    pub refused_rests : (got : Attempt) (new : RunnerState T) → IsOf t new → (halts' asks' steps' : ℕ)
+    pub refused_rests : (got : Attempt) (new : RunnerState T) → IsOf t new → (Seen : ℕ → ℕ → Type 0) (halts' asks' steps' : ℕ) → Seen halts1 asks1
         → HasTurned m (of_plan answer) got r new halts1 halts' asks1 asks' steps1 steps'
-        → Rests m planning request false (most_of_attempt (slots m t.layout)) got old here new halts halts' asks asks' steps steps'
-    refused_rests got new own_new halts' asks' steps' turned =
-        thunk_rests got new halts' asks' steps' (not_halted answer is)
-        (turned_rests m laws planning request old r new (of_plan answer) got (refusal_of_plan answer is) here enters (inl cause) false
-        (λ e. absurd (true≢false (sym e))) (λ e. inl cause)
+        → Rests m planning request false 0 (most_of_attempt (slots m t.layout)) got old here new Seen halts halts' asks asks' steps steps'
+    refused_rests got new own_new Seen halts' asks' steps' seen turned =
+        thunk_rests got new Seen halts' asks' steps' (not_halted answer is)
+        (turned_rests m laws planning request old r new (of_plan answer) got (refusal_of_plan answer is) (inl cause) false (length planned.readings) refl refl
         (own_here planning request old enters.may r course.still) (unknown_here planning request old enters.may r course.still)
         (subst IsWithinLimits (sym own_new.layout) limits) (subst AreAllowed (sym own_new.requests) allowed)
-        (own_new.layout ∙ sym own_r.layout) (own_new.requests ∙ sym own_r.requests) halts1 halts' asks1 asks' steps1 steps' turned most_of_run)
+        (own_new.layout ∙ sym own_r.layout) (own_new.requests ∙ sym own_r.requests) Seen halts1 halts' asks1 asks' steps1 steps' seen turned most_of_run)
 
 -- the entry
 module _ {T : Type 0} (m : Meaning) (laws : Laws m) (t : TableState T) (limits : IsWithinLimits t.layout) (allowed : AreAllowed t.requests)
@@ -289,20 +310,23 @@ module _ {T : Type 0} (m : Meaning) (laws : Laws m) (t : TableState T) (limits :
           (own_here planning request old may ready still_ready) (unknown_here planning request old may ready still_ready);
     }
 
-    pub short_attempts : (halts asks steps : ℕ) → Attempts m planning request (answers.Short short) old ready halts halts asks asks steps steps
-    short_attempts halts asks steps = record {
-      answers = is_short_of;
-      knows = knows_same old ready still_ready.number still_ready.known still_ready.finished;
-      no_other = no_other_same request.number old ready still_ready.known;
+    pub short_attempts : (Seen : ℕ → ℕ → Type 0) (halts asks steps : ℕ)
+        → Attempts m planning request (answers.Short short) old ready Seen halts halts asks asks steps steps
+    short_attempts Seen halts asks steps = record {
       made = 0;
       published = false;
-      tried = λ e. absurd (true≢false (sym e));
-      untried = λ e. is_short_of;
+      is = record {
+        answers = is_short_of;
+        made_is = refl;
+        published_is = refl;
+        knows = knows_same old ready still_ready.number still_ready.known still_ready.finished;
+        no_other = no_other_same request.number old ready still_ready.known;
+        runs = λ on. omega (arith, ready_runs);
+        few_runs = omega (arith, ready_runs);
+        brief = λ none. record { few_steps = none_within (slots m old.layout); few_runs = omega (arith, ready_runs) };
+      };
       asked = counted_steps 0 true halts halts asks asks steps steps (asked_none halts asks steps);
-      short = λ e. refl;
-      runs = λ on. omega (arith, ready_runs);
-      few_runs = omega (arith, ready_runs);
-      brief = inr (record { few_steps = none_within (slots m old.layout); few_runs = omega (arith, ready_runs) });
+      let_go = λ e. absurd (true≢false (sym e));
     }
 
   -- it enters
@@ -337,28 +361,33 @@ module _ {T : Type 0} (m : Meaning) (laws : Laws m) (t : TableState T) (limits :
     here_runs : length here.part.records.finished ≡ length old.part.records.finished
     here_runs = ap length still.finished
 
+    abbrev was_halted : IsHalted m planning request old here
+    was_halted = record {
+      at = AtEntry entered_so;
+      published = λ x some. absurd (none_some x (sym some ∙ enters.at.published));
+      unknown = λ none. unknown_here planning request old may here still;
+      reached = enters_reached m ready here enters;
+    }
+
     -- a gate halts it there
-    pub entry_halted : (halts halts' asks asks' steps : ℕ) → IsCounted 0 1 false halts halts' asks asks' steps steps
-        → Attempts m planning request answers.Halted old here halts halts' asks asks' steps steps
-    entry_halted halts halts' asks asks' steps asked = record {
-      answers = record {
-        entered = here;
-        enters = entered_so;
-        published = λ x some. absurd (none_some x (sym some ∙ enters.at.published));
-        unknown = λ none. unknown_here planning request old may here still;
-        reached = enters_reached m ready here enters;
-      };
-      knows = knows_same old here still.number still.known still.finished;
-      no_other = no_other_same request.number old here still.known;
+    pub entry_halted : (Seen : ℕ → ℕ → Type 0) (halts halts' asks asks' steps : ℕ) → Seen halts asks
+        → IsCounted 0 1 false halts halts' asks asks' steps steps
+        → Attempts m planning request answers.Halted old here Seen halts halts' asks asks' steps steps
+    entry_halted Seen halts halts' asks asks' steps seen asked = record {
       made = 0;
       published = false;
-      tried = λ e. absurd (true≢false (sym e));
-      untried = λ e. inl entered_so;
+      is = record {
+        answers = was_halted;
+        made_is = refl;
+        published_is = refl;
+        knows = knows_same old here still.number still.known still.finished;
+        no_other = no_other_same request.number old here still.known;
+        runs = λ on. absurd (true≢false on);
+        few_runs = omega (arith, here_runs);
+        brief = λ none. record { few_steps = none_within (slots m old.layout); few_runs = omega (arith, here_runs) };
+      };
       asked = asked;
-      short = λ e. refl;
-      runs = λ on. absurd (true≢false on);
-      few_runs = omega (arith, here_runs);
-      brief = inr (record { few_steps = none_within (slots m old.layout); few_runs = omega (arith, here_runs) });
+      let_go = λ e. seen;
     }
 
     more_of : (a : Attempt) (b : Bool) → is_short a ≡ false → 1 + (if b && not false then 1 else 0) ≡ asks_more a b
@@ -376,49 +405,51 @@ module _ {T : Type 0} (m : Meaning) (laws : Laws m) (t : TableState T) (limits :
     more_of answers.Halted false e = refl
     more_of (answers.Short short) b e = absurd (true≢false e)
 
-    runs_are : (a : Attempt) (b : Bool) → is_short a ≡ false → (new : RunnerState T) → (b ≡ false → PublishedNone m planning request a old new)
-        → (if b && not false then 1 else 0) + helped_of a ≡ runs_of a b
-    runs_are (answers.Busy place word) true e new none = refl
-    runs_are (answers.Busy place word) false e new none = refl
-    runs_are (answers.Stale place expected read) true e new none = refl
-    runs_are (answers.Stale place expected read) false e new none = refl
-    runs_are (answers.Far loads) true e new none = refl
-    runs_are (answers.Far loads) false e new none = refl
-    runs_are (answers.Spent place word) true e new none = refl
-    runs_are (answers.Spent place word) false e new none = refl
-    runs_are (answers.Done reply stamp) true e new none = refl
-    runs_are (answers.Done reply stamp) false e new none = absurd (none refl)
-    runs_are answers.Halted true e new none = refl
-    runs_are answers.Halted false e new none = refl
-    runs_are (answers.Short short) b e new none = absurd (true≢false e)
+    runs_are : (a : Attempt) (b : Bool) (new : RunnerState T) → is_short a ≡ false → (is : Answers m planning request a old new)
+        → b ≡ has_published m planning request a old new is → (if b && not false then 1 else 0) + helped_of a ≡ runs_of a b
+    runs_are (answers.Busy place word) true new e is so = refl
+    runs_are (answers.Busy place word) false new e is so = refl
+    runs_are (answers.Stale place expected read) true new e is so = refl
+    runs_are (answers.Stale place expected read) false new e is so = refl
+    runs_are (answers.Far loads) true new e is so = refl
+    runs_are (answers.Far loads) false new e is so = refl
+    runs_are (answers.Spent place word) true new e is so = refl
+    runs_are (answers.Spent place word) false new e is so = refl
+    runs_are (answers.Done reply stamp) true new e is so = refl
+    runs_are (answers.Done reply stamp) false new e is so = absurd (true≢false (sym so))
+    runs_are answers.Halted true new e is so = refl
+    runs_are answers.Halted false new e is so = refl
+    runs_are (answers.Short short) b new e is so = absurd (true≢false e)
 
-    brief_old : (new : RunnerState T) (made : ℕ) → HasMetHeld m planning request old ⊎ IsBrief (most_of_attempt (slots m t.layout)) 1 made here new
-        → HasMetHeld m planning request old ⊎ IsBrief (most_of_attempt (slots m old.layout)) 1 made old new
-    brief_old new made (inl met) = inl met
-    brief_old new made (inr brief) = inr (record {
+    brief_old : (new : RunnerState T) (made : ℕ) → IsBrief (most_of_attempt (slots m t.layout)) 1 made here new
+        → IsBrief (most_of_attempt (slots m old.layout)) 1 made old new
+    brief_old new made brief = record {
       few_steps = subst (λ (l : Layout). made ≤ most_of_attempt (slots m l)) (sym own_old.layout) brief.few_steps;
       few_runs = let few = brief.few_runs in omega (arith, few, here_runs);
-    })
+    }
 
     -- it goes on
-    pub attempts_so : (got : Attempt) (new : RunnerState T) (halts halts1 halts' asks asks1 asks' steps steps' : ℕ)
+    pub attempts_so : (got : Attempt) (new : RunnerState T) (Seen : ℕ → ℕ → Type 0) (halts halts1 halts' asks asks1 asks' steps steps' : ℕ)
         → IsCounted 0 1 true halts halts1 asks asks1 steps steps
-        → Rests m planning request false (most_of_attempt (slots m t.layout)) got old here new halts1 halts' asks1 asks' steps steps'
-        → Attempts m planning request got old new halts halts' asks asks' steps steps'
-    attempts_so got new halts halts1 halts' asks asks1 asks' steps steps' ask rests = record {
-      answers = rests.answers;
-      knows = knows_on old here new (knows_same old here still.number still.known still.finished) rests.knows;
-      no_other = no_other_on request.number old here new still.requests still.layout still.number (no_other_same request.number old here still.known) rests.no_other;
+        → Rests m planning request false 0 (most_of_attempt (slots m t.layout)) got old here new Seen halts1 halts' asks1 asks' steps steps'
+        → Attempts m planning request got old new Seen halts halts' asks asks' steps steps'
+    attempts_so got new Seen halts halts1 halts' asks asks1 asks' steps steps' ask rests = record {
       made = rests.made;
       published = rests.published;
-      tried = rests.tried;
-      untried = rests.untried;
+      is = record {
+        answers = rests.answers;
+        made_is = sym (from_none rests.made) ∙ rests.made_is;
+        published_is = rests.published_is;
+        knows = knows_on old here new (knows_same old here still.number still.known still.finished) rests.knows;
+        no_other = no_other_on request.number old here new still.requests still.layout still.number (no_other_same request.number old here still.known) rests.no_other;
+        runs = λ on.
+            let more = rests.runs on in
+            let own = runs_are got rests.published new rests.entered rests.answers rests.published_is in omega (arith, more, own, here_runs);
+        few_runs = let few : length new.part.records.finished ≤ length here.part.records.finished + 2 = rests.few_runs in omega (arith, few, here_runs);
+        brief = λ none. brief_old new rests.made (rests.brief none);
+      };
       asked = subst (λ more. IsCounted rests.made more (not (is_halted got)) halts halts' asks asks' steps steps') (more_of got rests.published rests.entered)
           (asked_then 1 rests.made (if rests.published && not false then 1 else 0) (not (is_halted got)) halts halts1 halts' asks asks1 asks' steps steps' ask rests.asked);
-      short = λ e. absurd (true≢false (sym e ∙ rests.entered));
-      runs = λ on.
-          let more = rests.runs on in
-          let own = runs_are got rests.published rests.entered new rests.untried in omega (arith, more, own, here_runs);
-      few_runs = let few : length new.part.records.finished ≤ length here.part.records.finished + 2 = rests.few_runs in omega (arith, few, here_runs);
-      brief = brief_old new rests.made rests.brief;
+      let_go = λ halted. let last = rests.let_go halted in
+          subst (λ k. Seen halts (counted_on asks k)) last.1 (seen_then Seen halts halts1 asks asks1 1 last.0 (ask.went refl) ask.asked last.2);
     }

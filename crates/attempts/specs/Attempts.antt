@@ -1,9 +1,11 @@
 -- Attempts of requests: what may be attempted, and what each answer says.
-use Rattle.std.specs.Prelude.{◌≡◌, ℕ, ◌+◌, ◌*◌, ◌<◌, ◌≤◌, ◌⊎◌, Bool, true, false, not, Some, None, length, if◌then◌else◌}
+use Rattle.std.specs.Prelude.{◌≡◌, ℕ, ◌+◌, ◌*◌, ◌-◌, ◌<◌, ◌≤◌, Bool, true, false, not, Ok, Some, None, length, if◌then◌else◌}
 use Rattle.map_history.specs.declared.op.Request.{Request}
 use Rattle.map_history.specs.declared.reply.Reply.{Reply}
 use Rattle.map_history.specs.Words.{word_of}
+use Rattle.section_body.specs.Counted.{counted_on}
 use Rattle.section_body.specs.Trail.{Agreed}
+use Rattle.section_body.specs.Word.{value_of}
 use Rattle.section_body.specs.declared.outcome.Outcome.TheVariants.{Answered}
 use Rattle.section_body.specs.declared.thunk.Thunk.{Thunk}
 use Rattle.structure_laws.specs.Scene.{Readings}
@@ -21,13 +23,15 @@ use Rattle.lock_walks.specs.epoch_slots.specs.declared.reserves.Kind.{Kind}
 use Rattle.lock_walks.specs.epoch_slots.specs.declared.reserves.Kind.TheVariants as kinds
 use Rattle.lock_walks.specs.epoch_slots.specs.declared.reserves.Short.{Short}
 use Rattle.lock_walks.specs.try_lock.specs.declared.planned.Planned.TheVariants as plans
+use Rattle.lock_walks.specs.try_lock.specs.declared.section.Section.{Section}
 use Rattle.lock_walks.specs.try_lock.specs.Planning.{Planning}
 use Rattle.lock_walks.specs.try_lock.specs.Reached.{IsReached}
+use Rattle.lock_walks.specs.try_lock.specs.Ends.{IsCutShort}
 use Rattle.attempts.specs.Knowing.{KnowsMore, LearnsNoOther}
 use Rattle.attempts.specs.Counted.{IsCounted}
 use Rattle.request_facts.specs.Laws.{HasEntry}
 use Rattle.request_facts.specs.Placed.{IsServedAs, IsUnserved}
-use Rattle.attempts.specs.Course.{HasEntered, HasPlanned, HasPublished, HasRun, PlanIsRefused, LockIsRefused, IsRefused, LeavesAndLoads, HasHelped, IsOfHelped}
+use Rattle.attempts.specs.Course.{HasEntered, HasPlanned, HasTried, HasRun, IsRefused, refused_steps, is_refused_late, LeavesAndLoads, HasHelped, IsOfHelped}
 use Rattle.attempts.specs.declared.answers.Attempt.{Attempt}
 use Rattle.attempts.specs.declared.answers.Attempt.TheVariants as answers
 
@@ -109,6 +113,11 @@ module _ {T : Type 0} where
     Leaves (answers.Busy place word) cut new = HasMadeWay place word cut new
     Leaves _ cut new = Exits m cut new
 
+    -- in so many counted steps
+    abbrev pub leaving_steps : (answer : Attempt) (cut new : RunnerState T) → Leaves answer cut new → ℕ
+    leaving_steps (answers.Busy place word) cut new way = way.helps.made
+    leaving_steps _ cut new exits = 0
+
     module _ (planning : Planning) (request : Request) where
       -- the request was refused, and the runner left; nobody has served the request
       pub record IsTurnedAway (answer : Attempt) (old new : RunnerState T) : Type 0 where
@@ -142,40 +151,73 @@ module _ {T : Type 0} where
         pub served : IsServedAs m new.layout new.requests
             (sight m new.layout new.requests reached.world) request.number stamp reply
 
-      -- the plan or the publication was refused
-      pub record IsRefusedBefore (answer : Attempt) (old new : RunnerState T) : Type 0 where
+      -- a gate halted the runner as it helped the section that held a lock, by whose word the request was refused: in
+      -- that section's run, behind so many steps
+      pub record IsHaltedHelping (old new : RunnerState T) : Type 0 where
+        pub place : ℕ
+        pub word : ℕ
         pub cut : RunnerState T
-        pub cause : PlanIsRefused m planning request answer old cut ⊎ LockIsRefused m planning request answer old cut
-        pub none : new.part.published ≡ None
+        pub cause : IsRefused m planning request (answers.Busy place word) old cut
+        pub made : ℕ
+        pub short : IsCutShort m (value_of word - 1) made cut new
 
-      -- a gate halted the runner before it published a section: at its entry, behind a load of its plan, or as it helped
-      -- the section that had refused its plan or its publication
-      abbrev pub IsHaltedBefore : RunnerState T → RunnerState T → Type 0
-      IsHaltedBefore old new = HasEntered m planning request old new
-          ⊎ (((readings : Readings) × HasPlanned m planning request readings plans.Halted old new)
-          ⊎ ((answer : Attempt) × IsRefusedBefore answer old new))
+      -- where a gate halted the runner: nothing was made since
+      pub data Stops (old new : RunnerState T) : Type 0 where
+        -- behind the entry
+        AtEntry : HasEntered m planning request old new → Stops old new
+        -- behind a load of the plan
+        InPlan : (readings : Readings) → HasPlanned m planning request readings plans.Halted old new → Stops old new
+        -- behind the exchange that published the section
+        BehindHold : (thunk : Thunk) (section : Section) → HasTried m planning request thunk (Ok section) old new
+            → Stops old new
+        -- in that section's run, behind so many steps
+        InOwnRun : (thunk : Thunk) (section : Section) (published : RunnerState T) (made : ℕ)
+            → HasTried m planning request thunk (Ok section) old published
+            → IsCutShort m section.descriptor made published new → Stops old new
+        -- or in that of the section which held a lock
+        InHelpedRun : IsHaltedHelping old new → Stops old new
+
+      -- so many steps are counted up to there
+      abbrev pub stop_steps : (old new : RunnerState T) → Stops old new → ℕ
+      stop_steps old new (AtEntry enters) = 0
+      stop_steps old new (InPlan readings plans) = length readings
+      stop_steps old new (BehindHold thunk section tries) = length tries.readings
+      stop_steps old new (InOwnRun thunk section published made tries short) = length tries.readings + made
+      stop_steps old new (InHelpedRun is) =
+          refused_steps m planning request (answers.Busy is.place is.word) old is.cut is.cause + is.made
+
+      -- whether a section was published before
+      abbrev pub is_stop_late : (old new : RunnerState T) → Stops old new → Bool
+      is_stop_late old new (AtEntry enters) = false
+      is_stop_late old new (InPlan readings plans) = false
+      is_stop_late old new (BehindHold thunk section tries) = true
+      is_stop_late old new (InOwnRun thunk section published made tries short) = true
+      is_stop_late old new (InHelpedRun is) =
+          is_refused_late m planning request (answers.Busy is.place is.word) old is.cut is.cause
+
+      -- whether a lock was held
+      abbrev pub is_stop_helping : (old new : RunnerState T) → Stops old new → Bool
+      is_stop_helping old new (InHelpedRun is) = true
+      is_stop_helping old new _ = false
+
+      -- how often the gate had let the runner go on as the part of the attempt began in which it halted it: the entry,
+      -- the plan, the publication, the own run or the helped one
+      abbrev pub stop_asks : (old new : RunnerState T) → Stops old new → ℕ
+      stop_asks old new (AtEntry enters) = 0
+      stop_asks old new (InPlan readings plans) = 1
+      stop_asks old new (BehindHold thunk section tries) = 1 + length tries.readings
+      stop_asks old new (InOwnRun thunk section published made tries short) = 2 + length tries.readings
+      stop_asks old new (InHelpedRun is) =
+          (if is_refused_late m planning request (answers.Busy is.place is.word) old is.cut is.cause then 2 else 1)
+          + refused_steps m planning request (answers.Busy is.place is.word) old is.cut is.cause
 
       -- a gate halted the runner behind its entry. What it has published since, if anything, is for this request
       pub record IsHalted (old new : RunnerState T) : Type 0 where
-        pub entered : RunnerState T
-        pub enters : HasEntered m planning request old entered
+        pub at : Stops old new
         pub published : (x : Published) → new.part.published ≡ Some x → x.thunk.request ≡ request.number
         -- where it has published none, or has retired it, the request isn't answered
         pub unknown : new.part.published ≡ None → is_answered new.part.records.known request.number ≡ false
         pub reached : IsReached m new
-
-      -- no section was published
-      abbrev pub PublishedNone : Attempt → RunnerState T → RunnerState T → Type 0
-      PublishedNone (answers.Done reply stamp) old new = ⊥
-      PublishedNone (answers.Short short) old new = IsShort short request.number old new
-      PublishedNone answers.Halted old new = IsHaltedBefore old new
-      PublishedNone answer old new = IsRefusedBefore answer old new
-
-      -- a lock was held: the plan was refused by it, or the publication, or the section left since it
-      -- found it so
-      abbrev pub HasMetHeld : RunnerState T → Type 0
-      HasMetHeld old = (place : ℕ) × (word : ℕ) × (cut : RunnerState T)
-          × IsRefused m planning request (answers.Busy place word) old cut
 
       abbrev pub Answers : Attempt → RunnerState T → RunnerState T → Type 0
       Answers (answers.Done reply stamp) old new = IsServed reply stamp old new
@@ -183,23 +225,56 @@ module _ {T : Type 0} where
       Answers answers.Halted old new = IsHalted old new
       Answers answer old new = IsTurnedAway answer old new
 
-      -- what an attempt does. The gate is asked behind each counted step and behind the entry, and once more exactly where a
-      -- section was published
-      pub record Attempts (answer : Attempt) (old new : RunnerState T)
-          (halts halts' asks asks' steps steps' : ℕ) : Type 0 where
+      -- so many steps are counted: the loads of the plan, the steps of the own run, and those of the helped one
+      abbrev pub steps_of : (answer : Attempt) (old new : RunnerState T) → Answers answer old new → ℕ
+      steps_of (answers.Done reply stamp) old new is = length is.run.ended.tries.readings + is.run.ended.made
+      steps_of (answers.Short short) old new is = 0
+      steps_of answers.Halted old new is = stop_steps old new is.at
+      steps_of answer old new is =
+          refused_steps m planning request answer old is.cut is.cause + leaving_steps answer is.cut new is.leaves
+
+      -- whether a section was published
+      abbrev pub has_published : (answer : Attempt) (old new : RunnerState T) → Answers answer old new → Bool
+      has_published (answers.Done reply stamp) old new is = true
+      has_published (answers.Short short) old new is = false
+      has_published answers.Halted old new is = is_stop_late old new is.at
+      has_published answer old new is = is_refused_late m planning request answer old is.cut is.cause
+
+      -- whether a lock was held: the plan was refused by it, or the publication, or the section left since it found
+      -- it so
+      abbrev pub has_met_held : (answer : Attempt) (old new : RunnerState T) → Answers answer old new → Bool
+      has_met_held (answers.Busy place word) old new is = true
+      has_met_held answers.Halted old new is = is_stop_helping old new is.at
+      has_met_held _ old new is = false
+
+      -- how often a gate that halted the runner had let it go on before the part of the attempt in which it did
+      abbrev pub asks_before : (answer : Attempt) (old new : RunnerState T) → Answers answer old new → ℕ
+      asks_before answers.Halted old new is = stop_asks old new is.at
+      asks_before _ old new is = 0
+
+      -- an attempt with this answer, with so many counted steps, in which a section was published or not
+      pub record IsAttempt (answer : Attempt) (made : ℕ) (published : Bool) (old new : RunnerState T) : Type 0 where
         pub answers : Answers answer old new
+        pub made_is : made ≡ steps_of answer old new answers
+        pub published_is : published ≡ has_published answer old new answers
         pub knows : KnowsMore old new
         pub no_other : LearnsNoOther request.number old new
-        pub made : ℕ
-        pub published : Bool
-        pub tried : published ≡ true → HasPublished m planning request old
-        pub untried : published ≡ false → PublishedNone answer old new
-        pub asked : IsCounted made (asks_more answer published) (not
-            (is_halted answer)) halts halts' asks asks' steps steps'
-        pub short : is_short answer ≡ true → made ≡ 0
         -- so many runs came to their end, where no gate halted the runner; never more than two
         pub runs : is_halted answer ≡ false
             → length new.part.records.finished ≡ length old.part.records.finished + runs_of answer published
         pub few_runs : length new.part.records.finished ≤ length old.part.records.finished + 2
         -- where it met no lock that was held, it ran at most its own section
-        pub brief : HasMetHeld old ⊎ IsBrief (most_of_attempt (slots m old.layout)) 1 made old new
+        pub brief : has_met_held answer old new answers ≡ false
+            → IsBrief (most_of_attempt (slots m old.layout)) 1 made old new
+
+      -- what an attempt does. The gate is asked behind each counted step and behind the entry, and once more exactly where a
+      -- section was published. Where it halted the runner, it was seen before the part of the attempt in which it did:
+      -- with as many halts as at first, and with so many more asks
+      pub record Attempts (answer : Attempt) (old new : RunnerState T) (Seen : ℕ → ℕ → Type 0)
+          (halts halts' asks asks' steps steps' : ℕ) : Type 0 where
+        pub made : ℕ
+        pub published : Bool
+        pub is : IsAttempt answer made published old new
+        pub asked : IsCounted made (asks_more answer published) (not (is_halted answer))
+            halts halts' asks asks' steps steps'
+        pub let_go : is_halted answer ≡ true → Seen halts (counted_on asks (asks_before answer old new is.answers))

@@ -12,3 +12,9 @@ pub record IsCounted (made more : ℕ) (going : Bool) (halts halts' asks asks' s
   pub never_falls : halts ≤ halts'
   pub went : going ≡ true → halts' ≡ halts
   pub halted : going ≡ false → Rose halts halts'
+
+module _ {G : Type 0} where
+  -- a gate came to so many halts and asks. A function that is passed a gate shows this of a state in which it had it, since
+  -- it can't make one of a kind that it doesn't know
+  abbrev pub IsSeen : (G → ℕ) → (G → ℕ) → ℕ → ℕ → Type 0
+  IsSeen halts_of asks_of halts asks = (gate : G) × (halts_of gate ≡ halts) × (asks_of gate ≡ asks)

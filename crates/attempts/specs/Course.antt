@@ -1,5 +1,6 @@
 -- The course of an attempt: how far it came, and what ended it.
-use Rattle.std.specs.Prelude.{◌≡◌, ℕ, ◌-◌, ◌≤◌, ◌⊎◌, [], true, false, length, slice_get, Result, Ok, Err, Some}
+use mathlib.Core.Logic.{inl, inr}
+use Rattle.std.specs.Prelude.{◌≡◌, ℕ, ◌+◌, ◌-◌, ◌≤◌, ◌⊎◌, [], Bool, true, false, length, slice_get, Result, Ok, Err, Some}
 use Rattle.map_history.specs.declared.op.Request.{Request}
 use Rattle.section_body.specs.Trail.{Agreed}
 use Rattle.section_body.specs.Word.{value_of, is_free}
@@ -13,7 +14,7 @@ use Rattle.structure_laws.specs.Meaning.{Meaning}
 use Rattle.machine_states.specs.Sight.{sight}
 use Rattle.lock_walks.specs.machine_invariant.specs.Sections.{IsLeft}
 use Rattle.runner_parts.specs.declared.event.EventKind.TheVariants as kinds
-use Rattle.runner_parts.specs.Tests.{is_next}
+use Rattle.runner_parts.specs.Tests.{is_next, is_answered}
 use Rattle.lock_walks.specs.runner_facts.specs.Names.{HasLock}
 use Rattle.lock_walks.specs.version_words.specs.RunnerState.{RunnerState}
 use Rattle.lock_walks.specs.version_words.specs.Events.{Makes}
@@ -107,13 +108,6 @@ module _ {T : Type 0} (m : Meaning) (planning : Planning) (request : Request) wh
     pub hand : IsEmptyHanded new
     pub nodes : 2 ≤ length new.part.nodes.free
 
-  -- a section was published for the request
-  pub record HasPublished (old : RunnerState T) : Type 0 where
-    pub thunk : Thunk
-    pub section : Section
-    pub published : RunnerState T
-    pub tries : HasTried thunk (Ok section) old published
-
   -- the section was published, and run to its end with this outcome and this trail
   pub record HasEnded (section : Section) (thunk : Thunk) (outcome : Outcome) (trail : Agreed)
       (old new : RunnerState T) : Type 0 where
@@ -159,6 +153,19 @@ module _ {T : Type 0} (m : Meaning) (planning : Planning) (request : Request) wh
   IsRefused answer old new = PlanIsRefused answer old new ⊎
       (LockIsRefused answer old new ⊎ SectionHasLeft answer old new)
 
+  -- so many steps are counted up to there: the loads of the plan, and the steps of the own run
+  abbrev pub refused_steps : (answer : Attempt) (old new : RunnerState T) → IsRefused answer old new → ℕ
+  refused_steps answer old new (inl plan) = length plan.readings
+  refused_steps answer old new (inr (inl lock)) = length lock.tries.readings
+  refused_steps answer old new (inr (inr section)) =
+      length section.left.run.ended.tries.readings + section.left.run.ended.made
+
+  -- whether a section was published before
+  abbrev pub is_refused_late : (answer : Attempt) (old new : RunnerState T) → IsRefused answer old new → Bool
+  is_refused_late answer old new (inl plan) = false
+  is_refused_late answer old new (inr (inl lock)) = false
+  is_refused_late answer old new (inr (inr section)) = true
+
 module _ {T : Type 0} (m : Meaning) where
   -- the runner left, and loaded the stamp word and the reply word of this request
   pub record LeavesAndLoads (number : ℕ) (old new : RunnerState T) : Type 0 where
@@ -170,7 +177,8 @@ module _ {T : Type 0} (m : Meaning) where
     pub loads_stamp : Makes m (kinds.LoadEntry number false) stamp idle stamped
     pub loads_reply : Makes m (kinds.LoadEntry number true) reply stamped new
 
-  -- the runner ran the section that this word names to its end, and left: the section is done
+  -- the runner ran the section that this word names to its end, and left: the section is done, and where it
+  -- answered, the runner knows both words of its request
   pub record HasHelped (word : ℕ) (old new : RunnerState T) : Type 0 where
     pub names : is_free word ≡ false
     pub thunk : Thunk
@@ -180,6 +188,8 @@ module _ {T : Type 0} (m : Meaning) where
     pub helped : RunnerState T
     pub ends : EndsSo m (value_of word - 1) thunk outcome trail made old helped
     pub exits : Exits m helped new
+    pub told : (answer : ℕ) → outcome ≡ outcomes.Answered answer
+        → is_answered new.part.records.known thunk.request ≡ true
 
   -- the word is that of a lock of the section that was helped
   abbrev pub IsOfHelped : (place word : ℕ) → (old new : RunnerState T) → HasHelped word old new → Type 0

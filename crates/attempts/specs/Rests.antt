@@ -1,8 +1,10 @@
 -- What the parts of an attempt do.
-use Rattle.std.specs.Prelude.{◌≡◌, ◌&&◌, ℕ, ◌+◌, ◌≤◌, ◌⊎◌, Bool, true, false, not, None, Some, length, slice_get, if◌then◌else◌}
+use Rattle.std.specs.Prelude.{◌≡◌, ◌&&◌, ℕ, ◌+◌, ◌-◌, ◌≤◌, ◌⊎◌, Bool, true, false, not, None, Some, length, slice_get, if◌then◌else◌}
 use Rattle.map_history.specs.declared.op.Request.{Request}
 use Rattle.map_history.specs.declared.reply.Reply.{Reply}
 use Rattle.map_history.specs.Words.{word_of}
+use Rattle.section_body.specs.Counted.{counted_on}
+use Rattle.section_body.specs.Word.{value_of}
 use Rattle.structure_laws.specs.Meaning.{Meaning}
 use Rattle.runner_parts.specs.Tests.{is_answered, has_pair}
 use Rattle.machine_states.specs.Sight.{sight}
@@ -12,13 +14,14 @@ use Rattle.lock_walks.specs.epoch_slots.specs.Entries.{HasLeave}
 use Rattle.lock_walks.specs.commit_log.specs.Asked.{IsAsked}
 use Rattle.lock_walks.specs.try_lock.specs.Planning.{Planning}
 use Rattle.lock_walks.specs.try_lock.specs.Reached.{IsReached, MayHelp}
+use Rattle.lock_walks.specs.try_lock.specs.Ends.{IsCutShort}
 use Rattle.take_names.specs.Taken.{HasLeftBy}
 use Rattle.request_facts.specs.Laws.{HasEntry}
 use Rattle.request_facts.specs.Placed.{IsServedAs}
 use Rattle.attempts.specs.Knowing.{KnowsMore, IsOwn, LearnsNoOther}
 use Rattle.attempts.specs.Counted.{IsCounted}
-use Rattle.attempts.specs.Course.{IsEmptyHanded, HasPublished, LeavesAndLoads}
-use Rattle.attempts.specs.Attempts.{is_halted, is_short, helped_of, IsBrief, Leaves, HasMetHeld, Answers, PublishedNone}
+use Rattle.attempts.specs.Course.{IsEmptyHanded, LeavesAndLoads}
+use Rattle.attempts.specs.Attempts.{is_halted, is_short, helped_of, IsBrief, Leaves, leaving_steps, Answers, steps_of, has_published, has_met_held, asks_before}
 use Rattle.attempts.specs.declared.answers.Attempt.{Attempt}
 use Rattle.attempts.specs.declared.answers.Attempt.TheVariants as answers
 
@@ -48,15 +51,17 @@ module _ {T : Type 0} (m : Meaning) where
     pub no_own : LearnsNoOwn old new
     pub reached : IsReached m new
     pub halted : is_halted got ≡ true → new.part.published ≡ None
+    -- halted, it had made so many steps of the run of the section that the answer names
+    pub short : is_halted got ≡ true → (place : ℕ) × (word : ℕ) × (answer ≡ answers.Busy place word)
+        × IsCutShort m (value_of word - 1) made old new
     pub leaves : is_halted got ≡ false → Leaves m answer old new
+    pub made_is : (going : is_halted got ≡ false) → made ≡ leaving_steps m answer old new (leaves going)
     pub same : is_halted got ≡ false → got ≡ answer
     pub tidy : is_halted got ≡ false → IsTidy new
     -- how many runs came to their end
     pub runs : is_halted got ≡ false
         → length new.part.records.finished ≡ length old.part.records.finished + helped_of got
     pub few_runs : length new.part.records.finished ≤ length old.part.records.finished + 1
-    -- where no lock was held it made no step that is counted, and ran nothing
-    pub brief : ((place : ℕ) × (word : ℕ) × (answer ≡ answers.Busy place word)) ⊎ IsBrief 0 0 made old new
 
   -- the runner may learn the words of this request: it knows both
   pub record MayLearn (request : Request) (r : RunnerState T) : Type 0 where
@@ -83,21 +88,29 @@ module _ {T : Type 0} (m : Meaning) where
   module _ (planning : Planning) (request : Request) where
     -- the rest of an attempt that began with `old`, from here on: its answer, what the runner learned, whether a
     -- section was published in the attempt, and how often the gate was asked; `held` is whether it was asked
-    -- behind the exchange that published, and the own section run, before. Where no lock was held at most so
-    -- many steps are counted from here on
-    pub record Rests (held : Bool) (most : ℕ) (answer : Attempt) (old here new : RunnerState T)
-        (halts halts' asks asks' steps steps' : ℕ) : Type 0 where
+    -- behind the exchange that published, and the own section run, before, and `before` how many steps were counted
+    -- before. Where no lock was held at most so many steps are counted from here on
+    pub record Rests (held : Bool) (before most : ℕ) (answer : Attempt) (old here new : RunnerState T)
+        (Seen : ℕ → ℕ → Type 0) (halts halts' asks asks' steps steps' : ℕ) : Type 0 where
       pub answers : Answers m planning request answer old new
       pub knows : KnowsMore here new
       pub no_other : LearnsNoOther request.number here new
       pub made : ℕ
+      pub made_is : before + made ≡ steps_of m planning request answer old new answers
       pub published : Bool
-      pub tried : published ≡ true → HasPublished m planning request old
-      pub untried : published ≡ false → PublishedNone m planning request answer old new
-      pub asked : IsCounted made (if published && not held then 1 else 0) (not
-          (is_halted answer)) halts halts' asks asks' steps steps'
+      pub published_is : published ≡ has_published m planning request answer old new answers
+      pub late : held ≡ true → published ≡ true
+      pub asked : IsCounted made (if published && not held then 1 else 0) (not (is_halted answer))
+          halts halts' asks asks' steps steps'
+      -- where the gate halted the runner, it was seen with so many more asks before the part of the attempt in which it did
+      pub let_go : is_halted answer ≡ true → (more : ℕ)
+          × ((if held then 2 else 1) + before + more ≡ asks_before m planning request answer old new answers)
+          × Seen halts (counted_on asks more)
       pub entered : is_short answer ≡ false
       pub runs : is_halted answer ≡ false
-          → length new.part.records.finished ≡ length here.part.records.finished + ((if published && not held then 1 else 0) + helped_of answer)
-      pub few_runs : length new.part.records.finished ≤ length here.part.records.finished + (if held then 1 else 2)
-      pub brief : HasMetHeld m planning request old ⊎ IsBrief most (if held then 0 else 1) made here new
+          → length new.part.records.finished
+          ≡ length here.part.records.finished + ((if published && not held then 1 else 0) + helped_of answer)
+      pub few_runs : length new.part.records.finished
+          ≤ length here.part.records.finished + (if held then 1 else 2)
+      pub brief : has_met_held m planning request answer old new answers ≡ false
+          → IsBrief most (if held then 0 else 1) made here new

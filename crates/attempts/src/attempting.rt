@@ -3,6 +3,7 @@ ghost use Rattle.std.specs.Prelude.{◌≡◌, false};
 ghost use Rattle.structure_laws.specs.Cells.{slots};
 ghost use Rattle.lock_walks.specs.version_words.specs.RunnerState.{RunnerState};
 ghost use Rattle.lock_walks.specs.version_words.specs.TableState.{IsOf};
+ghost use Rattle.attempts.specs.Counted.{IsSeen};
 ghost use Rattle.attempts.specs.Course.{MayAttempt, HasEntered};
 ghost use Rattle.attempts.specs.Attempts.{most_of_attempt, Attempts};
 ghost use Rattle.attempts.specs.Rests.{Rests};
@@ -34,8 +35,9 @@ pub fn plan_and_try<S: Planner, G: Gate, L>(
     ensures own { IsOf table.now result.0 }
     ensures rests { (old : RunnerState S)
         → HasEntered (S.meaning table.now.structure) (S.planning table.now.structure) request.now old runner
-        → Rests (S.meaning table.now.structure) (S.planning table.now.structure) request.now false
+        → Rests (S.meaning table.now.structure) (S.planning table.now.structure) request.now false 0
         (most_of_attempt (slots (S.meaning table.now.structure) table.now.layout)) result.1 old runner result.0
+        (IsSeen G.halts G.asks)
         (G.halts gate.old) (G.halts gate.new) (G.asks gate.old) (G.asks gate.new) steps.old.count steps.new.count }
 {
     table_is_allowed(table);
@@ -82,7 +84,7 @@ pub fn attempt<S: Planner, G: Gate, L>(
     requires next { MayAttempt (S.planning table.now.structure) request.now runner }
     ensures own { IsOf table.now result.0 }
     ensures attempts { Attempts (S.meaning table.now.structure) (S.planning table.now.structure)
-        request.now result.1 runner result.0
+        request.now result.1 runner result.0 (IsSeen G.halts G.asks)
         (G.halts gate.old) (G.halts gate.new) (G.asks gate.old) (G.asks gate.new) steps.old.count steps.new.count }
 {
     table_is_allowed(table);

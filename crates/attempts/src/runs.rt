@@ -1,9 +1,10 @@
 //! An attempt's own section: it is run to its end and retired, and answered by.
-ghost use Rattle.std.specs.Prelude.{◌≡◌, true, false, Ok};
+ghost use Rattle.std.specs.Prelude.{◌≡◌, ◌+◌, length, true, false, Ok};
 ghost use Rattle.section_body.specs.Trail.{Agreed};
 ghost use Rattle.section_body.specs.declared.thunk.Thunk.{Thunk};
 ghost use Rattle.lock_walks.specs.version_words.specs.RunnerState.{RunnerState};
 ghost use Rattle.lock_walks.specs.version_words.specs.TableState.{IsOf};
+ghost use Rattle.attempts.specs.Counted.{IsSeen};
 ghost use Rattle.attempts.specs.Course.{HasTried, HasEnded};
 ghost use Rattle.attempts.specs.Attempts.{most_of_run};
 ghost use Rattle.attempts.specs.Rests.{Rests};
@@ -36,10 +37,11 @@ pub fn conclude<S: Planner, G: Gate, L>(
         request.now section thunk outcome trail old runner }
     ensures own { IsOf table.now result.0 }
     ensures rests { (old : RunnerState S) (thunk : Thunk) (trail : Agreed)
-        → HasEnded (S.meaning table.now.structure) (S.planning table.now.structure)
-        request.now section thunk outcome trail old runner
+        → (ended : HasEnded (S.meaning table.now.structure) (S.planning table.now.structure)
+        request.now section thunk outcome trail old runner)
         → Rests (S.meaning table.now.structure) (S.planning table.now.structure)
-        request.now true 0 result.1 old runner result.0
+        request.now true (length ended.tries.readings + ended.made) 0 result.1 old runner result.0
+        (IsSeen G.halts G.asks)
         (G.halts gate.old) (G.halts gate.new) (G.asks gate.old) (G.asks gate.new) steps.old.count steps.new.count }
 {
     table_is_allowed(table);
@@ -66,10 +68,10 @@ pub fn run_own<S: Planner, G: Gate, L>(
         request.now thunk (Ok section) old runner }
     ensures own { IsOf table.now result.0 }
     ensures rests { (old : RunnerState S) (thunk : Thunk)
-        → HasTried (S.meaning table.now.structure) (S.planning table.now.structure)
-        request.now thunk (Ok section) old runner
+        → (tried : HasTried (S.meaning table.now.structure) (S.planning table.now.structure)
+        request.now thunk (Ok section) old runner)
         → Rests (S.meaning table.now.structure) (S.planning table.now.structure)
-        request.now false most_of_run result.1 old runner result.0
+        request.now false (length tried.readings) most_of_run result.1 old runner result.0 (IsSeen G.halts G.asks)
         (G.halts gate.old) (G.halts gate.new) (G.asks gate.old) (G.asks gate.new) steps.old.count steps.new.count }
 {
     table_is_allowed(table);

@@ -1,9 +1,10 @@
 //! The publication of an attempt.
-ghost use Rattle.std.specs.Prelude.{◌≡◌, false};
+ghost use Rattle.std.specs.Prelude.{◌≡◌, length, false};
 ghost use Rattle.structure_laws.specs.Scene.{Readings};
 ghost use Rattle.lock_walks.specs.version_words.specs.RunnerState.{RunnerState};
 ghost use Rattle.lock_walks.specs.version_words.specs.TableState.{IsOf};
 ghost use Rattle.lock_walks.specs.try_lock.specs.declared.planned.Planned.TheVariants as plans;
+ghost use Rattle.attempts.specs.Counted.{IsSeen};
 ghost use Rattle.attempts.specs.Course.{HasPlanned};
 ghost use Rattle.attempts.specs.Attempts.{most_of_run};
 ghost use Rattle.attempts.specs.Rests.{Rests};
@@ -37,7 +38,7 @@ pub fn try_section<S: Planner, G: Gate, L>(
         → HasPlanned (S.meaning table.now.structure) (S.planning table.now.structure)
         request.now readings (plans.Thunk thunk.now) old runner
         → Rests (S.meaning table.now.structure) (S.planning table.now.structure)
-        request.now false most_of_run result.1 old runner result.0
+        request.now false (length readings) most_of_run result.1 old runner result.0 (IsSeen G.halts G.asks)
         (G.halts gate.old) (G.halts gate.new) (G.asks gate.old) (G.asks gate.new) steps.old.count steps.new.count }
 {
     table_is_allowed(table);

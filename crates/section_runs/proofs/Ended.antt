@@ -15,9 +15,9 @@ use Rattle.table_words.specs.declared.layout.Layout.{Layout}
 use Rattle.structure_laws.specs.Meaning.{Meaning}
 use Rattle.structure_laws.specs.Laws.{Laws}
 use Rattle.runner_parts.specs.State.{RunState, FinishedState, NodesState, ReadsState}
-use Rattle.runner_parts.specs.Tests.{has}
+use Rattle.runner_parts.specs.Tests.{has, is_answered}
 use Rattle.runner_steps.specs.AfterInRun.{ended_more, over_if, finished_of}
-use Rattle.runner_steps.specs.Sections.{thunk_of, outcome_of, outcome_or, setting_of, is_late}
+use Rattle.runner_steps.specs.Sections.{thunk_of, outcome_of, outcome_or, setting_of, settles, is_late}
 use Rattle.idem_cell.specs.machine_invariant.specs.After.{AreAllowed}
 use Rattle.idem_cell.specs.version_words.specs.RunnerState.{RunnerState}
 use Rattle.idem_cell.specs.version_words.specs.TableState.{TableState, IsOf}
@@ -33,7 +33,8 @@ use Rattle.section_runs.specs.Ended.{NodesRan, IsDone, EndsSo}
 use Rattle.section_runs.proofs.Going.{run_is}
 use Rattle.section_runs.proofs.Staying.{Passed, learns_more, still_of, step_events, step_learns, ran_passed, ran_own, events_more}
 use Rattle.section_runs.proofs.Walking.{sum_most, made_by, retired_by}
-use Rattle.section_runs.proofs.Facts.{EndShows, end_shows}
+use Rattle.section_runs.proofs.Facts.{EndShows, end_shows, end_rests}
+use Rattle.section_runs.proofs.Told.{answered_told}
 
 nodes_ran : (body : List Step) (n : ℕ) (old new : NodesState) → NodesGone body n old new → NodesRan body old new
 nodes_ran body n old new gone = record {
@@ -105,6 +106,12 @@ module _ {T : Type 0} (m : Meaning) (laws : Laws m) (t : TableState T) (limits :
       (end_shows m laws last new (subst IsWithinLimits (sym new_own.layout) limits) (subst AreAllowed (sym new_own.requests) allowed) q _ _ ended.released.found ended.released.step
       ended.released.over opened.epoch (stage ∙ opened.at) (subst (λ i. has new.part.reads.held i ≡ true) (sym q_descriptor) (held d opened.holds))))
 
+  -- it rests behind the checks that pass
+  rests : settles m last.layout q ≡ q
+  rests = subst (λ (l : Layout). settles m l q ≡ q) (ap (λ (y : RunnerState T). y.layout) ended.released.step.event.made)
+      (end_rests m laws last new (subst IsWithinLimits (sym new_own.layout) limits) (subst AreAllowed (sym new_own.requests) allowed) q _ _ ended.released.found ended.released.step
+      ended.released.over opened.epoch (stage ∙ opened.at) (subst (λ i. has new.part.reads.held i ≡ true) (sym q_descriptor) (held d opened.holds)))
+
   outcome_is : f.outcome ≡ o
   outcome_is = ap (λ (y : RunState). outcome_of m last.layout (ended_more y)) ended.on.run ∙ (ap (λ (l : Layout). outcome_of m l q2) ended.on.layout ∙ walked.over.outcome)
 
@@ -155,6 +162,8 @@ module _ {T : Type 0} (m : Meaning) (laws : Laws m) (t : TableState T) (limits :
         learns = subst (λ ks. Learns thunk.request ks new.part.records.known) hop.known (learns_more thunk.request r1.part.records.known last.part.records.known new.part.records.known passed.learns
             (subst (λ (x : Thunk). Learns x.request last.part.records.known new.part.records.known) q_thunk
             (step_learns m laws t limits allowed last new last_own q _ ended.released.found ended.released.step)));
+        told = λ answer answered. ap (λ (x : Thunk). is_answered new.part.records.known x.request) (sym q_thunk)
+            ∙ answered_told m laws t limits allowed last new last_own q _ _ ended.released.found ended.released.step rests answer (outcome_is ∙ answered);
         cause = λ other. (q2.at, cause_of other);
         names = λ p w busy published. names_last p w (walked.names p w busy (ap (has r1.part.reads.published) (ap (λ (y : RunState). y.descriptor) run1) ∙ (ap (λ xs. has xs d) hop.stays.entry ∙ published)));
       }

@@ -16,7 +16,7 @@ use Rattle.epoch_core.specs.declared.stage.Stage.TheVariants as stages
 use Rattle.runner_parts.specs.State.{RunState, FinishedState, PartState}
 use Rattle.runner_parts.specs.Tests.{has}
 use Rattle.runner_steps.specs.AfterInRun.{ended_more, finished_of}
-use Rattle.runner_steps.specs.Sections.{thunk_of, next_of}
+use Rattle.runner_steps.specs.Sections.{thunk_of, next_of, settles}
 use Rattle.epoch_core.specs.declared.location.Location.{Location}
 use Rattle.epoch_core.specs.declared.location.Location.TheVariants as places
 use Rattle.epoch_core.specs.History.{is_out}
@@ -95,6 +95,10 @@ module _ {T : Type 0} (m : Meaning) (laws : Laws m) (last new : RunnerState T) (
 
   thunk1 : thunk_in s1.word q.descriptor ≡ thunk_of q.opened
   thunk1 = thunk_same s1.word s0.word q.descriptor (λ i. all.leads.words.thunk q.descriptor i used0) ∙ thunk0
+
+  -- the run rests behind the checks that pass
+  pub end_rests : settles m new.layout q ≡ q
+  end_rests = (all.there.sound.sections.joined.tied new.number).rests q runs step.running.opened
 
   -- the descriptor is held, so the section is still in it
   used1 : all.after.agreement.used q.descriptor ≡ true

@@ -12,6 +12,7 @@ pub mod Through
 pub mod Walking
 pub mod Replies
 pub mod Facts
+pub mod Told
 pub mod Using
 pub mod Ended
 pub mod Wents

@@ -15,7 +15,7 @@ use Rattle.table_words.specs.declared.spot.Spot.TheVariants.{Cell, DoneWord, Log
 use Rattle.structure_laws.specs.Meaning.{Meaning}
 use Rattle.runner_parts.specs.declared.entries.Retired.{Retired}
 use Rattle.runner_parts.specs.State.{NodesState, FinishedState}
-use Rattle.runner_parts.specs.Tests.{has}
+use Rattle.runner_parts.specs.Tests.{has, is_answered}
 use Rattle.runner_steps.specs.AfterInRun.{over_if}
 use Rattle.runner_steps.specs.Sections.{setting_of}
 use Rattle.machine_states.specs.Sight.{Sight, sight}
@@ -92,6 +92,8 @@ module _ {T : Type 0} (m : Meaning) where
     pub held : (i : ℕ) → has old.part.reads.held i ≡ true → has new.part.reads.held i ≡ true
     pub entry : new.part.reads.published ≡ old.part.reads.published
     pub learns : Learns t.request old.part.records.known new.part.records.known
+    -- where the section answered, its runner knows both words of its request
+    pub told : (answer : ℕ) → outcome ≡ Answered answer → is_answered new.part.records.known t.request ≡ true
     -- a section that left did so at a check of its body's line, by the words of the trail
     pub cause : ((reply : ℕ) → outcome ≢ Answered reply)
         → (at : ℕ)

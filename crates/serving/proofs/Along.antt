@@ -1,6 +1,6 @@
 -- A list of requests, served one after the other.
-use Rattle.std.specs.Prelude.{◌==◌, ◌&&◌, ◌||◌, ◌⊎◌, nat_lt, ◌%◌, not, Bool, true, false, slice_get}
-use Rattle.std.proofs.Common.{◌≡◌, ◌≢◌, ℕ, ◌+◌, ◌<◌, ◌≤◌, List, length, refl, sym, ap, ◌∙◌, subst, ⊎_elim, inl, inr, arith, Some, None}
+use Rattle.std.specs.Prelude.{◌==◌, ◌&&◌, ◌||◌, ◌⊎◌, nat_lt, ◌%◌, not, Bool, true, false, slice_get, if◌then◌else◌}
+use Rattle.std.proofs.Common.{◌≡◌, ◌≢◌, ℕ, ◌+◌, ◌*◌, ◌<◌, ◌≤◌, List, [], ◌∷◌, ◌++◌, length, refl, sym, ap, ◌∙◌, subst, ⊎_elim, inl, inr, arith, Some, None}
 use Rattle.std.proofs.lemmas.Bool.{cases_eq, eq-eqb}
 use Rattle.std.proofs.lemmas.Bool.Decides.{nat_tests}
 use Rattle.std.proofs.lemmas.Option.{slice_get_within}
@@ -31,10 +31,11 @@ use Rattle.attempts.proofs.Knowing.{knows_same, knows_on, own_on}
 use Rattle.spared_attempts.specs.Spared.{IsSpared, AttemptsSpareSlots}
 use Rattle.serving.specs.declared.answers.Served.{Served}
 use Rattle.serving.specs.declared.answers.Served.TheVariants as answers
-use Rattle.serving.specs.Serving.{is_tried_again, stop_of, IsBefore, TriedRuns, ServedRuns, WasCrossed, TriesBriefly, ServesBriefly, MayServe, AreServed, Persists, Serves}
+use Rattle.serving.specs.Serving.{is_tried_again, stop_of, IsBefore, TriedRuns, ServedRuns, Try, is_served, GoesOn, served_in, steps_in, asks_in, least_asks, WasCrossed, TriesBriefly, ServesBriefly, MayServe, AreServed, AreTried, Persists, Serves}
 use Rattle.serving.proofs.Lists.{and_true, all_pass, where_held, numbered, entry_known}
 use Rattle.serving.proofs.Standing.{entry_on, answered_more, stamp_of, one_stamp}
-use Rattle.serving.proofs.Briefly.{IsBriefSoFar, crossed_back, served_on, stopped_on, ended_brief}
+use Rattle.serving.proofs.Tries.{or_left, count_more, served_append, steps_append, asks_append, crossed_back, crossed_then, crossed_now, crossed_more, done_asks, tried_behind}
+use Rattle.serving.proofs.Briefly.{IsBriefSoFar, brief_begins, served_on, stopped_on, ended_brief}
 use Rattle.serving.proofs.Trying.{next_of_parts, same_layout, same_requests}
 
 module _ {T : Type 0} where
@@ -112,21 +113,57 @@ module _ {T : Type 0} where
       served = may.served i q at;
     }
 
--- where few slots were retired lately when the serving began, so it is now, unless another one came between, or wants are
--- waited out
-abbrev pub IsSparedSoFar : {T : Type 0} → Meaning → Planning → Bool → RunnerState T → RunnerState T → Type 0
-IsSparedSoFar m planning retry_short old r = retry_short ≡ false → IsSpared old → WasCrossed m planning old ⊎ IsSpared r
+-- the attempts so far, by which so many requests were served: what is counted of them, and where no other one came between
+pub record IsSoFar {T : Type 0} (m : Meaning) (planning : Planning) (requests : List Request) (retry_short : Bool) (count : ℕ) (old r : RunnerState T)
+    (asks asks' steps steps' : ℕ) : Type 0 where
+  pub tries : List Try
+  pub tried : AreTried m planning retry_short requests tries old r
+  pub follows : GoesOn retry_short tries
+  pub count_is : count ≡ served_in tries
+  pub counted : steps' ≡ counted_on steps (steps_in tries)
+  pub asked : asks' ≡ counted_on asks (asks_in tries + count)
+  pub least : count * least_asks ≤ asks_in tries + count
+  pub brief : WasCrossed m planning tries old ⊎ IsBriefSoFar m count old r asks asks'
+  -- where few slots were retired lately when the serving began, so it is now, unless wants are waited out
+  pub spared : retry_short ≡ false → IsSpared old → WasCrossed m planning tries old ⊎ IsSpared r
 
-pub spared_begins : {T : Type 0} (m : Meaning) (planning : Planning) (retry_short : Bool) (r : RunnerState T) → IsSparedSoFar m planning retry_short r r
-spared_begins m planning retry_short r unwaited spared = inr spared
+pub so_far_begins : {T : Type 0} (m : Meaning) (planning : Planning) (requests : List Request) (retry_short : Bool) (r : RunnerState T) (asks steps : ℕ)
+    → IsSoFar m planning requests retry_short 0 r r asks asks steps steps
+so_far_begins m planning requests retry_short r asks steps = record {
+  tries = [];
+  tried = refl;
+  follows = tt;
+  count_is = refl;
+  counted = refl;
+  asked = refl;
+  least = omega arith;
+  brief = brief_begins m planning r asks;
+  spared = λ unwaited spared. inr spared;
+}
+
+-- counts of the attempts of one request, behind those of the earlier ones
+asks_now : (xs ps all count asks asks1 asks2 : ℕ) → all ≡ ps + xs → asks1 ≡ counted_on asks (xs + count) → asks2 ≡ counted_on asks1 ps
+    → asks2 ≡ counted_on asks (all + count)
+asks_now xs ps all count asks asks1 asks2 sums one two = count_more asks asks1 asks2 (xs + count) ps one two
+    ∙ ap (counted_on asks) (let e : ps + (xs + count) ≡ all + count = omega (arith, sums) in e)
+
+asks_behind : (all count asks asks2 asks3 : ℕ) → asks2 ≡ counted_on asks (all + count) → asks3 ≡ counted_on asks2 1
+    → asks3 ≡ counted_on asks (all + (count + 1))
+asks_behind all count asks asks2 asks3 one two = count_more asks asks2 asks3 (all + count) 1 one two
+    ∙ ap (counted_on asks) (let e : 1 + (all + count) ≡ all + (count + 1) = omega arith in e)
+
+least_now : (xs ps all count : ℕ) → all ≡ ps + xs → count * least_asks ≤ xs + count → count * least_asks ≤ all + count
+least_now xs ps all count sums least = omega (arith, sums, least)
+
+least_behind : (xs ps all count : ℕ) → all ≡ ps + xs → 15 ≤ ps → count * least_asks ≤ xs + count → (count + 1) * least_asks ≤ all + (count + 1)
+least_behind xs ps all count sums some least = omega (arith, sums, some, least)
 
 -- the request at this place was attempted to the last
 module _ {T : Type 0} (m : Meaning) (laws : Laws m) (planning : Planning) (requests : List Request) (retry_short : Bool) (old r new : RunnerState T)
     (t : TableState T) (limits : IsWithinLimits t.layout) (allowed : AreAllowed t.requests) (of_old : IsOf t old) (of_r : IsOf t r) (of_new : IsOf t new)
     (may : MayServe planning requests old) (i : ℕ) (q : Request) (at : slice_get requests i ≡ Some q) (along : IsAlong requests i old r)
-    (answer : Attempt) (asks asks1 asks2 : ℕ) (persists : Persists m planning retry_short q answer r new asks1 asks2)
-    (so_far : WasCrossed m planning old ⊎ IsBriefSoFar m i old r asks asks1)
-    (spare : AttemptsSpareSlots T m planning) (spared : IsSparedSoFar m planning retry_short old r) where
+    (answer : Attempt) (asks asks1 asks2 steps steps1 steps2 : ℕ) (persists : Persists m planning retry_short q answer r new asks1 asks2 steps1 steps2)
+    (so_far : IsSoFar m planning requests retry_short i old r asks asks1 steps steps1) (spare : AttemptsSpareSlots T m planning) where
   limits_new : IsWithinLimits new.layout
   limits_new = subst IsWithinLimits (sym of_new.layout) limits
 
@@ -136,15 +173,59 @@ module _ {T : Type 0} (m : Meaning) (laws : Laws m) (planning : Planning) (reque
   own_here : (x : Request) → IsOwn old x → IsOwn r x
   own_here x own = own_on old r (same_requests t old r of_old of_r) (same_layout t old r of_old of_r) along.knows.number x own
 
-  -- so it was before the last attempt
-  spared_before : IsSparedSoFar m planning retry_short old persists.before
+  -- the attempts of this request, and all
+  abbrev ps : List Try
+  ps = persists.last ∷ persists.again
+
+  abbrev all : List Try
+  all = ps ++ so_far.tries
+
+  here : slice_get requests (served_in so_far.tries) ≡ Some q
+  here = ap (slice_get requests) (sym so_far.count_is) ∙ at
+
+  tried_all : AreTried m planning retry_short requests all old new
+  tried_all = tried_behind m planning retry_short requests q so_far.tries so_far.follows here old r so_far.tried ps new (
+    persists.before,
+    persists.tried,
+    persists.follows,
+    ap (slice_get (q ∷ [])) persists.unserved ∙ ap (λ (x : Request). Some x) (sym persists.of_request),
+    persists.ends,
+  )
+
+  -- so many of them served their request
+  served_all : (b : Bool) → is_served answer ≡ b → served_in all ≡ (if b then 1 else 0) + i
+  served_all b e =
+      let now : (if is_served persists.last.answer then 1 else 0) ≡ (if b then 1 else 0)
+      = ap (λ (a : Attempt). if is_served a then 1 else 0) persists.answered ∙ ap (λ (x : Bool). if x then 1 else 0) e in
+      let rest = served_append persists.again so_far.tries in
+      let none = persists.unserved in
+      let before = so_far.count_is in
+      omega (arith, now, rest, none, before)
+
+  counted_all : steps2 ≡ counted_on steps (steps_in all)
+  counted_all = count_more steps steps1 steps2 (steps_in so_far.tries) (steps_in ps) so_far.counted persists.counted
+      ∙ ap (counted_on steps) (sym (steps_append ps so_far.tries))
+
+  asked_all : asks2 ≡ counted_on asks (asks_in all + i)
+  asked_all = asks_now (asks_in so_far.tries) (asks_in ps) (asks_in all) i asks asks1 asks2 (asks_append ps so_far.tries) so_far.asked persists.asked
+
+  least_all : i * least_asks ≤ asks_in all + i
+  least_all = least_now (asks_in so_far.tries) (asks_in ps) (asks_in all) i (asks_append ps so_far.tries) so_far.least
+
+  -- the last attempt began where the serving of this request did, if no want is waited out and no other one came between
+  begun : persists.again ≡ [] → persists.before ≡ r
+  begun none = subst (λ ts. AreTried m planning retry_short (q ∷ []) ts r persists.before) none persists.tried
+
+  -- few slots were retired lately before the last attempt
+  spared_before : retry_short ≡ false → IsSpared old → WasCrossed m planning all old ⊎ IsSpared persists.before
   spared_before unwaited was = ⊎_elim
-      inl
+      (λ crossed. inl (crossed_then m planning ps so_far.tries old crossed))
       (λ now. ⊎_elim
-      (λ crossed. inl (crossed_back m planning old r (same_layout t old r of_old of_r) (same_requests t old r of_old of_r) crossed))
-      (λ once. inr (subst (λ (y : RunnerState T). IsSpared y) (sym (once unwaited)) now))
+      (λ crossed. inl (crossed_now m planning ps so_far.tries old (crossed_back m planning ps old r (same_layout t old r of_old of_r) (same_requests t old r of_old of_r)
+      (crossed_more m planning persists.last persists.again r crossed))))
+      (λ once. inr (subst (λ (y : RunnerState T). IsSpared y) (sym (begun (once unwaited))) now))
       persists.once)
-      (spared unwaited was)
+      (so_far.spared unwaited was)
 
   -- another request of the list
   other_place : (k : ℕ) (x : Request) → slice_get requests k ≡ Some x → k ≢ i → x.number ≢ q.number
@@ -245,22 +326,30 @@ module _ {T : Type 0} (m : Meaning) (laws : Laws m) (planning : Planning) (reque
   over_of true limbo e = inr (grind (arith, nat_tests, e))
 
   abbrev Briefly : Served → Type 0
-  Briefly stopped = WasCrossed m planning old ⊎ ServesBriefly m stopped i old new asks asks2
+  Briefly stopped = WasCrossed m planning all old ⊎ ServesBriefly m stopped i old new asks asks2
+
+  abbrev ServesSo : Served → Type 0
+  ServesSo stopped = Serves m planning retry_short requests stopped old new asks asks2 steps steps2
 
   stopped_brief : (a : Attempt) (stopped : Served)
       → ((start before behind : ℕ) → before ≡ start + i → TriedRuns a before behind → ServedRuns stopped i start behind)
-      → WasCrossed m planning r ⊎ TriesBriefly m a r new asks1 asks2 → Briefly stopped
+      → WasCrossed m planning ps r ⊎ TriesBriefly m a r new asks1 asks2 → Briefly stopped
   stopped_brief a stopped runs tried = stopped_on m planning old r new (same_layout t old r of_old of_r) (same_requests t old r of_old of_r)
-      asks asks1 asks2 i so_far a stopped runs tried
+      asks asks1 asks2 ps so_far.tries i so_far.brief a stopped runs tried
 
   one_behind : (start before behind : ℕ) → before ≡ start + i → behind ≤ before + 1 → behind ≤ start + (i + 1)
   one_behind start before behind at runs = omega (arith, at, runs)
 
-  serves_short : (short : Short) → Briefly (answers.Short short) → is_tried_again retry_short (attempts.Short short) ≡ false → IsShort m short q.number persists.before new
-      → Serves m planning retry_short requests (answers.Short short) old new asks asks2
-  serves_short short brief last is = record {
+  count_here : is_served answer ≡ false → i ≡ served_in all
+  count_here e = let sums = served_all false e in omega (arith, sums)
+
+  serves_short : (short : Short) → is_served answer ≡ false → Briefly (answers.Short short) → is_tried_again retry_short (attempts.Short short) ≡ false
+      → IsShort m short q.number persists.before new → ServesSo (answers.Short short)
+  serves_short short unserved brief last is = record {
     count = i;
     served = stays is.untouched.reached;
+    tries = all;
+    tried = tried_all;
     ends = (
       q,
       at,
@@ -275,14 +364,20 @@ module _ {T : Type 0} (m : Meaning) (laws : Laws m) (planning : Planning) (reque
     );
     knows = knows_all;
     others = others_all;
+    count_is = count_here unserved;
+    counted = counted_all;
+    asked = asked_all;
+    least = least_all;
     brief = brief;
   }
 
-  serves_spent : (place word : ℕ) → Briefly (answers.Spent place word) → IsTurnedAway m planning q (attempts.Spent place word) persists.before new
-      → Serves m planning retry_short requests (answers.Spent place word) old new asks asks2
-  serves_spent place word brief is = record {
+  serves_spent : (place word : ℕ) → is_served answer ≡ false → Briefly (answers.Spent place word)
+      → IsTurnedAway m planning q (attempts.Spent place word) persists.before new → ServesSo (answers.Spent place word)
+  serves_spent place word unserved brief is = record {
     count = i;
     served = stays is.untouched.reached;
+    tries = all;
+    tried = tried_all;
     ends = (
       q,
       at,
@@ -297,47 +392,51 @@ module _ {T : Type 0} (m : Meaning) (laws : Laws m) (planning : Planning) (reque
     );
     knows = knows_all;
     others = others_all;
+    count_is = count_here unserved;
+    counted = counted_all;
+    asked = asked_all;
+    least = least_all;
     brief = brief;
   }
 
-  serves_halted : Briefly answers.Halted → IsHalted m planning q persists.before new
-      → Serves m planning retry_short requests answers.Halted old new asks asks2
-  serves_halted brief is = record {
+  serves_halted : is_served answer ≡ false → Briefly answers.Halted → IsHalted m planning q persists.before new → ServesSo answers.Halted
+  serves_halted unserved brief is = record {
     count = i;
     served = stays is.reached;
+    tries = all;
+    tried = tried_all;
     ends = record {
       published = λ x e. (q, at, is.published x e);
       unanswered = λ none x there. subst (λ (y : Request). is_answered new.part.records.known y.number ≡ false) (some_same q x (sym at ∙ there)) (is.unknown none);
     };
     knows = knows_all;
     others = others_all;
+    count_is = count_here unserved;
+    counted = counted_all;
+    asked = asked_all;
+    least = least_all;
     brief = brief;
   }
 
-  serves_stopped : (a : Attempt) (stopped : Served) → stop_of a ≡ Some stopped → is_tried_again retry_short a ≡ false
-      → WasCrossed m planning r ⊎ TriesBriefly m a r new asks1 asks2
-      → Answers m planning q a persists.before new → Serves m planning retry_short requests stopped old new asks asks2
-  serves_stopped (attempts.Short short) stopped e last tried is =
-      subst (λ s. Serves m planning retry_short requests s old new asks asks2) (some_same (answers.Short short) stopped e)
-      (serves_short short (stopped_brief (attempts.Short short) (answers.Short short) (λ start before behind at runs. runs ∙ at) tried) last is)
-  serves_stopped (attempts.Spent place word) stopped e last tried is =
-      subst (λ s. Serves m planning retry_short requests s old new asks asks2) (some_same (answers.Spent place word) stopped e)
-      (serves_spent place word (stopped_brief (attempts.Spent place word) (answers.Spent place word) one_behind tried) is)
-  serves_stopped attempts.Halted stopped e last tried is =
-      subst (λ s. Serves m planning retry_short requests s old new asks asks2) (some_same answers.Halted stopped e)
-      (serves_halted (stopped_brief attempts.Halted answers.Halted one_behind tried) is)
-  serves_stopped (attempts.Done reply stamp) stopped e last tried is = absurd (none_some stopped (sym e))
-  serves_stopped (attempts.Busy place word) stopped e last tried is = absurd (let z = last in cc)
-  serves_stopped (attempts.Stale place expected read) stopped e last tried is = absurd (let z = last in cc)
-  serves_stopped (attempts.Far loads) stopped e last tried is = absurd (let z = last in cc)
+  serves_stopped : (a : Attempt) (stopped : Served) → answer ≡ a → stop_of a ≡ Some stopped → is_tried_again retry_short a ≡ false
+      → WasCrossed m planning ps r ⊎ TriesBriefly m a r new asks1 asks2
+      → Answers m planning q a persists.before new → ServesSo stopped
+  serves_stopped (attempts.Short short) stopped same e last tried is =
+      subst ServesSo (some_same (answers.Short short) stopped e)
+      (serves_short short (ap is_served same) (stopped_brief (attempts.Short short) (answers.Short short) (λ start before behind at runs. runs ∙ at) tried) last is)
+  serves_stopped (attempts.Spent place word) stopped same e last tried is =
+      subst ServesSo (some_same (answers.Spent place word) stopped e)
+      (serves_spent place word (ap is_served same) (stopped_brief (attempts.Spent place word) (answers.Spent place word) one_behind tried) is)
+  serves_stopped attempts.Halted stopped same e last tried is =
+      subst ServesSo (some_same answers.Halted stopped e)
+      (serves_halted (ap is_served same) (stopped_brief attempts.Halted answers.Halted one_behind tried) is)
+  serves_stopped (attempts.Done reply stamp) stopped same e last tried is = absurd (none_some stopped (sym e))
+  serves_stopped (attempts.Busy place word) stopped same e last tried is = absurd (let z = last in cc)
+  serves_stopped (attempts.Stale place expected read) stopped same e last tried is = absurd (let z = last in cc)
+  serves_stopped (attempts.Far loads) stopped same e last tried is = absurd (let z = last in cc)
 
-  pub stopped_serves : (stopped : Served) → stop_of answer ≡ Some stopped → Serves m planning retry_short requests stopped old new asks asks2
-  stopped_serves stopped e = serves_stopped answer stopped e persists.last persists.brief persists.answers
-
-  -- behind the ask that follows a served request
-  pub brief_along : stop_of answer ≡ None → (asks3 : ℕ) → asks3 ≡ counted_on asks2 1 → WasCrossed m planning old ⊎ IsBriefSoFar m (i + 1) old new asks asks3
-  brief_along e asks3 asked = served_on m planning old r new (same_layout t old r of_old of_r) (same_requests t old r of_old of_r) asks asks1 asks2 i so_far
-      answer e persists.brief asks3 asked
+  pub stopped_serves : (stopped : Served) → stop_of answer ≡ Some stopped → Serves m planning retry_short requests stopped old new asks asks2 steps steps2
+  stopped_serves stopped e = serves_stopped answer stopped refl e persists.over persists.brief persists.answers
 
   going_on : (a : Attempt) → stop_of a ≡ None → Answers m planning q a persists.before new → IsAlong requests (i + 1) old new
   going_on (attempts.Done reply stamp) e is = along_on reply stamp is
@@ -348,7 +447,8 @@ module _ {T : Type 0} (m : Meaning) (laws : Laws m) (planning : Planning) (reque
   going_on (attempts.Stale place expected read) e is = absurd (none_some _ e)
   going_on (attempts.Far loads) e is = absurd (none_some _ e)
 
-  spared_by : (a : Attempt) → stop_of a ≡ None → Answers m planning q a persists.before new → IsSparedSoFar m planning retry_short old new
+  spared_by : (a : Attempt) → stop_of a ≡ None → Answers m planning q a persists.before new
+      → retry_short ≡ false → IsSpared old → WasCrossed m planning all old ⊎ IsSpared new
   spared_by (attempts.Done reply stamp) e is = λ unwaited was. ⊎_elim inl (λ now. inr (spare.served q reply stamp persists.before new now is)) (spared_before unwaited was)
   spared_by (attempts.Short short) e is = absurd (none_some _ e)
   spared_by (attempts.Spent place word) e is = absurd (none_some _ e)
@@ -357,36 +457,75 @@ module _ {T : Type 0} (m : Meaning) (laws : Laws m) (planning : Planning) (reque
   spared_by (attempts.Stale place expected read) e is = absurd (none_some _ e)
   spared_by (attempts.Far loads) e is = absurd (none_some _ e)
 
-  pub spared_along : stop_of answer ≡ None → IsSparedSoFar m planning retry_short old new
-  spared_along e = spared_by answer e persists.answers
+  is_done : (a : Attempt) → stop_of a ≡ None → is_served a ≡ true
+  is_done (attempts.Done reply stamp) e = refl
+  is_done (attempts.Short short) e = absurd (none_some _ e)
+  is_done (attempts.Spent place word) e = absurd (none_some _ e)
+  is_done attempts.Halted e = absurd (none_some _ e)
+  is_done (attempts.Busy place word) e = absurd (none_some _ e)
+  is_done (attempts.Stale place expected read) e = absurd (none_some _ e)
+  is_done (attempts.Far loads) e = absurd (none_some _ e)
 
   pub goes_along : stop_of answer ≡ None → IsAlong requests (i + 1) old new
   goes_along e = going_on answer e persists.answers
 
+  -- behind the ask that follows a served request
+  pub so_far_along : stop_of answer ≡ None → (asks3 : ℕ) → asks3 ≡ counted_on asks2 1
+      → IsSoFar m planning requests retry_short (i + 1) old new asks asks3 steps steps2
+  so_far_along e asks3 asked =
+      let done = is_done answer e in
+      let last : is_served persists.last.answer ≡ true = ap is_served persists.answered ∙ done in
+      record {
+        tries = all;
+        tried = tried_all;
+        follows = or_left (is_served persists.last.answer) (is_tried_again retry_short persists.last.answer) last;
+        count_is = let sums = served_all true done in omega (arith, sums);
+        counted = counted_all;
+        asked = asks_behind (asks_in all) i asks asks2 asks3 asked_all asked;
+        least = least_behind (asks_in so_far.tries) (asks_in ps) (asks_in all) i (asks_append ps so_far.tries)
+            (let most = done_asks m planning persists.last.request persists.last.answer persists.last.made persists.last.published persists.before new persists.ends.is last in omega (arith, most))
+            so_far.least;
+        brief = served_on m planning old r new (same_layout t old r of_old of_r) (same_requests t old r of_old of_r) asks asks1 asks2 ps so_far.tries i so_far.brief
+            answer e persists.brief asks3 asked;
+        spared = spared_by answer e persists.answers;
+      }
+
 -- how the serving ends behind requests that are served
 module _ {T : Type 0} (m : Meaning) (planning : Planning) (requests : List Request) (retry_short : Bool) (old new : RunnerState T) (i : ℕ)
-    (along : IsAlong requests i old new) (asks asks' : ℕ) (so_far : WasCrossed m planning old ⊎ IsBriefSoFar m i old new asks asks') where
-  pub halted_behind : Serves m planning retry_short requests answers.Halted old new asks asks'
+    (along : IsAlong requests i old new) (asks asks' steps steps' : ℕ) (so_far : IsSoFar m planning requests retry_short i old new asks asks' steps steps') where
+  pub halted_behind : Serves m planning retry_short requests answers.Halted old new asks asks' steps steps'
   halted_behind = record {
     count = i;
     served = along.served;
+    tries = so_far.tries;
+    tried = so_far.tried;
     ends = record {
       published = λ x e. absurd (none_some x (sym e ∙ along.tidy.at.published));
       unanswered = λ none x there. along.unanswered x there;
     };
     knows = along.knows;
     others = along.others;
-    brief = ended_brief m planning i old new asks asks' answers.Halted (λ start behind runs. let low : behind ≤ start + (i + 1) = omega (arith, runs) in low) so_far;
+    count_is = so_far.count_is;
+    counted = so_far.counted;
+    asked = so_far.asked;
+    least = so_far.least;
+    brief = ended_brief m planning so_far.tries i old new asks asks' answers.Halted (λ start behind runs. let low : behind ≤ start + (i + 1) = omega (arith, runs) in low) so_far.brief;
   }
 
-  pub all_served : i ≡ length requests → Serves m planning retry_short requests answers.All old new asks asks'
+  pub all_served : i ≡ length requests → Serves m planning retry_short requests answers.All old new asks asks' steps steps'
   all_served e = record {
     count = i;
     served = along.served;
+    tries = so_far.tries;
+    tried = so_far.tried;
     ends = (e, along.tidy);
     knows = along.knows;
     others = along.others;
-    brief = ended_brief m planning i old new asks asks' answers.All (λ start behind runs. runs) so_far;
+    count_is = so_far.count_is;
+    counted = so_far.counted;
+    asked = so_far.asked;
+    least = so_far.least;
+    brief = ended_brief m planning so_far.tries i old new asks asks' answers.All (λ start behind runs. runs) so_far.brief;
   }
 
 -- when a last attempt was halted

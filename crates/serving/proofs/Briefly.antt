@@ -1,6 +1,7 @@
 -- How many runs and asks the serving of a list makes, where no other one comes between.
-use Rattle.std.specs.Prelude.{◌⊎◌, Bool, true, false}
-use Rattle.std.proofs.Common.{◌≡◌, ℕ, zero, suc, ◌+◌, ◌*◌, ◌≤◌, length, refl, ap, ◌∙◌, subst, arith, inl, inr, None}
+use Rattle.std.specs.Prelude.{◌⊎◌, ◌||◌, Bool, true, false}
+use Rattle.std.proofs.Common.{◌≡◌, ℕ, zero, suc, ◌+◌, ◌*◌, ◌≤◌, List, [], ◌∷◌, ◌++◌, length, refl, sym, ap, ◌∙◌, subst, arith, inl, inr, None}
+use Rattle.std.proofs.lemmas.Bool.{true≢false}
 use Rattle.std.proofs.Math.Nat.{suc-mul}
 use Rattle.map_history.specs.declared.op.Request.{Request}
 use Rattle.table_words.specs.declared.layout.Layout.{Layout}
@@ -10,13 +11,14 @@ use Rattle.machine_states.proofs.Steps.{none_some}
 use Rattle.attempts.specs.version_words.specs.RunnerState.{RunnerState}
 use Rattle.attempts.specs.try_lock.specs.Planning.{Planning}
 use Rattle.section_body.specs.Counted.{counted_on}
-use Rattle.attempts.specs.Course.{IsRefused}
-use Rattle.attempts.specs.Attempts.{is_halted, is_short, asks_more, runs_of, most_of_attempt, IsBrief, HasMetHeld, Answers, Attempts}
+use Rattle.attempts.specs.Course.{MayAttempt}
+use Rattle.attempts.specs.Attempts.{is_halted, asks_more, runs_of, most_of_attempt, has_met_held, IsAttempt, Attempts}
 use Rattle.attempts.specs.declared.answers.Attempt.{Attempt}
 use Rattle.attempts.specs.declared.answers.Attempt.TheVariants as attempts
 use Rattle.serving.specs.declared.answers.Served.{Served}
 use Rattle.serving.specs.declared.answers.Served.TheVariants as answers
-use Rattle.serving.specs.Serving.{is_tried_again, stop_of, is_crossed, TriedRuns, ServedRuns, most_asks, WasCrossed, TriesBriefly, ServesBriefly}
+use Rattle.serving.specs.Serving.{is_tried_again, stop_of, is_crossed, TriedRuns, ServedRuns, most_asks, Try, WasCrossed, IsTry, TriesBriefly, ServesBriefly}
+use Rattle.serving.proofs.Tries.{or_none, crossed_back, crossed_more, crossed_then, crossed_now, try_crossed}
 
 -- a count rises by at most one each time
 counted_few : (count n : ℕ) → counted_on count n ≤ count + n
@@ -72,37 +74,24 @@ pub record IsBriefSoFar {T : Type 0} (m : Meaning) (count : ℕ) (old r : Runner
   pub asked : asks' ≤ asks + count * most_asks (slots m old.layout)
 
 module _ {T : Type 0} (m : Meaning) (planning : Planning) where
-  pub brief_begins : (r : RunnerState T) (asks : ℕ) → WasCrossed m planning r ⊎ IsBriefSoFar m 0 r r asks asks
+  pub brief_begins : (r : RunnerState T) (asks : ℕ) → WasCrossed m planning [] r ⊎ IsBriefSoFar m 0 r r asks asks
   brief_begins r asks = inr (record { runs = omega arith; asked = begun_within (most_asks (slots m r.layout)) asks })
 
-  pub crossed_back : (old r : RunnerState T) → r.layout ≡ old.layout → r.requests ≡ old.requests → WasCrossed m planning r → WasCrossed m planning old
-  crossed_back old r layout requests was = record {
-    request = was.request;
-    answer = was.answer;
-    before = was.before;
-    cut = was.cut;
-    layout = was.layout ∙ layout;
-    requests = was.requests ∙ requests;
-    refused = was.refused;
-    crossed = was.crossed;
-  }
-
-  pub crossed_by : (request : Request) (old : RunnerState T) (a : Attempt) (cut : RunnerState T) → is_crossed a ≡ true → IsRefused m planning request a old cut
-      → WasCrossed m planning old
-  crossed_by request old a cut crossed refused = record {
-    request = request;
-    answer = a;
-    before = old;
-    cut = cut;
-    layout = refl;
-    requests = refl;
-    refused = refused;
-    crossed = crossed;
-  }
-
   -- one attempt
-  module _ (request : Request) (answer : Attempt) (old new : RunnerState T) (halts halts' asks asks' steps steps' : ℕ)
-      (is : Attempts m planning request answer old new halts halts' asks asks' steps steps') where
+  module _ (request : Request) (answer : Attempt) (old new : RunnerState T) (Seen : ℕ → ℕ → Type 0) (halts halts' asks asks' steps steps' : ℕ)
+      (is : Attempts m planning request answer old new Seen halts halts' asks asks' steps steps') (may : MayAttempt planning request old) where
+    abbrev pub this_try : Try
+    this_try = record {
+      request = request;
+      answer = answer;
+      made = is.made;
+      published = is.published;
+      crossed = is_crossed answer || has_met_held m planning request answer old new is.is.answers;
+    }
+
+    pub is_try : IsTry m planning this_try old new
+    is_try = record { may = may; is = is.is; crossed = refl }
+
     few_asks : is.made ≤ most_of_attempt (slots m old.layout) → asks' + 1 ≤ asks + most_asks (slots m old.layout)
     few_asks few =
         let asked = is.asked.asked in
@@ -112,7 +101,7 @@ module _ {T : Type 0} (m : Meaning) (planning : Planning) where
 
     told : (a : Attempt) → answer ≡ a → is_halted a ≡ false
         → length new.part.records.finished ≡ length old.part.records.finished + runs_of a is.published
-    told a e going = is.runs (ap is_halted e ∙ going) ∙ ap (λ x. length old.part.records.finished + runs_of x is.published) e
+    told a e going = is.is.runs (ap is_halted e ∙ going) ∙ ap (λ x. length old.part.records.finished + runs_of x is.published) e
 
     runs_by : (a : Attempt) → answer ≡ a → length new.part.records.finished ≤ length old.part.records.finished + 1
         → TriedRuns a (length old.part.records.finished) (length new.part.records.finished)
@@ -125,61 +114,75 @@ module _ {T : Type 0} (m : Meaning) (planning : Planning) where
     runs_by attempts.Halted e few = few
 
     -- it is the last one
-    last_by : HasMetHeld m planning request old ⊎ IsBrief (most_of_attempt (slots m old.layout)) 1 is.made old new
-        → WasCrossed m planning old ⊎ TriesBriefly m answer old new asks asks'
-    last_by (inl met) = inl (crossed_by request old (attempts.Busy met.0 met.1) met.2 refl met.3)
-    last_by (inr brief) = inr (record { runs = runs_by answer refl brief.few_runs; asked = few_asks brief.few_steps })
-
-    pub last_brief : WasCrossed m planning old ⊎ TriesBriefly m answer old new asks asks'
-    last_brief = last_by is.brief
+    pub last_brief : (xs : List Try) → WasCrossed m planning (this_try ∷ xs) old ⊎ TriesBriefly m answer old new asks asks'
+    last_brief xs = by this_try.crossed refl
+      where
+        by : (b : Bool) → this_try.crossed ≡ b → WasCrossed m planning (this_try ∷ xs) old ⊎ TriesBriefly m answer old new asks asks'
+        by true e = inl (try_crossed m planning this_try xs old new is_try e)
+        by false e = let brief = is.is.brief (or_none _ _ e).1 in inr (record {
+          runs = runs_by answer refl brief.few_runs;
+          asked = few_asks brief.few_steps;
+        })
 
     -- the request is attempted again
-    quiet_by : (a : Attempt) → answer ≡ a → (retry_short : Bool) → is_tried_again retry_short a ≡ true → Answers m planning request a old new
-        → WasCrossed m planning old ⊎ IsQuiet old new asks asks'
-    quiet_by (attempts.Busy place word) e retry again turned = inl (crossed_by request old (attempts.Busy place word) turned.cut refl turned.cause)
-    quiet_by (attempts.Stale place expected read) e retry again turned = inl (crossed_by request old (attempts.Stale place expected read) turned.cut refl turned.cause)
-    quiet_by (attempts.Far loads) e retry again turned = inl (crossed_by request old (attempts.Far loads) turned.cut refl turned.cause)
-    quiet_by (attempts.Short short) e retry again is_short_of = inr (record {
+    short_quiet : (a : Attempt) → answer ≡ a → (retry_short : Bool) → is_tried_again retry_short a ≡ true → is_crossed a ≡ false → IsQuiet old new asks asks'
+    short_quiet (attempts.Short short) e retry again uncrossed = record {
       runs = let same = told (attempts.Short short) e refl in omega (arith, same);
-      asked =
-          let none : is.made + asks_more answer is.published ≡ 0
-          = (let made = is.short (ap is_short e) in let more = ap (λ a. asks_more a is.published) e in omega (arith, made, more)) in
-          is.asked.asked ∙ ap (counted_on asks) none;
-    })
-    quiet_by (attempts.Done reply stamp) e retry again served = absurd (let z = again in cc)
-    quiet_by (attempts.Spent place word) e retry again turned = absurd (let z = again in cc)
-    quiet_by attempts.Halted e retry again halted = absurd (let z = again in cc)
+      asked = is.asked.asked ∙ ap (counted_on asks) (none answer e is.made is.published is.is);
+    }
+      where
+        none : (a : Attempt) → a ≡ attempts.Short short → (made : ℕ) (published : Bool) → IsAttempt m planning request a made published old new
+            → made + asks_more a published ≡ 0
+        none (attempts.Short other) same made published it = let made = it.made_is in omega (arith, made)
+        none (attempts.Done reply stamp) same made published it = absurd (let z = same in cc)
+        none (attempts.Spent place word) same made published it = absurd (let z = same in cc)
+        none (attempts.Busy place word) same made published it = absurd (let z = same in cc)
+        none (attempts.Stale place expected read) same made published it = absurd (let z = same in cc)
+        none (attempts.Far loads) same made published it = absurd (let z = same in cc)
+        none attempts.Halted same made published it = absurd (let z = same in cc)
+    short_quiet (attempts.Busy place word) e retry again uncrossed = absurd (true≢false uncrossed)
+    short_quiet (attempts.Stale place expected read) e retry again uncrossed = absurd (true≢false uncrossed)
+    short_quiet (attempts.Far loads) e retry again uncrossed = absurd (true≢false uncrossed)
+    short_quiet (attempts.Done reply stamp) e retry again uncrossed = absurd (true≢false (sym again))
+    short_quiet (attempts.Spent place word) e retry again uncrossed = absurd (true≢false (sym again))
+    short_quiet attempts.Halted e retry again uncrossed = absurd (true≢false (sym again))
 
-    pub again_quiet : (retry_short : Bool) → is_tried_again retry_short answer ≡ true → WasCrossed m planning old ⊎ IsQuiet old new asks asks'
-    again_quiet retry_short again = quiet_by answer refl retry_short again is.answers
+    pub again_quiet : (retry_short : Bool) → is_tried_again retry_short answer ≡ true → (xs : List Try)
+        → WasCrossed m planning (this_try ∷ xs) old ⊎ IsQuiet old new asks asks'
+    again_quiet retry_short again xs = by this_try.crossed refl
+      where
+        by : (b : Bool) → this_try.crossed ≡ b → WasCrossed m planning (this_try ∷ xs) old ⊎ IsQuiet old new asks asks'
+        by true e = inl (try_crossed m planning this_try xs old new is_try e)
+        by false e = inr (short_quiet answer refl retry_short again (or_none _ _ e).0)
 
   -- behind attempts that ran nothing
   module _ (old r new : RunnerState T) (layout : r.layout ≡ old.layout) (requests : r.requests ≡ old.requests) (asks asks1 asks2 : ℕ) where
-    pub quiet_on : WasCrossed m planning old ⊎ IsQuiet old r asks asks1 → WasCrossed m planning r ⊎ IsQuiet r new asks1 asks2
-        → WasCrossed m planning old ⊎ IsQuiet old new asks asks2
-    quiet_on (inl was) here = inl was
-    quiet_on (inr quiet) (inl was) = inl (crossed_back old r layout requests was)
-    quiet_on (inr quiet) (inr here) = inr (record { runs = here.runs ∙ quiet.runs; asked = here.asked ∙ quiet.asked })
+    module _ (x : Try) (xs : List Try) where
+      pub quiet_on : WasCrossed m planning xs old ⊎ IsQuiet old r asks asks1 → WasCrossed m planning (x ∷ xs) r ⊎ IsQuiet r new asks1 asks2
+          → WasCrossed m planning (x ∷ xs) old ⊎ IsQuiet old new asks asks2
+      quiet_on (inl was) here = inl (crossed_more m planning x xs old was)
+      quiet_on (inr quiet) (inl was) = inl (crossed_back m planning (x ∷ xs) old r layout requests was)
+      quiet_on (inr quiet) (inr here) = inr (record { runs = here.runs ∙ quiet.runs; asked = here.asked ∙ quiet.asked })
 
-    pub tried_on : (answer : Attempt) → WasCrossed m planning old ⊎ IsQuiet old r asks asks1 → WasCrossed m planning r ⊎ TriesBriefly m answer r new asks1 asks2
-        → WasCrossed m planning old ⊎ TriesBriefly m answer old new asks asks2
-    tried_on answer (inl was) here = inl was
-    tried_on answer (inr quiet) (inl was) = inl (crossed_back old r layout requests was)
-    tried_on answer (inr quiet) (inr here) = inr (record {
-      runs = subst (λ n. TriedRuns answer n (length new.part.records.finished)) quiet.runs here.runs;
-      asked = subst (λ n. asks2 + 1 ≤ n + most_asks (slots m old.layout)) quiet.asked
-          (subst (λ (l : Layout). asks2 + 1 ≤ asks1 + most_asks (slots m l)) layout here.asked);
-    })
+      pub tried_on : (answer : Attempt) → WasCrossed m planning xs old ⊎ IsQuiet old r asks asks1
+          → WasCrossed m planning (x ∷ xs) r ⊎ TriesBriefly m answer r new asks1 asks2 → WasCrossed m planning (x ∷ xs) old ⊎ TriesBriefly m answer old new asks asks2
+      tried_on answer (inl was) here = inl (crossed_more m planning x xs old was)
+      tried_on answer (inr quiet) (inl was) = inl (crossed_back m planning (x ∷ xs) old r layout requests was)
+      tried_on answer (inr quiet) (inr here) = inr (record {
+        runs = subst (λ n. TriedRuns answer n (length new.part.records.finished)) quiet.runs here.runs;
+        asked = subst (λ n. asks2 + 1 ≤ n + most_asks (slots m old.layout)) quiet.asked
+            (subst (λ (l : Layout). asks2 + 1 ≤ asks1 + most_asks (slots m l)) layout here.asked);
+      })
 
-    -- behind so many requests that are served, this one was attempted
-    module _ (count : ℕ) (so_far : WasCrossed m planning old ⊎ IsBriefSoFar m count old r asks asks1) where
+    -- behind so many requests that are served, by these attempts, this one was attempted
+    module _ (ps xs : List Try) (count : ℕ) (so_far : WasCrossed m planning xs old ⊎ IsBriefSoFar m count old r asks asks1) where
       -- the asks of this one
       few_here : {answer : Attempt} → TriesBriefly m answer r new asks1 asks2 → asks2 + 1 ≤ asks1 + most_asks (slots m old.layout)
       few_here here = subst (λ (l : Layout). asks2 + 1 ≤ asks1 + most_asks (slots m l)) layout here.asked
 
       -- and it is served, and the gate asked once more
-      pub served_on : (answer : Attempt) → stop_of answer ≡ None → WasCrossed m planning r ⊎ TriesBriefly m answer r new asks1 asks2
-          → (asks3 : ℕ) → asks3 ≡ counted_on asks2 1 → WasCrossed m planning old ⊎ IsBriefSoFar m (count + 1) old new asks asks3
+      pub served_on : (answer : Attempt) → stop_of answer ≡ None → WasCrossed m planning ps r ⊎ TriesBriefly m answer r new asks1 asks2
+          → (asks3 : ℕ) → asks3 ≡ counted_on asks2 1 → WasCrossed m planning (ps ++ xs) old ⊎ IsBriefSoFar m (count + 1) old new asks asks3
       served_on answer done here asks3 asked = by so_far here
         where
           one_run : (a : Attempt) (before behind : ℕ) → stop_of a ≡ None → TriedRuns a before behind → behind ≡ before + 1
@@ -191,10 +194,10 @@ module _ {T : Type 0} (m : Meaning) (planning : Planning) where
           one_run (attempts.Stale place expected read) before behind e runs = absurd (none_some _ e)
           one_run (attempts.Far loads) before behind e runs = absurd (none_some _ e)
 
-          by : WasCrossed m planning old ⊎ IsBriefSoFar m count old r asks asks1 → WasCrossed m planning r ⊎ TriesBriefly m answer r new asks1 asks2
-              → WasCrossed m planning old ⊎ IsBriefSoFar m (count + 1) old new asks asks3
-          by (inl was) tried = inl was
-          by (inr brief) (inl was) = inl (crossed_back old r layout requests was)
+          by : WasCrossed m planning xs old ⊎ IsBriefSoFar m count old r asks asks1 → WasCrossed m planning ps r ⊎ TriesBriefly m answer r new asks1 asks2
+              → WasCrossed m planning (ps ++ xs) old ⊎ IsBriefSoFar m (count + 1) old new asks asks3
+          by (inl was) tried = inl (crossed_then m planning ps xs old was)
+          by (inr brief) (inl was) = inl (crossed_now m planning ps xs old (crossed_back m planning ps old r layout requests was))
           by (inr brief) (inr tried) = inr (record {
             runs =
                 let before = brief.runs in
@@ -206,13 +209,14 @@ module _ {T : Type 0} (m : Meaning) (planning : Planning) where
       -- or the serving stops with it
       pub stopped_on : (answer : Attempt) (stopped : Served)
           → ((start before behind : ℕ) → before ≡ start + count → TriedRuns answer before behind → ServedRuns stopped count start behind)
-          → WasCrossed m planning r ⊎ TriesBriefly m answer r new asks1 asks2 → WasCrossed m planning old ⊎ ServesBriefly m stopped count old new asks asks2
+          → WasCrossed m planning ps r ⊎ TriesBriefly m answer r new asks1 asks2
+          → WasCrossed m planning (ps ++ xs) old ⊎ ServesBriefly m stopped count old new asks asks2
       stopped_on answer stopped runs = by so_far
         where
-          by : WasCrossed m planning old ⊎ IsBriefSoFar m count old r asks asks1 → WasCrossed m planning r ⊎ TriesBriefly m answer r new asks1 asks2
-              → WasCrossed m planning old ⊎ ServesBriefly m stopped count old new asks asks2
-          by (inl was) tried = inl was
-          by (inr brief) (inl was) = inl (crossed_back old r layout requests was)
+          by : WasCrossed m planning xs old ⊎ IsBriefSoFar m count old r asks asks1 → WasCrossed m planning ps r ⊎ TriesBriefly m answer r new asks1 asks2
+              → WasCrossed m planning (ps ++ xs) old ⊎ ServesBriefly m stopped count old new asks asks2
+          by (inl was) tried = inl (crossed_then m planning ps xs old was)
+          by (inr brief) (inl was) = inl (crossed_now m planning ps xs old (crossed_back m planning ps old r layout requests was))
           by (inr brief) (inr tried) = inr (record {
             runs = runs (length old.part.records.finished) (length r.part.records.finished) (length new.part.records.finished) brief.runs tried.runs;
             asked = one_more count (most_asks (slots m old.layout)) asks asks1 asks2 brief.asked
@@ -220,10 +224,10 @@ module _ {T : Type 0} (m : Meaning) (planning : Planning) where
           })
 
   -- the serving ends behind so many served requests
-  module _ (count : ℕ) (old new : RunnerState T) (asks asks' : ℕ) where
+  module _ (xs : List Try) (count : ℕ) (old new : RunnerState T) (asks asks' : ℕ) where
     pub ended_brief : (stopped : Served)
         → ((start behind : ℕ) → behind ≡ start + count → ServedRuns stopped count start behind)
-        → WasCrossed m planning old ⊎ IsBriefSoFar m count old new asks asks' → WasCrossed m planning old ⊎ ServesBriefly m stopped count old new asks asks'
+        → WasCrossed m planning xs old ⊎ IsBriefSoFar m count old new asks asks' → WasCrossed m planning xs old ⊎ ServesBriefly m stopped count old new asks asks'
     ended_brief stopped runs (inl was) = inl was
     ended_brief stopped runs (inr brief) = inr (record {
       runs = runs (length old.part.records.finished) (length new.part.records.finished) brief.runs;

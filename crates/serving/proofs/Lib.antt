@@ -1,5 +1,6 @@
 mod Lists
 mod Standing
+mod Tries
 mod Briefly
 mod Trying
 mod Along

@@ -1,7 +1,8 @@
 -- A request that is attempted again.
-use Rattle.std.specs.Prelude.{◌==◌, ◌&&◌, ◌||◌, ◌⊎◌, not, nat_lt, ◌%◌, Bool, true, false, slice_get}
-use Rattle.std.proofs.Common.{◌≡◌, ℕ, List, refl, sym, ap, ◌∙◌, inl, inr}
+use Rattle.std.specs.Prelude.{◌==◌, ◌&&◌, ◌||◌, ◌⊎◌, not, nat_lt, ◌%◌, Bool, true, false, slice_get, if◌then◌else◌}
+use Rattle.std.proofs.Common.{◌≡◌, ℕ, ◌+◌, List, [], ◌∷◌, refl, sym, ap, ◌∙◌, inl, inr, Some}
 use Rattle.map_history.specs.declared.op.Request.{Request}
+use Rattle.section_body.specs.Counted.{counted_on}
 use Rattle.structure_laws.specs.Meaning.{Meaning}
 use Rattle.runner_parts.specs.Tests.{is_answered, are_answered}
 use Rattle.attempts.specs.version_words.specs.RunnerState.{RunnerState}
@@ -10,14 +11,15 @@ use Rattle.attempts.specs.epoch_slots.specs.Collects.{IsTidy}
 use Rattle.attempts.specs.try_lock.specs.Planning.{Planning}
 use Rattle.attempts.specs.Knowing.{IsFront, KnowsMore, LearnsNoOther}
 use Rattle.attempts.specs.Course.{MayAttempt}
-use Rattle.attempts.specs.Attempts.{is_halted, Answers, Attempts}
+use Rattle.attempts.specs.Attempts.{is_halted, asks_more, has_met_held, Answers, Attempts}
 use Rattle.attempts.specs.declared.answers.Attempt.{Attempt}
 use Rattle.attempts.specs.declared.answers.Attempt.TheVariants as attempts
 use Rattle.attempts.proofs.Knowing.{knows_on, knows_same, no_other_on}
-use Rattle.serving.specs.Serving.{is_tried_again, WasCrossed, Persists}
+use Rattle.serving.specs.Serving.{is_tried_again, is_crossed, Try, is_served, GoesOn, served_in, steps_in, asks_in, WasCrossed, IsTry, AreTried, Persists}
 use Rattle.serving.proofs.Lists.{all_weaker, held_more}
 use Rattle.serving.proofs.Standing.{answered_more}
-use Rattle.serving.proofs.Briefly.{IsQuiet, crossed_by, crossed_back, again_quiet, last_brief, quiet_on, tried_on}
+use Rattle.serving.proofs.Tries.{or_left, or_right, count_more, crossed_back, crossed_more, try_crossed}
+use Rattle.serving.proofs.Briefly.{IsQuiet, this_try, is_try, again_quiet, last_brief, quiet_on, tried_on}
 
 next_parts : (a b c : Bool) → (a && (not b && c)) ≡ true → (a ≡ true) × (b ≡ false) × (c ≡ true)
 next_parts true false true e = (refl, refl, refl)
@@ -64,22 +66,35 @@ pub same_requests : {T : Type 0} (t : TableState T) (old new : RunnerState T) �
 same_requests t old new one two = two.requests ∙ sym one.requests
 
 -- the attempts so far, after each of which the request was attempted again
-pub record IsTrying {T : Type 0} (m : Meaning) (planning : Planning) (request : Request) (retry_short : Bool) (old r : RunnerState T) (halts halts' asks asks' : ℕ) : Type 0 where
+pub record IsTrying {T : Type 0} (m : Meaning) (planning : Planning) (request : Request) (retry_short : Bool) (old r : RunnerState T)
+    (halts halts' asks asks' steps steps' : ℕ) : Type 0 where
+  pub tries : List Try
+  pub tried : AreTried m planning retry_short (request ∷ []) tries old r
+  pub follows : GoesOn retry_short tries
+  pub unserved : served_in tries ≡ 0
   pub may : MayAttempt planning request r
   pub knows : KnowsMore old r
   pub no_other : LearnsNoOther request.number old r
   pub went : halts' ≡ halts
-  pub quiet : WasCrossed m planning old ⊎ IsQuiet old r asks asks'
+  pub counted : steps' ≡ counted_on steps (steps_in tries)
+  pub asked : asks' ≡ counted_on asks (asks_in tries)
+  pub quiet : WasCrossed m planning tries old ⊎ IsQuiet old r asks asks'
   -- where no want is waited out, these were crossed
-  pub once : WasCrossed m planning old ⊎ (retry_short ≡ false → r ≡ old)
+  pub once : WasCrossed m planning tries old ⊎ (retry_short ≡ false → tries ≡ [])
 
-pub trying_begins : {T : Type 0} (m : Meaning) (planning : Planning) (request : Request) (retry_short : Bool) (r : RunnerState T) (halts asks : ℕ)
-    → MayAttempt planning request r → IsTrying m planning request retry_short r r halts halts asks asks
-trying_begins m planning request retry_short r halts asks may = record {
+pub trying_begins : {T : Type 0} (m : Meaning) (planning : Planning) (request : Request) (retry_short : Bool) (r : RunnerState T) (halts asks steps : ℕ)
+    → MayAttempt planning request r → IsTrying m planning request retry_short r r halts halts asks asks steps steps
+trying_begins m planning request retry_short r halts asks steps may = record {
+  tries = [];
+  tried = refl;
+  follows = tt;
+  unserved = refl;
   may = may;
   knows = knows_same r r refl refl refl;
   no_other = λ q own ne. refl;
   went = refl;
+  counted = refl;
+  asked = refl;
   quiet = inr (record { runs = refl; asked = refl });
   once = inr (λ unwaited. refl);
 }
@@ -105,59 +120,101 @@ module _ {T : Type 0} (m : Meaning) (planning : Planning) (request : Request) (r
   again_going (attempts.Short short) e = refl
   again_going attempts.Halted e = absurd (let z = e in cc)
 
+  again_unserved : (answer : Attempt) → is_tried_again retry_short answer ≡ true → is_served answer ≡ false
+  again_unserved (attempts.Done reply stamp) e = absurd (let z = e in cc)
+  again_unserved (attempts.Busy place word) e = refl
+  again_unserved (attempts.Stale place expected read) e = refl
+  again_unserved (attempts.Far loads) e = refl
+  again_unserved (attempts.Spent place word) e = refl
+  again_unserved (attempts.Short short) e = refl
+  again_unserved attempts.Halted e = refl
+
 module _ {T : Type 0} (m : Meaning) (planning : Planning) (request : Request) (retry_short : Bool) (t : TableState T)
-    (old r new : RunnerState T) (of_r : IsOf t r) (of_old : IsOf t old) (of_new : IsOf t new) (answer : Attempt)
-    (halts halts' halts'' asks asks' asks'' steps steps' : ℕ) (trying : IsTrying m planning request retry_short old r halts halts' asks asks')
-    (attempted : Attempts m planning request answer r new halts' halts'' asks' asks'' steps steps') where
+    (old r new : RunnerState T) (of_r : IsOf t r) (of_old : IsOf t old) (of_new : IsOf t new) (answer : Attempt) (Seen : ℕ → ℕ → Type 0)
+    (halts halts' halts'' asks asks' asks'' steps steps' steps'' : ℕ) (trying : IsTrying m planning request retry_short old r halts halts' asks asks' steps steps')
+    (attempted : Attempts m planning request answer r new Seen halts' halts'' asks' asks'' steps' steps'') where
   knows_all : KnowsMore old new
-  knows_all = knows_on old r new trying.knows attempted.knows
+  knows_all = knows_on old r new trying.knows attempted.is.knows
 
   no_other_all : LearnsNoOther request.number old new
   no_other_all = no_other_on request.number old r new (same_requests t old r of_old of_r) (same_layout t old r of_old of_r) trying.knows.number
-      trying.no_other attempted.no_other
+      trying.no_other attempted.is.no_other
+
+  -- this attempt
+  abbrev x : Try
+  x = this_try m planning request answer r new Seen halts' halts'' asks' asks'' steps' steps'' attempted trying.may
+
+  here : IsTry m planning x r new
+  here = is_try m planning request answer r new Seen halts' halts'' asks' asks'' steps' steps'' attempted trying.may
+
+  at : slice_get (request ∷ []) (served_in trying.tries) ≡ Some request
+  at = ap (slice_get (request ∷ [])) trying.unserved
+
+  counted_all : steps'' ≡ counted_on steps (steps_in (x ∷ trying.tries))
+  counted_all = count_more steps steps' steps'' (steps_in trying.tries) attempted.made trying.counted attempted.asked.counted
+
+  asked_all : asks'' ≡ counted_on asks (asks_in (x ∷ trying.tries))
+  asked_all = count_more asks asks' asks'' (asks_in trying.tries) (attempted.made + asks_more answer attempted.published) trying.asked attempted.asked.asked
 
   -- it is attempted once more
-  pub trying_on : is_tried_again retry_short answer ≡ true → IsTrying m planning request retry_short old new halts halts'' asks asks''
-  trying_on again = let now = again_open m planning request retry_short r new answer again attempted.answers in record {
-    may = may_again planning request r new trying.may attempted.knows (same_layout t r new of_r of_new) (same_requests t r new of_r of_new) now.0 now.1;
+  pub trying_on : is_tried_again retry_short answer ≡ true → IsTrying m planning request retry_short old new halts halts'' asks asks'' steps steps''
+  trying_on again = let now = again_open m planning request retry_short r new answer again attempted.is.answers in record {
+    tries = x ∷ trying.tries;
+    tried = (r, trying.tried, trying.follows, at, here);
+    follows = or_right (is_served answer) (is_tried_again retry_short answer) again;
+    unserved = λ i. (if again_unserved m planning request retry_short r new answer again i then 1 else 0) + trying.unserved i;
+    may = may_again planning request r new trying.may attempted.is.knows (same_layout t r new of_r of_new) (same_requests t r new of_r of_new) now.0 now.1;
     knows = knows_all;
     no_other = no_other_all;
     went = attempted.asked.went (again_going m planning request retry_short r new answer again) ∙ trying.went;
-    quiet = quiet_on m planning old r new (same_layout t old r of_old of_r) (same_requests t old r of_old of_r) asks asks' asks'' trying.quiet
-        (again_quiet m planning request answer r new halts' halts'' asks' asks'' steps steps' attempted retry_short again);
+    counted = counted_all;
+    asked = asked_all;
+    quiet = quiet_on m planning old r new (same_layout t old r of_old of_r) (same_requests t old r of_old of_r) asks asks' asks'' x trying.tries trying.quiet
+        (again_quiet m planning request answer r new Seen halts' halts'' asks' asks'' steps' steps'' attempted trying.may retry_short again trying.tries);
     once = once_on trying.once;
   }
     where
       -- without waits only a crossed attempt is made again
-      crossed_if : retry_short ≡ false → (a : Attempt) → is_tried_again retry_short a ≡ true → Answers m planning request a r new → WasCrossed m planning r
-      crossed_if unwaited (attempts.Busy place word) e is = crossed_by m planning request r (attempts.Busy place word) is.cut refl is.cause
-      crossed_if unwaited (attempts.Stale place expected read) e is = crossed_by m planning request r (attempts.Stale place expected read) is.cut refl is.cause
-      crossed_if unwaited (attempts.Far loads) e is = crossed_by m planning request r (attempts.Far loads) is.cut refl is.cause
-      crossed_if unwaited (attempts.Short short) e is = absurd (let z = ap (λ b. b && not (short.limbo == 0)) (sym unwaited) ∙ e in cc)
-      crossed_if unwaited (attempts.Spent place word) e is = absurd (let z = e in cc)
-      crossed_if unwaited (attempts.Done reply stamp) e is = absurd (let z = e in cc)
-      crossed_if unwaited attempts.Halted e is = absurd (let z = e in cc)
+      crossed_if : retry_short ≡ false → (a : Attempt) → is_tried_again retry_short a ≡ true → is_crossed a ≡ true
+      crossed_if unwaited (attempts.Busy place word) e = refl
+      crossed_if unwaited (attempts.Stale place expected read) e = refl
+      crossed_if unwaited (attempts.Far loads) e = refl
+      crossed_if unwaited (attempts.Short short) e = absurd (let z = ap (λ b. b && not (short.limbo == 0)) (sym unwaited) ∙ e in cc)
+      crossed_if unwaited (attempts.Spent place word) e = absurd (let z = e in cc)
+      crossed_if unwaited (attempts.Done reply stamp) e = absurd (let z = e in cc)
+      crossed_if unwaited attempts.Halted e = absurd (let z = e in cc)
 
-      once_by : (b : Bool) → retry_short ≡ b → WasCrossed m planning old ⊎ (retry_short ≡ false → new ≡ old)
+      once_by : (b : Bool) → retry_short ≡ b → WasCrossed m planning (x ∷ trying.tries) old ⊎ (retry_short ≡ false → x ∷ trying.tries ≡ [])
       once_by true waited = inr (λ unwaited. absurd (let z = sym waited ∙ unwaited in cc))
-      once_by false unwaited = inl (crossed_back m planning old r (same_layout t old r of_old of_r) (same_requests t old r of_old of_r)
-          (crossed_if unwaited answer again attempted.answers))
+      once_by false unwaited = inl (crossed_back m planning (x ∷ trying.tries) old r (same_layout t old r of_old of_r) (same_requests t old r of_old of_r)
+          (try_crossed m planning x trying.tries r new here
+          (or_left (is_crossed answer) (has_met_held m planning request answer r new attempted.is.answers) (crossed_if unwaited answer again))))
 
-      once_on : WasCrossed m planning old ⊎ (retry_short ≡ false → r ≡ old) → WasCrossed m planning old ⊎ (retry_short ≡ false → new ≡ old)
-      once_on (inl was) = inl was
+      once_on : WasCrossed m planning trying.tries old ⊎ (retry_short ≡ false → trying.tries ≡ [])
+          → WasCrossed m planning (x ∷ trying.tries) old ⊎ (retry_short ≡ false → x ∷ trying.tries ≡ [])
+      once_on (inl was) = inl (crossed_more m planning x trying.tries old was)
       once_on (inr so_far) = once_by retry_short refl
 
   -- or this was the last attempt
-  pub trying_ends : is_tried_again retry_short answer ≡ false → Persists m planning retry_short request answer old new asks asks''
+  pub trying_ends : is_tried_again retry_short answer ≡ false → Persists m planning retry_short request answer old new asks asks'' steps steps''
   trying_ends last = record {
     before = r;
-    may = trying.may;
-    answers = attempted.answers;
-    last = last;
+    again = trying.tries;
+    last = x;
+    tried = trying.tried;
+    follows = trying.follows;
+    unserved = trying.unserved;
+    ends = here;
+    of_request = refl;
+    answered = refl;
+    over = last;
+    answers = attempted.is.answers;
     knew = trying.knows;
     knows = knows_all;
     no_other = no_other_all;
-    brief = tried_on m planning old r new (same_layout t old r of_old of_r) (same_requests t old r of_old of_r) asks asks' asks'' answer trying.quiet
-        (last_brief m planning request answer r new halts' halts'' asks' asks'' steps steps' attempted);
+    counted = counted_all;
+    asked = asked_all;
+    brief = tried_on m planning old r new (same_layout t old r of_old of_r) (same_requests t old r of_old of_r) asks asks' asks'' x trying.tries answer trying.quiet
+        (last_brief m planning request answer r new Seen halts' halts'' asks' asks'' steps' steps'' attempted trying.may trying.tries);
     once = trying.once;
   }

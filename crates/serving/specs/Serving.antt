@@ -1,6 +1,7 @@
 -- The serving of a list of requests: what may be served, and what each answer says.
-use Rattle.std.specs.Prelude.{◌≡◌, ◌≢◌, ℕ, ◌+◌, ◌*◌, ◌<◌, ◌≤◌, ◌⊎◌, List, length, Bool, true, false, not, ◌==◌, ◌&&◌, Option, None, Some, slice_get}
+use Rattle.std.specs.Prelude.{◌≡◌, ◌≢◌, ℕ, ◌+◌, ◌*◌, ◌<◌, ◌≤◌, ◌⊎◌, List, [], ◌∷◌, length, Bool, true, false, not, ◌==◌, ◌&&◌, ◌||◌, if◌then◌else◌, Option, None, Some, slice_get}
 use Rattle.map_history.specs.declared.op.Request.{Request}
+use Rattle.section_body.specs.Counted.{counted_on}
 use Rattle.structure_laws.specs.Meaning.{Meaning}
 use Rattle.structure_laws.specs.Cells.{slots}
 use Rattle.runner_parts.specs.declared.entries.Known.{Known}
@@ -13,7 +14,7 @@ use Rattle.attempts.specs.try_lock.specs.Planning.{Planning}
 use Rattle.attempts.specs.request_facts.specs.Laws.{HasEntry}
 use Rattle.attempts.specs.Knowing.{KnowsMore, IsOwn, LearnsNoOther}
 use Rattle.attempts.specs.Course.{MayAttempt, IsRefused}
-use Rattle.attempts.specs.Attempts.{most_of_attempt, IsShort, IsTurnedAway, Answers}
+use Rattle.attempts.specs.Attempts.{most_of_attempt, asks_more, has_met_held, IsShort, IsTurnedAway, Answers, IsAttempt}
 use Rattle.attempts.specs.declared.answers.Attempt.{Attempt}
 use Rattle.attempts.specs.declared.answers.Attempt.TheVariants as attempts
 use Rattle.spared_attempts.specs.Spared.{IsSpared}
@@ -36,6 +37,51 @@ is_crossed (attempts.Busy place word) = true
 is_crossed (attempts.Stale place expected read) = true
 is_crossed (attempts.Far loads) = true
 is_crossed _ = false
+
+-- one attempt in a serving: of which request, what it answered, how many steps were counted, whether a section was
+-- published, and whether it was refused since another one came between
+pub record Try : Type 0 where
+  pub request : Request
+  pub answer : Attempt
+  pub made : ℕ
+  pub published : Bool
+  pub crossed : Bool
+
+-- its request was served
+abbrev pub is_served : Attempt → Bool
+is_served (attempts.Done reply stamp) = true
+is_served _ = false
+
+-- another attempt follows: its request was served, or is attempted again
+abbrev pub goes_on : Bool → Try → Bool
+goes_on retry_short x = is_served x.answer || is_tried_again retry_short x.answer
+
+abbrev pub GoesOn : Bool → List Try → Type 0
+GoesOn retry_short [] = Unit {0}
+GoesOn retry_short (x ∷ xs) = goes_on retry_short x ≡ true
+
+-- how many requests these attempts served, how many steps were counted in them, how often the gate was asked, and whether
+-- one of them was refused since another one came between
+abbrev pub served_in : List Try → ℕ
+served_in [] = 0
+served_in (x ∷ xs) = (if is_served x.answer then 1 else 0) + served_in xs
+
+abbrev pub steps_in : List Try → ℕ
+steps_in [] = 0
+steps_in (x ∷ xs) = x.made + steps_in xs
+
+abbrev pub asks_in : List Try → ℕ
+asks_in [] = 0
+asks_in (x ∷ xs) = (x.made + asks_more x.answer x.published) + asks_in xs
+
+abbrev pub crossed_in : List Try → Bool
+crossed_in [] = false
+crossed_in (x ∷ xs) = x.crossed || crossed_in xs
+
+-- the asks for one request that is served, at least: behind the entry, behind the exchange that publishes, behind each of
+-- the thirteen loads with which the run of its section begins, and once more where the request is served
+abbrev pub least_asks : ℕ
+least_asks = 16
 
 -- how many runs came to their end, so many before and so many behind it, in a call whose last attempt answered
 -- so, where no other one came between
@@ -102,8 +148,9 @@ module _ {T : Type 0} where
     pub unanswered : r.part.published ≡ None → (q : Request) → slice_get requests count ≡ Some q
         → is_answered r.part.records.known q.number ≡ false
 
-  -- an attempt on this table was refused since another one came between
-  pub record WasCrossed (m : Meaning) (planning : Planning) (r : RunnerState T) : Type 0 where
+  -- one of these attempts was refused since another one came between: by such an answer, on this table
+  pub record WasCrossed (m : Meaning) (planning : Planning) (tries : List Try) (r : RunnerState T) : Type 0 where
+    pub tried : crossed_in tries ≡ true
     pub request : Request
     pub answer : Attempt
     pub before : RunnerState T
@@ -125,21 +172,47 @@ module _ {T : Type 0} where
     pub runs : ServedRuns answer count (length old.part.records.finished) (length new.part.records.finished)
     pub asked : asks' ≤ asks + (count + 1) * most_asks (slots m old.layout)
 
+  module _ (m : Meaning) (planning : Planning) where
+    -- the runner made this attempt
+    pub record IsTry (x : Try) (old new : RunnerState T) : Type 0 where
+      pub may : MayAttempt planning x.request old
+      pub is : IsAttempt m planning x.request x.answer x.made x.published old new
+      pub crossed : x.crossed ≡ (is_crossed x.answer || has_met_held m planning x.request x.answer old new is.answers)
+
+    module _ (retry_short : Bool) (requests : List Request) where
+      -- the runner made these attempts and no others, one behind the other; the last one stands first. Each is of the
+      -- request behind those that were served before, and each but the last one is followed by another
+      abbrev pub AreTried : List Try → RunnerState T → RunnerState T → Type 0
+      AreTried [] old new = new ≡ old
+      AreTried (x ∷ xs) old new = (mid : RunnerState T) × AreTried xs old mid × GoesOn retry_short xs
+          × (slice_get requests (served_in xs) ≡ Some x.request) × IsTry x mid new
+
   module _ (m : Meaning) (planning : Planning) (retry_short : Bool) where
     -- the request was attempted until this answer, after which it isn't attempted again. Before the last attempt the
     -- runner was as `before` says
     pub record Persists (request : Request) (answer : Attempt) (old new : RunnerState T)
-        (asks asks' : ℕ) : Type 0 where
+        (asks asks' steps steps' : ℕ) : Type 0 where
       pub before : RunnerState T
-      pub may : MayAttempt planning request before
+      -- the attempts before the last one, and that one
+      pub again : List Try
+      pub last : Try
+      pub tried : AreTried m planning retry_short (request ∷ []) again old before
+      pub follows : GoesOn retry_short again
+      pub unserved : served_in again ≡ 0
+      pub ends : IsTry m planning last before new
+      pub of_request : last.request ≡ request
+      pub answered : last.answer ≡ answer
+      pub over : is_tried_again retry_short answer ≡ false
       pub answers : Answers m planning request answer before new
-      pub last : is_tried_again retry_short answer ≡ false
       pub knew : KnowsMore old before
       pub knows : KnowsMore old new
       pub no_other : LearnsNoOther request.number old new
-      pub brief : WasCrossed m planning old ⊎ TriesBriefly m answer old new asks asks'
+      -- so many steps are counted, and the gate was asked so often
+      pub counted : steps' ≡ counted_on steps (steps_in (last ∷ again))
+      pub asked : asks' ≡ counted_on asks (asks_in (last ∷ again))
+      pub brief : WasCrossed m planning (last ∷ again) old ⊎ TriesBriefly m answer old new asks asks'
       -- where no attempt was refused since another one came between, and no want is waited out, there was one attempt
-      pub once : WasCrossed m planning old ⊎ (retry_short ≡ false → before ≡ old)
+      pub once : WasCrossed m planning again old ⊎ (retry_short ≡ false → again ≡ [])
 
     -- too few slots were free at the last attempt, and such a want isn't waited out, or no slot of the kind is in limbo
     pub record StopsShort (short : Short) (request : Request) (old new : RunnerState T) : Type 0 where
@@ -154,33 +227,44 @@ module _ {T : Type 0} where
 
     -- it stopped at this request, which isn't answered. Before the last attempt of it the runner was as `before` says,
     -- and it is idle now with an empty hand
-    pub record HasStopped (answer : Served) (request : Request) (old new : RunnerState T) : Type 0 where
+    pub record HasStopped (answer : Served) (request : Request) (tries : List Try) (old new : RunnerState T)
+        : Type 0 where
       pub before : RunnerState T
       pub knew : KnowsMore old before
       -- where few slots were retired lately when the serving began, so it was before that attempt, unless another one
       -- came between, or wants are waited out
-      pub spared : retry_short ≡ false → IsSpared old → WasCrossed m planning old ⊎ IsSpared before
+      pub spared : retry_short ≡ false → IsSpared old → WasCrossed m planning tries old ⊎ IsSpared before
       pub stops : Stops answer request before new
       pub tidy : IsTidy new
       pub unanswered : is_answered new.part.records.known request.number ≡ false
 
     -- how the serving ended behind so many served requests
-    abbrev pub Ends : List Request → Served → ℕ → RunnerState T → RunnerState T → Type 0
-    Ends requests answers.All count old new = (count ≡ length requests) × IsTidy new
-    Ends requests answers.Halted count old new = WasHalted requests count new
-    Ends requests answer count old new = (q : Request) × (slice_get requests count ≡ Some q)
-        × HasStopped answer q old new
+    abbrev pub Ends : List Request → Served → ℕ → List Try → RunnerState T → RunnerState T → Type 0
+    Ends requests answers.All count tries old new = (count ≡ length requests) × IsTidy new
+    Ends requests answers.Halted count tries old new = WasHalted requests count new
+    Ends requests answer count tries old new = (q : Request) × (slice_get requests count ≡ Some q)
+        × HasStopped answer q tries old new
 
     -- what the serving of these requests does
     pub record Serves (requests : List Request) (answer : Served) (old new : RunnerState T)
-        (asks asks' : ℕ) : Type 0 where
+        (asks asks' steps steps' : ℕ) : Type 0 where
       pub count : ℕ
       pub served : AreServed requests count new
-      pub ends : Ends requests answer count old new
+      -- its attempts, the last one first
+      pub tries : List Try
+      pub tried : AreTried m planning retry_short requests tries old new
+      pub ends : Ends requests answer count tries old new
       pub knows : KnowsMore old new
       -- its other own requests are as they were
       pub others : (q : Request) → IsOwn old q → ((i : ℕ) → slice_get requests i ≢ Some q)
           → is_answered new.part.records.known q.number ≡ is_answered old.part.records.known q.number
+      -- so many attempts served their request; so many steps are counted, those of the attempts; and the gate was asked as
+      -- often as in the attempts, and once more for each served request. The numbers are the gate's asks and the
+      -- counted steps, before and after
+      pub count_is : count ≡ served_in tries
+      pub counted : steps' ≡ counted_on steps (steps_in tries)
+      pub asked : asks' ≡ counted_on asks (asks_in tries + count)
+      pub least : count * least_asks ≤ asks_in tries + count
       -- where no attempt was refused since another one came between, so many runs came to their end, and the gate
-      -- was asked at most so often. The numbers are the gate's asks, before and after
-      pub brief : WasCrossed m planning old ⊎ ServesBriefly m answer count old new asks asks'
+      -- was asked at most so often
+      pub brief : WasCrossed m planning tries old ⊎ ServesBriefly m answer count old new asks asks'

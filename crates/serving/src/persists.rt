@@ -51,7 +51,8 @@ pub fn persist<R: Wait, S: Planner, G: Gate, L>(
     requires own { IsOf table.now runner }
     requires next { MayAttempt (S.planning table.now.structure) request.now runner }
     ensures own { IsOf table.now result.0 }
-    ensures persists { Persists (S.meaning table.now.structure) (S.planning table.now.structure) retry_short request.now result.1 runner result.0 (G.asks gate.old) (G.asks gate.new) }
+    ensures persists { Persists (S.meaning table.now.structure) (S.planning table.now.structure) retry_short request.now
+        result.1 runner result.0 (G.asks gate.old) (G.asks gate.new) steps.old.count steps.new.count }
     ensures halted { result.1 ≡ attempts.Halted → Rose (G.halts gate.old) (G.halts gate.new) }
     ensures went { result.1 ≢ attempts.Halted → G.halts gate.new ≡ G.halts gate.old }
 {

@@ -54,7 +54,8 @@ pub fn serve<R: Threads + Wait + Sync, S: Planner, G: Gate, L>(
     requires own { IsOf table.now runner }
     requires next { MayServe (S.planning table.now.structure) requests.now runner }
     ensures own { IsOf table.now result.0 }
-    ensures serves { Serves (S.meaning table.now.structure) (S.planning table.now.structure) retry_short requests.now result.1 runner result.0 (G.asks gate.old) (G.asks gate.new) }
+    ensures serves { Serves (S.meaning table.now.structure) (S.planning table.now.structure) retry_short requests.now
+        result.1 runner result.0 (G.asks gate.old) (G.asks gate.new) steps.old.count steps.new.count }
     ensures halted { result.1 ≡ answers.Halted → Rose (G.halts gate.old) (G.halts gate.new) }
     ensures went { result.1 ≢ answers.Halted → G.halts gate.new ≡ G.halts gate.old }
 {

@@ -14,5 +14,5 @@ attempt-runner-requires-clause-next g c κs within =
 pub attempt-last-requires-clause-next : goal.attempt-last-requires-clause-next
 attempt-last-requires-clause-next g c κs within =
     may_ask_again (g.S.Structure.meaning c.args.table.now.structure) (g.S.Planner.planning c.args.table.now.structure) c.args.table.now c.requires.scene c.args.runner c.attempt-runner.result.0
-    c.requires.own c.attempt-runner.ensures.own c.asked-request.result c.attempt-runner.result.1 _ _ _ _ _ _ c.attempt-runner.ensures.attempts
+    c.requires.own c.attempt-runner.ensures.own c.asked-request.result c.attempt-runner.result.1 _ _ _ _ _ _ _ c.attempt-runner.ensures.attempts
     c.requires.fresh.number c.asked-request.ensures c.in-Busy.place c.in-Busy.word c.in-Busy.is

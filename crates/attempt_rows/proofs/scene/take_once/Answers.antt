@@ -16,5 +16,5 @@ attempt-requires-clause-next g c κs within =
     let planning = g.S.Planner.planning c.args.table.now.structure in
     subst (λ q. MayAttempt planning q c.attempt-runner.result.0) (sym c.taken.ensures)
     (may_take_then (g.S.Structure.meaning c.args.table.now.structure) planning c.args.table.now c.requires.scene c.args.runner c.attempt-runner.result.0
-    c.requires.own c.attempt-runner.ensures.own c.added-request.result c.attempt-runner.result.1 _ _ _ _ _ _ c.attempt-runner.ensures.attempts
+    c.requires.own c.attempt-runner.ensures.own c.added-request.result c.attempt-runner.result.1 _ _ _ _ _ _ _ c.attempt-runner.ensures.attempts
     c.requires.fresh c.added-request.ensures c.in-Done.reply c.in-Done.stamp c.in-Done.is)

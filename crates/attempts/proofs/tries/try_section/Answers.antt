@@ -1,5 +1,6 @@
-use Rattle.std.proofs.Common.{Ok, Err, sym, ◌∙◌, subst}
+use Rattle.std.proofs.Common.{Ok, Err, length, refl, sym, ◌∙◌, subst}
 use Rattle.lock_walks.specs.try_lock.specs.Publishes.{Publishes}
+use Rattle.attempts.specs.Counted.{IsSeen}
 use Rattle.attempts.specs.Rests.{MayLeave, HasTurned}
 use Rattle.attempts.proofs.Courses.{may_publish, refused_may_leave}
 use Rattle.attempts.proofs.Trying.{tried_of}
@@ -33,7 +34,7 @@ pub returns-in-Ok-clause-rests : goal.returns-in-Ok-clause-rests
 returns-in-Ok-clause-rests g c =
     λ old readings planned.
     let publishes = subst (λ a. Publishes (g.S.Structure.meaning c.args.table.now.structure) c.args.thunk.now a c.args.runner c.publish-runner.result.0) c.in-Ok.is c.publish-runner.ensures.publishes in
-    tried_rests (g.S.Structure.meaning c.args.table.now.structure) (g.S.Planner.planning c.args.table.now.structure) c.args.request.now c.args.thunk.now c.in-Ok.section old c.args.runner c.publish-runner.result.0 c.run_own.result.0 c.run_own.result.1 publishes (c.publish-runner.ensures.own.layout ∙ sym c.requires.own.layout) (c.publish-runner.ensures.own.requests ∙ sym c.requires.own.requests) _ _ _ _ _ _
+    tried_rests (g.S.Structure.meaning c.args.table.now.structure) (g.S.Planner.planning c.args.table.now.structure) c.args.request.now c.args.thunk.now c.in-Ok.section (length readings) old c.args.runner c.publish-runner.result.0 c.run_own.result.0 c.run_own.result.1 publishes (c.publish-runner.ensures.own.layout ∙ sym c.requires.own.layout) (c.publish-runner.ensures.own.requests ∙ sym c.requires.own.requests) (IsSeen g.G.Gate.halts g.G.Gate.asks) _ _ _ _ _ _
     (c.run_own.ensures.rests old c.args.thunk.now (tried_of (g.S.Structure.meaning c.args.table.now.structure) (g.S.Planner.planning c.args.table.now.structure) c.args.request.now old readings c.args.thunk.now c.args.runner planned (Ok c.in-Ok.section) c.publish-runner.result.0 publishes (c.publish-runner.ensures.own.layout ∙ sym c.requires.own.layout) (c.publish-runner.ensures.own.requests ∙ sym c.requires.own.requests)))
 
 pub returns-in-Err-clause-rests : goal.returns-in-Err-clause-rests
@@ -42,5 +43,5 @@ returns-in-Err-clause-rests g c =
     λ old readings planned.
     let publishes = subst (λ a. Publishes (g.S.Structure.meaning c.args.table.now.structure) c.args.thunk.now a c.args.runner c.publish-runner.result.0) c.in-Err.is c.publish-runner.ensures.publishes in
     lost_rests (g.S.Structure.meaning c.args.table.now.structure) (met.laws c.args.table.now.structure) c.args.table.now c.table_is_allowed.ensures.limits c.table_is_allowed.ensures.requests (g.S.Planner.planning c.args.table.now.structure) c.args.request.now c.args.thunk.now c.in-Err.refused old c.args.runner c.publish-runner.result.0 c.publish-runner.ensures.own readings planned publishes (c.publish-runner.ensures.own.layout ∙ sym c.requires.own.layout) (c.publish-runner.ensures.own.requests ∙ sym c.requires.own.requests)
-    c.turn_away.result.1 c.turn_away.result.0 c.turn_away.ensures.own _ _ _ _ _ _
+    c.turn_away.result.1 c.turn_away.result.0 c.turn_away.ensures.own (IsSeen g.G.Gate.halts g.G.Gate.asks) _ _ _ _ _ _ (c.args.gate.now, refl, refl)
     (subst (λ a. HasTurned (g.S.Structure.meaning c.args.table.now.structure) a c.turn_away.result.1 c.publish-runner.result.0 c.turn_away.result.0 (g.G.Gate.halts c.args.gate.now) (g.G.Gate.halts c.turn_away.new.gate) (g.G.Gate.asks c.args.gate.now) (g.G.Gate.asks c.turn_away.new.gate) c.args.steps.now.count c.turn_away.new.steps.count) c.lock_refused.ensures c.turn_away.ensures.turned)

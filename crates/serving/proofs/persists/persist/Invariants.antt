@@ -7,3 +7,4 @@ invariant-loop g l = (goal.iterator-loop g).can_next l.iterator' × (goal.iterat
     × IsOf l.table l.runner
     × IsTrying (g.S.Structure.meaning l.table.structure) (g.S.Planner.planning l.table.structure) l.request l.retry_short l.fn.runner l.runner
     (g.G.Gate.halts l.initial.gate) (g.G.Gate.halts l.gate) (g.G.Gate.asks l.initial.gate) (g.G.Gate.asks l.gate)
+    l.initial.steps.count l.steps.count

@@ -2,8 +2,16 @@ use Rattle.std.proofs.Common.{◌≡◌, length, arith, refl, sym, ◌∙◌, su
 use Rattle.std.proofs.lemmas.Option.{slice_get-get_or}
 use Rattle.fault_count.specs.Rose.{Rose}
 use Rattle.spared_attempts.specs.Spared.{AttemptsSpareSlots}
-use Rattle.serving.proofs.Along.{may_next, stopped_serves, goes_along, brief_along, spared_along, halted_behind, all_served, going_of}
+use Rattle.serving.proofs.Along.{along_begins, may_next, so_far_begins, stopped_serves, goes_along, so_far_along, halted_behind, all_served, going_of}
 use Rattle.serving.proofs.serves.serve.Goals as goal
+
+pub loop-request-init : goal.loop-request-init
+loop-request-init g c = record {
+  own = c.requires.own;
+  along = along_begins (g.S.Planner.planning c.args.table.now.structure) c.args.requests.now c.args.runner c.requires.next;
+  so_far = so_far_begins (g.S.Structure.meaning c.args.table.now.structure) (g.S.Planner.planning c.args.table.now.structure) c.args.requests.now c.args.retry_short c.args.runner _ _;
+  went = refl;
+}
 
 pub persist-next-requires-clause-next : goal.persist-next-requires-clause-next
 persist-next-requires-clause-next g c κs within = let inv = c.loop-request.invariant in
@@ -19,7 +27,9 @@ returns-in-Some-clause-serves g c =
     c.args.requests.now c.args.retry_short c.args.runner c.loop-request.runner c.persist-next.result.0
     c.args.table.now c.table_is_allowed.ensures.limits c.table_is_allowed.ensures.requests c.requires.own inv.own c.persist-next.ensures.own
     c.requires.next c.loop-request.request-index _ (slice_get-get_or c.args.requests.now c.loop-request.request-index _ c.loop-request-test.true) inv.along
-    c.persist-next.result.1 _ _ _ c.persist-next.ensures.persists inv.brief (subst (λ s. AttemptsSpareSlots g.row.S.Denot (g.S.Structure.meaning s) (g.S.Planner.planning s)) c.structure.ensures c.attempts_spare_slots.ensures) inv.spared c.in-Some.stopped (sym c.in-Some.ensures)
+    c.persist-next.result.1 _ _ _ _ _ _ c.persist-next.ensures.persists inv.so_far
+    (subst (λ s. AttemptsSpareSlots g.row.S.Denot (g.S.Structure.meaning s) (g.S.Planner.planning s)) c.structure.ensures c.attempts_spare_slots.ensures)
+    c.in-Some.stopped (sym c.in-Some.ensures)
 
 pub returns-then-not-goes_on-clause-serves : goal.returns-then-not-goes_on-clause-serves
 returns-then-not-goes_on-clause-serves g c =
@@ -31,12 +41,16 @@ returns-then-not-goes_on-clause-serves g c =
     c.args.requests.now c.args.retry_short c.args.runner c.loop-request.runner c.persist-next.result.0
     c.args.table.now c.table_is_allowed.ensures.limits c.table_is_allowed.ensures.requests c.requires.own inv.own c.persist-next.ensures.own
     c.requires.next c.loop-request.request-index _ (slice_get-get_or c.args.requests.now c.loop-request.request-index _ c.loop-request-test.true) inv.along
-    c.persist-next.result.1 _ _ _ c.persist-next.ensures.persists inv.brief (subst (λ s. AttemptsSpareSlots g.row.S.Denot (g.S.Structure.meaning s) (g.S.Planner.planning s)) c.structure.ensures c.attempts_spare_slots.ensures) inv.spared (sym c.in_default.ensures))
-    _ _ (brief_along (g.S.Structure.meaning c.args.table.now.structure) (met.laws c.args.table.now.structure) (g.S.Planner.planning c.args.table.now.structure)
+    c.persist-next.result.1 _ _ _ _ _ _ c.persist-next.ensures.persists inv.so_far
+    (subst (λ s. AttemptsSpareSlots g.row.S.Denot (g.S.Structure.meaning s) (g.S.Planner.planning s)) c.structure.ensures c.attempts_spare_slots.ensures)
+    (sym c.in_default.ensures))
+    _ _ _ _ (so_far_along (g.S.Structure.meaning c.args.table.now.structure) (met.laws c.args.table.now.structure) (g.S.Planner.planning c.args.table.now.structure)
     c.args.requests.now c.args.retry_short c.args.runner c.loop-request.runner c.persist-next.result.0
     c.args.table.now c.table_is_allowed.ensures.limits c.table_is_allowed.ensures.requests c.requires.own inv.own c.persist-next.ensures.own
     c.requires.next c.loop-request.request-index _ (slice_get-get_or c.args.requests.now c.loop-request.request-index _ c.loop-request-test.true) inv.along
-    c.persist-next.result.1 _ _ _ c.persist-next.ensures.persists inv.brief (subst (λ s. AttemptsSpareSlots g.row.S.Denot (g.S.Structure.meaning s) (g.S.Planner.planning s)) c.structure.ensures c.attempts_spare_slots.ensures) inv.spared (sym c.in_default.ensures) _ (c.if-not-goes_on.ensures 0).asked)
+    c.persist-next.result.1 _ _ _ _ _ _ c.persist-next.ensures.persists inv.so_far
+    (subst (λ s. AttemptsSpareSlots g.row.S.Denot (g.S.Structure.meaning s) (g.S.Planner.planning s)) c.structure.ensures c.attempts_spare_slots.ensures)
+    (sym c.in_default.ensures) _ (c.if-not-goes_on.ensures 0).asked)
 
 pub returns-then-not-goes_on-clause-halted : goal.returns-then-not-goes_on-clause-halted
 returns-then-not-goes_on-clause-halted g c = λ _.
@@ -50,20 +64,19 @@ loop-request-preserved g c =
     let inv = c.loop-request.invariant in record {
       own = c.persist-next.ensures.own;
       along = goes_along (g.S.Structure.meaning c.args.table.now.structure) (met.laws c.args.table.now.structure) (g.S.Planner.planning c.args.table.now.structure)
-          c.args.requests.now c.args.retry_short c.args.runner c.loop-request.runner c.persist-next.result.0
-          c.args.table.now c.table_is_allowed.ensures.limits c.table_is_allowed.ensures.requests c.requires.own inv.own c.persist-next.ensures.own
-          c.requires.next c.loop-request.request-index _ (slice_get-get_or c.args.requests.now c.loop-request.request-index _ c.loop-request-test.true) inv.along
-          c.persist-next.result.1 _ _ _ c.persist-next.ensures.persists inv.brief (subst (λ s. AttemptsSpareSlots g.row.S.Denot (g.S.Structure.meaning s) (g.S.Planner.planning s)) c.structure.ensures c.attempts_spare_slots.ensures) inv.spared (sym c.in_default.ensures);
-      brief = brief_along (g.S.Structure.meaning c.args.table.now.structure) (met.laws c.args.table.now.structure) (g.S.Planner.planning c.args.table.now.structure)
-          c.args.requests.now c.args.retry_short c.args.runner c.loop-request.runner c.persist-next.result.0
-          c.args.table.now c.table_is_allowed.ensures.limits c.table_is_allowed.ensures.requests c.requires.own inv.own c.persist-next.ensures.own
-          c.requires.next c.loop-request.request-index _ (slice_get-get_or c.args.requests.now c.loop-request.request-index _ c.loop-request-test.true) inv.along
-          c.persist-next.result.1 _ _ _ c.persist-next.ensures.persists inv.brief (subst (λ s. AttemptsSpareSlots g.row.S.Denot (g.S.Structure.meaning s) (g.S.Planner.planning s)) c.structure.ensures c.attempts_spare_slots.ensures) inv.spared (sym c.in_default.ensures) _ (c.if-not-goes_on.ensures 0).asked;
-      spared = spared_along (g.S.Structure.meaning c.args.table.now.structure) (met.laws c.args.table.now.structure) (g.S.Planner.planning c.args.table.now.structure)
-          c.args.requests.now c.args.retry_short c.args.runner c.loop-request.runner c.persist-next.result.0
-          c.args.table.now c.table_is_allowed.ensures.limits c.table_is_allowed.ensures.requests c.requires.own inv.own c.persist-next.ensures.own
-          c.requires.next c.loop-request.request-index _ (slice_get-get_or c.args.requests.now c.loop-request.request-index _ c.loop-request-test.true) inv.along
-          c.persist-next.result.1 _ _ _ c.persist-next.ensures.persists inv.brief (subst (λ s. AttemptsSpareSlots g.row.S.Denot (g.S.Structure.meaning s) (g.S.Planner.planning s)) c.structure.ensures c.attempts_spare_slots.ensures) inv.spared (sym c.in_default.ensures);
+    c.args.requests.now c.args.retry_short c.args.runner c.loop-request.runner c.persist-next.result.0
+    c.args.table.now c.table_is_allowed.ensures.limits c.table_is_allowed.ensures.requests c.requires.own inv.own c.persist-next.ensures.own
+    c.requires.next c.loop-request.request-index _ (slice_get-get_or c.args.requests.now c.loop-request.request-index _ c.loop-request-test.true) inv.along
+    c.persist-next.result.1 _ _ _ _ _ _ c.persist-next.ensures.persists inv.so_far
+    (subst (λ s. AttemptsSpareSlots g.row.S.Denot (g.S.Structure.meaning s) (g.S.Planner.planning s)) c.structure.ensures c.attempts_spare_slots.ensures)
+          (sym c.in_default.ensures);
+      so_far = so_far_along (g.S.Structure.meaning c.args.table.now.structure) (met.laws c.args.table.now.structure) (g.S.Planner.planning c.args.table.now.structure)
+    c.args.requests.now c.args.retry_short c.args.runner c.loop-request.runner c.persist-next.result.0
+    c.args.table.now c.table_is_allowed.ensures.limits c.table_is_allowed.ensures.requests c.requires.own inv.own c.persist-next.ensures.own
+    c.requires.next c.loop-request.request-index _ (slice_get-get_or c.args.requests.now c.loop-request.request-index _ c.loop-request-test.true) inv.along
+    c.persist-next.result.1 _ _ _ _ _ _ c.persist-next.ensures.persists inv.so_far
+    (subst (λ s. AttemptsSpareSlots g.row.S.Denot (g.S.Structure.meaning s) (g.S.Planner.planning s)) c.structure.ensures c.attempts_spare_slots.ensures)
+          (sym c.in_default.ensures) _ (c.if-not-goes_on.ensures 0).asked;
       went = (c.if-not-goes_on.ensures 0).went refl
           ∙ (c.persist-next.ensures.went (going_of c.persist-next.result.1 (sym c.in_default.ensures)) ∙ inv.went);
     }
@@ -73,4 +86,4 @@ returns-clause-serves g c =
     let inv = c.loop-request.invariant in
     let all : c.loop-request.request-index ≡ length c.args.requests.now = (let a = c.loop-request-test.false in let b = c.loop-request.auto.request-index-end in omega (arith, a, b)) in
     all_served (g.S.Structure.meaning c.args.table.now.structure) (g.S.Planner.planning c.args.table.now.structure) c.args.requests.now c.args.retry_short
-    c.args.runner c.loop-request.runner c.loop-request.request-index inv.along _ _ inv.brief all
+    c.args.runner c.loop-request.runner c.loop-request.request-index inv.along _ _ _ _ inv.so_far all
