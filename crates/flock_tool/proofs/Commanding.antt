@@ -1,19 +1,22 @@
 -- From how each command ends to the clauses of the top call.
-use Rattle.std.proofs.Common.{◌≡◌, ◌≢◌, ℕ, List, Option, None, codes, refl, inl, inr, subst, arith}
-use Rattle.std.specs.Prelude.{◌⊎◌, ◌≤◌}
+use Rattle.std.proofs.Common.{◌≡◌, ◌≢◌, ℕ, List, Option, None, Some, IsSome, codes, refl, sym, ◌∙◌, ⊎_elim, inl, inr, subst, arith}
+use Rattle.std.specs.Prelude.{◌⊎◌, ◌↔◌, ◌≤◌}
 use Rattle.trace_reader.specs.declared.generator.Gen.{Gen}
 use Rattle.trace_reader.specs.declared.traces.TraceError.TheVariants.{ReadFault, Memory, TooLarge, Malformed, TooManyTraces, TooManyRequests}
 use Rattle.flock_words.specs.Commands.{AreAccepted, IsCommand}
 use Rattle.flock_words.specs.declared.command.Command.{Command}
 use Rattle.flock_words.specs.declared.command.Command.TheVariants as commands
 use Rattle.flock_words.specs.declared.generated.LoadOptions.{LoadOptions}
-use Rattle.flock_tool.specs.Commands.{Ends, GenPrints, IsNoCommand, LoadRuns}
+use Rattle.flock_tool.specs.Commands.{Ends, GenPrints, IsNoCommand, LoadRuns, RefusedEnds}
 use Rattle.flock_tool.specs.End.{stop_line, stop_status}
+use Rattle.flock_tool.specs.Runs.{IsRunStatus}
 use Rattle.flock_tool.specs.Streams.{Gating, IsIdle, IsUntouched, Stream, Told}
 use Rattle.flock_tool.specs.declared.ran.Ran.{Ran}
 use Rattle.flock_tool.specs.declared.status.Stop.{Stop}
 use Rattle.flock_tool.specs.declared.status.Stop.TheVariants.{Words, Text, Nodes, WriteFault}
+use Rattle.flock_tool.proofs.Ends.{stop_at_2, stop_at_7}
 use Rattle.flock_tool.proofs.Loading.{load_refused}
+use Rattle.flock_tool.proofs.Reported.{some_back}
 use Rattle.flock_tool.proofs.Running.{run_lacks}
 
 abbrev IsOne : List (List ℕ) → Type 0
@@ -46,7 +49,7 @@ module _ (result : ℕ × Option Ran) (source sink faults : Stream) (gates : Gat
   }
   lacks (commands.Load load) seven none told unread untouched idle = record {
     unread = unread;
-    runs = load_refused load result sink faults gates (Text Memory) tt seven none told untouched;
+    runs = load_refused load result sink faults gates (Text Memory) tt seven none told untouched (λ _. idle);
   }
 
   -- no command was read
@@ -73,6 +76,28 @@ none_status words (Text (TooManyTraces count)) refused = absurd refused
 none_status words (Text (TooManyRequests count)) refused = absurd refused
 none_status words (Nodes count) refused = absurd refused
 none_status words WriteFault refused = absurd refused
+
+-- words that are no command are refused
+pub refused_ends : (result : ℕ × Option Ran) (source sink faults : Stream) (gates : Gating) (words : List (List ℕ)) (stop : Stop) → IsNoCommand words stop
+    → result.0 ≡ stop_status stop → result.1 ≡ None → Told (stop_line stop) faults → IsUntouched source → IsUntouched sink → IsIdle gates
+    → RefusedEnds result source sink faults gates
+refused_ends result source sink faults gates words stop refused status none told unread untouched idle = record {
+  status = ⊎_elim (λ two. inl (status ∙ two)) (λ seven. inr (status ∙ seven)) (none_status words stop refused);
+  none = none;
+  unread = unread;
+  silent = untouched;
+  idle = idle;
+  words = λ two. subst (λ (s : Stop). Told (stop_line s) faults) (stop_at_2 stop (sym status ∙ two)) told;
+  memory = λ seven. subst (λ (s : Stop). Told (stop_line s) faults) (stop_at_7 stop (sym status ∙ seven)) told;
+}
+
+-- where nothing was run nothing comes back
+pub back_none : (result : ℕ × Option Ran) → IsSome result.1 ↔ IsRunStatus result.0 → (IsRunStatus result.0 → ⊥) → result.1 ≡ None
+back_none result ran not = by result.1 (λ some. not (ran.0 some))
+  where
+    by : (back : Option Ran) → (IsSome back → ⊥) → back ≡ None
+    by None absent = refl
+    by (Some ran) absent = absurd (absent (some_back (Some ran) ran refl))
 
 pub none_accepted : (words : List (List ℕ)) (stop : Stop) → IsNoCommand words stop → AreAccepted words → stop_status stop ≢ 2
 none_accepted words Words refused accepted two = refused accepted

@@ -29,7 +29,7 @@ use Rattle.flock_tool.specs.Complete.{Completes, HasEnoughSlots, HasEnoughVersio
 use Rattle.flock_tool.specs.Finish.{finish_by, finish_status}
 use Rattle.flock_tool.specs.Loads.{HasCounted, HasLoadRun}
 use Rattle.flock_tool.specs.Plans.{AsksTooMuch, LoadAsksTooMuch, all_nodes, all_requests, layout_by}
-use Rattle.flock_tool.specs.Runs.{words_in, answers_in, meaning_of, per_pair_in, HasEnded, HasRun, IsRunOf, IsRunStatus}
+use Rattle.flock_tool.specs.Runs.{words_in, answers_in, meaning_of, per_pair_in, waits_out, HasEnded, HasRun, IsRunOf, IsRunStatus}
 use Rattle.flock_tool.specs.Streams.{Gating, Stream}
 use Rattle.flock_tool.specs.Valid.{HasRoom, IsValid, IsWhole, NothingFails}
 use Rattle.flock_tool.specs.declared.ran.Ran.{Ran}
@@ -93,7 +93,7 @@ module _ (options : RunOptions) (traces : Traces) (count : ℕ) (count_is : coun
 
   -- with room, its status isn't 5
   not_five : HasRoom options traces → (number : ℕ) → Completes (meaning_of ran) (words_in ran) waits number → number ≢ 5
-  not_five room number completes = completes.slots waited enough
+  not_five room number suffices = suffices.slots waited enough
     where
       waited : waits ≢ false
       waited = not_of (names_below options.halts (words_in ran).layout.runners)
@@ -185,9 +185,9 @@ module _ (result : ℕ × Option Ran) (source sink faults : Stream) (gates : Gat
       → (text : List ℕ) (traces : Traces) → source.before ≡ Some text → AreTracesOf traces text
       → all_nodes (layout_by options traces.count traces.requests) ≤ 262144
       → ((ran : Ran) (count : ℕ) → count ≡ traces.count → (words_in ran).requests ≡ traces.requests → IsRunOf options count ran
-      → HasEnded ran count result.0 sink faults → result.1 ≡ Some ran → (result.0 ≢ 5) × (result.0 ≢ 6))
+      → HasEnded ran count (waits_out options.halts (words_in ran).layout.runners) result.0 sink faults → result.1 ≡ Some ran → (result.0 ≢ 5) × (result.0 ≢ 6))
       → IsWhole result ⊎ (result.0 ≡ 7)
-  run_done options ends fine text traces tells are room avoids = by (at _ (ends.complete fine.read) are.accepted)
+  run_done options ends fine text traces tells are room avoids = by (at _ (ends.grammatical fine.read) are.accepted)
     where
       at : (P : List ℕ → Type 0) → IfSome source.before P → P text
       at P given = subst (λ left. IfSome left P) tells given
@@ -203,7 +203,7 @@ module _ (result : ℕ × Option Ran) (source sink faults : Stream) (gates : Gat
       on ran back status = record { status = is_0; answered = to_back (λ r. IsAnswered (meaning_of r) (words_in r)) result.1 ran back all }
         where
           ended : (count : ℕ) × HasRun options source.before count ran gates
-              × HasEnded ran count result.0 sink faults
+              × HasEnded ran count (waits_out options.halts (words_in ran).layout.runners) result.0 sink faults
           ended = of_back _ result.1 ran back ends.ended
 
           read : AreTracesOf (record { count = ended.0; requests = (words_in ran).requests }) text
@@ -227,7 +227,7 @@ module _ (result : ℕ × Option Ran) (source sink faults : Stream) (gates : Gat
   load_done : (load : LoadOptions) → LoadEnds load result source sink faults gates → NothingStops source sink gates
       → all_requests load.plan ≤ 131072 → all_nodes (layout_by load.run load.plan.traces (generated load.plan)) ≤ 262144
       → ((ran : Ran) → (words_in ran).requests ≡ generated load.plan → IsRunOf load.run load.plan.traces ran
-      → HasCounted ran result.0 sink faults → result.1 ≡ Some ran → (result.0 ≢ 5) × (result.0 ≢ 6))
+      → HasCounted ran (waits_out load.run.halts (words_in ran).layout.runners) result.0 sink faults → result.1 ≡ Some ran → (result.0 ≢ 5) × (result.0 ≢ 6))
       → IsWhole result ⊎ (result.0 ≡ 7)
   load_done load ends fine few room avoids = by ends.runs.statuses
     where
@@ -235,7 +235,7 @@ module _ (result : ℕ × Option Ran) (source sink faults : Stream) (gates : Gat
       on ran back status = record { status = is_0; answered = to_back (λ r. IsAnswered (meaning_of r) (words_in r)) result.1 ran back all }
         where
           ended : HasLoadRun load ran gates
-              × HasCounted ran result.0 sink faults
+              × HasCounted ran (waits_out load.run.halts (words_in ran).layout.runners) result.0 sink faults
           ended = of_back _ result.1 ran back ends.runs.ended
 
           is_0 : result.0 ≡ 0
@@ -252,7 +252,7 @@ module _ (result : ℕ × Option Ran) (source sink faults : Stream) (gates : Gat
 
       by : IsRunStatus result.0 ⊎ (result.0 ≡ 4) ⊎ (result.0 ≡ 7) → IsWhole result ⊎ (result.0 ≡ 7)
       by (inl status) = let back = some_of result.1 (ends.runs.ran.1 status) in inl (on back.0 back.1 status)
-      by (inr (inl four)) = absurd (at_4 (⊎_elim (λ much. inl (much.0, tt)) (λ asks. inr (asks.0, asks.1.0)) (ends.runs.limit four)))
+      by (inr (inl four)) = absurd (at_4 (⊎_elim (λ much. inl (much.0, tt)) (λ asks. inr (asks.1.0, asks.1.1.0)) (ends.runs.limit four)))
       by (inr (inr seven)) = inr seven
 
   stops_none : NothingFails result.1 source sink gates → NothingStops source sink gates
@@ -262,15 +262,15 @@ module _ (result : ℕ × Option Ran) (source sink faults : Stream) (gates : Gat
   pub whole : (command : Command) → Ends command result source sink faults gates → IsValid command source.before → NothingFails result.1 source sink gates
       → IsWhole result ⊎ (result.0 ≡ 7)
   whole (commands.Run options) ends (text, traces, tells, are, room) fine = run_done options ends (stops_none fine) text traces tells are room.few
-      (λ ran count counted requests run ended back. let completes = ended.completes _ run.served in (
-        not_five options traces count counted ran requests run room result.0 completes,
-        completes.versions (of_back (λ r. HasEnoughVersions (meaning_of r) (words_in r)) result.1 ran back fine.versions),
+      (λ ran count counted requests run ended back. let enough = ended.enough in (
+        not_five options traces count counted ran requests run room result.0 enough,
+        enough.versions (of_back (λ r. HasEnoughVersions (meaning_of r) (words_in r)) result.1 ran back fine.versions),
       ))
   whole (commands.Gen plan) ends valid fine = gen_whole plan ends valid fine
   whole (commands.Load load) ends (few, room) fine = load_done load ends (stops_none fine) few room.few
-      (λ ran requests run counted back. let completes = counted.completes _ run.served in (
-        not_five load.run (traces_by load) load.plan.traces refl ran requests run room result.0 completes,
-        completes.versions (of_back (λ r. HasEnoughVersions (meaning_of r) (words_in r)) result.1 ran back fine.versions),
+      (λ ran requests run counted back. let enough = counted.enough in (
+        not_five load.run (traces_by load) load.plan.traces refl ran requests run room result.0 enough,
+        enough.versions (of_back (λ r. HasEnoughVersions (meaning_of r) (words_in r)) result.1 ran back fine.versions),
       ))
 
   -- and with one runner

@@ -35,7 +35,7 @@ other_is (Versions place word) is zero = absurd (omega (arith, zero))
 module _ (ran : Ran) (requests : ℕ) (count : Counted) (finish : Finish) (finish_is : finish ≡ finish_by (answers_in ran) count.tally.unserved)
     (counted : IsCounted (meaning_of ran) (words_in ran) count) (long : requests ≡ length (words_in ran).requests)
     (limits : IsWithinLimits (words_in ran).layout) (allowed : AreAllowed (words_in ran).requests)
-    (served : (retry_short : Bool) × AreServed (meaning_of ran) (words_in ran) retry_short (answers_in ran)) where
+    (waits : Bool) (served : AreServed (meaning_of ran) (words_in ran) waits (answers_in ran)) where
   abbrev text : List ℕ
   text = counts_text requests count.tally.counts count.size
 
@@ -53,12 +53,12 @@ module _ (ran : Ran) (requests : ℕ) (count : Counted) (finish : Finish) (finis
   none_left : is_whole finish ≡ true → left ≡ 0
   none_left whole =
       ⊎_elim (λ zero. zero)
-      (λ all. all_served (meaning_of ran) (words_in ran) allowed served.0 (answers_in ran) served.1 limits.some_runners all counted.tally.entries counted.tally.shown)
+      (λ all. all_served (meaning_of ran) (words_in ran) allowed waits (answers_in ran) served limits.some_runners all counted.tally.entries counted.tally.shown)
       (zero_all (answers_in ran) left (ap finish_status (sym finish_same) ∙ ap finish_status (whole_is finish whole)))
 
   -- something kept a request from its answer: nothing is printed
   pub loaded_other : (number : ℕ) (sink faults : Stream) → is_whole finish ≡ false → number ≡ finish_status finish → IsUntouched sink
-      → TellsFinish finish faults → EndsLoad ran (number, Some ran) sink faults
+      → TellsFinish finish faults → EndsLoad ran waits (number, Some ran) sink faults
   loaded_other number sink faults other is untouched tells =
       let run = finish_run finish in
       let not_nine : number ≢ 9 = λ nine. run.1 (sym is ∙ nine) in
@@ -78,7 +78,7 @@ module _ (ran : Ran) (requests : ℕ) (count : Counted) (finish : Finish) (finis
           steady = λ _. untouched.steady;
           status = λ _. is ∙ ap finish_status finish_same;
           line = λ _. subst (λ (f : Finish). TellsFinish f faults) finish_same tells;
-          completes = λ waits are. completes (meaning_of ran) (words_in ran) waits (answers_in ran) are left limits.some_sections number (is ∙ ap finish_status finish_same);
+          enough = completes (meaning_of ran) (words_in ran) waits (answers_in ran) served left limits.some_sections number (is ∙ ap finish_status finish_same);
           failed = λ nine. absurd (not_nine nine);
           halted = λ one. one_halted (answers_in ran) left (ap finish_status (sym finish_same) ∙ sym is ∙ one);
         };
@@ -86,7 +86,7 @@ module _ (ran : Ran) (requests : ℕ) (count : Counted) (finish : Finish) (finis
 
   -- the counts were printed whole
   pub loaded_whole : (sink faults : Stream) → is_whole finish ≡ true → Extends sink.before text sink.after → sink.faults_after ≡ sink.faults_before
-      → IsUntouched faults → EndsLoad ran (0, Some ran) sink faults
+      → IsUntouched faults → EndsLoad ran waits (0, Some ran) sink faults
   loaded_whole sink faults whole printed steady untouched = record {
     status = inl refl;
     back = refl;
@@ -102,7 +102,7 @@ module _ (ran : Ran) (requests : ℕ) (count : Counted) (finish : Finish) (finis
       steady = λ _. steady;
       status = λ _. sym (ap finish_status (sym finish_same) ∙ ap finish_status (whole_is finish whole));
       line = λ _. subst (λ (f : Finish). TellsFinish f faults) (sym (whole_is finish whole) ∙ finish_same) (untouched.same, untouched.steady);
-      completes = λ waits are. ends_otherwise (meaning_of ran) (words_in ran) waits 0 (λ five. omega (arith, five)) (λ six. omega (arith, six));
+      enough = ends_otherwise (meaning_of ran) (words_in ran) waits 0 (λ five. omega (arith, five)) (λ six. omega (arith, six));
       failed = λ nine. absurd (omega (arith, nine));
       halted = λ one. absurd (omega (arith, one));
     };
@@ -110,7 +110,7 @@ module _ (ran : Ran) (requests : ℕ) (count : Counted) (finish : Finish) (finis
 
   -- the sink failed, and holds a part of them
   pub loaded_part : (number : ℕ) (sink faults : Stream) → number ≡ 9 → is_whole finish ≡ true → ExtendsInPart sink.before text sink.after → Fails sink
-      → Told (codes "flock: write fault\n") faults → EndsLoad ran (number, Some ran) sink faults
+      → Told (codes "flock: write fault\n") faults → EndsLoad ran waits (number, Some ran) sink faults
   loaded_part number sink faults nine whole part rose tells = record {
     status = inr (inr (inr (inr nine)));
     back = refl;
@@ -126,7 +126,7 @@ module _ (ran : Ran) (requests : ℕ) (count : Counted) (finish : Finish) (finis
       steady = λ not. absurd (not nine);
       status = λ not. absurd (not nine);
       line = λ not. absurd (not nine);
-      completes = λ waits are. ends_otherwise (meaning_of ran) (words_in ran) waits number (λ five. omega (arith, five, nine)) (λ six. omega (arith, six, nine));
+      enough = ends_otherwise (meaning_of ran) (words_in ran) waits number (λ five. omega (arith, five, nine)) (λ six. omega (arith, six, nine));
       failed = λ _. tells;
       halted = λ one. absurd (omega (arith, one, nine));
     };

@@ -9,6 +9,7 @@ pub mod Finishing
 pub mod GenPrinting
 pub mod Giving
 pub mod Loading
+pub mod Ordered
 pub mod Reported
 pub mod Reporting
 pub mod Running

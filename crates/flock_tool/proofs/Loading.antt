@@ -1,20 +1,22 @@
 -- How the command `load` ends.
-use Rattle.std.proofs.Common.{◌≡◌, ℕ, ◌<◌, true, List, Option, None, IfSome, codes, refl, sym, ap, ◌∙◌, ⊎_elim, inl, inr, subst, arith}
+use Rattle.std.proofs.Common.{◌≡◌, ℕ, ◌<◌, Bool, true, List, Option, None, IfSome, codes, refl, sym, ap, ◌∙◌, ⊎_elim, inl, inr, subst, arith}
 use Rattle.std.specs.Prelude.{◌⊎◌, ◌≤◌}
 use Rattle.fault_count.specs.Rose.{Rose}
 use Rattle.map_history.specs.declared.op.Request.{Request}
 use Rattle.map_history.specs.Requests.{AreInOrder}
+use Rattle.table_words.specs.declared.layout.Layout.{Layout}
 use Rattle.report_text.specs.Sink.{Extends, ExtendsInPart}
 use Rattle.trace_reader.specs.Generator.{generated}
 use Rattle.trace_reader.specs.declared.traces.TraceError.TheVariants.{ReadFault, Memory, TooLarge, Malformed, TooManyTraces, TooManyRequests}
 use Rattle.load_counts.specs.Apart.{load_text}
 use Rattle.flock_words.specs.declared.generated.LoadOptions.{LoadOptions}
+use Rattle.flock_words.specs.declared.options.RunOptions.{RunOptions}
 use Rattle.flock_tool.specs.Commands.{LoadRuns}
 use Rattle.flock_tool.specs.End.{error_line, nodes_line, stop_line, stop_status}
 use Rattle.flock_tool.specs.Loads.{EndsLoad, HasCounted, HasLoaded, HasLoadRun}
 use Rattle.flock_tool.specs.Plans.{IsLoadPlanned, IsRefusedLoad, IsTooMuch, LoadAsksTooMuch, all_nodes, all_requests, layout_by}
-use Rattle.flock_tool.specs.Runs.{words_in, answers_in, HasRunPlan, IsRunStatus}
-use Rattle.flock_tool.specs.Streams.{Gating, IsUntouched, Stream, Told}
+use Rattle.flock_tool.specs.Runs.{words_in, answers_in, waits_out, HasRunPlan, IsRunStatus}
+use Rattle.flock_tool.specs.Streams.{Gating, IsIdle, IsUntouched, Stream, Told}
 use Rattle.flock_tool.specs.declared.plan.Plan.{Plan}
 use Rattle.flock_tool.specs.declared.ran.Ran.{Ran}
 use Rattle.flock_tool.specs.declared.status.Stop.{Stop}
@@ -60,7 +62,7 @@ no_4 n run four = absurd (grind arith)
 module _ (load : LoadOptions) (faults : Stream) where
   refused_limit : (stop : Stop) → IsRefusedLoad load stop → Told (stop_line stop) faults → stop_status stop ≡ 4
       → ((131072 < all_requests load.plan) × Told (error_line (TooManyRequests (all_requests load.plan))) faults)
-      ⊎ ((count : ℕ) × (LoadAsksTooMuch load count × Told (nodes_line count) faults))
+      ⊎ ((all_requests load.plan ≤ 131072) × ((count : ℕ) × (LoadAsksTooMuch load count × Told (nodes_line count) faults)))
   refused_limit Words refused told four = absurd refused
   refused_limit (Text ReadFault) refused told four = absurd refused
   refused_limit (Text Memory) refused told four = absurd (omega (arith, four))
@@ -69,7 +71,7 @@ module _ (load : LoadOptions) (faults : Stream) where
   refused_limit (Text (TooManyTraces count)) refused told four = absurd refused
   refused_limit (Text (TooManyRequests count)) refused told four =
       inl (subst (λ n. 131072 < n) refused.0 refused.1, subst (λ n. Told (error_line (TooManyRequests n)) faults) refused.0 told)
-  refused_limit (Nodes count) refused told four = inr (count, (refused.1, told))
+  refused_limit (Nodes count) refused told four = inr (refused.0, (count, (refused.1, told)))
   refused_limit WriteFault refused told four = absurd refused
 
   refused_memory : (stop : Stop) → IsRefusedLoad load stop → Told (stop_line stop) faults → stop_status stop ≡ 7 → Told (codes "flock: memory\n") faults
@@ -87,18 +89,19 @@ module _ (load : LoadOptions) (result : ℕ × Option Ran) (sink faults : Stream
   abbrev Ended : Ran → Type 0
   Ended back =
       HasLoadRun load back gates
-      × HasCounted back result.0 sink faults
+      × HasCounted back (waits_out load.run.halts (words_in back).layout.runners) result.0 sink faults
 
   -- without a plan
-  pub load_refused : (stop : Stop) → IsRefusedLoad load stop → result.0 ≡ stop_status stop → result.1 ≡ None → Told (stop_line stop) faults → IsUntouched sink
+  pub load_refused : (stop : Stop) → IsRefusedLoad load stop → result.0 ≡ stop_status stop → result.1 ≡ None → Told (stop_line stop) faults → IsUntouched sink → (result.0 ≡ 4 → IsIdle gates)
       → LoadRuns load result sink faults gates
-  load_refused stop refused status none told untouched = record {
+  load_refused stop refused status none told untouched idle = record {
     ran = (λ some. absurd (none_back result.1 none some), λ run. absurd (no_run result.0 is run));
     statuses = ⊎_elim (λ four. inr (inl four)) (λ seven. inr (inr seven)) is;
     ended = if_none Ended result.1 none;
     printed = λ zero. absurd (no_run result.0 is (inl zero));
     halted = λ one. absurd (no_run result.0 is (inr (inl one)));
     limit = λ four. refused_limit load faults stop refused told (sym status ∙ four);
+    idle = idle;
     many = λ much. is;
     memory = λ seven. refused_memory load faults stop refused told (sym status ∙ seven);
     write = λ nine. absurd (no_run result.0 is (inr (inr (inr (inr nine)))));
@@ -112,16 +115,17 @@ module _ (load : LoadOptions) (result : ℕ × Option Ran) (sink faults : Stream
   -- with counts
   pub load_ended : (plan : Plan) (ran : Ran) → IsLoadPlanned load plan → load.plan.apart ≡ true
       → HasRunPlan plan ran gates → (131072 < all_requests load.plan → ⊥)
-      → EndsLoad ran result sink faults
+      → EndsLoad ran (waits_out plan.options.halts plan.layout.runners) result sink faults
       → LoadRuns load result sink faults gates
   load_ended plan ran planned own run few ends = record {
     ran = (λ some. ends.status, λ status. some_back result.1 ran ends.back);
     statuses = inl ends.status;
     ended = subst (λ (back : Option Ran). IfSome back Ended) (sym ends.back)
-        (load_run_is load plan ran gates planned run, ends.counted);
+        (load_run_is load plan ran gates planned run, subst (λ (b : Bool). HasCounted ran b result.0 sink faults) waits_are ends.counted);
     printed = λ zero. subst (λ (t : List ℕ). Extends sink.before t sink.after) (text_is (inl zero)) (ends.counted.whole zero);
     halted = λ one. subst (Rose gates.halts_before) (sym run.given.halted) (halts_rise gates.halts_before (answers_in ran) (ends.counted.halted one));
     limit = λ four. absurd (no_4 result.0 ends.status four);
+    idle = λ four. absurd (no_4 result.0 ends.status four);
     many = λ much. absurd (few much);
     memory = λ seven. absurd (not_seven result.0 ends.status seven);
     write = λ nine.
@@ -131,6 +135,10 @@ module _ (load : LoadOptions) (result : ℕ × Option Ran) (sink faults : Stream
     steady = ends.counted.steady;
   }
     where
+      waits_are : waits_out plan.options.halts plan.layout.runners ≡ waits_out load.run.halts (words_in ran).layout.runners
+      waits_are = ap (λ (o : RunOptions). waits_out o.halts plan.layout.runners) planned.given
+          ∙ ap (λ (l : Layout). waits_out load.run.halts l.runners) (sym run.layout)
+
       requests : (words_in ran).requests ≡ generated load.plan
       requests = run.requests ∙ planned.requests
 
@@ -142,8 +150,9 @@ module _ (load : LoadOptions) (result : ℕ × Option Ran) (sink faults : Stream
 
   pub load_loaded : (plan : Plan) (ran : Ran) → IsLoadPlanned load plan → load.plan.apart ≡ true
       → HasRunPlan plan ran gates → (131072 < all_requests load.plan → ⊥)
-      → HasLoaded ran result sink faults
+      → HasLoaded ran (waits_out plan.options.halts plan.layout.runners) result sink faults
       → LoadRuns load result sink faults gates
   load_loaded plan ran planned own run few loaded =
       ⊎_elim (load_ended plan ran planned own run few)
-      (λ lacks. load_refused (Text Memory) tt lacks.status lacks.none lacks.memory (record { same = lacks.silent; steady = lacks.steady })) loaded
+      (λ lacks. load_refused (Text Memory) tt lacks.status lacks.none lacks.memory (record { same = lacks.silent; steady = lacks.steady })
+      (λ four. absurd (omega (arith, four, lacks.status)))) loaded

@@ -1,6 +1,6 @@
 -- From what comes of a report to the clauses of the top call.
 use Rattle.std.proofs.Common.{◌≡◌, ℕ, Option, None, Some, IfSome, IsSome, codes, sym, ◌⊎◌, ⊎_elim, inl, inr, subst, arith, rules}
-use Rattle.std.specs.Prelude.{◌↔◌}
+use Rattle.std.specs.Prelude.{◌↔◌, Bool}
 use Rattle.fault_count.specs.Rose.{Rose}
 use Rattle.threaded_runs.specs.Counts.{halts_counted}
 use Rattle.flock_tool.specs.Runs.{answers_in, EndsRun, HasReported, IsRunStatus}
@@ -20,13 +20,13 @@ some_back back ran is = search rules
 pub none_back : (back : Option Ran) → back ≡ None → IsSome back → ⊥
 none_back back none some = absurd (cc)
 
-module _ (ran : Ran) (traces : ℕ) (result : ℕ × Option Ran) (sink faults : Stream) (reported : HasReported ran traces result sink faults) where
+module _ (ran : Ran) (traces : ℕ) (waits : Bool) (result : ℕ × Option Ran) (sink faults : Stream) (reported : HasReported ran traces waits result sink faults) where
   pub reported_ran : IsSome result.1 ↔ IsRunStatus result.0
   reported_ran =
       ⊎_elim (λ ends. (λ some. ends.status, λ run. some_back result.1 ran ends.back))
       (λ lacks. (λ some. absurd (none_back result.1 lacks.none some), λ run. absurd (not_seven result.0 run lacks.status))) reported
 
-  pub reported_back : (P : Ran → Type 0) → (EndsRun ran traces result sink faults → P ran) → IfSome result.1 P
+  pub reported_back : (P : Ran → Type 0) → (EndsRun ran traces waits result sink faults → P ran) → IfSome result.1 P
   reported_back P given =
       ⊎_elim (λ ends. subst (λ back. IfSome back P) (sym ends.back) (given ends)) (λ lacks. subst (λ back. IfSome back P) (sym lacks.none) tt) reported
 

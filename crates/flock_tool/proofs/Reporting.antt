@@ -67,11 +67,11 @@ load_run_is load plan ran gates p r = record {
 }
 
 -- its report was printed whole
-pub ended_whole : (ran : Ran) (traces unserved status : ℕ) (sink faults : Stream)
-    → IsWithinLimits (words_in ran).layout → AreAllowed (words_in ran).requests → ((retry_short : Bool) × AreServed (meaning_of ran) (words_in ran) retry_short (answers_in ran))
+pub ended_whole : (ran : Ran) (traces : ℕ) (waits : Bool) (unserved status : ℕ) (sink faults : Stream)
+    → IsWithinLimits (words_in ran).layout → AreAllowed (words_in ran).requests → AreServed (meaning_of ran) (words_in ran) waits (answers_in ran)
     → status ≡ finish_status (finish_by (answers_in ran) unserved) → Prints (meaning_of ran) (words_in ran) traces unserved sink.before sink.after
-    → TellsFinish (finish_by (answers_in ran) unserved) faults → sink.faults_after ≡ sink.faults_before → EndsRun ran traces (status, Some ran) sink faults
-ended_whole ran traces unserved status sink faults limits allowed served is prints told_is steady =
+    → TellsFinish (finish_by (answers_in ran) unserved) faults → sink.faults_after ≡ sink.faults_before → EndsRun ran traces waits (status, Some ran) sink faults
+ended_whole ran traces waits unserved status sink faults limits allowed served is prints told_is steady =
     let run = finish_run (finish_by (answers_in ran) unserved) in
     let not_nine : status ≢ 9 = λ nine. run.1 (sym is ∙ nine) in
     record {
@@ -85,9 +85,9 @@ ended_whole ran traces unserved status sink faults limits allowed served is prin
         in_part = λ nine. absurd (not_nine nine);
         status = λ _. is;
         all = λ none. ⊎_elim (λ zero. zero)
-            (λ all. prints.1.0.counted ∙ all_served (meaning_of ran) (words_in ran) allowed served.0 (answers_in ran) served.1 limits.some_runners all prints.1.0.entries prints.1.0.shown)
+            (λ all. prints.1.0.counted ∙ all_served (meaning_of ran) (words_in ran) allowed waits (answers_in ran) served limits.some_runners all prints.1.0.entries prints.1.0.shown)
             (zero_all (answers_in ran) unserved (sym is ∙ none));
-        completes = λ waits are. completes (meaning_of ran) (words_in ran) waits (answers_in ran) are unserved limits.some_sections status is;
+        enough = completes (meaning_of ran) (words_in ran) waits (answers_in ran) served unserved limits.some_sections status is;
         line = λ _. told_is;
         failed = λ nine. absurd (not_nine nine);
       };
@@ -96,9 +96,9 @@ ended_whole ran traces unserved status sink faults limits allowed served is prin
     }
 
 -- the sink failed, and holds a part of it
-pub ended_part : (ran : Ran) (traces status : ℕ) (sink faults : Stream) → status ≡ 9 → StopsReport (meaning_of ran) (words_in ran) traces WriteFault sink
-    → Told (codes "flock: write fault\n") faults → EndsRun ran traces (status, Some ran) sink faults
-ended_part ran traces status sink faults nine stops tells = record {
+pub ended_part : (ran : Ran) (traces : ℕ) (waits : Bool) (status : ℕ) (sink faults : Stream) → status ≡ 9 → StopsReport (meaning_of ran) (words_in ran) traces WriteFault sink
+    → Told (codes "flock: write fault\n") faults → EndsRun ran traces waits (status, Some ran) sink faults
+ended_part ran traces waits status sink faults nine stops tells = record {
   status = inr (inr (inr (inr nine)));
   back = refl;
   ended = record {
@@ -109,7 +109,7 @@ ended_part ran traces status sink faults nine stops tells = record {
     in_part = λ _. (stops.0.2.1, stops.1);
     status = λ not. absurd (not nine);
     all = λ none. absurd (omega (arith, none, nine));
-    completes = λ waits are. ends_otherwise (meaning_of ran) (words_in ran) waits status (λ five. omega (arith, five, nine)) (λ six. omega (arith, six, nine));
+    enough = ends_otherwise (meaning_of ran) (words_in ran) waits status (λ five. omega (arith, five, nine)) (λ six. omega (arith, six, nine));
     line = λ not. absurd (not nine);
     failed = λ _. tells;
   };

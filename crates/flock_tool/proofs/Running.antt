@@ -1,6 +1,11 @@
 -- How the command `run` ends.
-use Rattle.std.proofs.Common.{◌≡◌, ℕ, List, Option, None, Result, Ok, Err, IfSome, codes, sym, ap, ◌∙◌, ⊎_elim, inl, inr, subst, arith}
+use Rattle.std.proofs.Common.{◌≡◌, ℕ, Bool, List, Option, None, Result, Ok, Err, IfSome, codes, sym, ap, ◌∙◌, ⊎_elim, inl, inr, subst, arith}
 use Rattle.std.specs.Prelude.{◌⊎◌}
+use Rattle.map_history.specs.declared.op.Entry.{Entry}
+use Rattle.map_history.specs.declared.op.Request.{Request}
+use Rattle.map_history.specs.Requests.{AreInOrder}
+use Rattle.table_words.specs.declared.layout.Layout.{Layout}
+use Rattle.run_reports.specs.Reports.{HaveEntries}
 use Rattle.trace_reader.specs.Answer.{StopsBefore}
 use Rattle.trace_reader.specs.Text.{IsAccepted, IsFirstRefusal}
 use Rattle.trace_reader.specs.declared.traces.TraceError.{TraceError}
@@ -9,14 +14,15 @@ use Rattle.flock_words.specs.declared.options.RunOptions.{RunOptions}
 use Rattle.flock_tool.specs.Commands.{RunEnds}
 use Rattle.flock_tool.specs.End.{error_status, stop_line, stop_status}
 use Rattle.flock_tool.specs.Plans.{AsksTooMuch, IsPlanned, IsRefusedPlan, MustPlan}
-use Rattle.flock_tool.specs.Runs.{HasReported, HasRun, HasEnded, HasRunPlan, IsRunStatus}
-use Rattle.flock_tool.specs.Streams.{Fails, Gating, Stream, Told}
+use Rattle.flock_tool.specs.Runs.{words_in, answers_in, meaning_of, waits_out, AreServedInOrder, HasReported, HasRun, HasEnded, HasRunPlan, IsRunStatus}
+use Rattle.flock_tool.specs.Streams.{Fails, Gating, IsIdle, Stream, Told}
 use Rattle.flock_tool.specs.declared.plan.Plan.{Plan}
 use Rattle.flock_tool.specs.declared.ran.Ran.{Ran}
 use Rattle.flock_tool.specs.declared.status.Stop.{Stop}
 use Rattle.flock_tool.specs.declared.status.Stop.TheVariants.{Text}
 use Rattle.flock_tool.proofs.Ends.{any_text, complete_refused, first_refused, limit_stop, malformed_stop, none_ran, not_run, planned_refused, stop_at_7, stop_at_8}
 use Rattle.flock_tool.proofs.Reported.{none_back, not_seven, reported_back, reported_halted, reported_memory, reported_ran, reported_read, reported_status, reported_write}
+use Rattle.flock_tool.proofs.Ordered.{served_in_order}
 use Rattle.flock_tool.proofs.Reporting.{run_is}
 
 -- nothing comes back
@@ -31,6 +37,10 @@ not_four : (n : ℕ) → IsRunStatus n ⊎ (n ≡ 7) → n ≡ 4 → ⊥
 not_four n (inl run) four = absurd (grind arith)
 not_four n (inr seven) four = absurd (omega (arith, seven, four))
 
+not_refused : (n : ℕ) → IsRunStatus n ⊎ (n ≡ 7) → (n ≡ 3) ⊎ (n ≡ 4) ⊎ (n ≡ 8) → ⊥
+not_refused n (inl run) refused = absurd (grind arith)
+not_refused n (inr seven) refused = absurd (grind arith)
+
 module _ (options : RunOptions) (result : ℕ × Option Ran) (source sink faults : Stream) (gates : Gating) where
   abbrev Complete : List ℕ → Type 0
   Complete text = IsAccepted text → IsRunStatus result.0 ⊎ (result.0 ≡ 7) ⊎ ((result.0 ≡ 4) × (count : ℕ) × AsksTooMuch options source.before count)
@@ -41,18 +51,24 @@ module _ (options : RunOptions) (result : ℕ × Option Ran) (source sink faults
   abbrev Ended : Ran → Type 0
   Ended back = (traces : ℕ)
       × HasRun options source.before traces back gates
-      × HasEnded back traces result.0 sink faults
+      × HasEnded back traces (waits_out options.halts (words_in back).layout.runners) result.0 sink faults
+
+  abbrev InOrder : Ran → Type 0
+  InOrder back = (words_in back).layout.runners ≡ 1
+      → (entries : List (Option Entry)) → HaveEntries (meaning_of back) (words_in back) entries → AreServedInOrder entries
 
   -- without a plan
-  pub run_refused : (stop : Stop) → IsRefusedPlan options source.before stop → result.0 ≡ stop_status stop → result.1 ≡ None → Told (stop_line stop) faults
+  pub run_refused : (stop : Stop) → IsRefusedPlan options source.before stop → result.0 ≡ stop_status stop → result.1 ≡ None → Told (stop_line stop) faults → IsIdle gates
       → ((Fails source → ⊥) → IfSome source.before (MustPlan (Err stop)))
       → (◌≡◌ {A = Result Plan Stop} (Err stop) (Err (Text ReadFault)) → Fails source × StopsBefore source.before source.after)
       → RunEnds options result source sink faults gates
-  run_refused stop refused status none told must read = record {
+  run_refused stop refused status none told idle must read = record {
     ran = none_ran options source.before stop result.0 result.1 refused status none;
     ended = if_none Ended result.1 none;
+    in_order = if_none InOrder result.1 none;
     halted = λ one. absurd (not_run options source.before stop refused (inr (inl (sym status ∙ one))));
-    complete = λ steady. complete_refused options source.before stop result.0 status refused (must steady);
+    idle = λ _. idle;
+    grammatical = λ steady. complete_refused options source.before stop result.0 status refused (must steady);
     refused = λ steady. first_refused source.before stop result.0 status (must steady);
     malformed = λ three. malformed_stop options source.before faults.before faults.after faults.faults_before faults.faults_after stop refused told (sym status ∙ three);
     limit = λ four. limit_stop options source.before faults.before faults.after faults.faults_before faults.faults_after stop refused told (sym status ∙ four);
@@ -69,8 +85,10 @@ module _ (options : RunOptions) (result : ℕ × Option Ran) (source sink faults
   run_lacks seven none told = record {
     ran = (λ some. absurd (none_back result.1 none some), λ run. absurd (not_seven result.0 run seven));
     ended = if_none Ended result.1 none;
+    in_order = if_none InOrder result.1 none;
     halted = λ one. absurd (omega (arith, one, seven));
-    complete = λ steady. any_text Complete source.before (λ text accepted. inr (inl seven));
+    idle = λ refused. absurd (grind (arith, refused, seven));
+    grammatical = λ steady. any_text Complete source.before (λ text accepted. inr (inl seven));
     refused = λ steady. any_text Refused source.before (λ text error first. inr seven);
     malformed = λ three. absurd (omega (arith, three, seven));
     limit = λ four. absurd (omega (arith, four, seven));
@@ -83,21 +101,36 @@ module _ (options : RunOptions) (result : ℕ × Option Ran) (source sink faults
   pub run_reported : (plan : Plan) (ran : Ran) → IsPlanned options source.before plan
       → HasRunPlan plan ran gates
       → ((Fails source → ⊥) → IfSome source.before (MustPlan (Ok plan)))
-      → HasReported ran plan.traces.count result sink faults
+      → HasReported ran plan.traces.count (waits_out plan.options.halts plan.layout.runners) result sink faults
       → RunEnds options result source sink faults gates
   run_reported plan ran planned run must reported = record {
-    ran = reported_ran ran plan.traces.count result sink faults reported;
-    ended = reported_back ran plan.traces.count result sink faults reported Ended
-        (λ ends. (plan.traces.count, run_is options source.before plan ran gates planned run, ends.ended));
-    halted = λ one. reported_halted ran plan.traces.count result sink faults reported gates run.given.halted one;
-    complete = λ steady. any_text Complete source.before (λ text accepted. ⊎_elim (λ ends. inl ends) (λ seven. inr (inl seven)) status);
+    ran = reported_ran ran plan.traces.count waits result sink faults reported;
+    ended = reported_back ran plan.traces.count waits result sink faults reported Ended
+        (λ ends. (
+          plan.traces.count,
+          run_is options source.before plan ran gates planned run,
+          subst (λ (b : Bool). HasEnded ran plan.traces.count b result.0 sink faults) waits_are ends.ended,
+        ));
+    in_order = reported_back ran plan.traces.count waits result sink faults reported InOrder
+        (λ ends one entries shown. served_in_order (meaning_of ran) (words_in ran) waits (answers_in ran) run.served one plan.traces.count
+        (subst (λ (rs : List Request). AreInOrder rs plan.traces.count) (sym run.requests) planned.ordered) entries shown);
+    idle = λ refused. absurd (not_refused result.0 status refused);
+    halted = λ one. reported_halted ran plan.traces.count waits result sink faults reported gates run.given.halted one;
+    grammatical = λ steady. any_text Complete source.before (λ text accepted. ⊎_elim (λ ends. inl ends) (λ seven. inr (inl seven)) status);
     refused = λ steady. planned_refused source.before plan result.0 (must steady);
     malformed = λ three. absurd (not_three result.0 status three);
     limit = λ four. absurd (not_four result.0 status four);
-    memory = λ seven. reported_memory ran plan.traces.count result sink faults reported seven;
-    read = λ eight. absurd (reported_read ran plan.traces.count result sink faults reported eight);
-    write = λ nine. reported_write ran plan.traces.count result sink faults reported nine;
+    memory = λ seven. reported_memory ran plan.traces.count waits result sink faults reported seven;
+    read = λ eight. absurd (reported_read ran plan.traces.count waits result sink faults reported eight);
+    write = λ nine. reported_write ran plan.traces.count waits result sink faults reported nine;
   }
     where
+      waits : Bool
+      waits = waits_out plan.options.halts plan.layout.runners
+
+      waits_are : waits ≡ waits_out options.halts (words_in ran).layout.runners
+      waits_are = ap (λ (o : RunOptions). waits_out o.halts plan.layout.runners) planned.given
+          ∙ ap (λ (l : Layout). waits_out options.halts l.runners) (sym run.layout)
+
       status : IsRunStatus result.0 ⊎ (result.0 ≡ 7)
-      status = reported_status ran plan.traces.count result sink faults reported
+      status = reported_status ran plan.traces.count waits result sink faults reported

@@ -52,8 +52,8 @@ none_unserved (Some entry ∷ entries) there =
     omega (arith, first, rest)
 
 -- requests are numbered by their place
-numbered : (requests : List Request) → AreInOrder requests 64 → (n : ℕ) (q : Request) → slice_get requests n ≡ Some q → q.number ≡ n
-numbered requests order n q at = some_same q.number n (sym by_map ∙ (ap (λ xs. slice_get xs n) order.numbered ∙ by_range))
+pub numbered : (requests : List Request) (traces : ℕ) → AreInOrder requests traces → (n : ℕ) (q : Request) → slice_get requests n ≡ Some q → q.number ≡ n
+numbered requests traces order n q at = some_same q.number n (sym by_map ∙ (ap (λ xs. slice_get xs n) order.numbered ∙ by_range))
   where
     low : n < length requests
     low = slice_get_within requests n q at
@@ -70,7 +70,7 @@ module _ {T : Type 0} (m : Meaning) (w : WordsState T) (allowed : AreAllowed w.r
     (all : (i : ℕ) (answer : Served) → slice_get list i ≡ Some answer → answer ≡ answers.All) where
   -- each request has a stamp
   stamped : (n : ℕ) (q : Request) → slice_get w.requests n ≡ Some q → word_of m w (Stamp n) ≢ 0
-  stamped n q is = subst (λ k. word_of m w (Stamp k) ≢ 0) (numbered w.requests allowed.in_order n q is) here
+  stamped n q is = subst (λ k. word_of m w (Stamp k) ≢ 0) (numbered w.requests 64 allowed.in_order n q is) here
     where
       worker : ℕ
       worker = q.trace % w.layout.runners

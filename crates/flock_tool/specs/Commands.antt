@@ -1,5 +1,6 @@
 -- What each command leaves, by its status.
-use Rattle.std.specs.Prelude.{◌≡◌, ◌≢◌, ◌↔◌, ◌⊎◌, ◌<◌, ℕ, List, Option, IfSome, IsSome, None, codes}
+use Rattle.std.specs.Prelude.{◌≡◌, ◌≢◌, ◌↔◌, ◌⊎◌, ◌<◌, ◌≤◌, ℕ, List, Option, IfSome, IsSome, None, codes}
+use Rattle.map_history.specs.declared.op.Entry.{Entry}
 use Rattle.trace_reader.specs.Answer.{StopsBefore}
 use Rattle.trace_reader.specs.Text.{IsAccepted, IsFirstRefusal}
 use Rattle.trace_reader.specs.declared.generator.Gen.{Gen}
@@ -8,6 +9,7 @@ use Rattle.trace_reader.specs.declared.traces.TraceError.{TraceError}
 use Rattle.trace_reader.specs.declared.traces.TraceError.TheVariants.{ReadFault, Memory, TooLarge, Malformed, TooManyTraces, TooManyRequests}
 use Rattle.report_text.specs.Sink.{Extends, ExtendsInPart}
 use Rattle.generated_text.specs.Ends.{IsRead, Prints, PrintsInPart}
+use Rattle.run_reports.specs.Reports.{HaveEntries}
 use Rattle.load_counts.specs.Apart.{load_text}
 use Rattle.flock_words.specs.Commands.{AreAccepted}
 use Rattle.flock_words.specs.Written.{Text}
@@ -22,7 +24,7 @@ use Rattle.flock_tool.specs.declared.status.Stop.TheVariants.{Words, Nodes, Writ
 use Rattle.flock_tool.specs.End.{IsLimit, error_line, error_status, nodes_line}
 use Rattle.flock_tool.specs.Loads.{HasCounted, HasLoadRun}
 use Rattle.flock_tool.specs.Plans.{AsksTooMuch, LoadAsksTooMuch, all_requests}
-use Rattle.flock_tool.specs.Runs.{HasEnded, HasRun, IsRunStatus}
+use Rattle.flock_tool.specs.Runs.{words_in, meaning_of, waits_out, AreServedInOrder, HasEnded, HasRun, IsRunStatus}
 use Rattle.flock_tool.specs.Streams.{Fails, Gating, Halts, IsIdle, IsUntouched, Stream, Told}
 
 -- `run` with these options
@@ -33,12 +35,17 @@ pub record RunEnds (options : RunOptions) (result : ℕ × Option Ran) (source s
   -- it was of the table that the options and the text name. At 0, 1, 5 and 6 what the sink holds past what it held is the
   -- report on its closed words, which is legal; the status and the line are those of the answers, and at 0 each request is
   -- answered
-  pub ended : IfSome result.1 (λ ran. (traces : ℕ)
-      × HasRun options source.before traces ran gates × HasEnded ran traces result.0 sink faults)
+  pub ended : IfSome result.1 (λ ran. (traces : ℕ) × HasRun options source.before traces ran gates
+      × HasEnded ran traces (waits_out options.halts (words_in ran).layout.runners) result.0 sink faults)
+  -- with one runner the first requests are served, in their order: the rank of each is its number
+  pub in_order : IfSome result.1 (λ ran. (words_in ran).layout.runners ≡ 1
+      → (entries : List (Option Entry)) → HaveEntries (meaning_of ran) (words_in ran) entries → AreServedInOrder entries)
   pub halted : result.0 ≡ 1 → Halts gates
+  -- where the text is refused nothing is run
+  pub idle : (result.0 ≡ 3) ⊎ (result.0 ≡ 4) ⊎ (result.0 ≡ 8) → IsIdle gates
   -- where no fault is counted, a text in the grammar is run, unless the runners would have too many node slots or memory
   -- is wanting, and any other is refused for its first refusal
-  pub complete : (Fails source → ⊥) → IfSome source.before (λ text. IsAccepted text
+  pub grammatical : (Fails source → ⊥) → IfSome source.before (λ text. IsAccepted text
       → IsRunStatus result.0 ⊎ (result.0 ≡ 7)
       ⊎ ((result.0 ≡ 4) × (count : ℕ) × AsksTooMuch options source.before count))
   pub refused : (Fails source → ⊥) → IfSome source.before (λ text. (error : TraceError) → IsFirstRefusal text error
@@ -84,14 +91,17 @@ pub record LoadRuns (load : LoadOptions) (result : ℕ × Option Ran) (sink faul
   pub ran : IsSome result.1 ↔ IsRunStatus result.0
   pub statuses : IsRunStatus result.0 ⊎ (result.0 ≡ 4) ⊎ (result.0 ≡ 7)
   -- the run was of the table that the options and the generator name; the status and the line are those of its answers
-  pub ended : IfSome result.1 (λ ran.
-      HasLoadRun load ran gates × HasCounted ran result.0 sink faults)
+  pub ended : IfSome result.1 (λ ran. HasLoadRun load ran gates
+      × HasCounted ran (waits_out load.run.halts (words_in ran).layout.runners) result.0 sink faults)
   pub printed : result.0 ≡ 0 → Extends sink.before (load_text load.plan) sink.after
   pub halted : result.0 ≡ 1 → Halts gates
-  -- too many requests are refused, or else too many node slots, and nothing else
+  -- too many requests are refused, or else, where they are no more than the limit, too many node slots, and nothing else
   pub limit : result.0 ≡ 4
       → ((131072 < all_requests load.plan) × Told (error_line (TooManyRequests (all_requests load.plan))) faults)
-      ⊎ ((count : ℕ) × (LoadAsksTooMuch load count × Told (nodes_line count) faults))
+      ⊎ ((all_requests load.plan ≤ 131072)
+      × ((count : ℕ) × (LoadAsksTooMuch load count × Told (nodes_line count) faults)))
+  -- and then nothing is run
+  pub idle : result.0 ≡ 4 → IsIdle gates
   pub many : 131072 < all_requests load.plan → (result.0 ≡ 4) ⊎ (result.0 ≡ 7)
   pub memory : result.0 ≡ 7 → Told (codes "flock: memory\n") faults
   pub write : result.0 ≡ 9
@@ -109,6 +119,21 @@ abbrev pub Ends : Command → ℕ × Option Ran → (source sink faults : Stream
 Ends (commands.Run options) = RunEnds options
 Ends (commands.Gen plan) = GenEnds plan
 Ends (commands.Load load) = LoadEnds load
+
+-- the program ended as this command does, with this status, whatever a run left
+abbrev pub Exits : Command → ℕ → (source sink faults : Stream) → Gating → Type 0
+Exits command number source sink faults gates = (back : Option Ran) × Ends command (number, back) source sink faults gates
+
+-- words that are no command are refused, unless memory is wanting before they are known as such: nothing is read, printed or
+-- run, and nothing comes back
+pub record RefusedEnds (result : ℕ × Option Ran) (source sink faults : Stream) (gates : Gating) : Type 0 where
+  pub status : (result.0 ≡ 2) ⊎ (result.0 ≡ 7)
+  pub none : result.1 ≡ None
+  pub unread : IsUntouched source
+  pub silent : IsUntouched sink
+  pub idle : IsIdle gates
+  pub words : result.0 ≡ 2 → Told (codes "flock: words refused\n") faults
+  pub memory : result.0 ≡ 7 → Told (codes "flock: memory\n") faults
 
 -- these words are no command, or memory was wanting
 abbrev pub IsNoCommand : List Text → Stop → Type 0

@@ -10,7 +10,6 @@ use Rattle.trace_reader.specs.declared.generator.Gen.{Gen}
 use Rattle.report_text.specs.Sink.{Extends, ExtendsInPart}
 use Rattle.threaded_runs.specs.version_words.specs.TableState.{WordsState}
 use Rattle.threaded_runs.specs.Lone.{AsksAlone}
-use Rattle.threaded_runs.specs.Runs.{AreServed}
 use Rattle.run_reports.specs.Reports.{HaveContents, HaveEntries, unserved_in}
 use Rattle.load_counts.specs.Apart.{load_text}
 use Rattle.load_reports.specs.Tallies.{IsAlone, IsTally}
@@ -34,8 +33,8 @@ IsPlanText ran text = (plan : Gen) → plan.apart ≡ true → (words_in ran).re
     → AreInOrder (words_in ran).requests plan.traces → text ≡ load_text plan
 
 -- the counts were printed where each request is served and nothing was printed elsewhere; the status and the line are
--- those of the answers
-pub record HasCounted (ran : Ran) (number : ℕ) (sink faults : Stream) : Type 0 where
+-- those of the answers. A want of slots was waited out, or wasn't
+pub record HasCounted (ran : Ran) (waits : Bool) (number : ℕ) (sink faults : Stream) : Type 0 where
   pub entries : List (Option Entry)
   pub shown : HaveEntries (meaning_of ran) (words_in ran) entries
   pub text : List ℕ
@@ -47,21 +46,20 @@ pub record HasCounted (ran : Ran) (number : ℕ) (sink faults : Stream) : Type 0
   pub steady : number ≢ 9 → sink.faults_after ≡ sink.faults_before
   pub status : number ≢ 9 → number ≡ finish_status (finish_by (answers_in ran) (unserved_in entries))
   -- with slots and versions enough it isn't 5, where a want of slots is waited out, and isn't 6
-  pub completes : (waits : Bool) → AreServed (meaning_of ran) (words_in ran) waits (answers_in ran)
-      → Completes (meaning_of ran) (words_in ran) waits number
+  pub enough : Completes (meaning_of ran) (words_in ran) waits number
   pub line : number ≢ 9 → TellsFinish (finish_by (answers_in ran) (unserved_in entries)) faults
   pub failed : number ≡ 9 → Told (codes "flock: write fault\n") faults
   pub halted : number ≡ 1 → any_halted (answers_in ran) ≡ true
 
 -- the run comes back with its status
-pub record EndsLoad (ran : Ran) (result : ℕ × Option Ran) (sink faults : Stream) : Type 0 where
+pub record EndsLoad (ran : Ran) (waits : Bool) (result : ℕ × Option Ran) (sink faults : Stream) : Type 0 where
   pub status : IsRunStatus result.0
   pub back : result.1 ≡ Some ran
-  pub counted : HasCounted ran result.0 sink faults
+  pub counted : HasCounted ran waits result.0 sink faults
 
 -- what comes of the counts of a run
-abbrev pub HasLoaded : Ran → ℕ × Option Ran → (sink faults : Stream) → Type 0
-HasLoaded ran result sink faults = EndsLoad ran result sink faults ⊎ LacksMemory result sink faults
+abbrev pub HasLoaded : Ran → Bool → ℕ × Option Ran → (sink faults : Stream) → Type 0
+HasLoaded ran waits result sink faults = EndsLoad ran waits result sink faults ⊎ LacksMemory result sink faults
 
 -- a run that the options of `load` ask for; its gates were given out and came back
 pub record HasLoadRun (load : LoadOptions) (ran : Ran) (gates : Gating) : Type 0 where

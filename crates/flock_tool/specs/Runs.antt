@@ -1,5 +1,6 @@
 -- What a run of the program leaves.
-use Rattle.std.specs.Prelude.{◌≡◌, ◌≢◌, ◌<◌, ◌⊎◌, ℕ, Bool, not, List, [], Option, IfSome, None, Some, false, true, codes, length, slice_get}
+use Rattle.std.specs.Prelude.{◌≡◌, ◌≢◌, ◌<◌, ◌≤◌, ◌⊎◌, ℕ, Bool, not, List, [], Option, IfSome, None, Some, false, true, codes, length, slice_get}
+use Rattle.map_history.specs.declared.op.Entry.{Entry}
 use Rattle.structure_laws.specs.Meaning.{Meaning}
 use Rattle.bucket_laws.specs.Buckets.{buckets_meaning}
 use Rattle.trace_reader.specs.Answer.{AreTracesOf}
@@ -8,6 +9,7 @@ use Rattle.hash_table.specs.declared.table.HashTable.{HashTable}
 use Rattle.leaf_tree.specs.declared.tree.LeafTree.{LeafTree}
 use Rattle.tree_laws.specs.Leaves.{tree}
 use Rattle.threaded_runs.specs.version_words.specs.TableState.{WordsState}
+use Rattle.report_text.specs.Ranks.{ranks_of}
 use Rattle.run_reports.specs.Reports.{IsReport, PrintsInPart}
 use Rattle.threaded_runs.specs.serving.specs.declared.answers.Served.{Served}
 use Rattle.threaded_runs.specs.Counts.{halts_counted}
@@ -70,13 +72,17 @@ pub record AreGiven (halts : List Halt) (runners : ℕ) (answers : List Served) 
   pub planned : gates.planned_before ≡ [] → AreHaltsOf halts runners gates.planned_after
   pub unplanned : names_below halts runners ≡ false → gates.plans_after ≡ gates.plans_before
 
+-- whether a want of slots is waited out: where no halt is named for a runner that there is
+abbrev pub waits_out : List Halt → ℕ → Bool
+waits_out halts runners = not (names_below halts runners)
+
 -- the run was of these options, traces and requests
 pub record IsRunOf (options : RunOptions) (traces : ℕ) (ran : Ran) : Type 0 where
   pub table : IsTableOf options ran
   pub layout : (words_in ran).layout ≡ layout_by options traces (words_in ran).requests
   -- every runner has served its own traces, and has the cause of its answer
   pub served : AreServed (meaning_of ran) (words_in ran)
-      (not (names_below options.halts (words_in ran).layout.runners)) (answers_in ran)
+      (waits_out options.halts (words_in ran).layout.runners) (answers_in ran)
   pub lone : ServesAlone (meaning_of ran) (per_pair_in ran) (words_in ran) (answers_in ran)
 
 -- a run of this plan on a table of this structure left these words and answers; its gates were given out and came back
@@ -85,7 +91,7 @@ module _ {T : Type 0} (meaning : T → Meaning) (per_pair : ℕ) where
       : Type 0 where
     pub made : IsMadeWith structure plan.layout plan.traces.requests words
     pub served :
-        AreServed (meaning words.structure) words (not (names_below plan.options.halts plan.layout.runners)) answers
+        AreServed (meaning words.structure) words (waits_out plan.options.halts plan.layout.runners) answers
     pub lone : ServesAlone (meaning words.structure) per_pair words answers
     pub asked : AsksAlone (meaning words.structure) words gates.asks_before gates.asks_after
     pub given : AreGiven plan.options.halts plan.layout.runners answers gates
@@ -96,7 +102,7 @@ pub record HasRunPlan (plan : Plan) (ran : Ran) (gates : Gating) : Type 0 where
   pub layout : (words_in ran).layout ≡ plan.layout
   pub requests : (words_in ran).requests ≡ plan.traces.requests
   pub served : AreServed (meaning_of ran) (words_in ran)
-      (not (names_below plan.options.halts plan.layout.runners)) (answers_in ran)
+      (waits_out plan.options.halts plan.layout.runners) (answers_in ran)
   pub lone : ServesAlone (meaning_of ran) (per_pair_in ran) (words_in ran) (answers_in ran)
   pub asked : AsksAlone (meaning_of ran) (words_in ran) gates.asks_before gates.asks_after
   pub given : AreGiven plan.options.halts plan.layout.runners (answers_in ran) gates
@@ -121,9 +127,16 @@ StopsReport m w traces (stops.Text error) sink =
 StopsReport m w traces (Nodes count) sink = ⊥
 StopsReport m w traces WriteFault sink = PrintsInPart m w traces sink.before sink.after × Fails sink
 
+-- the first of the requests, so many, are served, in their order: the rank of each is its number, and no other has one
+pub record AreServedInOrder (entries : List (Option Entry)) : Type 0 where
+  pub count : ℕ
+  pub few : count ≤ length entries
+  pub ranks : (number : ℕ) → number < count → slice_get (ranks_of entries) number ≡ Some (Some number)
+  pub none : (number : ℕ) → count ≤ number → number < length entries → slice_get (ranks_of entries) number ≡ Some None
+
 -- its report was printed whole, and the status and the line are those of its answers; or, at 9, the sink failed and holds a
--- part
-pub record HasEnded (ran : Ran) (traces number : ℕ) (sink faults : Stream) : Type 0 where
+-- part. A want of slots was waited out, or wasn't
+pub record HasEnded (ran : Ran) (traces : ℕ) (waits : Bool) (number : ℕ) (sink faults : Stream) : Type 0 where
   pub unserved : ℕ
   pub report : List ℕ
   pub is_report : IsReport (meaning_of ran) (words_in ran) traces unserved report
@@ -133,16 +146,15 @@ pub record HasEnded (ran : Ran) (traces number : ℕ) (sink faults : Stream) : T
   -- at 0 each request is answered
   pub all : number ≡ 0 → unserved ≡ 0
   -- with slots and versions enough it isn't 5, where a want of slots is waited out, and isn't 6
-  pub completes : (waits : Bool) → AreServed (meaning_of ran) (words_in ran) waits (answers_in ran)
-      → Completes (meaning_of ran) (words_in ran) waits number
+  pub enough : Completes (meaning_of ran) (words_in ran) waits number
   pub line : number ≢ 9 → TellsFinish (finish_by (answers_in ran) unserved) faults
   pub failed : number ≡ 9 → Told (codes "flock: write fault\n") faults
 
 -- the report of a run was begun, and the run comes back with its status
-pub record EndsRun (ran : Ran) (traces : ℕ) (result : ℕ × Option Ran) (sink faults : Stream) : Type 0 where
+pub record EndsRun (ran : Ran) (traces : ℕ) (waits : Bool) (result : ℕ × Option Ran) (sink faults : Stream) : Type 0 where
   pub status : IsRunStatus result.0
   pub back : result.1 ≡ Some ran
-  pub ended : HasEnded ran traces result.0 sink faults
+  pub ended : HasEnded ran traces waits result.0 sink faults
   pub steady : result.0 ≢ 9 → sink.faults_after ≡ sink.faults_before
   pub halted : result.0 ≡ 1 → any_halted (answers_in ran) ≡ true
 
@@ -155,5 +167,6 @@ pub record LacksMemory (result : ℕ × Option Ran) (sink faults : Stream) : Typ
   pub memory : Told (codes "flock: memory\n") faults
 
 -- what comes of the report of a run
-abbrev pub HasReported : Ran → ℕ → ℕ × Option Ran → (sink faults : Stream) → Type 0
-HasReported ran traces result sink faults = EndsRun ran traces result sink faults ⊎ LacksMemory result sink faults
+abbrev pub HasReported : Ran → ℕ → Bool → ℕ × Option Ran → (sink faults : Stream) → Type 0
+HasReported ran traces waits result sink faults =
+    EndsRun ran traces waits result sink faults ⊎ LacksMemory result sink faults

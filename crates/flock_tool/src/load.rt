@@ -1,5 +1,5 @@
 // The command `load`.
-ghost use Rattle.std.specs.Prelude.{◌≡◌, ◌≤◌, Bool, IfOk, length, true};
+ghost use Rattle.std.specs.Prelude.{◌≡◌, ◌≤◌, IfOk, length, true};
 ghost use Rattle.map_history.specs.Requests.{AreInOrder};
 ghost use Rattle.table_words.specs.Limits.{IsWithinLimits};
 ghost use Rattle.threaded_runs.specs.closed_words.specs.Histories.{HoldsNoLock};
@@ -8,11 +8,11 @@ ghost use Rattle.threaded_runs.specs.Runs.{AreServed};
 ghost use Rattle.flock_words.specs.Generated.{AreLoadRanges};
 ghost use Rattle.flock_tool.specs.Commands.{LoadRuns};
 ghost use Rattle.flock_tool.specs.Loads.{EndsLoad, HasLoaded, IsCounted};
-ghost use Rattle.flock_tool.specs.Runs.{words_in, answers_in, meaning_of};
+ghost use Rattle.flock_tool.specs.Runs.{words_in, answers_in, meaning_of, waits_out};
 ghost use Rattle.flock_tool.specs.Streams.{gating, stream};
 
 use crate::finish::{is_whole, status_of_finish, tell_finish};
-use crate::plan::load_plan;
+use crate::plan::{Plan, load_plan};
 use crate::ran::Ran;
 use crate::report::{finish_of_run, refuse};
 use crate::run::{run_is_allowed, run_plan, size_of};
@@ -20,7 +20,6 @@ use crate::status::{Stop, status_of, tell};
 use flock_words::LoadOptions;
 use load_counts::print_counts;
 use load_reports::{Tally, tally_words};
-use map_history::Request;
 use report_text::Sink;
 use runner_gate::Gates;
 use std::alloc::{AllocError, Global};
@@ -62,14 +61,7 @@ pub fn load_command<T: Threads + Wait + Sync, K: Sink, F: Sink, G: Gates>(
     let Ok(ran) = run_plan(rt, alloc, &plan, gates) else {
         return refuse(Stop::Text(TraceError::Memory), faults);
     };
-    report_load(
-        alloc,
-        plan.traces.requests.as_slice(),
-        plan.traces.count,
-        ran,
-        sink,
-        faults,
-    )
+    report_load(alloc, &plan, ran, sink, faults)
 }
 
 // Counts a closed table.
@@ -103,42 +95,39 @@ fn count_run(alloc: Global, ran: &Ran, requests: u32) -> Result<Counted, AllocEr
 // Counts the closed words of a run, and prints and tells what they come to.
 fn report_load<K: Sink, F: Sink>(
     alloc: Global,
-    requests: &[Request],
-    traces: u32,
+    plan: &Plan,
     ran: Ran,
     sink: &mut K,
     faults: &mut F,
 ) -> (u8, Option<Ran>)
-    requires requests { (words_in ran).requests ≡ requests.now }
-    requires ordered { AreInOrder requests.now traces }
-    requires served { (retry_short : Bool) × AreServed (meaning_of ran) (words_in ran) retry_short (answers_in ran) }
-    ensures { HasLoaded ran result
+    requires requests { (words_in ran).requests ≡ plan.now.traces.requests }
+    requires ordered { AreInOrder plan.now.traces.requests plan.now.traces.count }
+    requires served { AreServed (meaning_of ran) (words_in ran) (waits_out plan.now.options.halts plan.now.layout.runners) (answers_in ran) }
+    ensures { HasLoaded ran (waits_out plan.now.options.halts plan.now.layout.runners) result
         (stream (K.held sink.old) (K.held sink.new) (K.faults sink.old) (K.faults sink.new))
         (stream (F.held faults.old) (F.held faults.new) (F.faults faults.old) (F.faults faults.new)) }
 {
-    let _ = traces;
     run_is_allowed(&ran);
-    let count = requests.len() as u32;
-    let Ok(counted) = count_run(alloc, &ran, count) else {
+    let Ok(counted) = count_run(alloc, &ran, plan.traces.requests.len() as u32) else {
         return refuse(Stop::Text(TraceError::Memory), faults);
     };
-    print_load(count, &counted, ran, sink, faults)
+    print_load(plan, &counted, ran, sink, faults)
 }
 
 // Prints the counts where each request is served, and tells how the run ended.
 fn print_load<K: Sink, F: Sink>(
-    requests: u32,
+    plan: &Plan,
     counted: &Counted,
     ran: Ran,
     sink: &mut K,
     faults: &mut F,
 ) -> (u8, Option<Ran>)
-    requires count { requests ≡ length (words_in ran).requests }
+    requires requests { (words_in ran).requests ≡ plan.now.traces.requests }
     requires counted { IsCounted (meaning_of ran) (words_in ran) counted.now }
     requires limits { IsWithinLimits (words_in ran).layout }
     requires allowed { AreAllowed (words_in ran).requests }
-    requires served { (retry_short : Bool) × AreServed (meaning_of ran) (words_in ran) retry_short (answers_in ran) }
-    ensures { EndsLoad ran result
+    requires served { AreServed (meaning_of ran) (words_in ran) (waits_out plan.now.options.halts plan.now.layout.runners) (answers_in ran) }
+    ensures { EndsLoad ran (waits_out plan.now.options.halts plan.now.layout.runners) result
         (stream (K.held sink.old) (K.held sink.new) (K.faults sink.old) (K.faults sink.new))
         (stream (F.held faults.old) (F.held faults.new) (F.faults faults.old) (F.faults faults.new)) }
 {
@@ -147,6 +136,7 @@ fn print_load<K: Sink, F: Sink>(
         tell_finish(&finish, faults);
         return (status_of_finish(&finish), Some(ran));
     }
+    let requests = plan.traces.requests.len() as u32;
     match print_counts(requests, &counted.tally.counts, counted.size, sink) {
         Ok(()) => (0, Some(ran)),
         Err(_) => {

@@ -1,12 +1,12 @@
 // The command `run`, and its report.
-ghost use Rattle.std.specs.Prelude.{◌≡◌, ◌≢◌, ◌≤◌, Bool, None, length};
+ghost use Rattle.std.specs.Prelude.{◌≡◌, ◌≢◌, ◌≤◌, None, length};
 ghost use Rattle.map_history.specs.Requests.{AreInOrder};
 ghost use Rattle.threaded_runs.specs.Runs.{AreServed};
 ghost use Rattle.flock_words.specs.Options.{AreInRange};
 ghost use Rattle.flock_tool.specs.Commands.{RunEnds};
 ghost use Rattle.flock_tool.specs.End.{Tells, stop_line, stop_status};
 ghost use Rattle.flock_tool.specs.Finish.{finish_by, finish_status, TellsFinish};
-ghost use Rattle.flock_tool.specs.Runs.{words_in, answers_in, meaning_of, HasReported, IsRunStatus};
+ghost use Rattle.flock_tool.specs.Runs.{words_in, answers_in, meaning_of, waits_out, HasReported, IsRunStatus};
 ghost use Rattle.flock_tool.specs.Streams.{gating, stream};
 
 use crate::finish::{Finish, finish_of, status_of_finish, tell_finish};
@@ -95,8 +95,8 @@ fn report<K: Sink, F: Sink>(
 ) -> (u8, Option<Ran>)
     requires requests { (words_in ran).requests ≡ plan.now.traces.requests }
     requires ordered { AreInOrder plan.now.traces.requests plan.now.traces.count }
-    requires served { (retry_short : Bool) × AreServed (meaning_of ran) (words_in ran) retry_short (answers_in ran) }
-    ensures reported { HasReported ran plan.now.traces.count result
+    requires served { AreServed (meaning_of ran) (words_in ran) (waits_out plan.now.options.halts plan.now.layout.runners) (answers_in ran) }
+    ensures reported { HasReported ran plan.now.traces.count (waits_out plan.now.options.halts plan.now.layout.runners) result
         (stream (K.held sink.old) (K.held sink.new) (K.faults sink.old) (K.faults sink.new))
         (stream (F.held faults.old) (F.held faults.new) (F.faults faults.old) (F.faults faults.new)) }
 {

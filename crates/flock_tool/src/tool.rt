@@ -1,12 +1,12 @@
 // The top call.
-ghost use Rattle.std.specs.Prelude.{◌≡◌, ◌≢◌, ◌⊎◌, ◌≤◌, IfErr, IfOk, codes};
+ghost use Rattle.std.specs.Prelude.{◌≡◌, ◌≢◌, ◌⊎◌, ◌≤◌, IfErr, IfOk, None};
 ghost use Rattle.flock_words.specs.Commands.{AreAccepted, HasRanges, IsCommand, texts};
 ghost use Rattle.flock_words.specs.declared.command.Command.{Command};
 ghost use Rattle.flock_tool.specs.Alone.{IsValidAlone, KeepsVersions, NothingStops};
 ghost use Rattle.flock_tool.specs.Asks.{AsksFew};
-ghost use Rattle.flock_tool.specs.Commands.{Ends, IsNoCommand};
+ghost use Rattle.flock_tool.specs.Commands.{Ends, IsNoCommand, RefusedEnds};
 ghost use Rattle.flock_tool.specs.Runs.{IsRunStatus};
-ghost use Rattle.flock_tool.specs.Streams.{Told, gating, stream};
+ghost use Rattle.flock_tool.specs.Streams.{gating, stream};
 ghost use Rattle.flock_tool.specs.Valid.{IsValid, IsWhole, NothingFails};
 
 use crate::generation::gen_command;
@@ -78,9 +78,14 @@ pub fn flock<'a, T: Threads + Wait + Sync, R: Source, K: Sink, F: Sink, G: Gates
         (G.plans gates.old) (G.plans gates.new) (G.planned gates.old) (G.planned gates.new)) }
     // All words but those of a command are refused, and these never are.
     ensures accepted { AreAccepted (texts words.now) → result.0 ≢ 2 }
-    ensures words { (AreAccepted (texts words.now) → ⊥) → (result.0 ≡ 2) ⊎ (result.0 ≡ 7) }
-    ensures words_told { result.0 ≡ 2 → Told (codes "flock: words refused\n")
-        (stream (F.held faults.old) (F.held faults.new) (F.faults faults.old) (F.faults faults.new)) }
+    ensures words { (AreAccepted (texts words.now) → ⊥) → RefusedEnds result
+        (stream (R.left source.old) (R.left source.new) (R.faults source.old) (R.faults source.new))
+        (stream (K.held sink.old) (K.held sink.new) (K.faults sink.old) (K.faults sink.new))
+        (stream (F.held faults.old) (F.held faults.new) (F.faults faults.old) (F.faults faults.new))
+        (gating (G.halts gates.old) (G.halts gates.new) (G.asks gates.old) (G.asks gates.new)
+        (G.plans gates.old) (G.plans gates.new) (G.planned gates.old) (G.planned gates.new)) }
+    // Without a run nothing comes back.
+    ensures none { (IsRunStatus result.0 → ⊥) → result.1 ≡ None }
     // No failed read ends but at 8, and no failed write but at 9.
     ensures reads { result.0 ≢ 8 → R.faults source.new ≡ R.faults source.old }
     ensures writes { result.0 ≢ 9 → K.faults sink.new ≡ K.faults sink.old }

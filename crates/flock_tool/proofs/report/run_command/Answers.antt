@@ -1,3 +1,4 @@
+use Rattle.std.proofs.Common.{refl}
 use Rattle.flock_tool.proofs.Ends.{read_fault}
 use Rattle.flock_tool.proofs.Running.{run_lacks, run_refused, run_reported}
 use Rattle.flock_tool.proofs.report.run_command.Goals as goal
@@ -5,7 +6,7 @@ use Rattle.flock_tool.proofs.report.run_command.Goals as goal
 pub returns-in-Err-clause-ends : goal.returns-in-Err-clause-ends
 returns-in-Err-clause-ends g c =
     run_refused c.args.options _ _ _ _ _ c.in-Err.stop c.in-Err.ensures.refused c.refuse.ensures.status c.refuse.ensures.none c.refuse.ensures.told
-    c.in-Err.ensures.must c.in-Err.ensures.read
+    (record { halts = refl; asks = refl; plans = refl; planned = refl }) c.in-Err.ensures.must c.in-Err.ensures.read
 
 pub returns-in-Err-clause-reads : goal.returns-in-Err-clause-reads
 returns-in-Err-clause-reads g c = λ not_eight. c.in-Err.ensures.reads (read_fault c.in-Err.stop c.refuse.result.0 c.refuse.ensures.status not_eight)

@@ -1,13 +1,9 @@
 use Rattle.std.proofs.Common.{refl, sym, ◌∙◌, inl, inr, ⊎_elim, subst, arith, None}
 use Rattle.flock_words.specs.Commands.{IsCommand, texts}
 use Rattle.flock_words.specs.declared.command.Command.TheVariants as commands
-use Rattle.flock_tool.specs.End.{stop_line}
-use Rattle.flock_tool.specs.Streams.{Told, stream}
-use Rattle.flock_tool.specs.declared.status.Stop.{Stop}
 use Rattle.flock_tool.proofs.Asking.{load_asks, run_asks}
-use Rattle.flock_tool.proofs.Commanding.{gen_few, load_few, none_accepted, none_status, of_none, of_one}
+use Rattle.flock_tool.proofs.Commanding.{back_none, gen_few, load_few, none_accepted, none_status, of_none, of_one, refused_ends}
 use Rattle.flock_tool.proofs.Completing.{load_keeps, none_keeps, run_keeps, whole, whole_alone}
-use Rattle.flock_tool.proofs.Ends.{stop_at_2}
 use Rattle.flock_tool.proofs.Running.{if_none}
 use Rattle.flock_tool.proofs.tool.flock.Goals as goal
 
@@ -32,13 +28,12 @@ pub returns-in-Err-clause-accepted : goal.returns-in-Err-clause-accepted
 returns-in-Err-clause-accepted g c = λ accepted two. none_accepted (texts c.args.words.now) c.in-Err.stop c.in-Err.ensures.refused accepted (sym c.refuse.ensures.status ∙ two)
 
 pub returns-in-Err-clause-words : goal.returns-in-Err-clause-words
-returns-in-Err-clause-words g c = λ not.
-    ⊎_elim (λ two. inl (c.refuse.ensures.status ∙ two)) (λ seven. inr (c.refuse.ensures.status ∙ seven)) (none_status (texts c.args.words.now) c.in-Err.stop c.in-Err.ensures.refused)
+returns-in-Err-clause-words g c = λ _.
+    refused_ends c.refuse.result _ _ _ _ (texts c.args.words.now) c.in-Err.stop c.in-Err.ensures.refused c.refuse.ensures.status c.refuse.ensures.none c.refuse.ensures.told
+    (record { same = refl; steady = refl }) (record { same = refl; steady = refl }) (record { halts = refl; asks = refl; plans = refl; planned = refl })
 
-pub returns-in-Err-clause-words_told : goal.returns-in-Err-clause-words_told
-returns-in-Err-clause-words_told g c = λ two.
-    subst (λ (s : Stop). Told (stop_line s) (stream (g.F.Sink.held c.args.faults.now) (g.F.Sink.held c.refuse.new.faults) (g.F.Sink.faults c.args.faults.now) (g.F.Sink.faults c.refuse.new.faults)))
-    (stop_at_2 c.in-Err.stop (sym c.refuse.ensures.status ∙ two)) c.refuse.ensures.told
+pub returns-in-Err-clause-none : goal.returns-in-Err-clause-none
+returns-in-Err-clause-none g c = λ _. c.refuse.ensures.none
 
 pub returns-in-Err-clause-statuses : goal.returns-in-Err-clause-statuses
 returns-in-Err-clause-statuses g c =
@@ -65,8 +60,8 @@ returns-in-Run-clause-asks g c = run_asks c.in-Run.options c.run_command.result 
 pub returns-in-Run-clause-words : goal.returns-in-Run-clause-words
 returns-in-Run-clause-words g c = λ not. absurd (not (c.in-Ok.command, c.in-Ok.ensures.read))
 
-pub returns-in-Run-clause-words_told : goal.returns-in-Run-clause-words_told
-returns-in-Run-clause-words_told g c = λ two. absurd (c.run_command.ensures.accepted two)
+pub returns-in-Run-clause-none : goal.returns-in-Run-clause-none
+returns-in-Run-clause-none g c = back_none c.run_command.result c.run_command.ensures.ends.ran
 
 pub returns-in-Gen-clause-commands : goal.returns-in-Gen-clause-commands
 returns-in-Gen-clause-commands g c =
@@ -92,8 +87,8 @@ returns-in-Gen-clause-accepted g c = λ accepted. (gen_few c.in-Gen.plan c.gen_c
 pub returns-in-Gen-clause-words : goal.returns-in-Gen-clause-words
 returns-in-Gen-clause-words g c = λ not. absurd (not (c.in-Ok.command, c.in-Ok.ensures.read))
 
-pub returns-in-Gen-clause-words_told : goal.returns-in-Gen-clause-words_told
-returns-in-Gen-clause-words_told g c = λ two. absurd ((gen_few c.in-Gen.plan c.gen_command.result _ _ c.gen_command.ensures).0 two)
+pub returns-in-Gen-clause-none : goal.returns-in-Gen-clause-none
+returns-in-Gen-clause-none g c = λ _. refl
 
 pub returns-in-Gen-clause-writes : goal.returns-in-Gen-clause-writes
 returns-in-Gen-clause-writes g c = c.gen_command.ensures.steady
@@ -128,8 +123,8 @@ returns-in-Load-clause-accepted g c = λ accepted. (load_few c.in-Load.load c.lo
 pub returns-in-Load-clause-words : goal.returns-in-Load-clause-words
 returns-in-Load-clause-words g c = λ not. absurd (not (c.in-Ok.command, c.in-Ok.ensures.read))
 
-pub returns-in-Load-clause-words_told : goal.returns-in-Load-clause-words_told
-returns-in-Load-clause-words_told g c = λ two. absurd ((load_few c.in-Load.load c.load_command.result _ _ _ c.load_command.ensures).0 two)
+pub returns-in-Load-clause-none : goal.returns-in-Load-clause-none
+returns-in-Load-clause-none g c = back_none c.load_command.result c.load_command.ensures.ran
 
 pub returns-in-Load-clause-writes : goal.returns-in-Load-clause-writes
 returns-in-Load-clause-writes g c = c.load_command.ensures.steady
