@@ -7,6 +7,7 @@ ghost use Rattle.guard_core.specs.Schedules.{IsFirst, first_state, AllEnabled, a
 ghost use Rattle.guard_core.specs.Frame.{IsSame};
 ghost use Rattle.guard_core.specs.Held.{HeldAreSafe, LeavesUnheld, LimboIsSmall};
 ghost use Rattle.guard_core.specs.Owners.{StaysWithOwner};
+ghost use Rattle.guard_core.specs.Lists.{Lists, IsListed, listed_all, Starts};
 ghost use Rattle.guard_core.specs.Sweeps.{SweepsExactly, FreesUnnamed, LeavesEnough, IsNeverShort};
 ghost use Rattle.guard_core.specs.Round.{ComesRound};
 
@@ -20,6 +21,21 @@ pub fn schedules_meet_the_invariant()
     ensures { (c : Counts) (descriptor block : ℕ → Location) (es : List Event) → IsFirst descriptor block
         → AllEnabled c (first_state descriptor block) es
         → IsSound c (after_all (first_state descriptor block) es) }
+{}
+
+/// After every list of enabled events each descriptor and each block stands exactly once in the list that its
+/// place names, and in no other list of any runner.
+pub fn all_stand_in_one_list()
+    ensures { (c : Counts) (descriptor block : ℕ → Location) (l : ℕ → Lists) (es : List Event)
+        → IsFirst descriptor block → IsListed c (first_state descriptor block) l
+        → AllEnabled c (first_state descriptor block) es
+        → IsListed c (after_all (first_state descriptor block) es)
+        (listed_all (first_state descriptor block) l es) }
+{}
+
+/// With every descriptor and every block in the free lists of runner 0 the machine can start.
+pub fn the_machine_can_start()
+    ensures { (c : Counts) → Starts c }
 {}
 
 /// A state that differs in no field meets the invariant.
