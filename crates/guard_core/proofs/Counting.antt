@@ -2,7 +2,7 @@
 use Rattle.std.proofs.Common.{◌≡◌, ℕ, zero, suc, ◌+◌, ◌≤◌, Bool, true, false, cond, List, [], ◌∷◌, ◌++◌, length, refl, arith}
 use Rattle.std.specs.Prelude.{◌⊎◌, ◌||◌, ◌&&◌, ◌==◌, not, nat_lt}
 use Rattle.std.proofs.lemmas.Bool.Decides.{nat_tests}
-use Rattle.guard_core.specs.Update.{has, count}
+use Rattle.guard_core.specs.Update.{has, count, times}
 use Rattle.guard_core.specs.Sound.{named}
 
 pub has-append : (xs ys : List ℕ) (x : ℕ) → has (xs ++ ys) x ≡ (has xs x || has ys x)
@@ -12,6 +12,16 @@ has-append (z ∷ xs) ys x = let rest = has-append xs ys x in grind arith
 pub named-append : (xs ys : List ℕ) → named (xs ++ ys) ≡ named xs + named ys
 named-append [] ys = grind arith
 named-append (z ∷ xs) ys = let rest = named-append xs ys in grind arith
+
+pub times-append : (x : ℕ) (xs ys : List ℕ) → times x (xs ++ ys) ≡ times x xs + times x ys
+times-append x [] ys = grind arith
+times-append x (z ∷ xs) ys = let rest = times-append x xs ys in grind arith
+
+-- what isn't in a list
+pub times-none : (x : ℕ) (xs : List ℕ) → (has xs x ≡ true → ⊥) → times x xs ≡ 0
+times-none x [] none = refl
+times-none x (y ∷ xs) none =
+    let rest = times-none x xs (λ more. none (grind arith)) in grind (arith, nat_tests)
 
 -- a test that lets more through
 pub count_more : (f g : ℕ → Bool) (n : ℕ) → ((i : ℕ) → f i ≡ true → g i ≡ true) → count f n ≤ count g n

@@ -26,6 +26,7 @@ enter c w r ok old =
       swept = grind arith;
       swept_block = grind arith;
       others = λ r1. let before = old.others r1 in grind arith;
+      once = λ d1 b1. old.once d1 b1;
       few = λ d1. old.few d1;
       eight = λ r1 d1. old.eight r1 d1;
     }
@@ -52,6 +53,7 @@ exit c w r ok old =
       swept = grind arith;
       swept_block = grind arith;
       others = λ r1. old.others r1;
+      once = λ d1 b1. old.once d1 b1;
       few = λ d1. old.few d1;
       eight = λ r1 d1. old.eight r1 d1;
     }
@@ -78,6 +80,7 @@ store_guard c w r d ok old =
       swept = grind arith;
       swept_block = grind arith;
       others = λ r1. old.others r1;
+      once = λ d1 b1. old.once d1 b1;
       few = λ d1. old.few d1;
       eight = λ r1 d1. old.eight r1 d1;
     }
@@ -104,6 +107,7 @@ clear_guard c w r ok old =
       swept = grind arith;
       swept_block = grind arith;
       others = λ r1. old.others r1;
+      once = λ d1 b1. old.once d1 b1;
       few = λ d1. old.few d1;
       eight = λ r1 d1. old.eight r1 d1;
     }

@@ -4,7 +4,7 @@ use Rattle.std.specs.Prelude.{◌⊎◌}
 use Rattle.guard_core.specs.State.{Counts, Location, Free, Live, Limbo, GuardState, IsSureOf}
 use Rattle.guard_core.specs.Update.{has}
 use Rattle.guard_core.specs.Sound.{IsSound}
-use Rattle.guard_core.specs.Held.{IsKeptUnder, HeldAreSafe}
+use Rattle.guard_core.specs.Held.{IsKeptUnder, HeldAreSafe, GivenToNobody}
 
 -- one of the three places
 pub data Place (x : Location) : Type 0 where
@@ -51,9 +51,17 @@ held_are_safe c w sound =
       held = λ r d b s l. under c w sound r d b s l (place (w.block b));
       held_unfree = λ r d b q s l. sound.held r d b q s l;
       apart = λ r d r' d' b s s' l l'. one w d d' b (under c w sound r d b s l (place (w.block b))) (under c w sound r' d' b s' l' (place (w.block b)));
+      once = sound.once;
       running = λ r d run. sound.running r d run;
       owner = λ r d at. sound.owner r d at;
       unended = λ q d b at not l.
           unended w d b (under c w sound q d b (sound.owner q d at) l (place (w.block b))) (λ r lies. sound.ended b r d lies l) not;
       ended = λ b r d at l. sound.ended b r d at l;
+    }
+
+pub given_to_nobody : (c : Counts) (w : GuardState) → IsSound c w → GivenToNobody c w
+given_to_nobody c w sound =
+    record {
+      descriptor = λ r d q s ok. sound.kept r d q s ok.1;
+      block = λ r d b q e s l ok. sound.held r d b q s l ok.1;
     }

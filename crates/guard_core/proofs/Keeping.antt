@@ -57,6 +57,7 @@ first c descriptor block start =
       swept = grind arith;
       swept_block = grind arith;
       others = grind arith;
+      once = grind arith;
       few = grind arith;
       eight = λ r1 d1. let none = none_counted r1 d1 c.blocks block start.blocks in grind arith;
     }

@@ -6,14 +6,15 @@ use mathlib.Core.Logic.{dite}
 use native.Mathlib.Decide.{ℕ_discrete}
 use Rattle.std.proofs.lemmas.Bool.Decides.{nat_tests}
 use Rattle.guard_core.specs.State.{Counts, Location, Free, Live, Limbo, GuardState}
-use Rattle.guard_core.specs.Update.{upd}
+use Rattle.guard_core.specs.Update.{upd, times}
 use Rattle.guard_core.specs.Moves.{freed, retired, is_unnamed}
 use Rattle.guard_core.specs.Events.{Event, Enter, Exit, StoreGuard, ClearGuard, Validate, Publish, Begin, Link, Finish, LoadGuard, LoadLast, Enabled, with_next, after}
 use Rattle.guard_core.specs.Sound.{is_under, IsSound}
 use Rattle.guard_core.specs.Sweeps.{is_free_of, is_limbo_of}
 use Rattle.guard_core.specs.Schedules.{AllEnabled, after_all}
-use Rattle.guard_core.specs.Lists.{Entry, Lists, IsListed, Starts, freed_lists, swept_lists, retired_lists, is_live_of, listed, listed_all, times, times_under, without, blocks_under, not_under, all_under, once}
-use Rattle.guard_core.proofs.Times.{times-append, times-filter, times-without, times_under-append, times_under-not, times_under-all, times-under_none, times-under_one, times-below}
+use Rattle.guard_core.specs.Lists.{Entry, Lists, IsListed, Starts, freed_lists, swept_lists, retired_lists, is_live_of, listed, listed_all, times_under, without, blocks_under, not_under, all_under, once}
+use Rattle.guard_core.proofs.Counting.{times-append}
+use Rattle.guard_core.proofs.Times.{times-filter, times-without, times_under-append, times_under-not, times_under-all, times-under_none, times-under_one, times-below}
 use Rattle.guard_core.proofs.Keeping.{keeps}
 
 -- a block in the free list of this runner, behind what it freed of its limbo

@@ -51,6 +51,7 @@ validate c w r d ok old =
       swept = grind arith;
       swept_block = λ r1 p1 d1 b1 lt no s at. let moved = given_limbo r d r1 d1 (w.block b1) at in let before = old.swept_block r1 p1 d1 b1 lt no in grind arith;
       others = λ r1. old.others r1;
+      once = λ d1 b1. old.once d1 b1;
       few = λ d1. old.few d1;
       eight = λ r1 d1. eight_less r d r1 d1 c.blocks w.block (old.eight r1 d1);
     }
@@ -77,6 +78,7 @@ publish c w r d ok old =
       swept = grind arith;
       swept_block = λ r1 p1 d1 b1 lt no s at. let moved = given_limbo r d r1 d1 (w.block b1) at in let before = old.swept_block r1 p1 d1 b1 lt no in grind arith;
       others = λ r1. old.others r1;
+      once = λ d1 b1. let before = old.once d1 b1 in grind arith;
       few = grind arith;
       eight = λ r1 d1. eight_less r d r1 d1 c.blocks w.block (old.eight r1 d1);
     }

@@ -6,10 +6,10 @@ use mathlib.Core.Logic.{dite}
 use native.Mathlib.Decide.{ℕ_discrete}
 use Rattle.std.proofs.lemmas.Bool.Decides.{nat_tests}
 use Rattle.guard_core.specs.Events.{Begin, Link, Finish, after, Enabled}
-use Rattle.guard_core.specs.Update.{upd, has, count}
+use Rattle.guard_core.specs.Update.{upd, has, count, times}
 use Rattle.guard_core.specs.Moves.{retired}
 use Rattle.guard_core.proofs.Moving.{retired_free, retired_live, retired_limbo}
-use Rattle.guard_core.proofs.Counting.{has-append, count_more, count_listed}
+use Rattle.guard_core.proofs.Counting.{has-append, times-append, times-none, count_more, count_listed}
 
 -- what lies under a descriptor in a runner's limbo
 under : (r d : ℕ) (x : Location) → is_under r d x ≡ true → x ≡ Limbo r d
@@ -45,9 +45,15 @@ begin c w r d ok old =
       swept = grind arith;
       swept_block = grind arith;
       others = λ r1. old.others r1;
+      once = λ d1 b1. old.once d1 b1;
       few = λ d1. old.few d1;
       eight = λ r1 d1. old.eight r1 d1;
     }
+
+-- a free block isn't linked in a descriptor that the runner runs
+unlinked : (c : Counts) (w : GuardState) (r d b : ℕ) → Enabled c w (Link r d b) → IsSound c w → times b (w.linked d) ≡ 0
+unlinked c w r d b ok old =
+    let sure = old.running r d ok.0 in times-none b (w.linked d) (λ linked. old.held r d b r sure linked ok.1)
 
 pub link : (c : Counts) (w : GuardState) (r : ℕ) (d : ℕ) (b : ℕ) → Enabled c w (Link r d b) → IsSound c w → IsSound c (after w (Link r d b))
 link c w r d b ok old =
@@ -71,6 +77,7 @@ link c w r d b ok old =
       swept = grind arith;
       swept_block = λ r1 p1 d1 b1 lt no s at. let more = has-append (w.linked d) (b ∷ []) b1 in let before = old.swept_block r1 p1 d1 b1 lt no s in grind arith;
       others = λ r1. old.others r1;
+      once = λ d1 b1. let before = old.once d1 b1 in let more = times-append b1 (w.linked d) (b ∷ []) in let fresh = unlinked c w r d b ok old in grind arith;
       few = λ d1. let before = old.few d1 in let more = length-append (w.linked d) (b ∷ []) in grind arith;
       eight = λ r1 d1. let less = count_more (λ i. is_under r1 d1 (upd w.block b (Live r) i)) (λ i. is_under r1 d1 (w.block i)) c.blocks (λ i at. grind arith) in let before = old.eight r1 d1 in omega arith;
     }
@@ -112,6 +119,7 @@ finish c w r d ok old =
       swept = λ r1 p1 d1 lt no s at. let before = old.swept r1 p1 d1 lt no s in let moved = retired_limbo r d r1 d1 (w.descriptor d) in let here = old.running r d ok in let none = old.sweeping r in let idle = old.idle r in grind arith;
       swept_block = λ r1 p1 d1 b1 lt no s at. let before = old.swept_block r1 p1 d1 b1 lt no s in let moved = retired_limbo r d r1 d1 (w.block b1) at in let here = old.running r d ok in let none = old.sweeping r in let idle = old.idle r in grind arith;
       others = λ r1. old.others r1;
+      once = λ d1 b1. old.once d1 b1;
       few = λ d1. old.few d1;
       eight = λ r1 d1. eight_finished c w r d ok old r1 d1;
     }

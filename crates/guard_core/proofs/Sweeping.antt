@@ -32,6 +32,7 @@ load_guard c w r ok old =
       swept = λ r1 p1 d1 lt no s at. let l = w.looked r in let x = word_of (w.guard (length l)) in let more = has-append l (x ∷ []) (suc d1) in let longer = length-append l (x ∷ []) in let before = old.swept r1 p1 d1 in grind arith;
       swept_block = λ r1 p1 d1 b1 lt no s at. let l = w.looked r in let x = word_of (w.guard (length l)) in let more = has-append l (x ∷ []) (suc d1) in let longer = length-append l (x ∷ []) in let before = old.swept_block r1 p1 d1 b1 in grind arith;
       others = λ r1. let before = old.others r1 in let l = w.looked r in let x = word_of (w.guard (length l)) in let longer = length-append l (x ∷ []) in let more = named-append l (x ∷ []) in let idle = old.idle r in grind arith;
+      once = λ d1 b1. old.once d1 b1;
       few = λ d1. old.few d1;
       eight = λ r1 d1. old.eight r1 d1;
     }
@@ -83,6 +84,7 @@ load_last c w r ok old =
       swept = λ r1 p1 d1 lt no s at. let moved = swept_limbo r r1 d1 (with_next w r) (w.descriptor d1) at in let before = old.swept r1 p1 d1 in grind arith;
       swept_block = λ r1 p1 d1 b1 lt no s at. let moved = swept_limbo r r1 d1 (with_next w r) (w.block b1) at in let before = old.swept_block r1 p1 d1 b1 in grind arith;
       others = λ r1. let before = old.others r1 in grind arith;
+      once = λ d1 b1. old.once d1 b1;
       few = λ d1. old.few d1;
       eight = λ r1 d1. let less = count_more (λ i. is_under r1 d1 (swept r (with_next w r) (w.block i))) (λ i. is_under r1 d1 (w.block i)) c.blocks (λ i at. under_less r r1 d1 (with_next w r) (w.block i) at) in let before = old.eight r1 d1 in omega arith;
     }

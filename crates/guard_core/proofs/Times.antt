@@ -5,11 +5,8 @@ use Rattle.std.specs.List.{filter}
 use mathlib.Core.Logic.{dite}
 use native.Mathlib.Decide.{ℕ_discrete}
 use Rattle.std.proofs.lemmas.Bool.Decides.{nat_tests}
-use Rattle.guard_core.specs.Lists.{Entry, times, times_under, without, blocks_under, not_under, all_under, once, below}
-
-pub times-append : (x : ℕ) (xs ys : List ℕ) → times x (xs ++ ys) ≡ times x xs + times x ys
-times-append x [] ys = grind arith
-times-append x (z ∷ xs) ys = let rest = times-append x xs ys in grind arith
+use Rattle.guard_core.specs.Update.{times}
+use Rattle.guard_core.specs.Lists.{Entry, times_under, without, blocks_under, not_under, all_under, once, below}
 
 pub times-filter : (x : ℕ) (test : ℕ → Bool) (xs : List ℕ) → times x (filter test xs) ≡ cond (test x) (times x xs) 0
 times-filter x test [] = grind arith

@@ -3,7 +3,7 @@
 use Rattle.std.specs.Prelude.{ℕ, zero, suc, ◌+◌, ◌<◌, ◌≡◌, Bool, true, false, not, ◌==◌, ◌&&◌, cond, List, [], ◌∷◌, ◌++◌, map}
 use Rattle.std.specs.List.{filter}
 use Rattle.guard_core.specs.State.{Counts, Location, Free, Live, Limbo, GuardState}
-use Rattle.guard_core.specs.Update.{upd}
+use Rattle.guard_core.specs.Update.{upd, times}
 use Rattle.guard_core.specs.Moves.{is_unnamed}
 use Rattle.guard_core.specs.Events.{Event, Validate, Publish, Link, Finish, LoadLast, with_next, after}
 use Rattle.guard_core.specs.Sound.{is_under}
@@ -82,11 +82,6 @@ listed w l _ = l
 abbrev pub listed_all : GuardState → (ℕ → Lists) → List Event → ℕ → Lists
 listed_all w l [] = l
 listed_all w l (e ∷ es) = listed_all (after w e) (listed w l e) es
-
--- how often a number stands in a list
-abbrev pub times : ℕ → List ℕ → ℕ
-times x [] = 0
-times x (y ∷ ys) = cond (y == x) (1 + times x ys) (times x ys)
 
 -- how often a block stands in limbo under this descriptor
 abbrev pub times_under : ℕ → ℕ → List Entry → ℕ

@@ -14,3 +14,8 @@ has (y ∷ ys) x = y == x || has ys x
 abbrev pub count : (ℕ → Bool) → ℕ → ℕ
 count f zero = 0
 count f (suc n) = count f n + cond (f n) 1 0
+
+-- how often a number stands in a list
+abbrev pub times : ℕ → List ℕ → ℕ
+times x [] = 0
+times x (y ∷ ys) = cond (y == x) (1 + times x ys) (times x ys)

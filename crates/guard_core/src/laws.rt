@@ -5,8 +5,8 @@ ghost use Rattle.guard_core.specs.Events.{Event, LoadLast, Enabled, after};
 ghost use Rattle.guard_core.specs.Sound.{IsSound};
 ghost use Rattle.guard_core.specs.Schedules.{IsFirst, first_state, AllEnabled, after_all};
 ghost use Rattle.guard_core.specs.Frame.{IsSame};
-ghost use Rattle.guard_core.specs.Held.{HeldAreSafe, LeavesUnheld, LimboIsSmall};
-ghost use Rattle.guard_core.specs.Owners.{StaysWithOwner};
+ghost use Rattle.guard_core.specs.Held.{HeldAreSafe, GivenToNobody, LeavesUnheld, LimboIsSmall};
+ghost use Rattle.guard_core.specs.Owners.{StaysWithOwner, GoesRound};
 ghost use Rattle.guard_core.specs.Lists.{Lists, IsListed, listed_all, Starts};
 ghost use Rattle.guard_core.specs.Sweeps.{SweepsExactly, FreesUnnamed, LeavesEnough, IsNeverShort};
 ghost use Rattle.guard_core.specs.Round.{ComesRound};
@@ -45,10 +45,14 @@ pub fn changes_elsewhere_keep_the_invariant()
 
 /// After every list of enabled events, a descriptor that somebody is sure of is in no free list, and each
 /// block that is linked in its publication is live or in limbo under it, so in no free list and in no hand.
+/// Nobody may give them out.
 pub fn held_descriptors_and_blocks_are_safe()
-    ensures { (c : Counts) (descriptor block : ℕ → Location) (es : List Event) → IsFirst descriptor block
+    ensures safe { (c : Counts) (descriptor block : ℕ → Location) (es : List Event) → IsFirst descriptor block
         → AllEnabled c (first_state descriptor block) es
         → HeldAreSafe (after_all (first_state descriptor block) es) }
+    ensures given_out { (c : Counts) (descriptor block : ℕ → Location) (es : List Event) → IsFirst descriptor block
+        → AllEnabled c (first_state descriptor block) es
+        → GivenToNobody c (after_all (first_state descriptor block) es) }
 {}
 
 /// No event takes anything out of a limbo while somebody holds it.
@@ -82,10 +86,12 @@ pub fn sweeps_leave_enough()
     ensures enough { (c : Counts) → IsNeverShort c }
 {}
 
-/// Each descriptor and each block stays with its runner: no event moves it to another one's lists.
+/// Each descriptor and each block stays with its runner: no event moves it to another one's lists. It goes from
+/// free to live, into limbo, and back.
 pub fn nothing_changes_hands()
-    ensures { (c : Counts) (w : GuardState) (e : Event) → Enabled c w e → IsSound c w
+    ensures owner { (c : Counts) (w : GuardState) (e : Event) → Enabled c w e → IsSound c w
         → StaysWithOwner w (after w e) }
+    ensures round { (c : Counts) (w : GuardState) (e : Event) → Enabled c w e → IsSound c w → GoesRound w (after w e) }
 {}
 
 /// An example in which every kind of event may come: a descriptor and a block are given out, retired, kept
