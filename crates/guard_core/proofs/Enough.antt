@@ -1,16 +1,14 @@
 -- How much a sweep leaves free.
-use Rattle.std.proofs.Common.{◌≡◌, ◌≢◌, ℕ, zero, suc, ◌+◌, ◌*◌, ◌<◌, ◌≤◌, Bool, true, false, List, [], ◌∷◌, ◌++◌, length, inl, inr, Option, Some, None, refl, ap, ◌∙◌, arith, length-append}
+use Rattle.std.proofs.Common.{◌≡◌, ℕ, zero, suc, ◌+◌, ◌*◌, ◌≤◌, Bool, true, false, List, [], ◌∷◌, length, inl, Option, Some, None, refl, ap, ◌∙◌, arith, length-append}
 use Rattle.std.specs.Prelude.{◌⊎◌, ◌==◌, ◌&&◌}
 use Rattle.std.proofs.lemmas.Bool.Decides.{nat_tests}
 use Rattle.std.proofs.Math.Nat.{mul-suc}
-use mathlib.Core.Logic.{dite}
-use native.Mathlib.Decide.{ℕ_discrete}
-use Rattle.guard_core.specs.State.{Counts, Location, Free, Live, Limbo, GuardState, word_of, IsSureOf, most_linked}
+use Rattle.guard_core.specs.State.{Counts, Location, Free, Live, Limbo, GuardState, word_of, most_linked}
 use Rattle.guard_core.specs.Update.{has, count}
 use Rattle.guard_core.specs.Moves.{swept}
 use Rattle.guard_core.specs.Events.{Event, LoadLast, Enabled, with_next, after}
 use Rattle.guard_core.specs.Sound.{is_under, named, IsSound}
-use Rattle.guard_core.specs.Schedules.{IsFirst, first_state, AllEnabled, after_all}
+use Rattle.guard_core.specs.Schedules.{first_state, AllEnabled, after_all}
 use Rattle.guard_core.specs.Owners.{owner_of, StaysWithOwner}
 use Rattle.guard_core.specs.Sweeps.{is_limbo_of, is_free_of, is_own, LeavesEnough, IsNeverShort}
 use Rattle.guard_core.proofs.Counting.{named-append, count_more, count_listed, count_same, count_either}

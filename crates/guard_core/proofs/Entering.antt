@@ -1,7 +1,7 @@
 -- Each event keeps the invariant: entering, leaving and the guard word.
-use Rattle.std.proofs.Common.{◌≡◌, ℕ, ◌≤◌, arith}
-use Rattle.guard_core.specs.State.{Counts, Location, Free, Live, Limbo, GuardState, IsSureOf}
-use Rattle.guard_core.specs.Sound.{is_under, IsSound}
+use Rattle.std.proofs.Common.{ℕ, arith}
+use Rattle.guard_core.specs.State.{Counts, GuardState}
+use Rattle.guard_core.specs.Sound.{IsSound}
 use Rattle.guard_core.specs.Events.{Enter, Exit, StoreGuard, ClearGuard, after, Enabled}
 
 pub enter : (c : Counts) (w : GuardState) (r : ℕ) → Enabled c w (Enter r) → IsSound c w → IsSound c (after w (Enter r))

@@ -4,12 +4,12 @@ use Rattle.std.specs.Prelude.{◌⊎◌, length}
 use Rattle.std.proofs.lemmas.Bool.Decides.{nat_tests}
 use mathlib.Core.Logic.{dite}
 use native.Mathlib.Decide.{ℕ_discrete}
-use Rattle.guard_core.specs.State.{Counts, Location, Free, Live, Limbo, GuardState, word_of, IsSureOf}
-use Rattle.guard_core.specs.Update.{upd, has}
+use Rattle.guard_core.specs.State.{Counts, Location, Free, Live, Limbo, GuardState, word_of}
+use Rattle.guard_core.specs.Update.{has}
 use Rattle.guard_core.specs.Moves.{swept}
 use Rattle.guard_core.specs.Events.{Event, Enter, Exit, StoreGuard, ClearGuard, Validate, Publish, Begin, Link, Finish, LoadGuard, LoadLast, Enabled, with_next, after}
 use Rattle.guard_core.specs.Sound.{IsSound}
-use Rattle.guard_core.specs.Schedules.{AllEnabled, after_all}
+use Rattle.guard_core.specs.Schedules.{after_all}
 use Rattle.guard_core.specs.Sweeps.{SweepsExactly, IsNamed, IsNamedAlong, FreesUnnamed}
 use Rattle.guard_core.proofs.Counting.{has-append}
 use Rattle.guard_core.proofs.Sweeping.{unheld}

@@ -1,5 +1,5 @@
 -- What the invariant says of what is held.
-use Rattle.std.proofs.Common.{◌≡◌, ◌≢◌, ℕ, Bool, true, false, refl, inl, inr, Some, None, arith}
+use Rattle.std.proofs.Common.{◌≡◌, ◌≢◌, ℕ, true, false, refl, inl, inr, Some, arith}
 use Rattle.std.specs.Prelude.{◌⊎◌}
 use Rattle.guard_core.specs.State.{Counts, Location, Free, Live, Limbo, GuardState, IsSureOf}
 use Rattle.guard_core.specs.Update.{has}

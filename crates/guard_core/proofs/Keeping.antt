@@ -1,5 +1,5 @@
 -- Every enabled event keeps the invariant.
-use Rattle.std.proofs.Common.{◌≡◌, ℕ, zero, suc, ◌+◌, ◌≤◌, true, false, refl, List, [], ◌∷◌, arith}
+use Rattle.std.proofs.Common.{◌≡◌, ℕ, zero, suc, true, false, refl, List, [], ◌∷◌, arith}
 use Rattle.guard_core.specs.State.{Counts, Location, Free, Live, Limbo, GuardState}
 use Rattle.guard_core.specs.Update.{count}
 use Rattle.guard_core.specs.Events.{Event, Enter, Exit, StoreGuard, ClearGuard, Validate, Publish, Begin, Link, Finish, LoadGuard, LoadLast, Enabled, after}

@@ -1,8 +1,8 @@
 -- What leaves a limbo isn't held.
-use Rattle.std.proofs.Common.{◌≡◌, ◌≢◌, ℕ, suc, Bool, true, false, List, arith}
-use Rattle.guard_core.specs.State.{Counts, Location, Free, Live, Limbo, GuardState, IsSureOf}
+use Rattle.std.proofs.Common.{◌≡◌, ◌≢◌, ℕ, suc, true, false, List, arith}
+use Rattle.guard_core.specs.State.{Counts, Limbo, GuardState, IsSureOf}
 use Rattle.guard_core.specs.Update.{has}
-use Rattle.guard_core.specs.Moves.{retired, given_back, swept}
+use Rattle.guard_core.specs.Moves.{swept}
 use Rattle.guard_core.specs.Events.{Event, Enter, Exit, StoreGuard, ClearGuard, Validate, Publish, Begin, Link, Finish, LoadGuard, LoadLast, Enabled, with_next, after}
 use Rattle.guard_core.specs.Sound.{IsSound}
 use Rattle.guard_core.specs.Held.{LeavesUnheld}

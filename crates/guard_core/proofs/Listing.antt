@@ -1,5 +1,5 @@
 -- The lists of each runner stay tied to where descriptors and blocks are.
-use Rattle.std.proofs.Common.{◌≡◌, ◌≢◌, ℕ, suc, ◌+◌, ◌<◌, Bool, true, false, cond, List, [], ◌∷◌, ◌++◌, not, refl, sym, ap, subst, Some, None, arith}
+use Rattle.std.proofs.Common.{◌≡◌, ◌≢◌, ℕ, ◌+◌, Bool, false, cond, List, [], ◌∷◌, not, refl, sym, subst, arith}
 use Rattle.std.specs.Prelude.{◌==◌}
 use Rattle.std.specs.List.{filter}
 use mathlib.Core.Logic.{dite}
@@ -12,7 +12,7 @@ use Rattle.guard_core.specs.Events.{Event, Enter, Exit, StoreGuard, ClearGuard, 
 use Rattle.guard_core.specs.Sound.{is_under, IsSound}
 use Rattle.guard_core.specs.Sweeps.{is_free_of, is_limbo_of}
 use Rattle.guard_core.specs.Schedules.{AllEnabled, after_all}
-use Rattle.guard_core.specs.Lists.{Entry, Lists, IsListed, Starts, freed_lists, swept_lists, retired_lists, is_live_of, listed, listed_all, times_under, without, blocks_under, not_under, all_under, once}
+use Rattle.guard_core.specs.Lists.{Entry, Lists, IsListed, Starts, freed_lists, is_live_of, listed, listed_all, times_under, blocks_under, all_under, once}
 use Rattle.guard_core.proofs.Counting.{times-append}
 use Rattle.guard_core.proofs.Times.{times-filter, times-without, times_under-append, times_under-not, times_under-all, times-under_none, times-under_one, times-below}
 use Rattle.guard_core.proofs.Keeping.{keeps}

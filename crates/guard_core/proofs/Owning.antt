@@ -1,5 +1,5 @@
 -- No event moves anything to another runner's lists.
-use Rattle.std.proofs.Common.{◌≡◌, ℕ, List, Some, refl, inl, inr, arith}
+use Rattle.std.proofs.Common.{◌≡◌, ℕ, List, refl, inl, inr, arith}
 use Rattle.std.specs.Prelude.{◌⊎◌}
 use Rattle.std.proofs.lemmas.Bool.Decides.{nat_tests}
 use Rattle.guard_core.specs.State.{Counts, Location, Free, Live, Limbo, GuardState}

@@ -5,7 +5,7 @@ use Rattle.guard_core.specs.Sound.{is_under, IsSound}
 use Rattle.guard_core.specs.Events.{Validate, Publish, after, Enabled}
 use mathlib.Core.Logic.{dite}
 use native.Mathlib.Decide.{ℕ_discrete}
-use Rattle.guard_core.specs.Update.{has, count}
+use Rattle.guard_core.specs.Update.{count}
 use Rattle.guard_core.specs.Moves.{given_back}
 use Rattle.guard_core.proofs.Moving.{given_free, given_live, given_limbo}
 use Rattle.guard_core.proofs.Counting.{count_more}

@@ -1,12 +1,12 @@
 -- Each event keeps the invariant: runs of a section.
-use Rattle.std.proofs.Common.{◌≡◌, ◌≢◌, ℕ, true, ◌≤◌, List, [], ◌∷◌, ◌++◌, length, arith, length-append}
-use Rattle.guard_core.specs.State.{Counts, Location, Free, Live, Limbo, GuardState, IsSureOf}
+use Rattle.std.proofs.Common.{◌≡◌, ℕ, true, ◌≤◌, [], ◌∷◌, arith, length-append}
+use Rattle.guard_core.specs.State.{Counts, Location, Free, Live, Limbo, GuardState}
 use Rattle.guard_core.specs.Sound.{is_under, IsSound}
 use mathlib.Core.Logic.{dite}
 use native.Mathlib.Decide.{ℕ_discrete}
 use Rattle.std.proofs.lemmas.Bool.Decides.{nat_tests}
 use Rattle.guard_core.specs.Events.{Begin, Link, Finish, after, Enabled}
-use Rattle.guard_core.specs.Update.{upd, has, count, times}
+use Rattle.guard_core.specs.Update.{upd, count, times}
 use Rattle.guard_core.specs.Moves.{retired}
 use Rattle.guard_core.proofs.Moving.{retired_free, retired_live, retired_limbo}
 use Rattle.guard_core.proofs.Counting.{has-append, times-append, times-none, count_more, count_listed}

@@ -1,7 +1,6 @@
 -- A state that is the same everywhere meets the same facts.
-use Rattle.std.proofs.Common.{◌≡◌, ℕ, zero, suc, ◌≤◌, ap, refl, arith}
+use Rattle.std.proofs.Common.{ap, arith}
 use Rattle.guard_core.specs.State.{Counts, GuardState}
-use Rattle.guard_core.specs.Update.{count}
 use Rattle.guard_core.specs.Sound.{is_under, IsSound}
 use Rattle.guard_core.specs.Frame.{IsSame}
 use Rattle.guard_core.proofs.Counting.{count_same}

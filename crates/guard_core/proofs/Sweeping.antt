@@ -1,11 +1,11 @@
 -- Each event keeps the invariant: sweeps of the guard words.
-use Rattle.std.proofs.Common.{◌≡◌, ◌≢◌, ℕ, suc, true, false, ◌≤◌, List, [], ◌∷◌, ◌++◌, length, inl, inr, subst, arith, length-append}
+use Rattle.std.proofs.Common.{◌≡◌, ℕ, suc, true, false, List, [], ◌∷◌, length, inl, inr, subst, arith, length-append}
 use Rattle.std.specs.Prelude.{◌⊎◌}
 use Rattle.guard_core.specs.State.{Counts, Location, Free, Live, Limbo, GuardState, IsSureOf}
 use Rattle.guard_core.specs.Sound.{is_under, IsSound}
 use Rattle.guard_core.specs.Events.{LoadGuard, LoadLast, with_next, after, Enabled}
 use Rattle.guard_core.specs.State.{word_of}
-use Rattle.guard_core.specs.Update.{upd, has, count}
+use Rattle.guard_core.specs.Update.{has}
 use Rattle.guard_core.specs.Moves.{swept}
 use Rattle.guard_core.proofs.Moving.{swept_free, swept_live, swept_limbo}
 use Rattle.guard_core.proofs.Counting.{has-append, named-append, count_more}

@@ -1,12 +1,11 @@
 -- How often a number stands in a list that changes.
-use Rattle.std.proofs.Common.{◌≡◌, ℕ, zero, suc, ◌+◌, ◌<◌, ◌≤◌, Bool, true, false, cond, List, [], ◌∷◌, ◌++◌, map, not, refl, arith}
+use Rattle.std.proofs.Common.{◌≡◌, ℕ, zero, suc, ◌+◌, ◌<◌, ◌≤◌, Bool, cond, List, [], ◌∷◌, ◌++◌, refl, arith}
 use Rattle.std.specs.Prelude.{◌==◌}
 use Rattle.std.specs.List.{filter}
 use mathlib.Core.Logic.{dite}
 use native.Mathlib.Decide.{ℕ_discrete}
-use Rattle.std.proofs.lemmas.Bool.Decides.{nat_tests}
 use Rattle.guard_core.specs.Update.{times}
-use Rattle.guard_core.specs.Lists.{Entry, times_under, without, blocks_under, not_under, all_under, once, below}
+use Rattle.guard_core.specs.Lists.{Entry, times_under, without, blocks_under, not_under, all_under, below}
 
 pub times-filter : (x : ℕ) (test : ℕ → Bool) (xs : List ℕ) → times x (filter test xs) ≡ cond (test x) (times x xs) 0
 times-filter x test [] = grind arith

@@ -1,6 +1,6 @@
 -- The lists of each runner, beside the state: a descriptor or a block stands in a list exactly where its place
 -- says so, and there once.
-use Rattle.std.specs.Prelude.{ℕ, zero, suc, ◌+◌, ◌<◌, ◌≡◌, Bool, true, false, not, ◌==◌, ◌&&◌, cond, List, [], ◌∷◌, ◌++◌, map}
+use Rattle.std.specs.Prelude.{ℕ, zero, suc, ◌+◌, ◌<◌, ◌≡◌, Bool, false, not, ◌==◌, ◌&&◌, cond, List, [], ◌∷◌, ◌++◌, map}
 use Rattle.std.specs.List.{filter}
 use Rattle.guard_core.specs.State.{Counts, Location, Free, Live, Limbo, GuardState}
 use Rattle.guard_core.specs.Update.{upd, times}

@@ -1,7 +1,6 @@
 -- Each descriptor and each block belongs to one runner for good, and goes from free to live, into limbo, and back.
 use Rattle.std.specs.Prelude.{ℕ, ◌≡◌, ◌⊎◌, Some}
-use Rattle.guard_core.specs.State.{Counts, Location, Free, Live, Limbo, GuardState}
-use Rattle.guard_core.specs.Events.{Event, Enabled, after}
+use Rattle.guard_core.specs.State.{Location, Free, Live, Limbo, GuardState}
 
 -- the runner to whose lists it belongs
 abbrev pub owner_of : Location → ℕ

@@ -1,5 +1,5 @@
 -- Functions changed at one number, numbers in lists, and counting.
-use Rattle.std.specs.Prelude.{ℕ, zero, suc, ◌+◌, ◌==◌, ◌||◌, Bool, true, false, cond, List, [], ◌∷◌}
+use Rattle.std.specs.Prelude.{ℕ, zero, suc, ◌+◌, ◌==◌, ◌||◌, Bool, false, cond, List, [], ◌∷◌}
 
 -- changed at one number
 abbrev pub upd : {A : Type 0} → (ℕ → A) → ℕ → A → ℕ → A
