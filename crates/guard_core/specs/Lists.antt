@@ -59,7 +59,7 @@ is_live_of r (Live q) = q == r
 is_live_of r (Free q) = false
 is_live_of r (Limbo q d) = false
 
--- the won blocks of a run go into limbo under its descriptor, and with them the descriptor, where it is the runner's own
+-- the won blocks of a run go into limbo under its descriptor, and with them the descriptor if it is the runner's own
 abbrev pub retired_lists : Bool → ℕ → Lists → Lists
 retired_lists own d l = record l {
   limbo_descriptors = cond own (l.limbo_descriptors ++ d ∷ []) l.limbo_descriptors;
@@ -99,7 +99,13 @@ below (suc n) = n ∷ below n
 
 -- empty lists, and those of a start at which runner 0 has all descriptors and all blocks
 abbrev pub no_lists : Lists
-no_lists = record { free_descriptors = []; limbo_descriptors = []; free_blocks = []; won_blocks = []; limbo_blocks = [] }
+no_lists = record {
+  free_descriptors = [];
+  limbo_descriptors = [];
+  free_blocks = [];
+  won_blocks = [];
+  limbo_blocks = [];
+}
 
 abbrev pub first_lists : Counts → ℕ → Lists
 first_lists c r =

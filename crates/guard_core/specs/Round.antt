@@ -1,7 +1,8 @@
 -- An example: a descriptor and a block are given out, retired, kept by a helper's guard, and free after it.
 use Rattle.std.specs.Prelude.{ℕ, ◌≡◌, List, [], ◌∷◌}
 use Rattle.guard_core.specs.State.{Counts, Location, Free, Live, Limbo, GuardState}
-use Rattle.guard_core.specs.Events.{Event, Enter, Exit, StoreGuard, ClearGuard, Validate, Publish, Begin, Link, Finish, LoadGuard, LoadLast}
+use Rattle.guard_core.specs.Events.{Event, Enter, Exit, StoreGuard, ClearGuard, Validate, Publish}
+use Rattle.guard_core.specs.Events.{Begin, Link, Finish, LoadGuard, LoadLast}
 use Rattle.guard_core.specs.Schedules.{first_state, AllEnabled, after_all}
 
 -- one worker and the keeper, one descriptor, one block

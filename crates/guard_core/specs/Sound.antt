@@ -1,5 +1,6 @@
 -- The invariant of guards.
-use Rattle.std.specs.Prelude.{ℕ, suc, ◌+◌, ◌≤◌, ◌<◌, ◌≡◌, ◌≢◌, ◌==◌, ◌&&◌, Bool, true, false, cond, nat_lt, List, [], ◌∷◌, length, Some, None}
+use Rattle.std.specs.Prelude.{ℕ, suc, ◌+◌, ◌≤◌, ◌<◌, ◌≡◌, ◌≢◌, ◌==◌, ◌&&◌, nat_lt, cond}
+use Rattle.std.specs.Prelude.{Bool, true, false, List, [], ◌∷◌, length, Some, None}
 use Rattle.guard_core.specs.State.{Counts, Location, Free, Live, Limbo, GuardState, IsSureOf, most_linked}
 use Rattle.guard_core.specs.Update.{has, count, times}
 
