@@ -34,7 +34,8 @@ count_but f x zero = grind arith
 count_but f x (suc n) = let rest = count_but f x n in grind (arith, nat_tests)
 
 -- numbers that all stand in a list are at most as many as it is long
-pub count_listed : (f : ℕ → Bool) (xs : List ℕ) (n : ℕ) → ((i : ℕ) → f i ≡ true → has xs i ≡ true) → count f n ≤ length xs
+pub count_listed : (f : ℕ → Bool) (xs : List ℕ) (n : ℕ) → ((i : ℕ) → f i ≡ true → has xs i ≡ true)
+    → count f n ≤ length xs
 count_listed f [] zero all = grind arith
 count_listed f [] (suc n) all = let rest = count_listed f [] n all in let here = all n in grind arith
 count_listed f (x ∷ xs) n all =
@@ -47,6 +48,7 @@ count_same f g zero same = refl
 count_same f g (suc n) same = let rest = count_same f g n same in let here = same n in grind arith
 
 -- what passes a test passes one of two others
-pub count_either : (f g h : ℕ → Bool) (n : ℕ) → ((i : ℕ) → f i ≡ true → (g i ≡ true) ⊎ (h i ≡ true)) → count f n ≤ count g n + count h n
+pub count_either : (f g h : ℕ → Bool) (n : ℕ) → ((i : ℕ) → f i ≡ true → (g i ≡ true) ⊎ (h i ≡ true))
+    → count f n ≤ count g n + count h n
 count_either f g h zero split = grind arith
 count_either f g h (suc n) split = let rest = count_either f g h n split in let here = split n in grind arith

@@ -58,7 +58,8 @@ exit c w r ok old =
       eight = λ r1 d1. old.eight r1 d1;
     }
 
-pub store_guard : (c : Counts) (w : GuardState) (r : ℕ) (d : ℕ) → Enabled c w (StoreGuard r d) → IsSound c w → IsSound c (after w (StoreGuard r d))
+pub store_guard : (c : Counts) (w : GuardState) (r : ℕ) (d : ℕ) → Enabled c w (StoreGuard r d) → IsSound c w
+    → IsSound c (after w (StoreGuard r d))
 store_guard c w r d ok old =
     record {
       idle = grind arith;
@@ -85,7 +86,8 @@ store_guard c w r d ok old =
       eight = λ r1 d1. old.eight r1 d1;
     }
 
-pub clear_guard : (c : Counts) (w : GuardState) (r : ℕ) → Enabled c w (ClearGuard r) → IsSound c w → IsSound c (after w (ClearGuard r))
+pub clear_guard : (c : Counts) (w : GuardState) (r : ℕ) → Enabled c w (ClearGuard r) → IsSound c w
+    → IsSound c (after w (ClearGuard r))
 clear_guard c w r ok old =
     record {
       idle = grind arith;

@@ -29,5 +29,7 @@ same_sound c w w' same old =
       others = grind arith;
       once = λ d1 b1. let before = old.once d1 b1 in let e1 = same.linked d1 in grind arith;
       few = grind arith;
-      eight = λ r1 d1. let before = old.eight r1 d1 in let equal = count_same (λ b. is_under r1 d1 (w'.block b)) (λ b. is_under r1 d1 (w.block b)) c.blocks (λ b. ap (is_under r1 d1) (same.block b)) in grind arith;
+      eight = λ r1 d1. let before = old.eight r1 d1 in
+          let equal = count_same (λ b. is_under r1 d1 (w'.block b)) (λ b. is_under r1 d1 (w.block b)) c.blocks
+          (λ b. ap (is_under r1 d1) (same.block b)) in grind arith;
     }
