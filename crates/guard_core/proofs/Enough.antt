@@ -1,5 +1,6 @@
 -- How much a sweep leaves free.
-use Rattle.std.proofs.Common.{◌≡◌, ℕ, zero, suc, ◌+◌, ◌*◌, ◌≤◌, Bool, true, false, List, [], ◌∷◌, length, inl, Option}
+use Rattle.std.proofs.Common.{◌≡◌, ℕ, zero, suc, ◌+◌, ◌*◌, ◌<◌, ◌≤◌, Bool, true, false, List, [], ◌∷◌, length, inl, inr}
+use Rattle.std.proofs.Common.{Option}
 use Rattle.std.proofs.Common.{Some, None, refl, ap, ◌∙◌, arith, length-append}
 use Rattle.std.specs.Prelude.{◌⊎◌, ◌==◌, ◌&&◌}
 use Rattle.std.proofs.lemmas.Bool.Decides.{nat_tests}
@@ -11,7 +12,7 @@ use Rattle.guard_core.specs.Events.{Event, LoadLast, Enabled, with_next, after}
 use Rattle.guard_core.specs.Sound.{is_under, named, IsSound}
 use Rattle.guard_core.specs.Schedules.{first_state, AllEnabled, after_all}
 use Rattle.guard_core.specs.Owners.{owner_of, StaysWithOwner}
-use Rattle.guard_core.specs.Sweeps.{is_limbo_of, is_free_of, is_own, LeavesEnough, IsNeverShort}
+use Rattle.guard_core.specs.Sweeps.{is_limbo_of, is_free_of, is_own, LeavesEnough, AreMore, IsNeverShort}
 use Rattle.guard_core.proofs.Counting.{named-append, count_more, count_listed, count_same, count_either}
 use Rattle.guard_core.proofs.Owning.{stays_with_owner}
 use Rattle.guard_core.proofs.Keeping.{first, keeps, keeps_all}
@@ -108,6 +109,14 @@ words_few c w r sound le ok =
     let more = named-append l (x ∷ []) in let longer = length-append l (x ∷ []) in
     let before = sound.others r in let idle = sound.idle r ok.0 in grind (arith, nat_tests)
 
+words_fewer : (c : Counts) (w : GuardState) (r : ℕ) → IsSound c w → r < c.runners → w.guard c.runners ≡ None
+    → Enabled c w (LoadLast r) → named (with_next w r) < c.runners
+words_fewer c w r sound lt empty ok =
+    let l = w.looked r in let x = word_of (w.guard (length l)) in
+    let last : x ≡ 0 = grind arith in
+    let more = named-append l (x ∷ []) in
+    let before = sound.others r in grind (arith, nat_tests)
+
 not_running : (x : Option ℕ) → ((d : ℕ) → x ≡ Some d → ⊥) → x ≡ None
 not_running None none = refl
 not_running (Some d) none = absurd (none d refl)
@@ -129,6 +138,7 @@ leaves_enough c w r sound le ok =
     let blocks = stay_few r most_linked c.blocks words w.block (λ d. sound.eight r d) in
     record {
       words = words_few c w r sound le ok;
+      words_of_workers = λ lt empty. words_fewer c w r sound lt empty ok;
       few_descriptors = descriptors;
       few_blocks = blocks;
       free_descriptors = rest_free r (named words) c.descriptors words w.descriptor
@@ -153,8 +163,14 @@ own_all c w (e ∷ es) ok sound =
       block = λ b. rest.block b ∙ step.block b;
     }
 
+-- fewer guard words name something than a runner has descriptors
+fewer : (c : Counts) (w : GuardState) (r sections : ℕ) → LeavesEnough c w r → AreMore c w r sections
+    → named (with_next w r) < sections
+fewer c w r sections enough (inl more) = let words = enough.words in omega arith
+fewer c w r sections enough (inr h) = let words = enough.words_of_workers h.0 h.1 in let most = h.2 in omega arith
+
 pub never_short : (c : Counts) → IsNeverShort c
-never_short c descriptor block es r sections start le more owns all ok =
+never_short c descriptor block es r sections start le owns all ok more =
     let begin = first_state descriptor block in
     let sound = keeps_all c begin es all (first c descriptor block start) in
     let last = after_all begin es in
@@ -162,5 +178,6 @@ never_short c descriptor block es r sections start le more owns all ok =
     let enough = leaves_enough c last r sound le ok in
     let e1 = owned_same r c.descriptors descriptor last.descriptor own.descriptor in
     let e2 = owned_same r c.blocks block last.block own.block in
-    let f1 = enough.words in let f2 = enough.free_descriptors in let f3 = enough.free_blocks in
+    let f1 = fewer c last r sections enough more in
+    let f2 = enough.free_descriptors in let f3 = enough.free_blocks in
     let o1 = owns.descriptors in let o2 = owns.blocks in record { descriptor = omega arith; blocks = omega arith }

@@ -80,7 +80,7 @@ pub fn sweeps_free_what_no_guard_names()
 /// Of a runner's descriptors and blocks, each other guard word keeps at most one descriptor and eight blocks
 /// at the end of its sweep. A runner with more descriptors than there are other guard words, with eight blocks
 /// for each and eight more, has a free descriptor and sixteen free blocks after each sweep, whatever the
-/// others do, and wherever one of them stops.
+/// others do, and wherever one of them stops. The keeper's word doesn't count for a worker while it is empty.
 pub fn sweeps_leave_enough()
     ensures few { (c : Counts) (w : GuardState) (r : ℕ) → IsSound c w → r ≤ c.runners
         → Enabled c w (LoadLast r) → LeavesEnough c w r }
