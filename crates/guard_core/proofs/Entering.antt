@@ -1,7 +1,7 @@
 -- Each event keeps the invariant: entering, leaving and the guard word.
-use Rattle.std.proofs.Common.{◌≡◌, ℕ, ◌≤◌, arith}
-use Rattle.guard_core.specs.State.{Counts, Location, Free, Live, Limbo, GuardState, IsSureOf}
-use Rattle.guard_core.specs.Sound.{is_under, IsSound}
+use Rattle.std.proofs.Common.{ℕ, arith}
+use Rattle.guard_core.specs.State.{Counts, GuardState}
+use Rattle.guard_core.specs.Sound.{IsSound}
 use Rattle.guard_core.specs.Events.{Enter, Exit, StoreGuard, ClearGuard, after, Enabled}
 
 pub enter : (c : Counts) (w : GuardState) (r : ℕ) → Enabled c w (Enter r) → IsSound c w → IsSound c (after w (Enter r))
@@ -26,6 +26,7 @@ enter c w r ok old =
       swept = grind arith;
       swept_block = grind arith;
       others = λ r1. let before = old.others r1 in grind arith;
+      once = λ d1 b1. old.once d1 b1;
       few = λ d1. old.few d1;
       eight = λ r1 d1. old.eight r1 d1;
     }
@@ -52,11 +53,13 @@ exit c w r ok old =
       swept = grind arith;
       swept_block = grind arith;
       others = λ r1. old.others r1;
+      once = λ d1 b1. old.once d1 b1;
       few = λ d1. old.few d1;
       eight = λ r1 d1. old.eight r1 d1;
     }
 
-pub store_guard : (c : Counts) (w : GuardState) (r : ℕ) (d : ℕ) → Enabled c w (StoreGuard r d) → IsSound c w → IsSound c (after w (StoreGuard r d))
+pub store_guard : (c : Counts) (w : GuardState) (r : ℕ) (d : ℕ) → Enabled c w (StoreGuard r d) → IsSound c w
+    → IsSound c (after w (StoreGuard r d))
 store_guard c w r d ok old =
     record {
       idle = grind arith;
@@ -78,11 +81,13 @@ store_guard c w r d ok old =
       swept = grind arith;
       swept_block = grind arith;
       others = λ r1. old.others r1;
+      once = λ d1 b1. old.once d1 b1;
       few = λ d1. old.few d1;
       eight = λ r1 d1. old.eight r1 d1;
     }
 
-pub clear_guard : (c : Counts) (w : GuardState) (r : ℕ) → Enabled c w (ClearGuard r) → IsSound c w → IsSound c (after w (ClearGuard r))
+pub clear_guard : (c : Counts) (w : GuardState) (r : ℕ) → Enabled c w (ClearGuard r) → IsSound c w
+    → IsSound c (after w (ClearGuard r))
 clear_guard c w r ok old =
     record {
       idle = grind arith;
@@ -104,6 +109,7 @@ clear_guard c w r ok old =
       swept = grind arith;
       swept_block = grind arith;
       others = λ r1. old.others r1;
+      once = λ d1 b1. old.once d1 b1;
       few = λ d1. old.few d1;
       eight = λ r1 d1. old.eight r1 d1;
     }

@@ -1,15 +1,17 @@
 -- What the end of a sweep frees.
-use Rattle.std.proofs.Common.{◌≡◌, ◌≢◌, ℕ, suc, Bool, true, false, List, [], ◌∷◌, ◌++◌, refl, inl, inr, ⊎_elim, Option, Some, None, arith}
+use Rattle.std.proofs.Common.{◌≡◌, ◌≢◌, ℕ, suc, Bool, true, false, List, [], ◌∷◌, ◌++◌, refl, inl, inr, ⊎_elim, Option}
+use Rattle.std.proofs.Common.{Some, None, arith}
 use Rattle.std.specs.Prelude.{◌⊎◌, length}
 use Rattle.std.proofs.lemmas.Bool.Decides.{nat_tests}
 use mathlib.Core.Logic.{dite}
 use native.Mathlib.Decide.{ℕ_discrete}
-use Rattle.guard_core.specs.State.{Counts, Location, Free, Live, Limbo, GuardState, word_of, IsSureOf}
-use Rattle.guard_core.specs.Update.{upd, has}
+use Rattle.guard_core.specs.State.{Counts, Location, Free, Live, Limbo, GuardState, word_of}
+use Rattle.guard_core.specs.Update.{has}
 use Rattle.guard_core.specs.Moves.{swept}
-use Rattle.guard_core.specs.Events.{Event, Enter, Exit, StoreGuard, ClearGuard, Validate, Publish, Begin, Link, Finish, LoadGuard, LoadLast, Enabled, with_next, after}
+use Rattle.guard_core.specs.Events.{Event, Enter, Exit, StoreGuard, ClearGuard, Validate, Publish, Begin, Link, Finish}
+use Rattle.guard_core.specs.Events.{LoadGuard, LoadLast, Enabled, with_next, after}
 use Rattle.guard_core.specs.Sound.{IsSound}
-use Rattle.guard_core.specs.Schedules.{AllEnabled, after_all}
+use Rattle.guard_core.specs.Schedules.{after_all}
 use Rattle.guard_core.specs.Sweeps.{SweepsExactly, IsNamed, IsNamedAlong, FreesUnnamed}
 use Rattle.guard_core.proofs.Counting.{has-append}
 use Rattle.guard_core.proofs.Sweeping.{unheld}
@@ -25,7 +27,8 @@ swept_else r words (Live q) other = refl
 swept_else r words (Limbo q e) other = let none = other e in grind arith
 
 -- what moves lay in the sweeper's limbo under a descriptor that no word names
-swept_moved : (r : ℕ) (words : List ℕ) (x : Location) → swept r words x ≢ x → (e : ℕ) × (x ≡ Limbo r e) × (has words (suc e) ≡ false)
+swept_moved : (r : ℕ) (words : List ℕ) (x : Location) → swept r words x ≢ x
+    → (e : ℕ) × (x ≡ Limbo r e) × (has words (suc e) ≡ false)
 swept_moved r words (Free q) moved = absurd (moved refl)
 swept_moved r words (Live q) moved = absurd (moved refl)
 swept_moved r words (Limbo q e) moved = (e, grind arith, grind arith)
@@ -46,7 +49,8 @@ sweeps_exactly c w r sound ok =
           let m = swept_moved r (with_next w r) (w.block b) moved in let none = unheld c w r ok sound p d s in
           not_true (has (w.linked d) b) (λ l.
           let same = sound.held_limbo p d b r m.0 s l m.1 in
-          let no : has (with_next w r) (suc d) ≡ false = grind arith in let here : w.block b ≡ Limbo r d = grind arith in
+          let no : has (with_next w r) (suc d) ≡ false = grind arith in
+          let here : w.block b ≡ Limbo r d = grind arith in
           none.1 no b l here);
     }
 
@@ -56,16 +60,19 @@ word_names None d at = grind arith
 word_names (Some e) d at = grind arith
 
 -- of a list with one word more, the list or the word names it
-named_more : (xs : List ℕ) (o : Option ℕ) (d : ℕ) → has (xs ++ word_of o ∷ []) (suc d) ≡ true → (has xs (suc d) ≡ true) ⊎ (o ≡ Some d)
+named_more : (xs : List ℕ) (o : Option ℕ) (d : ℕ) → has (xs ++ word_of o ∷ []) (suc d) ≡ true
+    → (has xs (suc d) ≡ true) ⊎ (o ≡ Some d)
 named_more xs None d at = let more = has-append xs (0 ∷ []) (suc d) in inl (grind (arith, nat_tests))
 named_more xs (Some e) d at =
     let more = has-append xs (suc e ∷ []) (suc d) in
     dite (ℕ_discrete e d) (λ same. inr (grind arith)) (λ other. inl (grind (arith, nat_tests)))
 
-loaded : (w : GuardState) (q r d : ℕ) → has ((after w (LoadGuard q)).looked r) (suc d) ≡ true → (has (w.looked r) (suc d) ≡ true) ⊎ IsNamed w d
+loaded : (w : GuardState) (q r d : ℕ) → has ((after w (LoadGuard q)).looked r) (suc d) ≡ true
+    → (has (w.looked r) (suc d) ≡ true) ⊎ IsNamed w d
 loaded w q r d at =
     dite (ℕ_discrete r q)
-    (λ own. let l = w.looked r in let p = length l in let here : has (l ++ word_of (w.guard p) ∷ []) (suc d) ≡ true = grind arith in
+    (λ own. let l = w.looked r in let p = length l in
+    let here : has (l ++ word_of (w.guard p) ∷ []) (suc d) ≡ true = grind arith in
     ⊎_elim (λ before. inl before) (λ names. inr (p, names)) (named_more l (w.guard p) d here))
     (λ other. inl (grind arith))
 
@@ -88,7 +95,8 @@ along_named : (w : GuardState) (es : List Event) (r d : ℕ) → has ((after_all
     → (has (w.looked r) (suc d) ≡ true) ⊎ IsNamedAlong w es d
 along_named w [] r d at = inl at
 along_named w (e ∷ es) r d at =
-    ⊎_elim (λ before. ⊎_elim (λ first. inl first) (λ here. inr (inl here)) (step_named w e r d before)) (λ along. inr (inr along)) (along_named (after w e) es r d at)
+    ⊎_elim (λ before. ⊎_elim (λ first. inl first) (λ here. inr (inl here)) (step_named w e r d before))
+    (λ along. inr (inr along)) (along_named (after w e) es r d at)
 
 -- what is named at the end
 end_named : (w : GuardState) (es : List Event) (d : ℕ) → IsNamed (after_all w es) d → IsNamedAlong w es d

@@ -1,8 +1,9 @@
 -- Every enabled event keeps the invariant.
-use Rattle.std.proofs.Common.{◌≡◌, ℕ, zero, suc, ◌+◌, ◌≤◌, true, false, refl, List, [], ◌∷◌, arith}
+use Rattle.std.proofs.Common.{◌≡◌, ℕ, zero, suc, true, false, refl, List, [], ◌∷◌, arith}
 use Rattle.guard_core.specs.State.{Counts, Location, Free, Live, Limbo, GuardState}
 use Rattle.guard_core.specs.Update.{count}
-use Rattle.guard_core.specs.Events.{Event, Enter, Exit, StoreGuard, ClearGuard, Validate, Publish, Begin, Link, Finish, LoadGuard, LoadLast, Enabled, after}
+use Rattle.guard_core.specs.Events.{Event, Enter, Exit, StoreGuard, ClearGuard, Validate, Publish, Begin, Link, Finish}
+use Rattle.guard_core.specs.Events.{LoadGuard, LoadLast, Enabled, after}
 use Rattle.guard_core.specs.Sound.{is_under, IsSound}
 use Rattle.guard_core.specs.Schedules.{is_free, IsFirst, first_state, AllEnabled, after_all}
 use Rattle.guard_core.proofs.Entering.{enter, exit, store_guard, clear_guard}
@@ -29,13 +30,15 @@ none_under r d (Free q) at = refl
 none_under r d (Live q) at = grind arith
 none_under r d (Limbo q e) at = grind arith
 
-none_counted : (r d n : ℕ) (block : ℕ → Location) → ((b : ℕ) → is_free (block b) ≡ true) → count (λ b. is_under r d (block b)) n ≡ 0
+none_counted : (r d n : ℕ) (block : ℕ → Location) → ((b : ℕ) → is_free (block b) ≡ true) → count
+    (λ b. is_under r d (block b)) n ≡ 0
 none_counted r d zero block all = refl
 none_counted r d (suc n) block all =
     let rest = none_counted r d n block all in let here = none_under r d (block n) (all n) in grind arith
 
 -- the first state meets it
-pub first : (c : Counts) (descriptor block : ℕ → Location) → IsFirst descriptor block → IsSound c (first_state descriptor block)
+pub first : (c : Counts) (descriptor block : ℕ → Location) → IsFirst descriptor block
+    → IsSound c (first_state descriptor block)
 first c descriptor block start =
     record {
       idle = grind arith;
@@ -57,11 +60,13 @@ first c descriptor block start =
       swept = grind arith;
       swept_block = grind arith;
       others = grind arith;
+      once = grind arith;
       few = grind arith;
       eight = λ r1 d1. let none = none_counted r1 d1 c.blocks block start.blocks in grind arith;
     }
 
 -- so does every state that enabled events lead to
-pub keeps_all : (c : Counts) (w : GuardState) (es : List Event) → AllEnabled c w es → IsSound c w → IsSound c (after_all w es)
+pub keeps_all : (c : Counts) (w : GuardState) (es : List Event) → AllEnabled c w es → IsSound c w
+    → IsSound c (after_all w es)
 keeps_all c w [] ok old = old
 keeps_all c w (e ∷ es) ok old = keeps_all c (after w e) es ok.1 (keeps c w e ok.0 old)

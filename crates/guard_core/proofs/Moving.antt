@@ -1,5 +1,5 @@
 -- Where a descriptor or a block was, by where it is after it moved.
-use Rattle.std.proofs.Common.{◌≡◌, ℕ, suc, Bool, true, false, List, refl, inl, inr, arith}
+use Rattle.std.proofs.Common.{◌≡◌, ℕ, suc, true, false, List, inl, inr, arith}
 use Rattle.std.specs.Prelude.{◌⊎◌}
 use Rattle.std.proofs.lemmas.Bool.Decides.{nat_tests}
 use Rattle.guard_core.specs.State.{Location, Free, Live, Limbo}
@@ -16,7 +16,8 @@ retired_live r d q (Free p) at = grind arith
 retired_live r d q (Live p) at = grind arith
 retired_live r d q (Limbo p e) at = grind arith
 
-pub retired_limbo : (r d q e : ℕ) (x : Location) → retired r d x ≡ Limbo q e → (x ≡ Limbo q e) ⊎ ((x ≡ Live r) × (q ≡ r) × (e ≡ d))
+pub retired_limbo : (r d q e : ℕ) (x : Location) → retired r d x ≡ Limbo q e → (x ≡ Limbo q e)
+    ⊎ ((x ≡ Live r) × (q ≡ r) × (e ≡ d))
 retired_limbo r d q e (Free p) at = grind arith
 retired_limbo r d q e (Live p) at = grind arith
 retired_limbo r d q e (Limbo p f) at = inl at

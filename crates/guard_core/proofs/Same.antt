@@ -1,7 +1,6 @@
 -- A state that is the same everywhere meets the same facts.
-use Rattle.std.proofs.Common.{◌≡◌, ℕ, zero, suc, ◌≤◌, ap, refl, arith}
+use Rattle.std.proofs.Common.{ap, arith}
 use Rattle.guard_core.specs.State.{Counts, GuardState}
-use Rattle.guard_core.specs.Update.{count}
 use Rattle.guard_core.specs.Sound.{is_under, IsSound}
 use Rattle.guard_core.specs.Frame.{IsSame}
 use Rattle.guard_core.proofs.Counting.{count_same}
@@ -28,6 +27,9 @@ same_sound c w w' same old =
       swept = grind arith;
       swept_block = grind arith;
       others = grind arith;
+      once = λ d1 b1. let before = old.once d1 b1 in let e1 = same.linked d1 in grind arith;
       few = grind arith;
-      eight = λ r1 d1. let before = old.eight r1 d1 in let equal = count_same (λ b. is_under r1 d1 (w'.block b)) (λ b. is_under r1 d1 (w.block b)) c.blocks (λ b. ap (is_under r1 d1) (same.block b)) in grind arith;
+      eight = λ r1 d1. let before = old.eight r1 d1 in
+          let equal = count_same (λ b. is_under r1 d1 (w'.block b)) (λ b. is_under r1 d1 (w.block b)) c.blocks
+          (λ b. ap (is_under r1 d1) (same.block b)) in grind arith;
     }

@@ -1,15 +1,11 @@
 -- How often a number stands in a list that changes.
-use Rattle.std.proofs.Common.{◌≡◌, ℕ, zero, suc, ◌+◌, ◌<◌, ◌≤◌, Bool, true, false, cond, List, [], ◌∷◌, ◌++◌, map, not, refl, arith}
+use Rattle.std.proofs.Common.{◌≡◌, ℕ, zero, suc, ◌+◌, ◌<◌, ◌≤◌, Bool, cond, List, [], ◌∷◌, ◌++◌, refl, arith}
 use Rattle.std.specs.Prelude.{◌==◌}
 use Rattle.std.specs.List.{filter}
 use mathlib.Core.Logic.{dite}
 use native.Mathlib.Decide.{ℕ_discrete}
-use Rattle.std.proofs.lemmas.Bool.Decides.{nat_tests}
-use Rattle.guard_core.specs.Lists.{Entry, times, times_under, without, blocks_under, not_under, all_under, once, below}
-
-pub times-append : (x : ℕ) (xs ys : List ℕ) → times x (xs ++ ys) ≡ times x xs + times x ys
-times-append x [] ys = grind arith
-times-append x (z ∷ xs) ys = let rest = times-append x xs ys in grind arith
+use Rattle.guard_core.specs.Update.{times}
+use Rattle.guard_core.specs.Lists.{Entry, times_under, without, blocks_under, not_under, all_under, below}
 
 pub times-filter : (x : ℕ) (test : ℕ → Bool) (xs : List ℕ) → times x (filter test xs) ≡ cond (test x) (times x xs) 0
 times-filter x test [] = grind arith
@@ -19,11 +15,13 @@ pub times-without : (x y : ℕ) (xs : List ℕ) → times x (without xs y) ≡ c
 times-without x y [] = grind arith
 times-without x y (z ∷ xs) = let rest = times-without x y xs in grind arith
 
-pub times_under-append : (b d : ℕ) (xs ys : List Entry) → times_under b d (xs ++ ys) ≡ times_under b d xs + times_under b d ys
+pub times_under-append : (b d : ℕ) (xs ys : List Entry)
+    → times_under b d (xs ++ ys) ≡ times_under b d xs + times_under b d ys
 times_under-append b d [] ys = grind arith
 times_under-append b d (x ∷ xs) ys = let rest = times_under-append b d xs ys in grind arith
 
-pub times_under-not : (b d : ℕ) (test : ℕ → Bool) (xs : List Entry) → times_under b d (not_under test xs) ≡ cond (test d) 0 (times_under b d xs)
+pub times_under-not : (b d : ℕ) (test : ℕ → Bool) (xs : List Entry)
+    → times_under b d (not_under test xs) ≡ cond (test d) 0 (times_under b d xs)
 times_under-not b d test [] = grind arith
 times_under-not b d test (x ∷ xs) = let rest = times_under-not b d test xs in grind arith
 
@@ -32,7 +30,8 @@ times_under-all b d e [] = grind arith
 times_under-all b d e (x ∷ xs) = let rest = times_under-all b d e xs in grind arith
 
 -- a block that lies under nothing
-pub times-under_none : (b : ℕ) (test : ℕ → Bool) (xs : List Entry) → ((d : ℕ) → times_under b d xs ≡ 0) → times b (blocks_under test xs) ≡ 0
+pub times-under_none : (b : ℕ) (test : ℕ → Bool) (xs : List Entry) → ((d : ℕ) → times_under b d xs ≡ 0)
+    → times b (blocks_under test xs) ≡ 0
 times-under_none b test [] none = refl
 times-under_none b test (x ∷ xs) none =
     let here = none x.descriptor in

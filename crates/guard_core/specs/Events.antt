@@ -1,6 +1,6 @@
 -- The events of guards, when each may come, and the state after it.
-use Rattle.std.specs.Prelude.{ℕ, ◌+◌, ◌<◌, ◌≤◌, ◌≡◌, ◌≢◌, Bool, true, false, List, [], ◌∷◌, ◌++◌, length, Option, Some, None}
-use Rattle.guard_core.specs.State.{Counts, Location, Free, Live, GuardState, word_of, IsSureOf, most_linked}
+use Rattle.std.specs.Prelude.{ℕ, ◌<◌, ◌≤◌, ◌≡◌, ◌≢◌, true, false, List, [], ◌∷◌, ◌++◌, length, Some, None}
+use Rattle.guard_core.specs.State.{Counts, Free, Live, GuardState, word_of, IsSureOf, most_linked}
 use Rattle.guard_core.specs.Update.{upd}
 use Rattle.guard_core.specs.Moves.{retired, given_back, swept}
 

@@ -1,7 +1,8 @@
 -- What a guard keeps: nothing that somebody is sure of is given out again.
 use Rattle.std.specs.Prelude.{ℕ, ◌≤◌, ◌≡◌, ◌≢◌, ◌⊎◌, true, false, Some}
 use Rattle.guard_core.specs.State.{Counts, Free, Live, Limbo, GuardState, IsSureOf, most_linked}
-use Rattle.guard_core.specs.Update.{has, count}
+use Rattle.guard_core.specs.Update.{has, count, times}
+use Rattle.guard_core.specs.Events.{Publish, Link, Enabled}
 use Rattle.guard_core.specs.Sound.{is_under}
 
 -- a block of this descriptor's latest publication is kept: it is live in a run of the descriptor that is in
@@ -20,6 +21,8 @@ pub record HeldAreSafe (w : GuardState) : Type 0 where
   -- and it is linked in no other descriptor that somebody is sure of
   pub apart : (r d r' d' b : ℕ) → IsSureOf w r d → IsSureOf w r' d' → has (w.linked d) b ≡ true
       → has (w.linked d') b ≡ true → d ≡ d'
+  -- a block is linked in a publication once
+  pub once : (d b : ℕ) → times b (w.linked d) ≤ 1
   -- who runs a section is sure of its descriptor, and so is who published one, until it retires it
   pub running : (r d : ℕ) → w.run r ≡ Some d → IsSureOf w r d
   pub owner : (r d : ℕ) → w.descriptor d ≡ Live r → IsSureOf w r d
@@ -38,6 +41,11 @@ pub record LeavesUnheld (w w' : GuardState) : Type 0 where
       → has (w.linked d) b ≡ false
 
 module _ (c : Counts) where
+  -- nobody may publish a descriptor of which somebody is sure, nor link a block that is linked in one
+  pub record GivenToNobody (w : GuardState) : Type 0 where
+    pub descriptor : (r d q : ℕ) → IsSureOf w r d → Enabled c w (Publish q d) → ⊥
+    pub block : (r d b q e : ℕ) → IsSureOf w r d → has (w.linked d) b ≡ true → Enabled c w (Link q e b) → ⊥
+
   -- each runner's limbo has at most eight blocks of each descriptor
   abbrev pub LimboIsSmall : GuardState → Type 0
   LimboIsSmall w = (r d : ℕ) → count (λ b. is_under r d (w.block b)) c.blocks ≤ most_linked

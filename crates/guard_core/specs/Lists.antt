@@ -1,9 +1,9 @@
 -- The lists of each runner, beside the state: a descriptor or a block stands in a list exactly where its place
 -- says so, and there once.
-use Rattle.std.specs.Prelude.{ℕ, zero, suc, ◌+◌, ◌<◌, ◌≡◌, Bool, true, false, not, ◌==◌, ◌&&◌, cond, List, [], ◌∷◌, ◌++◌, map}
+use Rattle.std.specs.Prelude.{ℕ, zero, suc, ◌+◌, ◌<◌, ◌≡◌, Bool, false, not, ◌==◌, ◌&&◌, cond, List, [], ◌∷◌, ◌++◌, map}
 use Rattle.std.specs.List.{filter}
 use Rattle.guard_core.specs.State.{Counts, Location, Free, Live, Limbo, GuardState}
-use Rattle.guard_core.specs.Update.{upd}
+use Rattle.guard_core.specs.Update.{upd, times}
 use Rattle.guard_core.specs.Moves.{is_unnamed}
 use Rattle.guard_core.specs.Events.{Event, Validate, Publish, Link, Finish, LoadLast, with_next, after}
 use Rattle.guard_core.specs.Sound.{is_under}
@@ -59,7 +59,7 @@ is_live_of r (Live q) = q == r
 is_live_of r (Free q) = false
 is_live_of r (Limbo q d) = false
 
--- the won blocks of a run go into limbo under its descriptor, and with them the descriptor, where it is the runner's own
+-- the won blocks of a run go into limbo under its descriptor, and with them the descriptor if it is the runner's own
 abbrev pub retired_lists : Bool → ℕ → Lists → Lists
 retired_lists own d l = record l {
   limbo_descriptors = cond own (l.limbo_descriptors ++ d ∷ []) l.limbo_descriptors;
@@ -83,11 +83,6 @@ abbrev pub listed_all : GuardState → (ℕ → Lists) → List Event → ℕ �
 listed_all w l [] = l
 listed_all w l (e ∷ es) = listed_all (after w e) (listed w l e) es
 
--- how often a number stands in a list
-abbrev pub times : ℕ → List ℕ → ℕ
-times x [] = 0
-times x (y ∷ ys) = cond (y == x) (1 + times x ys) (times x ys)
-
 -- how often a block stands in limbo under this descriptor
 abbrev pub times_under : ℕ → ℕ → List Entry → ℕ
 times_under b d [] = 0
@@ -104,7 +99,13 @@ below (suc n) = n ∷ below n
 
 -- empty lists, and those of a start at which runner 0 has all descriptors and all blocks
 abbrev pub no_lists : Lists
-no_lists = record { free_descriptors = []; limbo_descriptors = []; free_blocks = []; won_blocks = []; limbo_blocks = [] }
+no_lists = record {
+  free_descriptors = [];
+  limbo_descriptors = [];
+  free_blocks = [];
+  won_blocks = [];
+  limbo_blocks = [];
+}
 
 abbrev pub first_lists : Counts → ℕ → Lists
 first_lists c r =

@@ -1,7 +1,9 @@
 -- An example: a descriptor and a block are given out, retired, kept by a helper's guard, and free after it.
-use Rattle.std.specs.Prelude.{ℕ, ◌≡◌, true, false, List, [], ◌∷◌}
+use Rattle.std.specs.Prelude.{ℕ, ◌≡◌, List, [], ◌∷◌}
 use Rattle.guard_core.specs.State.{Counts, Location, Free, Live, Limbo, GuardState}
-use Rattle.guard_core.specs.Events.{Event, Enter, Exit, StoreGuard, ClearGuard, Validate, Publish, Begin, Link, Finish, LoadGuard, LoadLast}
+use Rattle.guard_core.specs.Events.{Event, Enter, Exit, StoreGuard, ClearGuard, Validate, Publish}
+use Rattle.guard_core.specs.Events.{Begin, Link, Finish, LoadGuard, LoadLast}
+use Rattle.guard_core.specs.Sweeps.{Owns}
 use Rattle.guard_core.specs.Schedules.{first_state, AllEnabled, after_all}
 
 -- one worker and the keeper, one descriptor, one block
@@ -34,6 +36,10 @@ swept_state = after_all published_state sweeping
 abbrev pub last_state : GuardState
 last_state = after_all swept_state freeing
 
+-- a start of which `sweeps_leave_enough` speaks: the worker has two descriptors and 24 blocks
+abbrev pub larger : Counts
+larger = record { runners = 1; descriptors = 2; blocks = 24 }
+
 -- every event may come; the helper's guard keeps the descriptor and the block in limbo, and both are free behind it
 pub record ComesRound : Type 0 where
   pub publishes : AllEnabled pair (first_state all_free all_free) publishing
@@ -45,3 +51,5 @@ pub record ComesRound : Type 0 where
   pub frees : AllEnabled pair swept_state freeing
   pub free : last_state.descriptor 0 ≡ Free 0
   pub given_back : last_state.block 0 ≡ Free 0
+  pub owns : Owns larger (first_state all_free all_free) 0 2
+  pub enough : AllEnabled larger (first_state all_free all_free) (LoadGuard 0 ∷ LoadLast 0 ∷ [])

@@ -1,7 +1,8 @@
 -- The invariant of guards.
-use Rattle.std.specs.Prelude.{ℕ, suc, ◌+◌, ◌≤◌, ◌<◌, ◌≡◌, ◌≢◌, ◌==◌, ◌&&◌, Bool, true, false, cond, nat_lt, List, [], ◌∷◌, length, Some, None}
+use Rattle.std.specs.Prelude.{ℕ, suc, ◌+◌, ◌≤◌, ◌<◌, ◌≡◌, ◌≢◌, ◌==◌, ◌&&◌, nat_lt, cond}
+use Rattle.std.specs.Prelude.{Bool, true, false, List, [], ◌∷◌, length, Some, None}
 use Rattle.guard_core.specs.State.{Counts, Location, Free, Live, Limbo, GuardState, IsSureOf, most_linked}
-use Rattle.guard_core.specs.Update.{has, count}
+use Rattle.guard_core.specs.Update.{has, count, times}
 
 -- it lies in this runner's limbo under this descriptor
 abbrev pub is_under : ℕ → ℕ → Location → Bool
@@ -51,6 +52,8 @@ module _ (c : Counts) where
         → w.block b ≡ Limbo r d → has (w.linked d) b ≡ false
     -- a sweeper's own word names nothing
     pub others : (r : ℕ) → named (w.looked r) + cond (nat_lt r (length (w.looked r))) 1 0 ≤ length (w.looked r)
+    -- a block is linked in a publication once
+    pub once : (d b : ℕ) → times b (w.linked d) ≤ 1
     -- at most eight blocks are linked in a publication, and at most eight lie in a limbo under one descriptor
     pub few : (d : ℕ) → length (w.linked d) ≤ most_linked
     pub eight : (r d : ℕ) → count (λ b. is_under r d (w.block b)) c.blocks ≤ most_linked

@@ -1,5 +1,6 @@
 -- A sweep frees exactly what no guard names, and leaves enough free.
 use Rattle.std.specs.Prelude.{ℕ, suc, ◌+◌, ◌*◌, ◌<◌, ◌≤◌, ◌≡◌, ◌≢◌, ◌⊎◌, ◌==◌, Bool, true, false, List, [], ◌∷◌, Some}
+use Rattle.std.specs.Prelude.{None}
 use Rattle.guard_core.specs.State.{Counts, Location, Free, Live, Limbo, GuardState, IsSureOf, most_linked}
 use Rattle.guard_core.specs.Events.{Event, LoadLast, Enabled, with_next, after}
 use Rattle.guard_core.specs.Schedules.{IsFirst, first_state, AllEnabled, after_all}
@@ -73,8 +74,9 @@ module _ (c : Counts) where
   -- at the end of a sweep each other guard word keeps at most one own descriptor and eight own blocks in limbo;
   -- all the others are free
   pub record LeavesEnough (w : GuardState) (r : ℕ) : Type 0 where
-    -- of the guard words that it read, its own names nothing
+    -- of the guard words that it read, its own names nothing, and the keeper's, the last one, may be empty too
     pub words : named (with_next w r) ≤ c.runners
+    pub words_of_workers : r < c.runners → w.guard c.runners ≡ None → named (with_next w r) < c.runners
     pub few_descriptors : descriptors_that (is_limbo_of r) (after w (LoadLast r)) ≤ named (with_next w r)
     pub few_blocks : blocks_that (is_limbo_of r) (after w (LoadLast r)) ≤ most_linked * named (with_next w r)
     pub free_descriptors : descriptors_that (is_own r) w
@@ -92,11 +94,18 @@ module _ (c : Counts) where
     pub descriptor : 1 ≤ descriptors_that (is_free_of r) w
     pub blocks : 16 ≤ blocks_that (is_free_of r) w
 
+  -- so many descriptors are more than there are other guard words; the keeper's doesn't count for a worker while it
+  -- is empty
+  abbrev pub AreMore : GuardState → ℕ → ℕ → Type 0
+  AreMore w r sections = (c.runners < sections)
+      ⊎ ((r < c.runners) × (w.guard c.runners ≡ None) × (c.runners ≤ sections))
+
   -- a runner with more descriptors than there are other guard words has enough after each sweep, whatever the
   -- others do, and wherever one of them stops
   abbrev pub IsNeverShort : Type 0
   IsNeverShort = (descriptor block : ℕ → Location) (es : List Event) (r sections : ℕ) → IsFirst descriptor block
-      → r ≤ c.runners → c.runners < sections → Owns (first_state descriptor block) r sections
+      → r ≤ c.runners → Owns (first_state descriptor block) r sections
       → AllEnabled c (first_state descriptor block) es
       → Enabled c (after_all (first_state descriptor block) es) (LoadLast r)
+      → AreMore (after_all (first_state descriptor block) es) r sections
       → HasEnough (after (after_all (first_state descriptor block) es) (LoadLast r)) r
