@@ -8,9 +8,9 @@ Usage: bench/gate.py run [NAME..]    runs `rt ci [NAME..]`, hands its output thr
 bench/gate.table is read by tools/what-changes and tools/test: in each line `proofs`, `tests`, `edits` or `try` (the
 tests without proofs), a crate, processor seconds and a day.
 
-Twice a second it reads from /proc which of its `rt ci`'s processes are at work, for which crate, and whether in a copy that holds an
-edit. An edit's seconds are those of the copy that ended last before its line came. What `rt ci` keeps from earlier runs costs nothing
-and has no row: `bench/gate.py run --anew` measures everything.
+Twice a second it reads from /proc which of its `rt ci`'s processes are at work, for which crate, and whether in a copy
+that holds an edit. An edit's seconds are those of the copy that ended last before its line came. What `rt ci` keeps from
+earlier runs costs nothing and has no row: `bench/gate.py run --anew` measures everything.
 """
 import collections
 import datetime
@@ -24,13 +24,13 @@ import threading
 TOP = pathlib.Path(__file__).resolve().parent.parent
 LOG = TOP / "bench" / "gate.log"
 TABLE = TOP / "bench" / "gate.table"
-HEAD = "# Kind of work, crate, processor seconds, and the day on which they were measured; `bench/gate.py keep` writes this."
+HEAD = "# Kind of work, crate, processor seconds, and the day of the measurement; `bench/gate.py keep` writes this."
 TICKS = os.sysconf("SC_CLK_TCK")
 PAUSE = 0.5
 
 
 class Samples:
-    """The prover's processes below one process that were seen, with the processor time that each had when it was last seen."""
+    """The prover's processes below one process, with the processor time that each had when it was last seen."""
 
     def __init__(self, root: int) -> None:
         self.root = str(root)
@@ -71,7 +71,7 @@ def is_below(pid: str, root: str) -> bool:
 
 
 def work_of(pid: str, root: str) -> tuple[str, str, float] | None:
-    """What a process does, for which crate, and its processor seconds; None where it isn't the prover's below `root`."""
+    """What a process does, for which crate, and its processor seconds; None where it isn't of the prover below root."""
     try:
         words = pathlib.Path(f"/proc/{pid}/cmdline").read_bytes().decode(errors="replace").split("\0")
         if "--crate-name" not in words or not is_below(pid, root):
