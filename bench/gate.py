@@ -8,9 +8,9 @@ Usage: bench/gate.py run [NAME..]    runs `rt ci [NAME..]`, hands its output thr
 bench/gate.table is read by tools/what-changes and tools/test: in each line `proofs`, `tests`, `edits` or `try` (the
 tests without proofs), a crate, processor seconds and a day.
 
-Twice a second it reads from /proc which of the prover's processes are at work, for which crate, and whether in a copy that holds an
-edit. An edit's seconds are those of the copy that ended last before its line came. What `rt ci` keeps from earlier runs costs nothing
-and has no row: `bench/gate.py run --anew` measures everything.
+Twice a second it reads from /proc which of its `rt ci`'s processes are at work, for which crate, and whether in a copy
+that holds an edit. An edit's seconds are those of the copy that ended last before its line came. What `rt ci` keeps from
+earlier runs costs nothing and has no row: `bench/gate.py run --anew` measures everything.
 """
 import collections
 import datetime
@@ -24,22 +24,23 @@ import threading
 TOP = pathlib.Path(__file__).resolve().parent.parent
 LOG = TOP / "bench" / "gate.log"
 TABLE = TOP / "bench" / "gate.table"
-HEAD = "# Kind of work, crate, processor seconds, and the day on which they were measured; `bench/gate.py keep` writes this."
+HEAD = "# Kind of work, crate, processor seconds, and the day of the measurement; `bench/gate.py keep` writes this."
 TICKS = os.sysconf("SC_CLK_TCK")
 PAUSE = 0.5
 
 
 class Samples:
-    """The prover's processes that were seen, with the processor time that each had when it was last seen."""
+    """The prover's processes below one process, with the processor time that each had when it was last seen."""
 
-    def __init__(self) -> None:
+    def __init__(self, root: int) -> None:
+        self.root = str(root)
         self.alive: dict[int, tuple[str, str, float]] = {}
         self.ended: dict[str, list[float]] = collections.defaultdict(list)
         self.spent: dict[tuple[str, str], float] = collections.defaultdict(float)
         self.lock = threading.Lock()
 
     def look(self) -> None:
-        seen = {int(name): told for name in os.listdir("/proc") if name.isdigit() and (told := work_of(name))}
+        seen = {int(name): told for name in os.listdir("/proc") if name.isdigit() and (told := work_of(name, self.root))}
         with self.lock:
             for pid, (kind, crate, spent) in list(self.alive.items()):
                 if pid not in seen:
@@ -58,32 +59,44 @@ class Samples:
             return self.ended[crate].pop(0) if self.ended[crate] else 0.0
 
 
-def work_of(pid: str) -> tuple[str, str, float] | None:
-    """What a process does, for which crate, and its processor seconds; None where it isn't the prover's."""
+def status_of(pid: str) -> list[str]:
+    """What /proc says of a process behind its name: its state, its parent and so on."""
+    return pathlib.Path(f"/proc/{pid}/stat").read_text().rsplit(")", 1)[1].split()
+
+
+def is_below(pid: str, root: str) -> bool:
+    while pid not in (root, "0", "1"):
+        pid = status_of(pid)[1]
+    return pid == root
+
+
+def work_of(pid: str, root: str) -> tuple[str, str, float] | None:
+    """What a process does, for which crate, and its processor seconds; None where it isn't of the prover below root."""
     try:
         words = pathlib.Path(f"/proc/{pid}/cmdline").read_bytes().decode(errors="replace").split("\0")
-        if "--crate-name" not in words:
+        if "--crate-name" not in words or not is_below(pid, root):
             return None
         crate = words[words.index("--crate-name") + 1]
         in_copy = "rt-edit-" in os.readlink(f"/proc/{pid}/cwd")
-        fields = pathlib.Path(f"/proc/{pid}/stat").read_text().rsplit(")", 1)[1].split()
+        fields = status_of(pid)
     except (OSError, IndexError):
         return None
     kind = "edits" if in_copy else "tests" if crate.endswith("_tests") or "--test" in words else "proofs"
     return kind, crate.removesuffix("_tests"), (int(fields[11]) + int(fields[12])) / TICKS
 
 
+def watch(samples: Samples, over: threading.Event) -> None:
+    while not over.wait(PAUSE):
+        samples.look()
+
+
 def run(names: list[str]) -> int:
-    samples, over = Samples(), threading.Event()
-
-    def watch() -> None:
-        while not over.wait(PAUSE):
-            samples.look()
-
-    watcher = threading.Thread(target=watch)
-    watcher.start()
-    edits = []
-    with subprocess.Popen(["rt", "ci", *names], cwd=TOP, stdout=subprocess.PIPE, stderr=subprocess.STDOUT, text=True, errors="replace") as gate:
+    how = {"stdout": subprocess.PIPE, "stderr": subprocess.STDOUT, "text": True, "errors": "replace"}
+    edits, over = [], threading.Event()
+    with subprocess.Popen(["rt", "ci", *names], cwd=TOP, **how) as gate:
+        samples = Samples(gate.pid)
+        watcher = threading.Thread(target=watch, args=(samples, over))
+        watcher.start()
         for line in gate.stdout:
             sys.stdout.write(line)
             if told := re.match(r"rt: must-fail (\w+)/(\S+)\.edit: ", line):
