@@ -47,6 +47,7 @@ use Rattle.attempts.proofs.Refusing.{left_busy, refusal_of_outcome, busy_outcome
 use Rattle.attempts.proofs.Along.{ran_back}
 use Rattle.attempts.proofs.Telling.{ended_cells, left_known, left_is}
 use Rattle.attempts.proofs.Stamps.{stamp_above}
+use Rattle.attempts.proofs.RealTime.{above_answered}
 
 module _ {T : Type 0} (m : Meaning) (laws : Laws m) (t : TableState T) (limits : IsWithinLimits t.layout) (allowed : AreAllowed t.requests)
     (planning : Planning) (request : Request) (section : Section) (thunk : Thunk) (outcome : Outcome) (trail : Agreed) (old ran : RunnerState T)
@@ -126,6 +127,8 @@ module _ {T : Type 0} (m : Meaning) (laws : Laws m) (t : TableState T) (limits :
           knows_reply = learnt.knows_reply;
           above = λ x entry stamped knows. stamp_above m laws t limits allowed planning request section thunk outcome trail old ran new own_ran own_new is whole learnt.reached
               answer answered x entry stamped knows stamp learnt.knows_stamp;
+          in_time = above_answered m laws planning request old new (subst IsWithinLimits (sym layout_old) limits) (subst AreAllowed (sym requests_old) allowed)
+              is.tries.plans.enters.may (own_new.layout ∙ sym layout_old) (own_new.requests ∙ sym requests_old) stamp learnt.knows_stamp;
           tidy = learnt.tidy;
           reached = learnt.reached;
           served = learnt.served;

@@ -130,8 +130,9 @@ module _ {T : Type 0} (m : Meaning) (planning : Planning) (request : Request) (o
         ∙ (ap (λ p. has_pair (is.planned.part.reads.cells ++ (thunk.lock, is.publishes.found) ∷ []) p is.publishes.found) h.2
         ∙ pair_last is.planned.part.reads.cells thunk.lock is.publishes.found))
 
-    pub refused_may_leave : MayLeave m (of_refusal thunk.lock refused) r
-    refused_may_leave = record {
+    -- whose outer lock is a lock
+    pub refused_may_leave : m.is_lock thunk.lock ≡ true → MayLeave m (of_refusal thunk.lock refused) r
+    refused_may_leave lock = record {
       leave = record { epoch = is.plans.enters.enters.epoch; at = at };
       hand = is.hand;
       help = λ place word named.
@@ -145,7 +146,7 @@ module _ {T : Type 0} (m : Meaning) (planning : Planning) (request : Request) (o
             reserve = is.nodes;
             reached = is.publishes.reached;
           });
-      met = λ place word named. inl (lock_read place word named);
+      met = λ place word named. inl (lock_read place word named, ap m.is_lock (cause place word named).2 ∙ lock);
     }
       where
         at : IsAt r (stages.Entered is.plans.enters.enters.epoch) None

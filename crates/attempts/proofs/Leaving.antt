@@ -172,8 +172,8 @@ module _ {T : Type 0} (m : Meaning) (laws : Laws m) (place word : ℕ) (old help
 
   module _ (cells : (p w : ℕ) → has_pair old.part.reads.cells p w ≡ true → has_pair helped.part.reads.cells p w ≡ true)
       (names : (w : World) → Reached m helped.layout helped.requests w → AreNamed m helped.layout (sight m helped.layout helped.requests w)) where
-    of_lock : m.is_lock place ≡ true → IsOfHelped m place word old new helps
-    of_lock lock = ⊎_elim by_read by_left (may.met place word refl)
+    of_lock : IsOfHelped m place word old new helps
+    of_lock = ⊎_elim (λ read. by_read read.0 read.1) by_left (may.met place word refl)
       where
         here : (sight m helped.layout helped.requests ends.reached.world).part helped.number ≡ helped.part
         here = ap part_or_first ends.reached.own
@@ -184,8 +184,8 @@ module _ {T : Type 0} (m : Meaning) (laws : Laws m) (place word : ℕ) (old help
         entered : ((sight m helped.layout helped.requests ends.reached.world).part helped.number).stage ≡ stages.Entered may.leave.epoch
         entered = ap (λ (p : PartState). p.stage) here ∙ (ends.stage ∙ may.leave.at.at)
 
-        by_read : has_pair old.part.reads.cells place word ≡ true → IsOfHelped m place word old new helps
-        by_read read = all.0.lock helped.number place word (value_of word - 1) (record {
+        by_read : has_pair old.part.reads.cells place word ≡ true → m.is_lock place ≡ true → IsOfHelped m place word old new helps
+        by_read read lock = all.0.lock helped.number place word (value_of word - 1) (record {
           entry = may.leave.epoch;
           entered = entered;
           read = ap (λ (p : PartState). has_pair p.reads.cells place word) here ∙ cells place word read;

@@ -5,9 +5,11 @@ mod Leaving
 pub mod Learning
 mod Counting
 mod Courses
+mod Locks
 mod Turning
 mod Trying
 mod Planning
+mod RealTime
 mod Refusing
 pub mod Placing
 mod Along

@@ -173,7 +173,7 @@ module _ (m : Meaning) (planning : Planning) (l : Layout) (op : Op) (place word 
 
   -- a plan that found a lock held read a word there that names a descriptor, which the runner holds since
   pub plan_busy : (readings : Readings) → plan.IsRefused m planning l op readings (plans.Busy place word)
-      → (is_free word ≡ false) × (has (plan.names_read m readings) (value_of word - 1) ≡ true) × (has_pair readings place word ≡ true)
+      → (is_free word ≡ false) × (has (plan.names_read m readings) (value_of word - 1) ≡ true) × (has_pair readings place word ≡ true) × (m.is_lock place ≡ true)
   plan_busy readings is =
       let h = by_lock is.place is.word (m.is_lock is.place) _
       (by_rest is.place is.word _ _ _ _) refl is.cause in (
@@ -186,4 +186,5 @@ module _ (m : Meaning) (planning : Planning) (l : Layout) (op : Op) (place word 
         ap (λ rs. has_pair rs place word) is.last
             ∙ (ap (λ w. has_pair (is.before ++ (is.place, is.word) ∷ []) place w) h.1
             ∙ (ap (λ p. has_pair (is.before ++ (is.place, is.word) ∷ []) p is.word) h.3 ∙ pair_last is.before is.place is.word)),
+        ap m.is_lock h.3 ∙ h.2,
       )

@@ -266,7 +266,7 @@ module _ {T : Type 0} (m : Meaning) (laws : Laws m) (t : TableState T) (limits :
           };
       met = λ place word named.
           let h = plan_busy m planning old.layout request.op place word planned.readings (by_busy answer place word (busy_plan answer place word named) course.answers) in
-          inl (ap (λ (s : ReadsState). has_pair s.cells place word) (planned_reads m planning request old planned.readings answer r course) ∙ h.2);
+          inl (ap (λ (s : ReadsState). has_pair s.cells place word) (planned_reads m planning request old planned.readings answer r course) ∙ h.2, h.3);
     }
 
     abbrev cause : PlanIsRefused m planning request (of_plan answer) old r

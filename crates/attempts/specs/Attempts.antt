@@ -29,6 +29,7 @@ use Rattle.lock_walks.specs.try_lock.specs.Reached.{IsReached}
 use Rattle.lock_walks.specs.try_lock.specs.Ends.{IsCutShort}
 use Rattle.attempts.specs.Knowing.{KnowsMore, LearnsNoOther}
 use Rattle.attempts.specs.Counted.{IsCounted}
+use Rattle.attempts.specs.RealTime.{IsAboveAnswered}
 use Rattle.request_facts.specs.Laws.{HasEntry}
 use Rattle.request_facts.specs.Placed.{IsServedAs, IsUnserved}
 use Rattle.attempts.specs.Course.{HasEntered, HasPlanned, HasTried, HasRun, IsRefused, refused_steps, is_refused_late, LeavesAndLoads, HasHelped, IsOfHelped}
@@ -106,7 +107,7 @@ module _ {T : Type 0} where
     -- which the word was a lock's word
     pub record HasMadeWay (place word : ℕ) (cut new : RunnerState T) : Type 0 where
       pub helps : HasHelped m word cut new
-      pub of_lock : m.is_lock place ≡ true → IsOfHelped m place word cut new helps
+      pub of_lock : IsOfHelped m place word cut new helps
 
     -- the runner leaves, where a lock was held with the section helped to its end
     abbrev pub Leaves : Attempt → RunnerState T → RunnerState T → Type 0
@@ -129,7 +130,8 @@ module _ {T : Type 0} where
 
       -- the request is served: the own section answered, the runner knows both words of the request, and
       -- left. The stamp is above that of
-      -- each request that the runner knew to be answered, and in a state that the machine reaches, in
+      -- each request that the runner knew to be answered, and of each that was answered as the attempt began,
+      -- whoever knew of it; and in a state that the machine reaches, in
       -- which the runner has this part, the
       -- request stands once in the one history, with this stamp and this reply
       pub record IsServed (reply : Reply) (stamp : ℕ) (old new : RunnerState T) : Type 0 where
@@ -146,6 +148,7 @@ module _ {T : Type 0} where
         pub above : (x : Known) → HasEntry old.part.records.known x → x.reply ≡ false
             → is_answered old.part.records.known x.request ≡ true
             → x.number < stamp
+        pub in_time : IsAboveAnswered m stamp old new
         pub tidy : IsTidy new
         pub reached : IsReached m new
         pub served : IsServedAs m new.layout new.requests

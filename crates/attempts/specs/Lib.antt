@@ -3,6 +3,7 @@ pub mod Counted
 pub mod Course
 pub mod Attempts
 pub mod Learned
+pub mod RealTime
 pub mod Rests
 -- Passed on to the layers above, so that they needn't name these libraries themselves.
 pub use Rattle.lock_walks.specs.machine_invariant

@@ -33,9 +33,9 @@ module _ {T : Type 0} (m : Meaning) where
     pub leave : HasLeave r
     pub hand : IsEmptyHanded r
     pub help : (place word : ℕ) → answer ≡ answers.Busy place word → MayHelp m r word
-    -- it has read the word there since it entered, or its own section left by it
+    -- it has read the word of this lock since it entered, or its own section left by it
     pub met : (place word : ℕ) → answer ≡ answers.Busy place word
-        → (has_pair r.part.reads.cells place word ≡ true) ⊎ HasLeftBy r.part place word
+        → ((has_pair r.part.reads.cells place word ≡ true) × (m.is_lock place ≡ true)) ⊎ HasLeftBy r.part place word
 
   -- the runner came to know no request of its own
   abbrev pub LearnsNoOwn : RunnerState T → RunnerState T → Type 0

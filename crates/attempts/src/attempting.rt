@@ -57,7 +57,8 @@ pub fn plan_and_try<S: Planner, G: Gate, L>(
 /// empty hand.
 ///
 /// - `Done`: the own section answered. The request stands once in the one history, with this stamp, which is above those
-///   of all requests that this runner knew, and with this reply; its stamp word and its reply word hold them.
+///   of all requests that were answered as the attempt began, by whomever, and with this reply; its stamp word and its
+///   reply word hold them.
 /// - `Busy`: a lock was held, as the plan read it, as the publication met it, or as the own section found it by its
 ///   outcome. The section that the word names is done at return; the runner ran it to its end.
 /// - `Stale`: a word was read, and then another one at the same place; or a node that was reached has been taken out.

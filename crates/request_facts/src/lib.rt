@@ -1,7 +1,7 @@
 //! What stands of requests in every state that the machine reaches, for a runner that has its part.
 //!
-//! What it knows stands in the one history, and what it doesn't know of its own requests nobody has served. What it asks
-//! from now on comes behind all that is answered.
+//! What it knows stands in the one history, and what it doesn't know of its own requests nobody has served. What it
+//! asks from now on comes behind all that is answered.
 #![tactic(auto)]
 
 mod laws;

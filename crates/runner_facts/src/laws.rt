@@ -23,8 +23,9 @@ pub fn walks_stand<S: Structure>(structure: &S)
     let _ = structure;
 }
 
-/// In every state that the machine reaches, a thunk that fits the readings of an entered runner, for an operation within the limits, is shaped:
-/// it has a body, and its outer lock and the places of its Takes are locks that the readings give, and their words.
+/// In every state that the machine reaches, a thunk that fits the readings of an entered runner, for an operation
+/// within the limits, is shaped: it has a body, and its outer lock and the places of its Takes are locks that the
+/// readings give, and their words.
 pub fn fitting_thunks_are_shaped<S: Structure>(structure: &S)
     ensures { (layout : Layout) (requests : List Request) (w : World) → IsWithinLimits layout → AreAllowed requests
         → Reached (S.meaning structure.now) layout requests w

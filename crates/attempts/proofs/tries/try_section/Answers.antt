@@ -1,8 +1,11 @@
 use Rattle.std.proofs.Common.{Ok, Err, length, refl, sym, ◌∙◌, subst}
+use Rattle.table_words.specs.Limits.{IsWithinLimits}
+use Rattle.lock_walks.specs.machine_invariant.specs.After.{AreAllowed}
 use Rattle.lock_walks.specs.try_lock.specs.Publishes.{Publishes}
 use Rattle.attempts.specs.Counted.{IsSeen}
 use Rattle.attempts.specs.Rests.{MayLeave, HasTurned}
 use Rattle.attempts.proofs.Courses.{may_publish, refused_may_leave}
+use Rattle.attempts.proofs.Locks.{planned_shaped}
 use Rattle.attempts.proofs.Trying.{tried_of}
 use Rattle.attempts.proofs.Wholly.{lost_rests, tried_rests}
 use Rattle.attempts.proofs.tries.try_section.Goals as goal
@@ -28,7 +31,9 @@ turn_away-requires-clause-next g c κs within =
     subst (λ a. MayLeave (g.S.Structure.meaning c.args.table.now.structure) a c.publish-runner.result.0) (sym c.lock_refused.ensures)
     (refused_may_leave (g.S.Structure.meaning c.args.table.now.structure) (g.S.Planner.planning c.args.table.now.structure) c.args.request.now e.0 c.args.thunk.now c.in-Err.refused c.publish-runner.result.0
     (tried_of (g.S.Structure.meaning c.args.table.now.structure) (g.S.Planner.planning c.args.table.now.structure) c.args.request.now e.0 e.1 c.args.thunk.now c.args.runner e.2 (Err c.in-Err.refused) c.publish-runner.result.0
-    (subst (λ a. Publishes (g.S.Structure.meaning c.args.table.now.structure) c.args.thunk.now a c.args.runner c.publish-runner.result.0) c.in-Err.is c.publish-runner.ensures.publishes) (c.publish-runner.ensures.own.layout ∙ sym c.requires.own.layout) (c.publish-runner.ensures.own.requests ∙ sym c.requires.own.requests)))
+    (subst (λ a. Publishes (g.S.Structure.meaning c.args.table.now.structure) c.args.thunk.now a c.args.runner c.publish-runner.result.0) c.in-Err.is c.publish-runner.ensures.publishes) (c.publish-runner.ensures.own.layout ∙ sym c.requires.own.layout) (c.publish-runner.ensures.own.requests ∙ sym c.requires.own.requests))
+    (planned_shaped (g.S.Structure.meaning c.args.table.now.structure) (met.laws c.args.table.now.structure) (g.S.Planner.planning c.args.table.now.structure) c.args.request.now e.1 c.args.thunk.now e.0 c.args.runner
+    (subst IsWithinLimits (sym c.requires.own.layout) c.table_is_allowed.ensures.limits) (subst AreAllowed (sym c.requires.own.requests) c.table_is_allowed.ensures.requests) e.2).outer_lock)
 
 pub returns-in-Ok-clause-rests : goal.returns-in-Ok-clause-rests
 returns-in-Ok-clause-rests g c =
