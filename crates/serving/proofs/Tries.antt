@@ -62,11 +62,12 @@ crossed_before (x ∷ xs) ys e = or_right x.crossed (crossed_in (xs ++ ys)) (cro
 
 crossed_behind : (xs ys : List Try) → crossed_in xs ≡ true → crossed_in (xs ++ ys) ≡ true
 crossed_behind [] ys e = absurd (true≢false (sym e))
-crossed_behind (x ∷ xs) ys e = by x.crossed refl e
+crossed_behind (x ∷ xs) ys e = by x.crossed refl e (λ rest. crossed_behind xs ys rest)
   where
-    by : (b : Bool) → x.crossed ≡ b → (b || crossed_in xs) ≡ true → (x.crossed || crossed_in (xs ++ ys)) ≡ true
-    by true is e = or_left x.crossed (crossed_in (xs ++ ys)) is
-    by false is e = or_right x.crossed (crossed_in (xs ++ ys)) (crossed_behind xs ys e)
+    by : (b : Bool) → x.crossed ≡ b → (b || crossed_in xs) ≡ true → (crossed_in xs ≡ true → crossed_in (xs ++ ys) ≡ true)
+        → (x.crossed || crossed_in (xs ++ ys)) ≡ true
+    by true is e on = or_left x.crossed (crossed_in (xs ++ ys)) is
+    by false is e on = or_right x.crossed (crossed_in (xs ++ ys)) (on e)
 
 module _ {T : Type 0} (m : Meaning) (planning : Planning) where
   -- one of them was crossed, or one of the later ones

@@ -2,7 +2,7 @@ use Rattle.std.proofs.Common.{◌≡◌, length, arith, refl, sym, ◌∙◌, su
 use Rattle.std.proofs.lemmas.Option.{slice_get-get_or}
 use Rattle.fault_count.specs.Rose.{Rose}
 use Rattle.spared_attempts.specs.Spared.{AttemptsSpareSlots}
-use Rattle.serving.proofs.Along.{along_begins, may_next, so_far_begins, stopped_serves, goes_along, so_far_along, halted_behind, all_served, going_of}
+use Rattle.serving.proofs.Along.{along_begins, may_next, so_far_begins, stopped_serves, goes_along, so_far_along, halted_behind, all_served, went_of, going_of}
 use Rattle.serving.proofs.serves.serve.Goals as goal
 
 pub loop-request-init : goal.loop-request-init
@@ -30,6 +30,10 @@ returns-in-Some-clause-serves g c =
     c.persist-next.result.1 _ _ _ _ _ _ c.persist-next.ensures.persists inv.so_far
     (subst (λ s. AttemptsSpareSlots g.row.S.Denot (g.S.Structure.meaning s) (g.S.Planner.planning s)) c.structure.ensures c.attempts_spare_slots.ensures)
     c.in-Some.stopped (sym c.in-Some.ensures)
+
+pub returns-in-Some-clause-went : goal.returns-in-Some-clause-went
+returns-in-Some-clause-went g c = λ other.
+    c.persist-next.ensures.went (went_of c.persist-next.result.1 c.in-Some.stopped (sym c.in-Some.ensures) other) ∙ c.loop-request.invariant.went
 
 pub returns-then-not-goes_on-clause-serves : goal.returns-then-not-goes_on-clause-serves
 returns-then-not-goes_on-clause-serves g c =
