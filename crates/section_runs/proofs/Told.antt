@@ -34,7 +34,6 @@ use Rattle.idem_cell.specs.machine_records.proofs.Reached.{reached_told}
 use Rattle.idem_cell.specs.version_words.specs.RunnerState.{RunnerState}
 use Rattle.idem_cell.specs.version_words.specs.TableState.{TableState, IsOf}
 use Rattle.idem_cell.specs.commit_log.specs.Runs.{Stepped}
-use Rattle.section_runs.specs.Opened.{Learns}
 use Rattle.section_runs.proofs.Going.{shaped}
 use Rattle.section_runs.proofs.Replies.{last_answer}
 use Rattle.section_runs.proofs.Staying.{step_learns}

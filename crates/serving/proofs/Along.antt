@@ -195,7 +195,7 @@ module _ {T : Type 0} (m : Meaning) (laws : Laws m) (planning : Planning) (reque
   -- so many of them served their request
   served_all : (b : Bool) → is_served answer ≡ b → served_in all ≡ (if b then 1 else 0) + i
   served_all b e =
-      let now : (if is_served persists.last.answer then 1 else 0) ≡ (if b then 1 else 0)
+      let now : ◌≡◌ {A = ℕ} (if is_served persists.last.answer then 1 else 0) (if b then 1 else 0)
       = ap (λ (a : Attempt). if is_served a then 1 else 0) persists.answered ∙ ap (λ (x : Bool). if x then 1 else 0) e in
       let rest = served_append persists.again so_far.tries in
       let none = persists.unserved in

@@ -16,7 +16,6 @@ use Rattle.attempts.specs.Attempts.{is_halted, asks_more, runs_of, most_of_attem
 use Rattle.attempts.specs.declared.answers.Attempt.{Attempt}
 use Rattle.attempts.specs.declared.answers.Attempt.TheVariants as attempts
 use Rattle.serving.specs.declared.answers.Served.{Served}
-use Rattle.serving.specs.declared.answers.Served.TheVariants as answers
 use Rattle.serving.specs.Serving.{is_tried_again, stop_of, is_crossed, TriedRuns, ServedRuns, most_asks, Try, WasCrossed, IsTry, TriesBriefly, ServesBriefly}
 use Rattle.serving.proofs.Tries.{or_none, crossed_back, crossed_more, crossed_then, crossed_now, try_crossed}
 

@@ -1,5 +1,5 @@
 -- The attempts of a serving, one behind the other.
-use Rattle.std.specs.Prelude.{◌&&◌, ◌||◌, Bool, true, false, slice_get, if◌then◌else◌}
+use Rattle.std.specs.Prelude.{◌||◌, Bool, true, false, slice_get}
 use Rattle.std.proofs.Common.{◌≡◌, ℕ, zero, suc, ◌+◌, ◌≤◌, List, [], ◌∷◌, ◌++◌, refl, sym, ap, ◌∙◌, subst, arith, Some}
 use Rattle.std.proofs.lemmas.Bool.{true≢false}
 use Rattle.map_history.specs.declared.op.Request.{Request}
@@ -13,7 +13,7 @@ use Rattle.attempts.specs.Course.{IsRefused}
 use Rattle.attempts.specs.Attempts.{asks_more, has_met_held, is_stop_helping, IsAttempt, Answers, Stops, AtEntry, InPlan, BehindHold, InOwnRun, InHelpedRun}
 use Rattle.attempts.specs.declared.answers.Attempt.{Attempt}
 use Rattle.attempts.specs.declared.answers.Attempt.TheVariants as attempts
-use Rattle.serving.specs.Serving.{is_tried_again, is_crossed, Try, is_served, goes_on, GoesOn, served_in, steps_in, asks_in, crossed_in, WasCrossed, IsTry, AreTried}
+use Rattle.serving.specs.Serving.{is_crossed, Try, is_served, GoesOn, served_in, steps_in, asks_in, crossed_in, WasCrossed, IsTry, AreTried}
 
 pub or_left : (a b : Bool) → a ≡ true → (a || b) ≡ true
 or_left a b e = ap (λ x. x || b) e
@@ -62,11 +62,12 @@ crossed_before (x ∷ xs) ys e = or_right x.crossed (crossed_in (xs ++ ys)) (cro
 
 crossed_behind : (xs ys : List Try) → crossed_in xs ≡ true → crossed_in (xs ++ ys) ≡ true
 crossed_behind [] ys e = absurd (true≢false (sym e))
-crossed_behind (x ∷ xs) ys e = by x.crossed refl e
+crossed_behind (x ∷ xs) ys e = by x.crossed refl e (λ rest. crossed_behind xs ys rest)
   where
-    by : (b : Bool) → x.crossed ≡ b → (b || crossed_in xs) ≡ true → (x.crossed || crossed_in (xs ++ ys)) ≡ true
-    by true is e = or_left x.crossed (crossed_in (xs ++ ys)) is
-    by false is e = or_right x.crossed (crossed_in (xs ++ ys)) (crossed_behind xs ys e)
+    by : (b : Bool) → x.crossed ≡ b → (b || crossed_in xs) ≡ true → (crossed_in xs ≡ true → crossed_in (xs ++ ys) ≡ true)
+        → (x.crossed || crossed_in (xs ++ ys)) ≡ true
+    by true is e on = or_left x.crossed (crossed_in (xs ++ ys)) is
+    by false is e on = or_right x.crossed (crossed_in (xs ++ ys)) (on e)
 
 module _ {T : Type 0} (m : Meaning) (planning : Planning) where
   -- one of them was crossed, or one of the later ones

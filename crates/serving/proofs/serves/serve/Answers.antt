@@ -2,7 +2,7 @@ use Rattle.std.proofs.Common.{◌≡◌, length, arith, refl, sym, ◌∙◌, su
 use Rattle.std.proofs.lemmas.Option.{slice_get-get_or}
 use Rattle.fault_count.specs.Rose.{Rose}
 use Rattle.spared_attempts.specs.Spared.{AttemptsSpareSlots}
-use Rattle.serving.proofs.Along.{along_begins, may_next, so_far_begins, stopped_serves, goes_along, so_far_along, halted_behind, all_served, going_of}
+use Rattle.serving.proofs.Along.{along_begins, may_next, so_far_begins, stopped_serves, goes_along, so_far_along, halted_behind, all_served, went_of, going_of}
 use Rattle.serving.proofs.serves.serve.Goals as goal
 
 pub loop-request-init : goal.loop-request-init
@@ -30,6 +30,10 @@ returns-in-Some-clause-serves g c =
     c.persist-next.result.1 _ _ _ _ _ _ c.persist-next.ensures.persists inv.so_far
     (subst (λ s. AttemptsSpareSlots g.row.S.Denot (g.S.Structure.meaning s) (g.S.Planner.planning s)) c.structure.ensures c.attempts_spare_slots.ensures)
     c.in-Some.stopped (sym c.in-Some.ensures)
+
+pub returns-in-Some-clause-went : goal.returns-in-Some-clause-went
+returns-in-Some-clause-went g c = λ other.
+    c.persist-next.ensures.went (went_of c.persist-next.result.1 c.in-Some.stopped (sym c.in-Some.ensures) other) ∙ c.loop-request.invariant.went
 
 pub returns-then-not-goes_on-clause-serves : goal.returns-then-not-goes_on-clause-serves
 returns-then-not-goes_on-clause-serves g c =
@@ -64,18 +68,18 @@ loop-request-preserved g c =
     let inv = c.loop-request.invariant in record {
       own = c.persist-next.ensures.own;
       along = goes_along (g.S.Structure.meaning c.args.table.now.structure) (met.laws c.args.table.now.structure) (g.S.Planner.planning c.args.table.now.structure)
-    c.args.requests.now c.args.retry_short c.args.runner c.loop-request.runner c.persist-next.result.0
-    c.args.table.now c.table_is_allowed.ensures.limits c.table_is_allowed.ensures.requests c.requires.own inv.own c.persist-next.ensures.own
-    c.requires.next c.loop-request.request-index _ (slice_get-get_or c.args.requests.now c.loop-request.request-index _ c.loop-request-test.true) inv.along
-    c.persist-next.result.1 _ _ _ _ _ _ c.persist-next.ensures.persists inv.so_far
-    (subst (λ s. AttemptsSpareSlots g.row.S.Denot (g.S.Structure.meaning s) (g.S.Planner.planning s)) c.structure.ensures c.attempts_spare_slots.ensures)
+          c.args.requests.now c.args.retry_short c.args.runner c.loop-request.runner c.persist-next.result.0
+          c.args.table.now c.table_is_allowed.ensures.limits c.table_is_allowed.ensures.requests c.requires.own inv.own c.persist-next.ensures.own
+          c.requires.next c.loop-request.request-index _ (slice_get-get_or c.args.requests.now c.loop-request.request-index _ c.loop-request-test.true) inv.along
+          c.persist-next.result.1 _ _ _ _ _ _ c.persist-next.ensures.persists inv.so_far
+          (subst (λ s. AttemptsSpareSlots g.row.S.Denot (g.S.Structure.meaning s) (g.S.Planner.planning s)) c.structure.ensures c.attempts_spare_slots.ensures)
           (sym c.in_default.ensures);
       so_far = so_far_along (g.S.Structure.meaning c.args.table.now.structure) (met.laws c.args.table.now.structure) (g.S.Planner.planning c.args.table.now.structure)
-    c.args.requests.now c.args.retry_short c.args.runner c.loop-request.runner c.persist-next.result.0
-    c.args.table.now c.table_is_allowed.ensures.limits c.table_is_allowed.ensures.requests c.requires.own inv.own c.persist-next.ensures.own
-    c.requires.next c.loop-request.request-index _ (slice_get-get_or c.args.requests.now c.loop-request.request-index _ c.loop-request-test.true) inv.along
-    c.persist-next.result.1 _ _ _ _ _ _ c.persist-next.ensures.persists inv.so_far
-    (subst (λ s. AttemptsSpareSlots g.row.S.Denot (g.S.Structure.meaning s) (g.S.Planner.planning s)) c.structure.ensures c.attempts_spare_slots.ensures)
+          c.args.requests.now c.args.retry_short c.args.runner c.loop-request.runner c.persist-next.result.0
+          c.args.table.now c.table_is_allowed.ensures.limits c.table_is_allowed.ensures.requests c.requires.own inv.own c.persist-next.ensures.own
+          c.requires.next c.loop-request.request-index _ (slice_get-get_or c.args.requests.now c.loop-request.request-index _ c.loop-request-test.true) inv.along
+          c.persist-next.result.1 _ _ _ _ _ _ c.persist-next.ensures.persists inv.so_far
+          (subst (λ s. AttemptsSpareSlots g.row.S.Denot (g.S.Structure.meaning s) (g.S.Planner.planning s)) c.structure.ensures c.attempts_spare_slots.ensures)
           (sym c.in_default.ensures) _ (c.if-not-goes_on.ensures 0).asked;
       went = (c.if-not-goes_on.ensures 0).went refl
           ∙ (c.persist-next.ensures.went (going_of c.persist-next.result.1 (sym c.in_default.ensures)) ∙ inv.went);
