@@ -44,6 +44,8 @@ impl StoppingGates {
 impl Gates for StoppingGates {
     type Gate = Stopping;
 
+    ghost returned = { λ gates. gates.stops.returned };
+
     ghost halts = { λ gates. gates.stops.halts };
 
     ghost asks = { λ gates. gates.stops.asks };

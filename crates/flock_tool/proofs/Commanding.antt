@@ -31,7 +31,7 @@ module _ (result : ℕ × Option Ran) (source sink faults : Stream) (gates : Gat
   -- for want of memory
   lacks : (command : Command) → result.0 ≡ 7 → result.1 ≡ None → Told (codes "flock: memory\n") faults → IsUntouched source → IsUntouched sink
       → IsIdle gates → Ends command result source sink faults gates
-  lacks (commands.Run options) seven none told unread untouched idle = run_lacks options result source sink faults gates seven none told
+  lacks (commands.Run options) seven none told unread untouched idle = run_lacks options result source sink faults gates seven none told (λ _. idle.plans)
   lacks (commands.Gen plan) seven none told unread untouched idle = record {
     none = none;
     unread = unread;
@@ -49,7 +49,7 @@ module _ (result : ℕ × Option Ran) (source sink faults : Stream) (gates : Gat
   }
   lacks (commands.Load load) seven none told unread untouched idle = record {
     unread = unread;
-    runs = load_refused load result sink faults gates (Text Memory) tt seven none told untouched (λ _. idle);
+    runs = load_refused load result sink faults gates (Text Memory) tt seven none told untouched (λ _. idle) (λ _. idle.plans);
   }
 
   -- no command was read

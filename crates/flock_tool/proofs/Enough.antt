@@ -1,13 +1,18 @@
 -- With enough node slots, and where a want of slots is waited out, no runner stops for want of slots; and with enough versions none for want of these.
 use Rattle.std.specs.Prelude.{◌&&◌, Bool, true, false, if◌then◌else◌, nat_lt, slice_get, unwrap_or}
-use Rattle.std.proofs.Common.{◌≡◌, ◌≢◌, ℕ, suc, ◌+◌, ◌≤◌, List, [], ◌∷◌, length, Option, None, Some, refl, sym, ◌∙◌, ⊎_elim, arith}
+use Rattle.std.proofs.Common.{◌≡◌, ◌≢◌, ℕ, suc, ◌+◌, ◌≤◌, List, [], ◌∷◌, length, Option, None, Some, refl, sym, ap, ◌∙◌, ⊎_elim, arith}
 use Rattle.std.proofs.lemmas.Bool.Decides.{nat_tests}
 use Rattle.section_body.specs.Memory.{cell_of}
+use Rattle.section_body.specs.Word.{version_of}
+use Rattle.table_words.specs.declared.layout.Layout.{Layout}
+use Rattle.table_words.specs.declared.spot.Spot.{Spot}
+use Rattle.table_words.specs.declared.spot.Spot.TheVariants.{Cell}
 use Rattle.structure_laws.specs.Meaning.{Meaning}
-use Rattle.threaded_runs.specs.version_words.specs.TableState.{WordsState}
+use Rattle.threaded_runs.specs.version_words.specs.TableState.{WordsState, word_of}
 use Rattle.threaded_runs.specs.epoch_slots.specs.declared.reserves.Kind.{Kind}
 use Rattle.threaded_runs.specs.epoch_slots.specs.declared.reserves.Kind.TheVariants as slots
 use Rattle.threaded_runs.specs.epoch_slots.specs.declared.reserves.Short.{Short}
+use Rattle.threaded_runs.specs.serving.specs.spent_facts.specs.Spent.{IsLate, IsPast, IsSpentAt}
 use Rattle.threaded_runs.specs.serving.specs.declared.answers.Served.{Served}
 use Rattle.threaded_runs.specs.serving.specs.declared.answers.Served.TheVariants as answers
 use Rattle.threaded_runs.specs.Runs.{AreServed, IsShortOf}
@@ -93,6 +98,13 @@ six_lacks list unserved status = by (first_from versions_of 0 list) refl (first_
 pub ends_otherwise : {T : Type 0} (m : Meaning) (w : WordsState T) (waits : Bool) (number : ℕ) → number ≢ 5 → number ≢ 6 → Completes m w waits number
 ends_otherwise m w waits number not_five not_six = record { slots = λ _ _. not_five; versions = λ _. not_six }
 
+-- fewer than two versions are left behind a word that is told spent, and its place isn't at an earlier one
+pub is_late : (m : Meaning) (l : Layout) (place word : ℕ) → IsSpentAt m l place word → IsLate l word
+is_late m l place word spent = ⊎_elim (λ free. free.1) (λ limit. omega (arith, limit.1)) spent
+
+pub is_past : (words : Spot → ℕ) (place word : ℕ) → IsPast words place word → version_of word ≤ version_of (words (Cell place))
+is_past words place word past = ⊎_elim (λ same. let now = ap version_of same in omega (arith, now)) (λ below. omega (arith, below)) past
+
 pub first_of : (xs : List ℕ) → 1 ≤ length xs → (x : ℕ) × (slice_get xs 0 ≡ Some x)
 first_of [] some = absurd (omega (arith, some))
 first_of (x ∷ xs) some = (x, refl)
@@ -120,7 +132,7 @@ module _ {T : Type 0} (m : Meaning) (w : WordsState T) (waits : Bool) (list : Li
     where
       by : LacksVersions list → ⊥
       by (Met i place word at) = let shown = (served.served i (answers.Spent place word) at).shown in
-          let late = shown.0 in let past = shown.1 in let left = enough place in omega (arith, late, past, left)
+          let late = is_late m w.layout place word shown.0 in let past = is_past (word_of m w) place word shown.1 in let left = enough place in omega (arith, late, past, left)
       by (Wears i short at some) =
           let worn = (served.served i (answers.Short short) at).shown in
           let many = worn.many in

@@ -7,7 +7,7 @@ use Rattle.machine_states.proofs.Steps.{some_same}
 use Rattle.map_sizes.specs.Sizes.{peak}
 use Rattle.section_body.specs.Memory.{cell_of}
 use Rattle.structure_laws.specs.Meaning.{Meaning}
-use Rattle.threaded_runs.specs.version_words.specs.TableState.{WordsState}
+use Rattle.threaded_runs.specs.version_words.specs.TableState.{WordsState, word_of}
 use Rattle.threaded_runs.specs.epoch_slots.specs.declared.reserves.Kind.{Kind}
 use Rattle.threaded_runs.specs.epoch_slots.specs.declared.reserves.Kind.TheVariants as slots
 use Rattle.threaded_runs.specs.epoch_slots.specs.declared.reserves.Short.{Short}
@@ -17,7 +17,7 @@ use Rattle.threaded_runs.specs.spared_attempts.specs.Spared.{most_in_limbo}
 use Rattle.threaded_runs.specs.Lone.{AreServedAlone, ServesAlone}
 use Rattle.threaded_runs.specs.Runs.{AreServed, IsShortOf}
 use Rattle.flock_tool.specs.Finish.{finish_by, finish_status}
-use Rattle.flock_tool.proofs.Enough.{Lacks, LacksVersions, first_of, five_lacks, six_lacks}
+use Rattle.flock_tool.proofs.Enough.{Lacks, LacksVersions, first_of, five_lacks, is_late, is_past, six_lacks}
 use Rattle.flock_tool.proofs.Enough.LacksVersions.{Met, Wears}
 
 twice : (per_pair size : ℕ) → per_pair ≤ 2 → per_pair * size ≤ 2 * size
@@ -75,7 +75,7 @@ module _ {T : Type 0} (m : Meaning) (per_pair : ℕ) (w : WordsState T) (waits :
       by : LacksVersions list → ⊥
       by (Met i place word at) =
           let shown = (served.served i (answers.Spent place word) at).shown in
-          let late = shown.0 in let past = shown.1 in
+          let late = is_late m w.layout place word shown.0 in let past = is_past (word_of m w) place word shown.1 in
           let most = (alone (answers.Spent place word) (spent_goes place word) (only i (answers.Spent place word) at)).versions place in
           absurd (omega (arith, late, past, most, enough))
       by (Wears i short at some) =

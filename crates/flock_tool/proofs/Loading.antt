@@ -1,5 +1,5 @@
 -- How the command `load` ends.
-use Rattle.std.proofs.Common.{◌≡◌, ℕ, ◌<◌, Bool, true, List, Option, None, IfSome, codes, refl, sym, ap, ◌∙◌, ⊎_elim, inl, inr, subst, arith}
+use Rattle.std.proofs.Common.{◌≡◌, ℕ, ◌<◌, Bool, true, List, [], Option, None, IfSome, codes, refl, sym, ap, ◌∙◌, ⊎_elim, inl, inr, subst, arith}
 use Rattle.std.specs.Prelude.{◌⊎◌, ◌≤◌}
 use Rattle.fault_count.specs.Rose.{Rose}
 use Rattle.map_history.specs.declared.op.Request.{Request}
@@ -9,7 +9,9 @@ use Rattle.report_text.specs.Sink.{Extends, ExtendsInPart}
 use Rattle.trace_reader.specs.Generator.{generated}
 use Rattle.trace_reader.specs.declared.traces.TraceError.TheVariants.{ReadFault, Memory, TooLarge, Malformed, TooManyTraces, TooManyRequests}
 use Rattle.load_counts.specs.Apart.{load_text}
+use Rattle.flock_words.specs.Halts.{names_below}
 use Rattle.flock_words.specs.declared.generated.LoadOptions.{LoadOptions}
+use Rattle.flock_words.specs.declared.halts.Halt.{Halt}
 use Rattle.flock_words.specs.declared.options.RunOptions.{RunOptions}
 use Rattle.flock_tool.specs.Commands.{LoadRuns}
 use Rattle.flock_tool.specs.End.{error_line, nodes_line, stop_line, stop_status}
@@ -93,8 +95,8 @@ module _ (load : LoadOptions) (result : ℕ × Option Ran) (sink faults : Stream
 
   -- without a plan
   pub load_refused : (stop : Stop) → IsRefusedLoad load stop → result.0 ≡ stop_status stop → result.1 ≡ None → Told (stop_line stop) faults → IsUntouched sink → (result.0 ≡ 4 → IsIdle gates)
-      → LoadRuns load result sink faults gates
-  load_refused stop refused status none told untouched idle = record {
+      → (load.run.halts ≡ [] → gates.plans_after ≡ gates.plans_before) → LoadRuns load result sink faults gates
+  load_refused stop refused status none told untouched idle unplanned = record {
     ran = (λ some. absurd (none_back result.1 none some), λ run. absurd (no_run result.0 is run));
     statuses = ⊎_elim (λ four. inr (inl four)) (λ seven. inr (inr seven)) is;
     ended = if_none Ended result.1 none;
@@ -102,6 +104,7 @@ module _ (load : LoadOptions) (result : ℕ × Option Ran) (sink faults : Stream
     halted = λ one. absurd (no_run result.0 is (inr (inl one)));
     limit = λ four. refused_limit load faults stop refused told (sym status ∙ four);
     idle = idle;
+    unplanned = unplanned;
     many = λ much. is;
     memory = λ seven. refused_memory load faults stop refused told (sym status ∙ seven);
     write = λ nine. absurd (no_run result.0 is (inr (inr (inr (inr nine)))));
@@ -111,6 +114,10 @@ module _ (load : LoadOptions) (result : ℕ × Option Ran) (sink faults : Stream
     where
       is : (result.0 ≡ 4) ⊎ (result.0 ≡ 7)
       is = ⊎_elim (λ four. inl (status ∙ four)) (λ seven. inr (status ∙ seven)) (refused_status load stop refused)
+
+  unplanned_by : (plan : Plan) (ran : Ran) → IsLoadPlanned load plan → HasRunPlan plan ran gates → load.run.halts ≡ [] → gates.plans_after ≡ gates.plans_before
+  unplanned_by plan ran planned run none = run.given.unplanned (ap (λ (o : RunOptions). names_below o.halts plan.layout.runners) planned.given
+      ∙ ap (λ (hs : List Halt). names_below hs plan.layout.runners) none)
 
   -- with counts
   pub load_ended : (plan : Plan) (ran : Ran) → IsLoadPlanned load plan → load.plan.apart ≡ true
@@ -126,6 +133,7 @@ module _ (load : LoadOptions) (result : ℕ × Option Ran) (sink faults : Stream
     halted = λ one. subst (Rose gates.halts_before) (sym run.given.halted) (halts_rise gates.halts_before (answers_in ran) (ends.counted.halted one));
     limit = λ four. absurd (no_4 result.0 ends.status four);
     idle = λ four. absurd (no_4 result.0 ends.status four);
+    unplanned = unplanned_by plan ran planned run;
     many = λ much. absurd (few much);
     memory = λ seven. absurd (not_seven result.0 ends.status seven);
     write = λ nine.
@@ -155,4 +163,4 @@ module _ (load : LoadOptions) (result : ℕ × Option Ran) (sink faults : Stream
   load_loaded plan ran planned own run few loaded =
       ⊎_elim (load_ended plan ran planned own run few)
       (λ lacks. load_refused (Text Memory) tt lacks.status lacks.none lacks.memory (record { same = lacks.silent; steady = lacks.steady })
-      (λ four. absurd (omega (arith, four, lacks.status)))) loaded
+      (λ four. absurd (omega (arith, four, lacks.status))) (unplanned_by plan ran planned run)) loaded

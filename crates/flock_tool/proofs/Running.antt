@@ -1,5 +1,5 @@
 -- How the command `run` ends.
-use Rattle.std.proofs.Common.{◌≡◌, ℕ, Bool, List, Option, None, Result, Ok, Err, IfSome, codes, sym, ap, ◌∙◌, ⊎_elim, inl, inr, subst, arith}
+use Rattle.std.proofs.Common.{◌≡◌, ℕ, Bool, List, [], Option, None, Result, Ok, Err, IfSome, codes, sym, ap, ◌∙◌, ⊎_elim, inl, inr, subst, arith}
 use Rattle.std.specs.Prelude.{◌⊎◌}
 use Rattle.map_history.specs.declared.op.Entry.{Entry}
 use Rattle.map_history.specs.declared.op.Request.{Request}
@@ -10,6 +10,8 @@ use Rattle.trace_reader.specs.Answer.{StopsBefore}
 use Rattle.trace_reader.specs.Text.{IsAccepted, IsFirstRefusal}
 use Rattle.trace_reader.specs.declared.traces.TraceError.{TraceError}
 use Rattle.trace_reader.specs.declared.traces.TraceError.TheVariants.{ReadFault}
+use Rattle.flock_words.specs.Halts.{names_below}
+use Rattle.flock_words.specs.declared.halts.Halt.{Halt}
 use Rattle.flock_words.specs.declared.options.RunOptions.{RunOptions}
 use Rattle.flock_tool.specs.Commands.{RunEnds}
 use Rattle.flock_tool.specs.End.{error_status, stop_line, stop_status}
@@ -68,6 +70,7 @@ module _ (options : RunOptions) (result : ℕ × Option Ran) (source sink faults
     in_order = if_none InOrder result.1 none;
     halted = λ one. absurd (not_run options source.before stop refused (inr (inl (sym status ∙ one))));
     idle = λ _. idle;
+    unplanned = λ _. idle.plans;
     grammatical = λ steady. complete_refused options source.before stop result.0 status refused (must steady);
     refused = λ steady. first_refused source.before stop result.0 status (must steady);
     malformed = λ three. malformed_stop options source.before faults.before faults.after faults.faults_before faults.faults_after stop refused told (sym status ∙ three);
@@ -81,13 +84,15 @@ module _ (options : RunOptions) (result : ℕ × Option Ran) (source sink faults
   }
 
   -- for want of memory
-  pub run_lacks : result.0 ≡ 7 → result.1 ≡ None → Told (codes "flock: memory\n") faults → RunEnds options result source sink faults gates
-  run_lacks seven none told = record {
+  pub run_lacks : result.0 ≡ 7 → result.1 ≡ None → Told (codes "flock: memory\n") faults → (options.halts ≡ [] → gates.plans_after ≡ gates.plans_before)
+      → RunEnds options result source sink faults gates
+  run_lacks seven none told unplanned = record {
     ran = (λ some. absurd (none_back result.1 none some), λ run. absurd (not_seven result.0 run seven));
     ended = if_none Ended result.1 none;
     in_order = if_none InOrder result.1 none;
     halted = λ one. absurd (omega (arith, one, seven));
     idle = λ refused. absurd (grind (arith, refused, seven));
+    unplanned = unplanned;
     grammatical = λ steady. any_text Complete source.before (λ text accepted. inr (inl seven));
     refused = λ steady. any_text Refused source.before (λ text error first. inr seven);
     malformed = λ three. absurd (omega (arith, three, seven));
@@ -115,6 +120,8 @@ module _ (options : RunOptions) (result : ℕ × Option Ran) (source sink faults
         (λ ends one entries shown. served_in_order (meaning_of ran) (words_in ran) waits (answers_in ran) run.served one plan.traces.count
         (subst (λ (rs : List Request). AreInOrder rs plan.traces.count) (sym run.requests) planned.ordered) entries shown);
     idle = λ refused. absurd (not_refused result.0 status refused);
+    unplanned = λ none. run.given.unplanned (ap (λ (o : RunOptions). names_below o.halts plan.layout.runners) planned.given
+        ∙ ap (λ (hs : List Halt). names_below hs plan.layout.runners) none);
     halted = λ one. reported_halted ran plan.traces.count waits result sink faults reported gates run.given.halted one;
     grammatical = λ steady. any_text Complete source.before (λ text accepted. ⊎_elim (λ ends. inl ends) (λ seven. inr (inl seven)) status);
     refused = λ steady. planned_refused source.before plan result.0 (must steady);

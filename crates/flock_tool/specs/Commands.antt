@@ -1,5 +1,5 @@
 -- What each command leaves, by its status.
-use Rattle.std.specs.Prelude.{◌≡◌, ◌≢◌, ◌↔◌, ◌⊎◌, ◌<◌, ◌≤◌, ℕ, List, Option, IfSome, IsSome, None, codes}
+use Rattle.std.specs.Prelude.{◌≡◌, ◌≢◌, ◌↔◌, ◌⊎◌, ◌<◌, ◌≤◌, ℕ, List, [], Option, IfSome, IsSome, None, codes}
 use Rattle.map_history.specs.declared.op.Entry.{Entry}
 use Rattle.trace_reader.specs.Answer.{StopsBefore}
 use Rattle.trace_reader.specs.Text.{IsAccepted, IsFirstRefusal}
@@ -43,6 +43,8 @@ pub record RunEnds (options : RunOptions) (result : ℕ × Option Ran) (source s
   pub halted : result.0 ≡ 1 → Halts gates
   -- where the text is refused nothing is run
   pub idle : (result.0 ≡ 3) ⊎ (result.0 ≡ 4) ⊎ (result.0 ≡ 8) → IsIdle gates
+  -- where the words name no halt, no gate is given with a plan
+  pub unplanned : options.halts ≡ [] → gates.plans_after ≡ gates.plans_before
   -- where no fault is counted, a text in the grammar is run, unless the runners would have too many node slots or memory
   -- is wanting, and any other is refused for its first refusal
   pub grammatical : (Fails source → ⊥) → IfSome source.before (λ text. IsAccepted text
@@ -95,13 +97,15 @@ pub record LoadRuns (load : LoadOptions) (result : ℕ × Option Ran) (sink faul
       × HasCounted ran (waits_out load.run.halts (words_in ran).layout.runners) result.0 sink faults)
   pub printed : result.0 ≡ 0 → Extends sink.before (load_text load.plan) sink.after
   pub halted : result.0 ≡ 1 → Halts gates
-  -- too many requests are refused, or else, where they are no more than the limit, too many node slots, and nothing else
+  -- too many requests are refused, or else, where they are no more than the limit, too many node slots, and nothing
+  -- else
   pub limit : result.0 ≡ 4
       → ((131072 < all_requests load.plan) × Told (error_line (TooManyRequests (all_requests load.plan))) faults)
       ⊎ ((all_requests load.plan ≤ 131072)
       × ((count : ℕ) × (LoadAsksTooMuch load count × Told (nodes_line count) faults)))
   -- and then nothing is run
   pub idle : result.0 ≡ 4 → IsIdle gates
+  pub unplanned : load.run.halts ≡ [] → gates.plans_after ≡ gates.plans_before
   pub many : 131072 < all_requests load.plan → (result.0 ≡ 4) ⊎ (result.0 ≡ 7)
   pub memory : result.0 ≡ 7 → Told (codes "flock: memory\n") faults
   pub write : result.0 ≡ 9
@@ -124,8 +128,8 @@ Ends (commands.Load load) = LoadEnds load
 abbrev pub Exits : Command → ℕ → (source sink faults : Stream) → Gating → Type 0
 Exits command number source sink faults gates = (back : Option Ran) × Ends command (number, back) source sink faults gates
 
--- words that are no command are refused, unless memory is wanting before they are known as such: nothing is read, printed or
--- run, and nothing comes back
+-- words that are no command are refused, unless memory is wanting before they are known as such: nothing is read,
+-- printed or run, and nothing comes back
 pub record RefusedEnds (result : ℕ × Option Ran) (source sink faults : Stream) (gates : Gating) : Type 0 where
   pub status : (result.0 ≡ 2) ⊎ (result.0 ≡ 7)
   pub none : result.1 ≡ None

@@ -12,7 +12,8 @@ use Rattle.threaded_runs.specs.version_words.specs.TableState.{WordsState}
 use Rattle.report_text.specs.Ranks.{ranks_of}
 use Rattle.run_reports.specs.Reports.{IsReport, PrintsInPart}
 use Rattle.threaded_runs.specs.serving.specs.declared.answers.Served.{Served}
-use Rattle.threaded_runs.specs.Counts.{halts_counted}
+use Rattle.runner_gate.specs.declared.counts.GatePlan.{GatePlan}
+use Rattle.threaded_runs.specs.Counts.{halts_counted, returns_counted}
 use Rattle.threaded_runs.specs.Lone.{AsksAlone, ServesAlone}
 use Rattle.threaded_runs.specs.Runs.{AreServed, IsMadeWith}
 use Rattle.flock_words.specs.Halts.{ask_of, names_below}
@@ -59,16 +60,18 @@ abbrev pub IsTableOf : RunOptions → Ran → Type 0
 IsTableOf options (Hash words answers) = (options.table ≡ kinds.Hash) × (words.structure.bits ≡ options.bucket_bits)
 IsTableOf options (Tree words answers) = options.table ≡ kinds.Tree
 
--- these are the plans of so many gates: for each runner the ask at which it is named to halt, if it is
-pub record AreHaltsOf (halts : List Halt) (runners : ℕ) (planned : List (Option ℕ)) : Type 0 where
+-- for each runner a gate was given, in order of number, with the ask at which it is named to halt, if it is
+pub record AreHaltsOf (halts : List Halt) (runners : ℕ) (planned : List GatePlan) : Type 0 where
   pub each : length planned ≡ runners
-  pub asks : (runner : ℕ) → runner < runners → slice_get planned runner ≡ Some (ask_of halts runner)
+  pub asks : (runner : ℕ) → runner < runners
+      → slice_get planned runner ≡ Some (record { runner = runner; halt = ask_of halts runner })
 
--- the gates of a run were given out for the runners and came back: a runner answered that it was halted exactly where its
--- gate counted a halt, their plans were those that the words name, and where these name none for a runner that there is, none
--- was counted
+-- the gates of a run were given out for the runners and each came back: a runner answered that it was halted exactly
+-- where its gate counted a halt, their plans were those that the words name, and where these name none for a runner that
+-- there is, none was counted
 pub record AreGiven (halts : List Halt) (runners : ℕ) (answers : List Served) (gates : Gating) : Type 0 where
   pub halted : gates.halts_after ≡ halts_counted gates.halts_before answers
+  pub returned : gates.returned_after ≡ returns_counted gates.returned_before runners
   pub planned : gates.planned_before ≡ [] → AreHaltsOf halts runners gates.planned_after
   pub unplanned : names_below halts runners ≡ false → gates.plans_after ≡ gates.plans_before
 

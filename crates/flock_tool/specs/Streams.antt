@@ -1,5 +1,6 @@
 -- What streams and gates tell and count before and after a call.
 use Rattle.std.specs.Prelude.{◌≡◌, ℕ, List, Option}
+use Rattle.runner_gate.specs.declared.counts.GatePlan.{GatePlan}
 use Rattle.fault_count.specs.Rose.{Rose}
 use Rattle.flock_tool.specs.End.{Tells}
 
@@ -27,7 +28,8 @@ Fails s = Rose s.faults_before s.faults_after
 abbrev pub Told : List ℕ → Stream → Type 0
 Told line s = Tells line s.before s.after s.faults_before s.faults_after
 
--- what the gates have counted before and after a call: the halts, the asks, the plans, and what was planned
+-- what the gates have counted before and after a call: the halts, the asks, the plans, for which runners gates were
+-- given and with which plans, and how many came back
 pub record Gating : Type 0 where
   pub halts_before : ℕ
   pub halts_after : ℕ
@@ -35,21 +37,26 @@ pub record Gating : Type 0 where
   pub asks_after : ℕ
   pub plans_before : ℕ
   pub plans_after : ℕ
-  pub planned_before : List (Option ℕ)
-  pub planned_after : List (Option ℕ)
+  pub planned_before : List GatePlan
+  pub planned_after : List GatePlan
+  pub returned_before : ℕ
+  pub returned_after : ℕ
 
 abbrev pub gating : (halts_before halts_after asks_before asks_after plans_before plans_after : ℕ)
-    → (planned_before planned_after : List (Option ℕ)) → Gating
-gating halts_before halts_after asks_before asks_after plans_before plans_after planned_before planned_after = record {
-  halts_before = halts_before;
-  halts_after = halts_after;
-  asks_before = asks_before;
-  asks_after = asks_after;
-  plans_before = plans_before;
-  plans_after = plans_after;
-  planned_before = planned_before;
-  planned_after = planned_after;
-}
+    → (planned_before planned_after : List GatePlan) → (returned_before returned_after : ℕ) → Gating
+gating halts_before halts_after asks_before asks_after plans_before plans_after planned_before planned_after
+    returned_before returned_after = record {
+      halts_before = halts_before;
+      halts_after = halts_after;
+      asks_before = asks_before;
+      asks_after = asks_after;
+      plans_before = plans_before;
+      plans_after = plans_after;
+      planned_before = planned_before;
+      planned_after = planned_after;
+      returned_before = returned_before;
+      returned_after = returned_after;
+    }
 
 -- they were left alone
 pub record IsIdle (g : Gating) : Type 0 where
@@ -57,6 +64,7 @@ pub record IsIdle (g : Gating) : Type 0 where
   pub asks : g.asks_after ≡ g.asks_before
   pub plans : g.plans_after ≡ g.plans_before
   pub planned : g.planned_after ≡ g.planned_before
+  pub returned : g.returned_after ≡ g.returned_before
 
 -- the count of the gates' halts rose
 abbrev pub Halts : Gating → Type 0

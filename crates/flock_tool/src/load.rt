@@ -52,7 +52,8 @@ pub fn load_command<T: Threads + Wait + Sync, K: Sink, F: Sink, G: Gates>(
         (stream (K.held sink.old) (K.held sink.new) (K.faults sink.old) (K.faults sink.new))
         (stream (F.held faults.old) (F.held faults.new) (F.faults faults.old) (F.faults faults.new))
         (gating (G.halts gates.old) (G.halts gates.new) (G.asks gates.old) (G.asks gates.new)
-        (G.plans gates.old) (G.plans gates.new) (G.planned gates.old) (G.planned gates.new)) }
+        (G.plans gates.old) (G.plans gates.new) (G.planned gates.old) (G.planned gates.new)
+        (G.returned gates.old) (G.returned gates.new)) }
 {
     let plan = match load_plan(alloc, load) {
         Ok(plan) => plan,
@@ -102,7 +103,8 @@ fn report_load<K: Sink, F: Sink>(
 ) -> (u8, Option<Ran>)
     requires requests { (words_in ran).requests ≡ plan.now.traces.requests }
     requires ordered { AreInOrder plan.now.traces.requests plan.now.traces.count }
-    requires served { AreServed (meaning_of ran) (words_in ran) (waits_out plan.now.options.halts plan.now.layout.runners) (answers_in ran) }
+    requires served { AreServed (meaning_of ran) (words_in ran)
+        (waits_out plan.now.options.halts plan.now.layout.runners) (answers_in ran) }
     ensures { HasLoaded ran (waits_out plan.now.options.halts plan.now.layout.runners) result
         (stream (K.held sink.old) (K.held sink.new) (K.faults sink.old) (K.faults sink.new))
         (stream (F.held faults.old) (F.held faults.new) (F.faults faults.old) (F.faults faults.new)) }
@@ -126,7 +128,8 @@ fn print_load<K: Sink, F: Sink>(
     requires counted { IsCounted (meaning_of ran) (words_in ran) counted.now }
     requires limits { IsWithinLimits (words_in ran).layout }
     requires allowed { AreAllowed (words_in ran).requests }
-    requires served { AreServed (meaning_of ran) (words_in ran) (waits_out plan.now.options.halts plan.now.layout.runners) (answers_in ran) }
+    requires served { AreServed (meaning_of ran) (words_in ran)
+        (waits_out plan.now.options.halts plan.now.layout.runners) (answers_in ran) }
     ensures { EndsLoad ran (waits_out plan.now.options.halts plan.now.layout.runners) result
         (stream (K.held sink.old) (K.held sink.new) (K.faults sink.old) (K.faults sink.new))
         (stream (F.held faults.old) (F.held faults.new) (F.faults faults.old) (F.faults faults.new)) }

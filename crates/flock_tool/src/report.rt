@@ -38,7 +38,8 @@ pub fn run_command<T: Threads + Wait + Sync, R: Source, K: Sink, F: Sink, G: Gat
         (stream (K.held sink.old) (K.held sink.new) (K.faults sink.old) (K.faults sink.new))
         (stream (F.held faults.old) (F.held faults.new) (F.faults faults.old) (F.faults faults.new))
         (gating (G.halts gates.old) (G.halts gates.new) (G.asks gates.old) (G.asks gates.new)
-        (G.plans gates.old) (G.plans gates.new) (G.planned gates.old) (G.planned gates.new)) }
+        (G.plans gates.old) (G.plans gates.new) (G.planned gates.old) (G.planned gates.new)
+        (G.returned gates.old) (G.returned gates.new)) }
     ensures reads { result.0 ≢ 8 → R.faults source.new ≡ R.faults source.old }
     ensures writes { result.0 ≢ 9 → K.faults sink.new ≡ K.faults sink.old }
     ensures silent { (IsRunStatus result.0 → ⊥) → K.held sink.new ≡ K.held sink.old }
@@ -95,8 +96,10 @@ fn report<K: Sink, F: Sink>(
 ) -> (u8, Option<Ran>)
     requires requests { (words_in ran).requests ≡ plan.now.traces.requests }
     requires ordered { AreInOrder plan.now.traces.requests plan.now.traces.count }
-    requires served { AreServed (meaning_of ran) (words_in ran) (waits_out plan.now.options.halts plan.now.layout.runners) (answers_in ran) }
-    ensures reported { HasReported ran plan.now.traces.count (waits_out plan.now.options.halts plan.now.layout.runners) result
+    requires served { AreServed (meaning_of ran) (words_in ran)
+        (waits_out plan.now.options.halts plan.now.layout.runners) (answers_in ran) }
+    ensures reported { HasReported ran plan.now.traces.count
+        (waits_out plan.now.options.halts plan.now.layout.runners) result
         (stream (K.held sink.old) (K.held sink.new) (K.faults sink.old) (K.faults sink.new))
         (stream (F.held faults.old) (F.held faults.new) (F.faults faults.old) (F.faults faults.new)) }
 {

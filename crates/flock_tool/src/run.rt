@@ -1,5 +1,5 @@
 // The run itself, and its report.
-ghost use Rattle.std.specs.Prelude.{◌≡◌, ◌≤◌, IfOk, IfErr, OnOk, not, true};
+ghost use Rattle.std.specs.Prelude.{◌≡◌, ◌≤◌, IfOk, IfErr, OnErr, OnOk, [], not, true};
 ghost use Rattle.std.specs.FinMap.{len};
 ghost use Rattle.map_history.specs.declared.op.Op.{Op};
 ghost use Rattle.map_history.specs.Replay.{Pairs};
@@ -40,9 +40,11 @@ pub fn run_plan<T: Threads + Wait + Sync, G: Gates>(
     requires ranges { AreInRange plan.now.options }
     requires limits { IsWithinLimits plan.now.layout }
     requires ordered { AreInOrder plan.now.traces.requests plan.now.traces.count }
-    ensures { IfOk result (λ ran. HasRunPlan plan.now ran
+    ensures ran { IfOk result (λ ran. HasRunPlan plan.now ran
         (gating (G.halts gates.old) (G.halts gates.new) (G.asks gates.old) (G.asks gates.new)
-        (G.plans gates.old) (G.plans gates.new) (G.planned gates.old) (G.planned gates.new))) }
+        (G.plans gates.old) (G.plans gates.new) (G.planned gates.old) (G.planned gates.new)
+        (G.returned gates.old) (G.returned gates.new))) }
+    ensures unplanned { OnErr result (plan.now.options.halts ≡ [] → G.plans gates.new ≡ G.plans gates.old) }
 {
     match plan.options.table {
         TableKind::Hash => {
@@ -71,9 +73,12 @@ where
     requires limits { IsWithinLimits plan.now.layout }
     requires ordered { AreInOrder plan.now.traces.requests plan.now.traces.count }
     requires served { (op : Op) → (S.planning structure).serves op ≡ true }
-    ensures { IfOk result (λ ran. HasRunOn S.meaning (S.planning structure).per_pair structure plan.now ran.0 ran.1.items
+    ensures ran { IfOk result (λ ran. HasRunOn S.meaning (S.planning structure).per_pair structure plan.now
+        ran.0 ran.1.items
         (gating (G.halts gates.old) (G.halts gates.new) (G.asks gates.old) (G.asks gates.new)
-        (G.plans gates.old) (G.plans gates.new) (G.planned gates.old) (G.planned gates.new))) }
+        (G.plans gates.old) (G.plans gates.new) (G.planned gates.old) (G.planned gates.new)
+        (G.returned gates.old) (G.returned gates.new))) }
+    ensures unplanned { OnErr result (plan.now.options.halts ≡ [] → G.plans gates.new ≡ G.plans gates.old) }
 {
     let runners = plan.layout.runners;
     let halts = plan.options.halts.asks(alloc, runners)?;

@@ -54,7 +54,8 @@ pub fn flock<'a, T: Threads + Wait + Sync, R: Source, K: Sink, F: Sink, G: Gates
         (stream (K.held sink.old) (K.held sink.new) (K.faults sink.old) (K.faults sink.new))
         (stream (F.held faults.old) (F.held faults.new) (F.faults faults.old) (F.faults faults.new))
         (gating (G.halts gates.old) (G.halts gates.new) (G.asks gates.old) (G.asks gates.new)
-        (G.plans gates.old) (G.plans gates.new) (G.planned gates.old) (G.planned gates.new)) }
+        (G.plans gates.old) (G.plans gates.new) (G.planned gates.old) (G.planned gates.new)
+        (G.returned gates.old) (G.returned gates.new)) }
     // Completeness: what is valid is done whole, with each request answered, where nothing fails and
     // versions are left, or memory is wanting.
     ensures complete { (command : Command) → IsCommand (texts words.now) command → IsValid command (R.left source.old)
@@ -62,20 +63,23 @@ pub fn flock<'a, T: Threads + Wait + Sync, R: Source, K: Sink, F: Sink, G: Gates
         (stream (R.left source.old) (R.left source.new) (R.faults source.old) (R.faults source.new))
         (stream (K.held sink.old) (K.held sink.new) (K.faults sink.old) (K.faults sink.new))
         (gating (G.halts gates.old) (G.halts gates.new) (G.asks gates.old) (G.asks gates.new)
-        (G.plans gates.old) (G.plans gates.new) (G.planned gates.old) (G.planned gates.new))
+        (G.plans gates.old) (G.plans gates.new) (G.planned gates.old) (G.planned gates.new)
+        (G.returned gates.old) (G.returned gates.new))
         → IsWhole result ⊎ (result.0 ≡ 7) }
     // And with one runner, whose slots and versions are used again, so many are enough.
     ensures alone { (command : Command) → IsCommand (texts words.now) command → IsValidAlone command (R.left source.old)
         → NothingStops (stream (R.left source.old) (R.left source.new) (R.faults source.old) (R.faults source.new))
         (stream (K.held sink.old) (K.held sink.new) (K.faults sink.old) (K.faults sink.new))
         (gating (G.halts gates.old) (G.halts gates.new) (G.asks gates.old) (G.asks gates.new)
-        (G.plans gates.old) (G.plans gates.new) (G.planned gates.old) (G.planned gates.new))
+        (G.plans gates.old) (G.plans gates.new) (G.planned gates.old) (G.planned gates.new)
+        (G.returned gates.old) (G.returned gates.new))
         → IsWhole result ⊎ (result.0 ≡ 7) }
     ensures versions { KeepsVersions result }
     // And its gate is asked few times, also where it halts.
     ensures asks { AsksFew result
         (gating (G.halts gates.old) (G.halts gates.new) (G.asks gates.old) (G.asks gates.new)
-        (G.plans gates.old) (G.plans gates.new) (G.planned gates.old) (G.planned gates.new)) }
+        (G.plans gates.old) (G.plans gates.new) (G.planned gates.old) (G.planned gates.new)
+        (G.returned gates.old) (G.returned gates.new)) }
     // All words but those of a command are refused, and these never are.
     ensures accepted { AreAccepted (texts words.now) → result.0 ≢ 2 }
     ensures words { (AreAccepted (texts words.now) → ⊥) → RefusedEnds result
@@ -83,7 +87,8 @@ pub fn flock<'a, T: Threads + Wait + Sync, R: Source, K: Sink, F: Sink, G: Gates
         (stream (K.held sink.old) (K.held sink.new) (K.faults sink.old) (K.faults sink.new))
         (stream (F.held faults.old) (F.held faults.new) (F.faults faults.old) (F.faults faults.new))
         (gating (G.halts gates.old) (G.halts gates.new) (G.asks gates.old) (G.asks gates.new)
-        (G.plans gates.old) (G.plans gates.new) (G.planned gates.old) (G.planned gates.new)) }
+        (G.plans gates.old) (G.plans gates.new) (G.planned gates.old) (G.planned gates.new)
+        (G.returned gates.old) (G.returned gates.new)) }
     // Without a run nothing comes back.
     ensures none { (IsRunStatus result.0 → ⊥) → result.1 ≡ None }
     // No failed read ends but at 8, and no failed write but at 9.

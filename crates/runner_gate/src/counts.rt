@@ -5,25 +5,33 @@ ghost use Rattle.runner_gate.specs.Counts.{none_counted, given, taken_back, plan
 use arrayvec::ArrayVec;
 use std::marker::Model;
 
+/// A gate that was given: for which runner, and at which ask it is to halt, if at any.
+#[derive(Clone, Copy, Debug, Default, PartialEq, Eq)]
+pub struct GatePlan {
+    pub runner: u32,
+    pub halt: Option<u64>,
+}
+
 /// How many of the plans are kept.
 const KEPT: usize = 16;
 
 /// Puts a plan behind the others, where there is room for it.
-fn keep(planned: &mut ArrayVec<Option<u64>, KEPT>, halt: Option<u64>)
-    ensures { planned.new.items ≡ planned_after planned.old.items halt }
+fn keep(planned: &mut ArrayVec<GatePlan, KEPT>, plan: GatePlan)
+    ensures { planned.new.items ≡ planned_after planned.old.items plan.runner plan.halt }
 {
     if !planned.is_full() {
-        planned.push(halt);
+        planned.push(plan);
     }
 }
 
 /// The counts of `Gates`, each of which stands still at its last number.
 #[derive(Debug, Drop)]
 pub struct Counts {
+    returned: u64,
     halts: u64,
     asks: u64,
     plans: u64,
-    planned: ArrayVec<Option<u64>, KEPT>,
+    planned: ArrayVec<GatePlan, KEPT>,
 }
 
 impl Model for Counts {
@@ -32,6 +40,7 @@ impl Model for Counts {
     ghost Value = { Counted };
 
     ghost view = { λ counts. record {
+      returned = counts.returned;
       halts = counts.halts;
       asks = counts.asks;
       plans = counts.plans;
@@ -45,6 +54,7 @@ impl Counts {
         ensures { result ≡ none_counted }
     {
         Counts {
+            returned: 0,
             halts: 0,
             asks: 0,
             plans: 0,
@@ -52,14 +62,14 @@ impl Counts {
         }
     }
 
-    /// A gate was given with this plan.
-    pub fn give(&mut self, halt: Option<u64>)
-        ensures { self.new ≡ given halt self.old }
+    /// A gate was given for this runner with this plan.
+    pub fn give(&mut self, runner: u32, halt: Option<u64>)
+        ensures { self.new ≡ given runner halt self.old }
     {
         if halt.is_some() {
             self.plans = self.plans.saturating_add(1);
         }
-        keep(&mut self.planned, halt);
+        keep(&mut self.planned, GatePlan { runner, halt });
     }
 
     /// A gate came back that has halted and was asked so often.
@@ -70,5 +80,6 @@ impl Counts {
             self.halts = self.halts.saturating_add(1);
         }
         self.asks = self.asks.saturating_add(asks);
+        self.returned = self.returned.saturating_add(1);
     }
 }

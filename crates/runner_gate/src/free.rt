@@ -86,6 +86,8 @@ impl FreeGates {
 impl Gates for FreeGates {
     type Gate = Free;
 
+    ghost returned = { λ gates. gates.returned };
+
     ghost halts = { λ _. 0 };
 
     ghost asks = { λ gates. gates.asks };
@@ -94,8 +96,8 @@ impl Gates for FreeGates {
 
     ghost planned = { λ gates. gates.planned };
 
-    fn gate(&mut self, _runner: u32, halt: Option<u64>) -> Free {
-        self.counts.give(halt);
+    fn gate(&mut self, runner: u32, halt: Option<u64>) -> Free {
+        self.counts.give(runner, halt);
         Free::new()
     }
 

@@ -12,6 +12,7 @@ mod scripted;
 #[cfg(test)]
 mod tests;
 
+pub use counts::GatePlan;
 pub use free::{Free, FreeGates};
 pub use gates::Gates;
 pub use planned::{HaltAt, PlannedGates};

@@ -116,6 +116,8 @@ impl PlannedGates {
 impl Gates for PlannedGates {
     type Gate = HaltAt;
 
+    ghost returned = { λ gates. gates.returned };
+
     ghost halts = { λ gates. gates.halts };
 
     ghost asks = { λ gates. gates.asks };
@@ -124,17 +126,18 @@ impl Gates for PlannedGates {
 
     ghost planned = { λ gates. gates.planned };
 
-    fn gate(&mut self, _runner: u32, halt: Option<u64>) -> HaltAt
+    fn gate(&mut self, runner: u32, halt: Option<u64>) -> HaltAt
         ensures unasked { (result.halts ≡ 0) × (result.asks ≡ 0) }
+        ensures returned { self.new.returned ≡ self.old.returned }
         ensures halts { self.new.halts ≡ self.old.halts }
         ensures asks { self.new.asks ≡ self.old.asks }
         ensures plans { self.new.plans ≡ plans_after self.old.plans halt }
-        ensures planned { self.new.planned ≡ planned_after self.old.planned halt }
+        ensures planned { self.new.planned ≡ planned_after self.old.planned runner halt }
 
         // It halts as `halt` says.
         ensures gate { result ≡ unasked halt }
     {
-        self.counts.give(halt);
+        self.counts.give(runner, halt);
         HaltAt::new(halt)
     }
 

@@ -153,6 +153,8 @@ impl ScriptedGates {
 impl Gates for ScriptedGates {
     type Gate = Scripted;
 
+    ghost returned = { λ gates. gates.returned };
+
     ghost halts = { λ gates. gates.halts };
 
     ghost asks = { λ gates. gates.asks };
@@ -162,7 +164,7 @@ impl Gates for ScriptedGates {
     ghost planned = { λ gates. gates.planned };
 
     fn gate(&mut self, runner: u32, halt: Option<u64>) -> Scripted {
-        self.counts.give(halt);
+        self.counts.give(runner, halt);
         Scripted {
             runner,
             script: Arc::try_clone(&self.script).ok(),

@@ -45,6 +45,13 @@ get_last : {A : Type 0} (xs : List A) (y : A) → slice_get (xs ++ y ∷ []) (le
 get_last [] y = refl
 get_last (x ∷ xs) y = get_last xs y
 
+free_of : (l : Layout) (word : ℕ) → is_spent l.version_max word ≡ true → is_free word ≡ true
+free_of l word e = by (is_free word) e
+  where
+    by : (b : Bool) → (b && nat_lt l.version_max (version_of word + 2)) ≡ true → b ≡ true
+    by true e = refl
+    by false e = absurd (let z = e in cc)
+
 late_of : (l : Layout) (word : ℕ) → is_spent l.version_max word ≡ true → IsLate l word
 late_of l word e = by (is_free word) e
   where
@@ -64,10 +71,10 @@ word_same a b e = cc
 -- which reading refuses a plan as spent
 module _ (m : Meaning) (planning : Planning) (l : Layout) (op : Op) (before : Readings) (p w place word : ℕ) where
   abbrev IsThis : Type 0
-  IsThis = (p ≡ place) × (w ≡ word) × IsLate l w
+  IsThis = (p ≡ place) × (w ≡ word) × (is_free w ≡ true) × IsLate l w
 
   this : Some (plans.Spent p w) ≡ Some (plans.Spent place word) → is_spent l.version_max w ≡ true → IsThis
-  this e late = let same = plan_same p place w word (some_same _ _ e) in (same.0, same.1, late_of l w late)
+  this e late = let same = plan_same p place w word (some_same _ _ e) in (same.0, same.1, free_of l w late, late_of l w late)
 
   by_lock : (free spent : Bool) → is_spent l.version_max w ≡ spent
       → (if free then (if spent then Some (plans.Spent p w) else None) else Some (plans.Busy p w)) ≡ Some (plans.Spent place word) → IsThis
@@ -91,20 +98,20 @@ module _ (m : Meaning) (planning : Planning) (l : Layout) (op : Op) (before : Re
       by false e = by_link (planning.is_mark p && (value_of w == 1)) (planning.is_far l op (before ++ (p, w) ∷ [])) _ _ e
 
 -- which word refuses a publication as spent
-refused_found : (l : Layout) (expected found word : ℕ) → refusals.Spent word ≡ refused_by l.version_max expected found → (found ≡ word) × IsLate l found
+refused_found : (l : Layout) (expected found word : ℕ) → refusals.Spent word ≡ refused_by l.version_max expected found → (found ≡ word) × (is_free found ≡ true) × IsLate l found
 refused_found l expected found word = by (is_free found) (is_spent l.version_max found) refl
   where
     by : (free late : Bool) → is_spent l.version_max found ≡ late
-        → refusals.Spent word ≡ cond free (cond late (refusals.Spent found) (refusals.Stale expected found)) (refusals.Busy found) → (found ≡ word) × IsLate l found
-    by true true late e = (sym (word_same word found e), late_of l found late)
+        → refusals.Spent word ≡ cond free (cond late (refusals.Spent found) (refusals.Stale expected found)) (refusals.Busy found) → (found ≡ word) × (is_free found ≡ true) × IsLate l found
+    by true true late e = (sym (word_same word found e), free_of l found late, late_of l found late)
     by true false late e = absurd (let z = e in cc)
     by false spent late e = absurd (let z = e in cc)
 
 module _ {T : Type 0} (m : Meaning) (planning : Planning) (request : Request) (place word : ℕ) (old new : RunnerState T)
     (layout : new.layout ≡ old.layout) (away : IsTurnedAway m planning request (attempts.Spent place word) old new) where
-  -- it is a word that the runner has read since it entered, behind which too few versions are left
+  -- it is a free word that the runner has read since it entered, behind which too few versions are left
   abbrev WasRead : Type 0
-  WasRead = IsLate new.layout word × (has_pair new.part.reads.cells place word ≡ true)
+  WasRead = (is_free word ≡ true) × IsLate new.layout word × (has_pair new.part.reads.cells place word ≡ true)
 
   -- or by which a section left that it has run to its end
   abbrev HasEnded : Type 0
@@ -120,9 +127,10 @@ module _ {T : Type 0} (m : Meaning) (planning : Planning) (request : Request) (p
   reads_kept : cut.part.run ≡ None → new.part.reads ≡ cut.part.reads
   reads_kept resting = reads_made m kinds.Idle exits.announce.found cut new exits.announce.event resting
 
-  of_read : (l : Layout) (p w : ℕ) → l ≡ old.layout → p ≡ place → w ≡ word → IsLate l w → cut.part.run ≡ None
+  of_read : (l : Layout) (p w : ℕ) → l ≡ old.layout → p ≡ place → w ≡ word → is_free w ≡ true → IsLate l w → cut.part.run ≡ None
       → has_pair cut.part.reads.cells p w ≡ true → WasRead
-  of_read l p w same is_place is_word late resting has = (
+  of_read l p w same is_place is_word free late resting has = (
+    subst (λ k. is_free k ≡ true) is_word free,
     subst (λ k. IsLate k word) (same ∙ sym layout) (subst (IsLate l) is_word late),
     (λ i. has_pair (reads_kept resting i).cells (sym is_place i) (sym is_word i)) ∙ has,
   )
@@ -133,7 +141,7 @@ module _ {T : Type 0} (m : Meaning) (planning : Planning) (request : Request) (p
       let why = planned.answers in
       let is = refused_spent m planning old.layout request.op why.before why.place why.word p w why.cause in
       let ends = spent_same place p word w same in
-      of_read old.layout why.place why.word refl (is.0 ∙ sym ends.0) (is.1 ∙ sym ends.1) is.2
+      of_read old.layout why.place why.word refl (is.0 ∙ sym ends.0) (is.1 ∙ sym ends.1) is.2 is.3
       (planned.walked.at planned.enters.enters.epoch None planned.enters.enters.at).resting
       (ap (λ (r : ReadsState). has_pair r.cells why.place why.word) planned.walked.reads
       ∙ has_more planned.entered.part.reads.cells readings why.place why.word
@@ -151,7 +159,7 @@ module _ {T : Type 0} (m : Meaning) (planning : Planning) (request : Request) (p
       let refused = publishes.refused in
       let is = refused_found tried.planned.layout thunk.word publishes.found w refused.why in
       let ends = spent_same place thunk.lock word w same in
-      of_read tried.planned.layout thunk.lock publishes.found tried.plans.still.layout (sym ends.0) (is.0 ∙ sym ends.1) is.1
+      of_read tried.planned.layout thunk.lock publishes.found tried.plans.still.layout (sym ends.0) (is.0 ∙ sym ends.1) is.1 is.2
       (refused.at tried.plans.enters.enters.epoch (tried.plans.walked.at tried.plans.enters.enters.epoch None tried.plans.enters.enters.at)).resting
       (ap (λ xs. has_pair xs thunk.lock publishes.found) publishes.read
       ∙ has_more tried.planned.part.reads.cells ((thunk.lock, publishes.found) ∷ []) thunk.lock publishes.found (has_here thunk.lock publishes.found))

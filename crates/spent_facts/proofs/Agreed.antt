@@ -1,9 +1,9 @@
 -- The word by which a run leaves was read at its place.
-use Rattle.std.specs.Prelude.{slice_index, true}
-use Rattle.std.proofs.Common.{◌≡◌, ℕ, suc, ◌<◌, length, sym, ap, ◌∙◌, subst, ⊎_elim, arith, Some}
+use Rattle.std.specs.Prelude.{slice_index, false, true}
+use Rattle.std.proofs.Common.{◌≡◌, ℕ, suc, ◌<◌, length, sym, ap, ◌∙◌, subst, ⊎_elim, inl, inr, arith, Some}
 use Rattle.section_body.specs.Word.{version_of}
 use Rattle.section_body.specs.Line.{micro_at, is_commit}
-use Rattle.section_body.specs.declared.micro.Micro.TheVariants.{Commit, NestedCommit, OutcomeCommit}
+use Rattle.section_body.specs.declared.micro.Micro.TheVariants.{CheckFresh, Commit, NestedCommit, OutcomeCommit}
 use Rattle.table_words.specs.declared.layout.Layout.{Layout}
 use Rattle.structure_laws.specs.Meaning.{Meaning}
 use Rattle.runner_parts.specs.State.{RunState}
@@ -16,15 +16,15 @@ use Rattle.machine_states.specs.Sight.{Sight}
 use Rattle.machine_scenes.specs.Shown.{rules_of}
 use Rattle.machine_facts.specs.machine_agreement.specs.Joined.{IsRunOf, IsJoinedToAgreement}
 use Rattle.machine_facts.specs.machine_agreement.proofs.RunPlaces.{run_here, used_here, code_here}
-use Rattle.spent_facts.specs.Spent.{IsPast}
+use Rattle.spent_facts.specs.Spent.{IsPast, IsSpentAt}
 use Rattle.spent_facts.proofs.Leaving.{IsCheckOf, LeavesAt}
 
 module _ (m : Meaning) (l : Layout) (a : AgreementState) (s : Sight) (joined : IsJoinedToAgreement m l a s) where
   -- a word that was read at a place
   pub seen_past : (place word : ℕ) → a.shared.seen place word ≡ true → IsPast s.word place word
   seen_past place word seen = ⊎_elim
-      (λ same. let now = ap version_of (sym (joined.words.cells place) ∙ same) in omega (arith, now))
-      (λ below. let later = subst (λ c. version_of word < version_of c) (joined.words.cells place) below in omega (arith, later))
+      (λ same. inl (sym (joined.words.cells place) ∙ same))
+      (λ below. inr (subst (λ c. version_of word < version_of c) (joined.words.cells place) below))
       (joined.sound.versions.past place word seen)
 
   module _ (r : ℕ) (q : RunState) (is : (s.part r).run ≡ Some q) (all : length q.opened ≡ 13) where
@@ -85,6 +85,17 @@ module _ (m : Meaning) (l : Layout) (a : AgreementState) (s : Sight) (joined : I
         by_outcome (suc (suc before.0)) place log (let e = before.1 in omega (arith, e)) before.3)
         taken)
         check
+
+    -- a cell's word is no lock's
+    fresh_cell : (place log : ℕ) → x.code q.at ≡ CheckFresh place log → m.is_lock place ≡ false
+    fresh_cell place log fresh =
+        let loaded = line.resolved.fresh_loaded q.at place log fresh in
+        let before = line.ordered.commit_before loaded.0 place log loaded.2 in
+        line.placed.load_unlocked before.0 place log before.2
+
+    pub left_late : (place spent : ℕ) → LeavesAt l q.trail (micro_at (line_of m q) q.at) place spent → IsSpentAt m l place spent
+    left_late place spent leaves = ⊎_elim (λ free. inl free)
+        (λ limit. inr (fresh_cell place leaves.log (code q.at ∙ limit.1), limit.0)) leaves.late
 
     -- so the place is past it
     pub left_past : (place spent : ℕ) → LeavesAt l q.trail (micro_at (line_of m q) q.at) place spent → IsPast s.word place spent

@@ -21,17 +21,21 @@ IsCheckOf micro place log = (micro ≡ CheckFresh place log) ⊎ (((w : ℕ) × 
 pub record LeavesAt (l : Layout) (trail : List ℕ) (micro : Micro) (place spent : ℕ) : Type 0 where
   pub log : ℕ
   pub word : slice_index trail log ≡ spent
-  pub late : IsLate l spent
+  pub late : ((is_free spent ≡ true) × IsLate l spent) ⊎ ((version_of spent ≡ l.version_max) × (micro ≡ CheckFresh place log))
   pub check : IsCheckOf micro place log
 
 spent_same : (p q a b : ℕ) → Spent p a ≡ Spent q b → (p ≡ q) × (a ≡ b)
 spent_same p q a b e = (cc, cc)
 
-late_equal : (v n : ℕ) → (n == v) ≡ true → v < n + 2
-late_equal v n e = grind (arith, nat_tests)
+at_limit : (v n : ℕ) → (n == v) ≡ true → n ≡ v
+at_limit v n e = grind (arith, nat_tests)
 
 late_less : (v n : ℕ) → nat_lt v (n + 2) ≡ true → v < n + 2
 late_less v n e = grind (arith, nat_tests)
+
+first : (a b : Bool) → (a && b) ≡ true → a ≡ true
+first true b e = refl
+first false b e = absurd (let z = e in cc)
 
 last : (a b : Bool) → (a && b) ≡ true → b ≡ true
 last true b e = e
@@ -42,14 +46,15 @@ module _ (l : Layout) (d : ℕ) (trail : List ℕ) (place spent : ℕ) where
   Leaves micro = leaves (setting_of l d) trail micro ≡ Some (Spent place spent)
 
   -- a refusal of a Take
-  refused : (p expected read : ℕ) → refusal (setting_of l d) p expected read ≡ Spent place spent → (p ≡ place) × (read ≡ spent) × IsLate l spent
+  refused : (p expected read : ℕ) → refusal (setting_of l d) p expected read ≡ Spent place spent → (p ≡ place) × (read ≡ spent) × (is_free spent ≡ true) × IsLate l spent
   refused p expected read = by (is_free read) (is_spent l.version_max read) refl
     where
       by : (free late : Bool) → is_spent l.version_max read ≡ late
-          → cond free (cond late (Spent p read) (Stale p expected read)) (Busy p read) ≡ Spent place spent → (p ≡ place) × (read ≡ spent) × IsLate l spent
+          → cond free (cond late (Spent p read) (Stale p expected read)) (Busy p read) ≡ Spent place spent → (p ≡ place) × (read ≡ spent) × (is_free spent ≡ true) × IsLate l spent
       by true true is e = let same = spent_same p place read spent e in (
         same.0,
         same.1,
+        ap is_free (sym same.1) ∙ first (is_free read) _ is,
         late_less l.version_max (version_of spent)
             (ap (λ w. nat_lt l.version_max (version_of w + 2)) (sym same.1) ∙ last (is_free read) _ is),
       )
@@ -64,7 +69,7 @@ module _ (l : Layout) (d : ℕ) (trail : List ℕ) (place spent : ℕ) where
       by true is e = let same = spent_same p place (slice_index trail log) spent (some_same _ _ e) in record {
         log = log;
         word = same.1;
-        late = late_equal l.version_max (version_of spent) (ap (λ w. version_of w == l.version_max) (sym same.1) ∙ is);
+        late = inr (at_limit l.version_max (version_of spent) (ap (λ w. version_of w == l.version_max) (sym same.1) ∙ is), ap (λ q. CheckFresh q log) same.0);
         check = inl (ap (λ q. CheckFresh q log) same.0);
       }
       by false is e = absurd (none_some _ (sym e))
@@ -78,7 +83,7 @@ module _ (l : Layout) (d : ℕ) (trail : List ℕ) (place spent : ℕ) where
       by false e = let same = refused p w (slice_index trail log) (some_same _ _ e) in record {
         log = log;
         word = same.1;
-        late = same.2;
+        late = inl (same.2, same.3);
         check = inr (inl (w, ap (λ q. CheckFree q log w) same.0));
       }
 
@@ -91,7 +96,7 @@ module _ (l : Layout) (d : ℕ) (trail : List ℕ) (place spent : ℕ) where
       by false e = let same = refused p w (slice_index trail log) (some_same _ _ e) in record {
         log = log;
         word = same.1;
-        late = same.2;
+        late = inl (same.2, same.3);
         check = inr (inr (w, ap (λ q. CheckHeld q log w) same.0));
       }
 

@@ -28,13 +28,13 @@ module _ (m : Meaning) (laws : Laws m) (l : Layout) (limits : IsWithinLimits l) 
   -- a reached state that has it
   record Has (w : World) : Type 0 where
     reached : Reached m l rs w
-    has : FinishedStand l (sight m l rs w)
+    has : FinishedStand m l (sight m l rs w)
 
   -- at first nothing is kept
   abbrev IsEmpty : PartState → Type 0
   IsEmpty p = (i : ℕ) (f : FinishedState) → slice_get p.records.finished i ≡ Some f → ⊥
 
-  first_has : (w : World) → IsFirst m l rs w → FinishedStand l (sight m l rs w)
+  first_has : (w : World) → IsFirst m l rs w → FinishedStand m l (sight m l rs w)
   first_has w first r i place spent f at e = absurd (subst IsEmpty (sym (first_parts m l w.parts first.parts r))
       (FirstJoin.each_part m l IsEmpty (λ j y none. none_some y (sym none)) (λ n j y none. none_some y (sym none)) (λ j y none. none_some y (sym none)) r) i f at)
 
@@ -50,7 +50,7 @@ module _ (m : Meaning) (laws : Laws m) (l : Layout) (limits : IsWithinLimits l) 
             a.0.agreement a.1.sections (rises_after m laws l rs old.reached.events w limits allowed old.reached.after e v goes) old.has;
       }
 
-  pub reached_spent : (w : World) → Reached m l rs w → SpentStand l (sight m l rs w)
+  pub reached_spent : (w : World) → Reached m l rs w → SpentStand m l (sight m l rs w)
   reached_spent w reached = let a = reached_whole m laws l rs reached.events w limits allowed reached.after in record {
     finished = (reached_has m l rs Has (λ v start. record { reached = first_reached m l rs v start; has = first_has v start }) step_has w reached).has;
     read = λ r place found e. seen_past m l a.0.agreement (sight m l rs w) a.1.sections place found ((a.1.sections.tied r).read place found e);

@@ -9,6 +9,7 @@ use Rattle.table_words.specs.declared.layout.Layout.{Layout}
 use Rattle.table_words.specs.declared.spot.Spot.{Spot}
 use Rattle.table_words.specs.declared.spot.Spot.TheVariants.{Cell, Stamp, Reply, DoneWord}
 use Rattle.table_words.specs.Seen.{seen}
+use Rattle.structure_laws.specs.Cells as cells
 use Rattle.structure_laws.specs.Meaning.{Meaning}
 use Rattle.runner_parts.specs.declared.entries.Known.{Known}
 use Rattle.runner_parts.specs.declared.entries.Published.{Published}
@@ -20,10 +21,10 @@ use Rattle.machine_states.specs.World.{World, seat_of}
 use Rattle.machine_states.specs.Sight.{Sight, sight, part_or_first}
 use Rattle.machine_states.proofs.Steps.{some_same, none_some}
 use Rattle.serving.specs.machine_records.specs.Requests.{requests_of, request_at, or_none}
-use Rattle.serving.specs.machine_invariant.specs.Lengths.{entry_count}
+use Rattle.serving.specs.machine_invariant.specs.Lengths.{ListsAreShort, entry_count}
 use Rattle.own_descriptors.specs.Own.{HasOwn, OwnStand}
 use Rattle.serving.specs.runner_facts.specs.Facts.{LimboIsDone, DescriptorsAreKept, HasWornCell, WornAreWorn, descriptors_of, published_count}
-use Rattle.serving.specs.spent_facts.specs.Spent.{IsLate, IsPast, SpentStand}
+use Rattle.serving.specs.spent_facts.specs.Spent.{IsLate, IsPast, IsSpentAt, SpentStand}
 use Rattle.serving.specs.reached_histories.specs.Sections.{Knows, HasOpen, HasPublished}
 use Rattle.serving.specs.reached_histories.specs.Laws.{HasHistory}
 use Rattle.serving.specs.request_facts.specs.Laws.{CallersStand, HasEntry, IsKnown}
@@ -198,9 +199,9 @@ module _ {T : Type 0} (m : Meaning) (t : TableState T) (keeper : RunnerState T) 
     same_request : (q q' : Request) → slice_get own count ≡ Some q → slice_get own count ≡ Some q' → is_answered new.part.records.known q.number ≡ false → is_answered new.part.records.known q'.number ≡ false
     same_request q q' e e' unknown_so = subst (λ (y : Request). is_answered new.part.records.known y.number ≡ false) (some_same q q' (sym e ∙ e')) unknown_so
 
-    module _ (low : worker < t.layout.runners) (own_new : IsOf t new) (kept : DescriptorsAreKept t.layout end) (spent : SpentStand t.layout end) (worn : WornAreWorn m t.layout end)
+    module _ (low : worker < t.layout.runners) (own_new : IsOf t new) (kept : DescriptorsAreKept t.layout end) (spent : SpentStand m t.layout end) (worn : WornAreWorn m t.layout end)
         (once_worn : (i j slot : ℕ) → slice_get (end.part worker).nodes.worn i ≡ Some slot → slice_get (end.part worker).nodes.worn j ≡ Some slot → i ≡ j)
-        (many : t.layout.nodes ≤ entry_count (end.part worker).nodes + 2 * added end.word (length t.requests)) where
+        (many : t.layout.nodes ≤ entry_count (end.part worker).nodes + 2 * added end.word (length t.requests)) (lists : ListsAreShort m t.layout end) where
       -- a slot in the worker's worn list is worn in the closed words
       worn_there : (i slot : ℕ) → slice_get new.part.nodes.worn i ≡ Some slot → HasWornCell m w.layout (word_of m w) slot
       worn_there i slot e =
@@ -225,15 +226,18 @@ module _ {T : Type 0} (m : Meaning) (t : TableState T) (keeper : RunnerState T) 
       }
 
       -- the word at which the worker stopped
-      spent_at : (place word : ℕ) → IsKeptSpent new place word → IsLate w.layout word × IsPast (word_of m w) place word
+      past_of : (place word : ℕ) → IsPast end.word place word → IsPast (word_of m w) place word
+      past_of place word past = subst (λ (n : ℕ). (n ≡ word) ⊎ (version_of word < version_of n)) (sym (word_is (Cell place))) past
+
+      spent_at : (place word : ℕ) → IsKeptSpent new place word → IsSpentAt m w.layout place word × IsPast (word_of m w) place word
       spent_at place word (inl read) = (
-        subst (λ (l : Layout). IsLate l word) (own_new.layout ∙ sym closing.layout) read.0,
-        subst (λ (n : ℕ). version_of word ≤ version_of n) (sym (word_is (Cell place))) (spent.read worker place word (ap (λ (p : PartState). has_pair p.reads.cells place word) part ∙ read.1)),
+        inl (read.0, subst (λ (l : Layout). IsLate l word) (own_new.layout ∙ sym closing.layout) read.1),
+        past_of place word (spent.read worker place word (ap (λ (p : PartState). has_pair p.reads.cells place word) part ∙ read.2)),
       )
       spent_at place word (inr kept_run) =
           let was = spent.finished worker kept_run.0 place word kept_run.1 (ap (λ (p : PartState). slice_get p.records.finished kept_run.0) part ∙ kept_run.2) kept_run.3 in (
-            subst (λ (l : Layout). IsLate l word) (sym closing.layout) was.late,
-            subst (λ (n : ℕ). version_of word ≤ version_of n) (sym (word_is (Cell place))) was.past,
+            subst (λ (l : Layout). IsSpentAt m l place word) (sym closing.layout) was.late,
+            past_of place word was.past,
           )
 
       short_nodes : (short : Short) → IsFew new short.kind → short ≡ counts_of new short.kind → short.kind ≡ slots.Node → short.free < 2
@@ -272,6 +276,18 @@ module _ {T : Type 0} (m : Meaning) (t : TableState T) (keeper : RunnerState T) 
           let pairs = added_is in
           omega (arith, free, limbo, worn_out, hand, entries, nodes, pairs, many)
 
+      -- and they are no more than the table has
+      short_most : (short : Short) → short ≡ counts_of new short.kind → short.kind ≡ slots.Node → short.free + (short.limbo + short.worn) ≤ cells.slots m w.layout
+      short_most short counts kind =
+          let same : short ≡ counts_of new slots.Node = counts ∙ ap (counts_of new) kind in
+          let free : short.free ≡ length new.part.nodes.free = ap (λ (x : Short). x.free) same in
+          let limbo : short.limbo ≡ length new.part.nodes.limbo = ap (λ (x : Short). x.limbo) same in
+          let worn_out : short.worn ≡ length new.part.nodes.worn = ap (λ (x : Short). x.worn) same in
+          let entries : entry_count (end.part worker).nodes ≡ entry_count new.part.nodes = ap (λ (p : PartState). entry_count p.nodes) part in
+          let all : entry_count (end.part worker).nodes ≤ cells.slots m w.layout =
+          subst (λ (l : Layout). entry_count (end.part worker).nodes ≤ cells.slots m l) (sym closing.layout) (lists.all worker) in
+          omega (arith, free, limbo, worn_out, entries, all)
+
       -- where it lacked a descriptor, each of its own is in limbo, and so done
       none_free : (xs : List ℕ) (d : ℕ) → length xs ≡ 0 → has xs d ≡ true → ⊥
       none_free [] d none h = let z = h in cc
@@ -302,6 +318,7 @@ module _ {T : Type 0} (m : Meaning) (t : TableState T) (keeper : RunnerState T) 
         over = stops.over;
         nodes = short_nodes short stops.cause.few stops.cause.counts;
         counted = short_counted short stops.cause.counts tidy;
+        most = short_most short stops.cause.counts;
         descriptors = short_descriptors short stops.cause.few stops.cause.counts tidy.at.published;
       }
 

@@ -1,13 +1,14 @@
 -- The counts of gates, with one more given or taken back.
-use Rattle.std.specs.Prelude.{◌^◌, ◌-◌, Option}
-use Rattle.std.proofs.Common.{◌≡◌, ◌≢◌, ℕ, zero, suc, ◌+◌, ◌<◌, ◌≤◌, List, [], ◌∷◌, ◌++◌, length, take, get_or, refl, sym, ap, ◌∙◌, subst, arith}
+use Rattle.std.specs.Prelude.{◌^◌, ◌-◌, OnErr, Option, Result, Ok, Err}
+use Rattle.std.proofs.Common.{◌≡◌, ◌≢◌, ℕ, zero, suc, ◌+◌, ◌<◌, ◌≤◌, List, [], ◌∷◌, ◌++◌, length, take, get_or, refl, sym, ap, ◌∙◌, subst, arith, zero-add}
 use Rattle.std.proofs.Math.Nat.{min-le_left}
 use Rattle.std.proofs.lemmas.List.{take_more, take_all, length-take}
 use Rattle.runner_gate.specs.Counts.{plus, halts_after, plans_after}
+use Rattle.runner_gate.specs.declared.counts.GatePlan.{GatePlan}
 use Rattle.serving.specs.declared.answers.Served.{Served}
 use Rattle.serving.specs.declared.answers.Served.TheVariants as answers
 use Rattle.threaded_runs.specs.declared.job.Finished.{Finished}
-use Rattle.threaded_runs.specs.Counts.{halted, halts_counted, plans_given}
+use Rattle.threaded_runs.specs.Counts.{halted, halts_counted, plans_given, plans_from, returns_counted, GivesFront}
 use Rattle.threaded_runs.specs.Jobs.{asks_counted}
 
 -- one more answer
@@ -57,6 +58,54 @@ pub plans_more : (plans : ℕ) (halts : List (Option ℕ)) (n : ℕ) (d : Option
 plans_more plans halts n d low = sym (ap (plans_given plans) (take_more halts n d low) ∙ given_more plans (take n halts) (get_or halts n d))
 
 -- where at most 16 are given, all are kept
-pub next_plan : (halts : List (Option ℕ)) (n : ℕ) (d : Option ℕ) → n < length halts → length halts ≤ 16 → take 16 (take n halts ++ get_or halts n d ∷ []) ≡ take (n + 1) halts
-next_plan halts n d low few = let all = take (n + 1) halts in let short : length all ≤ 16 = (let l = length-take (n + 1) halts in omega arith) in
-    ap (take 16) (sym (take_more halts n d low)) ∙ take_all 16 all short
+keeps_all : {X : Type 0} (xs : List X) (n : ℕ) (d : X) → n < length xs → length xs ≤ 16 → take 16 (take n xs ++ get_or xs n d ∷ []) ≡ take (n + 1) xs
+keeps_all xs n d low few = let all = take (n + 1) xs in let short : length all ≤ 16 = (let l = length-take (n + 1) xs in omega arith) in
+    ap (take 16) (sym (take_more xs n d low)) ∙ take_all 16 all short
+
+length-plans_from : (worker : ℕ) (halts : List (Option ℕ)) → length (plans_from worker halts) ≡ length halts
+length-plans_from worker [] = refl
+length-plans_from worker (halt ∷ halts) = ap suc (length-plans_from (worker + 1) halts)
+
+abbrev plan_of : ℕ → Option ℕ → GatePlan
+plan_of worker halt = record { runner = worker; halt = halt }
+
+plan_at : (worker : ℕ) (halts : List (Option ℕ)) (n : ℕ) (d : Option ℕ) → n < length halts
+    → get_or (plans_from worker halts) n (plan_of (worker + n) d) ≡ plan_of (worker + n) (get_or halts n d)
+plan_at worker [] n d low = absurd (omega (arith, low))
+plan_at worker (halt ∷ halts) zero d low = ap (λ (k : ℕ). plan_of k halt) (omega arith)
+plan_at worker (halt ∷ halts) (suc n) d low =
+    let shift : worker + suc n ≡ (worker + 1) + n = omega arith in
+    ap (λ (k : ℕ). get_or (plans_from (worker + 1) halts) n (plan_of k d)) shift
+    ∙ (plan_at (worker + 1) halts n d (omega (arith, low)) ∙ ap (λ (k : ℕ). plan_of k (get_or halts n d)) (sym shift))
+
+pub next_plan : (halts : List (Option ℕ)) (n : ℕ) (d : Option ℕ) → n < length halts → length halts ≤ 16
+    → take 16 (take n (plans_from 0 halts) ++ plan_of n (get_or halts n d) ∷ []) ≡ take (n + 1) (plans_from 0 halts)
+next_plan halts n d low few =
+    let long = length-plans_from 0 halts in
+    let here = plan_at 0 halts n d low ∙ ap (λ (k : ℕ). plan_of k (get_or halts n d)) (zero-add n) in
+    ap (λ (p : GatePlan). take 16 (take n (plans_from 0 halts) ++ p ∷ [])) (sym here)
+    ∙ keeps_all (plans_from 0 halts) n (plan_of (0 + n) d) (omega (arith, low, long)) (omega (arith, few, long))
+
+-- all of them
+pub all_plans : (halts : List (Option ℕ)) (n : ℕ) → n ≡ length halts → take n (plans_from 0 halts) ≡ plans_from 0 halts
+all_plans halts n all = take_all n (plans_from 0 halts) (omega (arith, all, length-plans_from 0 halts))
+
+-- where memory is wanting, the first ones have their gates
+pub front_none : (plans : ℕ) (halts : List (Option ℕ)) → GivesFront plans plans halts
+front_none plans halts = (0, refl)
+
+pub front_more : (plans now next : ℕ) (halts : List (Option ℕ)) (n : ℕ) (d : Option ℕ) → n < length halts
+    → now ≡ plans_given plans (take n halts) → next ≡ plans_after now (get_or halts n d) → GivesFront plans next halts
+front_more plans now next halts n d low was is = (n + 1, is ∙ (ap (λ p. plans_after p (get_or halts n d)) was ∙ plans_more plans halts n d low))
+
+pub front_all : (plans next : ℕ) (halts : List (Option ℕ)) → next ≡ plans_given plans halts → GivesFront plans next halts
+front_all plans next halts is = (length halts, is ∙ ap (plans_given plans) (sym (take_all (length halts) halts (omega arith))))
+
+-- one more gate came back
+pub one_returned : (returned n : ℕ) → returns_counted returned (n + 1) ≡ plus (returns_counted returned n) 1
+one_returned returned n = let next : n + 1 ≡ suc n = omega arith in ap (returns_counted returned) next
+
+-- what an error leaves, whatever it is
+pub on_err : {X E : Type 0} (fact : Type 0) (result : Result X E) → fact → OnErr result fact
+on_err fact (Ok x) so = tt
+on_err fact (Err error) so = so

@@ -13,6 +13,7 @@ use Rattle.machine_states.specs.World.{World, seat_of}
 use Rattle.machine_states.specs.Reached.{Reached}
 use Rattle.machine_states.specs.Sight.{sight}
 use Rattle.serving.specs.machine_invariant.specs.After.{AreAllowed}
+use Rattle.serving.specs.machine_invariant.specs.Lengths.{ListsAreShort}
 use Rattle.own_descriptors.specs.Own.{OwnStand}
 use Rattle.serving.specs.runner_facts.specs.Facts.{LimboIsDone, DescriptorsAreKept, WornAreWorn}
 use Rattle.serving.specs.spent_facts.specs.Spent.{SpentStand}
@@ -48,11 +49,12 @@ pub record IsLawful {T : Type 0} (m : Meaning) (t : TableState T) : Type 0 where
   pub histories : ReachedHaveHistories m t.layout t.requests
   pub callers : ReachedCallersStand m t.layout t.requests
   pub descriptors : (w : World) → Reached m t.layout t.requests w → DescriptorsAreKept t.layout (sight m t.layout t.requests w)
-  pub spent : (w : World) → Reached m t.layout t.requests w → SpentStand t.layout (sight m t.layout t.requests w)
+  pub spent : (w : World) → Reached m t.layout t.requests w → SpentStand m t.layout (sight m t.layout t.requests w)
   pub worn : (w : World) → Reached m t.layout t.requests w → WornAreWorn m t.layout (sight m t.layout t.requests w)
   pub worn_once : (w : World) → Reached m t.layout t.requests w → HasNoRepeats (sight m t.layout t.requests w)
   pub own : (w : World) → Reached m t.layout t.requests w → OwnStand t.layout (sight m t.layout t.requests w)
   pub limbo : (w : World) → Reached m t.layout t.requests w → LimboIsDone (sight m t.layout t.requests w)
+  pub lists : (w : World) → Reached m t.layout t.requests w → ListsAreShort m t.layout (sight m t.layout t.requests w)
   pub makes : (w : World) → Reached m t.layout t.requests w → MakesAreCounted m t.layout t.requests (sight m t.layout t.requests w)
   pub few : (w : World) → Reached m t.layout t.requests w → FewAreAdded m t.requests (sight m t.layout t.requests w)
 
@@ -97,7 +99,7 @@ module _ {T : Type 0} (m : Meaning) (planning : Planning) (retry_short : Bool) (
         (λ i k q q' e e'. own_once t.layout.runners worker t.requests order i k q q' (subst (λ (rs : List Request). slice_get rs i ≡ Some q) is_seated.requests e) (subst (λ (rs : List Request). slice_get rs k ≡ Some q') is_seated.requests e'))
         low has_run.own (lawful.descriptors closing.world closing.reached) (lawful.spent closing.world closing.reached) (lawful.worn closing.world closing.reached)
         (λ i k slot e e'. lawful.worn_once closing.world closing.reached worker i k slot e e')
-        (lawful.makes closing.world closing.reached settled.free worker low)))
+        (lawful.makes closing.world closing.reached settled.free worker low) (lawful.lists closing.world closing.reached)))
 
     worker_done : (worker : ℕ) (short : Short) → slice_get answers worker ≡ Some (stops.Short short) → short.kind ≡ slots.Descriptor
         → (d : ℕ) → w.layout.sections * worker ≤ d → d < w.layout.sections * worker + w.layout.sections → word_of m w (DoneWord d) ≡ 1
@@ -121,7 +123,7 @@ module _ {T : Type 0} (m : Meaning) (planning : Planning) (retry_short : Bool) (
         (λ i k q q' e e'. own_once t.layout.runners worker t.requests order i k q q' (subst (λ (rs : List Request). slice_get rs i ≡ Some q) is_seated.requests e) (subst (λ (rs : List Request). slice_get rs k ≡ Some q') is_seated.requests e'))
         low has_run.own (lawful.descriptors closing.world closing.reached) (lawful.spent closing.world closing.reached) (lawful.worn closing.world closing.reached)
         (λ i k slot e e'. lawful.worn_once closing.world closing.reached worker i k slot e e')
-        (lawful.makes closing.world closing.reached settled.free worker low)
+        (lawful.makes closing.world closing.reached settled.free worker low) (lawful.lists closing.world closing.reached)
         (lawful.own closing.world closing.reached) (lawful.limbo closing.world closing.reached) short (sym same) kind
 
     pub all_served : AreServed m w retry_short answers

@@ -2,6 +2,7 @@
 use Rattle.std.specs.Prelude.{◌⊎◌, true, slice_get}
 use Rattle.std.proofs.Common.{◌≡◌, ℕ, ap, ◌∙◌, inl, inr, Some}
 use Rattle.map_history.specs.declared.op.Request.{Request}
+use Rattle.section_body.specs.Word.{is_free}
 use Rattle.section_body.specs.declared.outcome.Outcome.TheVariants as outcomes
 use Rattle.structure_laws.specs.Meaning.{Meaning}
 use Rattle.runner_parts.specs.State.{FinishedState}
@@ -15,9 +16,9 @@ use Rattle.serving.specs.spent_facts.specs.Spent.{IsLate}
 use Rattle.serving.proofs.Spent.{spent_is_kept}
 
 module _ {T : Type 0} where
-  -- the runner has read the word since it entered, and fewer than two versions are left behind it; or a section that it has run to its end left by it
+  -- the runner has read the word since it entered, it is free, and fewer than two versions are left behind it; or a section that it has run to its end left by it
   abbrev pub IsKeptSpent : RunnerState T → ℕ → ℕ → Type 0
-  IsKeptSpent r place word = (IsLate r.layout word × (has_pair r.part.reads.cells place word ≡ true))
+  IsKeptSpent r place word = ((is_free word ≡ true) × IsLate r.layout word × (has_pair r.part.reads.cells place word ≡ true))
       ⊎ ((i : ℕ) × (f : FinishedState) × (slice_get r.part.records.finished i ≡ Some f) × (f.outcome ≡ outcomes.Spent place word))
 
   module _ (m : Meaning) (planning : Planning) (request : Request) (place word : ℕ) (old new : RunnerState T)

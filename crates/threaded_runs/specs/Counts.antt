@@ -1,6 +1,7 @@
 -- What gates count while a run gives them out and takes them back.
-use Rattle.std.specs.Prelude.{ℕ, List, [], ◌∷◌, Option}
-use Rattle.runner_gate.specs.Counts.{halts_after, plans_after}
+use Rattle.std.specs.Prelude.{◌≡◌, ℕ, zero, suc, ◌+◌, List, [], ◌∷◌, Option, take}
+use Rattle.runner_gate.specs.Counts.{halts_after, plans_after, plus}
+use Rattle.runner_gate.specs.declared.counts.GatePlan.{GatePlan}
 use Rattle.serving.specs.declared.answers.Served.{Served}
 use Rattle.serving.specs.declared.answers.Served.TheVariants as answers
 
@@ -14,7 +15,21 @@ abbrev pub halts_counted : ℕ → List Served → ℕ
 halts_counted halts [] = halts
 halts_counted halts (answer ∷ answers) = halts_counted (halts_after halts (halted answer)) answers
 
+-- the count of the gates that came back, once so many more did, one after the other
+abbrev pub returns_counted : ℕ → ℕ → ℕ
+returns_counted returned zero = returned
+returns_counted returned (suc workers) = plus (returns_counted returned workers) 1
+
+-- the gates of the workers from this number on, in order of number, each with its entry of these plans
+abbrev pub plans_from : ℕ → List (Option ℕ) → List GatePlan
+plans_from worker [] = []
+plans_from worker (halt ∷ halts) = record { runner = worker; halt = halt } ∷ plans_from (worker + 1) halts
+
 -- the count of plans once gates with these plans were given, one after the other
 abbrev pub plans_given : ℕ → List (Option ℕ) → ℕ
 plans_given plans [] = plans
 plans_given plans (halt ∷ halts) = plans_given (plans_after plans halt) halts
+
+-- gates were given with the first of these plans, so many of them, one after the other, and with no others
+abbrev pub GivesFront : (plans plans' : ℕ) → List (Option ℕ) → Type 0
+GivesFront plans plans' halts = (count : ℕ) × (plans' ≡ plans_given plans (take count halts))

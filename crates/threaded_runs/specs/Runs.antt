@@ -3,11 +3,12 @@ use Rattle.std.specs.Prelude.{◌≡◌, ◌≢◌, ℕ, ◌+◌, ◌*◌, ◌<�
 use Rattle.map_history.specs.declared.op.Request.{Request}
 use Rattle.table_words.specs.declared.layout.Layout.{Layout}
 use Rattle.table_words.specs.declared.spot.Spot.TheVariants.{Stamp, Reply, DoneWord}
+use Rattle.structure_laws.specs.Cells as cells
 use Rattle.structure_laws.specs.Meaning.{Meaning}
 use Rattle.serving.specs.version_words.specs.TableState.{WordsState, word_of}
 use Rattle.closed_words.specs.Histories.{HoldsNoLock}
 use Rattle.serving.specs.runner_facts.specs.Facts.{HasWornCell}
-use Rattle.serving.specs.spent_facts.specs.Spent.{IsLate, IsPast}
+use Rattle.serving.specs.spent_facts.specs.Spent.{IsPast, IsSpentAt}
 use Rattle.serving.specs.epoch_slots.specs.declared.reserves.Kind.TheVariants as kinds
 use Rattle.serving.specs.epoch_slots.specs.declared.reserves.Short.{Short}
 use Rattle.serving.specs.declared.answers.Served.{Served}
@@ -48,12 +49,14 @@ module _ {T : Type 0} (m : Meaning) (w : WordsState T) where
 
   -- at the last attempt too few slots of the kind were free, and this isn't waited out, or no slot of
   -- the kind was in limbo; where descriptors lacked, all of the worker's were in limbo. Its node
-  -- slots, with two for each request that added a pair, are as many as the layout gives it
+  -- slots, with two for each request that added a pair, are as many as the layout gives it, and no
+  -- more than the table has, since those that other workers made may come to it
   pub record IsShortOf (retry_short : Bool) (short : Short) : Type 0 where
     pub over : (retry_short ≡ false) ⊎ (short.limbo ≡ 0)
     pub nodes : short.kind ≡ kinds.Node → short.free < 2
     pub counted : short.kind ≡ kinds.Node
         → w.layout.nodes ≤ short.free + (short.limbo + short.worn) + 2 * added (word_of m w) (length w.requests)
+    pub most : short.kind ≡ kinds.Node → short.free + (short.limbo + short.worn) ≤ cells.slots m w.layout
     pub descriptors : short.kind ≡ kinds.Descriptor
         → (short.free ≡ 0) × (short.worn ≡ 0) × (short.limbo ≡ w.layout.sections)
 
@@ -65,11 +68,11 @@ module _ {T : Type 0} (m : Meaning) (w : WordsState T) where
   IsCause retry_short requests answers.Halted count = Unit {0}
 
   -- what the closed words show of the answer: the slots that are told worn are worn; behind the word
-  -- that is told spent fewer than two versions are left, and it stands at its place, or a word of a
-  -- later version does
+  -- that is told spent too few versions are left: it is free, and fewer than two are, or it is a cell's
+  -- and has the greatest one. It stands at its place, or a word of a later version does
   abbrev pub IsShown : Served → Type 0
   IsShown (answers.Short short) = AreWornOut short.worn
-  IsShown (answers.Spent place word) = IsLate w.layout word × IsPast (word_of m w) place word
+  IsShown (answers.Spent place word) = IsSpentAt m w.layout place word × IsPast (word_of m w) place word
   IsShown _ = Unit {0}
 
   -- what is left of the run of a worker with these requests and this answer

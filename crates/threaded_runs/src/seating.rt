@@ -1,9 +1,9 @@
 //! The workers and their gates, given out before the run and taken back behind it.
-ghost use Rattle.std.specs.Prelude.{◌≡◌, ◌+◌, ◌<◌, ◌≤◌, IfOk, All, List, [], true, length, vec_len};
+ghost use Rattle.std.specs.Prelude.{◌≡◌, ◌+◌, ◌<◌, ◌≤◌, IfOk, OnErr, All, List, [], true, length, vec_len};
 ghost use Rattle.map_history.specs.Requests.{AreInOrder};
 ghost use Rattle.serving.specs.version_words.specs.TableState.{IsOf};
 ghost use Rattle.threaded_runs.specs.Keeper.{IsIdleKeeper};
-ghost use Rattle.threaded_runs.specs.Counts.{halts_counted, plans_given};
+ghost use Rattle.threaded_runs.specs.Counts.{halts_counted, plans_given, plans_from, returns_counted, GivesFront};
 ghost use Rattle.threaded_runs.specs.Jobs.{IsSeated, AllSeated, AllUnasked, AreBack, AllKept, asks_counted};
 
 use crate::job::{Finished, Job};
@@ -54,7 +54,8 @@ fn seat_worker<S: Planner, G: Gate + Drop>(
 
 /// The keeper, and each worker with its gate and its requests, in order of number.
 ///
-/// One gate is given for each worker, with its entry of `halts`. The Err is want of memory.
+/// One gate is given for each worker, with its entry of `halts`. The Err is want of memory, for which the last ones
+/// may have no gate.
 pub fn make_jobs<S: Planner, G: Gates>(
     table: &FlockTable<S>,
     alloc: Global,
@@ -78,7 +79,9 @@ pub fn make_jobs<S: Planner, G: Gates>(
     ensures halts { IfOk result (λ _. G.halts gates.new ≡ G.halts gates.old) }
     ensures asks { IfOk result (λ _. G.asks gates.new ≡ G.asks gates.old) }
     ensures plans { IfOk result (λ _. G.plans gates.new ≡ plans_given (G.plans gates.old) halts.now) }
-    ensures planned { IfOk result (λ _. G.planned gates.old ≡ [] → G.planned gates.new ≡ halts.now) }
+    ensures planned { IfOk result (λ _. G.planned gates.old ≡ [] → G.planned gates.new ≡ plans_from 0 halts.now) }
+    ensures returned { IfOk result (λ _. G.returned gates.new ≡ G.returned gates.old) }
+    ensures front { OnErr result (GivesFront (G.plans gates.old) (G.plans gates.new) halts.now) }
 {
     let mut jobs = Vec::with_capacity(alloc, halts.len())?;
     for worker in 0..halts.len() {
@@ -111,8 +114,10 @@ pub fn gather<S: Planner, G: Gates>(
     ensures kept { IfOk result (λ x. AllKept x.0 x.1.items finished.items) }
     ensures halts { IfOk result (λ x. G.halts gates.new ≡ halts_counted (G.halts gates.old) x.1.items) }
     ensures asks { IfOk result (λ _. G.asks gates.new ≡ asks_counted G.Gate.asks (G.asks gates.old) finished.items) }
-    ensures plans { IfOk result (λ _. G.plans gates.new ≡ G.plans gates.old) }
+    ensures plans { G.plans gates.new ≡ G.plans gates.old }
     ensures planned { IfOk result (λ _. G.planned gates.new ≡ G.planned gates.old) }
+    ensures returned { IfOk result (λ _.
+        G.returned gates.new ≡ returns_counted (G.returned gates.old) (vec_len finished)) }
 {
     let mut answers = Vec::with_capacity(alloc, finished.len())?;
     for one in finished {

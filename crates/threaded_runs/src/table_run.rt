@@ -1,8 +1,8 @@
 //! The whole run of a table.
-ghost use Rattle.std.specs.Prelude.{◌≡◌, IfOk, All, [], true, length};
+ghost use Rattle.std.specs.Prelude.{◌≡◌, IfOk, OnErr, All, [], true, length};
 ghost use Rattle.map_history.specs.Requests.{AreInOrder};
 ghost use Rattle.table_words.specs.Limits.{IsWithinLimits};
-ghost use Rattle.threaded_runs.specs.Counts.{halts_counted, plans_given};
+ghost use Rattle.threaded_runs.specs.Counts.{halts_counted, plans_given, plans_from, returns_counted, GivesFront};
 ghost use Rattle.threaded_runs.specs.Lone.{ServesAlone, AsksAlone};
 ghost use Rattle.threaded_runs.specs.Runs.{IsMadeWith, AreServed};
 
@@ -12,6 +12,7 @@ use closed_words::closed_words_have_a_history;
 use keeper_facts::what_the_keeper_saw_tells;
 use lone_attempts::lone_attempts_are_served;
 use lone_epochs::one_worker_is_uncrossed;
+use machine_invariant::lists_are_short;
 use make_counts::{few_pairs_are_added, makes_are_counted};
 use map_history::Request;
 use own_descriptors::own_descriptors_stand;
@@ -67,7 +68,11 @@ where
         × AsksAlone (S.meaning structure) x.0 (G.asks gates.old) (G.asks gates.new)) }
     ensures halts { IfOk result (λ x. G.halts gates.new ≡ halts_counted (G.halts gates.old) x.1.items) }
     ensures plans { IfOk result (λ _. G.plans gates.new ≡ plans_given (G.plans gates.old) halts.now) }
-    ensures planned { IfOk result (λ _. G.planned gates.old ≡ [] → G.planned gates.new ≡ halts.now) }
+    // For each worker a gate was given with its entry of the halts, in order of number, and each came back.
+    ensures planned { IfOk result (λ _. G.planned gates.old ≡ [] → G.planned gates.new ≡ plans_from 0 halts.now) }
+    ensures returned { IfOk result (λ _. G.returned gates.new ≡ returns_counted (G.returned gates.old) layout.runners) }
+    // At an Err gates were given with the first entries alone.
+    ensures front { OnErr result (GivesFront (G.plans gates.old) (G.plans gates.new) halts.now) }
 {
     let (table, keeper) = FlockTable::new(alloc, structure, layout, requests)?;
     table_is_allowed(&table);
@@ -87,6 +92,7 @@ where
     lone_attempts_are_served(table.structure());
     one_worker_is_uncrossed(table.structure());
     attempts_spare_slots(table.structure());
+    lists_are_short(table.structure());
     let (keeper, jobs) = make_jobs(&table, alloc, keeper, requests, halts, gates)?;
     let finished = run_jobs(rt, &table, retry_short, jobs)?;
     let (keeper, answers) = gather(&table, alloc, keeper, finished, gates)?;

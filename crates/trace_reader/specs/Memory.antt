@@ -15,8 +15,8 @@ pub record Memory : Type 0 where
   pub calls : ℕ
   pub faults : ℕ
 
--- how many bytes come next into a buffer of so many: as many as the next piece has, of which each has one at least, as are
--- left, and as the buffer takes
+-- how many bytes come next into a buffer of so many: as many as the next piece has, of which each has one at least, as
+-- are left, and as the buffer takes
 abbrev pub next_count : (left sizes : List ℕ) → ℕ → ℕ
 next_count left sizes room = min (min (max (slice_index_or sizes 0 (length left)) 1) (length left)) room
 

@@ -41,7 +41,10 @@ impl Model for Pieces {
 
     ghost Value = { Supply };
 
-    ghost view = { λ pieces. record { left = drop pieces.at pieces.bytes.items; sizes = drop pieces.reads pieces.sizes.items } };
+    ghost view = { λ pieces. record {
+      left = drop pieces.at pieces.bytes.items;
+      sizes = drop pieces.reads pieces.sizes.items;
+    } };
 
     ghost invariant = { λ pieces. pieces.at ≤ vec_len pieces.bytes };
 }
@@ -103,7 +106,8 @@ impl MemorySource {
     /// A source of these bytes. It hands them out in pieces of these sizes, where a 0 counts as 1, and the rest as
     /// the buffer allows. The calls whose numbers, from 1, stand in `fails` fail.
     pub fn new(bytes: Vec<u8>, pieces: Vec<usize>, fails: Vec<u64>) -> Self
-        ensures { result ≡ record { left = bytes.items; sizes = pieces.items; fails = fails.items; calls = 0; faults = 0 } }
+        ensures { result
+            ≡ record { left = bytes.items; sizes = pieces.items; fails = fails.items; calls = 0; faults = 0 } }
     {
         Self {
             pieces: Pieces::new(bytes, pieces),

@@ -1,21 +1,24 @@
-use Rattle.std.proofs.Common.{refl, arith}
+use Rattle.std.proofs.Common.{refl, ap, ◌∙◌, arith}
+use Rattle.flock_words.specs.declared.options.RunOptions.{RunOptions}
 use Rattle.flock_tool.specs.declared.status.Stop.TheVariants.{Text}
 use Rattle.trace_reader.specs.declared.traces.TraceError.TheVariants.{Memory}
 use Rattle.flock_tool.proofs.Ends.{not_both}
+use Rattle.flock_tool.proofs.Giving.{not_ok}
 use Rattle.flock_tool.proofs.Loading.{load_loaded, load_refused}
 use Rattle.flock_tool.proofs.load.load_command.Goals as goal
 
 pub returns-in-Err : goal.returns-in-Err
 returns-in-Err g c =
     load_refused c.args.load _ _ _ _ c.in-Err.stop c.in-Err.ensures.refused c.refuse.ensures.status c.refuse.ensures.none c.refuse.ensures.told
-    (record { same = refl; steady = refl }) (λ _. record { halts = refl; asks = refl; plans = refl; planned = refl })
+    (record { same = refl; steady = refl }) (λ _. record { returned = refl; halts = refl; asks = refl; plans = refl; planned = refl }) (λ _. refl)
 
 pub returns-in_default : goal.returns-in_default
 returns-in_default g c =
     load_refused c.args.load _ _ _ _ (Text Memory) tt c.refuse-in_default.ensures.status c.refuse-in_default.ensures.none c.refuse-in_default.ensures.told
     (record { same = refl; steady = refl }) (λ four. absurd (omega (arith, four, c.refuse-in_default.ensures.status)))
+    (λ none. not_ok _ c.run_plan.result c.in_default.not-Ok c.run_plan.ensures.unplanned (ap (λ (o : RunOptions). o.halts) c.in-Ok.ensures.planned.given ∙ none))
 
 pub returns : goal.returns
 returns g c =
-    load_loaded c.args.load _ _ _ _ c.in-Ok.plan c.in-Ok-run_plan.ran c.in-Ok.ensures.planned c.requires.apart c.in-Ok-run_plan.ensures
+    load_loaded c.args.load _ _ _ _ c.in-Ok.plan c.in-Ok-run_plan.ran c.in-Ok.ensures.planned c.requires.apart c.in-Ok-run_plan.ensures.ran
     (λ much. not_both _ _ (c.in-Ok.ensures.must much)) c.report_load.ensures

@@ -10,7 +10,7 @@ use Rattle.flock_tool.proofs.tool.flock.Goals as goal
 pub returns-in-Err-clause-commands : goal.returns-in-Err-clause-commands
 returns-in-Err-clause-commands g c =
     of_none c.refuse.result _ _ _ _ (texts c.args.words.now) c.in-Err.stop c.in-Err.ensures.refused c.refuse.ensures.status c.refuse.ensures.none c.refuse.ensures.told
-    (record { same = refl; steady = refl }) (record { same = refl; steady = refl }) (record { halts = refl; asks = refl; plans = refl; planned = refl })
+    (record { same = refl; steady = refl }) (record { same = refl; steady = refl }) (record { returned = refl; halts = refl; asks = refl; plans = refl; planned = refl })
 
 pub returns-in-Err-clause-complete : goal.returns-in-Err-clause-complete
 returns-in-Err-clause-complete g c = λ command is. whole c.refuse.result _ _ _ _ command (returns-in-Err-clause-commands g c command is)
@@ -30,7 +30,7 @@ returns-in-Err-clause-accepted g c = λ accepted two. none_accepted (texts c.arg
 pub returns-in-Err-clause-words : goal.returns-in-Err-clause-words
 returns-in-Err-clause-words g c = λ _.
     refused_ends c.refuse.result _ _ _ _ (texts c.args.words.now) c.in-Err.stop c.in-Err.ensures.refused c.refuse.ensures.status c.refuse.ensures.none c.refuse.ensures.told
-    (record { same = refl; steady = refl }) (record { same = refl; steady = refl }) (record { halts = refl; asks = refl; plans = refl; planned = refl })
+    (record { same = refl; steady = refl }) (record { same = refl; steady = refl }) (record { returned = refl; halts = refl; asks = refl; plans = refl; planned = refl })
 
 pub returns-in-Err-clause-none : goal.returns-in-Err-clause-none
 returns-in-Err-clause-none g c = λ _. c.refuse.ensures.none
@@ -67,7 +67,7 @@ pub returns-in-Gen-clause-commands : goal.returns-in-Gen-clause-commands
 returns-in-Gen-clause-commands g c =
     of_one _ _ _ _ _ (texts c.args.words.now) (commands.Gen c.in-Gen.plan) (c.words_mean_one_command.ensures (texts c.args.words.now))
     (subst (IsCommand (texts c.args.words.now)) c.in-Gen.is c.in-Ok.ensures.read)
-    (record { none = refl; unread = record { same = refl; steady = refl }; idle = record { halts = refl; asks = refl; plans = refl; planned = refl }; prints = c.gen_command.ensures })
+    (record { none = refl; unread = record { same = refl; steady = refl }; idle = record { returned = refl; halts = refl; asks = refl; plans = refl; planned = refl }; prints = c.gen_command.ensures })
 
 pub returns-in-Gen-clause-complete : goal.returns-in-Gen-clause-complete
 returns-in-Gen-clause-complete g c = λ command is. whole _ _ _ _ _ command (returns-in-Gen-clause-commands g c command is)

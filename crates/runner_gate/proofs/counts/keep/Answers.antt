@@ -8,4 +8,4 @@ returns-else-not-is_full c =
     let plans = c.args.planned.now.items in
     let full : length plans ≡ 16 = search rules in
     let all : take 16 plans ≡ plans = ap (λ (n : ℕ). take n plans) (sym full) ∙ take-length plans in
-    sym (take-append-le 16 plans (c.args.halt ∷ []) (omega arith) ∙ all)
+    sym (take-append-le 16 plans (c.args.plan ∷ []) (omega arith) ∙ all)

@@ -5,11 +5,11 @@ use Rattle.serving.specs.version_words.proofs.Stages.{may_join}
 use Rattle.runner_gate.specs.Counts.{plus, halts_after}
 use Rattle.threaded_runs.specs.declared.job.Finished.{Finished}
 use Rattle.threaded_runs.specs.Keeper.{IsIdleKeeper}
-use Rattle.threaded_runs.specs.Counts.{halts_counted}
+use Rattle.threaded_runs.specs.Counts.{halts_counted, returns_counted}
 use Rattle.threaded_runs.specs.Jobs.{IsBack, asks_counted}
 use Rattle.threaded_runs.proofs.Keeping.{then_gathered}
 use Rattle.threaded_runs.proofs.Seats.{kept_more, rest_behind}
-use Rattle.threaded_runs.proofs.Counting.{halts_more, counted_so, asks_next}
+use Rattle.threaded_runs.proofs.Counting.{halts_more, counted_so, asks_next, one_returned}
 use Rattle.threaded_runs.proofs.seating.gather.Goals as goal
 
 pub join_runner-keeper-requires-clause-next : goal.join_runner-keeper-requires-clause-next
@@ -52,4 +52,6 @@ loop-one-preserved g c =
       c.back.ensures.planned ∙ was.7,
       c.back.ensures.asks ∙ (ap (λ (n : ℕ). plus n (asks f.gate)) was.8 ∙ (sym (asks_next asks asked (vec_items c.args.finished) past f low here)
           ∙ ap (λ (n : ℕ). asks_counted asks asked (take n (vec_items c.args.finished))) longer)),
+      c.back.ensures.returned ∙ (ap (λ (n : ℕ). plus n 1) was.9 ∙ (sym (one_returned (g.G.Gates.returned c.args.gates.now) past)
+          ∙ ap (returns_counted (g.G.Gates.returned c.args.gates.now)) longer)),
     )

@@ -2,7 +2,7 @@ use Rattle.std.proofs.Common.{◌≡◌, ℕ, ◌+◌, ◌<◌, vec_len, vec_ite
 use Rattle.std.specs.Vec.Iter.{into_iter_items, into_iter_len}
 use Rattle.serving.specs.version_words.specs.TableState.{IsOf}
 use Rattle.threaded_runs.specs.Keeper.{IsIdleKeeper}
-use Rattle.threaded_runs.specs.Counts.{halts_counted}
+use Rattle.threaded_runs.specs.Counts.{halts_counted, returns_counted}
 use Rattle.threaded_runs.specs.Jobs.{AllKept, asks_counted}
 use Rattle.threaded_runs.proofs.seating.gather.Given as goal
 
@@ -18,3 +18,4 @@ invariant-loop-one g l =
     × (g.G.Gates.plans l.gates ≡ g.G.Gates.plans l.initial.gates)
     × (g.G.Gates.planned l.gates ≡ g.G.Gates.planned l.initial.gates)
     × (g.G.Gates.asks l.gates ≡ asks_counted g.G.Gate.Gate.asks (g.G.Gates.asks l.initial.gates) (take past (vec_items l.fn.finished)))
+    × (g.G.Gates.returned l.gates ≡ returns_counted (g.G.Gates.returned l.initial.gates) past)

@@ -5,6 +5,7 @@ use Rattle.machine_states.specs.Reached.{Reached}
 use Rattle.machine_states.specs.Sight.{sight}
 use Rattle.serving.specs.runner_facts.specs.Facts.{LimboIsDone, DescriptorsAreKept, WornAreWorn}
 use Rattle.own_descriptors.specs.Own.{OwnStand}
+use Rattle.serving.specs.machine_invariant.specs.Lengths.{ListsAreShort}
 use Rattle.serving.specs.spent_facts.specs.Spent.{SpentStand}
 use Rattle.worn_lists.specs.Worn.{HasNoRepeats}
 use Rattle.make_counts.specs.Makes.{MakesAreCounted, FewAreAdded}
@@ -16,9 +17,11 @@ use Rattle.version_counts.specs.Versions.{VersionsAreCounted}
 use Rattle.slots_in_use.specs.InUse.{FewAreInUse}
 use Rattle.keeper_facts.specs.Freed.{LocksTell}
 use Rattle.lone_attempts.specs.Lone.{LoneAttemptsAreServed}
+use Rattle.threaded_runs.specs.Counts.{returns_counted}
 use Rattle.threaded_runs.specs.Jobs.{asks_counted}
 use Rattle.threaded_runs.specs.Lone.{AsksAlone, ServesAlone}
 use Rattle.threaded_runs.specs.Runs.{AreServed}
+use Rattle.threaded_runs.proofs.Counting.{front_all, front_none, on_err}
 use Rattle.threaded_runs.proofs.Keeping.{has_all, may_settle, settled_all}
 use Rattle.threaded_runs.proofs.Seats.{are_back}
 use Rattle.threaded_runs.proofs.Ending.{IsLawful, all_served}
@@ -60,12 +63,14 @@ returns-clause-served g c =
       callers = subst (λ s. ReachedCallersStand (g.S.Structure.meaning s) t.layout t.requests) c.structure-2.ensures (c.reached_callers_stand.ensures t.layout t.requests);
       descriptors = subst (λ s. (w : World) → Reached (g.S.Structure.meaning s) t.layout t.requests w → DescriptorsAreKept t.layout (sight (g.S.Structure.meaning s) t.layout t.requests w)) c.structure-3.ensures
           (λ w reached. c.descriptors_are_kept.ensures t.layout t.requests w limits allowed reached);
-      spent = subst (λ s. (w : World) → Reached (g.S.Structure.meaning s) t.layout t.requests w → SpentStand t.layout (sight (g.S.Structure.meaning s) t.layout t.requests w)) c.structure-4.ensures
+      spent = subst (λ s. (w : World) → Reached (g.S.Structure.meaning s) t.layout t.requests w → SpentStand (g.S.Structure.meaning s) t.layout (sight (g.S.Structure.meaning s) t.layout t.requests w)) c.structure-4.ensures
           (λ w reached. c.spent_words_stand.ensures t.layout t.requests w limits allowed reached);
       worn = subst (λ s. (w : World) → Reached (g.S.Structure.meaning s) t.layout t.requests w → WornAreWorn (g.S.Structure.meaning s) t.layout (sight (g.S.Structure.meaning s) t.layout t.requests w)) c.structure-5.ensures
           (λ w reached. c.worn_slots_are_worn.ensures t.layout t.requests w limits allowed reached);
       worn_once = subst (λ s. (w : World) → Reached (g.S.Structure.meaning s) t.layout t.requests w → HasNoRepeats (sight (g.S.Structure.meaning s) t.layout t.requests w)) c.structure-6.ensures
           (λ w reached. c.worn_lists_have_no_repeats.ensures t.layout t.requests w limits allowed reached);
+      lists = subst (λ s. (w : World) → Reached (g.S.Structure.meaning s) t.layout t.requests w → ListsAreShort (g.S.Structure.meaning s) t.layout (sight (g.S.Structure.meaning s) t.layout t.requests w)) c.structure-17.ensures
+          (λ w reached. c.lists_are_short.ensures.reached t.layout t.requests reached.events w limits allowed reached.after);
       makes = subst (λ s. (n : ℕ) → PlannerLaws (g.S.Structure.meaning s) n → (w : World) → Reached (g.S.Structure.meaning s) t.layout t.requests w
           → MakesAreCounted (g.S.Structure.meaning s) t.layout t.requests (sight (g.S.Structure.meaning s) t.layout t.requests w)) c.structure-7.ensures
           (λ n planner w reached. c.makes_are_counted.ensures n t.layout t.requests w planner limits allowed reached) _ (plans.plans_lawfully t.structure);
@@ -117,3 +122,24 @@ returns-clause-served g c =
           planning.per_pair alone fresh (ap (λ l. l.runners) (sym c.close-words.ensures.layout) ∙ one) attempts_go spare _ _ c.in_ok-keeper.ensures.no_asks
           (c.in_ok-keeper-2.ensures.asks ∙ ap (λ (n : ℕ). asks_counted g.G.Gate.Gate.asks n c.in_ok-finished.finished.items) c.in_ok-keeper.ensures.asks) one,
     )
+
+pub returns-clause-returned : goal.returns-clause-returned
+returns-clause-returned g c =
+    let as_many : vec_len c.in_ok-finished.finished ≡ c.args.layout.runners = search rules in
+    c.in_ok-keeper-2.ensures.returned
+    ∙ (ap (λ (n : ℕ). returns_counted n (vec_len c.in_ok-finished.finished)) c.in_ok-keeper.ensures.returned ∙ ap (returns_counted (g.G.Gates.returned c.args.gates.now)) as_many)
+
+pub returns-in_err-table-clause-front : goal.returns-in_err-table-clause-front
+returns-in_err-table-clause-front g c = on_err _ c.from_residual.result (front_none (g.G.Gates.plans c.args.gates.now) c.args.halts.now)
+
+pub returns-in_err-keeper-clause-front : goal.returns-in_err-keeper-clause-front
+returns-in_err-keeper-clause-front g c = on_err _ c.from_residual-in_err-keeper.result c.in_err-keeper.ensures.front
+
+pub returns-in_err-finished-clause-front : goal.returns-in_err-finished-clause-front
+returns-in_err-finished-clause-front g c =
+    on_err _ c.from_residual-in_err-finished.result (front_all (g.G.Gates.plans c.args.gates.now) (g.G.Gates.plans c.make_jobs.new.gates) c.args.halts.now c.in_ok-keeper.ensures.plans)
+
+pub returns-in_err-keeper-2-clause-front : goal.returns-in_err-keeper-2-clause-front
+returns-in_err-keeper-2-clause-front g c =
+    on_err _ c.from_residual-in_err-keeper-2.result
+    (front_all (g.G.Gates.plans c.args.gates.now) (g.G.Gates.plans c.gather.new.gates) c.args.halts.now (c.in_err-keeper-2.ensures.plans ∙ c.in_ok-keeper.ensures.plans))
