@@ -1,8 +1,12 @@
 // The start of the program: the words of the command line, and the status of `flock`.
-ghost use Rattle.std.specs.Prelude.{◌≡◌, ◌≢◌, ◌⊎◌, ◌≤◌};
+ghost use Rattle.std.specs.Prelude.{◌≡◌, ◌≢◌, ◌⊎◌, ◌≤◌, None};
 ghost use Rattle.std.specs.Process.{exit_status};
-ghost use Rattle.flock_words.specs.Commands.{AreAccepted, texts};
+ghost use Rattle.flock_words.specs.Commands.{AreAccepted, IsCommand, texts};
+ghost use Rattle.flock_words.specs.declared.command.Command.{Command};
+ghost use Rattle.flock_tool.specs.Alone.{IsValidAlone, NothingStops};
+ghost use Rattle.flock_tool.specs.Commands.{Exits, RefusedEnds};
 ghost use Rattle.flock_tool.specs.Runs.{IsRunStatus};
+ghost use Rattle.flock_tool.specs.Streams.{gating, stream};
 
 use flock_tool::flock;
 use report_text::Sink;
@@ -28,8 +32,30 @@ pub fn run<'a, T: Threads + Wait + Sync, R: Source, K: Sink, F: Sink, G: Gates>(
     faults: &mut F,
     gates: &mut G,
 ) -> ExitCode
+    // The command ends with this status, as it says of it: what a run left stood behind it, or nothing did.
+    ensures commands { (command : Command) → IsCommand (texts words.now) command → Exits command (exit_status result)
+        (stream (R.left source.old) (R.left source.new) (R.faults source.old) (R.faults source.new))
+        (stream (K.held sink.old) (K.held sink.new) (K.faults sink.old) (K.faults sink.new))
+        (stream (F.held faults.old) (F.held faults.new) (F.faults faults.old) (F.faults faults.new))
+        (gating (G.halts gates.old) (G.halts gates.new) (G.asks gates.old) (G.asks gates.new)
+        (G.plans gates.old) (G.plans gates.new) (G.planned gates.old) (G.planned gates.new)
+        (G.returned gates.old) (G.returned gates.new)) }
+    // With one runner, so many slots and versions are enough.
+    ensures alone { (command : Command) → IsCommand (texts words.now) command → IsValidAlone command (R.left source.old)
+        → NothingStops (stream (R.left source.old) (R.left source.new) (R.faults source.old) (R.faults source.new))
+        (stream (K.held sink.old) (K.held sink.new) (K.faults sink.old) (K.faults sink.new))
+        (gating (G.halts gates.old) (G.halts gates.new) (G.asks gates.old) (G.asks gates.new)
+        (G.plans gates.old) (G.plans gates.new) (G.planned gates.old) (G.planned gates.new)
+        (G.returned gates.old) (G.returned gates.new))
+        → (exit_status result ≡ 0) ⊎ (exit_status result ≡ 7) }
     ensures accepted { AreAccepted (texts words.now) → exit_status result ≢ 2 }
-    ensures words { (AreAccepted (texts words.now) → ⊥) → (exit_status result ≡ 2) ⊎ (exit_status result ≡ 7) }
+    ensures words { (AreAccepted (texts words.now) → ⊥) → RefusedEnds (exit_status result, None)
+        (stream (R.left source.old) (R.left source.new) (R.faults source.old) (R.faults source.new))
+        (stream (K.held sink.old) (K.held sink.new) (K.faults sink.old) (K.faults sink.new))
+        (stream (F.held faults.old) (F.held faults.new) (F.faults faults.old) (F.faults faults.new))
+        (gating (G.halts gates.old) (G.halts gates.new) (G.asks gates.old) (G.asks gates.new)
+        (G.plans gates.old) (G.plans gates.new) (G.planned gates.old) (G.planned gates.new)
+        (G.returned gates.old) (G.returned gates.new)) }
     ensures reads { exit_status result ≢ 8 → R.faults source.new ≡ R.faults source.old }
     ensures writes { exit_status result ≢ 9 → K.faults sink.new ≡ K.faults sink.old }
     ensures silent { (IsRunStatus (exit_status result) → ⊥) → K.held sink.new ≡ K.held sink.old }

@@ -1,0 +1,29 @@
+use Rattle.std.proofs.Common.{◌≡◌, ℕ, Option, sym, ◌∙◌, ⊎_elim, inl, inr, subst, refl}
+use Rattle.flock_words.specs.declared.command.Command.{Command}
+use Rattle.flock_tool.specs.Commands.{Ends, Exits}
+use Rattle.flock_tool.specs.Streams.{Gating, Stream}
+use Rattle.flock_tool.specs.declared.ran.Ran.{Ran}
+use Rattle.flock.proofs.start.run.Goals as goal
+
+-- the call's status is that of the program
+exits : (command : Command) (number : ℕ) (result : ℕ × Option Ran) (source sink faults : Stream) (gates : Gating) → number ≡ result.0
+    → Ends command result source sink faults gates → Exits command number source sink faults gates
+exits command number result source sink faults gates same ends = (result.1, subst (λ (n : ℕ). Ends command (n, result.1) source sink faults gates) (sym same) ends)
+
+pub returns-clause-commands : goal.returns-clause-commands
+returns-clause-commands g c = λ command is. exits command _ c.flock-status.result _ _ _ _ c.from.ensures (c.flock-status.ensures.commands command is)
+
+pub returns-clause-alone : goal.returns-clause-alone
+returns-clause-alone g c = λ command is valid stops.
+    ⊎_elim (λ whole. inl (c.from.ensures ∙ whole.status)) (λ seven. inr (c.from.ensures ∙ seven)) (c.flock-status.ensures.alone command is valid stops)
+
+pub returns-clause-words : goal.returns-clause-words
+returns-clause-words g c = λ not. let ends = c.flock-status.ensures.words not in record {
+  status = ⊎_elim (λ two. inl (c.from.ensures ∙ two)) (λ seven. inr (c.from.ensures ∙ seven)) ends.status;
+  none = refl;
+  unread = ends.unread;
+  silent = ends.silent;
+  idle = ends.idle;
+  words = λ two. ends.words (sym c.from.ensures ∙ two);
+  memory = λ seven. ends.memory (sym c.from.ensures ∙ seven);
+}
