@@ -6,9 +6,9 @@ use Rattle.map_history.specs.declared.op.Op.{Op}
 use Rattle.map_history.specs.declared.op.Request.{Request}
 use Rattle.table_words.specs.declared.layout.Layout.{Layout}
 use Rattle.runner_parts.specs.Tests.{is_answered}
-use Rattle.serving.specs.version_words.specs.RunnerState.{RunnerState}
-use Rattle.serving.specs.version_words.specs.TableState.{TableState, IsOf}
-use Rattle.serving.specs.try_lock.specs.Planning.{Planning}
+use Rattle.hash_table.specs.version_words.specs.RunnerState.{RunnerState}
+use Rattle.hash_table.specs.version_words.specs.TableState.{TableState, IsOf}
+use Rattle.hash_table.specs.try_lock.specs.Planning.{Planning}
 use Rattle.serving.specs.Serving.{MayServe}
 use Rattle.attempt_speed.specs.declared.kinds.Kind.{Kind}
 use Rattle.attempt_speed.specs.Asked.{requests_of}

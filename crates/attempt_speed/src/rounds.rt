@@ -1,7 +1,7 @@
 //! The serving of a table's first requests, and what was answered.
 ghost use Rattle.std.specs.Prelude.{◌≡◌, ◌≤◌, IfOk, length, take, true};
 ghost use Rattle.map_history.specs.declared.op.Op.{Op as Operation};
-ghost use Rattle.serving.specs.version_words.specs.TableState.{IsOf};
+ghost use Rattle.hash_table.specs.version_words.specs.TableState.{IsOf};
 ghost use Rattle.serving.specs.Serving.{MayServe};
 ghost use Rattle.attempt_speed.specs.Rounds.{IsRound};
 
@@ -9,14 +9,14 @@ use crate::kinds::Kind;
 use crate::requests::requests_of;
 use crate::scenes::{close, new_table, split};
 use crate::tables::TableKind;
+use body_terms::Steps;
 use hash_table::HashTable;
+use hash_table::lock_walks::Planner;
+use hash_table::version_words::{FlockTable, Runner, Words};
 use leaf_tree::LeafTree;
 use map_history::Request;
 use runner_gate::Free;
-use section_body::Steps;
-use serving::lock_walks::Planner;
 use serving::serve;
-use serving::version_words::{FlockTable, Runner, Words};
 use std::alloc::{AllocError, Global};
 use std::sync::Wait;
 use std::thread::Threads;

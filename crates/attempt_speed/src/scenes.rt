@@ -2,13 +2,13 @@
 ghost use Rattle.std.specs.Prelude.{◌≡◌, ◌≤◌, IfOk, length};
 ghost use Rattle.map_history.specs.Requests.{AreInOrder};
 ghost use Rattle.table_words.specs.Limits.{IsWithinLimits};
-ghost use Rattle.serving.specs.version_words.specs.TableState.{IsOf};
-ghost use Rattle.serving.specs.version_words.specs.Stages.{IsKeeper, HasJoined};
+ghost use Rattle.hash_table.specs.version_words.specs.TableState.{IsOf};
+ghost use Rattle.hash_table.specs.version_words.specs.Stages.{IsKeeper, HasJoined};
 ghost use Rattle.attempt_speed.specs.Scenes.{IsFresh};
 
+use hash_table::lock_walks::Planner;
+use hash_table::version_words::{FlockTable, Runner, Words};
 use map_history::{Op, Request};
-use serving::lock_walks::Planner;
-use serving::version_words::{FlockTable, Runner, Words};
 use std::alloc::{AllocError, Global};
 use table_words::Layout;
 

@@ -2,11 +2,11 @@
 use Rattle.std.specs.Prelude.{Bool, true, false, slice_get}
 use Rattle.std.proofs.Common.{◌≡◌, ◌≢◌, ℕ, zero, suc, ◌+◌, ◌<◌, List, [], ◌∷◌, ◌++◌, refl, sym, ap, ◌∙◌, subst, ⊎_elim, arith}
 use Rattle.std.proofs.lemmas.Bool.{cases_eq, cases_lt}
-use Rattle.section_body.specs.declared.micro.Micro.{Micro}
-use Rattle.section_body.specs.declared.micro.Micro.TheVariants as micros
-use Rattle.section_body.specs.declared.thunk.Thunk.{Thunk}
-use Rattle.section_body.specs.Line.{line, micro_at, is_check}
-use Rattle.section_body.specs.Shape.{IsShaped}
+use Rattle.body_terms.specs.declared.micro.Micro.{Micro}
+use Rattle.body_terms.specs.declared.micro.Micro.TheVariants as micros
+use Rattle.body_terms.specs.declared.thunk.Thunk.{Thunk}
+use Rattle.body_terms.specs.Line.{line, micro_at, is_check}
+use Rattle.body_terms.specs.Shape.{IsShaped}
 use Rattle.section_lines.proofs.Phases.{is_in_phases}
 use Rattle.section_lines.proofs.Resting.{rests_at}
 use Rattle.table_words.specs.declared.layout.Layout.{Layout}
@@ -19,12 +19,12 @@ use Rattle.runner_parts.specs.Tests.{has_pair}
 use Rattle.runner_steps.specs.Sections.{thunk_of, line_of, setting_of, settles}
 use Rattle.runner_steps.specs.After.{line_after}
 use Rattle.machine_epochs.proofs.RunPlaces.{is_of_end, next_in_line}
-use Rattle.lock_walks.specs.machine_agreement.proofs.LineKinds.{after_line}
-use Rattle.lock_walks.specs.machine_invariant.specs.After.{AreAllowed}
+use Rattle.lock_words.specs.machine_agreement.proofs.LineKinds.{after_line}
+use Rattle.lock_words.specs.machine_invariant.specs.After.{AreAllowed}
 use Rattle.machine_states.specs.World.{seat_of}
 use Rattle.machine_states.specs.Reached.{Reached}
 use Rattle.machine_states.proofs.Steps.{some_same, none_some}
-use Rattle.lock_walks.specs.next_steps.specs.Steps.{kind_at}
+use Rattle.lock_words.specs.next_steps.specs.Steps.{kind_at}
 use Rattle.lock_walks.specs.version_words.specs.RunnerState.{RunnerState}
 use Rattle.lock_walks.specs.version_words.specs.TableState.{TableState, IsOf}
 use Rattle.lock_walks.specs.commit_log.specs.Runs.{IsRunning, Stepped, Ran}

@@ -2,21 +2,21 @@
 use Rattle.std.specs.Prelude.{sum_by, count_by, cond, Bool}
 use Rattle.std.proofs.Common.{ℕ, ◌+◌, ◌*◌, ◌≤◌, List, [], ◌∷◌, length, sym, ap, ◌∙◌, arith, subst, inl, inr, zero, suc}
 use Rattle.std.proofs.lemmas.List.Sums.{sum_by-cons}
-use Rattle.section_body.specs.Cost.{step_cost, cost_of}
-use Rattle.section_body.specs.Shape.{is_take, is_make, is_stamp, is_answer, IsShaped}
-use Rattle.section_body.specs.Trail.{Agreed}
-use Rattle.section_body.specs.declared.outcome.Outcome.{Outcome}
-use Rattle.section_body.specs.declared.step.Step.{Step}
-use Rattle.section_body.specs.declared.step.Step.TheVariants.{Load, Want, Fresh, Take, Make, Stamp, Store, Retire, Answer}
-use Rattle.section_body.specs.declared.thunk.Thunk.{Thunk}
+use Rattle.body_terms.specs.Cost.{step_cost, cost_of}
+use Rattle.body_terms.specs.Shape.{is_take, is_make, is_stamp, is_answer, IsShaped}
+use Rattle.body_terms.specs.Trail.{Agreed}
+use Rattle.body_terms.specs.declared.outcome.Outcome.{Outcome}
+use Rattle.body_terms.specs.declared.step.Step.{Step}
+use Rattle.body_terms.specs.declared.step.Step.TheVariants.{Load, Want, Fresh, Take, Make, Stamp, Store, Retire, Answer}
+use Rattle.body_terms.specs.declared.thunk.Thunk.{Thunk}
 use Rattle.table_words.specs.Limits.{IsWithinLimits}
 use Rattle.structure_laws.specs.Meaning.{Meaning}
 use Rattle.structure_laws.specs.Laws.{Laws}
 use Rattle.runner_parts.specs.State.{RunState, PartState}
 use Rattle.runner_steps.specs.Sections.{thunk_of}
 use Rattle.machine_states.specs.Sight.{part_or_first}
-use Rattle.lock_walks.specs.machine_invariant.specs.After.{AreAllowed}
-use Rattle.lock_walks.specs.next_steps.proofs.Enabled.{reached_enabled}
+use Rattle.lock_words.specs.machine_invariant.specs.After.{AreAllowed}
+use Rattle.lock_words.specs.next_steps.proofs.Enabled.{reached_enabled}
 use Rattle.lock_walks.specs.version_words.specs.RunnerState.{RunnerState}
 use Rattle.lock_walks.specs.version_words.specs.TableState.{TableState, IsOf}
 use Rattle.lock_walks.specs.section_runs.specs.Reached.{run_of, run_or}

@@ -2,7 +2,7 @@
 use Rattle.std.specs.Prelude.{min, ◌^◌, Bool, true, false}
 use Rattle.std.proofs.Common.{◌≡◌, ℕ, ◌+◌, ◌-◌, ◌≤◌, refl, ap, ◌∙◌, subst, arith}
 use Rattle.fault_count.specs.Rose.{Rose}
-use Rattle.section_body.specs.Counted.{counted_on}
+use Rattle.body_terms.specs.Counted.{counted_on}
 use Rattle.lock_walks.specs.commit_log.specs.Asked.{IsAsked}
 use Rattle.lock_walks.specs.commit_log.proofs.Asked.{counted_more}
 use Rattle.attempts.specs.Counted.{IsCounted}

@@ -2,13 +2,14 @@
 use Rattle.std.specs.Prelude.{◌==◌, ◌&&◌, ◌||◌, not, cond, Bool, true, false, slice_get, Ok, Err}
 use Rattle.std.proofs.Common.{◌≡◌, ℕ, [], ◌∷◌, ◌++◌, inl, refl, sym, ap, ◌∙◌, subst, arith, Some, None}
 use Rattle.std.proofs.lemmas.Bool.Decides.{nat_tests}
+use Rattle.small_lemmas.proofs.Numbers.{self_tested as same_test}
 use Rattle.map_history.specs.declared.op.Request.{Request}
-use Rattle.section_body.specs.Trail.{Agreed}
-use Rattle.section_body.specs.Word.{is_free, is_spent}
-use Rattle.section_body.specs.declared.outcome.Outcome.{Outcome}
-use Rattle.section_body.specs.declared.outcome.Refused.{Refused}
-use Rattle.section_body.specs.declared.outcome.Refused.TheVariants as refusals
-use Rattle.section_body.specs.declared.thunk.Thunk.{Thunk}
+use Rattle.body_terms.specs.Trail.{Agreed}
+use Rattle.body_terms.specs.Word.{is_free, is_spent}
+use Rattle.body_terms.specs.declared.outcome.Outcome.{Outcome}
+use Rattle.body_terms.specs.declared.outcome.Refused.{Refused}
+use Rattle.body_terms.specs.declared.outcome.Refused.TheVariants as refusals
+use Rattle.body_terms.specs.declared.thunk.Thunk.{Thunk}
 use Rattle.structure_laws.specs.Scene.{Readings}
 use Rattle.structure_laws.specs.Meaning.{Meaning}
 use Rattle.runner_parts.specs.declared.entries.Published.{Published}
@@ -18,7 +19,7 @@ use Rattle.runner_parts.specs.State.{ReadsState}
 use Rattle.runner_parts.specs.Tests.{has_pair, is_next, is_open, serves}
 use Rattle.runner_steps.specs.Outside.{is_due}
 use Rattle.runner_steps.specs.AfterOutside.{published_by}
-use Rattle.lock_walks.specs.runner_facts.proofs.Names.{pair_last}
+use Rattle.lock_words.specs.runner_facts.proofs.Names.{pair_last}
 use Rattle.lock_walks.specs.version_words.specs.RunnerState.{RunnerState}
 use Rattle.lock_walks.specs.version_words.specs.Stages.{IsAt}
 use Rattle.lock_walks.specs.epoch_slots.specs.Entries.{HasLeave}
@@ -34,9 +35,6 @@ use Rattle.attempts.specs.Course.{of_refusal, HasPlanned, HasTried, HasEnded}
 use Rattle.attempts.specs.Rests.{MayLeave}
 use Rattle.attempts.specs.declared.answers.Attempt.TheVariants as answers
 use Rattle.attempts.proofs.Leaving.{ended_at}
-
-same_test : (n : ℕ) → (n == n) ≡ true
-same_test n = grind (arith, nat_tests)
 
 over_test : (n k : ℕ) → k ≡ n → (false || (n == k)) ≡ true
 over_test n k e = subst (λ j. (n == j) ≡ true) (sym e) (same_test n)

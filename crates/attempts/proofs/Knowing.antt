@@ -4,6 +4,7 @@ use Rattle.std.proofs.Common.{◌≡◌, ◌≢◌, ℕ, zero, suc, ◌+◌, ◌
 use Rattle.std.proofs.lemmas.Bool.Decides.{nat_tests}
 use Rattle.std.proofs.lemmas.List.Folds.{list_any-append}
 use Rattle.std.proofs.lemmas.Bool.{and_parts}
+use Rattle.small_lemmas.proofs.Bools.{or_first as or_true}
 use Rattle.map_history.specs.declared.op.Request.{Request}
 use Rattle.runner_parts.specs.declared.entries.Known.{Known}
 use Rattle.runner_parts.specs.Tests.{knows, is_answered}
@@ -63,10 +64,6 @@ other_test a n false rest ne none = grind (arith, nat_tests)
 or_false : (a b : Bool) → b ≡ false → (a || b) ≡ a
 or_false true b e = refl
 or_false false b e = e
-
-or_true : (a b : Bool) → a ≡ true → (a || b) ≡ true
-or_true true b e = refl
-or_true false b e = absurd (let z = e in cc)
 
 unknown_of : (known : List Known) (n request : ℕ) (reply : Bool) → ((i : ℕ) (x : Known) → slice_get known i ≡ Some x → x.request ≡ request)
     → request ≢ n → knows known n reply ≡ false

@@ -23,7 +23,7 @@ use Rattle.runner_steps.specs.Outside.{when, entry_spot}
 use Rattle.runner_steps.specs.Asks.{ask_by, fitting, sizes_for}
 use Rattle.machine_states.specs.Sight.{sight, part_or_first}
 use Rattle.machine_states.proofs.Steps.{some_same, none_some}
-use Rattle.lock_walks.specs.machine_invariant.specs.After.{AreAllowed}
+use Rattle.lock_words.specs.machine_invariant.specs.After.{AreAllowed}
 use Rattle.lock_walks.specs.version_words.specs.RunnerState.{RunnerState}
 use Rattle.lock_walks.specs.version_words.specs.Events.{Makes}
 use Rattle.lock_walks.specs.version_words.specs.ReachedWith.{is_told}
@@ -32,8 +32,8 @@ use Rattle.lock_walks.specs.version_words.proofs.Stages.{then_knows}
 use Rattle.lock_walks.specs.epoch_slots.specs.Collects.{IsTidy}
 use Rattle.lock_walks.specs.epoch_slots.specs.Entries.{Exits}
 use Rattle.lock_walks.specs.epoch_slots.proofs.Outside.{nodes_made, known_made, finished_made}
-use Rattle.lock_walks.specs.machine_facts.specs.Known.{KnownStand}
-use Rattle.lock_walks.specs.machine_facts.proofs.Following.{facts_after}
+use Rattle.lock_words.specs.machine_facts.specs.Known.{KnownStand}
+use Rattle.lock_words.specs.machine_facts.proofs.Following.{facts_after}
 use Rattle.request_facts.specs.Placed.{IsServedAs}
 use Rattle.request_facts.specs.Laws.{HasEntry, IsKnown}
 use Rattle.request_facts.proofs.Standing.{callers_stand}

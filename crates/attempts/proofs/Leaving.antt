@@ -2,10 +2,10 @@
 use Rattle.std.specs.Prelude.{◌==◌, ◌⊎◌, true, false, not, slice_get}
 use Rattle.std.proofs.Common.{◌≡◌, ◌≢◌, ℕ, suc, ◌+◌, ◌-◌, ◌≤◌, [], ◌∷◌, length, refl, sym, ap, ◌∙◌, subst, arith, Option, None, inl, inr, ⊎_elim}
 use Rattle.std.proofs.lemmas.Bool.Decides.{nat_tests}
-use Rattle.section_body.specs.Trail.{Agreed}
-use Rattle.section_body.specs.Word.{value_of, is_free}
-use Rattle.section_body.specs.declared.outcome.Outcome.{Outcome}
-use Rattle.section_body.specs.declared.thunk.Thunk.{Thunk}
+use Rattle.body_terms.specs.Trail.{Agreed}
+use Rattle.body_terms.specs.Word.{value_of, is_free}
+use Rattle.body_terms.specs.declared.outcome.Outcome.{Outcome}
+use Rattle.body_terms.specs.declared.thunk.Thunk.{Thunk}
 use Rattle.table_words.specs.declared.layout.Layout.{Layout}
 use Rattle.table_words.specs.Limits.{IsWithinLimits}
 use Rattle.structure_laws.specs.Meaning.{Meaning}
@@ -18,9 +18,9 @@ use Rattle.runner_steps.specs.AfterInRun.{over_if}
 use Rattle.machine_states.specs.World.{World}
 use Rattle.machine_states.specs.Reached.{Reached}
 use Rattle.machine_states.specs.Sight.{Sight, sight, part_or_first}
-use Rattle.lock_walks.specs.machine_invariant.specs.After.{AreAllowed}
-use Rattle.lock_walks.specs.runner_facts.specs.Names.{NamesStand}
-use Rattle.take_names.specs.Taken.{HasLeftBy, TakenStand}
+use Rattle.lock_words.specs.machine_invariant.specs.After.{AreAllowed}
+use Rattle.lock_words.specs.runner_facts.specs.Names.{NamesStand}
+use Rattle.lock_words.specs.Taken.{HasLeftBy, TakenStand}
 use Rattle.lock_walks.specs.version_words.specs.RunnerState.{RunnerState}
 use Rattle.lock_walks.specs.version_words.specs.Stages.{IsAt}
 use Rattle.lock_walks.specs.epoch_slots.specs.Collects.{IsTidy}

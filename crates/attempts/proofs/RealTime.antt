@@ -9,11 +9,11 @@ use Rattle.structure_laws.specs.Laws.{Laws}
 use Rattle.runner_parts.specs.State.{PartState}
 use Rattle.runner_parts.specs.Tests.{is_answered}
 use Rattle.machine_states.specs.Sight.{sight, part_or_first}
-use Rattle.lock_walks.specs.machine_invariant.specs.After.{AreAllowed}
-use Rattle.lock_walks.specs.machine_facts.specs.Known.{KnownStand}
-use Rattle.lock_walks.specs.machine_facts.proofs.Following.{facts_after}
-use Rattle.lock_walks.specs.machine_records.specs.Requests.{or_none}
-use Rattle.lock_walks.specs.machine_records.specs.Kept.{link_of}
+use Rattle.lock_words.specs.machine_invariant.specs.After.{AreAllowed}
+use Rattle.lock_words.specs.machine_facts.specs.Known.{KnownStand}
+use Rattle.lock_words.specs.machine_facts.proofs.Following.{facts_after}
+use Rattle.request_facts.specs.reached_histories.specs.Requests.{or_none}
+use Rattle.request_facts.specs.reached_histories.specs.Kept.{link_of}
 use Rattle.lock_walks.specs.version_words.specs.RunnerState.{RunnerState}
 use Rattle.lock_walks.specs.try_lock.specs.Planning.{Planning}
 use Rattle.lock_walks.specs.try_lock.specs.Reached.{IsReached}

@@ -3,13 +3,14 @@ use Rattle.std.specs.Prelude.{◌==◌, ◌||◌, cond, Bool, true, false, slice
 use Rattle.std.proofs.Common.{◌≡◌, ◌≢◌, ℕ, ◌-◌, List, [], ◌∷◌, ◌++◌, refl, sym, ap, ◌∙◌, subst, arith, Option, Some, None}
 use Rattle.std.proofs.lemmas.List.Folds.{list_any-append}
 use Rattle.std.proofs.lemmas.Bool.Decides.{nat_tests}
+use Rattle.small_lemmas.proofs.Bools.{or_second as or_true}
 use Rattle.map_history.specs.declared.op.Op.{Op}
-use Rattle.section_body.specs.Run.{Setting, leaves, refusal, is_takable}
-use Rattle.section_body.specs.Word.{value_of, is_free, is_spent}
-use Rattle.section_body.specs.declared.micro.Micro.{Micro}
-use Rattle.section_body.specs.declared.micro.Micro.TheVariants as micros
-use Rattle.section_body.specs.declared.outcome.Outcome.{Outcome}
-use Rattle.section_body.specs.declared.outcome.Outcome.TheVariants as outcomes
+use Rattle.body_terms.specs.Run.{Setting, leaves, refusal, is_takable}
+use Rattle.body_terms.specs.Word.{value_of, is_free, is_spent}
+use Rattle.body_terms.specs.declared.micro.Micro.{Micro}
+use Rattle.body_terms.specs.declared.micro.Micro.TheVariants as micros
+use Rattle.body_terms.specs.declared.outcome.Outcome.{Outcome}
+use Rattle.body_terms.specs.declared.outcome.Outcome.TheVariants as outcomes
 use Rattle.table_words.specs.declared.layout.Layout.{Layout}
 use Rattle.structure_laws.specs.Scene.{Readings}
 use Rattle.structure_laws.specs.Meaning.{Meaning}
@@ -17,7 +18,7 @@ use Rattle.runner_parts.specs.Lists.{named_by}
 use Rattle.runner_parts.specs.Tests.{has, has_pair}
 use Rattle.runner_steps.specs.Sections.{setting_of}
 use Rattle.machine_states.proofs.Steps.{some_same, none_some}
-use Rattle.lock_walks.specs.runner_facts.proofs.Names.{pair_last}
+use Rattle.lock_words.specs.runner_facts.proofs.Names.{pair_last}
 use Rattle.lock_walks.specs.try_lock.specs.declared.planned.Planned.{Planned}
 use Rattle.lock_walks.specs.try_lock.specs.declared.planned.Planned.TheVariants as plans
 use Rattle.lock_walks.specs.try_lock.specs.Planning.{Planning}
@@ -131,10 +132,6 @@ names_append : (m : Meaning) (xs ys : Readings) → plan.names_read m (xs ++ ys)
 names_append m [] ys = refl
 names_append m (x ∷ xs) ys = ap (λ ns. (if m.is_lock x.0 then named_by x.1 else []) ++ ns) (names_append m xs ys)
     ∙ sym (append_on (if m.is_lock x.0 then named_by x.1 else []) (plan.names_read m xs) (plan.names_read m ys))
-
-or_true : (a b : Bool) → b ≡ true → (a || b) ≡ true
-or_true true b e = refl
-or_true false b e = e
 
 same_test : (n : ℕ) → ((n == n) || false) ≡ true
 same_test n = grind (arith, nat_tests)

@@ -4,10 +4,10 @@ use Rattle.std.proofs.Common.{◌≡◌, ◌≢◌, ℕ, ◌<◌, ◌++◌, leng
 use Rattle.std.proofs.Math.Seq.{take-append_seam}
 use Rattle.std.proofs.lemmas.Bool.{and_parts}
 use Rattle.map_history.specs.declared.op.Request.{Request}
-use Rattle.section_body.specs.Trail.{Agreed}
-use Rattle.section_body.specs.declared.outcome.Outcome.{Outcome}
-use Rattle.section_body.specs.declared.outcome.Outcome.TheVariants.{Answered}
-use Rattle.section_body.specs.declared.thunk.Thunk.{Thunk}
+use Rattle.body_terms.specs.Trail.{Agreed}
+use Rattle.body_terms.specs.declared.outcome.Outcome.{Outcome}
+use Rattle.body_terms.specs.declared.outcome.Outcome.TheVariants.{Answered}
+use Rattle.body_terms.specs.declared.thunk.Thunk.{Thunk}
 use Rattle.table_words.specs.Limits.{IsWithinLimits}
 use Rattle.table_words.specs.declared.spot.Spot.TheVariants as spots
 use Rattle.structure_laws.specs.Meaning.{Meaning}
@@ -20,14 +20,14 @@ use Rattle.runner_steps.specs.AfterInRun.{over_if}
 use Rattle.runner_steps.specs.AfterOutside.{published_by}
 use Rattle.runner_steps.specs.Outside.{entry_spot}
 use Rattle.machine_states.specs.Sight.{Sight, sight, part_or_first}
-use Rattle.lock_walks.specs.machine_invariant.specs.After.{AreAllowed}
-use Rattle.lock_walks.specs.machine_facts.specs.Known.{KnownStand}
-use Rattle.lock_walks.specs.machine_facts.proofs.Following.{facts_after}
-use Rattle.lock_walks.specs.machine_records.proofs.First as first
-use Rattle.lock_walks.specs.machine_records.proofs.First.{entry_of}
-use Rattle.lock_walks.specs.reached_histories.specs.History.{IsPlaced}
-use Rattle.lock_walks.specs.reached_histories.specs.Laws.{HasHistory}
-use Rattle.lock_walks.specs.reached_histories.proofs.Histories.{reached_have}
+use Rattle.lock_words.specs.machine_invariant.specs.After.{AreAllowed}
+use Rattle.lock_words.specs.machine_facts.specs.Known.{KnownStand}
+use Rattle.lock_words.specs.machine_facts.proofs.Following.{facts_after}
+use Rattle.request_facts.specs.reached_histories.proofs.First as first
+use Rattle.request_facts.specs.reached_histories.proofs.First.{entry_of}
+use Rattle.request_facts.specs.reached_histories.specs.History.{IsPlaced}
+use Rattle.request_facts.specs.reached_histories.specs.Laws.{HasHistory}
+use Rattle.request_facts.specs.reached_histories.proofs.Histories.{reached_have}
 use Rattle.lock_walks.specs.version_words.specs.RunnerState.{RunnerState}
 use Rattle.lock_walks.specs.version_words.specs.TableState.{TableState, IsOf}
 use Rattle.lock_walks.specs.try_lock.specs.declared.section.Section.{Section}

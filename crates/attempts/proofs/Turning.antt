@@ -3,9 +3,10 @@ use Rattle.std.specs.Prelude.{◌==◌, ◌&&◌, not, Bool, true, false, if◌t
 use Rattle.std.proofs.Common.{◌≡◌, ℕ, ◌+◌, ◌-◌, ◌%◌, ◌≤◌, length, refl, sym, ap, ◌∙◌, subst, arith, Some, None}
 use Rattle.std.proofs.lemmas.Bool.{true≢false}
 use Rattle.std.proofs.lemmas.Bool.Decides.{nat_tests}
+use Rattle.small_lemmas.proofs.Numbers.{tested_equal as same_of}
 use Rattle.map_history.specs.declared.op.Request.{Request}
-use Rattle.section_body.specs.Counted.{counted_on}
-use Rattle.section_body.specs.Word.{value_of}
+use Rattle.body_terms.specs.Counted.{counted_on}
+use Rattle.body_terms.specs.Word.{value_of}
 use Rattle.table_words.specs.Limits.{IsWithinLimits}
 use Rattle.structure_laws.specs.Meaning.{Meaning}
 use Rattle.structure_laws.specs.Laws.{Laws}
@@ -13,9 +14,9 @@ use Rattle.runner_parts.specs.declared.entries.Published.{Published}
 use Rattle.runner_parts.specs.State.{PartState}
 use Rattle.runner_parts.specs.Tests.{is_answered, are_answered}
 use Rattle.machine_states.specs.Sight.{sight, part_or_first}
-use Rattle.lock_walks.specs.machine_invariant.specs.After.{AreAllowed}
-use Rattle.lock_walks.specs.machine_records.specs.Requests.{or_none}
-use Rattle.lock_walks.specs.machine_records.specs.Kept.{link_of}
+use Rattle.lock_words.specs.machine_invariant.specs.After.{AreAllowed}
+use Rattle.request_facts.specs.reached_histories.specs.Requests.{or_none}
+use Rattle.request_facts.specs.reached_histories.specs.Kept.{link_of}
 use Rattle.lock_walks.specs.version_words.specs.RunnerState.{RunnerState}
 use Rattle.lock_walks.specs.try_lock.specs.Planning.{Planning}
 use Rattle.lock_walks.specs.try_lock.specs.Reached.{IsReached}
@@ -53,9 +54,6 @@ next_test : (a b c : Bool) → (a && (not b && c)) ≡ true → (a ≡ true) × 
 next_test true false c e = (refl, refl)
 next_test true true c e = absurd (let z = e in cc)
 next_test false b c e = absurd (let z = e in cc)
-
-same_of : (n k : ℕ) → (n == k) ≡ true → n ≡ k
-same_of n k e = grind (arith, nat_tests)
 
 module _ {T : Type 0} (planning : Planning) (request : Request) (old : RunnerState T) (may : MayAttempt planning request old) where
   tests : (request.trace % old.layout.runners == old.number ≡ true) × (is_answered old.part.records.known request.number ≡ false)

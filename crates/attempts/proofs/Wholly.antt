@@ -2,11 +2,12 @@
 use Rattle.std.specs.Prelude.{◌&&◌, not, Bool, true, false, if◌then◌else◌, Ok, Err}
 use Rattle.std.proofs.Common.{◌≡◌, ℕ, ◌+◌, ◌*◌, ◌-◌, ◌≤◌, length, refl, sym, ap, ◌∙◌, subst, arith, inl, inr, None}
 use Rattle.std.proofs.lemmas.Bool.{true≢false}
+use Rattle.small_lemmas.proofs.Numbers.{from_zero as from_none}
 use Rattle.map_history.specs.declared.op.Request.{Request}
-use Rattle.section_body.specs.Counted.{counted_on}
-use Rattle.section_body.specs.Word.{value_of}
-use Rattle.section_body.specs.declared.outcome.Refused.{Refused}
-use Rattle.section_body.specs.declared.thunk.Thunk.{Thunk}
+use Rattle.body_terms.specs.Counted.{counted_on}
+use Rattle.body_terms.specs.Word.{value_of}
+use Rattle.body_terms.specs.declared.outcome.Refused.{Refused}
+use Rattle.body_terms.specs.declared.thunk.Thunk.{Thunk}
 use Rattle.table_words.specs.declared.layout.Layout.{Layout}
 use Rattle.table_words.specs.Limits.{IsWithinLimits}
 use Rattle.structure_laws.specs.Scene.{Readings}
@@ -17,7 +18,7 @@ use Rattle.epoch_core.specs.declared.stage.Stage.TheVariants as stages
 use Rattle.runner_parts.specs.Tests.{has, has_pair, is_answered}
 use Rattle.runner_parts.specs.State.{NodesState, DescriptorsState, ReadsState}
 use Rattle.machine_states.proofs.Steps.{none_some}
-use Rattle.lock_walks.specs.machine_invariant.specs.After.{AreAllowed}
+use Rattle.lock_words.specs.machine_invariant.specs.After.{AreAllowed}
 use Rattle.lock_walks.specs.version_words.specs.RunnerState.{RunnerState}
 use Rattle.lock_walks.specs.version_words.specs.TableState.{TableState, IsOf}
 use Rattle.lock_walks.specs.version_words.specs.Stages.{IsAt}
@@ -67,9 +68,6 @@ asks_on b n k = omega arith
 
 no_steps : (n : ℕ) → n + 0 ≡ n
 no_steps n = omega arith
-
-from_none : (n : ℕ) → 0 + n ≡ n
-from_none n = omega arith
 
 -- the rest, behind counted steps of a runner that learned nothing by them
 pub rests_after : {T : Type 0} (m : Meaning) (planning : Planning) (request : Request) (before n most : ℕ) (answer : Attempt) (old here mid new : RunnerState T)

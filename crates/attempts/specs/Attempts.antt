@@ -3,11 +3,11 @@ use Rattle.std.specs.Prelude.{◌≡◌, ℕ, ◌+◌, ◌*◌, ◌-◌, ◌<◌
 use Rattle.map_history.specs.declared.op.Request.{Request}
 use Rattle.map_history.specs.declared.reply.Reply.{Reply}
 use Rattle.map_history.specs.Words.{word_of}
-use Rattle.section_body.specs.Counted.{counted_on}
-use Rattle.section_body.specs.Trail.{Agreed}
-use Rattle.section_body.specs.Word.{value_of}
-use Rattle.section_body.specs.declared.outcome.Outcome.TheVariants.{Answered}
-use Rattle.section_body.specs.declared.thunk.Thunk.{Thunk}
+use Rattle.body_terms.specs.Counted.{counted_on}
+use Rattle.body_terms.specs.Trail.{Agreed}
+use Rattle.body_terms.specs.Word.{value_of}
+use Rattle.body_terms.specs.declared.outcome.Outcome.TheVariants.{Answered}
+use Rattle.body_terms.specs.declared.thunk.Thunk.{Thunk}
 use Rattle.structure_laws.specs.Scene.{Readings}
 use Rattle.structure_laws.specs.Meaning.{Meaning}
 use Rattle.structure_laws.specs.Cells.{slots}
@@ -270,9 +270,9 @@ module _ {T : Type 0} where
         pub brief : has_met_held answer old new answers ≡ false
             → IsBrief (most_of_attempt (slots m old.layout)) 1 made old new
 
-      -- what an attempt does. The gate is asked behind each counted step and behind the entry, and once more exactly where a
-      -- section was published. Where it halted the runner, it was seen before the part of the attempt in which it did:
-      -- with as many halts as at first, and with so many more asks
+      -- what an attempt does. The gate is asked behind each counted step and behind the entry, and once more exactly
+      -- where a section was published. Where it halted the runner, it was seen before the part of the attempt in which
+      -- it did: with as many halts as at first, and with so many more asks
       pub record Attempts (answer : Attempt) (old new : RunnerState T) (Seen : ℕ → ℕ → Type 0)
           (halts halts' asks asks' steps steps' : ℕ) : Type 0 where
         pub made : ℕ

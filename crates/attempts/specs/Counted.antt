@@ -1,7 +1,7 @@
 -- How often a gate was asked, and how many steps were counted.
 use Rattle.std.specs.Prelude.{◌≡◌, ℕ, ◌+◌, ◌≤◌, Bool, true, false}
 use Rattle.fault_count.specs.Rose.{Rose}
-use Rattle.section_body.specs.Counted.{counted_on}
+use Rattle.body_terms.specs.Counted.{counted_on}
 
 -- so many steps were counted, and a gate was asked after each and so many times more. It let the runner go on
 -- each time, or halted it at
@@ -14,7 +14,7 @@ pub record IsCounted (made more : ℕ) (going : Bool) (halts halts' asks asks' s
   pub halted : going ≡ false → Rose halts halts'
 
 module _ {G : Type 0} where
-  -- a gate came to so many halts and asks. A function that is passed a gate shows this of a state in which it had it, since
-  -- it can't make one of a kind that it doesn't know
+  -- a gate came to so many halts and asks. A function that is passed a gate shows this of a state in which it had it,
+  -- since it can't make one of a kind that it doesn't know
   abbrev pub IsSeen : (G → ℕ) → (G → ℕ) → ℕ → ℕ → Type 0
   IsSeen halts_of asks_of halts asks = (gate : G) × (halts_of gate ≡ halts) × (asks_of gate ≡ asks)

@@ -1,7 +1,7 @@
 -- What a run of a section told its runner.
 use Rattle.std.specs.Prelude.{◌≡◌, ◌≢◌, ℕ, ◌≤◌, ◌⊎◌, List, [], ◌++◌, length, slice_get, Some}
-use Rattle.section_body.specs.declared.micro.Micro.TheVariants.{StampExchange}
-use Rattle.section_body.specs.declared.thunk.Thunk.{Thunk}
+use Rattle.body_terms.specs.declared.micro.Micro.TheVariants.{StampExchange}
+use Rattle.body_terms.specs.declared.thunk.Thunk.{Thunk}
 use Rattle.structure_laws.specs.Meaning.{Meaning}
 use Rattle.runner_parts.specs.State.{RunState, PartState, FinishedState}
 use Rattle.runner_steps.specs.AfterInRun.{over_if}

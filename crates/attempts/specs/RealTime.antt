@@ -3,13 +3,14 @@ use Rattle.std.specs.Prelude.{◌≢◌, ℕ, ◌<◌}
 use Rattle.table_words.specs.declared.spot.Spot.TheVariants.{Stamp, Reply}
 use Rattle.structure_laws.specs.Meaning.{Meaning}
 use Rattle.machine_states.specs.Sight.{sight}
-use Rattle.lock_walks.specs.reached_histories.specs.RealTime.{LeadsTo}
+use Rattle.request_facts.specs.reached_histories.specs.RealTime.{LeadsTo}
 use Rattle.lock_walks.specs.version_words.specs.RunnerState.{RunnerState}
 use Rattle.lock_walks.specs.try_lock.specs.Reached.{IsReached}
 
 module _ {T : Type 0} (m : Meaning) where
-  -- take any state of the machine in which the runner has its first part, and any later one in which it has its last: the
-  -- stamp is above that of each request that was answered in the first state, whoever asked it and whoever served it
+  -- take any state of the machine in which the runner has its first part, and any later one in which it has its last:
+  -- the stamp is above that of each request that was answered in the first state, whoever asked it and whoever served
+  -- it
   abbrev pub IsAboveAnswered : ℕ → RunnerState T → RunnerState T → Type 0
   IsAboveAnswered stamp old new = (from : IsReached m old) (to : IsReached m new)
       → LeadsTo m old.layout old.requests from.world to.world

@@ -3,8 +3,8 @@ use Rattle.std.specs.Prelude.{◌≡◌, ◌&&◌, ℕ, ◌+◌, ◌-◌, ◌≤
 use Rattle.map_history.specs.declared.op.Request.{Request}
 use Rattle.map_history.specs.declared.reply.Reply.{Reply}
 use Rattle.map_history.specs.Words.{word_of}
-use Rattle.section_body.specs.Counted.{counted_on}
-use Rattle.section_body.specs.Word.{value_of}
+use Rattle.body_terms.specs.Counted.{counted_on}
+use Rattle.body_terms.specs.Word.{value_of}
 use Rattle.structure_laws.specs.Meaning.{Meaning}
 use Rattle.runner_parts.specs.Tests.{is_answered, has_pair}
 use Rattle.machine_states.specs.Sight.{sight}
@@ -15,7 +15,7 @@ use Rattle.lock_walks.specs.commit_log.specs.Asked.{IsAsked}
 use Rattle.lock_walks.specs.try_lock.specs.Planning.{Planning}
 use Rattle.lock_walks.specs.try_lock.specs.Reached.{IsReached, MayHelp}
 use Rattle.lock_walks.specs.try_lock.specs.Ends.{IsCutShort}
-use Rattle.take_names.specs.Taken.{HasLeftBy}
+use Rattle.lock_words.specs.Taken.{HasLeftBy}
 use Rattle.request_facts.specs.Laws.{HasEntry}
 use Rattle.request_facts.specs.Placed.{IsServedAs}
 use Rattle.attempts.specs.Knowing.{KnowsMore, IsOwn, LearnsNoOther}
@@ -102,7 +102,8 @@ module _ {T : Type 0} (m : Meaning) where
       pub late : held ≡ true → published ≡ true
       pub asked : IsCounted made (if published && not held then 1 else 0) (not (is_halted answer))
           halts halts' asks asks' steps steps'
-      -- where the gate halted the runner, it was seen with so many more asks before the part of the attempt in which it did
+      -- where the gate halted the runner, it was seen with so many more asks before the part of the attempt in which it
+      -- did
       pub let_go : is_halted answer ≡ true → (more : ℕ)
           × ((if held then 2 else 1) + before + more ≡ asks_before m planning request answer old new answers)
           × Seen halts (counted_on asks more)

@@ -2,7 +2,7 @@
 ghost use Rattle.std.specs.Prelude.{ℕ};
 ghost use Rattle.attempts.specs.Counted.{IsCounted};
 
-use section_body::{Gate, Pass, StepKind};
+use body_terms::{Gate, Pass, StepKind};
 
 /// Asks the gate once more, where no step is counted: whether the runner goes on.
 pub fn goes_on<G: Gate>(gate: &mut G, kind: StepKind) -> bool

@@ -14,12 +14,12 @@ use crate::refusals::plan_refused;
 use crate::reserves::reserve_slots;
 use crate::tries::try_section;
 use crate::turns::turn_away;
+use body_terms::{Gate, StepKind, Steps};
 use lock_walks::Planner;
 use lock_walks::epoch_slots::{collect, enter};
 use lock_walks::try_lock::Planned;
 use lock_walks::version_words::{FlockTable, Runner, table_is_allowed};
 use map_history::Request;
-use section_body::{Gate, StepKind, Steps};
 
 /// Plans the request, behind the entry, and tries the section that was planned; or leaves where the plan was refused.
 pub fn plan_and_try<S: Planner, G: Gate, L>(
@@ -69,8 +69,8 @@ pub fn plan_and_try<S: Planner, G: Gate, L>(
 ///
 /// After every answer but `Halted` the runner is idle and may attempt again. After every answer but `Done` and `Halted`
 /// nobody has served the request, and the section that was published for it, if any, left without an effect and is
-/// retired. After `Halted` the runner stays entered, and can only be joined; a section that it left published is for this
-/// request, and whoever meets it runs it to its end.
+/// retired. After `Halted` the runner stays entered, and can only be joined; a section that it left published is for
+/// this request, and whoever meets it runs it to its end.
 ///
 /// The gate is asked once behind the entry, after each counted step, and once more where a section was published. No
 /// memory is taken, and nothing waits (Ben-David, Blelloch, Wei, *Lock-free locks revisited*, 2022).

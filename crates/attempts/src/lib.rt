@@ -1,9 +1,9 @@
 //! One attempt of a request: from a plan over the section under its lock to the answer.
 //!
-//! `attempting` has the call `attempt`, and its plan; `tries` publishes the planned section, `runs` runs and retires it.
-//! `answers` is what an attempt may come to, `refusals` how refusals of a plan, a publication and a section are told as
-//! such answers, `turns` how a runner leaves with one, `reserves` the own slots that an attempt needs, `asks` the gate's
-//! asks beside those after steps, and `learns` how a request that the runner knows is answered by its words.
+//! `attempting` has the call `attempt`, and its plan; `tries` publishes the planned section, `runs` runs and retires
+//! it. `answers` is what an attempt may come to, `refusals` how refusals of a plan, a publication and a section are
+//! told as such answers, `turns` how a runner leaves with one, `reserves` the own slots that an attempt needs, `asks`
+//! the gate's asks beside those after steps, and `learns` how a request that the runner knows is answered by its words.
 #![tactic(auto)]
 
 mod answers;
@@ -28,5 +28,6 @@ pub use turns::turn_away;
 
 // Passed on to the layers above, so that they needn't name these libraries themselves.
 pub use lock_walks;
-pub use lock_walks::{epoch_slots, reached_histories, runner_facts, version_words};
+pub use lock_walks::{epoch_slots, section_runs, try_lock, version_words};
+pub use lock_words;
 pub use request_facts;

@@ -6,7 +6,7 @@ ghost use Rattle.attempts.specs.Attempts.{IsFew};
 
 use lock_walks::epoch_slots::{Kind, Short, reserve};
 use lock_walks::version_words::Runner;
-use runner_parts::Structure;
+use structure_laws::Structure;
 
 /// The runner, if two node slots and one descriptor are free; else the runner and the counts of the kind that
 /// lacks. Node

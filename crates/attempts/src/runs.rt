@@ -1,7 +1,7 @@
 //! An attempt's own section: it is run to its end and retired, and answered by.
 ghost use Rattle.std.specs.Prelude.{◌≡◌, ◌+◌, length, true, false, Ok};
-ghost use Rattle.section_body.specs.Trail.{Agreed};
-ghost use Rattle.section_body.specs.declared.thunk.Thunk.{Thunk};
+ghost use Rattle.body_terms.specs.Trail.{Agreed};
+ghost use Rattle.body_terms.specs.declared.thunk.Thunk.{Thunk};
 ghost use Rattle.lock_walks.specs.version_words.specs.RunnerState.{RunnerState};
 ghost use Rattle.lock_walks.specs.version_words.specs.TableState.{IsOf};
 ghost use Rattle.attempts.specs.Counted.{IsSeen};
@@ -14,14 +14,14 @@ use crate::asks::goes_on;
 use crate::learns::learn;
 use crate::refusals::section_left;
 use crate::turns::turn_away;
+use body_terms::{Gate, Outcome, StepKind, Steps};
 use lock_walks::Planner;
 use lock_walks::try_lock::{RunEnd, Section, retire_section, run_section};
 use lock_walks::version_words::{FlockTable, Runner, table_is_allowed};
 use map_history::Request;
-use section_body::{Gate, Outcome, StepKind, Steps};
 
-/// Retires the own section, which was run to its end with this outcome, and leaves: where it answered, with the words of
-/// the request, else with the refusal by which it left.
+/// Retires the own section, which was run to its end with this outcome, and leaves: where it answered, with the words
+/// of the request, else with the refusal by which it left.
 pub fn conclude<S: Planner, G: Gate, L>(
     table: &FlockTable<S>,
     runner: Runner<S>,
@@ -53,7 +53,8 @@ pub fn conclude<S: Planner, G: Gate, L>(
     }
 }
 
-/// Runs the own section, which was just published, to its end, and answers by its outcome. The gate is asked once before.
+/// Runs the own section, which was just published, to its end, and answers by its outcome. The gate is asked once
+/// before.
 pub fn run_own<S: Planner, G: Gate, L>(
     table: &FlockTable<S>,
     runner: Runner<S>,

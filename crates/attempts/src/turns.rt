@@ -5,19 +5,19 @@ ghost use Rattle.attempts.specs.Attempts.{is_refusal};
 ghost use Rattle.attempts.specs.Rests.{MayLeave, HasTurned};
 
 use crate::answers::Attempt;
+use body_terms::{Gate, Steps};
 use lock_walks::epoch_slots::exit;
-use lock_walks::runner_facts::names_stand;
 use lock_walks::try_lock::{RunEnd, help};
 use lock_walks::version_words::{FlockTable, Runner, table_is_allowed};
-use runner_parts::Structure;
-use section_body::{Gate, Steps};
-use take_names::taken_names_stand;
+use lock_words::runner_facts::names_stand;
+use lock_words::taken_names_stand;
+use structure_laws::Structure;
 
 /// Leaves with this refusal, and answers it; where a lock was held, the section that its word names is run to its end
 /// first.
 ///
-/// The runner has to be entered and in no run, with an empty hand and nothing to retire, and may help the section that a
-/// Busy names. `Halted` comes exactly where the gate halted it as it helped. No memory is taken, and nothing waits
+/// The runner has to be entered and in no run, with an empty hand and nothing to retire, and may help the section that
+/// a Busy names. `Halted` comes exactly where the gate halted it as it helped. No memory is taken, and nothing waits
 /// (Ben-David, Blelloch, Wei, *Lock-free locks revisited*, 2022).
 pub fn turn_away<S: Structure, G: Gate, L>(
     table: &FlockTable<S>,

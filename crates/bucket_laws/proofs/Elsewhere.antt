@@ -1,18 +1,16 @@
 -- What a walk knows stands where nothing of its bucket changes.
 use Rattle.std.proofs.Common.{◌≡◌, ◌≢◌, ℕ, suc, ◌<◌, ◌≤◌, Bool, true, false, cond, refl, sym, ap, ◌∙◌, subst, inl, inr, ⊎_elim, arith}
 use Rattle.std.specs.Prelude.{◌⊎◌, Some, [], ◌∷◌, slice_get}
+use Rattle.small_lemmas.proofs.Numbers.{suc_equal as suc_eq}
 use Rattle.map_history.specs.declared.op.Op.{Op}
 use Rattle.map_history.specs.Keys.{key_of}
-use Rattle.section_body.specs.Word.{value_of}
+use Rattle.body_terms.specs.Word.{value_of}
 use Rattle.section_body.specs.Bucket.{bucket_edition, bucket_head}
 use Rattle.structure_laws.specs.Scene.{Cells, Readings}
 use Rattle.bucket_laws.specs.Chain.{Chains}
 use Rattle.bucket_laws.specs.Walk.{Stage, AtEdition, AtLink, AtKey, AtValue, AtNext, AtLock, AtEnd, Refused, Walk, start, is_wanted, Bounds, cell_at, wanted_at, fed, walk}
 use Rattle.bucket_laws.specs.Buckets.{nodes, IsNode, IsLinkOf, IsAhead, IsReached, IsFound, IsMissing, Knows}
 use Rattle.bucket_laws.proofs.Walks.{head_is, reached_on, wanted_eq, is_first, edition_kept}
-
-suc_eq : (a b : ℕ) → suc a ≡ suc b → a ≡ b
-suc_eq a b e = omega arith
 
 module _ (buckets : ℕ) (bucket : ℕ → ℕ) where
   -- the chain of bucket i and the cells of its nodes are the same in two memories

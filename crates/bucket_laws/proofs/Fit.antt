@@ -1,19 +1,15 @@
 -- What a thunk that fits a walk has for operands.
 use Rattle.std.proofs.Common.{◌≡◌, ℕ, ◌+◌, Bool, true, false, cond, refl, sym, ap, ◌∙◌, subst, arith}
 use Rattle.std.specs.Prelude.{◌==◌, ◌&&◌, List, [], ◌∷◌, slice_index}
+use Rattle.small_lemmas.proofs.Bools.{both_of as both_true}
+use Rattle.small_lemmas.proofs.Numbers.{tested_equal as equal_of}
 use Rattle.map_history.specs.declared.op.Op.{Op}
 use Rattle.map_history.specs.declared.op.Op.TheVariants.{Get, Ins, Del}
 use Rattle.map_history.specs.Keys.{key_of}
 use Rattle.section_body.specs.Bucket.{bucket_lock, operand, is_small, fits_insert, fits_remove}
-use Rattle.section_body.specs.declared.thunk.Thunk.{Thunk}
+use Rattle.body_terms.specs.declared.thunk.Thunk.{Thunk}
 use Rattle.bucket_laws.specs.Walk.{Stage, AtEdition, AtLink, AtKey, AtValue, AtNext, AtLock, AtEnd, Refused, Walk, is_del, is_end, same_numbers, form_for, operands_for, fits_walk}
 use Rattle.bucket_laws.specs.Buckets.{Form, Read, Insert, Remove, Empty, form_of}
-
-both_true : (a b : Bool) → (a && b) ≡ true → (a ≡ true) × (b ≡ true)
-both_true a b h = (grind arith, grind arith)
-
-equal_of : (a b : ℕ) → (a == b) ≡ true → a ≡ b
-equal_of a b h = grind arith
 
 at_end : (stage : Stage) → is_end stage ≡ true → stage ≡ AtEnd
 at_end AtEnd h = refl

@@ -16,3 +16,6 @@ pub mod TableStores
 pub mod TableTurn
 pub mod WalkFacts
 pub mod Walks
+mod Falling
+pub mod Near
+pub mod Retiring

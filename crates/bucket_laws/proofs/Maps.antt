@@ -12,7 +12,7 @@ use Rattle.map_history.specs.declared.reply.Reply.TheVariants.{New, Dup, Gone, A
 use Rattle.map_history.specs.Keys.{key_of}
 use Rattle.map_history.specs.Replay.{Pairs, found, reply_of, map_after}
 use Rattle.map_history.specs.Words.{word_of}
-use Rattle.section_body.specs.Update.{upd}
+use Rattle.body_terms.specs.Update.{upd}
 use Rattle.structure_laws.proofs.Changes.{upd_same, upd_other}
 use Rattle.bucket_laws.specs.Walk.{Walk, is_del, form_for, operands_for}
 

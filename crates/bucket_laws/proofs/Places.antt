@@ -1,6 +1,7 @@
 -- Places of buckets and of nodes.
 use Rattle.std.proofs.Common.{◌≡◌, ◌≢◌, ℕ, ◌+◌, ◌*◌, ◌<◌, ◌≤◌, Bool, true, false, cond, sym, ap, ◌∙◌, arith}
 use Rattle.std.specs.Prelude.{◌==◌, ◌-◌, ◌/◌, ◌%◌, nat_lt}
+use Rattle.small_lemmas.proofs.Numbers.{tested_not_less as ge_of}
 
 pub lt_true : (a b : ℕ) → a < b → nat_lt a b ≡ true
 lt_true a b h = grind arith
@@ -10,9 +11,6 @@ lt_false a b h = grind arith
 
 pub lt_of : (a b : ℕ) → nat_lt a b ≡ true → a < b
 lt_of a b h = grind arith
-
-pub ge_of : (a b : ℕ) → nat_lt a b ≡ false → b ≤ a
-ge_of a b h = grind arith
 
 pub eq_true : (a b : ℕ) → a ≡ b → (a == b) ≡ true
 eq_true a b h = grind arith

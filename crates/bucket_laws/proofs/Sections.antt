@@ -3,11 +3,12 @@ use Rattle.std.proofs.Common.{◌≡◌, ℕ, suc, ◌+◌, ◌≤◌, refl, sym
 use Rattle.std.specs.Prelude.{Some, slice_get}
 use mathlib.Core.Logic.{dite}
 use native.Mathlib.Decide.{ℕ_discrete}
+use Rattle.small_lemmas.proofs.Lists.{some_same as some_inj}
 use Rattle.map_history.specs.Keys.{key_of}
-use Rattle.section_body.specs.Word.{value_of}
+use Rattle.body_terms.specs.Word.{value_of}
 use Rattle.section_body.specs.Bucket.{bucket_lock, bucket_edition, bucket_head, operand}
-use Rattle.section_body.specs.declared.value.Value.{Value}
-use Rattle.section_body.specs.declared.step.Step.TheVariants.{Load, Want, Store}
+use Rattle.body_terms.specs.declared.value.Value.{Value}
+use Rattle.body_terms.specs.declared.step.Step.TheVariants.{Load, Want, Store}
 use Rattle.table_words.specs.declared.layout.Layout.{Layout}
 use Rattle.structure_laws.specs.Scene.{Section, Scene}
 use Rattle.structure_laws.specs.Sections.{Here, IsStep}
@@ -16,9 +17,6 @@ use Rattle.bucket_laws.specs.Walk.{AtEnd, Walk, cell_at}
 use Rattle.bucket_laws.specs.Buckets.{Form, Read, Insert, Remove, form_of, body_of, IsLinkOf, IsMissing, Knows, IsPending, walk_of, BucketsKept, table}
 use Rattle.bucket_laws.proofs.Forms.{step_in, read_stores, insert_stores, remove_stores}
 use Rattle.bucket_laws.proofs.Fit.{IsFit, fit_of}
-
-some_inj : {A : Type 0} {x y : A} → Some x ≡ Some y → x ≡ y
-some_inj e = cc
 
 pub insert_remove : (f : Form) → f ≡ Insert → f ≡ Remove → ⊥
 insert_remove f a b = cc

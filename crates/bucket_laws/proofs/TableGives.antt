@@ -3,14 +3,16 @@ use Rattle.std.proofs.Common.{◌≡◌, ◌≢◌, ℕ, suc, ◌+◌, ◌*◌, 
 use Rattle.std.specs.Prelude.{◌==◌, ◌&&◌, ◌||◌, ◌⊎◌, ◌-◌, ◌/◌, ◌%◌, nat_lt, Some, [], ◌∷◌, slice_get}
 use Rattle.std.specs.List.{list_any}
 use Rattle.std.proofs.lemmas.Option.{none-some}
+use Rattle.small_lemmas.proofs.Bools.{both_of as both_true}
+use Rattle.small_lemmas.proofs.Numbers.{suc_equal as suc_eq, tested_equal as equal_of}
 use Rattle.map_history.specs.declared.op.Op.{Op}
 use Rattle.map_history.specs.Keys.{key_of, DependsOn}
-use Rattle.section_body.specs.Word.{value_of, next_word}
+use Rattle.body_terms.specs.Word.{value_of, next_word}
 use Rattle.section_body.specs.Bucket.{bucket_lock, bucket_head, operand}
-use Rattle.section_body.specs.declared.value.Value.{Value}
-use Rattle.section_body.specs.declared.step.Step.TheVariants.{Load, Fresh, Store}
+use Rattle.body_terms.specs.declared.value.Value.{Value}
+use Rattle.body_terms.specs.declared.step.Step.TheVariants.{Load, Fresh, Store}
 use Rattle.table_words.specs.declared.layout.Layout.{Layout}
-use Rattle.section_body.specs.Update.{upd}
+use Rattle.body_terms.specs.Update.{upd}
 use Rattle.structure_laws.specs.Scene.{Cells, Readings, Section, Status, Free, Live, Retired, Scene}
 use Rattle.structure_laws.specs.Sections.{value_in, Here, IsStep, Holds, Settled}
 use Rattle.structure_laws.specs.Cells.{InUse, Links, IsSafe}
@@ -25,15 +27,6 @@ use Rattle.bucket_laws.proofs.Places.{lt_true, lt_of, head_link, node_link, guar
 
 true_false : {b : Bool} → b ≡ true → b ≡ false → ⊥
 true_false e e' = cc
-
-suc_eq : (a b : ℕ) → suc a ≡ suc b → a ≡ b
-suc_eq a b e = omega arith
-
-equal_of : (a b : ℕ) → (a == b) ≡ true → a ≡ b
-equal_of a b h = grind arith
-
-both_true : (a b : Bool) → (a && b) ≡ true → (a ≡ true) × (b ≡ true)
-both_true a b h = (grind arith, grind arith)
 
 or_cases : {A : Type 0} → (a b : Bool) → (a || b) ≡ true → (a ≡ true → A) → (b ≡ true → A) → A
 or_cases true b h f g = f refl

@@ -3,14 +3,17 @@ use Rattle.std.proofs.Common.{◌≡◌, ◌≢◌, ℕ, suc, ◌+◌, ◌*◌, 
 use Rattle.std.specs.Prelude.{◌==◌, ◌&&◌, ◌%◌, ◌⊎◌, nat_lt, Option, Some, None, [], ◌∷◌, ◌++◌, slice_get}
 use mathlib.Core.Logic.{dite}
 use native.Mathlib.Decide.{ℕ_discrete}
+use Rattle.small_lemmas.proofs.Bools.{both_of as both_true}
+use Rattle.small_lemmas.proofs.Lists.{some_same as some_inj}
+use Rattle.small_lemmas.proofs.Numbers.{tested_less as lt_of, tested_equal as equal_of}
 use Rattle.map_history.specs.declared.op.Op.{Op}
 use Rattle.map_history.specs.Keys.{key_of}
-use Rattle.section_body.specs.Update.{upd}
-use Rattle.section_body.specs.Word.{value_of}
+use Rattle.body_terms.specs.Update.{upd}
+use Rattle.body_terms.specs.Word.{value_of}
 use Rattle.section_body.specs.Bucket.{bucket_edition, bucket_head, operand, insert_steps, remove_steps}
-use Rattle.section_body.specs.declared.step.Step.{Step}
-use Rattle.section_body.specs.declared.step.Step.TheVariants.{Want, Fresh, Stamp, Answer}
-use Rattle.section_body.specs.declared.thunk.Thunk.{Thunk}
+use Rattle.body_terms.specs.declared.step.Step.{Step}
+use Rattle.body_terms.specs.declared.step.Step.TheVariants.{Want, Fresh, Stamp, Answer}
+use Rattle.body_terms.specs.declared.thunk.Thunk.{Thunk}
 use Rattle.table_words.specs.declared.layout.Layout.{Layout}
 use Rattle.table_words.specs.Limits.{IsWithinLimits}
 use Rattle.structure_laws.specs.Scene.{Readings, Section, Status, Free, Live, Retired, Scene, with_cell, with_reader, with_section, with_status, opened}
@@ -26,9 +29,6 @@ use Rattle.bucket_laws.proofs.NodeChanges.{clip_same}
 use Rattle.bucket_laws.proofs.TableSteps.{quiet_kept, load_kept, make_kept, retire_kept}
 use Rattle.bucket_laws.proofs.TableStores.{table_store}
 use Rattle.bucket_laws.proofs.Walks.{knows_fed, walk_push, is_first, edition_kept}
-
-some_inj : {A : Type 0} {x y : A} → Some x ≡ Some y → x ≡ y
-some_inj e = cc
 
 -- chains are those of any memory that agrees on heads and on the slots in them
 pub chains_agree : (bucket : ℕ → ℕ) (n n' : Nodes) (on : ℕ → Bool) (rank : ℕ → ℕ) (chains : Chains bucket n on rank) (heads : (i : ℕ) → n'.head i ≡ n.head i)
@@ -261,15 +261,6 @@ module _ (buckets : ℕ) (bucket : ℕ → ℕ) (small : (key : ℕ) → bucket 
     taken = λ d x here form low high. let was = kept.taken d x here form low high in record { live = was.live; out = was.out; key = was.key; next = was.next };
     limbo = λ q y t retired recent leads. kept.limbo q y t retired (omega arith) leads;
   }
-
-both_true : (a b : Bool) → (a && b) ≡ true → (a ≡ true) × (b ≡ true)
-both_true a b h = (grind arith, grind arith)
-
-lt_of : (a b : ℕ) → nat_lt a b ≡ true → a < b
-lt_of a b h = grind arith
-
-equal_of : (a b : ℕ) → (a == b) ≡ true → a ≡ b
-equal_of a b h = grind arith
 
 -- a lock is a place below the nodes, and the first of its bucket
 pub lock_at : (buckets p : ℕ) → (nat_lt p (3 * buckets) && (p % 3 == 0)) ≡ true → (p < 3 * buckets) × (p % 3 ≡ 0)

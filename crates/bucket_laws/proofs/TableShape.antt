@@ -2,17 +2,15 @@
 use Rattle.std.proofs.Common.{◌≡◌, ◌≢◌, ℕ, zero, suc, ◌+◌, ◌*◌, ◌<◌, ◌≤◌, cond, refl, sym, ap, ◌∙◌, subst, inl, inr, arith}
 use Rattle.std.proofs.lemmas.List.Elements.{All-nil, All-cons}
 use Rattle.std.specs.Prelude.{◌==◌, ◌^◌, ◌⊎◌, Some, List, [], ◌∷◌, All, Contains, nat_lt}
+use Rattle.small_lemmas.proofs.Lists.{some_same as some_inj}
 use Rattle.section_body.specs.Bucket.{operand, read_steps, insert_steps, remove_steps}
-use Rattle.section_body.specs.declared.value.Value.{Value}
-use Rattle.section_body.specs.declared.value.Value.TheVariants.{Const, Of, Made}
-use Rattle.section_body.specs.declared.step.Step.{Step}
-use Rattle.section_body.specs.declared.step.Step.TheVariants.{Load, Want, Fresh, Make, Stamp, Store, Retire, Answer}
-use Rattle.section_body.specs.declared.thunk.Thunk.{Thunk}
-use Rattle.section_body.specs.Shape.{IsShaped, IsStep, SetBefore, LoadedBefore, FreshBefore, phase, used_values, set_registers, store_place}
+use Rattle.body_terms.specs.declared.value.Value.{Value}
+use Rattle.body_terms.specs.declared.value.Value.TheVariants.{Const, Of, Made}
+use Rattle.body_terms.specs.declared.step.Step.{Step}
+use Rattle.body_terms.specs.declared.step.Step.TheVariants.{Load, Want, Fresh, Make, Stamp, Store, Retire, Answer}
+use Rattle.body_terms.specs.declared.thunk.Thunk.{Thunk}
+use Rattle.body_terms.specs.Shape.{IsShaped, IsStep, SetBefore, LoadedBefore, FreshBefore, phase, used_values, set_registers, store_place}
 use Rattle.bucket_laws.proofs.Forms.{node_init}
-
-some_inj : {A : Type 0} {x y : A} → Some x ≡ Some y → x ≡ y
-some_inj e = cc
 
 -- what a step uses, where it is known which step it is
 used_by : (body : List Step) (i : ℕ) (known step : Step) → Some known ≡ Some step → All (SetBefore body i) (used_values known) → All (SetBefore body i) (used_values step)

@@ -4,14 +4,15 @@ use Rattle.std.specs.Prelude.{◌^◌, ◌⊎◌, Some}
 use Rattle.std.proofs.lemmas.Bool.{both_ways}
 use mathlib.Core.Logic.{dite}
 use native.Mathlib.Decide.{ℕ_discrete}
+use Rattle.small_lemmas.proofs.Lists.{some_same as some_inj}
 use Rattle.map_history.specs.declared.op.Op.{Op}
 use Rattle.map_history.specs.Keys.{key_of}
-use Rattle.section_body.specs.Update.{upd}
-use Rattle.section_body.specs.Word.{value_of, version_of, next_word}
+use Rattle.body_terms.specs.Update.{upd}
+use Rattle.body_terms.specs.Word.{value_of, version_of, next_word}
 use Rattle.section_body.specs.Bucket.{bucket_lock, bucket_edition, bucket_head, operand}
-use Rattle.section_body.specs.declared.value.Value.{Value}
-use Rattle.section_body.specs.declared.value.Value.TheVariants.{Const, Made}
-use Rattle.section_body.specs.declared.step.Step.TheVariants.{Load, Store}
+use Rattle.body_terms.specs.declared.value.Value.{Value}
+use Rattle.body_terms.specs.declared.value.Value.TheVariants.{Const, Made}
+use Rattle.body_terms.specs.declared.step.Step.TheVariants.{Load, Store}
 use Rattle.table_words.specs.declared.layout.Layout.{Layout}
 use Rattle.table_words.specs.Limits.{IsWithinLimits}
 use Rattle.table_words.specs.Places.{slot_count}
@@ -32,9 +33,6 @@ use Rattle.bucket_laws.proofs.Sections.{fit, one_bucket, insert_head, insert_mis
 use Rattle.bucket_laws.proofs.TableGives.{target_on}
 use Rattle.bucket_laws.proofs.TableSteps.{Owns, live_cases, owned_once, suc_eq}
 use Rattle.bucket_laws.proofs.Walks.{head_is, is_first}
-
-some_inj : {A : Type 0} {x y : A} → Some x ≡ Some y → x ≡ y
-some_inj e = cc
 
 live_retired : (x : Status) (y : ℕ) → x ≡ Live → x ≡ Retired y → ⊥
 live_retired x y e e' = cc

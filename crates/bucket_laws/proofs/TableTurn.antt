@@ -7,14 +7,15 @@ use Rattle.std.proofs.lemmas.Bool.{both_ways}
 use Rattle.std.proofs.lemmas.Option.{none-some}
 use mathlib.Core.Logic.{dite}
 use native.Mathlib.Decide.{ℕ_discrete}
+use Rattle.small_lemmas.proofs.Lists.{none_if_never as none_is}
 use Rattle.map_history.specs.Keys.{key_of}
 use Rattle.map_history.specs.Replay.{Pairs, reply_of, map_after}
 use Rattle.map_history.specs.Words.{word_of}
-use Rattle.section_body.specs.Update.{upd}
-use Rattle.section_body.specs.Word.{value_of}
+use Rattle.body_terms.specs.Update.{upd}
+use Rattle.body_terms.specs.Word.{value_of}
 use Rattle.section_body.specs.Bucket.{bucket_head, operand}
-use Rattle.section_body.specs.declared.value.Value.TheVariants.{Const, Made}
-use Rattle.section_body.specs.declared.step.Step.TheVariants.{Answer}
+use Rattle.body_terms.specs.declared.value.Value.TheVariants.{Const, Made}
+use Rattle.body_terms.specs.declared.step.Step.TheVariants.{Answer}
 use Rattle.table_words.specs.declared.layout.Layout.{Layout}
 use Rattle.table_words.specs.Limits.{IsWithinLimits}
 use Rattle.table_words.specs.Places.{slot_count}
@@ -45,10 +46,6 @@ nodes_same a b c e a' b' c' e' p q r t = ap (λ z. nodes_from z b c e) p ∙ ap 
 -- contents go by what is looked up
 contents_same : (n : Nodes) (on : ℕ → Bool) (lookup lookup' : ℕ → Option ℕ) → Contents n on lookup → ((key : ℕ) → lookup key ≡ lookup' key) → Contents n on lookup'
 contents_same n on lookup lookup' contents same = record { pair = λ t on_t. sym (same (n.key t)) ∙ contents.pair t on_t; slot = λ key value h. contents.slot key value (same key ∙ h) }
-
-none_is : (o : Option ℕ) → ((v : ℕ) → o ≡ Some v → ⊥) → o ≡ None
-none_is None f = refl
-none_is (Some v) f = absurd (f v refl)
 
 -- one more slot that is within the bound, and one less
 pub upd_within : (n : ℕ) (on : ℕ → Bool) (t u : ℕ) → t < n → ((u : ℕ) → on u ≡ true → u < n) → upd on t true u ≡ true → u < n

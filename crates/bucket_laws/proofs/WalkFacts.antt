@@ -4,9 +4,12 @@ use Rattle.std.specs.Prelude.{◌==◌, ◌&&◌, ◌||◌, not, ◌-◌, ◌^�
 use Rattle.std.specs.List.{list_any}
 use Rattle.std.proofs.lemmas.Option.{none-some}
 use Rattle.std.proofs.lemmas.Bool.{and_from}
+use Rattle.small_lemmas.proofs.Bools.{or_first as or_left, or_second as or_right}
+use Rattle.small_lemmas.proofs.Lists.{same_number as some_eq}
+use Rattle.small_lemmas.proofs.Numbers.{equal_tested as eq_test, tested_other as is_not}
 use Rattle.map_history.specs.declared.op.Op.{Op}
 use Rattle.map_history.specs.Keys.{key_of}
-use Rattle.section_body.specs.Word.{value_of, is_free, is_spent}
+use Rattle.body_terms.specs.Word.{value_of, is_free, is_spent}
 use Rattle.section_body.specs.Bucket.{bucket_head}
 use Rattle.structure_laws.specs.Scene.{Readings}
 use Rattle.structure_laws.proofs.Changes.{value_small}
@@ -15,25 +18,10 @@ use Rattle.bucket_laws.specs.Buckets.{is_link_place}
 use Rattle.bucket_laws.proofs.Places.{is_head_link, is_node_link}
 use Rattle.bucket_laws.proofs.Walks.{wanted_eq}
 
-some_eq : (a b : ℕ) → Some a ≡ Some b → a ≡ b
-some_eq a b e = cc
-
-or_left : (a b : Bool) → a ≡ true → (a || b) ≡ true
-or_left a b h = grind arith
-
-or_right : (a b : Bool) → b ≡ true → (a || b) ≡ true
-or_right a b h = grind arith
-
-eq_test : (a b : ℕ) → a ≡ b → (a == b) ≡ true
-eq_test a b e = grind arith
-
 -- where a link leads on to a key it isn't 0
 not_none : (none far : Bool) → cond none AtLock (cond far Refused AtKey) ≡ AtKey → none ≡ false
 not_none true far e = absurd (cc)
 not_none false far e = refl
-
-is_not : (a b : ℕ) → (a == b) ≡ false → a ≢ b
-is_not a b h e = grind arith
 
 module _ (buckets : ℕ) (bucket : ℕ → ℕ) (small : (key : ℕ) → bucket key < buckets) where
   -- the readings give a link to this slot

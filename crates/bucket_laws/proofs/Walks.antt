@@ -3,9 +3,11 @@ use Rattle.std.proofs.Common.{◌≡◌, ◌≢◌, ℕ, zero, suc, ◌<◌, ◌
 use Rattle.std.specs.Prelude.{◌==◌, ◌&&◌, not, ◌-◌, ◌⊎◌, nat_lt, nat_le, Option, Some, None, [], ◌∷◌, ◌++◌}
 use Rattle.std.proofs.lemmas.Option.{none-some}
 use Rattle.std.proofs.lemmas.Bool.{both_ways}
+use Rattle.small_lemmas.proofs.Lists.{same_number as some_eq}
+use Rattle.small_lemmas.proofs.Numbers.{tested_equal as is_eq, tested_other as is_not, zero_not_suc as zero_suc}
 use Rattle.map_history.specs.declared.op.Op.{Op}
 use Rattle.map_history.specs.Keys.{key_of}
-use Rattle.section_body.specs.Word.{value_of, is_free, is_spent}
+use Rattle.body_terms.specs.Word.{value_of, is_free, is_spent}
 use Rattle.section_body.specs.Bucket.{bucket_head}
 use Rattle.structure_laws.specs.Scene.{Cells, Readings}
 use Rattle.bucket_laws.specs.Chain.{Chains}
@@ -19,20 +21,8 @@ bool_cases false f g = g refl
 clip_in : (i n a : ℕ) → i < n → cond (nat_lt i n) a 0 ≡ a
 clip_in i n a low = grind arith
 
-is_eq : (a b : ℕ) → (a == b) ≡ true → a ≡ b
-is_eq a b h = grind arith
-
-is_not : (a b : ℕ) → (a == b) ≡ false → a ≢ b
-is_not a b h e = grind arith
-
 before_suc : (v : ℕ) → v ≢ 0 → v ≡ suc (v - 1)
 before_suc v h = omega arith
-
-zero_suc : (t : ℕ) → 0 ≡ suc t → ⊥
-zero_suc t h = omega arith
-
-some_eq : (a b : ℕ) → Some a ≡ Some b → a ≡ b
-some_eq a b h = cc
 
 pub wanted_eq : (o : Option ℕ) (p : ℕ) → is_wanted o p ≡ true → o ≡ Some p
 wanted_eq None p h = absurd (cc)

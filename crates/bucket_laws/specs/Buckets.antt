@@ -5,10 +5,10 @@ use Rattle.std.specs.FinMap.{get}
 use Rattle.map_history.specs.declared.op.Op.{Op}
 use Rattle.map_history.specs.Keys.{key_of}
 use Rattle.map_history.specs.Replay.{Pairs}
-use Rattle.section_body.specs.Word.{value_of}
+use Rattle.body_terms.specs.Word.{value_of}
 use Rattle.section_body.specs.Bucket.{bucket_index, bucket_lock, bucket_edition, bucket_head, operand, fits_read, fits_insert, fits_remove, read_steps, insert_steps, remove_steps, bucket_steps}
-use Rattle.section_body.specs.declared.step.Step.{Step}
-use Rattle.section_body.specs.declared.thunk.Thunk.{Thunk}
+use Rattle.body_terms.specs.declared.step.Step.{Step}
+use Rattle.body_terms.specs.declared.thunk.Thunk.{Thunk}
 use Rattle.table_words.specs.declared.layout.Layout.{Layout}
 use Rattle.table_words.specs.Places.{slot_count}
 use Rattle.structure_laws.specs.Scene.{Cells, Readings, Section, Live, Retired, Scene}
@@ -38,7 +38,8 @@ body_of Empty t = []
 
 -- the section has changed its chain and not yet its edition
 abbrev pub IsPending : Section → ℕ → Type 0
-IsPending x i = (x.thunk.lock ≡ bucket_lock i) × (((form_of x.thunk ≡ Insert) × (x.at ≡ 8)) ⊎ ((form_of x.thunk ≡ Remove) × (x.at ≡ 7)))
+IsPending x i = (x.thunk.lock ≡ bucket_lock i)
+    × (((form_of x.thunk ≡ Insert) × (x.at ≡ 8)) ⊎ ((form_of x.thunk ≡ Remove) × (x.at ≡ 7)))
 
 module _ (buckets : ℕ) (bucket : ℕ → ℕ) where
   -- the links of the chains
@@ -47,7 +48,8 @@ module _ (buckets : ℕ) (bucket : ℕ → ℕ) where
 
   -- the lock of the bucket: of a fixed cell by its place, of a node's cell by the node's key
   abbrev pub guard_of : Cells → ℕ → ℕ
-  guard_of cells p = cond (nat_lt p (3 * buckets)) (p - p % 3) (bucket_lock (bucket (value_of (cells (cell_at buckets bucket ((p - 3 * buckets) / 5) 1)))))
+  guard_of cells p = cond (nat_lt p (3 * buckets)) (p - p % 3)
+      (bucket_lock (bucket (value_of (cells (cell_at buckets bucket ((p - 3 * buckets) / 5) 1)))))
 
   -- the values of heads and nodes
   abbrev pub nodes : Cells → Nodes
@@ -68,7 +70,8 @@ module _ (buckets : ℕ) (bucket : ℕ → ℕ) where
 
   -- a node with this key stands at this link or behind it
   abbrev pub IsAhead : Cells → (ℕ → Bool) → (ℕ → ℕ) → ℕ → ℕ → Type 0
-  IsAhead cells on rank key link = (u : ℕ) → on u ≡ true → value_of (cells (cell_at buckets bucket u 1)) ≡ key → (t : ℕ) × (link ≡ suc t) × (rank u ≤ rank t)
+  IsAhead cells on rank key link = (u : ℕ) → on u ≡ true → value_of (cells (cell_at buckets bucket u 1)) ≡ key
+      → (t : ℕ) × (link ≡ suc t) × (rank u ≤ rank t)
 
   -- the walk's last link still leads to its slot
   abbrev pub IsReached : Cells → (ℕ → Bool) → ℕ → Walk → Type 0
@@ -76,8 +79,10 @@ module _ (buckets : ℕ) (bucket : ℕ → ℕ) where
 
   -- what the walk has read of the key's node stands there still
   abbrev pub IsFound : Cells → (ℕ → Bool) → Op → Walk → Type 0
-  IsFound cells on op w = IsReached cells on (bucket (key_of op)) w × (value_of (cells (cell_at buckets bucket w.slot 1)) ≡ key_of op)
-      × (value_of (cells (cell_at buckets bucket w.slot 2)) ≡ w.value) × (is_del op ≡ true → value_of (cells (cell_at buckets bucket w.slot 3)) ≡ w.next)
+  IsFound cells on op w = IsReached cells on (bucket (key_of op)) w
+      × (value_of (cells (cell_at buckets bucket w.slot 1)) ≡ key_of op)
+      × (value_of (cells (cell_at buckets bucket w.slot 2)) ≡ w.value)
+      × (is_del op ≡ true → value_of (cells (cell_at buckets bucket w.slot 3)) ≡ w.next)
 
   -- no node has the key
   abbrev pub IsMissing : Cells → (ℕ → Bool) → ℕ → Type 0
@@ -87,21 +92,28 @@ module _ (buckets : ℕ) (bucket : ℕ → ℕ) where
   abbrev pub Knows : Cells → (ℕ → Bool) → (ℕ → ℕ) → Op → Walk → Stage → Type 0
   Knows cells on rank op w AtEdition = Unit {0}
   Knows cells on rank op w AtLink = let i = bucket (key_of op) in
-      IsLinkOf cells on i w.place × IsAhead cells on rank (key_of op) (value_of (cells w.place)) × (w.place ≢ bucket_head i → w.head ≡ value_of (cells (bucket_head i)))
+      IsLinkOf cells on i w.place × IsAhead cells on rank (key_of op) (value_of (cells w.place))
+      × (w.place ≢ bucket_head i → w.head ≡ value_of (cells (bucket_head i)))
   Knows cells on rank op w AtKey = let i = bucket (key_of op) in
-      IsReached cells on i w × IsAhead cells on rank (key_of op) (suc w.slot) × (w.head ≡ value_of (cells (bucket_head i)))
+      IsReached cells on i w × IsAhead cells on rank (key_of op) (suc w.slot)
+      × (w.head ≡ value_of (cells (bucket_head i)))
   Knows cells on rank op w AtValue = let i = bucket (key_of op) in
-      IsReached cells on i w × (value_of (cells (cell_at buckets bucket w.slot 1)) ≡ key_of op) × (w.head ≡ value_of (cells (bucket_head i)))
+      IsReached cells on i w × (value_of (cells (cell_at buckets bucket w.slot 1)) ≡ key_of op)
+      × (w.head ≡ value_of (cells (bucket_head i)))
   Knows cells on rank op w AtNext = let i = bucket (key_of op) in
-      IsReached cells on i w × (value_of (cells (cell_at buckets bucket w.slot 1)) ≡ key_of op) × (value_of (cells (cell_at buckets bucket w.slot 2)) ≡ w.value) × (w.head ≡ value_of (cells (bucket_head i)))
-  Knows cells on rank op w AtLock = (w.head ≡ value_of (cells (bucket_head (bucket (key_of op))))) × (w.found ≡ true → IsFound cells on op w) × (w.found ≡ false → IsMissing cells on (key_of op))
-  Knows cells on rank op w AtEnd = (w.head ≡ value_of (cells (bucket_head (bucket (key_of op))))) × (w.found ≡ true → IsFound cells on op w) × (w.found ≡ false → IsMissing cells on (key_of op))
+      IsReached cells on i w × (value_of (cells (cell_at buckets bucket w.slot 1)) ≡ key_of op)
+      × (value_of (cells (cell_at buckets bucket w.slot 2)) ≡ w.value) × (w.head ≡ value_of (cells (bucket_head i)))
+  Knows cells on rank op w AtLock = (w.head ≡ value_of (cells (bucket_head (bucket (key_of op)))))
+      × (w.found ≡ true → IsFound cells on op w) × (w.found ≡ false → IsMissing cells on (key_of op))
+  Knows cells on rank op w AtEnd = (w.head ≡ value_of (cells (bucket_head (bucket (key_of op)))))
+      × (w.found ≡ true → IsFound cells on op w) × (w.found ≡ false → IsMissing cells on (key_of op))
   Knows cells on rank op w Refused = Unit {0}
 
   -- as long as the bucket's edition is the one that the walk read, and no change is pending, the walk knows this
   abbrev pub IsWalked : Scene → (ℕ → Bool) → (ℕ → ℕ) → Op → Walk → Type 0
   IsWalked s on rank op w = let i = bucket (key_of op) in
-      s.cells (bucket_edition i) ≡ w.edition → ((d : ℕ) (x : Section) → s.section d ≡ Some x → IsPending x i → ⊥) → Knows s.cells on rank op w w.stage
+      s.cells (bucket_edition i) ≡ w.edition → ((d : ℕ) (x : Section) → s.section d ≡ Some x → IsPending x i → ⊥)
+      → Knows s.cells on rank op w w.stage
 
   abbrev pub bounds : Layout → Bounds
   bounds layout = record { links = slot_count layout 0 + 8; version_max = layout.version_max }
@@ -119,31 +131,42 @@ module _ (buckets : ℕ) (bucket : ℕ → ℕ) where
     pub value : value_of (s.cells (cell_at buckets bucket slot 2)) ≡ operand x.thunk 2
     pub next : value_of (s.cells (cell_at buckets bucket slot 3)) ≡ operand x.thunk 3
 
-  -- the node that a section has taken out: live, in no chain, with the operation's key, and its link leads into the chain of its bucket
+  -- the node that a section has taken out: live, in no chain, with the operation's key, and its link leads into the
+  -- chain of its bucket
   pub record IsTaken (s : Scene) (on : ℕ → Bool) (x : Section) : Type 0 where
     pub live : s.status (operand x.thunk 2) ≡ Live
     pub out : on (operand x.thunk 2) ≡ false
     pub key : value_of (s.cells (cell_at buckets bucket (operand x.thunk 2) 1)) ≡ key_of x.op
-    pub next : (t : ℕ) → value_of (s.cells (cell_at buckets bucket (operand x.thunk 2) 3)) ≡ suc t → IsNode s.cells on (bucket (key_of x.op)) t
+    pub next : (t : ℕ) → value_of (s.cells (cell_at buckets bucket (operand x.thunk 2) 3)) ≡ suc t
+        → IsNode s.cells on (bucket (key_of x.op)) t
 
   pub record BucketsKept (layout : Layout) (s : Scene) : Type 0 where
     pub on : ℕ → Bool
     pub rank : ℕ → ℕ
     pub chains : Chains bucket (nodes s.cells) on rank
     pub on_live : (t : ℕ) → on t ≡ true → s.status t ≡ Live
-    pub readers : (r : ℕ) (readings : Readings) (op : Op) → s.reader r ≡ Some readings → IsWalked s on rank op (walk_of layout op readings)
-    pub sections : (d : ℕ) (x : Section) → s.section d ≡ Some x → IsWalked s on rank x.op (walk_of layout x.op x.readings)
-    pub made : (d : ℕ) (x : Section) → s.section d ≡ Some x → form_of x.thunk ≡ Insert → 6 ≤ x.at → x.at ≤ 7 → IsMade s on x
-    pub linked : (d : ℕ) (x : Section) → s.section d ≡ Some x → form_of x.thunk ≡ Remove → 3 ≤ x.at → IsLinkOf s.cells on (bucket (key_of x.op)) (operand x.thunk 1)
-    pub taken : (d : ℕ) (x : Section) → s.section d ≡ Some x → form_of x.thunk ≡ Remove → 7 ≤ x.at → x.at ≤ 8 → IsTaken s on x
+    pub readers : (r : ℕ) (readings : Readings) (op : Op) → s.reader r ≡ Some readings
+        → IsWalked s on rank op (walk_of layout op readings)
+    pub sections : (d : ℕ) (x : Section) → s.section d ≡ Some x
+        → IsWalked s on rank x.op (walk_of layout x.op x.readings)
+    pub made : (d : ℕ) (x : Section) → s.section d ≡ Some x → form_of x.thunk ≡ Insert → 6 ≤ x.at → x.at ≤ 7
+        → IsMade s on x
+    pub linked : (d : ℕ) (x : Section) → s.section d ≡ Some x → form_of x.thunk ≡ Remove → 3 ≤ x.at
+        → IsLinkOf s.cells on (bucket (key_of x.op)) (operand x.thunk 1)
+    pub taken : (d : ℕ) (x : Section) → s.section d ≡ Some x → form_of x.thunk ≡ Remove → 7 ≤ x.at → x.at ≤ 8
+        → IsTaken s on x
     -- a live slot stands in a chain, or is a section's new node, or one that it has taken out
     pub live : (t : ℕ) → s.status t ≡ Live → (on t ≡ true)
-        ⊎ ((d : ℕ) × (x : Section) × (s.section d ≡ Some x) × (form_of x.thunk ≡ Insert) × (6 ≤ x.at) × (x.at ≤ 7) × (x.reg 2 ≡ suc t))
-        ⊎ ((d : ℕ) × (x : Section) × (s.section d ≡ Some x) × (form_of x.thunk ≡ Remove) × (7 ≤ x.at) × (x.at ≤ 8) × (operand x.thunk 2 ≡ t))
-    pub limbo : (q y t : ℕ) → s.status q ≡ Retired y → s.epoch ≤ y + 1 → value_of (s.cells (cell_at buckets bucket q 3)) ≡ suc t → (s.status t ≡ Live) ⊎ ((z : ℕ) × (s.status t ≡ Retired z) × (y ≤ z))
+        ⊎ ((d : ℕ) × (x : Section) × (s.section d ≡ Some x) × (form_of x.thunk ≡ Insert) × (6 ≤ x.at) × (x.at ≤ 7)
+        × (x.reg 2 ≡ suc t))
+        ⊎ ((d : ℕ) × (x : Section) × (s.section d ≡ Some x) × (form_of x.thunk ≡ Remove) × (7 ≤ x.at) × (x.at ≤ 8)
+        × (operand x.thunk 2 ≡ t))
+    pub limbo : (q y t : ℕ) → s.status q ≡ Retired y → s.epoch ≤ y + 1
+        → value_of (s.cells (cell_at buckets bucket q 3)) ≡ suc t
+        → (s.status t ≡ Live) ⊎ ((z : ℕ) × (s.status t ≡ Retired z) × (y ≤ z))
 
-  -- the chains end, no slot stands twice, keys differ and belong to their bucket; the slots in chains are among the memory's, of
-  -- which there are so many; and the pairs are the map's
+  -- the chains end, no slot stands twice, keys differ and belong to their bucket; the slots in chains are among the
+  -- memory's, of which there are so many; and the pairs are the map's
   pub record BucketsStand (slots : ℕ) (cells : Cells) (pairs : Pairs) : Type 0 where
     pub on : ℕ → Bool
     pub rank : ℕ → ℕ
@@ -153,7 +176,8 @@ module _ (buckets : ℕ) (bucket : ℕ → ℕ) where
 
   -- every link that was read leads to a node slot
   abbrev pub LinksWithin : Layout → Readings → Type 0
-  LinksWithin layout readings = (i p w t : ℕ) → slice_get readings i ≡ Some (p, w) → is_link_place p ≡ true → value_of w ≡ suc t → t < slot_count layout 0
+  LinksWithin layout readings = (i p w t : ℕ) → slice_get readings i ≡ Some (p, w) → is_link_place p ≡ true
+      → value_of w ≡ suc t → t < slot_count layout 0
 
   abbrev pub table : Meaning
   table = record {
@@ -163,7 +187,8 @@ module _ (buckets : ℕ) (bucket : ℕ → ℕ) where
     first_value = λ place. 0;
     is_lock = λ place. nat_lt place (3 * buckets) && (place % 3 == 0);
     body = bucket_steps;
-    reaches = λ readings slot. list_any (λ reading. is_link_place reading.0 && (value_of reading.1 == suc slot)) readings;
+    reaches = λ readings slot. list_any (λ reading. is_link_place reading.0 && (value_of reading.1 == suc slot))
+        readings;
     fits = λ layout op readings thunk. fits_walk buckets bucket op (walk_of layout op readings) thunk;
     is_link = λ cells place. is_link_place place;
     guard = guard_of;

@@ -1,6 +1,6 @@
 -- The chains of a hash table: which slots stand in them, each with a rank that falls along its chain.
 use Rattle.std.specs.Prelude.{ℕ, suc, ◌<◌, ◌≤◌, ◌≡◌, ◌≢◌, Bool, true, Option, Some}
-use Rattle.section_body.specs.Update.{upd}
+use Rattle.body_terms.specs.Update.{upd}
 
 -- the values of the heads by bucket, and of the cells of the slots
 pub record Nodes : Type 0 where
@@ -26,7 +26,8 @@ module _ (bucket : ℕ → ℕ) where
     pub head_top : (i t u : ℕ) → n.head i ≡ suc t → on u ≡ true → bucket (n.key u) ≡ i → rank u ≤ rank t
     pub head_none : (i u : ℕ) → n.head i ≡ 0 → on u ≡ true → bucket (n.key u) ≢ i
     pub next_on : (s t : ℕ) → on s ≡ true → n.next s ≡ suc t → (on t ≡ true) × IsBeside n t s × (rank t < rank s)
-    pub next_top : (s t u : ℕ) → on s ≡ true → n.next s ≡ suc t → on u ≡ true → IsBeside n u s → rank u < rank s → rank u ≤ rank t
+    pub next_top : (s t u : ℕ) → on s ≡ true → n.next s ≡ suc t → on u ≡ true → IsBeside n u s → rank u < rank s
+        → rank u ≤ rank t
     pub next_none : (s u : ℕ) → on s ≡ true → n.next s ≡ 0 → on u ≡ true → IsBeside n u s → rank s ≤ rank u
     pub rank_once : (s t : ℕ) → on s ≡ true → on t ≡ true → IsBeside n s t → rank s ≡ rank t → s ≡ t
     pub key_once : (s t : ℕ) → on s ≡ true → on t ≡ true → n.key s ≡ n.key t → s ≡ t

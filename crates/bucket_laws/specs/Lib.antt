@@ -1,3 +1,4 @@
 pub mod Chain
 pub mod Walk
 pub mod Buckets
+pub mod Short

@@ -3,10 +3,10 @@ use Rattle.std.specs.Prelude.{ℕ, suc, ◌+◌, ◌*◌, ◌-◌, ◌^◌, Bool
 use Rattle.map_history.specs.declared.op.Op.{Op}
 use Rattle.map_history.specs.declared.op.Op.TheVariants.{Get, Ins, Del}
 use Rattle.map_history.specs.Keys.{key_of}
-use Rattle.section_body.specs.Memory.{cell_of}
-use Rattle.section_body.specs.Word.{value_of, is_free, is_spent}
+use Rattle.body_terms.specs.Memory.{cell_of}
+use Rattle.body_terms.specs.Word.{value_of, is_free, is_spent}
 use Rattle.section_body.specs.Bucket.{bucket_lock, bucket_edition, bucket_head}
-use Rattle.section_body.specs.declared.thunk.Thunk.{Thunk}
+use Rattle.body_terms.specs.declared.thunk.Thunk.{Thunk}
 use Rattle.structure_laws.specs.Scene.{Readings}
 
 -- what the walk loads next; it is at its end, or was refused
@@ -20,8 +20,8 @@ pub data Stage : Type 0 where
   AtEnd : Stage
   Refused : Stage
 
--- how far a walk has come: how many links it has loaded, the edition word, the head link, the place of the last link, the slot that it
--- leads to, the value and the next link of the key's node, whether there is one, and the lock word
+-- how far a walk has come: how many links it has loaded, the edition word, the head link, the place of the last link,
+-- the slot that it leads to, the value and the next link of the key's node, whether there is one, and the lock word
 pub record Walk : Type 0 where
   pub stage : Stage
   pub links : ℕ
@@ -35,7 +35,18 @@ pub record Walk : Type 0 where
   pub word : ℕ
 
 abbrev pub start : Walk
-start = record { stage = AtEdition; links = 0; edition = 0; head = 0; place = 0; slot = 0; value = 0; next = 0; found = false; word = 0 }
+start = record {
+  stage = AtEdition;
+  links = 0;
+  edition = 0;
+  head = 0;
+  place = 0;
+  slot = 0;
+  value = 0;
+  next = 0;
+  found = false;
+  word = 0;
+}
 
 abbrev pub is_del : Op → Bool
 is_del (Get key) = false
@@ -115,18 +126,26 @@ module _ (buckets : ℕ) (bucket : ℕ → ℕ) where
     slot = value_of word - 1;
     found = false;
   }
-  fed b op w AtKey word = cond (value_of word == key_of op) (record w { stage = AtValue }) (record w { stage = AtLink; place = cell_at w.slot 3 })
+  fed b op w AtKey word = cond (value_of word == key_of op) (record w { stage = AtValue })
+      (record w { stage = AtLink; place = cell_at w.slot 3 })
   fed b op w AtValue word = record w { stage = cond (is_del op) AtNext AtLock; value = value_of word; found = true }
   fed b op w AtNext word = record w { stage = AtLock; next = value_of word; found = true }
-  fed b op w AtLock word = record w { stage = cond (is_free word && not (is_spent b.version_max word)) AtEnd Refused; word = word }
+  fed b op w AtLock word = record w {
+    stage = cond (is_free word && not (is_spent b.version_max word)) AtEnd Refused;
+    word = word;
+  }
   fed b op w AtEnd word = w
   fed b op w Refused word = w
 
   -- the walk in a list of readings: its longest prefix that is one
   unfoldable pub walk : Bounds → Op → Walk → Readings → Walk
   walk b op w [] = w
-  walk b op w (reading ∷ readings) = cond (is_wanted (wanted_at (bucket (key_of op)) w w.stage) reading.0) (walk b op (fed b op w w.stage reading.1) readings) w
+  walk b op w (reading ∷ readings) = cond (is_wanted (wanted_at (bucket (key_of op)) w w.stage) reading.0)
+      (walk b op (fed b op w w.stage reading.1) readings) w
 
   -- the walk is whole and met no refusal, and the thunk is the one for it
   abbrev pub fits_walk : Op → Walk → Thunk → Bool
-  fits_walk op w thunk = is_end w.stage && ((thunk.form == form_for op w.found) && ((thunk.lock == bucket_lock (bucket (key_of op))) && ((thunk.word == w.word) && same_numbers thunk.operands (operands_for op w w.found))))
+  fits_walk op w thunk = is_end w.stage &&
+      ((thunk.form == form_for op w.found) &&
+      ((thunk.lock == bucket_lock (bucket (key_of op))) &&
+      ((thunk.word == w.word) && same_numbers thunk.operands (operands_for op w w.found))))

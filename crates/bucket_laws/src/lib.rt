@@ -5,5 +5,7 @@
 #![tactic(auto)]
 
 mod laws;
+mod steady;
 
 pub use laws::{buckets_meet_the_laws, buckets_meet_the_planners_laws};
+pub use steady::bucket_walks_are_short;

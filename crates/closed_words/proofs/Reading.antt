@@ -5,8 +5,8 @@ use Rattle.structure_laws.specs.Meaning.{Meaning}
 use Rattle.structure_laws.specs.Laws.{Laws}
 use Rattle.machine_states.specs.Sight.{sight}
 use Rattle.version_words.specs.machine_invariant.specs.After.{AreAllowed}
-use Rattle.version_words.specs.reached_histories.specs.Laws.{HasHistory}
-use Rattle.version_words.specs.reached_histories.proofs.Histories.{reached_have}
+use Rattle.reached_histories.specs.Laws.{HasHistory}
+use Rattle.reached_histories.proofs.Histories.{reached_have}
 use Rattle.version_words.specs.TableState.{WordsState, AreShown}
 use Rattle.closed_words.specs.Histories.{HaveHistory}
 

@@ -5,11 +5,11 @@ use Rattle.map_history.specs.History.{IsLegalFrom}
 use Rattle.map_history.specs.Replay.{Pairs, map_after_all}
 use Rattle.map_history.specs.Words as replies
 use Rattle.history_orders.specs.Stamped.{Stamped, oldest_first, ops_of, IsReplayed, IsHistoryOf}
-use Rattle.section_body.specs.Word.{value_of}
+use Rattle.body_terms.specs.Word.{value_of}
 use Rattle.table_words.specs.declared.spot.Spot.TheVariants.{Cell, Stamp, Reply}
 use Rattle.structure_laws.specs.Meaning.{Meaning}
-use Rattle.history_core.specs.State.{Requests}
-use Rattle.version_words.specs.machine_records.specs.Requests.{requests_of}
+use Rattle.reached_histories.specs.history_core.specs.State.{Requests}
+use Rattle.reached_histories.specs.Requests.{requests_of}
 use Rattle.version_words.specs.TableState.{WordsState, word_of}
 
 module _ {T : Type 0} (m : Meaning) (w : WordsState T) where
@@ -21,11 +21,12 @@ module _ {T : Type 0} (m : Meaning) (w : WordsState T) where
   abbrev pub HoldsNoLock : Type 0
   HoldsNoLock = (p : ℕ) → m.is_lock p ≡ true → value_of (word_of m w (Cell p)) ≡ 0
 
-  -- each stamped request has its reply word, the one at its place where the structure serves a map, and the cells stand for the
-  -- history's final map
+  -- each stamped request has its reply word, the one at its place where the structure serves a map, and the cells stand
+  -- for the history's final map
   pub record AreSettled (history : List Stamped) (pairs : Pairs) : Type 0 where
     pub replied : (n : ℕ) → word_of m w (Stamp n) ≢ 0 → word_of m w (Reply n) ≢ 0
-    pub replies : m.is_map ≡ true → (e : Stamped) → Contains history e → word_of m w (Reply e.number) ≡ replies.word_of e.reply
+    pub replies : m.is_map ≡ true → (e : Stamped) → Contains history e
+        → word_of m w (Reply e.number) ≡ replies.word_of e.reply
     pub cells : m.stands w.layout (λ p. word_of m w (Cell p)) pairs
 
   -- the requests that have an entry are one legal history

@@ -1,7 +1,7 @@
 -- Asking on.
 use Rattle.std.proofs.Common.{◌≡◌, ℕ, zero, suc, min, ◌+◌, ◌-◌, ◌^◌, ◌≤◌, Bool, true, refl, subst, ap, ◌∙◌, arith}
 use Rattle.fault_count.specs.Rose.{Rose}
-use Rattle.section_body.specs.Counted.{counted_on}
+use Rattle.body_terms.specs.Counted.{counted_on}
 use Rattle.commit_log.specs.Asked.{IsAsked}
 
 pub counted_more : (count n k : ℕ) → counted_on (counted_on count n) k ≡ counted_on count (n + k)

@@ -1,8 +1,8 @@
 -- The commit of a loaded word.
 use Rattle.std.proofs.Common.{◌≡◌, ℕ, length, Bool, true, refl, sym, ap, ◌∙◌, Option, Some}
-use Rattle.section_body.specs.declared.micro.Micro.{Micro}
-use Rattle.section_body.specs.declared.micro.Micro.TheVariants as micros
-use Rattle.section_body.specs.Run.{written_once}
+use Rattle.body_terms.specs.declared.micro.Micro.{Micro}
+use Rattle.body_terms.specs.declared.micro.Micro.TheVariants as micros
+use Rattle.body_terms.specs.Run.{written_once}
 use Rattle.table_words.specs.declared.spot.Spot.{Spot}
 use Rattle.table_words.specs.declared.spot.Spot.TheVariants.{LogWord}
 use Rattle.table_words.specs.declared.access.Access.{Access}
@@ -18,7 +18,7 @@ use Rattle.runner_steps.specs.Sections.{next_of}
 use Rattle.runner_steps.specs.Asks.{sizes_for}
 use Rattle.runner_steps.specs.AfterInRun.{agrees}
 use Rattle.machine_states.proofs.Steps.{some_same}
-use Rattle.version_words.specs.machine_invariant.specs.After.{AreAllowed}
+use Rattle.next_steps.specs.machine_invariant.specs.After.{AreAllowed}
 use Rattle.version_words.specs.RunnerState.{RunnerState}
 use Rattle.version_words.specs.TableState.{TableState, IsOf}
 use Rattle.version_words.specs.Events.{met_by, Commits}

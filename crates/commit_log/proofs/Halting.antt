@@ -1,7 +1,7 @@
 -- A gate's halt behind one of several steps.
 use Rattle.std.proofs.Common.{ℕ, ◌+◌, ◌≤◌, true, false, arith}
 use Rattle.structure_laws.specs.Meaning.{Meaning}
-use Rattle.section_body.specs.declared.micro.Micro.{Micro}
+use Rattle.body_terms.specs.declared.micro.Micro.{Micro}
 use Rattle.runner_parts.specs.State.{RunState}
 use Rattle.version_words.specs.RunnerState.{RunnerState}
 use Rattle.commit_log.specs.Asked.{IsAsked}

@@ -1,9 +1,9 @@
 -- Where a run stands behind a step of its line.
 use Rattle.std.proofs.Common.{◌≡◌, Bool, true, false, refl, ap, ◌∙◌, cond}
 use Rattle.std.specs.Prelude.{not, ◌&&◌, slice_index_or}
-use Rattle.section_body.specs.declared.micro.Micro.{Micro}
-use Rattle.section_body.specs.declared.micro.Micro.TheVariants.{End}
-use Rattle.section_body.specs.Line.{micro_at, is_check, is_end, is_event, ending}
+use Rattle.body_terms.specs.declared.micro.Micro.{Micro}
+use Rattle.body_terms.specs.declared.micro.Micro.TheVariants.{End}
+use Rattle.body_terms.specs.Line.{micro_at, is_check, is_end, is_event, ending}
 use Rattle.section_lines.proofs.Resting.{rests_at}
 use Rattle.table_words.specs.declared.layout.Layout.{Layout}
 use Rattle.structure_laws.specs.Meaning.{Meaning}

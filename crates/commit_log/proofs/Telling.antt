@@ -1,7 +1,7 @@
 -- Steps that are counted apart, and told in the end.
 use Rattle.std.proofs.Common.{◌≡◌, ℕ, zero, suc, ◌+◌, ◌-◌, ◌^◌, ◌≤◌, min, Bool, true, false, refl, sym, ap, ◌∙◌, arith}
-use Rattle.section_body.specs.Counted.{counted_on}
-use Rattle.section_body.proofs.CountedLemmas.{counts}
+use Rattle.body_terms.specs.Counted.{counted_on}
+use Rattle.body_terms.proofs.CountedLemmas.{counts}
 use Rattle.commit_log.specs.Asked.{IsAsked}
 
 -- a count after some more, wherever it stood

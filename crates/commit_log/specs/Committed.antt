@@ -1,8 +1,8 @@
 -- Commits of words that were loaded.
 use Rattle.std.specs.Prelude.{◌≡◌, ℕ, ◌==◌, Bool, true, false, length}
-use Rattle.section_body.specs.Run.{written_once}
-use Rattle.section_body.specs.declared.micro.Micro.{Micro}
-use Rattle.section_body.specs.declared.micro.Micro.TheVariants.{Commit, NestedCommit}
+use Rattle.body_terms.specs.Run.{written_once}
+use Rattle.body_terms.specs.declared.micro.Micro.{Micro}
+use Rattle.body_terms.specs.declared.micro.Micro.TheVariants.{Commit, NestedCommit}
 use Rattle.table_words.specs.declared.spot.Spot.TheVariants.{LogWord}
 use Rattle.structure_laws.specs.Meaning.{Meaning}
 use Rattle.runner_parts.specs.State.{RunState}
@@ -27,8 +27,8 @@ module _ {T : Type 0} (m : Meaning) where
     pub loaded : commits_loaded micro ≡ true
     pub word : proposal ≡ q.word
 
-  -- this run has agreed on this word. It stands in the log, behind those agreed on before, and the run goes on with it; and whether this
-  -- exchange put it there
+  -- this run has agreed on this word. It stands in the log, behind those agreed on before, and the run goes on with it;
+  -- and whether this exchange put it there
   pub record HasCommitted (agreed : ℕ) (first : Bool) (old new : RunnerState T) (q : RunState) : Type 0 where
     pub micro : Micro
     pub found : ℕ

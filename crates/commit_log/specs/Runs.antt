@@ -1,13 +1,13 @@
 -- A runner in a run, and the steps that it makes there.
 use Rattle.std.specs.Prelude.{◌≡◌, ℕ, zero, suc, length, Some}
-use Rattle.section_body.specs.declared.micro.Micro.{Micro}
+use Rattle.body_terms.specs.declared.micro.Micro.{Micro}
 use Rattle.structure_laws.specs.Meaning.{Meaning}
 use Rattle.runner_parts.specs.State.{RunState}
 use Rattle.runner_steps.specs.Sections.{next_of}
 use Rattle.version_words.specs.RunnerState.{RunnerState}
 use Rattle.version_words.specs.Events.{Makes}
-use Rattle.version_words.specs.next_steps.specs.Steps.{kind_at}
-use Rattle.version_words.specs.next_steps.specs.Stages.{IsInRun, IsBehind}
+use Rattle.next_steps.specs.Steps.{kind_at}
+use Rattle.next_steps.specs.Stages.{IsInRun, IsBehind}
 
 module _ {T : Type 0} (m : Meaning) where
   -- the runner is in this run, which has loaded its thunk and its done word, in a state that the machine reaches
@@ -15,7 +15,8 @@ module _ {T : Type 0} (m : Meaning) where
     pub inside : IsInRun m r.layout r.requests r.number r.part q
     pub opened : length q.opened ≡ 13
 
-  -- the runner made this step of this run, which found this number. Where it is still in a run, it may make the next step
+  -- the runner made this step of this run, which found this number. Where it is still in a run, it may make the next
+  -- step
   pub record Stepped (q : RunState) (micro : Micro) (found : ℕ) (old new : RunnerState T) : Type 0 where
     pub running : IsRunning old q
     pub next : next_of m q ≡ micro

@@ -2,7 +2,7 @@
 ghost use Rattle.std.specs.Prelude.{◌≡◌, ℕ, Bool, true};
 ghost use Rattle.commit_log.specs.Asked.{IsAsked};
 
-use section_body::{Gate, Pass, StepKind, Steps};
+use body_terms::{Gate, Pass, StepKind, Steps};
 
 /// What a runner asks in place of a gate that never halts: it lets the runner go on. It counts nothing, as if its count
 /// stood at the last number of 64 bits.

@@ -2,7 +2,7 @@
 ghost use Rattle.std.specs.Prelude.{◌≡◌, ℕ};
 ghost use Rattle.commit_log.specs.Asked.{IsAsked};
 
-use section_body::{Gate, Pass, StepKind, Steps};
+use body_terms::{Gate, Pass, StepKind, Steps};
 
 /// Counts one more step, and asks the gate whether the runner goes on behind it.
 pub fn passes<G: Gate, L>(gate: &mut G, steps: &mut Steps<L>, kind: StepKind) -> bool

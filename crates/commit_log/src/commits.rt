@@ -4,14 +4,15 @@ ghost use Rattle.version_words.specs.TableState.{IsOf};
 ghost use Rattle.commit_log.specs.Runs.{IsRunning};
 ghost use Rattle.commit_log.specs.Committed.{MayCommit, HasCommitted};
 
-use runner_parts::Structure;
+use structure_laws::Structure;
 use version_words::{FlockTable, Runner, table_is_allowed};
 
-/// Agrees on a word of the run's log: one exchange puts the proposal there, where no run of the section has put another one yet.
-/// Answers the word that stands there then, by which every run of the section goes, and whether this exchange put it there.
+/// Agrees on a word of the run's log: one exchange puts the proposal there, where no run of the section has put another
+/// one yet. Answers the word that stands there then, by which every run of the section goes, and whether this exchange
+/// put it there.
 ///
-/// The runner has to be in a run whose next step commits a word that it loaded: that of a Load, or the first one of a Take.
-/// The proposal is that word. There is no refusal, and no memory is taken (Ben-David, Blelloch, Wei, 2022).
+/// The runner has to be in a run whose next step commits a word that it loaded: that of a Load, or the first one of a
+/// Take. The proposal is that word. There is no refusal, and no memory is taken (Ben-David, Blelloch, Wei, 2022).
 pub fn commit<S: Structure>(
     table: &FlockTable<S>,
     runner: Runner<S>,

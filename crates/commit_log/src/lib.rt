@@ -1,10 +1,10 @@
 //! Steps of a run, and the commit of a word that the run has loaded.
 //!
-//! The thread that runs a section goes through its body's line step by step, and so does each one that helps it. What they load
-//! differs; what they go by is the word that was agreed on: the first one that an exchange put into the section's log
-//! (Ben-David, Blelloch, Wei, *Lock-free locks revisited*, 2022). `commit` is that exchange for a loaded word, and
-//! `between` is what comes between two steps: the step is counted, and a gate is asked. `apart` is for gates that never halt: what they are
-//! to be asked is counted apart, and told in the end.
+//! The thread that runs a section goes through its body's line step by step, and so does each one that helps it. What
+//! they load differs; what they go by is the word that was agreed on: the first one that an exchange put into the
+//! section's log (Ben-David, Blelloch, Wei, *Lock-free locks revisited*, 2022). `commit` is that exchange for a loaded
+//! word, and `between` is what comes between two steps: the step is counted, and a gate is asked. `apart` is for gates
+//! that never halt: what they are to be asked is counted apart, and told in the end.
 #![tactic(auto)]
 
 mod apart;
@@ -17,4 +17,3 @@ pub use commits::commit;
 
 // Passed on to the layers above, so that they needn't name these libraries themselves.
 pub use version_words;
-pub use version_words::{interleave_core, reached_histories};

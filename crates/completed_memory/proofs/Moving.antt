@@ -7,11 +7,11 @@ use mathlib.Core.Logic.{dite}
 use native.Mathlib.Decide.{ℕ_discrete}
 use Rattle.map_history.specs.Replay.{Pairs, reply_of, map_after}
 use Rattle.map_history.specs.Words.{word_of}
-use Rattle.section_body.specs.Update.{upd}
-use Rattle.section_body.specs.Word.{next_word}
-use Rattle.section_body.specs.declared.value.Value.{Value}
-use Rattle.section_body.specs.declared.step.Step.TheVariants.{Load, Stamp, Store, Answer}
-use Rattle.section_body.specs.Shape.{phase}
+use Rattle.body_terms.specs.Update.{upd}
+use Rattle.body_terms.specs.Word.{next_word}
+use Rattle.body_terms.specs.declared.value.Value.{Value}
+use Rattle.body_terms.specs.declared.step.Step.TheVariants.{Load, Stamp, Store, Answer}
+use Rattle.body_terms.specs.Shape.{phase}
 use Rattle.table_words.specs.declared.layout.Layout.{Layout}
 use Rattle.table_words.specs.Limits.{IsWithinLimits}
 use Rattle.structure_laws.specs.Scene.{Section, Status, Free, Live, Scene, with_cell, passed, passes}

@@ -1,11 +1,11 @@
 -- The remaining Stores of sections that have come to their Stamp: their places are apart, and what a step leaves of them.
 use Rattle.std.proofs.Common.{◌≡◌, ◌≢◌, ℕ, ◌<◌, ◌≤◌, refl, sym, ap, ◌∙◌, subst, inl, inr, ⊎_elim, arith}
 use Rattle.std.specs.Prelude.{◌⊎◌}
-use Rattle.section_body.specs.Word.{next_word}
-use Rattle.section_body.specs.declared.value.Value.{Value}
-use Rattle.section_body.specs.declared.step.Step.{Step}
-use Rattle.section_body.specs.declared.step.Step.TheVariants.{Load, Stamp, Store}
-use Rattle.section_body.specs.Shape.{phase}
+use Rattle.body_terms.specs.Word.{next_word}
+use Rattle.body_terms.specs.declared.value.Value.{Value}
+use Rattle.body_terms.specs.declared.step.Step.{Step}
+use Rattle.body_terms.specs.declared.step.Step.TheVariants.{Load, Stamp, Store}
+use Rattle.body_terms.specs.Shape.{phase}
 use Rattle.table_words.specs.declared.layout.Layout.{Layout}
 use Rattle.structure_laws.specs.Scene.{Section, Scene, passed}
 use Rattle.structure_laws.specs.Meaning.{Meaning}

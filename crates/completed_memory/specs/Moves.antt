@@ -3,10 +3,10 @@ use Rattle.std.specs.Prelude.{ℕ, ◌<◌, ◌≡◌, true, false}
 use Rattle.std.specs.FinMap.{empty}
 use Rattle.map_history.specs.Replay.{Pairs, reply_of, map_after}
 use Rattle.map_history.specs.Words.{word_of}
-use Rattle.section_body.specs.Update.{upd}
-use Rattle.section_body.specs.Word.{next_word}
-use Rattle.section_body.specs.declared.value.Value.{Value}
-use Rattle.section_body.specs.declared.step.Step.TheVariants.{Load, Stamp, Store, Answer}
+use Rattle.body_terms.specs.Update.{upd}
+use Rattle.body_terms.specs.Word.{next_word}
+use Rattle.body_terms.specs.declared.value.Value.{Value}
+use Rattle.body_terms.specs.declared.step.Step.TheVariants.{Load, Stamp, Store, Answer}
 use Rattle.table_words.specs.declared.layout.Layout.{Layout}
 use Rattle.structure_laws.specs.Scene.{Cells, Section, Free, Scene, with_cell, passes}
 use Rattle.structure_laws.specs.Meaning.{Meaning}
@@ -46,7 +46,8 @@ module _ (m : Meaning) where
     -- its operation
     pub answers : (s : Scene) (stamped : Marks) (pairs : Pairs) (d : ℕ) (x : Section)
         → StandsCompleted layout s stamped pairs
-        → IsAtStamp s stamped d x → m.is_map ≡ true → (j n : ℕ) → IsStep m x j (Answer n) → n ≡ word_of (reply_of pairs x.op)
+        → IsAtStamp s stamped d x → m.is_map ≡ true → (j n : ℕ) → IsStep m x j (Answer n)
+        → n ≡ word_of (reply_of pairs x.op)
     pub stamps : (s : Scene) (stamped : Marks) (pairs : Pairs) (d : ℕ) (x : Section)
         → StandsCompleted layout s stamped pairs
         → IsAtStamp s stamped d x → StandsCompleted layout s (upd stamped d true) (map_after pairs x.op)
@@ -65,7 +66,8 @@ module _ (m : Meaning) where
     pub lock : (s : Scene) (stamped : Marks) (pairs : Pairs) (p w : ℕ)
         → StandsCompleted layout s stamped pairs → m.is_lock p ≡ true
         → IsLawful m layout (with_cell s p w) → StandsCompleted layout (with_cell s p w) stamped pairs
-    pub hand : (s : Scene) (stamped : Marks) (pairs : Pairs) (t i w : ℕ) → StandsCompleted layout s stamped pairs → s.status t ≡ Free → i < 5
+    pub hand : (s : Scene) (stamped : Marks) (pairs : Pairs) (t i w : ℕ) → StandsCompleted layout s stamped pairs
+        → s.status t ≡ Free → i < 5
         → IsLawful m layout (with_cell s (cell_of m t i) w)
         → StandsCompleted layout (with_cell s (cell_of m t i) w) stamped pairs
     -- where nothing is pending, the cells stand for the map

@@ -3,7 +3,7 @@ ghost use Rattle.table_words.specs.declared.layout.Layout.{Layout};
 ghost use Rattle.table_words.specs.Limits.{IsWithinLimits};
 ghost use Rattle.completed_memory.specs.Moves.{MemoryMoves};
 
-use runner_parts::Structure;
+use structure_laws::Structure;
 
 /// Over every structure: at first the completed memory stands for the empty map. Where a section gets its
 /// stamp, it comes to stand for the map after the section's operation, and what the section answers is that

@@ -1,14 +1,14 @@
 -- What is to be shown of the direct table's cells.
 use Rattle.std.proofs.Common.{◌≡◌, ℕ, ◌+◌, ◌*◌, ◌<◌, ◌≤◌, true, false, ap, arith}
 use Rattle.std.specs.Prelude.{count_by, ◌==◌, ◌&&◌, ◌-◌, ◌%◌, nat_lt, cond, Some, None}
-use Rattle.section_body.specs.Shape.{is_retire}
-use Rattle.section_body.specs.Word.{value_of}
-use Rattle.section_body.specs.declared.thunk.Thunk.{Thunk}
+use Rattle.body_terms.specs.Shape.{is_retire}
+use Rattle.body_terms.specs.Word.{value_of}
+use Rattle.body_terms.specs.declared.thunk.Thunk.{Thunk}
 use Rattle.structure_laws.specs.Laws.{Laws}
 use Rattle.structure_laws.specs.Planner.{PlannerLaws}
-use Rattle.law_frames.specs.Flagged.{held}
-use Rattle.law_frames.proofs.Flagged.{held_small, held_stored}
-use Rattle.law_frames.proofs.Numbers.{lt_true, eq_false, third, and_false}
+use Rattle.key_cells.specs.shared_laws.specs.Flagged.{held}
+use Rattle.key_cells.specs.shared_laws.proofs.Flagged.{held_small, held_stored}
+use Rattle.key_cells.specs.shared_laws.proofs.Numbers.{lt_true, eq_false, third, and_false}
 use Rattle.key_cells.specs.Keyed.{IsKeyed}
 use Rattle.key_cells.proofs.KeyedLaws.{keyed_laws, keyed_plans}
 use Rattle.key_cells.proofs.Retiring.{keyed_retires}

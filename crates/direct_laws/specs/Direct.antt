@@ -3,7 +3,7 @@ use Rattle.std.specs.Prelude.{ℕ, ◌+◌, ◌*◌, ◌-◌, ◌%◌, ◌==◌,
 use Rattle.map_history.specs.declared.op.Op.{Op}
 use Rattle.map_history.specs.Keys.{key_of}
 use Rattle.structure_laws.specs.Meaning.{Meaning}
-use Rattle.law_frames.specs.Flagged.{held, flag_for, value_for}
+use Rattle.key_cells.specs.shared_laws.specs.Flagged.{held, flag_for, value_for}
 use Rattle.key_cells.specs.Keyed.{Keyed, keyed}
 
 -- the lock of a key, and its cells: the flag is its cell 0, and the value its cell 1

@@ -1,6 +1,8 @@
-//! A table addressed by the key itself: the smallest structure on the locks, and the worked example of `docs/OWN_STRUCTURE.md`.
+//! A table addressed by the key itself: the smallest structure on the locks, and the worked example of
+//! `docs/OWN_STRUCTURE.md`.
 //!
-//! `table` has the table with its keys' cells, and `planner` that it is a structure, and that requests are planned on it.
+//! `table` has the table with its keys' cells, and `planner` that it is a structure, and that requests are planned on
+//! it.
 #![tactic(auto)]
 
 mod planner;
@@ -9,5 +11,4 @@ mod table;
 pub use table::DirectTable;
 
 // Passed on to the layers above, so that they needn't name these libraries themselves.
-pub use lock_walks;
-pub use lock_walks::{commit_log, epoch_slots, try_lock, version_words};
+pub use fixed_walks::{lock_walks, version_words};

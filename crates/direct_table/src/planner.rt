@@ -4,20 +4,20 @@ ghost use Rattle.std.specs.FinMap.{entries};
 ghost use Rattle.map_history.specs.Replay.{Pairs};
 ghost use Rattle.direct_laws.specs.Direct.{direct_cells, direct};
 ghost use Rattle.direct_laws.proofs.DirectCells.{direct_laws, direct_plans, direct_retires};
-ghost use Rattle.lock_walks.specs.try_lock.specs.Contents.{StandFor, NamesNone};
+ghost use Rattle.fixed_walks.specs.try_lock.specs.Contents.{StandFor, NamesNone};
 ghost use Rattle.fixed_walks.specs.Fixed.{fixed_planning};
 ghost use Rattle.fixed_walks.specs.Keys.{key_course};
 ghost use Rattle.fixed_walks.proofs.Steady.{fixed_steady};
 
 use crate::table::DirectTable;
+use body_terms::{Body, Place, Thunk, Word};
+use direct_laws::key_cells::{fill_body, key_fits};
+use fixed_walks::lock_walks::Planner;
+use fixed_walks::version_words::Words;
 use fixed_walks::{FixedWalk, key_pairs, key_walk};
-use key_cells::{fill_body, key_fits};
-use lock_walks::Planner;
-use lock_walks::version_words::Words;
 use map_history::Op;
-use runner_parts::Structure;
-use section_body::{Body, Place, Thunk, Word};
 use std::alloc::{AllocError, Global};
+use structure_laws::Structure;
 use table_words::Layout;
 
 impl Structure for DirectTable {
@@ -83,7 +83,8 @@ impl Planner for DirectTable {
         requires structure { self.now ≡ words.now.structure }
         requires stand { (pairs : Pairs) × StandFor (direct self.now.keys) words.now pairs }
         requires closed { NamesNone (direct self.now.keys) words.now }
-        ensures contents { IfOk result (λ items. (pairs : Pairs) → StandFor (direct self.now.keys) words.now pairs → items.items ≡ entries pairs) }
+        ensures contents { IfOk result (λ items. (pairs : Pairs) → StandFor (direct self.now.keys) words.now pairs
+            → items.items ≡ entries pairs) }
     {
         key_pairs(alloc, self, words)
     }

@@ -3,12 +3,12 @@ ghost use Rattle.std.specs.Prelude.{◌≡◌, ◌<◌, ◌≤◌};
 ghost use Rattle.direct_laws.specs.Direct.{direct_cells};
 ghost use Rattle.direct_laws.proofs.DirectCells.{is_keyed};
 
-use key_cells::{KeyCells, word_at};
-use law_frames::{flag_for, held, value_for};
-use section_body::Place;
+use body_terms::Place;
+use direct_laws::key_cells::{KeyCells, word_at};
+use direct_laws::shared_laws::{flag_for, held, value_for};
 
-/// A map of the keys below a bound. Each key has three cells, and no node: its lock, a flag that is 1 where the key is present, and its
-/// value.
+/// A map of the keys below a bound. Each key has three cells, and no node: its lock, a flag that is 1 where the key is
+/// present, and its value.
 #[derive(Drop, Debug)]
 pub struct DirectTable {
     pub(crate) keys: u32,

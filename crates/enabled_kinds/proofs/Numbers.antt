@@ -1,19 +1,11 @@
 -- Kinds by their numbers.
 use Rattle.std.specs.Prelude.{Bool, Option, Some, None}
-use Rattle.section_body.specs.declared.thunk.Thunk.{Thunk}
+use Rattle.small_lemmas.proofs.Lists.{none_not_some as absent, some_not_none as present, some_the_same as the_same}
+use Rattle.body_terms.specs.declared.thunk.Thunk.{Thunk}
 use Rattle.std.proofs.Common.{◌≡◌, ◌≢◌, ◌<◌, ℕ, refl, arith}
 use Rattle.runner_parts.specs.declared.event.EventKind.{EventKind}
 use Rattle.runner_parts.specs.declared.event.EventKind.TheVariants as kinds
 use Rattle.enabled_kinds.specs.Kinds.{kind_number, plain_kind, IsGiven}
-
-absent : {A : Type 0} (a : A) → None ≡ Some a → ⊥
-absent a e = cc
-
-present : {A : Type 0} (a : A) → Some a ≡ None → ⊥
-present a e = cc
-
-the_same : {A : Type 0} (a b : A) → Some a ≡ Some b → a ≡ b
-the_same a b e = cc
 
 -- a kind whose events carry no argument has one event
 pub plain_only : (k k' : EventKind) → plain_kind (kind_number k) ≡ Some k' → k ≡ k'

@@ -3,12 +3,14 @@ use Rattle.std.specs.Prelude.{Bool, true, false, ◌==◌, ◌&&◌, ◌||◌, n
 use Rattle.std.specs.List.{list_any}
 use Rattle.std.proofs.Common.{◌≡◌, ◌+◌, ◌≤◌, ℕ, List, ◌⊎◌, inl, inr, ⊎_elim, sym, refl, ap, ◌∙◌, Option, Some, None, arith}
 use Rattle.std.proofs.lemmas.Bool.Decides.{nat_tests}
+use Rattle.small_lemmas.proofs.Bools.{both_hold as all_of}
+use Rattle.small_lemmas.proofs.Numbers.{tested_not_less as not_below, tested_most as at_most}
 use Rattle.map_history.specs.declared.op.Request.{Request}
-use Rattle.section_body.specs.declared.micro.Micro.{Micro}
-use Rattle.section_body.specs.declared.micro.Micro.TheVariants as micros
-use Rattle.section_body.specs.Word.{next_word}
-use Rattle.section_body.specs.Run.{source_value}
-use Rattle.section_body.specs.Memory.{cell_of}
+use Rattle.body_terms.specs.declared.micro.Micro.{Micro}
+use Rattle.body_terms.specs.declared.micro.Micro.TheVariants as micros
+use Rattle.body_terms.specs.Word.{next_word}
+use Rattle.body_terms.specs.Run.{source_value}
+use Rattle.body_terms.specs.Memory.{cell_of}
 use Rattle.table_words.specs.declared.layout.Layout.{Layout}
 use Rattle.table_words.specs.declared.sizes.Sizes.{Sizes}
 use Rattle.table_words.specs.declared.spot.Spot.{Spot}
@@ -31,20 +33,11 @@ use Rattle.enabled_kinds.specs.Tried.{load_at, made_load, store_at, made_store}
 use Rattle.enabled_kinds.proofs.Asked.{absent, the_same, not_both, not_true, both, either, neither, equal, some_passes, none_passes, when_asks, asks_when, below, is_below, resting_asks, Asked, asked, enabled}
 use Rattle.enabled_kinds.proofs.Numbers.{only_private_load, only_private_store}
 
-not_below : (a b : ℕ) → nat_lt a b ≡ false → b ≤ a
-not_below a b e = grind (arith, nat_tests)
-
-at_most : (a b : ℕ) → nat_le a b ≡ true → a ≤ b
-at_most a b e = grind (arith, nat_tests)
-
 past : (a d : ℕ) → nat_lt (a + d) a ≡ false
 past a d = grind (arith, nat_tests)
 
 is_at_most : (a d : ℕ) → nat_le a (a + d) ≡ true
 is_at_most a d = grind (arith, nat_tests)
-
-all_of : (a b : Bool) → a ≡ true → b ≡ true → (a && b) ≡ true
-all_of a b x y = rw (x, y) refl
 
 slot_is : (o : Option ℕ) (slot : ℕ) → is_slot o slot ≡ true → o ≡ Some slot
 slot_is None slot e = absurd (not_both false e refl)

@@ -1,10 +1,10 @@
 -- The events that are tried, for kinds whose events carry arguments.
 use Rattle.std.specs.Prelude.{ℕ, ◌%◌, ◌^◌, List, [], ◌∷◌, Option, Some, None, if◌then◌else◌}
-use Rattle.section_body.specs.declared.thunk.Thunk.{Thunk}
-use Rattle.section_body.specs.declared.micro.Micro.{Micro}
-use Rattle.section_body.specs.declared.micro.Micro.TheVariants as micros
-use Rattle.section_body.specs.Word.{next_word}
-use Rattle.section_body.specs.Run.{source_value}
+use Rattle.body_terms.specs.declared.thunk.Thunk.{Thunk}
+use Rattle.body_terms.specs.declared.micro.Micro.{Micro}
+use Rattle.body_terms.specs.declared.micro.Micro.TheVariants as micros
+use Rattle.body_terms.specs.Word.{next_word}
+use Rattle.body_terms.specs.Run.{source_value}
 use Rattle.table_words.specs.declared.layout.Layout.{Layout}
 use Rattle.structure_laws.specs.Meaning.{Meaning}
 use Rattle.runner_parts.specs.declared.entries.Stored.{Stored}
@@ -28,7 +28,8 @@ made_load m free (Some q) = if is_open_run q then load_at (make_slot q.made free
 -- the private store of the next word into the cell at which a Make is, in this slot
 abbrev pub store_at : Layout → RunState → Option ℕ → Micro → Option EventKind
 store_at l q (Some slot) (micros.PrivateStore cell log value) =
-    if can_raise l q.word then Some (kinds.PrivateStore slot cell (next_word q.word (source_value q.trail value))) else None
+    if can_raise l q.word then Some (kinds.PrivateStore slot cell (next_word q.word (source_value q.trail value))) else
+    None
 store_at l q _ _ = None
 
 -- the private store that a run makes next

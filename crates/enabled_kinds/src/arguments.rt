@@ -10,11 +10,13 @@ ghost use Rattle.runner_parts.specs.Tests.{last_stored};
 ghost use Rattle.enabled_kinds.specs.May.{is_enabled};
 ghost use Rattle.enabled_kinds.specs.Tried.{stored_thunk, or_zero};
 
+use body_terms::Thunk;
 use epoch_core::Stage;
 use map_history::Request;
-use runner_parts::{EventKind, Part, Stored, Structure, last_stored};
-use runner_steps::{asks, sizes_for, slot_count, thunk_of};
-use section_body::Thunk;
+use runner_asks::{asks, last_stored, thunk_of};
+use runner_parts::{EventKind, Part, Stored};
+use runner_steps::{sizes_for, slot_count};
+use structure_laws::Structure;
 use table_words::Layout;
 
 /// Whether the runner may make this event next.
@@ -77,7 +79,8 @@ pub fn may_walk<S: Structure>(
     requires few { length requests.now ≤ 131072 }
     ensures found { result ≡ true
         → (place : ℕ)
-        × (is_enabled (S.meaning structure.now) layout requests.now runner part.now (kinds.LoadCell (Some place)) ≡ true) }
+        × (is_enabled (S.meaning structure.now) layout requests.now runner part.now (kinds.LoadCell (Some place))
+        ≡ true) }
     ensures missed { result ≡ false → (place : ℕ)
         → place < (sizes_for (S.meaning structure.now) layout requests.now).cells
         → is_enabled (S.meaning structure.now) layout requests.now runner part.now (kinds.LoadCell (Some place))
@@ -129,7 +132,8 @@ pub fn may_look_free<S: Structure>(
     requires limits { IsWithinLimits layout }
     requires few { length requests.now ≤ 131072 }
     ensures { result ≡ list_any (λ slot.
-        is_enabled (S.meaning structure.now) layout requests.now runner part.now (kinds.PrivateLoad slot 0)) part.now.nodes.free }
+        is_enabled (S.meaning structure.now) layout requests.now runner part.now (kinds.PrivateLoad slot 0))
+        part.now.nodes.free }
 {
     may_look(part, structure, layout, requests, runner, &part.nodes.free)
 }
@@ -145,7 +149,8 @@ pub fn may_look_hand<S: Structure>(
     requires limits { IsWithinLimits layout }
     requires few { length requests.now ≤ 131072 }
     ensures { result ≡ list_any (λ slot.
-        is_enabled (S.meaning structure.now) layout requests.now runner part.now (kinds.PrivateLoad slot 0)) part.now.nodes.hand }
+        is_enabled (S.meaning structure.now) layout requests.now runner part.now (kinds.PrivateLoad slot 0))
+        part.now.nodes.hand }
 {
     may_look(part, structure, layout, requests, runner, &part.nodes.hand)
 }
@@ -192,7 +197,8 @@ pub fn may_prepare<S: Structure>(
     requires few { length requests.now ≤ 131072 }
     ensures { result ≡ list_any (λ d. nat_lt d (descriptor_count layout)
         && is_enabled (S.meaning structure.now) layout requests.now runner part.now
-        (kinds.PrivateStore (slot_count layout (S.meaning structure.now).fixed_slots + d) 0 0)) part.now.descriptors.free }
+        (kinds.PrivateStore (slot_count layout (S.meaning structure.now).fixed_slots + d) 0 0))
+        part.now.descriptors.free }
 {
     let slots = slot_count(structure, layout);
     let descriptors = sizes_for(structure, layout, requests).descriptors;
@@ -223,7 +229,8 @@ pub fn may_begin<S: Structure>(
     requires limits { IsWithinLimits layout }
     requires few { length requests.now ≤ 131072 }
     ensures { result ≡ list_any (λ d.
-        is_enabled (S.meaning structure.now) layout requests.now runner part.now (kinds.LoadThunk (Some d))) part.now.reads.held }
+        is_enabled (S.meaning structure.now) layout requests.now runner part.now (kinds.LoadThunk (Some d)))
+        part.now.reads.held }
 {
     for descriptor in &part.reads.held {
         let kind = EventKind::LoadThunk(Some(*descriptor));

@@ -11,7 +11,8 @@ use crate::arguments::{
 use crate::makes::{made_load, made_store};
 use crate::plain::plain_kind;
 use map_history::Request;
-use runner_parts::{EventKind, Part, Structure};
+use runner_parts::{EventKind, Part};
+use structure_laws::Structure;
 use table_words::Layout;
 
 /// Whether there is this event and the runner may make it next.

@@ -10,3 +10,6 @@ mod makes;
 mod plain;
 
 pub use kinds::enabled;
+
+// Passed on to the layers above, so that they needn't name these libraries themselves.
+pub use runner_asks;

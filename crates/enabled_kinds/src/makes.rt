@@ -4,9 +4,10 @@ ghost use Rattle.table_words.specs.Limits.{IsWithinLimits};
 ghost use Rattle.runner_steps.specs.InRun.{make_slot};
 ghost use Rattle.enabled_kinds.specs.Tried.{made_load, made_store};
 
-use runner_parts::{EventKind, Part, Run, Structure};
-use runner_steps::{is_open_run, last_of, next_of, source_value};
-use section_body::{Micro, Word};
+use body_terms::{Micro, Word};
+use runner_asks::{is_open_run, last_of, next_of, source_value};
+use runner_parts::{EventKind, Part, Run};
+use structure_laws::Structure;
 use table_words::Layout;
 
 /// The slot that a Make fills.

@@ -2,11 +2,9 @@
 use Rattle.std.proofs.Common.{◌≡◌, ℕ, true, false, refl, sym, subst, lit<, lit≤, arith}
 use Rattle.std.specs.Prelude.{◌==◌}
 use Rattle.std.proofs.lemmas.Bool.Decides.{nat_tests}
+use Rattle.small_lemmas.proofs.Bools.{false_not_true as none}
 use Rattle.epoch_core.specs.State.{MayHold}
 use Rattle.epoch_core.specs.Round.{ComesRound, made_state}
-
-none : false ≡ true → ⊥
-none h = cc
 
 -- the slot that is reached
 only_first : (s : ℕ) → s == 0 ≡ true → MayHold made_state 0 s

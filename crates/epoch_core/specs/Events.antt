@@ -71,7 +71,8 @@ module _ (c : Counts) where
     location = upd w.location s (made (w.log d k) r worn);
     log = upd2 w.log d k (written_once (w.log d k) (suc s));
   }
-  after w (RetireEpoch r d k s) = record w { retire = upd w.retire r (record { loaded = true; descriptor = d; index = k; slot = s; epoch = w.epoch }) }
+  after w (RetireEpoch r d k s) = record w
+      { retire = upd w.retire r (record { loaded = true; descriptor = d; index = k; slot = s; epoch = w.epoch }) }
   after w (RetireCommit r) = let x = w.retire r in record w {
     location = upd w.location x.slot (retired (w.log x.descriptor x.index) r x.epoch (w.location x.slot));
     log = upd2 w.log x.descriptor x.index (written_once (w.log x.descriptor x.index) (suc x.slot));

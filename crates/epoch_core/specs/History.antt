@@ -29,7 +29,10 @@ abbrev pub noted : EpochState → History → Event → History
 noted w h (MakeCommit r d k s worn) =
     record h { made = upd2 h.made (h.section d) k (with_won (w.log d k) s (h.made (h.section d) k)) }
 noted w h (RetireCommit r) = let x = w.retire r in
-    record h { retired = upd2 h.retired (h.section x.descriptor) x.index (with_won (w.log x.descriptor x.index) x.epoch (h.retired (h.section x.descriptor) x.index)) }
+    record h {
+      retired = upd2 h.retired (h.section x.descriptor) x.index
+          (with_won (w.log x.descriptor x.index) x.epoch (h.retired (h.section x.descriptor) x.index));
+    }
 noted w h (Publish r d roles) = record h { published = suc h.published; section = upd h.section d (suc h.published) }
 noted w h _ = h
 

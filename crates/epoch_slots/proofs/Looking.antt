@@ -5,8 +5,8 @@ use Rattle.std.specs.List.{list_any}
 use Rattle.std.proofs.lemmas.Bool.Decides.{nat_tests}
 use Rattle.std.proofs.lemmas.List.{append_assoc, append-nil, length-take-le}
 use Rattle.std.proofs.Math.Seq.{drop-cons, take-suc}
-use Rattle.section_body.specs.Word.{version_of}
-use Rattle.section_body.specs.Memory.{cell_of}
+use Rattle.body_terms.specs.Word.{version_of}
+use Rattle.body_terms.specs.Memory.{cell_of}
 use Rattle.table_words.specs.declared.layout.Layout.{Layout}
 use Rattle.table_words.specs.declared.spot.Spot.TheVariants as spots
 use Rattle.table_words.specs.declared.access.Access.TheVariants.{Loads}

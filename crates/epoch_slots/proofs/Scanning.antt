@@ -3,6 +3,7 @@ use Rattle.std.proofs.Common.{◌≡◌, ℕ, suc, ◌+◌, ◌<◌, ◌≤◌, 
 use Rattle.std.specs.Prelude.{◌&&◌, nat_lt, nat_le, not, if◌then◌else◌}
 use Rattle.std.specs.List.{list_all}
 use Rattle.std.proofs.lemmas.Bool.Decides.{nat_tests}
+use Rattle.small_lemmas.proofs.Bools.{false_not_true as false_true, both_of as both_true}
 use Rattle.table_words.specs.declared.layout.Layout.{Layout}
 use Rattle.structure_laws.specs.Meaning.{Meaning}
 use Rattle.epoch_core.specs.Moves.{is_clear}
@@ -20,13 +21,6 @@ use Rattle.version_words.specs.Stages.{IsAt}
 use Rattle.version_words.proofs.Stages.{may_scan_one, may_advance, then_scanned, then_advanced, scanned_on, scanned_over, scanned_more}
 use Rattle.epoch_slots.specs.Collects.{Scans, Advances, HasScanned, EndsScan}
 use Rattle.epoch_slots.proofs.Outside.{nodes_made, descriptors_made, known_made, finished_made, own_kept, own_kept_on}
-
-false_true : false ≡ true → ⊥
-false_true e = cc
-
-both_true : (a b : Bool) → a && b ≡ true → (a ≡ true) × (b ≡ true)
-both_true true b e = (refl, e)
-both_true false b e = absurd (false_true e)
 
 -- what one more announcement makes of a part
 module _ (l : Layout) (p : PartState) (epoch next : ℕ) (clear : Bool) (found : ℕ) where

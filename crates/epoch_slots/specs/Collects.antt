@@ -1,7 +1,7 @@
 -- What a scan of the announcements finds, and what comes out of limbo.
 use Rattle.std.specs.Prelude.{◌≡◌, ℕ, ◌+◌, List, [], ◌∷◌, ◌++◌, Bool, true, false, not, ◌==◌, ◌&&◌, nat_lt, length, None, Some, slice_get}
 use Rattle.std.specs.List.{filter, list_any, list_all}
-use Rattle.section_body.specs.Word.{version_of}
+use Rattle.body_terms.specs.Word.{version_of}
 use Rattle.structure_laws.specs.Meaning.{Meaning}
 use Rattle.runner_parts.specs.declared.event.EventKind.TheVariants as kinds
 use Rattle.epoch_core.specs.declared.stage.Stage.TheVariants as stages

@@ -1,7 +1,7 @@
 -- How far the slots in a runner's hand are looked at and given back.
 use Rattle.std.specs.Prelude.{◌≡◌, ℕ, ◌<◌, ◌≤◌, List, [], ◌∷◌, ◌++◌, Bool, true, ◌==◌, take, drop, length, None, if◌then◌else◌}
 use Rattle.std.specs.List.{list_any}
-use Rattle.section_body.specs.Word.{version_of}
+use Rattle.body_terms.specs.Word.{version_of}
 use Rattle.table_words.specs.Places.{slot_count}
 use Rattle.structure_laws.specs.Meaning.{Meaning}
 use Rattle.epoch_core.specs.declared.stage.Stage.TheVariants as stages
@@ -16,7 +16,8 @@ use Rattle.epoch_slots.specs.Collects.{unworn, worn_out, Looks, AreTested}
 -- the own node slots once so many cells of a slot in the hand were looked at
 abbrev pub looked : NodesState → ℕ → ℕ → Bool → NodesState
 looked n slot cell worn = if cell == 0 then n
-    else (if cell == 5 then slot_back n slot worn else record n { tests = record { slot = slot; cells = cell; worn = worn } ∷ [] })
+    else (if cell == 5 then slot_back n slot worn else record n
+    { tests = record { slot = slot; cells = cell; worn = worn } ∷ [] })
 
 -- the own node slots once the first slots of the hand came back, and these are still in it
 abbrev pub given_back : NodesState → List ℕ → List ℕ → List Bool → NodesState
@@ -38,7 +39,8 @@ module _ {T : Type 0} where
       pub words : List ℕ
       pub count : length words ≡ cell
       pub looks : Looks m slot 0 words old new
-      pub nodes : new.part.nodes ≡ looked old.part.nodes slot cell (list_any (λ word. version_of word == old.layout.version_max) words)
+      pub nodes : new.part.nodes ≡ looked old.part.nodes slot cell
+          (list_any (λ word. version_of word == old.layout.version_max) words)
       pub at : IsAt new stages.Idle None
       pub rest : KeepsRest old new
 
@@ -52,6 +54,7 @@ module _ {T : Type 0} where
       pub wears : List Bool
       pub each : length wears ≡ count
       pub tested : AreTested m (take count old.part.nodes.hand) wears old new
-      pub nodes : new.part.nodes ≡ given_back old.part.nodes (take count old.part.nodes.hand) (drop count old.part.nodes.hand) wears
+      pub nodes : new.part.nodes ≡ given_back old.part.nodes (take count old.part.nodes.hand)
+          (drop count old.part.nodes.hand) wears
       pub at : IsAt new stages.Idle None
       pub rest : KeepsRest old new

@@ -9,7 +9,7 @@ ghost use Rattle.epoch_slots.specs.Collects.{IsTidy, Collects, HasScanned, EndsS
 
 use crate::hand::look_back;
 use epoch_core::LAST_EPOCH;
-use runner_parts::Structure;
+use structure_laws::Structure;
 use version_words::{FlockTable, Runner, table_is_allowed};
 
 /// Whether each announcement so far was idle or the epoch.
@@ -32,7 +32,8 @@ fn scan<S: Structure>(table: &FlockTable<S>, runner: Runner<S>) -> (Runner<S>, u
     requires own { IsOf table.now runner }
     requires idle { IsAt runner stages.Idle None }
     ensures own { IsOf table.now result.0 }
-    ensures scanned { HasScanned (S.meaning table.now.structure) table.now.layout.runners result.1 result.2 runner result.0 }
+    ensures scanned { HasScanned (S.meaning table.now.structure) table.now.layout.runners result.1 result.2 runner
+        result.0 }
 {
     let (scanning, epoch) = table.scan_epoch(runner);
     let mut runner = scanning;

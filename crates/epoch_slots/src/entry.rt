@@ -5,7 +5,7 @@ ghost use Rattle.version_words.specs.TableState.{IsOf};
 ghost use Rattle.version_words.specs.Stages.{IsAt};
 ghost use Rattle.epoch_slots.specs.Entries.{HasLeave, Enters, Exits};
 
-use runner_parts::Structure;
+use structure_laws::Structure;
 use version_words::{FlockTable, Runner};
 
 /// Enters: loads the epoch, announces it, and loads it again. The runner is entered with what the second

@@ -7,7 +7,7 @@ ghost use Rattle.version_words.specs.TableState.{IsOf};
 ghost use Rattle.version_words.specs.Stages.{IsAt};
 ghost use Rattle.epoch_slots.specs.Hands.{IsLookedAt, HandIsOwn, IsBack};
 
-use runner_parts::Structure;
+use structure_laws::Structure;
 use version_words::{FlockTable, Runner};
 
 /// Loads the slot's five cells, by which it goes to the free list or, where one is at the greatest version,

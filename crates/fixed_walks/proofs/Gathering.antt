@@ -5,9 +5,9 @@ use Rattle.std.specs.FinMap.{get, entries}
 use Rattle.map_history.specs.Replay.{Pairs}
 use Rattle.structure_laws.specs.Meaning.{Meaning}
 use Rattle.table_words.specs.declared.spot.Spot.TheVariants.{Cell}
-use Rattle.law_frames.specs.Listing.{listed}
-use Rattle.law_frames.proofs.Listing.{are_entries}
-use Rattle.law_frames.proofs.Numbers.{lt_of, lt_true}
+use Rattle.key_cells.specs.shared_laws.specs.Listing.{listed}
+use Rattle.key_cells.specs.shared_laws.proofs.Listing.{are_entries}
+use Rattle.key_cells.specs.shared_laws.proofs.Numbers.{lt_of, lt_true}
 use Rattle.key_cells.specs.Keyed.{Keyed, IsKeyed}
 use Rattle.lock_walks.specs.version_words.specs.TableState.{WordsState, HasWord, word_of}
 use Rattle.lock_walks.specs.try_lock.specs.Contents.{StandFor}

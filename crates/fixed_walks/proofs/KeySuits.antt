@@ -1,23 +1,21 @@
 -- The walk of a key suits a structure of keys' cells.
 use Rattle.std.proofs.Common.{◌≡◌, ℕ, zero, suc, ◌<◌, ◌≤◌, List, [], ◌∷◌, ◌++◌, length, map, true, false, refl, sym, subst, arith, Some}
 use Rattle.std.specs.Prelude.{◌==◌, ◌&&◌, nat_lt, slice_get, slice_index}
+use Rattle.small_lemmas.proofs.Numbers.{self_tested as self}
 use Rattle.map_history.specs.declared.op.Op.{Op}
 use Rattle.map_history.specs.Keys.{key_of}
 use Rattle.section_body.specs.Bucket.{operand}
-use Rattle.section_body.specs.declared.thunk.Thunk.{Thunk}
+use Rattle.body_terms.specs.declared.thunk.Thunk.{Thunk}
 use Rattle.table_words.specs.declared.layout.Layout.{Layout}
 use Rattle.structure_laws.specs.Scene.{Readings}
 use Rattle.structure_laws.specs.Meaning.{Meaning}
 use Rattle.runner_parts.specs.Tests.{has_pair}
-use Rattle.law_frames.specs.AtKey.{left_at}
-use Rattle.law_frames.proofs.Numbers.{lt_of, eq_true, read_at}
+use Rattle.key_cells.specs.shared_laws.specs.AtKey.{left_at}
+use Rattle.key_cells.specs.shared_laws.proofs.Numbers.{lt_of, eq_true, read_at}
 use Rattle.key_cells.specs.Keyed.{Keyed, IsKeyed, wanted, new_of, is_for, key_fits, keyed}
 use Rattle.key_cells.proofs.Fitting.{each_all}
 use Rattle.fixed_walks.specs.Fixed.{AreCells, thunk_for, Suits}
 use Rattle.fixed_walks.specs.Keys.{cells_of, had_by, key_course}
-
-self : (n : ℕ) → (n == n) ≡ true
-self n = eq_true n n refl
 
 -- the list of at most three cells
 few_cells : (n : ℕ) → n ≤ 3 → (cell : ℕ → ℕ) → length (cells_of n cell) ≤ 15

@@ -3,14 +3,15 @@ use Rattle.std.proofs.Common.{◌≡◌, ℕ, suc, ◌+◌, ◌*◌, ◌<◌, �
 use Rattle.std.specs.Prelude.{◌⊎◌, ◌&&◌, ◌||◌, not, ◌-◌, ◌/◌, nat_lt, is_some, slice_get, if◌then◌else◌}
 use Rattle.std.proofs.lemmas.List.{append_assoc, append-nil, length-append, length-map}
 use Rattle.std.proofs.lemmas.Option.{none-some}
+use Rattle.small_lemmas.proofs.Lists.{same_number as some_eq}
 use Rattle.map_history.specs.declared.op.Op.{Op}
-use Rattle.section_body.specs.Word.{is_free, is_spent}
+use Rattle.body_terms.specs.Word.{is_free, is_spent}
 use Rattle.table_words.specs.declared.layout.Layout.{Layout}
 use Rattle.structure_laws.specs.Scene.{Readings}
 use Rattle.structure_laws.specs.Meaning.{Meaning}
 use Rattle.structure_laws.specs.Cells.{slots}
 use Rattle.runner_parts.specs.Tests.{is_readable}
-use Rattle.law_frames.proofs.Numbers.{lt_true, eq_false, read_pair}
+use Rattle.key_cells.specs.shared_laws.proofs.Numbers.{lt_true, eq_false, read_pair}
 use Rattle.lock_walks.specs.try_lock.specs.declared.planned.Planned.{Planned}
 use Rattle.lock_walks.specs.try_lock.specs.declared.planned.Planned.TheVariants as answers
 use Rattle.lock_walks.specs.try_lock.specs.Plans.{refused_by_lock, refused_at}
@@ -18,9 +19,6 @@ use Rattle.lock_walks.specs.Way.{fed_all, IsLedBy, IsThunkFor, Leads}
 use Rattle.fixed_walks.specs.Fixed.{Course, first_of, first_or, rest_of, ahead_of, with_word, refused_by, places_for, thunk_for, fixed_planning, AreCells, Suits}
 use Rattle.fixed_walks.specs.Walk.{fed_by, fixed_way}
 use Rattle.fixed_walks.specs.declared.walk.FixedWalk.{FixedWalk}
-
-some_eq : (a b : ℕ) → Some a ≡ Some b → a ≡ b
-some_eq a b e = cc
 
 -- the first places of the readings, and their words
 abbrev places_in : Readings → List ℕ

@@ -1,12 +1,10 @@
 -- A walk over fixed places is never too far, and there are no marks.
 use Rattle.std.specs.Prelude.{true, false}
 use Rattle.std.proofs.Common.{◌≡◌, refl}
+use Rattle.small_lemmas.proofs.Bools.{from_false as no_mark}
 use Rattle.structure_laws.specs.Meaning.{Meaning}
 use Rattle.lock_walks.specs.Steady.{IsSteady}
 use Rattle.fixed_walks.specs.Fixed.{Course, fixed_planning}
-
-no_mark : {A : Type 0} → false ≡ true → A
-no_mark e = cc
 
 pub fixed_steady : (m : Meaning) (c : Course) → IsSteady m (fixed_planning c)
 fixed_steady m c = record {

@@ -1,16 +1,16 @@
 -- Walks over the same places whatever they read: some cells, and a lock last.
 use Rattle.std.specs.Prelude.{◌≡◌, ℕ, ◌<◌, ◌≤◌, List, [], ◌∷◌, ◌++◌, Bool, true, false, not, ◌&&◌, ◌==◌, cond, map, length, Option, Some, None}
 use Rattle.map_history.specs.declared.op.Op.{Op}
-use Rattle.section_body.specs.Word.{is_free, is_spent}
-use Rattle.section_body.specs.declared.thunk.Thunk.{Thunk}
+use Rattle.body_terms.specs.Word.{is_free, is_spent}
+use Rattle.body_terms.specs.declared.thunk.Thunk.{Thunk}
 use Rattle.table_words.specs.declared.layout.Layout.{Layout}
 use Rattle.structure_laws.specs.Scene.{Readings}
 use Rattle.structure_laws.specs.Meaning.{Meaning}
 use Rattle.runner_parts.specs.Tests.{has_pair}
 use Rattle.lock_walks.specs.try_lock.specs.Planning.{Planning}
 
--- the walks of a structure: which operations it serves; the cells that the walk of one loads, in order, and the lock behind
--- them; and the section's form and operands by the words that were found
+-- the walks of a structure: which operations it serves; the cells that the walk of one loads, in order, and the lock
+-- behind them; and the section's form and operands by the words that were found
 pub record Course : Type 0 where
   pub serves : Op → Bool
   pub cells : Op → List ℕ
@@ -51,7 +51,13 @@ module _ (c : Course) where
 
   -- the thunk of a whole walk, with these words, and the lock with its word
   abbrev pub thunk_for : Op → List ℕ → ℕ → ℕ → ℕ → Thunk
-  thunk_for op words lock word number = record { form = c.form op words; request = number; lock = lock; word = word; operands = c.operands op words }
+  thunk_for op words lock word number = record {
+    form = c.form op words;
+    request = number;
+    lock = lock;
+    word = word;
+    operands = c.operands op words;
+  }
 
   -- how such a structure plans: no place is a mark, and no pair keeps a slot in use
   abbrev pub fixed_planning : Planning
@@ -78,4 +84,5 @@ module _ (m : Meaning) where
     -- what was read in these places gives a thunk that fits; `read_at` finds in the readings the word of each place
     pub fits : (readings : Readings) (word number : ℕ) → map (λ reading. reading.0) readings ≡ places_for c op
         → has_pair readings (c.lock op) word ≡ true
-        → m.fits layout op readings (thunk_for c op (map (λ reading. reading.1) readings) (c.lock op) word number) ≡ true
+        → m.fits layout op readings (thunk_for c op (map (λ reading. reading.1) readings) (c.lock op) word number)
+        ≡ true

@@ -9,7 +9,7 @@ use Rattle.table_words.specs.declared.layout.Layout.{Layout}
 use Rattle.table_words.specs.declared.spot.Spot.TheVariants.{Cell}
 use Rattle.structure_laws.specs.Meaning.{Meaning}
 use Rattle.structure_laws.specs.Scene.{Cells}
-use Rattle.law_frames.specs.AtKey.{reply_at, left_at, changes_at}
+use Rattle.key_cells.specs.shared_laws.specs.AtKey.{reply_at, left_at, changes_at}
 use Rattle.key_cells.specs.Keyed.{Keyed, held_in}
 use Rattle.key_cells.specs.Steps.{part}
 use Rattle.lock_walks.specs.version_words.specs.TableState.{WordsState, word_of}

@@ -6,7 +6,12 @@ use Rattle.fixed_walks.specs.declared.walk.FixedWalk.{FixedWalk}
 
 module _ {C : Type 0} (course : C → Course) where
   abbrev pub fed_by : FixedWalk C → ℕ → FixedWalk C
-  fed_by w found = record w { place = first_or w.place w.ahead.items; ahead = record { items = rest_of w.ahead.items }; words = record { items = with_word w.words.items found }; word = found }
+  fed_by w found = record w {
+    place = first_or w.place w.ahead.items;
+    ahead = record { items = rest_of w.ahead.items };
+    words = record { items = with_word w.words.items found };
+    word = found;
+  }
 
   abbrev pub fixed_way : Way (FixedWalk C)
   fixed_way = record {

@@ -3,8 +3,8 @@ ghost use Rattle.std.specs.Prelude.{◌≡◌, true};
 ghost use Rattle.fixed_walks.specs.Fixed.{Course, places_for};
 
 use arrayvec::ArrayVec;
+use body_terms::Place;
 use map_history::Op;
-use section_body::Place;
 
 /// A structure whose walks load the same places whatever they read, or what of it they need.
 pub trait FixedPlaces: Drop {
@@ -17,5 +17,6 @@ pub trait FixedPlaces: Drop {
 
     /// The form and the operands of the section, by the words that were found, in order, as bits.
     fn section(&self, op: Op, words: &[u64]) -> (u64, [u64; 8])
-        ensures { (result.0 ≡ (course self.now).form op words.now) × (result.1 ≡ (course self.now).operands op words.now) };
+        ensures { (result.0 ≡ (course self.now).form op words.now)
+            × (result.1 ≡ (course self.now).operands op words.now) };
 }

@@ -14,13 +14,13 @@ ghost use Rattle.fixed_walks.specs.Walk.{fixed_way};
 use crate::course::FixedPlaces;
 use crate::walk::FixedWalk;
 use arrayvec::ArrayVec;
+use body_terms::Place;
+use key_cells::shared_laws::{changes_at, left_at, pairs_by_key, reply_at};
 use key_cells::{KeyCells, word_at};
-use law_frames::{changes_at, left_at, pairs_by_key, reply_at};
 use lock_walks::version_words::Words;
 use map_history::Op;
-use runner_parts::Structure;
-use section_body::Place;
 use std::alloc::{AllocError, Global};
+use structure_laws::Structure;
 use table_words::Layout;
 
 impl<C: KeyCells> FixedPlaces for C {

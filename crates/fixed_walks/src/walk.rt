@@ -5,12 +5,12 @@ ghost use Rattle.fixed_walks.specs.Walk.{fixed_way};
 
 use crate::course::FixedPlaces;
 use arrayvec::ArrayVec;
+use body_terms::{Place, Thunk, Word};
 use lock_walks::Walker;
 use map_history::Op;
-use section_body::{Place, Thunk, Word};
 
-/// How far the walk of an operation has come: the places that are ahead, the words that were found, and the last place with its
-/// word.
+/// How far the walk of an operation has come: the places that are ahead, the words that were found, and the last place
+/// with its word.
 #[derive(Drop)]
 pub struct FixedWalk<C> {
     course: C,
@@ -26,7 +26,15 @@ impl<C: FixedPlaces> FixedWalk<C> {
     /// The walk of an operation that is served, which has loaded nothing.
     pub fn new(course: C, op: Op, version_max: u32) -> FixedWalk<C>
         requires { (C.course course).serves op ≡ true }
-        ensures { result ≡ record { course = course; version_max = version_max; op = op; ahead = record { items = places_for (C.course course) op }; words = record { items = [] }; place = 0; word = 0 } }
+        ensures { result ≡ record {
+          course = course;
+          version_max = version_max;
+          op = op;
+          ahead = record { items = places_for (C.course course) op };
+          words = record { items = [] };
+          place = 0;
+          word = 0;
+        } }
     {
         let ahead = course.places(op);
         FixedWalk {

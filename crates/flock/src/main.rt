@@ -3,13 +3,14 @@
 
 mod start;
 
+use flock_tool::runner_gate::PlannedGates;
 use flock_tool::{StdSink, StdSource};
-use runner_gate::PlannedGates;
 use start::{MEMORY, arguments, run, words_of};
 use std::process::ExitCode;
 
-/// Runs the command of the program's words on its standard streams, with threads and with gates that halt as planned, and
-/// ends with its status. It is 7 where memory is wanting for the words. Where a word is no text, the words are refused.
+/// Runs the command of the program's words on its standard streams, with threads and with gates that halt as planned,
+/// and ends with its status. It is 7 where memory is wanting for the words. Where a word is no text, the words are
+/// refused.
 fn main(rt: HostRuntime) -> ExitCode {
     let alloc = rt.alloc();
     let Ok(args) = arguments(&rt) else {

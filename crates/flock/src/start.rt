@@ -1,23 +1,23 @@
 // The start of the program: the words of the command line, and the status of `flock`.
 ghost use Rattle.std.specs.Prelude.{◌≡◌, ◌≢◌, ◌⊎◌, ◌≤◌, None};
 ghost use Rattle.std.specs.Process.{exit_status};
-ghost use Rattle.flock_words.specs.Commands.{AreAccepted, IsCommand, texts};
-ghost use Rattle.flock_words.specs.declared.command.Command.{Command};
+ghost use Rattle.flock_tool.specs.command_line.specs.Commands.{AreAccepted, IsCommand, texts};
+ghost use Rattle.flock_tool.specs.command_line.specs.declared.command.Command.{Command};
 ghost use Rattle.flock_tool.specs.Alone.{IsValidAlone, NothingStops};
 ghost use Rattle.flock_tool.specs.Commands.{Exits, RefusedEnds};
 ghost use Rattle.flock_tool.specs.Runs.{IsRunStatus};
 ghost use Rattle.flock_tool.specs.Streams.{gating, stream};
 
 use flock_tool::flock;
-use report_text::Sink;
-use runner_gate::Gates;
+use flock_tool::report_text::Sink;
+use flock_tool::runner_gate::Gates;
+use flock_tool::trace_reader::Source;
 use std::alloc::{AllocError, Global};
 use std::env;
 use std::io::ErrorKind;
 use std::process::ExitCode;
 use std::sync::Wait;
 use std::thread::Threads;
-use trace_reader::Source;
 
 /// The status for want of memory before the call.
 pub const MEMORY: u8 = 7;

@@ -2,8 +2,8 @@
 use Rattle.std.proofs.Common.{◌≡◌, ℕ, ◌+◌, ◌*◌, ◌≤◌, Option, subst, arith}
 use Rattle.threaded_runs.specs.Lone.{AsksAlone}
 use Rattle.threaded_runs.specs.serving.specs.Serving.{most_asks}
-use Rattle.flock_words.specs.declared.generated.LoadOptions.{LoadOptions}
-use Rattle.flock_words.specs.declared.options.RunOptions.{RunOptions}
+use Rattle.command_line.specs.declared.generated.LoadOptions.{LoadOptions}
+use Rattle.command_line.specs.declared.options.RunOptions.{RunOptions}
 use Rattle.flock_tool.specs.Asks.{nodes_of, served_of, AsksFew}
 use Rattle.flock_tool.specs.Commands.{LoadRuns, RunEnds}
 use Rattle.flock_tool.specs.Runs.{words_in, meaning_of}

@@ -1,12 +1,12 @@
 -- From how each command ends to the clauses of the top call.
 use Rattle.std.proofs.Common.{◌≡◌, ◌≢◌, ℕ, List, Option, None, Some, IsSome, codes, refl, sym, ◌∙◌, ⊎_elim, inl, inr, subst, arith}
 use Rattle.std.specs.Prelude.{◌⊎◌, ◌↔◌, ◌≤◌}
-use Rattle.trace_reader.specs.declared.generator.Gen.{Gen}
-use Rattle.trace_reader.specs.declared.traces.TraceError.TheVariants.{ReadFault, Memory, TooLarge, Malformed, TooManyTraces, TooManyRequests}
-use Rattle.flock_words.specs.Commands.{AreAccepted, IsCommand}
-use Rattle.flock_words.specs.declared.command.Command.{Command}
-use Rattle.flock_words.specs.declared.command.Command.TheVariants as commands
-use Rattle.flock_words.specs.declared.generated.LoadOptions.{LoadOptions}
+use Rattle.command_line.specs.trace_reader.specs.declared.generator.Gen.{Gen}
+use Rattle.command_line.specs.trace_reader.specs.declared.traces.TraceError.TheVariants.{ReadFault, Memory, TooLarge, Malformed, TooManyTraces, TooManyRequests}
+use Rattle.command_line.specs.Commands.{AreAccepted, IsCommand}
+use Rattle.command_line.specs.declared.command.Command.{Command}
+use Rattle.command_line.specs.declared.command.Command.TheVariants as commands
+use Rattle.command_line.specs.declared.generated.LoadOptions.{LoadOptions}
 use Rattle.flock_tool.specs.Commands.{Ends, GenPrints, IsNoCommand, LoadRuns, RefusedEnds}
 use Rattle.flock_tool.specs.End.{stop_line, stop_status}
 use Rattle.flock_tool.specs.Runs.{IsRunStatus}

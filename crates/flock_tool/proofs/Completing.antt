@@ -5,22 +5,22 @@ use Rattle.std.proofs.lemmas.List.Sums.{sum_by-cons}
 use Rattle.std.proofs.lemmas.Option.{slice_get-get_or}
 use Rattle.map_history.specs.declared.op.Entry.{Entry}
 use Rattle.map_history.specs.declared.op.Request.{Request}
-use Rattle.map_sizes.specs.Sizes.{peak}
+use Rattle.threaded_runs.specs.map_sizes.specs.Sizes.{peak}
 use Rattle.table_words.specs.declared.layout.Layout.{Layout}
 use Rattle.table_words.specs.declared.spot.Spot.TheVariants.{Stamp}
 use Rattle.structure_laws.specs.Meaning.{Meaning}
-use Rattle.threaded_runs.specs.make_counts.specs.Makes.{inserts}
-use Rattle.threaded_runs.specs.version_words.specs.TableState.{WordsState, word_of}
-use Rattle.trace_reader.specs.Answer.{AreTracesOf}
-use Rattle.trace_reader.specs.Generator.{generated}
-use Rattle.trace_reader.specs.declared.generator.Gen.{Gen}
-use Rattle.trace_reader.specs.declared.traces.Traces.{Traces}
-use Rattle.run_reports.specs.Reports.{HaveEntries, unserved_in}
-use Rattle.flock_words.specs.Halts.{names_below}
-use Rattle.flock_words.specs.declared.command.Command.{Command}
-use Rattle.flock_words.specs.declared.command.Command.TheVariants as commands
-use Rattle.flock_words.specs.declared.generated.LoadOptions.{LoadOptions}
-use Rattle.flock_words.specs.declared.options.RunOptions.{RunOptions}
+use Rattle.threaded_runs.specs.resource_bounds.specs.Makes.{inserts}
+use Rattle.load_counts.specs.version_words.specs.TableState.{WordsState, word_of}
+use Rattle.command_line.specs.trace_reader.specs.Answer.{AreTracesOf}
+use Rattle.command_line.specs.trace_reader.specs.Generator.{generated}
+use Rattle.command_line.specs.trace_reader.specs.declared.generator.Gen.{Gen}
+use Rattle.command_line.specs.trace_reader.specs.declared.traces.Traces.{Traces}
+use Rattle.load_counts.specs.run_reports.specs.Reports.{HaveEntries, unserved_in}
+use Rattle.command_line.specs.Halts.{names_below}
+use Rattle.command_line.specs.declared.command.Command.{Command}
+use Rattle.command_line.specs.declared.command.Command.TheVariants as commands
+use Rattle.command_line.specs.declared.generated.LoadOptions.{LoadOptions}
+use Rattle.command_line.specs.declared.options.RunOptions.{RunOptions}
 use Rattle.threaded_runs.specs.Lone.{ServesAlone}
 use Rattle.threaded_runs.specs.Runs.{AreServed}
 use Rattle.flock_tool.specs.Alone.{HasLoneRoom, IsValidAlone, KeepsVersions, NothingStops}

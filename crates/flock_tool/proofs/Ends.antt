@@ -1,14 +1,14 @@
 -- From the way in which the program ends without a report to its status, and back.
 use Rattle.std.proofs.Common.{◌≡◌, ◌≢◌, ℕ, List, Option, None, Some, Result, Ok, Err, IsOk, IfSome, IsSome, refl, sym, ap, ◌∙◌, ◌⊎◌, ⊎_elim, inl, inr, subst, arith}
-use Rattle.trace_reader.specs.declared.traces.BadLine.{BadLine}
-use Rattle.trace_reader.specs.declared.traces.TraceError.{TraceError}
-use Rattle.trace_reader.specs.declared.traces.TraceError.TheVariants.{ReadFault, Memory, TooLarge, Malformed, TooManyTraces, TooManyRequests}
+use Rattle.command_line.specs.trace_reader.specs.declared.traces.BadLine.{BadLine}
+use Rattle.command_line.specs.trace_reader.specs.declared.traces.TraceError.{TraceError}
+use Rattle.command_line.specs.trace_reader.specs.declared.traces.TraceError.TheVariants.{ReadFault, Memory, TooLarge, Malformed, TooManyTraces, TooManyRequests}
 use Rattle.std.specs.Prelude.{◌↔◌}
-use Rattle.trace_reader.specs.Answer.{IsExact}
-use Rattle.trace_reader.specs.declared.traces.Traces.{Traces}
+use Rattle.command_line.specs.trace_reader.specs.Answer.{IsExact}
+use Rattle.command_line.specs.trace_reader.specs.declared.traces.Traces.{Traces}
 use Rattle.flock_tool.specs.declared.ran.Ran.{Ran}
-use Rattle.trace_reader.specs.Text.{IsAccepted, IsFirstRefusal}
-use Rattle.flock_words.specs.declared.options.RunOptions.{RunOptions}
+use Rattle.command_line.specs.trace_reader.specs.Text.{IsAccepted, IsFirstRefusal}
+use Rattle.command_line.specs.declared.options.RunOptions.{RunOptions}
 use Rattle.flock_tool.specs.declared.plan.Plan.{Plan}
 use Rattle.flock_tool.specs.declared.status.Stop.{Stop}
 use Rattle.flock_tool.specs.declared.status.Stop.TheVariants.{Words, Text, Nodes, WriteFault}

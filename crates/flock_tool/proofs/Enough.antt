@@ -2,17 +2,17 @@
 use Rattle.std.specs.Prelude.{◌&&◌, Bool, true, false, if◌then◌else◌, nat_lt, slice_get, unwrap_or}
 use Rattle.std.proofs.Common.{◌≡◌, ◌≢◌, ℕ, suc, ◌+◌, ◌≤◌, List, [], ◌∷◌, length, Option, None, Some, refl, sym, ap, ◌∙◌, ⊎_elim, arith}
 use Rattle.std.proofs.lemmas.Bool.Decides.{nat_tests}
-use Rattle.section_body.specs.Memory.{cell_of}
-use Rattle.section_body.specs.Word.{version_of}
+use Rattle.body_terms.specs.Memory.{cell_of}
+use Rattle.body_terms.specs.Word.{version_of}
 use Rattle.table_words.specs.declared.layout.Layout.{Layout}
 use Rattle.table_words.specs.declared.spot.Spot.{Spot}
 use Rattle.table_words.specs.declared.spot.Spot.TheVariants.{Cell}
 use Rattle.structure_laws.specs.Meaning.{Meaning}
-use Rattle.threaded_runs.specs.version_words.specs.TableState.{WordsState, word_of}
-use Rattle.threaded_runs.specs.epoch_slots.specs.declared.reserves.Kind.{Kind}
-use Rattle.threaded_runs.specs.epoch_slots.specs.declared.reserves.Kind.TheVariants as slots
-use Rattle.threaded_runs.specs.epoch_slots.specs.declared.reserves.Short.{Short}
-use Rattle.threaded_runs.specs.serving.specs.spent_facts.specs.Spent.{IsLate, IsPast, IsSpentAt}
+use Rattle.load_counts.specs.version_words.specs.TableState.{WordsState, word_of}
+use Rattle.hash_table.specs.epoch_slots.specs.declared.reserves.Kind.{Kind}
+use Rattle.hash_table.specs.epoch_slots.specs.declared.reserves.Kind.TheVariants as slots
+use Rattle.hash_table.specs.epoch_slots.specs.declared.reserves.Short.{Short}
+use Rattle.threaded_runs.specs.lock_words.specs.Spent.{IsLate, IsPast, IsSpentAt}
 use Rattle.threaded_runs.specs.serving.specs.declared.answers.Served.{Served}
 use Rattle.threaded_runs.specs.serving.specs.declared.answers.Served.TheVariants as answers
 use Rattle.threaded_runs.specs.Runs.{AreServed, IsShortOf}

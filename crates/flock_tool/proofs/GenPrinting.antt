@@ -1,11 +1,11 @@
 -- How the command `gen` ends.
 use Rattle.std.proofs.Common.{◌≡◌, ℕ, ◌<◌, refl, inl, inr, subst, arith}
-use Rattle.trace_reader.specs.declared.generator.Gen.{Gen}
-use Rattle.trace_reader.specs.declared.traces.TraceError.TheVariants as errors
-use Rattle.generated_text.specs.Ends.{IsPlanInRange, IsRead, Prints, Stops}
-use Rattle.generated_text.specs.declared.print.PrintStop.{PrintStop}
-use Rattle.generated_text.specs.declared.print.PrintStop.TheVariants.{TooManyRequests, Memory, WriteFault}
-use Rattle.flock_words.specs.Generated.{ArePlanRanges}
+use Rattle.command_line.specs.trace_reader.specs.declared.generator.Gen.{Gen}
+use Rattle.command_line.specs.trace_reader.specs.declared.traces.TraceError.TheVariants as errors
+use Rattle.printed_traces.specs.Ends.{IsPlanInRange, IsRead, Prints, Stops}
+use Rattle.printed_traces.specs.declared.print.PrintStop.{PrintStop}
+use Rattle.printed_traces.specs.declared.print.PrintStop.TheVariants.{TooManyRequests, Memory, WriteFault}
+use Rattle.command_line.specs.Generated.{ArePlanRanges}
 use Rattle.flock_tool.specs.Commands.{GenPrints}
 use Rattle.flock_tool.specs.End.{error_line, print_stop, stop_line, stop_status}
 use Rattle.flock_tool.specs.Plans.{all_requests}

@@ -6,14 +6,14 @@ use Rattle.std.proofs.lemmas.Option.{slice_get_within}
 use Rattle.map_history.specs.declared.op.Request.{Request}
 use Rattle.structure_laws.specs.Meaning.{Meaning}
 use Rattle.machine_states.proofs.Steps.{some_same}
-use Rattle.runner_gate.specs.declared.counts.GatePlan.{GatePlan}
+use Rattle.threaded_runs.specs.runner_gate.specs.declared.counts.GatePlan.{GatePlan}
 use Rattle.threaded_runs.specs.Counts.{halts_counted, plans_from, plans_given, returns_counted, GivesFront}
 use Rattle.threaded_runs.specs.Lone.{AsksAlone, ServesAlone}
 use Rattle.threaded_runs.specs.Runs.{AreServed, IsMadeWith}
-use Rattle.threaded_runs.specs.version_words.specs.TableState.{WordsState}
+use Rattle.load_counts.specs.version_words.specs.TableState.{WordsState}
 use Rattle.threaded_runs.specs.serving.specs.declared.answers.Served.{Served}
-use Rattle.flock_words.specs.Halts.{ask_of, names_below}
-use Rattle.flock_words.specs.declared.halts.Halt.{Halt}
+use Rattle.command_line.specs.Halts.{ask_of, names_below}
+use Rattle.command_line.specs.declared.halts.Halt.{Halt}
 use Rattle.flock_tool.specs.Runs.{AreGiven, AreHaltsOf, HasRunOn}
 use Rattle.flock_tool.specs.Streams.{Gating}
 use Rattle.flock_tool.specs.declared.plan.Plan.{Plan}

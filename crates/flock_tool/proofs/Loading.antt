@@ -5,14 +5,14 @@ use Rattle.fault_count.specs.Rose.{Rose}
 use Rattle.map_history.specs.declared.op.Request.{Request}
 use Rattle.map_history.specs.Requests.{AreInOrder}
 use Rattle.table_words.specs.declared.layout.Layout.{Layout}
-use Rattle.report_text.specs.Sink.{Extends, ExtendsInPart}
-use Rattle.trace_reader.specs.Generator.{generated}
-use Rattle.trace_reader.specs.declared.traces.TraceError.TheVariants.{ReadFault, Memory, TooLarge, Malformed, TooManyTraces, TooManyRequests}
+use Rattle.printed_traces.specs.report_text.specs.Sink.{Extends, ExtendsInPart}
+use Rattle.command_line.specs.trace_reader.specs.Generator.{generated}
+use Rattle.command_line.specs.trace_reader.specs.declared.traces.TraceError.TheVariants.{ReadFault, Memory, TooLarge, Malformed, TooManyTraces, TooManyRequests}
 use Rattle.load_counts.specs.Apart.{load_text}
-use Rattle.flock_words.specs.Halts.{names_below}
-use Rattle.flock_words.specs.declared.generated.LoadOptions.{LoadOptions}
-use Rattle.flock_words.specs.declared.halts.Halt.{Halt}
-use Rattle.flock_words.specs.declared.options.RunOptions.{RunOptions}
+use Rattle.command_line.specs.Halts.{names_below}
+use Rattle.command_line.specs.declared.generated.LoadOptions.{LoadOptions}
+use Rattle.command_line.specs.declared.halts.Halt.{Halt}
+use Rattle.command_line.specs.declared.options.RunOptions.{RunOptions}
 use Rattle.flock_tool.specs.Commands.{LoadRuns}
 use Rattle.flock_tool.specs.End.{error_line, nodes_line, stop_line, stop_status}
 use Rattle.flock_tool.specs.Loads.{EndsLoad, HasCounted, HasLoaded, HasLoadRun}

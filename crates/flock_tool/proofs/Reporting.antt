@@ -4,17 +4,17 @@ use Rattle.std.specs.Prelude.{not}
 use Rattle.table_words.specs.Limits.{IsWithinLimits}
 use Rattle.table_words.specs.declared.layout.Layout.{Layout}
 use Rattle.structure_laws.specs.Meaning.{Meaning}
-use Rattle.threaded_runs.specs.machine_invariant.specs.After.{AreAllowed}
-use Rattle.threaded_runs.specs.version_words.specs.TableState.{WordsState}
-use Rattle.trace_reader.specs.Answer.{AreTracesOf}
-use Rattle.run_reports.specs.Reports.{Prints}
-use Rattle.run_reports.specs.Stops.{StopsPrinting}
-use Rattle.run_reports.specs.declared.printing.PrintError.{PrintError}
-use Rattle.run_reports.specs.declared.printing.PrintError.TheVariants as printing
+use Rattle.load_counts.specs.machine_invariant.specs.After.{AreAllowed}
+use Rattle.load_counts.specs.version_words.specs.TableState.{WordsState}
+use Rattle.command_line.specs.trace_reader.specs.Answer.{AreTracesOf}
+use Rattle.load_counts.specs.run_reports.specs.Reports.{Prints}
+use Rattle.load_counts.specs.run_reports.specs.Stops.{StopsPrinting}
+use Rattle.load_counts.specs.run_reports.specs.declared.printing.PrintError.{PrintError}
+use Rattle.load_counts.specs.run_reports.specs.declared.printing.PrintError.TheVariants as printing
 use Rattle.threaded_runs.specs.Runs.{AreServed}
-use Rattle.flock_words.specs.declared.generated.LoadOptions.{LoadOptions}
-use Rattle.flock_words.specs.declared.options.RunOptions.{RunOptions}
-use Rattle.flock_words.specs.Halts.{names_below}
+use Rattle.command_line.specs.declared.generated.LoadOptions.{LoadOptions}
+use Rattle.command_line.specs.declared.options.RunOptions.{RunOptions}
+use Rattle.command_line.specs.Halts.{names_below}
 use Rattle.flock_tool.specs.End.{stop_of}
 use Rattle.flock_tool.specs.Finish.{finish_by, finish_status, TellsFinish}
 use Rattle.flock_tool.specs.Loads.{HasLoadRun}

@@ -5,14 +5,14 @@ use Rattle.map_history.specs.declared.op.Entry.{Entry}
 use Rattle.map_history.specs.declared.op.Request.{Request}
 use Rattle.map_history.specs.Requests.{AreInOrder}
 use Rattle.table_words.specs.declared.layout.Layout.{Layout}
-use Rattle.run_reports.specs.Reports.{HaveEntries}
-use Rattle.trace_reader.specs.Answer.{StopsBefore}
-use Rattle.trace_reader.specs.Text.{IsAccepted, IsFirstRefusal}
-use Rattle.trace_reader.specs.declared.traces.TraceError.{TraceError}
-use Rattle.trace_reader.specs.declared.traces.TraceError.TheVariants.{ReadFault}
-use Rattle.flock_words.specs.Halts.{names_below}
-use Rattle.flock_words.specs.declared.halts.Halt.{Halt}
-use Rattle.flock_words.specs.declared.options.RunOptions.{RunOptions}
+use Rattle.load_counts.specs.run_reports.specs.Reports.{HaveEntries}
+use Rattle.command_line.specs.trace_reader.specs.Answer.{StopsBefore}
+use Rattle.command_line.specs.trace_reader.specs.Text.{IsAccepted, IsFirstRefusal}
+use Rattle.command_line.specs.trace_reader.specs.declared.traces.TraceError.{TraceError}
+use Rattle.command_line.specs.trace_reader.specs.declared.traces.TraceError.TheVariants.{ReadFault}
+use Rattle.command_line.specs.Halts.{names_below}
+use Rattle.command_line.specs.declared.halts.Halt.{Halt}
+use Rattle.command_line.specs.declared.options.RunOptions.{RunOptions}
 use Rattle.flock_tool.specs.Commands.{RunEnds}
 use Rattle.flock_tool.specs.End.{error_status, stop_line, stop_status}
 use Rattle.flock_tool.specs.Plans.{AsksTooMuch, IsPlanned, IsRefusedPlan, MustPlan}

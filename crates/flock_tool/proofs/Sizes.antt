@@ -5,15 +5,15 @@ use Rattle.std.proofs.Math.Nat.{div-le_self}
 use Rattle.std.proofs.lemmas.Nat.{mul-le}
 use Rattle.std.proofs.lemmas.Bool.Decides.{nat_tests}
 use Rattle.map_history.specs.Replay.{Pairs}
-use Rattle.section_body.specs.Word.{value_of, is_free}
+use Rattle.body_terms.specs.Word.{value_of, is_free}
 use Rattle.table_words.specs.declared.spot.Spot.TheVariants.{Cell}
 use Rattle.structure_laws.specs.Meaning.{Meaning}
-use Rattle.threaded_runs.specs.version_words.specs.TableState.{WordsState, word_of}
-use Rattle.threaded_runs.specs.closed_words.specs.Histories.{HoldsNoLock}
-use Rattle.threaded_runs.specs.try_lock.specs.Contents.{StandFor, NamesNone}
-use Rattle.run_reports.specs.Reports.{HaveContents}
-use Rattle.flock_words.specs.Options.{runners_by, nodes_by, AreInRange}
-use Rattle.flock_words.specs.declared.options.RunOptions.{RunOptions}
+use Rattle.load_counts.specs.version_words.specs.TableState.{WordsState, word_of}
+use Rattle.load_counts.specs.closed_words.specs.Histories.{HoldsNoLock}
+use Rattle.hash_table.specs.try_lock.specs.Contents.{StandFor, NamesNone}
+use Rattle.load_counts.specs.run_reports.specs.Reports.{HaveContents}
+use Rattle.command_line.specs.Options.{runners_by, nodes_by, AreInRange}
+use Rattle.command_line.specs.declared.options.RunOptions.{RunOptions}
 
 runners_few : (given : Option ℕ) (traces : ℕ) → IfSome given (λ runners. (1 ≤ runners) × (runners ≤ 16)) → (1 ≤ runners_by given traces) × (runners_by given traces ≤ 16)
 runners_few None traces range = (omega arith, omega arith)

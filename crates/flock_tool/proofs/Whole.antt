@@ -14,9 +14,9 @@ use Rattle.table_words.specs.declared.spot.Spot.TheVariants.{Stamp}
 use Rattle.structure_laws.specs.Meaning.{Meaning}
 use Rattle.map_history.specs.Requests.{AreInOrder}
 use Rattle.machine_states.proofs.Steps.{some_same}
-use Rattle.threaded_runs.specs.machine_invariant.specs.After.{AreAllowed}
-use Rattle.threaded_runs.specs.version_words.specs.TableState.{WordsState, word_of}
-use Rattle.run_reports.specs.Reports.{HaveEntries, unserved_in}
+use Rattle.load_counts.specs.machine_invariant.specs.After.{AreAllowed}
+use Rattle.load_counts.specs.version_words.specs.TableState.{WordsState, word_of}
+use Rattle.load_counts.specs.run_reports.specs.Reports.{HaveEntries, unserved_in}
 use Rattle.threaded_runs.specs.serving.specs.declared.answers.Served.{Served}
 use Rattle.threaded_runs.specs.serving.specs.declared.answers.Served.TheVariants as answers
 use Rattle.threaded_runs.specs.Own.{own_requests}

@@ -1,22 +1,22 @@
 -- Completeness with one runner, whose slots are used again.
 use Rattle.std.specs.Prelude.{◌≡◌, ◌≢◌, ◌≤◌, ◌+◌, ◌*◌, ℕ, List, Option, IfSome, Some, true, length}
-use Rattle.map_sizes.specs.Sizes.{peak}
-use Rattle.trace_reader.specs.Answer.{AreTracesOf}
-use Rattle.trace_reader.specs.Generator.{generated}
-use Rattle.trace_reader.specs.declared.traces.Traces.{Traces}
-use Rattle.threaded_runs.specs.version_words.specs.TableState.{WordsState}
-use Rattle.flock_words.specs.Halts.{names_below}
-use Rattle.flock_words.specs.declared.command.Command.{Command}
-use Rattle.flock_words.specs.declared.command.Command.TheVariants as commands
-use Rattle.flock_words.specs.declared.options.RunOptions.{RunOptions}
+use Rattle.threaded_runs.specs.map_sizes.specs.Sizes.{peak}
+use Rattle.command_line.specs.trace_reader.specs.Answer.{AreTracesOf}
+use Rattle.command_line.specs.trace_reader.specs.Generator.{generated}
+use Rattle.command_line.specs.trace_reader.specs.declared.traces.Traces.{Traces}
+use Rattle.load_counts.specs.version_words.specs.TableState.{WordsState}
+use Rattle.command_line.specs.Halts.{names_below}
+use Rattle.command_line.specs.declared.command.Command.{Command}
+use Rattle.command_line.specs.declared.command.Command.TheVariants as commands
+use Rattle.command_line.specs.declared.options.RunOptions.{RunOptions}
 use Rattle.flock_tool.specs.Plans.{all_nodes, all_requests, layout_by}
 use Rattle.flock_tool.specs.Runs.{words_in}
 use Rattle.flock_tool.specs.Streams.{Fails, Gating, Halts, Stream}
 use Rattle.flock_tool.specs.declared.ran.Ran.{Ran}
 
--- there is one runner. It has two node slots for each pair of the largest map that the requests leave on their way, and sixteen more,
--- and no more than the limit; one descriptor at least, and two where it is named to halt; and its words have eight versions for each
--- request, and eight more
+-- there is one runner. It has two node slots for each pair of the largest map that the requests leave on their way, and
+-- sixteen more, and no more than the limit; one descriptor at least, and two where it is named to halt; and its words
+-- have eight versions for each request, and eight more
 pub record HasLoneRoom (options : RunOptions) (traces : Traces) : Type 0 where
   pub one : (layout_by options traces.count traces.requests).runners ≡ 1
   pub few : all_nodes (layout_by options traces.count traces.requests) ≤ 262144

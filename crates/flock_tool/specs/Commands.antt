@@ -1,22 +1,22 @@
 -- What each command leaves, by its status.
 use Rattle.std.specs.Prelude.{◌≡◌, ◌≢◌, ◌↔◌, ◌⊎◌, ◌<◌, ◌≤◌, ℕ, List, [], Option, IfSome, IsSome, None, codes}
 use Rattle.map_history.specs.declared.op.Entry.{Entry}
-use Rattle.trace_reader.specs.Answer.{StopsBefore}
-use Rattle.trace_reader.specs.Text.{IsAccepted, IsFirstRefusal}
-use Rattle.trace_reader.specs.declared.generator.Gen.{Gen}
-use Rattle.trace_reader.specs.declared.traces.BadLine.{BadLine}
-use Rattle.trace_reader.specs.declared.traces.TraceError.{TraceError}
-use Rattle.trace_reader.specs.declared.traces.TraceError.TheVariants.{ReadFault, Memory, TooLarge, Malformed, TooManyTraces, TooManyRequests}
-use Rattle.report_text.specs.Sink.{Extends, ExtendsInPart}
-use Rattle.generated_text.specs.Ends.{IsRead, Prints, PrintsInPart}
-use Rattle.run_reports.specs.Reports.{HaveEntries}
+use Rattle.command_line.specs.trace_reader.specs.Answer.{StopsBefore}
+use Rattle.command_line.specs.trace_reader.specs.Text.{IsAccepted, IsFirstRefusal}
+use Rattle.command_line.specs.trace_reader.specs.declared.generator.Gen.{Gen}
+use Rattle.command_line.specs.trace_reader.specs.declared.traces.BadLine.{BadLine}
+use Rattle.command_line.specs.trace_reader.specs.declared.traces.TraceError.{TraceError}
+use Rattle.command_line.specs.trace_reader.specs.declared.traces.TraceError.TheVariants.{ReadFault, Memory, TooLarge, Malformed, TooManyTraces, TooManyRequests}
+use Rattle.printed_traces.specs.report_text.specs.Sink.{Extends, ExtendsInPart}
+use Rattle.printed_traces.specs.Ends.{IsRead, Prints, PrintsInPart}
+use Rattle.load_counts.specs.run_reports.specs.Reports.{HaveEntries}
 use Rattle.load_counts.specs.Apart.{load_text}
-use Rattle.flock_words.specs.Commands.{AreAccepted}
-use Rattle.flock_words.specs.Written.{Text}
-use Rattle.flock_words.specs.declared.command.Command.{Command}
-use Rattle.flock_words.specs.declared.command.Command.TheVariants as commands
-use Rattle.flock_words.specs.declared.generated.LoadOptions.{LoadOptions}
-use Rattle.flock_words.specs.declared.options.RunOptions.{RunOptions}
+use Rattle.command_line.specs.Commands.{AreAccepted}
+use Rattle.command_line.specs.Written.{Text}
+use Rattle.command_line.specs.declared.command.Command.{Command}
+use Rattle.command_line.specs.declared.command.Command.TheVariants as commands
+use Rattle.command_line.specs.declared.generated.LoadOptions.{LoadOptions}
+use Rattle.command_line.specs.declared.options.RunOptions.{RunOptions}
 use Rattle.flock_tool.specs.declared.ran.Ran.{Ran}
 use Rattle.flock_tool.specs.declared.status.Stop.{Stop}
 use Rattle.flock_tool.specs.declared.status.Stop.TheVariants as stops
@@ -32,21 +32,22 @@ pub record RunEnds (options : RunOptions) (result : ℕ × Option Ran) (source s
     : Type 0 where
   -- a run came to its end exactly at 0, 1, 5, 6 and 9
   pub ran : IsSome result.1 ↔ IsRunStatus result.0
-  -- it was of the table that the options and the text name. At 0, 1, 5 and 6 what the sink holds past what it held is the
-  -- report on its closed words, which is legal; the status and the line are those of the answers, and at 0 each request is
-  -- answered
+  -- it was of the table that the options and the text name. At 0, 1, 5 and 6 what the sink holds past what it held is
+  -- the report on its closed words, which is legal; the status and the line are those of the answers, and at 0 each
+  -- request is answered
   pub ended : IfSome result.1 (λ ran. (traces : ℕ) × HasRun options source.before traces ran gates
       × HasEnded ran traces (waits_out options.halts (words_in ran).layout.runners) result.0 sink faults)
   -- with one runner the first requests are served, in their order: the rank of each is its number
   pub in_order : IfSome result.1 (λ ran. (words_in ran).layout.runners ≡ 1
-      → (entries : List (Option Entry)) → HaveEntries (meaning_of ran) (words_in ran) entries → AreServedInOrder entries)
+      → (entries : List (Option Entry)) → HaveEntries (meaning_of ran) (words_in ran) entries
+      → AreServedInOrder entries)
   pub halted : result.0 ≡ 1 → Halts gates
   -- where the text is refused nothing is run
   pub idle : (result.0 ≡ 3) ⊎ (result.0 ≡ 4) ⊎ (result.0 ≡ 8) → IsIdle gates
   -- where the words name no halt, no gate is given with a plan
   pub unplanned : options.halts ≡ [] → gates.plans_after ≡ gates.plans_before
-  -- where no fault is counted, a text in the grammar is run, unless the runners would have too many node slots or memory
-  -- is wanting, and any other is refused for its first refusal
+  -- where no fault is counted, a text in the grammar is run, unless the runners would have too many node slots or
+  -- memory is wanting, and any other is refused for its first refusal
   pub grammatical : (Fails source → ⊥) → IfSome source.before (λ text. IsAccepted text
       → IsRunStatus result.0 ⊎ (result.0 ≡ 7)
       ⊎ ((result.0 ≡ 4) × (count : ℕ) × AsksTooMuch options source.before count))
@@ -86,8 +87,8 @@ pub record GenEnds (plan : Gen) (result : ℕ × Option Ran) (source sink faults
   pub idle : IsIdle gates
   pub prints : GenPrints plan result.0 sink faults
 
--- what `load` with these options prints: the counts of each trace served by itself, whole at 0, in part at 9, and not at all
--- at 1, 4, 5, 6 and 7
+-- what `load` with these options prints: the counts of each trace served by itself, whole at 0, in part at 9, and not
+-- at all at 1, 4, 5, 6 and 7
 pub record LoadRuns (load : LoadOptions) (result : ℕ × Option Ran) (sink faults : Stream) (gates : Gating)
     : Type 0 where
   pub ran : IsSome result.1 ↔ IsRunStatus result.0
@@ -109,7 +110,8 @@ pub record LoadRuns (load : LoadOptions) (result : ℕ × Option Ran) (sink faul
   pub many : 131072 < all_requests load.plan → (result.0 ≡ 4) ⊎ (result.0 ≡ 7)
   pub memory : result.0 ≡ 7 → Told (codes "flock: memory\n") faults
   pub write : result.0 ≡ 9
-      → Fails sink × ExtendsInPart sink.before (load_text load.plan) sink.after × Told (codes "flock: write fault\n") faults
+      → Fails sink × ExtendsInPart sink.before (load_text load.plan) sink.after
+      × Told (codes "flock: write fault\n") faults
   pub silent : (IsRunStatus result.0 → ⊥) → sink.after ≡ sink.before
   pub steady : result.0 ≢ 9 → sink.faults_after ≡ sink.faults_before
 
@@ -126,7 +128,8 @@ Ends (commands.Load load) = LoadEnds load
 
 -- the program ended as this command does, with this status, whatever a run left
 abbrev pub Exits : Command → ℕ → (source sink faults : Stream) → Gating → Type 0
-Exits command number source sink faults gates = (back : Option Ran) × Ends command (number, back) source sink faults gates
+Exits command number source sink faults gates = (back : Option Ran)
+    × Ends command (number, back) source sink faults gates
 
 -- words that are no command are refused, unless memory is wanting before they are known as such: nothing is read,
 -- printed or run, and nothing comes back

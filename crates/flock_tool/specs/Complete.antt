@@ -1,10 +1,10 @@
 -- When a run can't end for want of slots or of versions.
 use Rattle.std.specs.Prelude.{◌≢◌, ℕ, ◌+◌, ◌*◌, ◌<◌, ◌≤◌, Bool, false, length}
-use Rattle.section_body.specs.Word.{version_of}
+use Rattle.body_terms.specs.Word.{version_of}
 use Rattle.table_words.specs.declared.spot.Spot.TheVariants.{Cell, Stamp}
 use Rattle.structure_laws.specs.Meaning.{Meaning}
-use Rattle.threaded_runs.specs.make_counts.specs.Makes.{inserts}
-use Rattle.threaded_runs.specs.version_words.specs.TableState.{WordsState, word_of}
+use Rattle.threaded_runs.specs.resource_bounds.specs.Makes.{inserts}
+use Rattle.load_counts.specs.version_words.specs.TableState.{WordsState, word_of}
 
 module _ {T : Type 0} (m : Meaning) (w : WordsState T) where
   -- each worker has two node slots for each request that inserts, and two more
@@ -19,8 +19,8 @@ module _ {T : Type 0} (m : Meaning) (w : WordsState T) where
   abbrev pub IsAnswered : Type 0
   IsAnswered = (number : ℕ) → number < length w.requests → word_of m w (Stamp number) ≢ 0
 
-  -- a run that waits out a want of slots doesn't end for one where it had enough of them, and none ends for want of versions
-  -- of which it left enough
+  -- a run that waits out a want of slots doesn't end for one where it had enough of them, and none ends for want of
+  -- versions of which it left enough
   pub record Completes (waits : Bool) (number : ℕ) : Type 0 where
     pub slots : waits ≢ false → HasEnoughSlots → number ≢ 5
     pub versions : HasEnoughVersions → number ≢ 6

@@ -1,15 +1,15 @@
 -- How the program ends without a report: what it says went wrong, and the number of its status.
 use Rattle.std.specs.Prelude.{ℕ, ◌⊎◌, List, ◌++◌, Option, codes, decimal}
 use Rattle.fault_count.specs.Rose.{Rose}
-use Rattle.report_text.specs.Sink.{Extends, ExtendsInPart}
-use Rattle.generated_text.specs.declared.print.PrintStop.{PrintStop}
-use Rattle.generated_text.specs.declared.print.PrintStop.TheVariants as print_stops
-use Rattle.run_reports.specs.declared.printing.PrintError.{PrintError}
-use Rattle.run_reports.specs.declared.printing.PrintError.TheVariants as printing
-use Rattle.trace_reader.specs.declared.traces.BadLine.{BadLine}
-use Rattle.trace_reader.specs.declared.traces.BadLine.TheVariants.{NotAscii, NoHeader, UnknownWord, RequestBeforeTrace, MissingField, ExtraField, BadNumber, KeyTooLarge, ValueTooLarge}
-use Rattle.trace_reader.specs.declared.traces.TraceError.{TraceError}
-use Rattle.trace_reader.specs.declared.traces.TraceError.TheVariants.{ReadFault, Memory, TooLarge, Malformed, TooManyTraces, TooManyRequests}
+use Rattle.printed_traces.specs.report_text.specs.Sink.{Extends, ExtendsInPart}
+use Rattle.printed_traces.specs.declared.print.PrintStop.{PrintStop}
+use Rattle.printed_traces.specs.declared.print.PrintStop.TheVariants as print_stops
+use Rattle.load_counts.specs.run_reports.specs.declared.printing.PrintError.{PrintError}
+use Rattle.load_counts.specs.run_reports.specs.declared.printing.PrintError.TheVariants as printing
+use Rattle.command_line.specs.trace_reader.specs.declared.traces.BadLine.{BadLine}
+use Rattle.command_line.specs.trace_reader.specs.declared.traces.BadLine.TheVariants.{NotAscii, NoHeader, UnknownWord, RequestBeforeTrace, MissingField, ExtraField, BadNumber, KeyTooLarge, ValueTooLarge}
+use Rattle.command_line.specs.trace_reader.specs.declared.traces.TraceError.{TraceError}
+use Rattle.command_line.specs.trace_reader.specs.declared.traces.TraceError.TheVariants.{ReadFault, Memory, TooLarge, Malformed, TooManyTraces, TooManyRequests}
 use Rattle.flock_tool.specs.declared.status.Stop.{Stop}
 use Rattle.flock_tool.specs.declared.status.Stop.TheVariants.{Words, Text, Nodes, WriteFault}
 

@@ -1,9 +1,9 @@
 -- How a run ends, by the answers of its runners and by how many requests are unserved.
 use Rattle.std.specs.Prelude.{◌≡◌, ℕ, ◌+◌, Bool, true, false, ◌||◌, ◌&&◌, List, [], ◌∷◌, ◌++◌, Option, None, Some, if◌then◌else◌, codes, decimal, nat_lt, unwrap_or}
-use Rattle.section_body.specs.Word.{value_of, version_of}
-use Rattle.threaded_runs.specs.epoch_slots.specs.declared.reserves.Kind.{Kind}
-use Rattle.threaded_runs.specs.epoch_slots.specs.declared.reserves.Kind.TheVariants.{Node, Descriptor}
-use Rattle.threaded_runs.specs.epoch_slots.specs.declared.reserves.Short.{Short}
+use Rattle.body_terms.specs.Word.{value_of, version_of}
+use Rattle.hash_table.specs.epoch_slots.specs.declared.reserves.Kind.{Kind}
+use Rattle.hash_table.specs.epoch_slots.specs.declared.reserves.Kind.TheVariants.{Node, Descriptor}
+use Rattle.hash_table.specs.epoch_slots.specs.declared.reserves.Short.{Short}
 use Rattle.threaded_runs.specs.serving.specs.declared.answers.Served.{Served}
 use Rattle.threaded_runs.specs.serving.specs.declared.answers.Served.TheVariants as answers
 use Rattle.flock_tool.specs.Streams.{Stream, Told}
@@ -65,7 +65,8 @@ kind_name Descriptor = codes "descriptor"
 abbrev pub counts_line : List ℕ → ℕ → Short → List ℕ
 counts_line what runner short =
     codes "flock: " ++ what ++ codes ": runner " ++ decimal runner ++ codes " " ++ kind_name short.kind
-    ++ codes " free " ++ decimal short.free ++ codes " limbo " ++ decimal short.limbo ++ codes " worn " ++ decimal short.worn ++ codes "\n"
+    ++ codes " free " ++ decimal short.free ++ codes " limbo " ++ decimal short.limbo ++ codes " worn " ++ decimal
+    short.worn ++ codes "\n"
 
 -- the line that is told; none where every request is answered
 abbrev pub finish_line : Finish → List ℕ

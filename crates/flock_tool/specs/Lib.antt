@@ -9,3 +9,5 @@ pub mod Streams
 pub mod Valid
 pub mod Alone
 pub mod Asks
+-- Passed on to the layers above, so that they needn't name these libraries themselves.
+pub use Rattle.command_line

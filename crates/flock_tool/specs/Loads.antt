@@ -5,15 +5,15 @@ use Rattle.map_history.specs.declared.op.Entry.{Entry}
 use Rattle.map_history.specs.Replay.{Pairs}
 use Rattle.map_history.specs.Requests.{AreInOrder}
 use Rattle.structure_laws.specs.Meaning.{Meaning}
-use Rattle.trace_reader.specs.Generator.{generated}
-use Rattle.trace_reader.specs.declared.generator.Gen.{Gen}
-use Rattle.report_text.specs.Sink.{Extends, ExtendsInPart}
-use Rattle.threaded_runs.specs.version_words.specs.TableState.{WordsState}
+use Rattle.command_line.specs.trace_reader.specs.Generator.{generated}
+use Rattle.command_line.specs.trace_reader.specs.declared.generator.Gen.{Gen}
+use Rattle.printed_traces.specs.report_text.specs.Sink.{Extends, ExtendsInPart}
+use Rattle.load_counts.specs.version_words.specs.TableState.{WordsState}
 use Rattle.threaded_runs.specs.Lone.{AsksAlone}
-use Rattle.run_reports.specs.Reports.{HaveContents, HaveEntries, unserved_in}
+use Rattle.load_counts.specs.run_reports.specs.Reports.{HaveContents, HaveEntries, unserved_in}
 use Rattle.load_counts.specs.Apart.{load_text}
-use Rattle.load_reports.specs.Tallies.{IsAlone, IsTally}
-use Rattle.flock_words.specs.declared.generated.LoadOptions.{LoadOptions}
+use Rattle.load_counts.specs.Tallies.{IsAlone, IsTally}
+use Rattle.command_line.specs.declared.generated.LoadOptions.{LoadOptions}
 use Rattle.flock_tool.specs.declared.load.Counted.{Counted}
 use Rattle.flock_tool.specs.declared.ran.Ran.{Ran}
 use Rattle.flock_tool.specs.Complete.{Completes}

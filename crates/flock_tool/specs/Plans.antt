@@ -3,17 +3,17 @@ use Rattle.std.specs.Prelude.{◌≡◌, ℕ, ◌*◌, ◌<◌, ◌≤◌, ◌�
 use Rattle.map_history.specs.declared.op.Request.{Request}
 use Rattle.map_history.specs.Requests.{AreInOrder}
 use Rattle.table_words.specs.declared.layout.Layout.{Layout}
-use Rattle.threaded_runs.specs.make_counts.specs.Makes.{inserts}
-use Rattle.trace_reader.specs.Answer.{AreTracesOf, IsRefusal}
-use Rattle.trace_reader.specs.Generator.{generated}
-use Rattle.trace_reader.specs.Text.{IsAccepted, IsFirstRefusal}
-use Rattle.trace_reader.specs.declared.generator.Gen.{Gen}
-use Rattle.trace_reader.specs.declared.traces.TraceError.{TraceError}
-use Rattle.trace_reader.specs.declared.traces.TraceError.TheVariants.{ReadFault, Memory, TooLarge, Malformed, TooManyTraces, TooManyRequests}
-use Rattle.trace_reader.specs.declared.traces.Traces.{Traces}
-use Rattle.flock_words.specs.Options.{runners_by, nodes_by, AreInRange}
-use Rattle.flock_words.specs.declared.generated.LoadOptions.{LoadOptions}
-use Rattle.flock_words.specs.declared.options.RunOptions.{RunOptions}
+use Rattle.threaded_runs.specs.resource_bounds.specs.Makes.{inserts}
+use Rattle.command_line.specs.trace_reader.specs.Answer.{AreTracesOf, IsRefusal}
+use Rattle.command_line.specs.trace_reader.specs.Generator.{generated}
+use Rattle.command_line.specs.trace_reader.specs.Text.{IsAccepted, IsFirstRefusal}
+use Rattle.command_line.specs.trace_reader.specs.declared.generator.Gen.{Gen}
+use Rattle.command_line.specs.trace_reader.specs.declared.traces.TraceError.{TraceError}
+use Rattle.command_line.specs.trace_reader.specs.declared.traces.TraceError.TheVariants.{ReadFault, Memory, TooLarge, Malformed, TooManyTraces, TooManyRequests}
+use Rattle.command_line.specs.trace_reader.specs.declared.traces.Traces.{Traces}
+use Rattle.command_line.specs.Options.{runners_by, nodes_by, AreInRange}
+use Rattle.command_line.specs.declared.generated.LoadOptions.{LoadOptions}
+use Rattle.command_line.specs.declared.options.RunOptions.{RunOptions}
 use Rattle.flock_tool.specs.declared.plan.Plan.{Plan}
 use Rattle.flock_tool.specs.declared.status.Stop.{Stop}
 use Rattle.flock_tool.specs.declared.status.Stop.TheVariants as stops
@@ -61,8 +61,8 @@ IsRefusedPlan options left (stops.Text error) = IfSome left (IsRefusal error)
 IsRefusedPlan options left (Nodes count) = AsksTooMuch options left count
 IsRefusedPlan options left WriteFault = ⊥
 
--- a text in the grammar is planned, unless it asks for too many node slots, and every other is refused for its first refusal,
--- if memory isn't wanting
+-- a text in the grammar is planned, unless it asks for too many node slots, and every other is refused for its first
+-- refusal, if memory isn't wanting
 pub record MustPlan (result : Result Plan Stop) (text : List ℕ) : Type 0 where
   pub accepted : IsAccepted text
       → IsOk result ⊎ (result ≡ Err (stops.Text Memory)) ⊎ ((count : ℕ) × (result ≡ Err (Nodes count)))

@@ -2,29 +2,29 @@
 use Rattle.std.specs.Prelude.{◌≡◌, ◌≢◌, ◌<◌, ◌≤◌, ◌⊎◌, ℕ, Bool, not, List, [], Option, IfSome, None, Some, false, true, codes, length, slice_get}
 use Rattle.map_history.specs.declared.op.Entry.{Entry}
 use Rattle.structure_laws.specs.Meaning.{Meaning}
-use Rattle.bucket_laws.specs.Buckets.{buckets_meaning}
-use Rattle.trace_reader.specs.Answer.{AreTracesOf}
-use Rattle.report_text.specs.Sink.{Extends, ExtendsInPart}
+use Rattle.hash_table.specs.bucket_laws.specs.Buckets.{buckets_meaning}
+use Rattle.command_line.specs.trace_reader.specs.Answer.{AreTracesOf}
+use Rattle.printed_traces.specs.report_text.specs.Sink.{Extends, ExtendsInPart}
 use Rattle.hash_table.specs.declared.table.HashTable.{HashTable}
 use Rattle.leaf_tree.specs.declared.tree.LeafTree.{LeafTree}
-use Rattle.tree_laws.specs.Leaves.{tree}
-use Rattle.threaded_runs.specs.version_words.specs.TableState.{WordsState}
-use Rattle.report_text.specs.Ranks.{ranks_of}
-use Rattle.run_reports.specs.Reports.{IsReport, PrintsInPart}
+use Rattle.leaf_tree.specs.tree_laws.specs.Leaves.{tree}
+use Rattle.load_counts.specs.version_words.specs.TableState.{WordsState}
+use Rattle.printed_traces.specs.report_text.specs.Ranks.{ranks_of}
+use Rattle.load_counts.specs.run_reports.specs.Reports.{IsReport, PrintsInPart}
 use Rattle.threaded_runs.specs.serving.specs.declared.answers.Served.{Served}
-use Rattle.runner_gate.specs.declared.counts.GatePlan.{GatePlan}
+use Rattle.threaded_runs.specs.runner_gate.specs.declared.counts.GatePlan.{GatePlan}
 use Rattle.threaded_runs.specs.Counts.{halts_counted, returns_counted}
 use Rattle.threaded_runs.specs.Lone.{AsksAlone, ServesAlone}
 use Rattle.threaded_runs.specs.Runs.{AreServed, IsMadeWith}
-use Rattle.flock_words.specs.Halts.{ask_of, names_below}
-use Rattle.flock_words.specs.declared.halts.Halt.{Halt}
-use Rattle.flock_words.specs.declared.options.RunOptions.{RunOptions}
-use Rattle.flock_words.specs.declared.options.TableKind.TheVariants as kinds
+use Rattle.command_line.specs.Halts.{ask_of, names_below}
+use Rattle.command_line.specs.declared.halts.Halt.{Halt}
+use Rattle.command_line.specs.declared.options.RunOptions.{RunOptions}
+use Rattle.command_line.specs.declared.options.TableKind.TheVariants as kinds
 use Rattle.flock_tool.specs.Complete.{Completes}
 use Rattle.flock_tool.specs.Finish.{any_halted, finish_by, finish_status, TellsFinish}
 use Rattle.flock_tool.specs.Plans.{layout_by}
 use Rattle.flock_tool.specs.Streams.{Fails, Gating, Stream, Told}
-use Rattle.trace_reader.specs.declared.traces.TraceError.TheVariants.{Memory}
+use Rattle.command_line.specs.trace_reader.specs.declared.traces.TraceError.TheVariants.{Memory}
 use Rattle.flock_tool.specs.declared.plan.Plan.{Plan}
 use Rattle.flock_tool.specs.declared.status.Stop.{Stop}
 use Rattle.flock_tool.specs.declared.status.Stop.TheVariants as stops
@@ -67,8 +67,8 @@ pub record AreHaltsOf (halts : List Halt) (runners : ℕ) (planned : List GatePl
       → slice_get planned runner ≡ Some (record { runner = runner; halt = ask_of halts runner })
 
 -- the gates of a run were given out for the runners and each came back: a runner answered that it was halted exactly
--- where its gate counted a halt, their plans were those that the words name, and where these name none for a runner that
--- there is, none was counted
+-- where its gate counted a halt, their plans were those that the words name, and where these name none for a runner
+-- that there is, none was counted
 pub record AreGiven (halts : List Halt) (runners : ℕ) (answers : List Served) (gates : Gating) : Type 0 where
   pub halted : gates.halts_after ≡ halts_counted gates.halts_before answers
   pub returned : gates.returned_after ≡ returns_counted gates.returned_before runners
@@ -137,8 +137,8 @@ pub record AreServedInOrder (entries : List (Option Entry)) : Type 0 where
   pub ranks : (number : ℕ) → number < count → slice_get (ranks_of entries) number ≡ Some (Some number)
   pub none : (number : ℕ) → count ≤ number → number < length entries → slice_get (ranks_of entries) number ≡ Some None
 
--- its report was printed whole, and the status and the line are those of its answers; or, at 9, the sink failed and holds a
--- part. A want of slots was waited out, or wasn't
+-- its report was printed whole, and the status and the line are those of its answers; or, at 9, the sink failed and
+-- holds a part. A want of slots was waited out, or wasn't
 pub record HasEnded (ran : Ran) (traces : ℕ) (waits : Bool) (number : ℕ) (sink faults : Stream) : Type 0 where
   pub unserved : ℕ
   pub report : List ℕ
@@ -154,12 +154,13 @@ pub record HasEnded (ran : Ran) (traces : ℕ) (waits : Bool) (number : ℕ) (si
   pub failed : number ≡ 9 → Told (codes "flock: write fault\n") faults
 
 -- the report of a run was begun, and the run comes back with its status
-pub record EndsRun (ran : Ran) (traces : ℕ) (waits : Bool) (result : ℕ × Option Ran) (sink faults : Stream) : Type 0 where
-  pub status : IsRunStatus result.0
-  pub back : result.1 ≡ Some ran
-  pub ended : HasEnded ran traces waits result.0 sink faults
-  pub steady : result.0 ≢ 9 → sink.faults_after ≡ sink.faults_before
-  pub halted : result.0 ≡ 1 → any_halted (answers_in ran) ≡ true
+pub record EndsRun (ran : Ran) (traces : ℕ) (waits : Bool) (result : ℕ × Option Ran) (sink faults : Stream) : Type 0
+  where
+    pub status : IsRunStatus result.0
+    pub back : result.1 ≡ Some ran
+    pub ended : HasEnded ran traces waits result.0 sink faults
+    pub steady : result.0 ≢ 9 → sink.faults_after ≡ sink.faults_before
+    pub halted : result.0 ≡ 1 → any_halted (answers_in ran) ≡ true
 
 -- memory was wanting before it
 pub record LacksMemory (result : ℕ × Option Ran) (sink faults : Stream) : Type 0 where

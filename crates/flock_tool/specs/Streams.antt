@@ -1,6 +1,6 @@
 -- What streams and gates tell and count before and after a call.
 use Rattle.std.specs.Prelude.{◌≡◌, ℕ, List, Option}
-use Rattle.runner_gate.specs.declared.counts.GatePlan.{GatePlan}
+use Rattle.threaded_runs.specs.runner_gate.specs.declared.counts.GatePlan.{GatePlan}
 use Rattle.fault_count.specs.Rose.{Rose}
 use Rattle.flock_tool.specs.End.{Tells}
 

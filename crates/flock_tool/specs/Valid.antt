@@ -1,29 +1,29 @@
 -- Completeness: what is asked for within the limits, with slots enough, is done whole.
 use Rattle.std.specs.Prelude.{◌≡◌, ◌≤◌, ◌+◌, ◌*◌, ℕ, List, Option, IfSome, Some, false}
-use Rattle.trace_reader.specs.Answer.{AreTracesOf}
-use Rattle.trace_reader.specs.Generator.{generated}
-use Rattle.trace_reader.specs.declared.traces.Traces.{Traces}
-use Rattle.threaded_runs.specs.make_counts.specs.Makes.{inserts}
-use Rattle.flock_words.specs.Halts.{names_below}
-use Rattle.flock_words.specs.Options.{runners_by}
-use Rattle.flock_words.specs.declared.command.Command.{Command}
-use Rattle.flock_words.specs.declared.command.Command.TheVariants as commands
-use Rattle.flock_words.specs.declared.options.RunOptions.{RunOptions}
+use Rattle.command_line.specs.trace_reader.specs.Answer.{AreTracesOf}
+use Rattle.command_line.specs.trace_reader.specs.Generator.{generated}
+use Rattle.command_line.specs.trace_reader.specs.declared.traces.Traces.{Traces}
+use Rattle.threaded_runs.specs.resource_bounds.specs.Makes.{inserts}
+use Rattle.command_line.specs.Halts.{names_below}
+use Rattle.command_line.specs.Options.{runners_by}
+use Rattle.command_line.specs.declared.command.Command.{Command}
+use Rattle.command_line.specs.declared.command.Command.TheVariants as commands
+use Rattle.command_line.specs.declared.options.RunOptions.{RunOptions}
 use Rattle.flock_tool.specs.Complete.{HasEnoughVersions, IsAnswered}
 use Rattle.flock_tool.specs.Plans.{all_nodes, all_requests, layout_by}
 use Rattle.flock_tool.specs.Runs.{meaning_of, words_in}
 use Rattle.flock_tool.specs.Streams.{Fails, Gating, Halts, Stream}
 use Rattle.flock_tool.specs.declared.ran.Ran.{Ran}
 
--- no runner that there is is named to halt; all together have no more node slots than the limit; and each has two for each
--- request that inserts, and two more
+-- no runner that there is is named to halt; all together have no more node slots than the limit; and each has two for
+-- each request that inserts, and two more
 pub record HasRoom (options : RunOptions) (traces : Traces) : Type 0 where
   pub unhalted : names_below options.halts (runners_by options.runners traces.count) ≡ false
   pub few : all_nodes (layout_by options traces.count traces.requests) ≤ 262144
   pub enough : 2 * inserts traces.requests + 2 ≤ (layout_by options traces.count traces.requests).nodes
 
--- what is asked for is within the limits: the text of `run` is in the grammar, `gen` and `load` generate no more requests than
--- the limit, and what is run has room
+-- what is asked for is within the limits: the text of `run` is in the grammar, `gen` and `load` generate no more
+-- requests than the limit, and what is run has room
 abbrev pub IsValid : Command → Option (List ℕ) → Type 0
 IsValid (commands.Run options) left =
     (text : List ℕ) × (traces : Traces) × (left ≡ Some text) × AreTracesOf traces text × HasRoom options traces

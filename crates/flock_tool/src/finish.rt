@@ -5,10 +5,10 @@ ghost use Rattle.flock_tool.specs.Finish.{versions_of, slots_of, first_from, is_
 ghost use Rattle.flock_tool.specs.Streams.{stream};
 
 use arrayvec::ArrayString;
+use body_terms::{Place, Word};
+use hash_table::epoch_slots::{Kind, Short};
 use itoa::Buffer;
-use report_text::{Sink, write_all};
-use section_body::{Place, Word};
-use threaded_runs::epoch_slots::{Kind, Short};
+use printed_traces::report_text::{Sink, write_all};
 use threaded_runs::serving::Served;
 
 /// How a run ended whose report was printed.
@@ -26,7 +26,8 @@ pub enum Finish {
     Versions { place: Place, word: Word },
 }
 
-/// How a run ended: by the first runner that lacked versions, else by the first that lacked slots, else by a halt that left requests unserved.
+/// How a run ended: by the first runner that lacked versions, else by the first that lacked slots, else by a halt that
+/// left requests unserved.
 pub fn finish_of(answers: &[Served], unserved: u32) -> Finish
     requires { length answers.now ≤ 16 }
     ensures { result ≡ finish_by answers.now unserved }
@@ -137,9 +138,11 @@ pub fn status_of_finish(finish: &Finish) -> u8
     }
 }
 
-/// Writes the line that says how the run ended, where there is one. A failure of the sink changes nothing but its count.
+/// Writes the line that says how the run ended, where there is one. A failure of the sink changes nothing but its
+/// count.
 pub fn tell_finish<F: Sink>(finish: &Finish, faults: &mut F)
-    ensures { TellsFinish finish.now (stream (F.held faults.old) (F.held faults.new) (F.faults faults.old) (F.faults faults.new)) }
+    ensures { TellsFinish finish.now
+        (stream (F.held faults.old) (F.held faults.new) (F.faults faults.old) (F.faults faults.new)) }
 {
     if let Finish::Whole = finish {
         return;

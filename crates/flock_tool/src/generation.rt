@@ -1,13 +1,13 @@
 // The command `gen`.
-ghost use Rattle.flock_words.specs.Generated.{ArePlanRanges};
+ghost use Rattle.command_line.specs.Generated.{ArePlanRanges};
 ghost use Rattle.flock_tool.specs.Commands.{GenPrints};
 ghost use Rattle.flock_tool.specs.Streams.{stream};
 
 use crate::status::{status_of, stop_of_print, tell};
-use generated_text::print_generated;
-use report_text::Sink;
+use command_line::trace_reader::Gen;
+use printed_traces::print_generated;
+use printed_traces::report_text::Sink;
 use std::alloc::Global;
-use trace_reader::Gen;
 
 /// Prints a trace text with generated requests, and gives the status.
 pub fn gen_command<K: Sink, F: Sink>(alloc: Global, plan: &Gen, sink: &mut K, faults: &mut F) -> u8

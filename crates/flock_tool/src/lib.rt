@@ -1,9 +1,10 @@
-//! The program `flock`: reads a trace text, runs its requests on one table with a thread for each runner, and prints the report.
+//! The program `flock`: reads a trace text, runs its requests on one table with a thread for each runner, and prints
+//! the report.
 //!
-//! `tool` has the top call, whose contract carries the theorem, `report` the command `run`, `generation` the command `gen` and `load` the command
-//! `load`. `plan` reads the text or generates the requests, `run` runs and prints, `ran` is what a run leaves, `status` has the ways in which the
-//! program can end without a report and `finish` those in which a run can, each with its number and its line, and `standard` adapts std's readers
-//! and writers.
+//! `tool` has the top call, whose contract carries the theorem, `report` the command `run`, `generation` the command
+//! `gen` and `load` the command `load`. `plan` reads the text or generates the requests, `run` runs and prints, `ran`
+//! is what a run leaves, `status` has the ways in which the program can end without a report and `finish` those in
+//! which a run can, each with its number and its line, and `standard` adapts std's readers and writers.
 #![tactic(auto)]
 
 mod finish;
@@ -21,3 +22,8 @@ pub use finish::Finish;
 pub use ran::Ran;
 pub use standard::{StdSink, StdSource};
 pub use tool::flock;
+
+// Passed on to the layers above, so that they needn't name these libraries themselves.
+pub use command_line::trace_reader;
+pub use printed_traces::report_text;
+pub use threaded_runs::runner_gate;

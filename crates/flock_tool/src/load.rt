@@ -2,10 +2,10 @@
 ghost use Rattle.std.specs.Prelude.{◌≡◌, ◌≤◌, IfOk, length, true};
 ghost use Rattle.map_history.specs.Requests.{AreInOrder};
 ghost use Rattle.table_words.specs.Limits.{IsWithinLimits};
-ghost use Rattle.threaded_runs.specs.closed_words.specs.Histories.{HoldsNoLock};
-ghost use Rattle.threaded_runs.specs.machine_invariant.specs.After.{AreAllowed};
+ghost use Rattle.load_counts.specs.closed_words.specs.Histories.{HoldsNoLock};
+ghost use Rattle.load_counts.specs.machine_invariant.specs.After.{AreAllowed};
 ghost use Rattle.threaded_runs.specs.Runs.{AreServed};
-ghost use Rattle.flock_words.specs.Generated.{AreLoadRanges};
+ghost use Rattle.command_line.specs.Generated.{AreLoadRanges};
 ghost use Rattle.flock_tool.specs.Commands.{LoadRuns};
 ghost use Rattle.flock_tool.specs.Loads.{EndsLoad, HasLoaded, IsCounted};
 ghost use Rattle.flock_tool.specs.Runs.{words_in, answers_in, meaning_of, waits_out};
@@ -17,17 +17,16 @@ use crate::ran::Ran;
 use crate::report::{finish_of_run, refuse};
 use crate::run::{run_is_allowed, run_plan, size_of};
 use crate::status::{Stop, status_of, tell};
-use flock_words::LoadOptions;
-use load_counts::print_counts;
-use load_reports::{Tally, tally_words};
-use report_text::Sink;
-use runner_gate::Gates;
+use command_line::LoadOptions;
+use command_line::trace_reader::TraceError;
+use hash_table::lock_walks::Planner;
+use load_counts::version_words::Words;
+use load_counts::{Tally, print_counts, tally_words};
+use printed_traces::report_text::Sink;
 use std::alloc::{AllocError, Global};
 use std::sync::Wait;
 use std::thread::Threads;
-use threaded_runs::lock_walks::Planner;
-use threaded_runs::version_words::Words;
-use trace_reader::TraceError;
+use threaded_runs::runner_gate::Gates;
 
 /// What the closed words of a run come to.
 #[derive(Clone, Copy, Debug, PartialEq, Eq)]

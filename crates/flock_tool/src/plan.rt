@@ -2,11 +2,11 @@
 ghost use Rattle.std.specs.Prelude.{◌≡◌, ◌≤◌, ◌<◌, ◌^◌, length, Err, IfOk, IfErr, IfSome};
 ghost use Rattle.fault_count.specs.Rose.{Rose};
 ghost use Rattle.table_words.specs.Limits.{IsWithinLimits};
-ghost use Rattle.threaded_runs.specs.make_counts.specs.Makes.{inserts, is_insert};
-ghost use Rattle.trace_reader.specs.Answer.{StopsBefore};
-ghost use Rattle.trace_reader.specs.declared.traces.TraceError.TheVariants.{ReadFault, TooManyRequests};
-ghost use Rattle.flock_words.specs.Generated.{AreLoadRanges};
-ghost use Rattle.flock_words.specs.Options.{AreInRange};
+ghost use Rattle.threaded_runs.specs.resource_bounds.specs.Makes.{inserts, is_insert};
+ghost use Rattle.command_line.specs.trace_reader.specs.Answer.{StopsBefore};
+ghost use Rattle.command_line.specs.trace_reader.specs.declared.traces.TraceError.TheVariants.{ReadFault, TooManyRequests};
+ghost use Rattle.command_line.specs.Generated.{AreLoadRanges};
+ghost use Rattle.command_line.specs.Options.{AreInRange};
 ghost use Rattle.flock_tool.specs.declared.status.Stop.TheVariants.{Text};
 ghost use Rattle.flock_tool.specs.Plans.{
   IsPlanned,
@@ -20,11 +20,11 @@ ghost use Rattle.flock_tool.specs.Plans.{
 };
 
 use crate::status::Stop;
-use flock_words::{LoadOptions, RunOptions};
+use command_line::trace_reader::{MAX_REQUESTS, Source, TraceError, Traces, generate, read_traces};
+use command_line::{LoadOptions, RunOptions};
 use map_history::{Op, Request};
 use std::alloc::Global;
 use table_words::Layout;
-use trace_reader::{MAX_REQUESTS, Source, TraceError, Traces, generate, read_traces};
 
 /// The most node slots that the runners have together.
 const MOST_NODES: u32 = 262_144;
@@ -37,14 +37,17 @@ pub struct Plan {
     pub layout: Layout,
 }
 
-/// Reads the text that is run with these options. Refused by its first refusal, or for too many node slots, in this order.
+/// Reads the text that is run with these options. Refused by its first refusal, or for too many node slots, in this
+/// order.
 pub fn plan_of<R: Source>(alloc: Global, options: RunOptions, source: &mut R) -> Result<Plan, Stop>
     requires { AreInRange options }
     ensures planned { IfOk result (IsPlanned options (R.left source.old)) }
     ensures limits { IfOk result (λ plan. IsWithinLimits plan.layout) }
     ensures refused { IfErr result (IsRefusedPlan options (R.left source.old)) }
-    ensures must { (Rose (R.faults source.old) (R.faults source.new) → ⊥) → IfSome (R.left source.old) (MustPlan result) }
-    ensures read { result ≡ Err (Text ReadFault) → Rose (R.faults source.old) (R.faults source.new) × StopsBefore (R.left source.old) (R.left source.new) }
+    ensures must { (Rose (R.faults source.old) (R.faults source.new) → ⊥)
+        → IfSome (R.left source.old) (MustPlan result) }
+    ensures read { result ≡ Err (Text ReadFault) → Rose (R.faults source.old) (R.faults source.new)
+        × StopsBefore (R.left source.old) (R.left source.new) }
     ensures reads { (result ≡ Err (Text ReadFault) → ⊥) → R.faults source.new ≡ R.faults source.old }
 {
     let traces = read_traces(alloc, source)?;
@@ -56,7 +59,8 @@ pub fn plan_of<R: Source>(alloc: Global, options: RunOptions, source: &mut R) ->
     })
 }
 
-/// Generates the requests that are run with these options. Refused for too many requests, or for too many node slots, in this order.
+/// Generates the requests that are run with these options. Refused for too many requests, or for too many node slots,
+/// in this order.
 pub fn load_plan(alloc: Global, load: LoadOptions) -> Result<Plan, Stop>
     requires { AreLoadRanges load }
     ensures planned { IfOk result (IsLoadPlanned load) }

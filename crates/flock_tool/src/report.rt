@@ -2,7 +2,7 @@
 ghost use Rattle.std.specs.Prelude.{◌≡◌, ◌≢◌, ◌≤◌, None, length};
 ghost use Rattle.map_history.specs.Requests.{AreInOrder};
 ghost use Rattle.threaded_runs.specs.Runs.{AreServed};
-ghost use Rattle.flock_words.specs.Options.{AreInRange};
+ghost use Rattle.command_line.specs.Options.{AreInRange};
 ghost use Rattle.flock_tool.specs.Commands.{RunEnds};
 ghost use Rattle.flock_tool.specs.End.{Tells, stop_line, stop_status};
 ghost use Rattle.flock_tool.specs.Finish.{finish_by, finish_status, TellsFinish};
@@ -14,13 +14,13 @@ use crate::plan::{Plan, plan_of};
 use crate::ran::Ran;
 use crate::run::{answers, print_run, run_is_allowed, run_plan};
 use crate::status::{Stop, status_of, tell};
-use flock_words::RunOptions;
-use report_text::Sink;
-use runner_gate::Gates;
+use command_line::RunOptions;
+use command_line::trace_reader::{Source, TraceError};
+use printed_traces::report_text::Sink;
 use std::alloc::Global;
 use std::sync::Wait;
 use std::thread::Threads;
-use trace_reader::{Source, TraceError};
+use threaded_runs::runner_gate::Gates;
 
 /// Runs the text of the source with these options, and prints its report.
 pub fn run_command<T: Threads + Wait + Sync, R: Source, K: Sink, F: Sink, G: Gates>(
@@ -60,7 +60,8 @@ pub fn run_command<T: Threads + Wait + Sync, R: Source, K: Sink, F: Sink, G: Gat
 pub fn refuse<F: Sink>(stop: Stop, faults: &mut F) -> (u8, Option<Ran>)
     ensures status { result.0 ≡ stop_status stop }
     ensures none { result.1 ≡ None }
-    ensures told { Tells (stop_line stop) (F.held faults.old) (F.held faults.new) (F.faults faults.old) (F.faults faults.new) }
+    ensures told { Tells (stop_line stop) (F.held faults.old) (F.held faults.new) (F.faults faults.old)
+        (F.faults faults.new) }
 {
     tell(stop, faults);
     (status_of(stop), None)

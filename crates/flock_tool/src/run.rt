@@ -5,32 +5,33 @@ ghost use Rattle.map_history.specs.declared.op.Op.{Op};
 ghost use Rattle.map_history.specs.Replay.{Pairs};
 ghost use Rattle.map_history.specs.Requests.{AreInOrder};
 ghost use Rattle.table_words.specs.Limits.{IsWithinLimits};
-ghost use Rattle.threaded_runs.specs.machine_invariant.specs.After.{AreAllowed};
-ghost use Rattle.threaded_runs.specs.closed_words.specs.Histories.{HoldsNoLock};
-ghost use Rattle.flock_words.specs.Options.{AreInRange};
-ghost use Rattle.run_reports.specs.Reports.{HaveContents, Prints};
+ghost use Rattle.load_counts.specs.machine_invariant.specs.After.{AreAllowed};
+ghost use Rattle.load_counts.specs.closed_words.specs.Histories.{HoldsNoLock};
+ghost use Rattle.command_line.specs.Options.{AreInRange};
+ghost use Rattle.load_counts.specs.run_reports.specs.Reports.{HaveContents, Prints};
 ghost use Rattle.flock_tool.specs.Runs.{words_in, answers_in, meaning_of, HasRunOn, HasRunPlan, StopsReport};
 ghost use Rattle.flock_tool.specs.Streams.{gating, stream};
 
 use crate::plan::Plan;
 use crate::ran::Ran;
 use crate::status::Stop;
-use flock_words::TableKind;
+use command_line::TableKind;
 use hash_table::HashTable;
+use hash_table::lock_walks::Planner;
 use leaf_tree::LeafTree;
-use report_text::Sink;
-use run_reports::{contents_stand, print_words};
-use runner_gate::Gates;
+use load_counts::run_reports::{contents_stand, print_words};
+use load_counts::version_words::{Words, words_are_reached};
+use printed_traces::report_text::Sink;
 use std::alloc::{AllocError, Global};
 use std::sync::Wait;
 use std::thread::Threads;
-use threaded_runs::lock_walks::Planner;
 use threaded_runs::run_table;
+use threaded_runs::runner_gate::Gates;
 use threaded_runs::serving::Served;
-use threaded_runs::version_words::{Words, words_are_reached};
 
-/// Runs the requests of a plan on one table of the structure that its options name. A runner that lacks slots tries again while some of its own
-/// are in limbo, unless the words name a halt for a runner that is there: a halted runner would keep them there. The Err is want of memory.
+/// Runs the requests of a plan on one table of the structure that its options name. A runner that lacks slots tries
+/// again while some of its own are in limbo, unless the words name a halt for a runner that is there: a halted runner
+/// would keep them there. The Err is want of memory.
 pub fn run_plan<T: Threads + Wait + Sync, G: Gates>(
     rt: &T,
     alloc: Global,
@@ -100,7 +101,8 @@ where
 pub fn size_of<S: Planner>(alloc: Global, words: &Words<S>) -> Result<u32, AllocError>
     requires map { (S.meaning words.now.structure).is_map ≡ true }
     requires free { HoldsNoLock (S.meaning words.now.structure) words.now }
-    ensures { IfOk result (λ size. (pairs : Pairs) → HaveContents (S.meaning words.now.structure) words.now pairs → size ≡ len pairs) }
+    ensures { IfOk result (λ size. (pairs : Pairs) → HaveContents (S.meaning words.now.structure) words.now pairs
+        → size ≡ len pairs) }
 {
     contents_stand(words);
     let pairs = words.structure().contents(alloc, words)?;
@@ -139,7 +141,8 @@ fn print_on<S: Planner, K: Sink>(
     requires ordered { AreInOrder plan.now.traces.requests plan.now.traces.count }
     requires free { HoldsNoLock (S.meaning words.now.structure) words.now }
     ensures prints { IfOk result (λ unserved.
-        Prints (S.meaning words.now.structure) words.now plan.now.traces.count unserved (K.held sink.old) (K.held sink.new)) }
+        Prints (S.meaning words.now.structure) words.now plan.now.traces.count unserved (K.held sink.old)
+        (K.held sink.new)) }
     ensures stops { IfErr result (λ stop.
         StopsReport (S.meaning words.now.structure) words.now plan.now.traces.count stop
         (stream (K.held sink.old) (K.held sink.new) (K.faults sink.old) (K.faults sink.new))) }
@@ -163,7 +166,8 @@ pub fn print_run<K: Sink>(alloc: Global, plan: &Plan, ran: &Ran, sink: &mut K) -
     requires ordered { AreInOrder plan.now.traces.requests plan.now.traces.count }
     requires free { HoldsNoLock (meaning_of ran.now) (words_in ran.now) }
     ensures prints { IfOk result (λ unserved.
-        Prints (meaning_of ran.now) (words_in ran.now) plan.now.traces.count unserved (K.held sink.old) (K.held sink.new)) }
+        Prints (meaning_of ran.now) (words_in ran.now) plan.now.traces.count unserved (K.held sink.old)
+        (K.held sink.new)) }
     ensures stops { IfErr result (λ stop.
         StopsReport (meaning_of ran.now) (words_in ran.now) plan.now.traces.count stop
         (stream (K.held sink.old) (K.held sink.new) (K.faults sink.old) (K.faults sink.new))) }

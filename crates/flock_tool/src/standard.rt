@@ -2,10 +2,10 @@
 // tells of them.
 ghost use Rattle.std.specs.Prelude.{◌≡◌};
 
+use command_line::trace_reader::Source;
 use fault_count::FaultCount;
-use report_text::Sink;
+use printed_traces::report_text::Sink;
 use std::io::{Read, Write};
-use trace_reader::Source;
 
 /// A reader as a source: it counts each read that fails.
 #[derive(Drop)]
@@ -31,12 +31,12 @@ impl<R: Read> Source for StdSource<R> {
 
     ghost faults = { λ source. source.faults };
 
-    fn read(&mut self, buffer: &mut [u8]) -> Result<usize, trace_reader::Failed> {
+    fn read(&mut self, buffer: &mut [u8]) -> Result<usize, command_line::trace_reader::Failed> {
         match self.reader.read(buffer) {
             Ok(count) => Ok(count),
             Err(_) => {
                 self.faults.raise();
-                Err(trace_reader::Failed)
+                Err(command_line::trace_reader::Failed)
             }
         }
     }
@@ -66,7 +66,7 @@ impl<W: Write> Sink for StdSink<W> {
 
     ghost faults = { λ sink. sink.faults };
 
-    fn write(&mut self, bytes: &[u8]) -> Result<usize, report_text::Failed> {
+    fn write(&mut self, bytes: &[u8]) -> Result<usize, printed_traces::report_text::Failed> {
         match self.writer.write(bytes) {
             Ok(count) => {
                 if count == 0 && !bytes.is_empty() {
@@ -76,7 +76,7 @@ impl<W: Write> Sink for StdSink<W> {
             }
             Err(_) => {
                 self.faults.raise();
-                Err(report_text::Failed)
+                Err(printed_traces::report_text::Failed)
             }
         }
     }

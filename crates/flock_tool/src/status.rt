@@ -1,15 +1,15 @@
 // The ways in which the program ends without a report.
 ghost use Rattle.std.specs.Prelude.{◌≡◌, ◌++◌, ◌≤◌, length, codes, decimal};
-ghost use Rattle.trace_reader.specs.declared.traces.TraceError.TheVariants.{Malformed};
+ghost use Rattle.command_line.specs.trace_reader.specs.declared.traces.TraceError.TheVariants.{Malformed};
 ghost use Rattle.flock_tool.specs.End.{Tells, kind_text, error_line, error_status, print_stop, stop_line, stop_status};
 
 use arrayvec::ArrayString;
-use generated_text::PrintStop;
+use command_line::trace_reader::{BadLine, TraceError};
 use itoa::Buffer;
-use report_text::{Sink, write_all};
-use run_reports::PrintError;
+use load_counts::run_reports::PrintError;
+use printed_traces::PrintStop;
+use printed_traces::report_text::{Sink, write_all};
 use std::alloc::AllocError;
-use trace_reader::{BadLine, TraceError};
 
 /// Why the program ended before its report was printed whole.
 #[derive(Clone, Copy, Debug, PartialEq, Eq)]
@@ -36,7 +36,7 @@ impl From<TraceError> for Stop {
 
 impl From<AllocError> for Stop {
     ghost use Rattle.flock_tool.specs.declared.status.Stop.TheVariants.{Text};
-    ghost use Rattle.trace_reader.specs.declared.traces.TraceError.TheVariants.{Memory};
+    ghost use Rattle.command_line.specs.trace_reader.specs.declared.traces.TraceError.TheVariants.{Memory};
 
     ghost from_gives = { λ _ stop. stop ≡ Text Memory };
 
@@ -93,7 +93,8 @@ pub fn status_of(stop: Stop) -> u8
 
 /// Writes the line that says why. A failure of the sink changes nothing but its count.
 pub fn tell<F: Sink>(stop: Stop, faults: &mut F)
-    ensures { Tells (stop_line stop) (F.held faults.old) (F.held faults.new) (F.faults faults.old) (F.faults faults.new) }
+    ensures { Tells (stop_line stop) (F.held faults.old) (F.held faults.new) (F.faults faults.old)
+        (F.faults faults.new) }
 {
     let line = line_of(stop);
     let _ = write_all(faults, line.as_bytes());

@@ -1,7 +1,7 @@
 // The top call.
 ghost use Rattle.std.specs.Prelude.{◌≡◌, ◌≢◌, ◌⊎◌, ◌≤◌, IfErr, IfOk, None};
-ghost use Rattle.flock_words.specs.Commands.{AreAccepted, HasRanges, IsCommand, texts};
-ghost use Rattle.flock_words.specs.declared.command.Command.{Command};
+ghost use Rattle.command_line.specs.Commands.{AreAccepted, HasRanges, IsCommand, texts};
+ghost use Rattle.command_line.specs.declared.command.Command.{Command};
 ghost use Rattle.flock_tool.specs.Alone.{IsValidAlone, KeepsVersions, NothingStops};
 ghost use Rattle.flock_tool.specs.Asks.{AsksFew};
 ghost use Rattle.flock_tool.specs.Commands.{Ends, IsNoCommand, RefusedEnds};
@@ -14,13 +14,13 @@ use crate::load::load_command;
 use crate::ran::Ran;
 use crate::report::{refuse, run_command};
 use crate::status::Stop;
-use flock_words::{Command, read_words, words_mean_one_command};
-use report_text::Sink;
-use runner_gate::Gates;
+use command_line::trace_reader::{Source, TraceError};
+use command_line::{Command, read_words, words_mean_one_command};
+use printed_traces::report_text::Sink;
 use std::alloc::Global;
 use std::sync::Wait;
 use std::thread::Threads;
-use trace_reader::{Source, TraceError};
+use threaded_runs::runner_gate::Gates;
 
 /// The whole program. With the command `run` it reads a trace text from the source, serves its
 /// requests on one table with a thread for each runner where one can be made, and appends the report

@@ -5,6 +5,7 @@ use Rattle.std.proofs.Common.{Some, None, refl, ap, ◌∙◌, arith, length-app
 use Rattle.std.specs.Prelude.{◌⊎◌, ◌==◌, ◌&&◌}
 use Rattle.std.proofs.lemmas.Bool.Decides.{nat_tests}
 use Rattle.std.proofs.Math.Nat.{mul-suc}
+use Rattle.small_lemmas.proofs.Lists.{none_if_never as not_running}
 use Rattle.guard_core.specs.State.{Counts, Location, Free, Live, Limbo, GuardState, word_of, most_linked}
 use Rattle.guard_core.specs.Update.{has, count}
 use Rattle.guard_core.specs.Moves.{swept}
@@ -116,10 +117,6 @@ words_fewer c w r sound lt empty ok =
     let last : x ≡ 0 = grind arith in
     let more = named-append l (x ∷ []) in
     let before = sound.others r in grind (arith, nat_tests)
-
-not_running : (x : Option ℕ) → ((d : ℕ) → x ≡ Some d → ⊥) → x ≡ None
-not_running None none = refl
-not_running (Some d) none = absurd (none d refl)
 
 -- who isn't entered is in no run
 idle_runs : (c : Counts) (w : GuardState) (r : ℕ) → IsSound c w → w.entered r ≡ false → w.run r ≡ None

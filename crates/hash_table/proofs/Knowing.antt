@@ -4,9 +4,12 @@ use Rattle.std.specs.Prelude.{◌==◌, ◌&&◌, ◌||◌, not, ◌-◌, nat_le
 use Rattle.std.specs.List.{list_any}
 use Rattle.std.proofs.lemmas.Option.{none-some}
 use Rattle.std.proofs.lemmas.Bool.{and_from}
+use Rattle.small_lemmas.proofs.Bools.{or_second as or_right}
+use Rattle.small_lemmas.proofs.Lists.{same_number as some_eq}
+use Rattle.small_lemmas.proofs.Numbers.{equal_tested as eq_test, tested_other as is_not}
 use Rattle.map_history.specs.declared.op.Op.{Op}
 use Rattle.map_history.specs.Keys.{key_of}
-use Rattle.section_body.specs.Word.{value_of, is_free, is_spent}
+use Rattle.body_terms.specs.Word.{value_of, is_free, is_spent}
 use Rattle.section_body.specs.Bucket.{bucket_lock, bucket_head}
 use Rattle.structure_laws.specs.Scene.{Readings}
 use Rattle.runner_parts.specs.Tests.{has_pair}
@@ -15,12 +18,6 @@ use Rattle.bucket_laws.specs.Buckets.{is_link_place}
 use Rattle.bucket_laws.proofs.Places.{is_head_link, is_node_link}
 use Rattle.bucket_laws.proofs.Walks.{wanted_eq}
 use Rattle.bucket_laws.proofs.WalkFacts.{Gives}
-
-some_eq : (a b : ℕ) → Some a ≡ Some b → a ≡ b
-some_eq a b e = cc
-
-or_right : (a b : Bool) → b ≡ true → (a || b) ≡ true
-or_right a b h = grind arith
 
 -- one of a list passes a test
 pub any_of : {X : Type 0} (f : X → Bool) (xs : List X) (i : ℕ) (x : X) → slice_get xs i ≡ Some x → f x ≡ true → list_any f xs ≡ true
@@ -31,12 +28,6 @@ any_of {X} f (y ∷ xs) zero x here passes = ap (λ b. b || list_any f xs) (ap (
     test None = false
     test (Some z) = f z
 any_of f (y ∷ xs) (suc i) x here passes = or_right (f y) (list_any f xs) (any_of f xs i x here passes)
-
-eq_test : (a b : ℕ) → a ≡ b → (a == b) ≡ true
-eq_test a b e = grind arith
-
-is_not : (a b : ℕ) → (a == b) ≡ false → a ≢ b
-is_not a b h e = grind arith
 
 free_of : (free spent : Bool) → (free && not spent) ≡ true → (free ≡ true) × (spent ≡ false)
 free_of true true h = absurd (cc)

@@ -3,10 +3,12 @@ use Rattle.std.proofs.Common.{◌≡◌, ℕ, suc, ◌+◌, ◌*◌, ◌^◌, �
 use Rattle.std.specs.Prelude.{◌==◌, ◌&&◌, ◌||◌, not, ◌-◌, ◌/◌, ◌%◌, nat_lt, nat_le, is_some, if◌then◌else◌}
 use Rattle.std.specs.List.{list_any}
 use Rattle.std.proofs.lemmas.Option.{none-some}
+use Rattle.small_lemmas.proofs.Lists.{same_number as some_eq}
+use Rattle.small_lemmas.proofs.Numbers.{self_tested as self}
 use Rattle.map_history.specs.declared.op.Op.{Op}
 use Rattle.map_history.specs.declared.op.Op.TheVariants.{Get, Ins, Del}
 use Rattle.map_history.specs.Keys.{key_of}
-use Rattle.section_body.specs.Word.{value_of, is_free, is_spent}
+use Rattle.body_terms.specs.Word.{value_of, is_free, is_spent}
 use Rattle.section_body.specs.Bucket.{bucket_index, bucket_lock, bucket_edition}
 use Rattle.table_words.specs.declared.layout.Layout.{Layout}
 use Rattle.table_words.specs.Places.{slot_count}
@@ -29,9 +31,6 @@ use Rattle.hash_table.specs.Planned.{bucket_planning, bucket_way, walk_in}
 use Rattle.hash_table.proofs.Following.{in_readings}
 use Rattle.hash_table.proofs.Knowing.{Knows, knows}
 use Rattle.hash_table.proofs.Steps.{walk_nearer}
-
-some_eq : (a b : ℕ) → Some a ≡ Some b → a ≡ b
-some_eq a b e = cc
 
 -- where a place stands
 module _ (buckets : ℕ) (bucket : ℕ → ℕ) where
@@ -91,9 +90,6 @@ unlocked : (lock : Bool) (b : Bool) (o : Option Planned) (a : Planned) (far : Bo
     → b ≡ is_some (if lock then o else (if far then Some a else None))
 unlocked true b o a far e h = absurd (cc)
 unlocked false b o a far e h = h
-
-self : (n : ℕ) → (n == n) ≡ true
-self n = eq_true n n refl
 
 same_self : (xs : List ℕ) → same_numbers xs xs ≡ true
 same_self [] = refl

@@ -13,6 +13,7 @@ use Rattle.std.proofs.lemmas.Cmp.{nat_cmp_total, then_total, on_total}
 use Rattle.std.proofs.lemmas.List.Sorted.{Contains-permutation, sorted_far, ranks_by}
 use Rattle.std.proofs.lemmas.Map.Keys.{IsDistinct-IsPermutation, IsDistinct-from_apart, apart_from_distinct}
 use Rattle.std.proofs.lemmas.Option.{slice_get_within, slice_get-get_or, get_or_from_slice_get, slice_get-map}
+use Rattle.small_lemmas.proofs.Numbers.{tested_equal as equal_of, tested_other as differ_of}
 use Rattle.map_history.specs.Replay.{Pairs}
 use Rattle.machine_states.proofs.Steps.{some_same}
 use Rattle.bucket_laws.specs.Chain.{Nodes, Chains, Contents}
@@ -48,12 +49,6 @@ in_order (item ∷ items) rise = and_from (below_all nat_cmp item.0 items) (is_s
 
 eq_cmp : (a b : ℕ) → eq_by_cmp nat_cmp a b ≡ (a == b)
 eq_cmp a b = grind (arith, nat_tests)
-
-equal_of : (a b : ℕ) → (a == b) ≡ true → a ≡ b
-equal_of a b e = grind arith
-
-differ_of : (a b : ℕ) → (a == b) ≡ false → a ≢ b
-differ_of a b e same = grind arith
 
 -- what a look-up in a list finds stands there, and what it doesn't find stands nowhere
 found_at : (q v : ℕ) (items : List (ℕ × ℕ)) → find nat_cmp q items ≡ Some v → (i : ℕ) × (slice_get items i ≡ Some (q, v))

@@ -4,7 +4,7 @@ use Rattle.std.specs.Prelude.{◌==◌, ◌&&◌, not, ◌-◌, nat_le}
 use Rattle.std.proofs.lemmas.Bool.Decides.{nat_tests}
 use Rattle.std.proofs.lemmas.Option.{none-some}
 use Rattle.map_history.specs.Keys.{key_of}
-use Rattle.section_body.specs.Word.{value_of, is_free, is_spent}
+use Rattle.body_terms.specs.Word.{value_of, is_free, is_spent}
 use Rattle.section_body.specs.Bucket.{bucket_index}
 use Rattle.bucket_laws.specs.Walk.{Stage, AtEdition, AtLink, AtKey, AtValue, AtNext, AtLock, AtEnd, Refused, Walk, is_del, wanted_at, fed, cell_at}
 use Rattle.hash_table.specs.Walking.{Walking, wanted_by, fed_by, left_at, left_of, bucket_by}

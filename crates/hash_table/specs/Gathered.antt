@@ -24,8 +24,8 @@ module _ (bucket : ℕ → ℕ) (n : Nodes) (on : ℕ → Bool) where
     pub low : (t : ℕ) → IsAmong seen t → bucket (n.key t) < below
     pub all : (t : ℕ) → on t ≡ true → bucket (n.key t) < below → IsAmong seen t
 
-  -- these are the pairs of the chains of all buckets below this one, and those of its own chain before the slot to which this link leads,
-  -- at least so many
+  -- these are the pairs of the chains of all buckets below this one, and those of its own chain before the slot to
+  -- which this link leads, at least so many
   pub record IsGathering (rank : ℕ → ℕ) (i link made : ℕ) (items : List (ℕ × ℕ)) : Type 0 where
     pub seen : List ℕ
     pub are : AreSeen seen items

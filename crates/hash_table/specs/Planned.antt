@@ -16,7 +16,8 @@ module _ (bits : ℕ) where
   abbrev pub walk_in : Layout → Op → Readings → Walk
   walk_in layout op readings = walk_of (2 ^ bits) (λ key. bucket_index key bits) layout op readings
 
-  -- a walk is too far where it was refused with as many links as it may load; it has no marks, and serves every operation
+  -- a walk is too far where it was refused with as many links as it may load; it has no marks, and serves every
+  -- operation
   abbrev pub bucket_planning : Planning
   bucket_planning = record {
     serves = λ op. true;

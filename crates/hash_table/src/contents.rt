@@ -2,8 +2,8 @@
 ghost use Rattle.std.specs.Prelude.{◌≡◌, ◌+◌, ◌*◌, ◌<◌, ◌^◌, IfOk, OnOk};
 ghost use Rattle.std.specs.FinMap.{entries};
 ghost use Rattle.map_history.specs.Replay.{Pairs};
-ghost use Rattle.section_body.specs.Memory.{cell_of};
-ghost use Rattle.section_body.specs.Word.{value_of};
+ghost use Rattle.body_terms.specs.Memory.{cell_of};
+ghost use Rattle.body_terms.specs.Word.{value_of};
 ghost use Rattle.table_words.specs.Places.{slot_count};
 ghost use Rattle.table_words.specs.declared.spot.Spot.TheVariants.{Cell};
 ghost use Rattle.bucket_laws.specs.Buckets.{buckets_meaning};

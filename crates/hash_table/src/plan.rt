@@ -7,8 +7,8 @@ ghost use Rattle.lock_walks.specs.try_lock.specs.Contents.{StandFor, NamesNone};
 ghost use Rattle.hash_table.specs.Planned.{bucket_planning, walk_in};
 ghost use Rattle.hash_table.specs.Walking.{is_refused_at};
 ghost use Rattle.bucket_laws.proofs.Planner.{buckets_plan};
-ghost use Rattle.steady_buckets.proofs.Near.{not_far, no_mark};
-ghost use Rattle.steady_buckets.proofs.Retiring.{few_retires};
+ghost use Rattle.bucket_laws.proofs.Near.{not_far, no_mark};
+ghost use Rattle.bucket_laws.proofs.Retiring.{few_retires};
 
 use crate::table::HashTable;
 use crate::walk::BucketWalk;

@@ -7,15 +7,16 @@ ghost use Rattle.bucket_laws.proofs.TableLaws.{buckets_laws};
 ghost use Rattle.hash_table.specs.Walking.{begun};
 
 use crate::walk::BucketWalk;
+use body_terms::{Body, Place, Thunk, Word};
 use lock_walks::follow;
 use map_history::Op;
-use runner_parts::Structure;
-use section_body::{Body, Place, Thunk, Word, bucket_body, bucket_body_in};
+use section_body::{bucket_body, bucket_body_in};
+use structure_laws::Structure;
 use table_words::Layout;
 
-/// A map in buckets, each with a lock, an edition and a head, from which the chain of its nodes begins. Every section that changes a chain
-/// stores the edition last, so its version counts the changes; and every body checks that the edition is the word that stood before the
-/// walk.
+/// A map in buckets, each with a lock, an edition and a head, from which the chain of its nodes begins. Every section
+/// that changes a chain stores the edition last, so its version counts the changes; and every body checks that the
+/// edition is the word that stood before the walk.
 #[derive(Drop, Debug)]
 pub struct HashTable {
     pub(crate) bits: u32,

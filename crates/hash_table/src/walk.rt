@@ -6,8 +6,9 @@ ghost use Rattle.section_body.specs.Bucket.{bucket_index};
 ghost use Rattle.bucket_laws.specs.Walk.{AtLink, AtKey, AtNext, AtLock, Refused, operands_for, form_for, is_del, same_numbers, fits_walk};
 ghost use Rattle.hash_table.specs.Walking.{stage_of, is_refused_of, begun, fed_by, wanted_by, thunk_by};
 
+use body_terms::{Thunk, Word};
 use map_history::{Op, Reply};
-use section_body::{Thunk, Word, bucket_of};
+use section_body::bucket_of;
 use std::marker::Model;
 
 /// What the walk loads next; it is at its end, or was refused.
@@ -82,8 +83,8 @@ impl Model for BucketWalk {
 }
 
 impl BucketWalk {
-    /// A walk that has loaded nothing, among `2^bits` buckets. It is refused at a link that isn't 0 once it has loaded `limit` links,
-    /// and at a free lock from which `version_max` is less than two versions away.
+    /// A walk that has loaded nothing, among `2^bits` buckets. It is refused at a link that isn't 0 once it has loaded
+    /// `limit` links, and at a free lock from which `version_max` is less than two versions away.
     pub fn new(bits: u32, op: Op, limit: u128, version_max: u32) -> BucketWalk
         requires buckets { bits ≤ 12 }
         requires some { 0 < limit }

@@ -1,6 +1,6 @@
 -- Functions changed at one number.
 use Rattle.std.proofs.Common.{◌≡◌, ◌≢◌, ℕ, arith}
-use Rattle.section_body.specs.Update.{upd}
+use Rattle.body_terms.specs.Update.{upd}
 
 pub upd_same : {A : Type 0} (f : ℕ → A) (k i : ℕ) (v : A) → i ≡ k → upd f k v i ≡ v
 upd_same f k i v e = grind arith

@@ -7,7 +7,7 @@ use native.Mathlib.Decide.{ℕ_discrete}
 use Rattle.map_history.specs.Keys.{DependsOn, HaveNoCommonKey}
 use Rattle.map_history.specs.Replay.{reply_of, map_after}
 use Rattle.map_history.specs.Words.{word_of}
-use Rattle.section_body.specs.Update.{upd}
+use Rattle.body_terms.specs.Update.{upd}
 use Rattle.history_orders.specs.Stamped.{Stamped, turn_of, is_earlier, put_in, IsLastOnItsKeys, IsHistoryOf}
 use Rattle.history_core.specs.State.{Requests, HistoryState}
 use Rattle.history_core.specs.Events.{stamp_by, entry_by, stamped, MayStamp}

@@ -3,8 +3,8 @@ use Rattle.std.specs.Prelude.{ℕ, suc, ◌+◌, ◌*◌, ◌/◌, ◌<◌, ◌�
 use Rattle.map_history.specs.Keys.{HaveNoCommonKey}
 use Rattle.map_history.specs.Replay.{reply_of, map_after}
 use Rattle.map_history.specs.Words.{word_of}
-use Rattle.section_body.specs.Update.{upd}
-use Rattle.section_body.specs.Run.{written_once}
+use Rattle.body_terms.specs.Update.{upd}
+use Rattle.body_terms.specs.Run.{written_once}
 use Rattle.history_orders.specs.Stamped.{Stamped, put_in}
 use Rattle.history_core.specs.State.{Requests, HistoryState}
 
@@ -70,13 +70,18 @@ module _ (c : Requests) where
     run = upd w.run r d;
     hand = upd w.hand r w.clock;
   }
-  after w (StampExchange r) = cond (w.stamp (w.request (w.run r)) == 0) (stamped w r) (record w { loaded = upd w.loaded r false })
+  after w (StampExchange r) = cond (w.stamp (w.request (w.run r)) == 0) (stamped w r)
+      (record w { loaded = upd w.loaded r false })
   after w (RaiseClock d) = record w { clock = max w.clock (w.stamp (w.request d) / 2); stage = comes w d 3 }
-  after w (WriteReply d) = record w { reply = upd w.reply (w.request d) (written_once (w.reply (w.request d)) (w.answer d)); stage = comes w d 4 }
+  after w (WriteReply d) = record w
+      { reply = upd w.reply (w.request d) (written_once (w.reply (w.request d)) (w.answer d)); stage = comes w d 4 }
   after w (SetDone d) = record w { done = upd w.done d true }
   after w (Learn r n) = record w { known = upd w.known r (upd (w.known r) n true) }
   after w (Free d) =
-      record w { used = upd w.used d false; by = upd w.by (w.request d) (cond (w.by (w.request d) == suc d) 0 (w.by (w.request d))) }
+      record w {
+        used = upd w.used d false;
+        by = upd w.by (w.request d) (cond (w.by (w.request d) == suc d) 0 (w.by (w.request d)));
+      }
 
   -- no other section that has loaded the clock and hasn't raised it has a key in common with this one
   abbrev pub IsAlone : HistoryState → ℕ → Type 0

@@ -2,16 +2,16 @@
 use Rattle.std.proofs.Common.{◌≡◌, ℕ, zero, suc, ◌+◌, ◌*◌, ◌^◌, ◌<◌, List, true, false, refl, sym, ap, subst, ◌∙◌, arith, Option, Some, None}
 use Rattle.std.specs.Prelude.{◌==◌, ◌||◌, is_some, nat_lt, slice_index, slice_index_or, if◌then◌else◌}
 use Rattle.std.proofs.lemmas.Bool.Decides.{nat_tests}
-use Rattle.section_body.specs.declared.value.Init.{Init}
-use Rattle.section_body.specs.declared.step.Step.TheVariants.{Make}
-use Rattle.section_body.specs.declared.micro.Source.{Source}
-use Rattle.section_body.specs.declared.micro.Micro.TheVariants.{PrivateLoad, PrivateStore}
-use Rattle.section_body.specs.Shape.{IsStep}
-use Rattle.section_body.specs.declared.value.Value.TheVariants.{Const}
-use Rattle.section_body.specs.Line.{Registers, begins, micro_at, micros, is_event, registers_before, source_of}
-use Rattle.section_body.specs.Run.{source_value}
-use Rattle.section_body.specs.Word.{version_of, next_word}
-use Rattle.section_body.proofs.LineLemmas.{micro_within}
+use Rattle.body_terms.specs.declared.value.Init.{Init}
+use Rattle.body_terms.specs.declared.step.Step.TheVariants.{Make}
+use Rattle.body_terms.specs.declared.micro.Source.{Source}
+use Rattle.body_terms.specs.declared.micro.Micro.TheVariants.{PrivateLoad, PrivateStore}
+use Rattle.body_terms.specs.Shape.{IsStep}
+use Rattle.body_terms.specs.declared.value.Value.TheVariants.{Const}
+use Rattle.body_terms.specs.Line.{Registers, begins, micro_at, micros, is_event, registers_before, source_of}
+use Rattle.body_terms.specs.Run.{source_value}
+use Rattle.body_terms.specs.Word.{version_of, next_word}
+use Rattle.body_terms.proofs.LineLemmas.{micro_within}
 use Rattle.section_lines.proofs.Ordered.{Fills, fills}
 use Rattle.table_words.specs.declared.layout.Layout.{Layout}
 use Rattle.table_words.specs.Limits.{IsWithinLimits}

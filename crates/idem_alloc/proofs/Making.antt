@@ -2,11 +2,11 @@
 use Rattle.std.proofs.Common.{◌≡◌, ℕ, ◌+◌, ◌-◌, ◌≤◌, List, length, Bool, true, false, refl, sym, ap, ◌∙◌, cond, arith, Option, Some, None}
 use Rattle.std.specs.Prelude.{◌==◌, slice_index, if◌then◌else◌}
 use Rattle.std.proofs.lemmas.Bool.Decides.{nat_tests}
-use Rattle.section_body.specs.declared.step.Step.TheVariants.{Make}
-use Rattle.section_body.specs.declared.micro.Micro.TheVariants.{MakeCommit}
-use Rattle.section_body.specs.Line.{line, begins, micro_at, registers_before}
-use Rattle.section_body.specs.Run.{written_once}
-use Rattle.section_body.proofs.LineLemmas.{micro_within}
+use Rattle.body_terms.specs.declared.step.Step.TheVariants.{Make}
+use Rattle.body_terms.specs.declared.micro.Micro.TheVariants.{MakeCommit}
+use Rattle.body_terms.specs.Line.{line, begins, micro_at, registers_before}
+use Rattle.body_terms.specs.Run.{written_once}
+use Rattle.body_terms.proofs.LineLemmas.{micro_within}
 use Rattle.table_words.specs.declared.spot.Spot.TheVariants.{LogWord}
 use Rattle.table_words.specs.declared.access.Access.TheVariants.{Exchanges}
 use Rattle.table_words.specs.Limits.{IsWithinLimits}

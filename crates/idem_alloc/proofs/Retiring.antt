@@ -2,9 +2,9 @@
 use Rattle.std.proofs.Common.{◌≡◌, ℕ, ◌+◌, Bool, true, false, refl, sym, ap, ◌∙◌, cond, add-one, arith, Option, Some}
 use Rattle.std.specs.Prelude.{◌==◌, if◌then◌else◌}
 use Rattle.std.proofs.lemmas.Bool.Decides.{nat_tests}
-use Rattle.section_body.specs.declared.micro.Micro.TheVariants.{EpochForRetire, RetireCommit}
-use Rattle.section_body.specs.Line.{micro_at}
-use Rattle.section_body.specs.Run.{written_once}
+use Rattle.body_terms.specs.declared.micro.Micro.TheVariants.{EpochForRetire, RetireCommit}
+use Rattle.body_terms.specs.Line.{micro_at}
+use Rattle.body_terms.specs.Run.{written_once}
 use Rattle.section_lines.proofs.Ordered.{is_ordered}
 use Rattle.table_words.specs.declared.layout.Layout.{Layout}
 use Rattle.table_words.specs.declared.spot.Spot.TheVariants.{Epoch, LogWord}

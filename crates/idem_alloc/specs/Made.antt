@@ -1,14 +1,14 @@
 -- The filling of a new node's cells in a run.
 use Rattle.std.specs.Prelude.{◌≡◌, ℕ, ◌+◌, ◌*◌, ◌<◌, ◌≤◌, List, length, Bool, true, ◌||◌, ◌==◌, if◌then◌else◌, slice_index, slice_index_or, None, Some}
-use Rattle.section_body.specs.declared.value.Init.{Init}
-use Rattle.section_body.specs.declared.value.Value.TheVariants.{Const}
-use Rattle.section_body.specs.declared.step.Step.TheVariants.{Make}
-use Rattle.section_body.specs.declared.micro.Source.{Source}
-use Rattle.section_body.specs.declared.micro.Micro.TheVariants.{PrivateLoad, PrivateStore, MakeCommit}
-use Rattle.section_body.specs.Line.{begins, registers_before, source_of}
-use Rattle.section_body.specs.Run.{source_value}
-use Rattle.section_body.specs.Shape.{IsStep}
-use Rattle.section_body.specs.Word.{version_of, next_word}
+use Rattle.body_terms.specs.declared.value.Init.{Init}
+use Rattle.body_terms.specs.declared.value.Value.TheVariants.{Const}
+use Rattle.body_terms.specs.declared.step.Step.TheVariants.{Make}
+use Rattle.body_terms.specs.declared.micro.Source.{Source}
+use Rattle.body_terms.specs.declared.micro.Micro.TheVariants.{PrivateLoad, PrivateStore, MakeCommit}
+use Rattle.body_terms.specs.Line.{begins, registers_before, source_of}
+use Rattle.body_terms.specs.Run.{source_value}
+use Rattle.body_terms.specs.Shape.{IsStep}
+use Rattle.body_terms.specs.Word.{version_of, next_word}
 use Rattle.structure_laws.specs.Meaning.{Meaning}
 use Rattle.runner_parts.specs.State.{RunState}
 use Rattle.runner_parts.specs.Lists.{slot_taken, slot_made, slot_back}
@@ -28,7 +28,8 @@ pub record IsInMake (m : Meaning) (init : Init) (past : ℕ) (q : RunState) : Ty
 
 -- what this cell of the new node gets
 abbrev pub fills_with : (m : Meaning) (init : Init) (cell past : ℕ) (q : RunState) → IsInMake m init past q → Source
-fills_with m init cell past q is = source_of (registers_before (m.body (thunk_of q.opened)) is.step) (slice_index_or init.cells cell (Const 0))
+fills_with m init cell past q is = source_of (registers_before (m.body (thunk_of q.opened)) is.step)
+    (slice_index_or init.cells cell (Const 0))
 
 module _ {T : Type 0} (m : Meaning) where
   -- the next two steps of this run fill this cell of this slot with this value
@@ -40,8 +41,8 @@ module _ {T : Type 0} (m : Meaning) where
     pub slot_is : make_slot q.made r.part.nodes.free ≡ Some slot
     pub given : value ≡ source_value q.trail (fills_with m init cell (2 * cell) q next)
 
-  -- the cell was loaded, and holds the value with the next version; the run goes on, with the slot in the hand, and knows whether a cell of
-  -- it came to the greatest version
+  -- the cell was loaded, and holds the value with the next version; the run goes on, with the slot in the hand, and
+  -- knows whether a cell of it came to the greatest version
   pub record HasFilled (slot cell value : ℕ) (old new : RunnerState T) (q : RunState) : Type 0 where
     pub log : ℕ
     pub source : Source
@@ -49,7 +50,8 @@ module _ {T : Type 0} (m : Meaning) where
     pub over : ℕ
     pub middle : RunnerState T
     pub load : Stepped m q (PrivateLoad cell log) found old middle
-    pub store : Stepped m (goes_on m old.layout (filling_slot q.made q slot) found) (PrivateStore cell log source) over middle new
+    pub store : Stepped m (goes_on m old.layout (filling_slot q.made q slot) found) (PrivateStore cell log source) over
+        middle new
     pub nodes : new.part.nodes ≡ nodes_taking q.made old.part.nodes slot
     pub behind : RunState
     pub goes_on : IsRunning m new behind
@@ -59,7 +61,8 @@ module _ {T : Type 0} (m : Meaning) where
     pub opened : behind.opened ≡ q.opened
     pub descriptor : behind.descriptor ≡ q.descriptor
     pub ended : behind.ended ≡ q.ended
-    pub worn : behind.worn ≡ ((filling_slot q.made q slot).worn || version_of (next_word found value) == old.layout.version_max)
+    pub worn : behind.worn ≡ ((filling_slot q.made q slot).worn || version_of (next_word found value) ==
+        old.layout.version_max)
 
   -- the next step of this run makes a node with these values, and a slot is free for it
   pub record MayMake (r : RunnerState T) (values : List ℕ) (q : RunState) : Type 0 where
@@ -83,8 +86,9 @@ module _ {T : Type 0} (m : Meaning) where
     pub ended : behind.ended ≡ q.ended
     pub nodes : new.part.nodes ≡ (if count == 0 then old.part.nodes else slot_taken old.part.nodes slot)
 
-  -- the last free slot was filled, and a slot agreed on. Where this commit was the first one it is the own slot, which is live then; else the
-  -- own one is free again, or worn where one of its cells came to the greatest version. The run goes on with the agreed slot
+  -- the last free slot was filled, and a slot agreed on. Where this commit was the first one it is the own slot, which
+  -- is live then; else the own one is free again, or worn where one of its cells came to the greatest version. The run
+  -- goes on with the agreed slot
   pub record HasMade (agreed : ℕ) (old new : RunnerState T) (q : RunState) : Type 0 where
     pub slot : ℕ
     pub free : last_of old.part.nodes.free ≡ Some slot

@@ -1,6 +1,6 @@
 -- Retirements of node slots in a run.
 use Rattle.std.specs.Prelude.{◌≡◌, ℕ, ◌+◌, Bool, if◌then◌else◌}
-use Rattle.section_body.specs.declared.micro.Micro.TheVariants.{EpochForRetire, RetireCommit}
+use Rattle.body_terms.specs.declared.micro.Micro.TheVariants.{EpochForRetire, RetireCommit}
 use Rattle.structure_laws.specs.Meaning.{Meaning}
 use Rattle.runner_parts.specs.State.{RunState, NodesState}
 use Rattle.runner_parts.specs.Lists.{slot_retired}
@@ -24,8 +24,8 @@ module _ {T : Type 0} (m : Meaning) where
     pub log : ℕ
     pub next : next_of m q ≡ EpochForRetire slot log
 
-  -- the epoch was loaded and the slot committed. It is in the own limbo list, with that epoch, exactly where this commit was the first
-  -- one, and the own lists didn't change otherwise; the run goes on
+  -- the epoch was loaded and the slot committed. It is in the own limbo list, with that epoch, exactly where this
+  -- commit was the first one, and the own lists didn't change otherwise; the run goes on
   pub record HasRetired (slot : ℕ) (old new : RunnerState T) (q : RunState) : Type 0 where
     pub log : ℕ
     pub epoch : ℕ

@@ -9,14 +9,13 @@ ghost use Rattle.commit_log.specs.Halted.{IsHalted};
 ghost use Rattle.idem_alloc.specs.Numbers.{number_of, numbers_of};
 ghost use Rattle.idem_alloc.specs.Made.{MayFill, HasFilled, MayMake, IsFilling, HasMade};
 
-use commit_log::passes;
+use body_terms::{Gate, Init, StepKind, Steps, Value, Word};
 use commit_log::version_words::{FlockTable, Runner, table_is_allowed};
-use runner_gate::Free;
-use runner_parts::Structure;
-use section_body::{Gate, Init, StepKind, Steps, Value, Word};
+use commit_log::{Unasked, passes};
+use structure_laws::Structure;
 
-/// Fills one cell of the slot that the run's Make prepares, in two steps: loads it, and stores the value with the next version. Each step
-/// is counted, and the gate is asked after it: whether it let the runner go on.
+/// Fills one cell of the slot that the run's Make prepares, in two steps: loads it, and stores the value with the next
+/// version. Each step is counted, and the gate is asked after it: whether it let the runner go on.
 fn fill_gated<S: Structure, G: Gate, L>(
     table: &FlockTable<S>,
     runner: Runner<S>,
@@ -120,7 +119,7 @@ pub fn make<S: Structure>(table: &FlockTable<S>, runner: Runner<S>, init: &Init)
     ensures made { (q : RunState) → IsRunning (S.meaning table.now.structure) runner q
         → HasMade (S.meaning table.now.structure) result.1 runner result.0 q }
 {
-    let mut gate = Free::new();
+    let mut gate = Unasked;
     let mut steps = Steps::<()>::new();
     let values = numbers_of(init);
     let (runner, made) = make_gated(table, runner, &values, &mut gate, &mut steps);

@@ -7,17 +7,16 @@ ghost use Rattle.commit_log.specs.Asked.{IsAsked};
 ghost use Rattle.commit_log.specs.Halted.{IsHalted};
 ghost use Rattle.idem_alloc.specs.Retired.{MayRetire, HasRetired};
 
-use commit_log::passes;
+use body_terms::{Gate, StepKind, Steps};
 use commit_log::version_words::{FlockTable, Runner, table_is_allowed};
-use runner_gate::Free;
-use runner_parts::Structure;
-use section_body::{Gate, StepKind, Steps};
+use commit_log::{Unasked, passes};
+use structure_laws::Structure;
 
-/// Retires the node slot, in two steps: loads the epoch, and commits the slot. Where this commit is the first of the section's runs, the
-/// slot is in the own limbo list with that epoch; else it is in that of another runner.
+/// Retires the node slot, in two steps: loads the epoch, and commits the slot. Where this commit is the first of the
+/// section's runs, the slot is in the own limbo list with that epoch; else it is in that of another runner.
 ///
-/// The runner has to be in a run whose next step retires this slot. There is no refusal, and no memory is taken (Ben-David, Blelloch,
-/// Wei, 2022; Fraser, 2004).
+/// The runner has to be in a run whose next step retires this slot. There is no refusal, and no memory is taken
+/// (Ben-David, Blelloch, Wei, 2022; Fraser, 2004).
 pub fn retire<S: Structure>(table: &FlockTable<S>, runner: Runner<S>, slot: u32) -> Runner<S>
     requires own { IsOf table.now runner }
     requires next { (q : RunState) × MayRetire (S.meaning table.now.structure) runner slot q }
@@ -25,7 +24,7 @@ pub fn retire<S: Structure>(table: &FlockTable<S>, runner: Runner<S>, slot: u32)
     ensures retired { (q : RunState) → IsRunning (S.meaning table.now.structure) runner q
         → HasRetired (S.meaning table.now.structure) slot runner result q }
 {
-    let mut gate = Free::new();
+    let mut gate = Unasked;
     let mut steps = Steps::<()>::new();
     match retire_gated(table, runner, slot, &mut gate, &mut steps) {
         (runner, true) => runner,

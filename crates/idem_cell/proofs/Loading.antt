@@ -1,7 +1,7 @@
 -- A load in a run.
 use Rattle.std.proofs.Common.{◌≡◌, ℕ, ◌+◌, Bool, refl, ap, subst, ◌∙◌, add-one, Option, Some}
-use Rattle.section_body.specs.declared.micro.Micro.TheVariants.{LoadCell, Commit}
-use Rattle.section_body.specs.Line.{micro_at}
+use Rattle.body_terms.specs.declared.micro.Micro.TheVariants.{LoadCell, Commit}
+use Rattle.body_terms.specs.Line.{micro_at}
 use Rattle.section_lines.proofs.Ordered.{is_ordered}
 use Rattle.table_words.specs.declared.spot.Spot.TheVariants.{Cell}
 use Rattle.table_words.specs.declared.access.Access.TheVariants.{Loads}

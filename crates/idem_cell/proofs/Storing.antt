@@ -2,8 +2,8 @@
 use Rattle.std.proofs.Common.{◌≡◌, ◌≢◌, ℕ, ◌+◌, ◌^◌, ◌<◌, Bool, true, false, refl, sym, ap, subst, ◌∙◌, arith, slice_index, eq-eqb, Some}
 use Rattle.std.specs.Prelude.{◌==◌, if◌then◌else◌, nat_lt}
 use Rattle.std.proofs.lemmas.Bool.Decides.{nat_tests}
-use Rattle.section_body.specs.declared.micro.Micro.TheVariants.{ExchangeCell}
-use Rattle.section_body.specs.Word.{version_of, next_word}
+use Rattle.body_terms.specs.declared.micro.Micro.TheVariants.{ExchangeCell}
+use Rattle.body_terms.specs.Word.{version_of, next_word}
 use Rattle.table_words.specs.declared.layout.Layout.{Layout}
 use Rattle.table_words.specs.Access.{exchanged, written}
 use Rattle.table_words.specs.Seen.{seen}

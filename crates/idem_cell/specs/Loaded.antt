@@ -1,6 +1,6 @@
 -- Loads of cells in a run.
 use Rattle.std.specs.Prelude.{◌≡◌, ℕ, Bool}
-use Rattle.section_body.specs.declared.micro.Micro.TheVariants.{LoadCell}
+use Rattle.body_terms.specs.declared.micro.Micro.TheVariants.{LoadCell}
 use Rattle.structure_laws.specs.Meaning.{Meaning}
 use Rattle.runner_parts.specs.State.{RunState}
 use Rattle.runner_steps.specs.Sections.{next_of}

@@ -1,9 +1,9 @@
 -- Stores to cells in a run.
 use Rattle.std.specs.Prelude.{◌≡◌, ◌≢◌, ℕ, slice_index}
-use Rattle.section_body.specs.declared.micro.Source.{Source}
-use Rattle.section_body.specs.declared.micro.Micro.TheVariants.{ExchangeCell}
-use Rattle.section_body.specs.Word.{next_word}
-use Rattle.section_body.specs.Run.{source_value}
+use Rattle.body_terms.specs.declared.micro.Source.{Source}
+use Rattle.body_terms.specs.declared.micro.Micro.TheVariants.{ExchangeCell}
+use Rattle.body_terms.specs.Word.{next_word}
+use Rattle.body_terms.specs.Run.{source_value}
 use Rattle.table_words.specs.Access.{exchanged}
 use Rattle.table_words.specs.declared.spot.Spot.TheVariants.{Cell}
 use Rattle.structure_laws.specs.Meaning.{Meaning}
@@ -24,13 +24,14 @@ module _ {T : Type 0} (m : Meaning) where
     pub word : old ≡ slice_index q.trail log
     pub given : value ≡ source_value q.trail source
 
-  -- one exchange was made to the word with this value and the next version. The cell doesn't hold the old word then, whether this
-  -- exchange changed it or it had changed before, and the run goes on
+  -- one exchange was made to the word with this value and the next version. The cell doesn't hold the old word then,
+  -- whether this exchange changed it or it had changed before, and the run goes on
   pub record HasStored (place old value : ℕ) (before after : RunnerState T) (q : RunState) : Type 0 where
     pub log : ℕ
     pub source : Source
     pub found : ℕ
     pub step : Stepped m q (ExchangeCell place log source) found before after
-    pub stands : ReachedWith m after.layout after.requests after.number after.part (Cell place) (exchanged found old (next_word old value))
+    pub stands : ReachedWith m after.layout after.requests after.number after.part (Cell place)
+        (exchanged found old (next_word old value))
     pub left : exchanged found old (next_word old value) ≢ old
     pub goes_on : IsRunning m after (goes_on m before.layout q q.word)

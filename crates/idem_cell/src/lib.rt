@@ -1,8 +1,8 @@
 //! Loads and stores of cells that each run of a section may make, and that count once.
 //!
-//! Each run loads the cell for itself and commits what it found; all of them go on with the first word that was committed. A store is
-//! an exchange from an agreed word to a word with the next version, so that it changes the cell once, whoever makes it first
-//! (Ben-David, Blelloch, Wei, *Lock-free locks revisited*, 2022).
+//! Each run loads the cell for itself and commits what it found; all of them go on with the first word that was
+//! committed. A store is an exchange from an agreed word to a word with the next version, so that it changes the cell
+//! once, whoever makes it first (Ben-David, Blelloch, Wei, *Lock-free locks revisited*, 2022).
 #![tactic(auto)]
 
 mod loads;
@@ -10,7 +10,3 @@ mod stores;
 
 pub use loads::{load, load_gated};
 pub use stores::store;
-
-// Passed on to the layers above, so that they needn't name these libraries themselves.
-pub use commit_log;
-pub use commit_log::{interleave_core, reached_histories, version_words};

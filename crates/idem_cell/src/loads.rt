@@ -7,17 +7,16 @@ ghost use Rattle.commit_log.specs.Asked.{IsAsked};
 ghost use Rattle.commit_log.specs.Halted.{IsHalted};
 ghost use Rattle.idem_cell.specs.Loaded.{MayLoad, HasLoaded};
 
+use body_terms::{Gate, Place, StepKind, Steps, Word};
 use commit_log::version_words::{FlockTable, Runner, table_is_allowed};
-use commit_log::{commit, passes};
-use runner_gate::Free;
-use runner_parts::Structure;
-use section_body::{Gate, Place, StepKind, Steps, Word};
+use commit_log::{Unasked, commit, passes};
+use structure_laws::Structure;
 
-/// Loads the cell and agrees on its word, in two steps. Answers the agreed word: the first one that a run of the section committed
-/// here, which may be older than the one in the cell.
+/// Loads the cell and agrees on its word, in two steps. Answers the agreed word: the first one that a run of the
+/// section committed here, which may be older than the one in the cell.
 ///
-/// The runner has to be in a run whose next step loads this cell. There is no refusal, and no memory is taken (Ben-David, Blelloch,
-/// Wei, 2022).
+/// The runner has to be in a run whose next step loads this cell. There is no refusal, and no memory is taken
+/// (Ben-David, Blelloch, Wei, 2022).
 pub fn load<S: Structure>(
     table: &FlockTable<S>,
     runner: Runner<S>,
@@ -29,7 +28,7 @@ pub fn load<S: Structure>(
     ensures loaded { (q : RunState) → IsRunning (S.meaning table.now.structure) runner q
         → HasLoaded (S.meaning table.now.structure) place result.1 runner result.0 q }
 {
-    let mut gate = Free::new();
+    let mut gate = Unasked;
     let mut steps = Steps::<()>::new();
     match load_gated(table, runner, place, &mut gate, &mut steps) {
         (runner, Some(word)) => (runner, word),

@@ -4,15 +4,16 @@ ghost use Rattle.commit_log.specs.version_words.specs.TableState.{IsOf};
 ghost use Rattle.commit_log.specs.Runs.{IsRunning};
 ghost use Rattle.idem_cell.specs.Stored.{MayStore, HasStored};
 
+use body_terms::{Place, Word};
 use commit_log::version_words::{FlockTable, Runner, table_is_allowed};
-use runner_parts::Structure;
-use section_body::{Place, Word};
+use structure_laws::Structure;
 
-/// Stores the value in the cell: one exchange from the agreed word to the word with this value and the next version. Where another
-/// run of the section was first the cell has left the agreed word already, and the exchange changes nothing.
+/// Stores the value in the cell: one exchange from the agreed word to the word with this value and the next version.
+/// Where another run of the section was first the cell has left the agreed word already, and the exchange changes
+/// nothing.
 ///
-/// The runner has to be in a run whose next step stores this value in this cell in place of this word. There is no refusal, and no memory
-/// is taken (Ben-David, Blelloch, Wei, 2022).
+/// The runner has to be in a run whose next step stores this value in this cell in place of this word. There is no
+/// refusal, and no memory is taken (Ben-David, Blelloch, Wei, 2022).
 pub fn store<S: Structure>(
     table: &FlockTable<S>,
     runner: Runner<S>,

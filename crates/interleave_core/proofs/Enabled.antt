@@ -3,6 +3,7 @@ use Rattle.std.specs.Prelude.{Bool, true, false, ◌≢◌, is_some, slice_get}
 use Rattle.std.specs.Int.{bit_at}
 use Rattle.std.proofs.Common.{◌≡◌, ℕ, List, sym, refl, ap, ◌∙◌, Some, None, Result, Err, arith}
 use Rattle.std.proofs.lemmas.Nat.Bits.{bit_at-zero}
+use Rattle.small_lemmas.proofs.Lists.{some_not_none}
 use Rattle.map_history.specs.declared.op.Request.{Request}
 use Rattle.table_words.specs.declared.layout.Layout.{Layout}
 use Rattle.structure_laws.specs.Meaning.{Meaning}
@@ -15,9 +16,6 @@ use Rattle.machine_states.specs.World.{World, seat_of, acted, acts, happens}
 use Rattle.interleave_core.specs.declared.machine.StepError.{StepError}
 use Rattle.interleave_core.specs.declared.machine.StepError.TheVariants.{NotEnabled}
 use Rattle.interleave_core.specs.Enabled.{MayHappen, NamesEnabled}
-
-some_not_none : {A : Type 0} (a : A) → Some a ≡ None → ⊥
-some_not_none a e = cc
 
 not_false : (b : Bool) → b ≡ false → b ≡ true → ⊥
 not_false b fails holds = cc

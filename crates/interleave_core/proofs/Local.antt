@@ -2,6 +2,7 @@
 use Rattle.std.specs.Prelude.{Bool, true, false, ◌≢◌, if◌then◌else◌, slice_index, slice_set, slice_get}
 use Rattle.std.proofs.Common.{◌≡◌, ℕ, zero, suc, List, [], ◌∷◌, sym, refl, ap, subst, ◌∙◌, Option, Some, None}
 use Rattle.std.proofs.lemmas.List.{set-get_or}
+use Rattle.small_lemmas.proofs.Lists.{none_not_some as absent, some_not_none as present, some_the_same as the_same}
 use Rattle.map_history.specs.declared.op.Request.{Request}
 use Rattle.table_words.specs.declared.layout.Layout.{Layout}
 use Rattle.table_words.specs.declared.sizes.Sizes.{Sizes}
@@ -21,15 +22,6 @@ use Rattle.runner_steps.specs.Sections.{is_open_run, next_of}
 use Rattle.runner_steps.specs.After.{after}
 use Rattle.machine_states.specs.World.{World, seat_of, settled_part, left_by, put_part, acted, acts, happens}
 use Rattle.interleave_core.specs.Local.{joined_by, met_by, part_of, meets, number_of, HaveSameWord, HaveSamePart, HaveOtherWords, HaveOtherParts, IsLocal, JoinsTwo}
-
-absent : {A : Type 0} (a : A) → None ≡ Some a → ⊥
-absent a e = cc
-
-present : {A : Type 0} (a : A) → Some a ≡ None → ⊥
-present a e = cc
-
-the_same : {A : Type 0} (a b : A) → Some a ≡ Some b → a ≡ b
-the_same a b e = cc
 
 other_set : {A : Type 0} (xs : List A) (i j : ℕ) (x : A) → j ≢ i → slice_get (slice_set xs i x) j ≡ slice_get xs j
 other_set [] i j x other = refl

@@ -22,6 +22,7 @@ abbrev pub NamesEnabled : Meaning → Layout → List Request → World → ℕ 
 NamesEnabled m l requests w r enabled = (k : ℕ) → bit_at enabled k ≡ 1 ↔ MayHappen m l requests w r k
 
 -- the event with number `at` is the first that isn't enabled, and `enabled` names the kinds that are
-pub record StopsNaming (m : Meaning) (l : Layout) (requests : List Request) (events : List Event) (at enabled : ℕ) : Type 0 where
+pub record StopsNaming (m : Meaning) (l : Layout) (requests : List Request) (events : List Event)
+    (at enabled : ℕ) : Type 0 where
   pub stop : StopsAt m l requests events at
   pub kinds : NamesEnabled m l requests stop.world stop.event.runner enabled

@@ -8,8 +8,8 @@ use Rattle.runner_parts.specs.declared.event.Event.{Event}
 use Rattle.machine_states.specs.World.{World}
 use Rattle.machine_states.specs.Schedules.{IsAfter}
 use Rattle.machine_states.specs.Sight.{sight}
-use Rattle.reached_histories.specs.machine_invariant.specs.After.{AreAllowed}
-use Rattle.reached_histories.specs.next_steps.specs.Enabled.{NextIsEnabled, RunsGoOn}
+use Rattle.next_steps.specs.machine_invariant.specs.After.{AreAllowed}
+use Rattle.next_steps.specs.Enabled.{NextIsEnabled, RunsGoOn}
 
 -- whoever is in a run and wasn't joined has an enabled event, the next one of its opening, line or end, but
 -- where a Make finds no free slot; and the machine can make it

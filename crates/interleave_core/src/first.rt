@@ -1,15 +1,13 @@
-//! The first state.
-ghost use Rattle.std.specs.Prelude.{◌≡◌, ◌<◌, ◌≤◌, ◌+◌, ◌*◌, ◌^◌, ◌∷◌, IfOk};
+//! What the runners are at in the first state.
+ghost use Rattle.std.specs.Prelude.{◌≡◌, ◌<◌, ◌+◌, ◌^◌, ◌∷◌, IfOk};
 ghost use Rattle.table_words.specs.Limits.{IsWithinLimits};
-ghost use Rattle.table_words.specs.Places.{size};
-ghost use Rattle.structure_laws.specs.Cells.{first_word};
-ghost use Rattle.machine_states.specs.First.{falling, IsFilled, first_part, keeper_part, worker_part, workers};
+ghost use Rattle.machine_states.specs.First.{falling, first_part, keeper_part, worker_part, workers};
 
 use epoch_core::Stage;
-use runner_parts::{Descriptors, Nodes, Part, Reads, Records, Structure};
-use section_body::{Place, Word};
+use runner_parts::{Descriptors, Nodes, Part, Reads, Records};
 use std::alloc::{AllocError, Global};
-use table_words::{Layout, Sizes, Spot, set_word};
+use structure_laws::Structure;
+use table_words::Layout;
 
 /// As many numbers as said from this one on, in falling order.
 fn falling(alloc: Global, from: u32, count: u32) -> Result<Vec<u32>, AllocError>
@@ -21,41 +19,6 @@ fn falling(alloc: Global, from: u32, count: u32) -> Result<Vec<u32>, AllocError>
         numbers.push(from + (count - 1 - below))?;
     }
     Ok(numbers)
-}
-
-/// The first word of a place.
-fn first_word<S: Structure>(structure: &S, place: Place) -> u64
-    ensures { result ≡ first_word (S.meaning structure.now) place }
-{
-    let fixed = structure.fixed_cells() + 5 * structure.fixed_slots();
-    let value = if place < fixed {
-        structure.first_value(place)
-    } else {
-        0
-    };
-    Word::pack(value, 1).bits()
-}
-
-/// The first words of the table.
-#[tactic(auto, using(machine_states::proofs::Firsts::begins, machine_states::proofs::Firsts::filled_more))]
-pub fn first_words<S: Structure>(
-    alloc: Global,
-    structure: &S,
-    sizes: Sizes,
-) -> Result<Vec<u64>, AllocError>
-    ensures { IfOk result (λ v. IsFilled (S.meaning structure.now) sizes sizes.cells v.items) }
-{
-    let mut words = vec![in alloc; 0; sizes.words()]?;
-    set_word(&mut words, sizes, Spot::Epoch, 1);
-    for place in 0..sizes.cells {
-        set_word(
-            &mut words,
-            sizes,
-            Spot::Cell(place),
-            first_word(structure, place),
-        );
-    }
-    Ok(words)
 }
 
 /// A runner that has done nothing, with these free node slots and these free descriptors.

@@ -8,7 +8,7 @@ ghost use Rattle.runner_parts.specs.declared.event.Event.{Event};
 ghost use Rattle.runner_parts.specs.declared.event.EventKind.TheVariants.{Join};
 ghost use Rattle.interleave_core.specs.Local.{joined_by, IsLocal, JoinsTwo};
 
-use runner_parts::Structure;
+use structure_laws::Structure;
 
 /// Every event but a join reads and changes one word and the stepping runner's part alone. A join changes
 /// no word, and of the parts only the keeper's and the worker's.

@@ -12,12 +12,13 @@ mod machine;
 mod schedules;
 mod tray;
 
-pub use first::{first_words, worker_part};
+pub use first::worker_part;
 pub use laws::{events_are_local, moves_are_lawful};
 pub use machine::{Machine, StepError};
-pub use runner_parts::{Event, EventKind, Structure};
+pub use runner_parts::{Event, EventKind};
 pub use schedules::{ScheduleError, all_schedules};
+pub use structure_laws::Structure;
 pub use tray::Tray;
 
 // Passed on to the layers above, so that they needn't name these libraries themselves.
-pub use reached_histories;
+pub use enabled_kinds::runner_asks;

@@ -16,15 +16,18 @@ ghost use Rattle.interleave_core.specs.Machine.{IsSameTable, HasWord, word_of};
 ghost use Rattle.table_words.specs.declared.spot.Spot.TheVariants.{Epoch, Announcement, Cell, LogWord};
 ghost use Rattle.interleave_core.specs.declared.machine.StepError.TheVariants.{NotEnabled};
 
-use crate::first::{first_parts, first_words};
+use crate::first::first_parts;
+use body_terms::{Place, Word};
 use enabled_kinds::enabled;
+use enabled_kinds::runner_asks::asks;
+use machine_states::first_words;
 use map_history::Request;
-use part_steps::{after, part_copy};
-use runner_parts::{Event, EventKind, Nodes, Part, Records, Retired, Structure};
-use runner_steps::{asks, sizes_for};
-use section_body::{Place, Word};
+use runner_parts::{Event, EventKind, Nodes, Part, Records, Retired};
+use runner_steps::sizes_for;
+use state_changes::{after, part_copy};
 use std::alloc::{AllocError, Global};
 use std::marker::Model;
+use structure_laws::Structure;
 use table_words::{Access, Layout, Sizes, Spot, word_at};
 
 /// Why a step wasn't made; the state is then as it was.
@@ -173,10 +176,12 @@ impl<S: Structure> Machine<S> {
     /// lists.
     pub fn step(&mut self, event: Event) -> Result<(), StepError>
         ensures event { OnOk result (
-            happens (S.meaning self.old.structure) self.old.layout self.old.requests self.old.world event ≡ Some self.new.world) }
+            happens (S.meaning self.old.structure) self.old.layout self.old.requests self.old.world event
+            ≡ Some self.new.world) }
         ensures refused { (enabled : ℕ) → result ≡ Err (NotEnabled enabled)
             → happens (S.meaning self.old.structure) self.old.layout self.old.requests self.old.world event ≡ None }
-        ensures refuses { happens (S.meaning self.old.structure) self.old.layout self.old.requests self.old.world event ≡ None
+        ensures refuses { happens (S.meaning self.old.structure) self.old.layout self.old.requests self.old.world event
+            ≡ None
             → (enabled : ℕ) × (result ≡ Err (NotEnabled enabled)) }
         ensures kinds { (enabled : ℕ) → result ≡ Err (NotEnabled enabled)
             → NamesEnabled (S.meaning self.old.structure) self.old.layout self.old.requests self.old.world

@@ -6,9 +6,9 @@ ghost use Rattle.interleave_core.specs.declared.schedules.ScheduleError.TheVaria
 ghost use Rattle.machine_states.specs.Schedules.{IsAfter};
 ghost use Rattle.machine_epochs.specs.Descriptors.{DescriptorsSoundAfter};
 ghost use Rattle.machine_epochs.specs.Epochs.{SoundAfter};
-ghost use Rattle.reached_histories.specs.machine_invariant.specs.After.{WholeAfter};
-ghost use Rattle.reached_histories.specs.machine_invariant.specs.LogWords.{LogWordsSayAfter};
-ghost use Rattle.reached_histories.specs.machine_invariant.specs.Rising.{RisesAfter};
+ghost use Rattle.next_steps.specs.machine_invariant.specs.After.{WholeAfter};
+ghost use Rattle.next_steps.specs.machine_invariant.specs.LogWords.{LogWordsSayAfter};
+ghost use Rattle.next_steps.specs.machine_invariant.specs.Rising.{RisesAfter};
 ghost use Rattle.reached_histories.specs.machine_facts.specs.After.{FactsAfter, StepFactsAfter};
 ghost use Rattle.reached_histories.specs.Laws.{HistoryAfter};
 ghost use Rattle.reached_histories.specs.RealTime.{LinearizableAfter};
@@ -17,8 +17,9 @@ ghost use Rattle.interleave_core.specs.NextSteps.{NextStepsAfter};
 
 use crate::machine::{Machine, StepError};
 use map_history::Request;
-use runner_parts::{Event, Structure};
+use runner_parts::Event;
 use std::alloc::{AllocError, Global};
+use structure_laws::Structure;
 use table_words::Layout;
 
 /// Why there is no machine after these events.
@@ -55,7 +56,8 @@ pub fn all_schedules<S: Structure>(
     requires ordered { AreInOrder requests.now 64 }
     ensures ok { IfOk result (λ x. IsAfter (S.meaning structure) layout requests.now events.now x.world) }
     ensures epochs { IfOk result (λ x. SoundAfter (S.meaning structure) layout requests.now events.now x.world) }
-    ensures descriptors { IfOk result (λ x. DescriptorsSoundAfter (S.meaning structure) layout requests.now events.now x.world) }
+    ensures descriptors { IfOk result
+        (λ x. DescriptorsSoundAfter (S.meaning structure) layout requests.now events.now x.world) }
     ensures whole { IfOk result (λ x. WholeAfter (S.meaning structure) layout requests.now events.now x.world) }
     ensures logs { IfOk result (λ x. LogWordsSayAfter (S.meaning structure) layout requests.now events.now x.world) }
     ensures rises { IfOk result (λ x. RisesAfter (S.meaning structure) layout requests.now events.now x.world) }

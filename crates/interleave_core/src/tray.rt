@@ -1,13 +1,12 @@
 //! A structure for tests: a lock, a number and a link.
 ghost use Rattle.std.specs.Prelude.{◌≡◌, ◌<◌, refl, false, length};
 ghost use Rattle.structure_laws.specs.Tray.{tray, body_of, Number, Link, Unlink, Other};
-ghost use Rattle.section_body.specs.Word.{value_of};
+ghost use Rattle.body_terms.specs.Word.{value_of};
 ghost use Rattle.structure_laws.proofs.TrayLaws.{tray_laws};
 
+use body_terms::{Body, Init, Place, Step, Thunk, Value, Word};
 use map_history::Op;
-use runner_parts::Structure;
-use section_body::{Body, Init, Place, Step, Thunk, Value, Word};
-use structure_laws::tray_links;
+use structure_laws::{Structure, tray_links};
 use table_words::Layout;
 
 /// A structure for tests: place 0 is a lock, place 1 a number and place 2 a link. It serves no map operation.

@@ -3,8 +3,8 @@ use Rattle.std.specs.Prelude.{◌-◌, ◌==◌, cond, nat_lt, Bool, true, false
 use Rattle.std.proofs.Common.{◌≡◌, ℕ, suc, List, [], ◌∷◌, ◌++◌, refl, sym, ap, ◌∙◌, subst, inl, inr, ⊎_elim, arith, Option, Some, None}
 use Rattle.std.specs.Prelude.{◌⊎◌}
 use Rattle.std.proofs.lemmas.Bool.{cases_eq}
-use Rattle.section_body.specs.Update.{upd}
-use Rattle.section_body.specs.Word.{value_of, next_word, held_word}
+use Rattle.body_terms.specs.Update.{upd}
+use Rattle.body_terms.specs.Word.{value_of, next_word, held_word}
 use Rattle.table_words.specs.declared.layout.Layout.{Layout}
 use Rattle.table_words.specs.declared.spot.Spot.TheVariants.{Cell}
 use Rattle.table_words.specs.Places.{slot_count}
@@ -32,7 +32,7 @@ use Rattle.runner_facts.specs.machine_agreement.specs.Supplied.{collects}
 use Rattle.runner_facts.specs.machine_agreement.specs.Joined.{IsJoinedToAgreement, ShowsRun}
 use Rattle.runner_facts.specs.machine_invariant.specs.Along.{Components, components_after, AreEventsOf}
 use Rattle.runner_facts.specs.machine_invariant.proofs.Runs.{AllAre, passes_are, append_are}
-use Rattle.machine_facts.proofs.Chunks.{collected_frees}
+use Rattle.runner_facts.specs.machine_facts.proofs.Chunks.{collected_frees}
 
 -- the word is as before, or free
 abbrev pub IsFreer : ℕ → ℕ → Type 0

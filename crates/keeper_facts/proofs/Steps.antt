@@ -6,8 +6,8 @@ use Rattle.std.proofs.lemmas.Bool.Decides.{nat_tests}
 use Rattle.std.proofs.lemmas.Bool.{cases_lt, and_parts}
 use Rattle.std.proofs.lemmas.Nat.{mod_below}
 use Rattle.map_history.specs.declared.op.Request.{Request}
-use Rattle.section_body.specs.Word.{value_of}
-use Rattle.section_body.specs.declared.thunk.Thunk.{Thunk}
+use Rattle.body_terms.specs.Word.{value_of}
+use Rattle.body_terms.specs.declared.thunk.Thunk.{Thunk}
 use Rattle.table_words.specs.declared.layout.Layout.{Layout}
 use Rattle.table_words.specs.declared.spot.Spot.{Spot}
 use Rattle.table_words.specs.declared.spot.Spot.TheVariants.{Cell}
@@ -48,10 +48,10 @@ use Rattle.runner_facts.specs.machine_invariant.specs.Trails.{IsEndOf}
 use Rattle.runner_facts.specs.machine_invariant.proofs.After.{reached_whole}
 use Rattle.runner_facts.specs.machine_invariant.proofs.Basics.{not_both}
 use Rattle.runner_facts.specs.machine_invariant.proofs.Sights.{after_is}
-use Rattle.machine_facts.specs.After.{AreFactsOfStep}
-use Rattle.machine_facts.specs.Steps.{IsRelease}
-use Rattle.machine_facts.proofs.Following.{step_facts_after}
-use Rattle.runner_facts.specs.next_steps.proofs.Reaching.{IsStep}
+use Rattle.runner_facts.specs.machine_facts.specs.After.{AreFactsOfStep}
+use Rattle.runner_facts.specs.machine_facts.specs.Steps.{IsRelease}
+use Rattle.runner_facts.specs.machine_facts.proofs.Following.{step_facts_after}
+use Rattle.runner_facts.specs.machine_invariant.proofs.Keeping.{IsStep}
 use Rattle.runner_facts.specs.Keeper.{AllJoined}
 use Rattle.runner_facts.specs.Facts.{JoinedAreGone}
 use Rattle.keeper_facts.proofs.Changes.{IsChanged, is_hold, lock_changes}

@@ -5,7 +5,7 @@ use Rattle.std.specs.Prelude.{◌⊎◌}
 use Rattle.std.proofs.lemmas.Bool.{cases_eq, cases_lt}
 use Rattle.std.proofs.lemmas.Bool.Decides.{nat_tests}
 use Rattle.map_history.specs.declared.op.Request.{Request}
-use Rattle.section_body.specs.Word.{value_of}
+use Rattle.body_terms.specs.Word.{value_of}
 use Rattle.table_words.specs.declared.layout.Layout.{Layout}
 use Rattle.table_words.specs.declared.spot.Spot.{Spot}
 use Rattle.table_words.specs.declared.spot.Spot.TheVariants.{Cell}
@@ -34,7 +34,7 @@ use Rattle.machine_states.proofs.Updates.{upd_here, upd_else}
 use Rattle.table_words.specs.Seen.{upd}
 use Rattle.machine_epochs.proofs.FirstJoin as FirstJoin
 use Rattle.runner_facts.specs.machine_invariant.specs.After.{AreAllowed}
-use Rattle.machine_facts.proofs.Following.{facts_after}
+use Rattle.runner_facts.specs.machine_facts.proofs.Following.{facts_after}
 use Rattle.runner_facts.specs.Facts.{JoinedAreGone}
 use Rattle.runner_facts.specs.Keeper.{AllJoined, KeeperStands}
 use Rattle.keeper_facts.specs.Freed.{HasLeft, IsCleared, IsFreed, IsPublished, AreApart, IsAlone, LocksTell}

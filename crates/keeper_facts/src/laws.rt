@@ -10,7 +10,7 @@ ghost use Rattle.runner_facts.specs.machine_invariant.specs.After.{AreAllowed};
 ghost use Rattle.keeper_facts.specs.Freed.{LocksTell};
 
 use runner_facts::{joined_workers_are_gone, what_the_keeper_left_stands};
-use runner_parts::Structure;
+use structure_laws::Structure;
 
 /// In every state that the machine reaches, once the keeper has joined all workers: take a section that a lock named
 /// which the keeper saw with another word too, before or after that. While the keeper is in no run, no lock names that

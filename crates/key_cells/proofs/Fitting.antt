@@ -5,12 +5,12 @@ use Rattle.map_history.specs.declared.op.Op.{Op}
 use Rattle.map_history.specs.Keys.{key_of}
 use Rattle.map_history.specs.Words.{word_of}
 use Rattle.section_body.specs.Bucket.{operand}
-use Rattle.section_body.specs.declared.thunk.Thunk.{Thunk}
+use Rattle.body_terms.specs.declared.thunk.Thunk.{Thunk}
 use Rattle.structure_laws.specs.Scene.{Readings}
 use Rattle.structure_laws.proofs.Changes.{equal_of, both_true}
 use Rattle.runner_parts.specs.Tests.{has_pair}
-use Rattle.law_frames.specs.AtKey.{reply_at, left_at, changes_at}
-use Rattle.law_frames.proofs.Numbers.{lt_of, lt_true}
+use Rattle.shared_laws.specs.AtKey.{reply_at, left_at, changes_at}
+use Rattle.shared_laws.proofs.Numbers.{lt_of, lt_true}
 use Rattle.key_cells.specs.Keyed.{Keyed, each_of, wanted, new_of, key_in, body_by, key_body, was_read, is_for, key_fits}
 
 -- the test of each of the numbers, and the other way

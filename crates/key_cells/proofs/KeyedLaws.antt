@@ -6,12 +6,12 @@ use Rattle.std.specs.FinMap.{get, empty, get-empty}
 use Rattle.map_history.specs.declared.op.Op.{Op}
 use Rattle.map_history.specs.Keys.{key_of}
 use Rattle.section_body.specs.Bucket.{operand}
-use Rattle.section_body.specs.Word.{value_of}
-use Rattle.section_body.specs.declared.step.Step.{Step}
-use Rattle.section_body.specs.declared.step.Step.TheVariants.{Load, Want, Store, Answer}
-use Rattle.section_body.specs.declared.value.Value.{Value}
-use Rattle.section_body.specs.declared.value.Value.TheVariants.{Const}
-use Rattle.section_body.specs.declared.thunk.Thunk.{Thunk}
+use Rattle.body_terms.specs.Word.{value_of}
+use Rattle.body_terms.specs.declared.step.Step.{Step}
+use Rattle.body_terms.specs.declared.step.Step.TheVariants.{Load, Want, Store, Answer}
+use Rattle.body_terms.specs.declared.value.Value.{Value}
+use Rattle.body_terms.specs.declared.value.Value.TheVariants.{Const}
+use Rattle.body_terms.specs.declared.thunk.Thunk.{Thunk}
 use Rattle.table_words.specs.declared.layout.Layout.{Layout}
 use Rattle.structure_laws.specs.Scene.{Readings, Scene}
 use Rattle.structure_laws.specs.Sections.{IsSmall}
@@ -19,11 +19,11 @@ use Rattle.structure_laws.specs.Shape.{HasStep}
 use Rattle.structure_laws.specs.Laws.{IsFirst, Laws}
 use Rattle.structure_laws.specs.Planner.{PlannerLaws}
 use Rattle.structure_laws.proofs.Changes.{value_small}
-use Rattle.law_frames.specs.AtKey.{reply_at, changes_at}
-use Rattle.law_frames.specs.Nodeless.{IsNodeless, HoldsItsLock, IsPlainBody}
-use Rattle.law_frames.proofs.AtKey.{reply_some, key_is}
-use Rattle.law_frames.proofs.Nodeless.{nodeless_begins, nodeless_keeps, nodeless_gives, nodeless_shaped, nodeless_adds, nodeless_sized}
-use Rattle.law_frames.proofs.Numbers.{pair_read}
+use Rattle.shared_laws.specs.AtKey.{reply_at, changes_at}
+use Rattle.shared_laws.specs.Nodeless.{IsNodeless, HoldsItsLock, IsPlainBody}
+use Rattle.shared_laws.proofs.AtKey.{reply_some, key_is}
+use Rattle.shared_laws.proofs.Nodeless.{nodeless_begins, nodeless_keeps, nodeless_gives, nodeless_shaped, nodeless_adds, nodeless_sized}
+use Rattle.shared_laws.proofs.Numbers.{pair_read}
 use Rattle.key_cells.specs.Keyed.{Keyed, IsKeyed, wanted, new_of, key_in, body_by, held_in, keyed}
 use Rattle.key_cells.proofs.CellSteps.{plain_in, load_in, want_in, store_in, answer_in}
 use Rattle.key_cells.proofs.Fitting.{Fit, fit_of, body_own}

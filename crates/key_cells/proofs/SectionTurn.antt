@@ -7,24 +7,24 @@ use Rattle.map_history.specs.Keys.{key_of}
 use Rattle.map_history.specs.Replay.{Pairs, reply_of, map_after}
 use Rattle.map_history.specs.Words.{word_of}
 use Rattle.section_body.specs.Bucket.{operand}
-use Rattle.section_body.specs.Shape.{IsShaped}
-use Rattle.section_body.specs.Update.{upd}
-use Rattle.section_body.specs.Word.{value_of, next_word}
-use Rattle.section_body.specs.declared.value.Value.{Value}
-use Rattle.section_body.specs.declared.value.Value.TheVariants.{Const}
-use Rattle.section_body.specs.declared.step.Step.{Step}
-use Rattle.section_body.specs.declared.step.Step.TheVariants.{Load, Store, Answer}
-use Rattle.section_body.specs.declared.thunk.Thunk.{Thunk}
+use Rattle.body_terms.specs.Shape.{IsShaped}
+use Rattle.body_terms.specs.Update.{upd}
+use Rattle.body_terms.specs.Word.{value_of, next_word}
+use Rattle.body_terms.specs.declared.value.Value.{Value}
+use Rattle.body_terms.specs.declared.value.Value.TheVariants.{Const}
+use Rattle.body_terms.specs.declared.step.Step.{Step}
+use Rattle.body_terms.specs.declared.step.Step.TheVariants.{Load, Store, Answer}
+use Rattle.body_terms.specs.declared.thunk.Thunk.{Thunk}
 use Rattle.table_words.specs.declared.layout.Layout.{Layout}
 use Rattle.structure_laws.specs.Scene.{Cells, Readings, Section, Scene}
 use Rattle.structure_laws.specs.Sections.{IsStep}
 use Rattle.structure_laws.specs.InTurn.{StandsFor, AtStamp, AfterStores, InTurn}
 use Rattle.structure_laws.proofs.Changes.{upd_other}
 use Rattle.map_history.specs.declared.op.Op.{Op}
-use Rattle.law_frames.specs.AtKey.{reply_at, left_at, changes_at}
-use Rattle.law_frames.proofs.AtKey.{replies, stand_after, unchanged, left_small}
-use Rattle.law_frames.proofs.AtStamp.{wanted_now}
-use Rattle.law_frames.proofs.Numbers.{bool_cases, lt_of, lt_true, eq_false}
+use Rattle.shared_laws.specs.AtKey.{reply_at, left_at, changes_at}
+use Rattle.shared_laws.proofs.AtKey.{replies, stand_after, unchanged, left_small}
+use Rattle.shared_laws.proofs.AtStamp.{wanted_now}
+use Rattle.shared_laws.proofs.Numbers.{bool_cases, lt_of, lt_true, eq_false}
 use Rattle.key_cells.specs.Keyed.{Keyed, IsKeyed, wanted, new_of, body_by, key_body, held_in, keyed}
 use Rattle.key_cells.proofs.CellSteps.{load_in, store_in, answer_in, reads, stores, shaped}
 use Rattle.key_cells.proofs.Fitting.{Fit, fit_of, body_own}

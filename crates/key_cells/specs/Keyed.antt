@@ -4,15 +4,15 @@ use Rattle.std.specs.FinMap.{get}
 use Rattle.map_history.specs.declared.op.Op.{Op}
 use Rattle.map_history.specs.Keys.{key_of}
 use Rattle.map_history.specs.Words.{word_of}
-use Rattle.section_body.specs.Word.{value_of, next_word}
+use Rattle.body_terms.specs.Word.{value_of, next_word}
 use Rattle.section_body.specs.Bucket.{operand}
-use Rattle.section_body.specs.declared.step.Step.{Step}
-use Rattle.section_body.specs.declared.thunk.Thunk.{Thunk}
+use Rattle.body_terms.specs.declared.step.Step.{Step}
+use Rattle.body_terms.specs.declared.thunk.Thunk.{Thunk}
 use Rattle.structure_laws.specs.Scene.{Cells, Readings}
 use Rattle.structure_laws.specs.Meaning.{Meaning}
 use Rattle.runner_parts.specs.Tests.{has_pair}
-use Rattle.law_frames.specs.AtKey.{reply_at, left_at, changes_at}
-use Rattle.law_frames.specs.Nodeless.{NoneLive}
+use Rattle.shared_laws.specs.AtKey.{reply_at, left_at, changes_at}
+use Rattle.shared_laws.specs.Nodeless.{NoneLive}
 use Rattle.key_cells.specs.Steps.{cell_steps}
 
 -- what an author chooses

@@ -4,8 +4,8 @@ ghost use Rattle.key_cells.specs.Steps.{part, read_of, store_of};
 ghost use Rattle.key_cells.specs.Keyed.{wanted, new_of, key_in, key_body};
 
 use crate::cells::KeyCells;
-use law_frames::{answer, load, store, want};
-use section_body::{Body, Step, Thunk};
+use body_terms::{Body, Step, Thunk};
+use shared_laws::{answer, load, store, want};
 
 /// Puts the body of a thunk in place of the steps that are there.
 pub fn fill_body<C: KeyCells>(cells: &C, thunk: &Thunk, body: &mut Body)

@@ -1,14 +1,14 @@
 //! Whether a thunk is the one for its readings.
 ghost use Rattle.std.specs.Prelude.{◌≡◌, ◌+◌, ◌<◌, ◌==◌, ◌||◌, nat_lt};
 ghost use Rattle.runner_parts.specs.Tests.{has_pair};
-ghost use Rattle.law_frames.specs.AtKey.{left_at};
+ghost use Rattle.shared_laws.specs.AtKey.{left_at};
 ghost use Rattle.key_cells.specs.Keyed.{each_of, wanted, new_of, was_read, is_for, key_fits};
 
 use crate::cells::KeyCells;
 use crate::readings::has_pair;
-use law_frames::{changes_at, left_at, reply_at};
+use body_terms::{Place, Thunk, Word};
 use map_history::Op;
-use section_body::{Place, Thunk, Word};
+use shared_laws::{changes_at, left_at, reply_at};
 
 /// Whether the thunk is for this operation, and what it wants was read.
 pub fn key_fits<C: KeyCells>(cells: &C, op: Op, readings: &[(Place, Word)], thunk: &Thunk) -> bool

@@ -10,33 +10,14 @@ use Rattle.std.proofs.lemmas.Bool.{and_from}
 use Rattle.std.proofs.lemmas.Option.{none-some}
 use mathlib.Core.Logic.{dite}
 use native.Mathlib.Decide.{ℕ_discrete}
+use Rattle.small_lemmas.proofs.Bools.{or_first as or_left, or_second as or_right, from_false as false_true}
+use Rattle.small_lemmas.proofs.Numbers.{less_tested as lt_test, not_less_tested as lt_not, tested_less as lt_of, equal_tested as eq_test}
 use Rattle.map_history.specs.Replay.{Pairs}
 use Rattle.structure_laws.specs.Scene.{Cells}
 use Rattle.structure_laws.proofs.Changes.{both_true, or_cases, equal_of}
-use Rattle.tree_laws.specs.Search.{Nodes, Covers, IsInner, IsLeaf, key_end}
-use Rattle.tree_laws.specs.Leaves.{nodes, TreeStands}
+use Rattle.tree_walks.specs.tree_laws.specs.Search.{Nodes, Covers, IsInner, IsLeaf, key_end}
+use Rattle.tree_walks.specs.tree_laws.specs.Leaves.{nodes, TreeStands}
 use Rattle.leaf_tree.specs.Gathered.{count, AreNext, is_before, HasPairs, IsGathering}
-
-or_left : (a b : Bool) → a ≡ true → (a || b) ≡ true
-or_left a b h = grind arith
-
-or_right : (a b : Bool) → b ≡ true → (a || b) ≡ true
-or_right a b h = grind arith
-
-lt_test : (a b : ℕ) → a < b → nat_lt a b ≡ true
-lt_test a b low = grind (arith, nat_tests)
-
-lt_not : (a b : ℕ) → b ≤ a → nat_lt a b ≡ false
-lt_not a b high = grind (arith, nat_tests)
-
-lt_of : (a b : ℕ) → nat_lt a b ≡ true → a < b
-lt_of a b h = grind (arith, nat_tests)
-
-eq_test : (a b : ℕ) → a ≡ b → (a == b) ≡ true
-eq_test a b e = grind arith
-
-false_true : {A : Type 0} → false ≡ true → A
-false_true e = cc
 
 -- counting
 count_few : (test : ℕ → Bool) (n : ℕ) → count test n ≤ n

@@ -3,15 +3,16 @@ use Rattle.std.proofs.Common.{◌≡◌, ℕ, ◌+◌, ◌≤◌, [], ◌∷◌,
 use Rattle.std.specs.Prelude.{◌==◌, ◌&&◌, ◌-◌, not, nat_le, is_some, if◌then◌else◌}
 use Rattle.std.proofs.lemmas.Bool.Decides.{nat_tests}
 use Rattle.std.proofs.lemmas.Bool.{true≢false}
+use Rattle.small_lemmas.proofs.Bools.{false_not_true as false_true}
 use Rattle.map_history.specs.declared.op.Op.{Op}
-use Rattle.section_body.specs.Word.{value_of, version_of, pack, is_free, is_spent}
+use Rattle.body_terms.specs.Word.{value_of, version_of, pack, is_free, is_spent}
 use Rattle.structure_laws.proofs.Changes.{equal_of}
 use Rattle.table_words.specs.declared.layout.Layout.{Layout}
 use Rattle.table_words.specs.Places.{slot_count}
 use Rattle.structure_laws.specs.Scene.{Readings}
-use Rattle.bucket_laws.proofs.Places.{eq_true}
-use Rattle.tree_laws.specs.Walk.{Walk}
-use Rattle.tree_laws.specs.Leaves.{tree, walk_of, is_lock_place}
+use Rattle.tree_walks.specs.bucket_laws.proofs.Places.{eq_true}
+use Rattle.tree_walks.specs.tree_laws.specs.Walk.{Walk}
+use Rattle.tree_walks.specs.tree_laws.specs.Leaves.{tree, walk_of, is_lock_place}
 use Rattle.tree_walks.specs.Walking.{fed_by, followed_by, is_refused_in}
 use Rattle.tree_walks.specs.Leading.{is_mark_place, wanted_in, fed_in, first_walk, WalkLeads, FarLaw}
 use Rattle.tree_walks.proofs.Leading.{walk_leads}
@@ -24,9 +25,6 @@ use Rattle.lock_walks.proofs.Following.{followed_led}
 use Rattle.leaf_tree.specs.declared.walker.LeafWalk.{LeafWalk}
 use Rattle.leaf_tree.specs.Planned.{tree_way}
 use Rattle.leaf_tree.proofs.Following.{in_readings}
-
-false_true : false ≡ true → ⊥
-false_true e = cc
 
 both_true : {a b : Bool} → a ≡ true → b ≡ true → a && b ≡ true
 both_true e f = λ i. e i && f i

@@ -4,8 +4,8 @@ use Rattle.std.specs.Ordering.{nat_cmp}
 use Rattle.std.specs.FinMap.{get, find, is_sorted}
 use Rattle.map_history.specs.Replay.{Pairs}
 use Rattle.structure_laws.specs.Scene.{Cells}
-use Rattle.tree_laws.specs.Search.{Covers, key_end}
-use Rattle.tree_laws.specs.Leaves.{TreeStands}
+use Rattle.tree_walks.specs.tree_laws.specs.Search.{Covers, key_end}
+use Rattle.tree_walks.specs.tree_laws.specs.Leaves.{TreeStands}
 
 -- how many numbers below a bound pass a test
 abbrev pub count : (ℕ → Bool) → ℕ → ℕ
@@ -13,7 +13,8 @@ count test zero = 0
 count test (suc n) = cond (test n) 1 0 + count test n
 
 module _ (c : Covers) where
-  -- the places of these linked nodes are one behind the other, from this key up to that one; the last node's place comes first
+  -- the places of these linked nodes are one behind the other, from this key up to that one; the last node's place
+  -- comes first
   abbrev pub AreNext : ℕ → List ℕ → ℕ → Type 0
   AreNext end [] start = start ≡ end
   AreNext end (s ∷ slots) start = (c.linked s ≡ true) × (c.hi s ≡ end) × AreNext (c.lo s) slots start
@@ -29,7 +30,8 @@ pub record HasPairs (pairs : Pairs) (start : ℕ) (items : List (ℕ × ℕ)) : 
   pub finds : (q : ℕ) → find nat_cmp q items ≡ cond (nat_lt q start) (get pairs q) None
 
 -- so many nodes were visited; these wait, and what was gathered has the pairs whose keys lie before their places
-pub record IsGathering (slots : ℕ) (cells : Cells) (pairs : Pairs) (stands : TreeStands slots cells pairs) (made : ℕ) (waiting : List ℕ) (items : List (ℕ × ℕ)) : Type 0 where
+pub record IsGathering (slots : ℕ) (cells : Cells) (pairs : Pairs) (stands : TreeStands slots cells pairs) (made : ℕ)
+    (waiting : List ℕ) (items : List (ℕ × ℕ)) : Type 0 where
   pub start : ℕ
   pub next : AreNext stands.covers key_end waiting start
   pub has : HasPairs pairs start items

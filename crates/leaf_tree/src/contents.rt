@@ -2,11 +2,11 @@
 ghost use Rattle.std.specs.Prelude.{◌≡◌, ◌+◌, ◌-◌, ◌<◌, ◌++◌, ◌∷◌, [], ℕ, IfOk, OnOk};
 ghost use Rattle.std.specs.FinMap.{entries};
 ghost use Rattle.map_history.specs.Replay.{Pairs};
-ghost use Rattle.section_body.specs.Memory.{cell_of};
-ghost use Rattle.section_body.specs.Word.{value_of};
+ghost use Rattle.body_terms.specs.Memory.{cell_of};
+ghost use Rattle.body_terms.specs.Word.{value_of};
 ghost use Rattle.table_words.specs.Places.{slot_count};
 ghost use Rattle.table_words.specs.declared.spot.Spot.TheVariants.{Cell};
-ghost use Rattle.tree_laws.specs.Leaves.{tree};
+ghost use Rattle.tree_walks.specs.tree_laws.specs.Leaves.{tree};
 ghost use Rattle.lock_walks.specs.version_words.specs.TableState.{word_of};
 ghost use Rattle.lock_walks.specs.try_lock.specs.Contents.{StandFor};
 ghost use Rattle.leaf_tree.specs.Stands.{Waits, Gathers};
@@ -41,7 +41,9 @@ impl LeafTree {
         items: &mut Vec<(u32, u32)>,
     ) -> Result<(), AllocError>
         requires slot { slot < slot_count words.now.layout 3 }
-        ensures visited { OnOk result ((pairs : Pairs) (stand : StandFor tree words.now pairs) (made : ℕ) → Waits words.now pairs stand made waiting.old.items slot items.old.items → Gathers words.now pairs stand (made + 1) waiting.new.items items.new.items) }
+        ensures visited { OnOk result ((pairs : Pairs) (stand : StandFor tree words.now pairs) (made : ℕ)
+            → Waits words.now pairs stand made waiting.old.items slot items.old.items
+            → Gathers words.now pairs stand (made + 1) waiting.new.items items.new.items) }
     {
         let left = self.node(words, slot, 2);
         let right = self.node(words, slot, 3);
@@ -64,7 +66,8 @@ impl LeafTree {
         words: &Words<LeafTree>,
     ) -> Result<Vec<(u32, u32)>, AllocError>
         requires stand { (pairs : Pairs) × StandFor tree words.now pairs }
-        ensures contents { IfOk result (λ items. (pairs : Pairs) → StandFor tree words.now pairs → items.items ≡ entries pairs) }
+        ensures contents { IfOk result (λ items. (pairs : Pairs) → StandFor tree words.now pairs
+            → items.items ≡ entries pairs) }
     {
         words_are_reached(words);
         let mut items = Vec::new(alloc);

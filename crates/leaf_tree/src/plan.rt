@@ -2,14 +2,14 @@
 ghost use Rattle.std.specs.Prelude.{◌≡◌, IfOk};
 ghost use Rattle.std.specs.FinMap.{entries};
 ghost use Rattle.map_history.specs.Replay.{Pairs};
-ghost use Rattle.tree_laws.specs.Leaves.{tree};
-ghost use Rattle.tree_laws.proofs.TreeLaws.{tree_plans};
-ghost use Rattle.tree_laws.specs.Leaves.{walk_of};
+ghost use Rattle.tree_walks.specs.tree_laws.specs.Leaves.{tree};
+ghost use Rattle.tree_walks.specs.tree_laws.proofs.TreeLaws.{tree_plans};
+ghost use Rattle.tree_walks.specs.tree_laws.specs.Leaves.{walk_of};
 ghost use Rattle.tree_walks.specs.Walking.{is_refused_in};
-ghost use Rattle.steady_trees.proofs.Near.{not_far, no_mark};
+ghost use Rattle.tree_walks.specs.tree_laws.proofs.Near.{not_far, no_mark};
 ghost use Rattle.lock_walks.specs.try_lock.specs.Contents.{StandFor, NamesNone};
 ghost use Rattle.leaf_tree.specs.Planned.{tree_planning};
-ghost use Rattle.steady_trees.proofs.Retiring.{few_retires};
+ghost use Rattle.tree_walks.specs.tree_laws.proofs.Retiring.{few_retires};
 
 use crate::tree::LeafTree;
 use crate::walker::LeafWalk;
@@ -41,7 +41,8 @@ impl Planner for LeafTree {
         requires structure { self.now ≡ words.now.structure }
         requires stand { (pairs : Pairs) × StandFor tree words.now pairs }
         requires closed { NamesNone tree words.now }
-        ensures contents { IfOk result (λ items. (pairs : Pairs) → StandFor tree words.now pairs → items.items ≡ entries pairs) }
+        ensures contents { IfOk result (λ items. (pairs : Pairs) → StandFor tree words.now pairs
+            → items.items ≡ entries pairs) }
     {
         self.pairs(alloc, words)
     }

@@ -1,23 +1,24 @@
 //! The search tree as a structure.
 ghost use Rattle.std.specs.Prelude.{◌≡◌, ◌+◌, ◌≤◌, true, refl};
-ghost use Rattle.section_body.specs.Word.{value_of};
+ghost use Rattle.body_terms.specs.Word.{value_of};
 ghost use Rattle.table_words.specs.Places.{slot_count};
-ghost use Rattle.tree_laws.specs.Leaves.{tree, shows_inner, shows_link};
-ghost use Rattle.tree_laws.proofs.TreeLaws.{tree_laws};
+ghost use Rattle.tree_walks.specs.tree_laws.specs.Leaves.{tree, shows_inner, shows_link};
+ghost use Rattle.tree_walks.specs.tree_laws.proofs.TreeLaws.{tree_laws};
 ghost use Rattle.tree_walks.specs.Leading.{first_walk};
 
 use crate::walker::LeafWalk;
+use body_terms::{Body, Place, Thunk, Word};
 use lock_walks::follow;
 use map_history::Op;
-use runner_parts::Structure;
-use section_body::{Body, Place, Thunk, Word};
+use structure_laws::Structure;
 use table_words::Layout;
-use tree_bodies::{tree_body, tree_body_in};
 use tree_walks::TreeWalk;
+use tree_walks::tree_bodies::{tree_body, tree_body_in};
 
-/// A map in an external search tree (Ellen, Fatourou, Ruppert, van Breugel, *Non-blocking binary search trees*, 2010): the pairs stand in leaves,
-/// and a key below an inner node's goes left. Two sentinel keys above all real ones give each real leaf a parent and a grandparent. An insertion
-/// locks the parent of the leaf at which its walk ended; a removal locks the grandparent and then the parent, which it marks and takes out.
+/// A map in an external search tree (Ellen, Fatourou, Ruppert, van Breugel, *Non-blocking binary search trees*, 2010):
+/// the pairs stand in leaves, and a key below an inner node's goes left. Two sentinel keys above all real ones give
+/// each real leaf a parent and a grandparent. An insertion locks the parent of the leaf at which its walk ended; a
+/// removal locks the grandparent and then the parent, which it marks and takes out.
 #[derive(Drop, Debug)]
 pub struct LeafTree {}
 

@@ -1,8 +1,8 @@
 //! The walk of the tree leads a plan.
 ghost use Rattle.leaf_tree.specs.Planned.{tree_way};
 
+use body_terms::{Place, Thunk, Word};
 use lock_walks::Walker;
-use section_body::{Place, Thunk, Word};
 use tree_walks::TreeWalk;
 
 /// The walk of a key through the tree, as plans make it.

@@ -18,7 +18,7 @@ use Rattle.map_history.specs.Replay.{map_after_all, replies_of}
 use Rattle.history_orders.specs.Turns.{comes_before}
 use Rattle.history_orders.proofs.Entries.{contains_behind, contains_front}
 use Rattle.history_orders.proofs.Turns.{before_turns}
-use Rattle.report_text.specs.Entries.{AreLegal, Entered, answered_by, entered_of, op_of_entered, turn_of_entered}
+use Rattle.run_reports.specs.report_text.specs.Entries.{AreLegal, Entered, answered_by, entered_of, op_of_entered, turn_of_entered}
 use Rattle.load_counts.specs.Apart.{AreApart, ops_of_trace, pairs_alone, replies_alone, unserved_in}
 use Rattle.load_counts.specs.Counts.{counts_in, counts_of, has, is_of}
 use Rattle.load_counts.specs.declared.counts.Kind.{Kind}

@@ -3,3 +3,4 @@ pub mod Generated
 pub mod Orders
 pub mod Parts
 pub mod Sums
+pub mod ReportsAlone

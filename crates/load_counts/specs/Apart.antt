@@ -38,4 +38,5 @@ unserved_in entries = count_by (λ (entry : Option Entry). not (is_some entry)) 
 -- what `load` prints: the counts where each of the generated traces is served by itself
 abbrev pub load_text : Gen → List ℕ
 load_text plan =
-    counts_text (length (generated plan)) (counts_of (replies_alone (generated plan) plan.traces)) (pairs_alone (generated plan) plan.traces)
+    counts_text (length (generated plan)) (counts_of (replies_alone (generated plan) plan.traces))
+    (pairs_alone (generated plan) plan.traces)

@@ -35,6 +35,8 @@ counts_of list = counts_by (λ kind. count_by (is_of kind) list)
 -- the seven lines: how many requests there were, how often each kind of reply came, and how many pairs are left
 abbrev pub counts_text : (requests : ℕ) → Counts → (size : ℕ) → List ℕ
 counts_text requests counts size =
-    codes "requests " ++ decimal requests ++ codes "\nnew " ++ decimal counts.new ++ codes "\ndup " ++ decimal counts.dup
-    ++ codes "\nval " ++ decimal counts.val ++ codes "\ngone " ++ decimal counts.gone ++ codes "\nnone " ++ decimal counts.absent
+    codes "requests " ++ decimal requests ++ codes "\nnew " ++ decimal counts.new ++ codes "\ndup " ++ decimal
+    counts.dup
+    ++ codes "\nval " ++ decimal counts.val ++ codes "\ngone " ++ decimal counts.gone ++ codes "\nnone " ++ decimal
+    counts.absent
     ++ codes "\nfinal " ++ decimal size ++ codes "\n"

@@ -2,7 +2,7 @@
 ghost use Rattle.std.specs.Prelude.{◌≡◌, ◌<◌, ℕ, All, List, Option, true};
 ghost use Rattle.map_history.specs.declared.op.Entry.{Entry};
 ghost use Rattle.map_history.specs.declared.op.Request.{Request};
-ghost use Rattle.report_text.specs.Entries.{AreLegal};
+ghost use Rattle.run_reports.specs.report_text.specs.Entries.{AreLegal};
 ghost use Rattle.trace_reader.specs.Generator.{generated};
 ghost use Rattle.trace_reader.specs.declared.generator.Gen.{Gen};
 ghost use Rattle.load_counts.specs.Apart.{AreApart, pairs_alone, replies_alone, unserved_in};

@@ -1,13 +1,13 @@
 // The printing of the counts.
 ghost use Rattle.std.specs.Prelude.{◌≡◌, OnErr, OnOk};
 ghost use Rattle.fault_count.specs.Rose.{Rose};
-ghost use Rattle.report_text.specs.Sink.{Extends, ExtendsInPart};
+ghost use Rattle.run_reports.specs.report_text.specs.Sink.{Extends, ExtendsInPart};
 ghost use Rattle.load_counts.specs.Counts.{counts_text};
 
 use crate::counts::Counts;
 use arrayvec::ArrayString;
 use itoa::Buffer;
-use report_text::{Failed, Sink, write_all};
+use run_reports::report_text::{Failed, Sink, write_all};
 
 /// Prints seven lines into the sink: how many requests there were, how often each kind of reply came, and how many
 /// pairs are left.
@@ -21,7 +21,8 @@ pub fn print_counts<K: Sink>(
 ) -> Result<(), Failed>
     ensures printed { OnOk result (Extends (K.held sink.old) (counts_text requests counts.now size) (K.held sink.new)) }
     ensures steady { OnOk result (K.faults sink.new ≡ K.faults sink.old) }
-    ensures in_part { OnErr result (ExtendsInPart (K.held sink.old) (counts_text requests counts.now size) (K.held sink.new)) }
+    ensures in_part { OnErr result (ExtendsInPart (K.held sink.old) (counts_text requests counts.now size)
+        (K.held sink.new)) }
     ensures cause { OnErr result (Rose (K.faults sink.old) (K.faults sink.new)) }
 {
     let text = text_of(requests, counts, size);

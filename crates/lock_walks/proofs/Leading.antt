@@ -21,7 +21,7 @@ use Rattle.runner_parts.specs.Tests.{is_readable}
 use Rattle.machine_states.specs.World.{World}
 use Rattle.machine_states.specs.Reached.{Reached}
 use Rattle.machine_states.specs.Sight.{sight, part_or_first}
-use Rattle.try_lock.specs.machine_invariant.specs.After.{AreAllowed}
+use Rattle.runner_facts.specs.machine_invariant.specs.After.{AreAllowed}
 use Rattle.runner_facts.specs.Facts.{WalksStand}
 use Rattle.try_lock.specs.version_words.specs.RunnerState.{RunnerState}
 use Rattle.try_lock.specs.version_words.specs.TableState.{TableState, IsOf}

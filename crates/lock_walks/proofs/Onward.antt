@@ -1,6 +1,7 @@
 -- A walk goes on from wherever it has come.
 use Rattle.std.proofs.Common.{◌≡◌, ℕ, ◌+◌, ◌^◌, ◌<◌, Bool, true, false, refl, sym, subst, arith, length, Option, Some, None}
 use Rattle.std.specs.Prelude.{is_some, is_none}
+use Rattle.small_lemmas.proofs.Bools.{from_false as false_true}
 use Rattle.table_words.specs.declared.layout.Layout.{Layout}
 use Rattle.table_words.specs.declared.spot.Spot.TheVariants as spots
 use Rattle.table_words.specs.declared.access.Access.TheVariants.{Loads}
@@ -8,7 +9,7 @@ use Rattle.table_words.specs.Limits.{IsWithinLimits}
 use Rattle.structure_laws.specs.Meaning.{Meaning}
 use Rattle.structure_laws.specs.Laws.{Laws}
 use Rattle.structure_laws.specs.Sections.{IsAllowed}
-use Rattle.try_lock.specs.machine_invariant.specs.After.{AreAllowed}
+use Rattle.runner_facts.specs.machine_invariant.specs.After.{AreAllowed}
 use Rattle.try_lock.specs.version_words.specs.RunnerState.{RunnerState}
 use Rattle.try_lock.specs.version_words.specs.TableState.{TableState, IsOf}
 use Rattle.try_lock.specs.version_words.specs.Events.{met_by, Makes}
@@ -18,9 +19,6 @@ use Rattle.try_lock.specs.Plans.{MayPlan}
 use Rattle.lock_walks.specs.Way.{Way, Leads}
 use Rattle.lock_walks.specs.Led.{HasLed, Start, IsOnWay, GoesOn}
 use Rattle.lock_walks.proofs.Leading.{WalksStandIn, few_places, few_loads, wants_none, along_begins, is_low, may_load_next, along_more, led_cut, led_whole}
-
-false_true : {A : Type 0} → false ≡ true → A
-false_true e = cc
 
 module _ {W T : Type 0} (m : Meaning) (way : Way W) (facts : WalksStandIn m) (t : TableState T) (limits : IsWithinLimits t.layout) (allowed : AreAllowed t.requests) where
   pub way_begins : (walk : W) (place word : ℕ) (runner : RunnerState T) (halts asks steps : ℕ) → IsAllowed (way.op walk) → Leads way m t.layout walk → MayPlan runner

@@ -11,7 +11,8 @@ use Rattle.try_lock.specs.Plans.{MayPlan, IsWalk, NoneRefuses, HasWalked}
 use Rattle.lock_walks.specs.Way.{Way, fed_all, IsLedBy, Leads}
 
 module _ {W : Type 0} (m : Meaning) (layout : Layout) (way : Way W) where
-  -- the last of these readings, and those before it, of which none refuses; they are those of a state that the machine reaches
+  -- the last of these readings, and those before it, of which none refuses; they are those of a state that the machine
+  -- reaches
   pub record IsLast (walk : W) (readings : Readings) (place word : ℕ) : Type 0 where
     pub before : Readings
     pub last : readings ≡ before ++ (place, word) ∷ []
@@ -21,8 +22,8 @@ module _ {W : Type 0} (m : Meaning) (layout : Layout) (way : Way W) where
     pub stands : m.walked layout (way.op walk) readings
 
 module _ {W T : Type 0} (m : Meaning) (layout : Layout) (way : Way W) where
-  -- the walker led the runner by these readings, so many; the gate was asked after each, and let it go on. The walker is behind them, and
-  -- this is the last one
+  -- the walker led the runner by these readings, so many; the gate was asked after each, and let it go on. The walker
+  -- is behind them, and this is the last one
   pub record IsAlong (made : ℕ) (walk walk' : W) (place word : ℕ) (old new : RunnerState T)
       (halts halts' asks asks' steps steps' : ℕ) : Type 0 where
     pub readings : Readings

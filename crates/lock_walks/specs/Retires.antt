@@ -1,7 +1,7 @@
 -- How many slots a section retires at most.
 use Rattle.std.specs.Prelude.{◌≤◌, count_by}
-use Rattle.section_body.specs.Shape.{is_retire}
-use Rattle.section_body.specs.declared.thunk.Thunk.{Thunk}
+use Rattle.body_terms.specs.Shape.{is_retire}
+use Rattle.body_terms.specs.declared.thunk.Thunk.{Thunk}
 use Rattle.structure_laws.specs.Meaning.{Meaning}
 
 -- no body has more than two Retires

@@ -1,8 +1,9 @@
 //! Walks without a lock: what plans of all structures share.
 //!
-//! A plan loads cell after cell, asks its gate after each load, and ends where its walk is whole or where a reading refuses it.
-//! `walker` is what a structure gives for its walk, and how that follows readings that were made already, `plans` makes the loads and
-//! answers by the first refusal in the order of reading, and `planner` is what a structure offers to those who plan on it.
+//! A plan loads cell after cell, asks its gate after each load, and ends where its walk is whole or where a reading
+//! refuses it. `walker` is what a structure gives for its walk, and how that follows readings that were made already,
+//! `plans` makes the loads and answers by the first refusal in the order of reading, and `planner` is what a structure
+//! offers to those who plan on it.
 #![tactic(auto)]
 
 mod planner;
@@ -14,6 +15,5 @@ pub use plans::plan_by;
 pub use walker::{Walker, follow};
 
 // Passed on to the layers above, so that they needn't name these libraries themselves.
-pub use runner_facts;
 pub use try_lock;
-pub use try_lock::{commit_log, epoch_slots, reached_histories, version_words};
+pub use try_lock::{epoch_slots, section_runs, version_words};

@@ -15,10 +15,10 @@ ghost use Rattle.lock_walks.specs.Retires.{RetiresFew};
 
 use crate::plans::plan_by;
 use crate::walker::Walker;
+use body_terms::{Gate, Steps};
 use map_history::{Op, Request};
-use runner_parts::Structure;
-use section_body::{Gate, Steps};
 use std::alloc::{AllocError, Global};
+use structure_laws::Structure;
 use table_words::Layout;
 use try_lock::Planned;
 use try_lock::version_words::{FlockTable, Runner, Words, table_is_allowed};

@@ -11,17 +11,17 @@ ghost use Rattle.lock_walks.specs.Way.{Leads};
 ghost use Rattle.lock_walks.specs.Led.{HasLed, Start, IsOnWay, GoesOn, GoesThrough};
 
 use crate::walker::Walker;
+use body_terms::{Gate, Place, StepKind, Steps, Word};
 use map_history::Request;
 use runner_facts::walks_stand;
-use runner_parts::Structure;
-use section_body::{Gate, Place, StepKind, Steps, Word};
+use structure_laws::Structure;
 use table_words::Layout;
 use try_lock::Planned;
 use try_lock::commit_log::{Unasked, passes, tell};
 use try_lock::version_words::{FlockTable, Runner, table_is_allowed};
 
-/// Makes the load that the walker wants, if it wants one, and goes on by the word; the gate is asked behind it. Gives the last place with its
-/// word, and whether the gate let the runner go on.
+/// Makes the load that the walker wants, if it wants one, and goes on by the word; the gate is asked behind it. Gives
+/// the last place with its word, and whether the gate let the runner go on.
 #[inline(always)]
 fn load_next<S: Structure, W: Walker, G: Gate, L>(
     table: &FlockTable<S>,
@@ -166,8 +166,8 @@ fn end_walk<S: Structure, W: Walker, G: Gate, L>(
     (runner, place, word, true)
 }
 
-/// Loads what the walker wants, until it wants nothing more or the gate halts, which is asked after each load. Gives the last place with its
-/// word, and whether the gate let the runner go on.
+/// Loads what the walker wants, until it wants nothing more or the gate halts, which is asked after each load. Gives
+/// the last place with its word, and whether the gate let the runner go on.
 #[inline(always)]
 fn walk_on<S: Structure, W: Walker, G: Gate, L>(
     table: &FlockTable<S>,
@@ -206,7 +206,8 @@ fn walk_on<S: Structure, W: Walker, G: Gate, L>(
     end_walk(table, runner, walker, place, word, gate, steps)
 }
 
-/// Leads the runner on its walk, as `walk_on` does. The asks of a gate that never halts are counted apart, and it is told them in the end.
+/// Leads the runner on its walk, as `walk_on` does. The asks of a gate that never halts are counted apart, and it is
+/// told them in the end.
 #[inline(always)]
 fn lead<S: Structure, W: Walker, G: Gate, L>(
     table: &FlockTable<S>,
@@ -276,11 +277,13 @@ fn refusal<S: Structure, W: Walker>(
     }
 }
 
-/// Plans a request by this walker: makes the loads that it wants, and answers the first refusal in the order of reading, or the thunk of the
-/// whole walk. The gate is asked after each load; Halted comes exactly where it halted. No memory is taken.
+/// Plans a request by this walker: makes the loads that it wants, and answers the first refusal in the order of
+/// reading, or the thunk of the whole walk. The gate is asked after each load; Halted comes exactly where it halted. No
+/// memory is taken.
 ///
-/// The structure is the table's, and the walker walks as the structure plans, for the request's operation. The runner is entered, in no
-/// run, and has loaded no cell since it entered (Ben-David, Blelloch, Wei, *Lock-free locks revisited*, 2022).
+/// The structure is the table's, and the walker walks as the structure plans, for the request's operation. The runner
+/// is entered, in no run, and has loaded no cell since it entered (Ben-David, Blelloch, Wei, *Lock-free locks
+/// revisited*, 2022).
 pub fn plan_by<S: Structure, W: Walker, G: Gate, L>(
     table: &FlockTable<S>,
     runner: Runner<S>,

@@ -3,9 +3,10 @@ ghost use Rattle.std.specs.Prelude.{◌≡◌};
 ghost use Rattle.lock_walks.specs.Way.{Way};
 ghost use Rattle.lock_walks.specs.Followed.{is_next, followed};
 
-use section_body::{Place, Thunk, Word};
+use body_terms::{Place, Thunk, Word};
 
-/// How far the walk of an operation has come. It wants one place after the other, and goes on by the word that stood there.
+/// How far the walk of an operation has come. It wants one place after the other, and goes on by the word that stood
+/// there.
 pub trait Walker: Drop {
     ghost way: { Way Self };
 
@@ -17,8 +18,8 @@ pub trait Walker: Drop {
     fn feed(&mut self, word: Word)
         ensures { self.new ≡ way.fed self.old word };
 
-    /// Whether it follows links: then its next two loads are made in one turn, and a third where it `turns_aside` behind them. This serves
-    /// speed alone; a walk is the same whatever is answered.
+    /// Whether it follows links: then its next two loads are made in one turn, and a third where it `turns_aside`
+    /// behind them. This serves speed alone; a walk is the same whatever is answered.
     fn is_on_links(&self) -> bool {
         false
     }

@@ -4,10 +4,10 @@ use Rattle.std.proofs.Common.{◌≡◌, ◌≢◌, ℕ, zero, suc, ◌+◌, Lis
 use Rattle.std.specs.Prelude.{◌⊎◌}
 use Rattle.std.proofs.lemmas.Bool.{cases_eq}
 use Rattle.std.proofs.lemmas.Bool.Decides.{nat_tests}
-use Rattle.section_body.specs.Run.{written_once}
+use Rattle.body_terms.specs.Run.{written_once}
 use Rattle.table_words.specs.declared.spot.Spot.{Spot}
 use Rattle.table_words.specs.declared.spot.Spot.TheVariants as spots
-use Rattle.section_body.specs.Update.{upd}
+use Rattle.body_terms.specs.Update.{upd}
 use Rattle.runner_parts.specs.State.{RunState}
 use Rattle.runner_parts.specs.Tests.{has_pair}
 use Rattle.agreement_core.specs.State.{Shared, Section, Run, AgreementState, section_of}

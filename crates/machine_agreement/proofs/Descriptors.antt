@@ -4,11 +4,11 @@ use Rattle.std.proofs.Common.{◌≡◌, ◌≢◌, ℕ, zero, suc, ◌<◌, Lis
 use Rattle.std.specs.Prelude.{◌⊎◌}
 use Rattle.std.proofs.lemmas.Bool.{cases_eq}
 use Rattle.std.proofs.lemmas.Bool.Decides.{nat_tests}
-use Rattle.section_body.specs.Update.{upd}
-use Rattle.section_body.specs.Word.{held_word}
-use Rattle.section_body.specs.declared.thunk.Thunk.{Thunk}
-use Rattle.section_body.specs.Line.{line, micro_at, committed, is_check}
-use Rattle.section_body.specs.Run.{leaves}
+use Rattle.body_terms.specs.Update.{upd}
+use Rattle.body_terms.specs.Word.{held_word}
+use Rattle.body_terms.specs.declared.thunk.Thunk.{Thunk}
+use Rattle.body_terms.specs.Line.{line, micro_at, committed, is_check}
+use Rattle.body_terms.specs.Run.{leaves}
 use Rattle.table_words.specs.declared.layout.Layout.{Layout}
 use Rattle.table_words.specs.declared.spot.Spot.{Spot}
 use Rattle.table_words.specs.declared.spot.Spot.TheVariants as spots

@@ -4,9 +4,10 @@ use Rattle.std.specs.List.{list_any}
 use Rattle.std.proofs.Common.{◌≡◌, ℕ, zero, suc, ◌<◌, ◌≤◌, List, [], ◌∷◌, ◌++◌, length, take, sym, refl, ap, ◌∙◌, arith, inl, inr, ⊎_elim}
 use Rattle.std.specs.Prelude.{◌⊎◌}
 use Rattle.std.proofs.lemmas.Bool.Decides.{nat_tests}
-use Rattle.section_body.specs.declared.micro.Micro.{Micro}
-use Rattle.section_body.specs.declared.micro.Micro.TheVariants as micros
-use Rattle.section_body.specs.Line.{micro_at, releases, is_end}
+use Rattle.small_lemmas.proofs.Bools.{or_true}
+use Rattle.body_terms.specs.declared.micro.Micro.{Micro}
+use Rattle.body_terms.specs.declared.micro.Micro.TheVariants as micros
+use Rattle.body_terms.specs.Line.{micro_at, releases, is_end}
 use Rattle.runner_steps.specs.AfterInRun.{place_of}
 
 -- these steps have taken this lock, free with this word: the outer one, or a nested one that was found to be held
@@ -43,10 +44,6 @@ past_all [] lock outer (suc i) e = omega arith
 past_all (micros.CheckHeld p' k v ∷ ms) lock outer zero e = cc
 past_all (micros.CheckHeld p' k v ∷ ms) lock outer (suc i) e = let rest = past_all ms lock outer i e in omega arith
 past_all (micro ∷ ms) lock outer i e = past_all ms lock outer i e
-
-or_true : (b : Bool) → (b || true) ≡ true
-or_true true = refl
-or_true false = refl
 
 same_test : (p q : ℕ) → p ≡ q → (q == p) ≡ true
 same_test p q e = grind (arith, nat_tests)

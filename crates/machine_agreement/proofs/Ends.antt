@@ -4,10 +4,10 @@ use Rattle.std.proofs.Common.{◌≡◌, ◌≢◌, ℕ, zero, suc, ◌+◌, ◌
 use Rattle.std.specs.Prelude.{◌⊎◌}
 use Rattle.std.proofs.lemmas.Bool.Decides.{nat_tests}
 use Rattle.map_history.specs.declared.op.Request.{Request}
-use Rattle.section_body.specs.declared.micro.Micro.{Micro}
-use Rattle.section_body.specs.declared.micro.Micro.TheVariants as micros
-use Rattle.section_body.specs.Line.{micro_at, is_event, ending}
-use Rattle.section_body.specs.Run.{written_once}
+use Rattle.body_terms.specs.declared.micro.Micro.{Micro}
+use Rattle.body_terms.specs.declared.micro.Micro.TheVariants as micros
+use Rattle.body_terms.specs.Line.{micro_at, is_event, ending}
+use Rattle.body_terms.specs.Run.{written_once}
 use Rattle.section_lines.specs.Line.{phase}
 use Rattle.table_words.specs.declared.layout.Layout.{Layout}
 use Rattle.table_words.specs.declared.spot.Spot.{Spot}
@@ -60,7 +60,7 @@ module _ (m : Meaning) (l : Layout) (rs : List Request) (w : AgreementState) (s 
   long : length q.opened ≡ 13
   long = all m l rs w s old r q is opened
 
-  abbrev t : Rattle.section_body.specs.declared.thunk.Thunk.Thunk
+  abbrev t : Rattle.body_terms.specs.declared.thunk.Thunk.Thunk
   t = thunk_of q.opened
 
   abbrev ms : List Micro

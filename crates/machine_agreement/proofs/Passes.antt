@@ -3,11 +3,11 @@ use Rattle.std.proofs.Common.{◌≡◌, ◌≢◌, ℕ, zero, suc, ◌+◌, ◌
 use Rattle.std.specs.Prelude.{Bool, cond, ◌&&◌, slice_index, is_none, replicate, not, ◌==◌, nat_le}
 use Rattle.std.proofs.lemmas.List.{get_or-drop}
 use Rattle.std.proofs.lemmas.Bool.Decides.{nat_tests}
-use Rattle.section_body.specs.declared.micro.Micro.{Micro}
-use Rattle.section_body.specs.declared.micro.Micro.TheVariants as micros
-use Rattle.section_body.specs.Line.{is_check, micro_at}
-use Rattle.section_body.specs.Word.{version_of, is_free, is_spent, held_word}
-use Rattle.section_body.specs.Run.{Setting, leaves, passed_checks, settled}
+use Rattle.body_terms.specs.declared.micro.Micro.{Micro}
+use Rattle.body_terms.specs.declared.micro.Micro.TheVariants as micros
+use Rattle.body_terms.specs.Line.{is_check, micro_at}
+use Rattle.body_terms.specs.Word.{version_of, is_free, is_spent, held_word}
+use Rattle.body_terms.specs.Run.{Setting, leaves, passed_checks, settled}
 use Rattle.table_words.specs.declared.layout.Layout.{Layout}
 use Rattle.structure_laws.specs.Meaning.{Meaning}
 use Rattle.runner_steps.specs.Sections.{setting_of, line_of, settles}

@@ -3,15 +3,15 @@ use Rattle.std.specs.Prelude.{◌==◌, ◌||◌, nat_le, slice_index, max, ◌/
 use Rattle.std.proofs.Common.{◌≡◌, ℕ, ◌+◌, ◌*◌, List, [], ◌∷◌, ◌++◌, length, sym, refl, ap, ◌∙◌, subst, arith, Option, Some, None}
 use Rattle.std.proofs.lemmas.Bool.Decides.{nat_tests}
 use Rattle.map_history.specs.declared.op.Request.{Request}
-use Rattle.section_body.specs.declared.micro.Micro.{Micro}
-use Rattle.section_body.specs.declared.micro.Micro.TheVariants as micros
-use Rattle.section_body.specs.Update.{upd}
-use Rattle.section_body.specs.Line.{is_event}
-use Rattle.section_body.specs.Memory.{cell_of}
-use Rattle.section_body.specs.Run.{written_once, source_value}
-use Rattle.section_body.specs.Word.{version_of, value_of, next_word, held_word}
-use Rattle.section_body.specs.declared.micro.Source.{Source}
-use Rattle.section_body.specs.declared.micro.Source.TheVariants.{Fixed, Agreed}
+use Rattle.body_terms.specs.declared.micro.Micro.{Micro}
+use Rattle.body_terms.specs.declared.micro.Micro.TheVariants as micros
+use Rattle.body_terms.specs.Update.{upd}
+use Rattle.body_terms.specs.Line.{is_event}
+use Rattle.body_terms.specs.Memory.{cell_of}
+use Rattle.body_terms.specs.Run.{written_once, source_value}
+use Rattle.body_terms.specs.Word.{version_of, value_of, next_word, held_word}
+use Rattle.body_terms.specs.declared.micro.Source.{Source}
+use Rattle.body_terms.specs.declared.micro.Source.TheVariants.{Fixed, Agreed}
 use Rattle.table_words.specs.declared.layout.Layout.{Layout}
 use Rattle.table_words.specs.declared.spot.Spot.{Spot}
 use Rattle.table_words.specs.declared.spot.Spot.TheVariants as spots

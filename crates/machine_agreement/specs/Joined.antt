@@ -1,8 +1,8 @@
 -- The machine's state and the component's state of agreement, joined.
 use Rattle.std.specs.Prelude.{◌≡◌, ℕ, ◌-◌, ◌<◌, List, Bool, true, false, ◌==◌, nat_le, length, take, drop, slice_get, slice_index, Option, Some, None}
 use Rattle.std.specs.List.{list_any}
-use Rattle.section_body.specs.declared.micro.Micro.{Micro}
-use Rattle.section_body.specs.Line.{ending}
+use Rattle.body_terms.specs.declared.micro.Micro.{Micro}
+use Rattle.body_terms.specs.Line.{ending}
 use Rattle.table_words.specs.declared.layout.Layout.{Layout}
 use Rattle.table_words.specs.declared.spot.Spot.{Spot}
 use Rattle.table_words.specs.declared.spot.Spot.TheVariants.{Clock, Stamp, Reply, Cell, ThunkWord, DoneWord, LogWord}
@@ -77,7 +77,8 @@ module _ (m : Meaning) (l : Layout) where
     pub rests : (q : RunState) → p.run ≡ Some q → length q.opened ≡ 13 → IsAtRest q
     -- the locks that it has released in its end
     pub released : (q : RunState) (place : ℕ) → p.run ≡ Some q
-        → has_released (line_of m q) q.at ((thunk_of q.opened).lock) ((thunk_of q.opened).word) q.ended place ≡ true → (w.run r).released place ≡ true
+        → has_released (line_of m q) q.at ((thunk_of q.opened).lock) ((thunk_of q.opened).word) q.ended place ≡ true
+        → (w.run r).released place ≡ true
     -- the words that it has read, and the runs that it has brought to their end
     pub read : (place found : ℕ) → has_pair p.reads.cells place found ≡ true → w.shared.seen place found ≡ true
     pub finishes : w.finishes r ≡ length p.records.finished

@@ -1,10 +1,10 @@
 -- What the join of sections needs of epochs and slots and of the structure's laws, step by step.
 use Rattle.std.specs.Prelude.{◌≡◌, ◌≢◌, ℕ, true, false, Some, None}
 use Rattle.std.specs.List.{filter}
-use Rattle.section_body.specs.declared.micro.Micro.TheVariants.{LoadCell}
-use Rattle.section_body.specs.declared.thunk.Thunk.{Thunk}
-use Rattle.section_body.specs.Line.{line, micro_at, committed}
-use Rattle.section_body.specs.Memory.{cell_of}
+use Rattle.body_terms.specs.declared.micro.Micro.TheVariants.{LoadCell}
+use Rattle.body_terms.specs.declared.thunk.Thunk.{Thunk}
+use Rattle.body_terms.specs.Line.{line, micro_at, committed}
+use Rattle.body_terms.specs.Memory.{cell_of}
 use Rattle.table_words.specs.declared.layout.Layout.{Layout}
 use Rattle.table_words.specs.declared.spot.Spot.TheVariants.{DoneWord, LogWord}
 use Rattle.structure_laws.specs.Meaning.{Meaning}
@@ -28,11 +28,13 @@ pub record IsIdle (w : AgreementState) (d : ℕ) : Type 0 where
   pub unrun : (r : ℕ) → (w.run r).running ≡ true → (w.run r).descriptor ≢ d
 
 -- a descriptor whose words are those of this thunk, with no done and an empty log, may be published
-pub record MayPublish (m : Meaning) (l : Layout) (w : AgreementState) (s : Sight) (r : ℕ) (t : Thunk) (d : ℕ) : Type 0 where
+pub record MayPublish (m : Meaning) (l : Layout) (w : AgreementState) (s : Sight) (r : ℕ) (t : Thunk)
+    (d : ℕ) : Type 0 where
   pub words : thunk_in s.word d ≡ t
   pub undone : s.word (DoneWord d) ≡ 0
   pub unlogged : (k : ℕ) → s.word (LogWord d k) ≡ 0
-  pub publishable : IsPublishable (rules_of m l) d t.lock t.word (micro_at (line (m.body t))) (committed (line (m.body t)))
+  pub publishable : IsPublishable (rules_of m l) d t.lock t.word (micro_at (line (m.body t)))
+      (committed (line (m.body t)))
   -- no other runner has published it
   pub apart : (i : ℕ) (x : Published) → i ≢ r → (s.part i).published ≡ Some x → x.descriptor ≢ d
 

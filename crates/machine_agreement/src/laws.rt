@@ -5,7 +5,7 @@ ghost use Rattle.table_words.specs.Limits.{IsWithinLimits};
 ghost use Rattle.table_words.specs.declared.layout.Layout.{Layout};
 ghost use Rattle.machine_agreement.specs.Goes.{StepsAreEvents, StartsJoined};
 
-use runner_parts::Structure;
+use structure_laws::Structure;
 
 /// Each step of the machine is the events of agreement that belong to its kind, each enabled where it
 /// comes, and then a Pass for each check that passes, where the step is supplied with what the other

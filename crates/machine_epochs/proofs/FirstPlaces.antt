@@ -3,6 +3,7 @@ use Rattle.std.specs.Prelude.{◌==◌, ◌&&◌, ◌/◌, cond, nat_lt, nat_le,
 use Rattle.std.proofs.Common.{◌≡◌, ◌≢◌, ℕ, zero, suc, ◌+◌, ◌-◌, ◌*◌, ◌<◌, ◌≤◌, List, [], refl, sym, ap, ◌∙◌, subst, arith, ◌⊎◌, ⊎_elim, div-add-mod', mod-lt, mul_comm, mul-suc, mul-le-mul_left, zero-mul, inl, inr}
 use Rattle.std.proofs.lemmas.Bool.{cases_eq}
 use Rattle.std.proofs.lemmas.Bool.Decides.{nat_tests}
+use Rattle.small_lemmas.proofs.Numbers.{self_tested as same_test, other_tested as other_test}
 use Rattle.epoch_core.specs.Lists.{times}
 use Rattle.machine_states.specs.First.{falling}
 use Rattle.machine_epochs.specs.Firsts.{owner_of}
@@ -86,12 +87,6 @@ past_row from row size all s low fit h = grind (arith, nat_tests)
 some_size : (size runners u : ℕ) → u < size * runners → 0 < size
 some_size zero runners u h = let none = zero-mul runners in omega arith
 some_size (suc size) runners u h = omega arith
-
-same_test : (a : ℕ) → (a == a) ≡ true
-same_test a = grind (arith, nat_tests)
-
-other_test : (a b : ℕ) → a ≢ b → (a == b) ≡ false
-other_test a b ne = grind (arith, nat_tests)
 
 module _ (size runners extra from : ℕ) where
   -- a runner's numbers

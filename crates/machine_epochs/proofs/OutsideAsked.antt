@@ -3,9 +3,11 @@ use Rattle.std.specs.Prelude.{◌==◌, ◌&&◌, ◌⊎◌, cond, Bool, true, f
 use Rattle.std.proofs.Common.{◌≡◌, ℕ, ◌+◌, ◌-◌, ◌<◌, ◌≤◌, List, length, sym, refl, ap, subst, inl, inr, arith, Option, Some, None}
 use Rattle.std.proofs.lemmas.Bool.Decides.{nat_tests}
 use Rattle.std.proofs.lemmas.Bool.{and_parts}
+use Rattle.small_lemmas.proofs.Bools.{negated as not_so}
+use Rattle.small_lemmas.proofs.Numbers.{tested_less as lt_test, tested_equal as same_test}
 use Rattle.map_history.specs.declared.op.Request.{Request}
-use Rattle.section_body.specs.declared.thunk.Thunk.{Thunk}
-use Rattle.section_body.specs.Word.{held_word, is_free, is_spent}
+use Rattle.body_terms.specs.declared.thunk.Thunk.{Thunk}
+use Rattle.body_terms.specs.Word.{held_word, is_free, is_spent}
 use Rattle.table_words.specs.declared.layout.Layout.{Layout}
 use Rattle.table_words.specs.declared.spot.Spot.{Spot}
 use Rattle.table_words.specs.declared.spot.Spot.TheVariants.{Seat, Epoch, Announcement, Cell, ThunkWord}
@@ -120,19 +122,9 @@ pub record HoldAsked (m : Meaning) (l : Layout) (rs : List Request) (t : Thunk) 
   pub serves : m.fits l request.op p.reads.walk t ≡ true
   pub is : (Cell t.lock, Exchanges t.word (held_word d t.word)) ≡ x
 
-lt_test : (a b : ℕ) → nat_lt a b ≡ true → a < b
-lt_test a b e = grind (arith, nat_tests)
-
-same_test : (a b : ℕ) → (a == b) ≡ true → a ≡ b
-same_test a b e = grind (arith, nat_tests)
-
 no_option : {A : Type 0} → (o : Option A) → is_none o ≡ true → o ≡ None
 no_option None e = refl
 no_option (Some y) e = absurd (let x = e in cc)
-
-not_so : (b : Bool) → not b ≡ true → b ≡ false
-not_so false e = refl
-not_so true e = absurd (let x = e in cc)
 
 -- what serves a request serves one that there is
 serves_some : (m : Meaning) (l : Layout) (walk : List (ℕ × ℕ)) (t : Thunk) (o : Option Request) → tests.serves m l walk t o ≡ true

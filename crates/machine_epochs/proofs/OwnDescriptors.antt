@@ -21,7 +21,7 @@ use Rattle.machine_epochs.specs.Slots.{retiring_of}
 use Rattle.machine_epochs.proofs.Places.{has_append, has_times}
 use Rattle.machine_epochs.specs.Descriptors.{times_limbo, times_published, times_with}
 use Rattle.runner_steps.specs.AfterOutside.{published_by}
-use Rattle.section_body.specs.declared.thunk.Thunk.{Thunk}
+use Rattle.body_terms.specs.declared.thunk.Thunk.{Thunk}
 
 -- the Retire at which an entered runner's run is has an epoch that is no earlier than the runner's entry
 abbrev pub IsRecent : Meaning → PartState → Type 0

@@ -28,8 +28,8 @@ use Rattle.machine_states.specs.Sight.{Sight, sight, parts_after, sight_after, S
 use Rattle.machine_states.proofs.Updates.{upd_split}
 use Rattle.machine_states.proofs.FirstSights.{first_part_of, first_parts}
 use Rattle.machine_epochs.specs.Scans.{Found}
-use Rattle.section_body.specs.Line.{micro_at}
-use Rattle.section_body.specs.declared.micro.Micro.TheVariants.{RetireCommit}
+use Rattle.body_terms.specs.Line.{micro_at}
+use Rattle.body_terms.specs.declared.micro.Micro.TheVariants.{RetireCommit}
 use Rattle.runner_steps.specs.Sections.{line_of}
 use Rattle.epoch_core.specs.State.{Retiring}
 use Rattle.machine_epochs.specs.Slots.{retire_before, retiring_of}

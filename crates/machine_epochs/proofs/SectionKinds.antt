@@ -5,9 +5,10 @@ use Rattle.std.proofs.Common.{◌≡◌, ◌≢◌, ℕ, zero, suc, ◌+◌, ◌
 use Rattle.std.proofs.lemmas.Bool.{cases_eq}
 use Rattle.std.proofs.lemmas.List.{length-replicate}
 use Rattle.std.proofs.lemmas.Bool.Decides.{nat_tests}
+use Rattle.small_lemmas.proofs.Numbers.{tested_equal as same_word, tested_other as other_word}
 use Rattle.map_history.specs.declared.op.Request.{Request}
-use Rattle.section_body.specs.declared.thunk.Thunk.{Thunk}
-use Rattle.section_body.specs.Word.{held_word}
+use Rattle.body_terms.specs.declared.thunk.Thunk.{Thunk}
+use Rattle.body_terms.specs.Word.{held_word}
 use Rattle.table_words.specs.declared.layout.Layout.{Layout}
 use Rattle.table_words.specs.declared.spot.Spot.{Spot}
 use Rattle.table_words.specs.declared.spot.Spot.TheVariants.{Epoch, Cell, ThunkWord, LogWord}
@@ -122,12 +123,6 @@ row_other f d i k row ne = grind (arith, nat_tests)
 
 row_here : (f : ℕ → ℕ → Role) (d i k : ℕ) (row : ℕ → Role) → i ≡ d → upd_row f d row i k ≡ row k
 row_here f d i k row e = grind (arith, nat_tests)
-
-same_word : (a b : ℕ) → (a == b) ≡ true → a ≡ b
-same_word a b e = grind (arith, nat_tests)
-
-other_word : (a b : ℕ) → (a == b) ≡ false → a ≢ b
-other_word a b e = grind (arith, nat_tests)
 
 free_live : (r : ℕ) → Free r ≡ Live → ⊥
 free_live r e = let x = e in cc

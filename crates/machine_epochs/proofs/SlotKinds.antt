@@ -2,12 +2,13 @@
 use Rattle.std.specs.Prelude.{◌==◌, ◌||◌, cond, if◌then◌else◌, Bool, true, false, slice_index}
 use Rattle.std.proofs.Common.{◌≡◌, ◌≢◌, ℕ, zero, suc, ◌+◌, ◌-◌, ◌<◌, List, [], ◌∷◌, ◌++◌, length, refl, sym, ap, ◌∙◌, subst, arith, add-one, ◌⊎◌, inl, inr, Option, Some, None}
 use Rattle.std.proofs.lemmas.Bool.Decides.{nat_tests}
+use Rattle.small_lemmas.proofs.Numbers.{tested_equal as same_slot}
 use Rattle.map_history.specs.declared.op.Request.{Request}
-use Rattle.section_body.specs.declared.micro.Micro.{Micro}
-use Rattle.section_body.specs.declared.micro.Micro.TheVariants as micros
-use Rattle.section_body.specs.Line.{line, micro_at}
-use Rattle.section_body.specs.Run.{written_once}
-use Rattle.section_body.specs.Word.{version_of}
+use Rattle.body_terms.specs.declared.micro.Micro.{Micro}
+use Rattle.body_terms.specs.declared.micro.Micro.TheVariants as micros
+use Rattle.body_terms.specs.Line.{line, micro_at}
+use Rattle.body_terms.specs.Run.{written_once}
+use Rattle.body_terms.specs.Word.{version_of}
 use Rattle.table_words.specs.declared.layout.Layout.{Layout}
 use Rattle.table_words.specs.declared.spot.Spot.{Spot}
 use Rattle.table_words.specs.declared.spot.Spot.TheVariants.{Cell, LogWord}
@@ -72,9 +73,6 @@ live_hand i e = let x = e in cc
 pub back_lists : (p : PartState) (slot : ℕ) (worn : Bool) → tested_lists worn slot (lists_of p) ≡ lists_of (record p { nodes = slot_back p.nodes slot worn })
 back_lists p slot true = refl
 back_lists p slot false = refl
-
-same_slot : (a b : ℕ) → (a == b) ≡ true → a ≡ b
-same_slot a b e = grind (arith, nat_tests)
 
 has_index : (xs : List ℕ) (i : ℕ) → i < length xs → has xs (slice_index xs i) ≡ true
 has_index [] i h = absurd (omega arith)

@@ -1,7 +1,7 @@
 -- Which events of epochs and slots a step of the machine is, by its kind.
 use Rattle.std.specs.Prelude.{ℕ, ◌+◌, ◌-◌, ◌≡◌, ◌≢◌, ◌⊎◌, Bool, true, false, ◌==◌, ◌&&◌, nat_lt, List, [], ◌∷◌, Option, Some, None, if◌then◌else◌}
-use Rattle.section_body.specs.declared.micro.Micro.{Micro}
-use Rattle.section_body.specs.declared.micro.Micro.TheVariants as micros
+use Rattle.body_terms.specs.declared.micro.Micro.{Micro}
+use Rattle.body_terms.specs.declared.micro.Micro.TheVariants as micros
 use Rattle.table_words.specs.declared.layout.Layout.{Layout}
 use Rattle.table_words.specs.Places.{slot_count}
 use Rattle.structure_laws.specs.Meaning.{Meaning}
@@ -23,7 +23,8 @@ use Rattle.machine_epochs.specs.Supplied.{comes_outside, comes_agreed}
 
 -- this cell is the next one to be looked at of a slot in the hand, and it is the fifth
 abbrev pub is_last_look : NodesState → ℕ → ℕ → Bool
-is_last_look n slot cell = let x = test_of n.tests slot in (has n.hand slot && (cell == x.cells && nat_lt cell 5)) && x.cells + 1 == 5
+is_last_look n slot cell = let x = test_of n.tests slot in (has n.hand slot && (cell == x.cells && nat_lt cell 5)) &&
+    x.cells + 1 == 5
 
 -- the slot was looked at whole, of which a cell was found to have this word
 abbrev pub looked : Layout → ℕ → NodesState → ℕ → ℕ → ℕ → List Event

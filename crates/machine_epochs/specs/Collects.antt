@@ -18,7 +18,8 @@ pub record HasNothingOld (epoch : ℕ) (p : PartState) : Type 0 where
   pub descriptors : All (λ x. epoch < x.epoch + 2) p.descriptors.limbo
 
 -- a runner that scans for this epoch, and has the next announcement before it, makes a step of this kind
-pub record ScanStep (m : Meaning) (l : Layout) (requests : List Request) (w v : World) (kind : EventKind) (r epoch next : ℕ) (clear : Bool) : Type 0 where
+pub record ScanStep (m : Meaning) (l : Layout) (requests : List Request) (w v : World) (kind : EventKind)
+    (r epoch next : ℕ) (clear : Bool) : Type 0 where
   pub stage : ((sight m l requests w).part r).stage ≡ Scanning epoch next clear
   pub step : happens m l requests w (record { runner = r; kind = kind }) ≡ Some v
 

@@ -1,8 +1,8 @@
 -- Descriptors, limbo lists and the epochs of Retires, in every state that the machine reaches.
 use Rattle.std.specs.Prelude.{◌≡◌, ℕ, ◌+◌, ◌<◌, ◌≤◌, ◌==◌, cond, true, List, [], ◌∷◌, Option, Some, None, All}
 use Rattle.map_history.specs.declared.op.Request.{Request}
-use Rattle.section_body.specs.Line.{micro_at}
-use Rattle.section_body.specs.declared.micro.Micro.TheVariants.{RetireCommit}
+use Rattle.body_terms.specs.Line.{micro_at}
+use Rattle.body_terms.specs.declared.micro.Micro.TheVariants.{RetireCommit}
 use Rattle.table_words.specs.declared.layout.Layout.{Layout}
 use Rattle.table_words.specs.declared.spot.Spot.TheVariants.{Epoch}
 use Rattle.table_words.specs.Places.{descriptor_count}

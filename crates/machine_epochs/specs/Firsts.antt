@@ -13,4 +13,6 @@ owner_of each runners n = cond (nat_lt n (each * runners)) (n / each) runners
 -- the fixed slots are fixed; each other one is free, and its owner's; descriptors come after the node slots
 abbrev pub first_place : Meaning → Layout → ℕ → Location
 first_place m l t = let slots = slot_count l m.fixed_slots in
-    cond (nat_lt t m.fixed_slots) Fixed (cond (nat_lt t slots) (Free (owner_of l.nodes l.runners (t - m.fixed_slots))) (Free (owner_of l.sections l.runners (t - slots))))
+    cond (nat_lt t m.fixed_slots) Fixed
+    (cond (nat_lt t slots) (Free (owner_of l.nodes l.runners (t - m.fixed_slots)))
+    (Free (owner_of l.sections l.runners (t - slots))))

@@ -41,4 +41,5 @@ then_found (Some w) found f = f w
 abbrev pub found_after : Meaning → Layout → List Request → World → Found → List Event → Found
 found_after m l requests w found [] = found
 found_after m l requests w found (e ∷ es) =
-    then_found (happens m l requests w e) found (λ v. found_after m l requests v (found_more found (sight m l requests w) e.runner e.kind) es)
+    then_found (happens m l requests w e) found
+    (λ v. found_after m l requests v (found_more found (sight m l requests w) e.runner e.kind) es)

@@ -1,9 +1,9 @@
 -- What the component of epochs and slots sees of slots, lists and sections.
 use Rattle.std.specs.Prelude.{ℕ, ◌≡◌, true, [], ◌∷◌, map, Option, Some, None}
-use Rattle.section_body.specs.declared.micro.Micro.{Micro}
-use Rattle.section_body.specs.declared.micro.Micro.TheVariants.{RetireCommit}
-use Rattle.section_body.specs.declared.thunk.Thunk.{Thunk}
-use Rattle.section_body.specs.Line.{micro_at}
+use Rattle.body_terms.specs.declared.micro.Micro.{Micro}
+use Rattle.body_terms.specs.declared.micro.Micro.TheVariants.{RetireCommit}
+use Rattle.body_terms.specs.declared.thunk.Thunk.{Thunk}
+use Rattle.body_terms.specs.Line.{micro_at}
 use Rattle.table_words.specs.declared.spot.Spot.{Spot}
 use Rattle.table_words.specs.declared.spot.Spot.TheVariants.{Epoch, Announcement, ThunkWord}
 use Rattle.structure_laws.specs.Meaning.{Meaning}

@@ -10,7 +10,7 @@ ghost use Rattle.machine_epochs.specs.Collects.{ScansCollect};
 ghost use Rattle.machine_epochs.specs.Descriptors.{DescriptorsSoundAfter};
 ghost use Rattle.machine_epochs.specs.Goes.{StepsAreEvents, StartsJoined};
 
-use runner_parts::Structure;
+use structure_laws::Structure;
 
 /// After every list of enabled events an announced epoch is at most the epoch, a runner that entered with g
 /// is at g or g + 1, and where a scanner found an announcement idle or of its epoch and that is still the

@@ -3,17 +3,17 @@ use Rattle.std.proofs.Common.{◌≡◌, ◌≢◌, ℕ, zero, suc, true, cond, 
 use Rattle.std.specs.Prelude.{count_by}
 use mathlib.Core.Path.{fun_ext}
 use Rattle.std.proofs.lemmas.List.Sums.{sum_by-cons}
-use Rattle.section_body.specs.Line.{line, micro_at, is_check, is_end}
-use Rattle.section_body.specs.Plain.{first_values}
-use Rattle.section_body.specs.Run.{Setting, Run, leaves}
-use Rattle.section_body.specs.Shape.{IsStep, IsShaped, is_answer}
-use Rattle.section_body.specs.declared.outcome.Outcome.{Outcome}
-use Rattle.section_body.specs.declared.outcome.Outcome.TheVariants.{Answered}
-use Rattle.section_body.specs.declared.step.Step.{Step}
-use Rattle.section_body.specs.declared.step.Step.TheVariants.{Load, Want, Fresh, Take, Make, Stamp, Store, Retire, Answer}
-use Rattle.section_body.specs.declared.micro.Micro.{Micro}
-use Rattle.section_body.specs.declared.micro.Micro.TheVariants as micros
-use Rattle.section_body.proofs.SoundLemmas.{counted}
+use Rattle.body_terms.specs.Line.{line, micro_at, is_check, is_end}
+use Rattle.body_terms.specs.Plain.{first_values}
+use Rattle.body_terms.specs.Run.{Setting, Run, leaves}
+use Rattle.body_terms.specs.Shape.{IsStep, IsShaped, is_answer}
+use Rattle.body_terms.specs.declared.outcome.Outcome.{Outcome}
+use Rattle.body_terms.specs.declared.outcome.Outcome.TheVariants.{Answered}
+use Rattle.body_terms.specs.declared.step.Step.{Step}
+use Rattle.body_terms.specs.declared.step.Step.TheVariants.{Load, Want, Fresh, Take, Make, Stamp, Store, Retire, Answer}
+use Rattle.body_terms.specs.declared.micro.Micro.{Micro}
+use Rattle.body_terms.specs.declared.micro.Micro.TheVariants as micros
+use Rattle.body_terms.proofs.SoundLemmas.{counted}
 use Rattle.section_lines.proofs.Sources.{of_answer}
 use Rattle.section_lines.specs.Runs.{agreed}
 use Rattle.table_words.specs.declared.layout.Layout.{Layout}

@@ -19,8 +19,8 @@ use Rattle.machine_states.specs.Sight as states
 use Rattle.machine_states.proofs.FirstSights as firsts
 use Rattle.machine_states.proofs.FirstSights.{first_parts}
 use Rattle.runner_parts.specs.State.{PartState}
-use Rattle.section_body.specs.Shape.{IsShaped}
-use Rattle.section_body.specs.declared.thunk.Thunk.{Thunk}
+use Rattle.body_terms.specs.Shape.{IsShaped}
+use Rattle.body_terms.specs.declared.thunk.Thunk.{Thunk}
 use Rattle.machine_states.proofs.Sights.{some_none, happens_steps}
 use Rattle.machine_states.proofs.Steps.{some_same}
 use Rattle.machine_epochs.specs.Entries.{counts_of}

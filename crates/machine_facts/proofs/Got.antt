@@ -4,10 +4,10 @@ use Rattle.std.proofs.Common.{◌≡◌, ℕ, suc, ◌<◌, true, List, length, 
 use Rattle.std.proofs.lemmas.Bool.{cases_lt}
 use Rattle.std.proofs.lemmas.Option.{slice_get_within, get_or_from_slice_get}
 use Rattle.map_history.specs.declared.op.Request.{Request}
-use Rattle.section_body.specs.Line.{line, micro_at}
-use Rattle.section_body.specs.Word.{value_of, held_word}
-use Rattle.section_body.specs.declared.thunk.Thunk.{Thunk}
-use Rattle.section_body.proofs.ValueLemmas.{get_or-first_values}
+use Rattle.body_terms.specs.Line.{line, micro_at}
+use Rattle.body_terms.specs.Word.{value_of, held_word}
+use Rattle.body_terms.specs.declared.thunk.Thunk.{Thunk}
+use Rattle.body_terms.proofs.ValueLemmas.{get_or-first_values}
 use Rattle.table_words.specs.declared.layout.Layout.{Layout}
 use Rattle.table_words.specs.declared.spot.Spot.TheVariants.{Cell, DoneWord}
 use Rattle.structure_laws.specs.Meaning.{Meaning}

@@ -13,3 +13,6 @@ pub mod Outcomes
 pub mod Records
 pub mod Takes
 pub mod Words
+pub mod Telling
+pub mod ToldSteps
+pub mod ToldReached

@@ -2,8 +2,9 @@
 use Rattle.std.proofs.Common.{◌≡◌, ◌≢◌, ℕ, suc, ◌<◌, ◌≤◌, Bool, true, false, List, [], ◌∷◌, refl, sym, ap, ◌∙◌, subst, inl, inr, ⊎_elim, arith}
 use Rattle.std.specs.Prelude.{◌⊎◌}
 use Rattle.std.proofs.lemmas.Bool.{cases_lt}
+use Rattle.small_lemmas.proofs.Bools.{true_not_false as both_ways}
 use Rattle.map_history.specs.declared.op.Request.{Request}
-use Rattle.section_body.specs.Update.{upd}
+use Rattle.body_terms.specs.Update.{upd}
 use Rattle.table_words.specs.declared.layout.Layout.{Layout}
 use Rattle.table_words.specs.declared.spot.Spot.TheVariants.{Stamp, Reply, DoneWord}
 use Rattle.structure_laws.specs.Meaning.{Meaning}
@@ -27,9 +28,6 @@ use Rattle.machine_facts.specs.Passed.{Leads, GoSoundly}
 use Rattle.machine_facts.specs.Once.{IsSection, EffectsAreOnce, LastState, EachSectionOnce}
 use Rattle.machine_facts.proofs.Agreement.{Closed, closed_all}
 use Rattle.machine_facts.proofs.Going.{Published, NonePublished, publication, freed}
-
-both_ways : (b : Bool) → b ≡ true → b ≡ false → ⊥
-both_ways b is isnt = grind arith
 
 not_limbo : (x : Location) (r y : ℕ) → x ≡ Live → x ≡ Limbo r y → ⊥
 not_limbo x r y live limbo = let no = sym live ∙ limbo in cc

@@ -1,9 +1,9 @@
 -- What the whole invariant says of descriptors that the locks of Takes name.
 use Rattle.std.proofs.Common.{◌≡◌, ℕ, suc, ◌+◌, ◌<◌, true, sym, ap, ◌∙◌, subst, ⊎_elim, arith}
 use Rattle.std.proofs.lemmas.Bool.{cases_lt}
-use Rattle.section_body.specs.Line.{line, micro_at}
-use Rattle.section_body.specs.Word.{value_of}
-use Rattle.section_body.specs.declared.micro.Micro.{Micro}
+use Rattle.body_terms.specs.Line.{line, micro_at}
+use Rattle.body_terms.specs.Word.{value_of}
+use Rattle.body_terms.specs.declared.micro.Micro.{Micro}
 use Rattle.section_lines.specs.Line.{IsCounted}
 use Rattle.table_words.specs.declared.layout.Layout.{Layout}
 use Rattle.structure_laws.specs.Meaning.{Meaning}

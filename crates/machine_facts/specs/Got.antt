@@ -1,9 +1,9 @@
 -- A lock that a section has got by a Take has the section's word until the section is done.
 use Rattle.std.specs.Prelude.{◌≡◌, ℕ, suc, List, length, slice_get, Some}
 use Rattle.map_history.specs.declared.op.Request.{Request}
-use Rattle.section_body.specs.Line.{micro_at}
-use Rattle.section_body.specs.Word.{held_word}
-use Rattle.section_body.specs.declared.micro.Micro.TheVariants.{NestedHold, OutcomeCommit}
+use Rattle.body_terms.specs.Line.{micro_at}
+use Rattle.body_terms.specs.Word.{held_word}
+use Rattle.body_terms.specs.declared.micro.Micro.TheVariants.{NestedHold, OutcomeCommit}
 use Rattle.table_words.specs.Limits.{IsWithinLimits}
 use Rattle.table_words.specs.declared.layout.Layout.{Layout}
 use Rattle.table_words.specs.declared.spot.Spot.TheVariants.{Cell, DoneWord}
@@ -15,8 +15,8 @@ use Rattle.machine_states.specs.Reached.{Reached}
 use Rattle.machine_states.specs.Sight.{Sight, sight}
 use Rattle.machine_invariant.specs.After.{AreAllowed}
 
--- the run is behind a Take of this lock, which was expected to be free with this word: the outcome on which its section has
--- agreed there is the word by which the lock names the section
+-- the run is behind a Take of this lock, which was expected to be free with this word: the outcome on which its section
+-- has agreed there is the word by which the lock names the section
 pub record HasGot (m : Meaning) (q : RunState) (place free : ℕ) : Type 0 where
   pub at : ℕ
   pub log : ℕ

@@ -1,8 +1,8 @@
 -- The outcomes of the runs that came to their end.
 use Rattle.std.specs.Prelude.{◌≡◌, ◌≢◌, ℕ, true, slice_get, Some}
-use Rattle.section_body.specs.Line.{line}
-use Rattle.section_body.specs.Run.{Run, ran}
-use Rattle.section_body.specs.declared.outcome.Outcome.TheVariants.{Answered}
+use Rattle.body_terms.specs.Line.{line}
+use Rattle.body_terms.specs.Run.{Run, ran}
+use Rattle.body_terms.specs.declared.outcome.Outcome.TheVariants.{Answered}
 use Rattle.table_words.specs.declared.layout.Layout.{Layout}
 use Rattle.structure_laws.specs.Meaning.{Meaning}
 use Rattle.runner_parts.specs.State.{FinishedState}

@@ -1,6 +1,6 @@
 -- What one event of the machine leaves of the table's words.
 use Rattle.std.specs.Prelude.{◌≡◌, ◌≢◌, ℕ, suc, ◌⊎◌, Bool, true, Some}
-use Rattle.section_body.specs.Word.{value_of}
+use Rattle.body_terms.specs.Word.{value_of}
 use Rattle.table_words.specs.declared.spot.Spot.{Spot}
 use Rattle.table_words.specs.declared.spot.Spot.TheVariants.{Cell, Stamp, Reply, ThunkWord, DoneWord, LogWord}
 use Rattle.structure_laws.specs.Meaning.{Meaning}

@@ -1,8 +1,8 @@
 -- The descriptors that locks of Takes name are held by the publishers of the sections that take
 -- them.
 use Rattle.std.specs.Prelude.{◌≡◌, ℕ, suc, ◌+◌, ◌<◌, Bool, true, length, Some}
-use Rattle.section_body.specs.Line.{micro_at}
-use Rattle.section_body.specs.Word.{value_of}
+use Rattle.body_terms.specs.Line.{micro_at}
+use Rattle.body_terms.specs.Word.{value_of}
 use Rattle.table_words.specs.declared.layout.Layout.{Layout}
 use Rattle.table_words.specs.Places.{descriptor_count}
 use Rattle.structure_laws.specs.Meaning.{Meaning}

@@ -7,7 +7,7 @@ ghost use Rattle.machine_states.specs.World.{World};
 ghost use Rattle.machine_facts.specs.After.{FactsAfter, StepFactsAfter};
 ghost use Rattle.machine_facts.specs.Got.{ReachedGotLocksAreHeld};
 
-use runner_parts::Structure;
+use structure_laws::Structure;
 
 /// Over every structure, after every list of events of the machine, each enabled where it is made:
 /// all facts hold of each state that the events pass, and of each step; and each section that was

@@ -2,12 +2,12 @@
 use Rattle.std.proofs.Common.{◌≡◌, ◌≢◌, ℕ, suc, ◌<◌, ◌≤◌, Bool, true, false, List, [], ◌∷◌, refl, sym, ap, ◌∙◌, subst, arith}
 use Rattle.std.specs.Prelude.{◌&&◌, not}
 use Rattle.map_history.specs.declared.op.Op.{Op}
-use Rattle.section_body.specs.Update.{upd}
-use Rattle.section_body.specs.Run.{written_once}
-use Rattle.section_body.specs.Line.{is_check}
-use Rattle.section_body.specs.declared.thunk.Thunk.{Thunk}
-use Rattle.section_body.specs.declared.micro.Micro.{Micro}
-use Rattle.section_body.specs.declared.micro.Micro.TheVariants as micros
+use Rattle.body_terms.specs.Update.{upd}
+use Rattle.body_terms.specs.Run.{written_once}
+use Rattle.body_terms.specs.Line.{is_check}
+use Rattle.body_terms.specs.declared.thunk.Thunk.{Thunk}
+use Rattle.body_terms.specs.declared.micro.Micro.{Micro}
+use Rattle.body_terms.specs.declared.micro.Micro.TheVariants as micros
 use Rattle.table_words.specs.declared.layout.Layout.{Layout}
 use Rattle.table_words.specs.Limits.{IsWithinLimits}
 use Rattle.structure_laws.specs.Meaning.{Meaning}
@@ -32,8 +32,8 @@ use Rattle.machine_scenes.specs.Steps as scenes
 use Rattle.machine_scenes.proofs.Kept.{step_kept}
 use Rattle.machine_scenes.proofs.First.{first_kept}
 use Rattle.machine_scenes.proofs.Events.{stops_of}
-use Rattle.machine_memory.specs.Memory.{pairs_after, MemoryStands}
-use Rattle.machine_memory.proofs.Steps.{step_memory, first_stands, closed_stands}
+use Rattle.machine_history.specs.Memory.{pairs_after, MemoryStands}
+use Rattle.machine_history.proofs.Steps.{step_memory, first_stands, closed_stands}
 use Rattle.machine_history.specs.Tied.{rank, AreTied}
 use Rattle.machine_history.specs.Steps.{HistoryStates, Step, Joint, Over, Learn, events_of, is_publication, MayFree, MayPublish, Enabled, after}
 use Rattle.machine_history.specs.Steps as steps

@@ -5,3 +5,11 @@ pub mod Ranked
 pub mod Ranks
 pub mod Supplying
 pub mod Tying
+pub mod Changing
+pub mod Events
+pub mod Leaving
+pub mod Marks
+pub mod Runs
+pub mod Stamps
+pub mod Standing
+pub mod Steps

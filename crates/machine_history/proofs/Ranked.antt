@@ -8,11 +8,11 @@ use mathlib.Core.Logic.{dite}
 use native.Mathlib.Decide.{ℕ_discrete}
 use Rattle.map_history.specs.Replay.{reply_of, map_after}
 use Rattle.map_history.specs.Words.{word_of}
-use Rattle.section_body.specs.Update.{upd}
-use Rattle.section_body.specs.Run.{written_once}
-use Rattle.section_body.specs.Line.{is_event}
-use Rattle.section_body.specs.declared.micro.Micro.{Micro}
-use Rattle.section_body.specs.declared.micro.Micro.TheVariants as micros
+use Rattle.body_terms.specs.Update.{upd}
+use Rattle.body_terms.specs.Run.{written_once}
+use Rattle.body_terms.specs.Line.{is_event}
+use Rattle.body_terms.specs.declared.micro.Micro.{Micro}
+use Rattle.body_terms.specs.declared.micro.Micro.TheVariants as micros
 use Rattle.section_lines.specs.Line.{is_clock_raise, IsLine}
 use Rattle.table_words.specs.declared.layout.Layout.{Layout}
 use Rattle.table_words.specs.Limits.{IsWithinLimits}
@@ -33,8 +33,8 @@ use Rattle.machine_scenes.specs.Shown.{States, rules_of}
 use Rattle.machine_scenes.specs.Kept.{IsKept}
 use Rattle.machine_scenes.proofs.Running.{event_open}
 use Rattle.machine_scenes.proofs.Shown.{upd_found}
-use Rattle.machine_memory.specs.Memory.{MemoryStands}
-use Rattle.machine_memory.proofs.Steps.{stamps_answer}
+use Rattle.machine_history.specs.Memory.{MemoryStands}
+use Rattle.machine_history.proofs.Steps.{stamps_answer}
 use Rattle.machine_scenes.proofs.Links.{true_false}
 use Rattle.machine_history.specs.Tied.{rank, is_loading, SectionIsTied, RunIsTied, AreTied}
 use Rattle.machine_history.proofs.Ranks.{rank_rises}

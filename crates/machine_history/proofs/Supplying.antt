@@ -4,9 +4,9 @@ use Rattle.std.specs.Prelude.{◌⊎◌, ◌==◌, not}
 use Rattle.std.proofs.lemmas.Bool.{cases_lt, cases_eq}
 use Rattle.std.proofs.lemmas.Bool.Decides.{nat_tests}
 use Rattle.map_history.specs.Keys.{HaveNoCommonKey}
-use Rattle.section_body.specs.Line.{begins, is_check}
-use Rattle.section_body.specs.declared.micro.Micro.{Micro}
-use Rattle.section_body.specs.declared.micro.Micro.TheVariants as micros
+use Rattle.body_terms.specs.Line.{begins, is_check}
+use Rattle.body_terms.specs.declared.micro.Micro.{Micro}
+use Rattle.body_terms.specs.declared.micro.Micro.TheVariants as micros
 use Rattle.section_lines.specs.Line.{phase, IsLine}
 use Rattle.section_lines.proofs.Sources.{of_stamp}
 use Rattle.table_words.specs.declared.layout.Layout.{Layout}
@@ -22,8 +22,8 @@ use Rattle.history_core.specs.Events.{IsAlone}
 use Rattle.history_core.specs.Sound.{IsSound}
 use Rattle.machine_scenes.specs.Shown.{States, rules_of}
 use Rattle.machine_scenes.specs.Kept.{IsKept}
-use Rattle.machine_memory.specs.Memory.{is_of_stamp}
-use Rattle.machine_memory.proofs.Steps.{stamps_apart}
+use Rattle.machine_history.specs.Memory.{is_of_stamp}
+use Rattle.machine_history.proofs.Steps.{stamps_apart}
 use Rattle.machine_history.specs.Tied.{rank, SectionIsTied, AreTied}
 use Rattle.machine_history.proofs.Tying.{line_at}
 

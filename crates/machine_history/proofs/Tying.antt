@@ -4,8 +4,8 @@ use Rattle.std.specs.Prelude.{◌&&◌, not, max}
 use mathlib.Core.Path.{fun_ext}
 use mathlib.Core.Logic.{dite}
 use native.Mathlib.Decide.{ℕ_discrete}
-use Rattle.section_body.specs.Update.{upd}
-use Rattle.section_body.specs.declared.micro.Micro.{Micro}
+use Rattle.body_terms.specs.Update.{upd}
+use Rattle.body_terms.specs.declared.micro.Micro.{Micro}
 use Rattle.section_lines.specs.Line.{IsLine, IsWholeLine}
 use Rattle.table_words.specs.declared.layout.Layout.{Layout}
 use Rattle.structure_laws.specs.Meaning.{Meaning}

@@ -13,7 +13,7 @@ use Rattle.history_core.specs.Schedules as schedules
 use Rattle.machine_scenes.specs.Shown.{Publications}
 use Rattle.machine_scenes.specs.Kept.{IsKept}
 use Rattle.machine_scenes.specs.Schedules.{first_states, IsFirst}
-use Rattle.machine_memory.specs.Memory.{MemoryStands}
+use Rattle.machine_history.specs.Memory.{MemoryStands}
 use Rattle.machine_history.specs.Tied.{AreTied}
 use Rattle.machine_history.specs.Steps.{HistoryStates, Step, Enabled, after}
 

@@ -1,9 +1,9 @@
 -- The joint steps with the history: each one's events, when it may come, and the state after it.
 use Rattle.std.specs.Prelude.{ℕ, suc, ◌<◌, ◌≡◌, ◌≢◌, Bool, true, false, List, [], ◌∷◌}
 use Rattle.map_history.specs.declared.op.Op.{Op}
-use Rattle.section_body.specs.declared.micro.Micro.{Micro}
-use Rattle.section_body.specs.declared.micro.Micro.TheVariants as micros
-use Rattle.section_body.specs.declared.thunk.Thunk.{Thunk}
+use Rattle.body_terms.specs.declared.micro.Micro.{Micro}
+use Rattle.body_terms.specs.declared.micro.Micro.TheVariants as micros
+use Rattle.body_terms.specs.declared.thunk.Thunk.{Thunk}
 use Rattle.table_words.specs.declared.layout.Layout.{Layout}
 use Rattle.structure_laws.specs.Meaning.{Meaning}
 use Rattle.agreement_core.specs.Events as agreement
@@ -47,7 +47,10 @@ module _ (m : Meaning) (layout : Layout) (c : Counts) (requests : Requests) wher
   -- the states after a step
   abbrev pub after : HistoryStates → Step → HistoryStates
   after h (Joint step) =
-      record { joint = scenes.after m layout c h.joint step; history = schedules.after_all requests h.history (events_of h.joint step) }
+      record {
+        joint = scenes.after m layout c h.joint step;
+        history = schedules.after_all requests h.history (events_of h.joint step);
+      }
   after h (Publish r d lock word request code slot op thunk answer) = record {
     joint = scenes.after m layout c h.joint (scenes.Publish r d lock word request code slot op thunk);
     history = history.after requests h.history (history.Publish r d request answer);
@@ -58,7 +61,8 @@ module _ (m : Meaning) (layout : Layout) (c : Counts) (requests : Requests) wher
   -- what a step that frees a descriptor asks for: it is used, and its worker has run its section to
   -- its end
   abbrev pub MayFree : HistoryStates → scenes.Step → Type 0
-  MayFree h (scenes.Agreement (agreement.Free d)) = (h.history.used d ≡ true) × (h.history.published (requests.worker (h.history.request d)) ≢ suc d)
+  MayFree h (scenes.Agreement (agreement.Free d)) = (h.history.used d ≡ true)
+      × (h.history.published (requests.worker (h.history.request d)) ≢ suc d)
   MayFree h _ = Unit {0}
 
   -- a worker publishes its next request, with its operation, and the section answers this

@@ -3,7 +3,7 @@ ghost use Rattle.table_words.specs.declared.layout.Layout.{Layout};
 ghost use Rattle.table_words.specs.Limits.{IsWithinLimits};
 ghost use Rattle.machine_history.specs.Laws.{FirstIsJoined, StepsKeepJoined, SchedulesKeepJoined, JoinedStands};
 
-use runner_parts::Structure;
+use structure_laws::Structure;
 
 /// Over every structure: the first states are joined, each enabled step keeps that, and so they are after
 /// every list of enabled steps. The history's state is sound and has the words of the joint states, and the

@@ -6,5 +6,7 @@
 #![tactic(auto)]
 
 mod laws;
+mod memory;
 
 pub use laws::{joined_histories_stand, steps_keep_the_history};
+pub use memory::{stamps_answer_the_map, steps_keep_the_memory};

@@ -1,10 +1,10 @@
 -- What is known of a step by its runner's part: what it asks for, which events of the components it is, and what its run knows.
 use Rattle.std.proofs.Common.{◌≡◌, ℕ, true, List, refl, sym, ap, ◌∙◌, subst, Option, Some}
 use Rattle.map_history.specs.declared.op.Request.{Request}
-use Rattle.section_body.specs.declared.micro.Source.{Source}
-use Rattle.section_body.specs.declared.micro.Source.TheVariants.{Fixed, Agreed}
-use Rattle.section_body.specs.Run.{source_value}
-use Rattle.section_body.specs.Word.{value_of}
+use Rattle.body_terms.specs.declared.micro.Source.{Source}
+use Rattle.body_terms.specs.declared.micro.Source.TheVariants.{Fixed, Agreed}
+use Rattle.body_terms.specs.Run.{source_value}
+use Rattle.body_terms.specs.Word.{value_of}
 use Rattle.table_words.specs.declared.layout.Layout.{Layout}
 use Rattle.table_words.specs.declared.spot.Spot.{Spot}
 use Rattle.table_words.specs.declared.access.Access.{Access}

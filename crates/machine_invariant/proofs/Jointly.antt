@@ -2,8 +2,8 @@
 use Rattle.std.specs.Prelude.{◌⊎◌, Bool, true, false, slice_get}
 use Rattle.std.proofs.Common.{◌≡◌, ◌≢◌, ℕ, List, [], ◌∷◌, ◌++◌, refl, sym, ap, ◌∙◌, subst, Some}
 use Rattle.map_history.specs.declared.op.Request.{Request}
-use Rattle.section_body.specs.Line.{line, micro_at, committed}
-use Rattle.section_body.specs.declared.thunk.Thunk.{Thunk}
+use Rattle.body_terms.specs.Line.{line, micro_at, committed}
+use Rattle.body_terms.specs.declared.thunk.Thunk.{Thunk}
 use Rattle.table_words.specs.declared.layout.Layout.{Layout}
 use Rattle.structure_laws.specs.Meaning.{Meaning}
 use Rattle.runner_parts.specs.declared.event.EventKind.{EventKind}

@@ -8,14 +8,14 @@ use Rattle.table_words.specs.declared.layout.Layout.{Layout}
 use Rattle.structure_laws.specs.Meaning.{Meaning}
 use Rattle.runner_parts.specs.declared.entries.Retired.{Retired}
 use Rattle.runner_parts.specs.State.{NodesState}
-use Rattle.runner_parts.specs.Lists.{slots_of}
+use Rattle.runner_parts.specs.Lists.{slots_of, entry_count}
 use Rattle.epoch_core.specs.declared.location.Location.{Location}
 use Rattle.epoch_core.specs.Lists.{times}
 use Rattle.epoch_core.proofs.Times.{times-append}
 use Rattle.machine_states.specs.Sight.{Sight}
 use Rattle.machine_epochs.specs.Descriptors.{times_limbo}
 use Rattle.machine_invariant.specs.Slots.{node_count, times_among, NodesStand}
-use Rattle.machine_invariant.specs.Lengths.{entry_count, ListsAreShort}
+use Rattle.machine_invariant.specs.Lengths.{ListsAreShort}
 use Rattle.machine_invariant.specs.Whole.{Beside, IsWhole}
 use Rattle.machine_invariant.proofs.Slots.{nodes_stand}
 

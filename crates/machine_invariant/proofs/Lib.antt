@@ -41,3 +41,4 @@ pub mod Following
 pub mod AllKinds
 pub mod After
 pub mod Rising
+pub mod Keeping

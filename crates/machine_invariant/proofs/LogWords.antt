@@ -1,10 +1,10 @@
 -- A run's descriptor isn't free again, so its section's log words and its done word are what the components allow, and its trail goes as far as
 -- agreement says.
 use Rattle.std.proofs.Common.{◌≡◌, ℕ, ◌≤◌, true, length, Some, sym, ap, ◌∙◌, subst}
-use Rattle.section_body.specs.Line.{line, micro_at, committed}
-use Rattle.section_body.specs.declared.micro.Micro.{Micro}
-use Rattle.section_body.specs.declared.thunk.Thunk.{Thunk}
-use Rattle.section_body.specs.declared.micro.Micro.TheVariants.{Commit, NestedCommit, OutcomeCommit, MakeCommit, RetireCommit}
+use Rattle.body_terms.specs.Line.{line, micro_at, committed}
+use Rattle.body_terms.specs.declared.micro.Micro.{Micro}
+use Rattle.body_terms.specs.declared.thunk.Thunk.{Thunk}
+use Rattle.body_terms.specs.declared.micro.Micro.TheVariants.{Commit, NestedCommit, OutcomeCommit, MakeCommit, RetireCommit}
 use Rattle.section_lines.specs.Line.{IsCounted}
 use Rattle.table_words.specs.declared.layout.Layout.{Layout}
 use Rattle.table_words.specs.declared.spot.Spot.TheVariants.{LogWord}

@@ -42,7 +42,7 @@ use Rattle.machine_invariant.proofs.Chunked.{is_unlocked, all_unlocked}
 use Rattle.machine_invariant.proofs.Parts.{outside_made}
 use Rattle.machine_invariant.proofs.Sights.{after_is}
 use Rattle.machine_invariant.proofs.Pieces.{Pieces}
-use Rattle.section_body.specs.declared.thunk.Thunk.{Thunk}
+use Rattle.body_terms.specs.declared.thunk.Thunk.{Thunk}
 
 -- a descriptor's place, where one has changed
 module _ (c : Counts) (f : ℕ → Location) (d n : ℕ) (v : Location) where

@@ -1,8 +1,8 @@
 -- What a step leaves of a runner's part.
 use Rattle.std.specs.Prelude.{◌==◌, ◌&&◌, not, Bool, true, false, nat_lt, nat_le, if◌then◌else◌}
 use Rattle.std.proofs.Common.{◌≡◌, ℕ, refl, sym, ap, ◌∙◌, Option, Some, None}
-use Rattle.section_body.specs.declared.micro.Micro.{Micro}
-use Rattle.section_body.specs.Line.{is_end}
+use Rattle.body_terms.specs.declared.micro.Micro.{Micro}
+use Rattle.body_terms.specs.Line.{is_end}
 use Rattle.table_words.specs.declared.layout.Layout.{Layout}
 use Rattle.table_words.specs.declared.spot.Spot.{Spot}
 use Rattle.table_words.specs.declared.access.Access.{Access}
@@ -25,7 +25,7 @@ use Rattle.runner_steps.specs.After.{outside_after, line_after, inside_after, af
 use Rattle.machine_states.proofs.Steps.{some_same}
 use Rattle.machine_invariant.specs.Whole.{HasPublished, made_in}
 use Rattle.table_words.specs.Places.{slot_count}
-use Rattle.section_body.specs.declared.thunk.Thunk.{Thunk}
+use Rattle.body_terms.specs.declared.thunk.Thunk.{Thunk}
 
 -- no entry, no load of a cell, no publication and no retirement
 abbrev pub is_other : EventKind → Bool

@@ -32,7 +32,7 @@ use Rattle.machine_invariant.specs.Whole.{Beside, states_of, made_in, made_of, I
 use Rattle.machine_invariant.proofs.Runs.{AllAre, is_calm, InHands, Stands, agreement_stands, epochs_stand, filled_other}
 use Rattle.machine_invariant.proofs.Jointly.{no_steps, IsWholeAfter}
 use Rattle.machine_invariant.proofs.Ties.{IsOnward, alone_onward, named_onward, tied_onward}
-use Rattle.section_body.specs.declared.thunk.Thunk.{Thunk}
+use Rattle.body_terms.specs.declared.thunk.Thunk.{Thunk}
 
 -- an event of agreement that publishes, retires and frees nothing, and has nothing to do with a Make's slot or a Retire
 abbrev pub is_still : agreement.Event → Bool

@@ -3,11 +3,11 @@ use Rattle.std.proofs.Common.{◌≡◌, ◌≢◌, ℕ, suc, ◌-◌, ◌<◌, 
 use Rattle.std.proofs.Common.{⊎_elim, arith}
 use Rattle.std.specs.Prelude.{◌⊎◌}
 use mathlib.Core.Path.{fun_ext}
-use Rattle.section_body.specs.Line.{line, micro_at, is_check, is_end, is_commit}
-use Rattle.section_body.specs.Shape.{IsShaped}
-use Rattle.section_body.specs.declared.thunk.Thunk.{Thunk}
-use Rattle.section_body.specs.declared.micro.Micro.{Micro}
-use Rattle.section_body.specs.declared.micro.Micro.TheVariants.{MakeCommit, RetireCommit}
+use Rattle.body_terms.specs.Line.{line, micro_at, is_check, is_end, is_commit}
+use Rattle.body_terms.specs.Shape.{IsShaped}
+use Rattle.body_terms.specs.declared.thunk.Thunk.{Thunk}
+use Rattle.body_terms.specs.declared.micro.Micro.{Micro}
+use Rattle.body_terms.specs.declared.micro.Micro.TheVariants.{MakeCommit, RetireCommit}
 use Rattle.section_lines.specs.Line.{phase, IsCounted}
 use Rattle.table_words.specs.declared.layout.Layout.{Layout}
 use Rattle.table_words.specs.declared.spot.Spot.TheVariants.{Stamp, Reply, DoneWord}

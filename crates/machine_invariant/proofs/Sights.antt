@@ -20,7 +20,7 @@ use Rattle.machine_invariant.specs.Whole.{HasPublished, made_in, made_of}
 use Rattle.machine_invariant.proofs.Parts.{IsSamePart, is_making, inside_same, inside_made, is_other, outside_same, outside_made, noted_same}
 use Rattle.machine_invariant.proofs.Quiet.{StayRead, IsQuiet}
 use Rattle.machine_invariant.proofs.Thunks.{LeavesThunks}
-use Rattle.section_body.specs.declared.thunk.Thunk.{Thunk}
+use Rattle.body_terms.specs.declared.thunk.Thunk.{Thunk}
 
 module _ (m : Meaning) (l : Layout) (s : Sight) (r : ℕ) where
   abbrev p : PartState

@@ -5,7 +5,8 @@ use Rattle.std.proofs.lemmas.Bool.{cases_lt}
 use Rattle.std.proofs.lemmas.Bool.Decides.{nat_tests}
 use mathlib.Core.Logic.{dite}
 use native.Mathlib.Decide.{ℕ_discrete}
-use Rattle.section_body.specs.declared.micro.Micro.TheVariants.{RetireCommit}
+use Rattle.small_lemmas.proofs.Numbers.{one_at_most as one_or_none}
+use Rattle.body_terms.specs.declared.micro.Micro.TheVariants.{RetireCommit}
 use Rattle.table_words.specs.declared.layout.Layout.{Layout}
 use Rattle.structure_laws.specs.Meaning.{Meaning}
 use Rattle.epoch_core.specs.declared.stage.Stage as machine
@@ -67,10 +68,6 @@ sum_is (Hand r') r t a b n xs hand free worn limbo = let none = limbo_none t xs 
 sum_is (Free r') r t a b n xs hand free worn limbo = let none = limbo_none t xs limbo in omega arith
 sum_is (Worn r') r t a b n xs hand free worn limbo = let none = limbo_none t xs limbo in omega arith
 sum_is (Limbo r' y) r t a b n xs hand free worn limbo = let one = limbo_by (r' == r) t y xs limbo in omega arith
-
-one_or_none : (b : Bool) → cond b 1 0 ≤ 1
-one_or_none true = omega arith
-one_or_none false = omega arith
 
 in_lists_once : (x : Location) (r : ℕ) → in_lists r x ≤ 1
 in_lists_once Fixed r = omega arith

@@ -3,7 +3,7 @@ use Rattle.std.specs.Prelude.{◌-◌, ◌==◌, Bool, true, false, nat_lt, if�
 use Rattle.std.proofs.Common.{◌≡◌, ◌≢◌, ℕ, List, refl, ap, subst, arith, Some, None}
 use Rattle.std.proofs.lemmas.Bool.Decides.{nat_tests}
 use Rattle.map_history.specs.declared.op.Request.{Request}
-use Rattle.section_body.specs.declared.micro.Micro.{Micro}
+use Rattle.body_terms.specs.declared.micro.Micro.{Micro}
 use Rattle.table_words.specs.declared.layout.Layout.{Layout}
 use Rattle.table_words.specs.declared.spot.Spot.{Spot}
 use Rattle.table_words.specs.declared.spot.Spot.TheVariants as spots

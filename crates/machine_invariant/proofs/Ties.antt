@@ -21,7 +21,7 @@ use Rattle.machine_invariant.specs.Named.{AreNamed}
 use Rattle.machine_invariant.specs.Whole.{IsHeldFor, HasPublished, AreTied}
 use Rattle.machine_invariant.proofs.Named.{named_more}
 use Rattle.machine_invariant.proofs.Runs.{AllAre}
-use Rattle.section_body.specs.declared.thunk.Thunk.{Thunk}
+use Rattle.body_terms.specs.declared.thunk.Thunk.{Thunk}
 
 module _ (m : Meaning) (l : Layout) where
   abbrev c : Counts

@@ -3,9 +3,9 @@ use Rattle.std.proofs.Common.{◌≡◌, ℕ, suc, ◌<◌, ◌≤◌, true, Lis
 use Rattle.std.specs.Prelude.{◌⊎◌, slice_index, slice_get}
 use Rattle.std.proofs.lemmas.Option.{slice_get_within}
 use Rattle.std.proofs.lemmas.Grind.{same_number_lists}
-use Rattle.section_body.specs.Plain.{first_values}
-use Rattle.section_body.specs.Word.{value_of, version_of, held_word}
-use Rattle.section_body.proofs.ValueLemmas.{length-first_values, get_or-first_values}
+use Rattle.body_terms.specs.Plain.{first_values}
+use Rattle.body_terms.specs.Word.{value_of, version_of, held_word}
+use Rattle.body_terms.proofs.ValueLemmas.{length-first_values, get_or-first_values}
 use Rattle.table_words.specs.declared.layout.Layout.{Layout}
 use Rattle.table_words.specs.declared.spot.Spot.TheVariants.{Cell}
 use Rattle.structure_laws.specs.Meaning.{Meaning}

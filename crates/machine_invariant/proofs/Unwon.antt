@@ -1,10 +1,10 @@
 -- A section that left at a check has committed no Make and no Retire.
 use Rattle.std.proofs.Common.{◌≡◌, ℕ, zero, suc, ◌<◌, ◌≤◌, Bool, true, false, cond, List, [], ◌∷◌, length, refl, ap, ◌∙◌, ⊎_elim, arith}
 use Rattle.std.proofs.lemmas.Bool.{cases_lt}
-use Rattle.section_body.specs.Line.{line, micro_at, is_commit}
-use Rattle.section_body.specs.declared.step.Step.{Step}
-use Rattle.section_body.specs.declared.micro.Micro.{Micro}
-use Rattle.section_body.specs.declared.micro.Micro.TheVariants.{Commit, NestedCommit, OutcomeCommit, MakeCommit, RetireCommit}
+use Rattle.body_terms.specs.Line.{line, micro_at, is_commit}
+use Rattle.body_terms.specs.declared.step.Step.{Step}
+use Rattle.body_terms.specs.declared.micro.Micro.{Micro}
+use Rattle.body_terms.specs.declared.micro.Micro.TheVariants.{Commit, NestedCommit, OutcomeCommit, MakeCommit, RetireCommit}
 use Rattle.section_lines.specs.Line.{phase, IsCounted}
 use Rattle.epoch_core.specs.State.{Agrees}
 use Rattle.epoch_core.specs.History.{is_makes, is_retires, agreed_slot, agreed_count}

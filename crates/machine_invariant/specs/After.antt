@@ -25,7 +25,8 @@ pub record AreAllowed (requests : List Request) : Type 0 where
 pub record IsSoundAfter (m : Meaning) (l : Layout) (requests : List Request) (events : List Event) (w : World)
     (after : IsAfter m l requests events w) : Type 0 where
   pub components : Components
-  pub along : GoAlong m l requests after.start (first_components m l (sight m l requests after.start)) events w components
+  pub along : GoAlong m l requests after.start (first_components m l (sight m l requests after.start)) events w
+      components
   pub sound : StateIsSound m l (sight m l requests w) components
 
 -- so it is where the layout and the requests are within their limits

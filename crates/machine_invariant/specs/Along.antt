@@ -62,7 +62,8 @@ module _ (m : Meaning) (l : Layout) where
   -- these events of the components, each enabled where it comes, are this runner's step of this kind on a
   -- word: in agreement those of its kind and then a Pass for each check behind them that passes; in epochs
   -- and slots those of its kind, and before them runners may come to hold slots
-  pub record AreEventsOf (requests : List Request) (k : Components) (s : Sight) (r : ℕ) (kind : EventKind) (es : List agreement_events.Event)
+  pub record AreEventsOf (requests : List Request) (k : Components) (s : Sight) (r : ℕ) (kind : EventKind)
+      (es : List agreement_events.Event)
       (vs : List epoch_events.Event) : Type 0 where
     pub ask : Spot × Access
     pub asked : asks m l requests r kind (s.part r) ≡ Some ask

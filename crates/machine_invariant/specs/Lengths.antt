@@ -4,7 +4,7 @@ use Rattle.map_history.specs.declared.op.Request.{Request}
 use Rattle.table_words.specs.Limits.{IsWithinLimits}
 use Rattle.table_words.specs.declared.layout.Layout.{Layout}
 use Rattle.structure_laws.specs.Meaning.{Meaning}
-use Rattle.runner_parts.specs.State.{NodesState}
+use Rattle.runner_parts.specs.Lists.{entry_count}
 use Rattle.epoch_core.specs.declared.location.Location.{Location}
 use Rattle.runner_parts.specs.declared.event.Event.{Event}
 use Rattle.machine_states.specs.World.{World}
@@ -13,10 +13,6 @@ use Rattle.machine_states.specs.Sight.{Sight, sight}
 use Rattle.machine_invariant.specs.After.{AreAllowed}
 use Rattle.machine_invariant.specs.Slots.{node_count, NodesStand}
 use Rattle.machine_invariant.specs.Whole.{Beside, IsWhole}
-
--- how many entries a runner's lists of node slots have
-abbrev pub entry_count : NodesState → ℕ
-entry_count n = length n.hand + (length n.free + (length n.worn + length n.limbo))
 
 -- a runner's lists of node slots are no longer than there are node slots, not even all four together
 pub record ListsAreShort (m : Meaning) (l : Layout) (s : Sight) : Type 0 where

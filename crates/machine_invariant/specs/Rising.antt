@@ -1,7 +1,7 @@
 -- What a step of the machine does to the versions of cells.
 use Rattle.std.specs.Prelude.{ℕ, suc, ◌≡◌, ◌⊎◌, List, Some}
 use Rattle.map_history.specs.declared.op.Request.{Request}
-use Rattle.section_body.specs.Word.{version_of}
+use Rattle.body_terms.specs.Word.{version_of}
 use Rattle.table_words.specs.Limits.{IsWithinLimits}
 use Rattle.table_words.specs.declared.layout.Layout.{Layout}
 use Rattle.table_words.specs.declared.spot.Spot.{Spot}

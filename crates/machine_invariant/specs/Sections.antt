@@ -1,9 +1,9 @@
 -- What holds of the sections in a state of the machine, by the state of agreement that belongs to it.
 use Rattle.std.specs.Prelude.{◌≡◌, ◌≢◌, ℕ, ◌-◌, ◌<◌, ◌⊎◌, true, [], ◌∷◌}
-use Rattle.section_body.specs.Line.{is_check, is_end}
-use Rattle.section_body.specs.Run.{Run}
-use Rattle.section_body.specs.declared.micro.Source.{Source}
-use Rattle.section_body.specs.declared.micro.Micro.TheVariants.{ExchangeCell, MakeCommit, RetireCommit}
+use Rattle.body_terms.specs.Line.{is_check, is_end}
+use Rattle.body_terms.specs.Run.{Run}
+use Rattle.body_terms.specs.declared.micro.Source.{Source}
+use Rattle.body_terms.specs.declared.micro.Micro.TheVariants.{ExchangeCell, MakeCommit, RetireCommit}
 use Rattle.table_words.specs.declared.layout.Layout.{Layout}
 use Rattle.table_words.specs.declared.spot.Spot.TheVariants.{Stamp, Reply, DoneWord}
 use Rattle.structure_laws.specs.Meaning.{Meaning}
@@ -74,7 +74,8 @@ module _ (m : Meaning) (l : Layout) (a : AgreementState) (s : Sight) where
     pub start : (d : ℕ) → a.used d ≡ true → IsOver (a.section d) (start_over (a.section d))
     pub follow : (d fixed_cells : ℕ) (first : ℕ → ℕ → ℕ) (clock : ℕ) (start : Run) → a.used d ≡ true
         → IsOver (a.section d) start
-        → FollowsPlainRun (a.section d) (m.body (thunk_at m a s d)) (chosen (rules_of m l) d (a.section d) fixed_cells first clock) start
+        → FollowsPlainRun (a.section d) (m.body (thunk_at m a s d))
+        (chosen (rules_of m l) d (a.section d) fixed_cells first clock) start
     pub not_future : IsNotFuture a
     pub cells : (d : ℕ) → a.used d ≡ true → CellsStand a d
     pub locks : LocksStand (rules_of m l) a

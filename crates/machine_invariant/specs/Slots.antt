@@ -1,7 +1,7 @@
 -- Where the slots are and who holds them, in the machine's own words.
 use Rattle.std.specs.Prelude.{◌≡◌, ℕ, ◌+◌, ◌<◌, ◌≤◌, Bool, true, false, cond, [], length, map, Some}
-use Rattle.section_body.specs.declared.micro.Micro.TheVariants.{RetireCommit}
-use Rattle.section_body.specs.Line.{micro_at}
+use Rattle.body_terms.specs.declared.micro.Micro.TheVariants.{RetireCommit}
+use Rattle.body_terms.specs.Line.{micro_at}
 use Rattle.table_words.specs.declared.layout.Layout.{Layout}
 use Rattle.table_words.specs.declared.spot.Spot.TheVariants.{Epoch, LogWord}
 use Rattle.table_words.specs.Places.{slot_count, descriptor_count}

@@ -1,12 +1,12 @@
 -- Agreement in the machine's own words: the log words, the runs' trails, and what is kept of runs that came
 -- to their end.
 use Rattle.std.specs.Prelude.{◌≡◌, ◌≢◌, ℕ, suc, ◌<◌, ◌≤◌, ◌⊎◌, true, length, slice_get, Some}
-use Rattle.section_body.specs.Line.{line, committed, micro_at}
-use Rattle.section_body.specs.Plain.{first_values}
-use Rattle.section_body.specs.Word.{value_of, version_of, held_word}
-use Rattle.section_body.specs.declared.thunk.Thunk.{Thunk}
-use Rattle.section_body.specs.declared.micro.Micro.{Micro}
-use Rattle.section_body.specs.declared.micro.Micro.TheVariants.{NestedHold}
+use Rattle.body_terms.specs.Line.{line, committed, micro_at}
+use Rattle.body_terms.specs.Plain.{first_values}
+use Rattle.body_terms.specs.Word.{value_of, version_of, held_word}
+use Rattle.body_terms.specs.declared.thunk.Thunk.{Thunk}
+use Rattle.body_terms.specs.declared.micro.Micro.{Micro}
+use Rattle.body_terms.specs.declared.micro.Micro.TheVariants.{NestedHold}
 use Rattle.table_words.specs.declared.spot.Spot.TheVariants.{Cell, DoneWord, LogWord}
 use Rattle.structure_laws.specs.Meaning.{Meaning}
 use Rattle.runner_parts.specs.declared.entries.Published.{Published}

@@ -1,7 +1,7 @@
 -- The machine's state beside states of agreement and of epochs and slots, all joined.
 use Rattle.std.specs.Prelude.{ℕ, ◌<◌, ◌≡◌, true, Option, Some, None, slice_get}
 use Rattle.map_history.specs.declared.op.Request.{Request}
-use Rattle.section_body.specs.declared.thunk.Thunk.{Thunk}
+use Rattle.body_terms.specs.declared.thunk.Thunk.{Thunk}
 use Rattle.table_words.specs.declared.layout.Layout.{Layout}
 use Rattle.structure_laws.specs.Meaning.{Meaning}
 use Rattle.runner_parts.specs.declared.entries.Published.{Published}
@@ -31,7 +31,12 @@ pub record Beside : Type 0 where
 -- these, with what the runners have read outside their runs
 abbrev pub states_of : Beside → Sight → States
 states_of g s =
-    record { agreement = g.agreement; epochs = g.epochs; publications = g.publications; walk = λ r. (s.part r).reads.walk }
+    record {
+      agreement = g.agreement;
+      epochs = g.epochs;
+      publications = g.publications;
+      walk = λ r. (s.part r).reads.walk;
+    }
 
 -- the slot that a run's Make fills
 abbrev pub made_in : Option RunState → Option ℕ

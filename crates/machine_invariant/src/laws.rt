@@ -12,7 +12,7 @@ ghost use Rattle.machine_invariant.specs.States.{WholeStatesAreSound};
 ghost use Rattle.machine_invariant.specs.Lengths.{ShortAfter, StandingListsAreShort, WholeListsAreShort};
 ghost use Rattle.machine_invariant.specs.LogWords.{LogWordsSayAfter, WholeLogWordsSay};
 
-use runner_parts::Structure;
+use structure_laws::Structure;
 
 /// Where the components go along with the machine's events, their histories say what happened: what the
 /// exchanges of cells, stamps and replies changed, and which commits of Makes and Retires won. At first

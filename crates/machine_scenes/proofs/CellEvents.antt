@@ -1,11 +1,11 @@
 -- What each event of agreement leaves of the links.
 use Rattle.std.proofs.Common.{◌≡◌, ℕ, true, refl, sym, ap, subst}
 use Rattle.std.specs.Prelude.{Option}
-use Rattle.section_body.specs.Update.{upd}
-use Rattle.section_body.specs.Word.{held_word, next_word}
-use Rattle.section_body.specs.Line.{is_event}
-use Rattle.section_body.specs.declared.micro.Source.{Source}
-use Rattle.section_body.specs.declared.micro.Micro.TheVariants as micros
+use Rattle.body_terms.specs.Update.{upd}
+use Rattle.body_terms.specs.Word.{held_word, next_word}
+use Rattle.body_terms.specs.Line.{is_event}
+use Rattle.body_terms.specs.declared.micro.Source.{Source}
+use Rattle.body_terms.specs.declared.micro.Micro.TheVariants as micros
 use Rattle.table_words.specs.declared.layout.Layout.{Layout}
 use Rattle.table_words.specs.Limits.{IsWithinLimits}
 use Rattle.structure_laws.specs.Scene.{Readings, Status}

@@ -3,6 +3,7 @@ use Rattle.std.proofs.Common.{◌≡◌, ◌≢◌, ℕ, zero, suc, List, Bool, 
 use Rattle.std.specs.Prelude.{◌⊎◌, ◌||◌, ◌&&◌, Some, [], ◌∷◌, ◌++◌, slice_get}
 use Rattle.std.proofs.lemmas.Bool.{cases_eq, both_ways}
 use Rattle.std.proofs.lemmas.Bool.Decides.{nat_tests}
+use Rattle.small_lemmas.proofs.Bools.{or_first as held_or}
 use Rattle.structure_laws.proofs.Changes.{upd_same, upd_other}
 use Rattle.epoch_core.specs.Update.{upd, upd2, upd_row}
 use Rattle.epoch_core.specs.declared.stage.Stage.{Stage}
@@ -25,9 +26,6 @@ pub get_more : {A : Type 0} (xs ys : List A) (v : A) (i : ℕ) → slice_get xs 
 get_more [] ys v i h = absurd (cc)
 get_more (x ∷ xs) ys v zero h = h
 get_more (x ∷ xs) ys v (suc i) h = get_more xs ys v i h
-
-held_or : (a b : Bool) → a ≡ true → (a || b) ≡ true
-held_or a b e = grind arith
 
 module _ (c : Counts) (e : EpochState) where
   -- the stage is the same, or is of no entry before and after

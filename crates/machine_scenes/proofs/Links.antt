@@ -1,10 +1,10 @@
 -- What each step that changes a cell leaves of the links.
 use Rattle.std.proofs.Common.{◌≡◌, ◌≢◌, ℕ, ◌+◌, ◌*◌, ◌<◌, ◌≤◌, Bool, true, false, refl, sym, ap, ◌∙◌, subst, ⊎_elim, arith}
 use Rattle.std.specs.Prelude.{◌⊎◌}
-use Rattle.section_body.specs.Update.{upd}
-use Rattle.section_body.specs.Word.{next_word}
-use Rattle.section_body.specs.declared.step.Step.TheVariants.{Load, Store}
-use Rattle.section_body.specs.declared.value.Value.{Value}
+use Rattle.body_terms.specs.Update.{upd}
+use Rattle.body_terms.specs.Word.{next_word}
+use Rattle.body_terms.specs.declared.step.Step.TheVariants.{Load, Store}
+use Rattle.body_terms.specs.declared.value.Value.{Value}
 use Rattle.table_words.specs.declared.layout.Layout.{Layout}
 use Rattle.table_words.specs.Limits.{IsWithinLimits}
 use Rattle.structure_laws.specs.Scene.{Section, Status, Free, Live, Retired, Scene}

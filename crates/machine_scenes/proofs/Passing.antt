@@ -2,10 +2,11 @@
 use Rattle.std.proofs.Common.{◌≡◌, ◌≢◌, ℕ, suc, ◌<◌, Bool, true, false, cond, refl, sym, ap, ◌∙◌, subst, ⊎_elim, arith}
 use Rattle.std.specs.Prelude.{◌⊎◌, nat_lt}
 use Rattle.std.proofs.lemmas.Bool.{cases_eq, cases_lt}
-use Rattle.section_body.specs.Update.{upd}
-use Rattle.section_body.specs.Run.{written_once}
-use Rattle.section_body.specs.declared.micro.Micro.{Micro}
-use Rattle.section_body.specs.declared.micro.Micro.TheVariants as micros
+use Rattle.small_lemmas.proofs.Numbers.{later_edge as late_edge, last_or_before as last}
+use Rattle.body_terms.specs.Update.{upd}
+use Rattle.body_terms.specs.Run.{written_once}
+use Rattle.body_terms.specs.declared.micro.Micro.{Micro}
+use Rattle.body_terms.specs.declared.micro.Micro.TheVariants as micros
 use Rattle.structure_laws.proofs.Changes.{upd_same, upd_other}
 use Rattle.agreement_core.specs.State.{CellRules, Section, AgreementState}
 use Rattle.agreement_core.specs.Checks.{came}
@@ -16,14 +17,8 @@ use Rattle.machine_scenes.specs.Kinds.{is_publication, is_retire_commit}
 use Rattle.machine_scenes.specs.Kept.{RetiresNodes}
 use Rattle.machine_scenes.proofs.Standing.{is_retire, no_pass}
 
-late_edge : (edge n : ℕ) → n < edge → cond (nat_lt edge (suc n)) (suc n) edge ≡ edge
-late_edge edge n lt = grind arith
-
 lead_edge : (edge n : ℕ) → n ≡ edge → cond (nat_lt edge (suc n)) (suc n) edge ≡ suc edge
 lead_edge edge n e = grind arith
-
-last : (i n : ℕ) → i < suc n → (i < n) ⊎ (i ≡ n)
-last i n lt = search arith
 
 module _ (c : CellRules) (w : AgreementState) (old : IsSound c w) (nodes : ℕ) (retired : RetiresNodes nodes w) where
   -- a section that is published as it was

@@ -1,15 +1,15 @@
 -- The places of an open section's line up to its edge, as steps of its body.
 use Rattle.std.proofs.Common.{◌≡◌, ℕ, suc, ◌≤◌, List, length, refl, sym, ap, ◌∙◌, subst, ⊎_elim, arith, ◌<◌}
 use Rattle.std.proofs.lemmas.Bool.{cases_lt}
-use Rattle.section_body.specs.declared.step.Step.{Step}
-use Rattle.section_body.specs.declared.step.Step.TheVariants.{Load, Make, Retire}
-use Rattle.section_body.specs.declared.value.Init.{Init}
-use Rattle.section_body.specs.declared.value.Value.TheVariants.{Const}
-use Rattle.section_body.specs.declared.micro.Source.{Source}
-use Rattle.section_body.specs.declared.micro.Micro.TheVariants as micros
-use Rattle.section_body.specs.Line.{registers_before, line, begins, micro_at, source_of}
-use Rattle.section_body.specs.Shape.{IsStep}
-use Rattle.section_body.proofs.LineLemmas.{begins_next}
+use Rattle.body_terms.specs.declared.step.Step.{Step}
+use Rattle.body_terms.specs.declared.step.Step.TheVariants.{Load, Make, Retire}
+use Rattle.body_terms.specs.declared.value.Init.{Init}
+use Rattle.body_terms.specs.declared.value.Value.TheVariants.{Const}
+use Rattle.body_terms.specs.declared.micro.Source.{Source}
+use Rattle.body_terms.specs.declared.micro.Micro.TheVariants as micros
+use Rattle.body_terms.specs.Line.{registers_before, line, begins, micro_at, source_of}
+use Rattle.body_terms.specs.Shape.{IsStep}
+use Rattle.body_terms.proofs.LineLemmas.{begins_next}
 use Rattle.std.specs.Prelude.{slice_index_or}
 use Rattle.section_lines.specs.Progress.{passed_steps}
 use Rattle.section_lines.proofs.Places.{stands, whole_line, begins_rises, step_inside}

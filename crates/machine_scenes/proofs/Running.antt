@@ -2,11 +2,12 @@
 use Rattle.std.proofs.Common.{◌≡◌, ℕ, suc, ◌<◌, List, true, false, cond, refl, sym, ap, ◌∙◌, subst, ⊎_elim, arith}
 use Rattle.std.specs.Prelude.{nat_lt, Option, Some}
 use Rattle.std.proofs.lemmas.Bool.{cases_lt}
-use Rattle.section_body.specs.Update.{upd}
-use Rattle.section_body.specs.Run.{written_once}
-use Rattle.section_body.specs.Line.{line, micro_at, is_event, is_commit}
-use Rattle.section_body.specs.declared.step.Step.{Step}
-use Rattle.section_body.specs.declared.micro.Micro.{Micro}
+use Rattle.small_lemmas.proofs.Numbers.{later_edge as late_edge}
+use Rattle.body_terms.specs.Update.{upd}
+use Rattle.body_terms.specs.Run.{written_once}
+use Rattle.body_terms.specs.Line.{line, micro_at, is_event, is_commit}
+use Rattle.body_terms.specs.declared.step.Step.{Step}
+use Rattle.body_terms.specs.declared.micro.Micro.{Micro}
 use Rattle.table_words.specs.declared.layout.Layout.{Layout}
 use Rattle.structure_laws.specs.Scene as scenes
 use Rattle.structure_laws.specs.Meaning.{Meaning}
@@ -20,9 +21,6 @@ use Rattle.agreement_core.proofs.Lines.{event_goes, pass_goes, passes_same}
 use Rattle.agreement_core.proofs.Stepping.{lead_edge, found_late}
 use Rattle.machine_scenes.specs.Shown.{Publications, AreOfThunks, rules_of, section_with, section_of}
 use Rattle.machine_scenes.proofs.Shown.{shown, shown_open, shown_change, shown_same, upd_found}
-
-late_edge : (edge n : ℕ) → n < edge → cond (nat_lt edge (suc n)) (suc n) edge ≡ edge
-late_edge edge n lt = grind arith
 
 won : (found proposal : ℕ) → found ≡ 0 → written_once found proposal ≡ proposal
 won found proposal e = grind arith

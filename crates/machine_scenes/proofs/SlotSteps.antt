@@ -1,15 +1,15 @@
 -- A private store, the commit of a Make and that of a Retire lead from a lawful scene to a lawful scene.
 use Rattle.std.proofs.Common.{◌≡◌, ℕ, suc, ◌+◌, ◌<◌, ◌≤◌, List, true, false, refl, sym, ap, subst, arith}
 use Rattle.std.specs.Prelude.{Option, Some}
-use Rattle.section_body.specs.Update.{upd}
-use Rattle.section_body.specs.Run.{written_once}
-use Rattle.section_body.specs.Word.{version_of}
-use Rattle.section_body.specs.Line.{is_event, is_commit}
-use Rattle.section_body.specs.declared.step.Step.{Step}
-use Rattle.section_body.specs.declared.step.Step.TheVariants.{Make}
-use Rattle.section_body.specs.declared.value.Init.{Init}
-use Rattle.section_body.specs.declared.micro.Source.{Source}
-use Rattle.section_body.specs.declared.micro.Micro.TheVariants as micros
+use Rattle.body_terms.specs.Update.{upd}
+use Rattle.body_terms.specs.Run.{written_once}
+use Rattle.body_terms.specs.Word.{version_of}
+use Rattle.body_terms.specs.Line.{is_event, is_commit}
+use Rattle.body_terms.specs.declared.step.Step.{Step}
+use Rattle.body_terms.specs.declared.step.Step.TheVariants.{Make}
+use Rattle.body_terms.specs.declared.value.Init.{Init}
+use Rattle.body_terms.specs.declared.micro.Source.{Source}
+use Rattle.body_terms.specs.declared.micro.Micro.TheVariants as micros
 use Rattle.table_words.specs.declared.layout.Layout.{Layout}
 use Rattle.table_words.specs.Limits.{IsWithinLimits}
 use Rattle.structure_laws.specs.Scene.{Readings, Status, Free, Live, Retired}

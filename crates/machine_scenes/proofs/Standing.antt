@@ -2,9 +2,10 @@
 use Rattle.std.proofs.Common.{◌≡◌, ◌≢◌, ℕ, suc, ◌<◌, Bool, true, false, cond, sym, ap, ◌∙◌, ⊎_elim, arith}
 use Rattle.std.specs.Prelude.{nat_lt}
 use Rattle.std.proofs.lemmas.Bool.{cases_eq, cases_lt, both_ways}
-use Rattle.section_body.specs.Update.{upd}
-use Rattle.section_body.specs.declared.micro.Micro.{Micro}
-use Rattle.section_body.specs.declared.micro.Micro.TheVariants as micros
+use Rattle.small_lemmas.proofs.Numbers.{later_edge as late_edge}
+use Rattle.body_terms.specs.Update.{upd}
+use Rattle.body_terms.specs.declared.micro.Micro.{Micro}
+use Rattle.body_terms.specs.declared.micro.Micro.TheVariants as micros
 use Rattle.structure_laws.specs.Meaning.{Meaning}
 use Rattle.structure_laws.proofs.Changes.{upd_same, upd_other}
 use Rattle.agreement_core.specs.State.{CellRules, Section, AgreementState, IsOpen}
@@ -45,9 +46,6 @@ module _ (c : CellRules) (w : AgreementState) where
         code = λ i. ap (λ (f : ℕ → Micro). f i) goes.code ∙ is.code i;
         slot = λ i. ap (λ (f : ℕ → ℕ). f i) goes.slot ∙ is.slot i;
       }
-
-late_edge : (edge n : ℕ) → n < edge → cond (nat_lt edge (suc n)) (suc n) edge ≡ edge
-late_edge edge n lt = grind arith
 
 -- the commit of a Retire
 abbrev pub is_retire : Micro → Bool

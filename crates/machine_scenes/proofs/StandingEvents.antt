@@ -1,9 +1,9 @@
 -- The section of a Retire for which an epoch is loaded stands before the Retire's commit, over each event of agreement.
 use Rattle.std.proofs.Common.{◌≡◌, ◌≢◌, ℕ, suc, Bool, true, false, refl, sym, ap, ◌∙◌, subst}
-use Rattle.section_body.specs.Update.{upd}
-use Rattle.section_body.specs.Run.{written_once}
-use Rattle.section_body.specs.declared.micro.Micro.{Micro}
-use Rattle.section_body.specs.declared.micro.Micro.TheVariants as micros
+use Rattle.body_terms.specs.Update.{upd}
+use Rattle.body_terms.specs.Run.{written_once}
+use Rattle.body_terms.specs.declared.micro.Micro.{Micro}
+use Rattle.body_terms.specs.declared.micro.Micro.TheVariants as micros
 use Rattle.structure_laws.proofs.Changes.{upd_other}
 use Rattle.agreement_core.specs.State.{CellRules, AgreementState}
 use Rattle.agreement_core.specs.Checks.{is_stop, came}

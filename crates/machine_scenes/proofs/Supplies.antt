@@ -4,16 +4,16 @@ use Rattle.std.specs.Prelude.{◌⊎◌, ◌^◌, nat_lt, cond, Some, [], slice_
 use Rattle.std.proofs.lemmas.Bool.{cases_lt}
 use Rattle.std.proofs.lemmas.Bool.Decides.{nat_tests}
 use Rattle.map_history.specs.declared.op.Op.{Op}
-use Rattle.section_body.specs.Line.{registers_before, source_of, line, micro_at, committed, is_event}
-use Rattle.section_body.specs.Word.{is_free, is_spent}
-use Rattle.section_body.specs.declared.step.Step.TheVariants.{Retire}
-use Rattle.section_body.specs.declared.value.Value.{Value}
-use Rattle.section_body.specs.declared.value.Value.TheVariants.{Const}
-use Rattle.section_body.specs.declared.micro.Source.{Source}
-use Rattle.section_body.specs.declared.micro.Source.TheVariants.{Fixed}
-use Rattle.section_body.specs.declared.micro.Micro.{Micro}
-use Rattle.section_body.specs.declared.micro.Micro.TheVariants as micros
-use Rattle.section_body.specs.declared.thunk.Thunk.{Thunk}
+use Rattle.body_terms.specs.Line.{registers_before, source_of, line, micro_at, committed, is_event}
+use Rattle.body_terms.specs.Word.{is_free, is_spent}
+use Rattle.body_terms.specs.declared.step.Step.TheVariants.{Retire}
+use Rattle.body_terms.specs.declared.value.Value.{Value}
+use Rattle.body_terms.specs.declared.value.Value.TheVariants.{Const}
+use Rattle.body_terms.specs.declared.micro.Source.{Source}
+use Rattle.body_terms.specs.declared.micro.Source.TheVariants.{Fixed}
+use Rattle.body_terms.specs.declared.micro.Micro.{Micro}
+use Rattle.body_terms.specs.declared.micro.Micro.TheVariants as micros
+use Rattle.body_terms.specs.declared.thunk.Thunk.{Thunk}
 use Rattle.table_words.specs.declared.layout.Layout.{Layout}
 use Rattle.table_words.specs.Limits.{IsWithinLimits}
 use Rattle.structure_laws.specs.Scene.{Status, Free, Live, Retired, with_reader}

@@ -2,15 +2,15 @@
 use Rattle.std.proofs.Common.{◌≡◌, ℕ, zero, suc, ◌+◌, ◌-◌, ◌<◌, ◌≤◌, List, length, true, sym, ap, ◌∙◌, subst, ⊎_elim, arith}
 use Rattle.std.specs.Prelude.{Some}
 use Rattle.std.proofs.lemmas.Bool.{cases_lt}
-use Rattle.section_body.specs.Word.{value_of, held_word}
-use Rattle.section_body.specs.declared.step.Step.{Step}
-use Rattle.section_body.specs.declared.step.Step.TheVariants.{Take}
-use Rattle.section_body.specs.declared.micro.Micro.TheVariants as micros
-use Rattle.section_body.specs.Line.{registers_before, micro_count, line, begins, micro_at, is_check}
-use Rattle.section_body.specs.Shape.{IsStep}
-use Rattle.section_body.proofs.LineLemmas.{begins_next, micro_within}
-use Rattle.section_body.proofs.RegisterLemmas.{step_at}
-use Rattle.section_body.specs.declared.thunk.Thunk.{Thunk}
+use Rattle.body_terms.specs.Word.{value_of, held_word}
+use Rattle.body_terms.specs.declared.step.Step.{Step}
+use Rattle.body_terms.specs.declared.step.Step.TheVariants.{Take}
+use Rattle.body_terms.specs.declared.micro.Micro.TheVariants as micros
+use Rattle.body_terms.specs.Line.{registers_before, micro_count, line, begins, micro_at, is_check}
+use Rattle.body_terms.specs.Shape.{IsStep}
+use Rattle.body_terms.proofs.LineLemmas.{begins_next, micro_within}
+use Rattle.body_terms.proofs.RegisterLemmas.{step_at}
+use Rattle.body_terms.specs.declared.thunk.Thunk.{Thunk}
 use Rattle.table_words.specs.declared.layout.Layout.{Layout}
 use Rattle.structure_laws.specs.Scene as scenes
 use Rattle.structure_laws.specs.Meaning.{Meaning}

@@ -1,6 +1,6 @@
 -- The invariant of the joined states.
 use Rattle.std.specs.Prelude.{ℕ, ◌<◌, ◌≤◌, ◌≡◌, true}
-use Rattle.section_body.specs.declared.micro.Micro.TheVariants.{RetireCommit}
+use Rattle.body_terms.specs.declared.micro.Micro.TheVariants.{RetireCommit}
 use Rattle.table_words.specs.declared.layout.Layout.{Layout}
 use Rattle.structure_laws.specs.Scene.{Retired, Scene}
 use Rattle.structure_laws.specs.Meaning.{Meaning}
@@ -46,7 +46,8 @@ module _ (m : Meaning) (layout : Layout) (c : Counts) where
     pub thunks : AreOfThunks m j.publications j.agreement
     pub lawful : IsLawful m layout (scene_of m c j)
     pub met : HoldMet m c j.agreement.shared.cells j.epochs j.walk
-    pub publishers : HavePublishers j.epochs j.walk j.publications.runner (λ d. sections_of m j.publications j.agreement d)
+    pub publishers : HavePublishers j.epochs j.walk j.publications.runner
+        (λ d. sections_of m j.publications j.agreement d)
     pub retires : RetiresAreKept m c j
     -- the thunk of a published section has the shape that the laws ask for
     pub shaped : (d : ℕ) → j.agreement.used d ≡ true

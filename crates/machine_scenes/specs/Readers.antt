@@ -1,6 +1,6 @@
 -- What runners have met in their readings, and who published an open section.
 use Rattle.std.specs.Prelude.{ℕ, suc, ◌<◌, ◌≡◌, ◌⊎◌, true, false, Option, Some, slice_get}
-use Rattle.section_body.specs.Word.{value_of}
+use Rattle.body_terms.specs.Word.{value_of}
 use Rattle.structure_laws.specs.Scene.{Readings}
 use Rattle.structure_laws.specs.Scene as scenes
 use Rattle.structure_laws.specs.Meaning.{Meaning}

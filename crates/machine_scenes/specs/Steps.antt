@@ -1,12 +1,12 @@
 -- The steps of the joined states: an event of agreement, one of epochs and slots, or one of both at once.
 use Rattle.std.specs.Prelude.{ℕ, suc, ◌<◌, ◌≡◌, ◌≢◌, ◌⊎◌, Bool, true, false, [], ◌∷◌, ◌++◌}
 use Rattle.map_history.specs.declared.op.Op.{Op}
-use Rattle.section_body.specs.Update.{upd}
-use Rattle.section_body.specs.Word.{value_of}
-use Rattle.section_body.specs.declared.micro.Source.{Source}
-use Rattle.section_body.specs.declared.micro.Micro.{Micro}
-use Rattle.section_body.specs.declared.micro.Micro.TheVariants as micros
-use Rattle.section_body.specs.declared.thunk.Thunk.{Thunk}
+use Rattle.body_terms.specs.Update.{upd}
+use Rattle.body_terms.specs.Word.{value_of}
+use Rattle.body_terms.specs.declared.micro.Source.{Source}
+use Rattle.body_terms.specs.declared.micro.Micro.{Micro}
+use Rattle.body_terms.specs.declared.micro.Micro.TheVariants as micros
+use Rattle.body_terms.specs.declared.thunk.Thunk.{Thunk}
 use Rattle.table_words.specs.declared.layout.Layout.{Layout}
 use Rattle.structure_laws.specs.Meaning.{Meaning}
 use Rattle.structure_laws.specs.Sections.{IsAllowed}
@@ -64,8 +64,10 @@ module _ (m : Meaning) (layout : Layout) (c : Counts) where
     agreement = agreement_events.after j.agreement (agreement_events.Publish d lock word request code slot);
     publications = publishes j.publications d r op thunk (j.walk r);
   }
-  after j (Fill r cell log value t word) = record j
-      { agreement = agreement_events.after j.agreement (agreement_events.PrivateStore r cell log value (cell_of m t cell) word) }
+  after j (Fill r cell log value t word) = record j {
+    agreement = agreement_events.after j.agreement
+        (agreement_events.PrivateStore r cell log value (cell_of m t cell) word);
+  }
   after j (Make r log t worn) = record j {
     agreement = agreement_events.after j.agreement (agreement_events.MakeCommit r log (suc t));
     epochs = epoch_events.after c j.epochs (epoch_events.MakeCommit r (descriptor_of j r) log t worn);
@@ -93,7 +95,8 @@ module _ (m : Meaning) (layout : Layout) (c : Counts) where
   -- the runner has read
   pub record MayPublish (j : States) (r d lock word request : ℕ) (code : ℕ → Micro) (slot : ℕ
       → ℕ) (op : Op) (thunk : Thunk) : Type 0 where
-    pub enabled : agreement_events.Enabled (rules_of m layout) j.agreement (agreement_events.Publish d lock word request code slot)
+    pub enabled : agreement_events.Enabled (rules_of m layout) j.agreement
+        (agreement_events.Publish d lock word request code slot)
     pub entered : is_entered (j.epochs.stage r) ≡ true
     pub allowed : IsAllowed op
     pub fits : m.fits layout op (j.walk r) thunk ≡ true

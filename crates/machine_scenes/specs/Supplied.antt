@@ -1,12 +1,12 @@
 -- What the joined states supply to the two components: premises of their events.
 use Rattle.std.specs.Prelude.{ℕ, suc, ◌<◌, ◌^◌, ◌≡◌, true, false, []}
 use Rattle.map_history.specs.declared.op.Op.{Op}
-use Rattle.section_body.specs.Line.{line, micro_at, committed}
-use Rattle.section_body.specs.Word.{is_free, is_spent}
-use Rattle.section_body.specs.declared.micro.Source.{Source}
-use Rattle.section_body.specs.declared.micro.Source.TheVariants.{Fixed}
-use Rattle.section_body.specs.declared.micro.Micro.TheVariants as micros
-use Rattle.section_body.specs.declared.thunk.Thunk.{Thunk}
+use Rattle.body_terms.specs.Line.{line, micro_at, committed}
+use Rattle.body_terms.specs.Word.{is_free, is_spent}
+use Rattle.body_terms.specs.declared.micro.Source.{Source}
+use Rattle.body_terms.specs.declared.micro.Source.TheVariants.{Fixed}
+use Rattle.body_terms.specs.declared.micro.Micro.TheVariants as micros
+use Rattle.body_terms.specs.declared.thunk.Thunk.{Thunk}
 use Rattle.table_words.specs.declared.layout.Layout.{Layout}
 use Rattle.structure_laws.specs.Meaning.{Meaning}
 use Rattle.structure_laws.specs.Sections.{IsAllowed}

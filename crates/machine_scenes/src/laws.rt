@@ -4,7 +4,7 @@ ghost use Rattle.table_words.specs.Limits.{IsWithinLimits};
 ghost use Rattle.machine_scenes.specs.Schedules.{FirstIsKept, SchedulesKeep, StepsKeep};
 ghost use Rattle.machine_scenes.specs.Supplied.{KeptSupplies};
 
-use runner_parts::Structure;
+use structure_laws::Structure;
 
 /// Over every structure each step of the joined states keeps their invariant: agreement stays sound, and
 /// epochs and slots, they show a lawful scene, each entered runner holds the slots that its readings meet,

@@ -1,11 +1,12 @@
 -- The cells of the slot that a Make fills hold what it has stored there.
 use Rattle.std.proofs.Common.{◌≡◌, ℕ, suc, ◌<◌, true, refl, sym, ap, ◌∙◌, subst, ⊎_elim, arith}
 use Rattle.std.specs.Prelude.{◌⊎◌, Option, Some, None}
-use Rattle.section_body.specs.Update.{upd}
-use Rattle.section_body.specs.Word.{value_of}
-use Rattle.section_body.specs.declared.micro.Source.{Source}
-use Rattle.section_body.specs.declared.micro.Micro.{Micro}
-use Rattle.section_body.specs.declared.micro.Micro.TheVariants as micros
+use Rattle.small_lemmas.proofs.Numbers.{last_or_before as last_or}
+use Rattle.body_terms.specs.Update.{upd}
+use Rattle.body_terms.specs.Word.{value_of}
+use Rattle.body_terms.specs.declared.micro.Source.{Source}
+use Rattle.body_terms.specs.declared.micro.Micro.{Micro}
+use Rattle.body_terms.specs.declared.micro.Micro.TheVariants as micros
 use Rattle.table_words.specs.declared.layout.Layout.{Layout}
 use Rattle.table_words.specs.Limits.{IsWithinLimits}
 use Rattle.structure_laws.specs.Meaning.{Meaning}
@@ -45,9 +46,6 @@ one_load x cell log cell' log' e e' = cc
 one_store : (x : Micro) (cell log cell' log' : ℕ) (v w : Source) → x ≡ micros.PrivateStore cell log v → x ≡ micros.PrivateStore cell' log' w
     → (cell ≡ cell') × (v ≡ w)
 one_store x cell log cell' log' v w e e' = (cc, cc)
-
-last_or : (i n : ℕ) → i < suc n → (i < n) ⊎ (i ≡ n)
-last_or i n lt = search arith
 
 module _ (m : Meaning) (laws : Laws m) (layout : Layout) (limits : IsWithinLimits layout) (c : Counts) (nodes : c.nodes ≡ slots m layout)
     (j : States) (kept : IsKept m layout c j) (held : LocksAreHeld m c j)

@@ -4,11 +4,11 @@ use Rattle.std.specs.Prelude.{cond, nat_lt, [], ◌∷◌, ◌++◌}
 use Rattle.std.proofs.lemmas.Bool.{cases_eq, cases_lt}
 use Rattle.std.proofs.lemmas.Bool.Decides.{nat_tests}
 use Rattle.map_history.specs.declared.op.Op.{Op}
-use Rattle.section_body.specs.Update.{upd}
-use Rattle.section_body.specs.Word.{value_of}
-use Rattle.section_body.specs.declared.micro.Micro.{Micro}
-use Rattle.section_body.specs.declared.micro.Micro.TheVariants as micros
-use Rattle.section_body.specs.declared.thunk.Thunk.{Thunk}
+use Rattle.body_terms.specs.Update.{upd}
+use Rattle.body_terms.specs.Word.{value_of}
+use Rattle.body_terms.specs.declared.micro.Micro.{Micro}
+use Rattle.body_terms.specs.declared.micro.Micro.TheVariants as micros
+use Rattle.body_terms.specs.declared.thunk.Thunk.{Thunk}
 use Rattle.table_words.specs.declared.layout.Layout.{Layout}
 use Rattle.table_words.specs.Limits.{IsWithinLimits}
 use Rattle.structure_laws.specs.Scene.{Readings, Status, Free, Live}

@@ -2,11 +2,12 @@
 use Rattle.std.proofs.Common.{◌≡◌, ◌≢◌, ℕ, suc, ◌<◌, Bool, true, false, refl, sym, ap, ◌∙◌, subst, ⊎_elim, arith}
 use Rattle.std.specs.Prelude.{◌⊎◌, Option, Some}
 use Rattle.std.proofs.lemmas.Bool.{both_ways}
-use Rattle.section_body.specs.Update.{upd}
-use Rattle.section_body.specs.Word.{value_of}
-use Rattle.section_body.specs.declared.micro.Source.{Source}
-use Rattle.section_body.specs.declared.micro.Micro.{Micro}
-use Rattle.section_body.specs.declared.micro.Micro.TheVariants as micros
+use Rattle.small_lemmas.proofs.Numbers.{last_or_before as last_or}
+use Rattle.body_terms.specs.Update.{upd}
+use Rattle.body_terms.specs.Word.{value_of}
+use Rattle.body_terms.specs.declared.micro.Source.{Source}
+use Rattle.body_terms.specs.declared.micro.Micro.{Micro}
+use Rattle.body_terms.specs.declared.micro.Micro.TheVariants as micros
 use Rattle.table_words.specs.declared.layout.Layout.{Layout}
 use Rattle.structure_laws.specs.Meaning.{Meaning}
 use Rattle.structure_laws.specs.Cells.{cell_of}
@@ -52,9 +53,6 @@ pass_shared : (c : CellRules) (d : ℕ) (trail : ℕ → ℕ) (x : Micro) → pa
 pass_shared c d trail (micros.PrivateLoad cell log) pass = cc
 pass_shared c d trail (micros.PrivateStore cell log value) pass = cc
 pass_shared c d trail x pass = grind arith
-
-last_or : (i n : ℕ) → i < suc n → (i < n) ⊎ (i ≡ n)
-last_or i n lt = search arith
 
 module _ (m : Meaning) (layout : Layout) (c : Counts) (j : States) (kept : IsKept m layout c j) where
   abbrev a : AgreementState

@@ -1,9 +1,9 @@
 -- What stands in slots that are in hands or free, and who holds the slots in which locks stand.
 use Rattle.std.specs.Prelude.{ℕ, ◌<◌, ◌≤◌, ◌≡◌, ◌≢◌, ◌⊎◌, true, Option, None, Some}
-use Rattle.section_body.specs.Word.{value_of}
-use Rattle.section_body.specs.Update.{upd}
-use Rattle.section_body.specs.declared.micro.Source.{Source}
-use Rattle.section_body.specs.declared.micro.Micro.TheVariants as micros
+use Rattle.body_terms.specs.Word.{value_of}
+use Rattle.body_terms.specs.Update.{upd}
+use Rattle.body_terms.specs.declared.micro.Source.{Source}
+use Rattle.body_terms.specs.declared.micro.Micro.TheVariants as micros
 use Rattle.structure_laws.specs.Scene.{Free}
 use Rattle.structure_laws.specs.Meaning.{Meaning}
 use Rattle.structure_laws.specs.Cells.{cell_of}
@@ -77,7 +77,8 @@ module _ (m : Meaning) (c : Counts) where
   -- which slots Makes fill before and after a step
   abbrev pub MadeGoes : States → Step → Made → Made → Type 0
   MadeGoes j (Agreement (agreement.PrivateLoad r cell log place)) made made' = LooksAt j made made' r cell place
-  MadeGoes j (Fill r cell log value t word) made made' = (made r ≡ Some t) × (value_of word ≡ source_in ((j.agreement.run r).trail) value)
+  MadeGoes j (Fill r cell log value t word) made made' = (made r ≡ Some t)
+      × (value_of word ≡ source_in ((j.agreement.run r).trail) value)
       × ((i : ℕ) → made' i ≡ made i)
   MadeGoes j (Make r log t worn) made made' = (i : ℕ) → i ≢ r → made' i ≡ made i
   MadeGoes j _ made made' = (i : ℕ) → made' i ≡ made i

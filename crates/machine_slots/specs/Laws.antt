@@ -1,8 +1,8 @@
 -- What is proved of the slots in hands and of the locks.
 use Rattle.std.specs.Prelude.{ℕ, ◌<◌, ◌≡◌, Some}
-use Rattle.section_body.specs.Word.{value_of, version_of, next_word}
-use Rattle.section_body.specs.declared.micro.Source.{Source}
-use Rattle.section_body.specs.declared.micro.Micro.TheVariants as micros
+use Rattle.body_terms.specs.Word.{value_of, version_of, next_word}
+use Rattle.body_terms.specs.declared.micro.Source.{Source}
+use Rattle.body_terms.specs.declared.micro.Micro.TheVariants as micros
 use Rattle.table_words.specs.declared.layout.Layout.{Layout}
 use Rattle.structure_laws.specs.Scene.{Free}
 use Rattle.structure_laws.specs.Meaning.{Meaning}

@@ -5,3 +5,4 @@ pub mod Sights
 pub mod Updates
 pub mod FirstSights
 pub mod Reached
+pub mod Marks

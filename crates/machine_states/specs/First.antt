@@ -40,14 +40,26 @@ first_part nodes descriptors = record {
   nodes = record { free = nodes; hand = []; tests = []; limbo = []; worn = [] };
   descriptors = record { free = descriptors; stored = []; limbo = [] };
   reads = no_reads;
-  records = record { known = []; finished = []; events = 0; won = 0; epoch_seen = 0; crossed = false; crosses = false; left = []; splits = 0; joined = [] };
+  records = record {
+    known = [];
+    finished = [];
+    events = 0;
+    won = 0;
+    epoch_seen = 0;
+    crossed = false;
+    crosses = false;
+    left = [];
+    splits = 0;
+    joined = [];
+  };
   gone = false;
 }
 
 -- the keeper's slots come after the workers', two for each worker and two more; it has one descriptor for each worker
 abbrev pub keeper_part : Meaning → Layout → PartState
 keeper_part m l =
-    first_part (falling (m.fixed_slots + l.nodes * l.runners) (2 * l.runners + 2)) (falling (l.sections * l.runners) l.runners)
+    first_part (falling (m.fixed_slots + l.nodes * l.runners) (2 * l.runners + 2))
+    (falling (l.sections * l.runners) l.runners)
 
 abbrev pub worker_part : Meaning → Layout → ℕ → PartState
 worker_part m l k = first_part (falling (m.fixed_slots + l.nodes * k) l.nodes) (falling (l.sections * k) l.sections)

@@ -46,12 +46,13 @@ sight_after m l s r kind x = record {
 }
 
 -- an event of this runner leads from one sight to the other
-pub record Steps (m : Meaning) (l : Layout) (requests : List Request) (s s' : Sight) (r : ℕ) (kind : EventKind) : Type 0 where
-  pub runner : r ≤ l.runners
-  pub ask : Spot × Access
-  pub asked : asks m l requests r kind (s.part r) ≡ Some ask
-  pub has_word : Fits (sizes_for m l requests) ask.0
-  pub next : s' ≡ sight_after m l s r kind ask
+pub record Steps (m : Meaning) (l : Layout) (requests : List Request) (s s' : Sight) (r : ℕ) (kind : EventKind) : Type 0
+  where
+    pub runner : r ≤ l.runners
+    pub ask : Spot × Access
+    pub asked : asks m l requests r kind (s.part r) ≡ Some ask
+    pub has_word : Fits (sizes_for m l requests) ask.0
+    pub next : s' ≡ sight_after m l s r kind ask
 
 -- the machine has all words and all parts
 pub record IsWhole (m : Meaning) (l : Layout) (requests : List Request) (w : World) : Type 0 where

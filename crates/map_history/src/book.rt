@@ -28,7 +28,8 @@ impl Model for Book {
 
     ghost view = { λ book. map.from_entries book.pairs.entries };
 
-    ghost invariant = { λ book. map.len (map.from_entries {R = nat_cmp} book.pairs.entries) ≡ btree_map_len book.pairs };
+    ghost invariant = { λ book. map.len (map.from_entries {R = nat_cmp} book.pairs.entries)
+        ≡ btree_map_len book.pairs };
 }
 
 impl Book {
@@ -68,7 +69,8 @@ impl Book {
 
     fn insert(&mut self, key: u32, value: u32) -> Result<Reply, AllocError>
         ensures reply { IfOk result (λ reply. reply ≡ (if map.contains_key self.old key then Dup else New)) }
-        ensures ok { OnOk result (self.new ≡ (if map.contains_key self.old key then self.old else map.insert self.old key value)) }
+        ensures ok { OnOk result (self.new
+            ≡ (if map.contains_key self.old key then self.old else map.insert self.old key value)) }
         ensures err { OnErr result (self.new ≡ self.old) }
         ensures cause { OnErr result (map.contains_key self.old key ≡ false) }
     {

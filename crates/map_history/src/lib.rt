@@ -9,8 +9,6 @@ mod book;
 mod laws;
 mod op;
 mod reply;
-#[cfg(test)]
-mod tests;
 
 pub use book::Book;
 pub use laws::{legal_for_each_key, requests_commute};

@@ -14,6 +14,8 @@ pub fn sizes_are_below_the_peak()
 /// Where the first requests of a list, so many, have stamps that rise along it, and no other has one, their history
 /// leaves the map that these requests leave in their order.
 pub fn histories_in_order_are_replays()
-    ensures { (op : ℕ → Op) (stamp : ℕ → ℕ) (requests : List Request) (count : ℕ) (history : List Stamped) → HaveOps op requests
-        → HaveFirstStamps stamp requests count → IsHistoryOf op stamp history → map_of history ≡ map_behind requests count }
+    ensures { (op : ℕ → Op) (stamp : ℕ → ℕ) (requests : List Request) (count : ℕ) (history : List Stamped)
+        → HaveOps op requests
+        → HaveFirstStamps stamp requests count → IsHistoryOf op stamp history
+        → map_of history ≡ map_behind requests count }
 {}

@@ -2,8 +2,8 @@
 use Rattle.std.proofs.Common.{◌≡◌, ◌≢◌, ℕ, ◌+◌, ◌-◌, ◌%◌, ◌^◌, ◌<◌, ◌≤◌, Bool, true, false, refl, sym, ap, ◌∙◌, arith, eq-eqb, Option, Some}
 use Rattle.std.specs.Prelude.{◌==◌, ◌&&◌, nat_lt, if◌then◌else◌}
 use Rattle.std.proofs.lemmas.Bool.Decides.{nat_tests}
-use Rattle.section_body.specs.declared.micro.Micro.TheVariants.{Release}
-use Rattle.section_body.specs.Word.{version_of, pack, next_word, held_word, is_free}
+use Rattle.body_terms.specs.declared.micro.Micro.TheVariants.{Release}
+use Rattle.body_terms.specs.Word.{version_of, pack, next_word, held_word, is_free}
 use Rattle.table_words.specs.Access.{exchanged, written}
 use Rattle.table_words.specs.Places.{descriptor_count}
 use Rattle.table_words.specs.Seen.{seen}
@@ -19,7 +19,7 @@ use Rattle.runner_parts.specs.State.{RunState}
 use Rattle.runner_steps.specs.Asks.{sizes_for}
 use Rattle.machine_states.proofs.Sights.{if_some}
 use Rattle.machine_states.proofs.Steps.{some_same}
-use Rattle.commit_log.specs.machine_invariant.specs.After.{AreAllowed}
+use Rattle.machine_facts.specs.machine_invariant.specs.After.{AreAllowed}
 use Rattle.commit_log.specs.version_words.specs.RunnerState.{RunnerState}
 use Rattle.commit_log.specs.version_words.specs.TableState.{TableState, IsOf}
 use Rattle.commit_log.specs.version_words.specs.Events.{met_by, IsMade}

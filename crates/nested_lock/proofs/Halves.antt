@@ -1,7 +1,7 @@
 -- The two halves of a Take together.
 use Rattle.std.proofs.Common.{◌≡◌, ℕ, false, refl, Option, Some, None}
 use Rattle.std.specs.Prelude.{Result, Ok, Err, IfSome, IfNone, is_err}
-use Rattle.section_body.specs.declared.outcome.Refused.{Refused}
+use Rattle.body_terms.specs.declared.outcome.Refused.{Refused}
 use Rattle.structure_laws.specs.Meaning.{Meaning}
 use Rattle.runner_parts.specs.State.{RunState}
 use Rattle.commit_log.specs.version_words.specs.RunnerState.{RunnerState}

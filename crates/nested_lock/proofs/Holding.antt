@@ -2,11 +2,11 @@
 use Rattle.std.proofs.Common.{◌≡◌, ℕ, suc, ◌+◌, ◌-◌, ◌^◌, ◌<◌, List, [], ◌∷◌, ◌++◌, length, Bool, true, false, cond, refl, sym, ap, ◌∙◌, subst, arith, Option, Some, None}
 use Rattle.std.specs.Prelude.{◌&&◌, ◌==◌, nat_lt, Result, slice_get}
 use Rattle.std.proofs.lemmas.Bool.Decides.{nat_tests}
-use Rattle.section_body.specs.declared.outcome.Refused.{Refused}
-use Rattle.section_body.specs.declared.micro.Micro.TheVariants.{NestedHold, OutcomeLoad, OutcomeCommit}
-use Rattle.section_body.specs.Line.{micro_at}
-use Rattle.section_body.specs.Run.{written_once}
-use Rattle.section_body.specs.Word.{version_of, held_word}
+use Rattle.body_terms.specs.declared.outcome.Refused.{Refused}
+use Rattle.body_terms.specs.declared.micro.Micro.TheVariants.{NestedHold, OutcomeLoad, OutcomeCommit}
+use Rattle.body_terms.specs.Line.{micro_at}
+use Rattle.body_terms.specs.Run.{written_once}
+use Rattle.body_terms.specs.Word.{version_of, held_word}
 use Rattle.table_words.specs.Access.{written}
 use Rattle.table_words.specs.Places.{descriptor_count}
 use Rattle.table_words.specs.declared.layout.Layout.{Layout}
@@ -24,9 +24,9 @@ use Rattle.runner_steps.specs.AfterInRun.{goes_on, agrees}
 use Rattle.machine_states.specs.Sight.{part_or_first}
 use Rattle.machine_states.proofs.Sights.{if_some}
 use Rattle.machine_states.proofs.Steps.{some_same}
-use Rattle.commit_log.specs.machine_invariant.specs.After.{AreAllowed}
-use Rattle.commit_log.specs.version_words.specs.machine_facts.specs.Got.{HasGot}
-use Rattle.commit_log.specs.version_words.specs.machine_facts.proofs.Got.{reached_got_held}
+use Rattle.machine_facts.specs.machine_invariant.specs.After.{AreAllowed}
+use Rattle.machine_facts.specs.Got.{HasGot}
+use Rattle.machine_facts.proofs.Got.{reached_got_held}
 use Rattle.commit_log.specs.version_words.specs.RunnerState.{RunnerState}
 use Rattle.commit_log.specs.version_words.specs.TableState.{TableState, IsOf}
 use Rattle.commit_log.specs.version_words.specs.Events.{met_by, Makes, Leaves}

@@ -1,10 +1,10 @@
 -- The first half of a Take in a run.
 use Rattle.std.proofs.Common.{◌≡◌, ℕ, suc, ◌+◌, ◌<◌, List, [], ◌∷◌, ◌++◌, length, Bool, refl, ap, subst, ◌∙◌, arith, slice_index, Some, None}
-use Rattle.section_body.specs.declared.step.Step.TheVariants.{Take}
-use Rattle.section_body.specs.declared.micro.Micro.TheVariants.{NestedLoad, NestedCommit, CheckFree, NestedHold}
-use Rattle.section_body.specs.Line.{begins, micro_at, micros, is_check, registers_before}
-use Rattle.section_body.specs.Run.{leaves, settled}
-use Rattle.section_body.proofs.LineLemmas.{micro_within}
+use Rattle.body_terms.specs.declared.step.Step.TheVariants.{Take}
+use Rattle.body_terms.specs.declared.micro.Micro.TheVariants.{NestedLoad, NestedCommit, CheckFree, NestedHold}
+use Rattle.body_terms.specs.Line.{begins, micro_at, micros, is_check, registers_before}
+use Rattle.body_terms.specs.Run.{leaves, settled}
+use Rattle.body_terms.proofs.LineLemmas.{micro_within}
 use Rattle.section_lines.proofs.Resting.{rests_at}
 use Rattle.table_words.specs.declared.layout.Layout.{Layout}
 use Rattle.table_words.specs.declared.spot.Spot.TheVariants.{Cell}
@@ -16,7 +16,7 @@ use Rattle.runner_parts.specs.declared.event.EventKind.TheVariants as kinds
 use Rattle.runner_parts.specs.State.{RunState}
 use Rattle.runner_steps.specs.Sections.{thunk_of, line_of, next_of, setting_of}
 use Rattle.runner_steps.specs.AfterInRun.{goes_on, agrees}
-use Rattle.commit_log.specs.machine_invariant.specs.After.{AreAllowed}
+use Rattle.machine_facts.specs.machine_invariant.specs.After.{AreAllowed}
 use Rattle.commit_log.specs.version_words.specs.RunnerState.{RunnerState}
 use Rattle.commit_log.specs.version_words.specs.TableState.{TableState, IsOf}
 use Rattle.commit_log.specs.version_words.specs.Events.{met_by, Makes}

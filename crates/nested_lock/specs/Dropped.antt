@@ -1,7 +1,7 @@
 -- Releases of locks in a run.
 use Rattle.std.specs.Prelude.{◌≡◌, ◌≢◌, ℕ, true}
-use Rattle.section_body.specs.declared.micro.Micro.TheVariants.{Release}
-use Rattle.section_body.specs.Word.{is_free, held_word, next_word}
+use Rattle.body_terms.specs.declared.micro.Micro.TheVariants.{Release}
+use Rattle.body_terms.specs.Word.{is_free, held_word, next_word}
 use Rattle.table_words.specs.Access.{exchanged}
 use Rattle.table_words.specs.declared.spot.Spot.TheVariants.{Cell}
 use Rattle.structure_laws.specs.Meaning.{Meaning}
@@ -20,11 +20,12 @@ module _ {T : Type 0} (m : Meaning) where
     pub free : is_free word ≡ true
     pub holds : held ≡ held_word q.descriptor word
 
-  -- one exchange was made to the free word with the next version. The lock doesn't hold the held word then, whether this exchange changed
-  -- it or it had changed before
+  -- one exchange was made to the free word with the next version. The lock doesn't hold the held word then, whether
+  -- this exchange changed it or it had changed before
   pub record HasDropped (place held : ℕ) (old new : RunnerState T) (q : RunState) : Type 0 where
     pub word : ℕ
     pub found : ℕ
     pub step : Stepped m q (Release place word) found old new
-    pub stands : ReachedWith m new.layout new.requests new.number new.part (Cell place) (exchanged found held (next_word held 0))
+    pub stands : ReachedWith m new.layout new.requests new.number new.part (Cell place)
+        (exchanged found held (next_word held 0))
     pub left : exchanged found held (next_word held 0) ≢ held

@@ -1,11 +1,11 @@
 -- Takes of further locks in a run.
 use Rattle.std.specs.Prelude.{◌≡◌, ℕ, ◌+◌, ◌⊎◌, Bool, true, false, Result, is_err, None, Some}
-use Rattle.section_body.specs.declared.outcome.Refused.{Refused}
-use Rattle.section_body.specs.declared.step.Step.TheVariants.{Take}
-use Rattle.section_body.specs.declared.micro.Micro.TheVariants.{NestedLoad, NestedHold, OutcomeLoad, OutcomeCommit}
-use Rattle.section_body.specs.Line.{begins}
-use Rattle.section_body.specs.Run.{written_once}
-use Rattle.section_body.specs.Shape.{IsStep}
+use Rattle.body_terms.specs.declared.outcome.Refused.{Refused}
+use Rattle.body_terms.specs.declared.step.Step.TheVariants.{Take}
+use Rattle.body_terms.specs.declared.micro.Micro.TheVariants.{NestedLoad, NestedHold, OutcomeLoad, OutcomeCommit}
+use Rattle.body_terms.specs.Line.{begins}
+use Rattle.body_terms.specs.Run.{written_once}
+use Rattle.body_terms.specs.Shape.{IsStep}
 use Rattle.structure_laws.specs.Meaning.{Meaning}
 use Rattle.runner_parts.specs.State.{RunState}
 use Rattle.runner_steps.specs.Sections.{thunk_of}
@@ -34,9 +34,10 @@ module _ {T : Type 0} (m : Meaning) where
     pub running : IsRunning m r q
     pub next : IsInTake m place expected 3 q
 
-  -- one exchange was made from the expected word to the one that names the section, and what the lock held then was agreed on: this word. By
-  -- it the answer is given
-  pub record HasHeld (place expected read : ℕ) (answer : Result (Unit {0}) Refused) (old new : RunnerState T) (q : RunState) : Type 0 where
+  -- one exchange was made from the expected word to the one that names the section, and what the lock held then was
+  -- agreed on: this word. By it the answer is given
+  pub record HasHeld (place expected read : ℕ) (answer : Result (Unit {0}) Refused) (old new : RunnerState T)
+      (q : RunState) : Type 0 where
     pub log : ℕ
     pub held : ℕ
     pub loaded : ℕ
@@ -45,12 +46,14 @@ module _ {T : Type 0} (m : Meaning) where
     pub looking : RunnerState T
     pub hold : Stepped m q (NestedHold place expected) held old holding
     pub load : Stepped m (goes_on m old.layout q q.word) (OutcomeLoad place log) loaded holding looking
-    pub commit : Stepped m (goes_on m old.layout (goes_on m old.layout q q.word) loaded) (OutcomeCommit place log) found looking new
+    pub commit : Stepped m (goes_on m old.layout (goes_on m old.layout q q.word) loaded) (OutcomeCommit place log) found
+        looking new
     pub agreed : read ≡ written_once found loaded
     pub told : second_outcome old.layout.version_max q.descriptor place expected read ≡ outcome_at place answer
     -- where the lock was got, the section holds it until it is done
     pub got : is_err answer ≡ false → IsHeld m place expected q.descriptor new
-    pub goes_on : IsRunning m new (agrees m old.layout (goes_on m old.layout (goes_on m old.layout q q.word) loaded) read)
+    pub goes_on : IsRunning m new (agrees m old.layout (goes_on m old.layout (goes_on m old.layout q q.word) loaded)
+        read)
 
   -- the lock's word was loaded and agreed on
   pub record HasRead (place read : ℕ) (old new : RunnerState T) (q q' : RunState) : Type 0 where
@@ -71,7 +74,8 @@ module _ {T : Type 0} (m : Meaning) where
     pub same : new ≡ old
 
   -- or the lock could be taken with it, and the answer is given by the second one
-  pub record IsTried (version_max place expected : ℕ) (end : TakeEnd) (old new : RunnerState T) (q : RunState) : Type 0 where
+  pub record IsTried (version_max place expected : ℕ) (end : TakeEnd) (old new : RunnerState T)
+      (q : RunState) : Type 0 where
     pub told : first_outcome version_max place expected end.first ≡ None
     pub read : ℕ
     pub again : end.second ≡ Some read
@@ -86,7 +90,8 @@ module _ {T : Type 0} (m : Meaning) where
         ⊎ IsTried old.layout.version_max place expected end between new behind
 
   -- a Take that gave this answer
-  pub record Takes (place expected : ℕ) (answer : Result (Unit {0}) Refused) (old new : RunnerState T) (q : RunState) : Type 0 where
+  pub record Takes (place expected : ℕ) (answer : Result (Unit {0}) Refused) (old new : RunnerState T)
+      (q : RunState) : Type 0 where
     pub end : TakeEnd
     pub taken : HasTaken place expected end old new q
     pub told : end.answer ≡ answer

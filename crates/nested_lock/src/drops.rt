@@ -4,15 +4,16 @@ ghost use Rattle.commit_log.specs.version_words.specs.TableState.{IsOf};
 ghost use Rattle.commit_log.specs.Runs.{IsRunning};
 ghost use Rattle.nested_lock.specs.Dropped.{MayDrop, HasDropped};
 
+use body_terms::{Place, Word};
 use commit_log::version_words::{FlockTable, Runner, table_is_allowed};
-use runner_parts::Structure;
-use section_body::{Place, Word};
+use structure_laws::Structure;
 
-/// Releases a lock that the run's section holds with this word: one exchange to the free word with the next version. Where another run
-/// of the section was first the lock has left the held word already, and the exchange changes nothing.
+/// Releases a lock that the run's section holds with this word: one exchange to the free word with the next version.
+/// Where another run of the section was first the lock has left the held word already, and the exchange changes
+/// nothing.
 ///
-/// The runner has to be in a run whose next step releases this lock. There is no refusal, and no memory is taken (Ben-David,
-/// Blelloch, Wei, 2022).
+/// The runner has to be in a run whose next step releases this lock. There is no refusal, and no memory is taken
+/// (Ben-David, Blelloch, Wei, 2022).
 pub fn drop_lock<S: Structure>(
     table: &FlockTable<S>,
     runner: Runner<S>,

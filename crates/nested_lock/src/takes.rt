@@ -8,11 +8,10 @@ ghost use Rattle.commit_log.specs.Halted.{IsHalted, IsThrough};
 ghost use Rattle.nested_lock.specs.Taken.{MayTake, MayHold, HasTaken, HasHeld, Takes};
 
 use crate::answers::{first_answer, second_answer};
+use body_terms::{Gate, Place, Refused, StepKind, Steps, Word};
 use commit_log::version_words::{FlockTable, Runner, table_is_allowed};
-use commit_log::{commit, passes};
-use runner_gate::Free;
-use runner_parts::Structure;
-use section_body::{Gate, Place, Refused, StepKind, Steps, Word};
+use commit_log::{Unasked, commit, passes};
+use structure_laws::Structure;
 
 /// How a Take ended, and the words of its lock that were agreed on.
 #[derive(Clone, Copy, Debug, PartialEq, Eq)]
@@ -47,7 +46,7 @@ pub fn take<S: Structure>(
         → Takes (S.meaning table.now.structure) place expected result.1 runner result.0 q }
 {
     let descriptor = runner.descriptor();
-    let mut gate = Free::new();
+    let mut gate = Unasked;
     let mut steps = Steps::<()>::new();
     match take_gated(
         table, runner, descriptor, place, expected, &mut gate, &mut steps,
@@ -57,8 +56,8 @@ pub fn take<S: Structure>(
     }
 }
 
-/// The same for the section of this descriptor, which the runner runs, counting each step and asking the gate after it. Both agreed words
-/// come with the answer; None where the gate halted the runner.
+/// The same for the section of this descriptor, which the runner runs, counting each step and asking the gate after it.
+/// Both agreed words come with the answer; None where the gate halted the runner.
 pub fn take_gated<S: Structure, G: Gate, L>(
     table: &FlockTable<S>,
     runner: Runner<S>,

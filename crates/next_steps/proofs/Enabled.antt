@@ -3,18 +3,19 @@ use Rattle.std.specs.Prelude.{◌⊎◌, ◌==◌, ◌&&◌, ◌*◌, not, nat_l
 use Rattle.std.proofs.Common.{◌≡◌, ◌≢◌, ℕ, zero, suc, ◌+◌, ◌<◌, ◌≤◌, List, length, inl, inr, ⊎_elim, sym, refl, ap, ◌∙◌, subst, arith, Option, Some, None}
 use Rattle.std.proofs.lemmas.Bool.Decides.{nat_tests}
 use Rattle.std.proofs.lemmas.Option.{none-some}
+use Rattle.small_lemmas.proofs.Numbers.{less_tested as below_test, self_tested as same_test}
 use Rattle.map_history.specs.declared.op.Request.{Request}
-use Rattle.section_body.specs.declared.micro.Micro.{Micro}
-use Rattle.section_body.specs.declared.micro.Micro.TheVariants as micros
-use Rattle.section_body.specs.declared.micro.Source.{Source}
-use Rattle.section_body.specs.declared.thunk.Thunk.{Thunk}
-use Rattle.section_body.specs.Memory.{cell_of}
-use Rattle.section_body.specs.Run.{source_value}
-use Rattle.section_body.specs.Word.{version_of, next_word, held_word}
-use Rattle.section_body.specs.Line.{is_check, is_commit, is_end, micro_at}
+use Rattle.body_terms.specs.declared.micro.Micro.{Micro}
+use Rattle.body_terms.specs.declared.micro.Micro.TheVariants as micros
+use Rattle.body_terms.specs.declared.micro.Source.{Source}
+use Rattle.body_terms.specs.declared.thunk.Thunk.{Thunk}
+use Rattle.body_terms.specs.Memory.{cell_of}
+use Rattle.body_terms.specs.Run.{source_value}
+use Rattle.body_terms.specs.Word.{version_of, next_word, held_word}
+use Rattle.body_terms.specs.Line.{is_check, is_commit, is_end, micro_at}
 use Rattle.section_lines.proofs.Counted.{is_counted}
 use Rattle.section_lines.proofs.Resolved.{is_resolved}
-use Rattle.section_body.specs.Line.{committed}
+use Rattle.body_terms.specs.Line.{committed}
 use Rattle.table_words.specs.declared.layout.Layout.{Layout}
 use Rattle.table_words.specs.declared.sizes.Sizes.{Sizes}
 use Rattle.table_words.specs.declared.spot.Spot.{Spot}
@@ -64,12 +65,6 @@ use Rattle.next_steps.proofs.RoomsKept.{made_hand}
 use Rattle.next_steps.proofs.RoomsReached.{reached_rooms}
 use Rattle.next_steps.proofs.Lines.{next_no_check, shape, ordered, run_open, log_low}
 use Rattle.machine_invariant.proofs.Basics.{both_hold}
-
-below_test : (a b : ℕ) → a < b → nat_lt a b ≡ true
-below_test a b h = grind (arith, nat_tests)
-
-same_test : (a : ℕ) → (a == a) ≡ true
-same_test a = grind (arith, nat_tests)
 
 -- a cell of a slot of the table is one of the table's
 cell_low : (first slots t i : ℕ) → t < slots → i < 5 → first + 5 * t + i < first + 5 * slots

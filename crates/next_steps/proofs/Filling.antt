@@ -2,14 +2,14 @@
 use Rattle.std.specs.Prelude.{◌⊎◌, ◌*◌, ◌&&◌, cond, slice_index_or, Bool, true, false, is_none}
 use Rattle.std.proofs.Common.{◌≡◌, ℕ, zero, suc, ◌+◌, ◌<◌, ◌≤◌, List, inl, inr, ⊎_elim, sym, refl, ap, ◌∙◌, subst, arith, add-one, Some, None}
 use Rattle.std.proofs.lemmas.Bool.{cases_lt}
-use Rattle.section_body.specs.declared.micro.Micro.{Micro}
-use Rattle.section_body.specs.declared.micro.Micro.TheVariants as micros
-use Rattle.section_body.specs.declared.micro.Source.{Source}
-use Rattle.section_body.specs.declared.step.Step.{Step}
-use Rattle.section_body.specs.Line.{is_check, is_commit, is_event, line, micro_at, registers_before, ending, committed}
-use Rattle.section_body.specs.Run.{Setting, settled, leaves}
+use Rattle.body_terms.specs.declared.micro.Micro.{Micro}
+use Rattle.body_terms.specs.declared.micro.Micro.TheVariants as micros
+use Rattle.body_terms.specs.declared.micro.Source.{Source}
+use Rattle.body_terms.specs.declared.step.Step.{Step}
+use Rattle.body_terms.specs.Line.{is_check, is_commit, is_event, line, micro_at, registers_before, ending, committed}
+use Rattle.body_terms.specs.Run.{Setting, settled, leaves}
 use Rattle.section_lines.proofs.Sources.{part_there, of_make}
-use Rattle.section_body.specs.Shape.{IsShaped}
+use Rattle.body_terms.specs.Shape.{IsShaped}
 use Rattle.section_lines.proofs.Ordered.{fills, fill_of, few_loads, is_ordered}
 use Rattle.section_lines.proofs.Counted.{is_counted}
 use Rattle.table_words.specs.declared.layout.Layout.{Layout}

@@ -6,7 +6,7 @@ use Rattle.std.proofs.lemmas.Bool.{cases_eq}
 use Rattle.std.proofs.lemmas.Option.{slice_get_within}
 use Rattle.std.proofs.lemmas.Grind.{common_steps}
 use Rattle.map_history.specs.declared.op.Request.{Request}
-use Rattle.section_body.specs.declared.thunk.Thunk.{Thunk}
+use Rattle.body_terms.specs.declared.thunk.Thunk.{Thunk}
 use Rattle.table_words.specs.declared.layout.Layout.{Layout}
 use Rattle.table_words.specs.declared.spot.Spot.{Spot}
 use Rattle.table_words.specs.declared.spot.Spot.TheVariants as spots
@@ -41,7 +41,7 @@ use Rattle.machine_invariant.proofs.Prepared.{done_is}
 use Rattle.machine_invariant.proofs.Sights.{thunks_after}
 use Rattle.machine_invariant.proofs.Thunks.{inside_leaves, outside_leaves, other_thunk}
 use Rattle.next_steps.specs.Rooms.{ThunkFits, ThunksFit}
-use Rattle.next_steps.proofs.Reaching.{IsStep, reached_keeps}
+use Rattle.machine_invariant.proofs.Keeping.{IsStep, reached_keeps}
 use Rattle.next_steps.proofs.Parts.{each_part}
 use Rattle.next_steps.proofs.Runs.{OutOfRun, out_of_run}
 use Rattle.next_steps.proofs.Fits.{open_fits, used_here, LeavesFree, by_same, inside_free, publishes_at, outside_free}

@@ -1,5 +1,4 @@
 mod Touched
-pub mod Reaching
 pub mod Parts
 pub mod Runs
 mod Clock

@@ -4,12 +4,12 @@ use Rattle.std.proofs.Common.{◌≡◌, ℕ, zero, suc, ◌<◌, ◌≤◌, Lis
 use Rattle.std.proofs.lemmas.Bool.Decides.{nat_tests}
 use Rattle.std.proofs.lemmas.Bool.{cases_lt}
 use Rattle.std.proofs.lemmas.List.{get_or_past}
-use Rattle.section_body.specs.declared.micro.Micro.{Micro}
-use Rattle.section_body.specs.declared.micro.Micro.TheVariants as micros
-use Rattle.section_body.specs.declared.step.Step.{Step}
-use Rattle.section_body.specs.declared.thunk.Thunk.{Thunk}
-use Rattle.section_body.specs.Shape.{IsShaped}
-use Rattle.section_body.specs.Line.{is_check, is_commit, is_end, is_event, micro_at, releases, ending, committed}
+use Rattle.body_terms.specs.declared.micro.Micro.{Micro}
+use Rattle.body_terms.specs.declared.micro.Micro.TheVariants as micros
+use Rattle.body_terms.specs.declared.step.Step.{Step}
+use Rattle.body_terms.specs.declared.thunk.Thunk.{Thunk}
+use Rattle.body_terms.specs.Shape.{IsShaped}
+use Rattle.body_terms.specs.Line.{is_check, is_commit, is_end, is_event, micro_at, releases, ending, committed}
 use Rattle.section_lines.specs.Line.{IsInPhases, IsCounted, IsResolved, IsOrdered}
 use Rattle.section_lines.proofs.Counted.{is_counted}
 use Rattle.section_lines.proofs.Ordered.{is_ordered}

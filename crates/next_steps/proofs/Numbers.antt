@@ -32,7 +32,7 @@ use Rattle.machine_invariant.specs.Whole.{Beside, states_of, IsWhole}
 use Rattle.machine_invariant.proofs.After.{reached_whole}
 use Rattle.machine_invariant.proofs.Asked.{entered_at}
 use Rattle.next_steps.specs.Numbers.{PartFits, NumbersFit}
-use Rattle.next_steps.proofs.Reaching.{IsStep, reached_keeps}
+use Rattle.machine_invariant.proofs.Keeping.{IsStep, reached_keeps}
 use Rattle.next_steps.proofs.Parts.{each_part}
 use Rattle.next_steps.proofs.Fits.{safe_within}
 use Rattle.next_steps.proofs.PartNumbers.{inside_fits, outside_fits}

@@ -2,11 +2,11 @@
 use Rattle.std.specs.Prelude.{◌⊎◌, slice_index_or, true, false}
 use Rattle.std.proofs.Common.{◌≡◌, ℕ, zero, suc, ◌<◌, ◌≤◌, List, [], ◌∷◌, length, take, inl, inr, ⊎_elim, sym, refl, ap, ◌∙◌, subst, arith, Some}
 use Rattle.map_history.specs.declared.op.Request.{Request}
-use Rattle.section_body.specs.declared.micro.Micro.{Micro}
-use Rattle.section_body.specs.declared.micro.Micro.TheVariants as micros
-use Rattle.section_body.specs.declared.thunk.Thunk.{Thunk}
-use Rattle.section_body.specs.Line.{is_check, line, micro_at, releases, ending}
-use Rattle.section_body.specs.Word.{is_free, is_spent}
+use Rattle.body_terms.specs.declared.micro.Micro.{Micro}
+use Rattle.body_terms.specs.declared.micro.Micro.TheVariants as micros
+use Rattle.body_terms.specs.declared.thunk.Thunk.{Thunk}
+use Rattle.body_terms.specs.Line.{is_check, line, micro_at, releases, ending}
+use Rattle.body_terms.specs.Word.{is_free, is_spent}
 use Rattle.section_lines.proofs.Sources.{of_take}
 use Rattle.section_lines.proofs.Ordered.{is_ordered}
 use Rattle.table_words.specs.declared.layout.Layout.{Layout}

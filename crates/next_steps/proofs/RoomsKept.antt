@@ -4,13 +4,13 @@ use Rattle.std.proofs.Common.{◌≡◌, ◌≢◌, ℕ, suc, ◌+◌, ◌<◌, 
 use Rattle.std.proofs.lemmas.Bool.Decides.{nat_tests}
 use Rattle.std.proofs.lemmas.Bool.{cases_eq}
 use Rattle.map_history.specs.declared.op.Request.{Request}
-use Rattle.section_body.specs.Memory.{cell_of}
-use Rattle.section_body.specs.Word.{version_of}
-use Rattle.section_body.specs.Line.{is_check, line, micro_at}
-use Rattle.section_body.specs.Run.{settled, written_once}
-use Rattle.section_body.specs.declared.micro.Micro.{Micro}
-use Rattle.section_body.specs.declared.micro.Micro.TheVariants as micros
-use Rattle.section_body.specs.declared.micro.Source.{Source}
+use Rattle.body_terms.specs.Memory.{cell_of}
+use Rattle.body_terms.specs.Word.{version_of}
+use Rattle.body_terms.specs.Line.{is_check, line, micro_at}
+use Rattle.body_terms.specs.Run.{settled, written_once}
+use Rattle.body_terms.specs.declared.micro.Micro.{Micro}
+use Rattle.body_terms.specs.declared.micro.Micro.TheVariants as micros
+use Rattle.body_terms.specs.declared.micro.Source.{Source}
 use Rattle.section_lines.proofs.Ordered.{is_ordered}
 use Rattle.table_words.specs.declared.layout.Layout.{Layout}
 use Rattle.table_words.specs.declared.spot.Spot.{Spot}
@@ -56,7 +56,7 @@ use Rattle.machine_invariant.specs.Whole.{Beside, IsWhole}
 use Rattle.machine_invariant.proofs.Parts.{is_making, inside_made, outside_made}
 use Rattle.machine_invariant.proofs.Thunks.{is_private_store}
 use Rattle.next_steps.specs.Rooms.{filling, CellHasRoom, MakeHasRoom, SlotsHaveRoom}
-use Rattle.next_steps.proofs.Reaching.{IsStep}
+use Rattle.machine_invariant.proofs.Keeping.{IsStep}
 use Rattle.next_steps.proofs.Parts.{each_part}
 use Rattle.next_steps.proofs.Tests.{last_listed}
 use Rattle.next_steps.proofs.Fits.{unlisted}

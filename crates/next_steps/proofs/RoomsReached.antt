@@ -3,8 +3,8 @@ use Rattle.std.specs.Prelude.{◌*◌, nat_lt, cond, true, false}
 use Rattle.std.proofs.Common.{◌≡◌, ℕ, ◌+◌, ◌<◌, ◌≤◌, inl, sym, refl, ap, ◌∙◌, subst, arith, List, None}
 use Rattle.std.proofs.lemmas.Bool.Decides.{nat_tests}
 use Rattle.map_history.specs.declared.op.Request.{Request}
-use Rattle.section_body.specs.Memory.{cell_of}
-use Rattle.section_body.specs.Word.{version_of, pack}
+use Rattle.body_terms.specs.Memory.{cell_of}
+use Rattle.body_terms.specs.Word.{version_of, pack}
 use Rattle.table_words.specs.declared.layout.Layout.{Layout}
 use Rattle.table_words.specs.declared.spot.Spot.TheVariants.{Cell}
 use Rattle.table_words.specs.Limits.{IsWithinLimits}
@@ -23,12 +23,12 @@ use Rattle.machine_states.proofs.FirstSights.{first_parts}
 use Rattle.machine_states.proofs.Sights.{some_none}
 use Rattle.machine_epochs.specs.Entries.{counts_of}
 use Rattle.machine_epochs.proofs.FirstJoin as FirstJoin
-use Rattle.machine_slots.proofs.Locks.{unfixed}
+use Rattle.machine_invariant.specs.machine_slots.proofs.Locks.{unfixed}
 use Rattle.machine_invariant.specs.After.{AreAllowed}
 use Rattle.machine_invariant.specs.Whole.{Beside, states_of, IsWhole}
 use Rattle.machine_invariant.proofs.First.{first_beside, first_whole}
 use Rattle.next_steps.specs.Rooms.{RoomsStand}
-use Rattle.next_steps.proofs.Reaching.{reached_keeps}
+use Rattle.machine_invariant.proofs.Keeping.{reached_keeps}
 use Rattle.next_steps.proofs.Standing.{own_node, own_free}
 use Rattle.next_steps.proofs.RoomsKept.{rooms_kept}
 use Rattle.machine_invariant.proofs.Basics.{not_both}

@@ -1,8 +1,8 @@
 -- The steps that leave a runner's slots with it as they are.
 use Rattle.std.specs.Prelude.{◌==◌, nat_lt, Bool, true, false, if◌then◌else◌}
 use Rattle.std.proofs.Common.{◌≡◌, ℕ, refl, ap, Option, Some, None}
-use Rattle.section_body.specs.Line.{is_end}
-use Rattle.section_body.specs.declared.micro.Micro.{Micro}
+use Rattle.body_terms.specs.Line.{is_end}
+use Rattle.body_terms.specs.declared.micro.Micro.{Micro}
 use Rattle.table_words.specs.declared.layout.Layout.{Layout}
 use Rattle.structure_laws.specs.Meaning.{Meaning}
 use Rattle.runner_parts.specs.declared.entries.Published.{Published}

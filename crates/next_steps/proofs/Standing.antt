@@ -4,11 +4,11 @@ use Rattle.std.proofs.Common.{◌≡◌, ◌≢◌, ℕ, ◌<◌, List, ⊎_elim
 use Rattle.std.proofs.lemmas.Bool.Decides.{nat_tests}
 use Rattle.std.proofs.lemmas.Bool.{cases_eq, cases_lt}
 use Rattle.map_history.specs.declared.op.Request.{Request}
-use Rattle.section_body.specs.declared.micro.Micro.TheVariants as micros
-use Rattle.section_body.specs.declared.thunk.Thunk.{Thunk}
-use Rattle.section_body.specs.Memory.{cell_of}
-use Rattle.section_body.specs.Run.{source_value}
-use Rattle.section_body.specs.Word.{value_of, next_word, held_word}
+use Rattle.body_terms.specs.declared.micro.Micro.TheVariants as micros
+use Rattle.body_terms.specs.declared.thunk.Thunk.{Thunk}
+use Rattle.body_terms.specs.Memory.{cell_of}
+use Rattle.body_terms.specs.Run.{source_value}
+use Rattle.body_terms.specs.Word.{value_of, next_word, held_word}
 use Rattle.table_words.specs.declared.layout.Layout.{Layout}
 use Rattle.table_words.specs.declared.spot.Spot.{Spot}
 use Rattle.table_words.specs.declared.spot.Spot.TheVariants as spots
@@ -23,7 +23,7 @@ use Rattle.structure_laws.specs.Laws.{Laws}
 use Rattle.structure_laws.specs.Cells.{IsKnown}
 use Rattle.structure_laws.proofs.Changes.{upd_same}
 use Rattle.machine_invariant.specs.After.{AreAllowed}
-use Rattle.next_steps.proofs.Reaching.{IsStep}
+use Rattle.machine_invariant.proofs.Keeping.{IsStep}
 use Rattle.runner_parts.specs.declared.event.EventKind.{EventKind}
 use Rattle.runner_parts.specs.declared.event.EventKind.TheVariants as kinds
 use Rattle.runner_parts.specs.State.{PartState}
@@ -43,8 +43,8 @@ use Rattle.machine_scenes.specs.Kinds.{is_plain}
 use Rattle.machine_scenes.specs.Steps.{Agreement}
 use Rattle.machine_invariant.specs.machine_agreement.proofs.LineAsked.{exchange_asked, nested_hold_asked, release_asked}
 use Rattle.machine_invariant.specs.machine_agreement.proofs.RunPlaces.{before}
-use Rattle.machine_slots.proofs.Cells.{hands_stand}
-use Rattle.machine_slots.proofs.Locks.{held_used, unfixed, locks_free, known_held}
+use Rattle.machine_invariant.specs.machine_slots.proofs.Cells.{hands_stand}
+use Rattle.machine_invariant.specs.machine_slots.proofs.Locks.{held_used, unfixed, locks_free, known_held}
 use Rattle.machine_invariant.specs.Whole.{Beside, states_of, IsWhole}
 use Rattle.machine_invariant.proofs.Asked.{entered_at, source_same}
 use Rattle.machine_invariant.proofs.SuppliesSections.{request_allowed}

@@ -3,14 +3,12 @@ use Rattle.std.specs.Prelude.{◌==◌, ◌||◌, ◌-◌, not, cond, slice_inde
 use Rattle.std.proofs.Common.{◌⊎◌, inl, inr, ◌≡◌, ◌≢◌, ℕ, ◌<◌, List, [], ◌∷◌, ◌++◌, length, sym, refl, ap, ◌∙◌, arith, Some, None}
 use Rattle.std.proofs.lemmas.Bool.Decides.{nat_tests}
 use Rattle.std.proofs.lemmas.List.Folds.{list_any_at}
+use Rattle.small_lemmas.proofs.Numbers.{equal_tested as equal_test, other_tested as differ_test}
 use Rattle.runner_parts.specs.declared.entries.Tested.{Tested}
 use Rattle.runner_parts.specs.Tests.{has}
 use Rattle.runner_parts.specs.Lists.{without, test_of, tests_without}
 use Rattle.runner_steps.specs.InRun.{last_of, is_slot}
 use Rattle.machine_epochs.proofs.Places.{has_append}
-
-equal_test : (a b : ℕ) → a ≡ b → (a == b) ≡ true
-equal_test a b e = grind (arith, nat_tests)
 
 -- the last of a list is one of it
 pub last_listed : (xs : List ℕ) (t : ℕ) → is_slot (last_of xs) t ≡ true → has xs t ≡ true
@@ -62,9 +60,6 @@ test_slot (x ∷ xs) t = by (x.slot == t) refl (test_slot xs t)
     by : (b : Bool) → (x.slot == t) ≡ b → (test_of xs t).slot ≡ t → (if b then x else test_of xs t).slot ≡ t
     by true e rest = same x.slot t e
     by false e rest = rest
-
-differ_test : (a b : ℕ) → a ≢ b → (a == b) ≡ false
-differ_test a b ne = grind (arith, nat_tests)
 
 -- without the entries for one slot the others' stand
 pub tests_without_other : (xs : List Tested) (d t : ℕ) → t ≢ d → test_of (tests_without xs d) t ≡ test_of xs t

@@ -1,7 +1,7 @@
 -- The next step of a run is enabled.
 use Rattle.std.specs.Prelude.{ℕ, ◌<◌, ◌≤◌, ◌≡◌, true, false, List, length, slice_get, Some}
 use Rattle.map_history.specs.declared.op.Request.{Request}
-use Rattle.section_body.specs.Shape.{IsShaped}
+use Rattle.body_terms.specs.Shape.{IsShaped}
 use Rattle.table_words.specs.Places.{descriptor_count}
 use Rattle.table_words.specs.declared.layout.Layout.{Layout}
 use Rattle.table_words.specs.declared.spot.Spot.{Spot}
@@ -43,7 +43,8 @@ pub record NextIsEnabled (m : Meaning) (l : Layout) (requests : List Request) (s
       → Meets m l requests r (s.part r) (kind_at (s.part r) q (next_of m q)) (ask_at m (s.part r) q (next_of m q))
 
 -- an event of a runner that has this part in this state: it is enabled and meets this word, and the machine can make it
-pub record CanMake (m : Meaning) (l : Layout) (requests : List Request) (w : World) (r : ℕ) (p : PartState) (kind : EventKind)
+pub record CanMake (m : Meaning) (l : Layout) (requests : List Request) (w : World) (r : ℕ) (p : PartState)
+    (kind : EventKind)
     (x : Spot × Access) : Type 0 where
   pub meets : Meets m l requests r p kind x
   pub next : World

@@ -4,5 +4,6 @@ pub mod Numbers
 pub mod Enabled
 pub mod Stages
 -- Passed on to the layers above, so that they needn't name these libraries themselves.
+pub use Rattle.machine_invariant.specs.machine_slots
 pub use Rattle.machine_invariant.specs.machine_agreement
 pub use Rattle.machine_invariant

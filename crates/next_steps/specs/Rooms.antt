@@ -1,12 +1,12 @@
 -- The numbers that the steps of runs ask for fit their words.
 use Rattle.std.specs.Prelude.{ℕ, zero, suc, ◌+◌, ◌*◌, ◌/◌, ◌<◌, ◌≤◌, ◌≡◌, ◌==◌, cond, true, false, List, length, Option, Some, None}
 use Rattle.map_history.specs.declared.op.Request.{Request}
-use Rattle.section_body.specs.Line.{line, micro_at}
-use Rattle.section_body.specs.Memory.{cell_of}
-use Rattle.section_body.specs.Word.{version_of}
-use Rattle.section_body.specs.declared.micro.Micro.{Micro}
-use Rattle.section_body.specs.declared.micro.Micro.TheVariants as micros
-use Rattle.section_body.specs.declared.thunk.Thunk.{Thunk}
+use Rattle.body_terms.specs.Line.{line, micro_at}
+use Rattle.body_terms.specs.Memory.{cell_of}
+use Rattle.body_terms.specs.Word.{version_of}
+use Rattle.body_terms.specs.declared.micro.Micro.{Micro}
+use Rattle.body_terms.specs.declared.micro.Micro.TheVariants as micros
+use Rattle.body_terms.specs.declared.thunk.Thunk.{Thunk}
 use Rattle.table_words.specs.Places.{slot_count, descriptor_count}
 use Rattle.table_words.specs.declared.layout.Layout.{Layout}
 use Rattle.table_words.specs.declared.spot.Spot.{Spot}

@@ -1,11 +1,11 @@
 -- The steps of a run, for a caller that has its runner's part: which one it may make, and what the part is then.
 use Rattle.std.specs.Prelude.{ℕ, ◌+◌, ◌<◌, ◌≡◌, ◌==◌, ◌||◌, true, false, List, [], ◌∷◌, ◌++◌, length, slice_get, Option, Some, None, if◌then◌else◌}
 use Rattle.map_history.specs.declared.op.Request.{Request}
-use Rattle.section_body.specs.declared.micro.Micro.{Micro}
-use Rattle.section_body.specs.declared.micro.Micro.TheVariants as micros
-use Rattle.section_body.specs.Line.{is_end}
-use Rattle.section_body.specs.Run.{source_value, written_once}
-use Rattle.section_body.specs.Word.{version_of, next_word}
+use Rattle.body_terms.specs.declared.micro.Micro.{Micro}
+use Rattle.body_terms.specs.declared.micro.Micro.TheVariants as micros
+use Rattle.body_terms.specs.Line.{is_end}
+use Rattle.body_terms.specs.Run.{source_value, written_once}
+use Rattle.body_terms.specs.Word.{version_of, next_word}
 use Rattle.table_words.specs.declared.layout.Layout.{Layout}
 use Rattle.table_words.specs.declared.spot.Spot.{Spot}
 use Rattle.table_words.specs.declared.access.Access.{Access}
@@ -24,7 +24,8 @@ use Rattle.next_steps.specs.Steps.{slot_in, kind_at, ask_at, opening_kind, opene
 use Rattle.next_steps.specs.Enabled.{Meets, IsInTable}
 
 -- a runner with this part, which wasn't joined and is in this run, in a state that the machine reaches
-pub record IsInRun (m : Meaning) (l : Layout) (requests : List Request) (r : ℕ) (p : PartState) (q : RunState) : Type 0 where
+pub record IsInRun (m : Meaning) (l : Layout) (requests : List Request) (r : ℕ) (p : PartState)
+    (q : RunState) : Type 0 where
   pub present : p.gone ≡ false
   pub running : p.run ≡ Some q
   pub world : World
@@ -105,7 +106,8 @@ finished_behind m l p q (micros.Release place word) = let f = p.records.finished
 finished_behind m l p q _ = p.records.finished
 
 -- what the part is behind this step of the run
-pub record IsBehind (m : Meaning) (l : Layout) (p : PartState) (q : RunState) (micro : Micro) (found : ℕ) (p' : PartState) : Type 0 where
+pub record IsBehind (m : Meaning) (l : Layout) (p : PartState) (q : RunState) (micro : Micro) (found : ℕ)
+    (p' : PartState) : Type 0 where
   pub run : p'.run ≡ run_behind m l p q micro found
   pub nodes : p'.nodes ≡ nodes_behind p q micro found
   pub reads : p'.reads ≡ reads_behind p q micro found

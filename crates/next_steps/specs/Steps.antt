@@ -1,10 +1,10 @@
 -- Which event a run makes next.
 use Rattle.std.specs.Prelude.{ℕ, zero, ◌+◌, ◌/◌, slice_index, Bool, true, is_some, nat_lt, length, Option, Some, None, if◌then◌else◌}
-use Rattle.section_body.specs.declared.micro.Micro.{Micro}
-use Rattle.section_body.specs.declared.micro.Micro.TheVariants as micros
-use Rattle.section_body.specs.Memory.{cell_of}
-use Rattle.section_body.specs.Word.{next_word, held_word}
-use Rattle.section_body.specs.Run.{source_value}
+use Rattle.body_terms.specs.declared.micro.Micro.{Micro}
+use Rattle.body_terms.specs.declared.micro.Micro.TheVariants as micros
+use Rattle.body_terms.specs.Memory.{cell_of}
+use Rattle.body_terms.specs.Word.{next_word, held_word}
+use Rattle.body_terms.specs.Run.{source_value}
 use Rattle.table_words.specs.declared.spot.Spot.{Spot}
 use Rattle.table_words.specs.declared.spot.Spot.TheVariants.{Epoch, Clock, Stamp, Reply, Cell, ThunkWord, DoneWord, LogWord}
 use Rattle.table_words.specs.declared.access.Access.{Access}
@@ -91,7 +91,10 @@ ask_at m p q (micros.Release place word) =
 -- the word that the opening loads next
 abbrev pub opened_next : RunState → Spot × Access
 opened_next q =
-    if nat_lt (length q.opened) 12 then (ThunkWord q.descriptor (length q.opened), Loads) else (DoneWord q.descriptor, Loads)
+    if nat_lt (length q.opened) 12 then (ThunkWord q.descriptor (length q.opened), Loads) else (
+      DoneWord q.descriptor,
+      Loads,
+    )
 
 -- the word that a run meets next, and what it does there
 abbrev pub next_ask : Meaning → PartState → RunState → Spot × Access

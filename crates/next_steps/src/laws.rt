@@ -12,7 +12,7 @@ ghost use Rattle.next_steps.specs.Numbers.{NumbersFit};
 ghost use Rattle.next_steps.specs.Enabled.{NextIsEnabled, RunsGoOn};
 ghost use Rattle.next_steps.specs.Stages.{RunsAreInTable, MayOpen, ThenOpened, MayStep, CommitsBehind, ThenStepped};
 
-use runner_parts::Structure;
+use structure_laws::Structure;
 
 /// Over every structure, in every state that the machine reaches: a runner that is in a run and wasn't
 /// joined has an enabled event. Until the run has loaded the thunk and the done word it is the next of

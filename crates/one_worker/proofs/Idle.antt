@@ -4,9 +4,9 @@ use Rattle.std.specs.List.{filter}
 use Rattle.std.proofs.Common.{◌≡◌, ◌≢◌, ℕ, ◌+◌, ◌≤◌, List, [], ◌∷◌, ◌++◌, refl, sym, ap, ◌∙◌, subst, ⊎_elim, arith, Option, Some, None}
 use Rattle.std.proofs.lemmas.Bool.{cases_eq}
 use Rattle.std.proofs.lemmas.Bool.Decides.{nat_tests}
-use Rattle.section_body.specs.Line.{is_end}
-use Rattle.section_body.specs.declared.micro.Micro.{Micro}
-use Rattle.section_body.specs.declared.thunk.Thunk.{Thunk}
+use Rattle.body_terms.specs.Line.{is_end}
+use Rattle.body_terms.specs.declared.micro.Micro.{Micro}
+use Rattle.body_terms.specs.declared.thunk.Thunk.{Thunk}
 use Rattle.table_words.specs.declared.layout.Layout.{Layout}
 use Rattle.table_words.specs.Places.{slot_count}
 use Rattle.structure_laws.specs.Meaning.{Meaning}
@@ -34,7 +34,7 @@ use Rattle.epoch_core.specs.Lists.{times, in_hand}
 use Rattle.epoch_core.proofs.Times.{times-append}
 use Rattle.machine_states.specs.Sight.{Sight}
 use Rattle.machine_epochs.specs.Joined as joins
-use Rattle.reached_histories.specs.machine_invariant.proofs.Slots.{nodes_stand}
+use Rattle.runner_facts.specs.machine_invariant.proofs.Slots.{nodes_stand}
 
 -- how often a slot stands in a runner's hand, free list and worn list
 abbrev pub idle_times : NodesState → ℕ → ℕ

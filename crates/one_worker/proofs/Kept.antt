@@ -3,8 +3,9 @@ use Rattle.std.specs.Prelude.{◌==◌, ◌⊎◌, Bool, true, false, slice_get,
 use Rattle.std.proofs.Common.{◌≡◌, ℕ, ◌<◌, ◌≤◌, List, [], refl, sym, ap, ◌∙◌, subst, ⊎_elim, inl, inr, arith, Option, Some, None}
 use Rattle.std.proofs.lemmas.Bool.Decides.{nat_tests}
 use Rattle.std.proofs.lemmas.Bool.{both_ways}
+use Rattle.small_lemmas.proofs.Numbers.{equal_tested as same_test}
 use Rattle.map_history.specs.declared.op.Request.{Request}
-use Rattle.section_body.specs.Memory.{cell_of}
+use Rattle.body_terms.specs.Memory.{cell_of}
 use Rattle.table_words.specs.declared.layout.Layout.{Layout}
 use Rattle.table_words.specs.declared.spot.Spot.{Spot}
 use Rattle.table_words.specs.declared.spot.Spot.TheVariants as spots
@@ -28,12 +29,12 @@ use Rattle.machine_states.proofs.Sights.{cond_none, unless_gone, joins}
 use Rattle.machine_states.proofs.Steps.{none_some}
 use Rattle.machine_states.proofs.Updates.{upd_here}
 use Rattle.machine_epochs.proofs.OutsideAsked.{enter_again_asked, read_asked}
-use Rattle.reached_histories.specs.machine_agreement.proofs.Releases.{get_more}
-use Rattle.reached_histories.specs.machine_invariant.specs.Whole.{IsWhole}
-use Rattle.reached_histories.specs.machine_records.specs.Kept.{link_of}
-use Rattle.reached_histories.specs.next_steps.proofs.Parts.{each_part}
-use Rattle.reached_histories.specs.Laws.{HasHistory}
-use Rattle.version_counts.specs.Versions.{open_count}
+use Rattle.runner_facts.specs.machine_agreement.proofs.Releases.{get_more}
+use Rattle.runner_facts.specs.machine_invariant.specs.Whole.{IsWhole}
+use Rattle.resource_bounds.specs.reached_histories.specs.Kept.{link_of}
+use Rattle.runner_facts.specs.next_steps.proofs.Parts.{each_part}
+use Rattle.resource_bounds.specs.reached_histories.specs.Laws.{HasHistory}
+use Rattle.resource_bounds.specs.Versions.{open_count}
 use Rattle.one_worker.specs.Alone.{NoneIsOpen}
 use Rattle.one_worker.proofs.Open.{owner, none_open}
 use Rattle.one_worker.proofs.Moves.{Stays, Enters, MovesBy, inside_moves, outside_moves}
@@ -57,9 +58,6 @@ pub record Holds (m : Meaning) (s : Sight) : Type 0 where
 
 pair_same : (a b c d : ℕ) → ◌≡◌ {A = ℕ × ℕ} (a, b) (c, d) → (a ≡ c) × (b ≡ d)
 pair_same a b c d e = (ap (λ (u : ℕ × ℕ). u.0) e, ap (λ (u : ℕ × ℕ). u.1) e)
-
-same_test : (a b : ℕ) → a ≡ b → (a == b) ≡ true
-same_test a b e = grind (arith, nat_tests)
 
 module _ (m : Meaning) (l : Layout) (rs : List Request) (s s' : Sight) (r : ℕ) (kind : EventKind) (st : Steps m l rs s s' r kind)
     (before : HasHistory m l rs s) (after : HasHistory m l rs s') (one : l.runners ≡ 1) (old : Holds m s) where

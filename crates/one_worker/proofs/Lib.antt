@@ -6,3 +6,14 @@ pub mod Open
 pub mod Places
 mod Quiet
 pub mod Reached
+pub mod EpochsReached
+pub mod Onward
+mod Lines
+mod Parts
+mod Cells
+mod Goes
+mod State
+mod SectionsKept
+mod Published
+mod Ends
+pub mod SectionsReached

@@ -10,7 +10,7 @@ use Rattle.table_words.specs.declared.access.Access.TheVariants.{Exchanges}
 use Rattle.table_words.specs.Access.{written, exchanged}
 use Rattle.table_words.specs.Seen.{put}
 use Rattle.machine_states.proofs.Updates.{upd_here, upd_else}
-use Rattle.version_counts.proofs.Words.{Stays}
+use Rattle.resource_bounds.proofs.Words.{Stays}
 
 pub test_same : (a b : ℕ) → (a == b) ≡ true → a ≡ b
 test_same a b e = grind (arith, nat_tests)

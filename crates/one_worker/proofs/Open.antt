@@ -2,21 +2,21 @@
 use Rattle.std.specs.Prelude.{◌==◌, ◌%◌, not, cond, Bool, true, false}
 use Rattle.std.proofs.Common.{◌≡◌, ◌≢◌, ℕ, zero, suc, List, refl, sym, ap, ◌∙◌, arith, Option, Some, None}
 use Rattle.map_history.specs.declared.op.Request.{Request}
-use Rattle.section_body.specs.Word.{value_of}
+use Rattle.body_terms.specs.Word.{value_of}
 use Rattle.table_words.specs.declared.layout.Layout.{Layout}
 use Rattle.structure_laws.specs.Meaning.{Meaning}
 use Rattle.runner_parts.specs.declared.entries.Published.{Published}
 use Rattle.agreement_core.specs.State.{AgreementState}
-use Rattle.history_core.specs.State.{Requests, HistoryState}
-use Rattle.history_core.specs.Sound.{IsSound}
+use Rattle.resource_bounds.specs.history_core.specs.State.{Requests, HistoryState}
+use Rattle.resource_bounds.specs.history_core.specs.Sound.{IsSound}
 use Rattle.machine_states.specs.Sight.{Sight}
-use Rattle.reached_histories.specs.machine_history.specs.Tied.{AreTied}
-use Rattle.reached_histories.specs.machine_agreement.proofs.RunPlaces.{used_here}
-use Rattle.reached_histories.specs.machine_invariant.specs.Whole.{states_of, IsWhole}
-use Rattle.reached_histories.specs.machine_records.specs.Requests.{requests_of}
-use Rattle.reached_histories.specs.machine_records.specs.Kept.{link_of}
-use Rattle.reached_histories.specs.Laws.{HasHistory}
-use Rattle.version_counts.specs.Versions.{open_count}
+use Rattle.resource_bounds.specs.machine_history.specs.Tied.{AreTied}
+use Rattle.runner_facts.specs.machine_agreement.proofs.RunPlaces.{used_here}
+use Rattle.runner_facts.specs.machine_invariant.specs.Whole.{states_of, IsWhole}
+use Rattle.resource_bounds.specs.reached_histories.specs.Requests.{requests_of}
+use Rattle.resource_bounds.specs.reached_histories.specs.Kept.{link_of}
+use Rattle.resource_bounds.specs.reached_histories.specs.Laws.{HasHistory}
+use Rattle.resource_bounds.specs.Versions.{open_count}
 use Rattle.one_worker.specs.Alone.{NoneIsOpen}
 
 module _ (m : Meaning) (l : Layout) (rs : List Request) (s : Sight) (stands : HasHistory m l rs s) (one : l.runners ≡ 1) where

@@ -15,11 +15,11 @@ use Rattle.epoch_core.specs.State.{IsKept, entry_of}
 use Rattle.machine_states.specs.Sight.{Sight}
 use Rattle.machine_epochs.specs.Entries.{counts_of}
 use Rattle.machine_scenes.specs.Shown.{scene_of, status_at}
-use Rattle.reached_histories.specs.machine_invariant.specs.Slots.{node_count, NodesStand}
-use Rattle.reached_histories.specs.machine_invariant.specs.Whole.{states_of, IsWhole}
-use Rattle.reached_histories.specs.machine_invariant.proofs.Asked.{entered_at}
-use Rattle.reached_histories.specs.machine_invariant.proofs.Slots.{nodes_stand}
-use Rattle.reached_histories.specs.Laws.{HasHistory}
+use Rattle.runner_facts.specs.machine_invariant.specs.Slots.{node_count, NodesStand}
+use Rattle.runner_facts.specs.machine_invariant.specs.Whole.{states_of, IsWhole}
+use Rattle.runner_facts.specs.machine_invariant.proofs.Asked.{entered_at}
+use Rattle.runner_facts.specs.machine_invariant.proofs.Slots.{nodes_stand}
+use Rattle.resource_bounds.specs.reached_histories.specs.Laws.{HasHistory}
 use Rattle.one_worker.specs.Alone.{ReadingsStand}
 use Rattle.one_worker.proofs.Kept.{IsIdlePlace, Holds}
 

@@ -4,12 +4,12 @@ use Rattle.std.proofs.Common.{◌≡◌, ◌≢◌, ℕ, suc, ◌<◌, ◌≤◌
 use Rattle.std.proofs.lemmas.Bool.{cases_eq}
 use Rattle.std.proofs.lemmas.Bool.Decides.{nat_tests}
 use Rattle.map_history.specs.declared.op.Request.{Request}
-use Rattle.section_body.specs.Line.{micro_at, is_event, is_commit}
-use Rattle.section_body.specs.Memory.{cell_of}
-use Rattle.section_body.specs.Word.{value_of, version_of, held_word}
-use Rattle.section_body.specs.declared.micro.Micro.{Micro}
-use Rattle.section_body.specs.declared.micro.Micro.TheVariants as micros
-use Rattle.section_body.specs.declared.thunk.Thunk.{Thunk}
+use Rattle.body_terms.specs.Line.{micro_at, is_event, is_commit}
+use Rattle.body_terms.specs.Memory.{cell_of}
+use Rattle.body_terms.specs.Word.{value_of, version_of, held_word}
+use Rattle.body_terms.specs.declared.micro.Micro.{Micro}
+use Rattle.body_terms.specs.declared.micro.Micro.TheVariants as micros
+use Rattle.body_terms.specs.declared.thunk.Thunk.{Thunk}
 use Rattle.section_lines.specs.Line.{IsLine}
 use Rattle.table_words.specs.declared.layout.Layout.{Layout}
 use Rattle.table_words.specs.declared.spot.Spot.{Spot}
@@ -37,13 +37,13 @@ use Rattle.machine_epochs.specs.Entries.{counts_of}
 use Rattle.machine_epochs.proofs.OutsideAsked.{HoldAsked, hold_asked}
 use Rattle.machine_epochs.proofs.RunPlaces.{next_in_line, open_run}
 use Rattle.machine_scenes.specs.Shown.{rules_of}
-use Rattle.machine_slots.proofs.Runs.{fill_low}
-use Rattle.reached_histories.specs.machine_agreement.specs.Joined.{IsRunOf}
-use Rattle.reached_histories.specs.machine_agreement.proofs.RunPlaces.{run_here, used_here, code_here}
-use Rattle.reached_histories.specs.machine_agreement.proofs.LineAsked as asked_line
-use Rattle.reached_histories.specs.machine_invariant.specs.Whole.{Beside, states_of, IsWhole}
-use Rattle.version_counts.proofs.Releases.{released_lock}
-use Rattle.version_counts.proofs.Words.{Stays, line_stays, opening_stays, outside_stays}
+use Rattle.runner_facts.specs.machine_slots.proofs.Runs.{fill_low}
+use Rattle.runner_facts.specs.machine_agreement.specs.Joined.{IsRunOf}
+use Rattle.runner_facts.specs.machine_agreement.proofs.RunPlaces.{run_here, used_here, code_here}
+use Rattle.runner_facts.specs.machine_agreement.proofs.LineAsked as asked_line
+use Rattle.runner_facts.specs.machine_invariant.specs.Whole.{Beside, states_of, IsWhole}
+use Rattle.resource_bounds.proofs.Releases.{released_lock}
+use Rattle.resource_bounds.proofs.Words.{Stays, line_stays, opening_stays, outside_stays}
 use Rattle.one_worker.proofs.OneCell.{test_same, other, misses}
 use Rattle.one_worker.specs.Alone.{NoneIsOpen}
 

@@ -17,8 +17,8 @@ use Rattle.machine_states.proofs.Reached.{first_reached, more_reached, reached_h
 use Rattle.machine_states.proofs.Sights.{happens_steps}
 use Rattle.machine_states.proofs.Steps.{none_some}
 use Rattle.machine_epochs.proofs.FirstJoin as FirstJoin
-use Rattle.reached_histories.specs.machine_invariant.specs.After.{AreAllowed}
-use Rattle.reached_histories.proofs.Histories.{reached_have}
+use Rattle.runner_facts.specs.machine_invariant.specs.After.{AreAllowed}
+use Rattle.resource_bounds.specs.reached_histories.proofs.Histories.{reached_have}
 use Rattle.one_worker.specs.Alone.{OneWorkerStands}
 use Rattle.one_worker.proofs.Open.{none_open}
 use Rattle.one_worker.proofs.Kept.{Holds, kept}

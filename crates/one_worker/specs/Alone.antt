@@ -1,6 +1,6 @@
 -- What stands where there is one worker.
 use Rattle.std.specs.Prelude.{ℕ, ◌≡◌, ◌≢◌, ◌⊎◌, true, false, [], slice_get, Some}
-use Rattle.section_body.specs.Word.{value_of}
+use Rattle.body_terms.specs.Word.{value_of}
 use Rattle.table_words.specs.declared.layout.Layout.{Layout}
 use Rattle.table_words.specs.declared.spot.Spot.TheVariants.{Cell, DoneWord}
 use Rattle.structure_laws.specs.Meaning.{Meaning}
@@ -8,7 +8,7 @@ use Rattle.structure_laws.specs.Cells.{IsKnown}
 use Rattle.epoch_core.specs.declared.stage.Stage.TheVariants.{Entered}
 use Rattle.runner_parts.specs.State.{RunState}
 use Rattle.machine_states.specs.Sight.{Sight}
-use Rattle.version_counts.specs.Versions.{open_count}
+use Rattle.resource_bounds.specs.Versions.{open_count}
 
 -- no section is under way: no lock names one, and whoever still runs one finds it done
 pub record NoneIsOpen (m : Meaning) (s : Sight) : Type 0 where
@@ -16,8 +16,8 @@ pub record NoneIsOpen (m : Meaning) (s : Sight) : Type 0 where
   pub done : (r : ℕ) (q : RunState) → (s.part r).run ≡ Some q → s.word (DoneWord q.descriptor) ≢ 0
 
 module _ (m : Meaning) where
-  -- what the worker has read in its walks since it entered stands, as long as it has published nothing since; of locks this is said
-  -- where the readings give the place
+  -- what the worker has read in its walks since it entered stands, as long as it has published nothing since; of locks
+  -- this is said where the readings give the place
   abbrev pub ReadingsStand : Sight → Type 0
   ReadingsStand s = (entry i place word : ℕ) → (s.part 0).stage ≡ Entered entry → (s.part 0).reads.published ≡ []
       → slice_get (s.part 0).reads.walk i ≡ Some (place, word)

@@ -1,8 +1,16 @@
-//! With one worker nobody comes between: what it has read stands until it publishes a section itself.
+//! With one worker nobody comes between.
 //!
-//! The definitions stand in specs.
+//! The definitions stand in specs: `Alone` has what stands until the worker publishes a section itself, `Lone` how its
+//! sections end, and `Uncrossed` who moves the epoch. `laws`, `sections` and `epochs` have the laws on contracts.
 #![tactic(auto)]
 
+mod epochs;
 mod laws;
+mod sections;
 
+pub use epochs::one_worker_is_uncrossed;
 pub use laws::one_worker_stands;
+pub use sections::lone_sections_go_through;
+
+// Passed on to the layers above, so that they needn't name these libraries themselves.
+pub use resource_bounds;

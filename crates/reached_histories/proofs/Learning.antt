@@ -9,23 +9,23 @@ use Rattle.structure_laws.specs.Meaning.{Meaning}
 use Rattle.structure_laws.specs.Laws.{Laws}
 use Rattle.runner_parts.specs.Tests.{has}
 use Rattle.epoch_core.specs.State.{Counts}
-use Rattle.history_core.specs.State.{Requests, HistoryState}
-use Rattle.history_core.specs.Events as history
-use Rattle.history_core.specs.Schedules.{after_all}
+use Rattle.machine_history.specs.history_core.specs.State.{Requests, HistoryState}
+use Rattle.machine_history.specs.history_core.specs.Events as history
+use Rattle.machine_history.specs.history_core.specs.Schedules.{after_all}
 use Rattle.machine_states.specs.Sight.{Sight}
 use Rattle.machine_epochs.specs.Entries.{counts_of}
 use Rattle.machine_scenes.specs.Shown.{States}
-use Rattle.machine_records.specs.machine_history.specs.Steps.{Over, Learn}
-use Rattle.machine_records.specs.machine_history.specs.Laws.{IsJoined}
-use Rattle.machine_records.specs.machine_history.proofs.Joining.{steps_keep}
-use Rattle.machine_records.specs.machine_invariant.specs.Whole.{Beside, states_of, IsWhole}
-use Rattle.machine_records.specs.machine_facts.specs.Known.{KnownStand}
-use Rattle.machine_records.specs.Requests.{requests_of}
-use Rattle.machine_records.specs.Kept.{link_of, AreKept}
-use Rattle.machine_records.specs.Told.{RunsAreTold}
-use Rattle.machine_records.specs.Keeping.{answered_in, learns, ends, IsAtItsEnd}
-use Rattle.machine_records.proofs.Keeping.{answered_is}
-use Rattle.machine_records.proofs.Ending.{answered_learned, ends_over}
+use Rattle.machine_history.specs.Steps.{Over, Learn}
+use Rattle.machine_history.specs.Laws.{IsJoined}
+use Rattle.machine_history.proofs.Joining.{steps_keep}
+use Rattle.machine_facts.specs.machine_invariant.specs.Whole.{Beside, states_of, IsWhole}
+use Rattle.machine_facts.specs.Known.{KnownStand}
+use Rattle.reached_histories.specs.Requests.{requests_of}
+use Rattle.reached_histories.specs.Kept.{link_of, AreKept}
+use Rattle.machine_facts.specs.Told.{RunsAreTold}
+use Rattle.reached_histories.specs.Keeping.{answered_in, learns, ends, IsAtItsEnd}
+use Rattle.reached_histories.proofs.Keeping.{answered_is}
+use Rattle.reached_histories.proofs.Ending.{answered_learned, ends_over}
 use Rattle.reached_histories.proofs.Quietly.{KnowsAlike, with_history}
 
 -- the same events of learning leave alike what is known and published

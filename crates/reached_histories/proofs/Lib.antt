@@ -6,3 +6,9 @@ pub mod Reached
 mod Words
 pub mod RealTime
 pub mod Histories
+pub mod First
+pub mod Supplying
+pub mod Ending
+pub mod Parts
+pub mod Keeping
+pub mod Publishing

@@ -6,12 +6,12 @@ use Rattle.std.proofs.Math.Seq.{take-length}
 use Rattle.structure_laws.proofs.Changes.{upd_same, upd_other}
 use Rattle.runner_parts.specs.declared.entries.Known.{Known}
 use Rattle.runner_parts.specs.Tests.{is_answered}
-use Rattle.history_core.specs.State.{Requests, HistoryState}
-use Rattle.history_core.specs.Events as history
-use Rattle.history_core.specs.Schedules.{after_all}
-use Rattle.history_core.specs.Sound.{IsSound}
-use Rattle.history_core.proofs.RealTime.{Passes, passes_nowhere, passes_more, event_passes}
-use Rattle.machine_records.specs.Keeping.{learns, ends}
+use Rattle.machine_history.specs.history_core.specs.State.{Requests, HistoryState}
+use Rattle.machine_history.specs.history_core.specs.Events as history
+use Rattle.machine_history.specs.history_core.specs.Schedules.{after_all}
+use Rattle.machine_history.specs.history_core.specs.Sound.{IsSound}
+use Rattle.machine_history.specs.history_core.proofs.RealTime.{Passes, passes_nowhere, passes_more, event_passes}
+use Rattle.reached_histories.specs.Keeping.{learns, ends}
 use Rattle.reached_histories.proofs.Quietly.{GoesOn, IsStampedBy, zero_or_some, up_to}
 
 -- the section for the request `q` in the descriptor `d`, published by this worker when it knew the first `k` of these words

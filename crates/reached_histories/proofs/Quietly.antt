@@ -4,8 +4,8 @@ use Rattle.std.proofs.Common.{◌≡◌, ◌≢◌, ℕ, zero, suc, ◌≤◌, L
 use Rattle.std.proofs.lemmas.Bool.{cases_eq}
 use Rattle.std.proofs.lemmas.Bool.Decides.{nat_tests}
 use Rattle.map_history.specs.declared.op.Request.{Request}
-use Rattle.section_body.specs.Update.{upd}
-use Rattle.section_body.specs.declared.micro.Micro.TheVariants as micros
+use Rattle.body_terms.specs.Update.{upd}
+use Rattle.body_terms.specs.declared.micro.Micro.TheVariants as micros
 use Rattle.structure_laws.proofs.Changes.{upd_same, upd_other}
 use Rattle.table_words.specs.declared.layout.Layout.{Layout}
 use Rattle.table_words.specs.Limits.{IsWithinLimits}
@@ -15,21 +15,21 @@ use Rattle.agreement_core.specs.State.{AgreementState}
 use Rattle.agreement_core.specs.Checks.{is_stamp_exchange}
 use Rattle.agreement_core.specs.Events as agreement
 use Rattle.epoch_core.specs.State.{Counts}
-use Rattle.history_core.specs.State.{Requests, HistoryState}
-use Rattle.history_core.specs.Events as history
-use Rattle.history_core.specs.Schedules as schedules
-use Rattle.history_core.specs.Sound.{IsSound}
-use Rattle.history_core.proofs.RealTime.{Passes, passes_nowhere, passes_more, event_passes}
+use Rattle.machine_history.specs.history_core.specs.State.{Requests, HistoryState}
+use Rattle.machine_history.specs.history_core.specs.Events as history
+use Rattle.machine_history.specs.history_core.specs.Schedules as schedules
+use Rattle.machine_history.specs.history_core.specs.Sound.{IsSound}
+use Rattle.machine_history.specs.history_core.proofs.RealTime.{Passes, passes_nowhere, passes_more, event_passes}
 use Rattle.machine_epochs.specs.Entries.{counts_of}
 use Rattle.machine_scenes.specs.Shown.{States}
 use Rattle.machine_scenes.specs.Steps as scenes
 use Rattle.machine_scenes.specs.Schedules as scene_lists
-use Rattle.machine_records.specs.machine_history.specs.Tied.{is_loading}
-use Rattle.machine_records.specs.machine_history.specs.Steps.{HistoryStates, Joint, events_of, is_publication, MayFree}
-use Rattle.machine_records.specs.machine_history.specs.Laws.{IsJoined}
-use Rattle.machine_records.specs.machine_history.proofs.Joining.{steps_keep}
-use Rattle.machine_records.specs.machine_invariant.proofs.Jointly.{IsQuietStep, AreQuietSteps, JointSteps}
-use Rattle.machine_records.specs.Requests.{requests_of}
+use Rattle.machine_history.specs.Tied.{is_loading}
+use Rattle.machine_history.specs.Steps.{HistoryStates, Joint, events_of, is_publication, MayFree}
+use Rattle.machine_history.specs.Laws.{IsJoined}
+use Rattle.machine_history.proofs.Joining.{steps_keep}
+use Rattle.machine_facts.specs.machine_invariant.proofs.Jointly.{IsQuietStep, AreQuietSteps, JointSteps}
+use Rattle.reached_histories.specs.Requests.{requests_of}
 
 -- the same is known and published
 pub record KnowsAlike (w v : HistoryState) : Type 0 where

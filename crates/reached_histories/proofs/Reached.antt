@@ -7,7 +7,7 @@ use Rattle.structure_laws.specs.Meaning.{Meaning}
 use Rattle.structure_laws.specs.Laws.{Laws}
 use Rattle.runner_parts.specs.declared.event.Event.{Event}
 use Rattle.runner_parts.specs.State.{PartState}
-use Rattle.history_core.specs.Schedules.{first_state}
+use Rattle.machine_history.specs.history_core.specs.Schedules.{first_state}
 use Rattle.machine_states.specs.World.{World, happens}
 use Rattle.machine_states.specs.First.{IsFirst}
 use Rattle.machine_states.specs.Reached.{Reached}
@@ -19,15 +19,15 @@ use Rattle.machine_epochs.specs.Entries.{counts_of}
 use Rattle.machine_epochs.specs.Firsts.{first_place}
 use Rattle.machine_epochs.proofs.FirstJoin.{each_part}
 use Rattle.machine_scenes.specs.Shown.{States}
-use Rattle.machine_records.specs.machine_history.specs.Laws.{IsJoined}
-use Rattle.machine_records.specs.machine_history.proofs.Joining.{first_joined}
-use Rattle.machine_records.specs.machine_invariant.specs.After.{AreAllowed}
-use Rattle.machine_records.specs.machine_invariant.proofs.First.{first_beside, first_whole, same_states, first_scene}
-use Rattle.machine_records.specs.machine_facts.specs.Known.{KnownStand}
-use Rattle.machine_records.specs.machine_facts.proofs.Following.{facts_after}
-use Rattle.machine_records.specs.Requests.{requests_of}
-use Rattle.machine_records.proofs.First.{first_kept}
-use Rattle.machine_records.proofs.Steps.{first_told}
+use Rattle.machine_history.specs.Laws.{IsJoined}
+use Rattle.machine_history.proofs.Joining.{first_joined}
+use Rattle.machine_facts.specs.machine_invariant.specs.After.{AreAllowed}
+use Rattle.machine_facts.specs.machine_invariant.proofs.First.{first_beside, first_whole, same_states, first_scene}
+use Rattle.machine_facts.specs.Known.{KnownStand}
+use Rattle.machine_facts.proofs.Following.{facts_after}
+use Rattle.reached_histories.specs.Requests.{requests_of}
+use Rattle.reached_histories.proofs.First.{first_kept}
+use Rattle.machine_facts.proofs.ToldSteps.{first_told}
 use Rattle.reached_histories.proofs.Quietly.{with_history}
 use Rattle.reached_histories.proofs.Steps.{Stands, step_stands}
 

@@ -7,16 +7,16 @@ use Rattle.table_words.specs.Limits.{IsWithinLimits}
 use Rattle.structure_laws.specs.Meaning.{Meaning}
 use Rattle.structure_laws.specs.Laws.{Laws}
 use Rattle.runner_parts.specs.declared.event.Event.{Event}
-use Rattle.history_core.specs.State.{Requests, HistoryState}
-use Rattle.history_core.specs.RealTime as history
-use Rattle.history_core.proofs.RealTime.{Passes, passes_nowhere, passes_more, passes_in_order}
+use Rattle.machine_history.specs.history_core.specs.State.{Requests, HistoryState}
+use Rattle.machine_history.specs.history_core.specs.RealTime as history
+use Rattle.machine_history.specs.history_core.proofs.RealTime.{Passes, passes_nowhere, passes_more, passes_in_order}
 use Rattle.machine_states.specs.World.{World, happens, then_run, run}
 use Rattle.machine_states.specs.Reached.{Reached}
 use Rattle.machine_states.specs.Sight.{sight}
 use Rattle.machine_states.proofs.Reached.{more_reached, reached_all, run_has}
 use Rattle.machine_states.proofs.Sights.{happens_steps}
-use Rattle.machine_records.specs.machine_invariant.specs.After.{AreAllowed}
-use Rattle.machine_records.specs.Requests.{requests_of}
+use Rattle.machine_facts.specs.machine_invariant.specs.After.{AreAllowed}
+use Rattle.reached_histories.specs.Requests.{requests_of}
 use Rattle.reached_histories.specs.RealTime.{AreInRealTime, ReachedAreLinearizable, LinearizableAfter}
 use Rattle.reached_histories.proofs.Steps.{Stands, step_stands, step_passes}
 use Rattle.reached_histories.proofs.Reached.{reached_stands, known_at}

@@ -4,8 +4,8 @@ use Rattle.std.proofs.Common.{◌≡◌, ◌≢◌, ℕ, suc, List, ◌∷◌, �
 use Rattle.std.proofs.lemmas.Bool.{cases_eq}
 use Rattle.std.proofs.lemmas.List.{append-nil}
 use Rattle.map_history.specs.declared.op.Request.{Request}
-use Rattle.section_body.specs.Line.{line, micro_at, committed}
-use Rattle.section_body.specs.declared.thunk.Thunk.{Thunk}
+use Rattle.body_terms.specs.Line.{line, micro_at, committed}
+use Rattle.body_terms.specs.declared.thunk.Thunk.{Thunk}
 use Rattle.structure_laws.proofs.Changes.{upd_same, upd_other}
 use Rattle.table_words.specs.declared.layout.Layout.{Layout}
 use Rattle.table_words.specs.Limits.{IsWithinLimits}
@@ -23,34 +23,34 @@ use Rattle.agreement_core.specs.Schedules as agreement_schedules
 use Rattle.epoch_core.specs.State.{Counts}
 use Rattle.epoch_core.specs.History.{is_out}
 use Rattle.epoch_core.specs.Schedules as epoch_schedules
-use Rattle.history_core.specs.State.{Requests, HistoryState}
-use Rattle.history_core.specs.Events as history
-use Rattle.history_core.specs.Schedules.{after_all}
-use Rattle.history_core.proofs.RealTime.{Passes, passes_more, event_passes, unused_apart}
+use Rattle.machine_history.specs.history_core.specs.State.{Requests, HistoryState}
+use Rattle.machine_history.specs.history_core.specs.Events as history
+use Rattle.machine_history.specs.history_core.specs.Schedules.{after_all}
+use Rattle.machine_history.specs.history_core.proofs.RealTime.{Passes, passes_more, event_passes, unused_apart}
 use Rattle.machine_states.specs.Sight.{Sight, Steps, sight_after}
 use Rattle.machine_states.proofs.Steps.{some_same}
 use Rattle.machine_epochs.specs.Entries.{counts_of}
 use Rattle.machine_scenes.specs.Shown.{States, rules_of}
 use Rattle.machine_scenes.specs.Steps as scenes
-use Rattle.machine_records.specs.machine_history.specs.Steps.{Joint, Publish}
-use Rattle.machine_records.specs.machine_history.specs.Laws.{IsJoined}
-use Rattle.machine_records.specs.machine_history.proofs.Joining.{steps_keep}
-use Rattle.machine_records.specs.machine_invariant.specs.After.{AreAllowed}
-use Rattle.machine_records.specs.machine_invariant.specs.Whole.{Beside, states_of, IsWhole}
-use Rattle.machine_records.specs.machine_invariant.proofs.AllKinds.{step_whole}
-use Rattle.machine_records.specs.machine_invariant.proofs.Following.{StepsWhole}
-use Rattle.machine_records.specs.machine_invariant.proofs.Jointly.{behind_lock, GoesQuietly, GoesByPublishing}
-use Rattle.machine_records.specs.machine_facts.specs.Known.{KnownStand}
-use Rattle.machine_records.specs.Requests.{requests_of}
-use Rattle.machine_records.specs.Kept.{link_of, AreKept}
-use Rattle.machine_records.specs.Told.{RunsAreTold}
-use Rattle.machine_records.specs.Keeping.{answered_in, learns, ends, PublishesNothing}
-use Rattle.machine_records.specs.Publishing.{IsPublication, behind_read}
-use Rattle.machine_records.proofs.Keeping.{steps_kept, ends_are_own, publications_kept, after_append, own, others, others_same}
-use Rattle.machine_records.proofs.Keeping as keeping
-use Rattle.machine_records.proofs.Parts.{WasPublished}
-use Rattle.machine_records.proofs.Publishing.{publications_may_come}
-use Rattle.machine_records.proofs.Steps.{steps_tell}
+use Rattle.machine_history.specs.Steps.{Joint, Publish}
+use Rattle.machine_history.specs.Laws.{IsJoined}
+use Rattle.machine_history.proofs.Joining.{steps_keep}
+use Rattle.machine_facts.specs.machine_invariant.specs.After.{AreAllowed}
+use Rattle.machine_facts.specs.machine_invariant.specs.Whole.{Beside, states_of, IsWhole}
+use Rattle.machine_facts.specs.machine_invariant.proofs.AllKinds.{step_whole}
+use Rattle.machine_facts.specs.machine_invariant.proofs.Following.{StepsWhole}
+use Rattle.machine_facts.specs.machine_invariant.proofs.Jointly.{behind_lock, GoesQuietly, GoesByPublishing}
+use Rattle.machine_facts.specs.Known.{KnownStand}
+use Rattle.reached_histories.specs.Requests.{requests_of}
+use Rattle.reached_histories.specs.Kept.{link_of, AreKept}
+use Rattle.machine_facts.specs.Told.{RunsAreTold}
+use Rattle.reached_histories.specs.Keeping.{answered_in, learns, ends, PublishesNothing}
+use Rattle.reached_histories.specs.Publishing.{IsPublication, behind_read}
+use Rattle.reached_histories.proofs.Keeping.{steps_kept, ends_are_own, publications_kept, after_append, own, others, others_same}
+use Rattle.reached_histories.proofs.Keeping as keeping
+use Rattle.reached_histories.proofs.Parts.{WasPublished}
+use Rattle.reached_histories.proofs.Publishing.{publications_may_come}
+use Rattle.machine_facts.proofs.ToldSteps.{steps_tell}
 use Rattle.reached_histories.proofs.Quietly.{KnowsAlike, goes_alike, goes_nowhere, JoinedAlike, with_history, passes_joined}
 use Rattle.reached_histories.proofs.Publications.{IsOwn, passes_between, goes_later, later_between, own_later, own_published, own_elsewhere}
 use Rattle.reached_histories.proofs.Learning.{learns_alike, learns_joined, ends_joined}

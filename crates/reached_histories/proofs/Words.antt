@@ -4,12 +4,12 @@ use Rattle.std.proofs.Common.{◌≡◌, ◌≢◌, ℕ, suc, ◌<◌, ◌≤◌
 use Rattle.std.proofs.lemmas.Bool.{cases_lt}
 use Rattle.map_history.specs.declared.op.Request.{Request}
 use Rattle.history_orders.specs.Stamped.{IsHistoryOf}
-use Rattle.section_body.specs.Line.{is_end, line, micro_at}
-use Rattle.section_body.specs.Word.{value_of, held_word}
-use Rattle.section_body.specs.declared.thunk.Thunk.{Thunk}
-use Rattle.section_body.specs.declared.micro.Micro.{Micro}
-use Rattle.section_body.specs.declared.micro.Micro.TheVariants as micros
-use Rattle.section_body.specs.declared.micro.Source.{Source}
+use Rattle.body_terms.specs.Line.{is_end, line, micro_at}
+use Rattle.body_terms.specs.Word.{value_of, held_word}
+use Rattle.body_terms.specs.declared.thunk.Thunk.{Thunk}
+use Rattle.body_terms.specs.declared.micro.Micro.{Micro}
+use Rattle.body_terms.specs.declared.micro.Micro.TheVariants as micros
+use Rattle.body_terms.specs.declared.micro.Source.{Source}
 use Rattle.section_lines.specs.Line.{IsLine, phase}
 use Rattle.table_words.specs.declared.layout.Layout.{Layout}
 use Rattle.table_words.specs.declared.spot.Spot.TheVariants.{Cell, Clock, Stamp, Reply}
@@ -23,20 +23,20 @@ use Rattle.runner_steps.specs.Sections.{is_open_run, next_of}
 use Rattle.agreement_core.specs.State.{AgreementState}
 use Rattle.agreement_core.proofs.Words.{value_held}
 use Rattle.epoch_core.specs.History.{is_out}
-use Rattle.history_core.specs.State.{Requests, HistoryState}
+use Rattle.machine_history.specs.history_core.specs.State.{Requests, HistoryState}
 use Rattle.machine_states.specs.Sight.{Sight}
 use Rattle.machine_epochs.specs.Entries.{counts_of}
 use Rattle.machine_epochs.proofs.RunPlaces.{open_run}
-use Rattle.machine_records.specs.machine_history.specs.Tied.{rank, AreTied}
-use Rattle.machine_records.specs.machine_history.specs.Laws.{HistoryStands, AreAllClosed}
-use Rattle.machine_records.specs.machine_history.proofs.Joining.{joined_stands}
-use Rattle.machine_records.specs.machine_agreement.proofs.RunPlaces.{run_here, before}
-use Rattle.machine_records.specs.machine_invariant.specs.After.{AreAllowed}
-use Rattle.machine_records.specs.machine_invariant.specs.Sections.{IsAnswered}
-use Rattle.machine_records.specs.machine_invariant.specs.Trails.{step_at}
-use Rattle.machine_records.specs.machine_invariant.specs.Whole.{Beside, states_of}
-use Rattle.machine_records.specs.Requests.{requests_of}
-use Rattle.machine_records.specs.Kept.{link_of}
+use Rattle.machine_history.specs.Tied.{rank, AreTied}
+use Rattle.machine_history.specs.Laws.{HistoryStands, AreAllClosed}
+use Rattle.machine_history.proofs.Joining.{joined_stands}
+use Rattle.machine_facts.specs.machine_agreement.proofs.RunPlaces.{run_here, before}
+use Rattle.machine_facts.specs.machine_invariant.specs.After.{AreAllowed}
+use Rattle.machine_facts.specs.machine_invariant.specs.Sections.{IsAnswered}
+use Rattle.machine_facts.specs.machine_invariant.specs.Trails.{step_at}
+use Rattle.machine_facts.specs.machine_invariant.specs.Whole.{Beside, states_of}
+use Rattle.reached_histories.specs.Requests.{requests_of}
+use Rattle.reached_histories.specs.Kept.{link_of}
 use Rattle.reached_histories.specs.Sections.{HasPublished, HasOpen}
 use Rattle.reached_histories.specs.History.{request_in, IsLegalHistory, CameBefore, ClockStands, RequestsStand, NoLockNames, IsClosed}
 use Rattle.reached_histories.proofs.Quietly.{with_history, loading}

@@ -6,23 +6,23 @@ use Rattle.map_history.specs.History.{IsLegalFrom}
 use Rattle.map_history.specs.Replay.{Pairs, map_after_all}
 use Rattle.map_history.specs.Words.{word_of}
 use Rattle.history_orders.specs.Stamped.{Stamped, oldest_first, ops_of, IsReplayed, IsHistoryOf}
-use Rattle.section_body.specs.Word.{value_of}
-use Rattle.section_body.specs.declared.micro.Source.{Source}
-use Rattle.section_body.specs.declared.micro.Micro.TheVariants.{StampExchange, ReplyExchange, ExchangeCell}
+use Rattle.body_terms.specs.Word.{value_of}
+use Rattle.body_terms.specs.declared.micro.Source.{Source}
+use Rattle.body_terms.specs.declared.micro.Micro.TheVariants.{StampExchange, ReplyExchange, ExchangeCell}
 use Rattle.table_words.specs.declared.layout.Layout.{Layout}
 use Rattle.table_words.specs.declared.spot.Spot.TheVariants.{Cell, Clock, Stamp, Reply, DoneWord}
 use Rattle.structure_laws.specs.Meaning.{Meaning}
 use Rattle.runner_parts.specs.declared.entries.Published.{Published}
 use Rattle.runner_parts.specs.State.{RunState}
 use Rattle.runner_steps.specs.Sections.{is_open_run, next_of}
-use Rattle.history_core.specs.State.{Requests}
+use Rattle.machine_history.specs.history_core.specs.State.{Requests}
 use Rattle.machine_states.specs.Sight.{Sight}
 use Rattle.machine_epochs.specs.Entries.{counts_of}
-use Rattle.machine_records.specs.machine_memory.specs.Memory.{MemoryStands}
-use Rattle.machine_records.specs.machine_invariant.specs.Sections.{IsAnswered}
-use Rattle.machine_records.specs.machine_invariant.specs.Trails.{thunk_at, step_at}
-use Rattle.machine_records.specs.machine_invariant.specs.Whole.{Beside, states_of}
-use Rattle.machine_records.specs.Requests.{requests_of}
+use Rattle.machine_history.specs.Memory.{MemoryStands}
+use Rattle.machine_facts.specs.machine_invariant.specs.Sections.{IsAnswered}
+use Rattle.machine_facts.specs.machine_invariant.specs.Trails.{thunk_at, step_at}
+use Rattle.machine_facts.specs.machine_invariant.specs.Whole.{Beside, states_of}
+use Rattle.reached_histories.specs.Requests.{requests_of}
 use Rattle.reached_histories.specs.Sections.{IsStamped, Knows, HasPublished, KnewThen, HasOpen}
 
 module _ (m : Meaning) (l : Layout) (requests : List Request) (g : Beside) (s : Sight) where

@@ -5,17 +5,17 @@ use Rattle.table_words.specs.Limits.{IsWithinLimits}
 use Rattle.table_words.specs.declared.layout.Layout.{Layout}
 use Rattle.structure_laws.specs.Meaning.{Meaning}
 use Rattle.runner_parts.specs.declared.event.Event.{Event}
-use Rattle.history_core.specs.State.{HistoryState}
+use Rattle.machine_history.specs.history_core.specs.State.{HistoryState}
 use Rattle.machine_states.specs.World.{World}
 use Rattle.machine_states.specs.Reached.{Reached}
 use Rattle.machine_states.specs.Schedules.{IsAfter}
 use Rattle.machine_states.specs.Sight.{Sight, sight}
 use Rattle.machine_epochs.specs.Entries.{counts_of}
-use Rattle.machine_records.specs.machine_history.specs.Laws.{IsJoined}
-use Rattle.machine_records.specs.machine_invariant.specs.After.{AreAllowed}
-use Rattle.machine_records.specs.machine_invariant.specs.Whole.{Beside, states_of, IsWhole}
-use Rattle.machine_records.specs.Requests.{requests_of}
-use Rattle.machine_records.specs.Kept.{AreKept}
+use Rattle.machine_history.specs.Laws.{IsJoined}
+use Rattle.machine_facts.specs.machine_invariant.specs.After.{AreAllowed}
+use Rattle.machine_facts.specs.machine_invariant.specs.Whole.{Beside, states_of, IsWhole}
+use Rattle.reached_histories.specs.Requests.{requests_of}
+use Rattle.reached_histories.specs.Kept.{AreKept}
 use Rattle.reached_histories.specs.History.{IsLegalHistory, ClockStands, RequestsStand, NoLockNames, IsClosed}
 
 module _ (m : Meaning) (l : Layout) (requests : List Request) where
@@ -25,7 +25,8 @@ module _ (m : Meaning) (l : Layout) (requests : List Request) where
     pub beside : Beside
     pub state : HistoryState
     pub whole : IsWhole m l beside s
-    pub joined : IsJoined m l (counts_of m l) (requests_of m l requests) (record { joint = states_of beside s; history = state })
+    pub joined : IsJoined m l (counts_of m l) (requests_of m l requests)
+        (record { joint = states_of beside s; history = state })
     pub kept : AreKept s state
     -- the history is legal, and the clock and what workers know are as they must be
     pub legal : IsLegalHistory m l requests beside s state.history state.pairs

@@ -2,10 +2,14 @@ pub mod Sections
 pub mod History
 pub mod RealTime
 pub mod Laws
+pub mod Requests
+pub mod Kept
+pub mod Supplies
+pub mod Keeping
+pub mod Publishing
 -- Passed on to the layers above, so that they needn't name these libraries themselves.
-pub use Rattle.machine_records.specs.machine_history
-pub use Rattle.machine_records.specs.machine_agreement
-pub use Rattle.machine_records.specs.machine_invariant
-pub use Rattle.machine_records.specs.machine_facts
-pub use Rattle.machine_records.specs.next_steps
-pub use Rattle.machine_records
+pub use Rattle.machine_history.specs.history_core
+pub use Rattle.machine_history
+pub use Rattle.machine_facts.specs.machine_agreement
+pub use Rattle.machine_facts.specs.machine_invariant
+pub use Rattle.machine_facts

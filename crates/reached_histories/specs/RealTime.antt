@@ -10,8 +10,8 @@ use Rattle.machine_states.specs.World.{World, run}
 use Rattle.machine_states.specs.Reached.{Reached}
 use Rattle.machine_states.specs.Schedules.{IsAfter}
 use Rattle.machine_states.specs.Sight.{Sight, sight}
-use Rattle.machine_records.specs.machine_invariant.specs.After.{AreAllowed}
-use Rattle.machine_records.specs.Requests.{requests_of}
+use Rattle.machine_facts.specs.machine_invariant.specs.After.{AreAllowed}
+use Rattle.reached_histories.specs.Requests.{requests_of}
 use Rattle.reached_histories.specs.Sections.{HasOpen}
 
 -- real-time order from one state to a later one, of a request that is answered in the first and of one that isn't asked
@@ -21,7 +21,8 @@ ComesBefore s s' k n = s.word (Reply k) ≢ 0 → s'.word (Stamp n) ≢ 0
     → (s'.word (Stamp k) ≡ s.word (Stamp k)) × (s'.word (Stamp k) < s'.word (Stamp n))
 
 module _ (m : Meaning) (l : Layout) (requests : List Request) where
-  -- the request isn't asked yet: it has no stamp, and its worker has published no section for it, or has run that to its end
+  -- the request isn't asked yet: it has no stamp, and its worker has published no section for it, or has run that to
+  -- its end
   pub record IsUnasked (s : Sight) (n : ℕ) : Type 0 where
     pub unstamped : s.word (Stamp n) ≡ 0
     pub unpublished : HasOpen s ((requests_of m l requests).worker n) n → ⊥
@@ -35,7 +36,8 @@ module _ (m : Meaning) (l : Layout) (requests : List Request) where
     pub events : List Event
     pub runs : run m l requests w events ≡ Some v
 
-  -- the history is linearizable: from each state that the machine reaches to each later one requests are in real-time order
+  -- the history is linearizable: from each state that the machine reaches to each later one requests are in real-time
+  -- order
   abbrev pub ReachedAreLinearizable : Type 0
   ReachedAreLinearizable = IsWithinLimits l → AreAllowed requests → (w v : World) → Reached m l requests w
       → LeadsTo w v → AreInRealTime (sight m l requests w) (sight m l requests v)

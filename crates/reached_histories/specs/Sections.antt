@@ -1,12 +1,12 @@
 -- Sections and their requests, in the words of the machine.
 use Rattle.std.specs.Prelude.{◌≡◌, ℕ, ◌<◌, true, false, Some, take}
-use Rattle.section_body.specs.declared.micro.Micro.TheVariants.{StampExchange}
+use Rattle.body_terms.specs.declared.micro.Micro.TheVariants.{StampExchange}
 use Rattle.structure_laws.specs.Meaning.{Meaning}
 use Rattle.runner_parts.specs.declared.entries.Published.{Published}
 use Rattle.runner_parts.specs.Tests.{is_answered}
 use Rattle.agreement_core.specs.State.{AgreementState}
 use Rattle.machine_states.specs.Sight.{Sight}
-use Rattle.machine_records.specs.machine_invariant.specs.Trails.{step_at}
+use Rattle.machine_facts.specs.machine_invariant.specs.Trails.{step_at}
 
 -- the runs of the section in this descriptor, which isn't free again, have passed the exchange of its stamp
 pub record IsStamped (m : Meaning) (a : AgreementState) (s : Sight) (d : ℕ) : Type 0 where

@@ -5,7 +5,7 @@ ghost use Rattle.table_words.specs.declared.layout.Layout.{Layout};
 ghost use Rattle.reached_histories.specs.Laws.{ReachedHaveHistories};
 ghost use Rattle.reached_histories.specs.RealTime.{ReachedAreLinearizable};
 
-use runner_parts::Structure;
+use structure_laws::Structure;
 
 /// Over every structure, in every state that the machine reaches: the requests whose stamp word isn't 0, by
 /// stamp and then by number, are one legal history, and the completed memory stands for its final map; the

@@ -6,5 +6,10 @@
 #![tactic(auto)]
 
 mod laws;
+mod records;
 
 pub use laws::{reached_histories_are_linearizable, reached_states_have_histories};
+pub use records::{
+    answered_are_learned, ends_are_over, first_is_kept, frees_are_over, holds_are_due,
+    operations_are_asked, publications_are_kept, publications_may_come, steps_are_kept,
+};

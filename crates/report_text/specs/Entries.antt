@@ -41,7 +41,8 @@ pub record AreLegal (requests : List Request) (entries : List (Option Entry)) (s
   -- the served requests in the order of their turns
   pub history : List Entered
   pub all : IsPermutation (entered_in requests entries) history
-  pub order : AllPairs (λ earlier later. IsTrue (comes_before (turn_of_entered earlier) (turn_of_entered later))) history
+  pub order : AllPairs (λ earlier later. IsTrue (comes_before (turn_of_entered earlier) (turn_of_entered later)))
+      history
   -- the stamps don't fall along a trace
   pub rise : AllPairs (λ earlier later. earlier.request.trace ≡ later.request.trace
       → earlier.entry.stamp ≤ later.entry.stamp) (entered_in requests entries)

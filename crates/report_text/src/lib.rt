@@ -10,8 +10,6 @@ mod order;
 mod page;
 mod report;
 mod sink;
-#[cfg(test)]
-mod tests;
 
 pub use memory::MemorySink;
 pub use order::ranks;

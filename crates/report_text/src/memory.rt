@@ -63,7 +63,8 @@ impl Sink for MemorySink {
 
     fn write(&mut self, bytes: &[u8]) -> Result<usize, Failed>
         ensures bound { IfOk result (λ count. count ≤ length bytes.now) }
-        ensures appended { IfOk result (λ count. Extends (Some self.old.bytes) (take count bytes.now) (Some self.new.bytes)) }
+        ensures appended { IfOk result (λ count. Extends (Some self.old.bytes) (take count bytes.now)
+            (Some self.new.bytes)) }
         ensures failed { OnErr result (self.new.bytes ≡ self.old.bytes) }
 
         ensures later { self.old.faults ≤ self.new.faults }
@@ -76,7 +77,11 @@ impl Sink for MemorySink {
             → IsTrue (is_planned self.old.empty (next_call self.old)) → result ≡ Ok 0 }
         ensures whole { is_planned self.old.empty (next_call self.old) ≡ false
             → IfOk result (λ count. count ≡ length bytes.now) }
-        ensures plan { self.new ≡ record self.old { bytes = self.new.bytes; calls = next_call self.old; faults = self.new.faults } }
+        ensures plan { self.new ≡ record self.old {
+          bytes = self.new.bytes;
+          calls = next_call self.old;
+          faults = self.new.faults;
+        } }
     {
         self.calls = self.calls.saturating_add(1);
         if is_planned(&self.fails, self.calls) {

@@ -14,7 +14,8 @@ pub type Page = ArrayString<4096>;
 
 /// Adds a line to the page, after sending the page where the line might not fit.
 pub fn print_line<K: Sink>(line: &Line, page: &mut Page, sink: &mut K) -> Result<(), Failed>
-    ensures ok { OnOk result (Gathers (K.held sink.old) page.old.bytes line.now.bytes (K.held sink.new) page.new.bytes) }
+    ensures ok { OnOk result (Gathers (K.held sink.old) page.old.bytes line.now.bytes
+        (K.held sink.new) page.new.bytes) }
     ensures err { OnErr result (ExtendsInPart (K.held sink.old) page.old.bytes (K.held sink.new)) }
     ensures later { K.faults sink.old ≤ K.faults sink.new }
     ensures cause { OnErr result (Rose (K.faults sink.old) (K.faults sink.new)) }

@@ -26,7 +26,8 @@ pub fn write_report<K: Sink>(
     requires served { map is_some ranks.now ≡ map is_some entries.now }
     requires in_order { IsNonDecreasingBy (λ request. request.trace) requests.now }
     requires below { All (λ request. request.trace < traces) requests.now }
-    ensures appends { Appends result (K.held sink.old) (report_text traces (rows_of requests.now entries.now ranks.now) size) (K.held sink.new) }
+    ensures appends { Appends result (K.held sink.old)
+        (report_text traces (rows_of requests.now entries.now ranks.now) size) (K.held sink.new) }
     ensures later { K.faults sink.old ≤ K.faults sink.new }
     ensures cause { OnErr result (Rose (K.faults sink.old) (K.faults sink.new)) }
     ensures steady { OnOk result (K.faults sink.new ≡ K.faults sink.old) }
@@ -47,7 +48,8 @@ pub fn write_report<K: Sink>(
 // Prints the lines that begin the traces from `begun` up to `end`.
 fn print_traces<K: Sink>(begun: u32, end: u32, page: &mut Page, sink: &mut K) -> Result<(), Failed>
     requires { begun ≤ end }
-    ensures ok { OnOk result (Gathers (K.held sink.old) page.old.bytes (traces_text begun end) (K.held sink.new) page.new.bytes) }
+    ensures ok { OnOk result (Gathers (K.held sink.old) page.old.bytes (traces_text begun end)
+        (K.held sink.new) page.new.bytes) }
     ensures err { OnErr result (ExtendsInPart (K.held sink.old) (page.old.bytes
         ++ traces_text begun end) (K.held sink.new)) }
     ensures later { K.faults sink.old ≤ K.faults sink.new }

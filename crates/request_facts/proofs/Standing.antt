@@ -4,10 +4,11 @@ use Rattle.std.proofs.Common.{◌≡◌, ◌≢◌, ℕ, zero, suc, ◌≤◌, L
 use Rattle.std.proofs.lemmas.List.Elements.{All-get_or}
 use Rattle.std.proofs.lemmas.Option.{slice_get_within, get_or_from_slice_get}
 use Rattle.std.proofs.lemmas.Bool.{and_parts}
+use Rattle.small_lemmas.proofs.Numbers.{zero_or_some as zero_or}
 use Rattle.map_history.specs.declared.op.Request.{Request}
 use Rattle.map_history.specs.Words.{word_of}
-use Rattle.section_body.specs.declared.micro.Micro.{Micro}
-use Rattle.section_body.specs.declared.micro.Micro.TheVariants.{StampExchange}
+use Rattle.body_terms.specs.declared.micro.Micro.{Micro}
+use Rattle.body_terms.specs.declared.micro.Micro.TheVariants.{StampExchange}
 use Rattle.history_orders.specs.Stamped.{Stamped}
 use Rattle.table_words.specs.declared.layout.Layout.{Layout}
 use Rattle.table_words.specs.declared.spot.Spot.TheVariants as spots
@@ -20,8 +21,8 @@ use Rattle.runner_parts.specs.State.{RunState}
 use Rattle.runner_parts.specs.Tests.{knows, is_answered}
 use Rattle.agreement_core.specs.State.{AgreementState, section_of}
 use Rattle.agreement_core.specs.Checks.{is_stamp_exchange}
-use Rattle.history_core.specs.State.{Requests, HistoryState}
-use Rattle.history_core.specs.Sound.{IsSound}
+use Rattle.reached_histories.specs.history_core.specs.State.{Requests, HistoryState}
+use Rattle.reached_histories.specs.history_core.specs.Sound.{IsSound}
 use Rattle.machine_states.specs.Sight.{Sight, sight}
 use Rattle.reached_histories.specs.machine_agreement.proofs.RunPlaces.{run_here, used_here, of_thunk, before}
 use Rattle.reached_histories.specs.machine_history.specs.Tied.{AreTied}
@@ -29,9 +30,9 @@ use Rattle.reached_histories.specs.machine_invariant.specs.After.{AreAllowed}
 use Rattle.reached_histories.specs.machine_invariant.specs.Whole.{states_of}
 use Rattle.reached_histories.specs.machine_facts.specs.Known.{KnownStand}
 use Rattle.reached_histories.specs.machine_facts.proofs.Following.{facts_after}
-use Rattle.reached_histories.specs.machine_records.specs.Requests.{or_none, requests_of}
-use Rattle.reached_histories.specs.machine_records.specs.Kept.{link_of}
-use Rattle.reached_histories.specs.machine_records.proofs.First.{entry_of}
+use Rattle.reached_histories.specs.Requests.{or_none, requests_of}
+use Rattle.reached_histories.specs.Kept.{link_of}
+use Rattle.reached_histories.proofs.First.{entry_of}
 use Rattle.reached_histories.specs.History.{IsPlaced}
 use Rattle.reached_histories.specs.Laws.{HasHistory}
 use Rattle.reached_histories.specs.RealTime.{IsUnasked}
@@ -39,7 +40,7 @@ use Rattle.reached_histories.proofs.Histories.{reached_have}
 use Rattle.reached_histories.proofs.RealTime.{reached_linearizable}
 use Rattle.request_facts.specs.Placed.{IsUnserved}
 use Rattle.request_facts.specs.Laws.{HasEntry, IsKnown, IsStamping, CallersStand, ReachedCallersStand, IsToAsk, AnsweredComeFirst}
-use Rattle.request_facts.proofs.Replies.{IsSmall, replies_small}
+use Rattle.history_orders.proofs.Replies.{IsSmall, replies_small}
 
 each : (xs : List Request) (i : ℕ) (x : Request) → slice_get xs i ≡ Some x → All (λ (y : Request). IsAllowed y.op) xs → IsAllowed x.op
 each xs i x at all = subst (λ (y : Request). IsAllowed y.op) (get_or_from_slice_get xs i x x at)
@@ -50,10 +51,6 @@ test : (running ended : Bool) (micro : Micro) → running ≡ true → ended ≡
     → (running && (not ended && is_stamp_exchange micro)) ≡ true
 test running ended micro one two three = ap (λ b. b && (not ended && is_stamp_exchange micro)) one
     ∙ (ap (λ b. not b && is_stamp_exchange micro) two ∙ ap is_stamp_exchange three)
-
-zero_or : (n : ℕ) → (n ≡ 0) ⊎ (n ≢ 0)
-zero_or zero = inl refl
-zero_or (suc n) = inr (λ e. let z = e in omega arith)
 
 -- the entry with these fields
 known_entry : (known : List Known) (n : ℕ) (reply : Bool) → knows known n reply ≡ true

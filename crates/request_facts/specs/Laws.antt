@@ -3,7 +3,7 @@ use Rattle.std.specs.Prelude.{◌≡◌, ◌≢◌, ℕ, suc, true, false, List,
 use Rattle.map_history.specs.declared.op.Request.{Request}
 use Rattle.map_history.specs.declared.reply.Reply.{Reply}
 use Rattle.map_history.specs.Words.{word_of}
-use Rattle.section_body.specs.declared.micro.Micro.TheVariants.{StampExchange}
+use Rattle.body_terms.specs.declared.micro.Micro.TheVariants.{StampExchange}
 use Rattle.table_words.specs.declared.layout.Layout.{Layout}
 use Rattle.table_words.specs.Limits.{IsWithinLimits}
 use Rattle.structure_laws.specs.Meaning.{Meaning}
@@ -15,8 +15,8 @@ use Rattle.machine_states.specs.World.{World}
 use Rattle.machine_states.specs.Reached.{Reached}
 use Rattle.machine_states.specs.Sight.{Sight, sight}
 use Rattle.reached_histories.specs.machine_invariant.specs.After.{AreAllowed}
-use Rattle.reached_histories.specs.machine_records.specs.Requests.{requests_of}
-use Rattle.reached_histories.specs.machine_records.specs.Kept.{link_of}
+use Rattle.reached_histories.specs.Requests.{requests_of}
+use Rattle.reached_histories.specs.Kept.{link_of}
 use Rattle.reached_histories.specs.RealTime.{LeadsTo, ComesBefore}
 use Rattle.request_facts.specs.Placed.{IsServedAs, IsUnserved}
 
@@ -66,5 +66,6 @@ module _ (m : Meaning) (l : Layout) (requests : List Request) where
   -- real-time order, for whoever asks: in each later state the request's stamp is above that of each request that was
   -- answered before it was asked, by whomever
   abbrev pub AnsweredComeFirst : Type 0
-  AnsweredComeFirst = IsWithinLimits l → AreAllowed requests → (w v : World) → Reached m l requests w → LeadsTo m l requests w v
+  AnsweredComeFirst = IsWithinLimits l → AreAllowed requests → (w v : World) → Reached m l requests w
+      → LeadsTo m l requests w v
       → (r n k : ℕ) → IsToAsk (sight m l requests w) r n → ComesBefore (sight m l requests w) (sight m l requests v) k n

@@ -1,2 +1,4 @@
 pub mod Placed
 pub mod Laws
+-- Passed on to the layers above, so that they needn't name these libraries themselves.
+pub use Rattle.reached_histories

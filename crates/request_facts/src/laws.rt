@@ -4,7 +4,7 @@ ghost use Rattle.map_history.specs.declared.op.Request.{Request};
 ghost use Rattle.table_words.specs.declared.layout.Layout.{Layout};
 ghost use Rattle.request_facts.specs.Laws.{ReachedCallersStand, AnsweredComeFirst};
 
-use runner_parts::Structure;
+use structure_laws::Structure;
 
 /// Over every structure: in every state that the machine reaches, who knows both words of a request knows its place
 /// in the one history; a worker that has no section on the way knows each of its own requests that was served; and

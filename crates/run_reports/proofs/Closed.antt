@@ -16,8 +16,8 @@ use Rattle.table_words.specs.declared.spot.Spot.TheVariants.{Stamp, Reply}
 use Rattle.structure_laws.specs.Meaning.{Meaning}
 use Rattle.structure_laws.specs.Sections.{IsAllowed}
 use Rattle.closed_words.specs.machine_invariant.specs.After.{AreAllowed}
-use Rattle.closed_words.specs.machine_records.specs.Requests.{or_none, request_at}
-use Rattle.request_facts.proofs.Replies.{replies_small}
+use Rattle.closed_words.specs.reached_histories.specs.Requests.{or_none, request_at}
+use Rattle.history_orders.proofs.Replies.{replies_small}
 use Rattle.report_text.specs.Entries.{AreLegal}
 use Rattle.closed_words.specs.version_words.specs.TableState.{WordsState, word_of}
 use Rattle.closed_words.specs.Histories.{HaveHistory, HoldsNoLock, AreSettled}

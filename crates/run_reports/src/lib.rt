@@ -11,3 +11,8 @@ mod printing;
 pub use contents::contents_stand;
 pub use entries::entries_of;
 pub use printing::{PrintError, print_words};
+
+// Passed on to the layers above, so that they needn't name these libraries themselves.
+pub use closed_words;
+pub use closed_words::version_words;
+pub use report_text;

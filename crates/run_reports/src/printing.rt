@@ -12,8 +12,8 @@ use closed_words::closed_words_have_a_history;
 use closed_words::version_words::{Words, words_are_reached};
 use map_history::{Entry, Request};
 use report_text::{Sink, ranks, write_report};
-use runner_parts::Structure;
 use std::alloc::{AllocError, Global};
+use structure_laws::Structure;
 
 /// Why a report wasn't printed whole.
 #[derive(Clone, Copy, Debug, PartialEq, Eq)]

@@ -1,6 +1,6 @@
 -- How a runner's block changes.
 use Rattle.std.specs.Prelude.{ℕ, ◌+◌, Bool, true, false, ◌==◌, ◌||◌, nat_lt, if◌then◌else◌}
-use Rattle.section_body.specs.Word.{version_of}
+use Rattle.body_terms.specs.Word.{version_of}
 use Rattle.table_words.specs.declared.layout.Layout.{Layout}
 use Rattle.runner_parts.specs.Lists.{nodes_looked, slot_taken, slot_made, slot_back, slot_retired}
 use Rattle.runner_steps.specs.AfterOutside.{retire_after}

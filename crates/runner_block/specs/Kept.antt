@@ -1,6 +1,6 @@
 -- What a runner's code keeps of its part.
 use Rattle.std.specs.Prelude.{ℕ, [], Bool, Option, Some, None, false, if◌then◌else◌}
-use Rattle.section_body.specs.declared.thunk.Thunk.{Thunk}
+use Rattle.body_terms.specs.declared.thunk.Thunk.{Thunk}
 use Rattle.epoch_core.specs.declared.stage.Stage.{Stage}
 use Rattle.epoch_core.specs.declared.stage.Stage.TheVariants as stages
 use Rattle.runner_parts.specs.declared.entries.Published.{Published}

@@ -5,8 +5,7 @@ use Rattle.runner_parts.specs.declared.entries.Retired.{Retired}
 use Rattle.runner_parts.specs.declared.entries.Tested.{Tested}
 use Rattle.runner_parts.specs.State.{NodesState}
 use Rattle.runner_parts.specs.Tests.{has}
-use Rattle.runner_parts.specs.Lists.{without, is_old, slots_of}
-use Rattle.machine_invariant.specs.Lengths.{entry_count}
+use Rattle.runner_parts.specs.Lists.{without, is_old, slots_of, entry_count}
 
 -- the lists of own node slots, and for how many slots each has room
 pub record NodesKept : Type 0 where

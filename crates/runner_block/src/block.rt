@@ -8,7 +8,7 @@ ghost use Rattle.runner_block.specs.Looks.{MayTake};
 
 use crate::kept::Kept;
 use crate::place::RunPlace;
-use section_body::Word;
+use body_terms::Word;
 use table_words::Layout;
 
 /// The stage and the lists, and of a run in progress its place.

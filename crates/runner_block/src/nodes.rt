@@ -7,8 +7,8 @@ ghost use Rattle.machine_states.specs.First.{falling};
 ghost use Rattle.runner_block.specs.Room.{AreFew, first_nodes, nodes_are};
 
 use crate::reserved::{falling, forget, has, remove, renew, take_out, test_of, wait_over};
+use body_terms::Word;
 use runner_parts::{Retired, Tested};
-use section_body::Word;
 use std::alloc::{AllocError, Global};
 use std::marker::Model;
 use table_words::Layout;

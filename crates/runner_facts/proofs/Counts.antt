@@ -22,8 +22,8 @@ use Rattle.machine_states.proofs.FirstSights.{first_part_of, first_parts}
 use Rattle.machine_states.proofs.Sights.{unless_gone, joins}
 use Rattle.machine_epochs.proofs.OutsideAsked.{hold_asked}
 use Rattle.machine_epochs.proofs.Places.{free_descriptor}
-use Rattle.next_steps.specs.machine_invariant.specs.After.{AreAllowed}
-use Rattle.next_steps.proofs.Reaching.{IsStep, reached_keeps}
+use Rattle.machine_facts.specs.machine_invariant.specs.After.{AreAllowed}
+use Rattle.machine_facts.specs.machine_invariant.proofs.Keeping.{IsStep, reached_keeps}
 use Rattle.next_steps.proofs.Parts.{each_part}
 use Rattle.runner_facts.specs.Facts.{descriptors_of, DescriptorsAreKept}
 use Rattle.runner_facts.proofs.Keeping.{inside_keeps, MayHold, outside_keeps}

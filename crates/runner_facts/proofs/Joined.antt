@@ -24,15 +24,15 @@ use Rattle.machine_states.proofs.FirstSights.{first_parts}
 use Rattle.machine_states.proofs.Sights.{unless_gone, joins}
 use Rattle.machine_states.proofs.Updates.{upd_here, upd_else}
 use Rattle.machine_epochs.proofs.FirstJoin as FirstJoin
-use Rattle.next_steps.specs.machine_invariant.specs.After.{AreAllowed}
-use Rattle.next_steps.specs.machine_invariant.proofs.Sights.{after_is}
-use Rattle.next_steps.proofs.Reaching.{IsStep, reached_keeps}
+use Rattle.machine_facts.specs.machine_invariant.specs.After.{AreAllowed}
+use Rattle.machine_facts.specs.machine_invariant.proofs.Sights.{after_is}
+use Rattle.machine_facts.specs.machine_invariant.proofs.Keeping.{IsStep, reached_keeps}
 use Rattle.next_steps.proofs.Tests.{either_has}
 use Rattle.next_steps.proofs.Runs.{out_of_run}
 use Rattle.runner_facts.specs.Facts.{JoinedAreGone}
 use Rattle.runner_facts.proofs.Keeping.{Keeps, inside_keeps, outside_keeps}
 use Rattle.runner_facts.proofs.Counts.{may_hold}
-use Rattle.next_steps.specs.machine_invariant.proofs.Basics.{not_both}
+use Rattle.machine_facts.specs.machine_invariant.proofs.Basics.{not_both}
 
 -- what two parts have that are alike for this
 pub record Alike (p p' : PartState) : Type 0 where

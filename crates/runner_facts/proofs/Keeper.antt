@@ -4,10 +4,12 @@ use Rattle.std.proofs.Common.{◌≡◌, ◌≢◌, ℕ, zero, suc, ◌<◌, ◌
 use Rattle.std.proofs.lemmas.Bool.Decides.{nat_tests}
 use Rattle.std.proofs.lemmas.Bool.{cases_lt, and_parts}
 use Rattle.std.proofs.lemmas.Nat.{mod_below}
+use Rattle.small_lemmas.proofs.Lists.{get_last}
+use Rattle.small_lemmas.proofs.Numbers.{chosen_here as one_here}
 use Rattle.map_history.specs.declared.op.Request.{Request}
-use Rattle.section_body.specs.Line.{is_end}
-use Rattle.section_body.specs.declared.micro.Micro.{Micro}
-use Rattle.section_body.specs.declared.thunk.Thunk.{Thunk}
+use Rattle.body_terms.specs.Line.{is_end}
+use Rattle.body_terms.specs.declared.micro.Micro.{Micro}
+use Rattle.body_terms.specs.declared.thunk.Thunk.{Thunk}
 use Rattle.table_words.specs.declared.layout.Layout.{Layout}
 use Rattle.table_words.specs.declared.spot.Spot.{Spot}
 use Rattle.table_words.specs.declared.spot.Spot.TheVariants.{Seat, Epoch, Clock, Announcement, Stamp, Reply, Cell, ThunkWord, DoneWord, LogWord}
@@ -44,29 +46,20 @@ use Rattle.machine_states.proofs.FirstSights.{first_parts}
 use Rattle.machine_states.proofs.Sights.{if_some, unless_gone, joins}
 use Rattle.machine_states.proofs.Updates.{upd_here, upd_else}
 use Rattle.machine_epochs.proofs.FirstJoin as FirstJoin
-use Rattle.next_steps.specs.machine_agreement.proofs.Releases.{get_more}
-use Rattle.next_steps.specs.machine_invariant.specs.After.{AreAllowed}
-use Rattle.next_steps.specs.machine_invariant.proofs.Basics.{not_both}
-use Rattle.next_steps.specs.machine_invariant.proofs.Sights.{after_is}
-use Rattle.next_steps.proofs.Reaching.{IsStep, reached_keeps}
+use Rattle.machine_facts.specs.machine_agreement.proofs.Releases.{get_more}
+use Rattle.machine_facts.specs.machine_invariant.specs.After.{AreAllowed}
+use Rattle.machine_facts.specs.machine_invariant.proofs.Basics.{not_both}
+use Rattle.machine_facts.specs.machine_invariant.proofs.Sights.{after_is}
+use Rattle.machine_facts.specs.machine_invariant.proofs.Keeping.{IsStep, reached_keeps}
 use Rattle.next_steps.proofs.Parts.{each_part}
 use Rattle.runner_facts.specs.Facts.{JoinedAreGone}
 use Rattle.runner_facts.specs.Keeper.{AllJoined, IsLastLeft, LeftStands, KeeperStands}
 use Rattle.runner_facts.proofs.Joined.{keeps, alike, gone_kept, first_gone}
 
--- a list with one more at its end
-get_last : {A : Type 0} (xs : List A) (f : A) → slice_get (xs ++ f ∷ []) (length xs) ≡ Some f
-get_last [] f = refl
-get_last (x ∷ xs) f = get_last xs f
-
 get_kept : {A : Type 0} (xs : List A) (f y : A) (i : ℕ) → slice_get xs i ≡ Some y → slice_get (xs ++ f ∷ []) i ≡ Some y
 get_kept [] f y i e = absurd (let z = e in cc)
 get_kept (x ∷ xs) f y zero e = e
 get_kept (x ∷ xs) f y (suc i) e = get_kept xs f y i e
-
--- the word that a step wrote, and another one
-one_here : (i v w : ℕ) → cond (i == i) v w ≡ v
-one_here i v w = grind (arith, nat_tests)
 
 two_here : (i j v w w' : ℕ) → cond (i == i) (cond (j == j) v w) w' ≡ v
 two_here i j v w w' = grind (arith, nat_tests)

@@ -10,3 +10,6 @@ pub mod Keeper
 pub mod Lines
 pub mod Logs
 pub mod Runs
+mod WornWorn
+mod OwnKeeping
+pub mod Reached

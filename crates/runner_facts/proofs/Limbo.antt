@@ -21,9 +21,9 @@ use Rattle.machine_states.specs.Reached.{Reached}
 use Rattle.machine_states.specs.Sight.{Sight, sight}
 use Rattle.machine_epochs.specs.Entries.{counts_of}
 use Rattle.machine_epochs.specs.Slots.{entry_of}
-use Rattle.next_steps.specs.machine_invariant.specs.After.{AreAllowed}
-use Rattle.next_steps.specs.machine_invariant.specs.Whole.{Beside, IsWhole}
-use Rattle.next_steps.specs.machine_invariant.proofs.After.{reached_whole}
+use Rattle.machine_facts.specs.machine_invariant.specs.After.{AreAllowed}
+use Rattle.machine_facts.specs.machine_invariant.specs.Whole.{Beside, IsWhole}
+use Rattle.machine_facts.specs.machine_invariant.proofs.After.{reached_whole}
 use Rattle.next_steps.proofs.Numbers.{reached_numbers}
 use Rattle.runner_facts.specs.Facts.{LimboIsDone}
 

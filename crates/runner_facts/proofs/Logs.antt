@@ -3,11 +3,12 @@ use Rattle.std.specs.Prelude.{◌==◌, ◌-◌, ◌⊎◌, cond, nat_lt, Bool, 
 use Rattle.std.proofs.Common.{◌≡◌, ◌≢◌, ℕ, List, refl, sym, ap, ◌∙◌, subst, ⊎_elim, inl, inr, arith, Some, None}
 use Rattle.std.proofs.lemmas.Bool.{cases_eq}
 use Rattle.std.proofs.lemmas.Bool.Decides.{nat_tests}
+use Rattle.small_lemmas.proofs.Numbers.{chosen_here as one_here}
 use Rattle.map_history.specs.declared.op.Request.{Request}
-use Rattle.section_body.specs.Line.{is_commit}
+use Rattle.body_terms.specs.Line.{is_commit}
 use Rattle.section_lines.specs.Line.{IsLine}
-use Rattle.section_body.specs.declared.micro.Micro.{Micro}
-use Rattle.section_body.specs.declared.micro.Micro.TheVariants as micros
+use Rattle.body_terms.specs.declared.micro.Micro.{Micro}
+use Rattle.body_terms.specs.declared.micro.Micro.TheVariants as micros
 use Rattle.table_words.specs.declared.layout.Layout.{Layout}
 use Rattle.table_words.specs.declared.spot.Spot.{Spot}
 use Rattle.table_words.specs.declared.spot.Spot.TheVariants as spots
@@ -55,9 +56,6 @@ log_place is_lock version_max lock code slot line i (micros.OutcomeCommit p k) e
 log_place is_lock version_max lock code slot line i (micros.MakeCommit k) e commit = line.counted.make_log i k e
 log_place is_lock version_max lock code slot line i (micros.RetireCommit t k) e commit = line.counted.retire_log i t k e
 log_place is_lock version_max lock code slot line i micro e commit = absurd (let z = commit in cc)
-
-one_here : (i v a : ℕ) → cond (i == i) v a ≡ v
-one_here i v a = grind (arith, nat_tests)
 
 pub log_now : (f : Spot → ℕ) (d k new : ℕ) → f (spots.LogWord d k) ≡ 0
     → put f (spots.LogWord d k) (written (Exchanges 0 new) (f (spots.LogWord d k))) (spots.LogWord d k) ≡ new

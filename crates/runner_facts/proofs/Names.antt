@@ -4,12 +4,13 @@ use Rattle.std.specs.List.{filter}
 use Rattle.std.proofs.Common.{◌⊎◌, inl, inr, ◌≡◌, ℕ, suc, ◌+◌, ◌<◌, ◌≤◌, List, [], ◌∷◌, ◌++◌, ⊎_elim, sym, refl, ap, ◌∙◌, subst, arith, Option, Some, None}
 use Rattle.std.proofs.lemmas.Bool.{and_parts}
 use Rattle.std.proofs.lemmas.Bool.Decides.{nat_tests}
+use Rattle.small_lemmas.proofs.Bools.{both_hold as and, not_true as not_has}
 use Rattle.map_history.specs.declared.op.Request.{Request}
-use Rattle.section_body.specs.Line.{is_end, line, micro_at}
-use Rattle.section_body.specs.Word.{value_of, held_word}
-use Rattle.section_body.specs.declared.micro.Micro.{Micro}
-use Rattle.section_body.specs.declared.micro.Micro.TheVariants.{NestedHold}
-use Rattle.section_body.specs.declared.thunk.Thunk.{Thunk}
+use Rattle.body_terms.specs.Line.{is_end, line, micro_at}
+use Rattle.body_terms.specs.Word.{value_of, held_word}
+use Rattle.body_terms.specs.declared.micro.Micro.{Micro}
+use Rattle.body_terms.specs.declared.micro.Micro.TheVariants.{NestedHold}
+use Rattle.body_terms.specs.declared.thunk.Thunk.{Thunk}
 use Rattle.table_words.specs.declared.layout.Layout.{Layout}
 use Rattle.table_words.specs.declared.spot.Spot.{Spot}
 use Rattle.table_words.specs.declared.spot.Spot.TheVariants as spots
@@ -50,27 +51,18 @@ use Rattle.machine_epochs.proofs.InsideAsked as asked
 use Rattle.machine_epochs.proofs.Joining.{thunk_same}
 use Rattle.machine_epochs.proofs.OutsideAsked as outside_asked
 use Rattle.machine_epochs.proofs.Places.{has_append, has_times}
-use Rattle.next_steps.specs.machine_invariant.specs.After.{AreAllowed}
-use Rattle.next_steps.specs.machine_invariant.specs.Whole.{Beside, IsWhole}
-use Rattle.next_steps.specs.machine_invariant.proofs.Asked.{entered_at}
-use Rattle.next_steps.specs.machine_invariant.proofs.Basics.{not_both}
-use Rattle.next_steps.specs.machine_invariant.proofs.Sights.{thunks_after}
-use Rattle.next_steps.specs.machine_invariant.proofs.Thunks.{inside_leaves, outside_leaves, other_thunk}
-use Rattle.next_steps.specs.machine_invariant.proofs.Trails.{locks_name}
-use Rattle.next_steps.proofs.Reaching.{IsStep, reached_keeps}
+use Rattle.machine_facts.specs.machine_invariant.specs.After.{AreAllowed}
+use Rattle.machine_facts.specs.machine_invariant.specs.Whole.{Beside, IsWhole}
+use Rattle.machine_facts.specs.machine_invariant.proofs.Asked.{entered_at}
+use Rattle.machine_facts.specs.machine_invariant.proofs.Basics.{not_both}
+use Rattle.machine_facts.specs.machine_invariant.proofs.Sights.{thunks_after}
+use Rattle.machine_facts.specs.machine_invariant.proofs.Thunks.{inside_leaves, outside_leaves, other_thunk}
+use Rattle.machine_facts.specs.machine_invariant.proofs.Trails.{locks_name}
+use Rattle.machine_facts.specs.machine_invariant.proofs.Keeping.{IsStep, reached_keeps}
 use Rattle.next_steps.proofs.Parts.{each_part}
 use Rattle.next_steps.proofs.Tests.{without_has}
 use Rattle.runner_facts.specs.Names.{HasLock, NamesStand}
 use Rattle.runner_facts.proofs.Limbo.{retired_once}
-
-and : (a b : Bool) → a ≡ true → b ≡ true → (a && b) ≡ true
-and true b e e' = e'
-and false b e e' = absurd (let z = e in cc)
-
--- a list in which it isn't
-pub not_has : (b : Bool) → (b ≡ true → ⊥) → b ≡ false
-not_has true h = absurd (h refl)
-not_has false h = refl
 
 -- one more reading
 pub pair_more : (xs : List (ℕ × ℕ)) (a b place word : ℕ) → has_pair (xs ++ (a, b) ∷ []) place word ≡ true

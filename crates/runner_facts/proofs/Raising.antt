@@ -13,11 +13,11 @@ use Rattle.machine_states.specs.Reached.{Reached}
 use Rattle.machine_states.specs.Sight.{Sight, sight}
 use Rattle.machine_states.proofs.Reached.{first_reached, more_reached, reached_has, reached_all}
 use Rattle.machine_states.proofs.Sights.{happens_steps}
-use Rattle.next_steps.specs.machine_invariant.specs.After.{AreAllowed}
-use Rattle.next_steps.specs.machine_invariant.specs.Rising.{CellsRise}
-use Rattle.next_steps.specs.machine_invariant.proofs.Rising.{rises_after}
-use Rattle.next_steps.specs.machine_invariant.proofs.After.{reached_whole}
-use Rattle.next_steps.proofs.Reaching.{IsStep}
+use Rattle.machine_facts.specs.machine_invariant.specs.After.{AreAllowed}
+use Rattle.machine_facts.specs.machine_invariant.specs.Rising.{CellsRise}
+use Rattle.machine_facts.specs.machine_invariant.proofs.Rising.{rises_after}
+use Rattle.machine_facts.specs.machine_invariant.proofs.After.{reached_whole}
+use Rattle.machine_facts.specs.machine_invariant.proofs.Keeping.{IsStep}
 
 module _ (m : Meaning) (laws : Laws m) (l : Layout) (limits : IsWithinLimits l) (rs : List Request) (allowed : AreAllowed rs)
     (P : Sight → Type 0) (first : (w : World) → IsFirst m l rs w → P (sight m l rs w))

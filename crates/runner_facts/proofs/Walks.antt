@@ -12,10 +12,10 @@ use Rattle.machine_states.specs.Sight.{Sight, sight}
 use Rattle.machine_epochs.specs.Entries.{counts_of}
 use Rattle.machine_scenes.specs.Shown.{scene_of}
 use Rattle.machine_scenes.proofs.Links.{gives}
-use Rattle.next_steps.specs.machine_invariant.specs.After.{AreAllowed}
-use Rattle.next_steps.specs.machine_invariant.specs.Whole.{Beside, states_of, IsWhole}
-use Rattle.next_steps.specs.machine_invariant.proofs.After.{reached_whole}
-use Rattle.next_steps.specs.machine_invariant.proofs.Asked.{entered_at}
+use Rattle.machine_facts.specs.machine_invariant.specs.After.{AreAllowed}
+use Rattle.machine_facts.specs.machine_invariant.specs.Whole.{Beside, states_of, IsWhole}
+use Rattle.machine_facts.specs.machine_invariant.proofs.After.{reached_whole}
+use Rattle.machine_facts.specs.machine_invariant.proofs.Asked.{entered_at}
 use Rattle.runner_facts.specs.Facts.{WalksStand, FittingAreShaped}
 
 walks_stand : (m : Meaning) (laws : Laws m) (l : Layout) (limits : IsWithinLimits l) (g : Beside) (s : Sight) → IsWhole m l g s → WalksStand m l s

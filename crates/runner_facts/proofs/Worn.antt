@@ -4,11 +4,11 @@ use Rattle.std.proofs.Common.{◌≡◌, ℕ, ◌+◌, ◌<◌, ◌≤◌, List,
 use Rattle.std.proofs.lemmas.Bool.Decides.{nat_tests}
 use Rattle.std.proofs.lemmas.Bool.{cases_eq}
 use Rattle.map_history.specs.declared.op.Request.{Request}
-use Rattle.section_body.specs.Line.{is_end}
-use Rattle.section_body.specs.Memory.{cell_of}
-use Rattle.section_body.specs.Run.{written_once}
-use Rattle.section_body.specs.Word.{version_of}
-use Rattle.section_body.specs.declared.micro.Micro.{Micro}
+use Rattle.body_terms.specs.Line.{is_end}
+use Rattle.body_terms.specs.Memory.{cell_of}
+use Rattle.body_terms.specs.Run.{written_once}
+use Rattle.body_terms.specs.Word.{version_of}
+use Rattle.body_terms.specs.declared.micro.Micro.{Micro}
 use Rattle.table_words.specs.declared.layout.Layout.{Layout}
 use Rattle.table_words.specs.declared.spot.Spot.{Spot}
 use Rattle.table_words.specs.declared.spot.Spot.TheVariants.{Cell}
@@ -46,11 +46,11 @@ use Rattle.machine_states.proofs.FirstSights.{first_parts}
 use Rattle.machine_states.proofs.Sights.{if_some, some_none, unless_gone, joins}
 use Rattle.machine_states.proofs.Steps.{some_same}
 use Rattle.machine_epochs.proofs.FirstJoin as FirstJoin
-use Rattle.next_steps.specs.machine_agreement.proofs.LineAsked.{fill_store_asked}
-use Rattle.next_steps.specs.machine_invariant.specs.After.{AreAllowed}
-use Rattle.next_steps.specs.machine_invariant.specs.Rising.{CellsRise}
-use Rattle.next_steps.specs.machine_invariant.proofs.Basics.{not_both}
-use Rattle.next_steps.proofs.Reaching.{IsStep}
+use Rattle.machine_facts.specs.machine_agreement.proofs.LineAsked.{fill_store_asked}
+use Rattle.machine_facts.specs.machine_invariant.specs.After.{AreAllowed}
+use Rattle.machine_facts.specs.machine_invariant.specs.Rising.{CellsRise}
+use Rattle.machine_facts.specs.machine_invariant.proofs.Basics.{not_both}
+use Rattle.machine_facts.specs.machine_invariant.proofs.Keeping.{IsStep}
 use Rattle.next_steps.proofs.Parts.{each_part}
 use Rattle.next_steps.proofs.Tests.{either_has, test_slot, tests_without_other, tests_push_own, tests_push_other}
 use Rattle.runner_facts.specs.Facts.{HasWornCell, WornAreWorn}

@@ -1,9 +1,9 @@
 -- What holds of the runners' parts in each reached state, beside their slots and sections.
 use Rattle.std.specs.Prelude.{ℕ, ◌+◌, ◌<◌, ◌≡◌, true, length, Option, Some, None}
 use Rattle.map_history.specs.declared.op.Op.{Op}
-use Rattle.section_body.specs.Memory.{cell_of}
-use Rattle.section_body.specs.Word.{version_of}
-use Rattle.section_body.specs.declared.thunk.Thunk.{Thunk}
+use Rattle.body_terms.specs.Memory.{cell_of}
+use Rattle.body_terms.specs.Word.{version_of}
+use Rattle.body_terms.specs.declared.thunk.Thunk.{Thunk}
 use Rattle.table_words.specs.declared.layout.Layout.{Layout}
 use Rattle.table_words.specs.declared.spot.Spot.{Spot}
 use Rattle.table_words.specs.declared.spot.Spot.TheVariants.{Cell, DoneWord}
@@ -19,10 +19,11 @@ use Rattle.machine_states.specs.Sight.{Sight}
 
 -- the readings of an entered runner are as the structure's walks may take them, for each operation within the limits
 abbrev pub WalksStand : Meaning → Layout → Sight → Type 0
-WalksStand m l s = (r entry : ℕ) (op : Op) → (s.part r).stage ≡ Entered entry → IsAllowed op → m.walked l op (s.part r).reads.walk
+WalksStand m l s = (r entry : ℕ) (op : Op) → (s.part r).stage ≡ Entered entry → IsAllowed op
+    → m.walked l op (s.part r).reads.walk
 
--- a thunk that fits the readings of an entered runner, for an operation within the limits, is shaped: it has a body, and its
--- outer lock and the places of its Takes are locks that the readings give, and their words
+-- a thunk that fits the readings of an entered runner, for an operation within the limits, is shaped: it has a body,
+-- and its outer lock and the places of its Takes are locks that the readings give, and their words
 abbrev pub FittingAreShaped : Meaning → Layout → Sight → Type 0
 FittingAreShaped m l s = (r entry : ℕ) (op : Op) (thunk : Thunk) → (s.part r).stage ≡ Entered entry → IsAllowed op
     → m.fits l op (s.part r).reads.walk thunk ≡ true → Shaped m l (s.part r).reads.walk thunk

@@ -1,8 +1,8 @@
 -- What the words of locks name that entered runners have read.
 use Rattle.std.specs.Prelude.{ℕ, suc, ◌≡◌, ◌⊎◌, true, false}
-use Rattle.section_body.specs.Line.{line, micro_at}
-use Rattle.section_body.specs.Word.{value_of, held_word}
-use Rattle.section_body.specs.declared.micro.Micro.TheVariants.{NestedHold}
+use Rattle.body_terms.specs.Line.{line, micro_at}
+use Rattle.body_terms.specs.Word.{value_of, held_word}
+use Rattle.body_terms.specs.declared.micro.Micro.TheVariants.{NestedHold}
 use Rattle.table_words.specs.declared.spot.Spot.{Spot}
 use Rattle.structure_laws.specs.Meaning.{Meaning}
 use Rattle.epoch_core.specs.declared.stage.Stage.TheVariants.{Entered}
@@ -14,7 +14,8 @@ use Rattle.machine_epochs.specs.Slots.{thunk_in}
 -- outer lock, or that of one of its Takes
 abbrev pub HasLock : Meaning → (Spot → ℕ) → ℕ → ℕ → ℕ → Type 0
 HasLock m word d place held = ((place ≡ (thunk_in word d).lock) × (held ≡ held_word d (thunk_in word d).word))
-    ⊎ ((i free : ℕ) × (micro_at (line (m.body (thunk_in word d))) i ≡ NestedHold place free) × (held ≡ held_word d free))
+    ⊎ ((i free : ℕ) × (micro_at (line (m.body (thunk_in word d))) i ≡ NestedHold place free)
+    × (held ≡ held_word d free))
 
 -- a word of a lock that this runner, which is entered, has read since it entered, names this descriptor
 pub record HasReadName (m : Meaning) (s : Sight) (r place word d : ℕ) : Type 0 where
@@ -27,4 +28,5 @@ pub record HasReadName (m : Meaning) (s : Sight) (r place word d : ℕ) : Type 0
 -- the section that the word named is still in the descriptor, which is in nobody's free list
 pub record NamesStand (m : Meaning) (s : Sight) : Type 0 where
   pub lock : (r place word d : ℕ) → HasReadName m s r place word d → HasLock m s.word d place word
-  pub unfree : (r place word d : ℕ) → HasReadName m s r place word d → (r' : ℕ) → has (s.part r').descriptors.free d ≡ false
+  pub unfree : (r place word d : ℕ) → HasReadName m s r place word d → (r' : ℕ)
+      → has (s.part r').descriptors.free d ≡ false

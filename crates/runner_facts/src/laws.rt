@@ -6,15 +6,15 @@ ghost use Rattle.table_words.specs.declared.layout.Layout.{Layout};
 ghost use Rattle.machine_states.specs.World.{World};
 ghost use Rattle.machine_states.specs.Reached.{Reached};
 ghost use Rattle.machine_states.specs.Sight.{sight};
-ghost use Rattle.next_steps.specs.machine_invariant.specs.After.{AreAllowed};
+ghost use Rattle.machine_facts.specs.machine_invariant.specs.After.{AreAllowed};
 ghost use Rattle.runner_facts.specs.Keeper.{KeeperStands};
 ghost use Rattle.runner_facts.specs.Names.{NamesStand};
 ghost use Rattle.runner_facts.specs.Facts.{DescriptorsAreKept, FittingAreShaped, JoinedAreGone, LimboIsDone, WalksStand, WornAreWorn};
 
-use runner_parts::Structure;
+use structure_laws::Structure;
 
-/// In every state that the machine reaches, the readings of an entered runner are as the structure's walks may take them, whatever the cells
-/// hold by now, for each operation within the limits.
+/// In every state that the machine reaches, the readings of an entered runner are as the structure's walks may take
+/// them, whatever the cells hold by now, for each operation within the limits.
 pub fn walks_stand<S: Structure>(structure: &S)
     ensures { (layout : Layout) (requests : List Request) (w : World) → IsWithinLimits layout → AreAllowed requests
         → Reached (S.meaning structure.now) layout requests w
@@ -37,13 +37,14 @@ pub fn fitting_thunks_are_shaped<S: Structure>(structure: &S)
 /// In every state that the machine reaches, the section of a descriptor that waits in a limbo list is done.
 pub fn limbo_is_done<S: Structure>(structure: &S)
     ensures { (layout : Layout) (requests : List Request) (w : World) → IsWithinLimits layout → AreAllowed requests
-        → Reached (S.meaning structure.now) layout requests w → LimboIsDone (sight (S.meaning structure.now) layout requests w) }
+        → Reached (S.meaning structure.now) layout requests w
+        → LimboIsDone (sight (S.meaning structure.now) layout requests w) }
 {
     let _ = structure;
 }
 
-/// In every state that the machine reaches, each worker's descriptors are as many as the layout gives it, free, in limbo or published, and the
-/// keeper's as many as there are workers.
+/// In every state that the machine reaches, each worker's descriptors are as many as the layout gives it, free, in
+/// limbo or published, and the keeper's as many as there are workers.
 pub fn descriptors_are_kept<S: Structure>(structure: &S)
     ensures { (layout : Layout) (requests : List Request) (w : World) → IsWithinLimits layout → AreAllowed requests
         → Reached (S.meaning structure.now) layout requests w
@@ -70,8 +71,9 @@ pub fn worn_slots_are_worn<S: Structure>(structure: &S)
     let _ = structure;
 }
 
-/// In every state that the machine reaches, a word of a lock that an entered runner has read since it entered, in a walk, by an exchange or in
-/// a run, and that names a descriptor, is the held word of a lock of the section that is still in that descriptor.
+/// In every state that the machine reaches, a word of a lock that an entered runner has read since it entered, in a
+/// walk, by an exchange or in a run, and that names a descriptor, is the held word of a lock of the section that is
+/// still in that descriptor.
 pub fn names_stand<S: Structure>(structure: &S)
     ensures { (layout : Layout) (requests : List Request) (w : World) → IsWithinLimits layout → AreAllowed requests
         → Reached (S.meaning structure.now) layout requests w
@@ -80,8 +82,8 @@ pub fn names_stand<S: Structure>(structure: &S)
     let _ = structure;
 }
 
-/// In every state that the machine reaches: once the keeper has joined all workers, what its steps since then left last in a word stands there.
-/// The keeper publishes no section.
+/// In every state that the machine reaches: once the keeper has joined all workers, what its steps since then left last
+/// in a word stands there. The keeper publishes no section.
 pub fn what_the_keeper_left_stands<S: Structure>(structure: &S)
     ensures { (layout : Layout) (requests : List Request) (w : World) → IsWithinLimits layout → AreAllowed requests
         → Reached (S.meaning structure.now) layout requests w

@@ -41,4 +41,8 @@ given runner halt counted =
 -- once a gate with so many halts and asks came back
 abbrev pub taken_back : (halts asks : ℕ) → Counted → Counted
 taken_back halts asks counted =
-    record counted { returned = plus counted.returned 1; halts = halts_after counted.halts halts; asks = plus counted.asks asks }
+    record counted {
+      returned = plus counted.returned 1;
+      halts = halts_after counted.halts halts;
+      asks = plus counted.asks asks;
+    }

@@ -4,7 +4,7 @@ ghost use Rattle.runner_gate.specs.Counts.{none_counted};
 
 use crate::counts::Counts;
 use crate::gates::Gates;
-use section_body::{Gate, Pass, StepKind};
+use body_terms::{Gate, Pass, StepKind};
 use std::marker::Model;
 
 /// A gate that never halts. It counts its asks, and its count of halts is 0 for good.
@@ -52,7 +52,7 @@ impl Gate for Free {
     }
 
     #[inline(always)]
-    #[tactic(auto, using(section_body::proofs::CountedLemmas::counts))]
+    #[tactic(auto, using(body_terms::proofs::CountedLemmas::counts))]
     fn count(&mut self, more: u64) {
         self.asks = self.asks.saturating_add(more);
     }

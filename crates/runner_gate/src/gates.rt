@@ -3,7 +3,7 @@ ghost use Rattle.std.specs.Prelude.{◌≡◌, ℕ, List};
 ghost use Rattle.runner_gate.specs.Counts.{plus, halts_after, plans_after, planned_after};
 ghost use Rattle.runner_gate.specs.declared.counts.GatePlan.{GatePlan};
 
-use section_body::Gate;
+use body_terms::Gate;
 
 /// Gives each runner of a table its gate, and takes the gates back once the runners are done.
 ///

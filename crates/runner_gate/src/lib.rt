@@ -1,7 +1,8 @@
 //! Gates: what a runner is asked by between its atomic steps, and may be stopped by.
 //!
-//! `gates` is where each runner of a table gets its gate and to which it gives it back, and `counts` is what is counted there. `free` has
-//! gates that never halt, `planned` gates that halt at an ask with a given number, and `scripted` gates for tests that wait for one another.
+//! `gates` is where each runner of a table gets its gate and to which it gives it back, and `counts` is what is counted
+//! there. `free` has gates that never halt, `planned` gates that halt at an ask with a given number, and `scripted`
+//! gates for tests that wait for one another.
 #![tactic(auto)]
 
 mod counts;
@@ -9,8 +10,6 @@ mod free;
 mod gates;
 mod planned;
 mod scripted;
-#[cfg(test)]
-mod tests;
 
 pub use counts::GatePlan;
 pub use free::{Free, FreeGates};

@@ -2,14 +2,14 @@
 ghost use Rattle.std.specs.Prelude.{◌≡◌, ◌≤◌, ◌+◌, ℕ, List, Option, cond, min, true};
 ghost use Rattle.std.specs.Option.{is_none};
 ghost use Rattle.fault_count.specs.Rose.{Rose};
-ghost use Rattle.section_body.specs.Counted.{counted_on};
-ghost use Rattle.section_body.specs.declared.gate.Pass.TheVariants.{Go, Halt};
+ghost use Rattle.body_terms.specs.Counted.{counted_on};
+ghost use Rattle.body_terms.specs.declared.gate.Pass.TheVariants.{Go, Halt};
 ghost use Rattle.runner_gate.specs.Counts.{plus, halts_after, plans_after, planned_after, none_counted};
 ghost use Rattle.runner_gate.specs.Planned.{unasked, halts_next, asked};
 
 use crate::counts::Counts;
 use crate::gates::Gates;
-use section_body::{Gate, Pass, StepKind};
+use body_terms::{Gate, Pass, StepKind};
 use std::marker::Model;
 
 /// A gate that halts at its ask with a given number, counted from 1, and at each later one; or never, where no
@@ -80,7 +80,7 @@ impl Gate for HaltAt {
     }
 
     #[inline(always)]
-    #[tactic(auto, using(section_body::proofs::CountedLemmas::counts))]
+    #[tactic(auto, using(body_terms::proofs::CountedLemmas::counts))]
     fn count(&mut self, more: u64)
         ensures { self.new ≡ record self.old { asks = counted_on self.old.asks more } }
     {

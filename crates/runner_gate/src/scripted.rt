@@ -4,7 +4,7 @@ ghost use Rattle.runner_gate.specs.Counts.{none_counted};
 
 use crate::counts::Counts;
 use crate::gates::Gates;
-use section_body::{Gate, Pass, StepKind};
+use body_terms::{Gate, Pass, StepKind};
 use std::alloc::{AllocError, Global};
 use std::marker::Model;
 use std::sync::Arc;

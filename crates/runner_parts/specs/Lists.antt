@@ -1,7 +1,7 @@
 -- How a runner's lists change.
-use Rattle.std.specs.Prelude.{ℕ, ◌+◌, ◌-◌, List, [], ◌∷◌, ◌++◌, Bool, true, false, not, ◌==◌, ◌&&◌, ◌||◌, nat_lt, nat_le, map, if◌then◌else◌}
+use Rattle.std.specs.Prelude.{ℕ, ◌+◌, ◌-◌, List, [], ◌∷◌, ◌++◌, Bool, true, false, not, ◌==◌, ◌&&◌, ◌||◌, nat_lt, nat_le, map, length, if◌then◌else◌}
 use Rattle.std.specs.List.{filter}
-use Rattle.section_body.specs.Word.{value_of, version_of, is_free}
+use Rattle.body_terms.specs.Word.{value_of, version_of, is_free}
 use Rattle.table_words.specs.declared.layout.Layout.{Layout}
 use Rattle.runner_parts.specs.declared.entries.Retired.{Retired}
 use Rattle.runner_parts.specs.declared.entries.Tested.{Tested}
@@ -23,15 +23,25 @@ is_old epoch x = nat_le (x.epoch + 2) epoch
 abbrev pub slots_of : List Retired → List ℕ
 slots_of xs = map (λ x. x.slot) xs
 
+-- how many entries a runner's lists of node slots have
+abbrev pub entry_count : NodesState → ℕ
+entry_count n = length n.hand + (length n.free + (length n.worn + length n.limbo))
+
 -- the slots that have waited long enough go from limbo to the hand
 abbrev pub nodes_collected : ℕ → NodesState → NodesState
 nodes_collected epoch n =
-    record n { hand = n.hand ++ slots_of (filter (is_old epoch) n.limbo); limbo = filter (λ x. not (is_old epoch x)) n.limbo }
+    record n {
+      hand = n.hand ++ slots_of (filter (is_old epoch) n.limbo);
+      limbo = filter (λ x. not (is_old epoch x)) n.limbo;
+    }
 
 -- the descriptors that have waited long enough go from limbo to the free list
 abbrev pub descriptors_collected : ℕ → DescriptorsState → DescriptorsState
 descriptors_collected epoch d =
-    record d { free = d.free ++ slots_of (filter (is_old epoch) d.limbo); limbo = filter (λ x. not (is_old epoch x)) d.limbo }
+    record d {
+      free = d.free ++ slots_of (filter (is_old epoch) d.limbo);
+      limbo = filter (λ x. not (is_old epoch x)) d.limbo;
+    }
 
 -- how far the slot's cells have been looked at
 abbrev pub test_of : List Tested → ℕ → Tested

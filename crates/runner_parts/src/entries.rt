@@ -1,6 +1,6 @@
 //! The entries of a runner's lists.
 
-use section_body::Thunk;
+use body_terms::Thunk;
 use table_words::Spot;
 
 /// A slot in limbo, with the epoch that was loaded for its retirement.

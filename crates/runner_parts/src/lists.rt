@@ -2,7 +2,7 @@
 
 use crate::entries::{Known, Left, Retired, Stored, Tested};
 use crate::run::Finished;
-use section_body::{Place, Word};
+use body_terms::{Place, Word};
 use std::marker::Model;
 
 /// The own node slots: the free ones, those in the hand with how far their cells were looked at, those in
@@ -22,7 +22,13 @@ impl Model for Nodes {
 
     ghost Value = { NodesState };
 
-    ghost view = { λ a. record { free = a.free.items; hand = a.hand.items; tests = a.tests.items; limbo = a.limbo.items; worn = a.worn.items } };
+    ghost view = { λ a. record {
+      free = a.free.items;
+      hand = a.hand.items;
+      tests = a.tests.items;
+      limbo = a.limbo.items;
+      worn = a.worn.items;
+    } };
 }
 
 /// The own descriptors: the free ones with what was stored into them, in the order of the stores, and those in limbo.
@@ -56,7 +62,12 @@ impl Model for Reads {
 
     ghost Value = { ReadsState };
 
-    ghost view = { λ a. record { walk = a.walk.items; cells = a.cells.items; held = a.held.items; published = a.published.items } };
+    ghost view = { λ a. record {
+      walk = a.walk.items;
+      cells = a.cells.items;
+      held = a.held.items;
+      published = a.published.items;
+    } };
 }
 
 /// What a runner keeps for good: the stamp and reply words that it knows, the sections that it ran to their
@@ -85,5 +96,16 @@ impl Model for Records {
 
     ghost Value = { RecordsState };
 
-    ghost view = { λ a. record { known = a.known.items; finished = a.finished.items; events = a.events; won = a.won; epoch_seen = a.epoch_seen; crossed = a.crossed; crosses = a.crosses; left = a.left.items; splits = a.splits; joined = a.joined.items } };
+    ghost view = { λ a. record {
+      known = a.known.items;
+      finished = a.finished.items;
+      events = a.events;
+      won = a.won;
+      epoch_seen = a.epoch_seen;
+      crossed = a.crossed;
+      crosses = a.crosses;
+      left = a.left.items;
+      splits = a.splits;
+      joined = a.joined.items;
+    } };
 }

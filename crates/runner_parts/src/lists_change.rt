@@ -2,13 +2,20 @@
 ghost use Rattle.std.specs.Prelude.{◌≡◌, ◌==◌, ◌<◌, ◌-◌, ◌^◌, not, IfOk, OnOk};
 ghost use Rattle.std.specs.List.{filter};
 ghost use Rattle.runner_parts.specs.Lists.{without, named_by, is_old, slots_of, nodes_collected, descriptors_collected, test_of, tests_without, slot_back, slot_tested, one_more, nodes_looked, slot_taken, slot_made, slot_retired, descriptor_stored, descriptor_taken, descriptor_retired, cell_read, holds_named, walked, lock_agreed, section_published, learned};
+ghost use Rattle.runner_parts.specs.Tests.{has};
 
 use crate::entries::{Known, Retired, Stored, Tested};
-use crate::knowledge::has;
 use crate::lists::{Descriptors, Nodes, Reads, Records};
-use section_body::{Place, Word};
+use body_terms::{Place, Word};
 use std::alloc::{AllocError, Global};
 use table_words::Layout;
+
+/// Whether the list has this number.
+pub fn has(numbers: &[u32], number: u32) -> bool
+    ensures { result ≡ has numbers.now number }
+{
+    numbers.iter().any(|x| *x == number)
+}
 
 /// The list without this number.
 fn without(alloc: Global, numbers: &[u32], number: u32) -> Result<Vec<u32>, AllocError>

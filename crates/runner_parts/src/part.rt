@@ -24,5 +24,14 @@ impl Model for Part {
 
     ghost Value = { PartState };
 
-    ghost view = { λ a. record { stage = a.stage; run = a.run; published = a.published; nodes = a.nodes; descriptors = a.descriptors; reads = a.reads; records = a.records; gone = a.gone } };
+    ghost view = { λ a. record {
+      stage = a.stage;
+      run = a.run;
+      published = a.published;
+      nodes = a.nodes;
+      descriptors = a.descriptors;
+      reads = a.reads;
+      records = a.records;
+      gone = a.gone;
+    } };
 }

@@ -1,6 +1,6 @@
 //! A run of a section, and what is kept of one that came to its end.
 
-use section_body::{Outcome, Place, Word};
+use body_terms::{Outcome, Place, Word};
 use std::marker::Model;
 
 /// A run of a section in progress.
@@ -27,7 +27,16 @@ impl Model for Run {
 
     ghost Value = { RunState };
 
-    ghost view = { λ a. record { descriptor = a.descriptor; opened = a.opened.items; at = a.at; word = a.word; trail = a.trail.items; made = a.made; worn = a.worn; ended = a.ended } };
+    ghost view = { λ a. record {
+      descriptor = a.descriptor;
+      opened = a.opened.items;
+      at = a.at;
+      word = a.word;
+      trail = a.trail.items;
+      made = a.made;
+      worn = a.worn;
+      ended = a.ended;
+    } };
 }
 
 /// A section that the runner ran to its end: its name (its descriptor, and the outer lock with the free
@@ -47,5 +56,12 @@ impl Model for Finished {
 
     ghost Value = { FinishedState };
 
-    ghost view = { λ a. record { descriptor = a.descriptor; lock = a.lock; word = a.word; outcome = a.outcome; trail = a.trail.items; late = a.late } };
+    ghost view = { λ a. record {
+      descriptor = a.descriptor;
+      lock = a.lock;
+      word = a.word;
+      outcome = a.outcome;
+      trail = a.trail.items;
+      late = a.late;
+    } };
 }

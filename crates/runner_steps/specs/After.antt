@@ -10,7 +10,7 @@ use Rattle.runner_parts.specs.declared.event.EventKind.{EventKind}
 use Rattle.runner_parts.specs.declared.event.EventKind.TheVariants as kinds
 use Rattle.epoch_core.specs.declared.stage.Stage.TheVariants as stages
 use Rattle.runner_parts.specs.declared.entries.Left.{Left}
-use Rattle.section_body.specs.declared.micro.Micro.{Micro}
+use Rattle.body_terms.specs.declared.micro.Micro.{Micro}
 use Rattle.runner_parts.specs.State.{RunState, PartState, RecordsState}
 use Rattle.runner_steps.specs.Sections.{is_open_run, next_of}
 use Rattle.runner_steps.specs.AfterOutside.{with_stage, entered, scan_one_after, advance_after, split_after, read_after, entry_after, private_load_after, private_store_after, hold_after, open_after, retire_after}

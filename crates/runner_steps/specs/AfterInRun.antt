@@ -1,10 +1,10 @@
 -- A runner's part after an event of a run, which found this word.
 use Rattle.std.specs.Prelude.{ℕ, ◌+◌, [], ◌∷◌, ◌++◌, Bool, true, false, ◌==◌, ◌||◌, nat_lt, Option, Some, None, if◌then◌else◌}
-use Rattle.section_body.specs.declared.micro.Micro.{Micro}
-use Rattle.section_body.specs.declared.micro.Micro.TheVariants as micros
-use Rattle.section_body.specs.Word.{version_of}
-use Rattle.section_body.specs.Line.{is_end}
-use Rattle.section_body.specs.Run.{written_once}
+use Rattle.body_terms.specs.declared.micro.Micro.{Micro}
+use Rattle.body_terms.specs.declared.micro.Micro.TheVariants as micros
+use Rattle.body_terms.specs.Word.{version_of}
+use Rattle.body_terms.specs.Line.{is_end}
+use Rattle.body_terms.specs.Run.{written_once}
 use Rattle.table_words.specs.declared.layout.Layout.{Layout}
 use Rattle.structure_laws.specs.Meaning.{Meaning}
 use Rattle.runner_parts.specs.declared.entries.Published.{Published}

@@ -1,6 +1,6 @@
 -- A runner's part after an event outside a run, which found this word.
 use Rattle.std.specs.Prelude.{ℕ, ◌+◌, ◌-◌, [], ◌∷◌, Bool, false, not, ◌==◌, ◌&&◌, nat_lt, nat_le, length, Option, Some, None, if◌then◌else◌}
-use Rattle.section_body.specs.declared.thunk.Thunk.{Thunk}
+use Rattle.body_terms.specs.declared.thunk.Thunk.{Thunk}
 use Rattle.table_words.specs.declared.layout.Layout.{Layout}
 use Rattle.table_words.specs.Places.{slot_count}
 use Rattle.structure_laws.specs.Meaning.{Meaning}
@@ -22,7 +22,11 @@ entered p found = record p { stage = stages.Entered found; reads = no_reads }
 -- a scan is over, and this epoch was reached
 abbrev pub collected : PartState → ℕ → PartState
 collected p epoch =
-    record p { stage = stages.Idle; nodes = nodes_collected epoch p.nodes; descriptors = descriptors_collected epoch p.descriptors }
+    record p {
+      stage = stages.Idle;
+      nodes = nodes_collected epoch p.nodes;
+      descriptors = descriptors_collected epoch p.descriptors;
+    }
 
 -- after the last announcement the scan is over, unless an advance may be tried
 abbrev pub scanned : Layout → PartState → ℕ → ℕ → Bool → PartState
@@ -41,7 +45,8 @@ advance_after p _ = p
 
 abbrev pub split_after : Layout → PartState → PartState
 split_after l p =
-    if nat_lt p.records.splits l.runners then record p { records = record (p.records) { splits = p.records.splits + 1 } } else p
+    if nat_lt p.records.splits l.runners then record p
+    { records = record (p.records) { splits = p.records.splits + 1 } } else p
 
 abbrev pub read_after : Meaning → ℕ → PartState → ℕ → PartState
 read_after m place p found = record p { reads = walked p.reads (m.is_lock place) place found }

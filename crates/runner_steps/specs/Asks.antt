@@ -7,7 +7,7 @@ use Rattle.table_words.specs.Places.{fits, sizes_of}
 use Rattle.structure_laws.specs.Meaning.{Meaning}
 use Rattle.runner_parts.specs.declared.event.EventKind.{EventKind}
 use Rattle.runner_parts.specs.declared.event.EventKind.TheVariants as kinds
-use Rattle.section_body.specs.declared.micro.Micro.{Micro}
+use Rattle.body_terms.specs.declared.micro.Micro.{Micro}
 use Rattle.runner_parts.specs.State.{RunState, PartState}
 use Rattle.runner_steps.specs.Sections.{is_open_run, next_of}
 use Rattle.runner_steps.specs.Outside.{Ask, enter_load_ask, announce_ask, enter_again_ask, idle_ask, scan_one_ask, advance_ask, split_ask, join_ask, read_ask, entry_ask, private_load_ask, private_store_ask, hold_ask, open_ask, retire_ask}

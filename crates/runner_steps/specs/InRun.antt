@@ -1,10 +1,10 @@
 -- Which word the next event of a run meets, and how.
 use Rattle.std.specs.Prelude.{ℕ, ◌+◌, ◌-◌, ◌*◌, ◌/◌, ◌^◌, List, Bool, false, ◌==◌, ◌&&◌, nat_lt, Option, Some, None, length, slice_index, if◌then◌else◌}
-use Rattle.section_body.specs.declared.micro.Micro.{Micro}
-use Rattle.section_body.specs.declared.micro.Micro.TheVariants as micros
-use Rattle.section_body.specs.Word.{version_of, next_word, held_word}
-use Rattle.section_body.specs.Memory.{cell_of}
-use Rattle.section_body.specs.Run.{source_value}
+use Rattle.body_terms.specs.declared.micro.Micro.{Micro}
+use Rattle.body_terms.specs.declared.micro.Micro.TheVariants as micros
+use Rattle.body_terms.specs.Word.{version_of, next_word, held_word}
+use Rattle.body_terms.specs.Memory.{cell_of}
+use Rattle.body_terms.specs.Run.{source_value}
 use Rattle.table_words.specs.declared.layout.Layout.{Layout}
 use Rattle.table_words.specs.Places.{slot_count, descriptor_count}
 use Rattle.table_words.specs.declared.spot.Spot.TheVariants as spots
@@ -72,7 +72,8 @@ abbrev pub fill_store_ask : Meaning → Layout → ℕ → ℕ → ℕ → RunSt
 fill_store_ask m l slot word number q (micros.PrivateStore cell log value) =
     when (is_cell m l slot word
     && (is_slot q.made slot && (word == cell
-    && (can_raise l q.word && number == next_word q.word (source_value q.trail value))))) (spots.Cell (cell_of m.fixed_cells slot word)) (Stores number)
+    && (can_raise l q.word && number == next_word q.word (source_value q.trail value)))))
+    (spots.Cell (cell_of m.fixed_cells slot word)) (Stores number)
 fill_store_ask m l slot word number q _ = None
 
 abbrev pub make_commit_to : RunState → ℕ → Option ℕ → Ask

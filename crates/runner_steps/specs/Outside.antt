@@ -1,9 +1,9 @@
 -- Which word an event outside a run meets, and how.
 use Rattle.std.specs.Prelude.{ℕ, ◌+◌, ◌-◌, List, Bool, true, false, not, ◌==◌, ◌&&◌, ◌||◌, nat_lt, nat_le, Option, Some, None, slice_get, length, if◌then◌else◌, is_none}
 use Rattle.map_history.specs.declared.op.Request.{Request}
-use Rattle.section_body.specs.declared.thunk.Thunk.{Thunk}
-use Rattle.section_body.specs.Word.{held_word}
-use Rattle.section_body.specs.Memory.{cell_of}
+use Rattle.body_terms.specs.declared.thunk.Thunk.{Thunk}
+use Rattle.body_terms.specs.Word.{held_word}
+use Rattle.body_terms.specs.Memory.{cell_of}
 use Rattle.table_words.specs.declared.layout.Layout.{Layout}
 use Rattle.table_words.specs.declared.spot.Spot.{Spot}
 use Rattle.table_words.specs.declared.spot.Spot.TheVariants as spots
@@ -77,7 +77,8 @@ entry_ask request reply p = when (is_resting p.stage p.run) (entry_spot request 
 -- a descriptor's word: the thunk words, the done word, the log
 abbrev pub descriptor_spot : ℕ → ℕ → Spot
 descriptor_spot d word =
-    if nat_lt word 12 then spots.ThunkWord d word else (if word == 12 then spots.DoneWord d else spots.LogWord d (word - 13))
+    if nat_lt word 12 then spots.ThunkWord d word else
+    (if word == 12 then spots.DoneWord d else spots.LogWord d (word - 13))
 
 -- a cell of an own free node slot, or of one in the own hand; or a word of an own free descriptor
 abbrev pub private_load_ask : Meaning → Layout → ℕ → ℕ → PartState → Ask
@@ -114,7 +115,8 @@ is_ready l p d t =
 
 abbrev pub hold_ask : Meaning → Layout → List Request → ℕ → Thunk → ℕ → PartState → Ask
 hold_ask m l requests r t d p =
-    when (is_ready l p d t && is_publishable m l requests r t p) (spots.Cell t.lock) (Exchanges t.word (held_word d t.word))
+    when (is_ready l p d t && is_publishable m l requests r t p) (spots.Cell t.lock)
+    (Exchanges t.word (held_word d t.word))
 
 -- a run begins with the first thunk word of a descriptor that the runner holds
 abbrev pub open_ask : ℕ → PartState → Ask

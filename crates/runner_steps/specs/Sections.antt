@@ -1,14 +1,14 @@
 -- A run's section, and what comes next in it.
 use Rattle.std.specs.Prelude.{ℕ, ◌%◌, ◌^◌, List, [], ◌∷◌, Bool, false, not, ◌==◌, ◌&&◌, nat_lt, length, slice_index, Option, None, Some}
-use Rattle.section_body.specs.declared.thunk.Thunk.{Thunk}
-use Rattle.section_body.specs.declared.micro.Micro.{Micro}
-use Rattle.section_body.specs.declared.micro.Micro.TheVariants.{CheckHeld}
-use Rattle.section_body.specs.declared.step.Step.{Step}
-use Rattle.section_body.specs.declared.step.Step.TheVariants.{Answer}
-use Rattle.section_body.specs.declared.outcome.Outcome.{Outcome}
-use Rattle.section_body.specs.declared.outcome.Outcome.TheVariants.{Answered}
-use Rattle.section_body.specs.Line.{line, micro_at, next_micro}
-use Rattle.section_body.specs.Run.{Setting, leaves, settled}
+use Rattle.body_terms.specs.declared.thunk.Thunk.{Thunk}
+use Rattle.body_terms.specs.declared.micro.Micro.{Micro}
+use Rattle.body_terms.specs.declared.micro.Micro.TheVariants.{CheckHeld}
+use Rattle.body_terms.specs.declared.step.Step.{Step}
+use Rattle.body_terms.specs.declared.step.Step.TheVariants.{Answer}
+use Rattle.body_terms.specs.declared.outcome.Outcome.{Outcome}
+use Rattle.body_terms.specs.declared.outcome.Outcome.TheVariants.{Answered}
+use Rattle.body_terms.specs.Line.{line, micro_at, next_micro}
+use Rattle.body_terms.specs.Run.{Setting, leaves, settled}
 use Rattle.table_words.specs.declared.layout.Layout.{Layout}
 use Rattle.structure_laws.specs.Meaning.{Meaning}
 use Rattle.runner_parts.specs.State.{RunState}
@@ -79,4 +79,5 @@ outcome_or (Some outcome) reply = outcome
 -- how a run ends that rests here: it leaves at a check, or it went through
 abbrev pub outcome_of : Meaning → Layout → RunState → Outcome
 outcome_of m l q =
-    outcome_or (leaves (setting_of l q.descriptor) q.trail (micro_at (line_of m q) q.at)) (reply_in (m.body (thunk_of q.opened)))
+    outcome_or (leaves (setting_of l q.descriptor) q.trail (micro_at (line_of m q) q.at))
+    (reply_in (m.body (thunk_of q.opened)))

@@ -1,15 +1,12 @@
-//! What one runner may do next: the word that an event meets, and how.
+//! What one runner may do next: the word that an event meets, and how; and what becomes of its part.
 //!
-//! `enabled` has `asks`, by `outside` for a runner in no run and `inside` for one in a run. `section` reads
-//! a run's place off its body's line and its trail.
+//! The definitions stand in specs: `Asks` has `asks`, by `Outside` for a runner in no run and `InRun` for one in a
+//! run, whose place `Sections` reads off its body's line and its trail; `After` has the part behind an event. `places`
+//! computes how many words the table has, where some of them stand, and the words that runners put there.
 #![tactic(auto)]
 
-mod enabled;
-mod inside;
-mod outside;
-mod section;
+mod places;
 
-pub use enabled::{asks, sizes_for};
-pub use inside::{LAST_CLOCK, is_open_run, last_of, next_of};
-pub use outside::{descriptor_spot, held_word, slot_count};
-pub use section::{agreed_on, is_end, leaves, reply_in, settled, source_value, thunk_of};
+pub use places::{
+    agreed_on, cell_place, descriptor_count, descriptor_spot, held_word, sizes_for, slot_count,
+};

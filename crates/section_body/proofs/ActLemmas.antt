@@ -4,27 +4,24 @@ use Rattle.std.specs.Prelude.{Bool, true, false, cond, ◌==◌, max, map, slice
 use Rattle.std.proofs.Math.ListN.{get_or-map}
 use Rattle.std.proofs.lemmas.Bool.Decides.{nat_tests}
 use Rattle.std.proofs.Math.Seq.{get_or-append_seam}
-use Rattle.section_body.specs.Update.{upd}
-use Rattle.section_body.specs.Word.{next_word, held_word}
-use Rattle.section_body.specs.Trail.{Agreed as Agreement}
-use Rattle.section_body.specs.Memory.{PlainMemory, cell_of}
-use Rattle.section_body.specs.Line.{Registers, source_of, micros}
-use Rattle.section_body.specs.Run.{Setting, Run, ran, is_takable, refusal, source_value, written_once}
-use Rattle.section_body.specs.Plain.{first_values, memory_after}
-use Rattle.section_body.specs.Act.{Shows, GotSuits, BusySuits, LockSuits, SlotSuits, filled}
-use Rattle.section_body.specs.declared.value.Value.{Value}
-use Rattle.section_body.specs.declared.value.Value.TheVariants.{Const}
-use Rattle.section_body.specs.declared.value.Init.{Init}
-use Rattle.section_body.specs.declared.step.Step.TheVariants.{Load, Take, Make, Stamp, Store, Answer}
-use Rattle.section_body.specs.declared.outcome.Outcome.{Outcome}
-use Rattle.section_body.specs.declared.outcome.Outcome.TheVariants.{Answered, Busy}
-use Rattle.section_body.specs.declared.micro.Micro.{Micro}
-use Rattle.section_body.specs.declared.micro.Micro.TheVariants.{NestedHold, OutcomeLoad, OutcomeCommit, CheckHeld}
-use Rattle.section_body.proofs.ValueLemmas.{length-first_values, get_or-first_values, set-first_values}
-
--- a number equals itself, as a test
-eq_refl : (n : ℕ) → (n == n) ≡ true
-eq_refl n = grind (arith, nat_tests)
+use Rattle.small_lemmas.proofs.Numbers.{self_tested as eq_refl}
+use Rattle.body_terms.specs.Update.{upd}
+use Rattle.body_terms.specs.Word.{next_word, held_word}
+use Rattle.body_terms.specs.Trail.{Agreed as Agreement}
+use Rattle.body_terms.specs.Memory.{PlainMemory, cell_of}
+use Rattle.body_terms.specs.Line.{Registers, source_of, micros}
+use Rattle.body_terms.specs.Run.{Setting, Run, ran, is_takable, refusal, source_value, written_once}
+use Rattle.body_terms.specs.Plain.{first_values, memory_after}
+use Rattle.body_terms.specs.Act.{Shows, GotSuits, BusySuits, LockSuits, SlotSuits, filled}
+use Rattle.body_terms.specs.declared.value.Value.{Value}
+use Rattle.body_terms.specs.declared.value.Value.TheVariants.{Const}
+use Rattle.body_terms.specs.declared.value.Init.{Init}
+use Rattle.body_terms.specs.declared.step.Step.TheVariants.{Load, Take, Make, Stamp, Store, Answer}
+use Rattle.body_terms.specs.declared.outcome.Outcome.{Outcome}
+use Rattle.body_terms.specs.declared.outcome.Outcome.TheVariants.{Answered, Busy}
+use Rattle.body_terms.specs.declared.micro.Micro.{Micro}
+use Rattle.body_terms.specs.declared.micro.Micro.TheVariants.{NestedHold, OutcomeLoad, OutcomeCommit, CheckHeld}
+use Rattle.body_terms.proofs.ValueLemmas.{length-first_values, get_or-first_values, set-first_values}
 
 -- a second store at one index
 set_again : (xs : List ℕ) (i a b : ℕ) → set (set xs i a) i b ≡ set xs i b

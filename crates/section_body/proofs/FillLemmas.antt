@@ -1,8 +1,8 @@
 -- Cells that a Make fills.
 use Rattle.std.proofs.Common.{◌≡◌, ◌≢◌, ℕ, zero, suc, ◌+◌, ◌≤◌, List, length, refl, ap, ◌∙◌, arith, get_or, set, get_or-set_other, length-set}
-use Rattle.section_body.specs.Word.{next_word}
-use Rattle.section_body.specs.Memory.{PlainMemory, cell_of}
-use Rattle.section_body.specs.Act.{filled}
+use Rattle.body_terms.specs.Word.{next_word}
+use Rattle.body_terms.specs.Memory.{PlainMemory, cell_of}
+use Rattle.body_terms.specs.Act.{filled}
 
 -- filling cells keeps their number
 pub length-filled : (fixed_cells slot : ℕ) (values cells : List ℕ) (k : ℕ) → length (filled fixed_cells slot values cells k) ≡ length cells

@@ -3,24 +3,24 @@ use Rattle.std.proofs.Common.{◌≡◌, ◌≢◌, ℕ, zero, suc, ◌+◌, ◌
 use Rattle.std.specs.Prelude.{Bool, true, false, count_by, slice_index, slice_index_or, ◌==◌, ◌&&◌, not, nat_lt}
 use Rattle.std.proofs.lemmas.Bool.Decides.{nat_tests}
 use Rattle.std.proofs.lemmas.Option.{slice_get_within}
-use Rattle.section_body.specs.Word.{version_of, is_free, is_spent}
-use Rattle.section_body.specs.Trail.{Agreed as Agreement}
-use Rattle.section_body.specs.Memory.{PlainMemory, cell_of}
-use Rattle.section_body.specs.Line.{registers_before, log_words}
-use Rattle.section_body.specs.Run.{Run}
-use Rattle.section_body.specs.Plain.{Choice, no_choice, lock_choices, choices, choice_at, PlacesFit, SlotsFit, LocksFit, HasRequest, HasRoom, VersionsFit}
-use Rattle.section_body.specs.Shape.{IsStep, IsShaped, SetBefore, LoadedBefore, is_take, is_make, is_stamp, is_retire}
-use Rattle.section_body.specs.Act.{Shows, IsLogged, SlotFits, StoreFits, StepFits, LockSuits, SlotSuits, StepSuits}
-use Rattle.section_body.specs.declared.value.Value.{Value}
-use Rattle.section_body.specs.declared.value.Value.TheVariants.{Of}
-use Rattle.section_body.specs.declared.value.Init.{Init}
-use Rattle.section_body.specs.declared.step.Step.{Step}
-use Rattle.section_body.specs.declared.step.Step.TheVariants.{Load, Want, Fresh, Take, Make, Stamp, Store, Retire, Answer}
-use Rattle.section_body.proofs.RegisterLemmas.{loaded_register, logged, count_le}
-use Rattle.section_body.proofs.LineLemmas.{log_words_le}
-use Rattle.section_body.proofs.ChoiceLemmas.{choices_here}
+use Rattle.body_terms.specs.Word.{version_of, is_free, is_spent}
+use Rattle.body_terms.specs.Trail.{Agreed as Agreement}
+use Rattle.body_terms.specs.Memory.{PlainMemory, cell_of}
+use Rattle.body_terms.specs.Line.{registers_before, log_words}
+use Rattle.body_terms.specs.Run.{Run}
+use Rattle.body_terms.specs.Plain.{Choice, no_choice, lock_choices, choices, choice_at, PlacesFit, SlotsFit, LocksFit, HasRequest, HasRoom, VersionsFit}
+use Rattle.body_terms.specs.Shape.{IsStep, IsShaped, SetBefore, LoadedBefore, is_take, is_make, is_stamp, is_retire}
+use Rattle.body_terms.specs.Act.{Shows, IsLogged, SlotFits, StoreFits, StepFits, LockSuits, SlotSuits, StepSuits}
+use Rattle.body_terms.specs.declared.value.Value.{Value}
+use Rattle.body_terms.specs.declared.value.Value.TheVariants.{Of}
+use Rattle.body_terms.specs.declared.value.Init.{Init}
+use Rattle.body_terms.specs.declared.step.Step.{Step}
+use Rattle.body_terms.specs.declared.step.Step.TheVariants.{Load, Want, Fresh, Take, Make, Stamp, Store, Retire, Answer}
+use Rattle.body_terms.proofs.RegisterLemmas.{loaded_register, logged, count_le}
+use Rattle.body_terms.proofs.LineLemmas.{log_words_le}
+use Rattle.body_terms.proofs.ChoiceLemmas.{choices_here}
 use Rattle.section_body.proofs.ActLemmas.{same_length, cell_is}
-use Rattle.section_body.proofs.SoundLemmas.{Sound, setting, counted, choice_slot, fresh_slot, first_dropped, unwritten}
+use Rattle.body_terms.proofs.SoundLemmas.{Sound, setting, counted, choice_slot, fresh_slot, first_dropped, unwritten}
 
 -- a version that is at most the greatest and isn't it has a next one
 next_version : (version max : ℕ) → version ≤ max → version ≢ max → max < 2 ^ 32 → version + 1 < 2 ^ 32

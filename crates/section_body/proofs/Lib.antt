@@ -1,15 +1,4 @@
 pub mod ActLemmas
-pub mod ChoiceLemmas
-pub mod CostLemmas
-pub mod CountedLemmas
-pub mod FaultLemmas
 pub mod FillLemmas
 pub mod FitLemmas
-pub mod LineLemmas
 pub mod PlainLemmas
-pub mod RegisterLemmas
-pub mod RunLemmas
-pub mod ShapeLemmas
-pub mod SoundLemmas
-pub mod ValueLemmas
-pub mod WrittenLemmas

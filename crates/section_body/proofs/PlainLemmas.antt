@@ -2,19 +2,19 @@
 use Rattle.std.proofs.Common.{◌≡◌, ℕ, suc, ◌≤◌, List, [], ◌∷◌, ◌++◌, length, take, drop, refl, sym, ap, ◌∙◌, subst, arith, Some, None}
 use Rattle.std.specs.Prelude.{Bool, false, count_by, slice_index}
 use Rattle.std.proofs.lemmas.List.{set-get_or}
-use Rattle.section_body.specs.Trail.{Agreed as Agreement}
-use Rattle.section_body.specs.Memory.{PlainMemory}
-use Rattle.section_body.specs.Line.{registers_before, registers_after, micros, line, line_from}
-use Rattle.section_body.specs.Run.{Run, ran}
-use Rattle.section_body.specs.Plain.{plain_setting, unstarted, plain_run, memory_after, first_values, PlacesFit, VersionsFit}
-use Rattle.section_body.specs.Shape.{IsStep, IsShaped, is_answer}
-use Rattle.section_body.specs.Act.{Shows}
-use Rattle.section_body.specs.declared.outcome.Outcome.{Outcome}
-use Rattle.section_body.specs.declared.step.Step.{Step}
-use Rattle.section_body.proofs.LineLemmas.{line_next, line_split, take_all}
-use Rattle.section_body.proofs.RunLemmas.{ran-append, ran_over, changes}
-use Rattle.section_body.proofs.SoundLemmas.{Sound, sound_next}
-use Rattle.section_body.proofs.ValueLemmas.{first_values-list}
+use Rattle.body_terms.specs.Trail.{Agreed as Agreement}
+use Rattle.body_terms.specs.Memory.{PlainMemory}
+use Rattle.body_terms.specs.Line.{registers_before, registers_after, micros, line, line_from}
+use Rattle.body_terms.specs.Run.{Run, ran}
+use Rattle.body_terms.specs.Plain.{plain_setting, unstarted, plain_run, memory_after, first_values, PlacesFit, VersionsFit}
+use Rattle.body_terms.specs.Shape.{IsStep, IsShaped, is_answer}
+use Rattle.body_terms.specs.Act.{Shows}
+use Rattle.body_terms.specs.declared.outcome.Outcome.{Outcome}
+use Rattle.body_terms.specs.declared.step.Step.{Step}
+use Rattle.body_terms.proofs.LineLemmas.{line_next, line_split, take_all}
+use Rattle.body_terms.proofs.RunLemmas.{ran-append, ran_over, changes}
+use Rattle.body_terms.proofs.SoundLemmas.{Sound, sound_next}
+use Rattle.body_terms.proofs.ValueLemmas.{first_values-list}
 
 -- the run in one go before step n
 abbrev pub run_before : List Step → ℕ → PlainMemory → List Bool → ℕ → Run

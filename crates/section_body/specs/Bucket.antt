@@ -1,9 +1,9 @@
 -- The hash table: its places, its hash and its bodies.
 use Rattle.std.specs.Prelude.{ℕ, ◌+◌, ◌-◌, ◌*◌, ◌/◌, ◌%◌, ◌^◌, List, [], ◌∷◌, Bool, ◌&&◌, ◌==◌, cond, nat_lt, slice_index}
-use Rattle.section_body.specs.declared.value.Value.TheVariants.{Const, Made}
-use Rattle.section_body.specs.declared.step.Step.{Step}
-use Rattle.section_body.specs.declared.step.Step.TheVariants.{Load, Want, Fresh, Make, Stamp, Store, Retire, Answer}
-use Rattle.section_body.specs.declared.thunk.Thunk.{Thunk}
+use Rattle.body_terms.specs.declared.value.Value.TheVariants.{Const, Made}
+use Rattle.body_terms.specs.declared.step.Step.{Step}
+use Rattle.body_terms.specs.declared.step.Step.TheVariants.{Load, Want, Fresh, Make, Stamp, Store, Retire, Answer}
+use Rattle.body_terms.specs.declared.thunk.Thunk.{Thunk}
 
 -- the bucket of a key among 2 ^ bits buckets (Fibonacci hashing)
 abbrev pub bucket_index : ℕ → ℕ → ℕ

@@ -1,20 +1,16 @@
 //! One step of a run in one go.
 ghost use Rattle.std.specs.Prelude.{◌≡◌, ℕ, ◌+◌, ◌^◌, ◌<◌, ◌≤◌, ◌∷◌, [], ◌++◌, All, Some, None, ◌==◌, cond, true, false, length, map, drop, slice_index};
-ghost use Rattle.section_body.specs.Line.{registers_before, source_of, log_words, micros};
-ghost use Rattle.section_body.specs.Word.{version_of, held_word};
-ghost use Rattle.section_body.specs.declared.outcome.Outcome.TheVariants.{Busy, Stale, Spent};
-ghost use Rattle.section_body.specs.Memory.{PlainMemory, cell_of};
-ghost use Rattle.section_body.specs.Run.{Setting, Run, source_value, ran};
-ghost use Rattle.section_body.specs.Act.{Shows, IsLogged, SlotFits, StoreFits, StepFits, StepSuits, filled};
+ghost use Rattle.body_terms.specs.Line.{registers_before, source_of, log_words, micros};
+ghost use Rattle.body_terms.specs.Word.{version_of, held_word};
+ghost use Rattle.body_terms.specs.declared.outcome.Outcome.TheVariants.{Busy, Stale, Spent};
+ghost use Rattle.body_terms.specs.Memory.{PlainMemory, cell_of};
+ghost use Rattle.body_terms.specs.Run.{Setting, Run, source_value, ran};
+ghost use Rattle.body_terms.specs.Act.{Shows, IsLogged, SlotFits, StoreFits, StepFits, StepSuits, filled};
 
-use crate::line::{Register, register_at, source};
 use crate::memory::Memory;
-use crate::micro::Source;
-use crate::outcome::Outcome;
-use crate::step::Step;
-use crate::trail::Trail;
-use crate::value::{Init, Value};
-use crate::word::{Place, Word};
+use body_terms::{
+    Init, Outcome, Place, Register, Source, Step, Trail, Value, Word, register_at, source,
+};
 
 /// The number that a value of step `n` stands for, by the words agreed so far.
 fn value_at(steps: &[Step], n: usize, value: Value, trail: &Trail) -> u32

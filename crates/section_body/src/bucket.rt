@@ -2,11 +2,7 @@
 ghost use Rattle.std.specs.Prelude.{◌≡◌, ◌≤◌, is_some, OnSome};
 ghost use Rattle.section_body.specs.Bucket.{bucket_index, bucket_steps, read_steps, insert_steps, remove_steps, fits_read, fits_insert, fits_remove};
 
-use crate::body::Body;
-use crate::step::Step;
-use crate::thunk::Thunk;
-use crate::value::{Init, Value};
-use crate::word::Word;
+use body_terms::{Body, Init, Step, Thunk, Value, Word};
 
 /// The reply word of an insertion of an absent key.
 const NEW: u64 = 1 << 32;

@@ -1,10 +1,10 @@
 //! The memory of a plain run.
 ghost use Rattle.std.specs.Prelude.{◌≡◌, ◌+◌, ◌*◌, ◌/◌, ◌^◌, ◌<◌, ◌==◌, ◌∷◌, [], ◌++◌, max, cond, drop, length, slice_index, slice_set};
-ghost use Rattle.section_body.specs.Word.{version_of, next_word};
-ghost use Rattle.section_body.specs.Memory.{cell_of};
-ghost use Rattle.section_body.specs.Run.{written_once};
+ghost use Rattle.body_terms.specs.Word.{version_of, next_word};
+ghost use Rattle.body_terms.specs.Memory.{cell_of};
+ghost use Rattle.body_terms.specs.Run.{written_once};
 
-use crate::word::{Place, Word};
+use body_terms::{Place, Word};
 use std::marker::Model;
 
 /// What a body runs over when it runs alone and in one go.
@@ -32,7 +32,7 @@ pub struct Memory {
 
 impl Model for Memory {
     ghost use Rattle.std.specs.Vec.{vec_capacity};
-    ghost use Rattle.section_body.specs.Memory.{PlainMemory};
+    ghost use Rattle.body_terms.specs.Memory.{PlainMemory};
 
     ghost Value = { PlainMemory };
 

@@ -1,14 +1,11 @@
 //! One run of a body in one go.
 ghost use Rattle.std.specs.Prelude.{◌≡◌, ◌^◌, ◌<◌, ◌&&◌, Some, true, false, length, slice_index_or};
-ghost use Rattle.section_body.specs.Shape.{IsShaped, is_take};
-ghost use Rattle.section_body.specs.Plain.{plain_run, memory_after, PlacesFit, SlotsFit, LocksFit, HasRequest, HasRoom, VersionsFit};
+ghost use Rattle.body_terms.specs.Shape.{IsShaped, is_take};
+ghost use Rattle.body_terms.specs.Plain.{plain_run, memory_after, PlacesFit, SlotsFit, LocksFit, HasRequest, HasRoom, VersionsFit};
 
 use crate::act::act;
-use crate::body::Body;
 use crate::memory::Memory;
-use crate::outcome::Outcome;
-use crate::step::Step;
-use crate::trail::Trail;
+use body_terms::{Body, Outcome, Step, Trail};
 
 /// Runs a body alone and in one go, for the request with this number. `taken` says of each `Take`, in
 /// order, whether its lock is got; at one that isn't the run leaves with `Busy`.

@@ -1,11 +1,11 @@
 -- Steps that are counted apart, and added up behind.
 use Rattle.std.proofs.Common.{◌≡◌, ℕ, ◌+◌, ◌-◌, ◌^◌, ◌≤◌, min, Bool, true, false, sym, ap, subst, ◌∙◌, arith}
-use Rattle.section_body.specs.Counted.{counted_on}
-use Rattle.section_body.proofs.CountedLemmas.{counts}
+use Rattle.body_terms.specs.Counted.{counted_on}
+use Rattle.body_terms.proofs.CountedLemmas.{counts}
 use Rattle.structure_laws.specs.Meaning.{Meaning}
-use Rattle.idem_cell.specs.version_words.specs.RunnerState.{RunnerState}
-use Rattle.idem_cell.specs.commit_log.specs.Asked.{IsAsked}
-use Rattle.idem_cell.specs.commit_log.specs.Halted.{IsThrough, IsHalted}
+use Rattle.idem_alloc.specs.version_words.specs.RunnerState.{RunnerState}
+use Rattle.idem_alloc.specs.commit_log.specs.Asked.{IsAsked}
+use Rattle.idem_alloc.specs.commit_log.specs.Halted.{IsThrough, IsHalted}
 use Rattle.section_runs.proofs.Testing.{stood}
 
 pub asked_apart : (n : ℕ) (going : Bool) (halts halts' asks asks' steps old made steps' : ℕ) → old ≡ steps → old ≤ 2 ^ 64 - 1 → IsAsked n going halts halts' asks asks' 0 made → steps' ≡ min (old + made) (2 ^ 64 - 1)

@@ -2,14 +2,14 @@
 use Rattle.std.proofs.Common.{◌≡◌, ℕ, suc, ◌+◌, ◌-◌, ◌<◌, ◌≤◌, List, [], ◌∷◌, ◌++◌, length, length-append, Bool, true, false, refl, sym, ap, ◌∙◌, subst, arith, Some, None, zero, eq-eqb}
 use Rattle.std.specs.Prelude.{◌==◌, cond, if◌then◌else◌, not, slice_index, slice_index_or}
 use Rattle.std.proofs.lemmas.Bool.Decides.{nat_tests}
-use Rattle.section_body.specs.declared.micro.Micro.{Micro}
-use Rattle.section_body.specs.declared.micro.Micro.TheVariants as micros
-use Rattle.section_body.specs.declared.step.Step.TheVariants.{Load, Make, Store, Retire}
-use Rattle.section_body.specs.declared.value.Init.{Init}
-use Rattle.section_body.specs.declared.value.Value.{Value}
-use Rattle.section_body.specs.declared.value.Value.TheVariants.{Const}
-use Rattle.section_body.specs.Line.{registers_before, source_of}
-use Rattle.section_body.specs.Run.{source_value}
+use Rattle.body_terms.specs.declared.micro.Micro.{Micro}
+use Rattle.body_terms.specs.declared.micro.Micro.TheVariants as micros
+use Rattle.body_terms.specs.declared.step.Step.TheVariants.{Load, Make, Store, Retire}
+use Rattle.body_terms.specs.declared.value.Init.{Init}
+use Rattle.body_terms.specs.declared.value.Value.{Value}
+use Rattle.body_terms.specs.declared.value.Value.TheVariants.{Const}
+use Rattle.body_terms.specs.Line.{registers_before, source_of}
+use Rattle.body_terms.specs.Run.{source_value}
 use Rattle.table_words.specs.declared.layout.Layout.{Layout}
 use Rattle.table_words.specs.Limits.{IsWithinLimits}
 use Rattle.structure_laws.specs.Meaning.{Meaning}
@@ -23,14 +23,14 @@ use Rattle.runner_steps.specs.AfterInRun.{goes_on}
 use Rattle.epoch_core.specs.Lists.{times}
 use Rattle.machine_states.specs.Sight.{part_or_first}
 use Rattle.machine_states.proofs.Steps.{some_same}
-use Rattle.idem_cell.specs.machine_invariant.specs.After.{AreAllowed}
-use Rattle.idem_cell.specs.machine_invariant.specs.Slots.{times_among}
-use Rattle.idem_cell.specs.machine_invariant.proofs.After.{whole_after}
-use Rattle.idem_cell.specs.next_steps.specs.Stages.{unfilled, nodes_behind}
-use Rattle.idem_cell.specs.version_words.specs.RunnerState.{RunnerState}
-use Rattle.idem_cell.specs.commit_log.specs.Runs.{IsRunning, Ran}
-use Rattle.idem_cell.specs.commit_log.specs.Committed.{commits_loaded, HasCommitted}
-use Rattle.idem_cell.specs.commit_log.proofs.Next.{settled_at}
+use Rattle.idem_alloc.specs.machine_invariant.specs.After.{AreAllowed}
+use Rattle.idem_alloc.specs.machine_invariant.specs.Slots.{times_among}
+use Rattle.idem_alloc.specs.machine_invariant.proofs.After.{whole_after}
+use Rattle.idem_alloc.specs.next_steps.specs.Stages.{unfilled, nodes_behind}
+use Rattle.idem_alloc.specs.version_words.specs.RunnerState.{RunnerState}
+use Rattle.idem_alloc.specs.commit_log.specs.Runs.{IsRunning, Ran}
+use Rattle.idem_alloc.specs.commit_log.specs.Committed.{commits_loaded, HasCommitted}
+use Rattle.idem_alloc.specs.commit_log.proofs.Next.{settled_at}
 use Rattle.idem_cell.specs.Loaded.{MayLoad, HasLoaded}
 use Rattle.idem_cell.specs.Stored.{MayStore, HasStored}
 use Rattle.idem_alloc.specs.Made.{MayMake, HasMade}

@@ -2,10 +2,10 @@
 use Rattle.std.proofs.Common.{◌≡◌, ℕ, ◌+◌, ◌≤◌, List, [], ◌∷◌, ◌++◌, length, true, refl, sym, ap, ◌∙◌, subst, Some}
 use Rattle.std.specs.Prelude.{slice_get, if◌then◌else◌}
 use Rattle.std.proofs.lemmas.List.FromFn.{length-map-range_with_len}
-use Rattle.section_body.specs.declared.micro.Micro.TheVariants as micros
-use Rattle.section_body.specs.declared.thunk.Thunk.{Thunk}
-use Rattle.section_body.specs.Line.{is_end}
-use Rattle.section_body.specs.Plain.{first_values}
+use Rattle.body_terms.specs.declared.micro.Micro.TheVariants as micros
+use Rattle.body_terms.specs.declared.thunk.Thunk.{Thunk}
+use Rattle.body_terms.specs.Line.{is_end}
+use Rattle.body_terms.specs.Plain.{first_values}
 use Rattle.table_words.specs.Limits.{IsWithinLimits}
 use Rattle.table_words.specs.declared.spot.Spot.TheVariants as spots
 use Rattle.structure_laws.specs.Meaning.{Meaning}
@@ -24,16 +24,16 @@ use Rattle.epoch_core.specs.State.{IsKept}
 use Rattle.machine_states.specs.Sight.{Sight, sight, part_or_first}
 use Rattle.machine_epochs.specs.Slots.{thunk_in}
 use Rattle.machine_epochs.proofs.Joining.{thunk_same}
-use Rattle.idem_cell.specs.machine_agreement.proofs.RunPlaces.{opened_thunk}
-use Rattle.idem_cell.specs.machine_invariant.specs.After.{AreAllowed}
-use Rattle.idem_cell.specs.machine_invariant.specs.Along.{Components}
-use Rattle.idem_cell.specs.machine_invariant.specs.Slots.{node_count}
-use Rattle.idem_cell.specs.machine_invariant.specs.Trails.{IsEndOf}
-use Rattle.idem_cell.specs.machine_facts.specs.After.{AreFactsOfStep}
-use Rattle.idem_cell.specs.machine_facts.specs.States.{FactsStand}
-use Rattle.idem_cell.specs.machine_facts.proofs.Following.{step_facts_after}
-use Rattle.idem_cell.specs.version_words.specs.RunnerState.{RunnerState}
-use Rattle.idem_cell.specs.commit_log.specs.Runs.{Stepped}
+use Rattle.idem_alloc.specs.machine_agreement.proofs.RunPlaces.{opened_thunk}
+use Rattle.idem_alloc.specs.machine_invariant.specs.After.{AreAllowed}
+use Rattle.idem_alloc.specs.machine_invariant.specs.Along.{Components}
+use Rattle.idem_alloc.specs.machine_invariant.specs.Slots.{node_count}
+use Rattle.idem_alloc.specs.machine_invariant.specs.Trails.{IsEndOf}
+use Rattle.nested_lock.specs.machine_facts.specs.After.{AreFactsOfStep}
+use Rattle.nested_lock.specs.machine_facts.specs.States.{FactsStand}
+use Rattle.nested_lock.specs.machine_facts.proofs.Following.{step_facts_after}
+use Rattle.idem_alloc.specs.version_words.specs.RunnerState.{RunnerState}
+use Rattle.idem_alloc.specs.commit_log.specs.Runs.{Stepped}
 use Rattle.section_runs.specs.Reached.{IsReached}
 use Rattle.section_runs.specs.Ended.{IsDone}
 

@@ -1,12 +1,13 @@
 -- A run goes on from one step of its body to the next one.
 use Rattle.std.proofs.Common.{◌≡◌, ℕ, suc, ◌+◌, ◌<◌, ◌≤◌, List, [], ◌∷◌, ◌++◌, length, length-append, true, false, refl, sym, ap, ◌∙◌, subst, arith, None}
-use Rattle.section_body.specs.declared.micro.Micro.{Micro}
-use Rattle.section_body.specs.declared.step.Step.{Step}
-use Rattle.section_body.specs.Line.{Registers, begins, line, micros, micro_at, micro_count, log_words, is_event, registers_before}
-use Rattle.section_body.specs.Run.{settled}
-use Rattle.section_body.specs.Shape.{IsStep, IsShaped}
-use Rattle.section_body.proofs.LineLemmas.{micro_within, begins_next, registers_before_next, count_after}
-use Rattle.section_body.proofs.RegisterLemmas.{count_le}
+use Rattle.small_lemmas.proofs.Lists.{append_none}
+use Rattle.body_terms.specs.declared.micro.Micro.{Micro}
+use Rattle.body_terms.specs.declared.step.Step.{Step}
+use Rattle.body_terms.specs.Line.{Registers, begins, line, micros, micro_at, micro_count, log_words, is_event, registers_before}
+use Rattle.body_terms.specs.Run.{settled}
+use Rattle.body_terms.specs.Shape.{IsStep, IsShaped}
+use Rattle.body_terms.proofs.LineLemmas.{micro_within, begins_next, registers_before_next, count_after}
+use Rattle.body_terms.proofs.RegisterLemmas.{count_le}
 use Rattle.section_lines.specs.Rests.{is_test, rests}
 use Rattle.section_lines.proofs.Places.{step_inside}
 use Rattle.section_lines.proofs.Progress.{some_micros}
@@ -16,18 +17,14 @@ use Rattle.structure_laws.specs.Meaning.{Meaning}
 use Rattle.structure_laws.specs.Laws.{Laws}
 use Rattle.runner_parts.specs.State.{RunState, NodesState}
 use Rattle.runner_steps.specs.Sections.{thunk_of, line_of, next_of, setting_of, settles}
-use Rattle.idem_cell.specs.machine_invariant.specs.After.{AreAllowed}
-use Rattle.idem_cell.specs.next_steps.proofs.Stages.{in_table}
-use Rattle.idem_cell.specs.version_words.specs.RunnerState.{RunnerState}
-use Rattle.idem_cell.specs.version_words.specs.TableState.{TableState, IsOf}
-use Rattle.idem_cell.specs.commit_log.specs.Runs.{IsRunning}
-use Rattle.idem_cell.specs.commit_log.proofs.Next.{next_here}
+use Rattle.idem_alloc.specs.machine_invariant.specs.After.{AreAllowed}
+use Rattle.idem_alloc.specs.next_steps.proofs.Stages.{in_table}
+use Rattle.idem_alloc.specs.version_words.specs.RunnerState.{RunnerState}
+use Rattle.idem_alloc.specs.version_words.specs.TableState.{TableState, IsOf}
+use Rattle.idem_alloc.specs.commit_log.specs.Runs.{IsRunning}
+use Rattle.idem_alloc.specs.commit_log.proofs.Next.{next_here}
 use Rattle.section_runs.specs.Reached.{run_or, run_of}
 use Rattle.section_runs.specs.Bodies.{NodesStepped, body_of, StandsBefore, IsBefore, MayGo, IsSameRun}
-
-append_none : {A : Type 0} (xs : List A) → xs ++ [] ≡ xs
-append_none [] = refl
-append_none (x ∷ xs) = ap (λ ys. x ∷ ys) (append_none xs)
 
 -- the run that a runner is in
 pub run_is : {T : Type 0} (m : Meaning) (r : RunnerState T) (q : RunState) → IsRunning m r q → q ≡ run_of r

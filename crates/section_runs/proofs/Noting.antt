@@ -1,9 +1,9 @@
 -- The registers that are kept, behind a step.
 use Rattle.std.proofs.Common.{◌≡◌, [], refl, sym, subst, ◌∙◌}
-use Rattle.section_body.specs.Line.{Registers, registers_after}
-use Rattle.section_body.specs.Shape.{set_registers}
-use Rattle.section_body.specs.declared.step.Step.{Step}
-use Rattle.section_body.specs.declared.step.Step.TheVariants.{Load, Want, Fresh, Take, Make, Stamp, Store, Retire, Answer}
+use Rattle.body_terms.specs.Line.{Registers, registers_after}
+use Rattle.body_terms.specs.Shape.{set_registers}
+use Rattle.body_terms.specs.declared.step.Step.{Step}
+use Rattle.body_terms.specs.declared.step.Step.TheVariants.{Load, Want, Fresh, Take, Make, Stamp, Store, Retire, Answer}
 use Rattle.section_runs.specs.Registers.{AreKept}
 use Rattle.section_runs.specs.declared.registers.Places.{Places}
 

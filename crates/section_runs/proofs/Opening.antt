@@ -2,7 +2,7 @@
 use Rattle.std.proofs.Common.{◌≡◌, ℕ, zero, suc, ◌+◌, ◌<◌, List, [], ◌∷◌, ◌++◌, length, length-append, Bool, true, false, refl, sym, ap, ◌∙◌, subst, arith, Option, Some, None}
 use Rattle.std.specs.Prelude.{◌==◌, ◌&&◌, nat_lt, if◌then◌else◌}
 use Rattle.std.proofs.lemmas.Bool.Decides.{nat_tests}
-use Rattle.section_body.specs.declared.thunk.Thunk.{Thunk}
+use Rattle.body_terms.specs.declared.thunk.Thunk.{Thunk}
 use Rattle.table_words.specs.declared.sizes.Sizes.{Sizes}
 use Rattle.table_words.proofs.Seen.{fits_is}
 use Rattle.table_words.specs.Limits.{IsWithinLimits}
@@ -20,19 +20,19 @@ use Rattle.runner_steps.specs.Asks.{ask_by, fitting, sizes_for}
 use Rattle.runner_steps.specs.Sections.{thunk_of, is_late, next_of}
 use Rattle.runner_steps.specs.AfterInRun.{with_run, opened_more}
 use Rattle.runner_steps.specs.After.{after_by, line_after, counted}
-use Rattle.idem_cell.specs.machine_agreement.proofs.LineKinds.{noted_finished, noting}
+use Rattle.idem_alloc.specs.machine_agreement.proofs.LineKinds.{noted_finished, noting}
 use Rattle.machine_states.specs.Sight.{sight, part_or_first}
-use Rattle.idem_cell.specs.machine_invariant.specs.After.{AreAllowed}
-use Rattle.idem_cell.specs.next_steps.specs.Stages.{IsInRun}
-use Rattle.idem_cell.specs.next_steps.specs.Steps.{opening_kind, opened_next}
-use Rattle.idem_cell.specs.next_steps.proofs.Stages.{may_open}
-use Rattle.idem_cell.specs.next_steps.proofs.Numbers.{reached_numbers}
-use Rattle.idem_cell.specs.version_words.specs.RunnerState.{RunnerState}
-use Rattle.idem_cell.specs.version_words.specs.TableState.{TableState, IsOf}
-use Rattle.idem_cell.specs.version_words.specs.Events.{met_by, Makes}
-use Rattle.idem_cell.specs.version_words.specs.Naming.{open_of}
-use Rattle.idem_cell.specs.version_words.specs.Place.{opened_of, own_done}
-use Rattle.idem_cell.specs.commit_log.specs.Runs.{IsRunning}
+use Rattle.idem_alloc.specs.machine_invariant.specs.After.{AreAllowed}
+use Rattle.idem_alloc.specs.next_steps.specs.Stages.{IsInRun}
+use Rattle.idem_alloc.specs.next_steps.specs.Steps.{opening_kind, opened_next}
+use Rattle.idem_alloc.specs.next_steps.proofs.Stages.{may_open}
+use Rattle.idem_alloc.specs.next_steps.proofs.Numbers.{reached_numbers}
+use Rattle.idem_alloc.specs.version_words.specs.RunnerState.{RunnerState}
+use Rattle.idem_alloc.specs.version_words.specs.TableState.{TableState, IsOf}
+use Rattle.idem_alloc.specs.version_words.specs.Events.{met_by, Makes}
+use Rattle.idem_alloc.specs.version_words.specs.Naming.{open_of}
+use Rattle.idem_alloc.specs.version_words.specs.Place.{opened_of, own_done}
+use Rattle.idem_alloc.specs.commit_log.specs.Runs.{IsRunning}
 use Rattle.section_runs.specs.Reached.{MayBegin, run_or, events_after}
 use Rattle.section_runs.specs.Opened.{opening, opening_of, is_opening, Opens, IsOpening, HasOpened}
 use Rattle.section_runs.proofs.Records.{noted_known, noted_events}

@@ -1,10 +1,11 @@
 -- What a step of a run leaves of the runner's records: it is counted, and what is learned is of the run's request.
 use Rattle.std.proofs.Common.{◌≡◌, ℕ, zero, suc, List, [], ◌∷◌, ◌++◌, Bool, true, false, refl, sym, ap, ◌∙◌, subst, Option, Some, None}
 use Rattle.std.specs.Prelude.{◌==◌, nat_lt, slice_get, if◌then◌else◌}
-use Rattle.section_body.specs.declared.micro.Micro.{Micro}
-use Rattle.section_body.specs.declared.micro.Micro.TheVariants as micros
-use Rattle.section_body.specs.Line.{is_end}
-use Rattle.section_body.specs.Run.{written_once}
+use Rattle.small_lemmas.proofs.Lists.{append_none}
+use Rattle.body_terms.specs.declared.micro.Micro.{Micro}
+use Rattle.body_terms.specs.declared.micro.Micro.TheVariants as micros
+use Rattle.body_terms.specs.Line.{is_end}
+use Rattle.body_terms.specs.Run.{written_once}
 use Rattle.table_words.specs.declared.layout.Layout.{Layout}
 use Rattle.table_words.specs.declared.spot.Spot.{Spot}
 use Rattle.table_words.specs.declared.access.Access.{Access}
@@ -18,7 +19,7 @@ use Rattle.runner_steps.specs.Sections.{thunk_of, next_of}
 use Rattle.runner_steps.specs.AfterInRun as inside
 use Rattle.runner_steps.specs.After.{line_after, counted, noted}
 use Rattle.machine_states.proofs.Steps.{some_same}
-use Rattle.idem_cell.specs.next_steps.specs.Steps.{slot_in, kind_at}
+use Rattle.idem_alloc.specs.next_steps.specs.Steps.{slot_in, kind_at}
 use Rattle.section_runs.specs.Opened.{Learns}
 
 module _ (l : Layout) (r : ℕ) (kind : EventKind) (spot : Spot) (access : Access) (n : ℕ) (s : RecordsState) where
@@ -27,10 +28,6 @@ module _ (l : Layout) (r : ℕ) (kind : EventKind) (spot : Spot) (access : Acces
 
   pub noted_events : (noted l r kind spot access n s).events ≡ counted s.events
   noted_events = refl
-
-append_none : {A : Type 0} (xs : List A) → xs ++ [] ≡ xs
-append_none [] = refl
-append_none (x ∷ xs) = ap (λ ys. x ∷ ys) (append_none xs)
 
 one : {request : ℕ} (y : Known) → y.request ≡ request → (i : ℕ) (x : Known) → slice_get (y ∷ []) i ≡ Some x → x.request ≡ request
 one y same zero x at = ap (λ (k : Known). k.request) (sym (some_same y x at)) ∙ same

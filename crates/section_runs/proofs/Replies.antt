@@ -2,11 +2,12 @@
 use Rattle.std.proofs.Common.{◌≡◌, ℕ, zero, suc, ◌-◌, ◌≤◌, ◌<◌, List, [], ◌∷◌, length, Bool, true, false, refl, sym, ap, ◌∙◌, subst, arith, ⊎_elim, Some}
 use Rattle.std.specs.Prelude.{◌⊎◌, slice_index_or}
 use Rattle.std.proofs.lemmas.Option.{slice_get-get_or}
-use Rattle.section_body.specs.declared.step.Step.{Step}
-use Rattle.section_body.specs.declared.step.Step.TheVariants.{Load, Want, Fresh, Take, Make, Stamp, Store, Retire, Answer}
-use Rattle.section_body.specs.Shape.{IsStep, IsShaped, is_answer}
-use Rattle.section_body.specs.Shape as shape
-use Rattle.section_body.proofs.RegisterLemmas.{step_at}
+use Rattle.small_lemmas.proofs.Bools.{not_true}
+use Rattle.body_terms.specs.declared.step.Step.{Step}
+use Rattle.body_terms.specs.declared.step.Step.TheVariants.{Load, Want, Fresh, Take, Make, Stamp, Store, Retire, Answer}
+use Rattle.body_terms.specs.Shape.{IsStep, IsShaped, is_answer}
+use Rattle.body_terms.specs.Shape as shape
+use Rattle.body_terms.proofs.RegisterLemmas.{step_at}
 use Rattle.section_lines.proofs.Phases.{sole}
 use Rattle.section_lines.proofs.Places.{step_inside}
 use Rattle.machine_states.proofs.Steps.{some_same}
@@ -44,10 +45,6 @@ reply_later (Make init into) steps e = refl
 reply_later Stamp steps e = refl
 reply_later (Store reg value) steps e = refl
 reply_later (Retire slot) steps e = refl
-
-not_true : (b : Bool) → (b ≡ true → ⊥) → b ≡ false
-not_true true never = absurd (never refl)
-not_true false never = refl
 
 -- the first Answer's reply
 reply_at : (body : List Step) (n reply : ℕ) → IsStep body n (Answer reply) → ((i : ℕ) (s : Step) → i < n → IsStep body i s → is_answer s ≡ false) → reply_in body ≡ reply

@@ -2,11 +2,12 @@
 use Rattle.std.proofs.Common.{◌≡◌, ℕ, ◌+◌, ◌*◌, ◌/◌, ◌<◌, ◌^◌, [], true, refl, sym, ap, ◌∙◌, arith, Option, Some}
 use Rattle.std.specs.Prelude.{nat_lt}
 use Rattle.std.proofs.lemmas.Bool.Decides.{nat_tests}
-use Rattle.section_body.specs.declared.micro.Micro.TheVariants as micros
-use Rattle.section_body.specs.declared.step.Step.TheVariants.{Stamp, Answer}
-use Rattle.section_body.specs.Line.{micro_at, registers_before}
-use Rattle.section_body.specs.Line as lines
-use Rattle.section_body.specs.Run.{written_once}
+use Rattle.small_lemmas.proofs.Numbers.{tested_less as low}
+use Rattle.body_terms.specs.declared.micro.Micro.TheVariants as micros
+use Rattle.body_terms.specs.declared.step.Step.TheVariants.{Stamp, Answer}
+use Rattle.body_terms.specs.Line.{micro_at, registers_before}
+use Rattle.body_terms.specs.Line as lines
+use Rattle.body_terms.specs.Run.{written_once}
 use Rattle.table_words.specs.Access.{written}
 use Rattle.table_words.specs.Limits.{IsWithinLimits}
 use Rattle.table_words.specs.declared.layout.Layout.{Layout}
@@ -23,21 +24,18 @@ use Rattle.runner_steps.specs.Sections.{thunk_of, line_of, next_of}
 use Rattle.runner_steps.specs.AfterInRun.{goes_on}
 use Rattle.machine_states.proofs.Sights.{if_some}
 use Rattle.machine_states.proofs.Steps.{some_same}
-use Rattle.idem_cell.specs.machine_invariant.specs.After.{AreAllowed}
-use Rattle.idem_cell.specs.version_words.specs.RunnerState.{RunnerState}
-use Rattle.idem_cell.specs.version_words.specs.TableState.{TableState, IsOf}
-use Rattle.idem_cell.specs.version_words.specs.Events.{met_by, Makes, Leaves}
-use Rattle.idem_cell.specs.version_words.specs.Place.{own_stamp, own_reply}
-use Rattle.idem_cell.specs.commit_log.specs.Runs.{IsRunning, Stepped, Ran}
-use Rattle.idem_cell.specs.commit_log.proofs.Next.{settled_at, settled_next}
-use Rattle.idem_cell.specs.commit_log.proofs.Running.{may_make, asked_there, then_made, ran_one, ran_more}
+use Rattle.idem_alloc.specs.machine_invariant.specs.After.{AreAllowed}
+use Rattle.idem_alloc.specs.version_words.specs.RunnerState.{RunnerState}
+use Rattle.idem_alloc.specs.version_words.specs.TableState.{TableState, IsOf}
+use Rattle.idem_alloc.specs.version_words.specs.Events.{met_by, Makes, Leaves}
+use Rattle.idem_alloc.specs.version_words.specs.Place.{own_stamp, own_reply}
+use Rattle.idem_alloc.specs.commit_log.specs.Runs.{IsRunning, Stepped, Ran}
+use Rattle.idem_alloc.specs.commit_log.proofs.Next.{settled_at, settled_next}
+use Rattle.idem_alloc.specs.commit_log.proofs.Running.{may_make, asked_there, then_made, ran_one, ran_more}
 use Rattle.section_runs.specs.Reached.{run_of}
 use Rattle.section_runs.specs.Bodies.{body_of, MayGo, GoesOn}
 use Rattle.section_runs.proofs.Going.{run_is, nodes_same, begins_here, stands, comes_next, arrives, same_run}
 use Rattle.section_runs.proofs.Cases.{append_none}
-
-low : (a b : ℕ) → nat_lt a b ≡ true → a < b
-low a b e = grind (arith, nat_tests)
 
 module _ {T : Type 0} (m : Meaning) (laws : Laws m) (t : TableState T) (limits : IsWithinLimits t.layout) (allowed : AreAllowed t.requests) (r : RunnerState T) (own : IsOf t r) where
   abbrev q : RunState

@@ -1,10 +1,10 @@
 -- What no step of a run changes but the last one, and how its steps are counted.
 use Rattle.std.proofs.Common.{◌≡◌, ℕ, zero, suc, ◌+◌, List, [], ◌∷◌, ◌++◌, Bool, true, false, refl, sym, ap, ◌∙◌, subst, arith, Some, None, append_assoc}
 use Rattle.std.specs.Prelude.{◌||◌, slice_get, if◌then◌else◌}
-use Rattle.section_body.specs.declared.micro.Micro.{Micro}
-use Rattle.section_body.specs.declared.micro.Micro.TheVariants as micros
-use Rattle.section_body.specs.Line.{is_end}
-use Rattle.section_body.specs.Run.{written_once}
+use Rattle.body_terms.specs.declared.micro.Micro.{Micro}
+use Rattle.body_terms.specs.declared.micro.Micro.TheVariants as micros
+use Rattle.body_terms.specs.Line.{is_end}
+use Rattle.body_terms.specs.Run.{written_once}
 use Rattle.table_words.specs.declared.layout.Layout.{Layout}
 use Rattle.table_words.specs.declared.access.Access.{Access}
 use Rattle.table_words.specs.declared.spot.Spot.{Spot}
@@ -18,16 +18,16 @@ use Rattle.runner_parts.specs.Tests.{has}
 use Rattle.runner_steps.specs.Sections.{thunk_of, is_open_run, next_of}
 use Rattle.runner_steps.specs.AfterInRun.{ended_more, over_if, finished_of}
 use Rattle.runner_steps.specs.After.{line_after, after, counted}
-use Rattle.idem_cell.specs.machine_agreement.proofs.LineKinds.{noting, after_line}
+use Rattle.idem_alloc.specs.machine_agreement.proofs.LineKinds.{noting, after_line}
 use Rattle.machine_epochs.proofs.Places.{has_append}
-use Rattle.idem_cell.specs.machine_invariant.specs.After.{AreAllowed}
-use Rattle.idem_cell.specs.next_steps.specs.Steps.{kind_at}
-use Rattle.idem_cell.specs.next_steps.specs.Stages.{run_behind, reads_behind, published_behind, finished_behind}
-use Rattle.idem_cell.specs.next_steps.proofs.Stages.{in_table}
-use Rattle.idem_cell.specs.version_words.specs.RunnerState.{RunnerState}
-use Rattle.idem_cell.specs.version_words.specs.TableState.{TableState, IsOf}
-use Rattle.idem_cell.specs.commit_log.specs.Runs.{IsRunning, Stepped, Ran}
-use Rattle.idem_cell.specs.commit_log.proofs.Running.{opened_stays, one_run}
+use Rattle.idem_alloc.specs.machine_invariant.specs.After.{AreAllowed}
+use Rattle.idem_alloc.specs.next_steps.specs.Steps.{kind_at}
+use Rattle.idem_alloc.specs.next_steps.specs.Stages.{run_behind, reads_behind, published_behind, finished_behind}
+use Rattle.idem_alloc.specs.next_steps.proofs.Stages.{in_table}
+use Rattle.idem_alloc.specs.version_words.specs.RunnerState.{RunnerState}
+use Rattle.idem_alloc.specs.version_words.specs.TableState.{TableState, IsOf}
+use Rattle.idem_alloc.specs.commit_log.specs.Runs.{IsRunning, Stepped, Ran}
+use Rattle.idem_alloc.specs.commit_log.proofs.Running.{opened_stays, one_run}
 use Rattle.section_runs.specs.Reached.{events_after}
 use Rattle.section_runs.specs.Opened.{Stays, Learns}
 use Rattle.section_runs.proofs.Records.{noted_known, noted_events, learns_none, line_leaves}

@@ -3,12 +3,12 @@ use Rattle.std.proofs.Common.{◌≡◌, ℕ, ◌+◌, ◌≤◌, Bool, true, fa
 use Rattle.std.specs.Prelude.{IfSome, IfNone}
 use Rattle.structure_laws.specs.Meaning.{Meaning}
 use Rattle.runner_parts.specs.State.{RunState}
-use Rattle.idem_cell.specs.version_words.specs.RunnerState.{RunnerState}
-use Rattle.idem_cell.specs.commit_log.specs.Asked.{IsAsked}
-use Rattle.idem_cell.specs.commit_log.specs.Halted.{IsThrough, IsHalted}
-use Rattle.idem_cell.specs.commit_log.specs.Runs.{Ran}
-use Rattle.idem_cell.specs.commit_log.proofs.Asked.{asked_more}
-use Rattle.idem_cell.specs.commit_log.proofs.Running.{ran_one, ran_more}
+use Rattle.idem_alloc.specs.version_words.specs.RunnerState.{RunnerState}
+use Rattle.idem_alloc.specs.commit_log.specs.Asked.{IsAsked}
+use Rattle.idem_alloc.specs.commit_log.specs.Halted.{IsThrough, IsHalted}
+use Rattle.idem_alloc.specs.commit_log.specs.Runs.{Ran}
+use Rattle.idem_alloc.specs.commit_log.proofs.Asked.{asked_more}
+use Rattle.idem_alloc.specs.commit_log.proofs.Running.{ran_one, ran_more}
 use Rattle.idem_cell.specs.Loaded.{HasLoaded}
 use Rattle.idem_cell.specs.Stored.{HasStored}
 use Rattle.idem_alloc.specs.Made.{HasMade}

@@ -3,17 +3,18 @@ use Rattle.std.specs.Prelude.{◌&&◌, ◌||◌, ◌==◌, ◌⊎◌, cond, is_
 use Rattle.std.proofs.Common.{◌≡◌, ◌≢◌, ℕ, ◌+◌, ◌-◌, ◌<◌, ◌≤◌, List, ◌++◌, length, refl, sym, ap, ◌∙◌, subst, ⊎_elim, arith, Option, Some, None}
 use Rattle.std.proofs.lemmas.Bool.{and_parts}
 use Rattle.std.proofs.lemmas.List.Folds.{list_any-append}
-use Rattle.section_body.specs.declared.micro.Micro.{Micro}
-use Rattle.section_body.specs.declared.micro.Micro.TheVariants as micros
-use Rattle.section_body.specs.declared.outcome.Outcome.{Outcome}
-use Rattle.section_body.specs.declared.outcome.Outcome.TheVariants as outcomes
-use Rattle.section_body.specs.declared.step.Step.{Step}
-use Rattle.section_body.specs.declared.step.Step.TheVariants.{Stamp, Answer}
-use Rattle.section_body.specs.Line.{line, micro_at, is_check, is_event, begins}
-use Rattle.section_body.specs.Run.{Setting, leaves, refusal}
-use Rattle.section_body.specs.Shape.{IsShaped, IsStep}
-use Rattle.section_body.specs.Shape as shape
-use Rattle.section_body.specs.Word.{is_free, is_spent}
+use Rattle.small_lemmas.proofs.Bools.{or_first as or_true}
+use Rattle.body_terms.specs.declared.micro.Micro.{Micro}
+use Rattle.body_terms.specs.declared.micro.Micro.TheVariants as micros
+use Rattle.body_terms.specs.declared.outcome.Outcome.{Outcome}
+use Rattle.body_terms.specs.declared.outcome.Outcome.TheVariants as outcomes
+use Rattle.body_terms.specs.declared.step.Step.{Step}
+use Rattle.body_terms.specs.declared.step.Step.TheVariants.{Stamp, Answer}
+use Rattle.body_terms.specs.Line.{line, micro_at, is_check, is_event, begins}
+use Rattle.body_terms.specs.Run.{Setting, leaves, refusal}
+use Rattle.body_terms.specs.Shape.{IsShaped, IsStep}
+use Rattle.body_terms.specs.Shape as shape
+use Rattle.body_terms.specs.Word.{is_free, is_spent}
 use Rattle.section_lines.specs.Line.{phase}
 use Rattle.section_lines.proofs.Phases.{sole, is_the_stamp, is_in_phases}
 use Rattle.section_lines.proofs.Places.{stands_there}
@@ -27,13 +28,13 @@ use Rattle.runner_steps.specs.AfterInRun.{ended_more}
 use Rattle.runner_steps.specs.Sections.{thunk_of, line_of, setting_of, outcome_of, outcome_or, reply_in, settles}
 use Rattle.machine_states.specs.Sight.{sight, part_or_first}
 use Rattle.machine_states.proofs.Steps.{some_same, none_some}
-use Rattle.idem_cell.specs.machine_agreement.proofs.Passes.{resting}
-use Rattle.idem_cell.specs.machine_invariant.specs.After.{AreAllowed}
-use Rattle.idem_cell.specs.machine_records.specs.Told.{IsTold}
-use Rattle.idem_cell.specs.machine_records.proofs.Reached.{reached_told}
-use Rattle.idem_cell.specs.version_words.specs.RunnerState.{RunnerState}
-use Rattle.idem_cell.specs.version_words.specs.TableState.{TableState, IsOf}
-use Rattle.idem_cell.specs.commit_log.specs.Runs.{Stepped}
+use Rattle.idem_alloc.specs.machine_agreement.proofs.Passes.{resting}
+use Rattle.idem_alloc.specs.machine_invariant.specs.After.{AreAllowed}
+use Rattle.nested_lock.specs.machine_facts.specs.Told.{IsTold}
+use Rattle.nested_lock.specs.machine_facts.proofs.ToldReached.{reached_told}
+use Rattle.idem_alloc.specs.version_words.specs.RunnerState.{RunnerState}
+use Rattle.idem_alloc.specs.version_words.specs.TableState.{TableState, IsOf}
+use Rattle.idem_alloc.specs.commit_log.specs.Runs.{Stepped}
 use Rattle.section_runs.proofs.Going.{shaped}
 use Rattle.section_runs.proofs.Replies.{last_answer}
 use Rattle.section_runs.proofs.Staying.{step_learns}
@@ -154,10 +155,6 @@ at_end (micros.CheckFresh place log) none e checks event = absurd (let z : true 
 at_end (micros.CheckFree place log word) none e checks event = absurd (let z : true ≡ false = sym e ∙ checks in cc)
 at_end (micros.CheckHeld place log word) none e checks event = absurd (let z : true ≡ false = sym e ∙ checks in cc)
 at_end _ none e checks event = absurd (let z = event in cc)
-
-or_true : (a b : Bool) → a ≡ true → (a || b) ≡ true
-or_true true b e = refl
-or_true false b e = absurd (let z = e in cc)
 
 -- what was answered is answered on
 answered_on : (known more : List Known) (n : ℕ) → is_answered known n ≡ true → is_answered (known ++ more) n ≡ true

@@ -1,17 +1,17 @@
 -- The registers that a step uses are kept, and their words are agreed.
 use Rattle.std.proofs.Common.{◌≡◌, ◌≢◌, ℕ, zero, suc, ◌<◌, ◌≤◌, List, [], ◌∷◌, length, Bool, true, false, refl, sym, ap, ◌∙◌, subst, arith, ⊎_elim, Some}
 use Rattle.std.specs.Prelude.{◌⊎◌, cond, slice_index, slice_index_or, Result, Ok, Err, is_err}
-use Rattle.section_body.specs.Act.{IsLogged}
-use Rattle.section_body.specs.Line.{registers_before}
-use Rattle.section_body.specs.Shape.{IsStep, IsShaped, SetBefore, used_values}
-use Rattle.section_body.specs.declared.outcome.Outcome.{Outcome}
-use Rattle.section_body.specs.declared.outcome.Outcome.TheVariants as outcomes
-use Rattle.section_body.specs.declared.outcome.Refused.{Refused}
-use Rattle.section_body.specs.declared.step.Step.{Step}
-use Rattle.section_body.specs.declared.step.Step.TheVariants.{Load, Make}
-use Rattle.section_body.specs.declared.value.Value.{Value}
-use Rattle.section_body.specs.declared.value.Value.TheVariants.{Const, Of, Made}
-use Rattle.section_body.proofs.RegisterLemmas.{logged}
+use Rattle.body_terms.specs.Act.{IsLogged}
+use Rattle.body_terms.specs.Line.{registers_before}
+use Rattle.body_terms.specs.Shape.{IsStep, IsShaped, SetBefore, used_values}
+use Rattle.body_terms.specs.declared.outcome.Outcome.{Outcome}
+use Rattle.body_terms.specs.declared.outcome.Outcome.TheVariants as outcomes
+use Rattle.body_terms.specs.declared.outcome.Refused.{Refused}
+use Rattle.body_terms.specs.declared.step.Step.{Step}
+use Rattle.body_terms.specs.declared.step.Step.TheVariants.{Load, Make}
+use Rattle.body_terms.specs.declared.value.Value.{Value}
+use Rattle.body_terms.specs.declared.value.Value.TheVariants.{Const, Of, Made}
+use Rattle.body_terms.proofs.RegisterLemmas.{logged}
 use Rattle.section_lines.proofs.Places.{step_inside}
 use Rattle.nested_lock.specs.Answers.{outcome_at}
 use Rattle.section_runs.specs.Registers.{IsSmall}

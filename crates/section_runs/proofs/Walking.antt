@@ -2,16 +2,17 @@
 use Rattle.std.proofs.Common.{◌≡◌, ℕ, zero, suc, ◌+◌, ◌-◌, ◌≤◌, List, [], ◌∷◌, ◌++◌, length, length-append, append_assoc, take, Bool, true, false, refl, sym, ap, ◌∙◌, subst, arith}
 use Rattle.std.specs.Prelude.{cond, count_by, sum_by}
 use Rattle.std.proofs.lemmas.List.Sums.{sum_by-cons}
-use Rattle.section_body.specs.declared.micro.Micro.{Micro}
-use Rattle.section_body.specs.declared.micro.Micro.TheVariants as micros
-use Rattle.section_body.specs.declared.outcome.Outcome.{Outcome}
-use Rattle.section_body.specs.declared.outcome.Outcome.TheVariants as outcomes
-use Rattle.section_body.specs.declared.step.Step.{Step}
-use Rattle.section_body.specs.declared.step.Step.TheVariants.{Load, Want, Fresh, Take, Make, Stamp, Store, Retire, Answer}
-use Rattle.section_body.specs.Line.{no_registers, line, micro_at, is_event, releases, registers_before}
-use Rattle.section_body.specs.Shape.{IsStep, IsShaped, phase, is_make, is_retire, is_take}
-use Rattle.section_body.specs.Word.{value_of}
-use Rattle.section_body.proofs.LineLemmas.{take_next, take_all, past_line}
+use Rattle.small_lemmas.proofs.Lists.{append_none}
+use Rattle.body_terms.specs.declared.micro.Micro.{Micro}
+use Rattle.body_terms.specs.declared.micro.Micro.TheVariants as micros
+use Rattle.body_terms.specs.declared.outcome.Outcome.{Outcome}
+use Rattle.body_terms.specs.declared.outcome.Outcome.TheVariants as outcomes
+use Rattle.body_terms.specs.declared.step.Step.{Step}
+use Rattle.body_terms.specs.declared.step.Step.TheVariants.{Load, Want, Fresh, Take, Make, Stamp, Store, Retire, Answer}
+use Rattle.body_terms.specs.Line.{no_registers, line, micro_at, is_event, releases, registers_before}
+use Rattle.body_terms.specs.Shape.{IsStep, IsShaped, phase, is_make, is_retire, is_take}
+use Rattle.body_terms.specs.Word.{value_of}
+use Rattle.body_terms.proofs.LineLemmas.{take_next, take_all, past_line}
 use Rattle.section_lines.specs.Rests.{taken_releases}
 use Rattle.section_lines.specs.Rests as resting
 use Rattle.section_lines.proofs.Places.{step_inside}
@@ -20,16 +21,12 @@ use Rattle.structure_laws.specs.Meaning.{Meaning}
 use Rattle.runner_parts.specs.State.{NodesState}
 use Rattle.runner_parts.specs.Tests.{has}
 use Rattle.runner_steps.specs.Sections.{thunk_of, setting_of, outcome_or, reply_in}
-use Rattle.section_body.specs.Run.{leaves}
-use Rattle.idem_cell.specs.version_words.specs.RunnerState.{RunnerState}
+use Rattle.body_terms.specs.Run.{leaves}
+use Rattle.idem_alloc.specs.version_words.specs.RunnerState.{RunnerState}
 use Rattle.section_runs.specs.Reached.{run_of}
 use Rattle.section_runs.specs.Bodies.{NodesStepped, NodesGone, body_of, IsBefore, IsSameRun, IsOver, HasWalked}
 use Rattle.section_runs.specs.declared.passed.Walked.{Walked}
 use Rattle.section_runs.specs.declared.passed.Walked.TheVariants.{Over, Stopped}
-
-append_none : {A : Type 0} (xs : List A) → xs ++ [] ≡ xs
-append_none [] = refl
-append_none (x ∷ xs) = ap (λ ys. x ∷ ys) (append_none xs)
 
 -- what is summed over the first steps
 module _ (f : Step → ℕ) where

@@ -1,22 +1,23 @@
 -- How a run goes through the steps of its body.
 use Rattle.std.specs.Prelude.{◌≡◌, ◌≢◌, ℕ, suc, ◌+◌, ◌≤◌, ◌<◌, ◌-◌, cond, List, [], ◌++◌, count_by, take, length, true, false, None}
-use Rattle.section_body.specs.Line.{micro_at, is_event, registers_before, releases}
-use Rattle.section_body.specs.Shape.{IsStep, phase, is_make, is_retire}
-use Rattle.section_body.specs.Word.{value_of}
-use Rattle.section_body.specs.declared.outcome.Outcome.{Outcome}
-use Rattle.section_body.specs.declared.outcome.Outcome.TheVariants.{Answered, Busy}
-use Rattle.section_body.specs.declared.step.Step.{Step}
+use Rattle.body_terms.specs.Line.{micro_at, is_event, registers_before, releases}
+use Rattle.body_terms.specs.Shape.{IsStep, phase, is_make, is_retire}
+use Rattle.body_terms.specs.Word.{value_of}
+use Rattle.body_terms.specs.declared.outcome.Outcome.{Outcome}
+use Rattle.body_terms.specs.declared.outcome.Outcome.TheVariants.{Answered, Busy}
+use Rattle.body_terms.specs.declared.step.Step.{Step}
 use Rattle.section_lines.specs.Rests.{rests, taken_releases}
 use Rattle.structure_laws.specs.Meaning.{Meaning}
 use Rattle.runner_parts.specs.declared.entries.Retired.{Retired}
 use Rattle.runner_parts.specs.State.{RunState, NodesState}
 use Rattle.runner_parts.specs.Tests.{has}
 use Rattle.runner_steps.specs.Sections.{thunk_of, setting_of, outcome_of, line_of}
-use Rattle.idem_cell.specs.version_words.specs.RunnerState.{RunnerState}
-use Rattle.idem_cell.specs.commit_log.specs.Runs.{IsRunning}
+use Rattle.idem_alloc.specs.version_words.specs.RunnerState.{RunnerState}
+use Rattle.idem_alloc.specs.commit_log.specs.Runs.{IsRunning}
 use Rattle.section_runs.specs.Reached.{run_of}
 
--- what a step of a body leaves of the own node slots: a Make may take one off the free list, a Retire may put one into limbo
+-- what a step of a body leaves of the own node slots: a Make may take one off the free list, a Retire may put one into
+-- limbo
 pub record NodesStepped (step : Step) (old new : NodesState) : Type 0 where
   pub free : length old.free ≤ length new.free + cond (is_make step) 1 0
   pub hand : new.hand ≡ old.hand
@@ -26,8 +27,8 @@ pub record NodesStepped (step : Step) (old new : NodesState) : Type 0 where
   pub few : length more ≤ cond (is_retire step) 1 0
   pub same : is_make step ≡ false → is_retire step ≡ false → new ≡ old
 
--- what the own node slots are behind so many steps of a body: at most one free slot fewer for each Make, the hand and what was looked at as
--- before, and in limbo also what was retired in the run; none of it changed before the first Make
+-- what the own node slots are behind so many steps of a body: at most one free slot fewer for each Make, the hand and
+-- what was looked at as before, and in limbo also what was retired in the run; none of it changed before the first Make
 pub record NodesGone (body : List Step) (n : ℕ) (old new : NodesState) : Type 0 where
   pub free : length old.free ≤ length new.free + count_by is_make (take n body)
   pub hand : new.hand ≡ old.hand
@@ -65,8 +66,8 @@ module _ {T : Type 0} (m : Meaning) where
     pub descriptor : (run_of new).descriptor ≡ (run_of old).descriptor
     pub layout : new.layout ≡ old.layout
 
-  -- this run leaves its line before this step, or within it, with this outcome, or went through all steps: it stands before the exchange of
-  -- its done word, and has the locks of the Takes before that step to release
+  -- this run leaves its line before this step, or within it, with this outcome, or went through all steps: it stands
+  -- before the exchange of its done word, and has the locks of the Takes before that step to release
   pub record StandsOver (n : ℕ) (o : Outcome) (r : RunnerState T) (q : RunState) : Type 0 where
     pub running : IsRunning m r q
     pub unended : q.ended ≡ 0
@@ -94,7 +95,8 @@ module _ {T : Type 0} (m : Meaning) where
         → has old.part.reads.published (run_of old).descriptor ≡ true
         → has new.part.reads.held (value_of word - 1) ≡ true
 
-  -- the run went through some steps of its body, and is to end with this outcome; the Takes among them are among so many first ones
+  -- the run went through some steps of its body, and is to end with this outcome; the Takes among them are among so
+  -- many first ones
   pub record HasWalked (taken : ℕ) (outcome : Outcome) (old new : RunnerState T) : Type 0 where
     pub over : IsOver taken outcome new
     pub within : taken ≤ length (body_of old)

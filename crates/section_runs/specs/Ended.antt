@@ -1,16 +1,16 @@
 -- How a run of a section ended.
 use Rattle.std.specs.Prelude.{◌≡◌, ◌≢◌, ℕ, suc, ◌+◌, ◌-◌, ◌≤◌, ◌⊎◌, List, [], ◌∷◌, ◌++◌, Bool, true, count_by, sum_by, length, Some, None}
-use Rattle.section_body.specs.Cost.{cost_of, step_cost}
-use Rattle.section_body.specs.Line.{line, micro_at}
-use Rattle.section_body.specs.Plain.{first_values}
-use Rattle.section_body.specs.Shape.{is_make, is_retire, is_take}
-use Rattle.section_body.specs.Run.{leaves}
-use Rattle.section_body.specs.Trail.{Agreed}
-use Rattle.section_body.specs.Word.{value_of}
-use Rattle.section_body.specs.declared.outcome.Outcome.{Outcome}
-use Rattle.section_body.specs.declared.outcome.Outcome.TheVariants.{Answered, Busy}
-use Rattle.section_body.specs.declared.step.Step.{Step}
-use Rattle.section_body.specs.declared.thunk.Thunk.{Thunk}
+use Rattle.body_terms.specs.Cost.{cost_of, step_cost}
+use Rattle.body_terms.specs.Line.{line, micro_at}
+use Rattle.body_terms.specs.Plain.{first_values}
+use Rattle.body_terms.specs.Shape.{is_make, is_retire, is_take}
+use Rattle.body_terms.specs.Run.{leaves}
+use Rattle.body_terms.specs.Trail.{Agreed}
+use Rattle.body_terms.specs.Word.{value_of}
+use Rattle.body_terms.specs.declared.outcome.Outcome.{Outcome}
+use Rattle.body_terms.specs.declared.outcome.Outcome.TheVariants.{Answered, Busy}
+use Rattle.body_terms.specs.declared.step.Step.{Step}
+use Rattle.body_terms.specs.declared.thunk.Thunk.{Thunk}
 use Rattle.table_words.specs.declared.spot.Spot.TheVariants.{Cell, DoneWord, LogWord}
 use Rattle.structure_laws.specs.Meaning.{Meaning}
 use Rattle.runner_parts.specs.declared.entries.Retired.{Retired}
@@ -20,20 +20,20 @@ use Rattle.runner_steps.specs.AfterInRun.{over_if}
 use Rattle.runner_steps.specs.Sections.{setting_of}
 use Rattle.machine_states.specs.Sight.{Sight, sight}
 use Rattle.machine_epochs.specs.Slots.{thunk_in}
-use Rattle.idem_cell.specs.machine_invariant.specs.Along.{Components}
-use Rattle.idem_cell.specs.machine_invariant.specs.Trails.{IsEndOf}
-use Rattle.idem_cell.specs.machine_facts.specs.States.{FactsStand}
-use Rattle.idem_cell.specs.version_words.specs.RunnerState.{RunnerState}
-use Rattle.idem_cell.specs.commit_log.specs.Runs.{Ran}
-use Rattle.idem_cell.specs.commit_log.specs.Asked.{IsAsked}
-use Rattle.idem_cell.specs.commit_log.specs.Halted.{IsHalted}
+use Rattle.idem_alloc.specs.machine_invariant.specs.Along.{Components}
+use Rattle.idem_alloc.specs.machine_invariant.specs.Trails.{IsEndOf}
+use Rattle.nested_lock.specs.machine_facts.specs.States.{FactsStand}
+use Rattle.idem_alloc.specs.version_words.specs.RunnerState.{RunnerState}
+use Rattle.idem_alloc.specs.commit_log.specs.Runs.{Ran}
+use Rattle.idem_alloc.specs.commit_log.specs.Asked.{IsAsked}
+use Rattle.idem_alloc.specs.commit_log.specs.Halted.{IsHalted}
 use Rattle.section_runs.specs.Reached.{IsReached, events_after}
 use Rattle.section_runs.specs.Opened.{Learns, IsOpening, HasOpened}
 use Rattle.section_runs.specs.declared.runs.RunEnd.{RunEnd}
 use Rattle.section_runs.specs.declared.runs.RunEnd.TheVariants.{Done, Halted}
 
--- what a run leaves of the own node slots: at most one free slot fewer for each Make, the hand and what was looked at as before, and in limbo
--- also what was retired in the run, at most one slot for each Retire
+-- what a run leaves of the own node slots: at most one free slot fewer for each Make, the hand and what was looked at
+-- as before, and in limbo also what was retired in the run, at most one slot for each Retire
 pub record NodesRan (body : List Step) (old new : NodesState) : Type 0 where
   pub free : length old.free ≤ length new.free + count_by is_make body
   pub hand : new.hand ≡ old.hand
@@ -42,7 +42,8 @@ pub record NodesRan (body : List Step) (old new : NodesState) : Type 0 where
   pub limbo : new.limbo ≡ old.limbo ++ more
   pub few : length more ≤ count_by is_retire body
 
--- the section of this descriptor, with this thunk, is done, as the words of this state say: no lock names it, and its log is the trail
+-- the section of this descriptor, with this thunk, is done, as the words of this state say: no lock names it, and its
+-- log is the trail
 pub record IsDone (m : Meaning) (d : ℕ) (t : Thunk) (trail : List ℕ) (s : Sight) : Type 0 where
   pub thunk : thunk_in s.word d ≡ t
   pub done : s.word (DoneWord d) ≢ 0
@@ -51,9 +52,9 @@ pub record IsDone (m : Meaning) (d : ℕ) (t : Thunk) (trail : List ℕ) (s : Si
   pub over : (k : ℕ) → length trail ≤ k → s.word (LogWord d k) ≡ 0
 
 module _ {T : Type 0} (m : Meaning) where
-  -- the runner ran this section to its end, in so many steps, with this outcome and this trail. What is kept of the run says so, the
-  -- section is done, and all that is known of a reached state is known of this one: so outcome and trail are those of the plain run of the
-  -- body with the choices of the log, and those of each other run of the section
+  -- the runner ran this section to its end, in so many steps, with this outcome and this trail. What is kept of the run
+  -- says so, the section is done, and all that is known of a reached state is known of this one: so outcome and trail
+  -- are those of the plain run of the body with the choices of the log, and those of each other run of the section
   pub record EndsSo (d : ℕ) (t : Thunk) (outcome : Outcome) (trail : Agreed) (made : ℕ)
       (old new : RunnerState T) : Type 0 where
     pub finished : FinishedState

@@ -1,17 +1,17 @@
 -- A step of a run's body, with the registers that its code keeps, and what came of it.
 use Rattle.std.specs.Prelude.{◌≡◌, ◌≢◌, ℕ, suc, ◌-◌, true}
-use Rattle.section_body.specs.Cost.{step_cost}
-use Rattle.section_body.specs.Line.{registers_before}
-use Rattle.section_body.specs.Shape.{IsStep, phase}
-use Rattle.section_body.specs.Word.{value_of}
-use Rattle.section_body.specs.Trail.{Agreed}
-use Rattle.section_body.specs.declared.outcome.Outcome.{Outcome}
-use Rattle.section_body.specs.declared.outcome.Outcome.TheVariants.{Busy}
-use Rattle.section_body.specs.declared.step.Step.{Step}
+use Rattle.body_terms.specs.Cost.{step_cost}
+use Rattle.body_terms.specs.Line.{registers_before}
+use Rattle.body_terms.specs.Shape.{IsStep, phase}
+use Rattle.body_terms.specs.Word.{value_of}
+use Rattle.body_terms.specs.Trail.{Agreed}
+use Rattle.body_terms.specs.declared.outcome.Outcome.{Outcome}
+use Rattle.body_terms.specs.declared.outcome.Outcome.TheVariants.{Busy}
+use Rattle.body_terms.specs.declared.step.Step.{Step}
 use Rattle.structure_laws.specs.Meaning.{Meaning}
 use Rattle.runner_parts.specs.Tests.{has}
-use Rattle.idem_cell.specs.version_words.specs.RunnerState.{RunnerState}
-use Rattle.idem_cell.specs.commit_log.specs.Halted.{IsThrough, IsHalted}
+use Rattle.idem_alloc.specs.version_words.specs.RunnerState.{RunnerState}
+use Rattle.idem_alloc.specs.commit_log.specs.Halted.{IsThrough, IsHalted}
 use Rattle.section_runs.specs.Reached.{run_of}
 use Rattle.section_runs.specs.Registers.{AreKept}
 use Rattle.section_runs.specs.Bodies.{NodesStepped, body_of, IsBefore, MayGo, IsSameRun, IsOver}
@@ -30,8 +30,8 @@ pub record MayGoAt {T : Type 0} (m : Meaning) (n : ℕ) (step : Step) (kept : Pl
   pub here : IsStep (body_of m r) n step
   pub registers : AreKept kept (registers_before (body_of m r) n)
 
--- the run came through step n so: it goes on to the next one, leaves, which only a step of the first phase lets it, or was halted; the trail
--- has the agreed words then, and the atomic steps are counted
+-- the run came through step n so: it goes on to the next one, leaves, which only a step of the first phase lets it, or
+-- was halted; the trail has the agreed words then, and the atomic steps are counted
 pub record Went {T : Type 0} (m : Meaning) (n : ℕ) (step : Step) (passed : Passed) (old new : RunnerState T)
     (trail trail' : Agreed) (halts halts' asks asks' steps steps' : ℕ) : Type 0 where
   pub before : passed ≡ On → IsBefore m (suc n) new

@@ -1,6 +1,6 @@
 -- The opening of a run.
 use Rattle.std.specs.Prelude.{◌≡◌, ℕ, zero, suc, List, Bool, true, false, length, ◌++◌, ◌≤◌, slice_get, Option, Some, None}
-use Rattle.section_body.specs.declared.thunk.Thunk.{Thunk}
+use Rattle.body_terms.specs.declared.thunk.Thunk.{Thunk}
 use Rattle.structure_laws.specs.Meaning.{Meaning}
 use Rattle.runner_parts.specs.declared.event.EventKind.{EventKind}
 use Rattle.runner_parts.specs.declared.event.EventKind.TheVariants as kinds
@@ -9,9 +9,9 @@ use Rattle.epoch_core.specs.declared.stage.Stage.TheVariants as stages
 use Rattle.runner_parts.specs.State.{RunState}
 use Rattle.runner_parts.specs.Tests.{has}
 use Rattle.runner_steps.specs.Sections.{thunk_of, is_late}
-use Rattle.idem_cell.specs.version_words.specs.RunnerState.{RunnerState}
-use Rattle.idem_cell.specs.version_words.specs.Events.{Makes}
-use Rattle.idem_cell.specs.commit_log.specs.Asked.{IsAsked}
+use Rattle.idem_alloc.specs.version_words.specs.RunnerState.{RunnerState}
+use Rattle.idem_alloc.specs.version_words.specs.Events.{Makes}
+use Rattle.idem_alloc.specs.commit_log.specs.Asked.{IsAsked}
 use Rattle.section_runs.specs.Reached.{IsReached, no_run, IsInside, events_after}
 
 -- what is known of stamp and reply words stays known, and what was learned is of this request

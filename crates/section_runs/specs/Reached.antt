@@ -8,9 +8,9 @@ use Rattle.runner_parts.specs.Tests.{has}
 use Rattle.runner_steps.specs.After.{counted}
 use Rattle.machine_states.specs.World.{World, seat_of}
 use Rattle.machine_states.specs.Reached.{Reached}
-use Rattle.idem_cell.specs.version_words.specs.RunnerState.{RunnerState}
-use Rattle.idem_cell.specs.version_words.specs.Stages.{IsAt}
-use Rattle.idem_cell.specs.commit_log.specs.Runs.{IsRunning}
+use Rattle.idem_alloc.specs.version_words.specs.RunnerState.{RunnerState}
+use Rattle.idem_alloc.specs.version_words.specs.Stages.{IsAt}
+use Rattle.idem_alloc.specs.commit_log.specs.Runs.{IsRunning}
 
 -- in no run
 abbrev pub no_run : RunState

@@ -1,11 +1,11 @@
 //! The steps of a run's body, one after the other.
 ghost use Rattle.std.specs.Prelude.{◌≡◌, ◌≢◌, ℕ, ◌+◌, ◌<◌, ◌≤◌, cond, length, count_by, sum_by};
-ghost use Rattle.section_body.specs.Cost.{step_cost};
-ghost use Rattle.section_body.specs.Shape.{IsShaped, is_make, is_take};
-ghost use Rattle.section_body.specs.declared.outcome.Outcome.{Outcome as Ending};
+ghost use Rattle.body_terms.specs.Cost.{step_cost};
+ghost use Rattle.body_terms.specs.Shape.{IsShaped, is_make, is_take};
+ghost use Rattle.body_terms.specs.declared.outcome.Outcome.{Outcome as Ending};
 ghost use Rattle.runner_steps.specs.Sections.{reply_in};
-ghost use Rattle.idem_cell.specs.version_words.specs.TableState.{IsOf};
-ghost use Rattle.idem_cell.specs.commit_log.specs.Halted.{IsThrough, IsHalted};
+ghost use Rattle.idem_alloc.specs.version_words.specs.TableState.{IsOf};
+ghost use Rattle.idem_alloc.specs.commit_log.specs.Halted.{IsThrough, IsHalted};
 ghost use Rattle.section_runs.specs.Reached.{run_of};
 ghost use Rattle.section_runs.specs.Bodies.{body_of, IsBefore, HasWalked};
 ghost use Rattle.section_runs.specs.declared.passed.Walked.TheVariants.{Over, Stopped};
@@ -14,9 +14,9 @@ use crate::passed::{Passed, Walked};
 use crate::registers::Places;
 use crate::steps::step_gated;
 use crate::sums::add_up;
-use idem_cell::version_words::{FlockTable, Runner, table_is_allowed};
-use runner_parts::Structure;
-use section_body::{Gate, Outcome, Step, Steps, Trail};
+use body_terms::{Gate, Outcome, Step, Steps, Trail};
+use idem_alloc::version_words::{FlockTable, Runner, table_is_allowed};
+use structure_laws::Structure;
 
 /// The reply of a body's Answer, which is its last step.
 fn reply_of(body: &[Step]) -> u64
@@ -29,7 +29,8 @@ fn reply_of(body: &[Step]) -> u64
     }
 }
 
-/// Among how many of the first steps the Takes are that were passed, once one more step was: this one, behind `n` others.
+/// Among how many of the first steps the Takes are that were passed, once one more step was: this one, behind `n`
+/// others.
 fn taken_behind(taken: usize, n: usize, step: &Step) -> usize
     requires { n < u64.MAX }
     ensures { result ≡ cond (is_take step.now) (n + 1) taken }
@@ -40,9 +41,9 @@ fn taken_behind(taken: usize, n: usize, step: &Step) -> usize
     }
 }
 
-/// Makes the steps of the body one after the other, until it has gone through all or leaves at one. Each atomic step is counted, and the
-/// gate is asked after it. Answers among how many of the first steps the Takes are that were passed, so that the end looks at no others,
-/// and the outcome.
+/// Makes the steps of the body one after the other, until it has gone through all or leaves at one. Each atomic step is
+/// counted, and the gate is asked after it. Answers among how many of the first steps the Takes are that were passed,
+/// so that the end looks at no others, and the outcome.
 ///
 /// The steps are counted apart and added up at its end, wherever that is.
 ///

@@ -1,19 +1,19 @@
 //! The end of a run: its section is done, and its locks are released.
 ghost use Rattle.std.specs.Prelude.{◌≡◌, ℕ, ◌+◌, ◌≤◌, ◌<◌, cond, true, false, length, take, count_by};
-ghost use Rattle.section_body.specs.Shape.{IsStep, is_take};
-ghost use Rattle.section_body.specs.declared.outcome.Outcome.{Outcome};
+ghost use Rattle.body_terms.specs.Shape.{IsStep, is_take};
+ghost use Rattle.body_terms.specs.declared.outcome.Outcome.{Outcome};
 ghost use Rattle.runner_steps.specs.Sections.{thunk_of};
-ghost use Rattle.idem_cell.specs.version_words.specs.TableState.{IsOf};
-ghost use Rattle.idem_cell.specs.commit_log.specs.Asked.{IsAsked};
-ghost use Rattle.idem_cell.specs.commit_log.specs.Halted.{IsThrough, IsHalted};
+ghost use Rattle.idem_alloc.specs.version_words.specs.TableState.{IsOf};
+ghost use Rattle.idem_alloc.specs.commit_log.specs.Asked.{IsAsked};
+ghost use Rattle.idem_alloc.specs.commit_log.specs.Halted.{IsThrough, IsHalted};
 ghost use Rattle.section_runs.specs.Reached.{run_of};
 ghost use Rattle.section_runs.specs.Bodies.{body_of, IsOver};
 ghost use Rattle.section_runs.specs.Ends.{IsEnding, EndsOn, HasReleased, EndsAsked};
 
-use idem_cell::commit_log::passes;
-use idem_cell::version_words::{FlockTable, Runner, table_is_allowed};
-use runner_parts::Structure;
-use section_body::{Gate, Place, Step, StepKind, Steps, Word};
+use body_terms::{Gate, Place, Step, StepKind, Steps, Word};
+use idem_alloc::commit_log::passes;
+use idem_alloc::version_words::{FlockTable, Runner, table_is_allowed};
+use structure_laws::Structure;
 
 /// Sets the done word.
 fn finish<S: Structure, G: Gate, L>(
@@ -137,8 +137,8 @@ fn release_last<S: Structure, G: Gate, L>(
     (runner, going)
 }
 
-/// Ends the run: sets the done word, and releases each lock that the section took before this step of its body, and the outer one last. Each
-/// step is counted, and the gate is asked after it: whether it let the runner go on.
+/// Ends the run: sets the done word, and releases each lock that the section took before this step of its body, and the
+/// outer one last. Each step is counted, and the gate is asked after it: whether it let the runner go on.
 #[inline(always)]
 pub fn end<S: Structure, G: Gate, L>(
     table: &FlockTable<S>,

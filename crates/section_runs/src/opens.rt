@@ -1,16 +1,16 @@
 //! The opening of a run.
 ghost use Rattle.std.specs.Prelude.{◌≡◌, ◌≤◌, take, cond, length, IfSome, IfNone, true, false};
 ghost use Rattle.runner_steps.specs.Sections.{thunk_of};
-ghost use Rattle.idem_cell.specs.version_words.specs.TableState.{IsOf};
-ghost use Rattle.idem_cell.specs.commit_log.specs.Asked.{IsAsked};
+ghost use Rattle.idem_alloc.specs.version_words.specs.TableState.{IsOf};
+ghost use Rattle.idem_alloc.specs.commit_log.specs.Asked.{IsAsked};
 ghost use Rattle.section_runs.specs.Reached.{MayBegin};
 ghost use Rattle.section_runs.specs.Opened.{IsOpening, HasOpened, HasHalted};
 
 use crate::sums::add_up;
-use idem_cell::commit_log::passes;
-use idem_cell::version_words::{FlockTable, Runner, table_is_allowed};
-use runner_parts::Structure;
-use section_body::{Gate, StepKind, Steps, Thunk, Word};
+use body_terms::{Gate, StepKind, Steps, Thunk, Word};
+use idem_alloc::commit_log::passes;
+use idem_alloc::version_words::{FlockTable, Runner, table_is_allowed};
+use structure_laws::Structure;
 
 /// The thunk that these words hold.
 fn thunk_from(words: &[u64]) -> Thunk
@@ -35,8 +35,8 @@ fn done_word(done: bool) -> u64
     if done { 1 } else { 0 }
 }
 
-/// Loads the twelve thunk words of the descriptor, with which a run begins, and puts them into the first twelve of these words. Each step is
-/// counted, and the gate is asked after it: whether it let the runner go on.
+/// Loads the twelve thunk words of the descriptor, with which a run begins, and puts them into the first twelve of
+/// these words. Each step is counted, and the gate is asked after it: whether it let the runner go on.
 fn load_words<S: Structure, G: Gate, L>(
     table: &FlockTable<S>,
     runner: Runner<S>,
@@ -74,11 +74,12 @@ fn load_words<S: Structure, G: Gate, L>(
     (runner, true)
 }
 
-/// Opens a run of the section in this descriptor, in thirteen steps: loads its thunk's words and its done word. Answers the thunk, and
-/// whether the section was done. Each step is counted, and the gate is asked after it: None where it halted the runner.
+/// Opens a run of the section in this descriptor, in thirteen steps: loads its thunk's words and its done word. Answers
+/// the thunk, and whether the section was done. Each step is counted, and the gate is asked after it: None where it
+/// halted the runner.
 ///
-/// The runner has to be entered and in no run, and holds the descriptor. There is no refusal, and no memory is taken (Ben-David,
-/// Blelloch, Wei, 2022).
+/// The runner has to be entered and in no run, and holds the descriptor. There is no refusal, and no memory is taken
+/// (Ben-David, Blelloch, Wei, 2022).
 pub fn open<S: Structure, G: Gate, L>(
     table: &FlockTable<S>,
     runner: Runner<S>,

@@ -1,10 +1,10 @@
 //! A whole run of a section.
 ghost use Rattle.std.specs.Prelude.{◌≡◌, ℕ, ◌≤◌, [], true, false, length};
-ghost use Rattle.section_body.specs.Trail.{Agreed};
-ghost use Rattle.section_body.specs.declared.outcome.Outcome.{Outcome as Ending};
-ghost use Rattle.section_body.specs.declared.thunk.Thunk.{Thunk as Words};
-ghost use Rattle.idem_cell.specs.version_words.specs.TableState.{IsOf};
-ghost use Rattle.idem_cell.specs.commit_log.specs.Asked.{IsAsked};
+ghost use Rattle.body_terms.specs.Trail.{Agreed};
+ghost use Rattle.body_terms.specs.declared.outcome.Outcome.{Outcome as Ending};
+ghost use Rattle.body_terms.specs.declared.thunk.Thunk.{Thunk as Words};
+ghost use Rattle.idem_alloc.specs.version_words.specs.TableState.{IsOf};
+ghost use Rattle.idem_alloc.specs.commit_log.specs.Asked.{IsAsked};
 ghost use Rattle.section_runs.specs.Reached.{MayBegin};
 ghost use Rattle.section_runs.specs.Opened.{StandsOpened};
 ghost use Rattle.section_runs.specs.Ended.{EndsSo, IsCutShort, EndsOpened, HaltsOpened};
@@ -14,10 +14,10 @@ use crate::bodies::walk;
 use crate::ends::end;
 use crate::opens::open;
 use crate::passed::Walked;
-use idem_cell::commit_log::{Unasked, tell};
-use idem_cell::version_words::{FlockTable, RunRoom, Runner, table_is_allowed};
-use runner_parts::Structure;
-use section_body::{Gate, Outcome, Step, Steps, Thunk, Trail};
+use body_terms::{Gate, Outcome, Step, Steps, Thunk, Trail};
+use idem_alloc::commit_log::{Unasked, tell};
+use idem_alloc::version_words::{FlockTable, RunRoom, Runner, table_is_allowed};
+use structure_laws::Structure;
 
 /// How a run of a section ended.
 #[derive(Debug, Drop)]
@@ -52,8 +52,8 @@ fn trail_of(late: bool) -> Trail
     trail
 }
 
-/// Goes through the steps of the section's body with a trail that is empty yet, and ends the run. Its end has a copy of the trail: where the
-/// caller doesn't look at that, the compiler leaves the copy out.
+/// Goes through the steps of the section's body with a trail that is empty yet, and ends the run. Its end has a copy of
+/// the trail: where the caller doesn't look at that, the compiler leaves the copy out.
 #[inline(always)]
 fn run_steps<S: Structure, G: Gate, L>(
     table: &FlockTable<S>,
@@ -90,8 +90,8 @@ fn run_steps<S: Structure, G: Gate, L>(
     }
 }
 
-/// As `run_opened`, where the room that the runner keeps is out: the run makes a body and a trail. It is a call of its own, since a caller
-/// would clear the places of both before each run, though it seldom needs them.
+/// As `run_opened`, where the room that the runner keeps is out: the run makes a body and a trail. It is a call of its
+/// own, since a caller would clear the places of both before each run, though it seldom needs them.
 #[inline(never)]
 fn run_anew<S: Structure, G: Gate, L>(
     table: &FlockTable<S>,
@@ -119,7 +119,8 @@ fn run_anew<S: Structure, G: Gate, L>(
     )
 }
 
-/// As `run_anew`, whose answer is moved out of a place of its own: else a caller would clear a place for it before each run.
+/// As `run_anew`, whose answer is moved out of a place of its own: else a caller would clear a place for it before each
+/// run.
 #[inline(always)]
 fn run_apart<S: Structure, G: Gate, L>(
     table: &FlockTable<S>,
@@ -143,8 +144,8 @@ fn run_apart<S: Structure, G: Gate, L>(
     (runner, end)
 }
 
-/// Goes on with a run that has loaded this thunk, and found its section done or not. In the room that the runner keeps for its runs, the body
-/// is refilled with the section's steps and the trail begins anew.
+/// Goes on with a run that has loaded this thunk, and found its section done or not. In the room that the runner keeps
+/// for its runs, the body is refilled with the section's steps and the trail begins anew.
 #[inline(always)]
 fn run_opened<S: Structure, G: Gate, L>(
     table: &FlockTable<S>,
@@ -177,7 +178,8 @@ fn run_opened<S: Structure, G: Gate, L>(
     (runner, end)
 }
 
-/// As `run_opened`, with the thunk in a place of its own, which is written once: that of the opening would be cleared before it.
+/// As `run_opened`, with the thunk in a place of its own, which is written once: that of the opening would be cleared
+/// before it.
 #[inline(always)]
 fn run_loaded<S: Structure, G: Gate, L>(
     table: &FlockTable<S>,
@@ -229,13 +231,15 @@ fn run_asked<S: Structure, G: Gate, L>(
     }
 }
 
-/// Runs the section in this descriptor to its end, whatever others do: loads its thunk, makes the steps of its body by the words that were
-/// agreed on, marks it as done and releases its locks. Answers the outcome and the agreed words, which are the same for each run of the
-/// section; the trail says whether the section was done as the run began. Each step is counted, and the gate is asked after it; a gate that
-/// says that it never halts any more is told in the end how often.
+/// Runs the section in this descriptor to its end, whatever others do: loads its thunk, makes the steps of its body by
+/// the words that were agreed on, marks it as done and releases its locks. Answers the outcome and the agreed words,
+/// which are the same for each run of the section; the trail says whether the section was done as the run began. Each
+/// step is counted, and the gate is asked after it; a gate that says that it never halts any more is told in the end
+/// how often.
 ///
-/// The runner has to be entered and in no run, holds the descriptor, and has a reserve of two node slots. It makes at most as many steps
-/// as `cost` of the body says. `Halted` only where the gate halted. No memory is taken, and nothing waits (Ben-David, Blelloch, Wei, 2022).
+/// The runner has to be entered and in no run, holds the descriptor, and has a reserve of two node slots. It makes at
+/// most as many steps as `cost` of the body says. `Halted` only where the gate halted. No memory is taken, and nothing
+/// waits (Ben-David, Blelloch, Wei, 2022).
 #[inline(always)]
 pub fn run<S: Structure, G: Gate, L>(
     table: &FlockTable<S>,

@@ -1,11 +1,11 @@
 //! One step of a run's body.
 ghost use Rattle.std.specs.Prelude.{◌≡◌, ◌≢◌, ℕ, ◌≤◌, true, false, length, cond};
-ghost use Rattle.section_body.specs.Line.{Registers, registers_after};
-ghost use Rattle.section_body.specs.Shape.{is_make};
-ghost use Rattle.section_body.specs.declared.outcome.Outcome.{Outcome};
-ghost use Rattle.section_body.specs.declared.step.Step.TheVariants as kinds;
-ghost use Rattle.idem_cell.specs.version_words.specs.TableState.{IsOf};
-ghost use Rattle.idem_cell.specs.commit_log.specs.Halted.{IsThrough, IsHalted};
+ghost use Rattle.body_terms.specs.Line.{Registers, registers_after};
+ghost use Rattle.body_terms.specs.Shape.{is_make};
+ghost use Rattle.body_terms.specs.declared.outcome.Outcome.{Outcome};
+ghost use Rattle.body_terms.specs.declared.step.Step.TheVariants as kinds;
+ghost use Rattle.idem_alloc.specs.version_words.specs.TableState.{IsOf};
+ghost use Rattle.idem_alloc.specs.commit_log.specs.Halted.{IsThrough, IsHalted};
 ghost use Rattle.section_runs.specs.Reached.{run_of};
 ghost use Rattle.section_runs.specs.Bodies.{MayGo, GoesOn, Leaves};
 ghost use Rattle.section_runs.specs.Goes.{MayGoBy, MayGoAt, Went};
@@ -15,13 +15,13 @@ ghost use Rattle.section_runs.specs.declared.passed.Passed.TheVariants.{On, Left
 use crate::passed::Passed;
 use crate::registers::Places;
 use crate::values::{agree_on, taken, tested, value_in, wanted};
+use body_terms::{Gate, Init, Place, Step, StepKind, Steps, Trail, Value, Word};
+use idem_alloc::commit_log::passes;
+use idem_alloc::version_words::{FlockTable, Runner, table_is_allowed};
 use idem_alloc::{make_gated, retire_gated};
-use idem_cell::commit_log::passes;
-use idem_cell::version_words::{FlockTable, Runner, table_is_allowed};
 use idem_cell::{load_gated, store};
 use nested_lock::take_gated;
-use runner_parts::Structure;
-use section_body::{Gate, Init, Place, Step, StepKind, Steps, Trail, Value, Word};
+use structure_laws::Structure;
 
 /// Loads a cell and agrees on its word.
 fn load_step<S: Structure, G: Gate, L>(
@@ -263,7 +263,8 @@ fn count_of(trail: &Trail) -> u8
     trail.words.len() as u8
 }
 
-/// Makes step `n` of the body, and notes the register that it sets. Each atomic step is counted, and the gate is asked after it.
+/// Makes step `n` of the body, and notes the register that it sets. Each atomic step is counted, and the gate is asked
+/// after it.
 ///
 /// The register is noted here, by the kinds that set one, and not behind: so the kind is looked at once.
 pub fn step_gated<S: Structure, G: Gate, L>(

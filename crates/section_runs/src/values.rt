@@ -1,11 +1,11 @@
 //! Values and checks, by the words that were agreed on.
 ghost use Rattle.std.specs.Prelude.{◌≡◌, ℕ, ◌+◌, ◌≤◌, ◌++◌, ◌==◌, cond, length, slice_index};
-ghost use Rattle.section_body.specs.Act.{IsLogged};
-ghost use Rattle.section_body.specs.Line.{Registers, source_of};
-ghost use Rattle.section_body.specs.Run.{source_value};
-ghost use Rattle.section_body.specs.Word.{version_of};
-ghost use Rattle.section_body.specs.declared.value.Value.TheVariants.{Of};
-ghost use Rattle.section_body.specs.declared.outcome.Outcome.TheVariants.{Stale, Spent};
+ghost use Rattle.body_terms.specs.Act.{IsLogged};
+ghost use Rattle.body_terms.specs.Line.{Registers, source_of};
+ghost use Rattle.body_terms.specs.Run.{source_value};
+ghost use Rattle.body_terms.specs.Word.{version_of};
+ghost use Rattle.body_terms.specs.declared.value.Value.TheVariants.{Of};
+ghost use Rattle.body_terms.specs.declared.outcome.Outcome.TheVariants.{Stale, Spent};
 ghost use Rattle.nested_lock.specs.Answers.{outcome_by};
 ghost use Rattle.section_runs.specs.Registers.{AreKept, IsSmall};
 ghost use Rattle.section_runs.specs.Takes.{passed_by, words_of};
@@ -13,8 +13,8 @@ ghost use Rattle.section_runs.specs.declared.passed.Passed.TheVariants.{On, Left
 
 use crate::passed::Passed;
 use crate::registers::Places;
+use body_terms::{Outcome, Place, Refused, Trail, Value, Word};
 use nested_lock::TakeEnd;
-use section_body::{Outcome, Place, Refused, Trail, Value, Word};
 
 /// The number that a value stands for.
 pub fn value_in(kept: &Places, trail: &Trail, value: Value) -> u32

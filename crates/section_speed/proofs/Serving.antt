@@ -2,11 +2,12 @@
 use Rattle.std.proofs.Common.{◌≡◌, ℕ, zero, suc, ◌+◌, ◌<◌, ◌≤◌, List, [], ◌∷◌, ◌++◌, length, Bool, true, false, refl, sym, ap, subst, ◌∙◌, eq-eqb, arith, Option, Result, Ok, Some, None, inl, inr, slice_get}
 use Rattle.std.specs.Prelude.{◌==◌, ◌&&◌, ◌||◌, not, cond, ◌%◌}
 use Rattle.std.proofs.lemmas.Bool.Decides.{nat_tests}
-use Rattle.section_body.specs.Trail.{Agreed}
-use Rattle.section_body.specs.Word.{value_of, version_of, is_free, is_spent}
-use Rattle.section_body.specs.declared.outcome.Outcome.{Outcome}
-use Rattle.section_body.specs.declared.outcome.Refused.{Refused}
-use Rattle.section_body.specs.declared.thunk.Thunk.{Thunk}
+use Rattle.small_lemmas.proofs.Bools.{or_second as either}
+use Rattle.body_terms.specs.Trail.{Agreed}
+use Rattle.body_terms.specs.Word.{value_of, version_of, is_free, is_spent}
+use Rattle.body_terms.specs.declared.outcome.Outcome.{Outcome}
+use Rattle.body_terms.specs.declared.outcome.Refused.{Refused}
+use Rattle.body_terms.specs.declared.thunk.Thunk.{Thunk}
 use Rattle.table_words.specs.declared.layout.Layout.{Layout}
 use Rattle.structure_laws.specs.Tray.{tray}
 use Rattle.runner_parts.specs.declared.entries.Known.{Known}
@@ -80,10 +81,6 @@ due l walk known t (suc (suc (suc (suc (suc (suc (suc zero))))))) one below few 
     (λ i. is_next l 0 eight_requests known (slice_get eight_requests (request i)) && serves tray l walk t (slice_get eight_requests (request i)))
     ∙ (λ i. (7 % one i == 0 && (not (unknown i) && true)) && (lock i == 0))
 due l walk known t (suc (suc (suc (suc (suc (suc (suc (suc n)))))))) one below few request lock = absurd (omega (arith, few))
-
-either : (p q : Bool) → q ≡ true → (p || q) ≡ true
-either true q e = refl
-either false q e = e
 
 pair_last : (xs : List (ℕ × ℕ)) (a b : ℕ) → has_pair (xs ++ (a, b) ∷ []) a b ≡ true
 pair_last [] a b = let e : ((a == a && b == b) || false) ≡ true = grind (arith, nat_tests) in e

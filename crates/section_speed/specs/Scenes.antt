@@ -9,7 +9,8 @@ abbrev pub request_of : ℕ → Request
 request_of number = record { trace = number; number = number; op = Get 1 }
 
 abbrev pub eight_requests : List Request
-eight_requests = request_of 0 ∷ request_of 1 ∷ request_of 2 ∷ request_of 3 ∷ request_of 4 ∷ request_of 5 ∷ request_of 6 ∷ request_of 7 ∷ []
+eight_requests = request_of 0 ∷ request_of 1 ∷ request_of 2 ∷ request_of 3 ∷ request_of 4 ∷ request_of 5 ∷ request_of 6
+    ∷ request_of 7 ∷ []
 
 module _ {T : Type 0} where
   -- the table has one worker, and eight requests

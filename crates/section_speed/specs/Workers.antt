@@ -1,6 +1,6 @@
 -- The worker on its way to a section and through it.
 use Rattle.std.specs.Prelude.{◌≡◌, ℕ, ◌<◌, ◌≤◌, List, [], true, length, slice_get, Some, None}
-use Rattle.section_body.specs.declared.thunk.Thunk.{Thunk}
+use Rattle.body_terms.specs.declared.thunk.Thunk.{Thunk}
 use Rattle.structure_laws.specs.Tray.{tray}
 use Rattle.runner_parts.specs.declared.entries.Known.{Known}
 use Rattle.epoch_core.specs.declared.stage.Stage.TheVariants as stages

@@ -1,7 +1,7 @@
 //! The program: whole sections on the shared table of the test structure, so many on each of so many tables.
 //!
-//! `scenes` is the table, `sections` a request's section from the entry of its worker to the end, and `rounds` makes them. A script of the repository
-//! measures the program from outside.
+//! `scenes` is the table, `sections` a request's section from the entry of its worker to the end, and `rounds` makes
+//! them. A script of the repository measures the program from outside.
 #![tactic(auto)]
 
 mod rounds;

@@ -6,8 +6,8 @@ ghost use Rattle.section_speed.specs.Workers.{IsBefore};
 
 use crate::scenes::{close, new_table, worker};
 use crate::sections::serve;
+use interleave_core::Tray;
 use std::alloc::{AllocError, Global};
-use try_lock::interleave_core::Tray;
 use try_lock::version_words::{FlockTable, Runner};
 
 /// So many, and no more than there are requests.

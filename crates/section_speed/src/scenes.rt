@@ -5,10 +5,10 @@ ghost use Rattle.try_lock.specs.version_words.specs.Stages.{IsKeeper, HasJoined}
 ghost use Rattle.section_speed.specs.Scenes.{IsScene, request_of};
 ghost use Rattle.section_speed.specs.Workers.{IsBefore};
 
+use interleave_core::Tray;
 use map_history::{Op, Request};
 use std::alloc::{AllocError, Global};
 use table_words::Layout;
-use try_lock::interleave_core::Tray;
 use try_lock::version_words::{FlockTable, Runner, Words};
 
 /// The first request of a trace of its own.
@@ -22,7 +22,8 @@ fn first_of(number: u32) -> Request
     }
 }
 
-/// A table with two node slots and eight descriptors for one worker, who has eight requests, each the first of its trace.
+/// A table with two node slots and eight descriptors for one worker, who has eight requests, each the first of its
+/// trace.
 pub fn new_table(alloc: Global) -> Result<(FlockTable<Tray>, Runner<Tray>), AllocError>
     ensures own { IfOk result (λ x. IsOf x.0 x.1) }
     ensures keeper { IfOk result (λ x. IsKeeper x.1 0 × HasJoined x.1 0) }

@@ -4,10 +4,10 @@ ghost use Rattle.try_lock.specs.version_words.specs.TableState.{IsOf};
 ghost use Rattle.section_speed.specs.Scenes.{IsScene};
 ghost use Rattle.section_speed.specs.Workers.{IsBefore, HasRead, MayRun};
 
+use body_terms::{Outcome, Steps, Thunk, Word};
+use interleave_core::Tray;
 use runner_gate::Free;
-use section_body::{Outcome, Steps, Thunk, Word};
 use try_lock::epoch_slots::{Kind, enter, exit, reserve};
-use try_lock::interleave_core::Tray;
 use try_lock::section_runs::RunEnd;
 use try_lock::version_words::{FlockTable, Runner, table_is_allowed};
 use try_lock::{Section, publish, retire_section, run_section};
@@ -48,7 +48,8 @@ fn enter_and_read(
     table.load_cell(worker, 0)
 }
 
-/// Publishes the request's section, which stores the number: where the word that was read is free and isn't spent, and still stands.
+/// Publishes the request's section, which stores the number: where the word that was read is free and isn't spent, and
+/// still stands.
 fn offer(
     table: &FlockTable<Tray>,
     worker: Runner<Tray>,

@@ -13,22 +13,22 @@ use Rattle.structure_laws.specs.Laws.{Laws}
 use Rattle.runner_parts.specs.declared.entries.Known.{Known}
 use Rattle.runner_parts.specs.Tests.{is_answered, are_answered}
 use Rattle.machine_states.proofs.Steps.{some_same, none_some}
-use Rattle.attempts.specs.machine_invariant.specs.After.{AreAllowed}
-use Rattle.attempts.specs.version_words.specs.RunnerState.{RunnerState}
-use Rattle.attempts.specs.version_words.specs.TableState.{TableState, IsOf}
-use Rattle.attempts.specs.epoch_slots.specs.Collects.{IsTidy}
-use Rattle.attempts.specs.epoch_slots.specs.declared.reserves.Short.{Short}
-use Rattle.attempts.specs.try_lock.specs.Planning.{Planning}
-use Rattle.attempts.specs.try_lock.specs.Reached.{IsReached}
-use Rattle.attempts.specs.request_facts.specs.Laws.{HasEntry}
-use Rattle.section_body.specs.Counted.{counted_on}
-use Rattle.attempts.specs.Knowing.{KnowsMore, IsOwn}
-use Rattle.attempts.specs.Course.{MayAttempt}
-use Rattle.attempts.specs.Attempts.{IsServed, IsShort, IsTurnedAway, IsHalted, Answers}
-use Rattle.attempts.specs.declared.answers.Attempt.{Attempt}
-use Rattle.attempts.specs.declared.answers.Attempt.TheVariants as attempts
-use Rattle.attempts.proofs.Knowing.{knows_same, knows_on, own_on}
-use Rattle.spared_attempts.specs.Spared.{IsSpared, AttemptsSpareSlots}
+use Rattle.attempt_bounds.specs.machine_invariant.specs.After.{AreAllowed}
+use Rattle.attempt_bounds.specs.version_words.specs.RunnerState.{RunnerState}
+use Rattle.attempt_bounds.specs.version_words.specs.TableState.{TableState, IsOf}
+use Rattle.attempt_bounds.specs.epoch_slots.specs.Collects.{IsTidy}
+use Rattle.attempt_bounds.specs.epoch_slots.specs.declared.reserves.Short.{Short}
+use Rattle.attempt_bounds.specs.try_lock.specs.Planning.{Planning}
+use Rattle.attempt_bounds.specs.try_lock.specs.Reached.{IsReached}
+use Rattle.attempt_bounds.specs.request_facts.specs.Laws.{HasEntry}
+use Rattle.body_terms.specs.Counted.{counted_on}
+use Rattle.attempt_bounds.specs.attempts.specs.Knowing.{KnowsMore, IsOwn}
+use Rattle.attempt_bounds.specs.attempts.specs.Course.{MayAttempt}
+use Rattle.attempt_bounds.specs.attempts.specs.Attempts.{IsServed, IsShort, IsTurnedAway, IsHalted, Answers}
+use Rattle.attempt_bounds.specs.attempts.specs.declared.answers.Attempt.{Attempt}
+use Rattle.attempt_bounds.specs.attempts.specs.declared.answers.Attempt.TheVariants as attempts
+use Rattle.attempt_bounds.specs.attempts.proofs.Knowing.{knows_same, knows_on, own_on}
+use Rattle.attempt_bounds.specs.Spared.{IsSpared, AttemptsSpareSlots}
 use Rattle.serving.specs.declared.answers.Served.{Served}
 use Rattle.serving.specs.declared.answers.Served.TheVariants as answers
 use Rattle.serving.specs.Serving.{is_tried_again, stop_of, IsBefore, TriedRuns, ServedRuns, Try, is_served, GoesOn, served_in, steps_in, asks_in, least_asks, WasCrossed, TriesBriefly, ServesBriefly, MayServe, AreServed, AreTried, Persists, Serves}

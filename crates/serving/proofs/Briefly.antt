@@ -8,13 +8,13 @@ use Rattle.table_words.specs.declared.layout.Layout.{Layout}
 use Rattle.structure_laws.specs.Meaning.{Meaning}
 use Rattle.structure_laws.specs.Cells.{slots}
 use Rattle.machine_states.proofs.Steps.{none_some}
-use Rattle.attempts.specs.version_words.specs.RunnerState.{RunnerState}
-use Rattle.attempts.specs.try_lock.specs.Planning.{Planning}
-use Rattle.section_body.specs.Counted.{counted_on}
-use Rattle.attempts.specs.Course.{MayAttempt}
-use Rattle.attempts.specs.Attempts.{is_halted, asks_more, runs_of, most_of_attempt, has_met_held, IsAttempt, Attempts}
-use Rattle.attempts.specs.declared.answers.Attempt.{Attempt}
-use Rattle.attempts.specs.declared.answers.Attempt.TheVariants as attempts
+use Rattle.attempt_bounds.specs.version_words.specs.RunnerState.{RunnerState}
+use Rattle.attempt_bounds.specs.try_lock.specs.Planning.{Planning}
+use Rattle.body_terms.specs.Counted.{counted_on}
+use Rattle.attempt_bounds.specs.attempts.specs.Course.{MayAttempt}
+use Rattle.attempt_bounds.specs.attempts.specs.Attempts.{is_halted, asks_more, runs_of, most_of_attempt, has_met_held, IsAttempt, Attempts}
+use Rattle.attempt_bounds.specs.attempts.specs.declared.answers.Attempt.{Attempt}
+use Rattle.attempt_bounds.specs.attempts.specs.declared.answers.Attempt.TheVariants as attempts
 use Rattle.serving.specs.declared.answers.Served.{Served}
 use Rattle.serving.specs.Serving.{is_tried_again, stop_of, is_crossed, TriedRuns, ServedRuns, most_asks, Try, WasCrossed, IsTry, TriesBriefly, ServesBriefly}
 use Rattle.serving.proofs.Tries.{or_none, crossed_back, crossed_more, crossed_then, crossed_now, try_crossed}

@@ -5,6 +5,7 @@ use Rattle.std.proofs.Common.{◌≡◌, ℕ, zero, suc, ◌+◌, ◌<◌, List,
 use Rattle.std.proofs.lemmas.Bool.{eq-eqb, and_parts}
 use Rattle.std.proofs.lemmas.Option.{slice_get-map, slice_get_within, slice_get-get_or}
 use Rattle.std.proofs.lemmas.List.FromFn.{get_or-range_with_len, length-range_with_len}
+use Rattle.small_lemmas.proofs.Numbers.{from_zero as from_none}
 use Rattle.map_history.specs.declared.op.Request.{Request}
 use Rattle.map_history.specs.Requests.{AreInOrder}
 use Rattle.runner_parts.specs.declared.entries.Known.{Known}
@@ -33,9 +34,6 @@ where_held false then more = refl
 pub held_more : (premise then more : Bool) → (then ≡ true → more ≡ true) → (not premise || then) ≡ true → (not premise || more) ≡ true
 held_more true then more on e = on e
 held_more false then more on e = refl
-
-from_none : (n : ℕ) → 0 + n ≡ n
-from_none n = omega arith
 
 -- requests are numbered by their place
 pub numbered : (requests : List Request) → AreInOrder requests 64 → (n : ℕ) (q : Request) → slice_get requests n ≡ Some q → q.number ≡ n

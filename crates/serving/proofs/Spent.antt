@@ -3,14 +3,15 @@ use Rattle.std.specs.Prelude.{◌==◌, ◌&&◌, ◌⊎◌, cond, nat_lt, Bool,
 use Rattle.std.proofs.Common.{◌≡◌, ℕ, ◌+◌, ◌-◌, ◌<◌, List, [], ◌∷◌, ◌++◌, length, refl, sym, ap, ◌∙◌, subst, ⊎_elim, inl, inr, arith, Some, None, Err}
 use Rattle.std.proofs.lemmas.Bool.{eq-eqb}
 use Rattle.std.proofs.lemmas.Bool.Decides.{nat_tests}
+use Rattle.small_lemmas.proofs.Lists.{get_last}
 use Rattle.map_history.specs.declared.op.Op.{Op}
 use Rattle.map_history.specs.declared.op.Request.{Request}
-use Rattle.section_body.specs.Word.{value_of, version_of, pack, is_free, is_spent}
-use Rattle.section_body.specs.declared.outcome.Outcome.{Outcome}
-use Rattle.section_body.specs.declared.outcome.Outcome.TheVariants as outcomes
-use Rattle.section_body.specs.declared.outcome.Refused.{Refused}
-use Rattle.section_body.specs.declared.outcome.Refused.TheVariants as refusals
-use Rattle.section_body.specs.declared.thunk.Thunk.{Thunk}
+use Rattle.body_terms.specs.Word.{value_of, version_of, pack, is_free, is_spent}
+use Rattle.body_terms.specs.declared.outcome.Outcome.{Outcome}
+use Rattle.body_terms.specs.declared.outcome.Outcome.TheVariants as outcomes
+use Rattle.body_terms.specs.declared.outcome.Refused.{Refused}
+use Rattle.body_terms.specs.declared.outcome.Refused.TheVariants as refusals
+use Rattle.body_terms.specs.declared.thunk.Thunk.{Thunk}
 use Rattle.table_words.specs.declared.layout.Layout.{Layout}
 use Rattle.structure_laws.specs.Cells.{slots}
 use Rattle.structure_laws.specs.Scene.{Readings}
@@ -19,18 +20,18 @@ use Rattle.runner_parts.specs.declared.event.EventKind.TheVariants as kinds
 use Rattle.runner_parts.specs.State.{FinishedState, ReadsState}
 use Rattle.runner_parts.specs.Tests.{has_pair}
 use Rattle.machine_states.proofs.Steps.{some_same, none_some}
-use Rattle.spent_facts.specs.Spent.{IsLate}
-use Rattle.attempts.specs.version_words.specs.RunnerState.{RunnerState}
-use Rattle.attempts.specs.epoch_slots.specs.Entries.{Exits}
-use Rattle.attempts.specs.epoch_slots.proofs.Outside.{reads_made}
-use Rattle.attempts.specs.try_lock.specs.declared.planned.Planned.{Planned}
-use Rattle.attempts.specs.try_lock.specs.declared.planned.Planned.TheVariants as plans
-use Rattle.attempts.specs.try_lock.specs.Planning.{Planning}
-use Rattle.attempts.specs.try_lock.specs.Plans.{refused_at, refused_by_lock}
-use Rattle.attempts.specs.try_lock.specs.Publishes.{refused_by}
-use Rattle.attempts.specs.Course.{of_plan, of_refusal, of_outcome, HasPlanned, HasTried, HasLeft}
-use Rattle.attempts.specs.Attempts.{IsTurnedAway}
-use Rattle.attempts.specs.declared.answers.Attempt.TheVariants as attempts
+use Rattle.attempt_bounds.specs.lock_words.specs.Spent.{IsLate}
+use Rattle.attempt_bounds.specs.version_words.specs.RunnerState.{RunnerState}
+use Rattle.attempt_bounds.specs.epoch_slots.specs.Entries.{Exits}
+use Rattle.attempt_bounds.specs.epoch_slots.proofs.Outside.{reads_made}
+use Rattle.attempt_bounds.specs.try_lock.specs.declared.planned.Planned.{Planned}
+use Rattle.attempt_bounds.specs.try_lock.specs.declared.planned.Planned.TheVariants as plans
+use Rattle.attempt_bounds.specs.try_lock.specs.Planning.{Planning}
+use Rattle.attempt_bounds.specs.try_lock.specs.Plans.{refused_at, refused_by_lock}
+use Rattle.attempt_bounds.specs.try_lock.specs.Publishes.{refused_by}
+use Rattle.attempt_bounds.specs.attempts.specs.Course.{of_plan, of_refusal, of_outcome, HasPlanned, HasTried, HasLeft}
+use Rattle.attempt_bounds.specs.attempts.specs.Attempts.{IsTurnedAway}
+use Rattle.attempt_bounds.specs.attempts.specs.declared.answers.Attempt.TheVariants as attempts
 use Rattle.serving.proofs.Lists.{and_true, or_first, or_second}
 
 -- the list has its last pair
@@ -40,10 +41,6 @@ has_here p w = or_first _ false (and_true _ _ (eq-eqb p p refl) (eq-eqb w w refl
 has_more : (xs ys : List (ℕ × ℕ)) (p w : ℕ) → has_pair ys p w ≡ true → has_pair (xs ++ ys) p w ≡ true
 has_more [] ys p w e = e
 has_more (x ∷ xs) ys p w e = or_second (x.0 == p && x.1 == w) _ (has_more xs ys p w e)
-
-get_last : {A : Type 0} (xs : List A) (y : A) → slice_get (xs ++ y ∷ []) (length xs) ≡ Some y
-get_last [] y = refl
-get_last (x ∷ xs) y = get_last xs y
 
 free_of : (l : Layout) (word : ℕ) → is_spent l.version_max word ≡ true → is_free word ≡ true
 free_of l word e = by (is_free word) e

@@ -10,15 +10,15 @@ use Rattle.runner_parts.specs.State.{PartState}
 use Rattle.runner_parts.specs.Tests.{is_answered}
 use Rattle.runner_steps.specs.Outside.{entry_spot}
 use Rattle.machine_states.specs.Sight.{sight, part_or_first}
-use Rattle.attempts.specs.machine_invariant.specs.After.{AreAllowed}
-use Rattle.attempts.specs.machine_facts.specs.Known.{KnownStand}
-use Rattle.attempts.specs.machine_facts.proofs.Following.{facts_after}
-use Rattle.attempts.specs.machine_records.proofs.First.{entry_of}
-use Rattle.attempts.specs.version_words.specs.RunnerState.{RunnerState}
-use Rattle.attempts.specs.try_lock.specs.Reached.{IsReached}
-use Rattle.attempts.specs.request_facts.specs.Laws.{HasEntry}
-use Rattle.attempts.specs.Knowing.{IsFront}
-use Rattle.attempts.proofs.Knowing.{front_entry, answered_on}
+use Rattle.attempt_bounds.specs.machine_invariant.specs.After.{AreAllowed}
+use Rattle.attempt_bounds.specs.machine_facts.specs.Known.{KnownStand}
+use Rattle.attempt_bounds.specs.machine_facts.proofs.Following.{facts_after}
+use Rattle.attempt_bounds.specs.reached_histories.proofs.First.{entry_of}
+use Rattle.attempt_bounds.specs.version_words.specs.RunnerState.{RunnerState}
+use Rattle.attempt_bounds.specs.try_lock.specs.Reached.{IsReached}
+use Rattle.attempt_bounds.specs.request_facts.specs.Laws.{HasEntry}
+use Rattle.attempt_bounds.specs.attempts.specs.Knowing.{IsFront}
+use Rattle.attempt_bounds.specs.attempts.proofs.Knowing.{front_entry, answered_on}
 
 -- an entry of what was known is one of what is known
 pub entry_on : (known more : List Known) → IsFront known more → (x : Known) → HasEntry known x → HasEntry more x

@@ -3,16 +3,16 @@ use Rattle.std.specs.Prelude.{◌||◌, Bool, true, false, slice_get}
 use Rattle.std.proofs.Common.{◌≡◌, ℕ, zero, suc, ◌+◌, ◌≤◌, List, [], ◌∷◌, ◌++◌, refl, sym, ap, ◌∙◌, subst, arith, Some}
 use Rattle.std.proofs.lemmas.Bool.{true≢false}
 use Rattle.map_history.specs.declared.op.Request.{Request}
-use Rattle.section_body.specs.Counted.{counted_on}
+use Rattle.body_terms.specs.Counted.{counted_on}
 use Rattle.structure_laws.specs.Meaning.{Meaning}
 use Rattle.machine_states.proofs.Steps.{some_same, none_some}
-use Rattle.attempts.specs.lock_walks.specs.commit_log.proofs.Asked.{counted_more}
-use Rattle.attempts.specs.version_words.specs.RunnerState.{RunnerState}
-use Rattle.attempts.specs.try_lock.specs.Planning.{Planning}
-use Rattle.attempts.specs.Course.{IsRefused}
-use Rattle.attempts.specs.Attempts.{asks_more, has_met_held, is_stop_helping, IsAttempt, Answers, Stops, AtEntry, InPlan, BehindHold, InOwnRun, InHelpedRun}
-use Rattle.attempts.specs.declared.answers.Attempt.{Attempt}
-use Rattle.attempts.specs.declared.answers.Attempt.TheVariants as attempts
+use Rattle.attempt_bounds.specs.commit_log.proofs.Asked.{counted_more}
+use Rattle.attempt_bounds.specs.version_words.specs.RunnerState.{RunnerState}
+use Rattle.attempt_bounds.specs.try_lock.specs.Planning.{Planning}
+use Rattle.attempt_bounds.specs.attempts.specs.Course.{IsRefused}
+use Rattle.attempt_bounds.specs.attempts.specs.Attempts.{asks_more, has_met_held, is_stop_helping, IsAttempt, Answers, Stops, AtEntry, InPlan, BehindHold, InOwnRun, InHelpedRun}
+use Rattle.attempt_bounds.specs.attempts.specs.declared.answers.Attempt.{Attempt}
+use Rattle.attempt_bounds.specs.attempts.specs.declared.answers.Attempt.TheVariants as attempts
 use Rattle.serving.specs.Serving.{is_crossed, Try, is_served, GoesOn, served_in, steps_in, asks_in, crossed_in, WasCrossed, IsTry, AreTried}
 
 pub or_left : (a b : Bool) → a ≡ true → (a || b) ≡ true

@@ -2,19 +2,19 @@
 use Rattle.std.specs.Prelude.{◌==◌, ◌&&◌, ◌||◌, ◌⊎◌, not, nat_lt, ◌%◌, Bool, true, false, slice_get, if◌then◌else◌}
 use Rattle.std.proofs.Common.{◌≡◌, ℕ, ◌+◌, List, [], ◌∷◌, refl, sym, ap, ◌∙◌, inl, inr, Some}
 use Rattle.map_history.specs.declared.op.Request.{Request}
-use Rattle.section_body.specs.Counted.{counted_on}
+use Rattle.body_terms.specs.Counted.{counted_on}
 use Rattle.structure_laws.specs.Meaning.{Meaning}
 use Rattle.runner_parts.specs.Tests.{is_answered, are_answered}
-use Rattle.attempts.specs.version_words.specs.RunnerState.{RunnerState}
-use Rattle.attempts.specs.version_words.specs.TableState.{TableState, IsOf}
-use Rattle.attempts.specs.epoch_slots.specs.Collects.{IsTidy}
-use Rattle.attempts.specs.try_lock.specs.Planning.{Planning}
-use Rattle.attempts.specs.Knowing.{IsFront, KnowsMore, LearnsNoOther}
-use Rattle.attempts.specs.Course.{MayAttempt}
-use Rattle.attempts.specs.Attempts.{is_halted, asks_more, has_met_held, Answers, Attempts}
-use Rattle.attempts.specs.declared.answers.Attempt.{Attempt}
-use Rattle.attempts.specs.declared.answers.Attempt.TheVariants as attempts
-use Rattle.attempts.proofs.Knowing.{knows_on, knows_same, no_other_on}
+use Rattle.attempt_bounds.specs.version_words.specs.RunnerState.{RunnerState}
+use Rattle.attempt_bounds.specs.version_words.specs.TableState.{TableState, IsOf}
+use Rattle.attempt_bounds.specs.epoch_slots.specs.Collects.{IsTidy}
+use Rattle.attempt_bounds.specs.try_lock.specs.Planning.{Planning}
+use Rattle.attempt_bounds.specs.attempts.specs.Knowing.{IsFront, KnowsMore, LearnsNoOther}
+use Rattle.attempt_bounds.specs.attempts.specs.Course.{MayAttempt}
+use Rattle.attempt_bounds.specs.attempts.specs.Attempts.{is_halted, asks_more, has_met_held, Answers, Attempts}
+use Rattle.attempt_bounds.specs.attempts.specs.declared.answers.Attempt.{Attempt}
+use Rattle.attempt_bounds.specs.attempts.specs.declared.answers.Attempt.TheVariants as attempts
+use Rattle.attempt_bounds.specs.attempts.proofs.Knowing.{knows_on, knows_same, no_other_on}
 use Rattle.serving.specs.Serving.{is_tried_again, is_crossed, Try, is_served, GoesOn, served_in, steps_in, asks_in, WasCrossed, IsTry, AreTried, Persists}
 use Rattle.serving.proofs.Lists.{all_weaker, held_more}
 use Rattle.serving.proofs.Standing.{answered_more}

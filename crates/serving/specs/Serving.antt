@@ -1,28 +1,28 @@
 -- The serving of a list of requests: what may be served, and what each answer says.
 use Rattle.std.specs.Prelude.{◌≡◌, ◌≢◌, ℕ, ◌+◌, ◌*◌, ◌<◌, ◌≤◌, ◌⊎◌, List, [], ◌∷◌, length, Bool, true, false, not, ◌==◌, ◌&&◌, ◌||◌, if◌then◌else◌, Option, None, Some, slice_get}
 use Rattle.map_history.specs.declared.op.Request.{Request}
-use Rattle.section_body.specs.Counted.{counted_on}
+use Rattle.body_terms.specs.Counted.{counted_on}
 use Rattle.structure_laws.specs.Meaning.{Meaning}
 use Rattle.structure_laws.specs.Cells.{slots}
 use Rattle.runner_parts.specs.declared.entries.Known.{Known}
 use Rattle.runner_parts.specs.declared.entries.Published.{Published}
 use Rattle.runner_parts.specs.Tests.{is_answered}
-use Rattle.attempts.specs.version_words.specs.RunnerState.{RunnerState}
-use Rattle.attempts.specs.epoch_slots.specs.Collects.{IsTidy}
-use Rattle.attempts.specs.epoch_slots.specs.declared.reserves.Short.{Short}
-use Rattle.attempts.specs.try_lock.specs.Planning.{Planning}
-use Rattle.attempts.specs.request_facts.specs.Laws.{HasEntry}
-use Rattle.attempts.specs.Knowing.{KnowsMore, IsOwn, LearnsNoOther}
-use Rattle.attempts.specs.Course.{MayAttempt, IsRefused}
-use Rattle.attempts.specs.Attempts.{most_of_attempt, asks_more, has_met_held, IsShort, IsTurnedAway, Answers, IsAttempt}
-use Rattle.attempts.specs.declared.answers.Attempt.{Attempt}
-use Rattle.attempts.specs.declared.answers.Attempt.TheVariants as attempts
-use Rattle.spared_attempts.specs.Spared.{IsSpared}
+use Rattle.attempt_bounds.specs.version_words.specs.RunnerState.{RunnerState}
+use Rattle.attempt_bounds.specs.epoch_slots.specs.Collects.{IsTidy}
+use Rattle.attempt_bounds.specs.epoch_slots.specs.declared.reserves.Short.{Short}
+use Rattle.attempt_bounds.specs.try_lock.specs.Planning.{Planning}
+use Rattle.attempt_bounds.specs.request_facts.specs.Laws.{HasEntry}
+use Rattle.attempt_bounds.specs.attempts.specs.Knowing.{KnowsMore, IsOwn, LearnsNoOther}
+use Rattle.attempt_bounds.specs.attempts.specs.Course.{MayAttempt, IsRefused}
+use Rattle.attempt_bounds.specs.attempts.specs.Attempts.{most_of_attempt, asks_more, has_met_held, IsShort, IsTurnedAway, Answers, IsAttempt}
+use Rattle.attempt_bounds.specs.attempts.specs.declared.answers.Attempt.{Attempt}
+use Rattle.attempt_bounds.specs.attempts.specs.declared.answers.Attempt.TheVariants as attempts
+use Rattle.attempt_bounds.specs.Spared.{IsSpared}
 use Rattle.serving.specs.declared.answers.Served.{Served}
 use Rattle.serving.specs.declared.answers.Served.TheVariants as answers
 
--- whether a request is attempted again after this answer: somebody else's section came between, or slots are wanted that
--- are in limbo, where such a want is to be waited out
+-- whether a request is attempted again after this answer: somebody else's section came between, or slots are wanted
+-- that are in limbo, where such a want is to be waited out
 abbrev pub is_tried_again : Bool → Attempt → Bool
 is_tried_again retry_short (attempts.Busy place word) = true
 is_tried_again retry_short (attempts.Stale place expected read) = true
@@ -60,8 +60,8 @@ abbrev pub GoesOn : Bool → List Try → Type 0
 GoesOn retry_short [] = Unit {0}
 GoesOn retry_short (x ∷ xs) = goes_on retry_short x ≡ true
 
--- how many requests these attempts served, how many steps were counted in them, how often the gate was asked, and whether
--- one of them was refused since another one came between
+-- how many requests these attempts served, how many steps were counted in them, how often the gate was asked, and
+-- whether one of them was refused since another one came between
 abbrev pub served_in : List Try → ℕ
 served_in [] = 0
 served_in (x ∷ xs) = (if is_served x.answer then 1 else 0) + served_in xs
@@ -78,8 +78,8 @@ abbrev pub crossed_in : List Try → Bool
 crossed_in [] = false
 crossed_in (x ∷ xs) = x.crossed || crossed_in xs
 
--- the asks for one request that is served, at least: behind the entry, behind the exchange that publishes, behind each of
--- the thirteen loads with which the run of its section begins, and once more where the request is served
+-- the asks for one request that is served, at least: behind the entry, behind the exchange that publishes, behind each
+-- of the thirteen loads with which the run of its section begins, and once more where the request is served
 abbrev pub least_asks : ℕ
 least_asks = 16
 
@@ -115,8 +115,8 @@ IsBefore known one other = (x y : Known) → HasEntry known x → HasEntry known
     → x.request ≡ one.number → y.request ≡ other.number → x.number < y.number
 
 module _ {T : Type 0} where
-  -- the requests are the worker's own, each once, and the structure serves them; none of them is answered; of each one's
-  -- trace the earlier requests are answered, or stand before it. The worker is idle with an empty hand
+  -- the requests are the worker's own, each once, and the structure serves them; none of them is answered; of each
+  -- one's trace the earlier requests are answered, or stand before it. The worker is idle with an empty hand
   pub record MayServe (planning : Planning) (requests : List Request) (r : RunnerState T) : Type 0 where
     pub tidy : IsTidy r
     pub own : (i : ℕ) (q : Request) → slice_get requests i ≡ Some q → IsOwn r q
@@ -140,8 +140,8 @@ module _ {T : Type 0} where
     pub behind : (i : ℕ) (q : Request) → count < i → slice_get requests i ≡ Some q
         → is_answered r.part.records.known q.number ≡ false
 
-  -- a gate halted the runner. What it has published, if anything, is for the request behind those that are served; where
-  -- it has published nothing, that request isn't answered
+  -- a gate halted the runner. What it has published, if anything, is for the request behind those that are served;
+  -- where it has published nothing, that request isn't answered
   pub record WasHalted (requests : List Request) (count : ℕ) (r : RunnerState T) : Type 0 where
     pub published : (x : Published) → r.part.published ≡ Some x
         → (q : Request) × (slice_get requests count ≡ Some q) × (x.thunk.request ≡ q.number)
@@ -222,7 +222,8 @@ module _ {T : Type 0} where
     -- why the serving stopped at this request
     abbrev pub Stops : Served → Request → RunnerState T → RunnerState T → Type 0
     Stops (answers.Short short) request old new = StopsShort short request old new
-    Stops (answers.Spent place word) request old new = IsTurnedAway m planning request (attempts.Spent place word) old new
+    Stops (answers.Spent place word) request old new = IsTurnedAway m planning request (attempts.Spent place word) old
+        new
     Stops _ request old new = ⊥
 
     -- it stopped at this request, which isn't answered. Before the last attempt of it the runner was as `before` says,
@@ -258,8 +259,8 @@ module _ {T : Type 0} where
       -- its other own requests are as they were
       pub others : (q : Request) → IsOwn old q → ((i : ℕ) → slice_get requests i ≢ Some q)
           → is_answered new.part.records.known q.number ≡ is_answered old.part.records.known q.number
-      -- so many attempts served their request; so many steps are counted, those of the attempts; and the gate was asked as
-      -- often as in the attempts, and once more for each served request. The numbers are the gate's asks and the
+      -- so many attempts served their request; so many steps are counted, those of the attempts; and the gate was asked
+      -- as often as in the attempts, and once more for each served request. The numbers are the gate's asks and the
       -- counted steps, before and after
       pub count_is : count ≡ served_in tries
       pub counted : steps' ≡ counted_on steps (steps_in tries)

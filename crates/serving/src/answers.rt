@@ -1,7 +1,7 @@
 //! What the serving of a list of requests answers.
 
-use attempts::epoch_slots::Short;
-use section_body::{Place, Word};
+use attempt_bounds::epoch_slots::Short;
+use body_terms::{Place, Word};
 
 /// What the serving of a list of requests came to. Where it stopped, it stopped at the request behind those that are
 /// served, and the others behind that one weren't attempted.

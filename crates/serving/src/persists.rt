@@ -1,16 +1,16 @@
 //! One request, attempted until it is answered.
 ghost use Rattle.std.specs.Prelude.{◌≡◌, ◌≢◌};
 ghost use Rattle.fault_count.specs.Rose.{Rose};
-ghost use Rattle.attempts.specs.version_words.specs.TableState.{IsOf};
-ghost use Rattle.attempts.specs.Course.{MayAttempt};
-ghost use Rattle.attempts.specs.declared.answers.Attempt.TheVariants as attempts;
+ghost use Rattle.attempt_bounds.specs.version_words.specs.TableState.{IsOf};
+ghost use Rattle.attempt_bounds.specs.attempts.specs.Course.{MayAttempt};
+ghost use Rattle.attempt_bounds.specs.attempts.specs.declared.answers.Attempt.TheVariants as attempts;
 ghost use Rattle.serving.specs.Serving.{is_tried_again, Persists};
 
-use attempts::lock_walks::Planner;
-use attempts::version_words::{FlockTable, Runner};
-use attempts::{Attempt, attempt};
+use attempt_bounds::attempts::{Attempt, attempt};
+use attempt_bounds::lock_walks::Planner;
+use attempt_bounds::version_words::{FlockTable, Runner};
+use body_terms::{Gate, Steps};
 use map_history::Request;
-use section_body::{Gate, Steps};
 use std::sync::Wait;
 use std::thread::yield_now;
 

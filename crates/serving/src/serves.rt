@@ -1,18 +1,18 @@
 //! The requests of a worker, served in their order.
 ghost use Rattle.std.specs.Prelude.{◌≡◌, ◌≢◌};
 ghost use Rattle.fault_count.specs.Rose.{Rose};
-ghost use Rattle.attempts.specs.version_words.specs.TableState.{IsOf};
+ghost use Rattle.attempt_bounds.specs.version_words.specs.TableState.{IsOf};
 ghost use Rattle.serving.specs.declared.answers.Served.TheVariants as answers;
 ghost use Rattle.serving.specs.Serving.{stop_of, MayServe, Serves};
 
 use crate::answers::Served;
 use crate::persists::persist;
-use attempts::lock_walks::Planner;
-use attempts::version_words::{FlockTable, Runner, table_is_allowed};
-use attempts::{Attempt, goes_on};
+use attempt_bounds::attempts::{Attempt, goes_on};
+use attempt_bounds::attempts_spare_slots;
+use attempt_bounds::lock_walks::Planner;
+use attempt_bounds::version_words::{FlockTable, Runner, table_is_allowed};
+use body_terms::{Gate, StepKind, Steps};
 use map_history::Request;
-use section_body::{Gate, StepKind, Steps};
-use spared_attempts::attempts_spare_slots;
 use std::sync::Wait;
 use std::thread::Threads;
 

@@ -4,8 +4,8 @@ use Rattle.std.proofs.Common.{◌≡◌, ◌≢◌, ℕ, suc, ◌+◌, ◌*◌, 
 use Rattle.std.specs.Prelude.{◌⊎◌}
 use Rattle.std.proofs.lemmas.Bool.{cases_lt, both_ways}
 use Rattle.std.proofs.lemmas.Bool.Decides.{nat_tests}
-use Rattle.section_body.specs.Shape.{is_make}
-use Rattle.section_body.specs.Word.{value_of, is_free}
+use Rattle.body_terms.specs.Shape.{is_make}
+use Rattle.body_terms.specs.Word.{value_of, is_free}
 use Rattle.table_words.specs.Access.{written}
 use Rattle.table_words.specs.declared.access.Access.TheVariants.{Loads}
 use Rattle.table_words.specs.declared.spot.Spot.TheVariants as spots
@@ -31,7 +31,7 @@ use Rattle.map_history.specs.declared.op.Request.{Request}
 use Rattle.table_words.specs.declared.layout.Layout.{Layout}
 use Rattle.machine_states.proofs.Steps.{some_same}
 use Rattle.machine_epochs.proofs.Places.{has_append}
-use Rattle.try_lock.specs.machine_invariant.specs.After.{AreAllowed}
+use Rattle.keeper_facts.specs.machine_invariant.specs.After.{AreAllowed}
 use Rattle.keeper_facts.specs.runner_facts.specs.Keeper.{AllJoined}
 use Rattle.keeper_facts.specs.Freed.{HasLeft, IsCleared, IsFreed, IsAlone, StandsSeen, LocksTell}
 use Rattle.keeper_facts.proofs.Lists.{left_on}
@@ -49,7 +49,7 @@ use Rattle.try_lock.specs.section_runs.specs.Ended.{EndsSo}
 use Rattle.try_lock.specs.section_runs.proofs.Going.{shaped}
 use Rattle.try_lock.specs.section_runs.proofs.Openeds.{stands_opened, opened_body}
 use Rattle.try_lock.specs.Reached.{MayHelp}
-use Rattle.try_lock.specs.machine_agreement.proofs.Releases.{get_more}
+use Rattle.keeper_facts.specs.machine_agreement.proofs.Releases.{get_more}
 use Rattle.settling.specs.Settled.{IsFront, LoadsLocks}
 use Rattle.settling.specs.Clearing.{cell_count, KeepsJoins, IsClearing, HasRun}
 use Rattle.settling.proofs.Growing.{front_same, front_on, Grows, grows_on, own_grows, grows_made, grows_ran, grows_opens, ran_walk}

@@ -3,7 +3,7 @@ use Rattle.std.specs.Prelude.{◌==◌, ◌||◌, Bool, slice_get, slice_index, 
 use Rattle.std.proofs.Common.{◌≡◌, ℕ, ◌+◌, ◌*◌, ◌<◌, ◌≤◌, List, [], ◌∷◌, length, ⊎_elim, sym, refl, ap, ◌∙◌, subst, arith, Some, None}
 use Rattle.std.proofs.lemmas.Bool.{cases_lt}
 use Rattle.std.proofs.lemmas.Bool.Decides.{nat_tests}
-use Rattle.section_body.specs.Word.{value_of}
+use Rattle.body_terms.specs.Word.{value_of}
 use Rattle.table_words.specs.declared.spot.Spot.TheVariants.{Cell}
 use Rattle.table_words.specs.Limits.{IsWithinLimits}
 use Rattle.table_words.specs.Places.{address}
@@ -16,11 +16,11 @@ use Rattle.runner_parts.specs.Tests.{has}
 use Rattle.machine_states.specs.Reached.{Reached}
 use Rattle.machine_states.specs.Sight.{Sight, sight, part_or_first}
 use Rattle.machine_states.specs.World.{World, seat_of}
-use Rattle.try_lock.specs.machine_invariant.specs.After.{AreAllowed}
+use Rattle.keeper_facts.specs.machine_invariant.specs.After.{AreAllowed}
 use Rattle.keeper_facts.specs.runner_facts.specs.Keeper.{AllJoined}
 use Rattle.keeper_facts.specs.Freed.{IsCleared, IsFreed, IsAlone, LocksTell}
-use Rattle.try_lock.specs.reached_histories.specs.Laws.{HasHistory}
-use Rattle.try_lock.specs.reached_histories.proofs.Histories.{reached_have}
+use Rattle.reached_histories.specs.Laws.{HasHistory}
+use Rattle.reached_histories.proofs.Histories.{reached_have}
 use Rattle.try_lock.specs.version_words.specs.RunnerState.{RunnerState}
 use Rattle.try_lock.specs.version_words.specs.TableState.{TableState, IsOf}
 use Rattle.try_lock.specs.epoch_slots.specs.Entries.{HasLeave, Enters, Exits}

@@ -1,16 +1,16 @@
 //! The locks of a table whose workers have stopped are released.
 ghost use Rattle.std.specs.Prelude.{◌≡◌, ℕ, ◌+◌, ◌-◌, ◌<◌, true, length};
 ghost use Rattle.table_words.specs.Limits.{IsWithinLimits};
-ghost use Rattle.section_body.specs.Word.{value_of};
+ghost use Rattle.body_terms.specs.Word.{value_of};
 ghost use Rattle.try_lock.specs.version_words.specs.TableState.{IsOf};
 ghost use Rattle.try_lock.specs.Reached.{MayHelp};
 ghost use Rattle.settling.specs.Settled.{MaySettle, Settles};
 ghost use Rattle.settling.specs.Clearing.{cell_count, KeepsJoins, IsClearing, HasRun};
 
+use body_terms::{Place, Steps, Word};
 use keeper_facts::what_the_keeper_saw_tells;
 use runner_gate::Free;
-use runner_parts::Structure;
-use section_body::{Place, Steps, Word};
+use structure_laws::Structure;
 use try_lock::epoch_slots::{enter, exit};
 use try_lock::help;
 use try_lock::version_words::{FlockTable, Runner, table_is_allowed};

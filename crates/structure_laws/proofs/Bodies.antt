@@ -2,15 +2,13 @@
 use Rattle.std.proofs.Common.{◌≡◌, ◌≢◌, ℕ, ◌<◌, ◌≤◌, false, refl, sym, ap, ◌∙◌, subst, ⊎_elim, arith}
 use Rattle.std.proofs.lemmas.List.Elements.{All-head, Contains-push}
 use Rattle.std.specs.Prelude.{◌⊎◌, Some, List, [], ◌∷◌, slice_get, All, Contains}
-use Rattle.section_body.specs.declared.value.Value.{Value}
-use Rattle.section_body.specs.declared.value.Value.TheVariants.{Of}
-use Rattle.section_body.specs.declared.step.Step.{Step}
-use Rattle.section_body.specs.declared.step.Step.TheVariants.{Load, Want, Fresh, Take, Make, Stamp, Store, Retire, Answer}
-use Rattle.section_body.specs.Shape.{IsShaped, IsStep, SetBefore, LoadedBefore, phase, set_registers, used_values}
+use Rattle.small_lemmas.proofs.Lists.{some_same as some_inj}
+use Rattle.body_terms.specs.declared.value.Value.{Value}
+use Rattle.body_terms.specs.declared.value.Value.TheVariants.{Of}
+use Rattle.body_terms.specs.declared.step.Step.{Step}
+use Rattle.body_terms.specs.declared.step.Step.TheVariants.{Load, Want, Fresh, Take, Make, Stamp, Store, Retire, Answer}
+use Rattle.body_terms.specs.Shape.{IsShaped, IsStep, SetBefore, LoadedBefore, phase, set_registers, used_values}
 use Rattle.structure_laws.specs.Sections.{is_exit}
-
-some_inj : {A : Type 0} {x y : A} → Some x ≡ Some y → x ≡ y
-some_inj e = cc
 
 -- two different steps stand at different places
 pub apart_steps : (body : List Step) (i j : ℕ) (a b : Step) → IsStep body i a → IsStep body j b → a ≢ b → i ≢ j

@@ -4,8 +4,8 @@ use Rattle.std.proofs.lemmas.Grind.{common_steps}
 use Rattle.std.specs.Prelude.{◌==◌, ◌&&◌, ◌||◌, ◌^◌, ◌⊎◌, Option, Some, None}
 use mathlib.Core.Logic.{dite}
 use native.Mathlib.Decide.{ℕ_discrete}
-use Rattle.section_body.specs.Update.{upd}
-use Rattle.section_body.specs.Word.{value_of, version_of, next_word}
+use Rattle.body_terms.specs.Update.{upd}
+use Rattle.body_terms.specs.Word.{value_of, version_of, next_word}
 
 pub upd_same : {A : Type 0} (f : ℕ → A) (k i : ℕ) (v : A) → i ≡ k → upd f k v i ≡ v
 upd_same f k i v e = grind arith

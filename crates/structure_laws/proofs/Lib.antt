@@ -9,3 +9,5 @@ pub mod TrayGives
 pub mod TrayKeeps
 pub mod TrayLaws
 pub mod TrayShape
+pub mod Lower
+pub mod Front

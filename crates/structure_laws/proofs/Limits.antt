@@ -2,7 +2,7 @@
 use Rattle.std.proofs.Common.{◌≡◌, ℕ, suc, ◌<◌, ◌≤◌, arith}
 use Rattle.std.proofs.lemmas.Grind.{common_steps}
 use Rattle.std.specs.Prelude.{◌^◌}
-use Rattle.section_body.specs.Word.{value_of}
+use Rattle.body_terms.specs.Word.{value_of}
 use Rattle.table_words.specs.declared.layout.Layout.{Layout}
 use Rattle.table_words.specs.Limits.{IsWithinLimits}
 use Rattle.table_words.specs.Places.{slot_count}

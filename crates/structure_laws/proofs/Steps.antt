@@ -1,11 +1,11 @@
 -- The steps of the test structure's bodies, found by their kind.
 use Rattle.std.proofs.Common.{◌≡◌, ℕ, ◌<◌, refl, inl, inr, arith}
 use Rattle.std.specs.Prelude.{◌-◌, ◌⊎◌, Some, slice_get}
-use Rattle.section_body.specs.Word.{value_of}
-use Rattle.section_body.specs.declared.value.Value.{Value}
-use Rattle.section_body.specs.declared.value.Value.TheVariants.{Const, Made}
-use Rattle.section_body.specs.declared.value.Init.{Init}
-use Rattle.section_body.specs.declared.step.Step.TheVariants.{Load, Take, Make, Stamp, Store, Retire, Answer}
+use Rattle.body_terms.specs.Word.{value_of}
+use Rattle.body_terms.specs.declared.value.Value.{Value}
+use Rattle.body_terms.specs.declared.value.Value.TheVariants.{Const, Made}
+use Rattle.body_terms.specs.declared.value.Init.{Init}
+use Rattle.body_terms.specs.declared.step.Step.TheVariants.{Load, Take, Make, Stamp, Store, Retire, Answer}
 use Rattle.structure_laws.specs.Tray.{Form, Number, Link, Unlink, Other, body_of, zeros}
 
 pub no_take : (f : Form) (word j l w : ℕ) → slice_get (body_of f word) j ≡ Some (Take l w) → ⊥

@@ -4,10 +4,11 @@ use Rattle.std.specs.Prelude.{◌==◌, ◌&&◌, ◌-◌, Some, [], ◌∷◌, 
 use Rattle.std.proofs.lemmas.Bool.{true≢false}
 use mathlib.Core.Logic.{dite}
 use native.Mathlib.Decide.{ℕ_discrete}
-use Rattle.section_body.specs.Word.{value_of}
-use Rattle.section_body.specs.declared.value.Value.{Value}
-use Rattle.section_body.specs.declared.step.Step.TheVariants.{Want, Store}
-use Rattle.section_body.specs.declared.thunk.Thunk.{Thunk}
+use Rattle.small_lemmas.proofs.Numbers.{zero_not_suc as zero_suc}
+use Rattle.body_terms.specs.Word.{value_of}
+use Rattle.body_terms.specs.declared.value.Value.{Value}
+use Rattle.body_terms.specs.declared.step.Step.TheVariants.{Want, Store}
+use Rattle.body_terms.specs.declared.thunk.Thunk.{Thunk}
 use Rattle.table_words.specs.declared.layout.Layout.{Layout}
 use Rattle.structure_laws.specs.Scene.{Readings, Section, Live, Scene}
 use Rattle.structure_laws.specs.Sections.{Here, Settled}
@@ -68,9 +69,6 @@ reached (reading ∷ readings) t h = or_cases ((reading.0 == 2) && (value_of rea
 
 no_link : (q i : ℕ) → 3 + 5 * q + i ≡ 2 → ⊥
 no_link q i h = omega arith
-
-zero_suc : (t : ℕ) → 0 ≡ suc t → ⊥
-zero_suc t h = omega arith
 
 pub tray_gives : (layout : Layout) → GivesLaw tray layout
 tray_gives layout s sound kept = record {

@@ -3,13 +3,14 @@ use Rattle.std.proofs.Common.{◌≡◌, ◌≢◌, ℕ, suc, ◌+◌, ◌*◌, 
 use Rattle.std.specs.Prelude.{◌-◌, ◌⊎◌, Some, None, slice_get}
 use mathlib.Core.Logic.{dite}
 use native.Mathlib.Decide.{ℕ_discrete}
-use Rattle.section_body.specs.Update.{upd}
-use Rattle.section_body.specs.Word.{value_of, next_word}
-use Rattle.section_body.specs.declared.value.Value.{Value}
-use Rattle.section_body.specs.declared.value.Value.TheVariants.{Const, Made}
-use Rattle.section_body.specs.declared.value.Init.{Init}
-use Rattle.section_body.specs.declared.step.Step.{Step}
-use Rattle.section_body.specs.declared.step.Step.TheVariants.{Load, Want, Fresh, Make, Stamp, Store, Retire, Answer}
+use Rattle.small_lemmas.proofs.Numbers.{zero_not_suc as zero_suc}
+use Rattle.body_terms.specs.Update.{upd}
+use Rattle.body_terms.specs.Word.{value_of, next_word}
+use Rattle.body_terms.specs.declared.value.Value.{Value}
+use Rattle.body_terms.specs.declared.value.Value.TheVariants.{Const, Made}
+use Rattle.body_terms.specs.declared.value.Init.{Init}
+use Rattle.body_terms.specs.declared.step.Step.{Step}
+use Rattle.body_terms.specs.declared.step.Step.TheVariants.{Load, Want, Fresh, Make, Stamp, Store, Retire, Answer}
 use Rattle.table_words.specs.declared.layout.Layout.{Layout}
 use Rattle.table_words.specs.Limits.{IsWithinLimits}
 use Rattle.structure_laws.specs.Scene.{Section, Status, Free, Live, Retired, Scene, with_cell, with_section, with_status, passed, passed_with, opened, passes, sets}
@@ -74,9 +75,6 @@ live_retired x y a b = cc
 -- a live slot stays live where another one changes, and where it becomes live itself
 still_live : (status : ℕ → Status) (t u : ℕ) (v : Status) → (u ≡ t → v ≡ Live) → status u ≡ Live → upd status t v u ≡ Live
 still_live status t u v same live = dite (ℕ_discrete u t) (λ e. upd_same status t u v e ∙ same e) (λ ne. upd_other status t u v ne ∙ live)
-
-zero_suc : (t : ℕ) → 0 ≡ suc t → ⊥
-zero_suc t h = omega arith
 
 -- no cell that holds the link changes
 link_kept : (s : Scene) (p w : ℕ) → TrayKept s → 2 ≢ p → TrayKept (with_cell s p w)

@@ -1,7 +1,7 @@
 -- Places, links and slots in a scene.
 use Rattle.std.specs.Prelude.{ℕ, suc, ◌+◌, ◌*◌, ◌<◌, ◌≤◌, ◌≡◌, ◌⊎◌, true, nat_lt, cond, Some}
-use Rattle.section_body.specs.Word.{value_of, version_of, pack}
-use Rattle.section_body.specs.Memory as memory
+use Rattle.body_terms.specs.Word.{value_of, version_of, pack}
+use Rattle.body_terms.specs.Memory as memory
 use Rattle.table_words.specs.declared.layout.Layout.{Layout}
 use Rattle.table_words.specs.Places.{slot_count}
 use Rattle.structure_laws.specs.Scene.{Readings, Section, Live, Retired, Scene}

@@ -2,11 +2,11 @@
 use Rattle.std.specs.Prelude.{ℕ, suc, ◌+◌, ◌<◌, ◌≤◌, ◌≡◌, ◌≢◌, ◌⊎◌, true, Some, slice_get}
 use Rattle.map_history.specs.declared.op.Op.{Op}
 use Rattle.map_history.specs.Keys.{HaveNoCommonKey}
-use Rattle.section_body.specs.Word.{value_of, next_word}
-use Rattle.section_body.specs.declared.value.Value.{Value}
-use Rattle.section_body.specs.declared.step.Step.TheVariants.{Load, Store, Retire}
+use Rattle.body_terms.specs.Word.{value_of, next_word}
+use Rattle.body_terms.specs.declared.value.Value.{Value}
+use Rattle.body_terms.specs.declared.step.Step.TheVariants.{Load, Store, Retire}
 use Rattle.table_words.specs.declared.layout.Layout.{Layout}
-use Rattle.section_body.specs.Update.{upd}
+use Rattle.body_terms.specs.Update.{upd}
 use Rattle.structure_laws.specs.Scene.{Readings, Section, Free, Live, Retired, Scene}
 use Rattle.structure_laws.specs.Meaning.{Meaning}
 use Rattle.structure_laws.specs.Sections.{IsAllowed, value_in, Here, IsStep, Holds, Settled, Unstored}

@@ -2,11 +2,11 @@
 use Rattle.std.specs.Prelude.{ℕ, ◌<◌, ◌≡◌, true}
 use Rattle.map_history.specs.Replay.{Pairs, reply_of, map_after}
 use Rattle.map_history.specs.Words.{word_of}
-use Rattle.section_body.specs.Word.{next_word}
-use Rattle.section_body.specs.declared.value.Value.{Value}
-use Rattle.section_body.specs.declared.step.Step.TheVariants.{Load, Stamp, Store, Answer}
+use Rattle.body_terms.specs.Word.{next_word}
+use Rattle.body_terms.specs.declared.value.Value.{Value}
+use Rattle.body_terms.specs.declared.step.Step.TheVariants.{Load, Stamp, Store, Answer}
 use Rattle.table_words.specs.declared.layout.Layout.{Layout}
-use Rattle.section_body.specs.Update.{upd}
+use Rattle.body_terms.specs.Update.{upd}
 use Rattle.structure_laws.specs.Scene.{Cells, Section, Free, Scene}
 use Rattle.structure_laws.specs.Meaning.{Meaning}
 use Rattle.structure_laws.specs.Sections.{value_in, Here, IsStep, Complete}

@@ -1,11 +1,11 @@
 -- The core's side: what it keeps of a scene, and the moves that keep it.
 use Rattle.std.specs.Prelude.{ℕ, suc, ◌+◌, ◌<◌, ◌≤◌, ◌≡◌, ◌≢◌, true, false, [], None, Some, slice_get}
 use Rattle.map_history.specs.declared.op.Op.{Op}
-use Rattle.section_body.specs.Word.{value_of, version_of, next_word}
-use Rattle.section_body.specs.declared.value.Value.{Value}
-use Rattle.section_body.specs.declared.value.Init.{Init}
-use Rattle.section_body.specs.declared.step.Step.TheVariants.{Load, Want, Fresh, Take, Make, Stamp, Store, Retire, Answer}
-use Rattle.section_body.specs.declared.thunk.Thunk.{Thunk}
+use Rattle.body_terms.specs.Word.{value_of, version_of, next_word}
+use Rattle.body_terms.specs.declared.value.Value.{Value}
+use Rattle.body_terms.specs.declared.value.Init.{Init}
+use Rattle.body_terms.specs.declared.step.Step.TheVariants.{Load, Want, Fresh, Take, Make, Stamp, Store, Retire, Answer}
+use Rattle.body_terms.specs.declared.thunk.Thunk.{Thunk}
 use Rattle.table_words.specs.declared.layout.Layout.{Layout}
 use Rattle.structure_laws.specs.Scene.{Readings, Section, Free, Live, Retired, Scene, with_cell, with_reader, with_section, with_status, with_reading, opened, passes, sets}
 use Rattle.structure_laws.specs.Meaning.{Meaning}

@@ -11,3 +11,5 @@ pub mod Laws
 pub mod Lawful
 pub mod Tray
 pub mod Planner
+pub mod Stand
+pub mod Ranks

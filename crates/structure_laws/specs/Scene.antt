@@ -2,8 +2,8 @@
 -- each node slot is.
 use Rattle.std.specs.Prelude.{ℕ, suc, List, [], ◌∷◌, ◌++◌, Option, Some}
 use Rattle.map_history.specs.declared.op.Op.{Op}
-use Rattle.section_body.specs.declared.thunk.Thunk.{Thunk}
-use Rattle.section_body.specs.Update.{upd}
+use Rattle.body_terms.specs.declared.thunk.Thunk.{Thunk}
+use Rattle.body_terms.specs.Update.{upd}
 
 -- the words of the cells, by place
 abbrev pub Cells : Type 0

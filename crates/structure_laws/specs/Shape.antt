@@ -1,14 +1,14 @@
 -- The first law: what a thunk that fits has for a body.
 use Rattle.std.specs.Prelude.{ℕ, ◌<◌, ◌≡◌, ◌≢◌, true, false, Some, slice_get, length}
 use Rattle.map_history.specs.declared.op.Op.{Op}
-use Rattle.section_body.specs.Word.{is_free, is_spent}
-use Rattle.section_body.specs.declared.value.Value.{Value}
-use Rattle.section_body.specs.declared.value.Value.TheVariants.{Const}
-use Rattle.section_body.specs.declared.value.Init.{Init}
-use Rattle.section_body.specs.declared.step.Step.{Step}
-use Rattle.section_body.specs.declared.step.Step.TheVariants.{Load, Take, Make, Store, Answer}
-use Rattle.section_body.specs.declared.thunk.Thunk.{Thunk}
-use Rattle.section_body.specs.Shape.{IsShaped}
+use Rattle.body_terms.specs.Word.{is_free, is_spent}
+use Rattle.body_terms.specs.declared.value.Value.{Value}
+use Rattle.body_terms.specs.declared.value.Value.TheVariants.{Const}
+use Rattle.body_terms.specs.declared.value.Init.{Init}
+use Rattle.body_terms.specs.declared.step.Step.{Step}
+use Rattle.body_terms.specs.declared.step.Step.TheVariants.{Load, Take, Make, Store, Answer}
+use Rattle.body_terms.specs.declared.thunk.Thunk.{Thunk}
+use Rattle.body_terms.specs.Shape.{IsShaped}
 use Rattle.table_words.specs.declared.layout.Layout.{Layout}
 use Rattle.structure_laws.specs.Scene.{Readings, Scene}
 use Rattle.structure_laws.specs.Meaning.{Meaning}

@@ -1,8 +1,8 @@
 -- What the core supplies in every scene.
 use Rattle.std.specs.Prelude.{ℕ, suc, ◌<◌, ◌≤◌, ◌≡◌, ◌≢◌, true, Some, slice_get}
-use Rattle.section_body.specs.Word.{value_of, next_word}
-use Rattle.section_body.specs.declared.value.Value.{Value}
-use Rattle.section_body.specs.declared.step.Step.TheVariants.{Load, Want, Store}
+use Rattle.body_terms.specs.Word.{value_of, next_word}
+use Rattle.body_terms.specs.declared.value.Value.{Value}
+use Rattle.body_terms.specs.declared.step.Step.TheVariants.{Load, Want, Store}
 use Rattle.table_words.specs.declared.layout.Layout.{Layout}
 use Rattle.structure_laws.specs.Scene.{Readings, Section, Free, Live, Retired, Scene}
 use Rattle.structure_laws.specs.Meaning.{Meaning}

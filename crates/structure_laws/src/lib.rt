@@ -2,12 +2,16 @@
 //!
 //! The definitions stand in specs: `Scene` is what the laws speak of, `Meaning` what a structure chooses, `Sound`
 //! what the core supplies, and `Shape`, `InTurn`, `Keeps` and `Gives` are the four laws, joined in `Laws`; `Lawful`
-//! is the core's side. `Tray` is the test structure: `tray` has what it computes from readings, `laws` that it
-//! meets the laws.
+//! is the core's side. `structure` is the trait by which code asks a structure. `Tray` is the test structure: `tray`
+//! has what it computes from readings, `laws` that it meets the laws.
 #![tactic(auto)]
 
 mod laws;
+mod ranks;
+mod structure;
 mod tray;
 
 pub use laws::{tray_meets_the_laws, tray_moves_are_lawful};
+pub use ranks::ranks_fall;
+pub use structure::Structure;
 pub use tray::tray_links;

@@ -2,7 +2,7 @@
 ghost use Rattle.std.specs.Prelude.{◌≡◌};
 ghost use Rattle.structure_laws.specs.Tray.{tray_reaches};
 
-use section_body::{Place, Word};
+use body_terms::{Place, Word};
 
 /// The place of the test structure's link.
 const LINK: Place = 2;

@@ -1,6 +1,7 @@
 //! The program: makes steps of one kind on the shared table, so many rounds, or a few of each kind.
 //!
-//! `kinds` has the kinds of step and their names; `rounds` makes them. A script of the repository measures it from outside.
+//! `kinds` has the kinds of step and their names; `rounds` makes them. A script of the repository measures it from
+//! outside.
 #![tactic(auto)]
 
 mod kinds;

@@ -1,18 +1,18 @@
 //! Rounds of one kind of step, on a table of the test structure with two workers.
 //!
-//! Each kind's loop stands in a function of its own that is given the table, as in a thread. In one function with all that comes before and
-//! after, the loops' own counters would go through memory.
+//! Each kind's loop stands in a function of its own that is given the table, as in a thread. In one function with all
+//! that comes before and after, the loops' own counters would go through memory.
 ghost use Rattle.std.specs.Prelude.{◌≡◌, ◌<◌, length, None};
 ghost use Rattle.epoch_core.specs.declared.stage.Stage.TheVariants as stages;
 ghost use Rattle.table_words.specs.Limits.{IsWithinLimits};
-ghost use Rattle.table_rows.specs.version_words.specs.TableState.{IsOf};
-ghost use Rattle.table_rows.specs.version_words.specs.Stages.{IsAt, HasFree};
+ghost use Rattle.table_tests.specs.version_words.specs.TableState.{IsOf};
+ghost use Rattle.table_tests.specs.version_words.specs.Stages.{IsAt, HasFree};
 
 use crate::kinds::Kind;
 use std::alloc::{AllocError, Global};
-use table_rows::interleave_core::Tray;
-use table_rows::version_words::{FlockTable, Runner};
-use table_rows::{
+use table_tests::interleave_core::Tray;
+use table_tests::version_words::{FlockTable, Runner};
+use table_tests::{
     collect, crew, enter, entry, exit, fetch, fetch_word, gather, look, new_table, put, slot_of,
 };
 
@@ -133,7 +133,8 @@ fn count_others(table: &FlockTable<Tray>, runner: Runner<Tray>, number: u64) -> 
     (runner, others)
 }
 
-/// Compares the words of the own free descriptor 0 with the round's number, so many times, and counts those that differ.
+/// Compares the words of the own free descriptor 0 with the round's number, so many times, and counts those that
+/// differ.
 #[inline(never)]
 fn compare_own_words(
     table: &FlockTable<Tray>,
@@ -230,7 +231,8 @@ fn repeat(
     }
 }
 
-/// The rounds of this kind, by the first worker of a table of their own, which is closed in the end. The answer is their sum.
+/// The rounds of this kind, by the first worker of a table of their own, which is closed in the end. The answer is
+/// their sum.
 pub fn make_rounds(alloc: Global, kind: Kind, rounds: u32) -> Result<u64, AllocError> {
     let (table, keeper) = new_table(alloc)?;
     let (keeper, first, second) = crew(&table, alloc, keeper)?;

@@ -4,6 +4,7 @@ use Rattle.std.proofs.Common.{◌≡◌, ◌≢◌, ℕ, ◌<◌, ◌≤◌, Lis
 use Rattle.std.proofs.lemmas.Bool.Decides.{nat_tests}
 use Rattle.std.proofs.lemmas.List.{get_or-set_same, get_or-set_other}
 use mathlib.Core.Path.{fun_ext}
+use Rattle.small_lemmas.proofs.Numbers.{tested_less as one, tested_most as most, less_tested as is_below}
 use Rattle.table_words.specs.declared.sizes.Sizes.{Sizes}
 use Rattle.table_words.specs.declared.spot.Spot.{Spot}
 use Rattle.table_words.specs.declared.spot.Spot.TheVariants.{Seat, Epoch, Clock, Announcement, Stamp, Reply, Cell, ThunkWord, DoneWord, LogWord}
@@ -13,20 +14,11 @@ use Rattle.table_words.specs.Seen.{blank, seen, put}
 two : (a b c d : ℕ) → (nat_lt a b && nat_lt c d) ≡ true → (a < b) × (c < d)
 two a b c d e = grind (arith, nat_tests)
 
-one : (a b : ℕ) → nat_lt a b ≡ true → a < b
-one a b e = grind (arith, nat_tests)
-
-most : (a b : ℕ) → nat_le a b ≡ true → a ≤ b
-most a b e = grind (arith, nat_tests)
-
 same_means : (a b : ℕ) → a == b ≡ true → a ≡ b
 same_means a b e = grind (arith, nat_tests)
 
 other_means : (a b : ℕ) → a == b ≡ false → a ≢ b
 other_means a b e = grind (arith, nat_tests)
-
-is_below : (a b : ℕ) → a < b → nat_lt a b ≡ true
-is_below a b h = grind (arith, nat_tests)
 
 is_most : (a b : ℕ) → a ≤ b → nat_le a b ≡ true
 is_most a b h = grind (arith, nat_tests)

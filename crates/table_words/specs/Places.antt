@@ -32,8 +32,12 @@ thunk_words = 12
 abbrev pub log_words : ℕ
 log_words = 64
 
+-- so many words fill a line of 128 bytes; the epoch, the clock and each announcement begin one
+abbrev pub line_words : ℕ
+line_words = 16
+
 abbrev pub entries_at : Sizes → ℕ
-entries_at s = 4 + s.runners
+entries_at s = 16 * (4 + s.runners)
 
 abbrev pub cells_at : Sizes → ℕ
 cells_at s = entries_at s + 2 * s.requests
@@ -48,9 +52,9 @@ size s = descriptor_at s s.descriptors
 -- where a word stands
 abbrev pub address : Sizes → Spot → ℕ
 address s Seat = 0
-address s Epoch = 1
-address s Clock = 2
-address s (Announcement r) = 3 + r
+address s Epoch = 16
+address s Clock = 32
+address s (Announcement r) = 16 * (3 + r)
 address s (Stamp q) = entries_at s + 2 * q
 address s (Reply q) = entries_at s + 2 * q + 1
 address s (Cell p) = cells_at s + p

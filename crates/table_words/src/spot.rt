@@ -2,7 +2,7 @@
 ghost use Rattle.std.specs.Prelude.{◌≡◌};
 ghost use Rattle.table_words.specs.Places.{address, Fits, fits};
 
-use crate::sizes::Sizes;
+use crate::sizes::{LINE_WORDS, Sizes};
 
 /// A word of the table, by what it is.
 ///
@@ -46,9 +46,9 @@ impl Spot {
     {
         match self {
             Spot::Seat => 0,
-            Spot::Epoch => 1,
-            Spot::Clock => 2,
-            Spot::Announcement(runner) => 3 + runner as usize,
+            Spot::Epoch => LINE_WORDS,
+            Spot::Clock => 2 * LINE_WORDS,
+            Spot::Announcement(runner) => LINE_WORDS * (3 + runner as usize),
             Spot::Stamp(request) => sizes.entries_at() + 2 * request as usize,
             Spot::Reply(request) => sizes.entries_at() + 2 * request as usize + 1,
             Spot::Cell(place) => sizes.cells_at() + place as usize,
@@ -67,7 +67,7 @@ impl Sizes {
     fn entries_at(self) -> usize
         ensures { result ≡ entries_at self }
     {
-        4 + self.runners as usize
+        LINE_WORDS * (4 + self.runners as usize)
     }
 
     /// Where the cells begin.

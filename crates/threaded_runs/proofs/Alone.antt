@@ -16,7 +16,7 @@ use Rattle.history_orders.proofs.Replays.{map-oldest_first}
 use Rattle.map_sizes.specs.Sizes.{HaveFirstStamps, map_behind, peak, size_behind}
 use Rattle.map_sizes.proofs.InOrder.{replayed}
 use Rattle.map_sizes.proofs.Peaks.{below_peak}
-use Rattle.section_body.specs.Word.{version_of}
+use Rattle.body_terms.specs.Word.{version_of}
 use Rattle.table_words.specs.declared.layout.Layout.{Layout}
 use Rattle.table_words.specs.declared.spot.Spot.TheVariants.{Cell, Stamp}
 use Rattle.structure_laws.specs.Meaning.{Meaning}
@@ -27,15 +27,15 @@ use Rattle.runner_steps.specs.After.{leaves}
 use Rattle.machine_states.specs.First.{falling, keeper_part}
 use Rattle.machine_states.specs.Sight.{Sight, part_or_first}
 use Rattle.machine_states.proofs.Steps.{none_some}
-use Rattle.serving.specs.machine_invariant.specs.Lengths.{entry_count}
-use Rattle.serving.specs.machine_records.specs.Requests.{or_none, requests_of}
-use Rattle.serving.specs.reached_histories.specs.Laws.{HasHistory}
-use Rattle.serving.specs.version_words.specs.RunnerState.{RunnerState}
-use Rattle.serving.specs.version_words.specs.TableState.{TableState, WordsState, IsClosing, word_of}
-use Rattle.version_counts.specs.Versions.{VersionsAreCounted, run_count, open_count, runs_of, runs_below}
-use Rattle.slots_in_use.specs.InUse.{FewAreInUse, NoneIsHeld, entries_below}
-use Rattle.keeper_facts.specs.Freed.{IsFreed, IsPublished, LocksTell}
-use Rattle.keeper_facts.specs.runner_facts.specs.Keeper.{AllJoined}
+use Rattle.runner_parts.specs.Lists.{entry_count}
+use Rattle.closed_words.specs.reached_histories.specs.Requests.{or_none, requests_of}
+use Rattle.closed_words.specs.reached_histories.specs.Laws.{HasHistory}
+use Rattle.closed_words.specs.version_words.specs.RunnerState.{RunnerState}
+use Rattle.closed_words.specs.version_words.specs.TableState.{TableState, WordsState, IsClosing, word_of}
+use Rattle.serving.specs.resource_bounds.specs.Versions.{VersionsAreCounted, run_count, open_count, runs_of, runs_below}
+use Rattle.serving.specs.resource_bounds.specs.InUse.{FewAreInUse, NoneIsHeld, entries_below}
+use Rattle.settling.specs.keeper_facts.specs.Freed.{IsFreed, IsPublished, LocksTell}
+use Rattle.settling.specs.runner_facts.specs.Keeper.{AllJoined}
 use Rattle.threaded_runs.specs.Own.{own_requests}
 use Rattle.threaded_runs.specs.Runs.{AreEntered, stamp_of}
 use Rattle.threaded_runs.proofs.Keeping.{length-falling}

@@ -4,6 +4,7 @@ use Rattle.std.proofs.Common.{◌≡◌, ◌≢◌, ℕ, zero, suc, ◌+◌, ◌
 use mathlib.Core.Logic.{dite}
 use native.Mathlib.Decide.{ℕ_discrete}
 use Rattle.std.proofs.lemmas.Option.{slice_get_within}
+use Rattle.small_lemmas.proofs.Bools.{from_both as true_false}
 use Rattle.map_history.specs.declared.op.Request.{Request}
 use Rattle.table_words.specs.declared.layout.Layout.{Layout}
 use Rattle.table_words.specs.declared.spot.Spot.{Spot}
@@ -20,33 +21,34 @@ use Rattle.runner_steps.specs.After.{leaves}
 use Rattle.machine_states.specs.World.{World, seat_of}
 use Rattle.machine_states.specs.Sight.{Sight, sight, part_or_first}
 use Rattle.machine_states.proofs.Steps.{some_same, none_some}
-use Rattle.serving.specs.machine_records.specs.Requests.{requests_of, request_at, or_none}
-use Rattle.serving.specs.machine_invariant.specs.Lengths.{ListsAreShort, entry_count}
-use Rattle.own_descriptors.specs.Own.{HasOwn, OwnStand}
-use Rattle.serving.specs.runner_facts.specs.Facts.{LimboIsDone, DescriptorsAreKept, HasWornCell, WornAreWorn, descriptors_of, published_count}
-use Rattle.serving.specs.spent_facts.specs.Spent.{IsLate, IsPast, IsSpentAt, SpentStand}
-use Rattle.serving.specs.reached_histories.specs.Sections.{Knows, HasOpen, HasPublished}
-use Rattle.serving.specs.reached_histories.specs.Laws.{HasHistory}
+use Rattle.closed_words.specs.reached_histories.specs.Requests.{requests_of, request_at, or_none}
+use Rattle.runner_parts.specs.Lists.{entry_count}
+use Rattle.closed_words.specs.machine_invariant.specs.Lengths.{ListsAreShort}
+use Rattle.settling.specs.runner_facts.specs.Own.{HasOwn, OwnStand}
+use Rattle.settling.specs.runner_facts.specs.Facts.{LimboIsDone, DescriptorsAreKept, HasWornCell, WornAreWorn, descriptors_of, published_count}
+use Rattle.serving.specs.lock_words.specs.Spent.{IsLate, IsPast, IsSpentAt, SpentStand}
+use Rattle.closed_words.specs.reached_histories.specs.Sections.{Knows, HasOpen, HasPublished}
+use Rattle.closed_words.specs.reached_histories.specs.Laws.{HasHistory}
 use Rattle.serving.specs.request_facts.specs.Laws.{CallersStand, HasEntry, IsKnown}
-use Rattle.serving.specs.version_words.specs.RunnerState.{RunnerState}
-use Rattle.serving.specs.version_words.specs.Shown.{left_part}
-use Rattle.serving.specs.version_words.specs.TableState.{TableState, WordsState, IsOf, IsClosing, word_of}
-use Rattle.serving.specs.epoch_slots.specs.Collects.{IsTidy}
-use Rattle.serving.specs.epoch_slots.specs.Reserves.{counts_of}
-use Rattle.serving.specs.epoch_slots.specs.declared.reserves.Kind.{Kind}
-use Rattle.serving.specs.epoch_slots.specs.declared.reserves.Kind.TheVariants as slots
-use Rattle.serving.specs.epoch_slots.specs.declared.reserves.Short.{Short}
-use Rattle.serving.specs.try_lock.specs.Planning.{Planning}
+use Rattle.closed_words.specs.version_words.specs.RunnerState.{RunnerState}
+use Rattle.closed_words.specs.version_words.specs.Shown.{left_part}
+use Rattle.closed_words.specs.version_words.specs.TableState.{TableState, WordsState, IsOf, IsClosing, word_of}
+use Rattle.settling.specs.epoch_slots.specs.Collects.{IsTidy}
+use Rattle.settling.specs.epoch_slots.specs.Reserves.{counts_of}
+use Rattle.settling.specs.epoch_slots.specs.declared.reserves.Kind.{Kind}
+use Rattle.settling.specs.epoch_slots.specs.declared.reserves.Kind.TheVariants as slots
+use Rattle.settling.specs.epoch_slots.specs.declared.reserves.Short.{Short}
+use Rattle.settling.specs.try_lock.specs.Planning.{Planning}
 use Rattle.serving.specs.attempts.specs.Attempts.{IsFew, IsShort}
 use Rattle.serving.specs.Serving.{Serves, AreServed as AreAnswered, WasHalted, HasStopped, StopsShort, Ends, IsBefore}
 use Rattle.serving.specs.declared.answers.Served.{Served}
 use Rattle.serving.specs.declared.answers.Served.TheVariants as answers
-use Rattle.make_counts.specs.Makes.{added}
+use Rattle.serving.specs.resource_bounds.specs.Makes.{added}
 use Rattle.threaded_runs.specs.Runs.{stamp_of, AreEntered, AreWornOut, IsShortOf, IsCause, IsShown, HasServed}
 use Rattle.threaded_runs.proofs.Stopping.{IsKeptSpent, kept_spent}
 use mathlib.Core.Path.{fun_ext}
-use Rattle.section_body.specs.Memory.{cell_of}
-use Rattle.section_body.specs.Word.{version_of}
+use Rattle.body_terms.specs.Memory.{cell_of}
+use Rattle.body_terms.specs.Word.{version_of}
 use Rattle.machine_states.proofs.Sights.{some_none}
 
 -- what stands in a list is in it
@@ -58,9 +60,6 @@ has_of (y ∷ xs) (suc i) x e = ap (λ (b : Bool). (y == x) || b) (has_of xs i x
     or_so : (b : Bool) → (b || true) ≡ true
     or_so true = refl
     or_so false = refl
-
-true_false : {B : Type 0} → (b : Bool) → b ≡ true → b ≡ false → B
-true_false b known_so unknown_so = absurd (let e = sym known_so ∙ unknown_so in cc)
 
 module _ {T : Type 0} (m : Meaning) (t : TableState T) (keeper : RunnerState T) (w : WordsState T) (closing : IsClosing m t keeper w) where
   -- the state in which the table was closed

@@ -3,8 +3,8 @@ use Rattle.std.specs.Prelude.{◌^◌, ◌-◌, OnErr, Option, Result, Ok, Err}
 use Rattle.std.proofs.Common.{◌≡◌, ◌≢◌, ℕ, zero, suc, ◌+◌, ◌<◌, ◌≤◌, List, [], ◌∷◌, ◌++◌, length, take, get_or, refl, sym, ap, ◌∙◌, subst, arith, zero-add}
 use Rattle.std.proofs.Math.Nat.{min-le_left}
 use Rattle.std.proofs.lemmas.List.{take_more, take_all, length-take}
-use Rattle.runner_gate.specs.Counts.{plus, halts_after, plans_after}
-use Rattle.runner_gate.specs.declared.counts.GatePlan.{GatePlan}
+use Rattle.settling.specs.runner_gate.specs.Counts.{plus, halts_after, plans_after}
+use Rattle.settling.specs.runner_gate.specs.declared.counts.GatePlan.{GatePlan}
 use Rattle.serving.specs.declared.answers.Served.{Served}
 use Rattle.serving.specs.declared.answers.Served.TheVariants as answers
 use Rattle.threaded_runs.specs.declared.job.Finished.{Finished}

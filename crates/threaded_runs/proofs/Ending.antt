@@ -4,7 +4,7 @@ use Rattle.std.proofs.Common.{◌≡◌, ◌≢◌, ℕ, suc, ◌+◌, ◌<◌, 
 use Rattle.std.proofs.lemmas.Option.{slice_get_within, get_or_from_slice_get}
 use Rattle.map_history.specs.declared.op.Request.{Request}
 use Rattle.map_history.specs.Requests.{AreInOrder}
-use Rattle.section_body.specs.Word.{value_of}
+use Rattle.body_terms.specs.Word.{value_of}
 use Rattle.table_words.specs.Limits.{IsWithinLimits}
 use Rattle.table_words.specs.declared.layout.Layout.{Layout}
 use Rattle.table_words.specs.declared.spot.Spot.TheVariants.{Cell, Stamp, Reply, DoneWord}
@@ -12,24 +12,24 @@ use Rattle.structure_laws.specs.Meaning.{Meaning}
 use Rattle.machine_states.specs.World.{World, seat_of}
 use Rattle.machine_states.specs.Reached.{Reached}
 use Rattle.machine_states.specs.Sight.{sight}
-use Rattle.serving.specs.machine_invariant.specs.After.{AreAllowed}
-use Rattle.serving.specs.machine_invariant.specs.Lengths.{ListsAreShort}
-use Rattle.own_descriptors.specs.Own.{OwnStand}
-use Rattle.serving.specs.runner_facts.specs.Facts.{LimboIsDone, DescriptorsAreKept, WornAreWorn}
-use Rattle.serving.specs.spent_facts.specs.Spent.{SpentStand}
-use Rattle.worn_lists.specs.Worn.{HasNoRepeats}
-use Rattle.make_counts.specs.Makes as makes
-use Rattle.make_counts.specs.Makes.{MakesAreCounted, FewAreAdded}
-use Rattle.serving.specs.reached_histories.specs.Laws.{ReachedHaveHistories, HasHistory}
+use Rattle.closed_words.specs.machine_invariant.specs.After.{AreAllowed}
+use Rattle.closed_words.specs.machine_invariant.specs.Lengths.{ListsAreShort}
+use Rattle.settling.specs.runner_facts.specs.Own.{OwnStand}
+use Rattle.settling.specs.runner_facts.specs.Facts.{LimboIsDone, DescriptorsAreKept, WornAreWorn}
+use Rattle.serving.specs.lock_words.specs.Spent.{SpentStand}
+use Rattle.settling.specs.runner_facts.specs.Worn.{HasNoRepeats}
+use Rattle.serving.specs.resource_bounds.specs.Makes as makes
+use Rattle.serving.specs.resource_bounds.specs.Makes.{MakesAreCounted, FewAreAdded}
+use Rattle.closed_words.specs.reached_histories.specs.Laws.{ReachedHaveHistories, HasHistory}
 use Rattle.serving.specs.request_facts.specs.Laws.{ReachedCallersStand, CallersStand}
-use Rattle.serving.specs.version_words.specs.RunnerState.{RunnerState}
-use Rattle.serving.specs.version_words.specs.Shown.{left_part}
-use Rattle.serving.specs.version_words.specs.TableState.{TableState, WordsState, IsOf, IsClosing, word_of}
+use Rattle.closed_words.specs.version_words.specs.RunnerState.{RunnerState}
+use Rattle.closed_words.specs.version_words.specs.Shown.{left_part}
+use Rattle.closed_words.specs.version_words.specs.TableState.{TableState, WordsState, IsOf, IsClosing, word_of}
 use Rattle.closed_words.specs.Histories.{HaveHistory, HoldsNoLock}
-use Rattle.serving.specs.try_lock.specs.Planning.{Planning}
+use Rattle.settling.specs.try_lock.specs.Planning.{Planning}
 use Rattle.settling.specs.Settled.{Settles, IsSettled}
-use Rattle.serving.specs.epoch_slots.specs.declared.reserves.Kind.TheVariants as slots
-use Rattle.serving.specs.epoch_slots.specs.declared.reserves.Short.{Short}
+use Rattle.settling.specs.epoch_slots.specs.declared.reserves.Kind.TheVariants as slots
+use Rattle.settling.specs.epoch_slots.specs.declared.reserves.Short.{Short}
 use Rattle.serving.specs.declared.answers.Served.{Served}
 use Rattle.serving.specs.declared.answers.Served.TheVariants as stops
 use Rattle.threaded_runs.specs.declared.job.Job.{Job}

@@ -13,15 +13,15 @@ use Rattle.runner_parts.specs.Tests.{has}
 use Rattle.runner_steps.specs.AfterOutside.{split_after}
 use Rattle.runner_steps.specs.After.{after, after_by, stepped, leaves, joins}
 use Rattle.machine_states.specs.First.{keeper_part, falling}
-use Rattle.serving.specs.version_words.specs.RunnerState.{RunnerState}
-use Rattle.serving.specs.version_words.specs.Shown.{left_part}
-use Rattle.serving.specs.version_words.specs.Stages.{IsAt, IsKeeper, HasJoined}
-use Rattle.serving.specs.version_words.specs.TableState.{TableState, IsOf, first_keeper, HasJoinedAll}
-use Rattle.serving.specs.version_words.specs.Events.{HasSplit, joined_by}
-use Rattle.serving.specs.version_words.proofs.Stages.{first_is_keeper, then_split, then_keeper, then_joined, split_joined}
+use Rattle.closed_words.specs.version_words.specs.RunnerState.{RunnerState}
+use Rattle.closed_words.specs.version_words.specs.Shown.{left_part}
+use Rattle.closed_words.specs.version_words.specs.Stages.{IsAt, IsKeeper, HasJoined}
+use Rattle.closed_words.specs.version_words.specs.TableState.{TableState, IsOf, first_keeper, HasJoinedAll}
+use Rattle.closed_words.specs.version_words.specs.Events.{HasSplit, joined_by}
+use Rattle.closed_words.specs.version_words.proofs.Stages.{first_is_keeper, then_split, then_keeper, then_joined, split_joined}
 use Rattle.std.specs.Option.{IsSome}
 use Rattle.settling.specs.Settled.{MaySettle, Settles}
-use Rattle.lone_epochs.proofs.Marks.{Stays, stays}
+use Rattle.machine_states.proofs.Marks.{Stays, stays}
 use Rattle.threaded_runs.specs.Keeper.{IsIdleKeeper}
 
 -- a part of the machine's that doesn't go by the records

@@ -5,7 +5,7 @@ use Rattle.std.proofs.lemmas.Nat.{mul-le}
 use Rattle.std.proofs.lemmas.Option.{slice_get-get_or, get_or_from_slice_get}
 use Rattle.map_history.specs.declared.op.Request.{Request}
 use Rattle.map_sizes.specs.Sizes.{peak}
-use Rattle.section_body.specs.Word.{version_of}
+use Rattle.body_terms.specs.Word.{version_of}
 use Rattle.table_words.specs.declared.layout.Layout.{Layout}
 use Rattle.table_words.specs.declared.spot.Spot.TheVariants.{Cell}
 use Rattle.table_words.specs.Limits.{IsWithinLimits}
@@ -18,29 +18,29 @@ use Rattle.machine_states.specs.World.{World}
 use Rattle.machine_states.specs.First.{keeper_part}
 use Rattle.machine_states.specs.Reached.{Reached}
 use Rattle.machine_states.specs.Sight.{sight}
-use Rattle.serving.specs.machine_invariant.specs.After.{AreAllowed}
-use Rattle.serving.specs.machine_invariant.specs.Lengths.{entry_count}
-use Rattle.serving.specs.reached_histories.specs.Laws.{HasHistory}
-use Rattle.serving.specs.version_words.specs.RunnerState.{RunnerState}
-use Rattle.serving.specs.version_words.specs.Shown.{left_part}
-use Rattle.serving.specs.version_words.specs.TableState.{TableState, WordsState, IsOf, IsClosing, word_of}
-use Rattle.serving.specs.epoch_slots.specs.Collects.{IsTidy}
-use Rattle.serving.specs.epoch_slots.specs.Reserves.{counts_of}
-use Rattle.serving.specs.epoch_slots.specs.declared.reserves.Kind.TheVariants as slots
-use Rattle.serving.specs.epoch_slots.specs.declared.reserves.Short.{Short}
-use Rattle.serving.specs.try_lock.specs.Planning.{Planning}
+use Rattle.closed_words.specs.machine_invariant.specs.After.{AreAllowed}
+use Rattle.runner_parts.specs.Lists.{entry_count}
+use Rattle.closed_words.specs.reached_histories.specs.Laws.{HasHistory}
+use Rattle.closed_words.specs.version_words.specs.RunnerState.{RunnerState}
+use Rattle.closed_words.specs.version_words.specs.Shown.{left_part}
+use Rattle.closed_words.specs.version_words.specs.TableState.{TableState, WordsState, IsOf, IsClosing, word_of}
+use Rattle.settling.specs.epoch_slots.specs.Collects.{IsTidy}
+use Rattle.settling.specs.epoch_slots.specs.Reserves.{counts_of}
+use Rattle.settling.specs.epoch_slots.specs.declared.reserves.Kind.TheVariants as slots
+use Rattle.settling.specs.epoch_slots.specs.declared.reserves.Short.{Short}
+use Rattle.settling.specs.try_lock.specs.Planning.{Planning}
 use Rattle.serving.specs.Serving.{is_crossed, most_asks, Ends, ServedRuns, WasCrossed}
 use Rattle.serving.specs.attempts.specs.declared.answers.Attempt.{Attempt}
 use Rattle.serving.specs.attempts.specs.declared.answers.Attempt.TheVariants as attempts
-use Rattle.lone_attempts.specs.Lone.{LoneAttemptsAreServed, NobodyCameBetween}
-use Rattle.lone_epochs.specs.Uncrossed.{OneWorkerIsUncrossed}
-use Rattle.spared_attempts.specs.Spared.{most_in_limbo, AttemptsSpareSlots}
+use Rattle.serving.specs.attempt_bounds.specs.Lone.{LoneAttemptsAreServed, NobodyCameBetween}
+use Rattle.serving.specs.one_worker.specs.Uncrossed.{OneWorkerIsUncrossed}
+use Rattle.serving.specs.attempt_bounds.specs.Spared.{most_in_limbo, AttemptsSpareSlots}
 use Rattle.serving.specs.declared.answers.Served.{Served}
 use Rattle.serving.specs.declared.answers.Served.TheVariants as stops
 use Rattle.closed_words.specs.Histories.{HaveHistory}
-use Rattle.version_counts.specs.Versions.{VersionsAreCounted}
-use Rattle.slots_in_use.specs.InUse.{FewAreInUse}
-use Rattle.keeper_facts.specs.Freed.{IsFreed, LocksTell}
+use Rattle.serving.specs.resource_bounds.specs.Versions.{VersionsAreCounted}
+use Rattle.serving.specs.resource_bounds.specs.InUse.{FewAreInUse}
+use Rattle.settling.specs.keeper_facts.specs.Freed.{IsFreed, LocksTell}
 use Rattle.settling.specs.Settled.{Settles}
 use Rattle.threaded_runs.specs.declared.job.Job.{Job}
 use Rattle.threaded_runs.specs.declared.job.Finished.{Finished}

@@ -5,29 +5,24 @@ use Rattle.std.proofs.Common.{◌≡◌, ℕ, ◌+◌, ◌<◌, List, [], length
 use Rattle.std.proofs.lemmas.Bool.Decides.{nat_tests}
 use Rattle.std.proofs.lemmas.Option.{slice_get-map, slice_get_within, slice_get-get_or, get_or_from_slice_get}
 use Rattle.std.proofs.lemmas.List.FromFn.{get_or-range_with_len, length-range_with_len}
+use Rattle.small_lemmas.proofs.Numbers.{tested_equal as same_test, from_zero as from_none}
 use Rattle.map_history.specs.declared.op.Request.{Request}
 use Rattle.map_history.specs.Requests.{AreInOrder}
 use Rattle.structure_laws.specs.Meaning.{Meaning}
 use Rattle.epoch_core.specs.declared.stage.Stage.TheVariants as stages
 use Rattle.runner_parts.specs.Tests.{is_answered}
 use Rattle.machine_states.proofs.Steps.{some_same}
-use Rattle.serving.specs.version_words.specs.RunnerState.{RunnerState}
-use Rattle.serving.specs.version_words.specs.Stages.{IsAt, IsKeeper}
-use Rattle.serving.specs.version_words.specs.TableState.{TableState, IsOf}
-use Rattle.serving.specs.version_words.specs.Events.{next_worker}
-use Rattle.serving.specs.version_words.proofs.Stages.{next_is_idle}
-use Rattle.serving.specs.epoch_slots.specs.Collects.{IsTidy}
-use Rattle.serving.specs.try_lock.specs.Planning.{Planning}
+use Rattle.closed_words.specs.version_words.specs.RunnerState.{RunnerState}
+use Rattle.closed_words.specs.version_words.specs.Stages.{IsAt, IsKeeper}
+use Rattle.closed_words.specs.version_words.specs.TableState.{TableState, IsOf}
+use Rattle.closed_words.specs.version_words.specs.Events.{next_worker}
+use Rattle.closed_words.specs.version_words.proofs.Stages.{next_is_idle}
+use Rattle.settling.specs.epoch_slots.specs.Collects.{IsTidy}
+use Rattle.settling.specs.try_lock.specs.Planning.{Planning}
 use Rattle.serving.specs.attempts.specs.Knowing.{IsOwn}
 use Rattle.serving.specs.Serving.{MayServe}
 use Rattle.threaded_runs.specs.Own.{own_requests}
 use Rattle.threaded_runs.proofs.Picked.{IsPicked, picked, kept, before, count_before}
-
-same_test : (a b : ℕ) → (a == b) ≡ true → a ≡ b
-same_test a b e = grind (arith, nat_tests)
-
-from_none : (n : ℕ) → 0 + n ≡ n
-from_none n = omega arith
 
 -- requests are numbered by their place
 pub numbered : (requests : List Request) → AreInOrder requests 64 → (n : ℕ) (q : Request) → slice_get requests n ≡ Some q → q.number ≡ n

@@ -7,11 +7,11 @@ use mathlib.Core.Logic.{dite}
 use native.Mathlib.Decide.{ℕ_discrete}
 use Rattle.structure_laws.specs.Meaning.{Meaning}
 use Rattle.runner_steps.specs.After.{leaves}
-use Rattle.serving.specs.version_words.specs.RunnerState.{RunnerState}
-use Rattle.serving.specs.version_words.specs.Shown.{left_part}
-use Rattle.serving.specs.version_words.specs.TableState.{TableState}
-use Rattle.serving.specs.version_words.specs.Events.{joined_by}
-use Rattle.serving.specs.try_lock.specs.Planning.{Planning}
+use Rattle.closed_words.specs.version_words.specs.RunnerState.{RunnerState}
+use Rattle.closed_words.specs.version_words.specs.Shown.{left_part}
+use Rattle.closed_words.specs.version_words.specs.TableState.{TableState}
+use Rattle.closed_words.specs.version_words.specs.Events.{joined_by}
+use Rattle.settling.specs.try_lock.specs.Planning.{Planning}
 use Rattle.serving.specs.declared.answers.Served.{Served}
 use Rattle.threaded_runs.specs.declared.job.Job.{Job}
 use Rattle.threaded_runs.specs.declared.job.Finished.{Finished}

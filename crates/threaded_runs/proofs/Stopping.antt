@@ -2,17 +2,17 @@
 use Rattle.std.specs.Prelude.{◌⊎◌, true, slice_get}
 use Rattle.std.proofs.Common.{◌≡◌, ℕ, ap, ◌∙◌, inl, inr, Some}
 use Rattle.map_history.specs.declared.op.Request.{Request}
-use Rattle.section_body.specs.Word.{is_free}
-use Rattle.section_body.specs.declared.outcome.Outcome.TheVariants as outcomes
+use Rattle.body_terms.specs.Word.{is_free}
+use Rattle.body_terms.specs.declared.outcome.Outcome.TheVariants as outcomes
 use Rattle.structure_laws.specs.Meaning.{Meaning}
 use Rattle.runner_parts.specs.State.{FinishedState}
 use Rattle.runner_parts.specs.Tests.{has_pair}
-use Rattle.serving.specs.version_words.specs.RunnerState.{RunnerState}
-use Rattle.serving.specs.try_lock.specs.Planning.{Planning}
+use Rattle.closed_words.specs.version_words.specs.RunnerState.{RunnerState}
+use Rattle.settling.specs.try_lock.specs.Planning.{Planning}
 use Rattle.serving.specs.attempts.specs.Course.{IsRefused}
 use Rattle.serving.specs.attempts.specs.Attempts.{IsTurnedAway}
 use Rattle.serving.specs.attempts.specs.declared.answers.Attempt.TheVariants as attempts
-use Rattle.serving.specs.spent_facts.specs.Spent.{IsLate}
+use Rattle.serving.specs.lock_words.specs.Spent.{IsLate}
 use Rattle.serving.proofs.Spent.{spent_is_kept}
 
 module _ {T : Type 0} where

@@ -1,7 +1,7 @@
 -- What gates count while a run gives them out and takes them back.
 use Rattle.std.specs.Prelude.{◌≡◌, ℕ, zero, suc, ◌+◌, List, [], ◌∷◌, Option, take}
-use Rattle.runner_gate.specs.Counts.{halts_after, plans_after, plus}
-use Rattle.runner_gate.specs.declared.counts.GatePlan.{GatePlan}
+use Rattle.settling.specs.runner_gate.specs.Counts.{halts_after, plans_after, plus}
+use Rattle.settling.specs.runner_gate.specs.declared.counts.GatePlan.{GatePlan}
 use Rattle.serving.specs.declared.answers.Served.{Served}
 use Rattle.serving.specs.declared.answers.Served.TheVariants as answers
 

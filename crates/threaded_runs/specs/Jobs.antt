@@ -1,12 +1,12 @@
 -- What a worker's thread is given, and what it gives back.
 use Rattle.std.specs.Prelude.{◌≡◌, ◌≢◌, ℕ, ◌<◌, Bool, List, [], ◌∷◌, length, Some, slice_get, slice_index_or}
 use Rattle.structure_laws.specs.Meaning.{Meaning}
-use Rattle.runner_gate.specs.Counts.{plus}
+use Rattle.settling.specs.runner_gate.specs.Counts.{plus}
 use Rattle.runner_steps.specs.After.{leaves}
-use Rattle.serving.specs.version_words.specs.RunnerState.{RunnerState}
-use Rattle.serving.specs.version_words.specs.Shown.{left_part}
-use Rattle.serving.specs.version_words.specs.TableState.{TableState, IsOf}
-use Rattle.serving.specs.try_lock.specs.Planning.{Planning}
+use Rattle.closed_words.specs.version_words.specs.RunnerState.{RunnerState}
+use Rattle.closed_words.specs.version_words.specs.Shown.{left_part}
+use Rattle.closed_words.specs.version_words.specs.TableState.{TableState, IsOf}
+use Rattle.settling.specs.try_lock.specs.Planning.{Planning}
 use Rattle.serving.specs.Serving.{MayServe, Serves}
 use Rattle.serving.specs.declared.answers.Served.{Served}
 use Rattle.serving.specs.declared.answers.Served.TheVariants as answers
@@ -20,7 +20,8 @@ module _ {T H : Type 0} where
     pub own : IsOf t j.runner
     pub next : MayServe planning j.requests.items j.runner
 
-  -- the worker has this number, its requests are those of its traces, and it has run no section, retired nothing, and met no epoch
+  -- the worker has this number, its requests are those of its traces, and it has run no section, retired nothing, and
+  -- met no epoch
   pub record IsSeated (planning : Planning) (t : TableState T) (worker : ℕ) (j : Job T H) : Type 0 where
     pub may : MayRun planning t j
     pub number : j.runner.number ≡ worker
@@ -31,11 +32,13 @@ module _ {T H : Type 0} where
     pub unmet : j.runner.part.records.epoch_seen ≡ 0
 
   abbrev pub AllSeated : Planning → TableState T → List (Job T H) → Type 0
-  AllSeated planning t jobs = (worker : ℕ) (d : Job T H) → worker < length jobs → IsSeated planning t worker (slice_index_or jobs worker d)
+  AllSeated planning t jobs = (worker : ℕ) (d : Job T H) → worker < length jobs
+      → IsSeated planning t worker (slice_index_or jobs worker d)
 
   -- the gates weren't asked yet: this count of theirs, that of halts or that of asks, is 0
   abbrev pub AllUnasked : (H → ℕ) → List (Job T H) → Type 0
-  AllUnasked count jobs = (worker : ℕ) (d : Job T H) → worker < length jobs → count (slice_index_or jobs worker d).gate ≡ 0
+  AllUnasked count jobs = (worker : ℕ) (d : Job T H) → worker < length jobs
+      → count (slice_index_or jobs worker d).gate ≡ 0
 
   module _ (m : Meaning) (planning : Planning) (retry_short : Bool) (halts asks : H → ℕ) (t : TableState T) where
     -- the worker has served its requests, as the answer says; its gate halted exactly where the answer is Halted
@@ -46,7 +49,8 @@ module _ {T H : Type 0} where
       pub went : halts j.gate ≡ 0 → f.answer ≢ answers.Halted → halts f.gate ≡ 0
 
     abbrev pub AllRun : List (Job T H) → List (Finished T H) → Type 0
-    AllRun jobs finished = (i : ℕ) (d : Job T H) (e : Finished T H) → i < length jobs → HasRun (slice_index_or jobs i d) (slice_index_or finished i e)
+    AllRun jobs finished = (i : ℕ) (d : Job T H) (e : Finished T H) → i < length jobs
+        → HasRun (slice_index_or jobs i d) (slice_index_or finished i e)
 
   -- the workers in their order, each of the table, with gates that halted exactly where the answer is Halted
   pub record IsBack (halts : H → ℕ) (t : TableState T) (worker : ℕ) (f : Finished T H) : Type 0 where
@@ -56,7 +60,8 @@ module _ {T H : Type 0} where
     pub went : f.answer ≢ answers.Halted → halts f.gate ≡ 0
 
   abbrev pub AreBack : (H → ℕ) → TableState T → List (Finished T H) → Type 0
-  AreBack halts t finished = (i : ℕ) (d : Finished T H) → i < length finished → IsBack halts t i (slice_index_or finished i d)
+  AreBack halts t finished = (i : ℕ) (d : Finished T H) → i < length finished
+      → IsBack halts t i (slice_index_or finished i d)
 
   -- the count of asks once the gates of these workers came back, one after the other
   abbrev pub asks_counted : (H → ℕ) → ℕ → List (Finished T H) → ℕ
@@ -69,4 +74,5 @@ module _ {T H : Type 0} where
     pub part : left_part keeper.joined worker ≡ Some (leaves f.runner.part)
 
   abbrev pub AllKept : RunnerState T → List Served → List (Finished T H) → Type 0
-  AllKept keeper answers finished = (i : ℕ) (a : Served) (d : Finished T H) → i < length answers → IsKept keeper i (slice_index_or answers i a) (slice_index_or finished i d)
+  AllKept keeper answers finished = (i : ℕ) (a : Served) (d : Finished T H) → i < length answers
+      → IsKept keeper i (slice_index_or answers i a) (slice_index_or finished i d)

@@ -4,10 +4,11 @@ use Rattle.structure_laws.specs.Meaning.{Meaning}
 use Rattle.epoch_core.specs.declared.stage.Stage.TheVariants as stages
 use Rattle.runner_parts.specs.Tests.{has}
 use Rattle.machine_states.specs.First.{keeper_part}
-use Rattle.serving.specs.version_words.specs.RunnerState.{RunnerState}
-use Rattle.serving.specs.version_words.specs.Stages.{IsAt, IsKeeper, HasJoined}
+use Rattle.closed_words.specs.version_words.specs.RunnerState.{RunnerState}
+use Rattle.closed_words.specs.version_words.specs.Stages.{IsAt, IsKeeper, HasJoined}
 
--- an idle keeper that has split off so many workers and joined the first ones, so many; it has all its own node slots still
+-- an idle keeper that has split off so many workers and joined the first ones, so many; it has all its own node slots
+-- still
 pub record IsIdleKeeper {T : Type 0} (m : Meaning) (splits count : ℕ) (r : RunnerState T) : Type 0 where
   pub keeper : IsKeeper r splits
   pub at : IsAt r stages.Idle None

@@ -5,11 +5,10 @@ pub mod Jobs
 pub mod Runs
 pub mod Lone
 -- Passed on to the layers above, so that they needn't name these libraries themselves.
-pub use Rattle.serving.specs.machine_invariant
-pub use Rattle.serving.specs.version_words
+pub use Rattle.map_sizes
+pub use Rattle.settling.specs.runner_gate
+pub use Rattle.serving.specs.lock_words
+pub use Rattle.serving.specs.resource_bounds
 pub use Rattle.closed_words
-pub use Rattle.make_counts
-pub use Rattle.serving.specs.epoch_slots
-pub use Rattle.serving.specs.try_lock
-pub use Rattle.spared_attempts
+pub use Rattle.serving.specs.attempt_bounds
 pub use Rattle.serving

@@ -1,14 +1,14 @@
 -- What a run leaves where there is one worker.
 use Rattle.std.specs.Prelude.{◌≡◌, ◌≢◌, ℕ, ◌+◌, ◌*◌, ◌≤◌, List, length, Some, slice_get}
 use Rattle.map_sizes.specs.Sizes.{peak}
-use Rattle.section_body.specs.Word.{version_of}
+use Rattle.body_terms.specs.Word.{version_of}
 use Rattle.table_words.specs.declared.spot.Spot.TheVariants.{Cell}
 use Rattle.structure_laws.specs.Cells as cells
 use Rattle.structure_laws.specs.Meaning.{Meaning}
-use Rattle.serving.specs.version_words.specs.TableState.{WordsState, word_of}
-use Rattle.serving.specs.epoch_slots.specs.declared.reserves.Kind.TheVariants as kinds
-use Rattle.serving.specs.epoch_slots.specs.declared.reserves.Short.{Short}
-use Rattle.spared_attempts.specs.Spared.{most_in_limbo}
+use Rattle.closed_words.specs.version_words.specs.TableState.{WordsState, word_of}
+use Rattle.settling.specs.epoch_slots.specs.declared.reserves.Kind.TheVariants as kinds
+use Rattle.settling.specs.epoch_slots.specs.declared.reserves.Short.{Short}
+use Rattle.serving.specs.attempt_bounds.specs.Spared.{most_in_limbo}
 use Rattle.serving.specs.Serving.{most_asks}
 use Rattle.serving.specs.declared.answers.Served.{Served}
 use Rattle.serving.specs.declared.answers.Served.TheVariants as answers
@@ -19,12 +19,14 @@ module _ {T : Type 0} (m : Meaning) (per_pair : ℕ) (w : WordsState T) where
   pub record AreServedAlone (given : List Served) : Type 0 where
     -- each request was run once at most, and one of them once more; each run raised a cell's version by four at most
     pub versions : (place : ℕ) → version_of (word_of m w (Cell place)) ≤ 4 * length w.requests + 5
-    -- where it lacked node slots: all its own are free, in limbo or worn, but for so many at most for each pair of the largest map
-    -- that its requests leave on their way
+    -- where it lacked node slots: all its own are free, in limbo or worn, but for so many at most for each pair of the
+    -- largest map that its requests leave on their way
     pub slots : (short : Short) → slice_get given 0 ≡ Some (answers.Short short) → short.kind ≡ kinds.Node
         → w.layout.nodes ≤ short.free + (short.limbo + short.worn) + per_pair * peak w.requests
-    -- where its words have versions enough: of the kind that it lacked few are in limbo, whether or not such a want is waited out
-    pub limbo : (short : Short) → 8 * length w.requests + 8 ≤ w.layout.version_max → slice_get given 0 ≡ Some (answers.Short short)
+    -- where its words have versions enough: of the kind that it lacked few are in limbo, whether or not such a want is
+    -- waited out
+    pub limbo : (short : Short) → 8 * length w.requests + 8 ≤ w.layout.version_max
+        → slice_get given 0 ≡ Some (answers.Short short)
         → short.limbo ≤ most_in_limbo short.kind
 
   -- so it is with one worker that wasn't halted

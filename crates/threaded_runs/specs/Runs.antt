@@ -5,15 +5,15 @@ use Rattle.table_words.specs.declared.layout.Layout.{Layout}
 use Rattle.table_words.specs.declared.spot.Spot.TheVariants.{Stamp, Reply, DoneWord}
 use Rattle.structure_laws.specs.Cells as cells
 use Rattle.structure_laws.specs.Meaning.{Meaning}
-use Rattle.serving.specs.version_words.specs.TableState.{WordsState, word_of}
+use Rattle.closed_words.specs.version_words.specs.TableState.{WordsState, word_of}
 use Rattle.closed_words.specs.Histories.{HoldsNoLock}
-use Rattle.serving.specs.runner_facts.specs.Facts.{HasWornCell}
-use Rattle.serving.specs.spent_facts.specs.Spent.{IsPast, IsSpentAt}
-use Rattle.serving.specs.epoch_slots.specs.declared.reserves.Kind.TheVariants as kinds
-use Rattle.serving.specs.epoch_slots.specs.declared.reserves.Short.{Short}
+use Rattle.settling.specs.runner_facts.specs.Facts.{HasWornCell}
+use Rattle.serving.specs.lock_words.specs.Spent.{IsPast, IsSpentAt}
+use Rattle.settling.specs.epoch_slots.specs.declared.reserves.Kind.TheVariants as kinds
+use Rattle.settling.specs.epoch_slots.specs.declared.reserves.Short.{Short}
 use Rattle.serving.specs.declared.answers.Served.{Served}
 use Rattle.serving.specs.declared.answers.Served.TheVariants as answers
-use Rattle.make_counts.specs.Makes.{added, inserts}
+use Rattle.serving.specs.resource_bounds.specs.Makes.{added, inserts}
 use Rattle.threaded_runs.specs.Own.{own_requests}
 
 -- the words are of a table that was made with these

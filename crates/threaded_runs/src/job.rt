@@ -1,9 +1,9 @@
 //! What goes into a worker's thread, and what comes out of it.
 
+use closed_words::version_words::Runner;
 use map_history::Request;
-use runner_parts::Structure;
 use serving::Served;
-use serving::version_words::Runner;
+use structure_laws::Structure;
 
 /// A worker with its gate and its requests.
 #[derive(Drop)]

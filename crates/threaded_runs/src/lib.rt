@@ -1,7 +1,7 @@
 //! A run of traces on a shared table: one thread for each worker, and the words at the end.
 //!
-//! `owned` is which requests a worker serves, `seating` how the workers and their gates are made and come back, `running` how they run in
-//! threads, and `table_run` the whole run.
+//! `owned` is which requests a worker serves, `seating` how the workers and their gates are made and come back,
+//! `running` how they run in threads, and `table_run` the whole run.
 #![tactic(auto)]
 
 mod job;
@@ -13,5 +13,6 @@ mod table_run;
 pub use table_run::run_table;
 
 // Passed on to the layers above, so that they needn't name these libraries themselves.
+pub use closed_words;
 pub use serving;
-pub use serving::{epoch_slots, lock_walks, version_words};
+pub use settling::runner_gate;

@@ -3,10 +3,10 @@ ghost use Rattle.std.specs.Prelude.{◌≡◌, IfOk, All, vec_len};
 ghost use Rattle.threaded_runs.specs.Jobs.{MayRun, HasRun, AllRun};
 
 use crate::job::{Finished, Job};
-use section_body::{Gate, Steps};
+use body_terms::{Gate, Steps};
+use closed_words::version_words::FlockTable;
 use serving::lock_walks::Planner;
 use serving::serve;
-use serving::version_words::FlockTable;
 use std::alloc::AllocError;
 use std::sync::Wait;
 use std::thread;
@@ -20,7 +20,8 @@ fn run_job<R: Threads + Wait + Sync, S: Planner, G: Gate>(
     job: Job<S, G>,
 ) -> Finished<S, G>
     requires { MayRun (S.planning table.now.structure) table.now job }
-    ensures { HasRun (S.meaning table.now.structure) (S.planning table.now.structure) retry_short G.halts G.asks table.now job result }
+    ensures { HasRun (S.meaning table.now.structure) (S.planning table.now.structure) retry_short G.halts G.asks
+        table.now job result }
 {
     let Job {
         runner,
@@ -57,11 +58,13 @@ where
     S::Walk: Send + Sync,
     requires { All (MayRun (S.planning table.now.structure) table.now) jobs.items }
     ensures len { IfOk result (λ finished. vec_len finished ≡ vec_len jobs) }
-    ensures each { IfOk result (λ finished. AllRun (S.meaning table.now.structure) (S.planning table.now.structure) retry_short G.halts G.asks table.now jobs.items finished.items) }
+    ensures each { IfOk result (λ finished. AllRun (S.meaning table.now.structure) (S.planning table.now.structure)
+        retry_short G.halts G.asks table.now jobs.items finished.items) }
 {
     let run = |job: Job<S, G>| -> Finished<S, G>
         requires { MayRun (S.planning table.now.structure) table.now job }
-        ensures { HasRun (S.meaning table.entry.now.structure) (S.planning table.entry.now.structure) retry_short G.halts G.asks table.entry.now job result }
+        ensures { HasRun (S.meaning table.entry.now.structure) (S.planning table.entry.now.structure) retry_short
+            G.halts G.asks table.entry.now job result }
     { run_job(rt, table, retry_short, job) };
     thread::map_vec(rt, jobs, &run)
 }

@@ -1,19 +1,19 @@
 //! The workers and their gates, given out before the run and taken back behind it.
 ghost use Rattle.std.specs.Prelude.{◌≡◌, ◌+◌, ◌<◌, ◌≤◌, IfOk, OnErr, All, List, [], true, length, vec_len};
 ghost use Rattle.map_history.specs.Requests.{AreInOrder};
-ghost use Rattle.serving.specs.version_words.specs.TableState.{IsOf};
+ghost use Rattle.closed_words.specs.version_words.specs.TableState.{IsOf};
 ghost use Rattle.threaded_runs.specs.Keeper.{IsIdleKeeper};
 ghost use Rattle.threaded_runs.specs.Counts.{halts_counted, plans_given, plans_from, returns_counted, GivesFront};
 ghost use Rattle.threaded_runs.specs.Jobs.{IsSeated, AllSeated, AllUnasked, AreBack, AllKept, asks_counted};
 
 use crate::job::{Finished, Job};
 use crate::owned::requests_of;
+use body_terms::Gate;
+use closed_words::version_words::{FlockTable, Runner, table_is_allowed};
 use map_history::Request;
-use runner_gate::Gates;
-use section_body::Gate;
 use serving::Served;
 use serving::lock_walks::Planner;
-use serving::version_words::{FlockTable, Runner, table_is_allowed};
+use settling::runner_gate::Gates;
 use std::alloc::{AllocError, Global};
 
 /// The keeper, and the next worker with this gate and with its requests.
@@ -30,7 +30,8 @@ fn seat_worker<S: Planner, G: Gate + Drop>(
     requires own { IsOf table.now keeper }
     requires keeper { IsIdleKeeper (S.meaning table.now.structure) worker 0 keeper }
     requires requests { requests.now ≡ table.now.requests }
-    requires served { All (λ (request : Request). (S.planning table.now.structure).serves request.op ≡ true) requests.now }
+    requires served { All (λ (request : Request). (S.planning table.now.structure).serves request.op ≡ true)
+        requests.now }
     requires worker { worker < table.now.layout.runners }
     ensures own { IfOk result (λ x. IsOf table.now x.0) }
     ensures keeper { IfOk result (λ x. IsIdleKeeper (S.meaning table.now.structure) (worker + 1) 0 x.0) }
@@ -67,7 +68,8 @@ pub fn make_jobs<S: Planner, G: Gates>(
     requires own { IsOf table.now keeper }
     requires keeper { IsIdleKeeper (S.meaning table.now.structure) 0 0 keeper }
     requires requests { requests.now ≡ table.now.requests }
-    requires served { All (λ (request : Request). (S.planning table.now.structure).serves request.op ≡ true) requests.now }
+    requires served { All (λ (request : Request). (S.planning table.now.structure).serves request.op ≡ true)
+        requests.now }
     requires halts { length halts.now ≡ table.now.layout.runners }
     requires few { length halts.now ≤ 16 }
     ensures own { IfOk result (λ x. IsOf table.now x.0) }
@@ -94,7 +96,8 @@ pub fn make_jobs<S: Planner, G: Gates>(
     Ok((keeper, jobs))
 }
 
-/// The keeper once it has joined each worker, with what the workers answered, in order of number. The gates are given back in that order.
+/// The keeper once it has joined each worker, with what the workers answered, in order of number. The gates are given
+/// back in that order.
 ///
 /// The Err is want of memory.
 pub fn gather<S: Planner, G: Gates>(
@@ -109,7 +112,8 @@ pub fn gather<S: Planner, G: Gates>(
     requires back { AreBack G.Gate.halts table.now finished.items }
     requires each { vec_len finished ≡ table.now.layout.runners }
     ensures own { IfOk result (λ x. IsOf table.now x.0) }
-    ensures keeper { IfOk result (λ x. IsIdleKeeper (S.meaning table.now.structure) (vec_len finished) (vec_len finished) x.0) }
+    ensures keeper { IfOk result (λ x. IsIdleKeeper (S.meaning table.now.structure) (vec_len finished)
+        (vec_len finished) x.0) }
     ensures len { IfOk result (λ x. vec_len x.1 ≡ vec_len finished) }
     ensures kept { IfOk result (λ x. AllKept x.0 x.1.items finished.items) }
     ensures halts { IfOk result (λ x. G.halts gates.new ≡ halts_counted (G.halts gates.old) x.1.items) }

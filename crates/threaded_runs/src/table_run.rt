@@ -9,41 +9,43 @@ ghost use Rattle.threaded_runs.specs.Runs.{IsMadeWith, AreServed};
 use crate::running::run_jobs;
 use crate::seating::{gather, make_jobs};
 use closed_words::closed_words_have_a_history;
-use keeper_facts::what_the_keeper_saw_tells;
-use lone_attempts::lone_attempts_are_served;
-use lone_epochs::one_worker_is_uncrossed;
-use machine_invariant::lists_are_short;
-use make_counts::{few_pairs_are_added, makes_are_counted};
+use closed_words::machine_invariant::lists_are_short;
+use closed_words::reached_histories::reached_states_have_histories;
+use closed_words::version_words::{FlockTable, Words, table_is_allowed};
 use map_history::Request;
-use own_descriptors::own_descriptors_stand;
-use runner_gate::Gates;
 use serving::Served;
+use serving::attempt_bounds::{attempts_spare_slots, lone_attempts_are_served};
 use serving::lock_walks::Planner;
-use serving::reached_histories::reached_states_have_histories;
+use serving::lock_words::spent_words_stand;
+use serving::one_worker::one_worker_is_uncrossed;
 use serving::request_facts::reached_callers_stand;
-use serving::runner_facts::{descriptors_are_kept, limbo_is_done, worn_slots_are_worn};
-use serving::spent_facts::spent_words_stand;
-use serving::version_words::{FlockTable, Words, table_is_allowed};
+use serving::resource_bounds::{
+    few_pairs_are_added, few_slots_are_in_use, makes_are_counted, versions_are_counted,
+};
+use settling::keeper_facts::what_the_keeper_saw_tells;
+use settling::runner_facts::{
+    descriptors_are_kept, limbo_is_done, own_descriptors_stand, worn_lists_have_no_repeats,
+    worn_slots_are_worn,
+};
+use settling::runner_gate::Gates;
 use settling::settle;
-use slots_in_use::few_slots_are_in_use;
-use spared_attempts::attempts_spare_slots;
 use std::alloc::{AllocError, Global};
 use std::sync::Wait;
 use std::thread::Threads;
 use table_words::Layout;
-use version_counts::versions_are_counted;
-use worn_lists::worn_lists_have_no_repeats;
 
-/// Runs all requests on one new table, with a thread for each worker where one can be made, and gives the words at the end with what the
-/// serving of each worker's requests answered, in order of number.
+/// Runs all requests on one new table, with a thread for each worker where one can be made, and gives the words at the
+/// end with what the serving of each worker's requests answered, in order of number.
 ///
-/// Worker r of W serves the traces r, r + W, r + 2 * W and so on, each whole, in that order. It has the gate that `gates` gives for it with its entry of
-/// `halts`, one for each worker. Where `retry_short` holds, a worker that lacks slots tries again while some of its own are in limbo. Where no thread can be
-/// made for a worker, the caller does its work. Once all threads are joined, the keeper joins the workers, the gates are given back in order of number, what
+/// Worker r of W serves the traces r, r + W, r + 2 * W and so on, each whole, in that order. It has the gate that
+/// `gates` gives for it with its entry of `halts`, one for each worker. Where `retry_short` holds, a worker that lacks
+/// slots tries again while some of its own are in limbo. Where no thread can be made for a worker, the caller does its
+/// work. Once all threads are joined, the keeper joins the workers, the gates are given back in order of number, what
 /// halted workers left is helped to its end, and the table is closed.
 ///
-/// The layout is within the limits; the requests are numbered from 0 in order, in traces that never fall along the list and are below 64, with keys up to
-/// 4,294,967,293, and the structure serves them. The Err is want of memory. A worker that waits for slots may wait for others, so the promises hold if the call returns.
+/// The layout is within the limits; the requests are numbered from 0 in order, in traces that never fall along the list
+/// and are below 64, with keys up to 4,294,967,293, and the structure serves them. The Err is want of memory. A worker
+/// that waits for slots may wait for others, so the promises hold if the call returns.
 ///
 /// (After Ben-David, Blelloch and Wei, *Lock-free locks revisited*, 2022.)
 pub fn run_table<R: Threads + Wait + Sync, S: Planner, G: Gates>(

@@ -6,6 +6,7 @@ use Rattle.std.proofs.lemmas.Bool.{eqb-true, le-ltb, lt-ltb, ltb-false}
 use Rattle.std.proofs.lemmas.List.{take-append-drop, take_rest, get_or-take}
 use Rattle.std.proofs.lemmas.List.Quantifiers.{position-Some}
 use Rattle.std.proofs.lemmas.List.Sums.{fails_before_first, position_or_len_is}
+use Rattle.small_lemmas.proofs.Bools.{not_true as fails}
 use Rattle.memchr.specs.Find.{IsFirstByte}
 use Rattle.trace_reader.specs.Lines.{IsOneLine}
 
@@ -24,10 +25,6 @@ text_around text piece rest i byte within is =
     append_assoc text (take i piece) (byte ∷ (drop (i + 1) piece ++ rest))
     ∙ ap (λ l. text ++ l) (sym (append_assoc (take i piece) (byte ∷ drop (i + 1) piece) rest) ∙ ap (λ l. l ++ rest) (whole_piece piece i byte within is))
     ∙ sym (append_assoc text piece rest)
-
-fails : (b : Bool) → (b ≡ true → ⊥) → b ≡ false
-fails true deny = absurd (deny refl)
-fails false deny = refl
 
 -- what a search for the first byte of a kind finds
 pub first_is : (test : ℕ → Bool) (bytes : List ℕ) (found : Option ℕ) → IsFirstByte test bytes found → found ≡ position test bytes

@@ -11,6 +11,7 @@ use Rattle.std.proofs.lemmas.List.Splits.{slice_split_at, slice_split_none}
 use Rattle.std.proofs.lemmas.List.Sums.{AllPass-from_list_all, fold-append}
 use Rattle.std.proofs.lemmas.Slice.Eq.{bytes_eq-Decides}
 use Rattle.std.proofs.Math.Seq.{take-append_seam}
+use Rattle.small_lemmas.proofs.Bools.{negated as not_true}
 use Rattle.map_history.specs.declared.op.Op.{Op}
 use Rattle.map_history.specs.declared.op.Op.TheVariants.{Get, Ins, Del}
 use Rattle.map_history.specs.Keys.{key_of}
@@ -62,10 +63,6 @@ content_printed line are = by_test (nat_lt 0 (length line)) refl
 
 abbrev is_letter : ℕ → Bool
 is_letter byte = not (is_blank byte)
-
-not_true : (a : Bool) → not a ≡ true → a ≡ false
-not_true true e = cc
-not_true false e = refl
 
 no_blank : (word : List ℕ) → list_all is_letter word ≡ true → All (λ byte. is_blank byte ≡ false) word
 no_blank word are = λ k d within. not_true _ (AllPass-from_list_all is_letter word are k d within)

@@ -39,7 +39,8 @@ abbrev pub generated_at : Gen → ℕ → Request
 generated_at plan number = record {
   trace = number / plan.length;
   number = number;
-  op = op_by (output_at plan.seed (2 * number)) (key_by plan (number / plan.length) (output_at plan.seed (2 * number + 1)));
+  op = op_by (output_at plan.seed (2 * number))
+      (key_by plan (number / plan.length) (output_at plan.seed (2 * number + 1)));
 }
 
 -- as many requests for each trace as its length says

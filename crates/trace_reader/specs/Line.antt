@@ -61,7 +61,8 @@ fault_of_words begun (word ∷ numbers) = first_found (tests_of begun word numbe
 
 -- the header is `flock 1`
 abbrev pub is_header : List (List ℕ) → Bool
-is_header fields = length fields == 2 && bytes_eq (field fields 0) (codes "flock") && bytes_eq (field fields 1) (codes "1")
+is_header fields = length fields == 2 && bytes_eq (field fields 0) (codes "flock") && bytes_eq (field fields 1)
+    (codes "1")
 
 -- the fault of a line that counts, behind a header or not
 abbrev pub fault_of_counted : (header begun : Bool) → List ℕ → Option BadLine

@@ -17,7 +17,8 @@ beginnings count = replicate count (codes "trace")
 -- the lines of requests where so many traces have begun: each request stands in its trace, and each trace begins
 abbrev pub lines_behind : ℕ → List Request → ℕ → List (List ℕ)
 lines_behind begun [] traces = beginnings (traces - begun)
-lines_behind begun (request ∷ requests) traces = beginnings (request.trace + 1 - begun) ++ line_of request.op ∷ lines_behind (request.trace + 1) requests traces
+lines_behind begun (request ∷ requests) traces = beginnings (request.trace + 1 - begun) ++ line_of request.op ∷
+    lines_behind (request.trace + 1) requests traces
 
 -- the header, and behind it the lines of the requests
 abbrev pub printed_lines : List Request → ℕ → List (List ℕ)

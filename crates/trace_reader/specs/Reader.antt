@@ -72,10 +72,15 @@ Refuses error text = IfOfText error (IsFirstRefusal text error)
 abbrev pub TracesAfter : Line → Traces → Traces → Type 0
 TracesAfter Skipped before after = (after.count ≡ before.count) × (after.requests ≡ before.requests)
 TracesAfter Header before after = (after.count ≡ before.count) × (after.requests ≡ before.requests)
-TracesAfter Trace before after = (after.count ≡ before.count + 1) × (after.count ≤ 64) × (after.requests ≡ before.requests)
+TracesAfter Trace before after = (after.count ≡ before.count + 1) × (after.count ≤ 64)
+    × (after.requests ≡ before.requests)
 TracesAfter (Ask op) before after =
     (after.count ≡ before.count)
-    × (after.requests ≡ before.requests ++ record { trace = before.count - 1; number = length before.requests; op = op } ∷ [])
+    × (after.requests ≡ before.requests ++ record {
+      trace = before.count - 1;
+      number = length before.requests;
+      op = op;
+    } ∷ [])
     × (length after.requests ≤ 131072)
 
 -- the line is one trace or one request too many, or memory is wanting
@@ -83,4 +88,5 @@ abbrev pub ExcessOf : Line → Traces → TraceError → Type 0
 ExcessOf Skipped traces error = ⊥
 ExcessOf Header traces error = ⊥
 ExcessOf Trace traces error = (error ≡ TooManyTraces 65) × (traces.count ≡ 64)
-ExcessOf (Ask op) traces error = (error ≡ Memory) ⊎ ((error ≡ TooManyRequests 131073) × (length traces.requests ≡ 131072))
+ExcessOf (Ask op) traces error = (error ≡ Memory)
+    ⊎ ((error ≡ TooManyRequests 131073) × (length traces.requests ≡ 131072))

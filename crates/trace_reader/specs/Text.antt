@@ -53,7 +53,8 @@ line_at lines place = slice_index_or lines place []
 -- the refusals by place: those of the lines that are read, and last that of the end
 abbrev pub refusal_at : List ℕ → ℕ → Option TraceError
 refusal_at text place =
-    if nat_lt place (length (lines_read text)) then refusal_of (take place (lines_read text)) (line_at (lines_read text) place)
+    if nat_lt place (length (lines_read text)) then refusal_of (take place (lines_read text))
+    (line_at (lines_read text) place)
     else end_refusal text
 
 -- the text is in the grammar and within the limits

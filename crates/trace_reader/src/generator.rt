@@ -23,10 +23,12 @@ pub struct Gen {
     pub apart: bool,
 }
 
-/// Generates requests. Each takes two outputs of a linear congruential generator, whose state runs on across traces: the first is the
-/// operation, of which half are insertions and a quarter each deletions and look-ups, the second the key.
+/// Generates requests. Each takes two outputs of a linear congruential generator, whose state runs on across traces:
+/// the first is the operation, of which half are insertions and a quarter each deletions and look-ups, the second the
+/// key.
 ///
-/// The value of an insertion is ten times its key. All traces together have at most 131,072 requests. The Err is want of memory.
+/// The value of an insertion is ten times its key. All traces together have at most 131,072 requests. The Err is want
+/// of memory.
 pub fn generate(alloc: Global, plan: &Gen) -> Result<Traces, AllocError>
     requires { IsPlan plan.now }
     ensures count { IfOk result (λ traces. traces.count ≡ plan.now.traces) }

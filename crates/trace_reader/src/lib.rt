@@ -16,8 +16,6 @@ mod read;
 mod reader;
 mod requests;
 mod source;
-#[cfg(test)]
-mod tests;
 mod traces;
 
 pub use generator::{Gen, generate};

@@ -47,7 +47,8 @@ pub fn read_line(line: &[u8], header: bool, begun: bool) -> Result<Line, BadLine
 
 // The header is `flock 1`.
 fn read_header(word: &[u8], rest: &[u8]) -> Result<Line, BadLine>
-    ensures fault { IfErr result (λ kind. (kind ≡ BadLine.NoHeader) × (is_header (word.now ∷ fields_in rest.now) ≡ false)) }
+    ensures fault { IfErr result (λ kind. (kind ≡ BadLine.NoHeader)
+        × (is_header (word.now ∷ fields_in rest.now) ≡ false)) }
     ensures said { IfOk result (λ said. (said ≡ Line.Header) × (is_header (word.now ∷ fields_in rest.now) ≡ true)) }
 {
     match (word, only_field(rest)) {
@@ -137,7 +138,8 @@ fn value_in_range(value: u64) -> Result<u32, BadLine>
 fn read_pair(rest: &[u8], begun: bool) -> Result<Line, BadLine>
     ensures fault { IfErr result (λ kind. first_found (request_tests begun 2 (fields_in rest.now)) ≡ Some kind) }
     ensures none { OnOk result (first_found (request_tests begun 2 (fields_in rest.now)) ≡ None) }
-    ensures said { IfOk result (λ said. said ≡ Line.Ask (Ins (value_of (field (fields_in rest.now) 0)) (value_of (field (fields_in rest.now) 1)))) }
+    ensures said { IfOk result (λ said. said
+        ≡ Line.Ask (Ins (value_of (field (fields_in rest.now) 0)) (value_of (field (fields_in rest.now) 1)))) }
     ensures key { OnOk result (value_of (field (fields_in rest.now) 0) ≤ 4294967293) }
     ensures begun { OnOk result (begun ≡ true) }
 {

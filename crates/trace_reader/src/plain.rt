@@ -1,4 +1,5 @@
-// A request as it is mostly written, read in one pass: one blank between its fields, and behind the last nothing but the line feed.
+// A request as it is mostly written, read in one pass: one blank between its fields, and behind the last nothing but
+// the line feed.
 ghost use Rattle.std.specs.Prelude.{◌≡◌, ◌≤◌, ◌+◌, ◌-◌, true, get_or, length, take, IfSome};
 ghost use Rattle.std.specs.Char.{is_ascii_digit};
 ghost use Rattle.std.specs.Str.{bytes_eq};
@@ -13,7 +14,8 @@ pub struct PlainRequest {
     pub end: usize,
 }
 
-/// The request with which the bytes begin, where it is written so. None says nothing of them: their line is to be read field by field.
+/// The request with which the bytes begin, where it is written so. None says nothing of them: their line is to be read
+/// field by field.
 pub fn plain_request(bytes: &[u8]) -> Option<PlainRequest>
     ensures { IfSome result (λ found. IsRequestAt bytes.now found.op found.end) }
 {
@@ -104,7 +106,8 @@ fn leading_number(bytes: &[u8]) -> Option<(u32, usize)>
 // The digit that stands there.
 fn digit_at(bytes: &[u8], place: usize) -> Option<u32>
     ensures place { IfSome result (λ digit. place + 1 ≤ length bytes.now) }
-    ensures digit { IfSome result (λ digit. (is_ascii_digit (get_or bytes.now place 0) ≡ true) × (digit ≡ get_or bytes.now place 0 - 48) × (digit ≤ 9)) }
+    ensures digit { IfSome result (λ digit. (is_ascii_digit (get_or bytes.now place 0) ≡ true)
+        × (digit ≡ get_or bytes.now place 0 - 48) × (digit ≤ 9)) }
 {
     let byte = *bytes.get(place)?;
     if byte.is_ascii_digit() {

@@ -7,5 +7,6 @@ ghost use Rattle.trace_reader.specs.Printed.{HaveSmallValues, printed};
 
 /// A trace text that is printed for requests is in the grammar, and its requests are these.
 pub fn printed_text_is_read()
-    ensures { (requests : List Request) (traces : ℕ) → AreInOrder requests traces → HaveSmallValues requests → AreTracesOf (record { count = traces; requests = requests }) (printed requests traces) }
+    ensures { (requests : List Request) (traces : ℕ) → AreInOrder requests traces → HaveSmallValues requests
+        → AreTracesOf (record { count = traces; requests = requests }) (printed requests traces) }
 {}

@@ -19,7 +19,8 @@ const PIECE: usize = 16_384;
 /// the place where the reading stood. `Memory` is want of memory, and may come at any place.
 pub fn read_traces<R: Source>(alloc: Global, source: &mut R) -> Result<Traces, TraceError>
     ensures answer { IfSome (R.left source.old) (Answers result) }
-    ensures exact { (Rose (R.faults source.old) (R.faults source.new) → ⊥) → IfSome (R.left source.old) (IsExact result) }
+    ensures exact { (Rose (R.faults source.old) (R.faults source.new) → ⊥)
+        → IfSome (R.left source.old) (IsExact result) }
     ensures ordered { IfOk result (λ traces. AreInOrder traces.requests traces.count) }
 
     // A failed read is answered only where the source counted it, and where nothing before it is refused. Where the

@@ -51,9 +51,14 @@ impl Traces {
         requires begun { 0 < self.old.count }
         requires few_requests { length self.old.requests ≤ 131072 }
         ensures count { self.new.count ≡ self.old.count }
-        ensures requests { OnOk result (self.new.requests ≡ self.old.requests ++ record { trace = self.old.count - 1; number = length self.old.requests; op = op } ∷ []) }
+        ensures requests { OnOk result (self.new.requests ≡ self.old.requests ++ record {
+          trace = self.old.count - 1;
+          number = length self.old.requests;
+          op = op;
+        } ∷ []) }
         ensures few { length self.new.requests ≤ 131072 }
-        ensures err { IfErr result (λ e. (e ≡ Memory) ⊎ ((e ≡ TooManyRequests 131073) × (length self.old.requests ≡ 131072))) }
+        ensures err { IfErr result (λ e. (e ≡ Memory)
+            ⊎ ((e ≡ TooManyRequests 131073) × (length self.old.requests ≡ 131072))) }
     {
         let number = self.requests.len();
         if number == MAX_REQUESTS as usize {

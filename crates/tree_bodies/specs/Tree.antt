@@ -1,14 +1,14 @@
 -- The search tree: the places of its nodes and its bodies.
 use Rattle.std.specs.Prelude.{ℕ, ◌+◌, ◌-◌, ◌*◌, ◌^◌, List, [], ◌∷◌, Bool, ◌&&◌, ◌||◌, ◌==◌, cond, nat_lt}
-use Rattle.section_body.specs.Memory.{cell_of}
-use Rattle.section_body.specs.Word.{value_of}
+use Rattle.body_terms.specs.Memory.{cell_of}
+use Rattle.body_terms.specs.Word.{value_of}
 use Rattle.section_body.specs.Bucket.{operand, is_small}
-use Rattle.section_body.specs.declared.value.Value.{Value}
-use Rattle.section_body.specs.declared.value.Value.TheVariants.{Const, Of, Made}
-use Rattle.section_body.specs.declared.value.Init.{Init}
-use Rattle.section_body.specs.declared.step.Step.{Step}
-use Rattle.section_body.specs.declared.step.Step.TheVariants.{Load, Want, Fresh, Take, Make, Stamp, Store, Retire, Answer}
-use Rattle.section_body.specs.declared.thunk.Thunk.{Thunk}
+use Rattle.body_terms.specs.declared.value.Value.{Value}
+use Rattle.body_terms.specs.declared.value.Value.TheVariants.{Const, Of, Made}
+use Rattle.body_terms.specs.declared.value.Init.{Init}
+use Rattle.body_terms.specs.declared.step.Step.{Step}
+use Rattle.body_terms.specs.declared.step.Step.TheVariants.{Load, Want, Fresh, Take, Make, Stamp, Store, Retire, Answer}
+use Rattle.body_terms.specs.declared.thunk.Thunk.{Thunk}
 
 -- the cells of a node: its lock, its key, its links to the left and to the right, of which a leaf has its value in the
 -- second, and its mark. There are no fixed cells
@@ -63,8 +63,8 @@ insert_steps t =
     Load (operand t 0) 0 ∷ Want 0 (operand t 1) ∷ Fresh 0 ∷ Load (t.lock + 4) 1 ∷ Want 1 (operand t 2) ∷
     Make (leaf_init t) 2 ∷ Make (inner_init t) 3 ∷ Stamp ∷ Store 0 (Made 3) ∷ Answer (1 * 2 ^ 32) ∷ []
 
--- the slots of the parent and the leaf that form 13 takes out, on which side of the parent the leaf is, and the place of the
--- parent's other link
+-- the slots of the parent and the leaf that form 13 takes out, on which side of the parent the leaf is, and the place
+-- of the parent's other link
 abbrev pub parent_in : Thunk → ℕ
 parent_in t = slot_in (operand t 1)
 
@@ -81,7 +81,8 @@ abbrev pub sibling_of : Thunk → ℕ
 sibling_of t = cond (is_left t) (right_of (parent_in t)) (left_of (parent_in t))
 
 -- form 13, a parent and its leaf are taken out: place and word of the link from the grandparent to the parent, the
--- grandparent's mark word, the parent's lock word, place and word of the link from the parent to the leaf, the parent's mark word
+-- grandparent's mark word, the parent's lock word, place and word of the link from the parent to the leaf, the parent's
+-- mark word
 abbrev pub delete_steps : Thunk → List Step
 delete_steps t =
     Load (operand t 0) 0 ∷ Want 0 (operand t 1) ∷ Fresh 0 ∷ Load (t.lock + 4) 1 ∷ Want 1 (operand t 2) ∷

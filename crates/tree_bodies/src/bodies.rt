@@ -1,11 +1,11 @@
 //! The bodies of the search tree's thunks.
 ghost use Rattle.std.specs.Prelude.{◌≡◌, ◌+◌, ◌<◌, ◌^◌, ◌==◌, cond, nat_lt, None, Some, is_some, IfSome, OnSome};
 ghost use Rattle.tree_bodies.specs.Tree.{tree_steps, look_steps, insert_steps, delete_steps, leaf_with, inner_with, slot_in as link_slot, parent_in, leaf_in, sibling_of, mark_of, names_removed, fits_look, fits_insert, fits_delete};
-ghost use Rattle.section_body.specs.Word.{value_of};
+ghost use Rattle.body_terms.specs.Word.{value_of};
 ghost use Rattle.section_body.specs.Bucket.{operand};
-ghost use Rattle.section_body.specs.declared.step.Step.TheVariants.{Load, Want, Take, Make, Store, Retire};
+ghost use Rattle.body_terms.specs.declared.step.Step.TheVariants.{Load, Want, Take, Make, Store, Retire};
 
-use section_body::{Body, Init, Place, Step, Thunk, Value, Word};
+use body_terms::{Body, Init, Place, Step, Thunk, Value, Word};
 
 /// The reply word of an insertion of an absent key.
 const NEW: u64 = 1 << 32;

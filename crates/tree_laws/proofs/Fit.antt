@@ -1,9 +1,10 @@
 -- What a thunk that fits a walk of the tree has for numbers, and its form.
 use Rattle.std.proofs.Common.{◌≡◌, ℕ, ◌+◌, ◌*◌, ◌<◌, Bool, true, false, cond, refl, sym, inl, inr, arith}
 use Rattle.std.specs.Prelude.{◌==◌, ◌&&◌, ◌^◌, ◌⊎◌}
+use Rattle.small_lemmas.proofs.Bools.{false_not_true as false_true}
 use Rattle.map_history.specs.declared.op.Op.{Op}
 use Rattle.map_history.specs.declared.op.Op.TheVariants.{Get, Ins, Del}
-use Rattle.section_body.specs.declared.thunk.Thunk.{Thunk}
+use Rattle.body_terms.specs.declared.thunk.Thunk.{Thunk}
 use Rattle.structure_laws.proofs.Changes.{equal_of, both_true}
 use Rattle.bucket_laws.specs.Walk.{is_del}
 use Rattle.bucket_laws.proofs.Fit.{same_list}
@@ -64,9 +65,6 @@ reply_some (Get key) w true = positive w.value
 reply_some (Get key) w false = omega arith
 reply_some (Ins key value) w found = omega arith
 reply_some (Del key) w found = omega arith
-
-false_true : false ≡ true → ⊥
-false_true e = cc
 
 -- the form of a thunk by its number
 pub is_look : (t : Thunk) → t.form ≡ 11 → fits_look t ≡ true → form_of t ≡ Look

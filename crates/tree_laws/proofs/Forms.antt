@@ -2,12 +2,12 @@
 use Rattle.std.proofs.Common.{◌≡◌, ℕ, ◌+◌, arith}
 use Rattle.std.specs.Prelude.{◌*◌, ◌^◌, ◌⊎◌, Some, slice_get}
 use Rattle.section_body.specs.Bucket.{operand}
-use Rattle.section_body.specs.declared.value.Value.{Value}
-use Rattle.section_body.specs.declared.value.Value.TheVariants.{Const, Of, Made}
-use Rattle.section_body.specs.declared.value.Init.{Init}
-use Rattle.section_body.specs.declared.step.Step.{Step}
-use Rattle.section_body.specs.declared.step.Step.TheVariants.{Load, Want, Fresh, Take, Make, Store, Answer}
-use Rattle.section_body.specs.declared.thunk.Thunk.{Thunk}
+use Rattle.body_terms.specs.declared.value.Value.{Value}
+use Rattle.body_terms.specs.declared.value.Value.TheVariants.{Const, Of, Made}
+use Rattle.body_terms.specs.declared.value.Init.{Init}
+use Rattle.body_terms.specs.declared.step.Step.{Step}
+use Rattle.body_terms.specs.declared.step.Step.TheVariants.{Load, Want, Fresh, Take, Make, Store, Answer}
+use Rattle.body_terms.specs.declared.thunk.Thunk.{Thunk}
 use Rattle.tree_bodies.specs.Tree.{lock_of, mark_of, leaf_init, inner_init, parent_in, sibling_of, look_steps, insert_steps, delete_steps}
 
 module _ (t : Thunk) where

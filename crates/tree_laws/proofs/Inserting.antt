@@ -1,8 +1,9 @@
 -- An insertion that has made its nodes and not stored the link: its new inner node may take the place of the leaf.
 use Rattle.std.specs.Prelude.{◌==◌, not, nat_lt, cond, Bool, true, false}
 use Rattle.std.proofs.Common.{◌≡◌, ◌≢◌, ℕ, suc, ◌<◌, ◌≤◌, refl, sym, ap, ◌∙◌, subst, inl, arith}
+use Rattle.small_lemmas.proofs.Bools.{not_both as true_false}
 use Rattle.map_history.specs.Keys.{key_of}
-use Rattle.section_body.specs.Word.{value_of}
+use Rattle.body_terms.specs.Word.{value_of}
 use Rattle.section_body.specs.Bucket.{operand}
 use Rattle.table_words.specs.declared.layout.Layout.{Layout}
 use Rattle.structure_laws.specs.Scene.{Section, Scene}
@@ -17,9 +18,6 @@ use Rattle.tree_laws.proofs.Found.{walk_keyed}
 use Rattle.tree_laws.proofs.Insertion.{insertion_keeps}
 use Rattle.tree_laws.proofs.WalkReads.{is_late}
 use Rattle.tree_laws.proofs.Open as open_section
-
-true_false : {b : Bool} → b ≡ true → b ≡ false → ⊥
-true_false e e' = cc
 
 module _ (layout : Layout) (s : Scene) (sound : Sound tree layout s) (kept : TreeKept layout s)
     (d : ℕ) (x : Section) (here : Here s d x) (form : form_of x.thunk ≡ Insert) (past : 7 ≤ x.at) (few : x.at ≤ 8) where

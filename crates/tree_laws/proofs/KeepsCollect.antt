@@ -3,7 +3,7 @@ use Rattle.std.specs.Prelude.{◌⊎◌, ◌+◌, Bool, true, false}
 use Rattle.std.proofs.Common.{◌≡◌, ◌≢◌, ℕ, suc, ◌≤◌, refl, sym, ap, ◌∙◌, subst, inl, inr, ⊎_elim, arith}
 use Rattle.map_history.specs.declared.op.Op.{Op}
 use Rattle.map_history.specs.Keys.{key_of}
-use Rattle.section_body.specs.Update.{upd}
+use Rattle.body_terms.specs.Update.{upd}
 use Rattle.table_words.specs.declared.layout.Layout.{Layout}
 use Rattle.table_words.specs.Limits.{IsWithinLimits}
 use Rattle.structure_laws.specs.Scene.{Readings, Section, Free, Live, Retired, Scene, with_status}

@@ -1,9 +1,10 @@
 -- What the tree keeps, over a change of a scene that leaves the linked nodes and what they cover.
 use Rattle.std.specs.Prelude.{◌⊎◌, ◌%◌, cond, Bool, true, false, Some, slice_get}
 use Rattle.std.proofs.Common.{◌≡◌, ◌≢◌, ℕ, suc, ◌+◌, ◌*◌, ◌<◌, ◌≤◌, refl, sym, ◌∙◌, subst, inl, inr, ⊎_elim, arith}
+use Rattle.small_lemmas.proofs.Numbers.{suc_equal as suc_eq}
 use Rattle.map_history.specs.declared.op.Op.{Op}
 use Rattle.map_history.specs.Keys.{key_of}
-use Rattle.section_body.specs.Word.{value_of}
+use Rattle.body_terms.specs.Word.{value_of}
 use Rattle.table_words.specs.declared.layout.Layout.{Layout}
 use Rattle.structure_laws.specs.Scene.{Readings, Section, Free, Live, Retired, Scene}
 use Rattle.structure_laws.specs.Cells.{IsSafe, IsOutside}
@@ -253,9 +254,6 @@ read_stays s n' readings read stays old = record {
     cell : (i t k w : ℕ) → 0 < k → k < 5 → slice_get readings i ≡ Some (0 + 5 * t + k, w) → StaysNode
         (nodes s.cells) n' t
     cell i t k w low high h = stays t (outside_used s t k low high (read.outside i (0 + 5 * t + k) w h))
-
-suc_eq : (a b : ℕ) → suc a ≡ suc b → a ≡ b
-suc_eq a b e = omega (arith, e)
 
 module _ (layout : Layout) (s : Scene) (kept : TreeKept layout s) where
   -- a slot that a section holds between is live

@@ -3,16 +3,17 @@ use Rattle.std.specs.Prelude.{◌⊎◌, ◌%◌, Bool, true, false, Option, Som
 use Rattle.std.proofs.Common.{◌≡◌, ◌≢◌, ℕ, suc, ◌+◌, ◌*◌, ◌<◌, ◌≤◌, refl, sym, ap, ◌∙◌, subst, inl, inr, ⊎_elim, arith}
 use Rattle.std.proofs.lemmas.Bool.{cases_eq}
 use Rattle.std.proofs.lemmas.Option.{none-some}
+use Rattle.small_lemmas.proofs.Lists.{some_same as some_inj}
 use Rattle.map_history.specs.declared.op.Op.{Op}
 use Rattle.map_history.specs.Keys.{key_of}
-use Rattle.section_body.specs.Update.{upd}
-use Rattle.section_body.specs.Word.{value_of, version_of}
-use Rattle.section_body.specs.declared.value.Value.{Value}
-use Rattle.section_body.specs.declared.value.Value.TheVariants.{Of, Made}
-use Rattle.section_body.specs.declared.value.Init.{Init}
-use Rattle.section_body.specs.declared.step.Step.{Step}
-use Rattle.section_body.specs.declared.step.Step.TheVariants.{Load, Want, Fresh, Take, Make, Stamp, Store, Retire, Answer}
-use Rattle.section_body.specs.declared.thunk.Thunk.{Thunk}
+use Rattle.body_terms.specs.Update.{upd}
+use Rattle.body_terms.specs.Word.{value_of, version_of}
+use Rattle.body_terms.specs.declared.value.Value.{Value}
+use Rattle.body_terms.specs.declared.value.Value.TheVariants.{Of, Made}
+use Rattle.body_terms.specs.declared.value.Init.{Init}
+use Rattle.body_terms.specs.declared.step.Step.{Step}
+use Rattle.body_terms.specs.declared.step.Step.TheVariants.{Load, Want, Fresh, Take, Make, Stamp, Store, Retire, Answer}
+use Rattle.body_terms.specs.declared.thunk.Thunk.{Thunk}
 use Rattle.table_words.specs.declared.layout.Layout.{Layout}
 use Rattle.structure_laws.specs.Scene.{Readings, Section, Free, Scene, with_cell, with_reader, with_section, opened, passes, sets}
 use Rattle.structure_laws.specs.Sections.{Here, IsStep, Settled, Ended, Unheld, is_exit}
@@ -24,9 +25,6 @@ use Rattle.tree_bodies.specs.Tree.{child_of, Form, Insert, Delete, form_of, body
 use Rattle.tree_laws.specs.Leaves.{is_lock_place, nodes, HasLeaf, HasInner, IsBetween, NewLeaf, NewInner, OldParent, OldLeaf, IsNewLeaf, IsNewInner, TreeKept, tree}
 use Rattle.tree_laws.specs.Walk.{walk}
 use Rattle.tree_laws.proofs.KeepsFrame.{IsSameNode, IsKeptSection, IsKeptReader, passing_kept}
-
-some_inj : {A : Type 0} {x y : A} → Some x ≡ Some y → x ≡ y
-some_inj e = cc
 
 -- each cell of a node stands
 same_cells : (s s' : Scene) (t : ℕ) → ((k : ℕ) → 0 < k → k < 5 → s'.cells (0 + 5 * t + k) ≡ s.cells (0 + 5 * t + k))

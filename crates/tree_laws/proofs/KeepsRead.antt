@@ -3,9 +3,11 @@ use Rattle.std.specs.Prelude.{◌⊎◌, ◌==◌, ◌-◌, nat_lt, nat_le, cond
 use Rattle.std.proofs.Common.{◌≡◌, ◌≢◌, ℕ, zero, suc, ◌+◌, ◌*◌, ◌<◌, ◌≤◌, refl, sym, ap, ◌∙◌, subst, inl, inr, ⊎_elim, arith}
 use Rattle.std.proofs.lemmas.Bool.{cases_eq}
 use Rattle.std.proofs.lemmas.Option.{none-some}
+use Rattle.small_lemmas.proofs.Lists.{same_number as some_eq, get_last as push_last}
+use Rattle.small_lemmas.proofs.Numbers.{tested_not_less as not_less, tested_some as not_none}
 use Rattle.map_history.specs.declared.op.Op.{Op}
 use Rattle.map_history.specs.Keys.{key_of}
-use Rattle.section_body.specs.Word.{value_of}
+use Rattle.body_terms.specs.Word.{value_of}
 use Rattle.table_words.specs.declared.layout.Layout.{Layout}
 use Rattle.structure_laws.specs.Scene.{Readings, Free, Scene, with_reading}
 use Rattle.structure_laws.specs.Cells.{IsSafe, IsOutside, IsLoadable}
@@ -24,17 +26,8 @@ use Rattle.tree_laws.proofs.KeepsPass.{reader_kept}
 use Rattle.tree_laws.proofs.Shown.{below_of, shown_now}
 use Rattle.tree_laws.proofs.WalkReads.{IsGiven, Reads, is_past, walk_reads}
 
-some_eq : (a b : ℕ) → Some a ≡ Some b → a ≡ b
-some_eq a b e = cc
-
 before : (v : ℕ) → 0 < v → v ≡ suc (v - 1)
 before v some = omega (arith, some)
-
-not_less : (a b : ℕ) → nat_lt a b ≡ false → b ≤ a
-not_less a b e = grind arith
-
-not_none : (v : ℕ) → (v == 0) ≡ false → 0 < v
-not_none v e = grind arith
 
 -- a reading of a longer list is one of the list, or the last
 get_push : {A : Type 0} (xs : List A) (y v : A) (i : ℕ) → slice_get (xs ++ y ∷ []) i ≡ Some v
@@ -43,11 +36,6 @@ get_push [] y v zero h = inr (let z = h in cc)
 get_push [] y v (suc i) h = absurd (let z = h in cc)
 get_push (x ∷ xs) y v zero h = inl h
 get_push (x ∷ xs) y v (suc i) h = get_push xs y v i h
-
--- and the last stands in it
-push_last : {A : Type 0} (xs : List A) (y : A) → slice_get (xs ++ y ∷ []) (length xs) ≡ Some y
-push_last [] y = refl
-push_last (x ∷ xs) y = push_last xs y
 
 -- one more reading: the walk stays as it was, or goes on by it
 module _ (b : Bounds) (op : Op) (p n : ℕ) where

@@ -3,10 +3,12 @@ use Rattle.std.specs.Prelude.{◌⊎◌, ◌+◌, Bool, true, false, Some, slice
 use Rattle.std.proofs.Common.{◌≡◌, ◌≢◌, ℕ, suc, ◌<◌, ◌≤◌, refl, sym, ap, ◌∙◌, subst, inl, inr, ⊎_elim, arith}
 use mathlib.Core.Logic.{dite}
 use native.Mathlib.Decide.{ℕ_discrete}
-use Rattle.section_body.specs.Update.{upd}
-use Rattle.section_body.specs.declared.step.Step.{Step}
-use Rattle.section_body.specs.declared.step.Step.TheVariants.{Retire}
-use Rattle.section_body.specs.declared.thunk.Thunk.{Thunk}
+use Rattle.small_lemmas.proofs.Bools.{not_both as true_false}
+use Rattle.small_lemmas.proofs.Numbers.{suc_equal as suc_eq}
+use Rattle.body_terms.specs.Update.{upd}
+use Rattle.body_terms.specs.declared.step.Step.{Step}
+use Rattle.body_terms.specs.declared.step.Step.TheVariants.{Retire}
+use Rattle.body_terms.specs.declared.thunk.Thunk.{Thunk}
 use Rattle.table_words.specs.declared.layout.Layout.{Layout}
 use Rattle.table_words.specs.Limits.{IsWithinLimits}
 use Rattle.structure_laws.specs.Scene.{Section, Status, Free, Live, Retired, Scene, with_status, passes}
@@ -25,14 +27,8 @@ use Rattle.tree_laws.proofs.KeepsSlots.{node_link, cell_in_use, child_live, step
 use Rattle.tree_laws.proofs.Open as open_section
 use Rattle.tree_laws.proofs.Open.{side_cell, child_cell, side_high}
 
-suc_eq : (a b : ℕ) → suc a ≡ suc b → a ≡ b
-suc_eq a b e = omega (arith, e)
-
 some_eq : (a b : Section) → Some a ≡ Some b → a ≡ b
 some_eq a b e = cc
-
-true_false : {b : Bool} → b ≡ true → b ≡ false → ⊥
-true_false e e' = cc
 
 -- a removal can't leave any more once it has stored
 delete_late : (t : Thunk) (j : ℕ) (step : Step) → slice_get (delete_steps t) j ≡ Some step → 12 ≤ j

@@ -1,8 +1,9 @@
 -- A section on the tree passes a step that changes no cell, while slots change where they are.
 use Rattle.std.specs.Prelude.{◌⊎◌, ◌+◌, ◌*◌, ◌||◌, ◌&&◌, ◌-◌, ◌%◌, nat_lt, Bool, true, false, Some}
 use Rattle.std.proofs.Common.{◌≡◌, ◌≢◌, ℕ, suc, ◌<◌, ◌≤◌, refl, sym, ap, ◌∙◌, subst, inl, inr, ⊎_elim, arith}
-use Rattle.section_body.specs.Update.{upd}
-use Rattle.section_body.specs.Word.{value_of}
+use Rattle.small_lemmas.proofs.Bools.{or_first as or_left, or_second as or_right}
+use Rattle.body_terms.specs.Update.{upd}
+use Rattle.body_terms.specs.Word.{value_of}
 use Rattle.table_words.specs.declared.layout.Layout.{Layout}
 use Rattle.table_words.specs.Limits.{IsWithinLimits}
 use Rattle.structure_laws.specs.Scene.{Cells, Section, Status, Free, Live, Retired, Scene}
@@ -22,12 +23,6 @@ use Rattle.tree_laws.proofs.WalkReads.{both, eq_test}
 
 some_eq : (a b : Section) → Some a ≡ Some b → a ≡ b
 some_eq a b e = cc
-
-or_left : (a b : Bool) → a ≡ true → (a || b) ≡ true
-or_left a b h = grind arith
-
-or_right : (a b : Bool) → b ≡ true → (a || b) ≡ true
-or_right a b h = grind arith
 
 -- a left link is a link, whatever it holds; so is each link of an inner node
 pub left_link : (cells : Cells) (t : ℕ) → is_link_in cells (left_of t) ≡ true

@@ -36,3 +36,6 @@ mod KeepsCollect
 mod TreeKeeps
 mod Sized
 pub mod TreeLaws
+mod Falling
+pub mod Near
+pub mod Retiring

@@ -2,10 +2,11 @@
 use Rattle.std.specs.Prelude.{not, Bool, true, false, Some}
 use Rattle.std.proofs.Common.{◌≡◌, ◌≢◌, ℕ, suc, ◌<◌, ◌≤◌, refl, sym, ap, ◌∙◌, subst, inl, inr, ⊎_elim, arith}
 use Rattle.std.proofs.lemmas.Bool.{cases_eq, both_ways}
-use Rattle.section_body.specs.Update.{upd}
-use Rattle.section_body.specs.Word.{value_of}
-use Rattle.section_body.specs.declared.value.Value.TheVariants.{Const}
-use Rattle.section_body.specs.declared.step.Step.TheVariants.{Load, Store}
+use Rattle.small_lemmas.proofs.Numbers.{suc_equal as suc_eq}
+use Rattle.body_terms.specs.Update.{upd}
+use Rattle.body_terms.specs.Word.{value_of}
+use Rattle.body_terms.specs.declared.value.Value.TheVariants.{Const}
+use Rattle.body_terms.specs.declared.step.Step.TheVariants.{Load, Store}
 use Rattle.table_words.specs.declared.layout.Layout.{Layout}
 use Rattle.table_words.specs.Limits.{IsWithinLimits}
 use Rattle.structure_laws.specs.Scene.{Cells, Section, Scene, passed}
@@ -25,9 +26,6 @@ use Rattle.tree_laws.proofs.Open as open_section
 use Rattle.tree_laws.proofs.Removal.{still, remains, a_not_p, a_not_l, b_not_p, b_not_l, b_linked}
 use Rattle.tree_laws.proofs.Removing as removing
 use Rattle.tree_laws.proofs.StoreChange.{marked_elsewhere, leaf_out, inner_out, after_scene, IsChange, store_kept}
-
-suc_eq : (a b : ℕ) → suc a ≡ suc b → a ≡ b
-suc_eq a b e = omega (arith, e)
 
 -- what wasn't linked keeps its bounds, and so does the parent
 grown_off : (f : ℕ → Bool) (bound : ℕ → ℕ) (m own p x : ℕ) → f x ≡ false → x ≢ p → grown f bound m own p x ≡ bound x

@@ -1,13 +1,14 @@
 -- What holds of an open section on the tree: its numbers, and the nodes that its walk has found.
 use Rattle.std.specs.Prelude.{◌==◌, ◌||◌, not, ◌^◌, nat_lt, cond, Bool, true, false, Some, List, slice_get, slice_index}
 use Rattle.std.proofs.Common.{◌≡◌, ◌≢◌, ℕ, suc, ◌+◌, ◌*◌, ◌<◌, ◌≤◌, refl, sym, ap, ◌∙◌, subst, inl, ⊎_elim, arith}
+use Rattle.small_lemmas.proofs.Numbers.{other_tested as eq_false, equal_tested as eq_true}
 use Rattle.map_history.specs.declared.op.Op.TheVariants.{Ins, Del}
 use Rattle.map_history.specs.Keys.{key_of, value_given}
-use Rattle.section_body.specs.Word.{value_of}
+use Rattle.body_terms.specs.Word.{value_of}
 use Rattle.section_body.specs.Bucket.{operand, is_small}
-use Rattle.section_body.specs.declared.value.Value.{Value}
-use Rattle.section_body.specs.declared.step.Step.{Step}
-use Rattle.section_body.specs.declared.step.Step.TheVariants.{Store}
+use Rattle.body_terms.specs.declared.value.Value.{Value}
+use Rattle.body_terms.specs.declared.step.Step.{Step}
+use Rattle.body_terms.specs.declared.step.Step.TheVariants.{Store}
 use Rattle.table_words.specs.declared.layout.Layout.{Layout}
 use Rattle.table_words.specs.Limits.{IsWithinLimits}
 use Rattle.table_words.specs.Places.{slot_count}
@@ -28,12 +29,6 @@ use Rattle.tree_laws.proofs.WalkReads.{is_past, is_late, is_marked, both, IsFrom
 
 small_is : (n : ℕ) → n < 2 ^ 32 → is_small n ≡ true
 small_is n low = grind arith
-
-eq_false : (a b : ℕ) → a ≢ b → (a == b) ≡ false
-eq_false a b ne = grind arith
-
-eq_true : (a b : ℕ) → a ≡ b → (a == b) ≡ true
-eq_true a b e = grind arith
 
 abbrev pub side_cell : Bool → ℕ
 side_cell b = cond b 2 3

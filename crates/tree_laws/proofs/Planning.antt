@@ -4,9 +4,9 @@ use Rattle.std.specs.Prelude.{◌⊎◌, Some, List, slice_get, slice_index}
 use Rattle.map_history.specs.declared.op.Op.{Op}
 use Rattle.map_history.specs.declared.op.Op.TheVariants.{Ins, Del}
 use Rattle.section_body.specs.Bucket.{operand}
-use Rattle.section_body.specs.declared.value.Init.{Init}
-use Rattle.section_body.specs.declared.step.Step.TheVariants.{Load, Want, Make, Answer}
-use Rattle.section_body.specs.declared.thunk.Thunk.{Thunk}
+use Rattle.body_terms.specs.declared.value.Init.{Init}
+use Rattle.body_terms.specs.declared.step.Step.TheVariants.{Load, Want, Make, Answer}
+use Rattle.body_terms.specs.declared.thunk.Thunk.{Thunk}
 use Rattle.structure_laws.specs.Scene.{Readings}
 use Rattle.structure_laws.specs.Planner.{Adds}
 use Rattle.bucket_laws.specs.Walk.{Bounds, is_del}

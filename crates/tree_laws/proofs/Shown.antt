@@ -2,7 +2,8 @@
 use Rattle.std.proofs.Common.{◌≡◌, ℕ, suc, ◌+◌, ◌*◌, ◌<◌, Bool, true, refl, sym, ◌∙◌, subst, arith}
 use Rattle.std.specs.Prelude.{◌==◌, ◌&&◌, ◌||◌, ◌-◌, ◌/◌, ◌%◌, nat_lt, Some, [], ◌∷◌, slice_get}
 use Rattle.std.specs.List.{list_any}
-use Rattle.section_body.specs.Word.{value_of}
+use Rattle.small_lemmas.proofs.Bools.{or_first as or_left, or_second as or_right}
+use Rattle.body_terms.specs.Word.{value_of}
 use Rattle.structure_laws.specs.Scene.{Cells, Readings}
 use Rattle.structure_laws.proofs.Changes.{both_true, or_cases, equal_of}
 use Rattle.tree_bodies.specs.Tree.{left_of}
@@ -14,12 +15,6 @@ lt_test a b low = grind arith
 
 pub below_of : (a b : ℕ) → nat_lt a b ≡ true → a < b
 below_of a b h = grind arith
-
-or_left : (a b : Bool) → a ≡ true → (a || b) ≡ true
-or_left a b h = grind arith
-
-or_right : (a b : Bool) → b ≡ true → (a || b) ≡ true
-or_right a b h = grind arith
 
 -- the reading that passes a test
 pub some_of : (test : ℕ × ℕ → Bool) (readings : Readings) → list_any test readings ≡ true → (i p w : ℕ) × (slice_get readings i ≡ Some (p, w)) × (test (p, w) ≡ true)

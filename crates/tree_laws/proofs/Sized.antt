@@ -6,6 +6,7 @@ use Rattle.std.proofs.Common.{◌≡◌, ◌≢◌, ℕ, zero, suc, ◌≤◌, r
 use Rattle.std.proofs.lemmas.Cmp.{nat_cmp_total}
 use mathlib.Core.Logic.{dite}
 use native.Mathlib.Decide.{ℕ_discrete}
+use Rattle.small_lemmas.proofs.Numbers.{suc_equal as suc_eq, zero_not_suc as zero_suc}
 use Rattle.map_history.specs.Replay.{Pairs}
 use Rattle.table_words.specs.declared.layout.Layout.{Layout}
 use Rattle.table_words.specs.Places.{slot_count}
@@ -17,12 +18,6 @@ use Rattle.bucket_laws.proofs.Maps.{get_removed}
 use Rattle.tree_laws.specs.Search.{Nodes, Covers, IsInner, IsLeaf, key_end, SearchTree, HasSentinels, Contents}
 use Rattle.tree_laws.specs.Leaves.{nodes, TreeStands, TreeKept, tree}
 use Rattle.tree_laws.proofs.Views.{some_key, views_agree}
-
-suc_eq : (a b : ℕ) → suc a ≡ suc b → a ≡ b
-suc_eq a b e = omega (arith, e)
-
-zero_suc : (i : ℕ) → 0 ≡ suc i → ⊥
-zero_suc i e = omega (arith, e)
 
 -- this slot has a name on this side, which is a key of the map
 record IsNamed (R : Bool → ℕ → ℕ → Type 0) (side : Bool) (pairs : Pairs) (t : ℕ) : Type 0 where

@@ -2,10 +2,11 @@
 use Rattle.std.specs.Prelude.{◌⊎◌, Bool, true, false, cond, Some}
 use Rattle.std.proofs.Common.{◌≡◌, ◌≢◌, ℕ, suc, ◌<◌, ◌≤◌, refl, sym, ap, ◌∙◌, subst, inl, inr, ⊎_elim, arith}
 use Rattle.std.proofs.lemmas.Bool.{cases_eq, both_ways}
+use Rattle.small_lemmas.proofs.Numbers.{suc_equal as suc_eq}
 use Rattle.map_history.specs.Keys.{key_of}
-use Rattle.section_body.specs.Update.{upd}
-use Rattle.section_body.specs.Word.{value_of}
-use Rattle.section_body.specs.declared.thunk.Thunk.{Thunk}
+use Rattle.body_terms.specs.Update.{upd}
+use Rattle.body_terms.specs.Word.{value_of}
+use Rattle.body_terms.specs.declared.thunk.Thunk.{Thunk}
 use Rattle.table_words.specs.declared.layout.Layout.{Layout}
 use Rattle.structure_laws.specs.Scene.{Cells, Readings, Section, Status, Free, Live, Retired, Scene, passed}
 use Rattle.structure_laws.specs.Sections.{Here}
@@ -21,9 +22,6 @@ use Rattle.tree_laws.proofs.KeepsFrame.{StaysNode, stays_inner, StaysPassed, rea
 
 some_eq : (a b : Section) → Some a ≡ Some b → a ≡ b
 some_eq a b e = cc
-
-suc_eq : (a b : ℕ) → suc a ≡ suc b → a ≡ b
-suc_eq a b e = omega (arith, e)
 
 live_free : (x : Status) → x ≡ Live → x ≡ Free → ⊥
 live_free x live free = cc

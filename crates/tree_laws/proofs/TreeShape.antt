@@ -2,19 +2,21 @@
 use Rattle.std.proofs.Common.{◌≡◌, ◌≢◌, ℕ, zero, suc, ◌+◌, ◌*◌, ◌<◌, ◌≤◌, Bool, true, false, cond, refl, sym, ap, ◌∙◌, subst, inl, inr, ⊎_elim, arith}
 use Rattle.std.specs.Prelude.{◌==◌, ◌&&◌, ◌||◌, not, ◌-◌, ◌%◌, ◌^◌, ◌⊎◌, nat_lt, Some, List, [], ◌∷◌, slice_get, slice_index, length}
 use Rattle.std.proofs.lemmas.Bool.{both_ways}
+use Rattle.small_lemmas.proofs.Bools.{or_first as or_left, or_second as or_right, negated as not_true}
+use Rattle.small_lemmas.proofs.Numbers.{other_tested as eq_false}
 use Rattle.map_history.specs.declared.op.Op.{Op}
 use Rattle.map_history.specs.declared.op.Op.TheVariants.{Ins, Del}
 use Rattle.map_history.specs.Keys.{key_of, value_given}
-use Rattle.section_body.specs.Word.{value_of, is_free, is_spent}
-use Rattle.section_body.specs.Memory.{cell_of}
+use Rattle.body_terms.specs.Word.{value_of, is_free, is_spent}
+use Rattle.body_terms.specs.Memory.{cell_of}
 use Rattle.section_body.specs.Bucket.{operand, is_small}
-use Rattle.section_body.specs.Shape.{IsShaped}
-use Rattle.section_body.specs.declared.value.Value.{Value}
-use Rattle.section_body.specs.declared.value.Value.TheVariants.{Const, Of, Made}
-use Rattle.section_body.specs.declared.value.Init.{Init}
-use Rattle.section_body.specs.declared.step.Step.{Step}
-use Rattle.section_body.specs.declared.step.Step.TheVariants.{Load, Take, Make, Store, Answer}
-use Rattle.section_body.specs.declared.thunk.Thunk.{Thunk}
+use Rattle.body_terms.specs.Shape.{IsShaped}
+use Rattle.body_terms.specs.declared.value.Value.{Value}
+use Rattle.body_terms.specs.declared.value.Value.TheVariants.{Const, Of, Made}
+use Rattle.body_terms.specs.declared.value.Init.{Init}
+use Rattle.body_terms.specs.declared.step.Step.{Step}
+use Rattle.body_terms.specs.declared.step.Step.TheVariants.{Load, Take, Make, Store, Answer}
+use Rattle.body_terms.specs.declared.thunk.Thunk.{Thunk}
 use Rattle.table_words.specs.declared.layout.Layout.{Layout}
 use Rattle.table_words.specs.Limits.{IsWithinLimits}
 use Rattle.table_words.specs.Places.{slot_count}
@@ -38,19 +40,6 @@ use Rattle.tree_laws.proofs.WalkReads.{is_past, is_late, is_locked, both, eq_tes
 
 small_is : (n : ℕ) → n < 2 ^ 32 → is_small n ≡ true
 small_is n low = grind arith
-
-or_left : (a b : Bool) → a ≡ true → (a || b) ≡ true
-or_left a b h = grind arith
-
-or_right : (a b : Bool) → b ≡ true → (a || b) ≡ true
-or_right a b h = grind arith
-
-not_true : (b : Bool) → not b ≡ true → b ≡ false
-not_true true h = absurd (cc)
-not_true false h = refl
-
-eq_false : (a b : ℕ) → a ≢ b → (a == b) ≡ false
-eq_false a b ne = grind arith
 
 -- cells of a node by their number
 cell_unlocked : (t k : ℕ) → 1 ≤ k → k < 5 → is_lock_place (cell_of 0 t k) ≡ false

@@ -8,12 +8,12 @@ use Rattle.map_history.specs.declared.op.Op.{Op}
 use Rattle.map_history.specs.declared.op.Op.TheVariants.{Get, Ins, Del}
 use Rattle.map_history.specs.Keys.{key_of}
 use Rattle.map_history.specs.Replay.{Pairs, map_after}
-use Rattle.section_body.specs.Word.{value_of}
-use Rattle.section_body.specs.Update.{upd}
+use Rattle.body_terms.specs.Word.{value_of}
+use Rattle.body_terms.specs.Update.{upd}
 use Rattle.section_body.specs.Bucket.{operand}
-use Rattle.section_body.specs.declared.value.Value.TheVariants.{Of, Made}
-use Rattle.section_body.specs.declared.step.Step.{Step}
-use Rattle.section_body.specs.declared.step.Step.TheVariants.{Load, Stamp, Store}
+use Rattle.body_terms.specs.declared.value.Value.TheVariants.{Of, Made}
+use Rattle.body_terms.specs.declared.step.Step.{Step}
+use Rattle.body_terms.specs.declared.step.Step.TheVariants.{Load, Stamp, Store}
 use Rattle.table_words.specs.declared.layout.Layout.{Layout}
 use Rattle.table_words.specs.Limits.{IsWithinLimits}
 use Rattle.table_words.specs.Places.{slot_count}

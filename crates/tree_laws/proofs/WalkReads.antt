@@ -3,9 +3,12 @@ use Rattle.std.proofs.Common.{◌≡◌, ℕ, zero, suc, ◌+◌, ◌*◌, ◌<�
 use Rattle.std.specs.Prelude.{◌==◌, ◌&&◌, ◌||◌, ◌-◌, ◌%◌, ◌^◌, ◌⊎◌, nat_le, nat_lt, Some, [], ◌∷◌, slice_get}
 use Rattle.std.specs.List.{list_any}
 use Rattle.std.proofs.lemmas.Option.{none-some}
+use Rattle.small_lemmas.proofs.Bools.{or_first as or_left, or_second as or_right}
+use Rattle.small_lemmas.proofs.Lists.{same_number as some_eq}
+use Rattle.small_lemmas.proofs.Numbers.{less_tested as lt_test, tested_some as not_zero}
 use Rattle.map_history.specs.declared.op.Op.{Op}
 use Rattle.map_history.specs.Keys.{key_of}
-use Rattle.section_body.specs.Word.{value_of}
+use Rattle.body_terms.specs.Word.{value_of}
 use Rattle.structure_laws.specs.Scene.{Readings}
 use Rattle.structure_laws.proofs.Changes.{equal_of, value_small}
 use Rattle.bucket_laws.specs.Walk.{Bounds, is_del, is_wanted}
@@ -73,26 +76,11 @@ is_marked AtMark = true
 is_marked AtEnd = true
 is_marked Refused = false
 
-some_eq : (a b : ℕ) → Some a ≡ Some b → a ≡ b
-some_eq a b e = cc
-
-or_left : (a b : Bool) → a ≡ true → (a || b) ≡ true
-or_left a b h = grind arith
-
-or_right : (a b : Bool) → b ≡ true → (a || b) ≡ true
-or_right a b h = grind arith
-
 pub both : (a b : Bool) → a ≡ true → b ≡ true → (a && b) ≡ true
 both a b h h' = grind arith
 
 pub eq_test : (a b : ℕ) → a ≡ b → (a == b) ≡ true
 eq_test a b e = grind arith
-
-lt_test : (a b : ℕ) → a < b → nat_lt a b ≡ true
-lt_test a b low = grind arith
-
-not_zero : (a : ℕ) → (a == 0) ≡ false → 0 < a
-not_zero a h = grind arith
 
 -- where one reading passes a test, one of them does
 any_of : (test : ℕ × ℕ → Bool) (readings : Readings) (i : ℕ) (reading : ℕ × ℕ) → slice_get readings i ≡ Some reading → test reading ≡ true → list_any test readings ≡ true

@@ -5,7 +5,7 @@ use Rattle.std.specs.FinMap.{get}
 use Rattle.map_history.specs.declared.op.Op.{Op}
 use Rattle.map_history.specs.Keys.{key_of}
 use Rattle.map_history.specs.Replay.{Pairs}
-use Rattle.section_body.specs.Word.{value_of}
+use Rattle.body_terms.specs.Word.{value_of}
 use Rattle.section_body.specs.Bucket.{operand}
 use Rattle.table_words.specs.declared.layout.Layout.{Layout}
 use Rattle.table_words.specs.Places.{slot_count}
@@ -163,9 +163,11 @@ pub record IsNewInner (s : Scene) (once : ℕ → Bool) (x : Section) : Type 0 w
   pub live : s.status slot ≡ Live
   pub new : once slot ≡ false
   pub other : x.reg 3 ≢ x.reg 2
-  pub key : (nodes s.cells).key slot ≡ cond (nat_lt (operand x.thunk 3) (operand x.thunk 5)) (operand x.thunk 5) (operand x.thunk 3)
+  pub key : (nodes s.cells).key slot ≡ cond (nat_lt (operand x.thunk 3) (operand x.thunk 5)) (operand x.thunk 5)
+      (operand x.thunk 3)
   pub new_side : (nodes s.cells).child (nat_lt (operand x.thunk 3) (operand x.thunk 5)) slot ≡ x.reg 2
-  pub old_side : (nodes s.cells).child (not (nat_lt (operand x.thunk 3) (operand x.thunk 5))) slot ≡ value_of (operand x.thunk 1)
+  pub old_side : (nodes s.cells).child (not (nat_lt (operand x.thunk 3) (operand x.thunk 5))) slot
+      ≡ value_of (operand x.thunk 1)
   pub unmarked : (nodes s.cells).mark slot ≡ 0
 
 -- what a section has taken out of the tree: a marked parent and its leaf, no longer linked and not fixed.
@@ -223,7 +225,8 @@ pub record TreeKept (layout : Layout) (s : Scene) : Type 0 where
   pub right_some : (t : ℕ) → s.status t ≢ Free → IsInner (nodes s.cells) t → 0 < (nodes s.cells).child false t
   pub mark_small : (t : ℕ) → s.status t ≢ Free → IsInner (nodes s.cells) t → (nodes s.cells).mark t ≤ 1
   -- an inner node that was linked once, is safe and isn't marked is linked
-  pub unmarked : (t : ℕ) → once t ≡ true → IsSafe s t → IsInner (nodes s.cells) t → (nodes s.cells).mark t ≡ 0 → covers.linked t ≡ true
+  pub unmarked : (t : ℕ) → once t ≡ true → IsSafe s t → IsInner (nodes s.cells) t → (nodes s.cells).mark t ≡ 0
+      → covers.linked t ≡ true
   -- where the links of such a node lead, marked or not
   pub trail : (t u : ℕ) (b : Bool) → once t ≡ true → IsSafe s t → IsInner (nodes s.cells) t
       → (nodes s.cells).child b t ≡ suc u

@@ -2,3 +2,7 @@ pub mod Search
 pub mod Walk
 pub mod Leaves
 pub mod Landing
+pub mod Short
+-- Passed on to the layers above, so that they needn't name these libraries themselves.
+pub use Rattle.tree_bodies
+pub use Rattle.bucket_laws

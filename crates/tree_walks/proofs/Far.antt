@@ -5,19 +5,22 @@ use Rattle.std.specs.List.{list_any}
 use Rattle.std.proofs.lemmas.Bool.Decides.{nat_tests}
 use Rattle.std.proofs.lemmas.Option.{none-some}
 use Rattle.std.proofs.lemmas.Bool.{and_from}
+use Rattle.small_lemmas.proofs.Bools.{from_false as false_true}
+use Rattle.small_lemmas.proofs.Lists.{same_number as some_eq, get_last as get_new}
+use Rattle.small_lemmas.proofs.Numbers.{tested_most as below}
 use Rattle.map_history.specs.declared.op.Op.{Op}
 use Rattle.map_history.specs.Keys.{key_of}
 use Rattle.section_body.specs.Bucket.{is_small}
-use Rattle.section_body.specs.Word.{value_of}
-use Rattle.section_body.proofs.ShapeLemmas.{any_found, found_any}
+use Rattle.body_terms.specs.Word.{value_of}
+use Rattle.body_terms.proofs.ShapeLemmas.{any_found, found_any}
 use Rattle.table_words.specs.declared.layout.Layout.{Layout}
 use Rattle.table_words.specs.Limits.{IsWithinLimits}
 use Rattle.table_words.specs.Places.{slot_count}
 use Rattle.structure_laws.specs.Scene.{Readings}
 use Rattle.structure_laws.specs.Sections.{IsAllowed}
 use Rattle.structure_laws.proofs.Changes.{both_true, equal_of}
-use Rattle.bucket_laws.specs.Walk.{Bounds, is_del}
-use Rattle.tree_bodies.specs.Tree.{lock_of, key_cell, left_of, right_of, mark_of}
+use Rattle.tree_laws.specs.bucket_laws.specs.Walk.{Bounds, is_del}
+use Rattle.tree_laws.specs.tree_bodies.specs.Tree.{lock_of, key_cell, left_of, right_of, mark_of}
 use Rattle.tree_laws.specs.Walk.{Stage, AtRoot, AtLeft, AtKey, AtRight, AtValue, AtGrandLock, AtGrandMark, AtLock, AtMark, AtEnd, Refused, Walk, start, node_of, wanted_at, is_end, after_leaf, at_key, fed}
 use Rattle.tree_laws.specs.Leaves.{bounds, walk_of, is_lock_place, is_left_place, is_right_place, shows_inner, shows_link, TreeWalked}
 use Rattle.tree_laws.proofs.WalkReads.{IsAmong, IsGiven, IsFrom, walk_reads}
@@ -25,15 +28,6 @@ use Rattle.tree_walks.specs.Walking.{lock_by, is_refused_at, is_refused_in}
 use Rattle.tree_walks.specs.Leading.{is_mark_place, FarLaw}
 use Rattle.tree_walks.proofs.Knowing.{Knows, knows_walked}
 use Rattle.tree_walks.proofs.Leading.{lock_cell, low_slot}
-
-some_eq : (a b : ℕ) → Some a ≡ Some b → a ≡ b
-some_eq a b e = cc
-
-false_true : {A : Type 0} → false ≡ true → A
-false_true e = cc
-
-below : (a b : ℕ) → nat_le a b ≡ true → a ≤ b
-below a b h = grind (arith, nat_tests)
 
 not_zero : (a : ℕ) → 0 < a → (a == 0) ≡ false
 not_zero a some = grind (arith, nat_tests)
@@ -46,10 +40,6 @@ get_more : {A : Type 0} (xs : List A) (y v : A) (i : ℕ) → slice_get xs i ≡
 get_more [] y v i h = absurd (cc)
 get_more (x ∷ xs) y v zero h = h
 get_more (x ∷ xs) y v (suc i) h = get_more xs y v i h
-
-get_new : {A : Type 0} (xs : List A) (y : A) → slice_get (xs ++ y ∷ []) (length xs) ≡ Some y
-get_new [] y = refl
-get_new (x ∷ xs) y = get_new xs y
 
 module _ (readings : Readings) (last : ℕ × ℕ) where
   abbrev all : Readings

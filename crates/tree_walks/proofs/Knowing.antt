@@ -3,26 +3,20 @@ use Rattle.std.proofs.Common.{◌≡◌, ℕ, suc, Bool, true, false, cond, refl
 use Rattle.std.specs.Prelude.{◌==◌, ◌&&◌, nat_le, nat_lt, slice_get}
 use Rattle.std.proofs.lemmas.Option.{none-some}
 use Rattle.std.proofs.lemmas.Bool.{and_from}
+use Rattle.small_lemmas.proofs.Bools.{from_false as false_true}
+use Rattle.small_lemmas.proofs.Lists.{same_number as some_eq}
+use Rattle.small_lemmas.proofs.Numbers.{self_tested as eq_test}
 use Rattle.map_history.specs.declared.op.Op.{Op}
 use Rattle.map_history.specs.Keys.{key_of}
-use Rattle.section_body.specs.Word.{value_of}
-use Rattle.section_body.proofs.ShapeLemmas.{found_any}
+use Rattle.body_terms.specs.Word.{value_of}
+use Rattle.body_terms.proofs.ShapeLemmas.{found_any}
 use Rattle.structure_laws.specs.Scene.{Readings}
-use Rattle.bucket_laws.specs.Walk.{Bounds, is_del, is_wanted}
-use Rattle.bucket_laws.proofs.Walks.{wanted_eq}
-use Rattle.tree_bodies.specs.Tree.{lock_of, left_of}
+use Rattle.tree_laws.specs.bucket_laws.specs.Walk.{Bounds, is_del, is_wanted}
+use Rattle.tree_laws.specs.bucket_laws.proofs.Walks.{wanted_eq}
+use Rattle.tree_laws.specs.tree_bodies.specs.Tree.{lock_of, left_of}
 use Rattle.tree_laws.specs.Walk.{Stage, AtRoot, AtLeft, AtKey, AtRight, AtValue, AtGrandLock, AtGrandMark, AtLock, AtMark, AtEnd, Refused, Step, Walk, start, node_of, wanted_at, is_ready, after_leaf, followed, at_key, fed, walk}
 use Rattle.tree_laws.specs.Leaves.{shows_inner}
 use Rattle.tree_laws.proofs.WalkReads.{IsAmong}
-
-some_eq : (a b : ℕ) → Some a ≡ Some b → a ≡ b
-some_eq a b e = cc
-
-false_true : {A : Type 0} → false ≡ true → A
-false_true e = cc
-
-eq_test : (a : ℕ) → (a == a) ≡ true
-eq_test a = grind arith
 
 some_test : (a : ℕ) → (a == 0) ≡ false → nat_lt 0 a ≡ true
 some_test a e = grind arith

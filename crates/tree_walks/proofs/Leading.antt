@@ -4,19 +4,22 @@ use Rattle.std.specs.Prelude.{◌==◌, ◌&&◌, ◌||◌, not, ◌-◌, ◌/�
 use Rattle.std.specs.List.{list_any}
 use Rattle.std.proofs.lemmas.Option.{none-some}
 use Rattle.std.proofs.lemmas.Bool.{and_from}
+use Rattle.small_lemmas.proofs.Bools.{from_false as false_true}
+use Rattle.small_lemmas.proofs.Lists.{same_number as some_eq}
+use Rattle.small_lemmas.proofs.Numbers.{self_tested as same_test}
 use Rattle.map_history.specs.declared.op.Op.{Op}
 use Rattle.map_history.specs.declared.op.Op.TheVariants.{Get, Ins, Del}
 use Rattle.section_body.specs.Bucket.{is_small}
-use Rattle.section_body.specs.Memory.{cell_of}
-use Rattle.section_body.specs.Word.{value_of, is_free, is_spent}
-use Rattle.section_body.proofs.ShapeLemmas.{found_any}
+use Rattle.body_terms.specs.Memory.{cell_of}
+use Rattle.body_terms.specs.Word.{value_of, is_free, is_spent}
+use Rattle.body_terms.proofs.ShapeLemmas.{found_any}
 use Rattle.table_words.specs.declared.layout.Layout.{Layout}
 use Rattle.table_words.specs.Places.{slot_count}
 use Rattle.structure_laws.specs.Scene.{Readings}
 use Rattle.structure_laws.proofs.Changes.{both_true, equal_of}
 use Rattle.runner_parts.specs.Tests.{has_pair, is_readable}
-use Rattle.bucket_laws.specs.Walk.{Bounds, is_del, same_numbers}
-use Rattle.tree_bodies.specs.Tree.{lock_of, key_cell, left_of, right_of, mark_of}
+use Rattle.tree_laws.specs.bucket_laws.specs.Walk.{Bounds, is_del, same_numbers}
+use Rattle.tree_laws.specs.tree_bodies.specs.Tree.{lock_of, key_cell, left_of, right_of, mark_of}
 use Rattle.tree_laws.specs.Walk.{Stage, AtRoot, AtLeft, AtKey, AtRight, AtValue, AtGrandLock, AtGrandMark, AtLock, AtMark, AtEnd, Refused, Walk, node_of, wanted_at, is_end, is_ready, fed, form_for, operands_for, word_for}
 use Rattle.tree_laws.specs.Leaves.{tree, bounds, walk_of, is_lock_place, shows_link, TreeWalked}
 use Rattle.tree_laws.proofs.Shown.{some_of}
@@ -26,14 +29,8 @@ use Rattle.tree_walks.specs.Leading.{is_mark_place, first_walk, IsThunkOf, WalkL
 use Rattle.tree_walks.proofs.Knowing.{HasGrand, Knows, knows}
 use Rattle.tree_walks.proofs.Steps.{walk_nearer}
 
-some_eq : (a b : ℕ) → Some a ≡ Some b → a ≡ b
-some_eq a b e = cc
-
 some_none : {A : Type 0} (a : ℕ) → Some a ≡ None → A
 some_none a e = cc
-
-false_true : {A : Type 0} → false ≡ true → A
-false_true e = cc
 
 -- which cell of its slot a place is
 cell_is : (t k place : ℕ) → k < 5 → cell_of 0 t k ≡ place → place % 5 ≡ k
@@ -171,9 +168,6 @@ module _ (b : Bounds) (op : Op) (w : Walk) where
   ends_at AtEnd true wants goes = (refl, refl)
   ends_at AtEnd false wants goes = absurd (cc)
   ends_at Refused c wants goes = absurd (cc)
-
-same_test : (n : ℕ) → (n == n) ≡ true
-same_test n = grind arith
 
 same_self : (xs : List ℕ) → same_numbers xs xs ≡ true
 same_self [] = refl

@@ -5,8 +5,8 @@ use Rattle.std.proofs.lemmas.Bool.Decides.{nat_tests}
 use Rattle.std.proofs.lemmas.Option.{none-some}
 use Rattle.map_history.specs.declared.op.Op.{Op}
 use Rattle.map_history.specs.Keys.{key_of}
-use Rattle.section_body.specs.Word.{value_of}
-use Rattle.bucket_laws.specs.Walk.{Bounds, is_del}
+use Rattle.body_terms.specs.Word.{value_of}
+use Rattle.tree_laws.specs.bucket_laws.specs.Walk.{Bounds, is_del}
 use Rattle.tree_laws.specs.Walk.{Stage, AtRoot, AtLeft, AtKey, AtRight, AtValue, AtGrandLock, AtGrandMark, AtLock, AtMark, AtEnd, Refused, Walk, is_ready, after_leaf, at_key, wanted_at, fed}
 use Rattle.tree_walks.specs.Walking.{Walking, wanted_by, fed_by, left_at, left_by}
 

@@ -2,9 +2,9 @@
 use Rattle.std.specs.Prelude.{ℕ, ◌+◌, ◌*◌, ◌-◌, ◌<◌, Bool, true, false, cond, not, ◌&&◌, ◌||◌, Option}
 use Rattle.map_history.specs.declared.op.Op.{Op}
 use Rattle.section_body.specs.Bucket.{is_small}
-use Rattle.section_body.specs.declared.thunk.Thunk.{Thunk}
+use Rattle.body_terms.specs.declared.thunk.Thunk.{Thunk}
 use Rattle.structure_laws.specs.Scene.{Readings}
-use Rattle.bucket_laws.specs.Walk.{Bounds}
+use Rattle.tree_laws.specs.bucket_laws.specs.Walk.{Bounds}
 use Rattle.tree_laws.specs.Walk.{Walk, Step, start, is_end, form_for, operands_for, lock_for, word_for, wanted_at, fed, walk}
 use Rattle.tree_laws.specs.Walk as walks
 use Rattle.tree_walks.specs.declared.stage.Stage.{Stage}

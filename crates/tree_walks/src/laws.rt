@@ -5,15 +5,15 @@ ghost use Rattle.table_words.specs.Limits.{IsWithinLimits};
 ghost use Rattle.structure_laws.specs.Sections.{IsAllowed};
 ghost use Rattle.tree_walks.specs.Leading.{WalkLeads, FarLaw};
 
-/// The walk of each operation on the search tree leads a plan, over every layout: it loads what a runner may load and makes at most 3N + 28
-/// loads, N being the number of node slots; a lock refuses it where its word isn't free or is spent, and a mark of 1 always; and once it is
-/// whole, its thunk fits what was read.
+/// The walk of each operation on the search tree leads a plan, over every layout: it loads what a runner may load and
+/// makes at most 3N + 28 loads, N being the number of node slots; a lock refuses it where its word isn't free or is
+/// spent, and a mark of 1 always; and once it is whole, its thunk fits what was read.
 pub fn tree_walks_lead()
     ensures { (layout : Layout) (op : Op) → WalkLeads layout op }
 {}
 
-/// A walk that is refused by no lock and by no mark of 1 has loaded as many links as there are node slots, and eight more: by what is known of
-/// the readings in each reached state, over every layout and operation within the limits.
+/// A walk that is refused by no lock and by no mark of 1 has loaded as many links as there are node slots, and eight
+/// more: by what is known of the readings in each reached state, over every layout and operation within the limits.
 pub fn far_walks_are_long()
     ensures { (layout : Layout) (op : Op) → IsWithinLimits layout → IsAllowed op → FarLaw layout op }
 {}

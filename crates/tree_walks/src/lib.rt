@@ -1,7 +1,8 @@
 //! The walk of a key through the search tree, load by load.
 //!
-//! `walk` has the walk, which loads nothing itself: it says which place it wants next, and goes on by the word that stood there. `stage` has
-//! what it loads next and the links that it has followed, and `thunk` the thunk for a whole walk. `laws` says that it leads a plan.
+//! `walk` has the walk, which loads nothing itself: it says which place it wants next, and goes on by the word that
+//! stood there. `stage` has what it loads next and the links that it has followed, and `thunk` the thunk for a whole
+//! walk. `laws` says that it leads a plan.
 #![tactic(auto)]
 
 mod laws;
@@ -12,3 +13,6 @@ mod walk;
 pub use laws::{far_walks_are_long, tree_walks_lead};
 pub use stage::{Link, Stage};
 pub use walk::TreeWalk;
+
+// Passed on to the layers above, so that they needn't name these libraries themselves.
+pub use tree_laws::tree_bodies;

@@ -1,14 +1,14 @@
 //! The thunk for a whole walk.
 ghost use Rattle.std.specs.Prelude.{◌≡◌, ◌&&◌};
 ghost use Rattle.map_history.specs.Words.{word_of as reply_word};
-ghost use Rattle.bucket_laws.specs.Walk.{is_del, same_numbers};
+ghost use Rattle.tree_laws.specs.bucket_laws.specs.Walk.{is_del, same_numbers};
 ghost use Rattle.tree_laws.specs.Walk.{form_for, word_for, operands_for, look_operands, insert_operands, delete_operands, fits_walk};
 ghost use Rattle.tree_walks.specs.Walking.{lock_by, thunk_by};
 
 use crate::stage::{Stage, cell};
 use crate::walk::TreeWalk;
+use body_terms::{Thunk, Word};
 use map_history::{Op, Reply};
-use section_body::{Thunk, Word};
 
 impl TreeWalk {
     /// Whether the section takes a leaf out.

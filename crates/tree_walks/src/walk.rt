@@ -1,12 +1,12 @@
 //! The walk of a key from the root to a leaf.
 ghost use Rattle.std.specs.Prelude.{◌≡◌, ◌<◌, ◌≤◌, ◌==◌, cond};
-ghost use Rattle.section_body.specs.Word.{value_of};
+ghost use Rattle.body_terms.specs.Word.{value_of};
 ghost use Rattle.tree_laws.specs.Walk.{AtRoot, AtLeft, AtKey, Refused, after_link, after_leaf, followed, is_ready};
 ghost use Rattle.tree_walks.specs.Walking.{stage_of, is_refused_of, begun, fed_by, wanted_by};
 
 use crate::stage::{Link, Stage, cell};
+use body_terms::Word;
 use map_history::Op;
-use section_body::Word;
 use std::marker::Model;
 
 /// How far the walk of an operation's key has come.
@@ -64,8 +64,8 @@ impl Model for TreeWalk {
 }
 
 impl TreeWalk {
-    /// A walk that has loaded nothing. It is refused at a link once it has loaded `limit` links, and at a free lock from which `version_max`
-    /// is less than two versions away.
+    /// A walk that has loaded nothing. It is refused at a link once it has loaded `limit` links, and at a free lock
+    /// from which `version_max` is less than two versions away.
     pub fn new(op: Op, limit: u128, version_max: u32) -> TreeWalk
         requires few { limit ≤ 73786976294838206464 }
         ensures { result ≡ begun op limit version_max }
@@ -159,7 +159,8 @@ impl TreeWalk {
         self.last = Link::first(word);
     }
 
-    /// Goes on by the last node's key: at a leaf the walk along links ends, of an inner node the link on the key's side is followed.
+    /// Goes on by the last node's key: at a leaf the walk along links ends, of an inner node the link on the key's side
+    /// is followed.
     #[inline(always)]
     fn feed_key(&mut self, key: u32)
         requires { self.old.walk.stage ≡ AtKey }
@@ -215,8 +216,8 @@ impl TreeWalk {
         }
     }
 
-    /// What comes after a leaf's key: its value, where it is the operation's key and the leaf stays; or the locks. A removal needs a parent
-    /// of the parent.
+    /// What comes after a leaf's key: its value, where it is the operation's key and the leaf stays; or the locks. A
+    /// removal needs a parent of the parent.
     #[inline(always)]
     fn past_leaf(&self) -> Stage
         ensures { stage_of result ≡ after_leaf self.now.op self.now.walk.deep self.now.walk.found }

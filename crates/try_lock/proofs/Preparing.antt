@@ -5,7 +5,7 @@ use Rattle.std.proofs.lemmas.Bool.{cases_lt}
 use Rattle.std.proofs.lemmas.Bool.Decides.{nat_tests}
 use Rattle.std.proofs.lemmas.List.{get_or_append_left}
 use Rattle.std.proofs.Math.Seq.{get_or-append_seam, get_or-append_right}
-use Rattle.section_body.specs.declared.thunk.Thunk.{Thunk}
+use Rattle.body_terms.specs.declared.thunk.Thunk.{Thunk}
 use Rattle.table_words.specs.Places.{slot_count, descriptor_count}
 use Rattle.structure_laws.specs.Meaning.{Meaning}
 use Rattle.runner_parts.specs.declared.entries.Stored.{Stored}
@@ -16,10 +16,10 @@ use Rattle.runner_parts.specs.State.{PartState, DescriptorsState}
 use Rattle.runner_parts.specs.Tests.{has, is_some_of, last_stored, are_stored, is_prepared, thunk_words}
 use Rattle.runner_parts.specs.Lists.{descriptor_stored, nodes_looked}
 use Rattle.runner_steps.specs.After.{outside_after}
-use Rattle.section_runs.specs.version_words.specs.RunnerState.{RunnerState}
-use Rattle.section_runs.specs.version_words.specs.Events.{IsEnabled, Makes}
-use Rattle.section_runs.specs.version_words.specs.Stages.{IsAt}
-use Rattle.section_runs.specs.version_words.proofs.Stages.{may_load_word, may_store_word, then_loaded_word, then_stored_word}
+use Rattle.epoch_slots.specs.version_words.specs.RunnerState.{RunnerState}
+use Rattle.epoch_slots.specs.version_words.specs.Events.{IsEnabled, Makes}
+use Rattle.epoch_slots.specs.version_words.specs.Stages.{IsAt}
+use Rattle.epoch_slots.specs.version_words.proofs.Stages.{may_load_word, may_store_word, then_loaded_word, then_stored_word}
 use Rattle.epoch_slots.proofs.Outside.{nodes_made, descriptors_made, reads_made, known_made, finished_made}
 use Rattle.try_lock.specs.Prepares.{MaySet, KeepsElse, Stores, SetsWord, SetsWords, HasSet, IsReady}
 

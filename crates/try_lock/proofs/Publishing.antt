@@ -3,10 +3,12 @@ use Rattle.std.proofs.Common.{◌≡◌, ℕ, zero, suc, ◌+◌, ◌-◌, ◌*�
 use Rattle.std.specs.Prelude.{◌==◌, ◌&&◌, ◌||◌, nat_lt, slice_index, is_none, if◌then◌else◌}
 use Rattle.std.proofs.lemmas.Bool.Decides.{nat_tests}
 use Rattle.std.proofs.lemmas.List.{length-replicate}
+use Rattle.small_lemmas.proofs.Bools.{second_of as and_right}
+use Rattle.small_lemmas.proofs.Numbers.{less_tested as tests_below}
 use Rattle.map_history.specs.declared.op.Request.{Request}
-use Rattle.section_body.specs.Word.{value_of, is_free, held_word}
-use Rattle.section_body.specs.declared.outcome.Refused.{Refused}
-use Rattle.section_body.specs.declared.thunk.Thunk.{Thunk}
+use Rattle.body_terms.specs.Word.{value_of, is_free, held_word}
+use Rattle.body_terms.specs.declared.outcome.Refused.{Refused}
+use Rattle.body_terms.specs.declared.thunk.Thunk.{Thunk}
 use Rattle.table_words.specs.declared.layout.Layout.{Layout}
 use Rattle.table_words.specs.declared.spot.Spot.{Spot}
 use Rattle.table_words.specs.declared.spot.Spot.TheVariants as spots
@@ -32,16 +34,16 @@ use Rattle.machine_states.proofs.Reached.{reached_all}
 use Rattle.machine_states.proofs.Steps.{some_same}
 use Rattle.machine_states.proofs.Sights.{happens_steps}
 use Rattle.machine_epochs.proofs.SectionKinds.{stored_index, replicate_index, log_spot}
-use Rattle.section_runs.specs.machine_invariant.specs.After.{AreAllowed}
+use Rattle.epoch_slots.specs.machine_invariant.specs.After.{AreAllowed}
 use Rattle.section_runs.specs.machine_facts.specs.After.{AreFactsOfStep}
 use Rattle.section_runs.specs.machine_facts.proofs.Following.{step_facts_after}
 use Rattle.section_runs.specs.next_steps.specs.Numbers.{PartFits}
 use Rattle.section_runs.specs.next_steps.proofs.Numbers.{reached_numbers}
-use Rattle.section_runs.specs.version_words.specs.RunnerState.{RunnerState}
-use Rattle.section_runs.specs.version_words.specs.Events.{IsEnabled, Makes}
-use Rattle.section_runs.specs.version_words.specs.Stages.{IsAt}
-use Rattle.section_runs.specs.version_words.proofs.Holds.{holds_so}
-use Rattle.section_runs.specs.version_words.proofs.Stages.{enabled, made_at}
+use Rattle.epoch_slots.specs.version_words.specs.RunnerState.{RunnerState}
+use Rattle.epoch_slots.specs.version_words.specs.Events.{IsEnabled, Makes}
+use Rattle.epoch_slots.specs.version_words.specs.Stages.{IsAt}
+use Rattle.epoch_slots.specs.version_words.proofs.Holds.{holds_so}
+use Rattle.epoch_slots.specs.version_words.proofs.Stages.{enabled, made_at}
 use Rattle.epoch_slots.proofs.Outside.{nodes_made, descriptors_made, reads_made, known_made, finished_made}
 use Rattle.try_lock.specs.declared.section.Section.{Section}
 use Rattle.try_lock.specs.Reached.{IsReached, IsSectionOf}
@@ -69,13 +71,6 @@ has_last (y ∷ xs) x = let rest = has_last xs x in either (y == x) (has (xs ++ 
 -- the last of the free ones
 pub last_is_free : (free xs : List ℕ) → xs ≡ free → 1 ≤ length free → has free (slice_index xs (length xs - 1)) ≡ true
 last_is_free free xs is some = subst (λ ys. has ys (slice_index xs (length xs - 1)) ≡ true) is (has_at xs (length xs - 1) (let a = ap length is in omega (arith, a, some)))
-
-tests_below : (a b : ℕ) → a < b → nat_lt a b ≡ true
-tests_below a b low = grind (arith, nat_tests, low)
-
-and_right : (a b : Bool) → (a && b) ≡ true → b ≡ true
-and_right true b e = e
-and_right false b e = absurd (let no = e in cc)
 
 module _ {T : Type 0} (m : Meaning) where
   -- the part of a runner in a state that the machine reaches

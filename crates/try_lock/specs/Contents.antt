@@ -1,11 +1,11 @@
 -- What a closed table's words stand for.
 use Rattle.std.specs.Prelude.{◌≡◌, ℕ, true}
 use Rattle.map_history.specs.Replay.{Pairs}
-use Rattle.section_body.specs.Word.{is_free}
+use Rattle.body_terms.specs.Word.{is_free}
 use Rattle.table_words.specs.declared.spot.Spot.TheVariants.{Cell}
 use Rattle.structure_laws.specs.Scene.{Cells}
 use Rattle.structure_laws.specs.Meaning.{Meaning}
-use Rattle.section_runs.specs.version_words.specs.TableState.{WordsState, HasWord, word_of}
+use Rattle.epoch_slots.specs.version_words.specs.TableState.{WordsState, HasWord, word_of}
 
 module _ {T : Type 0} (m : Meaning) where
   -- the cells are well formed, and their contents are the map; of places beyond the table nothing is said
@@ -16,4 +16,5 @@ module _ {T : Type 0} (m : Meaning) where
 
   -- no lock names a descriptor
   abbrev pub NamesNone : WordsState T → Type 0
-  NamesNone words = (place : ℕ) → m.is_lock place ≡ true → HasWord m words (Cell place) → is_free (word_of m words (Cell place)) ≡ true
+  NamesNone words = (place : ℕ) → m.is_lock place ≡ true → HasWord m words (Cell place)
+      → is_free (word_of m words (Cell place)) ≡ true

@@ -7,13 +7,7 @@ pub mod Planning
 pub mod Plans
 pub mod Contents
 -- Passed on to the layers above, so that they needn't name these libraries themselves.
-pub use Rattle.section_runs.specs.machine_agreement
-pub use Rattle.section_runs.specs.machine_invariant
-pub use Rattle.section_runs.specs.machine_facts
-pub use Rattle.section_runs.specs.next_steps
-pub use Rattle.section_runs.specs.machine_records
-pub use Rattle.section_runs.specs.reached_histories
-pub use Rattle.section_runs.specs.version_words
+pub use Rattle.epoch_slots.specs.version_words
 pub use Rattle.epoch_slots
 pub use Rattle.section_runs.specs.commit_log
 pub use Rattle.section_runs

@@ -3,8 +3,8 @@ use Rattle.std.specs.Prelude.{◌≡◌, ℕ, ◌+◌, ◌*◌, ◌-◌, ◌≤�
 use Rattle.std.specs.Prelude.{Bool, true, false, not, ◌==◌, ◌&&◌, if◌then◌else◌, Option, Some, None}
 use Rattle.map_history.specs.declared.op.Op.{Op}
 use Rattle.map_history.specs.declared.op.Request.{Request}
-use Rattle.section_body.specs.Word.{value_of, version_of, pack, is_free, is_spent}
-use Rattle.section_body.specs.declared.thunk.Thunk.{Thunk}
+use Rattle.body_terms.specs.Word.{value_of, version_of, pack, is_free, is_spent}
+use Rattle.body_terms.specs.declared.thunk.Thunk.{Thunk}
 use Rattle.table_words.specs.declared.layout.Layout.{Layout}
 use Rattle.structure_laws.specs.Scene.{Readings}
 use Rattle.structure_laws.specs.Meaning.{Meaning}
@@ -15,9 +15,9 @@ use Rattle.epoch_core.specs.declared.stage.Stage.TheVariants as stages
 use Rattle.runner_parts.specs.State.{ReadsState}
 use Rattle.runner_parts.specs.Lists.{named_by}
 use Rattle.runner_parts.specs.Tests.{has_pair}
-use Rattle.section_runs.specs.version_words.specs.RunnerState.{RunnerState}
-use Rattle.section_runs.specs.version_words.specs.Events.{Makes}
-use Rattle.section_runs.specs.version_words.specs.Stages.{IsAt}
+use Rattle.epoch_slots.specs.version_words.specs.RunnerState.{RunnerState}
+use Rattle.epoch_slots.specs.version_words.specs.Events.{Makes}
+use Rattle.epoch_slots.specs.version_words.specs.Stages.{IsAt}
 use Rattle.epoch_slots.specs.Entries.{KeepsOwn}
 use Rattle.section_runs.specs.commit_log.specs.Asked.{IsAsked}
 use Rattle.try_lock.specs.declared.planned.Planned.{Planned}

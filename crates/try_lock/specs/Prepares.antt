@@ -1,14 +1,14 @@
 -- Words of an own free descriptor.
 use Rattle.std.specs.Prelude.{◌≡◌, ℕ, ◌+◌, ◌<◌, List, [], ◌∷◌, ◌++◌, replicate, Bool, true, false, ◌==◌, length, slice_index, None, Some}
-use Rattle.section_body.specs.declared.thunk.Thunk.{Thunk}
+use Rattle.body_terms.specs.declared.thunk.Thunk.{Thunk}
 use Rattle.table_words.specs.Places.{slot_count}
 use Rattle.structure_laws.specs.Meaning.{Meaning}
 use Rattle.runner_parts.specs.declared.event.EventKind.TheVariants as kinds
 use Rattle.epoch_core.specs.declared.stage.Stage.TheVariants as stages
 use Rattle.runner_parts.specs.Tests.{last_stored, thunk_words, is_prepared}
-use Rattle.section_runs.specs.version_words.specs.RunnerState.{RunnerState}
-use Rattle.section_runs.specs.version_words.specs.Events.{Makes, IsMade}
-use Rattle.section_runs.specs.version_words.specs.Stages.{IsAt, HasFree}
+use Rattle.epoch_slots.specs.version_words.specs.RunnerState.{RunnerState}
+use Rattle.epoch_slots.specs.version_words.specs.Events.{Makes, IsMade}
+use Rattle.epoch_slots.specs.version_words.specs.Stages.{IsAt, HasFree}
 
 module _ {T : Type 0} where
   -- the runner is entered and in no run, has no section left to retire, and this descriptor is free
@@ -56,12 +56,14 @@ module _ {T : Type 0} where
       pub stored : (i : ℕ) → i < length numbers
           → last_stored new.part.descriptors.stored descriptor (first + i) None ≡ Some (slice_index numbers i)
       pub others : (word : ℕ) → word < first
-          → last_stored new.part.descriptors.stored descriptor word None ≡ last_stored old.part.descriptors.stored descriptor word None
+          → last_stored new.part.descriptors.stored descriptor word None
+          ≡ last_stored old.part.descriptors.stored descriptor word None
 
     -- the descriptor's words are those of this thunk, no done and an empty log, as the runner knows; each was
     -- loaded, and stored where it was another
     pub record IsReady (descriptor : ℕ) (t : Thunk) (old new : RunnerState T) : Type 0 where
-      pub sets : SetsWords (slot_count old.layout m.fixed_slots + descriptor) 0 (thunk_words t ++ replicate 65 0) old new
+      pub sets : SetsWords (slot_count old.layout m.fixed_slots + descriptor) 0 (thunk_words t ++ replicate 65 0) old
+          new
       pub at : (epoch : ℕ) → IsAt old (stages.Entered epoch) None → IsAt new (stages.Entered epoch) None
       pub keeps : KeepsElse old new
       pub prepared : is_prepared new.part.descriptors.stored descriptor t ≡ true

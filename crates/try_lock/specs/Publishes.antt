@@ -1,8 +1,8 @@
 -- Publications.
 use Rattle.std.specs.Prelude.{◌≡◌, ℕ, ◌+◌, ◌-◌, ◌<◌, ◌≤◌, ◌++◌, true, false, ◌==◌, length, replicate, Result, IfOk, IfErr, Some, None}
-use Rattle.section_body.specs.Word.{value_of, is_free}
-use Rattle.section_body.specs.declared.outcome.Refused.{Refused}
-use Rattle.section_body.specs.declared.thunk.Thunk.{Thunk}
+use Rattle.body_terms.specs.Word.{value_of, is_free}
+use Rattle.body_terms.specs.declared.outcome.Refused.{Refused}
+use Rattle.body_terms.specs.declared.thunk.Thunk.{Thunk}
 use Rattle.table_words.specs.declared.spot.Spot.TheVariants.{DoneWord, LogWord}
 use Rattle.table_words.specs.Places.{slot_count}
 use Rattle.structure_laws.specs.Meaning.{Meaning}
@@ -15,9 +15,9 @@ use Rattle.runner_steps.specs.AfterOutside.{published_by}
 use Rattle.machine_states.specs.Sight.{Sight, sight}
 use Rattle.machine_epochs.specs.Slots.{thunk_in}
 pub use Rattle.section_runs.specs.nested_lock.specs.Answers.{refused_by}
-use Rattle.section_runs.specs.version_words.specs.RunnerState.{RunnerState}
-use Rattle.section_runs.specs.version_words.specs.Events.{Makes}
-use Rattle.section_runs.specs.version_words.specs.Stages.{IsAt}
+use Rattle.epoch_slots.specs.version_words.specs.RunnerState.{RunnerState}
+use Rattle.epoch_slots.specs.version_words.specs.Events.{Makes}
+use Rattle.epoch_slots.specs.version_words.specs.Stages.{IsAt}
 use Rattle.try_lock.specs.declared.section.Section.{Section}
 use Rattle.try_lock.specs.Reached.{IsReached, IsSectionOf}
 use Rattle.try_lock.specs.Prepares.{SetsWords}
@@ -69,7 +69,8 @@ module _ {T : Type 0} (m : Meaning) where
     pub found : ℕ
     pub ready : RunnerState T
     pub was_free : has old.part.descriptors.free descriptor ≡ true
-    pub sets : SetsWords m (slot_count old.layout m.fixed_slots + descriptor) 0 (thunk_words t ++ replicate 65 0) old ready
+    pub sets : SetsWords m (slot_count old.layout m.fixed_slots + descriptor) 0 (thunk_words t ++ replicate 65 0) old
+        ready
     pub hold : Makes m (kinds.Hold t descriptor) found ready new
     pub published : IfOk answer (IsPublished t descriptor found old new)
     pub refused : IfErr answer (IsRefused t found old new)

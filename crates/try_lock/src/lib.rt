@@ -1,8 +1,8 @@
 //! Sections under locks: a section is published in its lock, and whoever meets the lock held runs it to its end.
 //!
-//! `planned` is what a plan answers; plans stand in `lock_walks`. `section` has what a caller holds of its own section, `publishes` how a
-//! section is published, `runs` how it is run, by its publisher or by others, `retires` how one is retired that is done (Ben-David,
-//! Blelloch, Wei, *Lock-free locks revisited*, 2022).
+//! `planned` is what a plan answers; plans stand in `lock_walks`. `section` has what a caller holds of its own section,
+//! `publishes` how a section is published, `runs` how it is run, by its publisher or by others, `retires` how one is
+//! retired that is done (Ben-David, Blelloch, Wei, *Lock-free locks revisited*, 2022).
 #![tactic(auto)]
 
 mod planned;
@@ -20,5 +20,6 @@ pub use section_runs::RunEnd;
 
 // Passed on to the layers above, so that they needn't name these libraries themselves.
 pub use epoch_slots;
+pub use epoch_slots::version_words;
 pub use section_runs;
-pub use section_runs::{commit_log, interleave_core, reached_histories, version_words};
+pub use section_runs::commit_log;

@@ -1,19 +1,20 @@
 //! The publication of a section.
 ghost use Rattle.std.specs.Prelude.{◌≡◌, ◌+◌, ◌<◌, ◌≤◌, length, replicate, slice_index};
 ghost use Rattle.table_words.specs.Places.{slot_count};
-ghost use Rattle.section_runs.specs.version_words.specs.TableState.{IsOf};
-ghost use Rattle.section_runs.specs.version_words.specs.Events.{start_of};
+ghost use Rattle.epoch_slots.specs.version_words.specs.TableState.{IsOf};
+ghost use Rattle.epoch_slots.specs.version_words.specs.Events.{start_of};
 ghost use Rattle.try_lock.specs.Prepares.{MaySet, SetsWord, HasSet, IsReady};
 ghost use Rattle.try_lock.specs.Publishes.{MayPublish, Publishes};
 
 use crate::section::Section;
-use runner_parts::{Structure, thunk_words};
-use section_body::{Refused, Thunk};
+use body_terms::{Refused, Thunk};
+use epoch_slots::version_words::{FlockTable, Runner, held_word, table_is_allowed};
+use runner_parts::thunk_words;
 use section_runs::nested_lock::refused;
-use section_runs::version_words::{FlockTable, Runner, held_word, table_is_allowed};
+use structure_laws::Structure;
 
-/// This word of an own free descriptor, whose words begin at this start, becomes this number: it is loaded, and stored where another number
-/// stands.
+/// This word of an own free descriptor, whose words begin at this start, becomes this number: it is loaded, and stored
+/// where another number stands.
 #[inline(always)]
 fn set_word<S: Structure>(
     table: &FlockTable<S>,

@@ -1,15 +1,16 @@
 //! The retirement of a section.
-ghost use Rattle.section_runs.specs.version_words.specs.TableState.{IsOf};
+ghost use Rattle.epoch_slots.specs.version_words.specs.TableState.{IsOf};
 ghost use Rattle.try_lock.specs.Retires.{IsOver, HasRetired};
 
 use crate::section::Section;
-use runner_parts::Structure;
-use section_runs::version_words::{FlockTable, Runner};
+use epoch_slots::version_words::{FlockTable, Runner};
+use structure_laws::Structure;
 
-/// Retires the section: loads the epoch, and puts the section's descriptor in the own limbo list with it, in one atomic step.
+/// Retires the section: loads the epoch, and puts the section's descriptor in the own limbo list with it, in one atomic
+/// step.
 ///
-/// The runner has to be entered and in no run, and the section is the one that it published and has run to its end. There is no refusal,
-/// and no memory is taken (Fraser, 2004).
+/// The runner has to be entered and in no run, and the section is the one that it published and has run to its end.
+/// There is no refusal, and no memory is taken (Fraser, 2004).
 pub fn retire_section<S: Structure>(
     table: &FlockTable<S>,
     runner: Runner<S>,

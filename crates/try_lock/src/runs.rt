@@ -1,27 +1,29 @@
 //! Runs of sections: the own one, and those that are met in their locks.
 ghost use Rattle.std.specs.Prelude.{◌≡◌, ℕ, ◌-◌, true, false};
-ghost use Rattle.section_body.specs.Trail.{Agreed};
-ghost use Rattle.section_body.specs.Word.{value_of};
-ghost use Rattle.section_body.specs.declared.outcome.Outcome.{Outcome};
-ghost use Rattle.section_body.specs.declared.thunk.Thunk.{Thunk};
-ghost use Rattle.section_runs.specs.version_words.specs.TableState.{IsOf};
+ghost use Rattle.body_terms.specs.Trail.{Agreed};
+ghost use Rattle.body_terms.specs.Word.{value_of};
+ghost use Rattle.body_terms.specs.declared.outcome.Outcome.{Outcome};
+ghost use Rattle.body_terms.specs.declared.thunk.Thunk.{Thunk};
+ghost use Rattle.epoch_slots.specs.version_words.specs.TableState.{IsOf};
 ghost use Rattle.section_runs.specs.commit_log.specs.Asked.{IsAsked};
 ghost use Rattle.section_runs.specs.declared.runs.RunEnd.TheVariants.{Done, Halted};
 ghost use Rattle.try_lock.specs.Reached.{MayRunSection, MayHelp};
 ghost use Rattle.try_lock.specs.Ends.{EndsSo, IsCutShort};
 
 use crate::section::Section;
-use runner_parts::Structure;
-use section_body::{Gate, Steps, Word};
-use section_runs::version_words::{FlockTable, Runner};
+use body_terms::{Gate, Steps, Word};
+use epoch_slots::version_words::{FlockTable, Runner};
 use section_runs::{RunEnd, run};
+use structure_laws::Structure;
 
-/// Runs the section that this runner published in this entry, whatever others do. Answers the outcome and the agreed words of its log, which
-/// are the same for each run of the section; the trail is late where the section was done as the run began.
+/// Runs the section that this runner published in this entry, whatever others do. Answers the outcome and the agreed
+/// words of its log, which are the same for each run of the section; the trail is late where the section was done as
+/// the run began.
 ///
-/// The runner is entered and in no run, and has a reserve of two node slots. It makes at most as many atomic steps as `cost` of the body says;
-/// each is counted, and the gate is asked after it. At `Done` the section is done, and none of its locks is held by it. `Halted` comes only
-/// where the gate's count rose. No memory is taken, and nothing waits (Ben-David, Blelloch, Wei, 2022).
+/// The runner is entered and in no run, and has a reserve of two node slots. It makes at most as many atomic steps as
+/// `cost` of the body says; each is counted, and the gate is asked after it. At `Done` the section is done, and none of
+/// its locks is held by it. `Halted` comes only where the gate's count rose. No memory is taken, and nothing waits
+/// (Ben-David, Blelloch, Wei, 2022).
 pub fn run_section<S: Structure, G: Gate, L>(
     table: &FlockTable<S>,
     runner: Runner<S>,
@@ -47,8 +49,9 @@ pub fn run_section<S: Structure, G: Gate, L>(
 
 /// Helps: runs the section that this lock word names, whatever its publisher and others do, as `run_section` does.
 ///
-/// The runner read the word in this entry from a lock outside a run, or it is an agreed word of a Take of a section that it published in
-/// this entry; so it holds the section's descriptor. It is in no run, and has a reserve of two node slots.
+/// The runner read the word in this entry from a lock outside a run, or it is an agreed word of a Take of a section
+/// that it published in this entry; so it holds the section's descriptor. It is in no run, and has a reserve of two
+/// node slots.
 pub fn help<S: Structure, G: Gate, L>(
     table: &FlockTable<S>,
     runner: Runner<S>,

@@ -6,6 +6,7 @@ use mathlib.Core.Option.{some, some-injective, some-ne-none}
 use mathlib.Core.Logic.{dite}
 use native.Mathlib.Decide.{ℕ_discrete}
 use lib.ListN.{get_elem?}
+use Rattle.small_lemmas.proofs.Bools.{false_not_true as false_true}
 use Rattle.atomic_table.specs.Table.{opening}
 use Rattle.map_history.specs.declared.op.Request.{Request}
 use Rattle.table_words.specs.declared.layout.Layout.{Layout}
@@ -19,9 +20,6 @@ use Rattle.machine_states.proofs.Steps.{some_same}
 use Rattle.version_words.specs.declared.view.View.{View}
 use Rattle.version_words.specs.Shown.{part_at}
 use Rattle.version_words.specs.Rule.{Holds, keeper_view, IsSeatedAt}
-
-false_true : false ≡ true → ⊥
-false_true e = cc
 
 get_first : {A : Type 0} (xs ys : List A) (i : ℕ) (a : A) → slice_get xs i ≡ Some a → slice_get (xs ++ ys) i ≡ Some a
 get_first [] ys i a e = absurd (none-some a e)

@@ -3,6 +3,7 @@
 use Rattle.std.proofs.Common.{◌≡◌, ℕ, zero, suc, ◌+◌, ◌<◌, ◌≤◌, List, [], ◌∷◌, length, get_or, Bool, true, false, refl, sym, ap, subst, ⊎_elim, arith, Some, slice_get}
 use Rattle.std.specs.Prelude.{◌||◌, ◌==◌, cond}
 use Rattle.std.proofs.lemmas.Bool.{cases_lt}
+use Rattle.small_lemmas.proofs.Numbers.{one_at_most}
 use Rattle.map_history.specs.declared.op.Request.{Request}
 use Rattle.table_words.specs.declared.layout.Layout.{Layout}
 use Rattle.table_words.specs.Limits.{IsWithinLimits}
@@ -15,7 +16,7 @@ use Rattle.runner_parts.specs.declared.entries.Retired.{Retired}
 use Rattle.runner_parts.specs.declared.event.EventKind.{EventKind}
 use Rattle.runner_parts.specs.State.{PartState}
 use Rattle.runner_parts.specs.Tests.{has}
-use Rattle.runner_parts.specs.Lists.{slots_of}
+use Rattle.runner_parts.specs.Lists.{slots_of, entry_count}
 use Rattle.epoch_core.specs.Lists.{times}
 use Rattle.machine_states.specs.World.{World, seat_of}
 use Rattle.machine_states.specs.Reached.{Reached}
@@ -23,10 +24,9 @@ use Rattle.machine_states.specs.Sight.{sight, part_or_first}
 use Rattle.machine_epochs.specs.Descriptors.{times_limbo, times_with}
 use Rattle.machine_epochs.specs.Firsts.{owner_of}
 use Rattle.machine_epochs.proofs.Reached.{descriptors_after}
-use Rattle.interleave_core.specs.machine_invariant.specs.Slots.{times_among}
-use Rattle.interleave_core.specs.machine_invariant.specs.Lengths.{entry_count}
-use Rattle.interleave_core.specs.machine_invariant.specs.After.{AreAllowed}
-use Rattle.interleave_core.specs.machine_invariant.proofs.After.{whole_after, short_after}
+use Rattle.machine_invariant.specs.Slots.{times_among}
+use Rattle.machine_invariant.specs.After.{AreAllowed}
+use Rattle.machine_invariant.proofs.After.{whole_after, short_after}
 use Rattle.runner_block.specs.Room.{AreFew}
 use Rattle.version_words.specs.ReachedWith.{ReachedWith, ReachedBy}
 use Rattle.version_words.specs.TableState.{HasSmallValue}
@@ -68,10 +68,6 @@ few_reached m laws l rs w limits requests reached r p there =
 pub few_seen : (m : Meaning) → Laws m → (l : Layout) (rs : List Request) (r : ℕ) (p : PartState) (spot : Spot) (number : ℕ) → IsWithinLimits l → AreAllowed rs → ReachedWith m l rs r p spot number
     → AreFew (slot_count l m.fixed_slots) p.nodes
 few_seen m laws l rs r p spot number limits requests seen = few_reached m laws l rs seen.world limits requests seen.reached r p seen.own
-
-one_at_most : (b : Bool) → cond b 1 0 ≤ 1
-one_at_most true = omega arith
-one_at_most false = omega arith
 
 -- before a step each node slot stands at most once in the runner's free list, and so does each descriptor
 module _ (m : Meaning) (l : Layout) (rs : List Request) (r : ℕ) (kind : EventKind) (old new : PartState) (met : Spot × Access) (found : ℕ) (shown : ReachedBy m l rs r kind old new met found) where

@@ -4,9 +4,9 @@ use Rattle.std.specs.Prelude.{◌==◌, not, cond}
 use mathlib.Core.Logic.{dite}
 use native.Mathlib.Decide.{ℕ_discrete}
 use Rattle.map_history.specs.declared.op.Request.{Request}
-use Rattle.section_body.specs.declared.micro.Micro.TheVariants as micros
-use Rattle.section_body.specs.Line.{micro_at}
-use Rattle.section_body.specs.Run.{written_once}
+use Rattle.body_terms.specs.declared.micro.Micro.TheVariants as micros
+use Rattle.body_terms.specs.Line.{micro_at}
+use Rattle.body_terms.specs.Run.{written_once}
 use Rattle.table_words.specs.declared.layout.Layout.{Layout}
 use Rattle.table_words.specs.declared.spot.Spot.{Spot}
 use Rattle.table_words.specs.declared.spot.Spot.TheVariants as spots
@@ -19,9 +19,9 @@ use Rattle.runner_parts.specs.State.{RunState, PartState}
 use Rattle.runner_steps.specs.Sections.{line_of}
 use Rattle.runner_steps.specs.Asks.{sizes_for}
 use Rattle.machine_states.specs.Sight.{sight, part_or_first}
-use Rattle.interleave_core.specs.machine_invariant.specs.After.{AreAllowed}
-use Rattle.interleave_core.specs.machine_invariant.specs.LogWords.{LogWordsSay}
-use Rattle.interleave_core.specs.machine_invariant.proofs.After.{log_words_after}
+use Rattle.machine_invariant.specs.After.{AreAllowed}
+use Rattle.machine_invariant.specs.LogWords.{LogWordsSay}
+use Rattle.machine_invariant.proofs.After.{log_words_after}
 use Rattle.version_words.specs.ReachedWith.{ReachedWith}
 
 -- the table's node slots have numbers of 32 bits

@@ -4,13 +4,14 @@ use Rattle.std.specs.Prelude.{◌%◌, ◌^◌, ◌&&◌, ◌==◌, suc, zero, n
 use Rattle.std.specs.Option.{is_some}
 use Rattle.std.specs.List.{list_all}
 use Rattle.std.proofs.lemmas.List.Folds.{list_all-append}
+use Rattle.small_lemmas.proofs.Bools.{false_not_true as false_true}
 use Rattle.map_history.specs.declared.op.Request.{Request}
-use Rattle.section_body.specs.declared.thunk.Thunk.{Thunk}
-use Rattle.section_body.specs.declared.micro.Micro.{Micro}
-use Rattle.section_body.specs.declared.micro.Micro.TheVariants as micros
-use Rattle.section_body.specs.Word.{version_of, held_word, next_word}
-use Rattle.section_body.specs.Line.{is_end, is_event, micro_at, release_of, releases, ending}
-use Rattle.section_body.specs.Run.{written_once}
+use Rattle.body_terms.specs.declared.thunk.Thunk.{Thunk}
+use Rattle.body_terms.specs.declared.micro.Micro.{Micro}
+use Rattle.body_terms.specs.declared.micro.Micro.TheVariants as micros
+use Rattle.body_terms.specs.Word.{version_of, held_word, next_word}
+use Rattle.body_terms.specs.Line.{is_end, is_event, micro_at, release_of, releases, ending}
+use Rattle.body_terms.specs.Run.{written_once}
 use Rattle.atomic_table.specs.Table.{Me}
 use Rattle.atomic_table.specs.Seated.{TableId}
 use Rattle.table_words.specs.declared.layout.Layout.{Layout}
@@ -18,7 +19,7 @@ use Rattle.table_words.specs.declared.spot.Spot.{Spot}
 use Rattle.table_words.specs.declared.spot.Spot.TheVariants as spots
 use Rattle.table_words.specs.declared.access.Access.{Access}
 use Rattle.table_words.specs.declared.access.Access.TheVariants.{Exchanges}
-use Rattle.table_words.specs.Places.{address, descriptor_count, Fits}
+use Rattle.table_words.specs.Places.{address, cells_at, descriptor_count, Fits}
 use Rattle.table_words.specs.Limits.{IsWithinLimits}
 use Rattle.std.proofs.Math.Nat.{mul-le-mul_left}
 use Rattle.std.proofs.lemmas.Bool.Decides.{nat_tests}
@@ -50,9 +51,6 @@ use Rattle.version_words.proofs.Asked.{unless_gone, tested}
 use Rattle.version_words.proofs.Keeps.{KeepsPart, no_epoch, was_part, then_kept}
 use Rattle.version_words.proofs.Epochs.{is_epoch, goes_epoch, ended_epoch, epoch_if}
 use Rattle.machine_states.proofs.Steps.{some_same, asked_fits}
-
-false_true : false ≡ true → ⊥
-false_true e = cc
 
 -- the kinds of step that are made in a run alone, once it has loaded its opening, and that leave the lists as they are
 abbrev pub is_quiet : EventKind → Bool
@@ -607,6 +605,6 @@ module _ {T : Type 0} (mean : T → Meaning) (s : T) (place found number : ℕ) 
 
 -- the step that loads a cell has the event's name
 pub cell_event : {T : Type 0} (m : Meaning) (t : TableState T) (r : RunnerState T) → IsOf t r → (place found : ℕ) (r' : RunnerState T)
-    → Makes m (load_of r.part.run (address (sizes_for m t.layout t.requests) (spots.Cell place) - (4 + r.layout.runners + 2 * length r.requests))) found r r' → Makes m (load_of r.part.run place) found r r'
+    → Makes m (load_of r.part.run (address (sizes_for m t.layout t.requests) (spots.Cell place) - cells_at (sizes_for m r.layout r.requests))) found r r' → Makes m (load_of r.part.run place) found r r'
 cell_event m t r own place found r' = subst (λ (n : ℕ). Makes m (load_of r.part.run n) found r r')
-    ((λ i. address (sizes_for m (sym own.layout i) (sym own.requests i)) (spots.Cell place) - (4 + r.layout.runners + 2 * length r.requests)) ∙ (let is : address (sizes_for m r.layout r.requests) (spots.Cell place) - (4 + r.layout.runners + 2 * length r.requests) ≡ place = omega arith in is))
+    ((λ i. address (sizes_for m (sym own.layout i) (sym own.requests i)) (spots.Cell place) - cells_at (sizes_for m r.layout r.requests)) ∙ (let is : address (sizes_for m r.layout r.requests) (spots.Cell place) - cells_at (sizes_for m r.layout r.requests) ≡ place = omega arith in is))

@@ -5,13 +5,14 @@ use Rattle.std.specs.Option.{is_some}
 use Rattle.std.proofs.lemmas.Bool.Decides.{nat_tests}
 use Rattle.std.proofs.lemmas.Option.{none-some}
 use Rattle.std.proofs.lemmas.Bool.{true≢false}
+use Rattle.small_lemmas.proofs.Numbers.{not_less_tested as not_node}
 use Rattle.atomic_table.specs.Table.{Me}
 use Rattle.atomic_table.specs.Seated.{TableId}
 use Rattle.map_history.specs.declared.op.Request.{Request}
-use Rattle.section_body.specs.declared.thunk.Thunk.{Thunk}
-use Rattle.section_body.specs.declared.micro.Micro.{Micro}
-use Rattle.section_body.specs.declared.micro.Micro.TheVariants as micros
-use Rattle.section_body.specs.Memory.{cell_of}
+use Rattle.body_terms.specs.declared.thunk.Thunk.{Thunk}
+use Rattle.body_terms.specs.declared.micro.Micro.{Micro}
+use Rattle.body_terms.specs.declared.micro.Micro.TheVariants as micros
+use Rattle.body_terms.specs.Memory.{cell_of}
 use Rattle.table_words.specs.declared.layout.Layout.{Layout}
 use Rattle.table_words.specs.declared.sizes.Sizes.{Sizes}
 use Rattle.table_words.specs.declared.spot.Spot.{Spot}
@@ -36,7 +37,7 @@ use Rattle.runner_steps.specs.AfterInRun.{goes_on, fill_loaded}
 use Rattle.runner_steps.specs.AfterOutside.{private_load_after}
 use Rattle.runner_steps.specs.After.{after_by, stepped}
 use Rattle.machine_states.proofs.Steps.{some_same, asked_fits}
-use Rattle.interleave_core.specs.machine_invariant.specs.After.{AreAllowed}
+use Rattle.machine_invariant.specs.After.{AreAllowed}
 use Rattle.version_words.specs.declared.view.View.{View}
 use Rattle.runner_block.specs.declared.place.RunPlace.{RunPlace}
 use Rattle.runner_block.specs.declared.block.Block.{Block}
@@ -58,9 +59,6 @@ use Rattle.version_words.proofs.Privates.{IsPrivate, IsOpenFor, Stands, of_cell,
 
 not_past : (slot n : ℕ) → nat_lt slot n ≡ true → n ≤ slot → ⊥
 not_past slot n e past = grind (arith, nat_tests, e, past)
-
-not_node : (slot n : ℕ) → n ≤ slot → nat_lt slot n ≡ false
-not_node slot n past = grind (arith, nat_tests, past)
 
 -- a descriptor's word, by the number that it has among all slots
 pub descriptor_there : (m : Meaning) (l : Layout) (d word : ℕ) → private_spot m l (slot_count l m.fixed_slots + d) word ≡ descriptor_spot d word

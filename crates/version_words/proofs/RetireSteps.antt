@@ -5,11 +5,11 @@ use Rattle.std.proofs.lemmas.Option.{none-some}
 use Rattle.atomic_table.specs.Table.{Me}
 use Rattle.atomic_table.specs.Seated.{TableId}
 use Rattle.map_history.specs.declared.op.Request.{Request}
-use Rattle.section_body.specs.declared.thunk.Thunk.{Thunk}
-use Rattle.section_body.specs.declared.micro.Micro.{Micro}
-use Rattle.section_body.specs.declared.micro.Micro.TheVariants as micros
-use Rattle.section_body.specs.Line.{micro_at}
-use Rattle.section_body.specs.Run.{written_once}
+use Rattle.body_terms.specs.declared.thunk.Thunk.{Thunk}
+use Rattle.body_terms.specs.declared.micro.Micro.{Micro}
+use Rattle.body_terms.specs.declared.micro.Micro.TheVariants as micros
+use Rattle.body_terms.specs.Line.{micro_at}
+use Rattle.body_terms.specs.Run.{written_once}
 use Rattle.table_words.specs.declared.layout.Layout.{Layout}
 use Rattle.table_words.specs.declared.spot.Spot.{Spot}
 use Rattle.table_words.specs.declared.spot.Spot.TheVariants as spots
@@ -31,7 +31,7 @@ use Rattle.runner_steps.specs.AfterInRun.{agrees, retire_committed, retired_slot
 use Rattle.runner_steps.specs.After.{stepped}
 use Rattle.machine_epochs.proofs.RunPlaces.{next_in_line}
 use Rattle.machine_states.proofs.Steps.{some_same}
-use Rattle.interleave_core.specs.machine_invariant.specs.After.{AreAllowed}
+use Rattle.machine_invariant.specs.After.{AreAllowed}
 use Rattle.version_words.specs.declared.view.View.{View}
 use Rattle.version_words.specs.ReachedWith.{ReachedWith}
 use Rattle.runner_block.specs.declared.block.Block.{Block}

@@ -2,7 +2,7 @@
 use Rattle.std.proofs.Common.{◌≡◌, ℕ, Bool, true, false, refl, ◌∙◌, Option, Some, None, if◌then◌else◌}
 use Rattle.std.specs.Prelude.{◌==◌, nat_lt, nat_le}
 use Rattle.std.proofs.lemmas.Bool.{true≢false}
-use Rattle.section_body.specs.declared.micro.Micro.{Micro}
+use Rattle.body_terms.specs.declared.micro.Micro.{Micro}
 use Rattle.table_words.specs.declared.layout.Layout.{Layout}
 use Rattle.table_words.specs.declared.spot.Spot.{Spot}
 use Rattle.table_words.specs.declared.access.Access.{Access}
@@ -14,7 +14,7 @@ use Rattle.epoch_core.specs.declared.stage.Stage.TheVariants as stages
 use Rattle.runner_parts.specs.declared.entries.Published.{Published}
 use Rattle.runner_parts.specs.State.{RunState, PartState, RecordsState}
 use Rattle.runner_steps.specs.Sections.{is_open_run, next_of, thunk_of}
-use Rattle.section_body.specs.Run.{written_once}
+use Rattle.body_terms.specs.Run.{written_once}
 use Rattle.runner_steps.specs.InRun.{stamp_after, last_clock}
 use Rattle.runner_parts.specs.Lists.{learned}
 use Rattle.runner_steps.specs.AfterOutside.{scan_one_after, advance_after, retire_after}

@@ -1,6 +1,6 @@
 -- What a runner in no run may do, and where it is then.
 use Rattle.machine_states.specs.First.{falling}
-use Rattle.section_body.specs.Memory.{cell_of}
+use Rattle.body_terms.specs.Memory.{cell_of}
 use Rattle.std.proofs.Common.{◌≡◌, ℕ, ◌+◌, ◌<◌, ◌≤◌, ◌^◌, length, List, [], ◌∷◌, ◌++◌, ◌≢◌, eq-eqb, ne_eqb, Bool, true, false, refl, sym, ap, subst, ◌∙◌, arith, Option, Some, None, ◌-◌, ◌/◌, ◌*◌, if◌then◌else◌}
 use Rattle.std.specs.Prelude.{◌==◌, ◌&&◌, ◌||◌, is_some, nat_lt, nat_le, not, is_none, if◌then◌else◌}
 use Rattle.std.proofs.lemmas.Bool.Decides.{nat_tests}

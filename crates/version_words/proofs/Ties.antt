@@ -7,10 +7,12 @@ use Rattle.std.specs.Option.{IsSome}
 use Rattle.std.proofs.lemmas.Bool.{true≢false}
 use mathlib.Core.Option.{some, some-injective, some-ne-none}
 use lib.ListN.{get_elem?}
+use Rattle.small_lemmas.proofs.Bools.{false_not_true as false_true}
+use Rattle.small_lemmas.proofs.Lists.{some_is_none as some_spent}
 use Rattle.atomic_table.specs.Table.{State, Me, Step, keeps, Allows}
 use Rattle.atomic_table.proofs.Lists.{at_set, set_else}
 use Rattle.map_history.specs.declared.op.Request.{Request}
-use Rattle.section_body.specs.declared.thunk.Thunk.{Thunk}
+use Rattle.body_terms.specs.declared.thunk.Thunk.{Thunk}
 use Rattle.table_words.specs.declared.layout.Layout.{Layout}
 use Rattle.table_words.specs.declared.spot.Spot.{Spot}
 use Rattle.table_words.specs.declared.access.Access.{Access}
@@ -37,12 +39,6 @@ use Rattle.version_words.specs.Rule.{IsSeatedAt, Holds, stepped, IsTold, Tells}
 use Rattle.version_words.proofs.Lists.{get_here, get_else, inside}
 use Rattle.version_words.proofs.Splits.{is_split, kept_splits}
 use Rattle.version_words.proofs.Shows.{blind_shown}
-
-some_spent : {A : Type 0} {a : A} → Some a ≡ None → ⊥
-some_spent e = cc
-
-false_true : false ≡ true → ⊥
-false_true e = cc
 
 no_join : (k : EventKind) → is_plain k ≡ true → is_join k ≡ false
 no_join (kinds.Join worker) e = absurd (false_true e)

@@ -1,6 +1,7 @@
 -- What a runner's code keeps of its part after an event.
 use Rattle.std.specs.Prelude.{◌==◌, ◌&&◌, not, nat_lt, nat_le}
 use Rattle.std.proofs.Common.{◌≡◌, ℕ, ◌+◌, [], Bool, true, false, refl, ap, ◌∙◌, Option, None, if◌then◌else◌, sym}
+use Rattle.small_lemmas.proofs.Bools.{false_not_true as false_true}
 use Rattle.table_words.specs.declared.layout.Layout.{Layout}
 use Rattle.table_words.specs.declared.spot.Spot.{Spot}
 use Rattle.table_words.specs.declared.access.Access.{Access}
@@ -19,9 +20,6 @@ use Rattle.version_words.specs.Events.{Makes}
 use Rattle.version_words.proofs.Asked.{is_outer, in_no_run}
 use Rattle.version_words.proofs.Splits.{notes}
 use Rattle.table_words.specs.Places.{slot_count}
-
-false_true : false ≡ true → ⊥
-false_true e = cc
 
 module _ (m : Meaning) (l : Layout) (r : ℕ) (k : EventKind) (spot : Spot) (access : Access) (p : PartState) (found : ℕ) where
   pub told : told_part (after m l r k spot access p found) ≡ told_part (stepped m l k p found)

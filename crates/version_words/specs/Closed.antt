@@ -2,16 +2,17 @@
 use Rattle.std.specs.Prelude.{◌≡◌}
 use Rattle.std.specs.Slots.{slots_items, slots_len, IsFull}
 use Rattle.atomic_table.specs.declared.owned.Closed.{Closed}
-use Rattle.section_body.specs.declared.thunk.Thunk.{Thunk}
+use Rattle.body_terms.specs.declared.thunk.Thunk.{Thunk}
 use Rattle.table_words.specs.Limits.{IsWithinLimits}
 use Rattle.table_words.specs.Places.{size}
 use Rattle.structure_laws.specs.Meaning.{Meaning}
 use Rattle.runner_steps.specs.Asks.{sizes_for}
-use Rattle.interleave_core.specs.machine_invariant.specs.After.{AreAllowed}
+use Rattle.machine_invariant.specs.After.{AreAllowed}
 use Rattle.version_words.specs.declared.rule.Setup.{Setup}
 use Rattle.version_words.specs.TableState.{AreShown}
 
--- all words are there, within the limits, and they are those of a state that enabled events lead to, in which each worker was joined
+-- all words are there, within the limits, and they are those of a state that enabled events lead to, in which each
+-- worker was joined
 pub record IsLaid {T H : Type 0} (m : Meaning) (closed : Closed Thunk H) (built : Setup T) : Type 0 where
   pub full : IsFull closed.words
   pub empty : slots_len closed.slots ≡ 0

@@ -3,7 +3,7 @@ use Rattle.std.specs.Prelude.{◌≡◌, ℕ, Bool, true, [], ◌∷◌, Some}
 use mathlib.Core.Option.{Option as Option_of, none, some}
 use Rattle.atomic_table.specs.Table.{Me, Step, step}
 use Rattle.atomic_table.specs.Seated.{TableId}
-use Rattle.section_body.specs.declared.thunk.Thunk.{Thunk}
+use Rattle.body_terms.specs.declared.thunk.Thunk.{Thunk}
 use Rattle.table_words.specs.Access.{written, wins}
 use Rattle.table_words.specs.Places.{address, descriptor_at}
 use Rattle.table_words.specs.declared.spot.Spot.{Spot}
@@ -43,9 +43,9 @@ module _ {T : Type 0} (m : Meaning) where
     pub met : Spot × Access
     pub asked : met_by r kind ≡ Some met
 
-  -- the runner made this event, and found this number in its word; nothing of it changed but the part; and the machine reaches a state in
-  -- which it has the part before and the word is that number, and by this event one in which it has the part after and the word is what the
-  -- event left there
+  -- the runner made this event, and found this number in its word; nothing of it changed but the part; and the machine
+  -- reaches a state in which it has the part before and the word is that number, and by this event one in which it has
+  -- the part after and the word is what the event left there
   pub record Makes (kind : EventKind) (found : ℕ) (old new : RunnerState T) : Type 0 where
     pub met : Spot × Access
     pub asked : met_by old kind ≡ Some met

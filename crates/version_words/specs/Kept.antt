@@ -1,7 +1,7 @@
 -- What a runner's type says of its fields, and how its block changes.
 use Rattle.std.specs.Prelude.{◌≡◌, ℕ, [], Some}
 use Rattle.atomic_table.specs.Table.{Me}
-use Rattle.section_body.specs.declared.thunk.Thunk.{Thunk}
+use Rattle.body_terms.specs.declared.thunk.Thunk.{Thunk}
 use Rattle.table_words.specs.Places.{slot_count}
 use Rattle.structure_laws.specs.Meaning.{Meaning}
 use Rattle.version_words.specs.declared.view.View.{View}
@@ -9,7 +9,8 @@ use Rattle.runner_block.specs.declared.block.Block.{Block}
 use Rattle.version_words.specs.RunnerState.{told_part}
 use Rattle.version_words.specs.Place.{HasPlace, HasEpoch, EndsSo}
 
--- the lists have room for each node slot of the table, and the place says whether a run is in progress and has the epoch for its retirement
+-- the lists have room for each node slot of the table, and the place says whether a run is in progress and has the
+-- epoch for its retirement
 pub record IsOfTable {T : Type 0} (m : Meaning) (kept : Block) (v : View T) : Type 0 where
   pub room : kept.lists.room ≡ slot_count v.layout m.fixed_slots
   pub run : EndsSo m kept.place v.part.run

@@ -12,9 +12,4 @@ pub mod Kept
 pub mod Closed
 pub mod Stages
 -- Passed on to the layers above, so that they needn't name these libraries themselves.
-pub use Rattle.interleave_core.specs.machine_agreement
-pub use Rattle.interleave_core.specs.machine_invariant
-pub use Rattle.interleave_core.specs.machine_facts
-pub use Rattle.interleave_core.specs.next_steps
-pub use Rattle.interleave_core.specs.machine_records
-pub use Rattle.interleave_core.specs.reached_histories
+pub use Rattle.machine_invariant

@@ -1,10 +1,10 @@
 -- What a runner's code keeps of a run in progress.
 use Rattle.std.specs.Prelude.{◌≡◌, ℕ, Bool, true, false, ◌<◌, ◌≤◌, ◌%◌, ◌^◌, length, slice_index, Option, Some, None}
 use Rattle.std.specs.Option.{is_some}
-use Rattle.section_body.specs.declared.micro.Micro.{Micro}
-use Rattle.section_body.specs.declared.micro.Micro.TheVariants as micros
-use Rattle.section_body.specs.Word.{held_word}
-use Rattle.section_body.specs.Line.{micro_at}
+use Rattle.body_terms.specs.declared.micro.Micro.{Micro}
+use Rattle.body_terms.specs.declared.micro.Micro.TheVariants as micros
+use Rattle.body_terms.specs.Word.{held_word}
+use Rattle.body_terms.specs.Line.{micro_at}
 use Rattle.table_words.specs.declared.spot.Spot.{Spot}
 use Rattle.table_words.specs.declared.spot.Spot.TheVariants as spots
 use Rattle.structure_laws.specs.Meaning.{Meaning}
@@ -13,8 +13,8 @@ use Rattle.runner_parts.specs.Tests.{has}
 use Rattle.runner_steps.specs.Sections.{is_open_run, line_of, next_of}
 use Rattle.runner_block.specs.declared.place.RunPlace.{RunPlace}
 
--- a word of its opening was loaded, and it has the run's descriptor, the request that its words name, how many words were agreed on, whether a Make has its slot in the hand, and
--- whether a cell of that slot came to the greatest version
+-- a word of its opening was loaded, and it has the run's descriptor, the request that its words name, how many words
+-- were agreed on, whether a Make has its slot in the hand, and whether a cell of that slot came to the greatest version
 pub record IsPlaced (kept : RunPlace) (q : RunState) : Type 0 where
   pub descriptor : kept.descriptor ≡ q.descriptor
   pub some : 0 < length q.opened

@@ -1,7 +1,7 @@
 -- The words of own slots: descriptors are numbered after the node slots.
 use Rattle.std.specs.Prelude.{ℕ, ◌+◌, ◌-◌, ◌/◌, ◌%◌, ◌<◌, List, nat_lt, if◌then◌else◌}
 use Rattle.map_history.specs.declared.op.Request.{Request}
-use Rattle.section_body.specs.Memory.{cell_of}
+use Rattle.body_terms.specs.Memory.{cell_of}
 use Rattle.table_words.specs.declared.layout.Layout.{Layout}
 use Rattle.table_words.specs.declared.spot.Spot.{Spot}
 use Rattle.table_words.specs.declared.spot.Spot.TheVariants.{Cell}

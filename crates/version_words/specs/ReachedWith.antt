@@ -27,8 +27,8 @@ abbrev pub is_told : Access → Bool
 is_told (Stores number) = false
 is_told _ = true
 
--- the machine reaches a state in which this runner has the one part and finds this number in the word that it meets, and by its event of
--- this kind a state in which it has the other part and the word is what the event left there
+-- the machine reaches a state in which this runner has the one part and finds this number in the word that it meets,
+-- and by its event of this kind a state in which it has the other part and the word is what the event left there
 pub record ReachedBy (m : Meaning) (l : Layout) (requests : List Request) (runner : ℕ)
     (kind : EventKind) (old new : PartState) (met : Spot × Access) (found : ℕ) : Type 0 where
   pub before : World

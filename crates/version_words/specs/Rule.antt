@@ -4,7 +4,7 @@ use mathlib.Core.Option.{some}
 use lib.ListN.{get_elem?}
 use Rattle.atomic_table.specs.Table.{State, Me, Step}
 use Rattle.map_history.specs.declared.op.Request.{Request}
-use Rattle.section_body.specs.declared.thunk.Thunk.{Thunk}
+use Rattle.body_terms.specs.declared.thunk.Thunk.{Thunk}
 use Rattle.table_words.specs.declared.layout.Layout.{Layout}
 use Rattle.table_words.specs.declared.spot.Spot.{Spot}
 use Rattle.table_words.specs.declared.spot.Spot.TheVariants.{Seat}
@@ -57,8 +57,9 @@ module _ {T : Type 0} where
   abbrev pub stepped : Meaning → EventKind → Spot → Access → View T → ℕ → View T
   stepped m kind spot access v found = record v { part = after m v.layout v.number kind spot access v.part found }
 
-  -- the seat's view is the one after this event, which met this spot and found this number; and the machine reaches a state in which its
-  -- runner has the part before and the word is that number, and by this event one in which it has the part after and the word is what was left
+  -- the seat's view is the one after this event, which met this spot and found this number; and the machine reaches a
+  -- state in which its runner has the part before and the word is that number, and by this event one in which it has
+  -- the part after and the word is what was left
   pub record IsTold (m : Meaning) (kind : EventKind) (met : Spot × Access)
       (me : Me Thunk (View T)) (found : ℕ) (me' : Me Thunk (View T)) : Type 0 where
     pub view : me' ≡ (stepped m kind met.0 met.1 me.0 found, me.1)

@@ -10,7 +10,8 @@ use Rattle.runner_parts.specs.State.{PartState}
 use Rattle.runner_parts.specs.Lists.{no_reads}
 use Rattle.runner_block.specs.Kept.{published_as}
 
--- a runner: its table, its number, what it is at and keeps, and of the keeper the parts of the workers that it joined, the last one first
+-- a runner: its table, its number, what it is at and keeps, and of the keeper the parts of the workers that it joined,
+-- the last one first
 pub record RunnerState (T : Type 0) : Type 0 where
   pub table : TableId
   pub structure : Option T

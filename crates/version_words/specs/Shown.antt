@@ -33,8 +33,8 @@ pub record IsSpent {T : Type 0} (views : List (View T)) (seat : ℕ) : Type 0 wh
   pub there : get_elem? views seat ≡ some view
   pub empty : view.structure ≡ None
 
--- the words and the views show this state: each seat its part, the keeper the parts of those that were joined and no others, and
--- a worker that wasn't split off yet is in its first state
+-- the words and the views show this state: each seat its part, the keeper the parts of those that were joined and no
+-- others, and a worker that wasn't split off yet is in its first state
 pub record IsShown {T : Type 0} (m : Meaning) (l : Layout) (held : List ℕ)
     (views : List (View T)) (w : World) : Type 0 where
   pub words : w.words ≡ held

@@ -17,7 +17,7 @@ use Rattle.machine_states.specs.World.{World}
 use Rattle.machine_states.specs.First.{keeper_part}
 use Rattle.version_words.specs.declared.rule.Setup.{Setup}
 use Rattle.machine_states.specs.Reached.{Reached}
-use Rattle.interleave_core.specs.machine_invariant.specs.After.{AreAllowed}
+use Rattle.machine_invariant.specs.After.{AreAllowed}
 use Rattle.version_words.specs.Shown.{left_part}
 use Rattle.version_words.specs.RunnerState.{RunnerState}
 
@@ -59,7 +59,8 @@ pub record WordsState (T : Type 0) : Type 0 where
   pub requests : List Request
   pub words : List ℕ
 
--- the words are those of a state of the machine that enabled events lead to, in which each worker was joined and makes no further step
+-- the words are those of a state of the machine that enabled events lead to, in which each worker was joined and makes
+-- no further step
 pub record AreShown (m : Meaning) (l : Layout) (requests : List Request) (held : List ℕ) : Type 0 where
   pub world : World
   pub reached : Reached m l requests world
@@ -84,8 +85,8 @@ pub record HasJoinedAll {T : Type 0} (t : TableState T) (keeper : RunnerState T)
   pub number : keeper.number ≡ t.layout.runners
   pub joined : (worker : ℕ) → worker < t.layout.runners → IsSome (left_part keeper.joined worker)
 
--- the words are those of a state that enabled events lead to, in which the keeper's part is the one that it kept, and each
--- worker's the one that it had when it was joined
+-- the words are those of a state that enabled events lead to, in which the keeper's part is the one that it kept, and
+-- each worker's the one that it had when it was joined
 pub record IsClosing {T : Type 0} (m : Meaning) (t : TableState T) (keeper : RunnerState T)
     (w : WordsState T) : Type 0 where
   pub structure : w.structure ≡ t.structure

@@ -5,7 +5,11 @@ ghost use Rattle.table_words.specs.Places.{address, Fits};
 use std::marker::Model;
 use table_words::{Sizes, Spot};
 
-/// The sizes of a table, with where its entries, its cells and its descriptors begin: a step only adds to one of these numbers.
+/// How many words fill a line of 128 bytes, as `Spot::address` has it.
+const LINE_WORDS: usize = 16;
+
+/// The sizes of a table, with where its entries, its cells and its descriptors begin: a step only adds to one of these
+/// numbers.
 #[derive(Drop)]
 pub struct Bases {
     sizes: Sizes,
@@ -30,7 +34,7 @@ impl Bases {
     pub fn of(sizes: Sizes) -> Self
         ensures { result ≡ sizes }
     {
-        let entries = 4 + sizes.runners as usize;
+        let entries = LINE_WORDS * (4 + sizes.runners as usize);
         let cells = entries + 2 * sizes.requests as usize;
         Bases {
             sizes,
@@ -48,9 +52,9 @@ impl Bases {
     {
         match spot {
             Spot::Seat => 0,
-            Spot::Epoch => 1,
-            Spot::Clock => 2,
-            Spot::Announcement(runner) => 3 + runner as usize,
+            Spot::Epoch => LINE_WORDS,
+            Spot::Clock => 2 * LINE_WORDS,
+            Spot::Announcement(runner) => LINE_WORDS * (3 + runner as usize),
             Spot::Stamp(request) => self.entries + 2 * request as usize,
             Spot::Reply(request) => self.entries + 2 * request as usize + 1,
             Spot::Cell(place) => self.cells + place as usize,

@@ -8,7 +8,7 @@ use crate::plays;
 use crate::runner::Runner;
 use crate::table::FlockTable;
 use epoch_core::Stage;
-use runner_parts::Structure;
+use structure_laws::Structure;
 use table_words::Spot;
 
 impl<S: Structure> FlockTable<S> {

@@ -7,14 +7,14 @@ ghost use Rattle.version_words.specs.Events.{IsEnabled, Makes};
 use crate::plays;
 use crate::runner::Runner;
 use crate::table::FlockTable;
-use runner_parts::Structure;
+use body_terms::{Thunk, Word};
 use runner_steps::held_word;
-use section_body::{Thunk, Word};
+use structure_laws::Structure;
 use table_words::Spot;
 
 impl<S: Structure> FlockTable<S> {
-    /// The thunk's lock goes from the free word that was read to the one that names this descriptor, if it still holds the free word.
-    /// The answer is the word found, and whether the section is published.
+    /// The thunk's lock goes from the free word that was read to the one that names this descriptor, if it still holds
+    /// the free word. The answer is the word found, and whether the section is published.
     pub fn hold(
         &self,
         mut runner: Runner<S>,

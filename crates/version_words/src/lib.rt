@@ -1,9 +1,9 @@
 //! The machine's words, shared by threads.
 //!
-//! `table` has the table and its private steps, `seats` how runners are made and joined and how a table begins and ends, `entry`
-//! and `scan` the step calls, `runner` a seat with what its thread keeps (`kept`), and `words` what is left of a closed table.
-//! `rule` is what holds between any two steps, `view` what a seat knows, `plays` what a step tells it, and `laws` what the types
-//! say, as contracts.
+//! `table` has the table and its private steps, `seats` how runners are made and joined and how a table begins and
+//! ends, `entry` and `scan` the step calls, `runner` a seat with what its thread keeps (`kept`), and `words` what is
+//! left of a closed table. `rule` is what holds between any two steps, `view` what a seat knows, `plays` what a step
+//! tells it, and `laws` what the types say, as contracts.
 #![tactic(auto)]
 
 mod bases;
@@ -27,10 +27,9 @@ mod words;
 pub use laws::{table_is_allowed, words_are_reached};
 pub use runner::Runner;
 pub use runner_block::RunRoom;
+pub use runner_steps::held_word;
 pub use table::FlockTable;
 pub use words::Words;
 
 // Passed on to the layers above, so that they needn't name these libraries themselves.
-pub use interleave_core;
-pub use interleave_core::reached_histories;
-pub use runner_steps::held_word;
+pub use machine_invariant;

@@ -9,7 +9,7 @@ ghost use Rattle.version_words.specs.Events.{met_by, IsEnabled, Makes};
 use crate::plays;
 use crate::runner::Runner;
 use crate::table::FlockTable;
-use runner_parts::Structure;
+use structure_laws::Structure;
 use table_words::Spot;
 
 /// The slot that is agreed on after an exchange that was to agree on this one and found this log word.
@@ -22,8 +22,8 @@ fn agreed_slot(found: u64, slot: u32) -> u32
 }
 
 impl<S: Structure> FlockTable<S> {
-    /// The next log word: the slot that the run's Make filled is agreed on, where it is still empty. The answer is the agreed slot, and
-    /// whether this exchange put it there.
+    /// The next log word: the slot that the run's Make filled is agreed on, where it is still empty. The answer is the
+    /// agreed slot, and whether this exchange put it there.
     pub fn make_commit(&self, mut runner: Runner<S>, slot: u32) -> (Runner<S>, u32, bool)
         requires own { IsOf self.now runner }
         requires next { met_by (S.meaning self.now.structure) runner kinds.MakeCommit ≡ Some
@@ -42,8 +42,9 @@ impl<S: Structure> FlockTable<S> {
         (runner, agreed_slot(found, slot), found == 0)
     }
 
-    /// The next log word: the node slot that the run's Retire names is agreed on, where it is still empty. The answer is whether this exchange
-    /// put it there. Then this runner retires the slot, with the epoch that its run loaded last.
+    /// The next log word: the node slot that the run's Retire names is agreed on, where it is still empty. The answer
+    /// is whether this exchange put it there. Then this runner retires the slot, with the epoch that its run loaded
+    /// last.
     pub fn retire_commit(&self, mut runner: Runner<S>, slot: u32) -> (Runner<S>, bool)
         requires own { IsOf self.now runner }
         requires next { met_by (S.meaning self.now.structure) runner kinds.RetireCommit ≡ Some
@@ -61,7 +62,8 @@ impl<S: Structure> FlockTable<S> {
         (runner, found == 0)
     }
 
-    /// The epoch, to retire a node slot in a run, or outside one the descriptor of the section that the runner published.
+    /// The epoch, to retire a node slot in a run, or outside one the descriptor of the section that the runner
+    /// published.
     pub fn epoch_for_retire(&self, mut runner: Runner<S>) -> (Runner<S>, u64)
         requires own { IsOf self.now runner }
         requires next { IsEnabled (S.meaning self.now.structure) kinds.EpochForRetire runner }

@@ -11,12 +11,12 @@ ghost use Rattle.version_words.specs.Events.{met_by, Makes, start_of};
 use crate::plays;
 use crate::runner::Runner;
 use crate::table::FlockTable;
-use runner_parts::Structure;
+use structure_laws::Structure;
 use table_words::Spot;
 
 impl<S: Structure> FlockTable<S> {
-    /// The next thunk word of the run's descriptor, whose words begin at this start; outside a run the first one of a descriptor that the
-    /// runner holds, with which a run begins. Its index is how many were loaded.
+    /// The next thunk word of the run's descriptor, whose words begin at this start; outside a run the first one of a
+    /// descriptor that the runner holds, with which a run begins. Its index is how many were loaded.
     #[inline(always)]
     pub fn load_thunk(
         &self,

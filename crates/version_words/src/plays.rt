@@ -1,13 +1,13 @@
-//! What each step tells its runner: it was this event on the own part, its word had this number, and the machine reaches a state in which the
-//! runner has the part after it and the word is what the event left there.
+//! What each step tells its runner: it was this event on the own part, its word had this number, and the machine
+//! reaches a state in which the runner has the part after it and the word is what the event left there.
 //!
-//! A step can't be told a value, so where its event has an argument its name reads it off the part before, or off the number of
-//! the word that the step met.
+//! A step can't be told a value, so where its event has an argument its name reads it off the part before, or off the
+//! number of the word that the step met.
 use crate::view::View;
 use atomic_table::{Join, Play, Split};
-use runner_parts::Structure;
-use section_body::Thunk;
+use body_terms::Thunk;
 use std::marker::PhantomData;
+use structure_laws::Structure;
 
 /// Which event a step is.
 pub trait Named {
@@ -179,7 +179,8 @@ impl Named for LoadDone {
     ghost naming = { λ m layout requests part step. kinds.LoadDone };
 }
 
-/// In a run the thunk word is the one that comes next; outside it is the first of a descriptor, read off the step's word.
+/// In a run the thunk word is the one that comes next; outside it is the first of a descriptor, read off the step's
+/// word.
 pub struct LoadThunk;
 
 impl Named for LoadThunk {
@@ -196,11 +197,13 @@ impl Named for LoadThunk {
 pub struct LoadCell;
 
 impl Named for LoadCell {
-    ghost use Rattle.std.specs.Prelude.{◌+◌, ◌*◌, ◌-◌, length};
+    ghost use Rattle.std.specs.Prelude.{◌-◌};
+    ghost use Rattle.table_words.specs.Places.{cells_at};
+    ghost use Rattle.runner_steps.specs.Asks.{sizes_for};
     ghost use Rattle.version_words.specs.Naming.{load_of};
 
     ghost naming = { λ m layout requests part step.
-        load_of part.run (step.word - (4 + layout.runners + 2 * length requests)) };
+        load_of part.run (step.word - cells_at (sizes_for m layout requests)) };
 }
 
 /// The thunk is the one that the step announces, and the descriptor is read off the word that is to stand in the lock.
@@ -208,7 +211,7 @@ pub struct Hold;
 
 impl Named for Hold {
     ghost use Rattle.std.specs.Prelude.{◌-◌};
-    ghost use Rattle.section_body.specs.Word.{value_of};
+    ghost use Rattle.body_terms.specs.Word.{value_of};
     ghost use Rattle.version_words.specs.Naming.{hold_of};
 
     ghost naming = { λ m layout requests part step. hold_of step.said (value_of step.second - 1) };
@@ -274,10 +277,13 @@ impl Named for ScanOne {
 pub struct LoadEntry;
 
 impl Named for LoadEntry {
-    ghost use Rattle.std.specs.Prelude.{◌+◌, ◌-◌};
+    ghost use Rattle.std.specs.Prelude.{◌-◌};
+    ghost use Rattle.table_words.specs.Places.{entries_at};
+    ghost use Rattle.runner_steps.specs.Asks.{sizes_for};
     ghost use Rattle.version_words.specs.Naming.{entry_of};
 
-    ghost naming = { λ m layout requests part step. entry_of (step.word - (4 + layout.runners)) };
+    ghost naming = { λ m layout requests part step.
+        entry_of (step.word - entries_at (sizes_for m layout requests)) };
 }
 
 /// The keeper splits off the next worker.

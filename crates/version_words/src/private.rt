@@ -9,8 +9,8 @@ ghost use Rattle.version_words.specs.Events.{IsEnabled, Makes, start_of};
 use crate::plays;
 use crate::runner::Runner;
 use crate::table::FlockTable;
-use runner_parts::Structure;
 use runner_steps::descriptor_spot;
+use structure_laws::Structure;
 use table_words::Spot;
 
 impl<S: Structure> FlockTable<S> {
@@ -28,8 +28,8 @@ impl<S: Structure> FlockTable<S> {
         }
     }
 
-    /// A word of an own slot: a cell of an own free node slot or of one in the hand, a word of an own free descriptor, or in a run the
-    /// cell of the node slot that a Make fills. Descriptors are numbered after the node slots.
+    /// A word of an own slot: a cell of an own free node slot or of one in the hand, a word of an own free descriptor,
+    /// or in a run the cell of the node slot that a Make fills. Descriptors are numbered after the node slots.
     #[inline(always)]
     pub fn private_load(&self, mut runner: Runner<S>, slot: u32, word: u32) -> (Runner<S>, u64)
         requires own { IsOf self.now runner }
@@ -46,8 +46,8 @@ impl<S: Structure> FlockTable<S> {
         (runner, found)
     }
 
-    /// A word of an own free descriptor, or in a run the cell of the node slot that a Make fills, becomes this number. Descriptors
-    /// are numbered after the node slots.
+    /// A word of an own free descriptor, or in a run the cell of the node slot that a Make fills, becomes this number.
+    /// Descriptors are numbered after the node slots.
     #[inline(always)]
     pub fn private_store(
         &self,
@@ -68,8 +68,8 @@ impl<S: Structure> FlockTable<S> {
         runner
     }
 
-    /// A word of an own free descriptor, whose words begin at this start, as `private_load` of the slot that the descriptor is numbered as:
-    /// of descriptors nothing is kept.
+    /// A word of an own free descriptor, whose words begin at this start, as `private_load` of the slot that the
+    /// descriptor is numbered as: of descriptors nothing is kept.
     #[inline(always)]
     pub fn descriptor_load(
         &self,
@@ -93,7 +93,8 @@ impl<S: Structure> FlockTable<S> {
         (runner, found)
     }
 
-    /// A word of an own free descriptor becomes this number, as `private_store` of the slot that the descriptor is numbered as.
+    /// A word of an own free descriptor becomes this number, as `private_store` of the slot that the descriptor is
+    /// numbered as.
     #[inline(always)]
     pub fn descriptor_store(
         &self,

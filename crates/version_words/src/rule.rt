@@ -3,10 +3,10 @@
 use crate::bases::Bases;
 use crate::view::View;
 use atomic_table::TableRule;
+use body_terms::Thunk;
 use map_history::Request;
-use runner_parts::Structure;
-use section_body::Thunk;
 use std::marker::PhantomData;
+use structure_laws::Structure;
 use table_words::Layout;
 
 /// What a table is told once.

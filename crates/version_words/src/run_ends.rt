@@ -1,7 +1,7 @@
 //! Steps of a run on the words of its descriptor, of its request and of its locks.
 ghost use Rattle.std.specs.Prelude.{◌≡◌, ◌<◌, ◌-◌, ◌^◌, ◌%◌, Some, Bool, slice_index};
-ghost use Rattle.section_body.specs.Word.{version_of, held_word, next_word};
-ghost use Rattle.section_body.specs.Run.{written_once};
+ghost use Rattle.body_terms.specs.Word.{version_of, held_word, next_word};
+ghost use Rattle.body_terms.specs.Run.{written_once};
 ghost use Rattle.table_words.specs.declared.spot.Spot.TheVariants as spots;
 ghost use Rattle.table_words.specs.declared.access.Access.TheVariants.{Loads, Exchanges};
 ghost use Rattle.runner_parts.specs.declared.event.EventKind.TheVariants as kinds;
@@ -12,14 +12,14 @@ ghost use Rattle.version_words.specs.Events.{met_by, IsMade, Leaves, Commits};
 use crate::plays;
 use crate::runner::Runner;
 use crate::table::FlockTable;
-use runner_parts::Structure;
+use body_terms::{Place, Word};
 use runner_steps::{agreed_on, held_word};
-use section_body::{Place, Word};
+use structure_laws::Structure;
 use table_words::Spot;
 
 impl<S: Structure> FlockTable<S> {
-    /// The next log word: this word is agreed on, where it is still empty. The answer is the agreed word, and whether this exchange
-    /// put it there.
+    /// The next log word: this word is agreed on, where it is still empty. The answer is the agreed word, and whether
+    /// this exchange put it there.
     pub fn commit_word(&self, mut runner: Runner<S>, word: u64) -> (Runner<S>, u64, bool)
         requires own { IsOf self.now runner }
         requires next { met_by (S.meaning self.now.structure) runner kinds.Commit ≡ Some
@@ -89,7 +89,8 @@ impl<S: Structure> FlockTable<S> {
         (runner, agreed_on(found, reply))
     }
 
-    /// The nested lock goes from this free word to the one that names the run's descriptor, if it still holds the free word.
+    /// The nested lock goes from this free word to the one that names the run's descriptor, if it still holds the free
+    /// word.
     pub fn nested_hold(&self, mut runner: Runner<S>, place: Place, word: Word) -> Runner<S>
         requires own { IsOf self.now runner }
         requires next { met_by (S.meaning self.now.structure) runner kinds.NestedHold ≡ Some
@@ -104,8 +105,8 @@ impl<S: Structure> FlockTable<S> {
         runner
     }
 
-    /// The lock goes from the word with which the run's section holds it to the next free word, if it is still held so. The given
-    /// word is the free one that the lock had before.
+    /// The lock goes from the word with which the run's section holds it to the next free word, if it is still held so.
+    /// The given word is the free one that the lock had before.
     pub fn release(&self, mut runner: Runner<S>, place: Place, word: Word) -> Runner<S>
         requires own { IsOf self.now runner }
         requires next { let held = held_by_run runner.part.run word in met_by (S.meaning self.now.structure) runner

@@ -5,15 +5,15 @@ ghost use Rattle.version_words.specs.RunnerState.{entered_of};
 
 use crate::view::View;
 use atomic_table::Seat;
+use body_terms::Thunk;
 use epoch_core::Stage;
 use runner_block::{Block, RunRoom};
-use runner_parts::Structure;
-use section_body::Thunk;
 use std::alloc::Global;
 use std::marker::Model;
+use structure_laws::Structure;
 
-/// A seat at the table, with what its thread keeps: a number, and behind one pointer the runner's lists. What else the runner
-/// knows stands in its view alone and has no bytes.
+/// A seat at the table, with what its thread keeps: a number, and behind one pointer the runner's lists. What else the
+/// runner knows stands in its view alone and has no bytes.
 #[derive(Drop)]
 pub struct Runner<S: Structure> {
     pub(crate) seat: Seat<Thunk, View<S>>,
@@ -105,8 +105,9 @@ impl<S: Structure> Runner<S> {
         self.kept.lists.worn()
     }
 
-    /// Hands out the room that the runner keeps for its runs, unless it is out already. A run refills the body, begins the trail anew, and
-    /// puts the room back by `keep_room`, so that no run makes a body or a trail. What the runner is stays the same.
+    /// Hands out the room that the runner keeps for its runs, unless it is out already. A run refills the body, begins
+    /// the trail anew, and puts the room back by `keep_room`, so that no run makes a body or a trail. What the runner
+    /// is stays the same.
     pub fn take_room(&mut self) -> Option<Box<RunRoom, Global>>
         ensures { self.new ≡ self.old }
     {

@@ -10,8 +10,8 @@ ghost use Rattle.version_words.specs.Events.{met_by, IsEnabled, Makes, IsMade};
 use crate::plays;
 use crate::runner::Runner;
 use crate::table::FlockTable;
-use runner_parts::Structure;
-use section_body::{Place, Word};
+use body_terms::{Place, Word};
+use structure_laws::Structure;
 use table_words::Spot;
 
 impl<S: Structure> FlockTable<S> {

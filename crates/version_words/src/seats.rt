@@ -17,12 +17,12 @@ use crate::runner::Runner;
 use crate::table::FlockTable;
 use crate::words::Words;
 use atomic_table::Table;
-use interleave_core::first_words;
+use machine_states::first_words;
 use map_history::{Op, Request};
 use runner_block::{Block, Kept, RunPlace, Share};
-use runner_parts::Structure;
 use runner_steps::{sizes_for, slot_count};
 use std::alloc::{AllocError, Global};
+use structure_laws::Structure;
 use table_words::Layout;
 
 /// A block with these lists, for a runner in no run.
@@ -115,8 +115,8 @@ fn values_fit(requests: &[Request])
 }
 
 impl<S: Structure> FlockTable<S> {
-    /// The table in its first state, and the keeper. The requests are numbered from 0 in order, in traces that never fall along the list
-    /// and are below 64, with keys up to 4,294,967,293.
+    /// The table in its first state, and the keeper. The requests are numbered from 0 in order, in traces that never
+    /// fall along the list and are below 64, with keys up to 4,294,967,293.
     pub fn new(
         alloc: Global,
         structure: S,
@@ -228,7 +228,8 @@ impl<S: Structure> FlockTable<S> {
         self.setup.layout
     }
 
-    /// How many node slots the table has. Descriptors are numbered after them, where a call takes a slot of either kind.
+    /// How many node slots the table has. Descriptors are numbered after them, where a call takes a slot of either
+    /// kind.
     pub fn node_slots(&self) -> u32
         ensures { result ≡ slot_count self.now.layout (S.meaning self.now.structure).fixed_slots }
     {

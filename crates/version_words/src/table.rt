@@ -10,10 +10,10 @@ use crate::plays::{self, Named};
 use crate::rule::{Setup, Shows};
 use crate::view::View;
 use atomic_table::{Seat, Table};
-use runner_parts::Structure;
-use section_body::Thunk;
+use body_terms::Thunk;
 use std::alloc::Global;
 use std::marker::Model;
+use structure_laws::Structure;
 use table_words::Spot;
 
 /// The words of the machine, shared by threads.
@@ -39,7 +39,8 @@ impl<S: Structure> Model for FlockTable<S> {
 }
 
 impl<S: Structure> FlockTable<S> {
-    /// Where the words of this descriptor begin. The steps on them take it, so that it is worked out once for all of them.
+    /// Where the words of this descriptor begin. The steps on them take it, so that it is worked out once for all of
+    /// them.
     #[inline(always)]
     pub fn descriptor_start(&self, descriptor: u32) -> usize
         ensures { result ≡ start_of (S.meaning self.now.structure) self.now descriptor }

@@ -5,8 +5,8 @@ use runner_parts::Part;
 use std::collections::LinkedList;
 use table_words::Layout;
 
-/// What a seat knows: the table, the runner's number and its part, and of the keeper the parts of the workers that it joined.
-/// No value of it is made. A view that was spent at a join has no structure.
+/// What a seat knows: the table, the runner's number and its part, and of the keeper the parts of the workers that it
+/// joined. No value of it is made. A view that was spent at a join has no structure.
 pub struct View<S> {
     pub structure: Option<S>,
     pub layout: Layout,

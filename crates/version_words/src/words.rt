@@ -5,14 +5,14 @@ ghost use Rattle.version_words.specs.TableState.{AreShown, word_of, HasWord, ent
 
 use crate::rule::Setup;
 use atomic_table::Closed;
-use runner_parts::Structure;
-use section_body::{Place, Thunk, Word};
+use body_terms::{Place, Thunk, Word};
 use std::alloc::Global;
 use std::marker::Model;
+use structure_laws::Structure;
 use table_words::Spot;
 
-/// The words of a closed table, with its structure, its layout and its requests. `FlockTable::close` alone makes them: the
-/// words are those of a state of the machine that enabled events lead to.
+/// The words of a closed table, with its structure, its layout and its requests. `FlockTable::close` alone makes them:
+/// the words are those of a state of the machine that enabled events lead to.
 pub struct Words<S: Structure> {
     pub(crate) closed: Closed<Thunk, Global>,
     pub(crate) setup: Setup<S>,

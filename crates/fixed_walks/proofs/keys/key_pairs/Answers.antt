@@ -1,6 +1,6 @@
 use Rattle.std.proofs.Common.{ap, ◌∙◌, rules}
 use Rattle.std.proofs.lemmas.Result.{IfOk-weaker}
-use Rattle.law_frames.specs.Listing.{listed}
+use Rattle.key_cells.specs.shared_laws.specs.Listing.{listed}
 use Rattle.fixed_walks.specs.Keys.{held_by}
 use Rattle.fixed_walks.proofs.Gathering.{the_maps}
 use Rattle.fixed_walks.proofs.keys.key_pairs.Goals as goal

@@ -1,5 +1,5 @@
 use Rattle.std.proofs.Common.{◌≡◌, ℕ, Option, sym, ◌∙◌, ⊎_elim, inl, inr, subst, refl}
-use Rattle.flock_words.specs.declared.command.Command.{Command}
+use Rattle.flock_tool.specs.command_line.specs.declared.command.Command.{Command}
 use Rattle.flock_tool.specs.Commands.{Ends, Exits}
 use Rattle.flock_tool.specs.Streams.{Gating, Stream}
 use Rattle.flock_tool.specs.declared.ran.Ran.{Ran}

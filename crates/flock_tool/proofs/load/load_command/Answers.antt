@@ -1,7 +1,7 @@
 use Rattle.std.proofs.Common.{refl, ap, ◌∙◌, arith}
-use Rattle.flock_words.specs.declared.options.RunOptions.{RunOptions}
+use Rattle.command_line.specs.declared.options.RunOptions.{RunOptions}
 use Rattle.flock_tool.specs.declared.status.Stop.TheVariants.{Text}
-use Rattle.trace_reader.specs.declared.traces.TraceError.TheVariants.{Memory}
+use Rattle.command_line.specs.trace_reader.specs.declared.traces.TraceError.TheVariants.{Memory}
 use Rattle.flock_tool.proofs.Ends.{not_both}
 use Rattle.flock_tool.proofs.Giving.{not_ok}
 use Rattle.flock_tool.proofs.Loading.{load_loaded, load_refused}

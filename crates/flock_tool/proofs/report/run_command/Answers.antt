@@ -1,5 +1,5 @@
 use Rattle.std.proofs.Common.{refl, ap, ◌∙◌}
-use Rattle.flock_words.specs.declared.options.RunOptions.{RunOptions}
+use Rattle.command_line.specs.declared.options.RunOptions.{RunOptions}
 use Rattle.flock_tool.proofs.Ends.{read_fault}
 use Rattle.flock_tool.proofs.Giving.{not_ok}
 use Rattle.flock_tool.proofs.Running.{run_lacks, run_refused, run_reported}

@@ -1,5 +1,5 @@
 use Rattle.std.proofs.Common.{arith, subst, sym, ◌∙◌}
-use Rattle.threaded_runs.specs.try_lock.specs.Contents.{StandFor}
+use Rattle.hash_table.specs.try_lock.specs.Contents.{StandFor}
 use Rattle.flock_tool.proofs.Sizes.{stand_for, counted}
 use Rattle.flock_tool.proofs.run.size_of.Goals as goal
 

@@ -1,6 +1,6 @@
 use Rattle.std.proofs.Common.{refl, sym, ◌∙◌, inl, inr, ⊎_elim, subst, arith, None}
-use Rattle.flock_words.specs.Commands.{IsCommand, texts}
-use Rattle.flock_words.specs.declared.command.Command.TheVariants as commands
+use Rattle.command_line.specs.Commands.{IsCommand, texts}
+use Rattle.command_line.specs.declared.command.Command.TheVariants as commands
 use Rattle.flock_tool.proofs.Asking.{load_asks, run_asks}
 use Rattle.flock_tool.proofs.Commanding.{back_none, gen_few, load_few, none_accepted, none_status, of_none, of_one, refused_ends}
 use Rattle.flock_tool.proofs.Completing.{load_keeps, none_keeps, run_keeps, whole, whole_alone}

@@ -1,5 +1,5 @@
 use Rattle.std.proofs.Common.{◌+◌, ◌^◌, ◌<◌, arith, ap, sym, subst, ◌∙◌}
-use Rattle.section_body.specs.Word.{version_of, next_word}
+use Rattle.body_terms.specs.Word.{version_of, next_word}
 use Rattle.runner_parts.specs.State.{RunState}
 use Rattle.commit_log.proofs.Halting.{halted_first, halted_more}
 use Rattle.commit_log.proofs.Running.{one_run, ran_one}

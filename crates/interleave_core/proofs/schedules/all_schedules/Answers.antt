@@ -5,13 +5,13 @@ use Rattle.runner_parts.specs.declared.event.Event.{Event}
 use Rattle.machine_states.specs.World.{happens}
 use Rattle.machine_states.proofs.Runs.{run_more}
 use Rattle.machine_epochs.proofs.Reached.{sound_after, descriptors_after}
-use Rattle.reached_histories.specs.machine_invariant.proofs.After.{whole_after, log_words_after}
-use Rattle.reached_histories.specs.machine_invariant.proofs.Rising.{rises_after}
+use Rattle.next_steps.specs.machine_invariant.proofs.After.{whole_after, log_words_after}
+use Rattle.next_steps.specs.machine_invariant.proofs.Rising.{rises_after}
 use Rattle.reached_histories.specs.machine_facts.proofs.Following.{facts_after, step_facts_after}
 use Rattle.reached_histories.proofs.Histories.{history_after}
 use Rattle.reached_histories.proofs.RealTime.{linearizable_after}
-use Rattle.reached_histories.specs.next_steps.proofs.Enabled.{reached_enabled}
-use Rattle.reached_histories.specs.next_steps.proofs.GoingOn.{reached_goes_on}
+use Rattle.next_steps.proofs.Enabled.{reached_enabled}
+use Rattle.next_steps.proofs.GoingOn.{reached_goes_on}
 use Rattle.interleave_core.proofs.Stops.{stops}
 use Rattle.interleave_core.proofs.schedules.all_schedules.Goals as goal
 

@@ -1,5 +1,5 @@
 use Rattle.std.proofs.Common.{◌-◌, ap, subst, ◌∙◌}
-use Rattle.section_body.specs.Word.{pack}
+use Rattle.body_terms.specs.Word.{pack}
 use Rattle.runner_parts.specs.State.{RunState}
 use Rattle.commit_log.proofs.Running.{one_run}
 use Rattle.nested_lock.specs.Dropped.{HasDropped}

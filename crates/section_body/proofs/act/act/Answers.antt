@@ -1,5 +1,5 @@
 use Rattle.std.proofs.Common.{◌∷◌, [], ◌++◌, ap, ◌∙◌}
-use Rattle.section_body.specs.Line.{registers_before}
+use Rattle.body_terms.specs.Line.{registers_before}
 use Rattle.section_body.proofs.ActLemmas.{load_shows, answer_shows, stamp_shows, exchange_shows, make_shows, take_shows}
 use Rattle.section_body.proofs.act.act.Goals as goal
 

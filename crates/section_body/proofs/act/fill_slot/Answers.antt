@@ -1,9 +1,9 @@
 use Rattle.std.proofs.Common.{ℕ, ◌∙◌, sym}
 use Rattle.std.proofs.Math.ListN.{get_or-map}
-use Rattle.section_body.specs.Line.{registers_before, source_of}
-use Rattle.section_body.specs.Run.{source_value}
-use Rattle.section_body.specs.declared.value.Value.{Value}
-use Rattle.section_body.specs.declared.value.Value.TheVariants.{Const}
+use Rattle.body_terms.specs.Line.{registers_before, source_of}
+use Rattle.body_terms.specs.Run.{source_value}
+use Rattle.body_terms.specs.declared.value.Value.{Value}
+use Rattle.body_terms.specs.declared.value.Value.TheVariants.{Const}
 use Rattle.section_body.proofs.FillLemmas.{filled_next}
 use Rattle.section_body.proofs.act.fill_slot.Goals as goal
 

@@ -1,8 +1,8 @@
 use Rattle.std.proofs.Common.{◌≡◌}
 use Rattle.std.specs.Prelude.{map}
-use Rattle.section_body.specs.Line.{registers_before, source_of}
-use Rattle.section_body.specs.Run.{source_value}
-use Rattle.section_body.specs.Act.{filled}
+use Rattle.body_terms.specs.Line.{registers_before, source_of}
+use Rattle.body_terms.specs.Run.{source_value}
+use Rattle.body_terms.specs.Act.{filled}
 use Rattle.section_body.proofs.act.fill_slot.Given as goal
 
 abbrev pub invariant-loop-cell : goal.invariant-loop-cell

@@ -1,13 +1,13 @@
 use Rattle.std.proofs.Common.{◌≡◌, ◌<◌, ◌^◌, ◌+◌, suc, None, refl, sym, ap, ◌∙◌, arith, subst}
 use mir.Val.{bool_byte}
 use Rattle.std.specs.Prelude.{ℕ, take, cond, Bool, true, ◌&&◌, false, slice_index_or, count_by}
-use Rattle.section_body.specs.Shape.{is_take}
-use Rattle.section_body.specs.Line.{registers_before, micros}
-use Rattle.section_body.specs.Run.{Run, ran}
-use Rattle.section_body.specs.Plain.{plain_setting, memory_after}
-use Rattle.section_body.specs.Act.{Shows}
-use Rattle.section_body.proofs.LineLemmas.{read_step}
-use Rattle.section_body.proofs.SoundLemmas.{Sound, counted, count_by_next}
+use Rattle.body_terms.specs.Shape.{is_take}
+use Rattle.body_terms.specs.Line.{registers_before, micros}
+use Rattle.body_terms.specs.Run.{Run, ran}
+use Rattle.body_terms.specs.Plain.{plain_setting, memory_after}
+use Rattle.body_terms.specs.Act.{Shows}
+use Rattle.body_terms.proofs.LineLemmas.{read_step}
+use Rattle.body_terms.proofs.SoundLemmas.{Sound, counted, count_by_next}
 use Rattle.section_body.proofs.FitLemmas.{fits, suits, space, long}
 use Rattle.section_body.proofs.PlainLemmas.{run_before, shows_first, sound_first, run_next, run_ended, sound_more, not_through}
 use Rattle.section_body.proofs.plain_run.run_steps.Goals as goal

@@ -1,8 +1,8 @@
 use Rattle.std.proofs.Common.{◌≡◌, take, None}
 use Rattle.std.specs.Prelude.{count_by}
-use Rattle.section_body.specs.Shape.{IsShaped, is_take}
-use Rattle.section_body.specs.Act.{Shows}
-use Rattle.section_body.proofs.SoundLemmas.{Sound}
+use Rattle.body_terms.specs.Shape.{IsShaped, is_take}
+use Rattle.body_terms.specs.Act.{Shows}
+use Rattle.body_terms.proofs.SoundLemmas.{Sound}
 use Rattle.section_body.proofs.PlainLemmas.{run_before}
 use Rattle.section_body.proofs.plain_run.run_steps.Given as goal
 

@@ -1,12 +1,12 @@
 use Rattle.std.proofs.Common.{◌≡◌, suc, ◌+◌, List, length, take, arith, ap, sym, refl, subst, ◌∙◌}
 use Rattle.std.specs.Prelude.{sum_by}
-use Rattle.section_body.specs.Cost.{step_cost}
-use Rattle.section_body.specs.Line.{registers_before}
-use Rattle.section_body.specs.Shape.{IsStep, IsShaped}
-use Rattle.section_body.specs.declared.outcome.Outcome.{Outcome}
-use Rattle.section_body.specs.declared.outcome.Outcome.TheVariants.{Answered}
-use Rattle.section_body.specs.declared.step.Step.{Step}
-use Rattle.section_body.proofs.LineLemmas.{read_step, registers_before_next}
+use Rattle.body_terms.specs.Cost.{step_cost}
+use Rattle.body_terms.specs.Line.{registers_before}
+use Rattle.body_terms.specs.Shape.{IsStep, IsShaped}
+use Rattle.body_terms.specs.declared.outcome.Outcome.{Outcome}
+use Rattle.body_terms.specs.declared.outcome.Outcome.TheVariants.{Answered}
+use Rattle.body_terms.specs.declared.step.Step.{Step}
+use Rattle.body_terms.proofs.LineLemmas.{read_step, registers_before_next}
 use Rattle.section_lines.specs.Rests.{taken_releases}
 use Rattle.section_runs.specs.Reached.{run_of}
 use Rattle.section_runs.specs.Registers.{AreKept}

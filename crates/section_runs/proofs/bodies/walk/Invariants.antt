@@ -1,8 +1,8 @@
 use Rattle.std.specs.Prelude.{◌≡◌, take, sum_by}
-use Rattle.section_body.specs.Cost.{step_cost}
-use Rattle.section_body.specs.Line.{registers_before}
-use Rattle.idem_cell.specs.version_words.specs.TableState.{IsOf}
-use Rattle.idem_cell.specs.commit_log.specs.Halted.{IsThrough}
+use Rattle.body_terms.specs.Cost.{step_cost}
+use Rattle.body_terms.specs.Line.{registers_before}
+use Rattle.idem_alloc.specs.version_words.specs.TableState.{IsOf}
+use Rattle.idem_alloc.specs.commit_log.specs.Halted.{IsThrough}
 use Rattle.section_runs.specs.Reached.{run_of}
 use Rattle.section_runs.specs.Registers.{AreKept}
 use Rattle.section_runs.specs.Bodies.{IsBefore, IsSameRun, NodesGone}

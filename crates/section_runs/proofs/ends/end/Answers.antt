@@ -1,8 +1,8 @@
 use Rattle.std.proofs.Common.{◌+◌, arith, sym, ◌∙◌, true}
 use Rattle.std.specs.Prelude.{count_by}
-use Rattle.section_body.specs.Shape.{is_take}
-use Rattle.idem_cell.specs.commit_log.proofs.Asked.{asked_more}
-use Rattle.idem_cell.specs.commit_log.proofs.Running.{ran_one}
+use Rattle.body_terms.specs.Shape.{is_take}
+use Rattle.idem_alloc.specs.commit_log.proofs.Asked.{asked_more}
+use Rattle.idem_alloc.specs.commit_log.proofs.Running.{ran_one}
 use Rattle.section_runs.proofs.Through.{halted_by, asked_if, through_more, halted_then, halted_few}
 use Rattle.section_runs.proofs.Ending.{ends_more, ends_body, ends_lock, ends_word}
 use Rattle.section_runs.proofs.ends.end.Goals as goal

@@ -1,5 +1,5 @@
 use Rattle.std.proofs.Common.{arith}
-use Rattle.idem_cell.specs.commit_log.proofs.Running.{ran_one}
+use Rattle.idem_alloc.specs.commit_log.proofs.Running.{ran_one}
 use Rattle.section_runs.proofs.Through.{through_by, halted_by, asked_if}
 use Rattle.section_runs.proofs.Ending.{may_finish, finishes, finished}
 use Rattle.section_runs.proofs.ends.finish.Goals as goal

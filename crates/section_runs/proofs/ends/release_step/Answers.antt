@@ -1,8 +1,8 @@
 use Rattle.std.proofs.Common.{◌≡◌, ℕ, arith, ap, ◌∙◌, Some}
 use Rattle.std.specs.Prelude.{cond}
-use Rattle.section_body.specs.Shape.{IsStep, is_take}
-use Rattle.section_body.specs.declared.step.Step.{Step}
-use Rattle.idem_cell.specs.commit_log.proofs.Running.{ran_one}
+use Rattle.body_terms.specs.Shape.{IsStep, is_take}
+use Rattle.body_terms.specs.declared.step.Step.{Step}
+use Rattle.idem_alloc.specs.commit_log.proofs.Running.{ran_one}
 use Rattle.section_runs.specs.Bodies.{body_of}
 use Rattle.section_runs.proofs.Through.{through_by, halted_by, asked_if}
 use Rattle.section_runs.proofs.Ending.{may_release_take, releases_take, released_take, skipped, ends_same, not_take}

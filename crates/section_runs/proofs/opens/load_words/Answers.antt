@@ -1,6 +1,6 @@
 use Rattle.std.proofs.Common.{◌≡◌, ℕ, suc, ◌+◌, List, [], ◌∷◌, ◌++◌, take, true, false, arith, subst, sym}
 use Rattle.std.proofs.lemmas.List.{take_more_set}
-use Rattle.idem_cell.specs.commit_log.proofs.Asked.{asked_more, asked_as}
+use Rattle.idem_alloc.specs.commit_log.proofs.Asked.{asked_more, asked_as}
 use Rattle.section_runs.specs.Opened.{IsOpening}
 use Rattle.section_runs.proofs.Apart.{asked_apart}
 use Rattle.section_runs.proofs.Opening.{opened_so_far, may_load, opens_more}

@@ -1,6 +1,6 @@
 use Rattle.std.proofs.Common.{arith}
 use Rattle.section_runs.proofs.Through.{through_by, halted_by}
-use Rattle.idem_cell.specs.commit_log.proofs.Running.{ran_one}
+use Rattle.idem_alloc.specs.commit_log.proofs.Running.{ran_one}
 use Rattle.section_runs.proofs.Through.{asked_if}
 use Rattle.section_runs.proofs.Stamping.{may_answer, answers, answer_goes, answer_trail}
 use Rattle.section_runs.proofs.steps.answer_step.Goals as goal

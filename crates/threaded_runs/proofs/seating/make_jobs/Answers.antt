@@ -1,6 +1,6 @@
 use Rattle.std.proofs.Common.{rules, ◌≡◌, ℕ, ◌+◌, ◌<◌, ◌++◌, ◌∷◌, [], length, get_or, ap, ◌∙◌, arith, vec_items}
 use Rattle.std.specs.Prelude.{None}
-use Rattle.runner_gate.specs.Counts.{planned_after, plans_after}
+use Rattle.settling.specs.runner_gate.specs.Counts.{planned_after, plans_after}
 use Rattle.threaded_runs.proofs.Seats.{seated_more, unasked_more}
 use Rattle.threaded_runs.proofs.Counting.{all_plans, front_more, next_plan, on_err, plans_more}
 use Rattle.threaded_runs.proofs.seating.make_jobs.Goals as goal

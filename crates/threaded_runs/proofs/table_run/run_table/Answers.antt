@@ -3,20 +3,20 @@ use Rattle.machine_states.specs.First.{keeper_part}
 use Rattle.machine_states.specs.World.{World}
 use Rattle.machine_states.specs.Reached.{Reached}
 use Rattle.machine_states.specs.Sight.{sight}
-use Rattle.serving.specs.runner_facts.specs.Facts.{LimboIsDone, DescriptorsAreKept, WornAreWorn}
-use Rattle.own_descriptors.specs.Own.{OwnStand}
-use Rattle.serving.specs.machine_invariant.specs.Lengths.{ListsAreShort}
-use Rattle.serving.specs.spent_facts.specs.Spent.{SpentStand}
-use Rattle.worn_lists.specs.Worn.{HasNoRepeats}
-use Rattle.make_counts.specs.Makes.{MakesAreCounted, FewAreAdded}
+use Rattle.settling.specs.runner_facts.specs.Facts.{LimboIsDone, DescriptorsAreKept, WornAreWorn}
+use Rattle.settling.specs.runner_facts.specs.Own.{OwnStand}
+use Rattle.closed_words.specs.machine_invariant.specs.Lengths.{ListsAreShort}
+use Rattle.serving.specs.lock_words.specs.Spent.{SpentStand}
+use Rattle.settling.specs.runner_facts.specs.Worn.{HasNoRepeats}
+use Rattle.serving.specs.resource_bounds.specs.Makes.{MakesAreCounted, FewAreAdded}
 use Rattle.structure_laws.specs.Planner.{PlannerLaws}
-use Rattle.serving.specs.reached_histories.specs.Laws.{ReachedHaveHistories}
+use Rattle.closed_words.specs.reached_histories.specs.Laws.{ReachedHaveHistories}
 use Rattle.serving.specs.request_facts.specs.Laws.{ReachedCallersStand}
 use Rattle.closed_words.specs.Histories.{HaveHistory}
-use Rattle.version_counts.specs.Versions.{VersionsAreCounted}
-use Rattle.slots_in_use.specs.InUse.{FewAreInUse}
-use Rattle.keeper_facts.specs.Freed.{LocksTell}
-use Rattle.lone_attempts.specs.Lone.{LoneAttemptsAreServed}
+use Rattle.serving.specs.resource_bounds.specs.Versions.{VersionsAreCounted}
+use Rattle.serving.specs.resource_bounds.specs.InUse.{FewAreInUse}
+use Rattle.settling.specs.keeper_facts.specs.Freed.{LocksTell}
+use Rattle.serving.specs.attempt_bounds.specs.Lone.{LoneAttemptsAreServed}
 use Rattle.threaded_runs.specs.Counts.{returns_counted}
 use Rattle.threaded_runs.specs.Jobs.{asks_counted}
 use Rattle.threaded_runs.specs.Lone.{AsksAlone, ServesAlone}
@@ -25,8 +25,8 @@ use Rattle.threaded_runs.proofs.Counting.{front_all, front_none, on_err}
 use Rattle.threaded_runs.proofs.Keeping.{has_all, may_settle, settled_all}
 use Rattle.threaded_runs.proofs.Seats.{are_back}
 use Rattle.threaded_runs.proofs.Ending.{IsLawful, all_served}
-use Rattle.lone_epochs.specs.Uncrossed.{OneWorkerIsUncrossed}
-use Rattle.spared_attempts.specs.Spared.{AttemptsSpareSlots}
+use Rattle.serving.specs.one_worker.specs.Uncrossed.{OneWorkerIsUncrossed}
+use Rattle.serving.specs.attempt_bounds.specs.Spared.{AttemptsSpareSlots}
 use Rattle.threaded_runs.proofs.Lone.{IsFresh, IsLawfulAlone, served_alone, asked_alone}
 use Rattle.threaded_runs.proofs.table_run.run_table.Goals as goal
 

@@ -1,6 +1,6 @@
 use Rattle.std.proofs.Common.{sym, subst}
 use Rattle.lock_walks.specs.Way.{Leads}
-use Rattle.tree_laws.specs.Leaves.{tree}
+use Rattle.tree_walks.specs.tree_laws.specs.Leaves.{tree}
 use Rattle.leaf_tree.specs.Planned.{tree_way}
 use Rattle.leaf_tree.proofs.Leads.{leads}
 use Rattle.leaf_tree.proofs.plan.LeafTreePlanner.walk.Goals as goal

@@ -1,5 +1,5 @@
 use Rattle.map_history.specs.Replay.{Pairs}
-use Rattle.tree_laws.specs.Leaves.{tree}
+use Rattle.tree_walks.specs.tree_laws.specs.Leaves.{tree}
 use Rattle.lock_walks.specs.try_lock.specs.Contents.{StandFor}
 use Rattle.leaf_tree.specs.Stands.{Gathers}
 use Rattle.leaf_tree.proofs.tree.LeafTree.pairs.Given as goal

@@ -1,5 +1,5 @@
 use Rattle.std.proofs.Common.{ap, ◌∙◌}
-use Rattle.tree_laws.specs.Walk.{fits_walk}
+use Rattle.tree_walks.specs.tree_laws.specs.Walk.{fits_walk}
 use Rattle.lock_walks.specs.Followed.{followed}
 use Rattle.leaf_tree.specs.declared.walker.LeafWalk.{LeafWalk}
 use Rattle.leaf_tree.specs.Planned.{tree_way}

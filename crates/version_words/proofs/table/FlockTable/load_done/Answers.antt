@@ -2,7 +2,7 @@ use Rattle.std.proofs.Common.{ℕ, true, ap, sym, subst, ◌∙◌, if◌then◌
 use Rattle.std.specs.Prelude.{◌==◌, not}
 use Rattle.table_words.specs.Limits.{IsWithinLimits}
 use Rattle.runner_parts.specs.declared.event.EventKind.TheVariants.{LoadDone}
-use Rattle.interleave_core.specs.machine_invariant.specs.After.{AreAllowed}
+use Rattle.machine_invariant.specs.After.{AreAllowed}
 use Rattle.runner_block.specs.declared.block.Block.{Block}
 use Rattle.version_words.specs.Kept.{IsKept}
 use Rattle.version_words.specs.Events.{Makes, seen_seat}

@@ -4,7 +4,7 @@ use Rattle.table_words.specs.Limits.{IsWithinLimits}
 use Rattle.table_words.specs.declared.access.Access.TheVariants.{Exchanges}
 use Rattle.runner_parts.specs.declared.event.EventKind.TheVariants.{MakeCommit}
 use Rattle.runner_parts.specs.Tests.{has}
-use Rattle.interleave_core.specs.machine_invariant.specs.After.{AreAllowed}
+use Rattle.machine_invariant.specs.After.{AreAllowed}
 use Rattle.runner_block.specs.declared.block.Block.{Block}
 use Rattle.version_words.specs.Place.{next_log}
 use Rattle.runner_block.specs.Blocks.{block_made}

@@ -2,7 +2,7 @@ use Rattle.std.proofs.Common.{ap, sym, subst, ◌∙◌}
 use Rattle.runner_parts.specs.declared.event.EventKind.TheVariants.{PrivateLoad}
 use Rattle.table_words.specs.Limits.{IsWithinLimits}
 use Rattle.table_words.specs.Places.{slot_count}
-use Rattle.interleave_core.specs.machine_invariant.specs.After.{AreAllowed}
+use Rattle.machine_invariant.specs.After.{AreAllowed}
 use Rattle.version_words.specs.TableState.{IsOf}
 use Rattle.runner_block.specs.declared.block.Block.{Block}
 use Rattle.runner_block.specs.Blocks.{block_looked}

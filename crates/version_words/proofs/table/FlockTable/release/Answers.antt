@@ -1,5 +1,5 @@
 use Rattle.std.proofs.Common.{ℕ, ◌<◌, ◌+◌, ◌^◌, ◌-◌, Some, refl, sym, ap, subst, ◌∙◌}
-use Rattle.section_body.specs.Word.{version_of, held_word, next_word}
+use Rattle.body_terms.specs.Word.{version_of, held_word, next_word}
 use Rattle.table_words.specs.declared.spot.Spot.TheVariants.{Cell}
 use Rattle.table_words.specs.declared.access.Access.TheVariants.{Exchanges}
 use Rattle.table_words.specs.Limits.{IsWithinLimits}

@@ -11,7 +11,7 @@ use Rattle.version_words.specs.Place.{next_log}
 use Rattle.runner_block.specs.Blocks.{block_slot_retired}
 use Rattle.version_words.specs.Kept.{IsKept}
 use Rattle.version_words.specs.Events.{met_by, Makes, seen_seat}
-use Rattle.interleave_core.specs.machine_invariant.specs.After.{AreAllowed}
+use Rattle.machine_invariant.specs.After.{AreAllowed}
 use Rattle.version_words.proofs.Bounds.{few_seen}
 use Rattle.version_words.proofs.RetireSteps.{retire_low, retire_room, retire_kept, retire_found}
 use Rattle.version_words.proofs.table.FlockTable.retire_commit.Goals as goal

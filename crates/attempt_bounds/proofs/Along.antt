@@ -1,0 +1,105 @@
+-- Along the steps of an attempt, what an uncrossed runner has seen of the epoch stays, but for an advance.
+use Rattle.std.specs.Prelude.{◌==◌, Bool, true, false, replicate}
+use Rattle.std.proofs.Common.{◌≡◌, ℕ, zero, suc, ◌+◌, List, [], ◌∷◌, ◌++◌, refl, sym, ap, ◌∙◌, subst, Some}
+use Rattle.body_terms.specs.declared.micro.Micro.{Micro}
+use Rattle.body_terms.specs.declared.micro.Micro.TheVariants as micros
+use Rattle.table_words.specs.Places.{slot_count}
+use Rattle.structure_laws.specs.Scene.{Readings}
+use Rattle.structure_laws.specs.Meaning.{Meaning}
+use Rattle.runner_parts.specs.declared.event.EventKind.{EventKind}
+use Rattle.runner_parts.specs.declared.event.EventKind.TheVariants as kinds
+use Rattle.runner_parts.specs.State.{RunState, PartState}
+use Rattle.runner_parts.specs.Tests.{thunk_words}
+use Rattle.runner_steps.specs.After.{own_epoch}
+use Rattle.one_worker.proofs.Onward.{is_advance, was_uncrossed, same_own}
+use Rattle.attempts.specs.version_words.specs.RunnerState.{RunnerState}
+use Rattle.attempts.specs.version_words.specs.Events.{Makes, IsMade}
+use Rattle.one_worker.specs.next_steps.specs.Steps.{kind_at}
+use Rattle.attempts.specs.epoch_slots.specs.Entries.{Enters, Exits}
+use Rattle.attempts.specs.epoch_slots.specs.Collects.{Scans, Looks, IsTested, AreTested}
+use Rattle.attempts.specs.commit_log.specs.Runs.{Ran}
+use Rattle.attempts.specs.section_runs.specs.Opened.{Opens, is_opening}
+use Rattle.attempts.specs.try_lock.specs.Plans.{Loads}
+use Rattle.attempts.specs.try_lock.specs.Prepares.{Stores, SetsWord, SetsWords}
+
+opening_none : (kind : EventKind) → is_opening kind ≡ true → is_advance kind ≡ false
+opening_none (kinds.LoadThunk descriptor) is = refl
+opening_none kinds.LoadDone is = refl
+opening_none _ is = absurd (let z = is in cc)
+
+at_none : (p : PartState) (q : RunState) (micro : Micro) → is_advance (kind_at p q micro) ≡ false
+at_none p q (micros.LoadCell place log) = refl
+at_none p q _ = refl
+
+module _ {T : Type 0} where
+  -- where the one is uncrossed, the other was, and the own epoch is as it was
+  abbrev pub Onward : RunnerState T → RunnerState T → Type 0
+  Onward a b = b.part.records.crossed ≡ false
+      → (a.part.records.crossed ≡ false) × (own_epoch b.part.records.epoch_seen ≡ own_epoch a.part.records.epoch_seen)
+
+  pub stay : (a b : RunnerState T) → b ≡ a → Onward a b
+  stay a b e uncrossed = (ap (λ (r : RunnerState T). r.part.records.crossed) (sym e) ∙ uncrossed, ap (λ (r : RunnerState T). own_epoch r.part.records.epoch_seen) e)
+
+  pub then_on : (a b c : RunnerState T) → Onward a b → Onward b c → Onward a c
+  then_on a b c one two uncrossed = let h = two uncrossed in let k = one h.0 in (k.0, h.1 ∙ k.1)
+
+  module _ (m : Meaning) where
+    pub made_on : (kind : EventKind) (found : ℕ) (a b : RunnerState T) → is_advance kind ≡ false → Makes m kind found a b → Onward a b
+    made_on kind found a b plain made uncrossed =
+        let gone = sym (ap (λ (r : RunnerState T). r.part.records.crossed) made.made) ∙ uncrossed in (
+          was_uncrossed m a.layout a.requests a.number a.part made.met kind found made.asked gone,
+          ap (λ (r : RunnerState T). own_epoch r.part.records.epoch_seen) made.made
+              ∙ same_own m a.layout a.requests a.number a.part made.met kind found made.asked gone plain,
+        )
+
+    -- what is uncrossed behind a step was so before it
+    pub made_was : (kind : EventKind) (found : ℕ) (a b : RunnerState T) → Makes m kind found a b → b.part.records.crossed ≡ false → a.part.records.crossed ≡ false
+    made_was kind found a b made uncrossed = was_uncrossed m a.layout a.requests a.number a.part made.met kind found made.asked
+        (sym (ap (λ (r : RunnerState T). r.part.records.crossed) made.made) ∙ uncrossed)
+
+    pub is_made_on : (kind : EventKind) (a b : RunnerState T) → is_advance kind ≡ false → IsMade m kind a b → Onward a b
+    is_made_on kind a b plain made = made_on kind made.found a b plain made.event
+
+    pub scans_on : (next : ℕ) (found : List ℕ) (a b : RunnerState T) → Scans m next found a b → Onward a b
+    scans_on next [] a b same = stay a b same
+    scans_on next (n ∷ ns) a b scans = then_on a scans.0 b (made_on (kinds.ScanOne next) n a scans.0 refl scans.1) (scans_on (next + 1) ns scans.0 b scans.2)
+
+    looks_on : (slot cell : ℕ) (words : List ℕ) (a b : RunnerState T) → Looks m slot cell words a b → Onward a b
+    looks_on slot cell [] a b same = stay a b same
+    looks_on slot cell (w ∷ ws) a b looks = then_on a looks.0 b (made_on (kinds.PrivateLoad slot cell) w a looks.0 refl looks.1) (looks_on slot (cell + 1) ws looks.0 b looks.2)
+
+    pub tested_on : (slots : List ℕ) (wears : List Bool) (a b : RunnerState T) → AreTested m slots wears a b → Onward a b
+    tested_on [] wears a b tested = stay a b tested.1
+    tested_on (slot ∷ slots) [] a b tested = absurd tested
+    tested_on (slot ∷ slots) (worn ∷ wears) a b tested = then_on a tested.0 b (looks_on slot 0 tested.1.words a tested.0 tested.1.looks) (tested_on slots wears tested.0 b tested.2)
+
+    pub enters_on : (a b : RunnerState T) → Enters m a b → Onward a b
+    enters_on a b enters = then_on a enters.loading b (made_on kinds.EnterLoad enters.announced a enters.loading refl enters.load)
+        (then_on enters.loading enters.waiting b (is_made_on kinds.Announce enters.loading enters.waiting refl enters.announce)
+        (made_on kinds.EnterAgain enters.epoch enters.waiting b refl enters.again))
+
+    pub exits_on : (a b : RunnerState T) → Exits m a b → Onward a b
+    exits_on a b exits = is_made_on kinds.Idle a b refl exits.announce
+
+    pub loads_on : (readings : Readings) (a b : RunnerState T) → Loads m readings a b → Onward a b
+    loads_on [] a b same = stay a b same
+    loads_on (x ∷ xs) a b loads = then_on a loads.0 b (made_on (kinds.LoadCell (Some x.0)) x.1 a loads.0 refl loads.1) (loads_on xs loads.0 b loads.2)
+
+    stores_on : (same : Bool) (slot word number : ℕ) (a b : RunnerState T) → Stores m same slot word number a b → Onward a b
+    stores_on true slot word number a b same = stay a b same
+    stores_on false slot word number a b made = is_made_on (kinds.PrivateStore slot word number) a b refl made
+
+    pub sets_on : (slot word : ℕ) (numbers : List ℕ) (a b : RunnerState T) → SetsWords m slot word numbers a b → Onward a b
+    sets_on slot word [] a b same = stay a b same
+    sets_on slot word (n ∷ ns) a b sets = then_on a sets.0 b
+        (then_on a sets.1.loaded sets.0 (made_on (kinds.PrivateLoad slot word) sets.1.found a sets.1.loaded refl sets.1.load)
+        (stores_on (sets.1.found == n) slot word n sets.1.loaded sets.0 sets.1.store))
+        (sets_on slot (word + 1) ns sets.0 b sets.2)
+
+    pub opens_on : (n : ℕ) (a b : RunnerState T) → Opens m n a b → Onward a b
+    opens_on zero a b same = stay a b same
+    opens_on (suc n) a b opens = then_on a opens.0 b (opens_on n a opens.0 opens.3) (made_on opens.1 opens.2 opens.0 b (opening_none opens.1 opens.4) opens.5)
+
+    pub ran_on : (n : ℕ) (a b : RunnerState T) → Ran m n a b → Onward a b
+    ran_on zero a b same = stay a b same
+    ran_on (suc n) a b ran = then_on a ran.0 b (made_on (kind_at a.part ran.1 ran.2) ran.3 a ran.0 (at_none a.part ran.1 ran.2) ran.4.event) (ran_on n ran.0 b ran.5)

@@ -1,0 +1,11 @@
+pub mod ChoiceLemmas
+pub mod CostLemmas
+pub mod CountedLemmas
+pub mod FaultLemmas
+pub mod LineLemmas
+pub mod RegisterLemmas
+pub mod RunLemmas
+pub mod ShapeLemmas
+pub mod SoundLemmas
+pub mod ValueLemmas
+pub mod WrittenLemmas

@@ -1,0 +1,12 @@
+pub mod Act
+pub mod Cost
+pub mod Counted
+pub mod Fault
+pub mod Line
+pub mod Memory
+pub mod Plain
+pub mod Run
+pub mod Shape
+pub mod Trail
+pub mod Update
+pub mod Word

@@ -1,0 +1,57 @@
+//! What one run of a body costs.
+ghost use Rattle.std.specs.Prelude.{◌≡◌, ◌≤◌, ℕ, length, sum_by, count_by};
+ghost use Rattle.body_terms.specs.Shape.{is_take};
+ghost use Rattle.body_terms.specs.Cost.{step_cost, cost_of, steps_to};
+ghost use Rattle.body_terms.specs.Line.{line};
+
+use crate::body::Body;
+use crate::step::Step;
+
+/// The loads with which a run opens: the twelve words of the thunk and the done word.
+const OPENING: u64 = 13;
+
+/// How many atomic steps this step has.
+fn step_cost(step: &Step) -> u64
+    ensures exact { result ≡ step_cost step.now }
+    ensures small { result ≤ 11 }
+{
+    match step {
+        Step::Load { .. } | Step::Retire { .. } => 2,
+        Step::Want { .. } | Step::Fresh { .. } => 0,
+        Step::Take { .. } => 5,
+        Step::Make { .. } => 11,
+        Step::Stamp => 3,
+        Step::Store { .. } | Step::Answer { .. } => 1,
+    }
+}
+
+/// How many atomic steps these steps have.
+#[tactic(auto, using(crate::proofs::CostLemmas::steps_cost_le))]
+fn steps_cost(steps: &[Step]) -> u64
+    requires { length steps.now ≤ 40 }
+    ensures exact { result ≡ sum_by step_cost steps.now }
+    ensures small { result ≤ 440 }
+{
+    steps.iter().map(|step| step_cost(step)).sum()
+}
+
+/// How many of these steps take a lock.
+fn take_count(steps: &[Step]) -> u64
+    requires { length steps.now ≤ 40 }
+    ensures exact { result ≡ count_by is_take steps.now }
+    ensures small { result ≤ 40 }
+{
+    steps.iter().filter(|step| step.is_take()).count() as u64
+}
+
+/// The number of atomic steps of one run that leaves at no exit, with its opening and its end. That is the
+/// number of events of the run by its line, and no run that comes to any place of the line makes more.
+pub fn cost(body: &Body) -> u64
+    ensures exact { result ≡ cost_of body.now }
+    ensures whole { (lock word : ℕ) → steps_to body.now (length (line body.now)) lock word ≡ result }
+    ensures most { (at lock word : ℕ) → steps_to body.now at lock word ≤ result }
+{
+    let steps = body.steps.as_slice();
+    let releases = take_count(steps) + 1;
+    OPENING + steps_cost(steps) + 1 + releases
+}

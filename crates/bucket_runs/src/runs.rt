@@ -1,9 +1,0 @@
-//! The plain run of the hash table's body for an operation does what the map does.
-ghost use Rattle.bucket_runs.specs.Runs.{RunsDoTheOperations};
-
-/// On a plain memory whose contents are a map, the plain run of the body for an operation, with the
-/// operands of the operation's walk over this memory, gives the map's reply and its new contents, where
-/// no `Fresh` leaves and the slot of the `Make` stands in no chain.
-pub fn bodies_do_the_operations()
-    ensures { RunsDoTheOperations }
-{}

@@ -1,0 +1,64 @@
+-- The options of `run`, by their words.
+use Rattle.std.specs.Prelude.{◌≡◌, ◌≤◌, ℕ, ◌*◌, ◌+◌, ◌/◌, List, [], ◌∷◌, All, IfSome, Option, None, Some, codes, if◌then◌else◌, max, min, option_map, unwrap_or}
+use Rattle.std.specs.Str.{bytes_eq}
+use Rattle.command_line.specs.declared.halts.Halt.{Halt}
+use Rattle.command_line.specs.declared.options.RunOptions.{RunOptions}
+use Rattle.command_line.specs.declared.options.TableKind.{TableKind}
+use Rattle.command_line.specs.declared.options.TableKind.TheVariants.{Hash, Tree}
+use Rattle.command_line.specs.Halts.{halts_in}
+use Rattle.command_line.specs.Numbers.{exponent_in, number_in}
+use Rattle.command_line.specs.Written.{AreOptionsOf, Text, Written, all_words_of, given}
+
+abbrev pub table_in : Text → Option TableKind
+table_in text = if bytes_eq text (codes "hash") then Some Hash else if bytes_eq text (codes "tree") then Some Tree else
+    None
+
+-- what an option means: its default where it isn't given, else what its text says, if that is anything
+abbrev pub meant_or : {X : Type 0} → X → (Text → Option X) → Option Text → Option X
+meant_or default read None = Some default
+meant_or default read (Some text) = read text
+
+-- the same of an option whose default depends on the text that is run
+abbrev pub meant : {X : Type 0} → (Text → Option X) → Option Text → Option (Option X)
+meant read None = Some None
+meant read (Some text) = option_map Some (read text)
+
+-- the names of the options of `run`
+abbrev pub run_names : List Text
+run_names =
+    codes "table" ∷ codes "runners" ∷ codes "buckets" ∷ codes "nodes" ∷ codes "sections" ∷ codes "version-max" ∷ codes
+    "halt" ∷ []
+
+-- what options mean of which this says what each was given
+pub record Mean (said : Text → Option Text) (run : RunOptions) : Type 0 where
+  pub table : meant_or Hash table_in (said (codes "table")) ≡ Some run.table
+  pub runners : meant (number_in 1 16) (said (codes "runners")) ≡ Some run.runners
+  pub bucket_bits : meant_or 6 exponent_in (said (codes "buckets")) ≡ Some run.bucket_bits
+  pub nodes : meant (number_in 0 262144) (said (codes "nodes")) ≡ Some run.nodes
+  pub sections : meant_or 64 (number_in 1 1024) (said (codes "sections")) ≡ Some run.sections
+  pub version_max : meant_or 4294967295 (number_in 3 4294967295) (said (codes "version-max")) ≡ Some run.version_max
+  pub halts : meant_or [] halts_in (said (codes "halt")) ≡ Some run.halts
+
+-- the words behind `run` are those of its options, each at most once, which mean this
+pub record IsRun (line : List Text) (run : RunOptions) : Type 0 where
+  pub options : List Written
+  pub words : line ≡ all_words_of options
+  pub options_of : AreOptionsOf run_names options
+  pub mean : Mean (given options) run
+
+-- one runner for each trace, but at least one and at most sixteen
+abbrev pub runners_by : Option ℕ → ℕ → ℕ
+runners_by runners traces = unwrap_or runners (max 1 (min traces 16))
+
+-- two node slots for each insertion and eight more, but no more of all runners together than 262,144
+abbrev pub nodes_by : Option ℕ → (inserts runners : ℕ) → ℕ
+nodes_by nodes inserts runners = unwrap_or nodes (min (2 * inserts + 8) (262144 / runners))
+
+-- the options are in their ranges
+pub record AreInRange (options : RunOptions) : Type 0 where
+  pub runners : IfSome options.runners (λ runners. (1 ≤ runners) × (runners ≤ 16))
+  pub bucket_bits : options.bucket_bits ≤ 12
+  pub nodes : IfSome options.nodes (λ nodes. nodes ≤ 262144)
+  pub sections : (1 ≤ options.sections) × (options.sections ≤ 1024)
+  pub version_max : 3 ≤ options.version_max
+  pub halts : All (λ (halt : Halt). (halt.runner ≤ 15) × (1 ≤ halt.ask)) options.halts

@@ -1,0 +1,117 @@
+//! Rows of several runners: scripts by which they run beside one another, and reports that are
+//! legal whoever came first.
+
+use crate::legal::is_legal;
+use crate::program::{Ended, TABLES, bytes_of, run, run_gated};
+use body_terms::StepKind;
+use std::alloc::{AllocError, Global};
+use std::process::Abort;
+use std::sync::Wait;
+use std::test::Fail;
+use std::thread::Threads;
+use tool_tests::runner_gate::{Pause, ScriptedGates};
+
+// A runner waits at its first ask of one kind until another was asked with another kind.
+const fn pause(runner: u32, at: StepKind, until_runner: u32, until: StepKind) -> Pause {
+    Pause {
+        runner,
+        at,
+        until_runner,
+        until,
+    }
+}
+
+// Whether a text under this script ends with status 0 and this report, on this table.
+fn script_gives<T: Threads + Wait + Sync>(
+    rt: &T,
+    alloc: Global,
+    line: &str,
+    text: &str,
+    pauses: &[Pause],
+    report: &str,
+) -> Result<bool, AllocError> {
+    let mut gates = ScriptedGates::new(alloc, pauses.to_vec(alloc)?)?;
+    let ended = run_gated(rt, alloc, line, bytes_of(alloc, text)?, &mut gates)?;
+    Ok(ended.is(0, &bytes_of(alloc, report)?, b""))
+}
+
+// Runner 0 publishes and waits until runner 1 is through, and runner 1 enters only when it has: so
+// runner 1 meets the lock held and runs the section in it to its end. Workers of one thread, one
+// after the other, wait in vain, in either order, and so do those of whom one holds a mutex
+// meanwhile: the script halts the runner that waits, and the status is 1.
+#[test]
+fn a_waiting_section_is_helped(rt: HostRuntime) -> Result<(), Fail> {
+    let alloc = rt.alloc();
+    let pauses = [
+        pause(1, StepKind::Entered, 0, StepKind::Hold),
+        pause(0, StepKind::Hold, 1, StepKind::Served),
+    ];
+    let text = "flock 1/trace/ins 5 70/get 5/trace/ins 5 80/";
+    let report = "trace 0/0 new/2 val 70/trace 1/1 dup/final 1/";
+    for table in TABLES {
+        let line = format!(in alloc; "run --runners 2 --table {table}")?;
+        assert!(rt;
+            script_gives(&rt, alloc, &line, text, &pauses, report)?,
+            "{table}"
+        );
+    }
+    Ok(())
+}
+
+// Runner 1 helps runner 0's section, and runner 2 helps runner 1's: three threads, each inside its
+// attempt while the next one goes on.
+#[test]
+fn helpers_are_helped(rt: HostRuntime) -> Result<(), Fail> {
+    let alloc = rt.alloc();
+    let pauses = [
+        pause(0, StepKind::Hold, 1, StepKind::Served),
+        pause(1, StepKind::Entered, 0, StepKind::Hold),
+        pause(1, StepKind::Hold, 2, StepKind::Served),
+        pause(2, StepKind::Entered, 1, StepKind::Hold),
+    ];
+    let text = "flock 1/trace/ins 5 70/get 5/trace/ins 5 80/trace/get 5/";
+    let report = "trace 0/0 new/3 val 70/trace 1/1 dup/trace 2/2 val 70/final 1/";
+    for table in TABLES {
+        let line = format!(in alloc; "run --runners 3 --table {table}")?;
+        assert!(rt;
+            script_gives(&rt, alloc, &line, text, &pauses, report)?,
+            "{table}"
+        );
+    }
+    Ok(())
+}
+
+// What `gen` makes, and how many runners serve it: few keys under one lock, and many.
+const CROWDS: [(&str, &str); 3] = [
+    (
+        "gen --seed=1 --traces 2 --length 1 --keys 1",
+        "run --runners 2",
+    ),
+    (
+        "gen --seed=7 --traces 4 --length 1000 --keys 200",
+        "run --runners 4",
+    ),
+    (
+        "gen --seed=7 --traces 64 --length 16 --keys 4",
+        "run --runners 16 --buckets 1",
+    ),
+];
+
+// Each request is answered, and the report is legal.
+#[test]
+fn crowds_have_legal_reports(rt: HostRuntime) -> Result<(), Fail> {
+    let alloc = rt.alloc();
+    for (maker, words) in CROWDS {
+        let printed = run(&rt, alloc, maker, Vec::new(alloc))?;
+        assert!(rt; printed.status == 0, "{maker}");
+        let text = printed.sink.bytes();
+        for table in TABLES {
+            let line = format!(in alloc; "{words} --table {table}")?;
+            let ended = run(&rt, alloc, &line, text.to_vec(alloc)?)?;
+            assert!(rt; ended.status == 0, "{line}");
+            assert!(rt; !ended.report().contains("unserved"), "{line}");
+            assert!(rt; is_legal(alloc, text, ended.report())?, "{line}");
+        }
+    }
+    Ok(())
+}

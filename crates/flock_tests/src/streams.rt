@@ -1,0 +1,214 @@
+//! Texts that are cut off, and reads and writes that fail, each in turn. In the tables `/` stands
+//! for a line feed.
+ghost use Rattle.std.specs.Prelude.{None};
+
+use crate::program::{Ended, bytes_of};
+use itoa::Buffer;
+use std::alloc::{AllocError, Global};
+use std::process::Abort;
+use std::sync::Wait;
+use std::test::Fail;
+use std::thread::Threads;
+use tool_tests::report_text::{Failed, MemorySink, Sink};
+use tool_tests::runner_gate::PlannedGates;
+use tool_tests::trace_reader::{MemorySource, SureSource};
+use tool_tests::{quiet_sink, status_of};
+
+const TEXT: &str = "flock 1/trace/ins 5 70/";
+
+// What each prefix of the text gives. Each row: the shortest and the longest one, the status, the
+// report, and what is told.
+const PREFIXES: &str = "\
+0 6 3||flock: line 1: no header/
+7 8 0|final 0/|
+9 12 3||flock: line 2: unknown word/
+13 14 0|trace 0/final 0/|
+15 16 3||flock: line 3: unknown word/
+17 20 3||flock: line 3: missing field/
+21 23 0|trace 0/0 new/final 1/|
+";
+
+// Runs a text that comes in pieces of these sizes, of which these reads fail.
+fn run_pieces<T: Threads + Wait + Sync>(
+    rt: &T,
+    alloc: Global,
+    text: Vec<u8>,
+    pieces: Vec<usize>,
+    fails: Vec<u64>,
+) -> Ended {
+    let mut source = MemorySource::new(text, pieces, fails);
+    let (mut sink, mut faults) = (quiet_sink(alloc), quiet_sink(alloc));
+    let status = status_of(
+        rt,
+        alloc,
+        &["run"],
+        &mut source,
+        &mut sink,
+        &mut faults,
+        &mut PlannedGates::new(),
+    );
+    Ended {
+        status,
+        sink,
+        faults,
+    }
+}
+
+// The sizes of so many pieces of one byte.
+fn bytewise(alloc: Global, count: usize) -> Result<Vec<usize>, AllocError> {
+    vec![in alloc; 1usize; count]
+}
+
+// Whether a prefix of the text gives what its row says, in one piece and in pieces of one byte.
+fn prefix_gives<T: Threads + Wait + Sync>(
+    rt: &T,
+    alloc: Global,
+    length: usize,
+    status: &str,
+    report: &str,
+    told: &str,
+) -> Result<bool, AllocError> {
+    let mut text = bytes_of(alloc, TEXT)?;
+    text.truncate(length);
+    let whole = run_pieces(rt, alloc, text.clone()?, Vec::new(alloc), Vec::new(alloc));
+    let pieces = run_pieces(rt, alloc, text, bytewise(alloc, length)?, Vec::new(alloc));
+    let (report, told) = (bytes_of(alloc, report)?, bytes_of(alloc, told)?);
+    Ok(
+        Buffer::new().format(whole.status) == status
+            && whole.is(pieces.status, &report, &told)
+            && pieces.is(whole.status, &report, &told),
+    )
+}
+
+#[test]
+fn each_prefix_is_served_or_refused(rt: HostRuntime) -> Result<(), Fail> {
+    let alloc = rt.alloc();
+    for row in PREFIXES.lines() {
+        let (lengths, texts) = row.split_once('|').ok_or("no bar")?;
+        let (report, told) = texts.split_once('|').ok_or("no second bar")?;
+        let (first, rest) = lengths.split_once(' ').ok_or("no last length")?;
+        let (last, status) = rest.split_once(' ').ok_or("no status")?;
+        for length in first.parse::<usize>()?..=last.parse::<usize>()? {
+            assert!(rt;
+                prefix_gives(&rt, alloc, length, status, report, told)?,
+                "{row} at {length}"
+            );
+        }
+    }
+    Ok(())
+}
+
+// The text takes 24 reads of one byte, the last of which is the end of the input.
+#[test]
+fn each_read_fails_in_turn(rt: HostRuntime) -> Result<(), Fail> {
+    let alloc = rt.alloc();
+    for failing in 1..=25u64 {
+        let fails = vec![in alloc; failing; 1]?;
+        let ended = run_pieces(
+            &rt,
+            alloc,
+            bytes_of(alloc, TEXT)?,
+            bytewise(alloc, 23)?,
+            fails,
+        );
+        if failing <= 24 {
+            assert!(rt; ended.is(8, b"", b"flock: read fault\n"), "at {failing}");
+        } else {
+            assert!(rt;
+                ended.is(0, b"trace 0\n0 new\nfinal 1\n", b""),
+                "at {failing}"
+            );
+        }
+    }
+    Ok(())
+}
+
+// The place of the bad line is earlier than that of the read that fails.
+#[test]
+fn a_bad_line_before_a_failed_read_is_told(rt: HostRuntime) -> Result<(), Fail> {
+    let alloc = rt.alloc();
+    let fails = vec![in alloc; 2u64; 1]?;
+    let ended = run_pieces(
+        &rt,
+        alloc,
+        bytes_of(alloc, "flock 1/foo/")?,
+        Vec::new(alloc),
+        fails,
+    );
+    assert!(rt; ended.is(3, b"", b"flock: line 2: unknown word\n"));
+    Ok(())
+}
+
+/// A sink that takes one byte at a time of what it is given, and fails or takes nothing where the
+/// sink behind it does.
+#[derive(Drop)]
+struct Narrow {
+    behind: MemorySink,
+}
+
+impl Sink for Narrow {
+    ghost held = { λ _. None };
+
+    ghost faults = { λ sink. sink.behind.faults };
+
+    fn write(&mut self, bytes: &[u8]) -> Result<usize, Failed> {
+        match bytes.split_first() {
+            Some((first, _)) => self.behind.write(&[*first]),
+            None => Ok(0),
+        }
+    }
+}
+
+const SERVED: &str = "flock 1/trace/ins 5 70/get 5/del 5/get 5/";
+
+const REPORT: &[u8] = b"trace 0\n0 new\n1 val 70\n2 gone\n3 none\nfinal 0\n";
+
+// Whether a run whose write with this number fails, or takes nothing, ends with status 9 and leaves
+// what the writes before it took.
+fn write_fails<T: Threads + Wait + Sync>(
+    rt: &T,
+    alloc: Global,
+    failing: u64,
+    fails: Vec<u64>,
+    empty: Vec<u64>,
+) -> Result<bool, AllocError> {
+    let mut source = SureSource::new(bytes_of(alloc, SERVED)?, Vec::new(alloc));
+    let mut faults = quiet_sink(alloc);
+    let mut sink = Narrow {
+        behind: MemorySink::new(alloc, fails, empty),
+    };
+    let gates = &mut PlannedGates::new();
+    let status = status_of(
+        rt,
+        alloc,
+        &["run"],
+        &mut source,
+        &mut sink,
+        &mut faults,
+        gates,
+    );
+    let taken = REPORT.iter().take(failing.saturating_sub(1) as usize);
+    Ok(
+        status == 9
+            && sink.behind.bytes().iter().eq(taken)
+            && faults.bytes() == b"flock: write fault\n".as_slice(),
+    )
+}
+
+// The report takes as many writes as it has bytes.
+#[test]
+fn each_write_fails_or_takes_nothing_in_turn(rt: HostRuntime) -> Result<(), Fail> {
+    let alloc = rt.alloc();
+    for failing in 1..=REPORT.len() as u64 {
+        let call = vec![in alloc; failing; 1]?;
+        assert!(rt;
+            write_fails(&rt, alloc, failing, call.clone()?, Vec::new(alloc))?,
+            "at {failing}"
+        );
+        assert!(rt;
+            write_fails(&rt, alloc, failing, Vec::new(alloc), call)?,
+            "empty at {failing}"
+        );
+    }
+    Ok(())
+}

@@ -1,7 +1,0 @@
-use Rattle.clap.specs.Matches.{found_of}
-use Rattle.clap.specs.Walk.{rows_of}
-use Rattle.flock_words.proofs.Meanings.{no_run}
-use Rattle.flock_words.proofs.command.run_command.Goals as goal
-
-pub returns-in-None : goal.returns-in-None
-returns-in-None c = no_run (rows_of (found_of c.args.options.now)) c.in_ok-options.field-0 c.in-None.is c.in_ok-options.ensures.refused

@@ -1,5 +1,0 @@
-use Rattle.std.proofs.Common.{length}
-use Rattle.flock_words.proofs.halts.+runners_differ.Given as goal
-
-abbrev pub decreases-runners_differ : goal.decreases-runners_differ
-decreases-runners_differ l = length l.halts.now

@@ -1,5 +1,0 @@
-use Rattle.machine_states.specs.First.{IsFilled}
-use Rattle.interleave_core.proofs.first.first_words.Given as goal
-
-abbrev pub invariant-loop-place : goal.invariant-loop-place
-invariant-loop-place g l = IsFilled (g.S.Structure.meaning l.structure) l.sizes l.place l.words.items

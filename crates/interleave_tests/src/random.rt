@@ -1,0 +1,566 @@
+//! Random schedules of two workers and the keeper, against the plain runs of the sections that they
+//! publish.
+ghost use Rattle.std.specs.Prelude.{◌≡◌, ◌≤◌, length};
+ghost use Rattle.map_history.specs.Requests.{AreInOrder};
+ghost use Rattle.map_history.specs.declared.op.Op.TheVariants.{Get};
+
+use crate::plain_runs::{PlainRun, plain_run};
+use crate::two_workers::{OWN, SECTIONS, TwoWorkers};
+use body_terms::{Outcome, Thunk, Word};
+use interleave_core::runner_asks::last_of;
+use interleave_core::{EventKind, StepError};
+use map_history::{Op, Request};
+use runner_parts::{Finished, Part, thunk_words};
+use std::alloc::{AllocError, Global};
+
+/// The first descriptor, behind the node slots of two workers and six of the keeper.
+const DESCRIPTORS: u32 = 2 * OWN + 6;
+
+/// How many schedules are run, with the seeds from 0 on.
+const SCHEDULES: u64 = 10;
+
+/// How many enabled events each schedule has.
+const EVENTS: u32 = 1000;
+
+/// How many turns a schedule has at most: one at which a runner makes no step is no event.
+const TURNS: u32 = 40000;
+
+/// Numbers from a fixed seed.
+#[derive(Drop)]
+struct Numbers {
+    state: u64,
+}
+
+impl Numbers {
+    /// A number below this one.
+    fn below(&mut self, limit: u64) -> u64 {
+        self.state = self
+            .state
+            .wrapping_mul(6364136223846793005)
+            .wrapping_add(1442695040888963407);
+        if limit == 0 {
+            0
+        } else {
+            (self.state >> 33) % limit
+        }
+    }
+
+    /// The runner that is next: a worker, or the keeper.
+    fn runner(&mut self) -> u32 {
+        match self.below(3) {
+            0 => 0,
+            1 => 1,
+            _ => 2,
+        }
+    }
+}
+
+/// What a worker is about: the section that it prepares or has published, the word to store
+/// next and whether only the first ones again, and whether it has read the lock.
+#[derive(Clone, Copy)]
+struct Worker {
+    runner: u32,
+    thunk: Thunk,
+    descriptor: u32,
+    next: u32,
+    again: bool,
+    looked: bool,
+    published: bool,
+}
+
+/// A published section with its plain run.
+#[derive(Drop)]
+struct Section {
+    descriptor: u32,
+    thunk: Thunk,
+    plain: PlainRun,
+}
+
+/// The kind with this number, where its events carry no argument in a run or outside one.
+fn plain_kind(number: u32) -> EventKind {
+    match number {
+        0 => EventKind::EnterLoad,
+        1 => EventKind::Announce,
+        2 => EventKind::EnterAgain,
+        6 => EventKind::Advance,
+        8 => EventKind::Commit,
+        9 => EventKind::LoadCell(None),
+        10 => EventKind::ExchangeCell,
+        13 => EventKind::MakeCommit,
+        14 => EventKind::RetireCommit,
+        15 => EventKind::EpochForRetire,
+        16 => EventKind::LoadThunk(None),
+        17 => EventKind::LoadDone,
+        19 => EventKind::SetDone,
+        20 => EventKind::Release,
+        21 => EventKind::ClockLoad,
+        22 => EventKind::StampExchange,
+        23 => EventKind::ClockRaise,
+        24 => EventKind::ReplyExchange,
+        _ => EventKind::Idle,
+    }
+}
+
+/// Makes the next private step of a Make, in one of these slots, with this number.
+fn fills(machine: &mut TwoWorkers, runner: u32, first: u32, count: u32, number: u64) -> bool {
+    for slot in first..first.saturating_add(count) {
+        for word in 0..5u32 {
+            if machine.goes(runner, EventKind::PrivateLoad { slot, word })
+                || machine.goes(runner, EventKind::PrivateStore { slot, word, number })
+            {
+                return true;
+            }
+        }
+    }
+    false
+}
+
+/// The slot that the worker's Make fills, and the number that it stores next.
+fn filled(part: &Part) -> (u32, u64, u32) {
+    match &part.run {
+        None => (0, 0, 1),
+        Some(run) => {
+            let slot = match run.made {
+                None => last_of(&part.nodes.free).unwrap_or(0),
+                Some(slot) => slot,
+            };
+            let version = Word::from_bits(run.word).version().saturating_add(1);
+            (slot, Word::pack(0, version).bits(), 1)
+        }
+    }
+}
+
+/// Makes the next private step of a Make; the keeper's slots have not been used yet.
+fn makes_private(machine: &mut TwoWorkers, runner: u32) -> bool {
+    let (slot, number, count) = match runner {
+        0 => filled(machine.part(0)),
+        1 => filled(machine.part(1)),
+        _ => (2 * OWN, Word::pack(0, 2).bits(), 6),
+    };
+    fills(machine, runner, slot, count, number)
+}
+
+/// Loads the next announcement of a scan.
+fn scans(machine: &mut TwoWorkers, runner: u32) -> bool {
+    for number in 0..3u32 {
+        if machine.goes(runner, EventKind::ScanOne(number)) {
+            return true;
+        }
+    }
+    false
+}
+
+/// Makes the step of a runner that is in a run, scanning or entering.
+fn goes_on(machine: &mut TwoWorkers, runner: u32, kinds: u64) -> bool {
+    if kinds & (1 << 5) != 0 {
+        return scans(machine, runner);
+    }
+    if kinds & (1 << 11 | 1 << 12) != 0 {
+        return makes_private(machine, runner);
+    }
+    machine.goes(runner, plain_kind(kinds.trailing_zeros()))
+}
+
+/// A thunk for the words that stand now.
+fn planned(machine: &TwoWorkers, form: u64, request: u32) -> Thunk {
+    let link = machine.cell(2);
+    let form = if form == 101 {
+        101
+    } else if link.value() == 0 {
+        102
+    } else {
+        103
+    };
+    let operand = if form == 101 {
+        u64::from(request)
+    } else {
+        link.bits()
+    };
+    Thunk {
+        form,
+        request,
+        lock: 0,
+        word: machine.cell(0),
+        operands: [operand, 0, 0, 0, 0, 0, 0, 0],
+    }
+}
+
+/// Helps the section that holds the lock, or reads the lock, or leaves.
+fn helps(machine: &mut TwoWorkers, runner: u32, numbers: &mut Numbers) -> bool {
+    let holder = machine.cell(0).value();
+    match numbers.below(8) {
+        0 => machine.goes(runner, EventKind::Idle),
+        1 | 2 => machine.goes(runner, EventKind::LoadCell(Some(0))),
+        _ => machine.goes(runner, EventKind::LoadThunk(Some(holder.saturating_sub(1)))),
+    }
+}
+
+/// Stores the worker's next word, and gives the kinds that it may make where it can't or has none
+/// to store.
+fn stores(machine: &mut TwoWorkers, worker: &mut Worker) -> Option<u64> {
+    if worker.published || worker.next >= 77 {
+        return Some(machine.kinds(worker.runner));
+    }
+    let word = worker.next;
+    let number = thunk_words(&worker.thunk)
+        .get(word as usize)
+        .copied()
+        .unwrap_or(0);
+    let slot = DESCRIPTORS.saturating_add(worker.descriptor);
+    match machine.step(
+        worker.runner,
+        EventKind::PrivateStore { slot, word, number },
+    ) {
+        Ok(()) => {
+            let last = if worker.again { 4 } else { 76 };
+            worker.next = if word < last {
+                word.saturating_add(1)
+            } else {
+                77
+            };
+            None
+        }
+        Err(StepError::NotEnabled { enabled }) => Some(enabled),
+        Err(StepError::Memory) => Some(0),
+    }
+}
+
+/// Makes a step towards the publication of the worker's section, whose words are stored.
+fn prepares(machine: &mut TwoWorkers, worker: &mut Worker) -> bool {
+    let runner = worker.runner;
+    if worker.thunk != planned(machine, worker.thunk.form, worker.thunk.request) {
+        worker.thunk = planned(machine, worker.thunk.form, worker.thunk.request);
+        worker.next = 0;
+        worker.again = true;
+        worker.looked = false;
+        return false;
+    }
+    if !worker.looked {
+        worker.looked = true;
+        return machine.goes(runner, EventKind::LoadCell(Some(0)));
+    }
+    worker.looked = false;
+    let kind = EventKind::Hold {
+        thunk: worker.thunk,
+        descriptor: worker.descriptor,
+    };
+    worker.published = machine.goes(runner, kind)
+        && machine.cell(0).value() == worker.descriptor.saturating_add(1);
+    worker.published
+}
+
+/// Whether the worker's latest run answered its request.
+fn is_answered(machine: &TwoWorkers, runner: u32) -> bool {
+    let part = if runner == 0 {
+        machine.part(0)
+    } else {
+        machine.part(1)
+    };
+    match part.records.finished.last() {
+        None => false,
+        Some(last) => matches!(last.outcome, Outcome::Answered(_)),
+    }
+}
+
+/// Makes a step of an entered worker that is in no run.
+fn walks(machine: &mut TwoWorkers, worker: &mut Worker, kinds: u64, numbers: &mut Numbers) -> bool {
+    let runner = worker.runner;
+    if !worker.published {
+        return if numbers.below(4) == 0 {
+            helps(machine, runner, numbers)
+        } else {
+            prepares(machine, worker)
+        };
+    }
+    if kinds & (1 << 15) == 0 {
+        return machine.goes(runner, EventKind::LoadThunk(Some(worker.descriptor)));
+    }
+    if is_answered(machine, runner) {
+        worker.thunk.request = worker.thunk.request.saturating_add(1);
+    }
+    worker.thunk.form = if numbers.below(2) == 0 { 101 } else { 102 };
+    worker.descriptor = worker.descriptor.saturating_add(1);
+    worker.published = false;
+    worker.again = false;
+    worker.next = 0;
+    machine.goes(runner, EventKind::EpochForRetire)
+}
+
+/// Makes a step of this runner.
+fn turns(
+    machine: &mut TwoWorkers,
+    workers: &mut [Worker; 2],
+    runner: u32,
+    numbers: &mut Numbers,
+) -> bool {
+    let found = match runner {
+        0 => stores(machine, &mut workers[0]),
+        1 => stores(machine, &mut workers[1]),
+        _ => Some(machine.kinds(runner)),
+    };
+    let Some(kinds) = found else {
+        return true;
+    };
+    if kinds & 1 << 26 == 0 {
+        return goes_on(machine, runner, kinds);
+    }
+    if kinds & 1 != 0 {
+        let scan = numbers.below(4) == 0;
+        return machine.goes(
+            runner,
+            if scan {
+                EventKind::ScanEpoch
+            } else {
+                EventKind::EnterLoad
+            },
+        );
+    }
+    match runner {
+        0 => walks(machine, &mut workers[0], kinds, numbers),
+        1 => walks(machine, &mut workers[1], kinds, numbers),
+        _ => helps(machine, runner, numbers),
+    }
+}
+
+/// Whether the word is the plain run's, where the node that it made in slot 0 is in whatever slot.
+fn is_like(word: u64, plain: u64, is_node: bool) -> bool {
+    if is_node {
+        word != 0 && word >> 32 == plain >> 32
+    } else {
+        word == plain
+    }
+}
+
+/// Whether the section made a node, by its plain run.
+fn makes(section: &Section) -> bool {
+    section.plain.trail.words.len() == 2 && section.thunk.form == 102
+}
+
+/// Whether the cells are those that the plain run left.
+fn has_cells(machine: &TwoWorkers, section: &Section) -> bool {
+    machine.cell(1) == section.plain.number
+        && is_like(
+            machine.cell(2).bits(),
+            section.plain.link.bits(),
+            makes(section),
+        )
+}
+
+/// Whether these agreed words are the plain run's.
+fn has_trail(words: &[u64], section: &Section) -> bool {
+    let plain = section.plain.trail.words.as_slice();
+    if words.len() != plain.len() {
+        return false;
+    }
+    for log in 0..plain.len() {
+        if !is_like(words[log], plain[log], log == 1 && makes(section)) {
+            return false;
+        }
+    }
+    true
+}
+
+/// Whether the log of its descriptor is the plain run's trail, with no word behind it.
+fn has_log(machine: &TwoWorkers, section: &Section) -> bool {
+    if section.descriptor >= SECTIONS {
+        return false;
+    }
+    let plain = section.plain.trail.words.as_slice();
+    for log in 0..64u32 {
+        let agreed = plain.get(log as usize).copied().unwrap_or(0);
+        let word = machine.log_word(section.descriptor, log);
+        if !is_like(word, agreed, log == 1 && makes(section)) {
+            return false;
+        }
+    }
+    true
+}
+
+/// Whether the link leads to the node that the log agrees on, where the section made one.
+fn has_node(machine: &TwoWorkers, section: &Section) -> bool {
+    if !makes(section) {
+        return true;
+    }
+    if section.descriptor >= SECTIONS {
+        return false;
+    }
+    u64::from(machine.cell(2).value()) == machine.log_word(section.descriptor, 1)
+}
+
+/// Whether the run is of one of these sections, and ended as its plain run.
+fn ends_alike(run: &Finished, sections: &[Section]) -> bool {
+    for section in sections {
+        if run.descriptor == section.descriptor && run.word == section.thunk.word {
+            return run.outcome == section.plain.outcome && has_trail(run.trail.as_slice(), section);
+        }
+    }
+    false
+}
+
+/// Whether each of these runs ended as the plain run of its section.
+fn end_alike(finished: &[Finished], sections: &[Section]) -> bool {
+    for run in finished {
+        if !ends_alike(run, sections) {
+            return false;
+        }
+    }
+    true
+}
+
+/// The worker with this number, before its first section.
+fn begins(runner: u32) -> Worker {
+    Worker {
+        runner,
+        thunk: Thunk {
+            form: 101,
+            request: runner.saturating_mul(OWN),
+            lock: 0,
+            word: Word::pack(0, 1),
+            operands: [7, 0, 0, 0, 0, 0, 0, 0],
+        },
+        descriptor: runner.saturating_mul(OWN),
+        next: 0,
+        again: false,
+        looked: false,
+        published: false,
+    }
+}
+
+/// The request with this number, in this trace.
+fn request(trace: u32, number: u32) -> Request
+    ensures { result ≡ record { trace = trace; number = number; op = Get 1 } }
+{
+    let op = Op::Get(1);
+    Request { trace, number, op }
+}
+
+/// Eight requests in each of two traces.
+fn requests() -> [Request; 16]
+    ensures { AreInOrder result 64 }
+{
+    [
+        request(0, 0),
+        request(0, 1),
+        request(0, 2),
+        request(0, 3),
+        request(0, 4),
+        request(0, 5),
+        request(0, 6),
+        request(0, 7),
+        request(1, 8),
+        request(1, 9),
+        request(1, 10),
+        request(1, 11),
+        request(1, 12),
+        request(1, 13),
+        request(1, 14),
+        request(1, 15),
+    ]
+}
+
+/// The section that the worker has just published, with its plain run from the words that stand now.
+fn published(alloc: Global, machine: &TwoWorkers, worker: &Worker) -> Result<Section, AllocError> {
+    let thunk = worker.thunk;
+    let plain = plain_run(
+        alloc,
+        thunk.form,
+        thunk.operands[0],
+        machine.cell(1),
+        machine.cell(2),
+    )?;
+    Ok(Section {
+        descriptor: worker.descriptor,
+        thunk,
+        plain,
+    })
+}
+
+/// After a worker's or the keeper's turn: a section that it published is run in one go, and one
+/// that it released is compared.
+fn agrees(
+    alloc: Global,
+    machine: &TwoWorkers,
+    worker: &Worker,
+    was_held: bool,
+    sections: &mut Vec<Section>,
+) -> Result<bool, AllocError> {
+    let is_held = machine.cell(0).value() != 0;
+    if is_held && !was_held {
+        sections.push(published(alloc, machine, worker)?)?;
+    }
+    if is_held || !was_held {
+        return Ok(true);
+    }
+    match sections.last() {
+        None => Ok(false),
+        Some(section) => Ok(
+            has_cells(machine, section) && has_log(machine, section) && has_node(machine, section),
+        ),
+    }
+}
+
+/// What a schedule made: its events, sections and finished runs, and whether all of them agreed
+/// with the plain runs.
+#[derive(Clone, Copy)]
+struct Seen {
+    events: u32,
+    sections: usize,
+    runs: usize,
+    agrees: bool,
+}
+
+/// What stands at the end of a schedule, of which each release agreed or didn't.
+fn at_end(machine: &TwoWorkers, sections: &[Section], events: u32, agrees: bool) -> Seen {
+    let first = machine.part(0).records.finished.as_slice();
+    let second = machine.part(1).records.finished.as_slice();
+    let keeper = machine.part(2).records.finished.as_slice();
+    Seen {
+        events,
+        sections: sections.len(),
+        runs: first
+            .len()
+            .saturating_add(second.len())
+            .saturating_add(keeper.len()),
+        agrees: agrees
+            && end_alike(first, sections)
+            && end_alike(second, sections)
+            && end_alike(keeper, sections),
+    }
+}
+
+/// A schedule of so many events from the first state on, with numbers from this seed.
+fn schedule(alloc: Global, requests: &[Request], seed: u64) -> Result<Seen, AllocError>
+    requires { AreInOrder requests.now 64 }
+{
+    let mut machine = TwoWorkers::new(alloc, requests)?;
+    let mut workers = [begins(0), begins(1)];
+    let mut sections = Vec::new(alloc);
+    let mut numbers = Numbers { state: seed };
+    let mut events = 0u32;
+    let mut all_agree = true;
+    for _ in 0..TURNS {
+        if events >= EVENTS {
+            break;
+        }
+        let runner = numbers.runner();
+        let was_held = machine.cell(0).value() != 0;
+        if turns(&mut machine, &mut workers, runner, &mut numbers) {
+            events = events.saturating_add(1);
+        }
+        let worker = if runner == 0 { workers[0] } else { workers[1] };
+        all_agree &= agrees(alloc, &machine, &worker, was_held, &mut sections)?;
+    }
+    Ok(at_end(&machine, &sections, events, all_agree))
+}
+
+#[test]
+fn random_schedules_agree_with_the_plain_runs(rt: HostRuntime) -> Result<(), AllocError> {
+    let requests = requests();
+    for seed in 0..SCHEDULES {
+        let seen = schedule(rt.alloc(), &requests, seed)?;
+        assert!(rt; seen.events == EVENTS);
+        assert!(rt; seen.sections > 1 && seen.runs > 1);
+        assert!(rt; seen.agrees);
+    }
+    Ok(())
+}

@@ -1,0 +1,560 @@
+//! Worked rows.
+ghost use Rattle.std.specs.Prelude.{◌≤◌};
+ghost use Rattle.map_history.specs.Requests.{AreInOrder};
+ghost use Rattle.table_words.specs.Limits.{IsWithinLimits};
+
+use body_terms::{Outcome, Thunk, Word};
+use interleave_core::{Event, EventKind, Machine, ScheduleError, StepError, Tray, all_schedules};
+use map_history::{Op, Request};
+use runner_parts::{Part, thunk_words};
+use std::alloc::AllocError;
+use table_words::Layout;
+
+/// The first word of a cell: value 0, version 1.
+const FIRST: u64 = 4294967296;
+
+/// The first descriptor, behind the ten node slots of two workers and the keeper.
+const DESCRIPTORS: u32 = 10;
+
+fn layout(runners: u32) -> Layout
+    requires some { 1 ≤ runners }
+    requires few { runners ≤ 2 }
+    ensures { IsWithinLimits result }
+{
+    Layout {
+        runners,
+        nodes: 2,
+        sections: 2,
+        version_max: 4294967295,
+    }
+}
+
+/// A thunk behind the lock at place 0.
+fn thunk(form: u64, request: u32, operand: u64) -> Thunk {
+    Thunk {
+        form,
+        request,
+        lock: 0,
+        word: Word::from_bits(FIRST),
+        operands: [operand, 0, 0, 0, 0, 0, 0, 0],
+    }
+}
+
+/// Two requests in each of two traces.
+fn requests() -> [Request; 4]
+    ensures { AreInOrder result 64 }
+{
+    let op = Op::Get(1);
+    [
+        Request {
+            trace: 0,
+            number: 0,
+            op,
+        },
+        Request {
+            trace: 0,
+            number: 1,
+            op,
+        },
+        Request {
+            trace: 1,
+            number: 2,
+            op,
+        },
+        Request {
+            trace: 1,
+            number: 3,
+            op,
+        },
+    ]
+}
+
+/// Makes this step, and says whether it was enabled.
+fn goes(machine: &mut Machine<Tray>, runner: u32, kind: EventKind) -> bool {
+    machine.step(Event { runner, kind }).is_ok()
+}
+
+fn enters(machine: &mut Machine<Tray>, runner: u32) -> bool {
+    goes(machine, runner, EventKind::EnterLoad)
+        && goes(machine, runner, EventKind::Announce)
+        && goes(machine, runner, EventKind::EnterAgain)
+}
+
+/// Enters, reads the lock, and stores the words of a free descriptor.
+fn prepares(machine: &mut Machine<Tray>, runner: u32, descriptor: u32, thunk: &Thunk) -> bool {
+    if !enters(machine, runner) || !goes(machine, runner, EventKind::LoadCell(Some(0))) {
+        return false;
+    }
+    let words = thunk_words(thunk);
+    let slot = DESCRIPTORS.saturating_add(descriptor);
+    for word in 0..77u32 {
+        let number = words.get(word as usize).copied().unwrap_or(0);
+        if !goes(
+            machine,
+            runner,
+            EventKind::PrivateStore { slot, word, number },
+        ) {
+            return false;
+        }
+    }
+    true
+}
+
+/// Prepares a descriptor with the thunk, and publishes it.
+fn publishes(machine: &mut Machine<Tray>, runner: u32, descriptor: u32, thunk: Thunk) -> bool {
+    prepares(machine, runner, descriptor, &thunk)
+        && goes(machine, runner, EventKind::Hold { thunk, descriptor })
+}
+
+/// Enters, and reads the lock.
+fn looks(machine: &mut Machine<Tray>, runner: u32) -> bool {
+    enters(machine, runner) && goes(machine, runner, EventKind::LoadCell(Some(0)))
+}
+
+/// Scans all announcements of two workers and the keeper, and advances the epoch where that is enabled.
+fn collects(machine: &mut Machine<Tray>, runner: u32) -> bool {
+    if !goes(machine, runner, EventKind::ScanEpoch) {
+        return false;
+    }
+    for number in 0..3u32 {
+        if !goes(machine, runner, EventKind::ScanOne(number)) {
+            return false;
+        }
+    }
+    let _ = goes(machine, runner, EventKind::Advance);
+    true
+}
+
+/// The kind of a run's step that has this name.
+fn kind_of(name: &str) -> EventKind {
+    match name {
+        "load" => EventKind::LoadCell(None),
+        "commit" => EventKind::Commit,
+        "make" => EventKind::MakeCommit,
+        "clock" => EventKind::ClockLoad,
+        "stamp" => EventKind::StampExchange,
+        "raise" => EventKind::ClockRaise,
+        "epoch" => EventKind::EpochForRetire,
+        "retire" => EventKind::RetireCommit,
+        "answer" => EventKind::ReplyExchange,
+        "done" => EventKind::SetDone,
+        "release" => EventKind::Release,
+        _ => EventKind::ExchangeCell,
+    }
+}
+
+/// Makes these steps of runs, in turn.
+fn plays(machine: &mut Machine<Tray>, steps: &str) -> bool {
+    for step in steps.split(", ") {
+        let Some((runner, name)) = step.split_once(' ') else {
+            return false;
+        };
+        let Ok(runner) = runner.parse::<u32>() else {
+            return false;
+        };
+        if !goes(machine, runner, kind_of(name)) {
+            return false;
+        }
+    }
+    true
+}
+
+/// Makes the ten private steps of a Make that fills this slot with zeros.
+fn fills_slot(machine: &mut Machine<Tray>, runner: u32, slot: u32) -> bool {
+    let number = Word::pack(0, 2).bits();
+    for word in 0..5u32 {
+        if !goes(machine, runner, EventKind::PrivateLoad { slot, word }) {
+            return false;
+        }
+        if !goes(
+            machine,
+            runner,
+            EventKind::PrivateStore { slot, word, number },
+        ) {
+            return false;
+        }
+    }
+    true
+}
+
+/// Whether the latest run of this part ended so.
+fn ends(part: &Part, outcome: Outcome, trail: &[u64], late: bool) -> bool {
+    match part.records.finished.last() {
+        None => false,
+        Some(last) => last.outcome == outcome
+            && last.trail.as_slice() == trail
+            && last.late == late,
+    }
+}
+
+/// Loads the thunk words and the done word.
+fn opens(machine: &mut Machine<Tray>, runner: u32, descriptor: u32) -> bool {
+    if !goes(machine, runner, EventKind::LoadThunk(Some(descriptor))) {
+        return false;
+    }
+    for _ in 0..11u32 {
+        if !goes(machine, runner, EventKind::LoadThunk(None)) {
+            return false;
+        }
+    }
+    goes(machine, runner, EventKind::LoadDone)
+}
+
+/// Makes a private step of a Make that fills a node of zeros, and none outside a run, where a
+/// request's word may be loaded.
+fn fills(machine: &mut Machine<Tray>, runner: u32) -> bool {
+    if goes(
+        machine,
+        runner,
+        EventKind::LoadEntry {
+            request: 1,
+            reply: false,
+        },
+    ) {
+        return false;
+    }
+    let number = Word::pack(0, 2).bits();
+    for slot in 0..DESCRIPTORS {
+        for word in 0..5u32 {
+            if goes(machine, runner, EventKind::PrivateLoad { slot, word })
+                || goes(
+                    machine,
+                    runner,
+                    EventKind::PrivateStore { slot, word, number },
+                )
+            {
+                return true;
+            }
+        }
+    }
+    false
+}
+
+/// Makes the one step that comes next in a run.
+fn goes_on(machine: &mut Machine<Tray>, runner: u32) -> bool {
+    for kind in [
+        EventKind::Commit,
+        EventKind::LoadCell(None),
+        EventKind::ExchangeCell,
+        EventKind::MakeCommit,
+        EventKind::RetireCommit,
+        EventKind::SetDone,
+        EventKind::Release,
+        EventKind::ClockLoad,
+        EventKind::StampExchange,
+        EventKind::ClockRaise,
+        EventKind::ReplyExchange,
+    ] {
+        if goes(machine, runner, kind) {
+            return true;
+        }
+    }
+    false
+}
+
+/// Opens the section, runs it to its end, and counts the steps.
+fn runs(machine: &mut Machine<Tray>, runner: u32, descriptor: u32) -> u32 {
+    if !opens(machine, runner, descriptor) {
+        return 0;
+    }
+    let mut steps = 13u32;
+    for _ in 0..64u32 {
+        if !goes_on(machine, runner) && !fills(machine, runner) {
+            break;
+        }
+        steps = steps.saturating_add(1);
+    }
+    steps
+}
+
+#[test]
+fn a_runner_enters_and_leaves(rt: HostRuntime) -> Result<(), AllocError> {
+    let kinds = [
+        EventKind::EnterLoad,
+        EventKind::Announce,
+        EventKind::EnterAgain,
+        EventKind::Idle,
+    ];
+    let events = kinds.map(|kind| Event { runner: 0, kind });
+    let leaves = match all_schedules(rt.alloc(), Tray, layout(1), &[], &events) {
+        Ok(machine) => machine.announcement(0) == 0 && machine.epoch() == 1,
+        Err(_) => false,
+    };
+    assert!(rt; leaves);
+    let mut machine = Machine::new(rt.alloc(), Tray, layout(1), &[])?;
+    assert!(rt; enters(&mut machine, 0));
+    assert_eq!(rt; machine.announcement(0), 1);
+    assert!(rt; goes(&mut machine, 0, EventKind::Idle));
+    assert_eq!(rt; machine.announcement(0), 0);
+    assert_eq!(rt; machine.epoch(), 1);
+    Ok(())
+}
+
+#[test]
+fn a_list_that_begins_with_announce_is_refused_at_its_start(
+    rt: HostRuntime,
+) -> Result<(), AllocError> {
+    let events = [Event {
+        runner: 0,
+        kind: EventKind::Announce,
+    }];
+    let refused = match all_schedules(rt.alloc(), Tray, layout(1), &[], &events) {
+        Err(ScheduleError::NotEnabled { at, enabled: _ }) => at == 0,
+        _ => false,
+    };
+    assert!(rt; refused);
+    Ok(())
+}
+
+#[test]
+fn idle_enables_five_kinds(rt: HostRuntime) -> Result<(), AllocError> {
+    let requests = requests();
+    let mut machine = Machine::new(rt.alloc(), Tray, layout(2), &requests)?;
+    let kinds = match machine.step(Event {
+        runner: 0,
+        kind: EventKind::Announce,
+    }) {
+        Err(StepError::NotEnabled { enabled }) => enabled,
+        _ => 0,
+    };
+    assert_eq!(rt; kinds, 1 | 1 << 4 | 1 << 11 | 1 << 12 | 1 << 26);
+    Ok(())
+}
+
+#[test]
+fn requests_are_published_once_and_in_their_order(rt: HostRuntime) -> Result<(), AllocError> {
+    let requests = requests();
+    let mut machine = Machine::new(rt.alloc(), Tray, layout(2), &requests)?;
+    let second = thunk(101, 1, 7);
+    assert!(rt; prepares(&mut machine, 0, 0, &second));
+    assert!(rt;
+        !goes(
+            &mut machine,
+            0,
+            EventKind::Hold {
+                thunk: second,
+                descriptor: 0
+            }
+        )
+    );
+    assert!(rt; goes(&mut machine, 0, EventKind::Idle));
+    assert!(rt; publishes(&mut machine, 0, 1, thunk(101, 0, 7)));
+    assert_eq!(rt; runs(&mut machine, 0, 1), 22);
+    assert!(rt; goes(&mut machine, 0, EventKind::EpochForRetire));
+    assert!(rt; goes(&mut machine, 0, EventKind::Idle));
+    let word = Word::from_bits(12884901888);
+    let again = Thunk {
+        word,
+        ..thunk(101, 0, 7)
+    };
+    assert!(rt; prepares(&mut machine, 0, 0, &again));
+    assert!(rt;
+        !goes(
+            &mut machine,
+            0,
+            EventKind::Hold {
+                thunk: again,
+                descriptor: 0
+            }
+        )
+    );
+    assert!(rt; goes(&mut machine, 0, EventKind::Idle));
+    let next = Thunk {
+        word,
+        ..thunk(101, 1, 7)
+    };
+    assert!(rt; publishes(&mut machine, 0, 0, next));
+    Ok(())
+}
+
+#[test]
+fn a_number_is_stored_once_and_a_late_helper_changes_nothing(
+    rt: HostRuntime,
+) -> Result<(), AllocError> {
+    let requests = requests();
+    let mut machine = Machine::new(rt.alloc(), Tray, layout(2), &requests)?;
+    let number = thunk(101, 0, 7);
+    assert!(rt; publishes(&mut machine, 0, 0, number));
+    assert!(rt; looks(&mut machine, 1));
+    assert_eq!(rt; runs(&mut machine, 0, 0), 22);
+    assert_eq!(rt; machine.cell(1).bits(), 8589934599);
+    assert_eq!(rt; machine.cell(0).bits(), 12884901888);
+    assert!(rt; ends(machine.part(0), Outcome::Answered(FIRST), &[FIRST], false));
+    assert_eq!(rt; runs(&mut machine, 1, 0), 22);
+    assert!(rt; ends(machine.part(1), Outcome::Answered(FIRST), &[FIRST], true));
+    assert_eq!(rt; machine.cell(1).bits(), 8589934599);
+    assert_eq!(rt; machine.cell(0).bits(), 12884901888);
+    Ok(())
+}
+
+#[test]
+fn two_runners_store_a_number_once(rt: HostRuntime) -> Result<(), AllocError> {
+    let requests = requests();
+    let mut machine = Machine::new(rt.alloc(), Tray, layout(2), &requests)?;
+    let number = thunk(101, 0, 7);
+    assert!(rt; publishes(&mut machine, 0, 0, number));
+    assert!(rt; looks(&mut machine, 1));
+    assert!(rt; opens(&mut machine, 0, 0) && opens(&mut machine, 1, 0));
+    assert!(rt; plays(&mut machine, "0 load, 1 load, 1 commit, 0 commit"));
+    assert!(rt;
+        plays(
+            &mut machine,
+            "0 clock, 0 stamp, 0 raise, 1 clock, 1 stamp, 1 raise"
+        )
+    );
+    assert!(rt; plays(&mut machine, "1 store"));
+    assert_eq!(rt; machine.cell(1).bits(), 8589934599);
+    assert!(rt; plays(&mut machine, "0 store"));
+    assert_eq!(rt; machine.cell(1).bits(), 8589934599);
+    assert_eq!(rt; machine.log_word(0, 0), FIRST);
+    assert_eq!(rt; machine.log_word(0, 1), 0);
+    Ok(())
+}
+
+#[test]
+fn a_section_that_finds_another_word_leaves(rt: HostRuntime) -> Result<(), AllocError> {
+    let requests = requests();
+    let mut machine = Machine::new(rt.alloc(), Tray, layout(2), &requests)?;
+    let link = thunk(102, 0, 21474836480);
+    assert!(rt; publishes(&mut machine, 0, 0, link));
+    assert_eq!(rt; runs(&mut machine, 0, 0), 17);
+    let outcome = machine.part(0).records.finished.first().map(|x| x.outcome);
+    let stale = Outcome::Stale {
+        place: 2,
+        expected: Word::from_bits(21474836480),
+        read: Word::from_bits(FIRST),
+    };
+    assert!(rt; outcome == Some(stale));
+    assert!(rt; machine.is_free(0, 0));
+    Ok(())
+}
+
+#[test]
+fn a_node_is_made(rt: HostRuntime) -> Result<(), AllocError> {
+    let requests = requests();
+    let mut machine = Machine::new(rt.alloc(), Tray, layout(2), &requests)?;
+    let link = thunk(102, 0, FIRST);
+    assert!(rt; publishes(&mut machine, 0, 0, link));
+    assert_eq!(rt; runs(&mut machine, 0, 0), 33);
+    assert_eq!(rt; machine.cell(2).bits(), 8589934593);
+    assert!(rt; machine.is_live(0) && !machine.is_live(1));
+    Ok(())
+}
+
+#[test]
+fn a_lock_that_is_held_refuses(rt: HostRuntime) -> Result<(), AllocError> {
+    let requests = requests();
+    let mut machine = Machine::new(rt.alloc(), Tray, layout(2), &requests)?;
+    let mine = thunk(101, 0, 7);
+    let other = thunk(101, 2, 8);
+    assert!(rt; prepares(&mut machine, 0, 0, &mine));
+    assert!(rt; prepares(&mut machine, 1, 2, &other));
+    assert!(rt;
+        !goes(
+            &mut machine,
+            1,
+            EventKind::Hold {
+                thunk: mine,
+                descriptor: 2
+            }
+        )
+    );
+    assert!(rt;
+        goes(
+            &mut machine,
+            0,
+            EventKind::Hold {
+                thunk: mine,
+                descriptor: 0
+            }
+        )
+    );
+    assert!(rt;
+        goes(
+            &mut machine,
+            1,
+            EventKind::Hold {
+                thunk: other,
+                descriptor: 2
+            }
+        )
+    );
+    assert_eq!(rt; machine.cell(0).value(), 1);
+    assert!(rt; goes(&mut machine, 1, EventKind::Idle));
+    assert!(rt; !goes(&mut machine, 0, EventKind::Idle));
+    Ok(())
+}
+
+#[test]
+fn two_runners_make_one_node(rt: HostRuntime) -> Result<(), AllocError> {
+    let requests = requests();
+    let mut machine = Machine::new(rt.alloc(), Tray, layout(2), &requests)?;
+    assert!(rt; publishes(&mut machine, 0, 0, thunk(102, 0, FIRST)) && looks(&mut machine, 1));
+    assert!(rt; opens(&mut machine, 0, 0) && opens(&mut machine, 1, 0));
+    assert!(rt; plays(&mut machine, "0 load, 0 commit") && fills_slot(&mut machine, 0, 0));
+    assert!(rt; plays(&mut machine, "1 load, 1 commit") && fills_slot(&mut machine, 1, 2));
+    assert!(rt; plays(&mut machine, "1 make, 0 make"));
+    assert!(rt;
+        plays(
+            &mut machine,
+            "0 clock, 0 stamp, 0 raise, 1 clock, 1 stamp, 1 raise"
+        )
+    );
+    assert!(rt; plays(&mut machine, "0 store, 1 store"));
+    assert_eq!(rt; machine.log_word(0, 0), FIRST);
+    assert_eq!(rt; machine.log_word(0, 1), 3);
+    assert_eq!(rt; machine.cell(2).bits(), 8589934595);
+    assert!(rt; machine.is_live(2) && !machine.is_live(0) && machine.is_free(0, 0));
+    for place in 3..8u32 {
+        assert_eq!(rt; machine.cell(place).bits(), 8589934592);
+    }
+    Ok(())
+}
+
+#[test]
+fn a_node_is_taken_out(rt: HostRuntime) -> Result<(), AllocError> {
+    let requests = requests();
+    let mut machine = Machine::new(rt.alloc(), Tray, layout(2), &requests)?;
+    assert!(rt; publishes(&mut machine, 0, 0, thunk(102, 0, FIRST)));
+    assert_eq!(rt; runs(&mut machine, 0, 0), 33);
+    assert!(rt;
+        goes(&mut machine, 0, EventKind::EpochForRetire) && goes(&mut machine, 0, EventKind::Idle)
+    );
+    let mut unlink = thunk(103, 1, machine.cell(2).bits());
+    unlink.word = machine.cell(0);
+    assert!(rt; publishes(&mut machine, 0, 1, unlink));
+    let before = machine.part(0).records.events;
+    assert!(rt; opens(&mut machine, 0, 1));
+    assert!(rt;
+        plays(
+            &mut machine,
+            "0 load, 0 commit, 0 clock, 0 stamp, 0 raise, 0 store"
+        )
+    );
+    assert!(rt;
+        plays(
+            &mut machine,
+            "0 epoch, 0 retire, 0 answer, 0 done, 0 release"
+        )
+    );
+    assert_eq!(rt; machine.part(0).records.events.saturating_sub(before), 24);
+    assert_eq!(rt; machine.cell(2).bits(), 12884901888);
+    assert!(rt; !machine.is_live(0) && !machine.is_free(0, 0));
+    Ok(())
+}
+
+#[test]
+fn the_epoch_waits_for_an_old_announcement(rt: HostRuntime) -> Result<(), AllocError> {
+    let mut machine = Machine::new(rt.alloc(), Tray, layout(2), &[])?;
+    assert!(rt; enters(&mut machine, 0));
+    assert!(rt; collects(&mut machine, 1));
+    assert_eq!(rt; machine.epoch(), 2);
+    assert!(rt; collects(&mut machine, 1));
+    assert_eq!(rt; machine.epoch(), 2);
+    assert!(rt; goes(&mut machine, 0, EventKind::Idle));
+    assert!(rt; collects(&mut machine, 1));
+    assert_eq!(rt; machine.epoch(), 3);
+    assert!(rt; enters(&mut machine, 0));
+    assert_eq!(rt; machine.announcement(0), 3);
+    Ok(())
+}

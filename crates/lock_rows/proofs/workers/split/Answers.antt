@@ -1,7 +1,0 @@
-use Rattle.std.proofs.Common.{ap, arith}
-use Rattle.table_words.specs.declared.layout.Layout.{Layout}
-use Rattle.try_lock.specs.version_words.proofs.Stages.{may_split}
-use Rattle.lock_rows.proofs.workers.split.Goals as goal
-
-pub runner-requires-clause-next : goal.runner-requires-clause-next
-runner-requires-clause-next g c κs within = may_split (g.S.Structure.meaning c.args.table.now.structure) c.args.keeper c.args.number c.requires.keeper.0 (let a = ap (λ (l : Layout). l.runners) c.requires.own.layout in let b = c.requires.few in omega (arith, a, b))

@@ -1,0 +1,10 @@
+use Rattle.std.proofs.Common.{None}
+use Rattle.closed_words.specs.version_words.proofs.Stages.{may_load_fixed}
+use Rattle.lock_tests.proofs.Reading.{then_read}
+use Rattle.lock_tests.proofs.turns.read_lock.Goals as goal
+
+pub load_cell-requires-clause-next : goal.load_cell-requires-clause-next
+load_cell-requires-clause-next g c κs within = may_load_fixed (g.S.Structure.meaning c.args.table.now.structure) c.enter-runner.result c.enter-runner.ensures.enters.epoch c.args.place None c.enter-runner.ensures.enters.at c.requires.fixed
+
+pub returns-clause-read : goal.returns-clause-read
+returns-clause-read g c = then_read (g.S.Structure.meaning c.args.table.now.structure) c.args.runner c.enter-runner.result c.load_cell.result.0 c.requires.ready.0 c.args.place c.load_cell.result.1 c.requires.lock c.requires.ready.1 c.enter-runner.ensures.enters c.load_cell.ensures.event

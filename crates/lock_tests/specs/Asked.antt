@@ -1,0 +1,43 @@
+-- Requests: which one a worker may plan and publish, and which it has served.
+use Rattle.std.specs.Prelude.{◌≡◌, ◌≢◌, ℕ, ◌<◌, ◌≤◌, ◌%◌, List, map, length, true, false, Some, slice_get, slice_index_or}
+use Rattle.std.specs.List.{range_with_len}
+use Rattle.map_history.specs.declared.op.Op.{Op}
+use Rattle.map_history.specs.declared.op.Op.TheVariants.{Get}
+use Rattle.map_history.specs.declared.op.Request.{Request}
+use Rattle.runner_parts.specs.declared.entries.Known.{Known}
+use Rattle.runner_parts.specs.Tests.{is_answered, is_next}
+use Rattle.closed_words.specs.version_words.specs.RunnerState.{RunnerState}
+use Rattle.attempts.specs.epoch_slots.specs.Collects.{IsTidy}
+use Rattle.lock_tests.specs.Workers.{HasReserve}
+
+-- the request with this number, where these operations are asked in turn
+abbrev pub request_at : List Op → ℕ → Request
+request_at ops k = record { trace = 0; number = k; op = slice_index_or ops (k % length ops) (Get 0) }
+
+-- so many requests of one trace
+abbrev pub trace_of : List Op → ℕ → List Request
+trace_of ops count = map (request_at ops) (range_with_len 0 count)
+
+-- of requests but this one the same are known to be answered
+abbrev pub KnowsOthers : ℕ → List Known → List Known → Type 0
+KnowsOthers number old new = (k : ℕ) → k ≢ number → is_answered new k ≡ is_answered old k
+
+module _ {T : Type 0} where
+  -- the request is the worker's next one; the worker is idle, with nothing in its hand, and has slots for one section
+  pub record IsDue (request : Request) (r : RunnerState T) : Type 0 where
+    pub tidy : IsTidy r
+    pub reserve : HasReserve r
+    pub there : slice_get r.requests request.number ≡ Some request
+    pub next : is_next r.layout r.number r.requests r.part.records.known (Some request) ≡ true
+
+  -- the worker is the table's only one
+  pub record IsOnlyWorker (r : RunnerState T) : Type 0 where
+    pub number : r.number ≡ 0
+    pub alone : r.layout.runners ≡ 1
+
+  -- the worker is idle, with nothing in its hand; it knows the answers of the requests below this number, and of no
+  -- others
+  pub record HasServed (number : ℕ) (r : RunnerState T) : Type 0 where
+    pub tidy : IsTidy r
+    pub answered : (k : ℕ) → k < number → is_answered r.part.records.known k ≡ true
+    pub others : (k : ℕ) → number ≤ k → is_answered r.part.records.known k ≡ false

@@ -1,0 +1,16 @@
+-- The cells of a closed table.
+use Rattle.std.specs.Prelude.{◌≡◌, ℕ, ◌+◌, ◌*◌, ◌<◌, true}
+use Rattle.body_terms.specs.Word.{value_of}
+use Rattle.table_words.specs.Places.{slot_count}
+use Rattle.table_words.specs.declared.spot.Spot.TheVariants.{Cell}
+use Rattle.structure_laws.specs.Meaning.{Meaning}
+use Rattle.closed_words.specs.version_words.specs.TableState.{WordsState, word_of}
+
+module _ {T : Type 0} (m : Meaning) (words : WordsState T) where
+  -- how many there are
+  abbrev pub cells_of : ℕ
+  cells_of = m.fixed_cells + 5 * slot_count words.layout m.fixed_slots
+
+  -- no lock below this place names a descriptor
+  abbrev pub AreFreeBelow : ℕ → Type 0
+  AreFreeBelow place = (p : ℕ) → p < place → m.is_lock p ≡ true → value_of (word_of m words (Cell p)) ≡ 0

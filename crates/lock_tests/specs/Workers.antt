@@ -1,0 +1,49 @@
+-- Workers on their way to a section and through it.
+use Rattle.std.specs.Prelude.{◌≡◌, ℕ, ◌-◌, [], true, false, None}
+use Rattle.body_terms.specs.Word.{value_of, is_free}
+use Rattle.body_terms.specs.declared.thunk.Thunk.{Thunk}
+use Rattle.structure_laws.specs.Meaning.{Meaning}
+use Rattle.epoch_core.specs.declared.stage.Stage.TheVariants as stages
+use Rattle.runner_parts.specs.Tests.{has, has_pair}
+use Rattle.closed_words.specs.version_words.specs.RunnerState.{RunnerState}
+use Rattle.closed_words.specs.version_words.specs.Stages.{IsAt}
+use Rattle.attempts.specs.epoch_slots.specs.Collects.{IsTidy}
+use Rattle.attempts.specs.try_lock.specs.Reached.{IsReached, MayRunSection}
+use Rattle.attempts.specs.try_lock.specs.declared.section.Section.{Section}
+-- two node slots and one descriptor are free; no slot is in the runner's hand
+pub use Rattle.attempts.specs.Course.{HasReserve, IsEmptyHanded}
+
+module _ {T : Type 0} where
+  -- the worker with this number has done nothing yet
+  pub record IsNewWorker (n : ℕ) (r : RunnerState T) : Type 0 where
+    pub tidy : IsTidy r
+    pub number : r.number ≡ n
+    pub knows : r.part.records.known ≡ []
+
+  -- and it has slots for one section
+  pub record IsReady (n : ℕ) (r : RunnerState T) : Type 0 where
+    pub fresh : IsNewWorker n r
+    pub reserve : HasReserve r
+
+  module _ (m : Meaning) where
+    -- the worker is entered and has read this word of a lock; it knows no request's words
+    pub record HasRead (place word : ℕ) (r : RunnerState T) : Type 0 where
+      pub epoch : ℕ
+      pub at : IsAt r (stages.Entered epoch) None
+      pub read : has_pair r.part.reads.cells place word ≡ true
+      pub names : is_free word ≡ false → has r.part.reads.held (value_of word - 1) ≡ true
+      pub knows : r.part.records.known ≡ []
+      pub reserve : HasReserve r
+      pub hand : IsEmptyHanded r
+      pub reached : IsReached m r
+
+    -- the worker may run this section, which is its own
+    pub record MayRun (section : Section) (r : RunnerState T) : Type 0 where
+      pub thunk : Thunk
+      pub may : MayRunSection m r thunk section
+      pub hand : IsEmptyHanded r
+
+    -- and it is this request's
+    pub record MayRunFor (number : ℕ) (section : Section) (r : RunnerState T) : Type 0 where
+      pub run : MayRun section r
+      pub request : run.thunk.request ≡ number

@@ -1,0 +1,56 @@
+//! What the words of a closed table hold.
+ghost use Rattle.std.specs.Prelude.{◌≡◌, ◌≤◌, ◌<◌, ◌&&◌, ◌==◌, not, true, IfOk};
+ghost use Rattle.std.specs.FinMap.{entries};
+ghost use Rattle.map_history.specs.Replay.{Pairs};
+ghost use Rattle.body_terms.specs.Word.{value_of};
+ghost use Rattle.table_words.specs.declared.spot.Spot.TheVariants.{Cell};
+ghost use Rattle.closed_words.specs.version_words.specs.TableState.{word_of};
+ghost use Rattle.attempts.specs.try_lock.specs.Contents.{StandFor};
+ghost use Rattle.closed_words.specs.Histories.{HoldsNoLock};
+ghost use Rattle.lock_tests.specs.Closing.{cells_of};
+
+use attempts::lock_walks::Planner;
+use body_terms::Place;
+use closed_words::closed_words_have_a_history;
+use closed_words::version_words::Words;
+use std::alloc::{AllocError, Global};
+use structure_laws::Structure;
+
+/// Whether this cell is a lock that names a descriptor.
+fn is_held<S: Structure>(words: &Words<S>, place: Place) -> bool
+    requires { place < cells_of (S.meaning words.now.structure) words.now }
+    ensures { result ≡ ((S.meaning words.now.structure).is_lock place && not
+        (value_of (word_of (S.meaning words.now.structure) words.now (Cell place)) == 0)) }
+{
+    words.structure().is_lock(place) && words.cell(place).value() != 0
+}
+
+/// Whether no lock of a closed table, which has so many cells, names a descriptor.
+fn is_unlocked<S: Structure>(words: &Words<S>, cells: u32) -> bool
+    requires { cells ≡ cells_of (S.meaning words.now.structure) words.now }
+    ensures { result ≡ true → HoldsNoLock (S.meaning words.now.structure) words.now }
+{
+    for place in 0..cells {
+        if is_held(words, place) {
+            return false;
+        }
+    }
+    true
+}
+
+/// The pairs of a closed table, which has so many cells, where none of its locks is held, in order of key.
+pub fn pairs_of<S: Planner>(
+    alloc: Global,
+    words: &Words<S>,
+    cells: u32,
+) -> Result<Vec<(u32, u32)>, AllocError>
+    requires { cells ≡ cells_of (S.meaning words.now.structure) words.now }
+    ensures { IfOk result (λ items. (pairs : Pairs) → StandFor (S.meaning words.now.structure) words.now pairs
+        → items.items ≡ entries pairs) }
+{
+    closed_words_have_a_history(words);
+    if !is_unlocked(words, cells) {
+        return Err(AllocError);
+    }
+    words.structure().contents(alloc, words)
+}

@@ -1,0 +1,100 @@
+//! Two workers on a table of the test structure, and their offers.
+ghost use Rattle.std.specs.Prelude.{◌≡◌, ◌<◌, IfOk};
+ghost use Rattle.structure_laws.specs.Tray.{tray};
+ghost use Rattle.attempts.specs.epoch_slots.specs.Collects.{IsTidy};
+ghost use Rattle.closed_words.specs.version_words.specs.TableState.{IsOf};
+ghost use Rattle.closed_words.specs.version_words.specs.Stages.{IsKeeper, HasJoined};
+ghost use Rattle.lock_tests.specs.Scenes.{IsScene};
+ghost use Rattle.lock_tests.specs.Workers.{HasRead, MayRun};
+ghost use Rattle.lock_tests.specs.declared.turns.Offer.TheVariants.{Published};
+ghost use Rattle.attempts.specs.try_lock.specs.declared.section.Section.{Section};
+
+use crate::turns::Offer;
+use attempts::epoch_slots::{enter, exit};
+use attempts::try_lock::publish;
+use body_terms::{Thunk, Word};
+use closed_words::version_words::{FlockTable, Runner, table_is_allowed};
+use interleave_core::Tray;
+use map_history::{Op, Request};
+use std::alloc::{AllocError, Global};
+use table_words::Layout;
+
+/// A table with two node slots and one descriptor for each of two workers, and one request for each.
+pub fn new_table(
+    alloc: Global,
+    version_max: u32,
+) -> Result<(FlockTable<Tray>, Runner<Tray>), AllocError>
+    requires { 2 < version_max }
+    ensures own { IfOk result (λ x. IsOf x.0 x.1) }
+    ensures keeper { IfOk result (λ x. IsKeeper x.1 0 × HasJoined x.1 0) }
+    ensures scene { IfOk result (λ x. IsScene x.0) }
+{
+    let layout = Layout {
+        runners: 2,
+        nodes: 2,
+        sections: 1,
+        version_max,
+    };
+    let requests = [
+        Request {
+            trace: 0,
+            number: 0,
+            op: Op::Get(1),
+        },
+        Request {
+            trace: 1,
+            number: 1,
+            op: Op::Get(1),
+        },
+    ];
+    let (table, keeper) = FlockTable::new(alloc, Tray, layout, &requests)?;
+    Ok((table, keeper))
+}
+
+/// Enters and leaves. The answer is the epoch of the entry.
+pub fn visit(table: &FlockTable<Tray>, runner: Runner<Tray>) -> (Runner<Tray>, Option<u64>)
+    requires own { IsOf table.now runner }
+    requires tidy { IsTidy runner }
+    ensures own { IsOf table.now result.0 }
+    ensures tidy { IsTidy result.0 }
+    ensures number { result.0.number ≡ runner.number }
+{
+    let runner = enter(table, runner);
+    let epoch = runner.entered();
+    (exit(table, runner), epoch)
+}
+
+/// Offers the worker's request, with a section of this form and this operand, where the word of the lock that it has
+/// read is free and isn't spent.
+pub fn offer(
+    table: &FlockTable<Tray>,
+    runner: Runner<Tray>,
+    word: Word,
+    form: u64,
+    operand: u64,
+) -> (Runner<Tray>, Offer)
+    requires own { IsOf table.now runner }
+    requires scene { IsScene table.now }
+    requires worker { runner.number < 2 }
+    requires read { HasRead tray 0 word runner }
+    ensures own { IsOf table.now result.0 }
+    ensures number { result.0.number ≡ runner.number }
+    ensures published { (section : Section) → result.1 ≡ Published section → MayRun tray section result.0 }
+{
+    table_is_allowed(table);
+    if word.value() != 0 || word.version() > table.layout().version_max - 2 {
+        return (runner, Offer::None);
+    }
+    let thunk = Thunk {
+        form,
+        request: runner.number(),
+        lock: 0,
+        word,
+        operands: [operand, 0, 0, 0, 0, 0, 0, 0],
+    };
+    let (runner, answer) = publish(table, runner, &thunk);
+    match answer {
+        Ok(section) => (runner, Offer::Published(section)),
+        Err(refused) => (runner, Offer::Refused(refused)),
+    }
+}

@@ -1,0 +1,154 @@
+//! Runs of a section by its publisher and by another worker, in turn or on two threads.
+ghost use Rattle.std.specs.Prelude.{◌≡◌, ◌<◌, ℕ, true};
+ghost use Rattle.body_terms.specs.Trail.{Agreed};
+ghost use Rattle.body_terms.specs.declared.outcome.Outcome.{Outcome as Ending};
+ghost use Rattle.attempts.specs.section_runs.specs.declared.runs.RunEnd.TheVariants.{Done};
+ghost use Rattle.attempts.specs.epoch_slots.specs.Collects.{IsTidy};
+ghost use Rattle.closed_words.specs.version_words.specs.TableState.{IsOf};
+ghost use Rattle.lock_tests.specs.Workers.{IsReady, HasRead, MayRun, MayRunFor};
+ghost use Rattle.lock_tests.specs.Asked.{KnowsOthers};
+
+use attempts::epoch_slots::{enter, exit};
+use attempts::section_runs::RunEnd;
+use attempts::try_lock::{Section, help, retire_section, run_section};
+use body_terms::{Gate, Outcome, Place, Refused, Steps, Word};
+use closed_words::version_words::{FlockTable, Runner, table_is_allowed};
+use std::thread;
+use std::thread::Threads;
+use structure_laws::Structure;
+
+/// What came of a worker's offer.
+#[derive(Clone, Copy, Debug, PartialEq, Eq)]
+pub enum Offer {
+    /// Its section is published.
+    Published(Section),
+    /// Another section was, or the lock's word has changed.
+    Refused(Refused),
+    /// It wasn't made.
+    None,
+}
+
+/// How a run of a section ended, and how many steps it made.
+#[derive(Drop, Debug)]
+pub struct Turn {
+    pub end: RunEnd,
+    pub steps: u64,
+}
+
+impl Turn {
+    /// Whether the run came to its end with this outcome and this trail.
+    pub fn came_to(&self, outcome: &Outcome, words: &[u64], late: bool) -> bool {
+        match &self.end {
+            RunEnd::Done(found, trail) => {
+                *found == *outcome && trail.words.as_slice() == words && trail.late == late
+            }
+            RunEnd::Halted => false,
+        }
+    }
+}
+
+/// Enters, and reads the lock.
+pub fn read_lock<S: Structure>(
+    table: &FlockTable<S>,
+    runner: Runner<S>,
+    place: Place,
+) -> (Runner<S>, Word)
+    requires own { IsOf table.now runner }
+    requires ready { (number : ℕ) × IsReady number runner }
+    requires fixed { place < (S.meaning table.now.structure).fixed_cells }
+    requires lock { (S.meaning table.now.structure).is_lock place ≡ true }
+    ensures own { IsOf table.now result.0 }
+    ensures number { result.0.number ≡ runner.number }
+    ensures read { HasRead (S.meaning table.now.structure) place result.1 result.0 }
+{
+    let runner = enter(table, runner);
+    table.load_cell(runner, place)
+}
+
+/// Runs the own section. Where it came to its end, the worker retires it, and leaves.
+pub fn run_own<S: Structure, G: Gate>(
+    table: &FlockTable<S>,
+    runner: Runner<S>,
+    section: Section,
+    gate: &mut G,
+) -> (Runner<S>, Turn)
+    requires own { IsOf table.now runner }
+    requires next { MayRun (S.meaning table.now.structure) section runner }
+    ensures own { IsOf table.now result.0 }
+    ensures number { result.0.number ≡ runner.number }
+    ensures tidy { (outcome : Ending) (trail : Agreed) → result.1.end ≡ Done outcome trail → IsTidy result.0 }
+    ensures learns { (outcome : Ending) (trail : Agreed) → result.1.end ≡ Done outcome trail → (number : ℕ)
+        → MayRunFor (S.meaning table.now.structure) number section runner
+        → KnowsOthers number runner.part.records.known result.0.part.records.known }
+{
+    let mut steps = Steps::<()>::new();
+    let (runner, end) = run_section(table, runner, &section, gate, &mut steps);
+    let steps = steps.count;
+    match end {
+        RunEnd::Done(outcome, trail) => {
+            let runner = retire_section(table, runner, section);
+            let runner = exit(table, runner);
+            let end = RunEnd::Done(outcome, trail);
+            (runner, Turn { end, steps })
+        }
+        RunEnd::Halted => (runner, Turn { end, steps }),
+    }
+}
+
+/// Helps the section that the lock's word names, and stays entered. None where the word names none.
+pub fn help_held<S: Structure, G: Gate>(
+    table: &FlockTable<S>,
+    runner: Runner<S>,
+    held: Word,
+    gate: &mut G,
+) -> (Runner<S>, Option<Turn>)
+    requires own { IsOf table.now runner }
+    requires read { (place : ℕ) × HasRead (S.meaning table.now.structure) place held runner }
+    ensures own { IsOf table.now result.0 }
+    ensures number { result.0.number ≡ runner.number }
+{
+    if held.value() == 0 {
+        return (runner, None);
+    }
+    let mut steps = Steps::<()>::new();
+    let (runner, end) = help(table, runner, held, gate, &mut steps);
+    let steps = steps.count;
+    (runner, Some(Turn { end, steps }))
+}
+
+/// Both at one section, each on a thread of its own: its publisher, and the other one by the word that it read.
+pub fn side_by_side<R: Threads + Sync, S: Structure, G: Gate + Send + Drop>(
+    rt: &R,
+    table: &FlockTable<S>,
+    first: (Runner<S>, Section, G),
+    second: (Runner<S>, Word, G),
+) -> ((Runner<S>, Turn), (Runner<S>, Option<Turn>))
+    requires own { IsOf table.now first.0 × IsOf table.now second.0 }
+    requires next { MayRun (S.meaning table.now.structure) first.1 first.0 }
+    requires read { (place : ℕ) × HasRead (S.meaning table.now.structure) place second.1 second.0 }
+    ensures own { IsOf table.now result.0.0 × IsOf table.now result.1.0 }
+    ensures numbers { (result.0.0.number ≡ first.0.number) × (result.1.0.number ≡ second.0.number) }
+    ensures tidy { (outcome : Ending) (trail : Agreed) → result.0.1.end ≡ Done outcome trail → IsTidy result.0.0 }
+{
+    let (runner, section, gate) = first;
+    let (helper, held, other_gate) = second;
+    thread::join(
+        rt,
+        move || -> (Runner<S>, Turn)
+            requires { IsOf table.now runner × MayRun (S.meaning table.now.structure) section runner }
+            ensures { IsOf table.entry.now result.0 × (result.0.number ≡ runner.number)
+                × ((outcome : Ending) (trail : Agreed) → result.1.end ≡ Done outcome trail → IsTidy result.0) }
+        {
+            let mut gate = gate;
+            run_own(table, runner, section, &mut gate)
+        },
+        move || -> (Runner<S>, Option<Turn>)
+            requires { IsOf table.now helper
+                × ((place : ℕ) × HasRead (S.meaning table.now.structure) place held helper) }
+            ensures { IsOf table.entry.now result.0 × (result.0.number ≡ helper.number) }
+        {
+            let mut gate = other_gate;
+            help_held(table, helper, held, &mut gate)
+        },
+    )
+}

@@ -1,0 +1,11 @@
+mod Leaving
+pub mod Agreed
+pub mod Kept
+pub mod Reached
+mod Facts
+mod Freeing
+mod Loading
+mod Agreeing
+mod TakenLeaving
+mod TakenKept
+pub mod TakenReached

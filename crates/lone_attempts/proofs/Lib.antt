@@ -1,5 +1,0 @@
-mod Alone
-mod Planned
-mod Tried
-mod Left
-pub mod Served

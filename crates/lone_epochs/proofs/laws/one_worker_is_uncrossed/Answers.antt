@@ -1,5 +1,0 @@
-use Rattle.lone_epochs.proofs.Reached.{reached_uncrossed}
-use Rattle.lone_epochs.proofs.laws.one_worker_is_uncrossed.Goals as goal
-
-pub returns : goal.returns
-returns g c = λ layout requests w reached one. reached_uncrossed (g.S.Structure.meaning c.args.structure.now) layout requests one w reached

@@ -1,5 +1,0 @@
-use Rattle.machine_records.proofs.First.{first_kept}
-use Rattle.machine_records.proofs.laws.first_is_kept.Goals as goal
-
-pub returns : goal.returns
-returns g c = λ layout requests. first_kept (g.S.Structure.meaning c.args.structure.now) layout requests

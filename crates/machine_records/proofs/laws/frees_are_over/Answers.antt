@@ -1,5 +1,0 @@
-use Rattle.machine_records.proofs.Supplying.{frees_over}
-use Rattle.machine_records.proofs.laws.frees_are_over.Goals as goal
-
-pub returns : goal.returns
-returns g c = λ layout requests. frees_over (g.S.Structure.meaning c.args.structure.now) layout requests

@@ -1,5 +1,0 @@
-use Rattle.machine_records.proofs.Supplying.{holds_due}
-use Rattle.machine_records.proofs.laws.holds_are_due.Goals as goal
-
-pub returns : goal.returns
-returns g c = λ layout requests. holds_due (g.S.Structure.meaning c.args.structure.now) layout requests

@@ -1,0 +1,191 @@
+-- The runs of the search tree's three bodies.
+use Rattle.std.proofs.Common.{◌≡◌, ◌≢◌, ℕ, ◌+◌, ◌*◌, Bool, true, false, cond, List, [], ◌∷◌, refl, sym, ap, subst, Some, None}
+use Rattle.std.specs.Prelude.{◌==◌, ◌^◌, slice_index}
+use Rattle.body_terms.specs.Update.{upd}
+use Rattle.body_terms.specs.Word.{value_of, version_of, next_word, held_word}
+use Rattle.body_terms.specs.Memory.{cell_of}
+use Rattle.section_body.specs.Bucket.{operand}
+use Rattle.body_terms.specs.Line.{line}
+use Rattle.body_terms.specs.Run.{Setting, Run, ran, exchanged, is_takable, refusal}
+use Rattle.body_terms.specs.declared.outcome.Outcome.TheVariants.{Busy}
+use Rattle.body_terms.specs.declared.micro.Source.TheVariants.{Fixed, Agreed}
+use Rattle.body_terms.specs.declared.micro.Micro.{Micro}
+use Rattle.body_terms.specs.declared.micro.Micro.TheVariants.{LoadCell, Commit, CheckWord, CheckFresh, NestedLoad, NestedCommit, CheckFree, NestedHold, OutcomeLoad, OutcomeCommit, CheckHeld, PrivateLoad, PrivateStore, MakeCommit, ClockLoad, StampExchange, ClockRaise, ExchangeCell, EpochForRetire, RetireCommit, ReplyExchange}
+use Rattle.body_terms.specs.declared.step.Step.{Step}
+use Rattle.body_terms.specs.declared.step.Step.TheVariants.{Load, Want, Fresh, Make, Stamp, Store, Answer}
+use Rattle.body_terms.specs.declared.value.Init.{Init}
+use Rattle.body_terms.specs.declared.value.Value.TheVariants.{Const, Made}
+use Rattle.body_terms.specs.declared.thunk.Thunk.{Thunk}
+use Rattle.plain_laws.proofs.Forms.{Ends, word_passes, fresh_passes}
+use Rattle.tree_laws.specs.tree_bodies.specs.Tree.{lock_of, mark_of, leaf_init, inner_with, parent_in, leaf_in, sibling_of, look_steps, delete_steps}
+
+-- five cells of a slot get these words
+abbrev pub five : (ℕ → ℕ) → (ℕ → ℕ) → (ℕ → ℕ) → ℕ → ℕ
+five f place word = upd (upd (upd (upd (upd f (place 0) (word 0)) (place 1) (word 1)) (place 2) (word 2)) (place 3) (word 3)) (place 4) (word 4)
+
+-- the new inner node by the side of the new leaf, and the body with it
+abbrev pub inner_for : Bool → Thunk → Init
+inner_for true t = inner_with (operand t 5) (Made 2) (Const (value_of (operand t 1)))
+inner_for false t = inner_with (operand t 3) (Const (value_of (operand t 1))) (Made 2)
+
+abbrev pub insert_with : Thunk → Init → List Step
+insert_with t init =
+    Load (operand t 0) 0 ∷ Want 0 (operand t 1) ∷ Fresh 0 ∷ Load (t.lock + 4) 1 ∷ Want 1 (operand t 2) ∷
+    Make (leaf_init t) 2 ∷ Make init 3 ∷ Stamp ∷ Store 0 (Made 3) ∷ Answer (1 * 2 ^ 32) ∷ []
+
+abbrev pub leaf_values : Thunk → List ℕ
+leaf_values t = 0 ∷ operand t 3 ∷ 0 ∷ operand t 4 ∷ 0 ∷ []
+
+abbrev pub inner_values : Bool → Thunk → ℕ → List ℕ
+inner_values true t leaf = 0 ∷ operand t 5 ∷ leaf ∷ value_of (operand t 1) ∷ 0 ∷ []
+inner_values false t leaf = 0 ∷ operand t 3 ∷ value_of (operand t 1) ∷ leaf ∷ 0 ∷ []
+
+module _ (s : Setting) (cells : ℕ → ℕ) (clock stamp reply : ℕ) (t : Thunk) where
+  abbrev pub begun : Run
+  begun = record { cells = cells; clock = clock; stamp = stamp; reply = reply; trail = []; made = []; retired = []; outcome = None }
+
+  abbrev link : ℕ
+  link = cells (operand t 0)
+
+  abbrev mark : ℕ
+  mark = cells (t.lock + 4)
+
+  -- one that reads alone
+  abbrev answers : List Micro
+  answers = ClockLoad ∷ StampExchange ∷ ClockRaise ∷ ReplyExchange (operand t 3) ∷ []
+
+  pub look_run : link ≡ operand t 1 → mark ≡ operand t 2 → Ends (operand t 3) cells (ran s begun (line (look_steps t)))
+  look_run same unmarked =
+      subst (λ o. Ends (operand t 3) cells (ran s (record begun { trail = link ∷ []; outcome = o }) (LoadCell (t.lock + 4) 1 ∷ Commit (t.lock + 4) 1 ∷ CheckWord (t.lock + 4) 1 (operand t 2) ∷ answers)))
+      (sym (word_passes (operand t 0) (operand t 1) link same))
+      (subst (λ o. Ends (operand t 3) cells (ran s (record begun { trail = link ∷ mark ∷ []; outcome = o }) answers))
+      (sym (word_passes (t.lock + 4) (operand t 2) mark unmarked)) (record { answered = refl; left = refl }))
+
+  -- one that puts a leaf in
+  abbrev pub made_leaf : ℕ → ℕ
+  made_leaf = five cells (cell_of s.fixed_cells (s.slot 2)) (λ cell. next_word (s.first 2 cell) (slice_index (leaf_values t) cell))
+
+  abbrev pub made_both : Bool → ℕ → ℕ
+  made_both side = five made_leaf (cell_of s.fixed_cells (s.slot 3)) (λ cell. next_word (s.first 3 cell) (slice_index (inner_values side t (value_of (s.slot 2 + 1))) cell))
+
+  abbrev pub inserted_cells : Bool → ℕ → ℕ
+  inserted_cells side = exchanged (made_both side) (operand t 0) link (next_word link (value_of (s.slot 3 + 1)))
+
+  abbrev stored : List Micro
+  stored = MakeCommit 3 ∷ ClockLoad ∷ StampExchange ∷ ClockRaise ∷ ExchangeCell (operand t 0) 0 (Agreed 3) ∷ ReplyExchange (1 * 2 ^ 32) ∷ []
+
+  abbrev made_nodes : Bool → List Micro
+  made_nodes true =
+      PrivateLoad 0 2 ∷ PrivateStore 0 2 (Fixed 0) ∷ PrivateLoad 1 2 ∷ PrivateStore 1 2 (Fixed (operand t 3)) ∷ PrivateLoad 2 2 ∷ PrivateStore 2 2 (Fixed 0) ∷
+      PrivateLoad 3 2 ∷ PrivateStore 3 2 (Fixed (operand t 4)) ∷ PrivateLoad 4 2 ∷ PrivateStore 4 2 (Fixed 0) ∷ MakeCommit 2 ∷
+      PrivateLoad 0 3 ∷ PrivateStore 0 3 (Fixed 0) ∷ PrivateLoad 1 3 ∷ PrivateStore 1 3 (Fixed (operand t 5)) ∷ PrivateLoad 2 3 ∷ PrivateStore 2 3 (Agreed 2) ∷
+      PrivateLoad 3 3 ∷ PrivateStore 3 3 (Fixed (value_of (operand t 1))) ∷ PrivateLoad 4 3 ∷ PrivateStore 4 3 (Fixed 0) ∷ stored
+  made_nodes false =
+      PrivateLoad 0 2 ∷ PrivateStore 0 2 (Fixed 0) ∷ PrivateLoad 1 2 ∷ PrivateStore 1 2 (Fixed (operand t 3)) ∷ PrivateLoad 2 2 ∷ PrivateStore 2 2 (Fixed 0) ∷
+      PrivateLoad 3 2 ∷ PrivateStore 3 2 (Fixed (operand t 4)) ∷ PrivateLoad 4 2 ∷ PrivateStore 4 2 (Fixed 0) ∷ MakeCommit 2 ∷
+      PrivateLoad 0 3 ∷ PrivateStore 0 3 (Fixed 0) ∷ PrivateLoad 1 3 ∷ PrivateStore 1 3 (Fixed (operand t 3)) ∷ PrivateLoad 2 3 ∷ PrivateStore 2 3 (Fixed (value_of (operand t 1))) ∷
+      PrivateLoad 3 3 ∷ PrivateStore 3 3 (Agreed 2) ∷ PrivateLoad 4 3 ∷ PrivateStore 4 3 (Fixed 0) ∷ stored
+
+  insert_passes : (side : Bool) → link ≡ operand t 1 → mark ≡ operand t 2 → version_of link ≢ s.version_max
+      → Ends (1 * 2 ^ 32) (inserted_cells side) (ran s (record begun { trail = link ∷ mark ∷ [] }) (made_nodes side))
+      → Ends (1 * 2 ^ 32) (inserted_cells side) (ran s begun (LoadCell (operand t 0) 0 ∷ Commit (operand t 0) 0 ∷ CheckWord (operand t 0) 0 (operand t 1) ∷ CheckFresh (operand t 0) 0 ∷
+      LoadCell (t.lock + 4) 1 ∷ Commit (t.lock + 4) 1 ∷ CheckWord (t.lock + 4) 1 (operand t 2) ∷ made_nodes side))
+  insert_passes side same unmarked unspent ends =
+      subst (λ o. Ends (1 * 2 ^ 32) (inserted_cells side) (ran s (record begun { trail = link ∷ []; outcome = o })
+      (CheckFresh (operand t 0) 0 ∷ LoadCell (t.lock + 4) 1 ∷ Commit (t.lock + 4) 1 ∷ CheckWord (t.lock + 4) 1 (operand t 2) ∷ made_nodes side)))
+      (sym (word_passes (operand t 0) (operand t 1) link same))
+      (subst (λ o. Ends (1 * 2 ^ 32) (inserted_cells side) (ran s (record begun { trail = link ∷ []; outcome = o })
+      (LoadCell (t.lock + 4) 1 ∷ Commit (t.lock + 4) 1 ∷ CheckWord (t.lock + 4) 1 (operand t 2) ∷ made_nodes side)))
+      (sym (fresh_passes (operand t 0) link s.version_max unspent))
+      (subst (λ o. Ends (1 * 2 ^ 32) (inserted_cells side) (ran s (record begun { trail = link ∷ mark ∷ []; outcome = o }) (made_nodes side)))
+      (sym (word_passes (t.lock + 4) (operand t 2) mark unmarked)) ends))
+
+  pub insert_run : (side : Bool) → link ≡ operand t 1 → mark ≡ operand t 2 → version_of link ≢ s.version_max
+      → Ends (1 * 2 ^ 32) (inserted_cells side) (ran s begun (line (insert_with t (inner_for side t))))
+  insert_run true same unmarked unspent = insert_passes true same unmarked unspent (record { answered = refl; left = refl })
+  insert_run false same unmarked unspent = insert_passes false same unmarked unspent (record { answered = refl; left = refl })
+
+  -- one that takes a leaf out
+  abbrev leaf_link : ℕ
+  leaf_link = cells (operand t 4)
+
+  abbrev sibling : ℕ
+  sibling = cells (sibling_of t)
+
+  abbrev parent_mark : ℕ
+  parent_mark = cells (mark_of (parent_in t))
+
+  abbrev pub removed_cells : ℕ → ℕ
+  removed_cells = exchanged (exchanged cells (mark_of (parent_in t)) parent_mark (next_word parent_mark 1)) (operand t 0) link (next_word link (value_of sibling))
+
+  abbrev taken_out : List Micro
+  taken_out =
+      ClockLoad ∷ StampExchange ∷ ClockRaise ∷ ExchangeCell (mark_of (parent_in t)) 6 (Fixed 1) ∷ ExchangeCell (operand t 0) 0 (Agreed 5) ∷
+      EpochForRetire (parent_in t) 7 ∷ RetireCommit (parent_in t) 7 ∷ EpochForRetire (leaf_in t) 8 ∷ RetireCommit (leaf_in t) 8 ∷ ReplyExchange (4 * 2 ^ 32) ∷ []
+
+  abbrev fifth : List Micro
+  fifth = CheckFresh (mark_of (parent_in t)) 6 ∷ taken_out
+
+  abbrev fourth : List Micro
+  fourth =
+      LoadCell (sibling_of t) 5 ∷ Commit (sibling_of t) 5 ∷ LoadCell (mark_of (parent_in t)) 6 ∷ Commit (mark_of (parent_in t)) 6 ∷
+      CheckWord (mark_of (parent_in t)) 6 (operand t 6) ∷ fifth
+
+  abbrev third : List Micro
+  third = LoadCell (operand t 4) 4 ∷ Commit (operand t 4) 4 ∷ CheckWord (operand t 4) 4 (operand t 5) ∷ fourth
+
+  abbrev held : List Micro
+  held =
+      NestedHold (lock_of (parent_in t)) (operand t 3) ∷ OutcomeLoad (lock_of (parent_in t)) 3 ∷ OutcomeCommit (lock_of (parent_in t)) 3 ∷
+      CheckHeld (lock_of (parent_in t)) 3 (operand t 3) ∷ third
+
+  abbrev second : List Micro
+  second =
+      NestedLoad (lock_of (parent_in t)) 2 ∷ NestedCommit (lock_of (parent_in t)) 2 ∷ CheckFree (lock_of (parent_in t)) 2 (operand t 3) ∷ held
+
+  abbrev first : List Micro
+  first = LoadCell (t.lock + 4) 1 ∷ Commit (t.lock + 4) 1 ∷ CheckWord (t.lock + 4) 1 (operand t 2) ∷ second
+
+  -- what the body wants, and that its further lock is got
+  pub record Passes : Type 0 where
+    pub link : cells (operand t 0) ≡ operand t 1
+    pub fresh_link : version_of (cells (operand t 0)) ≢ s.version_max
+    pub mark : cells (t.lock + 4) ≡ operand t 2
+    pub open_lock : s.refused 2 ≡ false
+    pub takable : is_takable s (operand t 3) (s.taken 2) ≡ true
+    pub got : (s.taken 3 == held_word s.descriptor (operand t 3)) ≡ true
+    pub leaf : cells (operand t 4) ≡ operand t 5
+    pub parent : cells (mark_of (parent_in t)) ≡ operand t 6
+    pub fresh_parent : version_of (cells (mark_of (parent_in t))) ≢ s.version_max
+
+  abbrev Removes : Run → Type 0
+  Removes r = Ends (4 * 2 ^ 32) removed_cells r
+
+  free_passes : s.refused 2 ≡ false → is_takable s (operand t 3) (s.taken 2) ≡ true
+      → cond (s.refused 2) (Some (Busy (lock_of (parent_in t)) (s.taken 2))) (cond (is_takable s (operand t 3) (s.taken 2)) None (Some (refusal s (lock_of (parent_in t)) (operand t 3) (s.taken 2)))) ≡ None
+  free_passes unlocked takable =
+      (λ i. cond (unlocked i) (Some (Busy (lock_of (parent_in t)) (s.taken 2))) (cond (takable i) None (Some (refusal s (lock_of (parent_in t)) (operand t 3) (s.taken 2)))))
+
+  held_passes : (s.taken 3 == held_word s.descriptor (operand t 3)) ≡ true
+      → cond (s.taken 3 == held_word s.descriptor (operand t 3)) None (Some (refusal s (lock_of (parent_in t)) (operand t 3) (s.taken 3))) ≡ None
+  held_passes got = ap (λ b. cond b None (Some (refusal s (lock_of (parent_in t)) (operand t 3) (s.taken 3)))) got
+
+  pub delete_run : Passes → Removes (ran s begun (line (delete_steps t)))
+  delete_run passes =
+      subst (λ o. Removes (ran s (record begun { trail = link ∷ []; outcome = o }) (CheckFresh (operand t 0) 0 ∷ first)))
+      (sym (word_passes (operand t 0) (operand t 1) link passes.link))
+      (subst (λ o. Removes (ran s (record begun { trail = link ∷ []; outcome = o }) first))
+      (sym (fresh_passes (operand t 0) link s.version_max passes.fresh_link))
+      (subst (λ o. Removes (ran s (record begun { trail = link ∷ mark ∷ []; outcome = o }) second))
+      (sym (word_passes (t.lock + 4) (operand t 2) mark passes.mark))
+      (subst (λ o. Removes (ran s (record begun { trail = link ∷ mark ∷ s.taken 2 ∷ []; outcome = o }) held))
+      (sym (free_passes passes.open_lock passes.takable))
+      (subst (λ o. Removes (ran s (record begun { trail = link ∷ mark ∷ s.taken 2 ∷ s.taken 3 ∷ []; outcome = o }) third))
+      (sym (held_passes passes.got))
+      (subst (λ o. Removes (ran s (record begun { trail = link ∷ mark ∷ s.taken 2 ∷ s.taken 3 ∷ leaf_link ∷ []; outcome = o }) fourth))
+      (sym (word_passes (operand t 4) (operand t 5) leaf_link passes.leaf))
+      (subst (λ o. Removes (ran s (record begun { trail = link ∷ mark ∷ s.taken 2 ∷ s.taken 3 ∷ leaf_link ∷ sibling ∷ parent_mark ∷ []; outcome = o }) fifth))
+      (sym (word_passes (mark_of (parent_in t)) (operand t 6) parent_mark passes.parent))
+      (subst (λ o. Removes (ran s (record begun { trail = link ∷ mark ∷ s.taken 2 ∷ s.taken 3 ∷ leaf_link ∷ sibling ∷ parent_mark ∷ []; outcome = o }) taken_out))
+      (sym (fresh_passes (mark_of (parent_in t)) parent_mark s.version_max passes.fresh_parent))
+      (record { answered = refl; left = refl }))))))))

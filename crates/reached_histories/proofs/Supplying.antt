@@ -1,0 +1,198 @@
+-- What the machine's states supply to the history's events.
+use Rattle.std.specs.Prelude.{◌==◌, ◌&&◌, ◌||◌, ◌%◌, not, nat_lt, cond, Bool, true, false, map, slice_get}
+use Rattle.std.specs.List.{list_all, range_with_len}
+use Rattle.std.proofs.Common.{◌≡◌, ℕ, zero, suc, ◌+◌, ◌<◌, ◌≤◌, List, [], ◌∷◌, length, refl, sym, ap, ◌∙◌, subst, arith, Option, Some, None, option_map, is_none}
+use Rattle.std.proofs.lemmas.Bool.Decides.{nat_tests}
+use Rattle.std.proofs.lemmas.Option.{slice_get-map, slice_get_within, slice_get-get_or}
+use Rattle.std.proofs.lemmas.List.FromFn.{get_or-range_with_len, length-range_with_len}
+use Rattle.std.proofs.lemmas.Bool.{and_parts}
+use Rattle.small_lemmas.proofs.Bools.{negated as not_so}
+use Rattle.small_lemmas.proofs.Numbers.{tested_equal as same_test, from_zero as from_none}
+use Rattle.map_history.specs.declared.op.Request.{Request}
+use Rattle.map_history.specs.Requests.{AreInOrder}
+use Rattle.body_terms.specs.declared.thunk.Thunk.{Thunk}
+use Rattle.table_words.specs.declared.layout.Layout.{Layout}
+use Rattle.table_words.specs.declared.spot.Spot.{Spot}
+use Rattle.table_words.specs.declared.access.Access.{Access}
+use Rattle.structure_laws.specs.Meaning.{Meaning}
+use Rattle.runner_parts.specs.declared.entries.Known.{Known}
+use Rattle.runner_parts.specs.declared.entries.Published.{Published}
+use Rattle.runner_parts.specs.declared.entries.Retired.{Retired}
+use Rattle.runner_parts.specs.declared.event.EventKind.TheVariants.{Hold}
+use Rattle.runner_parts.specs.State.{RunState, PartState}
+use Rattle.runner_parts.specs.Lists.{slots_of}
+use Rattle.runner_parts.specs.Tests.{has, is_answered, are_answered, is_next}
+use Rattle.runner_steps.specs.Sections.{is_open_run, next_of}
+use Rattle.runner_steps.specs.Outside.{hold_ask}
+use Rattle.runner_steps.specs.Asks.{ask_by, line_ask, opening_ask}
+use Rattle.epoch_core.specs.declared.location.Location.{Location}
+use Rattle.epoch_core.specs.declared.location.Location.TheVariants.{Fixed, Live, Hand, Free, Worn, Limbo}
+use Rattle.epoch_core.specs.Events.{slot_of}
+use Rattle.epoch_core.specs.History.{is_out}
+use Rattle.epoch_core.specs.Lists.{times_retired, in_limbo}
+use Rattle.machine_states.proofs.Sights.{if_some, some_none, unless_gone}
+use Rattle.machine_states.proofs.Steps.{some_same}
+use Rattle.machine_epochs.specs.Entries.{counts_of}
+use Rattle.machine_epochs.specs.Slots.{entry_of as limbo_entry}
+use Rattle.reached_histories.specs.Requests.{or_none, request_at}
+use Rattle.reached_histories.specs.Kept.{link_of}
+use Rattle.reached_histories.specs.Supplies.{HoldsAreDue, OperationsAreAsked, FreesAreOver}
+
+-- requests are numbered by their place
+numbered : (requests : List Request) → AreInOrder requests 64 → (n : ℕ) (q : Request) → slice_get requests n ≡ Some q → q.number ≡ n
+numbered requests order n q at = some_same q.number n (sym by_map ∙ (ap (λ xs. slice_get xs n) order.numbered ∙ by_range))
+  where
+    low : n < length requests
+    low = slice_get_within requests n q at
+
+    by_map : slice_get (map (λ (x : Request). x.number) requests) n ≡ Some q.number
+    by_map = slice_get-map (λ (x : Request). x.number) requests n ∙ ap (option_map (λ (x : Request). x.number)) at
+
+    by_range : slice_get (range_with_len 0 (length requests)) n ≡ Some n
+    by_range = slice_get-get_or (range_with_len 0 (length requests)) n 0 (subst (λ k. n < k) (sym (length-range_with_len 0 (length requests))) low)
+        ∙ ap (λ (k : ℕ). Some k) (get_or-range_with_len 0 (length requests) n 0 low ∙ from_none n)
+
+-- an element of a list all of which pass
+passes : {A : Type 0} (test : A → Bool) (xs : List A) (i : ℕ) (x : A) → list_all test xs ≡ true → slice_get xs i ≡ Some x → test x ≡ true
+passes test [] i x all at = some_none x at
+passes test (y ∷ xs) zero x all at = subst (λ z. test z ≡ true) (some_same y x at) (and_parts (test y) (list_all test xs) all).0
+passes test (y ∷ xs) (suc i) x all at = passes test xs i x (and_parts (test y) (list_all test xs) all).1 at
+
+-- an earlier request of the trace is answered
+earlier_passes : (trace t below n : ℕ) (answered : Bool) → (not (t == trace && nat_lt n below) || answered) ≡ true → t ≡ trace → n < below → answered ≡ true
+earlier_passes trace t below n answered e same low = grind (arith, nat_tests)
+
+-- a descriptor in a limbo list was retired in some epoch
+retired_at : (d : ℕ) (xs : List Retired) → has (slots_of xs) d ≡ true → (y : ℕ) × (1 ≤ times_retired d y (map limbo_entry xs))
+retired_at d [] e = absurd (let x = e in cc)
+retired_at d (x ∷ xs) e = by (x.slot == d) refl (λ rest. retired_at d xs rest) e
+  where
+    counted : (b : Bool) (n : ℕ) → 1 ≤ n → 1 ≤ cond b (1 + n) n
+    counted true n h = omega arith
+    counted false n h = h
+
+    first : (a y n : ℕ) → (a == d) ≡ true → 1 ≤ cond (a == d && y == y) (1 + n) n
+    first a y n e = grind (arith, nat_tests)
+
+    by : (b : Bool) → (x.slot == d) ≡ b → (has (slots_of xs) d ≡ true → (y : ℕ) × (1 ≤ times_retired d y (map limbo_entry xs)))
+        → (b || has (slots_of xs) d) ≡ true → (y : ℕ) × (1 ≤ times_retired d y (map limbo_entry (x ∷ xs)))
+    by true same rest e = (x.epoch, first x.slot x.epoch _ same)
+    by false other rest e = let h = rest e in (h.0, counted (x.slot == d && x.epoch == h.0) _ h.1)
+
+-- a retired slot is given out and not live
+retired_out : (r y : ℕ) (p : Location) → 1 ≤ in_limbo r y p → is_out p ≡ true
+retired_out r y (Limbo r' y') h = refl
+retired_out r y Fixed h = absurd (omega arith)
+retired_out r y Live h = refl
+retired_out r y (Hand r') h = absurd (omega arith)
+retired_out r y (Free r') h = absurd (omega arith)
+retired_out r y (Worn r') h = absurd (omega arith)
+
+retired_unlive : (r y : ℕ) (p : Location) → 1 ≤ in_limbo r y p → p ≡ Live → ⊥
+retired_unlive r y (Limbo r' y') h e = cc
+retired_unlive r y Fixed h e = cc
+retired_unlive r y Live h e = absurd (omega arith)
+retired_unlive r y (Hand r') h e = cc
+retired_unlive r y (Free r') h e = cc
+retired_unlive r y (Worn r') h e = cc
+
+of_link : (over : Bool) (n d : ℕ) → cond over 0 (suc n) ≡ suc d → n ≡ d
+of_link true n d e = absurd (let z = e in cc)
+of_link false n d e = let z = e in omega arith
+
+module _ (m : Meaning) (l : Layout) (rs : List Request) where
+  -- what a try to publish asks of the requests
+  record NextAsked (r : ℕ) (t : Thunk) (p : PartState) : Type 0 where
+    pub unpublished : p.published ≡ None
+    pub request : Request
+    pub of_request : slice_get rs t.request ≡ Some request
+    pub next : is_next l r rs p.records.known (Some request) ≡ true
+
+  none_of : {A : Type 0} → (o : Option A) → is_none o ≡ true → o ≡ None
+  none_of None e = refl
+  none_of (Some y) e = absurd (let x = e in cc)
+
+  next_some : (r : ℕ) (known : List Known) (o : Option Request) → is_next l r rs known o ≡ true → (q : Request) × (o ≡ Some q) × (is_next l r rs known (Some q) ≡ true)
+  next_some r known None e = absurd (let x = e in cc)
+  next_some r known (Some q) e = (q, refl, e)
+
+  hold_next : (r d : ℕ) (t : Thunk) (p : PartState) (x : Spot × Access) → hold_ask m l rs r t d p ≡ Some x → NextAsked r t p
+  hold_next r d t p x e =
+      let h = if_some _ _ x e in
+      let may = and_parts _ _ (and_parts _ _ h.0).1 in
+      let rest = and_parts _ _ may.1 in
+      let due = and_parts _ _ (and_parts _ _ rest.1).1 in
+      let request = next_some r p.records.known (slice_get rs t.request) due.0 in
+      record { unpublished = none_of p.published rest.0; request = request.0; of_request = request.1; next = request.2 }
+
+  -- in a run nobody publishes
+  pub hold_outside : (r d : ℕ) (t : Thunk) (p : PartState) (run : Option RunState) (x : Spot × Access) → ask_by m l rs r (Hold t d) p run ≡ Some x → hold_ask m l rs r t d p ≡ Some x
+  hold_outside r d t p None x e = e
+  hold_outside r d t p (Some q) x e = by (is_open_run q) e
+    where
+      by : (b : Bool) → cond b (line_ask m l (Hold t d) p.nodes.free q (next_of m q)) (opening_ask (Hold t d) q) ≡ Some x → hold_ask m l rs r t d p ≡ Some x
+      by true e = some_none x e
+      by false e = some_none x e
+
+  -- what the request of a try to publish is, and what its worker knows
+  module _ (order : AreInOrder rs 64) (r : ℕ) (t : Thunk) (p : PartState) (asked : NextAsked r t p) where
+    abbrev q : Request
+    q = asked.request
+
+    test : ((q.trace % l.runners == r) ≡ true) × ((not (is_answered p.records.known q.number) && are_answered p.records.known q.trace q.number rs) ≡ true)
+    test = and_parts _ _ asked.next
+
+    here : request_at rs t.request ≡ q
+    here = ap or_none asked.of_request
+
+    number : q.number ≡ t.request
+    number = numbered rs order t.request q asked.of_request
+
+    own_request : (request_at rs t.request).trace % l.runners ≡ r
+    own_request = ap (λ (z : Request). z.trace % l.runners) here ∙ same_test _ _ test.0
+
+    unanswered : is_answered p.records.known t.request ≡ false
+    unanswered = ap (is_answered p.records.known) (sym number) ∙ not_so _ (and_parts _ _ test.1).0
+
+    earlier_answered : (k : ℕ) → k < t.request → (request_at rs k).trace ≡ (request_at rs t.request).trace → is_answered p.records.known k ≡ true
+    earlier_answered k low same = found (slice_get rs k) refl
+      where
+        found : (o : Option Request) → slice_get rs k ≡ o → is_answered p.records.known k ≡ true
+        found None at = absurd (let all = slice_get_within rs t.request q asked.of_request in
+            some_none _ (sym at ∙ slice_get-get_or rs k q (omega arith)))
+        found (Some y) at = subst (λ n. is_answered p.records.known n ≡ true) (numbered rs order k y at)
+            (earlier_passes q.trace y.trace q.number y.number (is_answered p.records.known y.number)
+            (passes (λ (z : Request). not (z.trace == q.trace && nat_lt z.number q.number) || is_answered p.records.known z.number) rs k y (and_parts _ _ test.1).1 at)
+            (sym (ap (λ (o : Option Request). (or_none o).trace) at) ∙ (same ∙ ap (λ (z : Request). z.trace) here))
+            (let a = numbered rs order k y at in let b = number in omega arith))
+
+  pub holds_due : HoldsAreDue m l rs
+  holds_due order s w r d t x kept asked =
+      let p = s.part r in
+      let next = hold_next r d t p x (hold_outside r d t p p.run x (unless_gone _ p.gone _ x asked).1) in
+      record {
+        idle = kept.published r ∙ ap link_of next.unpublished;
+        own = own_request order r t p next;
+        unknown = kept.known r t.request ∙ unanswered order r t p next;
+        earlier = λ k low same. kept.known r k ∙ earlier_answered order r t p next k low same;
+      }
+
+  pub operations_asked : OperationsAreAsked m l rs
+  operations_asked g s whole of d used =
+      let h = whole.tied.op d used in
+      ap (λ (q : Request). q.op) (ap (λ requests. request_at requests (g.publications.thunk d).request) (sym of) ∙ ap or_none h.1) ∙ h.2
+
+  pub frees_over : FreesAreOver m l rs
+  frees_over g s w whole kept r d few there = record {
+    used = whole.tied.used d ∙ retired_out r place.0 _ place.1;
+    over = λ i e. unpublished i (s.part i).published refl (sym (kept.published i) ∙ e);
+  }
+    where
+      place : (y : ℕ) × (1 ≤ in_limbo r y (g.epochs.location (slot_of (counts_of m l) d)))
+      place = let h = retired_at d (s.part r).descriptors.limbo there in
+          (h.0, subst (λ n. 1 ≤ n) (whole.slots.listed.limbo_descriptors r d h.0 few) h.1)
+
+      unpublished : (i : ℕ) (o : Option Published) → (s.part i).published ≡ o → link_of (s.part i).published ≡ suc d → ⊥
+      unpublished i None at e = absurd (let z = ap link_of (sym at) ∙ e in cc)
+      unpublished i (Some y) at e = retired_unlive r place.0 _ place.1
+          (subst (λ n. g.epochs.location (slot_of (counts_of m l) n) ≡ Live) (of_link y.over y.descriptor d (ap link_of (sym at) ∙ e)) ((whole.slots.tied i).published y at))

@@ -1,0 +1,233 @@
+-- What each step leaves of a runner's own node slots and of the section that it has published.
+use Rattle.std.specs.Prelude.{◌==◌, ◌&&◌, ◌⊎◌, not, nat_lt, nat_le, cond, Bool, true, false, if◌then◌else◌}
+use Rattle.std.specs.List.{filter}
+use Rattle.std.proofs.Common.{◌≡◌, ℕ, suc, ◌+◌, ◌≤◌, List, [], ◌∷◌, ◌++◌, length, length-append, refl, sym, ap, ◌∙◌, subst, inl, inr, arith, Option, Some, None}
+use Rattle.std.proofs.lemmas.Bool.Decides.{nat_tests}
+use Rattle.std.proofs.lemmas.List.{length-map}
+use Rattle.std.proofs.lemmas.List.Filters.{length-filter_both}
+use Rattle.small_lemmas.proofs.Numbers.{tested_equal as same_zero}
+use Rattle.body_terms.specs.Line.{is_end}
+use Rattle.body_terms.specs.declared.micro.Micro.{Micro}
+use Rattle.body_terms.specs.declared.thunk.Thunk.{Thunk}
+use Rattle.table_words.specs.declared.layout.Layout.{Layout}
+use Rattle.table_words.specs.Places.{slot_count}
+use Rattle.structure_laws.specs.Meaning.{Meaning}
+use Rattle.epoch_core.specs.Moves.{is_clear}
+use Rattle.runner_parts.specs.declared.entries.Published.{Published}
+use Rattle.runner_parts.specs.declared.entries.Tested.{Tested}
+use Rattle.epoch_core.specs.declared.stage.Stage.{Stage}
+use Rattle.epoch_core.specs.declared.stage.Stage.TheVariants as stages
+use Rattle.runner_parts.specs.declared.event.EventKind.{EventKind}
+use Rattle.runner_parts.specs.declared.event.EventKind.TheVariants as kinds
+use Rattle.runner_parts.specs.State.{RunState, NodesState, PartState}
+use Rattle.runner_parts.specs.Lists as lists
+use Rattle.runner_parts.specs.Lists.{without, is_old, slots_of, entry_count}
+use Rattle.runner_parts.specs.Tests.{has}
+use Rattle.runner_steps.specs.Sections.{is_open_run, next_of}
+use Rattle.epoch_core.specs.State.{last_epoch}
+use Rattle.runner_steps.specs.InRun.{last_clock}
+use Rattle.runner_steps.specs.AfterInRun as inside
+use Rattle.runner_steps.specs.AfterOutside as outside
+use Rattle.runner_steps.specs.After.{line_after, inside_after, outside_after}
+use Rattle.epoch_core.specs.Lists.{times}
+use Rattle.machine_states.proofs.Steps.{some_same, none_some}
+use Rattle.next_steps.specs.machine_invariant.specs.Slots.{times_among}
+
+-- a list without a number is shorter by as often as that stood in it
+without_length : (xs : List ℕ) (d : ℕ) → length (without xs d) + times d xs ≡ length xs
+without_length [] d = refl
+without_length (x ∷ xs) d = by (x == d) (without_length xs d)
+  where
+    by : (b : Bool) → length (without xs d) + times d xs ≡ length xs
+        → length (if not b then x ∷ without xs d else without xs d) + cond b (1 + times d xs) (times d xs) ≡ suc (length xs)
+    by true rest = omega arith
+    by false rest = omega arith
+
+module _ (n : NodesState) (slot : ℕ) (once : times_among n slot ≤ 1) where
+  back : (worn : Bool) → entry_count n ≤ entry_count (lists.slot_back n slot worn)
+  back true = let less = without_length n.hand slot in let more = length-append n.worn (slot ∷ []) in omega (arith, once, less, more)
+  back false = let less = without_length n.hand slot in let more = length-append n.free (slot ∷ []) in omega (arith, once, less, more)
+
+  taken : entry_count n ≤ entry_count (lists.slot_taken n slot)
+  taken = let less = without_length n.free slot in let more = length-append n.hand (slot ∷ []) in omega (arith, once, less, more)
+
+  used_up : entry_count n ≤ suc (entry_count (lists.slot_made n slot))
+  used_up = let less = without_length n.hand slot in omega (arith, once, less)
+
+retired : (n : NodesState) (slot epoch : ℕ) → entry_count n ≤ entry_count (lists.slot_retired n slot epoch)
+retired n slot epoch = let more = length-append n.limbo (record { slot = slot; epoch = epoch } ∷ []) in omega (arith, more)
+
+collected : (n : NodesState) (epoch : ℕ) → entry_count n ≤ entry_count (lists.nodes_collected epoch n)
+collected n epoch =
+    let all = length-filter_both (is_old epoch) (λ x. not (is_old epoch x)) (λ x. refl) n.limbo in
+    let hand = length-append n.hand (slots_of (filter (is_old epoch) n.limbo)) in
+    let slots : length (slots_of (filter (is_old epoch) n.limbo)) ≡ length (filter (is_old epoch) n.limbo)
+    = length-map (filter (is_old epoch) n.limbo) (λ x. x.slot) in omega (arith, all, hand, slots)
+
+-- the published section is there still
+abbrev pub Stays : Published → Option Published → Type 0
+Stays x o = (y : Published) × (o ≡ Some y) × (y.descriptor ≡ x.descriptor) × (y.thunk ≡ x.thunk)
+
+-- a commit of a Make by this runner found this word, and won: one slot is used up
+pub record WinsMake (p p' : PartState) (kind : EventKind) (found : ℕ) : Type 0 where
+  pub is : kind ≡ kinds.MakeCommit
+  pub run : RunState
+  pub runs : p.run ≡ Some run
+  pub opened : is_open_run run ≡ true
+  pub empty : found ≡ 0
+  pub less : entry_count p.nodes ≤ suc (entry_count p'.nodes)
+
+pub record Leaves (p p' : PartState) (kind : EventKind) (found : ℕ) : Type 0 where
+  -- no slot is lost but by a Make
+  pub slots : (entry_count p.nodes ≤ entry_count p'.nodes) ⊎ WinsMake p p' kind found
+  -- a published section stays until it is over
+  pub published : (x : Published) → p.published ≡ Some x → Stays x p'.published ⊎ (x.over ≡ true)
+
+module _ (m : Meaning) (l : Layout) (p : PartState) (once : (t : ℕ) → times_among p.nodes t ≤ 1) (found : ℕ) where
+  module _ (kind : EventKind) where
+    leaves : (p' : PartState) → (entry_count p.nodes ≤ entry_count p'.nodes) ⊎ WinsMake p p' kind found → p'.published ≡ p.published → Leaves p p' kind found
+    leaves p' slots published = record { slots = slots; published = λ x is. inl (x, published ∙ is, refl, refl) }
+
+    either : (b : Bool) (y z : PartState) → Leaves p y kind found → Leaves p z kind found → Leaves p (if b then y else z) kind found
+    either true y z one two = one
+    either false y z one two = two
+
+    least : (p' : PartState) → p'.nodes ≡ p.nodes → entry_count p.nodes ≤ entry_count p'.nodes
+    least p' e = let same = ap entry_count e in omega (arith, same)
+
+    same : (p' : PartState) → p'.nodes ≡ p.nodes → p'.published ≡ p.published → Leaves p p' kind found
+    same p' nodes published = leaves p' (inl (least p' nodes)) published
+
+    over_stays : (o : Option Published) (d : ℕ) (x : Published) → o ≡ Some x → Stays x (inside.over_if o d)
+    over_stays None d x is = absurd (none_some x (sym is))
+    over_stays (Some y) d x is = let e = some_same y x is in
+        (_, refl, ap (λ (z : Published). z.descriptor) e, ap (λ (z : Published). z.thunk) e)
+
+  module _ (q : RunState) (runs : p.run ≡ Some q) (opened : is_open_run q ≡ true) where
+    fill : (kind : EventKind) (slot : ℕ) (made : Option ℕ) → Leaves p (inside.fill_loaded m l slot p q made found) kind found
+    fill kind slot None = leaves kind _ (inl (taken p.nodes slot (once slot))) refl
+    fill kind slot (Some t) = same kind _ refl refl
+
+    make : (made : Option ℕ) → Leaves p (inside.make_committed m l p q made found) kinds.MakeCommit found
+    make None = same kinds.MakeCommit p refl refl
+    make (Some slot) = leaves kinds.MakeCommit _ (by (found == 0) refl) refl
+      where
+        p' : PartState
+        p' = inside.make_committed m l p q (Some slot) found
+
+        by : (b : Bool) → (found == 0) ≡ b → (entry_count p.nodes ≤ entry_count p'.nodes) ⊎ WinsMake p p' kinds.MakeCommit found
+        by true e = inr (record {
+          is = refl;
+          run = q;
+          runs = runs;
+          opened = opened;
+          empty = same_zero found 0 e;
+          less = subst (λ b. entry_count p.nodes ≤ suc (entry_count (if b then lists.slot_made p.nodes slot else lists.slot_back p.nodes slot q.worn)))
+              (sym e) (used_up p.nodes slot (once slot));
+        })
+        by false e = inl (subst (λ b. entry_count p.nodes ≤ entry_count (if b then lists.slot_made p.nodes slot else lists.slot_back p.nodes slot q.worn))
+            (sym e) (back p.nodes slot (once slot) q.worn))
+
+    retire : (slot : ℕ) → Leaves p (inside.retire_committed m l slot p q found) kinds.RetireCommit found
+    retire slot = leaves kinds.RetireCommit _ (inl (by (found == 0))) refl
+      where
+        by : (b : Bool) → entry_count p.nodes ≤ entry_count (if b then lists.slot_retired p.nodes slot q.word else p.nodes)
+        by true = retired p.nodes slot q.word
+        by false = omega arith
+
+    released : (place : ℕ) → Leaves p (inside.lock_released m l place p q found) kinds.Release found
+    released place = either kinds.Release (is_end (next_of m (inside.ended_more q))) _ _
+        (record { slots = inl (omega arith); published = λ x is. inl (over_stays kinds.Release p.published q.descriptor x is) })
+        (same kinds.Release _ refl refl)
+
+    line_leaves : (kind : EventKind) (micro : Micro) → Leaves p (line_after m l kind p q micro found) kind found
+    line_leaves kinds.Commit micro = either kinds.Commit (inside.is_of_lock micro) _ _ (same kinds.Commit _ refl refl) (same kinds.Commit _ refl refl)
+    line_leaves (kinds.LoadCell place) micro = same (kinds.LoadCell place) _ refl refl
+    line_leaves kinds.ExchangeCell micro = same kinds.ExchangeCell _ refl refl
+    line_leaves (kinds.PrivateLoad slot word) micro = fill (kinds.PrivateLoad slot word) slot q.made
+    line_leaves (kinds.PrivateStore slot word number) micro = same (kinds.PrivateStore slot word number) _ refl refl
+    line_leaves kinds.MakeCommit micro = make q.made
+    line_leaves kinds.RetireCommit micro = retire (inside.retired_slot_of micro)
+    line_leaves kinds.EpochForRetire micro = same kinds.EpochForRetire _ refl refl
+    line_leaves kinds.SetDone micro = same kinds.SetDone _ refl refl
+    line_leaves kinds.Release micro = released (inside.place_of micro)
+    line_leaves kinds.ClockLoad micro = same kinds.ClockLoad _ refl refl
+    line_leaves kinds.StampExchange micro = either kinds.StampExchange (nat_lt q.word last_clock) _ _ (same kinds.StampExchange _ refl refl)
+        (same kinds.StampExchange p refl refl)
+    line_leaves kinds.ClockRaise micro = same kinds.ClockRaise _ refl refl
+    line_leaves kinds.ReplyExchange micro = same kinds.ReplyExchange _ refl refl
+    line_leaves kinds.NestedLoad micro = same kinds.NestedLoad _ refl refl
+    line_leaves kinds.NestedHold micro = same kinds.NestedHold _ refl refl
+    line_leaves kinds.OutcomeLoad micro = same kinds.OutcomeLoad _ refl refl
+    line_leaves kinds.OutcomeCommit micro = same kinds.OutcomeCommit _ refl refl
+    line_leaves kind micro = same kind p refl refl
+
+  pub inside_leaves : (q : RunState) → p.run ≡ Some q → (kind : EventKind) → Leaves p (inside_after m l kind p q found) kind found
+  inside_leaves q runs kind = by (is_open_run q) refl
+    where
+      by : (b : Bool) → is_open_run q ≡ b
+          → Leaves p (if b then line_after m l kind p q (next_of m q) found else inside.opened_more p q found) kind found
+      by true e = line_leaves q runs e kind (next_of m q)
+      by false e = same kind _ refl refl
+
+  scan : (n : ℕ) (stage : Stage) → Leaves p (outside.scan_one_after l p stage found) (kinds.ScanOne n) found
+  scan n (stages.Scanning x next clear) = either (kinds.ScanOne n) (nat_le next l.runners) _ _
+      (either (kinds.ScanOne n) (next == l.runners && not ((clear && is_clear x found) && nat_lt x last_epoch)) _ _
+      (leaves (kinds.ScanOne n) (outside.collected p x) (inl (collected p.nodes x)) refl) (same (kinds.ScanOne n) _ refl refl)) (same (kinds.ScanOne n) p refl refl)
+  scan n _ = same (kinds.ScanOne n) p refl refl
+
+  advance : (stage : Stage) → Leaves p (outside.advance_after p stage) kinds.Advance found
+  advance (stages.Scanning x next clear) = either kinds.Advance (nat_lt x last_epoch) _ _
+      (leaves kinds.Advance (outside.collected p (x + 1)) (inl (collected p.nodes (x + 1))) refl) (same kinds.Advance p refl refl)
+  advance _ = same kinds.Advance p refl refl
+
+  retire_section : (o : Option Published) → p.published ≡ o → ((x : Published) → p.published ≡ Some x → x.over ≡ true)
+      → Leaves p (outside.retire_after p o found) kinds.EpochForRetire found
+  retire_section None is over = same kinds.EpochForRetire p refl refl
+  retire_section (Some x) is over = record { slots = inl (omega arith); published = λ y at. inr (over y at) }
+
+  hold : (t : Thunk) (d : ℕ) → p.published ≡ None → Leaves p (outside.hold_after t d p found) (kinds.Hold t d) found
+  hold t d none = either (kinds.Hold t d) (found == t.word) _ _
+      (record { slots = inl (omega arith); published = λ x is. absurd (none_some x (sym is ∙ none)) })
+      (same (kinds.Hold t d) _ refl refl)
+
+  looked : (slot word : ℕ) → Leaves p (record p { nodes = lists.nodes_looked l p.nodes slot word found }) (kinds.PrivateLoad slot word) found
+  looked slot word = leaves (kinds.PrivateLoad slot word) _ (inl (by (has p.nodes.hand slot && (word == (lists.test_of p.nodes.tests slot).cells && nat_lt word 5)))) refl
+    where
+      x : Tested
+      x = lists.one_more l (lists.test_of p.nodes.tests slot) found
+
+      tested : (b : Bool) → entry_count p.nodes
+          ≤ entry_count (if b then lists.slot_back p.nodes x.slot x.worn else record (p.nodes) { tests = lists.tests_without p.nodes.tests x.slot ++ x ∷ [] })
+      tested true = back p.nodes x.slot (once x.slot) x.worn
+      tested false = omega arith
+
+      by : (b : Bool) → entry_count p.nodes ≤ entry_count (if b then lists.slot_tested p.nodes x else p.nodes)
+      by true = tested (x.cells == 5)
+      by false = omega arith
+
+  -- a publication comes where nothing is published, and a section is retired where it is over
+  abbrev pub MayGo : EventKind → Type 0
+  MayGo (kinds.Hold t d) = p.published ≡ None
+  MayGo kinds.EpochForRetire = (x : Published) → p.published ≡ Some x → x.over ≡ true
+  MayGo _ = Unit {0}
+
+  pub outside_leaves : (kind : EventKind) → MayGo kind → Leaves p (outside_after m l kind p found) kind found
+  outside_leaves kinds.EnterLoad may = same kinds.EnterLoad _ refl refl
+  outside_leaves kinds.Announce may = same kinds.Announce _ refl refl
+  outside_leaves kinds.EnterAgain may = same kinds.EnterAgain _ refl refl
+  outside_leaves kinds.Idle may = same kinds.Idle _ refl refl
+  outside_leaves kinds.ScanEpoch may = same kinds.ScanEpoch _ refl refl
+  outside_leaves (kinds.ScanOne n) may = scan n p.stage
+  outside_leaves kinds.Advance may = advance p.stage
+  outside_leaves kinds.Split may = either kinds.Split (nat_lt p.records.splits l.runners) _ _ (same kinds.Split _ refl refl) (same kinds.Split p refl refl)
+  outside_leaves (kinds.Join worker) may = same (kinds.Join worker) _ refl refl
+  outside_leaves (kinds.LoadCell (Some place)) may = same (kinds.LoadCell (Some place)) _ refl refl
+  outside_leaves (kinds.LoadEntry request reply) may = same (kinds.LoadEntry request reply) _ refl refl
+  outside_leaves (kinds.PrivateLoad slot word) may = either (kinds.PrivateLoad slot word) (nat_lt slot (slot_count l m.fixed_slots)) _ _ (looked slot word)
+      (same (kinds.PrivateLoad slot word) _ refl refl)
+  outside_leaves (kinds.PrivateStore slot word number) may = same (kinds.PrivateStore slot word number) _ refl refl
+  outside_leaves (kinds.Hold t d) may = hold t d may
+  outside_leaves (kinds.LoadThunk (Some d)) may = same (kinds.LoadThunk (Some d)) _ refl refl
+  outside_leaves kinds.EpochForRetire may = retire_section p.published refl may
+  outside_leaves kind may = same kind p refl refl

@@ -1,0 +1,386 @@
+-- What Makes used up is kept along the machine's steps.
+use Rattle.std.specs.Prelude.{◌==◌, ◌⊎◌, cond, count_by, true, false, if◌then◌else◌}
+use Rattle.std.proofs.Common.{◌≡◌, ◌≢◌, ℕ, zero, suc, ◌+◌, ◌<◌, ◌≤◌, List, length, refl, sym, ap, ◌∙◌, subst, ⊎_elim, inl, inr, arith, Option, Some, None}
+use Rattle.std.proofs.lemmas.Bool.{cases_eq, and_parts}
+use Rattle.std.proofs.lemmas.Bool.Decides.{nat_tests}
+use Rattle.small_lemmas.proofs.Numbers.{chosen_here as one_here}
+use Rattle.map_history.specs.declared.op.Request.{Request}
+use Rattle.map_history.specs.declared.reply.Reply.TheVariants.{New}
+use Rattle.map_history.specs.Words.{word_of}
+use Rattle.body_terms.specs.Line.{line, micro_at, is_commit, no_registers}
+use Rattle.body_terms.specs.Shape.{is_make}
+use Rattle.body_terms.specs.declared.thunk.Thunk.{Thunk}
+use Rattle.body_terms.specs.declared.step.Step.TheVariants.{Answer}
+use Rattle.body_terms.specs.declared.micro.Micro.TheVariants as micros
+use Rattle.table_words.specs.declared.layout.Layout.{Layout}
+use Rattle.table_words.specs.declared.spot.Spot.{Spot}
+use Rattle.table_words.specs.declared.spot.Spot.TheVariants as spots
+use Rattle.table_words.specs.declared.access.Access.{Access}
+use Rattle.table_words.specs.declared.access.Access.TheVariants.{Exchanges}
+use Rattle.table_words.specs.Access.{written}
+use Rattle.table_words.specs.Seen.{upd, put}
+use Rattle.table_words.specs.Limits.{IsWithinLimits}
+use Rattle.structure_laws.specs.Meaning.{Meaning}
+use Rattle.structure_laws.specs.Laws.{Laws}
+use Rattle.structure_laws.specs.Planner.{PlannerLawsOver}
+use Rattle.structure_laws.specs.Shape.{HasStep}
+use Rattle.runner_parts.specs.declared.entries.Published.{Published}
+use Rattle.runner_parts.specs.declared.event.Event.{Event}
+use Rattle.runner_parts.specs.declared.event.EventKind.{EventKind}
+use Rattle.runner_parts.specs.declared.event.EventKind.TheVariants as kinds
+use Rattle.runner_parts.specs.State.{RunState, PartState}
+use Rattle.runner_parts.specs.Tests.{is_walking}
+use Rattle.runner_steps.specs.Asks.{ask_by, line_ask, opening_ask, outside_ask}
+use Rattle.runner_steps.specs.Outside.{is_over}
+use Rattle.runner_steps.specs.Sections.{next_of}
+use Rattle.runner_steps.specs.After.{after_by}
+use Rattle.machine_states.specs.World.{World}
+use Rattle.machine_states.specs.Reached.{Reached}
+use Rattle.machine_states.specs.Sight.{Sight, sight, Steps}
+use Rattle.machine_states.proofs.Sights.{if_some, unless_gone, joins}
+use Rattle.machine_states.proofs.Steps.{some_same, none_some}
+use Rattle.machine_states.proofs.Updates.{upd_here, upd_else}
+use Rattle.machine_epochs.specs.Slots.{thunk_in}
+use Rattle.machine_epochs.proofs.InsideAsked.{make_commit_asked}
+use Rattle.machine_epochs.proofs.OutsideAsked.{hold_asked}
+use Rattle.machine_epochs.proofs.RunPlaces.{next_in_line, open_run}
+use Rattle.next_steps.specs.machine_agreement.proofs.RunPlaces.{run_here, used_here, opened_thunk}
+use Rattle.reached_histories.specs.machine_facts.specs.Steps.{WordsStand}
+use Rattle.reached_histories.specs.machine_facts.specs.States.{FactsStand}
+use Rattle.reached_histories.specs.machine_facts.specs.After.{AreFactsOfStep}
+use Rattle.next_steps.specs.machine_invariant.specs.Along.{Components}
+use Rattle.next_steps.specs.machine_invariant.specs.After.{AreAllowed}
+use Rattle.runner_parts.specs.Lists.{entry_count}
+use Rattle.next_steps.specs.machine_invariant.specs.Slots.{times_among}
+use Rattle.reached_histories.specs.Requests.{requests_of}
+use Rattle.next_steps.proofs.Parts.{IsBlind, each_part}
+use Rattle.next_steps.proofs.Enabled.{reached_enabled}
+use Rattle.reached_histories.specs.Laws.{HasHistory}
+use Rattle.reached_histories.proofs.Histories.{reached_have}
+use Rattle.agreement_core.specs.Runs.{TrailIsSound}
+use Rattle.epoch_core.specs.History.{is_out}
+use Rattle.resource_bounds.proofs.Lines.{makes_in, few_makes, some_make, makes_stay, makes_more}
+use Rattle.resource_bounds.proofs.MakesSums.{total, total_more}
+use Rattle.resource_bounds.proofs.Entries.{Stays, WinsMake, Leaves, inside_leaves, MayGo, outside_leaves}
+use Rattle.resource_bounds.proofs.Sections.{new_some, reply_new, publisher, unreplied, answers_new}
+
+order : (a b : ℕ) → (a < b) ⊎ (b ≤ a)
+order a b = search arith
+
+module _ (m : Meaning) (l : Layout) (rs : List Request) where
+  -- the worker of a request
+  abbrev pub worker_of : ℕ → ℕ
+  worker_of = (requests_of m l rs).worker
+
+  -- the Makes of a published section on which its runs have agreed, where it is for this request, are so many at least
+  pub record Makes (s : Sight) (q n : ℕ) : Type 0 where
+    pub section : Published
+    pub published : (s.part (worker_of q)).published ≡ Some section
+    pub descriptor : ℕ
+    pub thunk : Thunk
+    pub at : section.descriptor ≡ descriptor
+    pub of_thunk : section.thunk ≡ thunk
+    pub request : thunk.request ≡ q
+    pub many : n ≤ makes_in (λ k. s.word (spots.LogWord descriptor k)) (line (m.body thunk))
+    pub adds : (j reply : ℕ) → HasStep m thunk j (Answer reply) → reply ≡ word_of New
+
+  -- so many Makes were won for this request at most
+  abbrev pub IsMost : Sight → ℕ → ℕ → Type 0
+  IsMost s q n = (n ≡ 0) ⊎ (((s.word (spots.Reply q) ≡ word_of New) × (n ≤ 2)) ⊎ Makes s q n)
+
+  -- by request, how many Makes were won for it
+  pub record Counted (s : Sight) : Type 0 where
+    pub won : ℕ → ℕ
+    pub slots : (r : ℕ) → r < l.runners → l.nodes ≤ entry_count (s.part r).nodes + total won (length rs)
+    pub most : (q : ℕ) → IsMost s q (won q)
+
+-- of a state: what is published is a section, whose thunk stands there
+module _ (m : Meaning) (l : Layout) (rs : List Request) (s : Sight) (stands : HasHistory m l rs s) (k : Components) (facts : FactsStand m l s k)
+    (map : m.is_map ≡ true) where
+  module _ (r : ℕ) (y : Published) (is : (s.part r).published ≡ Some y) where
+    pub used_there : stands.beside.agreement.used y.descriptor ≡ true
+    used_there = stands.whole.tied.used y.descriptor ∙ ap is_out ((stands.whole.slots.tied r).published y is)
+
+    pub thunk_there : thunk_in s.word y.descriptor ≡ y.thunk
+    thunk_there = facts.sound.sections.in_published.thunk r y is
+
+    -- a section that is over is done
+    pub over_done : y.over ≡ true → s.word (spots.DoneWord y.descriptor) ≢ 0
+    over_done over z =
+        (stands.whole.sections.sound.sections y.descriptor used_there).over_done ((stands.whole.sections.tied r).over y is over)
+        ((stands.whole.sections.sections y.descriptor).done ∙ z)
+
+  -- once the published section is done, its request has its reply
+  pub settled : (q n : ℕ) (y : Makes m l rs s q n) → s.word (spots.DoneWord y.section.descriptor) ≢ 0
+      → (n ≡ 0) ⊎ ((s.word (spots.Reply q) ≡ word_of New) × (n ≤ 2))
+  settled q zero y done = inl refl
+  settled q (suc n) y done = inr (
+    ap (λ i. s.word (spots.Reply i)) (sym (ap (λ (t : Thunk). t.request) same ∙ y.request)) ∙ reply,
+    (let few = few_makes log no_registers (m.body (thunk_in s.word d)) in let two = shaped in omega (arith, most, few, two)),
+  )
+    where
+      d : ℕ
+      d = y.section.descriptor
+
+      log : ℕ → ℕ
+      log k = s.word (spots.LogWord d k)
+
+      used : stands.beside.agreement.used d ≡ true
+      used = used_there (worker_of m l rs q) y.section y.published
+
+      same : thunk_in s.word d ≡ y.thunk
+      same = thunk_there (worker_of m l rs q) y.section y.published ∙ y.of_thunk
+
+      most : suc n ≤ makes_in log (line (m.body (thunk_in s.word d)))
+      most = subst (λ (t : Thunk). suc n ≤ makes_in log (line (m.body t))) (sym same)
+          (subst (λ e. suc n ≤ makes_in (λ k. s.word (spots.LogWord e k)) (line (m.body y.thunk))) (sym y.at) y.many)
+
+      some : (i k : ℕ) × (micro_at (line (m.body (thunk_in s.word d))) i ≡ micros.MakeCommit k) × (log k ≢ 0)
+      some = some_make log (line (m.body (thunk_in s.word d))) (omega (arith, most))
+
+      reply : s.word (spots.Reply (thunk_in s.word d).request) ≡ word_of New
+      reply = reply_new m l rs s stands d used some.0 some.1 some.2 some.3 done map
+          (λ j n is. y.adds j n (subst (λ t. HasStep m t j (Answer n)) same is))
+
+      shaped : count_by is_make (m.body (thunk_in s.word d)) ≤ 2
+      shaped = subst (λ (t : Thunk). count_by is_make (m.body t) ≤ 2) (stands.whole.tied.thunk d used) ((stands.whole.kept.shaped d used).shape.makes)
+
+-- an exchange of an empty word leaves what it writes
+log_now : (f : Spot → ℕ) (d k new : ℕ) → f (spots.LogWord d k) ≡ 0
+    → put f (spots.LogWord d k) (written (Exchanges 0 new) (f (spots.LogWord d k))) (spots.LogWord d k) ≡ new
+log_now f d k new none = ap (λ n. put f (spots.LogWord d k) (written (Exchanges 0 new) n) (spots.LogWord d k)) none
+    ∙ (one_here d _ _ ∙ one_here k _ _)
+
+-- one step of the machine
+module _ (m : Meaning) (laws : Laws m) (l : Layout) (limits : IsWithinLimits l) (rs : List Request) (allowed : AreAllowed rs)
+    (map : m.is_map ≡ true) (per_pair : ℕ) (over : PlannerLawsOver m l per_pair)
+    (w v : World) (e : Event) (reached : Reached m l rs w) (facts : AreFactsOfStep m l rs w e v)
+    (st : Steps m l rs (sight m l rs w) (sight m l rs v) e.runner e.kind) where
+  abbrev s : Sight
+  s = sight m l rs w
+
+  abbrev s' : Sight
+  s' = sight m l rs v
+
+  abbrev r : ℕ
+  r = e.runner
+
+  abbrev p : PartState
+  p = s.part r
+
+  abbrev x : Spot × Access
+  x = st.ask
+
+  abbrev found : ℕ
+  found = s.word x.0
+
+  stands : HasHistory m l rs s
+  stands = reached_have m laws l rs limits allowed w reached
+
+  words : WordsStand facts.before.agreement.used s.word s'.word
+  words = facts.leads.words
+
+  once : (t : ℕ) → times_among p.nodes t ≤ 1
+  once t = facts.there.sound.slots.in_nodes.once r t
+
+  asked : ask_by m l rs r e.kind p p.run ≡ Some x
+  asked = (unless_gone _ p.gone _ x st.asked).1
+
+  section_over : (o : Option Published) → is_over o ≡ true → (y : Published) → o ≡ Some y → y.over ≡ true
+  section_over None h y is = absurd (none_some y (sym is))
+  section_over (Some z) h y is = subst (λ (u : Published). u.over ≡ true) (some_same z y is) h
+
+  may : (kind : EventKind) → outside_ask m l rs r kind p ≡ Some x → MayGo m l p once found kind
+  may (kinds.Hold t d) h = (hold_asked m l rs r t d p x h).unpublished
+  may kinds.EpochForRetire h = section_over p.published (and_parts (is_walking p.stage p.run) _ (if_some _ _ x h).0).1
+  may _ h = tt
+
+  own_leaves : Leaves p (after_by m l e.kind p p.run found) e.kind found
+  own_leaves = by p.run refl asked
+    where
+      by : (o : Option RunState) → p.run ≡ o → ask_by m l rs r e.kind p o ≡ Some x → Leaves p (after_by m l e.kind p o found) e.kind found
+      by None is h = outside_leaves m l p once found e.kind (may e.kind h)
+      by (Some q) is h = inside_leaves m l p once found q is e.kind
+
+  -- a part after the step, by the runner's own and by the others that are as before
+  parts : (Q : ℕ → PartState → Type 0) → IsBlind Q → Q r (after_by m l e.kind p p.run found) → ((i : ℕ) → i ≢ r → Q i (s.part i)) → (i : ℕ) → Q i (s'.part i)
+  parts Q blind own rest i = subst (λ (y : Sight). Q i (y.part i)) (sym st.next)
+      (each_part m l s r x Q blind e.kind (joins m l rs e.kind r p x st.asked) own rest i)
+
+  -- a published section stays until it is over
+  published_stays : (i : ℕ) (y : Published) → (s.part i).published ≡ Some y → Stays y (s'.part i).published ⊎ (y.over ≡ true)
+  published_stays = parts (λ i p'. (y : Published) → (s.part i).published ≡ Some y → Stays y p'.published ⊎ (y.over ≡ true))
+      (λ i p' records gone h. h) own_leaves.published (λ i ne y is. inl (y, is, refl, refl))
+
+  module _ (old : Counted m l rs s) where
+    same_most : (q n : ℕ) → (n ≡ 0) ⊎ ((s.word (spots.Reply q) ≡ word_of New) × (n ≤ 2)) → IsMost m l rs s' q n
+    same_most q n h = ⊎_elim (λ z. inl z)
+        (λ y. inr (inl (words.reply q (λ z. new_some (sym y.0 ∙ z)) ∙ y.0, y.1))) h
+
+    used_before : (i : ℕ) (y : Published) → (s.part i).published ≡ Some y → facts.before.agreement.used y.descriptor ≡ true
+    used_before i y is = facts.there.sound.sections.in_published.used i y is
+
+    log_stands : (d k : ℕ) → facts.before.agreement.used d ≡ true → s.word (spots.LogWord d k) ≢ 0 → s'.word (spots.LogWord d k) ≡ s.word (spots.LogWord d k)
+    log_stands d k used some = words.log d k used some
+
+    most_keeps : (q n : ℕ) → IsMost m l rs s q n → IsMost m l rs s' q n
+    most_keeps q n h = ⊎_elim (λ z. inl z)
+        (λ more. ⊎_elim (λ y. same_most q n (inr y)) (λ y. ⊎_elim (stays y) (ends y)
+        (published_stays (worker_of m l rs q) y.section y.published)) more) h
+      where
+        stays : (y : Makes m l rs s q n) → Stays y.section (s'.part (worker_of m l rs q)).published → IsMost m l rs s' q n
+        stays y z = inr (inr (record {
+          section = z.0;
+          published = z.1;
+          descriptor = y.descriptor;
+          thunk = y.thunk;
+          at = z.2 ∙ y.at;
+          of_thunk = z.3 ∙ y.of_thunk;
+          request = y.request;
+          many = let before = y.many in
+              let more = makes_stay (λ k. s.word (spots.LogWord y.descriptor k)) (λ k. s'.word (spots.LogWord y.descriptor k))
+              (λ k some. log_stands y.descriptor k (subst (λ d. facts.before.agreement.used d ≡ true) y.at
+              (used_before (worker_of m l rs q) y.section y.published)) some) (line (m.body y.thunk)) in omega (arith, before, more);
+          adds = y.adds;
+        }))
+
+        ends : (y : Makes m l rs s q n) → y.section.over ≡ true → IsMost m l rs s' q n
+        ends y is = same_most q n (settled m l rs s stands facts.before facts.there map q n y
+            (over_done m l rs s stands facts.before facts.there map (worker_of m l rs q) y.section y.published is))
+
+    -- the step wins no commit of a Make
+    kept : entry_count p.nodes ≤ entry_count (after_by m l e.kind p p.run found).nodes → Counted m l rs s'
+    kept least = record {
+      won = old.won;
+      slots = λ i low. let before = old.slots i low in let more = entries i in omega (arith, before, more);
+      most = λ q. most_keeps q (old.won q) (old.most q);
+    }
+      where
+        entries : (i : ℕ) → entry_count (s.part i).nodes ≤ entry_count (s'.part i).nodes
+        entries = parts (λ i p'. entry_count (s.part i).nodes ≤ entry_count p'.nodes) (λ i p' records gone h. h) least (λ i ne. omega arith)
+
+    -- it does
+    module _ (wins : WinsMake p (after_by m l e.kind p p.run found) e.kind found) where
+      abbrev q0 : RunState
+      q0 = wins.run
+
+      abbrev d : ℕ
+      d = q0.descriptor
+
+      in_line : line_ask m l kinds.MakeCommit p.nodes.free q0 (next_of m q0) ≡ Some x
+      in_line = subst (λ b. (if b then line_ask m l kinds.MakeCommit p.nodes.free q0 (next_of m q0) else opening_ask kinds.MakeCommit q0) ≡ Some x) wins.opened
+          (subst (λ k. ask_by m l rs r k p (Some q0) ≡ Some x) wins.is (subst (λ o. ask_by m l rs r e.kind p o ≡ Some x) wins.runs asked))
+
+      module _ (slot k : ℕ) (next : next_of m q0 ≡ micros.MakeCommit k) (ask : (spots.LogWord d k, Exchanges 0 (slot + 1)) ≡ x) where
+        none : s.word (spots.LogWord d k) ≡ 0
+        none = ap (λ (y : Spot × Access). s.word y.0) ask ∙ wins.empty
+
+        some : s'.word (spots.LogWord d k) ≢ 0
+        some z =
+            let now : s'.word (spots.LogWord d k) ≡ slot + 1 = ap (λ (y : Sight). y.word (spots.LogWord d k)) st.next
+            ∙ (ap (λ (y : Spot × Access). put s.word y.0 (written y.1 (s.word y.0)) (spots.LogWord d k)) (sym ask) ∙ log_now s.word d k (slot + 1) none) in
+            omega (arith, z, now)
+
+        all : length q0.opened ≡ 13
+        all = open_run q0 wins.opened
+
+        used : stands.beside.agreement.used d ≡ true
+        used = used_here m l stands.beside.agreement s stands.whole.sections r q0 wins.runs
+
+        abbrev t : Thunk
+        t = thunk_in s.word d
+
+        at : micro_at (line (m.body t)) q0.at ≡ micros.MakeCommit k
+        at = ap (λ (y : Thunk). micro_at (line (m.body y)) q0.at) (opened_thunk m l stands.beside.agreement s stands.whole.sections r q0 wins.runs all)
+            ∙ next_in_line m q0 (micros.MakeCommit k) refl next
+
+        edge : (stands.beside.agreement.section d).edge ≡ q0.at
+        edge =
+            let a = stands.beside.agreement in
+            let here = run_here m l a s stands.whole.sections r q0 wins.runs in
+            let trail = subst (λ i. TrailIsSound (a.section i) (a.run r)) here.descriptor (stands.whole.sections.sound.runs r here.running).in_trail in
+            let sound = stands.whole.sections.sound.sections d used in
+            let line = sound.published.line in
+            let code = (stands.whole.sections.thunks d used).code q0.at ∙ at in
+            let behind = trail.behind in
+            let place = here.at in
+            ⊎_elim (λ less. absurd (
+            let log = line.counted.make_log q0.at k code in
+            let more = line.counted.slot_commit q0.at (ap is_commit code) in
+            let rises = line.counted.slot_rises (suc q0.at) (a.section d).edge (omega (arith, less)) in
+            let full = sound.section.in_log.full k (omega (arith, log, more, rises)) in
+            let same = (stands.whole.sections.sections d).log k in omega (arith, full, same, none)))
+            (λ le. omega (arith, le, behind, place))
+            (order q0.at (a.section d).edge)
+
+        abbrev n : ℕ
+        n = t.request
+
+        own : (y : Published) × ((s.part (worker_of m l rs n)).published ≡ Some y) × (y.descriptor ≡ d) × (y.over ≡ false)
+        own = publisher m l rs s stands d used q0.at k at edge
+
+        few : n < length rs
+        few = subst (λ (y : Thunk). y.request < length rs)
+            (sym (opened_thunk m l stands.beside.agreement s stands.whole.sections r q0 wins.runs all))
+            (((reached_enabled m laws l limits rs allowed w reached).runs r q0 wins.runs).thunk all).request
+
+        own_stays : Stays own.0 (s'.part (worker_of m l rs n)).published
+        own_stays = ⊎_elim (λ z. z) (λ is. absurd (let z = sym is ∙ own.3 in cc)) (published_stays (worker_of m l rs n) own.0 own.1)
+
+        thunk_is : own.0.thunk ≡ t
+        thunk_is = sym (thunk_there m l rs s stands facts.before facts.there map (worker_of m l rs n) own.0 own.1) ∙ ap (thunk_in s.word) own.2
+
+        one_more : suc (makes_in (λ i. s.word (spots.LogWord d i)) (line (m.body t))) ≤ makes_in (λ i. s'.word (spots.LogWord d i)) (line (m.body t))
+        one_more = makes_more (λ i. s.word (spots.LogWord d i)) (λ i. s'.word (spots.LogWord d i))
+            (λ i full. log_stands d i (subst (λ j. facts.before.agreement.used j ≡ true) own.2 (used_before (worker_of m l rs n) own.0 own.1)) full)
+            (line (m.body t)) q0.at k at none some
+
+        -- the Makes that its section had won
+        had : IsMost m l rs s n (old.won n) → old.won n ≤ makes_in (λ i. s.word (spots.LogWord d i)) (line (m.body t))
+        had h = ⊎_elim (λ z. omega (arith, z))
+            (λ more. ⊎_elim (λ y. absurd (new_some (sym y.0 ∙ unreplied m l rs s stands d used q0.at k at edge)))
+            (λ y. let same : y.section ≡ own.0 = some_same y.section own.0 (sym y.published ∙ own.1) in
+            let descriptor : y.descriptor ≡ d = sym y.at ∙ (ap (λ (z : Published). z.descriptor) same ∙ own.2) in
+            let thunk : y.thunk ≡ t = sym y.of_thunk ∙ (ap (λ (z : Published). z.thunk) same ∙ thunk_is) in
+            subst (λ (z : Thunk). old.won n ≤ makes_in (λ i. s.word (spots.LogWord d i)) (line (m.body z))) thunk
+            (subst (λ j. old.won n ≤ makes_in (λ i. s.word (spots.LogWord j i)) (line (m.body y.thunk))) descriptor y.many)) more) h
+
+        now : Makes m l rs s' n (suc (old.won n))
+        now = record {
+          section = own_stays.0;
+          published = own_stays.1;
+          descriptor = d;
+          thunk = t;
+          at = own_stays.2 ∙ own.2;
+          of_thunk = own_stays.3 ∙ thunk_is;
+          request = refl;
+          many = let before = had (old.most n) in let more = one_more in omega (arith, before, more);
+          adds = answers_new m l rs s stands d used q0.at k at edge per_pair over;
+        }
+
+        abbrev won' : ℕ → ℕ
+        won' = upd old.won n (suc (old.won n))
+
+        most' : (q : ℕ) → IsMost m l rs s' q (won' q)
+        most' q = ⊎_elim
+            (λ is. subst (λ i. IsMost m l rs s' i (won' i)) (sym is)
+            (subst (IsMost m l rs s' n) (sym (upd_here old.won n (suc (old.won n)))) (inr (inr now))))
+            (λ ne. subst (IsMost m l rs s' q) (sym (upd_else old.won n (suc (old.won n)) q ne)) (most_keeps q (old.won q) (old.most q)))
+            (cases_eq q n)
+
+        entries : (i : ℕ) → entry_count (s.part i).nodes ≤ suc (entry_count (s'.part i).nodes)
+        entries = parts (λ i p'. entry_count (s.part i).nodes ≤ suc (entry_count p'.nodes)) (λ i p' records gone h. h) wins.less (λ i ne. omega arith)
+
+        won_more : Counted m l rs s'
+        won_more = record {
+          won = won';
+          slots = λ i low. let before = old.slots i low in let less = entries i in let sum = total_more old.won n (length rs) few in
+              omega (arith, before, less, sum);
+          most = most';
+        }
+
+      won_one : Counted m l rs s'
+      won_one = let c = make_commit_asked q0 x (next_of m q0) in_line in won_more c.0 c.2.log c.2.step c.2.is
+
+    pub counted_on : Counted m l rs s'
+    counted_on = ⊎_elim kept won_one own_leaves.slots

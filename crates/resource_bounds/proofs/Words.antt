@@ -1,0 +1,120 @@
+-- The kinds of step that leave each cell as it is.
+use Rattle.std.specs.Prelude.{◌==◌, ◌-◌, nat_lt, Bool, true, false, if◌then◌else◌}
+use Rattle.std.proofs.Common.{◌≡◌, ℕ, List, refl, ap, subst, Some, None}
+use Rattle.std.proofs.lemmas.Bool.{true≢false}
+use Rattle.map_history.specs.declared.op.Request.{Request}
+use Rattle.body_terms.specs.declared.micro.Micro.{Micro}
+use Rattle.body_terms.specs.declared.micro.Micro.TheVariants as micros
+use Rattle.table_words.specs.declared.layout.Layout.{Layout}
+use Rattle.table_words.specs.declared.spot.Spot.{Spot}
+use Rattle.table_words.specs.declared.spot.Spot.TheVariants as spots
+use Rattle.table_words.specs.declared.access.Access.{Access}
+use Rattle.table_words.specs.declared.access.Access.TheVariants.{Loads, Stores}
+use Rattle.table_words.specs.Access.{written}
+use Rattle.table_words.specs.Places.{slot_count}
+use Rattle.table_words.specs.Seen.{put}
+use Rattle.structure_laws.specs.Meaning.{Meaning}
+use Rattle.runner_parts.specs.declared.event.EventKind.{EventKind}
+use Rattle.runner_parts.specs.declared.event.EventKind.TheVariants as kinds
+use Rattle.runner_parts.specs.State.{RunState, PartState}
+use Rattle.runner_steps.specs.InRun.{load_cell_ask, nested_load_ask, outcome_load_ask}
+use Rattle.runner_steps.specs.Outside.{descriptor_spot}
+use Rattle.runner_steps.specs.Asks.{outside_ask, line_ask, opening_ask}
+use Rattle.machine_states.proofs.Sights.{if_some, some_none}
+use Rattle.machine_states.proofs.Steps.{some_same}
+use Rattle.machine_states.proofs.Updates.{put_same}
+use Rattle.machine_epochs.proofs.InsideAsked as inside
+use Rattle.machine_epochs.proofs.OutsideAsked as outside
+
+-- the kinds that may change a cell: in a run, and outside one
+abbrev pub changes_inside : EventKind → Bool
+changes_inside kinds.ExchangeCell = true
+changes_inside (kinds.PrivateStore slot word number) = true
+changes_inside kinds.NestedHold = true
+changes_inside kinds.Release = true
+changes_inside _ = false
+
+abbrev pub changes_outside : EventKind → Bool
+changes_outside (kinds.Hold thunk d) = true
+changes_outside _ = false
+
+module _ (f : Spot → ℕ) (p : ℕ) where
+  -- the step leaves the cell
+  abbrev pub Stays : Spot × Access → Type 0
+  Stays x = put f x.0 (written x.1 (f x.0)) (spots.Cell p) ≡ f (spots.Cell p)
+
+  loads : (a : Spot) → Stays (a, Loads)
+  loads a = ap (λ (g : Spot → ℕ). g (spots.Cell p)) (put_same f a)
+
+  loaded : (a : Spot) (x : Spot × Access) → (a, Loads) ≡ x → Stays x
+  loaded a x e = subst Stays e (loads a)
+
+  module _ (m : Meaning) (l : Layout) (q : RunState) (x : Spot × Access) where
+    load_stays : (micro : Micro) → load_cell_ask q micro ≡ Some x → Stays x
+    load_stays (micros.LoadCell place log) e = loaded (spots.Cell place) x (some_same _ _ e)
+    load_stays _ e = some_none x e
+
+    nested_stays : (micro : Micro) → nested_load_ask q micro ≡ Some x → Stays x
+    nested_stays (micros.NestedLoad place log) e = loaded (spots.Cell place) x (some_same _ _ e)
+    nested_stays _ e = some_none x e
+
+    outcome_stays : (micro : Micro) → outcome_load_ask q micro ≡ Some x → Stays x
+    outcome_stays (micros.OutcomeLoad place log) e = loaded (spots.Cell place) x (some_same _ _ e)
+    outcome_stays _ e = some_none x e
+
+    pub line_stays : (kind : EventKind) (free : List ℕ) (micro : Micro) → changes_inside kind ≡ false → line_ask m l kind free q micro ≡ Some x → Stays x
+    line_stays kinds.Commit free micro no_change e = subst Stays (inside.commit_asked q x micro e).is refl
+    line_stays (kinds.LoadCell None) free micro no_change e = load_stays micro e
+    line_stays kinds.ExchangeCell free micro no_change e = absurd (true≢false no_change)
+    line_stays (kinds.PrivateLoad slot word) free micro no_change e =
+        let h = inside.fill_load_asked q x m l slot word free micro e in loaded (spots.Cell h.2) x h.6
+    line_stays (kinds.PrivateStore slot word number) free micro no_change e = absurd (true≢false no_change)
+    line_stays kinds.MakeCommit free micro no_change e = subst Stays (inside.make_commit_asked q x micro e).2.is refl
+    line_stays kinds.RetireCommit free micro no_change e = subst Stays (inside.retire_commit_asked q x micro e).1.is refl
+    line_stays kinds.EpochForRetire free micro no_change e = loaded spots.Epoch x (inside.epoch_for_retire_asked q x micro e).3
+    line_stays kinds.SetDone free micro no_change e = subst Stays (inside.set_done_asked q x micro e).1 refl
+    line_stays kinds.Release free micro no_change e = absurd (true≢false no_change)
+    line_stays kinds.ClockLoad free micro no_change e = loaded spots.Clock x (inside.clock_load_asked q x micro e).1
+    line_stays kinds.StampExchange free micro no_change e = subst Stays (inside.stamp_exchange_asked q x micro e).3 refl
+    line_stays kinds.ClockRaise free micro no_change e = subst Stays (inside.clock_raise_asked q x micro e).2 refl
+    line_stays kinds.ReplyExchange free micro no_change e = subst Stays (inside.reply_exchange_asked q x micro e).3 refl
+    line_stays kinds.NestedLoad free micro no_change e = nested_stays micro e
+    line_stays kinds.NestedHold free micro no_change e = absurd (true≢false no_change)
+    line_stays kinds.OutcomeLoad free micro no_change e = outcome_stays micro e
+    line_stays kinds.OutcomeCommit free micro no_change e = subst Stays (inside.outcome_commit_asked q x micro e).is refl
+    line_stays _ free micro no_change e = some_none x e
+
+    pub opening_stays : (kind : EventKind) → opening_ask kind q ≡ Some x → Stays x
+    opening_stays (kinds.LoadThunk None) e = loaded _ x (inside.open_more_asked q x e).1
+    opening_stays kinds.LoadDone e = loaded _ x (inside.load_done_asked q x e).1
+    opening_stays _ e = some_none x e
+
+  -- a private store outside a run is one to a word of a descriptor
+  store_stays : (d word number : ℕ) → Stays (descriptor_spot d word, Stores number)
+  store_stays d word number = by (nat_lt word 12) (word == 12)
+    where
+      by : (b b' : Bool) → Stays ((if b then spots.ThunkWord d word else (if b' then spots.DoneWord d else spots.LogWord d (word - 13))), Stores number)
+      by true b' = refl
+      by false true = refl
+      by false false = refl
+
+  module _ (m : Meaning) (l : Layout) (rs : List Request) (r : ℕ) (y : PartState) (x : Spot × Access) where
+    pub outside_stays : (kind : EventKind) → changes_outside kind ≡ false → outside_ask m l rs r kind y ≡ Some x → Stays x
+    outside_stays kinds.EnterLoad no_change e = loaded _ x (outside.enter_load_asked y.stage x e).1
+    outside_stays kinds.Announce no_change e = subst Stays (outside.announce_asked r y.stage x e).2 refl
+    outside_stays kinds.EnterAgain no_change e = loaded _ x (outside.enter_again_asked y.stage x e).1
+    outside_stays kinds.Idle no_change e = subst Stays (outside.idle_asked r y x e).3 refl
+    outside_stays kinds.ScanEpoch no_change e = loaded _ x (outside.enter_load_asked y.stage x e).1
+    outside_stays (kinds.ScanOne n) no_change e = loaded _ x (outside.scan_one_asked l n y.stage x e).4
+    outside_stays kinds.Advance no_change e = subst Stays (outside.advance_asked l y.stage x e).5 refl
+    outside_stays kinds.Split no_change e = loaded _ x (outside.split_asked l r y x e)
+    outside_stays (kinds.Join worker) no_change e = loaded _ x (if_some _ _ x e).1
+    outside_stays (kinds.LoadCell (Some place)) no_change e = loaded _ x (outside.read_asked m place y x e).2
+    outside_stays (kinds.LoadEntry request reply) no_change e = loaded _ x (outside.entry_asked request reply y x e)
+    outside_stays (kinds.PrivateLoad slot word) no_change e = let h = outside.private_load_asked m l slot word y x e in loaded h.0 x h.1
+    outside_stays (kinds.PrivateStore slot word number) no_change e =
+        subst Stays (outside.private_store_asked m l slot word number y x e).1 (store_stays (slot - slot_count l m.fixed_slots) word number)
+    outside_stays (kinds.Hold thunk d) no_change e = absurd (true≢false no_change)
+    outside_stays (kinds.LoadThunk (Some d)) no_change e = loaded _ x (outside.open_asked d y x e).3
+    outside_stays kinds.EpochForRetire no_change e = loaded _ x (outside.retire_asked y x e).4
+    outside_stays _ no_change e = some_none x e

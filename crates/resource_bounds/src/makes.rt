@@ -1,0 +1,37 @@
+//! The law of this crate, on a contract.
+ghost use Rattle.std.specs.Prelude.{ℕ, List};
+ghost use Rattle.map_history.specs.declared.op.Request.{Request};
+ghost use Rattle.table_words.specs.Limits.{IsWithinLimits};
+ghost use Rattle.table_words.specs.declared.layout.Layout.{Layout};
+ghost use Rattle.structure_laws.specs.Planner.{PlannerLaws};
+ghost use Rattle.machine_states.specs.World.{World};
+ghost use Rattle.machine_states.specs.Reached.{Reached};
+ghost use Rattle.machine_states.specs.Sight.{sight};
+ghost use Rattle.next_steps.specs.machine_invariant.specs.After.{AreAllowed};
+ghost use Rattle.resource_bounds.specs.Makes.{MakesAreCounted, FewAreAdded};
+
+use structure_laws::Structure;
+
+/// In every state that the machine reaches, over a structure that gives what planners need: where no lock is held, each
+/// worker's free, looked at, waiting and worn node slots, with two for each request that added a pair, are at least as
+/// many as the layout gives it. For each Make that won used up one slot, sections that left won none, and of each
+/// request one section at most has won any: one that is done and answered that it added a pair.
+pub fn makes_are_counted<S: Structure>(structure: &S)
+    ensures { (per_pair : ℕ) (layout : Layout) (requests : List Request) (w : World)
+        → PlannerLaws (S.meaning structure.now) per_pair
+        → IsWithinLimits layout → AreAllowed requests → Reached (S.meaning structure.now) layout requests w
+        → MakesAreCounted (S.meaning structure.now) layout requests
+        (sight (S.meaning structure.now) layout requests w) }
+{
+    let _ = structure;
+}
+
+/// In every state that the machine reaches, over a structure that serves a map, no more requests have the reply that a
+/// pair was added than are inserts.
+pub fn few_pairs_are_added<S: Structure>(structure: &S)
+    ensures { (layout : Layout) (requests : List Request) (w : World) → IsWithinLimits layout → AreAllowed requests
+        → Reached (S.meaning structure.now) layout requests w
+        → FewAreAdded (S.meaning structure.now) requests (sight (S.meaning structure.now) layout requests w) }
+{
+    let _ = structure;
+}

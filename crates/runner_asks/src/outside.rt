@@ -1,0 +1,307 @@
+//! Which word an event outside a run meets, and how.
+ghost use Rattle.std.specs.Prelude.{◌≡◌, ◌≤◌, ◌<◌, ◌-◌, ◌^◌};
+ghost use Rattle.table_words.specs.Limits.{IsWithinLimits};
+ghost use Rattle.table_words.specs.Places.{slot_count, descriptor_count};
+ghost use Rattle.body_terms.specs.Word.{held_word, version_of};
+ghost use Rattle.body_terms.specs.Memory.{cell_of};
+ghost use Rattle.runner_parts.specs.Tests.{is_open, serves};
+ghost use Rattle.runner_steps.specs.Outside.{enter_load_ask, announce_ask, enter_again_ask, idle_ask, scan_one_ask, advance_ask, split_ask, join_ask, read_ask, entry_ask, descriptor_spot, private_load_ask, private_store_ask, is_due, is_publishable, is_ready, hold_ask, open_ask, is_over, retire_ask};
+
+use crate::knowledge::{is_next, is_open, is_outside, is_readable, is_resting, is_walking};
+use crate::stores::is_prepared;
+use body_terms::{Place, Thunk, Word};
+use epoch_core::{LAST_EPOCH, Stage};
+use map_history::Request;
+use runner_parts::{Part, Published, Reads, Records, has};
+use runner_steps::{cell_place, descriptor_count, descriptor_spot, held_word, slot_count};
+use structure_laws::Structure;
+use table_words::{Access, Layout, Spot};
+
+pub fn enter_load_ask(stage: Stage) -> Option<(Spot, Access)>
+    ensures { result ≡ enter_load_ask stage }
+{
+    match stage {
+        Stage::Idle => Some((Spot::Epoch, Access::Loads)),
+        _ => None,
+    }
+}
+
+pub fn announce_ask(runner: u32, stage: Stage) -> Option<(Spot, Access)>
+    ensures { result ≡ announce_ask runner stage }
+{
+    match stage {
+        Stage::Loaded(epoch) => Some((Spot::Announcement(runner), Access::Stores(epoch))),
+        _ => None,
+    }
+}
+
+pub fn enter_again_ask(stage: Stage) -> Option<(Spot, Access)>
+    ensures { result ≡ enter_again_ask stage }
+{
+    match stage {
+        Stage::Announced => Some((Spot::Epoch, Access::Loads)),
+        _ => None,
+    }
+}
+
+pub fn scan_one_ask(layout: Layout, runner: u32, stage: Stage) -> Option<(Spot, Access)>
+    ensures { result ≡ scan_one_ask layout runner stage }
+{
+    match stage {
+        Stage::Scanning {
+            epoch: _,
+            next,
+            clear: _,
+        } if runner == next && next <= layout.runners => {
+            Some((Spot::Announcement(runner), Access::Loads))
+        }
+        _ => None,
+    }
+}
+
+pub fn advance_ask(layout: Layout, stage: Stage) -> Option<(Spot, Access)>
+    ensures { result ≡ advance_ask layout stage }
+{
+    match stage {
+        Stage::Scanning { epoch, next, clear }
+            if layout.runners < next && clear && epoch < LAST_EPOCH => {
+            Some((Spot::Epoch, Access::Exchanges(epoch, epoch + 1)))
+        }
+        _ => None,
+    }
+}
+
+/// Whether a published section was run to its end.
+fn is_over(published: Option<Published>) -> bool
+    ensures { result ≡ is_over published }
+{
+    match published {
+        None => false,
+        Some(section) => section.over,
+    }
+}
+
+pub fn idle_ask(part: &Part, runner: u32) -> Option<(Spot, Access)>
+    ensures { result ≡ idle_ask runner part.now }
+{
+    if is_walking(part.stage, &part.run) && part.published.is_none() {
+        Some((Spot::Announcement(runner), Access::Stores(0)))
+    } else {
+        None
+    }
+}
+
+pub fn split_ask(part: &Part, layout: Layout, runner: u32) -> Option<(Spot, Access)>
+    ensures { result ≡ split_ask layout runner part.now }
+{
+    if runner == layout.runners && is_outside(&part.run) && part.records.splits < layout.runners {
+        Some((Spot::Seat, Access::Loads))
+    } else {
+        None
+    }
+}
+
+pub fn join_ask(part: &Part, layout: Layout, runner: u32, worker: u32) -> Option<(Spot, Access)>
+    ensures { result ≡ join_ask layout runner worker part.now }
+{
+    let fresh = worker < layout.runners && !has(&part.records.joined, worker);
+    if runner == layout.runners && is_outside(&part.run) && fresh {
+        Some((Spot::Seat, Access::Loads))
+    } else {
+        None
+    }
+}
+
+pub fn read_ask<S: Structure>(part: &Part, structure: &S, place: Place) -> Option<(Spot, Access)>
+    ensures { result ≡ read_ask (S.meaning structure.now) place part.now }
+{
+    if is_walking(part.stage, &part.run) && is_readable(structure, &part.reads.walk, place) {
+        Some((Spot::Cell(place), Access::Loads))
+    } else {
+        None
+    }
+}
+
+pub fn entry_ask(part: &Part, request: u32, reply: bool) -> Option<(Spot, Access)>
+    ensures { result ≡ entry_ask request reply part.now }
+{
+    if !is_resting(part.stage, &part.run) {
+        None
+    } else if reply {
+        Some((Spot::Reply(request), Access::Loads))
+    } else {
+        Some((Spot::Stamp(request), Access::Loads))
+    }
+}
+
+pub fn private_load_ask<S: Structure>(
+    part: &Part,
+    structure: &S,
+    layout: Layout,
+    slot: u32,
+    word: u32,
+) -> Option<(Spot, Access)>
+    requires { IsWithinLimits layout }
+    ensures { result ≡ private_load_ask (S.meaning structure.now) layout slot word part.now }
+{
+    let slots = slot_count(structure, layout);
+    let resting = is_resting(part.stage, &part.run);
+    if slot < slots {
+        let own = has(&part.nodes.free, slot) || has(&part.nodes.hand, slot);
+        if resting && word < 5 && own {
+            let place = cell_place(structure, layout, slot, word);
+            return Some((Spot::Cell(place), Access::Loads));
+        }
+    } else if resting && has(&part.descriptors.free, slot - slots) {
+        return Some((descriptor_spot(slot - slots, word), Access::Loads));
+    }
+    None
+}
+
+pub fn private_store_ask<S: Structure>(
+    part: &Part,
+    structure: &S,
+    layout: Layout,
+    slot: u32,
+    word: u32,
+    number: u64,
+) -> Option<(Spot, Access)>
+    requires { IsWithinLimits layout }
+    ensures { result ≡ private_store_ask (S.meaning structure.now) layout slot word number part.now }
+{
+    let slots = slot_count(structure, layout);
+    if slots <= slot
+        && is_resting(part.stage, &part.run)
+        && has(&part.descriptors.free, slot - slots)
+    {
+        Some((descriptor_spot(slot - slots, word), Access::Stores(number)))
+    } else {
+        None
+    }
+}
+
+pub fn open_ask(part: &Part, descriptor: u32) -> Option<(Spot, Access)>
+    ensures { result ≡ open_ask descriptor part.now }
+{
+    if is_walking(part.stage, &part.run) && has(&part.reads.held, descriptor) {
+        Some((Spot::ThunkWord(descriptor, 0), Access::Loads))
+    } else {
+        None
+    }
+}
+
+pub fn retire_ask(part: &Part) -> Option<(Spot, Access)>
+    ensures { result ≡ retire_ask part.now }
+{
+    if is_walking(part.stage, &part.run) && is_over(part.published) {
+        Some((Spot::Epoch, Access::Loads))
+    } else {
+        None
+    }
+}
+
+/// Whether the thunk may be published: it serves the worker's next request, its lock's word was read free, and no
+/// section is left to retire.
+pub fn is_publishable<S: Structure>(
+    part: &Part,
+    structure: &S,
+    layout: Layout,
+    requests: &[Request],
+    runner: u32,
+    thunk: &Thunk,
+) -> bool
+    requires { 1 ≤ layout.runners }
+    ensures { result ≡ is_publishable (S.meaning structure.now) layout requests.now runner thunk.now part.now }
+{
+    is_walking(part.stage, &part.run)
+        && part.published.is_none()
+        && is_read_open(layout, &part.reads, thunk)
+        && is_due(
+            structure,
+            layout,
+            requests,
+            runner,
+            &part.records,
+            &part.reads,
+            thunk,
+        )
+}
+
+/// Whether the own free descriptor's words were stored with this thunk.
+pub fn is_ready(part: &Part, layout: Layout, descriptor: u32, thunk: &Thunk) -> bool
+    requires { IsWithinLimits layout }
+    ensures { result ≡ is_ready layout part.now descriptor thunk.now }
+{
+    let operands: &[u64] = &thunk.operands;
+    descriptor < descriptor_count(layout)
+        && has(&part.descriptors.free, descriptor)
+        && operands.len() == 8
+        && is_prepared(&part.descriptors.stored, descriptor, thunk)
+}
+
+pub fn hold_ask<S: Structure>(
+    part: &Part,
+    structure: &S,
+    layout: Layout,
+    requests: &[Request],
+    runner: u32,
+    thunk: &Thunk,
+    descriptor: u32,
+) -> Option<(Spot, Access)>
+    requires { IsWithinLimits layout }
+    ensures { result ≡ hold_ask (S.meaning structure.now) layout requests.now runner thunk.now descriptor part.now }
+{
+    if is_ready(part, layout, descriptor, thunk)
+        && is_publishable(part, structure, layout, requests, runner, thunk)
+    {
+        let held = held_word(descriptor, thunk.word);
+        Some((
+            Spot::Cell(thunk.lock),
+            Access::Exchanges(thunk.word.bits(), held.bits()),
+        ))
+    } else {
+        None
+    }
+}
+
+/// Whether the thunk serves this request by these readings.
+fn serves<S: Structure>(
+    structure: &S,
+    layout: Layout,
+    walk: &[(Place, Word)],
+    thunk: &Thunk,
+    request: Option<Request>,
+) -> bool
+    ensures { result ≡ serves (S.meaning structure.now) layout walk.now thunk.now request }
+{
+    match request {
+        None => false,
+        Some(next) => structure.fits(layout, next.op, walk, thunk),
+    }
+}
+
+/// Whether the thunk's lock was read free, with a version left to take and release it.
+fn is_read_open(layout: Layout, reads: &Reads, thunk: &Thunk) -> bool
+    ensures { result ≡ is_open layout reads.now.cells thunk.now }
+{
+    is_open(layout, &reads.cells, thunk)
+}
+
+/// Whether the thunk serves the worker's next request.
+fn is_due<S: Structure>(
+    structure: &S,
+    layout: Layout,
+    requests: &[Request],
+    runner: u32,
+    records: &Records,
+    reads: &Reads,
+    thunk: &Thunk,
+) -> bool
+    requires { 1 ≤ layout.runners }
+    ensures { result ≡ is_due (S.meaning structure.now) layout requests.now runner records.now.known reads.now.walk
+        thunk.now }
+{
+    let request = requests.get(thunk.request as usize).copied();
+    is_next(layout, runner, requests, &records.known, request)
+        && serves(structure, layout, &reads.walk, thunk, request)
+}

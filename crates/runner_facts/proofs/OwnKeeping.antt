@@ -1,0 +1,200 @@
+-- What each step of a runner leaves of where its descriptors are.
+use Rattle.std.specs.Prelude.{◌==◌, ◌&&◌, ◌||◌, ◌⊎◌, not, nat_lt, nat_le, Bool, true, false, if◌then◌else◌}
+use Rattle.std.specs.List.{filter}
+use Rattle.std.proofs.Common.{◌≡◌, ◌≢◌, ℕ, ◌+◌, List, [], ◌∷◌, ◌++◌, refl, sym, ap, ◌∙◌, inl, inr, ⊎_elim, arith, Option, Some, None}
+use Rattle.std.proofs.lemmas.Bool.{cases_eq}
+use Rattle.std.proofs.lemmas.Bool.Decides.{nat_tests}
+use Rattle.small_lemmas.proofs.Bools.{or_true as or_right}
+use Rattle.small_lemmas.proofs.Numbers.{equal_tested as same_number}
+use Rattle.body_terms.specs.Line.{is_end}
+use Rattle.body_terms.specs.declared.micro.Micro.{Micro}
+use Rattle.body_terms.specs.declared.thunk.Thunk.{Thunk}
+use Rattle.table_words.specs.declared.layout.Layout.{Layout}
+use Rattle.table_words.specs.Places.{slot_count}
+use Rattle.structure_laws.specs.Meaning.{Meaning}
+use Rattle.epoch_core.specs.Moves.{is_clear}
+use Rattle.runner_parts.specs.declared.entries.Published.{Published}
+use Rattle.runner_parts.specs.declared.entries.Retired.{Retired}
+use Rattle.epoch_core.specs.declared.stage.Stage.{Stage}
+use Rattle.epoch_core.specs.declared.stage.Stage.TheVariants as stages
+use Rattle.runner_parts.specs.declared.event.EventKind.{EventKind}
+use Rattle.runner_parts.specs.declared.event.EventKind.TheVariants as kinds
+use Rattle.runner_parts.specs.State.{RunState, PartState}
+use Rattle.runner_parts.specs.Lists.{without, is_old, slots_of}
+use Rattle.runner_parts.specs.Tests.{has}
+use Rattle.runner_steps.specs.Sections.{is_open_run, next_of}
+use Rattle.epoch_core.specs.State.{last_epoch}
+use Rattle.runner_steps.specs.InRun.{last_clock}
+use Rattle.runner_steps.specs.AfterInRun as inside
+use Rattle.runner_steps.specs.AfterOutside as outside
+use Rattle.runner_steps.specs.After.{line_after, inside_after, outside_after}
+use Rattle.machine_states.proofs.Steps.{some_same, none_some}
+use Rattle.machine_epochs.proofs.Places.{has_append}
+use Rattle.runner_facts.specs.Own.{HasOwn}
+
+-- what stands in a list stands there still where it isn't the number that is taken out
+without_has : (xs : List ℕ) (d d0 : ℕ) → d ≢ d0 → has xs d ≡ true → has (without xs d0) d ≡ true
+without_has [] d d0 ne h = h
+without_has (x ∷ xs) d d0 ne h = by (x == d0) refl (x == d) refl h (without_has xs d d0 ne)
+  where
+    clash : (x d d0 : ℕ) → (x == d0) ≡ true → (x == d) ≡ true → d ≡ d0
+    clash x d d0 a b = grind (arith, nat_tests)
+
+    by : (a : Bool) → (x == d0) ≡ a → (b : Bool) → (x == d) ≡ b → (b || has xs d) ≡ true → (has xs d ≡ true → has (without xs d0) d ≡ true)
+        → has (if not a then x ∷ without xs d0 else without xs d0) d ≡ true
+    by true ea true eb h rest = absurd (ne (clash x d d0 ea eb))
+    by true ea false eb h rest = rest h
+    by false ea true eb h rest = ap (λ c. c || has (without xs d0) d) eb
+    by false ea false eb h rest = ap (λ c. c || has (without xs d0) d) eb ∙ rest h
+
+-- of a list of entries each is among those that pass a test or among the others
+split_has : (f : Retired → Bool) (xs : List Retired) (d : ℕ) → has (slots_of xs) d ≡ true
+    → (has (slots_of (filter f xs)) d ≡ true) ⊎ (has (slots_of (filter (λ x. not (f x)) xs)) d ≡ true)
+split_has f [] d h = inl h
+split_has f (x ∷ xs) d h = by (f x) refl (x.slot == d) refl h (split_has f xs d)
+  where
+    more : (c : Bool) (ys : List Retired) → has (slots_of ys) d ≡ true → has (slots_of (if c then x ∷ ys else ys)) d ≡ true
+    more true ys e = ap (λ b. (x.slot == d) || b) e ∙ or_right (x.slot == d)
+    more false ys e = e
+
+    by : (c : Bool) → f x ≡ c → (b : Bool) → (x.slot == d) ≡ b → (b || has (slots_of xs) d) ≡ true
+        → (has (slots_of xs) d ≡ true → (has (slots_of (filter f xs)) d ≡ true) ⊎ (has (slots_of (filter (λ y. not (f y)) xs)) d ≡ true))
+        → (has (slots_of (if c then x ∷ filter f xs else filter f xs)) d ≡ true)
+        ⊎ (has (slots_of (if not c then x ∷ filter (λ y. not (f y)) xs else filter (λ y. not (f y)) xs)) d ≡ true)
+    by true ec true eb h rest = inl (ap (λ a. a || has (slots_of (filter f xs)) d) eb)
+    by false ec true eb h rest = inr (ap (λ a. a || has (slots_of (filter (λ y. not (f y)) xs)) d) eb)
+    by c ec false eb h rest = ⊎_elim (λ e. inl (more c (filter f xs) e)) (λ e. inr (more (not c) (filter (λ y. not (f y)) xs) e)) (rest h)
+
+module _ (m : Meaning) (l : Layout) (d : ℕ) (p : PartState) (found : ℕ) where
+  -- the descriptor stays with the runner
+  pub record Keeps (p' : PartState) : Type 0 where
+    pub own : HasOwn p d → HasOwn p' d
+
+  same : (p' : PartState) → p'.descriptors.free ≡ p.descriptors.free → p'.descriptors.limbo ≡ p.descriptors.limbo → p'.published ≡ p.published → Keeps p'
+  same p' free limbo published = record {
+    own = λ own. ⊎_elim (λ h. inl (ap (λ xs. has xs d) free ∙ h))
+        (λ more. ⊎_elim (λ h. inr (inl (ap (λ xs. has (slots_of xs) d) limbo ∙ h))) (λ h. inr (inr (h.0, published ∙ h.1, h.2))) more) own;
+  }
+
+  either : (b : Bool) (y z : PartState) → Keeps y → Keeps z → Keeps (if b then y else z)
+  either true y z one two = one
+  either false y z one two = two
+
+  over : (o : Option Published) (d0 : ℕ) (x : Published) → o ≡ Some x → x.descriptor ≡ d
+      → (y : Published) × (inside.over_if o d0 ≡ Some y) × (y.descriptor ≡ d)
+  over None d0 x is at = absurd (none_some x (sym is))
+  over (Some y) d0 x is at = (_, refl, ap (λ (z : Published). z.descriptor) (some_same y x is) ∙ at)
+
+  module _ (q : RunState) where
+    fill : (slot : ℕ) (made : Option ℕ) → Keeps (inside.fill_loaded m l slot p q made found)
+    fill slot None = same _ refl refl refl
+    fill slot (Some t) = same _ refl refl refl
+
+    make : (made : Option ℕ) → Keeps (inside.make_committed m l p q made found)
+    make None = same p refl refl refl
+    make (Some t) = same _ refl refl refl
+
+    released : (place : ℕ) → Keeps (inside.lock_released m l place p q found)
+    released place = either (is_end (next_of m (inside.ended_more q))) _ _
+        (record { own = λ own. ⊎_elim (λ h. inl h) (λ more. ⊎_elim (λ h. inr (inl h)) (λ h. inr (inr (over p.published q.descriptor h.0 h.1 h.2))) more) own })
+        (same _ refl refl refl)
+
+    line_keeps : (kind : EventKind) (micro : Micro) → Keeps (line_after m l kind p q micro found)
+    line_keeps kinds.Commit micro = either (inside.is_of_lock micro) _ _ (same _ refl refl refl) (same _ refl refl refl)
+    line_keeps (kinds.LoadCell place) micro = same _ refl refl refl
+    line_keeps kinds.ExchangeCell micro = same _ refl refl refl
+    line_keeps (kinds.PrivateLoad slot word) micro = fill slot q.made
+    line_keeps (kinds.PrivateStore slot word number) micro = same _ refl refl refl
+    line_keeps kinds.MakeCommit micro = make q.made
+    line_keeps kinds.RetireCommit micro = same _ refl refl refl
+    line_keeps kinds.EpochForRetire micro = same _ refl refl refl
+    line_keeps kinds.SetDone micro = same _ refl refl refl
+    line_keeps kinds.Release micro = released (inside.place_of micro)
+    line_keeps kinds.ClockLoad micro = same _ refl refl refl
+    line_keeps kinds.StampExchange micro = either (nat_lt q.word last_clock) _ _ (same _ refl refl refl) (same p refl refl refl)
+    line_keeps kinds.ClockRaise micro = same _ refl refl refl
+    line_keeps kinds.ReplyExchange micro = same _ refl refl refl
+    line_keeps kinds.NestedLoad micro = same _ refl refl refl
+    line_keeps kinds.NestedHold micro = same _ refl refl refl
+    line_keeps kinds.OutcomeLoad micro = same _ refl refl refl
+    line_keeps kinds.OutcomeCommit micro = same _ refl refl refl
+    line_keeps kind micro = same p refl refl refl
+
+    pub inside_keeps : (kind : EventKind) → Keeps (inside_after m l kind p q found)
+    inside_keeps kind = either (is_open_run q) _ _ (line_keeps kind (next_of m q)) (same _ refl refl refl)
+
+  -- the end of a scan moves descriptors from limbo to the free list
+  collected : (epoch : ℕ) → Keeps (outside.collected p epoch)
+  collected epoch = record {
+    own = λ own. ⊎_elim
+        (λ h. inl (has_append p.descriptors.free (slots_of (filter (is_old epoch) p.descriptors.limbo)) d ∙ ap (λ b. b || has (slots_of (filter (is_old epoch) p.descriptors.limbo)) d) h))
+        (λ more. ⊎_elim
+        (λ h. ⊎_elim
+        (λ old. inl (has_append p.descriptors.free (slots_of (filter (is_old epoch) p.descriptors.limbo)) d
+        ∙ (ap (λ b. has p.descriptors.free d || b) old ∙ or_right (has p.descriptors.free d))))
+        (λ young. inr (inl young)) (split_has (is_old epoch) p.descriptors.limbo d h))
+        (λ h. inr (inr h)) more) own;
+  }
+
+  scan : (stage : Stage) → Keeps (outside.scan_one_after l p stage found)
+  scan (stages.Scanning x next clear) = either (nat_le next l.runners) _ _
+      (either (next == l.runners && not ((clear && is_clear x found) && nat_lt x last_epoch)) _ _ (collected x) (same _ refl refl refl)) (same p refl refl refl)
+  scan _ = same p refl refl refl
+
+  advance : (stage : Stage) → Keeps (outside.advance_after p stage)
+  advance (stages.Scanning x next clear) = either (nat_lt x last_epoch) _ _ (collected (x + 1)) (same p refl refl refl)
+  advance _ = same p refl refl refl
+
+  -- a section that is retired goes from published into limbo
+  retire : (o : Option Published) → p.published ≡ o → Keeps (outside.retire_after p o found)
+  retire None is = same p refl refl refl
+  retire (Some x) is = record {
+    own = λ own. ⊎_elim (λ h. inl h)
+        (λ more. ⊎_elim
+        (λ h. inr (inl (appended p.descriptors.limbo (record { slot = x.descriptor; epoch = found }) d ∙ ap (λ b. b || (x.descriptor == d || false)) h)))
+        (λ h. inr (inl (appended p.descriptors.limbo (record { slot = x.descriptor; epoch = found }) d ∙ (ap (λ b. has (slots_of p.descriptors.limbo) d || (b || false))
+        (same_number x.descriptor d (ap (λ (z : Published). z.descriptor) (some_same x h.0 (sym is ∙ h.1)) ∙ h.2))
+        ∙ or_right (has (slots_of p.descriptors.limbo) d))))) more) own;
+  }
+    where
+      appended : (xs : List Retired) (y : Retired) (d : ℕ) → has (slots_of (xs ++ y ∷ [])) d ≡ (has (slots_of xs) d || (y.slot == d || false))
+      appended [] y d = refl
+      appended (x ∷ xs) y d = ap (λ b. (x.slot == d) || b) (appended xs y d) ∙ or_assoc (x.slot == d) (has (slots_of xs) d) (y.slot == d || false)
+        where
+          or_assoc : (a b c : Bool) → (a || (b || c)) ≡ ((a || b) || c)
+          or_assoc true b c = refl
+          or_assoc false b c = refl
+
+  -- a published descriptor leaves the free list
+  hold : (t : Thunk) (d0 : ℕ) → p.published ≡ None → Keeps (outside.hold_after t d0 p found)
+  hold t d0 none = either (found == t.word) _ _
+      (record {
+        own = λ own. ⊎_elim
+            (λ h. ⊎_elim (λ e. inr (inr (outside.published_by t d0 p, refl, sym e))) (λ ne. inl (without_has p.descriptors.free d d0 ne h)) (cases_eq d d0))
+            (λ more. ⊎_elim (λ h. inr (inl h)) (λ h. absurd (none_some h.0 (sym h.1 ∙ none))) more) own;
+      })
+      (same _ refl refl refl)
+
+  -- a publication comes where nothing is published
+  abbrev pub MayHold : EventKind → Type 0
+  MayHold (kinds.Hold t d0) = p.published ≡ None
+  MayHold _ = Unit {0}
+
+  pub outside_keeps : (kind : EventKind) → MayHold kind → Keeps (outside_after m l kind p found)
+  outside_keeps kinds.EnterLoad may = same _ refl refl refl
+  outside_keeps kinds.Announce may = same _ refl refl refl
+  outside_keeps kinds.EnterAgain may = same _ refl refl refl
+  outside_keeps kinds.Idle may = same _ refl refl refl
+  outside_keeps kinds.ScanEpoch may = same _ refl refl refl
+  outside_keeps (kinds.ScanOne n) may = scan p.stage
+  outside_keeps kinds.Advance may = advance p.stage
+  outside_keeps kinds.Split may = either (nat_lt p.records.splits l.runners) _ _ (same _ refl refl refl) (same p refl refl refl)
+  outside_keeps (kinds.Join worker) may = same _ refl refl refl
+  outside_keeps (kinds.LoadCell (Some place)) may = same _ refl refl refl
+  outside_keeps (kinds.LoadEntry request reply) may = same _ refl refl refl
+  outside_keeps (kinds.PrivateLoad slot word) may = either (nat_lt slot (slot_count l m.fixed_slots)) _ _ (same _ refl refl refl) (same _ refl refl refl)
+  outside_keeps (kinds.PrivateStore slot word number) may = same _ refl refl refl
+  outside_keeps (kinds.Hold t d0) may = hold t d0 may
+  outside_keeps (kinds.LoadThunk (Some d0)) may = same _ refl refl refl
+  outside_keeps kinds.EpochForRetire may = retire p.published refl
+  outside_keeps kind may = same p refl refl refl

@@ -1,0 +1,83 @@
+//! How many words the table has and where some of them stand, and the words that runners put there.
+ghost use Rattle.std.specs.Prelude.{◌≡◌, ◌<◌, ◌≤◌, ◌-◌, ◌^◌, length};
+ghost use Rattle.table_words.specs.Limits.{IsWithinLimits};
+ghost use Rattle.table_words.specs.Places.{slot_count, descriptor_count};
+ghost use Rattle.body_terms.specs.Memory.{cell_of};
+ghost use Rattle.body_terms.specs.Run.{written_once};
+ghost use Rattle.body_terms.specs.Word.{held_word, version_of};
+ghost use Rattle.runner_steps.specs.Asks.{sizes_for};
+ghost use Rattle.runner_steps.specs.Outside.{descriptor_spot};
+
+use body_terms::{Place, Word};
+use map_history::Request;
+use structure_laws::Structure;
+use table_words::{Layout, Sizes, Spot};
+
+/// How many words of each kind the table has.
+pub fn sizes_for<S: Structure>(structure: &S, layout: Layout, requests: &[Request]) -> Sizes
+    requires limits { IsWithinLimits layout }
+    requires few { length requests.now ≤ 131072 }
+    ensures { result ≡ sizes_for (S.meaning structure.now) layout requests.now }
+{
+    let fixed_cells = structure.fixed_cells();
+    let fixed_slots = structure.fixed_slots();
+    Sizes::of(layout, requests.len() as u32, fixed_cells, fixed_slots)
+}
+
+/// The number of all node slots.
+pub fn slot_count<S: Structure>(structure: &S, layout: Layout) -> u32
+    requires { IsWithinLimits layout }
+    ensures { result ≡ slot_count layout (S.meaning structure.now).fixed_slots }
+{
+    structure.fixed_slots() + layout.nodes * layout.runners + (2 * layout.runners + 2)
+}
+
+/// The number of all descriptors.
+pub fn descriptor_count(layout: Layout) -> u32
+    requires { IsWithinLimits layout }
+    ensures { result ≡ descriptor_count layout }
+{
+    layout.sections * layout.runners + layout.runners
+}
+
+/// The place of a cell of a node slot.
+pub fn cell_place<S: Structure>(structure: &S, layout: Layout, slot: u32, cell: u32) -> Place
+    requires limits { IsWithinLimits layout }
+    requires slot { slot < slot_count layout (S.meaning structure.now).fixed_slots }
+    requires cell { cell < 5 }
+    ensures { result ≡ cell_of (S.meaning structure.now).fixed_cells slot cell }
+{
+    structure.fixed_cells() + 5 * slot + cell
+}
+
+/// Where a descriptor's word stands: the thunk words, the done word, the log.
+#[inline(always)]
+pub fn descriptor_spot(descriptor: u32, word: u32) -> Spot
+    ensures { result ≡ descriptor_spot descriptor word }
+{
+    if word < 12 {
+        Spot::ThunkWord(descriptor, word)
+    } else if word == 12 {
+        Spot::DoneWord(descriptor)
+    } else {
+        Spot::LogWord(descriptor, word - 13)
+    }
+}
+
+/// The word of a lock that was free with this word, once the descriptor's section holds it.
+#[inline(always)]
+pub fn held_word(descriptor: u32, free: Word) -> Word
+    requires descriptor { descriptor < 2 ^ 32 - 1 }
+    requires version { version_of free < 2 ^ 32 - 1 }
+    ensures { result ≡ held_word descriptor free }
+{
+    Word::pack(descriptor + 1, free.version() + 1)
+}
+
+/// What then stands in a word that was exchanged from 0: what stood there, or else the proposal.
+#[inline(always)]
+pub fn agreed_on(found: u64, proposal: u64) -> u64
+    ensures { result ≡ written_once found proposal }
+{
+    if found == 0 { proposal } else { found }
+}

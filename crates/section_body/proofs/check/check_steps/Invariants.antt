@@ -1,6 +1,0 @@
-use Rattle.std.proofs.Common.{◌≡◌, ℕ, ◌<◌, None}
-use Rattle.section_body.specs.Fault.{fault_at}
-use Rattle.section_body.proofs.check.check_steps.Given as goal
-
-abbrev pub invariant-loop-at : goal.invariant-loop-at
-invariant-loop-at l = (i : ℕ) → i < l.at → fault_at l.steps i ≡ None

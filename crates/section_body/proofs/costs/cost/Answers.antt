@@ -1,9 +1,0 @@
-use Rattle.std.proofs.Common.{arith}
-use Rattle.section_body.proofs.CostLemmas.{whole_run, part_run}
-use Rattle.section_body.proofs.costs.cost.Goals as goal
-
-pub returns-clause-whole : goal.returns-clause-whole
-returns-clause-whole c = λ lock word. let whole = whole_run c.args.body.now lock word in grind arith
-
-pub returns-clause-most : goal.returns-clause-most
-returns-clause-most c = λ at lock word. let most = part_run c.args.body.now at lock word in grind arith

@@ -1,4 +1,0 @@
-pub mod Quiet
-mod Lists
-mod Live
-pub mod Reached

@@ -1,4 +1,0 @@
-mod Recent
-mod Along
-mod Scanned
-mod Attempted

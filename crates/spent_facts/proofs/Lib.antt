@@ -1,4 +1,0 @@
-mod Leaving
-pub mod Agreed
-pub mod Kept
-pub mod Reached

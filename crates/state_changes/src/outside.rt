@@ -1,0 +1,271 @@
+//! What an event outside a run makes of the part.
+ghost use Rattle.std.specs.Prelude.{◌≡◌, ◌≤◌, ◌<◌, ◌^◌, OnOk};
+ghost use Rattle.table_words.specs.Limits.{IsWithinLimits};
+ghost use Rattle.runner_steps.specs.AfterOutside.{with_stage, entered, collected, scanned, scan_one_after, advance_after, split_after, read_after, entry_after, private_load_after, private_store_after, published_by, hold_after, open_after, retire_after};
+ghost use Rattle.runner_parts.specs.Lists.{no_reads};
+ghost use Rattle.runner_steps.specs.After.{joins, outside_after};
+
+use body_terms::{Place, Thunk};
+use epoch_core::{LAST_EPOCH, Stage};
+use runner_parts::{EventKind, Part, Published, Reads, Run};
+use runner_steps::slot_count;
+use std::alloc::{AllocError, Global};
+use structure_laws::Structure;
+use table_words::Layout;
+
+/// Nothing has been read yet.
+fn no_reads(alloc: Global) -> Reads
+    ensures { result ≡ no_reads }
+{
+    Reads {
+        walk: Vec::new(alloc),
+        cells: Vec::new(alloc),
+        held: Vec::new(alloc),
+        published: Vec::new(alloc),
+    }
+}
+
+/// A scan is over, and this epoch was reached.
+fn collect(part: &mut Part, alloc: Global, epoch: u64) -> Result<(), AllocError>
+    ensures { OnOk result (part.new ≡ collected part.old epoch) }
+{
+    part.nodes.collect(alloc, epoch)?;
+    part.descriptors.collect(alloc, epoch)?;
+    part.stage = Stage::Idle;
+    Ok(())
+}
+
+/// After the last announcement the scan is over, unless an advance may be tried.
+fn scanned(
+    part: &mut Part,
+    alloc: Global,
+    layout: Layout,
+    epoch: u64,
+    next: u32,
+    clear: bool,
+) -> Result<(), AllocError>
+    requires limits { layout.runners < 2 ^ 31 }
+    requires next { next ≤ layout.runners }
+    ensures { OnOk result (part.new ≡ scanned layout part.old epoch next clear) }
+{
+    if next == layout.runners && !(clear && epoch < LAST_EPOCH) {
+        collect(part, alloc, epoch)
+    } else {
+        part.stage = Stage::Scanning {
+            epoch,
+            next: next + 1,
+            clear,
+        };
+        Ok(())
+    }
+}
+
+fn scan_one(part: &mut Part, alloc: Global, layout: Layout, found: u64) -> Result<(), AllocError>
+    requires { layout.runners < 2 ^ 31 }
+    ensures { OnOk result (part.new ≡ scan_one_after layout part.old part.old.stage found) }
+{
+    match part.stage {
+        Stage::Scanning { epoch, next, clear } => {
+            if next <= layout.runners {
+                let still = clear && (found == 0 || found == epoch);
+                scanned(part, alloc, layout, epoch, next, still)
+            } else {
+                Ok(())
+            }
+        }
+        _ => Ok(()),
+    }
+}
+
+fn advanced(part: &mut Part, alloc: Global) -> Result<(), AllocError>
+    ensures { OnOk result (part.new ≡ advance_after part.old part.old.stage) }
+{
+    match part.stage {
+        Stage::Scanning {
+            epoch,
+            next: _,
+            clear: _,
+        } => {
+            if epoch < LAST_EPOCH {
+                collect(part, alloc, epoch + 1)
+            } else {
+                Ok(())
+            }
+        }
+        _ => Ok(()),
+    }
+}
+
+fn split(part: &mut Part, layout: Layout)
+    ensures { part.new ≡ split_after layout part.old }
+{
+    if part.records.splits < layout.runners {
+        part.records.splits += 1;
+    }
+}
+
+fn joined(part: &mut Part, worker: u32) -> Result<(), AllocError>
+    ensures { OnOk result (part.new ≡ joins part.old worker) }
+{
+    part.records.joined.push(worker)?;
+    Ok(())
+}
+
+fn read<S: Structure>(
+    part: &mut Part,
+    structure: &S,
+    place: Place,
+    found: u64,
+) -> Result<(), AllocError>
+    ensures { OnOk result (part.new ≡ read_after (S.meaning structure.now) place part.old found) }
+{
+    part.reads.walk_to(structure.is_lock(place), place, found)
+}
+
+/// A cell of a node slot was looked at, or a word of an own free descriptor is known, since nobody else stores there.
+fn looked<S: Structure>(
+    part: &mut Part,
+    alloc: Global,
+    structure: &S,
+    layout: Layout,
+    slot: u32,
+    word: u32,
+    found: u64,
+) -> Result<(), AllocError>
+    requires { IsWithinLimits layout }
+    ensures { OnOk result (part.new ≡ private_load_after (S.meaning structure.now) layout slot word part.old found) }
+{
+    let slots = slot_count(structure, layout);
+    if slot < slots {
+        part.nodes.looked(alloc, layout, slot, word, found)
+    } else {
+        part.descriptors.store(slot - slots, word, found)
+    }
+}
+
+fn stored<S: Structure>(
+    part: &mut Part,
+    structure: &S,
+    layout: Layout,
+    slot: u32,
+    word: u32,
+    number: u64,
+) -> Result<(), AllocError>
+    requires { IsWithinLimits layout }
+    ensures { OnOk result (part.new ≡ private_store_after (S.meaning structure.now) layout slot word number part.old) }
+{
+    let descriptor = slot.saturating_sub(slot_count(structure, layout));
+    part.descriptors.store(descriptor, word, number)
+}
+
+/// Where the lock was free, the section is published; otherwise the descriptor stays free.
+fn held(
+    part: &mut Part,
+    alloc: Global,
+    thunk: &Thunk,
+    descriptor: u32,
+    found: u64,
+) -> Result<(), AllocError>
+    ensures { OnOk result (part.new ≡ hold_after thunk.now descriptor part.old found) }
+{
+    part.reads.cell_read(thunk.lock, found)?;
+    if found == thunk.word.bits() {
+        part.descriptors.take(alloc, descriptor)?;
+        part.published = Some(Published {
+            descriptor,
+            thunk: *thunk,
+            walked: part.reads.walk.len(),
+            known: part.records.known.len(),
+            over: false,
+        });
+        part.reads.publish(descriptor)
+    } else {
+        part.reads.hold_named(found)
+    }
+}
+
+fn opened(part: &mut Part, alloc: Global, descriptor: u32, found: u64) -> Result<(), AllocError>
+    ensures { OnOk result (part.new ≡ open_after descriptor part.old found) }
+{
+    let mut words = Vec::new(alloc);
+    words.push(found)?;
+    part.run = Some(Run {
+        descriptor,
+        opened: words,
+        at: 0,
+        word: 0,
+        trail: Vec::new(alloc),
+        made: None,
+        worn: false,
+        ended: 0,
+    });
+    Ok(())
+}
+
+/// The published section's descriptor goes into limbo.
+fn retired(part: &mut Part, found: u64) -> Result<(), AllocError>
+    ensures { OnOk result (part.new ≡ retire_after part.old part.old.published found) }
+{
+    match part.published {
+        None => Ok(()),
+        Some(section) => {
+            part.published = None;
+            part.descriptors.retire(section.descriptor, found)
+        }
+    }
+}
+
+/// The part after an event outside a run, which found this word.
+pub fn outside_after<S: Structure>(
+    part: &mut Part,
+    alloc: Global,
+    structure: &S,
+    layout: Layout,
+    kind: &EventKind,
+    found: u64,
+) -> Result<(), AllocError>
+    requires { IsWithinLimits layout }
+    ensures { OnOk result (part.new ≡ outside_after (S.meaning structure.now) layout kind.now part.old found) }
+{
+    match kind {
+        EventKind::EnterLoad => part.stage = Stage::Loaded(found),
+        EventKind::Announce => part.stage = Stage::Announced,
+        EventKind::EnterAgain => {
+            part.stage = Stage::Entered(found);
+            part.reads = no_reads(alloc);
+        }
+        EventKind::Idle => part.stage = Stage::Idle,
+        EventKind::ScanEpoch => {
+            part.stage = Stage::Scanning {
+                epoch: found,
+                next: 0,
+                clear: true,
+            }
+        }
+        EventKind::ScanOne(_) => return scan_one(part, alloc, layout, found),
+        EventKind::Advance => return advanced(part, alloc),
+        EventKind::Split => split(part, layout),
+        EventKind::Join(worker) => return joined(part, *worker),
+        EventKind::LoadCell(Some(place)) => return read(part, structure, *place, found),
+        EventKind::LoadEntry { request, reply } => return part
+            .records
+            .learn(*request, *reply, found),
+        EventKind::PrivateLoad { slot, word } => {
+            return looked(part, alloc, structure, layout, *slot, *word, found);
+        }
+        EventKind::PrivateStore { slot, word, number } => {
+            return stored(part, structure, layout, *slot, *word, *number);
+        }
+        EventKind::Hold { thunk, descriptor } => return held(
+            part,
+            alloc,
+            thunk,
+            *descriptor,
+            found,
+        ),
+        EventKind::LoadThunk(Some(descriptor)) => return opened(part, alloc, *descriptor, found),
+        EventKind::EpochForRetire => return retired(part, found),
+        _ => {}
+    }
+    Ok(())
+}

@@ -1,3 +1,0 @@
-mod Falling
-pub mod Near
-pub mod Retiring

@@ -1,0 +1,27 @@
+-- Walks of the search tree that read what stands.
+use Rattle.std.specs.Prelude.{ℕ, ◌%◌, ◌≤◌, ◌≡◌, take, slice_get, Some}
+use Rattle.map_history.specs.declared.op.Op.{Op}
+use Rattle.map_history.specs.Replay.{Pairs}
+use Rattle.body_terms.specs.Word.{value_of}
+use Rattle.table_words.specs.declared.layout.Layout.{Layout}
+use Rattle.table_words.specs.Places.{slot_count}
+use Rattle.structure_laws.specs.Scene.{Cells, Readings}
+use Rattle.structure_laws.specs.Stand.{StandIn}
+use Rattle.tree_laws.specs.Walk.{wanted_at}
+use Rattle.tree_laws.specs.Leaves.{tree, walk_of}
+
+-- these are the readings of one walk
+abbrev pub IsOneWalk : Layout → Op → Readings → Type 0
+IsOneWalk layout op readings = (i place word : ℕ) → slice_get readings i ≡ Some (place, word)
+    → wanted_at (walk_of layout op (take i readings)) (walk_of layout op (take i readings)).stage ≡ Some place
+
+-- in a memory that stands for a map
+pub record TreeWalksAreShort : Type 0 where
+  -- a walk of what stands there follows no more links than there are node slots
+  pub short : (layout : Layout) (cells : Cells) (pairs : Pairs) (op : Op) (readings : Readings)
+      → tree.stands layout cells pairs → StandIn tree cells readings
+      → (walk_of layout op readings).links ≤ slot_count layout 3
+  -- and each mark that it reads is 0
+  pub unmarked : (layout : Layout) (cells : Cells) (pairs : Pairs) (op : Op) (readings : Readings)
+      → tree.stands layout cells pairs → StandIn tree cells readings → IsOneWalk layout op readings
+      → (i place word : ℕ) → slice_get readings i ≡ Some (place, word) → place % 5 ≡ 4 → value_of word ≡ 0

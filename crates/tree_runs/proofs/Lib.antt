@@ -1,4 +1,0 @@
-mod Walks
-mod Forms
-mod Filled
-mod Law

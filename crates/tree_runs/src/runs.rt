@@ -1,9 +1,0 @@
-//! The plain run of the search tree's body for an operation does what the map does.
-ghost use Rattle.tree_runs.specs.Runs.{RunsDoTheOperations};
-
-/// On a plain memory whose contents are a map, the plain run of the body for an operation, with the operands of the operation's walk over
-/// this memory, gives the map's reply and its new contents, where each Take is got, no `Fresh` leaves, and the slots of the Makes are different
-/// and not reached.
-pub fn tree_bodies_do_the_operations()
-    ensures { RunsDoTheOperations }
-{}

@@ -1,0 +1,192 @@
+// Command lines, what they mean, and those that are refused. In the tables a space parts the words of a line.
+use command_line::{Command, Halts, RunOptions, TableKind, read_words};
+use std::alloc::{AllocError, Global};
+use std::process::Abort;
+use std::test::Fail;
+
+const REFUSED: &str = "\
+walk
+Run
+--help
+--version
+--
+-- run
+--nodes 1 run
+help
+help run
+run walk
+run --help
+run -h
+run --help=1
+run --
+run -- --nodes 1
+run --nodes 1 --
+run --nodes
+run --nodes=
+run --nodes --
+run --nodes -1
+run --nodes=-1
+run --nodes +1
+run --nodes 1x
+run --nodes 262145
+run --nodes 1 --nodes 1
+run --nodes=1 --nodes 1
+run --node 1
+run --Nodes 1
+run -nodes 1
+run --nodes 1 2
+run --runners 0
+run --runners 17
+run --runners 18446744073709551617
+run --buckets 0
+run --buckets 3
+run --buckets 8192
+run --sections 0
+run --sections 1025
+run --version-max 2
+run --version-max 4294967296
+run --table trees
+run --table HASH
+run --halt 0:0
+run --halt 16:1
+run --halt 1
+run --halt 1:2:3
+run --halt 0:1,
+run --halt ,
+run --halt 0:1,0:2
+run --halt 0:1000000000001
+gen
+gen --seed 7
+gen --seed 7 --traces 1 --length 3
+gen --seed 7 --traces 1 --length 3 --keys 0
+gen --seed 7 --traces 1 --length 3 --keys 32769
+gen --seed 7 --traces 65 --length 3 --keys 1
+gen --seed 2147483648 --traces 1 --length 3 --keys 1
+gen --seed 7 --traces 1 --length 131073 --keys 1
+gen --seed 7 --seed 7 --traces 1 --length 3 --keys 1
+gen --seed 7 --traces 1 --length 3 --keys 1 --runners 1
+load --seed 7 --traces 1 --length 3
+load --seed 7 --traces 1 --length 3 --keys 1 --halt 0:1
+load --seed 7 --traces 1 --length 3 --keys 1 --runners 17
+load --seed 7 --traces 1 --length 3 --keys 1 --
+";
+
+const ACCEPTED: &str = "\
+run
+run --nodes 0
+run --nodes=007
+run --buckets 4096 --table hash
+run --table tree --runners 2
+run --table=hash --buckets=1
+run --sections 1024 --version-max 3 --runners 16 --nodes 262144 --halt 15:1000000000000,0:1
+gen --keys 32768 --length 131072 --traces 64 --seed 2147483647
+gen --seed=0 --traces=0 --length=0 --keys=1
+load --seed=1 --traces 8 --length 4000 --keys 1000 --runners 4
+load --version-max=3 --seed=1 --sections=1 --traces=8 --nodes=0 --length=4 --buckets=1 --keys=1 --table=hash
+";
+
+// Lines, and behind a bar what they mean, as `Debug` shows it.
+const MEANT: &str = "\
+run|Run(RunOptions { table: Hash, runners: None, bucket_bits: 6, nodes: None, sections: 64, version_max: 4294967295, halts: Halts { items: [] } })
+run --halt=2:10,0:7 --nodes 18 --runners=3 --buckets 256 --sections=5 --version-max 9 --table=tree|Run(RunOptions { table: Tree, runners: Some(3), bucket_bits: 8, nodes: Some(18), sections: 5, version_max: 9, halts: Halts { items: [Halt { runner: 2, ask: 10 }, Halt { runner: 0, ask: 7 }] } })
+gen --keys 100 --seed=1 --length 3 --traces 2|Gen(Gen { seed: 1, traces: 2, length: 3, keys: 100, apart: false })
+load --traces 2 --keys=100 --nodes=7 --seed=1 --length 3|Load(LoadOptions { plan: Gen { seed: 1, traces: 2, length: 3, keys: 100, apart: true }, run: RunOptions { table: Hash, runners: None, bucket_bits: 6, nodes: Some(7), sections: 64, version_max: 4294967295, halts: Halts { items: [] } } })
+";
+
+fn read(alloc: Global, line: &str) -> Result<Option<Command>, AllocError> {
+    let words: Vec<&str> = line.split_whitespace().collect(alloc)?;
+    read_words(alloc, &words)
+}
+
+// What the line means, as `Debug` shows it.
+fn shown(alloc: Global, line: &str) -> Result<String, AllocError> {
+    let command = read(alloc, line)?;
+    match command {
+        Some(command) => format!(in alloc; "{command:?}"),
+        None => format!(in alloc; "refused"),
+    }
+}
+
+fn check_table(
+    rt: &impl Abort,
+    alloc: Global,
+    table: &str,
+    accepted: bool,
+) -> Result<(), AllocError> {
+    for line in table.lines() {
+        let command = read(alloc, line)?;
+        assert!(rt; command.is_some() == accepted, "{line}");
+    }
+    Ok(())
+}
+
+#[test]
+fn other_words_are_refused(rt: HostRuntime) -> Result<(), Fail> {
+    let alloc = rt.alloc();
+    check_table(&rt, alloc, REFUSED, false)?;
+    assert!(&rt; read(alloc, "")?.is_none());
+    Ok(())
+}
+
+#[test]
+fn words_are_accepted_in_both_forms(rt: HostRuntime) -> Result<(), Fail> {
+    check_table(&rt, rt.alloc(), ACCEPTED, true)?;
+    Ok(())
+}
+
+#[test]
+fn an_option_has_its_value_or_its_default(rt: HostRuntime) -> Result<(), Fail> {
+    for row in MEANT.lines() {
+        let (line, meant) = row.split_once('|').ok_or("no bar")?;
+        let shown = shown(rt.alloc(), line)?;
+        assert_eq!(rt; shown.as_str(), meant);
+    }
+    Ok(())
+}
+
+fn options_with(alloc: Global, runners: Option<u32>, nodes: Option<u32>) -> RunOptions {
+    RunOptions {
+        table: TableKind::Hash,
+        runners,
+        bucket_bits: 6,
+        nodes,
+        sections: 64,
+        version_max: u32::MAX,
+        halts: Halts::new(alloc),
+    }
+}
+
+#[test]
+fn a_default_depends_on_the_text(rt: HostRuntime) -> Result<(), Fail> {
+    let options = options_with(rt.alloc(), None, None);
+    let runners = [
+        options.runners_for(0),
+        options.runners_for(3),
+        options.runners_for(64),
+    ];
+    assert_eq!(rt; runners, [1, 3, 16]);
+    let nodes = [options.nodes_for(3, 2), options.nodes_for(131_072, 16)];
+    assert_eq!(rt; nodes, [14, 16_384]);
+    let options = options_with(rt.alloc(), Some(3), Some(18));
+    assert_eq!(rt; [options.runners_for(1), options.nodes_for(1, 3)], [3, 18]);
+    Ok(())
+}
+
+fn halts_of(command: Command) -> Option<Halts> {
+    match command {
+        Command::Run(options) => Some(options.halts),
+        _ => None,
+    }
+}
+
+#[test]
+fn a_halt_is_found_by_its_runner(rt: HostRuntime) -> Result<(), Fail> {
+    let alloc = rt.alloc();
+    let command = read(alloc, "run --halt=2:10,0:7")?.ok_or("refused")?;
+    let halts = halts_of(command).ok_or("no run")?;
+    let asks = halts.asks(alloc, 3)?;
+    assert_eq!(rt; asks.as_slice(), [Some(7), None, Some(10)].as_slice());
+    assert_eq!(rt; halts.ask_of(1), None);
+    assert!(rt; halts.name_below(1));
+    Ok(())
+}

@@ -1,0 +1,33 @@
+// The text of generated requests, and of traces without requests.
+use command_line::trace_reader::{Gen, SureSource, generate, read_traces};
+use printed_traces::trace_text;
+use std::test::Fail;
+
+#[test]
+fn generated_requests_are_printed(rt: HostRuntime) -> Result<(), Fail> {
+    let alloc = rt.alloc();
+    let plan = Gen {
+        seed: 1,
+        traces: 1,
+        length: 3,
+        keys: 100,
+        apart: false,
+    };
+    let traces = generate(alloc, &plan)?;
+    let text = trace_text(alloc, traces.requests.as_slice(), traces.count)?;
+    let expected = b"flock 1\ntrace\ndel 58\nins 15 150\nget 27\n";
+    assert!(rt; text.as_slice() == expected.as_slice());
+    let mut source = SureSource::new(text, Vec::new(alloc));
+    let read = read_traces(alloc, &mut source).ok().ok_or("refused")?;
+    assert_eq!(rt; read.count, 1);
+    assert_eq!(rt; read.requests.as_slice(), traces.requests.as_slice());
+    Ok(())
+}
+
+#[test]
+fn a_trace_without_requests_is_printed(rt: HostRuntime) -> Result<(), Fail> {
+    let alloc = rt.alloc();
+    let text = trace_text(alloc, [].as_slice(), 2)?;
+    assert!(rt; text.as_slice() == b"flock 1\ntrace\ntrace\n".as_slice());
+    Ok(())
+}

@@ -1,7 +1,0 @@
-use Rattle.worn_lists.proofs.Worn.{no_repeats}
-use Rattle.worn_lists.proofs.laws.worn_lists_have_no_repeats.Goals as goal
-
-pub returns : goal.returns
-returns g c = λ layout requests w limits allowed reached.
-    let met = g.met.S.Structure g.world.𝓛 g.world.𝓜 g.world.𝓡 ((λ s allowed. allowed), (λ patient. patient), (λ alone. alone), (λ cuts. cuts)) in
-    no_repeats (g.S.Structure.meaning c.args.structure.now) (met.laws c.args.structure.now) layout limits requests allowed w reached
