@@ -7,7 +7,8 @@ ghost use Rattle.lock_walks.specs.try_lock.specs.Contents.{StandFor, NamesNone};
 ghost use Rattle.hash_table.specs.Planned.{bucket_planning, walk_in};
 ghost use Rattle.hash_table.specs.Walking.{is_refused_at};
 ghost use Rattle.bucket_laws.proofs.Planner.{buckets_plan};
-ghost use Rattle.bucket_laws.proofs.Near.{not_far, no_mark};
+ghost use Rattle.small_lemmas.proofs.Bools.{from_false};
+ghost use Rattle.bucket_laws.proofs.Near.{not_far};
 ghost use Rattle.bucket_laws.proofs.Retiring.{few_retires};
 
 use crate::table::HashTable;
@@ -45,7 +46,7 @@ impl Planner for HashTable {
     ghost plans_lawfully = { λ s. buckets_plan s.bits s.few };
 
     ghost walks_steadily = { λ s. record {
-      unmarked = λ layout op readings walk i place word at free mark. no_mark mark;
+      unmarked = λ layout op readings walk i place word at free mark. from_false mark;
       near = λ layout op readings walk. not_far s.bits s.few layout walk.scene.cells walk.pairs op readings
           (is_refused_at (walk_in s.bits layout op readings).stage) walk.stands.stands walk.read;
     } };

@@ -88,7 +88,7 @@ module _ {T : Type 0} (m : Meaning) (t : TableState T) (keeper : RunnerState T) 
 
   module _ (is_map : m.is_map ≡ true) (history : HasHistory m t.layout t.requests end) (callers : CallersStand m t.layout t.requests end)
       (worker : ℕ) (own : List Request) (retry_short : Bool) (planning : Planning) (answer : Served) (old new : RunnerState T)
-      (part : end.part worker ≡ leaves new.part) (asks asks' : ℕ) (serves : Serves m planning retry_short own answer old new asks asks')
+      (part : end.part worker ≡ leaves new.part) (asks asks' steps steps' : ℕ) (serves : Serves m planning retry_short own answer old new asks asks' steps steps')
       (there : (i : ℕ) (q : Request) → slice_get own i ≡ Some q → slice_get t.requests q.number ≡ Some q)
       (trace : (i : ℕ) (q : Request) → slice_get own i ≡ Some q → q.trace % t.layout.runners ≡ worker)
       (once : (i j : ℕ) (q q' : Request) → slice_get own i ≡ Some q → slice_get own j ≡ Some q' → q.number ≡ q'.number → i ≡ j) where
@@ -309,7 +309,7 @@ module _ {T : Type 0} (m : Meaning) (t : TableState T) (keeper : RunnerState T) 
       pub descriptors_done : OwnStand t.layout end → LimboIsDone end → (short : Short) → answer ≡ answers.Short short → short.kind ≡ slots.Descriptor
           → (d : ℕ) → w.layout.sections * worker ≤ d → d < w.layout.sections * worker + w.layout.sections → word_of m w (DoneWord d) ≡ 1
       descriptors_done stands limbo_done short is kind =
-          let ends : Ends m planning retry_short own (answers.Short short) count old new = subst (λ (a : Served). Ends m planning retry_short own a count old new) is serves.ends in
+          let ends : Ends m planning retry_short own (answers.Short short) count serves.tries old new = subst (λ (a : Served). Ends m planning retry_short own a count serves.tries old new) is serves.ends in
           own_done stands limbo_done short ends.2.stops.cause.few ends.2.tidy kind
 
       is_short : (short : Short) (q : Request) (from : RunnerState T) → StopsShort m planning retry_short short q from new → IsTidy new → IsShortOf m w retry_short short
@@ -335,7 +335,7 @@ module _ {T : Type 0} (m : Meaning) (t : TableState T) (keeper : RunnerState T) 
       pub has_served : HasServed m w retry_short own answer
       has_served = by answer serves.ends
         where
-          by : (a : Served) → Ends m planning retry_short own a count old new → HasServed m w retry_short own a
+          by : (a : Served) → Ends m planning retry_short own a count serves.tries old new → HasServed m w retry_short own a
           by answers.All ends = record {
             count = count;
             entered = entered_stopped ends.1.at.published (λ q e. let few = slice_get_within own count q e in let all = ends.0 in absurd (omega (arith, few, all)));

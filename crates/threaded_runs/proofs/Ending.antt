@@ -93,7 +93,7 @@ module _ {T : Type 0} (m : Meaning) (planning : Planning) (retry_short : Bool) (
         subst (λ (a : Served). HasServed m w retry_short (own_requests t.layout.runners worker t.requests) a) (sym same)
         (subst (λ (rs : List Request). HasServed m w retry_short rs (get_or finished worker f).answer) is_seated.requests
         (has_served m t keeper w closing lawful.is_map (lawful.histories lawful.limits lawful.allowed closing.world closing.reached) (lawful.callers lawful.limits lawful.allowed closing.world closing.reached)
-        worker requests retry_short planning (get_or finished worker f).answer (get_or jobs worker j).runner (get_or finished worker f).runner part _ _ has_run.serves
+        worker requests retry_short planning (get_or finished worker f).answer (get_or jobs worker j).runner (get_or finished worker f).runner part _ _ _ _ has_run.serves
         (λ i q e. own_there t.layout.runners worker t.requests order i q (subst (λ (rs : List Request). slice_get rs i ≡ Some q) is_seated.requests e))
         (λ i q e. own_trace t.layout.runners worker t.requests order i q (subst (λ (rs : List Request). slice_get rs i ≡ Some q) is_seated.requests e))
         (λ i k q q' e e'. own_once t.layout.runners worker t.requests order i k q q' (subst (λ (rs : List Request). slice_get rs i ≡ Some q) is_seated.requests e) (subst (λ (rs : List Request). slice_get rs k ≡ Some q') is_seated.requests e'))
@@ -117,7 +117,7 @@ module _ {T : Type 0} (m : Meaning) (planning : Planning) (retry_short : Bool) (
         let order = lawful.allowed.in_order in
         let part = part_is m t keeper w closing worker (get_or finished worker f).runner.part low (ap (λ js. left_part js worker) settles.joined ∙ is_kept.part) in
         descriptors_done m t keeper w closing lawful.is_map (lawful.histories lawful.limits lawful.allowed closing.world closing.reached) (lawful.callers lawful.limits lawful.allowed closing.world closing.reached)
-        worker requests retry_short planning (get_or finished worker f).answer (get_or jobs worker j).runner (get_or finished worker f).runner part _ _ has_run.serves
+        worker requests retry_short planning (get_or finished worker f).answer (get_or jobs worker j).runner (get_or finished worker f).runner part _ _ _ _ has_run.serves
         (λ i q e. own_there t.layout.runners worker t.requests order i q (subst (λ (rs : List Request). slice_get rs i ≡ Some q) is_seated.requests e))
         (λ i q e. own_trace t.layout.runners worker t.requests order i q (subst (λ (rs : List Request). slice_get rs i ≡ Some q) is_seated.requests e))
         (λ i k q q' e e'. own_once t.layout.runners worker t.requests order i k q q' (subst (λ (rs : List Request). slice_get rs i ≡ Some q) is_seated.requests e) (subst (λ (rs : List Request). slice_get rs k ≡ Some q') is_seated.requests e'))

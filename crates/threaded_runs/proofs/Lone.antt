@@ -29,7 +29,7 @@ use Rattle.settling.specs.epoch_slots.specs.Reserves.{counts_of}
 use Rattle.settling.specs.epoch_slots.specs.declared.reserves.Kind.TheVariants as slots
 use Rattle.settling.specs.epoch_slots.specs.declared.reserves.Short.{Short}
 use Rattle.settling.specs.try_lock.specs.Planning.{Planning}
-use Rattle.serving.specs.Serving.{is_crossed, most_asks, Ends, ServedRuns, WasCrossed}
+use Rattle.serving.specs.Serving.{is_crossed, most_asks, Ends, ServedRuns, Try, WasCrossed}
 use Rattle.serving.specs.attempts.specs.declared.answers.Attempt.{Attempt}
 use Rattle.serving.specs.attempts.specs.declared.answers.Attempt.TheVariants as attempts
 use Rattle.serving.specs.attempt_bounds.specs.Lone.{LoneAttemptsAreServed, NobodyCameBetween}
@@ -133,8 +133,8 @@ module _ {T H : Type 0} (m : Meaning) (planning : Planning) (retry_short : Bool)
   p_is = part_is m t keeper w closing 0 p low (ap (λ js. left_part js 0) settles.joined ∙ (kept 0 stops.All (some_of finished 0 (subst (λ (n : ℕ). 0 < n) (sym back) seat)) here).part)
 
   -- no attempt was refused since another one came between
-  uncrossed : WasCrossed m planning j.runner → ⊥
-  uncrossed is = not_crossed is.answer is.crossed (attempts_go.refused is.request is.answer is.before is.cut (record {
+  uncrossed : (tries : List Try) → WasCrossed m planning tries j.runner → ⊥
+  uncrossed tries is = not_crossed is.answer is.crossed (attempts_go.refused is.request is.answer is.before is.cut (record {
     limits = subst IsWithinLimits (sym layout_is) lawful.limits;
     allowed = subst AreAllowed (sym (is.requests ∙ is_seated.may.own.requests)) lawful.allowed;
     one = ap (λ (l : Layout). l.runners) layout_is ∙ one;
@@ -144,7 +144,7 @@ module _ {T H : Type 0} (m : Meaning) (planning : Planning) (retry_short : Bool)
       layout_is = is.layout ∙ is_seated.may.own.layout
 
   few_runs : length p.records.finished ≤ length t.requests + 1
-  few_runs = ⊎_elim (λ crossed. absurd (uncrossed crossed)) (λ brief. by f.answer brief.runs) has_run.serves.brief
+  few_runs = ⊎_elim (λ crossed. absurd (uncrossed has_run.serves.tries crossed)) (λ brief. by f.answer brief.runs) has_run.serves.brief
     where
       served : has_run.serves.count ≤ length t.requests
       served = subst (λ (rs : List Request). has_run.serves.count ≤ length rs)
@@ -164,7 +164,7 @@ module _ {T H : Type 0} (m : Meaning) (planning : Planning) (retry_short : Bool)
       (ap (λ (x : PartState). is_answered x.records.known q.number) p_is ∙ has_run.serves.served.answered i q low e)))))
 
   few_asks : asks j.gate ≡ 0 → asks f.gate ≤ (served_in m w + 1) * most_asks (cells.slots m w.layout)
-  few_asks none = ⊎_elim (λ crossed. absurd (uncrossed crossed))
+  few_asks none = ⊎_elim (λ crossed. absurd (uncrossed has_run.serves.tries crossed))
       (λ brief. asks_within (asks j.gate) (asks f.gate) has_run.serves.count (served_in m w) (most_asks (cells.slots m w.layout))
       (subst (λ (l : Layout). asks f.gate ≤ asks j.gate + (has_run.serves.count + 1) * most_asks (cells.slots m l)) (is_seated.may.own.layout ∙ sym closing.layout) brief.asked)
       none all_entered)
@@ -180,7 +180,7 @@ module _ {T H : Type 0} (m : Meaning) (planning : Planning) (retry_short : Bool)
     tidy : IsTidy f.runner
     tidy = by f.answer (λ e. went (same ∙ e)) has_run.serves.ends
       where
-        by : (a : Served) → a ≢ stops.Halted → Ends m planning retry_short j.requests.items a has_run.serves.count j.runner f.runner → IsTidy f.runner
+        by : (a : Served) → a ≢ stops.Halted → Ends m planning retry_short j.requests.items a has_run.serves.count has_run.serves.tries j.runner f.runner → IsTidy f.runner
         by stops.All not ends = ends.1
         by (stops.Short short) not ends = ends.2.tidy
         by (stops.Spent place word) not ends = ends.2.tidy
@@ -208,8 +208,8 @@ module _ {T H : Type 0} (m : Meaning) (planning : Planning) (retry_short : Bool)
         is_short : f.answer ≡ stops.Short short
         is_short = sym same ∙ get_or_from_slice_get answers 0 (stops.Short short) stops.All is
 
-        ends : Ends m planning retry_short j.requests.items (stops.Short short) has_run.serves.count j.runner f.runner
-        ends = subst (λ (a : Served). Ends m planning retry_short j.requests.items a has_run.serves.count j.runner f.runner) is_short has_run.serves.ends
+        ends : Ends m planning retry_short j.requests.items (stops.Short short) has_run.serves.count has_run.serves.tries j.runner f.runner
+        ends = subst (λ (a : Served). Ends m planning retry_short j.requests.items a has_run.serves.count has_run.serves.tries j.runner f.runner) is_short has_run.serves.ends
 
         counts : short ≡ counts_of f.runner slots.Node
         counts = ends.2.stops.cause.counts ∙ ap (counts_of f.runner) kind
@@ -238,8 +238,8 @@ module _ {T H : Type 0} (m : Meaning) (planning : Planning) (retry_short : Bool)
         is_short : f.answer ≡ stops.Short short
         is_short = sym same ∙ get_or_from_slice_get answers 0 (stops.Short short) stops.All is
 
-        ends : Ends m planning retry_short j.requests.items (stops.Short short) has_run.serves.count j.runner f.runner
-        ends = subst (λ (a : Served). Ends m planning retry_short j.requests.items a has_run.serves.count j.runner f.runner) is_short has_run.serves.ends
+        ends : Ends m planning retry_short j.requests.items (stops.Short short) has_run.serves.count has_run.serves.tries j.runner f.runner
+        ends = subst (λ (a : Served). Ends m planning retry_short j.requests.items a has_run.serves.count has_run.serves.tries j.runner f.runner) is_short has_run.serves.ends
 
         low : length p.records.finished < 2 ^ 61
         low = below (length p.records.finished) (length t.requests) t.layout.version_max few_runs
@@ -251,7 +251,7 @@ module _ {T H : Type 0} (m : Meaning) (planning : Planning) (retry_short : Bool)
 
         unwaited : retry_short ≡ false → short.limbo ≤ most_in_limbo short.kind
         unwaited is_so = ⊎_elim
-            (λ crossed. absurd (uncrossed crossed))
+            (λ crossed. absurd (uncrossed has_run.serves.tries crossed))
             (λ spared. spare.short short ends.0.number ends.2.before f.runner spared ends.2.stops.cause alone_here low)
             (ends.2.spared is_so (spare.first j.runner is_seated.nodes is_seated.descriptors is_seated.unmet))
 

@@ -44,7 +44,10 @@ module _ {T H : Type 0} where
     -- the worker has served its requests, as the answer says; its gate halted exactly where the answer is Halted
     pub record HasRun (j : Job T H) (f : Finished T H) : Type 0 where
       pub own : IsOf t f.runner
+      -- so many steps were counted
+      pub steps : ℕ
       pub serves : Serves m planning retry_short j.requests.items f.answer j.runner f.runner (asks j.gate) (asks f.gate)
+          0 steps
       pub halted : halts j.gate ≡ 0 → f.answer ≡ answers.Halted → 0 < halts f.gate
       pub went : halts j.gate ≡ 0 → f.answer ≢ answers.Halted → halts f.gate ≡ 0
 
