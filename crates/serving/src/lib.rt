@@ -9,9 +9,6 @@ mod persists;
 mod serves;
 
 pub use answers::Served;
-pub use attempt_bounds::attempts::{
-    epoch_slots, lock_walks, reached_histories, request_facts, runner_facts, version_words,
-};
 pub use serves::serve;
 
 // Passed on to the layers above, so that they needn't name these libraries themselves.
