@@ -77,12 +77,16 @@ def work_of(pid: str, root: str) -> tuple[str, str, float] | None:
         if "--crate-name" not in words or not is_below(pid, root):
             return None
         crate = words[words.index("--crate-name") + 1]
-        in_copy = "rt-edit-" in os.readlink(f"/proc/{pid}/cwd")
+        folder = os.readlink(f"/proc/{pid}/cwd")
         fields = status_of(pid)
     except (OSError, IndexError):
         return None
-    kind = "edits" if in_copy else "tests" if crate.endswith("_tests") or "--test" in words else "proofs"
-    return kind, crate.removesuffix("_tests"), (int(fields[11]) + int(fields[12])) / TICKS
+    spent = (int(fields[11]) + int(fields[12])) / TICKS
+    if "rt-edit-" in folder:
+        return "edits", crate, spent
+    # The tests of a crate are checked in its folder under another name; a crate may itself be named so.
+    home = pathlib.Path(folder).name
+    return "proofs" if crate == home and "--test" not in words else "tests", home, spent
 
 
 def watch(samples: Samples, over: threading.Event) -> None:
