@@ -6,4 +6,5 @@ pub mod Served
 mod Recent
 mod Along
 mod Scanned
+mod Reclaimed
 mod Attempted

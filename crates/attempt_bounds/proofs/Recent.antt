@@ -1,29 +1,16 @@
 -- How many entries of a limbo list are recent.
 use Rattle.std.specs.Prelude.{nat_le, not, Bool, true, false, if◌then◌else◌, All}
 use Rattle.std.specs.List.{filter}
-use Rattle.std.proofs.Common.{◌≡◌, ℕ, ◌+◌, ◌≤◌, List, [], ◌∷◌, ◌++◌, length, suc, refl, sym, ap, ◌∙◌, arith}
+use Rattle.std.proofs.Common.{◌≡◌, ℕ, ◌+◌, ◌≤◌, List, [], ◌∷◌, length, suc, refl, ap, ◌∙◌, arith}
 use Rattle.std.proofs.lemmas.Bool.Decides.{nat_tests}
 use Rattle.std.proofs.lemmas.List.Elements.{All-head, All-tail, All-filter}
 use Rattle.runner_parts.specs.declared.entries.Retired.{Retired}
 use Rattle.runner_parts.specs.Lists.{is_old}
-use Rattle.attempt_bounds.specs.Spared.{recent}
 
-pub few_recent : (epoch : ℕ) (xs : List Retired) → recent epoch xs ≤ length xs
-few_recent epoch [] = omega arith
-few_recent epoch (x ∷ xs) = by (nat_le epoch x.epoch) (few_recent epoch xs)
-  where
-    by : (b : Bool) → recent epoch xs ≤ length xs → (if b then 1 + recent epoch xs else recent epoch xs) ≤ suc (length xs)
-    by true few = omega (arith, few)
-    by false few = omega (arith, few)
-
-pub append_recent : (epoch : ℕ) (xs ys : List Retired) → recent epoch (xs ++ ys) ≡ recent epoch xs + recent epoch ys
-append_recent epoch [] ys = omega arith
-append_recent epoch (x ∷ xs) ys = by (nat_le epoch x.epoch) (append_recent epoch xs ys)
-  where
-    by : (b : Bool) → recent epoch (xs ++ ys) ≡ recent epoch xs + recent epoch ys
-        → (if b then 1 + recent epoch (xs ++ ys) else recent epoch (xs ++ ys)) ≡ (if b then 1 + recent epoch xs else recent epoch xs) + recent epoch ys
-    by true e = omega (arith, e)
-    by false e = e
+-- how many of these were retired with this epoch or a later one
+abbrev pub recent : ℕ → List Retired → ℕ
+recent epoch [] = 0
+recent epoch (x ∷ xs) = if nat_le epoch x.epoch then 1 + recent epoch xs else recent epoch xs
 
 -- none of these is recent in the next epoch
 pub none_recent : (epoch : ℕ) (xs : List Retired) → All (λ x. x.epoch ≤ epoch) xs → recent (epoch + 1) xs ≡ 0

@@ -34,8 +34,7 @@ use Rattle.attempts.specs.version_words.specs.RunnerState.{RunnerState}
 use Rattle.attempts.specs.version_words.specs.Events.{Makes, Tries}
 use Rattle.attempts.specs.version_words.specs.ReachedWith.{is_told}
 use Rattle.attempts.specs.epoch_slots.specs.Collects.{Scans, Advances, Collects, come_back}
-use Rattle.attempt_bounds.specs.Spared.{recent}
-use Rattle.attempt_bounds.proofs.Recent.{none_kept, kept_recent}
+use Rattle.attempt_bounds.proofs.Recent.{recent, none_kept, kept_recent}
 use Rattle.attempt_bounds.proofs.Along.{Onward, made_on, made_was, scans_on, tested_on}
 
 -- if it scans, it is for this epoch

@@ -1,6 +1,7 @@
 pub mod Knowing
 mod Helping
 mod Reaching
+pub mod Refilling
 mod Leaving
 pub mod Learning
 mod Counting

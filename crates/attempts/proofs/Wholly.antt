@@ -22,7 +22,7 @@ use Rattle.lock_words.specs.machine_invariant.specs.After.{AreAllowed}
 use Rattle.lock_walks.specs.version_words.specs.RunnerState.{RunnerState}
 use Rattle.lock_walks.specs.version_words.specs.TableState.{TableState, IsOf}
 use Rattle.lock_walks.specs.version_words.specs.Stages.{IsAt}
-use Rattle.lock_walks.specs.epoch_slots.specs.Collects.{Collects}
+use Rattle.attempts.specs.Reclaims.{Reclaims}
 use Rattle.lock_walks.specs.epoch_slots.specs.Entries.{Enters}
 use Rattle.lock_walks.specs.epoch_slots.specs.Reserves.{counts_of}
 use Rattle.lock_walks.specs.epoch_slots.specs.declared.reserves.Short.{Short}
@@ -42,7 +42,8 @@ use Rattle.attempts.specs.Rests.{MayLeave, HasTurned, Rests}
 use Rattle.attempts.specs.declared.answers.Attempt.{Attempt}
 use Rattle.attempts.specs.declared.answers.Attempt.TheVariants as answers
 use Rattle.attempts.proofs.Knowing.{knows_same, knows_on, no_other_same, no_other_on}
-use Rattle.attempts.proofs.Reaching.{enters_reached, collects_reached}
+use Rattle.attempts.proofs.Reaching.{enters_reached}
+use Rattle.attempts.proofs.Refilling.{short_reached}
 use Rattle.attempts.proofs.Counting.{counted_steps, asked_then, steps_then, seen_then}
 use Rattle.attempts.proofs.Courses.{planned_at, planned_reads, planned_leave}
 use Rattle.attempts.proofs.Turning.{untouched, turned_rests}
@@ -283,14 +284,14 @@ module _ {T : Type 0} (m : Meaning) (laws : Laws m) (t : TableState T) (limits :
 -- the entry
 module _ {T : Type 0} (m : Meaning) (laws : Laws m) (t : TableState T) (limits : IsWithinLimits t.layout) (allowed : AreAllowed t.requests)
     (planning : Planning) (request : Request) (old ready : RunnerState T) (own_old : IsOf t old) (own_ready : IsOf t ready)
-    (may : MayAttempt planning request old) (collects : Collects m old ready) where
+    (may : MayAttempt planning request old) (reclaims : Reclaims m old ready) where
   still_ready : IsStill old ready
   still_ready = record {
     layout = own_ready.layout ∙ sym own_old.layout;
     requests = own_ready.requests ∙ sym own_old.requests;
-    number = collects.number;
-    known = collects.known;
-    finished = collects.finished;
+    number = reclaims.rested.number;
+    known = reclaims.rested.known;
+    finished = reclaims.rested.finished;
   }
 
   ready_runs : length ready.part.records.finished ≡ length old.part.records.finished
@@ -300,11 +301,11 @@ module _ {T : Type 0} (m : Meaning) (laws : Laws m) (t : TableState T) (limits :
   module _ (short : Short) (few : IsFew ready short.kind) (counts : short ≡ counts_of ready short.kind) where
     is_short_of : IsShort m short request.number old ready
     is_short_of = record {
-      collects = collects;
+      reclaims = reclaims;
       few = few;
       counts = counts;
       untouched = untouched m laws ready request (subst IsWithinLimits (sym own_ready.layout) limits) (subst AreAllowed (sym own_ready.requests) allowed)
-          (collects_reached m old ready collects) collects.tidy.at.published
+          (short_reached m old ready short.kind few reclaims) reclaims.rested.tidy.at.published
           (own_here planning request old may ready still_ready) (unknown_here planning request old may ready still_ready);
     }
 
@@ -333,22 +334,22 @@ module _ {T : Type 0} (m : Meaning) (laws : Laws m) (t : TableState T) (limits :
     still = record {
       layout = own_new.layout ∙ sym own_old.layout;
       requests = own_new.requests ∙ sym own_old.requests;
-      number = enters.keeps.number ∙ collects.number;
-      known = enters.keeps.known ∙ collects.known;
-      finished = enters.keeps.finished ∙ collects.finished;
+      number = enters.keeps.number ∙ reclaims.rested.number;
+      known = enters.keeps.known ∙ reclaims.rested.known;
+      finished = enters.keeps.finished ∙ reclaims.rested.finished;
     }
 
     pub entered_so : HasEntered m planning request old here
     entered_so = record {
       may = may;
       ready = ready;
-      collects = collects;
+      reclaims = reclaims;
       reserve = reserve;
       enters = enters;
       still = still;
       hand = record {
-        hand = ap (λ (n : NodesState). n.hand) enters.keeps.nodes ∙ collects.tidy.hand;
-        tests = ap (λ (n : NodesState). n.tests) enters.keeps.nodes ∙ collects.tidy.tests;
+        hand = ap (λ (n : NodesState). n.hand) enters.keeps.nodes ∙ reclaims.rested.tidy.hand;
+        tests = ap (λ (n : NodesState). n.tests) enters.keeps.nodes ∙ reclaims.rested.tidy.tests;
       };
       has = record {
         nodes = subst (λ (n : NodesState). 2 ≤ length n.free) (sym enters.keeps.nodes) reserve.nodes;

@@ -16,7 +16,7 @@ use Rattle.runner_parts.specs.declared.entries.Published.{Published}
 use Rattle.runner_parts.specs.Tests.{is_answered}
 use Rattle.machine_states.specs.Sight.{sight}
 use Rattle.lock_walks.specs.version_words.specs.RunnerState.{RunnerState}
-use Rattle.lock_walks.specs.epoch_slots.specs.Collects.{IsTidy, Collects}
+use Rattle.lock_walks.specs.epoch_slots.specs.Collects.{IsTidy}
 use Rattle.lock_walks.specs.epoch_slots.specs.Entries.{Exits}
 use Rattle.lock_walks.specs.epoch_slots.specs.Reserves.{counts_of}
 use Rattle.lock_walks.specs.epoch_slots.specs.declared.reserves.Kind.{Kind}
@@ -30,6 +30,7 @@ use Rattle.lock_walks.specs.try_lock.specs.Ends.{IsCutShort}
 use Rattle.attempts.specs.Knowing.{KnowsMore, LearnsNoOther}
 use Rattle.attempts.specs.Counted.{IsCounted}
 use Rattle.attempts.specs.RealTime.{IsAboveAnswered}
+use Rattle.attempts.specs.Reclaims.{Reclaims}
 use Rattle.request_facts.specs.Laws.{HasEntry}
 use Rattle.request_facts.specs.Placed.{IsServedAs, IsUnserved}
 use Rattle.attempts.specs.Course.{HasEntered, HasPlanned, HasTried, HasRun, IsRefused, refused_steps, is_refused_late, LeavesAndLoads, HasHelped, IsOfHelped}
@@ -96,9 +97,9 @@ module _ {T : Type 0} where
       pub reached : IsReached m r
       pub unserved : IsUnserved m r.layout r.requests (sight m r.layout r.requests reached.world) number
 
-    -- after collecting too few slots were free
+    -- after three scans in a row too few slots were free
     pub record IsShort (short : Short) (number : ℕ) (old new : RunnerState T) : Type 0 where
-      pub collects : Collects m old new
+      pub reclaims : Reclaims m old new
       pub few : IsFew new short.kind
       pub counts : short ≡ counts_of new short.kind
       pub untouched : IsUntouched number new

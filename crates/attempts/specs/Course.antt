@@ -18,7 +18,7 @@ use Rattle.runner_parts.specs.Tests.{is_next, is_answered}
 use Rattle.lock_words.specs.runner_facts.specs.Names.{HasLock}
 use Rattle.lock_walks.specs.version_words.specs.RunnerState.{RunnerState}
 use Rattle.lock_walks.specs.version_words.specs.Events.{Makes}
-use Rattle.lock_walks.specs.epoch_slots.specs.Collects.{IsTidy, Collects}
+use Rattle.lock_walks.specs.epoch_slots.specs.Collects.{IsTidy}
 use Rattle.lock_walks.specs.epoch_slots.specs.Entries.{Enters, Exits}
 use Rattle.lock_walks.specs.try_lock.specs.declared.section.Section.{Section}
 use Rattle.lock_walks.specs.try_lock.specs.declared.planned.Planned.{Planned}
@@ -30,6 +30,7 @@ use Rattle.lock_walks.specs.try_lock.specs.Publishes.{Publishes}
 use Rattle.lock_walks.specs.try_lock.specs.Ends.{EndsSo}
 use Rattle.lock_walks.specs.try_lock.specs.Retires.{HasRetired}
 use Rattle.attempts.specs.Knowing.{IsStill}
+use Rattle.attempts.specs.Reclaims.{Reclaims}
 use Rattle.attempts.specs.declared.answers.Attempt.{Attempt}
 use Rattle.attempts.specs.declared.answers.Attempt.TheVariants as answers
 
@@ -75,11 +76,11 @@ module _ {T : Type 0} where
     pub tests : r.part.nodes.tests ≡ []
 
 module _ {T : Type 0} (m : Meaning) (planning : Planning) (request : Request) where
-  -- the runner collected, had a reserve of two node slots and one descriptor, and entered
+  -- the runner collected where that was due, had a reserve of two node slots and one descriptor, and entered
   pub record HasEntered (old new : RunnerState T) : Type 0 where
     pub may : MayAttempt planning request old
     pub ready : RunnerState T
-    pub collects : Collects m old ready
+    pub reclaims : Reclaims m old ready
     pub reserve : HasReserve ready
     pub enters : Enters m ready new
     pub still : IsStill old new

@@ -1,5 +1,6 @@
 pub mod Knowing
 pub mod Counted
+pub mod Reclaims
 pub mod Course
 pub mod Attempts
 pub mod Learned

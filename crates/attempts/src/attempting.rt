@@ -10,13 +10,14 @@ ghost use Rattle.attempts.specs.Rests.{Rests};
 
 use crate::answers::Attempt;
 use crate::asks::goes_on;
+use crate::reclaims::reclaim;
 use crate::refusals::plan_refused;
 use crate::reserves::reserve_slots;
 use crate::tries::try_section;
 use crate::turns::turn_away;
 use body_terms::{Gate, StepKind, Steps};
 use lock_walks::Planner;
-use lock_walks::epoch_slots::{collect, enter};
+use lock_walks::epoch_slots::enter;
 use lock_walks::try_lock::Planned;
 use lock_walks::version_words::{FlockTable, Runner, table_is_allowed};
 use map_history::Request;
@@ -51,7 +52,7 @@ pub fn plan_and_try<S: Planner, G: Gate, L>(
 
 /// Attempts a request once.
 ///
-/// The runner collects, makes sure of two node slots and one descriptor, enters, plans the request's section, publishes
+/// The runner collects where it has to, makes sure of two node slots and one descriptor, enters, plans the request's section, publishes
 /// it in its lock, runs it, retires it and leaves. The request is one of the table's, of a trace that this runner
 /// serves; the runner knows the answers of the trace's earlier requests and not yet this one's; it is idle, with an
 /// empty hand.
@@ -64,7 +65,8 @@ pub fn plan_and_try<S: Planner, G: Gate, L>(
 /// - `Stale`: a word was read, and then another one at the same place; or a node that was reached has been taken out.
 /// - `Far`: the walk loaded as many links as there are node slots, and eight more, and came to no end.
 /// - `Spent`: a lock or a cell has too few versions left.
-/// - `Short`: after collecting, fewer than two node slots or no descriptor were free; node slots are asked first.
+/// - `Short`: after three scans in a row fewer than two node slots or no descriptor were free; node slots are asked
+///   first.
 /// - `Halted`: the gate halted the runner. Exactly then its count of halts rose.
 ///
 /// After every answer but `Halted` the runner is idle and may attempt again. After every answer but `Done` and `Halted`
@@ -89,7 +91,7 @@ pub fn attempt<S: Planner, G: Gate, L>(
         (G.halts gate.old) (G.halts gate.new) (G.asks gate.old) (G.asks gate.new) steps.old.count steps.new.count }
 {
     table_is_allowed(table);
-    let runner = collect(table, runner);
+    let runner = reclaim(table, runner);
     match reserve_slots(runner) {
         Ok(runner) => {
             let runner = enter(table, runner);

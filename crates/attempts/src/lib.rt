@@ -2,7 +2,8 @@
 //!
 //! `attempting` has the call `attempt`, and its plan; `tries` publishes the planned section, `runs` runs and retires
 //! it. `answers` is what an attempt may come to, `refusals` how refusals of a plan, a publication and a section are
-//! told as such answers, `turns` how a runner leaves with one, `reserves` the own slots that an attempt needs, `asks`
+//! told as such answers, `turns` how a runner leaves with one, `reclaims` collects
+//! where that is due, `reserves` has the own slots that an attempt needs, `asks`
 //! the gate's asks beside those after steps, and `learns` how a request that the runner knows is answered by its words.
 #![tactic(auto)]
 
@@ -10,6 +11,7 @@ mod answers;
 mod asks;
 mod attempting;
 mod learns;
+mod reclaims;
 mod refusals;
 mod reserves;
 mod runs;
@@ -20,6 +22,7 @@ pub use answers::Attempt;
 pub use asks::goes_on;
 pub use attempting::{attempt, plan_and_try};
 pub use learns::learn;
+pub use reclaims::reclaim;
 pub use refusals::{lock_refused, plan_refused, section_left};
 pub use reserves::reserve_slots;
 pub use runs::{conclude, run_own};

@@ -13,7 +13,6 @@ use Rattle.hash_table.specs.epoch_slots.specs.declared.reserves.Kind.TheVariants
 use Rattle.hash_table.specs.epoch_slots.specs.declared.reserves.Short.{Short}
 use Rattle.threaded_runs.specs.serving.specs.declared.answers.Served.{Served}
 use Rattle.threaded_runs.specs.serving.specs.declared.answers.Served.TheVariants as answers
-use Rattle.threaded_runs.specs.attempt_bounds.specs.Spared.{most_in_limbo}
 use Rattle.threaded_runs.specs.Lone.{AreServedAlone, ServesAlone}
 use Rattle.threaded_runs.specs.Runs.{AreServed, IsShortOf}
 use Rattle.flock_tool.specs.Finish.{finish_by, finish_status}
@@ -52,9 +51,8 @@ module _ {T : Type 0} (m : Meaning) (per_pair : ℕ) (w : WordsState T) (waits :
       at : slice_get list 0 ≡ Some (answers.Short found.1)
       at = only found.0 (answers.Short found.1) found.2
 
-      limbo : (kind : Kind) → found.1.kind ≡ kind → found.1.limbo ≤ most_in_limbo kind
-      limbo kind e = subst (λ (k : Kind). found.1.limbo ≤ most_in_limbo k) e
-          ((alone (answers.Short found.1) (short_goes found.1) at).limbo found.1 versions at)
+      limbo : found.1.limbo ≡ 0
+      limbo = (alone (answers.Short found.1) (short_goes found.1) at).limbo found.1 versions at
 
       by : (kind : Kind) → found.1.kind ≡ kind → ⊥
       by slots.Node e =
@@ -62,11 +60,11 @@ module _ {T : Type 0} (m : Meaning) (per_pair : ℕ) (w : WordsState T) (waits :
           let all = (alone (answers.Short found.1) (short_goes found.1) at).slots found.1 at e in
           let double = twice per_pair (peak w.requests) few in
           let unworn = found.3 in
-          let left = limbo slots.Node e in
+          let left = limbo in
           absurd (omega (arith, free, all, double, left, unworn, enough))
       by slots.Descriptor e =
           let all = (is.descriptors e).2 in
-          let left = limbo slots.Descriptor e in
+          let left = limbo in
           ⊎_elim (λ unwaited. let more = two unwaited in omega (arith, all, left, more)) (λ none. omega (arith, all, none, some)) is.over
 
   pub never_six : 8 * length w.requests + 8 ≤ w.layout.version_max → finish_status (finish_by list unserved) ≢ 6

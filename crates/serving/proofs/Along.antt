@@ -358,7 +358,7 @@ module _ {T : Type 0} (m : Meaning) (laws : Laws m) (planning : Planning) (reque
         knew = knows_on old r persists.before along.knows persists.knew;
         spared = spared_before;
         stops = record { cause = is; over = over_of retry_short short.limbo last };
-        tidy = is.collects.tidy;
+        tidy = is.reclaims.rested.tidy;
         unanswered = is.untouched.unknown;
       },
     );

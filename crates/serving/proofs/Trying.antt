@@ -108,7 +108,7 @@ module _ {T : Type 0} (m : Meaning) (planning : Planning) (request : Request) (r
   again_open (attempts.Far loads) e is = (is.tidy, is.untouched.unknown)
   again_open (attempts.Spent place word) e is = absurd (let z = e in cc)
   again_open (attempts.Done reply stamp) e is = absurd (let z = e in cc)
-  again_open (attempts.Short short) e is = (is.collects.tidy, is.untouched.unknown)
+  again_open (attempts.Short short) e is = (is.reclaims.rested.tidy, is.untouched.unknown)
   again_open attempts.Halted e is = absurd (let z = e in cc)
 
   again_going : (answer : Attempt) → is_tried_again retry_short answer ≡ true → not (is_halted answer) ≡ true

@@ -34,7 +34,7 @@ use Rattle.serving.specs.attempts.specs.declared.answers.Attempt.{Attempt}
 use Rattle.serving.specs.attempts.specs.declared.answers.Attempt.TheVariants as attempts
 use Rattle.serving.specs.attempt_bounds.specs.Lone.{LoneAttemptsAreServed, NobodyCameBetween}
 use Rattle.serving.specs.one_worker.specs.Uncrossed.{OneWorkerIsUncrossed}
-use Rattle.serving.specs.attempt_bounds.specs.Spared.{most_in_limbo, AttemptsSpareSlots}
+use Rattle.serving.specs.attempt_bounds.specs.Spared.{AttemptsSpareSlots}
 use Rattle.serving.specs.declared.answers.Served.{Served}
 use Rattle.serving.specs.declared.answers.Served.TheVariants as stops
 use Rattle.closed_words.specs.Histories.{HaveHistory}
@@ -232,7 +232,7 @@ module _ {T H : Type 0} (m : Meaning) (planning : Planning) (retry_short : Bool)
         ∙ (alone.uncrossed closing.world closing.reached one).behind (ap (λ (x : PartState). x.gone) p_is)
         (ap (λ (x : PartState). x.records.crosses) (second_is m t keeper w closing one p p_is tidy.at.published) ∙ (settles.crosses ∙ fresh.apart))
 
-    limbo_at : (short : Short) → 8 * length w.requests + 8 ≤ w.layout.version_max → slice_get answers 0 ≡ Some (stops.Short short) → short.limbo ≤ most_in_limbo short.kind
+    limbo_at : (short : Short) → 8 * length w.requests + 8 ≤ w.layout.version_max → slice_get answers 0 ≡ Some (stops.Short short) → short.limbo ≡ 0
     limbo_at short versions_enough is = ⊎_elim unwaited (λ none. omega (arith, none)) ends.2.stops.over
       where
         is_short : f.answer ≡ stops.Short short
@@ -241,19 +241,19 @@ module _ {T H : Type 0} (m : Meaning) (planning : Planning) (retry_short : Bool)
         ends : Ends m planning retry_short j.requests.items (stops.Short short) has_run.serves.count has_run.serves.tries j.runner f.runner
         ends = subst (λ (a : Served). Ends m planning retry_short j.requests.items a has_run.serves.count has_run.serves.tries j.runner f.runner) is_short has_run.serves.ends
 
-        low : length p.records.finished < 2 ^ 61
+        low : length p.records.finished < 2 ^ 59
         low = below (length p.records.finished) (length t.requests) t.layout.version_max few_runs
             (subst (λ (rs : List Request). 8 * length rs + 8 ≤ t.layout.version_max) closing.requests
             (subst (λ (l : Layout). 8 * length w.requests + 8 ≤ l.version_max) closing.layout versions_enough)) lawful.limits.few_versions
           where
-            below : (n k v : ℕ) → n ≤ k + 1 → 8 * k + 8 ≤ v → v < 2 ^ 32 → n < 2 ^ 61
+            below : (n k v : ℕ) → n ≤ k + 1 → 8 * k + 8 ≤ v → v < 2 ^ 32 → n < 2 ^ 59
             below n k v few room low = omega (arith, few, room, low)
 
-        unwaited : retry_short ≡ false → short.limbo ≤ most_in_limbo short.kind
+        unwaited : retry_short ≡ false → short.limbo ≡ 0
         unwaited is_so = ⊎_elim
             (λ crossed. absurd (uncrossed has_run.serves.tries crossed))
             (λ spared. spare.short short ends.0.number ends.2.before f.runner spared ends.2.stops.cause alone_here low)
-            (ends.2.spared is_so (spare.first j.runner is_seated.nodes is_seated.descriptors is_seated.unmet))
+            (ends.2.spared is_so (spare.first j.runner is_seated.unmet))
 
   pub served_alone : slice_get answers 0 ≢ Some stops.Halted → AreServedAlone m per_pair w answers
   served_alone unhalted =

@@ -8,7 +8,6 @@ use Rattle.structure_laws.specs.Meaning.{Meaning}
 use Rattle.closed_words.specs.version_words.specs.TableState.{WordsState, word_of}
 use Rattle.settling.specs.epoch_slots.specs.declared.reserves.Kind.TheVariants as kinds
 use Rattle.settling.specs.epoch_slots.specs.declared.reserves.Short.{Short}
-use Rattle.serving.specs.attempt_bounds.specs.Spared.{most_in_limbo}
 use Rattle.serving.specs.Serving.{most_asks}
 use Rattle.serving.specs.declared.answers.Served.{Served}
 use Rattle.serving.specs.declared.answers.Served.TheVariants as answers
@@ -23,11 +22,11 @@ module _ {T : Type 0} (m : Meaning) (per_pair : ℕ) (w : WordsState T) where
     -- largest map that its requests leave on their way
     pub slots : (short : Short) → slice_get given 0 ≡ Some (answers.Short short) → short.kind ≡ kinds.Node
         → w.layout.nodes ≤ short.free + (short.limbo + short.worn) + per_pair * peak w.requests
-    -- where its words have versions enough: of the kind that it lacked few are in limbo, whether or not such a want is
+    -- where its words have versions enough: of the kind that it lacked none is in limbo, whether or not such a want is
     -- waited out
     pub limbo : (short : Short) → 8 * length w.requests + 8 ≤ w.layout.version_max
         → slice_get given 0 ≡ Some (answers.Short short)
-        → short.limbo ≤ most_in_limbo short.kind
+        → short.limbo ≡ 0
 
   -- so it is with one worker that wasn't halted
   abbrev pub ServesAlone : List Served → Type 0

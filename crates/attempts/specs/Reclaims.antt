@@ -1,0 +1,39 @@
+-- How a runner comes by free slots before it enters.
+use Rattle.std.specs.Prelude.{◌≡◌, ℕ, ◌*◌, ◌&&◌, ◌||◌, ◌==◌, Bool, true, false, nat_lt, nat_le, length}
+use Rattle.structure_laws.specs.Meaning.{Meaning}
+use Rattle.lock_walks.specs.version_words.specs.RunnerState.{RunnerState}
+use Rattle.lock_walks.specs.epoch_slots.specs.Collects.{IsTidy, Collects}
+
+module _ {T : Type 0} where
+  -- fewer slots are free than an attempt needs: two node slots and one descriptor
+  abbrev pub lacks_slots : RunnerState T → Bool
+  lacks_slots r = nat_lt (length r.part.nodes.free) 2 || length r.part.descriptors.free == 0
+
+  -- of as many node slots as the layout gives each worker a quarter or more are in the own limbo
+  abbrev pub has_much_in_limbo : RunnerState T → Bool
+  has_much_in_limbo r = nat_lt 0 (length r.part.nodes.limbo) && nat_le r.layout.nodes (4 * length r.part.nodes.limbo)
+
+  -- the runner is idle with an empty hand, and is who it was, knows what it knew, and has run what it had
+  pub record IsRested (old new : RunnerState T) : Type 0 where
+    pub tidy : IsTidy new
+    pub number : new.number ≡ old.number
+    pub known : new.part.records.known ≡ old.part.records.known
+    pub finished : new.part.records.finished ≡ old.part.records.finished
+
+  module _ (m : Meaning) where
+    -- one scan, exactly where it is due
+    abbrev pub CollectsWhere : Bool → RunnerState T → RunnerState T → Type 0
+    CollectsWhere true old new = Collects m old new
+    CollectsWhere false old new = new ≡ old
+
+    -- one scan where much is in limbo, and then up to three in a row, as long as slots lack. So where slots still lack
+    -- three scans were made one behind the other
+    pub record Reclaims (old new : RunnerState T) : Type 0 where
+      pub swept : RunnerState T
+      pub first : RunnerState T
+      pub second : RunnerState T
+      pub sweeps : CollectsWhere (has_much_in_limbo old) old swept
+      pub once : CollectsWhere (lacks_slots swept) swept first
+      pub twice : CollectsWhere (lacks_slots first) first second
+      pub thrice : CollectsWhere (lacks_slots second) second new
+      pub rested : IsRested old new

@@ -1,0 +1,74 @@
+//! How a runner comes by free slots before an attempt: it collects where it has to.
+ghost use Rattle.std.specs.Prelude.{◌≡◌};
+ghost use Rattle.lock_walks.specs.version_words.specs.TableState.{IsOf};
+ghost use Rattle.lock_walks.specs.epoch_slots.specs.Collects.{IsTidy};
+ghost use Rattle.attempts.specs.Reclaims.{lacks_slots, has_much_in_limbo, CollectsWhere, Reclaims, IsRested};
+
+use lock_walks::epoch_slots::collect;
+use lock_walks::version_words::{FlockTable, Runner};
+use structure_laws::Structure;
+
+/// Whether fewer slots are free than an attempt needs: two node slots and one descriptor.
+fn is_lacking<S: Structure>(runner: &Runner<S>) -> bool
+    ensures { result ≡ lacks_slots runner.now }
+{
+    runner.free_nodes().len() < 2 || runner.free_descriptors().is_empty()
+}
+
+/// Whether so many of the own node slots are in limbo that a scan is worth its steps: a quarter of those that the
+/// layout gives each worker, and one at least.
+fn is_full<S: Structure>(table: &FlockTable<S>, runner: &Runner<S>) -> bool
+    requires { IsOf table.now runner.now }
+    ensures { result ≡ has_much_in_limbo runner.now }
+{
+    let limbo = runner.limbo_nodes();
+    limbo > 0 && table.layout().nodes as u64 <= 4 * limbo as u64
+}
+
+/// One scan where it is due.
+fn collect_where<S: Structure>(
+    table: &FlockTable<S>,
+    runner: Runner<S>,
+    due: bool,
+) -> Runner<S>
+    requires own { IsOf table.now runner }
+    requires tidy { IsTidy runner }
+    ensures own { IsOf table.now result }
+    ensures collects { CollectsWhere (S.meaning table.now.structure) due runner result }
+    ensures rested { IsRested runner result }
+{
+    if due { collect(table, runner) } else { runner }
+}
+
+/// One scan where slots lack.
+fn refill<S: Structure>(table: &FlockTable<S>, runner: Runner<S>) -> Runner<S>
+    requires own { IsOf table.now runner }
+    requires tidy { IsTidy runner }
+    ensures own { IsOf table.now result }
+    ensures collects { CollectsWhere (S.meaning table.now.structure) (lacks_slots runner) runner result }
+    ensures rested { IsRested runner result }
+{
+    let lacking = is_lacking(&runner);
+    collect_where(table, runner, lacking)
+}
+
+/// Collects once where a quarter of the worker's node slots or more are in limbo, and then up to three times in a row,
+/// as long as two node slots or a descriptor lack.
+///
+/// Each scan loads all announcements and may take the epoch on, which costs every other runner a cache line; so one is
+/// made only where it is needed. Three in a row bring back all that nobody holds: what was retired in the present epoch
+/// leaves limbo two epochs on.
+///
+/// The runner has to be idle with an empty hand. There is no refusal, and no memory is taken (Fraser, 2004).
+pub fn reclaim<S: Structure>(table: &FlockTable<S>, runner: Runner<S>) -> Runner<S>
+    requires own { IsOf table.now runner }
+    requires tidy { IsTidy runner }
+    ensures own { IsOf table.now result }
+    ensures reclaims { Reclaims (S.meaning table.now.structure) runner result }
+{
+    let full = is_full(table, &runner);
+    let runner = collect_where(table, runner, full);
+    let runner = refill(table, runner);
+    let runner = refill(table, runner);
+    refill(table, runner)
+}
