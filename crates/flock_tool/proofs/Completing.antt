@@ -111,7 +111,7 @@ module _ (options : RunOptions) (traces : Traces) (count : ℕ) (count_is : coun
   avoids : HasLoneRoom options traces → (number unserved : ℕ) → (number ≢ 9 → number ≡ finish_status (finish_by (answers_in ran) unserved))
       → (number ≢ 5) × (number ≢ 6)
   avoids room number unserved status = (
-    λ five. never_five (meaning_of ran) (per_pair_in ran) (words_in ran) waits (answers_in ran) run.served unserved run.lone one some two (few_per_pair ran) versions slots
+    λ five. never_five (meaning_of ran) (per_pair_in ran) (words_in ran) waits (answers_in ran) run.served unserved run.lone one some (few_per_pair ran) versions slots
         (sym (status (λ nine. omega (arith, five, nine))) ∙ five),
     λ six. never_six (meaning_of ran) (per_pair_in ran) (words_in ran) waits (answers_in ran) run.served unserved run.lone one versions
         (sym (status (λ nine. omega (arith, six, nine))) ∙ six),
@@ -119,14 +119,6 @@ module _ (options : RunOptions) (traces : Traces) (count : ℕ) (count_is : coun
     where
       one : (words_in ran).layout.runners ≡ 1
       one = ap (λ (l : Layout). l.runners) layout ∙ room.one
-
-      two : waits ≡ false → 2 ≤ (words_in ran).layout.sections
-      two unwaited = subst (λ (l : Layout). 2 ≤ l.sections) (sym layout)
-          (room.two (ap (names_below options.halts) (sym one) ∙ named (names_below options.halts (words_in ran).layout.runners) unwaited))
-        where
-          named : (b : Bool) → not b ≡ false → b ≡ true
-          named true e = refl
-          named false e = absurd (let z = e in cc)
 
       some : 1 ≤ (words_in ran).layout.sections
       some = subst (λ (l : Layout). 1 ≤ l.sections) (sym layout) room.some

@@ -38,9 +38,9 @@ module _ {T : Type 0} (m : Meaning) (per_pair : ℕ) (w : WordsState T) (waits :
   spent_goes : (place word : ℕ) → answers.Spent place word ≢ answers.Halted
   spent_goes place word e = absurd (let z = e in cc)
 
-  pub never_five : 1 ≤ w.layout.sections → (waits ≡ false → 2 ≤ w.layout.sections) → per_pair ≤ 2 → 8 * length w.requests + 8 ≤ w.layout.version_max
+  pub never_five : 1 ≤ w.layout.sections → per_pair ≤ 2 → 8 * length w.requests + 8 ≤ w.layout.version_max
       → 2 * peak w.requests + 16 ≤ w.layout.nodes → finish_status (finish_by list unserved) ≢ 5
-  never_five some two few versions enough five = by found.1.kind refl
+  never_five some few versions enough five = by found.1.kind refl
     where
       found : Lacks list
       found = five_lacks list unserved five
@@ -65,7 +65,7 @@ module _ {T : Type 0} (m : Meaning) (per_pair : ℕ) (w : WordsState T) (waits :
       by slots.Descriptor e =
           let all = (is.descriptors e).2 in
           let left = limbo in
-          ⊎_elim (λ unwaited. let more = two unwaited in omega (arith, all, left, more)) (λ none. omega (arith, all, none, some)) is.over
+          absurd (omega (arith, all, left, some))
 
   pub never_six : 8 * length w.requests + 8 ≤ w.layout.version_max → finish_status (finish_by list unserved) ≢ 6
   never_six enough six = by (six_lacks list unserved six)

@@ -1,11 +1,10 @@
 -- Completeness with one runner, whose slots are used again.
-use Rattle.std.specs.Prelude.{◌≡◌, ◌≢◌, ◌≤◌, ◌+◌, ◌*◌, ℕ, List, Option, IfSome, Some, true, length}
+use Rattle.std.specs.Prelude.{◌≡◌, ◌≢◌, ◌≤◌, ◌+◌, ◌*◌, ℕ, List, Option, IfSome, Some, length}
 use Rattle.threaded_runs.specs.map_sizes.specs.Sizes.{peak}
 use Rattle.command_line.specs.trace_reader.specs.Answer.{AreTracesOf}
 use Rattle.command_line.specs.trace_reader.specs.Generator.{generated}
 use Rattle.command_line.specs.trace_reader.specs.declared.traces.Traces.{Traces}
 use Rattle.load_counts.specs.version_words.specs.TableState.{WordsState}
-use Rattle.command_line.specs.Halts.{names_below}
 use Rattle.command_line.specs.declared.command.Command.{Command}
 use Rattle.command_line.specs.declared.command.Command.TheVariants as commands
 use Rattle.command_line.specs.declared.options.RunOptions.{RunOptions}
@@ -15,13 +14,12 @@ use Rattle.flock_tool.specs.Streams.{Fails, Gating, Halts, Stream}
 use Rattle.flock_tool.specs.declared.ran.Ran.{Ran}
 
 -- there is one runner. It has two node slots for each pair of the largest map that the requests leave on their way, and
--- sixteen more, and no more than the limit; one descriptor at least, and two where it is named to halt; and its words
--- have eight versions for each request, and eight more
+-- sixteen more, and no more than the limit; one descriptor at least; and its words have eight versions for each request,
+-- and eight more
 pub record HasLoneRoom (options : RunOptions) (traces : Traces) : Type 0 where
   pub one : (layout_by options traces.count traces.requests).runners ≡ 1
   pub few : all_nodes (layout_by options traces.count traces.requests) ≤ 262144
   pub some : 1 ≤ (layout_by options traces.count traces.requests).sections
-  pub two : names_below options.halts 1 ≡ true → 2 ≤ (layout_by options traces.count traces.requests).sections
   pub slots : 2 * peak traces.requests + 16 ≤ (layout_by options traces.count traces.requests).nodes
   pub versions : 8 * length traces.requests + 8 ≤ (layout_by options traces.count traces.requests).version_max
 
