@@ -104,7 +104,7 @@ run_plain said run mean = of_name (λ name. IsPlainIfGiven (said name)) run_name
   (
     meant_plain (number_in 1 16) (dash_number 1 16) (said (codes "runners")) run.runners mean.runners,
     (
-      default_plain 6 exponent_in dash_exponent (said (codes "buckets")) run.bucket_bits mean.bucket_bits,
+      meant_plain exponent_in dash_exponent (said (codes "buckets")) run.bucket_bits mean.bucket_bits,
       (
         meant_plain (number_in 0 262144) (dash_number 0 262144) (said (codes "nodes")) run.nodes mean.nodes,
         (

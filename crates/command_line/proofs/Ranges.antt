@@ -53,15 +53,25 @@ default_bounds : (default least greatest : ℕ) (text : Option Text) (number : �
 default_bounds default least greatest None number low high e = let same : default ≡ number = cc in (subst (λ n. least ≤ n) same low, subst (λ n. n ≤ greatest) same high)
 default_bounds default least greatest (Some text) number low high e = number_bounds least greatest text number e
 
-exponent_bound : (text : Option Text) (bits : ℕ) → meant_or 6 exponent_in text ≡ Some bits → bits ≤ 12
-exponent_bound None bits e = let same : 6 ≡ bits = cc in omega (arith, same)
-exponent_bound (Some text) bits e = by_number (number_in 1 4096 text) refl
+exponent_bound : (text : Text) (bits : ℕ) → exponent_in text ≡ Some bits → bits ≤ 12
+exponent_bound text bits e = by_number (number_in 1 4096 text) refl
   where
     by_number : (found : Option ℕ) → number_in 1 4096 text ≡ found → bits ≤ 12
     by_number None is = let none : None ≡ Some bits = sym (ap (option_and_then (λ number. position (λ power. power == number) powers)) is) ∙ e in cc
     by_number (Some number) is =
         let at : position (λ power. power == number) powers ≡ Some bits = sym (ap (option_and_then (λ number. position (λ power. power == number) powers)) is) ∙ e in
         omega (arith, (position-Some (λ power. power == number) powers bits 0 at).0)
+
+meant_exponent_bound : (text : Option Text) (bits : Option ℕ) → meant exponent_in text ≡ Some bits → IfSome bits (λ n. n ≤ 12)
+meant_exponent_bound None bits e = let none : None ≡ bits = cc in subst (λ bits. IfSome bits (λ n. n ≤ 12)) none tt
+meant_exponent_bound (Some text) bits e = by_exponent (exponent_in text) refl
+  where
+    by_exponent : (found : Option ℕ) → exponent_in text ≡ found → IfSome bits (λ n. n ≤ 12)
+    by_exponent None is = let none : None ≡ Some bits = sym (ap (option_map Some) is) ∙ e in cc
+    by_exponent (Some found) is =
+        let some : Some (Some found) ≡ Some bits = sym (ap (option_map Some) is) ∙ e in
+        let same : Some found ≡ bits = cc in
+        subst (λ bits. IfSome bits (λ n. n ≤ 12)) same (exponent_bound text found is)
 
 abbrev IsNamedHalt : Halt → Type 0
 IsNamedHalt halt = (halt.runner ≤ 15) × (1 ≤ halt.ask)
@@ -127,7 +137,7 @@ halts_bounds (Some text) halts e = by_halts (all_there (map halt_in (slice_split
 pub in_range : (said : Text → Option Text) (run : RunOptions) → Mean said run → AreInRange run
 in_range said run mean = record {
   runners = meant_bounds 1 16 (said (codes "runners")) run.runners mean.runners;
-  bucket_bits = exponent_bound (said (codes "buckets")) run.bucket_bits mean.bucket_bits;
+  bucket_bits = meant_exponent_bound (said (codes "buckets")) run.bucket_bits mean.bucket_bits;
   nodes = weaker run.nodes (λ n. (0 ≤ n) × (n ≤ 262144)) (λ n. n ≤ 262144) (λ n h. h.1) (meant_bounds 0 262144 (said (codes "nodes")) run.nodes mean.nodes);
   sections = default_bounds 64 1 1024 (said (codes "sections")) run.sections (omega arith) (omega arith) mean.sections;
   version_max = (default_bounds 4294967295 3 4294967295 (said (codes "version-max")) run.version_max (omega arith) (omega arith) mean.version_max).0;

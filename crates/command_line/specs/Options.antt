@@ -1,5 +1,5 @@
 -- The options of `run`, by their words.
-use Rattle.std.specs.Prelude.{◌≡◌, ◌≤◌, ℕ, ◌*◌, ◌+◌, ◌/◌, List, [], ◌∷◌, All, IfSome, Option, None, Some, codes, if◌then◌else◌, max, min, option_map, unwrap_or}
+use Rattle.std.specs.Prelude.{◌≡◌, ◌≤◌, ℕ, ◌*◌, ◌+◌, ◌/◌, List, [], ◌∷◌, All, IfSome, Option, None, Some, codes, if◌then◌else◌, max, min, nat_le, option_map, unwrap_or}
 use Rattle.std.specs.Str.{bytes_eq}
 use Rattle.command_line.specs.declared.halts.Halt.{Halt}
 use Rattle.command_line.specs.declared.options.RunOptions.{RunOptions}
@@ -33,7 +33,7 @@ run_names =
 pub record Mean (said : Text → Option Text) (run : RunOptions) : Type 0 where
   pub table : meant_or Hash table_in (said (codes "table")) ≡ Some run.table
   pub runners : meant (number_in 1 16) (said (codes "runners")) ≡ Some run.runners
-  pub bucket_bits : meant_or 6 exponent_in (said (codes "buckets")) ≡ Some run.bucket_bits
+  pub bucket_bits : meant exponent_in (said (codes "buckets")) ≡ Some run.bucket_bits
   pub nodes : meant (number_in 0 262144) (said (codes "nodes")) ≡ Some run.nodes
   pub sections : meant_or 64 (number_in 1 1024) (said (codes "sections")) ≡ Some run.sections
   pub version_max : meant_or 4294967295 (number_in 3 4294967295) (said (codes "version-max")) ≡ Some run.version_max
@@ -50,6 +50,16 @@ pub record IsRun (line : List Text) (run : RunOptions) : Type 0 where
 abbrev pub runners_by : Option ℕ → ℕ → ℕ
 runners_by runners traces = unwrap_or runners (max 1 (min traces 16))
 
+-- the exponent of the least power of two that is at least 64 and at least an eighth of the insertions, but no more than
+-- 4,096
+abbrev pub bits_for : ℕ → ℕ
+bits_for inserts =
+    if nat_le inserts 512 then 6 else if nat_le inserts 1024 then 7 else if nat_le inserts 2048 then 8 else
+    if nat_le inserts 4096 then 9 else if nat_le inserts 8192 then 10 else if nat_le inserts 16384 then 11 else 12
+
+abbrev pub bits_by : Option ℕ → ℕ → ℕ
+bits_by bits inserts = unwrap_or bits (bits_for inserts)
+
 -- two node slots for each insertion and eight more, but no more of all runners together than 262,144
 abbrev pub nodes_by : Option ℕ → (inserts runners : ℕ) → ℕ
 nodes_by nodes inserts runners = unwrap_or nodes (min (2 * inserts + 8) (262144 / runners))
@@ -57,7 +67,7 @@ nodes_by nodes inserts runners = unwrap_or nodes (min (2 * inserts + 8) (262144 
 -- the options are in their ranges
 pub record AreInRange (options : RunOptions) : Type 0 where
   pub runners : IfSome options.runners (λ runners. (1 ≤ runners) × (runners ≤ 16))
-  pub bucket_bits : options.bucket_bits ≤ 12
+  pub bucket_bits : IfSome options.bucket_bits (λ bits. bits ≤ 12)
   pub nodes : IfSome options.nodes (λ nodes. nodes ≤ 262144)
   pub sections : (1 ≤ options.sections) × (options.sections ≤ 1024)
   pub version_max : 3 ≤ options.version_max

@@ -3,7 +3,7 @@ ghost use Rattle.std.specs.Prelude.{◌≡◌, ◌<◌, ◌≤◌, [], IfOk, IfN
 ghost use Rattle.command_line.specs.declared.options.TableKind.TheVariants.{Hash};
 ghost use Rattle.command_line.specs.Halts.{halts_in};
 ghost use Rattle.command_line.specs.Numbers.{exponent_in, number_in};
-ghost use Rattle.command_line.specs.Options.{Mean, meant, meant_or, nodes_by, runners_by, table_in};
+ghost use Rattle.command_line.specs.Options.{Mean, bits_by, bits_for, meant, meant_or, nodes_by, runners_by, table_in};
 ghost use Rattle.command_line.specs.Parser.{said_by};
 
 use crate::halts::{Halts, read_halts};
@@ -29,7 +29,7 @@ pub struct RunOptions {
     /// `--runners`: how many runners serve the requests, 1 to 16.
     pub runners: Option<u32>,
     /// `--buckets`: as a power of two, by its exponent, 0 to 12.
-    pub bucket_bits: u32,
+    pub bucket_bits: Option<u32>,
     /// `--nodes`: the node slots of each runner.
     pub nodes: Option<u32>,
     /// `--sections`: the descriptor slots of each runner, 1 to 1,024.
@@ -52,6 +52,17 @@ impl RunOptions {
         }
     }
 
+    /// How many buckets the hash table has for so many insertions, by the exponent: as many as are given, else the least
+    /// power of two that is at least 64 and at least an eighth of the insertions, but no more than 4,096.
+    pub fn bits_for(&self, inserts: u32) -> u32
+        ensures { result ≡ bits_by self.now.bucket_bits inserts }
+    {
+        match self.bucket_bits {
+            Some(bits) => bits,
+            None => default_bits(inserts),
+        }
+    }
+
     /// How many node slots each of so many runners has for so many insertions: as many as are given, else two for
     /// each insertion and eight more, but no more than 262,144 of all runners together.
     pub fn nodes_for(&self, inserts: u32, runners: u32) -> u32
@@ -63,6 +74,21 @@ impl RunOptions {
             Some(nodes) => nodes,
             None => (2 * inserts + 8).min(262_144 / runners),
         }
+    }
+}
+
+// The exponent of the default number of buckets for so many insertions.
+fn default_bits(inserts: u32) -> u32
+    ensures { result ≡ bits_for inserts }
+{
+    match inserts {
+        0..=512 => 6,
+        513..=1024 => 7,
+        1025..=2048 => 8,
+        2049..=4096 => 9,
+        4097..=8192 => 10,
+        8193..=16_384 => 11,
+        _ => 12,
     }
 }
 
@@ -85,7 +111,7 @@ fn options_with(given: &ArgMatches<'_>, halts: Halts) -> Option<RunOptions>
 {
     let table = table_or_hash(value_of(given, "table"))?;
     let runners = number_if_given(value_of(given, "runners"), 1, 16)?;
-    let bucket_bits = exponent_or(value_of(given, "buckets"), 6)?;
+    let bucket_bits = exponent_if_given(value_of(given, "buckets"))?;
     let nodes = number_if_given(value_of(given, "nodes"), 0, 262_144)?;
     let sections = number_or(value_of(given, "sections"), 64, 1, 1024)?;
     let version_max = number_or(value_of(given, "version-max"), u32::MAX, 3, u32::MAX)?;
@@ -129,12 +155,12 @@ fn number_if_given(text: Option<&str>, least: u32, greatest: u32) -> Option<Opti
     }
 }
 
-fn exponent_or(text: Option<&str>, default: u32) -> Option<u32>
-    ensures { result ≡ meant_or default exponent_in (option_map (λ text. text.now) text.entry) }
+fn exponent_if_given(text: Option<&str>) -> Option<Option<u32>>
+    ensures { result ≡ meant exponent_in (option_map (λ text. text.now) text.entry) }
 {
     match text {
-        Some(text) => exponent_in(text),
-        None => Some(default),
+        Some(text) => Some(Some(exponent_in(text)?)),
+        None => Some(None),
     }
 }
 

@@ -18,7 +18,9 @@ use Rattle.threaded_runs.specs.Lone.{AsksAlone, ServesAlone}
 use Rattle.threaded_runs.specs.Runs.{AreServed, IsMadeWith}
 use Rattle.command_line.specs.Halts.{ask_of, names_below}
 use Rattle.command_line.specs.declared.halts.Halt.{Halt}
+use Rattle.command_line.specs.Options.{bits_by}
 use Rattle.command_line.specs.declared.options.RunOptions.{RunOptions}
+use Rattle.threaded_runs.specs.resource_bounds.specs.Makes.{inserts}
 use Rattle.command_line.specs.declared.options.TableKind.TheVariants as kinds
 use Rattle.flock_tool.specs.Complete.{Completes}
 use Rattle.flock_tool.specs.Finish.{any_halted, finish_by, finish_status, TellsFinish}
@@ -57,7 +59,8 @@ per_pair_in (Tree words answers) = 2
 
 -- the table was of the kind and of the size that the options name
 abbrev pub IsTableOf : RunOptions → Ran → Type 0
-IsTableOf options (Hash words answers) = (options.table ≡ kinds.Hash) × (words.structure.bits ≡ options.bucket_bits)
+IsTableOf options (Hash words answers) =
+    (options.table ≡ kinds.Hash) × (words.structure.bits ≡ bits_by options.bucket_bits (inserts words.requests))
 IsTableOf options (Tree words answers) = options.table ≡ kinds.Tree
 
 -- for each runner a gate was given, in order of number, with the ask at which it is named to halt, if it is

@@ -112,8 +112,8 @@ fn has_32_bits(number: u32)
     let _ = number;
 }
 
-// How many of the requests insert.
-fn insertions(requests: &[Request]) -> u32
+/// How many of the requests insert.
+pub(crate) fn insertions(requests: &[Request]) -> u32
     requires { length requests.now ≤ 131072 }
     ensures { result ≡ inserts requests.now }
 {

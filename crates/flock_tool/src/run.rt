@@ -12,7 +12,7 @@ ghost use Rattle.load_counts.specs.run_reports.specs.Reports.{HaveContents, Prin
 ghost use Rattle.flock_tool.specs.Runs.{words_in, answers_in, meaning_of, HasRunOn, HasRunPlan, StopsReport};
 ghost use Rattle.flock_tool.specs.Streams.{gating, stream};
 
-use crate::plan::Plan;
+use crate::plan::{Plan, insertions};
 use crate::ran::Ran;
 use crate::status::Stop;
 use command_line::TableKind;
@@ -49,7 +49,8 @@ pub fn run_plan<T: Threads + Wait + Sync, G: Gates>(
 {
     match plan.options.table {
         TableKind::Hash => {
-            let table = HashTable::new(plan.options.bucket_bits);
+            let bits = plan.options.bits_for(insertions(plan.traces.requests.as_slice()));
+            let table = HashTable::new(bits);
             let (words, answers) = run_on(rt, alloc, table, plan, gates)?;
             Ok(Ran::Hash(words, answers))
         }

@@ -87,10 +87,10 @@ load --version-max=3 --seed=1 --sections=1 --traces=8 --nodes=0 --length=4 --buc
 
 // Lines, and behind a bar what they mean, as `Debug` shows it.
 const MEANT: &str = "\
-run|Run(RunOptions { table: Hash, runners: None, bucket_bits: 6, nodes: None, sections: 64, version_max: 4294967295, halts: Halts { items: [] } })
-run --halt=2:10,0:7 --nodes 18 --runners=3 --buckets 256 --sections=5 --version-max 9 --table=tree|Run(RunOptions { table: Tree, runners: Some(3), bucket_bits: 8, nodes: Some(18), sections: 5, version_max: 9, halts: Halts { items: [Halt { runner: 2, ask: 10 }, Halt { runner: 0, ask: 7 }] } })
+run|Run(RunOptions { table: Hash, runners: None, bucket_bits: None, nodes: None, sections: 64, version_max: 4294967295, halts: Halts { items: [] } })
+run --halt=2:10,0:7 --nodes 18 --runners=3 --buckets 256 --sections=5 --version-max 9 --table=tree|Run(RunOptions { table: Tree, runners: Some(3), bucket_bits: Some(8), nodes: Some(18), sections: 5, version_max: 9, halts: Halts { items: [Halt { runner: 2, ask: 10 }, Halt { runner: 0, ask: 7 }] } })
 gen --keys 100 --seed=1 --length 3 --traces 2|Gen(Gen { seed: 1, traces: 2, length: 3, keys: 100, apart: false })
-load --traces 2 --keys=100 --nodes=7 --seed=1 --length 3|Load(LoadOptions { plan: Gen { seed: 1, traces: 2, length: 3, keys: 100, apart: true }, run: RunOptions { table: Hash, runners: None, bucket_bits: 6, nodes: Some(7), sections: 64, version_max: 4294967295, halts: Halts { items: [] } } })
+load --traces 2 --keys=100 --nodes=7 --seed=1 --length 3|Load(LoadOptions { plan: Gen { seed: 1, traces: 2, length: 3, keys: 100, apart: true }, run: RunOptions { table: Hash, runners: None, bucket_bits: None, nodes: Some(7), sections: 64, version_max: 4294967295, halts: Halts { items: [] } } })
 ";
 
 fn read(alloc: Global, line: &str) -> Result<Option<Command>, AllocError> {
@@ -148,7 +148,7 @@ fn options_with(alloc: Global, runners: Option<u32>, nodes: Option<u32>) -> RunO
     RunOptions {
         table: TableKind::Hash,
         runners,
-        bucket_bits: 6,
+        bucket_bits: None,
         nodes,
         sections: 64,
         version_max: u32::MAX,
