@@ -10,6 +10,7 @@ import subprocess
 
 TOP = pathlib.Path(__file__).resolve().parent.parent
 FILES = ("crates.txt", "HANDLES")
+OUT = "out"
 
 
 def are_shared() -> bool:
@@ -21,29 +22,36 @@ def are_shared() -> bool:
 
 
 def make_copy(top: pathlib.Path) -> None:
-    """A copy of the crates' sources at this place, without what was made of them."""
-    shutil.rmtree(top, ignore_errors=True)
-    top.mkdir(parents=True)
+    """Makes the crates' sources at this place those of this checkout; what was made of earlier ones there stays."""
+    top.mkdir(parents=True, exist_ok=True)
     for name in FILES:
         shutil.copy2(TOP / name, top / name)
-    shutil.copytree(TOP / "crates", top / "crates", ignore=shutil.ignore_patterns("out"))
+    names = {it.name for it in (TOP / "crates").iterdir()}
+    for old in (top / "crates").glob("*"):
+        for part in old.iterdir() if old.name in names else [old]:
+            if part.name != OUT:
+                remove(part)
+    shutil.copytree(TOP / "crates", top / "crates", ignore=shutil.ignore_patterns(OUT), dirs_exist_ok=True)
+
+
+def remove(path: pathlib.Path) -> None:
+    if path.is_dir():
+        shutil.rmtree(path)
+    else:
+        path.unlink()
 
 
 class Copies:
-    """So many places in which libraries are proved, this checkout the first, in the body of a `with`; at its end the
-    others are removed."""
+    """So many places in which libraries are proved; this checkout is the first."""
 
     def __init__(self, folder: pathlib.Path, number: int) -> None:
         self.folder = folder
         self.free = [TOP] + [folder / str(it) for it in range(1, number)]
         self.taken: dict[str, pathlib.Path] = {}
-
-    def __enter__(self) -> "Copies":
         for top in self.free[1:]:
             make_copy(top)
-        return self
 
-    def __exit__(self, *_) -> None:
+    def remove(self) -> None:
         shutil.rmtree(self.folder, ignore_errors=True)
 
     def take(self, name: str) -> pathlib.Path:
