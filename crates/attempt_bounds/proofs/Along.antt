@@ -1,26 +1,24 @@
 -- Along the steps of an attempt, what an uncrossed runner has seen of the epoch stays, but for an advance.
-use Rattle.std.specs.Prelude.{◌==◌, Bool, true, false, replicate}
-use Rattle.std.proofs.Common.{◌≡◌, ℕ, zero, suc, ◌+◌, List, [], ◌∷◌, ◌++◌, refl, sym, ap, ◌∙◌, subst, Some}
+use Rattle.std.specs.Prelude.{◌==◌, Bool, true, false}
+use Rattle.std.proofs.Common.{◌≡◌, ℕ, zero, suc, ◌+◌, List, [], ◌∷◌, refl, sym, ap, ◌∙◌, Some}
 use Rattle.body_terms.specs.declared.micro.Micro.{Micro}
 use Rattle.body_terms.specs.declared.micro.Micro.TheVariants as micros
-use Rattle.table_words.specs.Places.{slot_count}
 use Rattle.structure_laws.specs.Scene.{Readings}
 use Rattle.structure_laws.specs.Meaning.{Meaning}
 use Rattle.runner_parts.specs.declared.event.EventKind.{EventKind}
 use Rattle.runner_parts.specs.declared.event.EventKind.TheVariants as kinds
 use Rattle.runner_parts.specs.State.{RunState, PartState}
-use Rattle.runner_parts.specs.Tests.{thunk_words}
 use Rattle.runner_steps.specs.After.{own_epoch}
 use Rattle.one_worker.proofs.Onward.{is_advance, was_uncrossed, same_own}
 use Rattle.attempts.specs.version_words.specs.RunnerState.{RunnerState}
 use Rattle.attempts.specs.version_words.specs.Events.{Makes, IsMade}
 use Rattle.one_worker.specs.next_steps.specs.Steps.{kind_at}
 use Rattle.attempts.specs.epoch_slots.specs.Entries.{Enters, Exits}
-use Rattle.attempts.specs.epoch_slots.specs.Collects.{Scans, Looks, IsTested, AreTested}
+use Rattle.attempts.specs.epoch_slots.specs.Collects.{Scans, Looks, AreTested}
 use Rattle.attempts.specs.commit_log.specs.Runs.{Ran}
 use Rattle.attempts.specs.section_runs.specs.Opened.{Opens, is_opening}
 use Rattle.attempts.specs.try_lock.specs.Plans.{Loads}
-use Rattle.attempts.specs.try_lock.specs.Prepares.{Stores, SetsWord, SetsWords}
+use Rattle.attempts.specs.try_lock.specs.Prepares.{Stores, SetsWords}
 
 opening_none : (kind : EventKind) → is_opening kind ≡ true → is_advance kind ≡ false
 opening_none (kinds.LoadThunk descriptor) is = refl

@@ -1,13 +1,13 @@
 -- How far an attempt takes the epoch on, and what it leaves in limbo.
 use Rattle.std.specs.Prelude.{false, true, replicate}
-use Rattle.std.proofs.Common.{◌≡◌, ℕ, ◌+◌, ◌*◌, ◌^◌, ◌<◌, ◌≤◌, List, [], ◌∷◌, ◌++◌, length, length-append, refl, sym, ap, ◌∙◌, subst, arith, Option, Some, None}
+use Rattle.std.proofs.Common.{◌≡◌, ℕ, ◌+◌, ◌*◌, ◌^◌, ◌<◌, ◌≤◌, List, [], ◌∷◌, ◌++◌, length, length-append, refl, ap, ◌∙◌, arith, None}
 use Rattle.map_history.specs.declared.op.Request.{Request}
 use Rattle.map_history.specs.declared.reply.Reply.{Reply}
 use Rattle.table_words.specs.Places.{slot_count}
 use Rattle.structure_laws.specs.Meaning.{Meaning}
 use Rattle.runner_parts.specs.declared.event.EventKind.TheVariants as kinds
 use Rattle.epoch_core.specs.declared.stage.Stage.TheVariants as stages
-use Rattle.runner_parts.specs.State.{NodesState, DescriptorsState, FinishedState}
+use Rattle.runner_parts.specs.State.{FinishedState}
 use Rattle.runner_parts.specs.Tests.{thunk_words}
 use Rattle.runner_steps.specs.After.{own_epoch}
 use Rattle.attempts.specs.version_words.specs.RunnerState.{RunnerState}

@@ -1,6 +1,6 @@
 -- A section of the one worker that leaves does so by a spent word.
 use Rattle.std.specs.Prelude.{Ok, if◌then◌else◌}
-use Rattle.std.proofs.Common.{◌≡◌, ℕ, zero, suc, ◌+◌, List, [], ◌∷◌, ◌++◌, refl, sym, ap, ◌∙◌, subst, Option, Some, None}
+use Rattle.std.proofs.Common.{◌≡◌, ℕ, zero, suc, List, [], ◌∷◌, ◌++◌, refl, sym, ap, ◌∙◌, subst, Option, Some, None}
 use Rattle.map_history.specs.declared.op.Request.{Request}
 use Rattle.body_terms.specs.Trail.{Agreed}
 use Rattle.body_terms.specs.declared.micro.Micro.{Micro}

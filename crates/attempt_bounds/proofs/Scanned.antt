@@ -24,16 +24,16 @@ use Rattle.runner_steps.specs.Asks.{ask_by}
 use Rattle.epoch_core.specs.Moves.{is_clear}
 use Rattle.runner_steps.specs.AfterOutside.{collected, with_stage, scan_one_after}
 use Rattle.runner_steps.specs.After.{own_epoch, epoch_after, after_by, stepped}
-use Rattle.machine_states.specs.Sight.{Sight, sight, part_or_first}
+use Rattle.machine_states.specs.Sight.{sight, part_or_first}
 use Rattle.machine_states.proofs.Sights.{unless_gone, cond_none}
 use Rattle.machine_epochs.specs.Descriptors.{DescriptorsAreSound}
 use Rattle.machine_epochs.proofs.OutsideAsked as asked
 use Rattle.machine_epochs.proofs.Reached.{descriptors_after}
-use Rattle.one_worker.proofs.Onward.{own_some, own_is, found_own, read_idle}
+use Rattle.one_worker.proofs.Onward.{own_is, found_own, read_idle}
 use Rattle.attempts.specs.version_words.specs.RunnerState.{RunnerState}
-use Rattle.attempts.specs.version_words.specs.Events.{Makes, Tries}
+use Rattle.attempts.specs.version_words.specs.Events.{Makes}
 use Rattle.attempts.specs.version_words.specs.ReachedWith.{is_told}
-use Rattle.attempts.specs.epoch_slots.specs.Collects.{Scans, Advances, Collects, come_back}
+use Rattle.attempts.specs.epoch_slots.specs.Collects.{Scans, Advances, Collects}
 use Rattle.attempt_bounds.proofs.Recent.{recent, none_kept, kept_recent}
 use Rattle.attempt_bounds.proofs.Along.{Onward, made_on, made_was, scans_on, tested_on}
 

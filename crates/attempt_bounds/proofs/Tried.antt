@@ -1,7 +1,6 @@
 -- The exchange by which the one worker publishes isn't refused.
-use Rattle.std.specs.Prelude.{◌==◌, true, slice_get, Err, if◌then◌else◌}
-use Rattle.std.proofs.Common.{◌≡◌, ℕ, [], sym, ap, ◌∙◌, subst, inr, arith, Option, Some, None}
-use Rattle.std.proofs.lemmas.Bool.Decides.{nat_tests}
+use Rattle.std.specs.Prelude.{true, slice_get, Err, if◌then◌else◌}
+use Rattle.std.proofs.Common.{◌≡◌, ℕ, [], sym, ap, ◌∙◌, subst, inr, Option, Some, None}
 use Rattle.small_lemmas.proofs.Numbers.{equal_tested as same_test}
 use Rattle.map_history.specs.declared.op.Request.{Request}
 use Rattle.body_terms.specs.Word.{held_word}

@@ -26,11 +26,7 @@ fn is_full<S: Structure>(table: &FlockTable<S>, runner: &Runner<S>) -> bool
 }
 
 /// One scan where it is due.
-fn collect_where<S: Structure>(
-    table: &FlockTable<S>,
-    runner: Runner<S>,
-    due: bool,
-) -> Runner<S>
+fn collect_where<S: Structure>(table: &FlockTable<S>, runner: Runner<S>, due: bool) -> Runner<S>
     requires own { IsOf table.now runner }
     requires tidy { IsTidy runner }
     ensures own { IsOf table.now result }
