@@ -1,5 +1,6 @@
 pub mod Bodies
 pub mod Changes
+pub mod Costs
 pub mod Limits
 pub mod Moves
 pub mod Progress
