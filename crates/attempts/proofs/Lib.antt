@@ -11,6 +11,7 @@ mod Trying
 mod Planning
 mod RealTime
 mod Refusing
+mod Expected
 pub mod Placing
 mod Along
 mod LastSteps

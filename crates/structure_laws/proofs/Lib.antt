@@ -3,6 +3,7 @@ pub mod Changes
 pub mod Costs
 pub mod Limits
 pub mod Moves
+pub mod Pairs
 pub mod Progress
 pub mod Readings
 pub mod Steps
