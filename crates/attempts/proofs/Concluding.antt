@@ -10,9 +10,12 @@ use Rattle.body_terms.specs.Word.{value_of}
 use Rattle.body_terms.specs.declared.outcome.Outcome.{Outcome}
 use Rattle.body_terms.specs.declared.outcome.Outcome.TheVariants as outcomes
 use Rattle.body_terms.specs.declared.thunk.Thunk.{Thunk}
+use Rattle.table_words.specs.declared.layout.Layout.{Layout}
 use Rattle.table_words.specs.Limits.{IsWithinLimits}
 use Rattle.structure_laws.specs.Meaning.{Meaning}
 use Rattle.structure_laws.specs.Laws.{Laws}
+use Rattle.structure_laws.specs.Shape.{Shaped}
+use Rattle.structure_laws.specs.Planner.{PlannerLaws}
 use Rattle.runner_parts.specs.declared.event.EventKind.TheVariants as kinds
 use Rattle.runner_parts.specs.declared.entries.Published.{Published}
 use Rattle.runner_parts.specs.State.{NodesState, ReadsState}
@@ -31,7 +34,7 @@ use Rattle.lock_walks.specs.try_lock.specs.Reached.{IsReached}
 use Rattle.lock_walks.specs.try_lock.specs.Retires.{IsOver, HasRetired}
 use Rattle.lock_walks.proofs.Each.{get_last}
 use Rattle.attempts.specs.Knowing.{KnowsMore, IsStill, IsOwn}
-use Rattle.attempts.specs.Course.{of_outcome, IsEmptyHanded, HasEnded, HasRun, SectionHasLeft}
+use Rattle.attempts.specs.Course.{of_outcome, IsEmptyHanded, WasRead, HasEnded, HasRun, SectionHasLeft}
 use Rattle.attempts.specs.Attempts.{IsServed}
 use Rattle.attempts.specs.Rests.{MayLeave, MayLearn, HasLearnt, HasTurned, Rests}
 use Rattle.attempts.specs.declared.answers.Attempt.{Attempt}
@@ -43,6 +46,8 @@ use Rattle.attempts.proofs.Counting.{counted_steps}
 use Rattle.attempts.proofs.Courses.{ended_over}
 use Rattle.attempts.proofs.Turning.{may_own, may_unknown, turned_rests}
 use Rattle.attempts.proofs.Trying.{rests_from_still}
+use Rattle.attempts.proofs.Expected.{stale_outcome, section_stale}
+use Rattle.attempts.proofs.Locks.{allowed_at, planned_shaped}
 use Rattle.attempts.proofs.Refusing.{left_busy, refusal_of_outcome, busy_outcome}
 use Rattle.attempts.proofs.Along.{ran_back}
 use Rattle.attempts.proofs.Telling.{ended_cells, left_known, left_is}
@@ -225,34 +230,57 @@ module _ {T : Type 0} (m : Meaning) (laws : Laws m) (t : TableState T) (limits :
         });
       }
 
-      abbrev has_left : SectionHasLeft m planning request (of_outcome outcome) old retired
-      has_left = record {
-        thunk = thunk;
-        outcome = outcome;
-        left = record {
-          trail = trail;
-          run = run;
-          left = left_is m laws t limits allowed is.published ran own_ran section.descriptor thunk outcome trail is.made is.ends other;
-        };
-        same = refl;
-      }
+      -- the own section goes by what the plan had read
+      module _ (per_pair : ℕ) (planner : PlannerLaws m per_pair) where
+        left_stale : (place expected read : ℕ) → of_outcome outcome ≡ answers.Stale place expected read
+            → WasRead is.tries.readings place expected × (m.is_lock place ≡ false → expected ≢ read)
+        left_stale place expected read e =
+            let cause = is.ends.cause other in
+            section_stale m per_pair planner ran.layout (subst IsWithinLimits (sym own_ran.layout) limits) request.op
+            (allowed_at old.requests request.number request is.tries.plans.enters.may.there (subst AreAllowed (sym requests_old) allowed).each)
+            is.tries.readings thunk
+            (ap (λ (l : Layout). m.fits l request.op is.tries.readings thunk) (own_ran.layout ∙ sym layout_old) ∙ is.tries.plans.answers.fits)
+            (subst (λ (l : Layout). Shaped m l is.tries.readings thunk) (planned_layout ∙ sym own_ran.layout) planned_is)
+            section.descriptor trail.words place expected read cause.0
+            (cause.1 ∙ ap (λ (o : Outcome). Some o) (stale_outcome outcome place expected read e))
+          where
+            planned_layout : is.tries.planned.layout ≡ t.layout
+            planned_layout = is.tries.plans.still.layout ∙ layout_old
 
-      still : IsStill ran retired
-      still = record {
-        layout = own_retired.layout ∙ sym own_ran.layout;
-        requests = own_retired.requests ∙ sym own_ran.requests;
-        number = number;
-        known = retires.known;
-        finished = retires.finished;
-      }
+            planned_is : Shaped m is.tries.planned.layout is.tries.readings thunk
+            planned_is = planned_shaped m laws planning request is.tries.readings thunk old is.tries.planned
+                (subst IsWithinLimits (sym planned_layout) limits)
+                (subst AreAllowed (sym (is.tries.plans.still.requests ∙ requests_old)) allowed) is.tries.plans
 
-      pub left_concluded : (got : Attempt) (new : RunnerState T) → IsOf t new → (Seen : ℕ → ℕ → Type 0) (halts halts' asks asks' steps steps' : ℕ)
-          → Seen halts asks → HasTurned m (of_outcome outcome) got retired new halts halts' asks asks' steps steps'
-          → Rests m planning request true counted 0 got old ran new Seen halts halts' asks asks' steps steps'
-      left_concluded got new own_new Seen halts halts' asks asks' steps steps' seen turned =
-          rests_from_still m planning request true counted 0 got old ran retired new Seen halts halts' asks asks' steps steps' still
-          (turned_rests m laws planning request old retired new (of_outcome outcome) got (refusal_of_outcome outcome other)
-          (inr (inr has_left)) true counted refl refl own unknown
-          (subst IsWithinLimits (sym own_new.layout) limits) (subst AreAllowed (sym own_new.requests) allowed)
-          (own_new.layout ∙ sym own_retired.layout) (own_new.requests ∙ sym own_retired.requests)
-          Seen halts halts' asks asks' steps steps' seen turned 0)
+        abbrev has_left : SectionHasLeft m planning request (of_outcome outcome) old retired
+        has_left = record {
+          thunk = thunk;
+          outcome = outcome;
+          left = record {
+            trail = trail;
+            run = run;
+            left = left_is m laws t limits allowed is.published ran own_ran section.descriptor thunk outcome trail is.made is.ends other;
+          };
+          same = refl;
+          stale = left_stale;
+        }
+
+        still : IsStill ran retired
+        still = record {
+          layout = own_retired.layout ∙ sym own_ran.layout;
+          requests = own_retired.requests ∙ sym own_ran.requests;
+          number = number;
+          known = retires.known;
+          finished = retires.finished;
+        }
+
+        pub left_concluded : (got : Attempt) (new : RunnerState T) → IsOf t new → (Seen : ℕ → ℕ → Type 0) (halts halts' asks asks' steps steps' : ℕ)
+            → Seen halts asks → HasTurned m (of_outcome outcome) got retired new halts halts' asks asks' steps steps'
+            → Rests m planning request true counted 0 got old ran new Seen halts halts' asks asks' steps steps'
+        left_concluded got new own_new Seen halts halts' asks asks' steps steps' seen turned =
+            rests_from_still m planning request true counted 0 got old ran retired new Seen halts halts' asks asks' steps steps' still
+            (turned_rests m laws planning request old retired new (of_outcome outcome) got (refusal_of_outcome outcome other)
+            (inr (inr has_left)) true counted refl refl own unknown
+            (subst IsWithinLimits (sym own_new.layout) limits) (subst AreAllowed (sym own_new.requests) allowed)
+            (own_new.layout ∙ sym own_retired.layout) (own_new.requests ∙ sym own_retired.requests)
+            Seen halts halts' asks asks' steps steps' seen turned 0)

@@ -1,17 +1,13 @@
 -- What a run costs at most, whatever its body.
-use Rattle.std.specs.Prelude.{sum_by, count_by, cond, Bool}
-use Rattle.std.proofs.Common.{ℕ, ◌+◌, ◌*◌, ◌≤◌, List, [], ◌∷◌, length, sym, ap, ◌∙◌, arith, subst, inl, inr, zero, suc}
-use Rattle.std.proofs.lemmas.List.Sums.{sum_by-cons}
-use Rattle.body_terms.specs.Cost.{step_cost, cost_of}
-use Rattle.body_terms.specs.Shape.{is_take, is_make, is_stamp, is_answer, IsShaped}
+use Rattle.std.proofs.Common.{ℕ, ◌≤◌, Bool, List, length, sym, ap, ◌∙◌, arith, subst, inl, inr, zero, suc}
+use Rattle.body_terms.specs.Shape.{IsShaped}
 use Rattle.body_terms.specs.Trail.{Agreed}
 use Rattle.body_terms.specs.declared.outcome.Outcome.{Outcome}
-use Rattle.body_terms.specs.declared.step.Step.{Step}
-use Rattle.body_terms.specs.declared.step.Step.TheVariants.{Load, Want, Fresh, Take, Make, Stamp, Store, Retire, Answer}
 use Rattle.body_terms.specs.declared.thunk.Thunk.{Thunk}
 use Rattle.table_words.specs.Limits.{IsWithinLimits}
 use Rattle.structure_laws.specs.Meaning.{Meaning}
 use Rattle.structure_laws.specs.Laws.{Laws}
+use Rattle.structure_laws.proofs.Costs.{shaped_cost}
 use Rattle.runner_parts.specs.State.{RunState, PartState}
 use Rattle.runner_steps.specs.Sections.{thunk_of}
 use Rattle.machine_states.specs.Sight.{part_or_first}
@@ -25,39 +21,6 @@ use Rattle.lock_walks.specs.section_runs.proofs.Going.{shaped}
 use Rattle.lock_walks.specs.try_lock.specs.Ends.{EndsSo, IsCutShort}
 use Rattle.attempts.specs.Attempts.{most_of_run}
 use Rattle.attempts.proofs.Along.{ran_back}
-
--- a step, with the lock that it leaves to be released, makes at most six events but for a Make; a Stamp makes three fewer, an Answer five
-step_weighs : (step : Step) → step_cost step + cond (is_take step) 1 0 + 3 * cond (is_stamp step) 1 0 + 5 * cond (is_answer step) 1 0
-    ≤ 6 + 5 * cond (is_make step) 1 0
-step_weighs (Load place into) = omega arith
-step_weighs (Want reg word) = omega arith
-step_weighs (Fresh reg) = omega arith
-step_weighs (Take place word) = omega arith
-step_weighs (Make init into) = omega arith
-step_weighs Stamp = omega arith
-step_weighs (Store reg value) = omega arith
-step_weighs (Retire slot) = omega arith
-step_weighs (Answer reply) = omega arith
-
-steps_weigh : (steps : List Step) → sum_by step_cost steps + count_by is_take steps + 3 * count_by is_stamp steps + 5 * count_by is_answer steps
-    ≤ 6 * length steps + 5 * count_by is_make steps
-steps_weigh [] = omega arith
-steps_weigh (step ∷ steps) =
-    let costs = sum_by-cons step_cost step steps in
-    let takes = sum_by-cons (λ s. cond (is_take s) 1 0) step steps in
-    let stamps = sum_by-cons (λ s. cond (is_stamp s) 1 0) step steps in
-    let answers = sum_by-cons (λ s. cond (is_answer s) 1 0) step steps in
-    let makes = sum_by-cons (λ s. cond (is_make s) 1 0) step steps in
-    let here = step_weighs step in
-    let rest = steps_weigh steps in omega arith
-
-pub shaped_cost : (body : List Step) → IsShaped body → cost_of body ≤ most_of_run
-shaped_cost body whole =
-    let weigh = steps_weigh body in
-    let short = whole.short in
-    let makes = whole.makes in
-    let stamps = whole.stamps in
-    let answers = whole.answers in omega arith
 
 module _ {T : Type 0} (m : Meaning) (laws : Laws m) (t : TableState T) (limits : IsWithinLimits t.layout) (allowed : AreAllowed t.requests)
     (old new : RunnerState T) (own : IsOf t new) where

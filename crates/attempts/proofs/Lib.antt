@@ -12,6 +12,7 @@ mod Trying
 mod Planning
 mod RealTime
 mod Refusing
+mod Expected
 pub mod Placing
 mod Along
 mod LastSteps

@@ -21,7 +21,7 @@ use Rattle.lock_walks.specs.try_lock.specs.Planning.{Planning}
 use Rattle.attempts.specs.Course.{HasPlanned}
 use Rattle.attempts.proofs.Courses.{planned_at, planned_reads}
 
-allowed_at : (xs : List Request) (i : ℕ) (x : Request) → slice_get xs i ≡ Some x → All (λ (y : Request). IsAllowed y.op) xs → IsAllowed x.op
+pub allowed_at : (xs : List Request) (i : ℕ) (x : Request) → slice_get xs i ≡ Some x → All (λ (y : Request). IsAllowed y.op) xs → IsAllowed x.op
 allowed_at xs i x at all = subst (λ (y : Request). IsAllowed y.op) (get_or_from_slice_get xs i x x at)
     (All-get_or (λ (y : Request). IsAllowed y.op) xs i x (slice_get_within xs i x at) all)
 

@@ -1,6 +1,6 @@
 -- An attempt as a whole: its entry, its plan, and what follows.
 use Rattle.std.specs.Prelude.{◌&&◌, not, Bool, true, false, if◌then◌else◌, Ok, Err}
-use Rattle.std.proofs.Common.{◌≡◌, ℕ, ◌+◌, ◌*◌, ◌-◌, ◌≤◌, length, refl, sym, ap, ◌∙◌, subst, arith, inl, inr, None}
+use Rattle.std.proofs.Common.{◌≡◌, ◌≢◌, ℕ, ◌+◌, ◌*◌, ◌-◌, ◌≤◌, length, refl, sym, ap, ◌∙◌, subst, arith, inl, inr, None, Some}
 use Rattle.std.proofs.lemmas.Bool.{true≢false}
 use Rattle.small_lemmas.proofs.Numbers.{from_zero as from_none}
 use Rattle.map_history.specs.declared.op.Request.{Request}
@@ -14,6 +14,7 @@ use Rattle.structure_laws.specs.Scene.{Readings}
 use Rattle.structure_laws.specs.Meaning.{Meaning}
 use Rattle.structure_laws.specs.Cells.{slots}
 use Rattle.structure_laws.specs.Laws.{Laws}
+use Rattle.structure_laws.proofs.Pairs.{pair_read}
 use Rattle.epoch_core.specs.declared.stage.Stage.TheVariants as stages
 use Rattle.runner_parts.specs.Tests.{has, has_pair, is_answered}
 use Rattle.runner_parts.specs.State.{NodesState, DescriptorsState, ReadsState}
@@ -35,7 +36,7 @@ use Rattle.lock_walks.specs.try_lock.specs.Planning.{Planning}
 use Rattle.lock_walks.specs.try_lock.specs.Plans as plan
 use Rattle.lock_walks.specs.try_lock.specs.Publishes.{Publishes}
 use Rattle.attempts.specs.Knowing.{IsStill}
-use Rattle.attempts.specs.Course.{of_plan, of_refusal, MayAttempt, HasReserve, HasEntered, HasPlanned, HasTried, PlanIsRefused, LockIsRefused}
+use Rattle.attempts.specs.Course.{of_plan, of_refusal, MayAttempt, HasReserve, HasEntered, HasPlanned, HasTried, WasRead, PlanIsRefused, LockIsRefused}
 use Rattle.attempts.specs.Counted.{IsCounted}
 use Rattle.attempts.specs.Attempts.{is_halted, is_short, asks_more, runs_of, helped_of, most_of_run, most_of_attempt, IsBrief, IsFew, IsShort, AtEntry, InPlan, IsHalted, Answers, has_published, Attempts}
 use Rattle.attempts.specs.Rests.{MayLeave, HasTurned, Rests}
@@ -49,6 +50,8 @@ use Rattle.attempts.proofs.Courses.{planned_at, planned_reads, planned_leave}
 use Rattle.attempts.proofs.Turning.{untouched, turned_rests}
 use Rattle.attempts.proofs.Trying.{tried_of, own_here, unknown_here, refusal_of_lock, runs_from_still, few_from_still, brief_from_still}
 use Rattle.attempts.proofs.Planning.{planned_of}
+use Rattle.attempts.proofs.Expected.{plan_stale, lock_stale}
+use Rattle.attempts.proofs.Locks.{planned_shaped}
 use Rattle.attempts.proofs.Refusing.{refuses, refusal_of_plan, busy_plan, plan_busy}
 
 -- the loads of a plan, alone and with the steps of a run
@@ -129,8 +132,20 @@ module _ {T : Type 0} (m : Meaning) (laws : Laws m) (t : TableState T) (limits :
   still_lost : IsStill r mid
   still_lost = record { layout = layout; requests = requests; number = publishes.number; known = publishes.known; finished = publishes.finished }
 
+  -- the lock is one
+  outer_lock : m.is_lock thunk.lock ≡ true
+  outer_lock = (planned_shaped m laws planning request readings thunk old r
+      (subst IsWithinLimits (sym (sym layout ∙ own_mid.layout)) limits) (subst AreAllowed (sym (sym requests ∙ own_mid.requests)) allowed) planned).outer_lock
+
+  -- the word that is told expected is the thunk's, which the plan read
+  lost_stale : (place expected read : ℕ) → of_refusal thunk.lock refused ≡ answers.Stale place expected read → WasRead readings place expected × (expected ≢ read)
+  lost_stale place expected read e =
+      let h = lock_stale r.layout.version_max thunk.lock thunk.word publishes.found place expected read publishes.refused.lost refused publishes.refused.why e in
+      let k = pair_read readings thunk.lock thunk.word planned.answers.read in
+      ((k.0, k.1 ∙ (λ i. Some (sym h.0 i, sym h.1 i))), h.2)
+
   abbrev lost_cause : LockIsRefused m planning request (of_refusal thunk.lock refused) old mid
-  lost_cause = record { thunk = thunk; refusal = refused; tries = lost; same = refl }
+  lost_cause = record { thunk = thunk; refusal = refused; tries = lost; same = refl; lock = outer_lock; stale = lost_stale }
 
   pub lost_rests : (got : Attempt) (new : RunnerState T) → IsOf t new → (Seen : ℕ → ℕ → Type 0) (halts halts' asks asks' steps steps' : ℕ)
       → Seen halts asks → HasTurned m (of_refusal thunk.lock refused) got mid new halts halts' asks asks' steps steps'
@@ -269,7 +284,13 @@ module _ {T : Type 0} (m : Meaning) (laws : Laws m) (t : TableState T) (limits :
     }
 
     abbrev cause : PlanIsRefused m planning request (of_plan answer) old r
-    cause = record { readings = planned.readings; refusal = answer; plans = course; same = refl }
+    cause = record {
+      readings = planned.readings;
+      refusal = answer;
+      plans = course;
+      same = refl;
+      stale = λ place expected read e. plan_stale m planning old.layout request.op place expected read request.number planned.readings answer course.answers e;
+    }
 
     pub refused_rests : (got : Attempt) (new : RunnerState T) → IsOf t new → (Seen : ℕ → ℕ → Type 0) (halts' asks' steps' : ℕ) → Seen halts1 asks1
         → HasTurned m (of_plan answer) got r new halts1 halts' asks1 asks' steps1 steps'

@@ -11,6 +11,7 @@ use Rattle.body_terms.specs.declared.thunk.Thunk.{Thunk}
 use Rattle.structure_laws.specs.Scene.{Readings}
 use Rattle.structure_laws.specs.Meaning.{Meaning}
 use Rattle.structure_laws.specs.Cells.{slots}
+pub use Rattle.structure_laws.specs.Shape.{most_of_run}
 use Rattle.runner_parts.specs.declared.entries.Known.{Known}
 use Rattle.runner_parts.specs.declared.entries.Published.{Published}
 use Rattle.runner_parts.specs.Tests.{is_answered}
@@ -69,10 +70,6 @@ abbrev pub runs_of : Attempt → Bool → ℕ
 runs_of (answers.Short short) published = 0
 runs_of (answers.Done reply stamp) published = 1
 runs_of answer published = (if published then 1 else 0) + helped_of answer
-
--- the steps of a run are at most so many, whatever the body
-abbrev pub most_of_run : ℕ
-most_of_run = 209
 
 -- the loads of a plan and the steps of a run are at most so many, where there are so many node slots
 abbrev pub most_of_attempt : ℕ → ℕ

@@ -1,9 +1,9 @@
 -- The course of an attempt: how far it came, and what ended it.
 use mathlib.Core.Logic.{inl, inr}
-use Rattle.std.specs.Prelude.{◌≡◌, ℕ, ◌+◌, ◌-◌, ◌≤◌, ◌⊎◌, [], Bool, true, false, length, slice_get, Result, Ok, Err, Some}
+use Rattle.std.specs.Prelude.{◌≡◌, ◌≢◌, ℕ, ◌+◌, ◌-◌, ◌≤◌, ◌⊎◌, [], Bool, true, false, length, slice_get, Result, Ok, Err, Some}
 use Rattle.map_history.specs.declared.op.Request.{Request}
 use Rattle.body_terms.specs.Trail.{Agreed}
-use Rattle.body_terms.specs.Word.{value_of, is_free}
+use Rattle.body_terms.specs.Word.{value_of, version_of, pack, is_free}
 use Rattle.body_terms.specs.declared.outcome.Outcome.{Outcome}
 use Rattle.body_terms.specs.declared.outcome.Outcome.TheVariants as outcomes
 use Rattle.body_terms.specs.declared.outcome.Refused.{Refused}
@@ -55,6 +55,18 @@ of_outcome (outcomes.Busy place word) = answers.Busy place word
 of_outcome (outcomes.Stale place expected read) = answers.Stale place expected read
 of_outcome (outcomes.Spent place word) = answers.Spent place word
 of_outcome (outcomes.Answered reply) = answers.Halted
+
+-- this word was read of this place
+abbrev pub WasRead : Readings → ℕ → ℕ → Type 0
+WasRead readings place word = (i : ℕ) × (slice_get readings i ≡ Some (place, word))
+
+-- a mark was read as 1, so its node has been taken out. The word that is told expected is the unmarked one of the
+-- version before
+pub record IsMarked (planning : Planning) (readings : Readings) (place expected read : ℕ) : Type 0 where
+  pub mark : planning.is_mark place ≡ true
+  pub seen : WasRead readings place read
+  pub marked : value_of read ≡ 1
+  pub unmarked : expected ≡ pack 0 (version_of read - 1)
 
 module _ {T : Type 0} where
   -- the request is the worker's next one of its trace, which the structure serves, and the worker is idle
@@ -137,18 +149,29 @@ module _ {T : Type 0} (m : Meaning) (planning : Planning) (request : Request) wh
     pub refusal : Planned
     pub plans : HasPlanned readings refusal old new
     pub same : answer ≡ of_plan refusal
+    -- a plan is stale by a mark alone
+    pub stale : (place expected read : ℕ) → answer ≡ answers.Stale place expected read
+        → IsMarked planning readings place expected read
 
   pub record LockIsRefused (answer : Attempt) (old new : RunnerState T) : Type 0 where
     pub thunk : Thunk
     pub refusal : Refused
     pub tries : HasTried thunk (Err refusal) old new
     pub same : answer ≡ of_refusal thunk.lock refusal
+    pub lock : m.is_lock thunk.lock ≡ true
+    -- the plan had read another word of the lock
+    pub stale : (place expected read : ℕ) → answer ≡ answers.Stale place expected read
+        → WasRead tries.readings place expected × (expected ≢ read)
 
   pub record SectionHasLeft (answer : Attempt) (old new : RunnerState T) : Type 0 where
     pub thunk : Thunk
     pub outcome : Outcome
     pub left : HasLeft thunk outcome old new
     pub same : answer ≡ of_outcome outcome
+    -- the plan had read what the section wanted of a cell, or expected of a further lock; of a cell the agreed word is
+    -- another one
+    pub stale : (place expected read : ℕ) → answer ≡ answers.Stale place expected read
+        → WasRead left.run.ended.tries.readings place expected × (m.is_lock place ≡ false → expected ≢ read)
 
   abbrev pub IsRefused : Attempt → RunnerState T → RunnerState T → Type 0
   IsRefused answer old new = PlanIsRefused answer old new ⊎

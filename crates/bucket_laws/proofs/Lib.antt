@@ -1,6 +1,7 @@
 pub mod Chain
 pub mod Elsewhere
 pub mod Fit
+mod Fitting
 pub mod Forms
 pub mod Maps
 pub mod NodeChanges

@@ -27,11 +27,13 @@ use Rattle.structure_laws.specs.Shape.{Shaped}
 use Rattle.structure_laws.specs.InTurn.{InTurn}
 use Rattle.structure_laws.specs.Laws.{IsFirst, Laws}
 use Rattle.structure_laws.proofs.Changes.{upd_other}
+use Rattle.structure_laws.proofs.Costs.{shaped_cost}
 use Rattle.bucket_laws.specs.Chain.{Nodes, Chains, Contents}
 use Rattle.bucket_laws.specs.Walk.{AtEdition, AtEnd, Walk, cell_at, form_for, operands_for}
 use Rattle.bucket_laws.specs.Buckets.{Read, Insert, Remove, Empty, form_of, body_of, nodes, is_link_place, walk_of, bounds, BucketsKept, BucketsStand, table, buckets_meaning}
 use Rattle.bucket_laws.proofs.Chain.{same_on}
 use Rattle.bucket_laws.proofs.Fit.{IsFit, fit_of, insert_operands, remove_operands}
+use Rattle.bucket_laws.proofs.Fitting.{table_fitting}
 use Rattle.bucket_laws.proofs.Forms.{node_init, steps_of, no_take, load_step, store_step, make_step, answer_step}
 use Rattle.bucket_laws.proofs.NodeChanges.{clip_same}
 use Rattle.bucket_laws.proofs.TableGives.{reached, table_gives}
@@ -204,6 +206,7 @@ module _ (buckets : ℕ) (bucket : ℕ → ℕ) (small : (key : ℕ) → bucket 
   pub table_shaped : Shaped (table buckets bucket) layout readings thunk
   table_shaped = record {
     shape = shaped;
+    brief = shaped_cost (bucket_steps thunk) shaped;
     outer_lock = ap (λ p. nat_lt p (3 * buckets) && (p % 3 == 0)) lock_is ∙ lock_is_lock own (small (key_of op));
     outer_known = inl (let at = lock_is in let low = small (key_of op) in omega arith);
     take_lock = λ j l w h. absurd (no_take thunk j l w h);
@@ -405,6 +408,7 @@ table_laws buckets bucket small few = record {
     begins = first_kept buckets bucket small layout limits;
     empty = first_stands buckets bucket small layout limits;
     shape = λ s sound kept r readings op thunk reader allowed fits. table_shaped buckets bucket small few layout limits s sound r readings op thunk reader allowed fits;
+    fitting = table_fitting buckets bucket layout;
     in_turn = table_in_turn buckets bucket small layout limits;
     keeps = table_keeps buckets bucket small layout limits;
     gives = λ s sound kept. table_gives buckets bucket small layout s sound kept;

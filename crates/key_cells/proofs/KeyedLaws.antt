@@ -27,6 +27,7 @@ use Rattle.shared_laws.proofs.Numbers.{pair_read}
 use Rattle.key_cells.specs.Keyed.{Keyed, IsKeyed, wanted, new_of, key_in, body_by, held_in, keyed}
 use Rattle.key_cells.proofs.CellSteps.{plain_in, load_in, want_in, store_in, answer_in}
 use Rattle.key_cells.proofs.Fitting.{Fit, fit_of, body_own}
+use Rattle.key_cells.proofs.KeyFitting.{keyed_fitting}
 use Rattle.key_cells.proofs.SectionTurn.{shape_own, keyed_in_turn}
 
 module _ (c : Keyed) (is : IsKeyed c) where
@@ -112,6 +113,7 @@ module _ (c : Keyed) (is : IsKeyed c) where
       begins = nodeless_begins (keyed c) nodeless layout;
       empty = first_empty;
       shape = λ s sound kept r readings op thunk reader allowed fits. nodeless_shaped (keyed c) nodeless layout readings thunk (plain_body op readings thunk (fit_of c op readings thunk is.few fits));
+      fitting = keyed_fitting c is layout;
       in_turn = keyed_in_turn c is layout;
       keeps = nodeless_keeps (keyed c) nodeless layout;
       gives = nodeless_gives (keyed c) nodeless layout (holds_its_lock layout);

@@ -3,3 +3,4 @@ pub mod Fitting
 pub mod KeyedLaws
 pub mod Retiring
 pub mod SectionTurn
+mod KeyFitting

@@ -9,6 +9,7 @@ use Rattle.body_terms.specs.declared.micro.Micro.TheVariants as micros
 use Rattle.body_terms.specs.declared.thunk.Thunk.{Thunk}
 use Rattle.section_lines.specs.Line.{IsLine}
 use Rattle.section_lines.proofs.Sources.{of_take}
+use Rattle.section_lines.proofs.Wants.{wanted_at}
 use Rattle.table_words.specs.declared.layout.Layout.{Layout}
 use Rattle.table_words.specs.declared.spot.Spot.TheVariants as spots
 use Rattle.structure_laws.specs.Meaning.{Meaning}
@@ -24,7 +25,6 @@ use Rattle.machine_scenes.specs.Shown.{rules_of, section_with, section_of}
 use Rattle.machine_scenes.proofs.Shown.{shown_open}
 use Rattle.runner_facts.specs.machine_invariant.specs.Whole.{IsWhole}
 use Rattle.resource_bounds.specs.reached_histories.specs.Laws.{HasHistory}
-use Rattle.one_worker.proofs.Lines.{wanted_at}
 use Rattle.one_worker.proofs.State.{not_both, in_line, code_is}
 use Rattle.one_worker.proofs.Goes.{Goes}
 

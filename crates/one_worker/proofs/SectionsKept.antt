@@ -14,6 +14,7 @@ use Rattle.body_terms.specs.declared.micro.Micro.{Micro}
 use Rattle.body_terms.specs.declared.micro.Micro.TheVariants as micros
 use Rattle.body_terms.specs.declared.thunk.Thunk.{Thunk}
 use Rattle.section_lines.specs.Line.{IsLine}
+use Rattle.section_lines.proofs.Wants.{wanted_at}
 use Rattle.table_words.specs.declared.layout.Layout.{Layout}
 use Rattle.table_words.specs.declared.spot.Spot.{Spot}
 use Rattle.table_words.specs.declared.spot.Spot.TheVariants as spots
@@ -51,7 +52,7 @@ use Rattle.runner_facts.specs.machine_invariant.specs.Whole.{IsWhole}
 use Rattle.runner_facts.specs.next_steps.proofs.Parts.{each_part}
 use Rattle.resource_bounds.specs.reached_histories.specs.Laws.{HasHistory}
 use Rattle.runner_facts.proofs.Lines.{commit_unique, rests_behind}
-use Rattle.one_worker.proofs.Lines.{hold_behind, wanted_at}
+use Rattle.one_worker.proofs.Lines.{hold_behind}
 use Rattle.runner_facts.proofs.Logs.{log_of, carries, LogStays, line_log, opening_log, outside_log, log_now, log_place}
 use Rattle.runner_facts.proofs.Runs as runs_of
 use Rattle.runner_facts.proofs.Runs.{nested_kind}

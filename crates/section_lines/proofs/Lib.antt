@@ -2,6 +2,7 @@ pub mod Steps
 pub mod Places
 pub mod Counts
 pub mod Sources
+pub mod Wants
 pub mod Ordered
 pub mod Counted
 pub mod Phases

@@ -5,3 +5,4 @@ pub mod Listing
 pub mod Nodeless
 pub mod Numbers
 pub mod Shaping
+pub mod Still

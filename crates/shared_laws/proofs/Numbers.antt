@@ -2,7 +2,8 @@
 use Rattle.std.proofs.Common.{◌≡◌, ◌≢◌, ℕ, zero, suc, ◌+◌, ◌*◌, ◌<◌, ◌≤◌, Bool, true, false, refl, ap, ◌∙◌, List, [], ◌∷◌, map, arith}
 use Rattle.std.specs.Prelude.{◌==◌, ◌&&◌, ◌||◌, ◌%◌, nat_lt, slice_get, slice_index, Some}
 use Rattle.structure_laws.specs.Scene.{Readings}
-use Rattle.structure_laws.proofs.Changes.{equal_of, both_true, or_cases}
+use Rattle.structure_laws.proofs.Changes.{equal_of}
+pub use Rattle.structure_laws.proofs.Pairs.{pair_read}
 use Rattle.std.specs.List.{list_any}
 
 pub bool_cases : {A : Type 0} → (b : Bool) → (b ≡ true → A) → (b ≡ false → A) → A
@@ -31,14 +32,7 @@ and_false false b e = refl
 pub third : (i r : ℕ) → r < 3 → (3 * i + r) % 3 ≡ r
 third i r h = omega arith
 
--- a pair that is found in readings was read
-pub pair_read : (readings : Readings) (p w : ℕ) → list_any (λ reading. reading.0 == p && reading.1 == w) readings ≡ true → (k : ℕ) × (slice_get readings k ≡ Some (p, w))
-pair_read [] p w h = absurd (cc)
-pair_read (reading ∷ readings) p w h = or_cases (reading.0 == p && reading.1 == w) (list_any (λ x. x.0 == p && x.1 == w) readings) h
-    (λ a. let both = both_true _ _ a in (0, ap Some (λ i. (equal_of reading.0 p both.0 i, equal_of reading.1 w both.1 i))))
-    (λ b. let later = pair_read readings p w b in (suc later.0, later.1))
-
--- and the other way
+-- a pair that was read is found in readings; the other way is pair_read
 pub read_pair : (readings : Readings) (p w k : ℕ) → slice_get readings k ≡ Some (p, w) → list_any (λ reading. reading.0 == p && reading.1 == w) readings ≡ true
 read_pair [] p w k h = absurd (cc)
 read_pair (reading ∷ readings) p w zero h = ap (λ b. b || list_any (λ x. x.0 == p && x.1 == w) readings) (here reading h)

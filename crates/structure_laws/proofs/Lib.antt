@@ -1,7 +1,9 @@
 pub mod Bodies
 pub mod Changes
+pub mod Costs
 pub mod Limits
 pub mod Moves
+pub mod Pairs
 pub mod Progress
 pub mod Readings
 pub mod Steps

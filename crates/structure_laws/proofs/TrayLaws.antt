@@ -13,10 +13,12 @@ use Rattle.table_words.specs.Places.{slot_count}
 use Rattle.structure_laws.specs.Scene.{Cells, Section, Status, Free, Live, Scene}
 use Rattle.structure_laws.specs.Sections.{IsSmall, value_in}
 use Rattle.structure_laws.specs.Shape.{ShapeLaw}
+use Rattle.structure_laws.specs.Fitting.{Fitting}
 use Rattle.structure_laws.specs.InTurn.{StandsFor, AtStamp, AfterStores, InTurn}
 use Rattle.structure_laws.specs.Laws.{IsFirst, Laws}
-use Rattle.structure_laws.specs.Tray.{Form, Number, Link, Unlink, Other, form_of, operand_of, tray, zeros}
+use Rattle.structure_laws.specs.Tray.{Form, Number, Link, Unlink, Other, form_of, operand_of, body_of, tray, zeros}
 use Rattle.structure_laws.proofs.Changes.{upd_other, value-next_word, value_small, equal_of}
+use Rattle.structure_laws.proofs.Costs.{shaped_cost}
 use Rattle.structure_laws.proofs.Limits.{links_small, value-small}
 use Rattle.structure_laws.proofs.Steps.{no_take, load_step, store_step, make_step, stamp_step, answer_step}
 use Rattle.structure_laws.proofs.TrayShape.{body_of_shaped}
@@ -45,6 +47,7 @@ tray_shape layout s sound kept r readings op thunk reader allowed fits =
     let word = operand_of thunk in
     record {
       shape = body_of_shaped form word;
+      brief = shaped_cost (body_of form word) (body_of_shaped form word);
       outer_lock = fits;
       outer_known = inl (let first = equal_of thunk.lock 0 fits in omega arith);
       take_lock = λ j l w h. absurd (no_take form word j l w h);
@@ -73,6 +76,13 @@ tray_shape layout s sound kept r readings op thunk reader allowed fits =
     once word a b = ⊎_elim (λ x. ⊎_elim (λ y. x.1 ∙ sym y.1) (⊎_elim (λ y. absurd (cc (x.0, y.0))) (λ y. absurd (cc (x.0, y.0)))) b)
         (⊎_elim (λ x. ⊎_elim (λ y. absurd (cc (x.0, y.0))) (⊎_elim (λ y. x.1 ∙ sym y.1) (λ y. absurd (cc (x.0, y.0)))) b)
         (λ x. ⊎_elim (λ y. absurd (cc (x.0, y.0))) (⊎_elim (λ y. absurd (cc (x.0, y.0))) (λ y. x.1 ∙ sym y.1)) b)) a
+
+-- its test of thunks asks nothing of the readings, and it serves no map
+tray_fitting : (layout : Layout) → Fitting tray layout
+tray_fitting layout = record {
+  fits_on = λ readings more op thunk fits. fits;
+  still = λ map. absurd (cc);
+}
 
 no_link : (f : Form) (p : ℕ) → (f ≡ Number) ⊎ (f ≡ Other) → ((f ≡ Number) × (p ≡ 1)) ⊎ ((f ≡ Link) × (p ≡ 2)) ⊎ ((f ≡ Unlink) × (p ≡ 2)) → p ≢ 2
 no_link f p apart loaded = ⊎_elim (λ one. λ e. let first = one.1 in omega arith)
@@ -135,6 +145,7 @@ tray_laws = record {
     };
     empty = λ s first. let none = first_empty s first in omega arith;
     shape = tray_shape layout;
+    fitting = tray_fitting layout;
     in_turn = tray_in_turn layout limits;
     keeps = tray_keeps layout limits;
     gives = tray_gives layout;

@@ -7,6 +7,7 @@ use Rattle.structure_laws.specs.Scene.{Cells, Free, Live, Scene}
 use Rattle.structure_laws.specs.Meaning.{Meaning}
 use Rattle.structure_laws.specs.Cells.{IsFixed, first_word}
 use Rattle.structure_laws.specs.Shape.{ShapeLaw}
+use Rattle.structure_laws.specs.Fitting.{Fitting}
 use Rattle.structure_laws.specs.InTurn.{InTurn}
 use Rattle.structure_laws.specs.Keeps.{Keeps}
 use Rattle.structure_laws.specs.Gives.{GivesLaw}
@@ -35,6 +36,7 @@ module _ (m : Meaning) where
     pub begins : (s : Scene) → IsFirst s → m.kept layout s
     pub empty : (s : Scene) → IsFirst s → m.stands layout s.cells empty
     pub shape : ShapeLaw m layout
+    pub fitting : Fitting m layout
     pub in_turn : InTurn m layout
     pub keeps : Keeps m layout
     pub gives : GivesLaw m layout

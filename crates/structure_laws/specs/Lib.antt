@@ -4,6 +4,7 @@ pub mod Sections
 pub mod Cells
 pub mod Sound
 pub mod Shape
+pub mod Fitting
 pub mod InTurn
 pub mod Keeps
 pub mod Gives

@@ -1,9 +1,9 @@
 //! What a structure means to the machine, and the laws that it meets.
 //!
 //! The definitions stand in specs: `Scene` is what the laws speak of, `Meaning` what a structure chooses, `Sound`
-//! what the core supplies, and `Shape`, `InTurn`, `Keeps` and `Gives` are the four laws, joined in `Laws`; `Lawful`
-//! is the core's side. `structure` is the trait by which code asks a structure. `Tray` is the test structure: `tray`
-//! has what it computes from readings, `laws` that it meets the laws.
+//! what the core supplies, and `Shape`, `InTurn`, `Keeps`, `Gives` and `Fitting` are the five laws, joined in `Laws`;
+//! `Lawful` is the core's side. `structure` is the trait by which code asks a structure. `Tray` is the test structure:
+//! `tray` has what it computes from readings, `laws` that it meets the laws.
 #![tactic(auto)]
 
 mod laws;

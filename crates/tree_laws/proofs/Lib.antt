@@ -3,6 +3,7 @@ pub mod WalkReads
 pub mod Forms
 pub mod BodyShapes
 pub mod Fit
+mod Fitting
 pub mod TreeShape
 pub mod Removal
 pub mod Insertion

@@ -6,6 +6,7 @@ use Rattle.structure_laws.specs.Cells.{first_word}
 use Rattle.structure_laws.specs.Laws.{FirstMemory, Laws}
 use Rattle.structure_laws.specs.Planner.{PlannerLaws}
 use Rattle.tree_laws.specs.Leaves.{first_value, is_lock_place, is_link_in, bounds, tree}
+use Rattle.tree_laws.proofs.Fitting.{tree_fitting}
 use Rattle.tree_laws.proofs.First.{first_kept, first_stands}
 use Rattle.tree_laws.proofs.Gives.{tree_gives}
 use Rattle.tree_laws.proofs.TreeKeeps.{tree_keeps}
@@ -44,6 +45,7 @@ tree_laws = record {
     empty = first_stands layout;
     shape = λ s sound kept r readings op thunk reader allowed fits.
         tree_shaped layout limits s sound kept r readings op thunk reader allowed fits;
+    fitting = tree_fitting layout;
     in_turn = tree_turns layout limits;
     keeps = tree_keeps layout limits;
     gives = λ s sound kept. tree_gives layout limits s sound kept;

@@ -1,6 +1,6 @@
 -- A thunk that fits an entered runner's readings has a body of the shape of a body, whose places the readings give.
 use Rattle.std.proofs.Common.{◌≡◌, ◌≢◌, ℕ, zero, suc, ◌+◌, ◌*◌, ◌<◌, ◌≤◌, Bool, true, false, cond, refl, sym, ap, ◌∙◌, subst, inl, inr, ⊎_elim, arith}
-use Rattle.std.specs.Prelude.{◌==◌, ◌&&◌, ◌||◌, not, ◌-◌, ◌%◌, ◌^◌, ◌⊎◌, nat_lt, Some, List, [], ◌∷◌, slice_get, slice_index, length}
+use Rattle.std.specs.Prelude.{◌&&◌, ◌||◌, not, ◌-◌, ◌%◌, ◌^◌, ◌⊎◌, nat_lt, Some, List, [], ◌∷◌, slice_get, slice_index, length}
 use Rattle.std.proofs.lemmas.Bool.{both_ways}
 use Rattle.small_lemmas.proofs.Bools.{or_first as or_left, or_second as or_right, negated as not_true}
 use Rattle.small_lemmas.proofs.Numbers.{other_tested as eq_false}
@@ -26,6 +26,7 @@ use Rattle.structure_laws.specs.Cells.{IsKnown, IsSafe}
 use Rattle.structure_laws.specs.Sound.{Sound}
 use Rattle.structure_laws.specs.Shape.{Shaped}
 use Rattle.structure_laws.proofs.Changes.{value_small, both_true}
+use Rattle.structure_laws.proofs.Costs.{shaped_cost}
 use Rattle.bucket_laws.specs.Walk.{is_del}
 use Rattle.bucket_laws.proofs.TableGives.{reached}
 use Rattle.tree_bodies.specs.Tree.{lock_of, left_of, right_of, mark_of, child_of, slot_in, Look, Insert, Delete, leaf_with, inner_with, parent_in, is_left, is_right, sibling_of, look_steps, insert_steps, delete_steps, form_of, body_of, tree_steps}
@@ -209,6 +210,7 @@ module _ (layout : Layout) (limits : IsWithinLimits layout) (s : Scene) (sound :
     look_is_shaped : Shaped tree layout readings thunk
     look_is_shaped = record {
       shape = subst IsShaped (sym look_body) (look_shaped thunk);
+      brief = shaped_cost (tree_steps thunk) (subst IsShaped (sym look_body) (look_shaped thunk));
       outer_lock = ap is_lock_place look_lock ∙ lock_locked parent;
       outer_known = subst known (sym look_lock) (cell_known parent 0 reads.last_from (omega arith));
       take_lock = λ j l n h. absurd (no_take j l n h);
@@ -323,6 +325,7 @@ module _ (layout : Layout) (limits : IsWithinLimits layout) (s : Scene) (sound :
     insert_is_shaped : Shaped tree layout readings thunk
     insert_is_shaped = record {
       shape = subst IsShaped (sym insert_body) (insert_shaped thunk);
+      brief = shaped_cost (tree_steps thunk) (subst IsShaped (sym insert_body) (insert_shaped thunk));
       outer_lock = ap is_lock_place insert_lock ∙ lock_locked parent;
       outer_known = subst known (sym insert_lock) (cell_known parent 0 reads.last_from (omega arith));
       take_lock = λ j l n h. absurd (insert_no_take j l n h);
@@ -460,6 +463,7 @@ module _ (layout : Layout) (limits : IsWithinLimits layout) (s : Scene) (sound :
     delete_is_shaped : Shaped tree layout readings thunk
     delete_is_shaped = record {
       shape = subst IsShaped (sym delete_body) (delete_shaped thunk mark_apart);
+      brief = shaped_cost (tree_steps thunk) (subst IsShaped (sym delete_body) (delete_shaped thunk mark_apart));
       outer_lock = ap is_lock_place delete_lock ∙ lock_locked grand;
       outer_known = subst known (sym delete_lock) (cell_known grand 0 reads.grand_from (omega arith));
       take_lock = λ j l n h. ap is_lock_place (delete_take_at j l n h).1 ∙ lock_locked parent;

@@ -1,0 +1,70 @@
+-- A thunk that fits a walk goes on to fit, and a body without a Store answers what leaves the map as it was.
+use Rattle.std.proofs.Common.{◌≡◌, ℕ, Bool, true, false, cond, refl, sym, ap, ◌∙◌, subst, ⊎_elim, arith}
+use Rattle.std.specs.Prelude.{[], ◌∷◌, ◌++◌, slice_get, slice_index, Some}
+use Rattle.map_history.specs.declared.op.Op.{Op}
+use Rattle.map_history.specs.declared.op.Op.TheVariants.{Get, Ins, Del}
+use Rattle.map_history.specs.Keys.{key_of}
+use Rattle.section_body.specs.Bucket.{operand}
+use Rattle.body_terms.specs.declared.value.Value.TheVariants.{Const, Made}
+use Rattle.body_terms.specs.declared.step.Step.TheVariants.{Answer}
+use Rattle.body_terms.specs.declared.thunk.Thunk.{Thunk}
+use Rattle.table_words.specs.declared.layout.Layout.{Layout}
+use Rattle.structure_laws.specs.Scene.{Readings}
+use Rattle.structure_laws.specs.Fitting.{Leaves, StoresNothing, Fitting}
+use Rattle.bucket_laws.specs.Walk.{AtEnd, Bounds, Walk, form_for, operands_for, start, is_wanted, wanted_at, fed, fits_walk, walk}
+use Rattle.bucket_laws.specs.Buckets.{Insert, Remove, bounds, walk_of, table}
+use Rattle.bucket_laws.proofs.Fit.{IsFit, fit_of, read_number}
+use Rattle.bucket_laws.proofs.Forms.{step_in, answer_step}
+
+-- a body that reads alone answers what leaves the map as it was
+read_leaves : (op : Op) (w : Walk) (found : Bool) → form_for op found ≡ 1 → Leaves op (slice_index (operands_for op w found) 1)
+read_leaves (Get key) w found form = tt
+read_leaves (Ins key value) w true form = refl
+read_leaves (Ins key value) w false form = absurd (omega arith)
+read_leaves (Del key) w true form = absurd (omega arith)
+read_leaves (Del key) w false form = refl
+
+-- of two walks, of which one goes on and the other stops
+either : (one more stopped : Walk) (c : Bool) → (one.stage ≡ AtEnd → more ≡ one)
+    → (cond c one stopped).stage ≡ AtEnd → cond c more stopped ≡ cond c one stopped
+either one more stopped true h e = h e
+either one more stopped false h e = refl
+
+module _ (buckets : ℕ) (bucket : ℕ → ℕ) where
+  module _ (b : Bounds) (op : Op) where
+    abbrev walked : Walk → Readings → Walk
+    walked w readings = walk buckets bucket b op w readings
+
+    -- a walk at its end wants nothing more
+    at_its_end : (w : Walk) (more : Readings) → w.stage ≡ AtEnd → walked w more ≡ w
+    unfolding walk
+    at_its_end w [] e = refl
+    at_its_end w (reading ∷ more) e =
+        ap (λ stage. cond (is_wanted (wanted_at buckets bucket (bucket (key_of op)) w stage) reading.0) (walked (fed buckets bucket b op w w.stage reading.1) more) w) e
+
+    walk_on : (w : Walk) (readings more : Readings) → (walked w readings).stage ≡ AtEnd → walked w (readings ++ more) ≡ walked w readings
+    unfolding walk
+    walk_on w [] more e = at_its_end w more e
+    walk_on w (reading ∷ readings) more e = either _ _ w (is_wanted (wanted_at buckets bucket (bucket (key_of op)) w w.stage) reading.0)
+        (walk_on (fed buckets bucket b op w w.stage reading.1) readings more) e
+
+  module _ (layout : Layout) (op : Op) (thunk : Thunk) (readings : Readings) (fits : (table buckets bucket).fits layout op readings thunk ≡ true) where
+    fit : IsFit buckets bucket op (walk_of buckets bucket layout op readings) thunk
+    fit = fit_of buckets bucket op (walk_of buckets bucket layout op readings) thunk fits
+
+    fits_on : (more : Readings) → (table buckets bucket).fits layout op (readings ++ more) thunk ≡ true
+    fits_on more = ap (λ w. fits_walk buckets bucket op w thunk) (walk_on (bounds buckets bucket layout) op start readings more fit.stage) ∙ fits
+
+    still : StoresNothing (table buckets bucket) thunk → (j reply : ℕ) → slice_get ((table buckets bucket).body thunk) j ≡ Some (Answer reply) → Leaves op reply
+    still none j reply h = ⊎_elim
+        (λ read. subst (Leaves op) (sym (read.1 ∙ ap (λ numbers. slice_index numbers 1) fit.operands))
+            (read_leaves op (walk_of buckets bucket layout op readings) (walk_of buckets bucket layout op readings).found (sym fit.form ∙ read_number thunk read.0)))
+        (⊎_elim (λ insert. absurd (none 7 1 (Made 2) (step_in thunk Insert 7 insert.0)))
+        (λ remove. absurd (none 6 1 (Const (operand thunk 3)) (step_in thunk Remove 6 remove.0))))
+        (answer_step thunk j reply h)
+
+  pub table_fitting : (layout : Layout) → Fitting (table buckets bucket) layout
+  table_fitting layout = record {
+    fits_on = λ readings more op thunk fits. fits_on layout op thunk readings fits more;
+    still = λ map readings op thunk allowed fits. still layout op thunk readings fits;
+  }
