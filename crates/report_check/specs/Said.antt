@@ -1,0 +1,37 @@
+-- What the code reads off a report, as the lines and rows that it stands for.
+use Rattle.std.specs.Prelude.{◌≡◌, ℕ, List, [], ◌∷◌, ◌++◌, Option, None, Some, length}
+use Rattle.map_history.specs.declared.op.Request.{Request}
+use Rattle.report_check.specs.declared.line.Said.{Said}
+use Rattle.report_check.specs.Lines.{IsNumeral, Says}
+use Rattle.report_text.specs.Report.{Answer, Line, Row}
+use Rattle.trace_reader.specs.Lines.{IsOneLine}
+
+abbrev pub said_answer : Said → Answer
+said_answer said = record { rank = said.rank; reply = said.reply }
+
+abbrev pub answer_said : Option Said → Option Answer
+answer_said None = None
+answer_said (Some said) = Some (said_answer said)
+
+-- requests with what is said of them
+abbrev pub rows_said : List Request → List (Option Said) → List Row
+rows_said (request ∷ requests) (said ∷ answers) =
+    record { request = request; answer = answer_said said } ∷ rows_said requests answers
+rows_said _ _ = []
+
+-- one line, the line feed that ends it, and more
+pub record IsCut (bytes line more : List ℕ) : Type 0 where
+  pub one : IsOneLine line
+  pub cut : bytes ≡ line ++ 10 ∷ more
+
+-- the bytes begin with a line that says this
+pub record IsNext (line : Line) (bytes more : List ℕ) : Type 0 where
+  pub text : List ℕ
+  pub says : Says line text
+  pub cut : bytes ≡ text ++ 10 ∷ more
+
+-- a numeral behind a word
+pub record SaysNumber (word text : List ℕ) (value : ℕ) : Type 0 where
+  pub digits : List ℕ
+  pub numeral : IsNumeral digits value
+  pub is : text ≡ word ++ digits
