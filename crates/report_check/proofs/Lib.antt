@@ -1,4 +1,5 @@
 pub mod Cuts
+pub mod Forms
 pub mod Numerals
 pub mod Sayings
 pub mod Splits

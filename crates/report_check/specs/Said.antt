@@ -1,8 +1,10 @@
 -- What the code reads off a report, as the lines and rows that it stands for.
 use Rattle.std.specs.Prelude.{◌≡◌, ℕ, List, [], ◌∷◌, ◌++◌, Option, None, Some, length}
 use Rattle.map_history.specs.declared.op.Request.{Request}
+use Rattle.report_check.specs.declared.form.Form.{Form}
 use Rattle.report_check.specs.declared.line.Said.{Said}
 use Rattle.report_check.specs.Lines.{IsNumeral, Says}
+use Rattle.report_check.specs.Rows.{SaysRows}
 use Rattle.report_text.specs.Report.{Answer, Line, Row}
 use Rattle.trace_reader.specs.Lines.{IsOneLine}
 
@@ -35,3 +37,8 @@ pub record SaysNumber (word text : List ℕ) (value : ℕ) : Type 0 where
   pub digits : List ℕ
   pub numeral : IsNumeral digits value
   pub is : text ≡ word ++ digits
+
+-- the bytes are a report that says this
+pub record IsFormOf (form : Form) (traces : ℕ) (requests : List Request) (bytes : List ℕ) : Type 0 where
+  pub long : length form.answers.items ≡ length requests
+  pub says : SaysRows traces requests (rows_said requests form.answers.items) form.size bytes

@@ -6,7 +6,7 @@
 #![tactic(auto)]
 
 // mod check;
-// mod form;
+mod form;
 mod input;
 mod line;
 mod parts;

@@ -40,7 +40,7 @@ map-same f g (x ∷ xs) same = λ i. same x i ∷ map-same f g xs same i
 next_test : (trace begun : ℕ) → ((trace + 1) == (begun + 1)) ≡ (trace == begun)
 next_test trace begun = grind (arith, nat_tests)
 
-range_with_len-append : (a m n : ℕ) → range_with_len a (m + n) ≡ range_with_len a m ++ range_with_len (a + m) n
+pub range_with_len-append : (a m n : ℕ) → range_with_len a (m + n) ≡ range_with_len a m ++ range_with_len (a + m) n
 range_with_len-append a zero n = ap (λ k. range_with_len a k) (omega arith) ∙ ap (λ k. range_with_len k n) (omega arith)
 range_with_len-append a (suc m) n =
     let e : suc m + n ≡ suc (m + n) = omega arith in
