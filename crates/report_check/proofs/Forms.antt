@@ -9,7 +9,7 @@ use Rattle.map_history.specs.declared.op.Request.{Request}
 use Rattle.report_text.specs.Report.{Line, Row, report_lines}
 use Rattle.report_text.specs.Report.Line.{trace_line, answer_line, final_line}
 use Rattle.report_text.proofs.Lines.{left_lines, lines-begin, lines-end, lines-row, lines-start, range_with_len-append}
-use Rattle.report_check.specs.declared.line.Said.{Said}
+use Rattle.map_history.specs.declared.op.Entry.{Entry}
 use Rattle.report_check.specs.Lines.{IsFirstBad, NoneStands, SayAll, Says}
 use Rattle.report_check.specs.Rows.{SaysRows, places, unserved}
 use Rattle.report_check.specs.Said.{IsNext, answer_said, rows_said}
@@ -95,7 +95,7 @@ pub requests_unserved : (requests : List Request) → map request_of (map unserv
 requests_unserved [] = refl
 requests_unserved (request ∷ requests) = ap (λ l. request ∷ l) (requests_unserved requests)
 
-pub requests_said : (requests : List Request) (answers : List (Option Said)) → length answers ≡ length requests → map request_of (rows_said requests answers) ≡ requests
+pub requests_said : (requests : List Request) (answers : List (Option Entry)) → length answers ≡ length requests → map request_of (rows_said requests answers) ≡ requests
 requests_said [] answers long = refl
 requests_said (request ∷ requests) [] long = absurd (omega (arith, long))
 requests_said (request ∷ requests) (said ∷ answers) long = ap (λ l. request ∷ l) (requests_said requests answers (omega (arith, long)))
@@ -130,7 +130,7 @@ say_next line lines bytes more next all = (next.text, more, next.says, next.cut,
 pub bad_later_trace : (trace : ℕ) (lines : List Line) (bytes more : List ℕ) (number : ℕ) → IsNext (trace_line trace) bytes more → IsFirstBad lines more number → IsFirstBad (trace_line trace ∷ lines) bytes (number + 1)
 bad_later_trace trace lines bytes more number next bad = inr (next.text, more, number, next.says, next.cut, refl, bad)
 
-pub bad_later_answer : (said : Option Said) (lines : List Line) (bytes more : List ℕ) (number : ℕ) → IsNext (answer_line (answer_said said)) bytes more → IsFirstBad lines more number
+pub bad_later_answer : (said : Option Entry) (lines : List Line) (bytes more : List ℕ) (number : ℕ) → IsNext (answer_line (answer_said said)) bytes more → IsFirstBad lines more number
     → IsFirstBad (answer_line None ∷ lines) bytes (number + 1)
 bad_later_answer said lines bytes more number next bad = inr (next.text, more, number, (answer_said said, next.says), next.cut, refl, bad)
 
@@ -149,14 +149,14 @@ none_left [] none = refl
 none_left (x ∷ xs) none = absurd (omega (arith, none))
 
 -- the traces up to that of a request were begun, and its line was read
-pub said_step : (begun traces size : ℕ) (request : Request) (requests : List Request) (said : Option Said) (more : List (Option Said)) (rest middle after : List ℕ)
+pub said_step : (begun traces size : ℕ) (request : Request) (requests : List Request) (said : Option Entry) (more : List (Option Entry)) (rest middle after : List ℕ)
     → ((lines : List Line) → SayAll lines middle → SayAll (traces_from begun (request.trace + 1) ++ lines) rest) → IsNext (answer_line (answer_said said)) middle after
     → SayAll (lines_behind (request.trace + 1) (rows_said requests more) traces size) after → SayAll (lines_behind begun (rows_said (request ∷ requests) (said ∷ more)) traces size) rest
 said_step begun traces size request requests said more rest middle after begin next all =
     let lines = lines_behind (request.trace + 1) (rows_said requests more) traces size in
     begin (answer_line (answer_said said) ∷ lines) (say_next (answer_line (answer_said said)) lines middle after next all)
 
-pub bad_step : (begun traces : ℕ) (request : Request) (requests : List Request) (said : Option Said) (number : ℕ) (rest middle after : List ℕ)
+pub bad_step : (begun traces : ℕ) (request : Request) (requests : List Request) (said : Option Entry) (number : ℕ) (rest middle after : List ℕ)
     → ((lines : List Line) (number : ℕ) → IsFirstBad lines middle number → IsFirstBad (traces_from begun (request.trace + 1) ++ lines) rest (number + (request.trace + 1 - begun)))
     → IsNext (answer_line (answer_said said)) middle after
     → IsFirstBad (lines_behind (request.trace + 1) (map unserved requests) traces 0) after number
@@ -170,7 +170,7 @@ pub places_are : (requests : List Request) (traces : ℕ) → IsNonDecreasingBy 
     → places traces requests ≡ lines_behind 0 (map unserved requests) traces 0
 places_are requests traces rising below = report_lines_are (map unserved requests) traces 0 (rows_continue requests (map unserved requests) traces rising below (requests_unserved requests))
 
-pub says_all : (requests : List Request) (answers : List (Option Said)) (traces size : ℕ) (bytes : List ℕ) → IsNonDecreasingBy (λ (r : Request). r.trace) requests → All (λ (r : Request). r.trace < traces) requests
+pub says_all : (requests : List Request) (answers : List (Option Entry)) (traces size : ℕ) (bytes : List ℕ) → IsNonDecreasingBy (λ (r : Request). r.trace) requests → All (λ (r : Request). r.trace < traces) requests
     → length answers ≡ length requests → SayAll (lines_behind 0 (rows_said requests answers) traces size) bytes → SaysRows traces requests (rows_said requests answers) size bytes
 says_all requests answers traces size bytes rising below long all =
     let are = requests_said requests answers long in

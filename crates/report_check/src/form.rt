@@ -8,14 +8,15 @@ ghost use Rattle.report_check.specs.Said.{IsFormOf};
 ghost use Rattle.report_text.specs.Report.{Line};
 ghost use Rattle.report_text.specs.Report.Line.{final_line, trace_line};
 
-use crate::line::{Said, take_answer, take_size, take_trace};
-use map_history::Request;
+use crate::line::{take_answer, take_size, take_trace};
+use map_history::{Entry, Request};
 use std::alloc::{AllocError, Global};
 
-/// What a report says of each request, and its final number.
+/// What a report says of each request, as an entry that has its rank in place of a stamp, and its final number.
 #[derive(Debug, Drop)]
 pub struct Form {
-    pub answers: Vec<Option<Said>>,
+    /// The ranks are at most 2^32, for which every greater number counts.
+    pub answers: Vec<Option<Entry>>,
     /// At most 2^32, for which every greater number counts.
     pub size: u64,
 }

@@ -10,7 +10,7 @@ mod form;
 mod input;
 mod line;
 mod parts;
-// mod ranks;
+mod ranks;
 // mod replay;
 mod verdict;
 

@@ -9,16 +9,8 @@ ghost use Rattle.report_text.specs.Report.Line.{trace_line, answer_line, final_l
 ghost use Rattle.trace_reader.specs.Lines.{IsOneLine};
 
 use crate::parts::find_feed;
-use map_history::Reply;
+use map_history::{Entry, Reply};
 use trace_reader::number;
-
-/// What a line says of a served request.
-#[derive(Clone, Copy, Debug, PartialEq, Eq)]
-pub struct Said {
-    /// At most 2^32, for which every greater number counts.
-    pub rank: u64,
-    pub reply: Reply,
-}
 
 /// The line that begins this trace, at the front of the bytes: what stands behind it.
 pub fn take_trace(trace: u32, bytes: &[u8]) -> Option<&[u8]>
@@ -41,7 +33,7 @@ fn is_trace(trace: u32, line: &[u8]) -> bool
 }
 
 /// The line of a request, at the front of the bytes: what it says, and what stands behind it.
-pub fn take_answer(bytes: &[u8]) -> Option<(Option<Said>, &[u8])>
+pub fn take_answer(bytes: &[u8]) -> Option<(Option<Entry>, &[u8])>
     ensures some { IfSome result (λ taken. IsNext (answer_line (answer_said taken.0)) bytes.now taken.1.now) }
     ensures none { IfNone result (NoneStands (answer_line None) bytes.now) }
 {
@@ -70,7 +62,7 @@ fn take_line(bytes: &[u8]) -> Option<(&[u8], &[u8])>
 }
 
 // What a line says in the place of a request.
-fn read_answer(line: &[u8]) -> Option<Option<Said>>
+fn read_answer(line: &[u8]) -> Option<Option<Entry>>
     ensures some { IfSome result (λ said. Says (answer_line (answer_said said)) line.now) }
     ensures none { IfNone result ((any : Option Answer) → Says (answer_line any) line.now → ⊥) }
 {
@@ -80,15 +72,15 @@ fn read_answer(line: &[u8]) -> Option<Option<Said>>
     }
 }
 
-// A rank and a reply.
-fn read_served(line: &[u8]) -> Option<Said>
+// A rank and a reply, as an entry that has the rank in place of a stamp.
+fn read_served(line: &[u8]) -> Option<Entry>
     ensures some { IfSome result (λ said. SaysAnswer (said_answer said) line.now) }
     ensures none { IfNone result ((answer : Answer) → SaysAnswer answer line.now → ⊥) }
 {
     let end = find_space(line)?;
     let rank = numeral(&line[..end])?;
     let reply = read_reply(&line[end + 1..])?;
-    Some(Said { rank, reply })
+    Some(Entry { stamp: rank, reply })
 }
 
 // Where the first space stands.

@@ -4,7 +4,7 @@ use Rattle.map_history.specs.declared.op.Op.TheVariants.{Get}
 use Rattle.map_history.specs.declared.op.Request.{Request}
 use Rattle.report_text.specs.Report.{Line}
 use Rattle.report_text.specs.Report.Line.{answer_line, final_line}
-use Rattle.report_check.specs.declared.line.Said.{Said}
+use Rattle.map_history.specs.declared.op.Entry.{Entry}
 use Rattle.report_check.specs.Lines.{IsFirstBad, SayAll}
 use Rattle.report_check.specs.Rows.{unserved}
 use Rattle.report_check.specs.Said.{rows_said}
@@ -62,8 +62,8 @@ loop-i-preserved c =
           let here = said_step begun c.args.traces size request behind c.in-Some.answer more c.loop-i.rest.now c.in-Ok.more.now c.in-Some.more.now c.in-Ok.ensures.said c.in-Some.ensures.some all in
           let read = c.loop-i.invariant.said (c.in-Some.answer ∷ more) size
           (subst (λ (l : List Request). SayAll (lines_behind begun (rows_said l (c.in-Some.answer ∷ more)) c.args.traces size) c.loop-i.rest.now) (sym next) here) in
-          subst (λ (l : List (Option Said)). SayAll (lines_behind 0 (rows_said requests l) c.args.traces size) c.args.report.now)
-          (sym (ap (λ (l : List (Option Said)). l ++ more) pushed ∙ append_assoc c.loop-i.answers.items (c.in-Some.answer ∷ []) more)) read;
+          subst (λ (l : List (Option Entry)). SayAll (lines_behind 0 (rows_said requests l) c.args.traces size) c.args.report.now)
+          (sym (ap (λ (l : List (Option Entry)). l ++ more) pushed ∙ append_assoc c.loop-i.answers.items (c.in-Some.answer ∷ []) more)) read;
       bad = λ number bad.
           bad_moved _ _ c.args.report.now _ _ refl (omega (arith, low))
           (c.loop-i.invariant.bad (number + 1 + (request.trace + 1 - begun))
@@ -85,7 +85,7 @@ returns-in-Ok-take_end-clause-form c =
     record {
       long = long;
       says = says_all requests answers c.args.traces size c.args.report.now c.requires.rising c.requires.below long
-          (subst (λ (l : List (Option Said)). SayAll (lines_behind 0 (rows_said requests l) c.args.traces size) c.args.report.now) (append-nil answers) (c.loop-i.invariant.said [] size end));
+          (subst (λ (l : List (Option Entry)). SayAll (lines_behind 0 (rows_said requests l) c.args.traces size) c.args.report.now) (append-nil answers) (c.loop-i.invariant.said [] size end));
     }
 
 pub returns-in-Err-take_end-clause-bad : goal.returns-in-Err-take_end-clause-bad
