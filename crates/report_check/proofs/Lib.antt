@@ -1,6 +1,8 @@
 pub mod Cuts
 pub mod Forms
 pub mod Numerals
+pub mod Orders
+pub mod Replays
 pub mod Rows
 pub mod Sayings
 pub mod Seen

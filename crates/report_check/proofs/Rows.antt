@@ -5,15 +5,12 @@ use Rattle.std.proofs.lemmas.List.Sums.{sum_by-cons}
 use Rattle.std.proofs.lemmas.Option.{slice_get_within}
 use Rattle.small_lemmas.proofs.Lists.{some_the_same}
 use Rattle.map_history.specs.declared.op.Entry.{Entry}
-use Rattle.map_history.specs.declared.op.Op.TheVariants.{Get}
 use Rattle.map_history.specs.declared.op.Request.{Request}
 use Rattle.report_text.specs.Legal.{served_in}
 use Rattle.report_text.specs.Report.{Answer, Row}
 use Rattle.report_check.specs.Faults.{IsAnsweredAt}
+use Rattle.report_check.specs.Histories.{no_request}
 use Rattle.report_check.specs.Said.{answer_said, rows_said, said_answer}
-
-abbrev pub no_request : Request
-no_request = record { trace = 0; number = 0; op = Get 0 }
 
 abbrev pub row_at : List Request → List (Option Entry) → ℕ → Row
 row_at requests answers i = record { request = get_or requests i no_request; answer = answer_said (get_or answers i None) }

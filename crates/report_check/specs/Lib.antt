@@ -1,4 +1,5 @@
 pub mod Faults
+pub mod Histories
 pub mod Input
 pub mod Lines
 pub mod Parts

@@ -11,7 +11,7 @@ mod input;
 mod line;
 mod parts;
 mod ranks;
-// mod replay;
+mod replay;
 mod verdict;
 
 // pub use check::check_report;
