@@ -1,5 +1,6 @@
 pub mod Cuts
 pub mod Forms
+pub mod Legals
 pub mod Numerals
 pub mod Orders
 pub mod Replays

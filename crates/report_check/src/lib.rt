@@ -5,7 +5,7 @@
 //! replies against a plain map, and `check` makes these tests in order. `verdict` has what it answers.
 #![tactic(auto)]
 
-// mod check;
+mod check;
 mod form;
 mod input;
 mod line;
@@ -14,7 +14,7 @@ mod ranks;
 mod replay;
 mod verdict;
 
-// pub use check::check_report;
+pub use check::check_report;
 pub use input::{InputError, MAX_INPUT, read_all};
 pub use parts::split_report;
 pub use verdict::{BadReport, Verdict};
