@@ -1,9 +1,7 @@
 -- Lines that line feeds end, at the front of bytes.
-use Rattle.std.proofs.Common.{◌≡◌, ◌≢◌, ℕ, zero, suc, ◌+◌, ◌<◌, Bool, true, false, List, [], ◌∷◌, ◌++◌, length, get_or, refl, sym, ap, ◌∙◌, arith}
+use Rattle.std.proofs.Common.{◌≡◌, ℕ, suc, false, List, [], ◌∷◌, ◌++◌, refl, sym, ap, arith}
 use Rattle.std.specs.Prelude.{◌==◌}
-use Rattle.report_check.specs.Said.{IsCut}
 use Rattle.small_lemmas.proofs.Bools.{from_both}
-use Rattle.small_lemmas.proofs.Numbers.{self_tested}
 use Rattle.trace_reader.specs.Lines.{IsOneLine}
 
 one_head : (byte : ℕ) (bytes : List ℕ) → IsOneLine (byte ∷ bytes) → (byte == 10) ≡ false

@@ -1,16 +1,16 @@
 -- The lines of a report in their order, when some traces were begun and some rows were read.
-use Rattle.std.proofs.Common.{◌≡◌, ℕ, zero, suc, ◌+◌, ◌-◌, ◌<◌, ◌≤◌, List, [], ◌∷◌, ◌++◌, Option, None, Some, length, map, get_or, drop, inl, inr, refl, sym, ap, ◌∙◌, subst, append_assoc, arith}
+use Rattle.std.proofs.Common.{◌≡◌, ℕ, zero, suc, ◌+◌, ◌-◌, ◌<◌, ◌≤◌, List, [], ◌∷◌, ◌++◌, Option, None, length, map, inl, inr, refl, sym, ap, ◌∙◌, subst, append_assoc, arith}
 use Rattle.std.specs.Prelude.{All}
 use Rattle.std.specs.List.{range_with_len}
 use Rattle.std.specs.List.Sorted.{IsNonDecreasingBy}
-use Rattle.std.proofs.lemmas.List.{append-nil, map-append}
+use Rattle.std.proofs.lemmas.List.{map-append}
 use Rattle.std.proofs.lemmas.List.Elements.{All-cons, All-nil, All-weaker}
 use Rattle.map_history.specs.declared.op.Request.{Request}
 use Rattle.report_text.specs.Report.{Line, Row, report_lines}
 use Rattle.report_text.specs.Report.Line.{trace_line, answer_line, final_line}
 use Rattle.report_text.proofs.Lines.{left_lines, lines-begin, lines-end, lines-row, lines-start, range_with_len-append}
 use Rattle.map_history.specs.declared.op.Entry.{Entry}
-use Rattle.report_check.specs.Lines.{IsFirstBad, NoneStands, SayAll, Says}
+use Rattle.report_check.specs.Lines.{IsFirstBad, NoneStands, SayAll}
 use Rattle.report_check.specs.Rows.{SaysRows, places, unserved}
 use Rattle.report_check.specs.Said.{IsNext, answer_said, rows_said}
 
@@ -79,9 +79,9 @@ continue_from begun (row ∷ rows) traces reached later rising below = (
   later 0 row.request (omega arith),
   below 0 row.request (omega arith),
   continue_from (row.request.trace + 1) rows traces (omega (arith, below 0 row.request (omega arith)))
-  (λ k d early. omega (arith, rising 0 (suc k) d (omega arith) (omega (arith, early))))
-  (λ i j d le early. rising (suc i) (suc j) d (omega (arith, le)) (omega (arith, early)))
-  (λ k d early. below (suc k) d (omega (arith, early))),
+      (λ k d early. omega (arith, rising 0 (suc k) d (omega arith) (omega (arith, early))))
+      (λ i j d le early. rising (suc i) (suc j) d (omega (arith, le)) (omega (arith, early)))
+      (λ k d early. below (suc k) d (omega (arith, early))),
 )
 
 -- the rows of requests whose traces never fall and are below the count of traces

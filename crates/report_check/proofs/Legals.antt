@@ -1,26 +1,24 @@
 -- A report in which nothing is wrong is legal.
-use Rattle.std.proofs.Common.{◌≡◌, ◌≢◌, ℕ, zero, suc, ◌+◌, ◌-◌, ◌<◌, ◌≤◌, ◌^◌, List, [], ◌∷◌, ◌++◌, Option, None, Some, IsSome, codes, length, map, get_or, inl, inr, refl, sym, ap, ◌∙◌, subst, append_assoc, arith}
-use Rattle.std.specs.Prelude.{All, AllPairs, count_by, decimal, slice_get}
+use Rattle.std.proofs.Common.{◌≡◌, ℕ, zero, suc, ◌+◌, ◌-◌, ◌<◌, ◌≤◌, ◌^◌, List, [], ◌∷◌, ◌++◌, Option, None, Some, IsSome, codes, length, map, get_or, inl, inr, refl, sym, ap, ◌∙◌, subst, append_assoc, arith}
+use Rattle.std.specs.Prelude.{All, AllPairs, decimal, slice_get}
 use Rattle.std.specs.FinMap.{empty, len, len-empty}
 use Rattle.std.specs.Ordering.{nat_cmp}
-use Rattle.std.specs.List.{AllByRecursion, cons_option, filter_map, flat_map, range_with_len}
+use Rattle.std.specs.List.{AllByRecursion, flat_map, range_with_len}
 use Rattle.std.proofs.lemmas.Bool.{cases_lt}
 use Rattle.std.proofs.lemmas.List.{length-map}
 use Rattle.std.proofs.lemmas.List.Elements.{All-cons, All-from_recursion, All-nil}
 use Rattle.std.proofs.lemmas.List.Sorted.{length_permutation}
-use Rattle.std.proofs.lemmas.List.Sums.{count_by-le-length}
 use Rattle.std.proofs.lemmas.Option.{slice_get-get_or}
 use Rattle.map_history.specs.declared.op.Op.{Op}
 use Rattle.map_history.specs.declared.op.Request.{Request}
 use Rattle.map_history.specs.History.{IsLegalFrom}
 use Rattle.map_history.specs.Replay.{Pairs, map_after, map_after_all}
-use Rattle.map_history.specs.Words.{IsReply}
 use Rattle.map_history.proofs.Sizes.{len-map_after}
-use Rattle.report_text.specs.Legal.{IsHistory, IsLegal, Served, answered, op_of, served_in, served_of}
-use Rattle.report_text.specs.Report.{Answer, Line, Row, line_text, report_lines, report_text, reply_text}
+use Rattle.report_text.specs.Legal.{IsHistory, Served, answered, op_of, served_in}
+use Rattle.report_text.specs.Report.{Answer, Line, Row, line_text, report_lines, reply_text}
 use Rattle.report_text.specs.Report.Line.{trace_line, answer_line, final_line}
 use Rattle.report_text.proofs.Turns.{AllPairs-cons, AllPairs-nil}
-use Rattle.report_check.specs.Faults.{EndsTurn, HasRank, IsAnsweredAt, IsRankFault, NoFault}
+use Rattle.report_check.specs.Faults.{EndsTurn, IsAnsweredAt, IsRankFault, NoFault}
 use Rattle.report_check.specs.Lines.{SayAll, Says}
 use Rattle.report_check.specs.Rows.{SaysRows}
 use Rattle.report_check.specs.Verdicts.{HasReply, IsLegalReport}

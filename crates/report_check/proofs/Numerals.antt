@@ -1,13 +1,13 @@
 -- Numbers as they are printed, and as they are read.
-use Rattle.std.proofs.Common.{◌≡◌, ℕ, zero, suc, ◌+◌, ◌-◌, ◌*◌, ◌^◌, ◌<◌, ◌≤◌, ◌⊎◌, Bool, true, false, List, [], ◌∷◌, length, min, get_or, refl, sym, ap, ◌∙◌, inl, inr, ⊎_elim, arith, rules}
+use Rattle.std.proofs.Common.{◌≡◌, ℕ, ◌+◌, ◌-◌, ◌*◌, ◌^◌, ◌<◌, ◌⊎◌, true, List, length, sym, ap, ◌∙◌, inl, inr, ⊎_elim, arith, rules}
 use Rattle.std.specs.Prelude.{decimal, fold, slice_index, nat_lt}
 use Rattle.std.specs.Char.{is_ascii_digit}
 use Rattle.std.specs.List.{list_all}
-use Rattle.std.proofs.lemmas.Fmt.{decimal-digits_value, decimal_digit, digits_value-decimal, first_decimal}
+use Rattle.std.proofs.lemmas.Fmt.{decimal-digits_value, decimal_digit, first_decimal}
 use Rattle.std.proofs.lemmas.Str.Parse.{IsNumeralModel, numerals_by_fold}
 use Rattle.small_lemmas.proofs.Bools.{both_of}
 use Rattle.small_lemmas.proofs.Numbers.{tested_less, zero_or_some}
-use Rattle.trace_reader.specs.Fields.{is_number, value_of}
+use Rattle.trace_reader.specs.Fields.{value_of}
 use Rattle.trace_reader.proofs.Digits.{are_number, printed_digits}
 use Rattle.report_check.specs.Lines.{IsNumeral}
 

@@ -1,5 +1,5 @@
 -- The served requests in the order of their turns, and their replay.
-use Rattle.std.proofs.Common.{◌≡◌, ◌≢◌, ◌⊎◌, ℕ, zero, suc, ◌+◌, ◌-◌, ◌<◌, ◌≤◌, List, [], ◌∷◌, ◌++◌, Option, None, Some, IsSomeAnd, IsPermutation, length, map, get_or, take, min, inl, inr, refl, sym, ap, ◌∙◌, subst, append_assoc, length-append, arith}
+use Rattle.std.proofs.Common.{◌≡◌, ◌≢◌, ◌⊎◌, ℕ, suc, ◌+◌, ◌-◌, ◌<◌, ◌≤◌, List, [], ◌∷◌, ◌++◌, Option, None, Some, IsSomeAnd, IsPermutation, length, map, get_or, take, inl, inr, refl, sym, ap, ◌∙◌, subst, append_assoc, length-append, arith}
 use Rattle.std.specs.Prelude.{IfNone, IfSome}
 use Rattle.std.specs.FinMap.{empty}
 use Rattle.std.proofs.Math.Seq.{get_or-append_seam}
@@ -19,7 +19,7 @@ use Rattle.report_text.specs.Report.{Answer, Row}
 use Rattle.report_text.proofs.Turns.{served-contained, turns-of_served, turns_from}
 use Rattle.report_check.specs.Faults.{IsFirstLine, IsReplyFault, NoFault}
 use Rattle.report_check.specs.Histories.{AreRanked, IsLineOf, history_of, lower_of, no_request, reply_in, served_at}
-use Rattle.report_check.specs.Said.{answer_said, rows_said, said_answer}
+use Rattle.report_check.specs.Said.{rows_said, said_answer}
 use Rattle.report_check.proofs.Rows.{answer_of_entry, answered_here, no_answer, row_at, row_is}
 
 abbrev no_entry : Option Entry
@@ -98,12 +98,14 @@ module _ (requests : List Request) (answers : List (Option Entry)) (turns : List
   pub turn_is : (k : ℕ) → k < length turns → (entry : Entry) × IsTurn requests answers turns k entry
   turn_is k within =
       let of = turns-of_served answers turns all k no_turn within in
-      let found = entry_said (get_or turns k no_turn).0 (get_or answers ((get_or turns k no_turn).1 - 0) None) of.2 in
-      (found.0, record {
-        within = omega (arith, of.1, long);
-        said = ap (λ p. get_or answers p None) (omega arith) ∙ found.1;
-        rank = found.2 ∙ ranked k no_turn within;
-      })
+      let found = entry_said (get_or turns k no_turn).0 (get_or answers ((get_or turns k no_turn).1 - 0) None) of.2 in (
+        found.0,
+        record {
+          within = omega (arith, of.1, long);
+          said = ap (λ p. get_or answers p None) (omega arith) ∙ found.1;
+          rank = found.2 ∙ ranked k no_turn within;
+        },
+      )
 
   -- the turn of a request that was served
   pub turn_of_place : (place : ℕ) (entry : Entry) → place < length requests → get_or answers place None ≡ Some entry → (j : ℕ) × (j < length turns) × ((get_or turns j no_turn).1 ≡ place)

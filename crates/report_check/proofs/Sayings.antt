@@ -1,5 +1,5 @@
 -- What a line says, and what stands in it where it says it.
-use Rattle.std.proofs.Common.{◌≡◌, ℕ, zero, suc, ◌+◌, ◌-◌, ◌<◌, ◌≤◌, ◌^◌, Bool, true, false, List, [], ◌∷◌, ◌++◌, Option, None, Some, codes, length, get_or, take, drop, refl, sym, ap, ◌∙◌, subst, arith, length-append, add-one, drop-cons}
+use Rattle.std.proofs.Common.{◌≡◌, ℕ, ◌+◌, ◌-◌, ◌<◌, ◌^◌, Bool, true, false, List, [], ◌∷◌, ◌++◌, Option, None, Some, codes, length, get_or, take, drop, refl, sym, ap, ◌∙◌, subst, arith, length-append, add-one, drop-cons}
 use Rattle.std.specs.Prelude.{◌==◌, ◌&&◌, decimal, nat_lt, not, position}
 use Rattle.std.specs.Char.{is_ascii_digit}
 use Rattle.std.specs.List.{list_all}
@@ -20,7 +20,7 @@ use Rattle.report_text.specs.Report.Line.{trace_line, answer_line, final_line}
 use Rattle.trace_reader.specs.Lines.{IsOneLine}
 use Rattle.trace_reader.proofs.Digits.{digit_bounds}
 use Rattle.trace_reader.proofs.Pieces.{first_is}
-use Rattle.report_check.specs.Lines.{CanStandFor, IsNumeral, NoneStands, Says, SaysAnswer, SaysSize}
+use Rattle.report_check.specs.Lines.{IsNumeral, NoneStands, Says, SaysAnswer, SaysSize}
 use Rattle.report_check.specs.Said.{IsCut, SaysNumber}
 use Rattle.report_check.proofs.Cuts.{cut_once, none_cut}
 use Rattle.report_check.proofs.Numerals.{numeral_decimal, numeral_once}

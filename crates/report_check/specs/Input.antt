@@ -1,5 +1,5 @@
 -- An input that is read whole.
-use Rattle.std.specs.Prelude.{◌≡◌, ℕ, ◌<◌, ◌≤◌, List, Option, length}
+use Rattle.std.specs.Prelude.{ℕ, ◌<◌, ◌≤◌, List, Option, length}
 use Rattle.trace_reader.specs.Source.{Moves}
 
 -- the input has more bytes than are read

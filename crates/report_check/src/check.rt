@@ -23,7 +23,12 @@ pub fn check_report(alloc: Global, traces: &Traces, report: &[u8]) -> Result<Ver
     check_lines(alloc, traces.count, traces.requests.as_slice(), report)
 }
 
-fn check_lines(alloc: Global, traces: u32, requests: &[Request], report: &[u8]) -> Result<Verdict, AllocError>
+fn check_lines(
+    alloc: Global,
+    traces: u32,
+    requests: &[Request],
+    report: &[u8],
+) -> Result<Verdict, AllocError>
     requires few { length requests.now ≤ 131072 }
     requires rising { IsNonDecreasingBy (λ request. request.trace) requests.now }
     requires below { All (λ request. request.trace < traces) requests.now }

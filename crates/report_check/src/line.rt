@@ -18,7 +18,11 @@ pub fn take_trace(trace: u32, bytes: &[u8]) -> Option<&[u8]>
     ensures none { IfNone result (NoneStands (trace_line trace) bytes.now) }
 {
     let (line, more) = take_line(bytes)?;
-    if is_trace(trace, line) { Some(more) } else { None }
+    if is_trace(trace, line) {
+        Some(more)
+    } else {
+        None
+    }
 }
 
 // The line that begins this trace.

@@ -1,5 +1,4 @@
-use Rattle.std.proofs.Common.{◌≡◌, ◌≤◌, List, Option, ℕ, ap, arith, is_some, length, subst, sym, ◌∙◌}
-use Rattle.std.specs.Prelude.{count_by}
+use Rattle.std.proofs.Common.{◌≡◌, ◌≤◌, List, Option, ap, arith, is_some, length, subst, sym, ◌∙◌}
 use Rattle.std.proofs.lemmas.List.Sums.{count_by-le-length}
 use Rattle.map_history.specs.declared.op.Entry.{Entry}
 use Rattle.history_orders.specs.Turns.{Turn}
@@ -19,19 +18,21 @@ returns-then-form-replayed c =
     let same = c.as_slice-answers.ensures.value in
     let rows = rows_said requests answers in
     let history = history_of requests answers c.as_slice.result.now in
-    record { judged = rw c.fails-then-form-replayed.ensures (record {
-      rows = rows;
-      size = c.args.form.now.size;
-      history = history;
-      has = record {
-        says = subst (λ (l : List (Option Entry)). SaysRows c.args.traces requests (rows_said requests l) c.args.form.now.size c.args.report.now) (sym same) c.requires.form.says;
-        ranks = rw c.in_default.is at c.in_ok-number.ensures.none;
-        is = subst (λ (l : List Turn). IsHistory rows (history_of requests answers l)) (sym c.as_slice.ensures.value) c.in_ok-turns.ensures.history;
-      };
-      replies = rw c.in_default-wrong.is at c.in_ok-replayed.ensures.none;
-      other = λ is. c.if-form-replayed.true (is ∙ sym c.in_ok-replayed.ensures.size);
-      is = omega (arith, c.from.ensures);
-    }) }
+    record {
+      judged = rw c.fails-then-form-replayed.ensures (record {
+        rows = rows;
+        size = c.args.form.now.size;
+        history = history;
+        has = record {
+          says = subst (λ (l : List (Option Entry)). SaysRows c.args.traces requests (rows_said requests l) c.args.form.now.size c.args.report.now) (sym same) c.requires.form.says;
+          ranks = rw c.in_default.is at c.in_ok-number.ensures.none;
+          is = subst (λ (l : List Turn). IsHistory rows (history_of requests answers l)) (sym c.as_slice.ensures.value) c.in_ok-turns.ensures.history;
+        };
+        replies = rw c.in_default-wrong.is at c.in_ok-replayed.ensures.none;
+        other = λ is. c.if-form-replayed.true (is ∙ sym c.in_ok-replayed.ensures.size);
+        is = omega (arith, c.from.ensures);
+      });
+    }
 
 pub returns : goal.returns
 returns c =
@@ -43,9 +44,11 @@ returns c =
     let history = history_of requests answers c.as_slice.result.now in
     let fewer : length (served_in rows) ≤ length requests = omega (arith, served_count requests answers long, count_by-le-length (λ (o : Option Entry). is_some o) answers, long) in
     let lines = report_lines_are rows c.args.traces c.args.form.now.size (rows_continue requests rows c.args.traces c.requires.rising c.requires.below (requests_said requests answers long)) in
-    record { judged = legal_report c.args.traces requests rows c.args.form.now.size c.args.report.now history c.requires.few fewer lines
-        (subst (λ (l : List (Option Entry)). SaysRows c.args.traces requests (rows_said requests l) c.args.form.now.size c.args.report.now) (sym same) c.requires.form.says)
-        (rw c.in_default.is at c.in_ok-number.ensures.none)
-        (subst (λ (l : List Turn). IsHistory rows (history_of requests answers l)) (sym c.as_slice.ensures.value) c.in_ok-turns.ensures.history)
-        (rw c.in_default-wrong.is at c.in_ok-replayed.ensures.legal)
-        (c.if-form-replayed.false ∙ c.in_ok-replayed.ensures.size) }
+    record {
+      judged = legal_report c.args.traces requests rows c.args.form.now.size c.args.report.now history c.requires.few fewer lines
+          (subst (λ (l : List (Option Entry)). SaysRows c.args.traces requests (rows_said requests l) c.args.form.now.size c.args.report.now) (sym same) c.requires.form.says)
+          (rw c.in_default.is at c.in_ok-number.ensures.none)
+          (subst (λ (l : List Turn). IsHistory rows (history_of requests answers l)) (sym c.as_slice.ensures.value) c.in_ok-turns.ensures.history)
+          (rw c.in_default-wrong.is at c.in_ok-replayed.ensures.legal)
+          (c.if-form-replayed.false ∙ c.in_ok-replayed.ensures.size);
+    }

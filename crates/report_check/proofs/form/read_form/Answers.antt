@@ -1,14 +1,13 @@
-use Rattle.std.proofs.Common.{◌≡◌, ◌+◌, ◌-◌, ◌++◌, ◌<◌, ◌≤◌, ◌∷◌, [], List, ℕ, None, Option, append_assoc, arith, drop, get_or, length, length-append, map, refl, subst, sym, ap, ◌∙◌}
+use Rattle.std.proofs.Common.{◌≡◌, ◌+◌, ◌-◌, ◌++◌, ◌≤◌, ◌∷◌, [], List, None, Option, append_assoc, arith, drop, get_or, length, length-append, map, refl, subst, sym, ap, ◌∙◌}
 use Rattle.std.proofs.lemmas.List.{append-nil, drop_all, drop_more, get_or_default}
 use Rattle.map_history.specs.declared.op.Op.TheVariants.{Get}
 use Rattle.map_history.specs.declared.op.Request.{Request}
-use Rattle.report_text.specs.Report.{Line}
-use Rattle.report_text.specs.Report.Line.{answer_line, final_line}
+use Rattle.report_text.specs.Report.Line.{answer_line}
 use Rattle.map_history.specs.declared.op.Entry.{Entry}
 use Rattle.report_check.specs.Lines.{IsFirstBad, SayAll}
 use Rattle.report_check.specs.Rows.{unserved}
 use Rattle.report_check.specs.Said.{rows_said}
-use Rattle.report_check.proofs.Forms.{bad_here, bad_moved, bad_step, lines_behind, places_are, says_all, said_step, traces_from}
+use Rattle.report_check.proofs.Forms.{bad_here, bad_moved, bad_step, lines_behind, places_are, says_all, said_step}
 use Rattle.report_check.proofs.form.read_form.Goals as goal
 
 abbrev no_request : Request

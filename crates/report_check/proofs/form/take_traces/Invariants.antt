@@ -1,4 +1,4 @@
-use Rattle.std.proofs.Common.{◌+◌, ◌-◌, ◌++◌, ◌≤◌, ℕ, List, map}
+use Rattle.std.proofs.Common.{◌+◌, ◌-◌, ◌++◌, ℕ, List, map}
 use Rattle.std.specs.List.{range_with_len}
 use Rattle.report_text.specs.Report.{Line}
 use Rattle.report_text.specs.Report.Line.{trace_line}

@@ -1,4 +1,4 @@
-use Rattle.std.proofs.Common.{◌≡◌, ◌++◌, ◌∷◌, List, ℕ, ap, subst, sym, take, ◌∙◌}
+use Rattle.std.proofs.Common.{◌++◌, ◌∷◌, List, ℕ, ap, subst, sym, take, ◌∙◌}
 use Rattle.report_check.specs.Lines.{IsNumeral}
 use Rattle.report_check.proofs.Sayings.{no_space_found, space_at, spaced}
 use Rattle.report_check.proofs.line.read_served.Goals as goal

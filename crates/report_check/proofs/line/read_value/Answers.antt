@@ -1,4 +1,4 @@
-use Rattle.std.proofs.Common.{◌≡◌, ◌++◌, codes, List, ℕ, sym, ap, ◌∙◌, arith}
+use Rattle.std.proofs.Common.{◌++◌, codes, ap, ◌∙◌, arith}
 use Rattle.report_check.proofs.Numerals.{decimal_numeral}
 use Rattle.report_check.proofs.Sayings.{number_decimal, number_once}
 use Rattle.report_check.proofs.line.read_value.Goals as goal

@@ -1,6 +1,5 @@
-use Rattle.std.proofs.Common.{◌≡◌, ℕ}
 use Rattle.report_text.specs.Report.Line.{final_line}
-use Rattle.report_check.proofs.Sayings.{none_at_all, none_size, number_size, size_number}
+use Rattle.report_check.proofs.Sayings.{none_at_all, none_size, size_number}
 use Rattle.report_check.proofs.line.take_size.Goals as goal
 
 pub returns-in_err-line-clause-none : goal.returns-in_err-line-clause-none

@@ -1,4 +1,4 @@
-use Rattle.std.proofs.Common.{◌≡◌, ◌-◌, List, ℕ, drop, length, subst, take}
+use Rattle.std.proofs.Common.{List, ℕ, subst, take}
 use Rattle.std.proofs.lemmas.List.{take_rest}
 use Rattle.report_check.specs.Parts.{IsLineAtFront, IsReportLine}
 use Rattle.report_check.proofs.Splits.{gone_more}

@@ -1,4 +1,4 @@
-use Rattle.std.proofs.Common.{◌≡◌, ◌+◌, Option, Some, ℕ, ap, arith, subst, sym, ◌∙◌}
+use Rattle.std.proofs.Common.{◌+◌, Option, Some, ℕ, ap, arith, subst, sym, ◌∙◌}
 use Rattle.std.specs.FinMap.{len}
 use Rattle.report_check.proofs.Replays.{Replaying, legal_line, none_line, replaying_right, replaying_wrong, size_is, some_line, turn_is, wrong_within}
 use Rattle.report_check.proofs.replay.replay.Goals.{then-not-is_answered, else-not-is_answered}

@@ -1,4 +1,3 @@
-use Rattle.std.proofs.Common.{◌≡◌}
 use Rattle.report_check.proofs.Replays.{Replaying}
 use Rattle.report_check.proofs.replay.replay.Given as goal
 
