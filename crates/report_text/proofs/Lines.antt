@@ -9,7 +9,7 @@ use Rattle.std.proofs.lemmas.List.Concat.{flat_map-append}
 use Rattle.std.proofs.lemmas.List.Elements.{All-head, All-tail, All-cons, All-nil}
 use Rattle.map_history.specs.declared.op.Entry.{Entry}
 use Rattle.map_history.specs.declared.op.Request.{Request}
-use Rattle.report_text.specs.Report.{Row, Line, answer_of, rows_of, lines_of_trace, line_text, report_text}
+use Rattle.report_text.specs.Report.{Row, Line, answer_of, rows_of, lines_of_trace, line_text, report_lines, report_text}
 use Rattle.report_text.specs.Report.Line.{trace_line, answer_line, final_line}
 use Rattle.report_text.specs.Page.{traces_text}
 
@@ -40,7 +40,7 @@ map-same f g (x ∷ xs) same = λ i. same x i ∷ map-same f g xs same i
 next_test : (trace begun : ℕ) → ((trace + 1) == (begun + 1)) ≡ (trace == begun)
 next_test trace begun = grind (arith, nat_tests)
 
-range_with_len-append : (a m n : ℕ) → range_with_len a (m + n) ≡ range_with_len a m ++ range_with_len (a + m) n
+pub range_with_len-append : (a m n : ℕ) → range_with_len a (m + n) ≡ range_with_len a m ++ range_with_len (a + m) n
 range_with_len-append a zero n = ap (λ k. range_with_len a k) (omega arith) ∙ ap (λ k. range_with_len k n) (omega arith)
 range_with_len-append a (suc m) n =
     let e : suc m + n ≡ suc (m + n) = omega arith in
@@ -68,16 +68,19 @@ pub traces-more : (begun trace : ℕ) → begun ≤ trace → traces_text begun 
 traces-more begun trace low = ap (λ l. traces_text begun trace ++ l) (sym (traces-one trace)) ∙ traces-append begun trace (trace + 1) low (omega arith)
 
 -- at the start everything is left
-pub left-start : (rows : List Row) (traces size : ℕ) → left_text 0 rows traces size ≡ report_text traces rows size
-left-start rows traces size =
+pub lines-start : (rows : List Row) (traces size : ℕ) → left_lines 0 rows traces size ≡ report_lines traces rows size
+lines-start rows traces size =
     let none : All (λ (row : Row). ((row.request.trace + 1) == 0) ≡ false) rows = λ k d lt. ne_eqb _ 0 (λ e. omega arith) in
     let first = filter-none (λ (row : Row). (row.request.trace + 1) == 0) rows none in
-    ap (λ (l : List Row). flat_map line_text (map (λ (row : Row). answer_line row.answer) l ++ (flat_map (lines_of_trace rows) (range_with_len 0 (traces - 0)) ++ final_line size ∷ []))) first
-    ∙ ap (λ n. flat_map line_text (flat_map (lines_of_trace rows) (range_with_len 0 n) ++ final_line size ∷ [])) (omega arith)
+    ap (λ (l : List Row). map (λ (row : Row). answer_line row.answer) l ++ (flat_map (lines_of_trace rows) (range_with_len 0 (traces - 0)) ++ final_line size ∷ [])) first
+    ∙ ap (λ n. flat_map (lines_of_trace rows) (range_with_len 0 n) ++ final_line size ∷ []) (omega arith)
+
+pub left-start : (rows : List Row) (traces size : ℕ) → left_text 0 rows traces size ≡ report_text traces rows size
+left-start rows traces size = ap (flat_map line_text) (lines-start rows traces size)
 
 -- one more trace is begun
-left-begin : (begun : ℕ) (rows : List Row) (traces size : ℕ) → begun < traces → All (λ (row : Row). begun ≤ row.request.trace) rows → line_text (trace_line begun) ++ left_text (begun + 1) rows traces size ≡ left_text begun rows traces size
-left-begin begun rows traces size more later =
+pub lines-begin : (begun : ℕ) (rows : List Row) (traces size : ℕ) → begun < traces → All (λ (row : Row). begun ≤ row.request.trace) rows → ◌≡◌ {A = List Line} (trace_line begun ∷ left_lines (begun + 1) rows traces size) (left_lines begun rows traces size)
+lines-begin begun rows traces size more later =
     let line = λ (row : Row). answer_line row.answer in
     let none : All (λ (row : Row). ((row.request.trace + 1) == begun) ≡ false) rows =
     λ k d lt. let low : begun ≤ (get_or rows k d).request.trace = later k d lt in ne_eqb _ begun (λ e. omega arith) in
@@ -85,10 +88,13 @@ left-begin begun rows traces size more later =
     let same : filter (λ (row : Row). (row.request.trace + 1) == (begun + 1)) rows ≡ filter (λ (row : Row). row.request.trace == begun) rows = filter-same _ _ rows (λ row. next_test row.request.trace begun) in
     let rest = flat_map (lines_of_trace rows) (range_with_len (begun + 1) (traces - (begun + 1))) in
     let count : traces - begun ≡ suc (traces - (begun + 1)) = omega arith in
-    ap (λ (l : List Row). line_text (trace_line begun) ++ flat_map line_text (map line l ++ (rest ++ final_line size ∷ []))) same
-    ∙ ap (λ l. flat_map line_text (trace_line begun ∷ l)) (sym (append_assoc (map line (filter (λ (row : Row). row.request.trace == begun) rows)) rest (final_line size ∷ [])))
-    ∙ ap (λ n. flat_map line_text (flat_map (lines_of_trace rows) (range_with_len begun n) ++ final_line size ∷ [])) (sym count)
-    ∙ ap (λ (l : List Row). flat_map line_text (map line l ++ (flat_map (lines_of_trace rows) (range_with_len begun (traces - begun)) ++ final_line size ∷ []))) (sym first)
+    ap (λ (l : List Row). trace_line begun ∷ (map line l ++ (rest ++ final_line size ∷ []))) same
+    ∙ ap (λ l. trace_line begun ∷ l) (sym (append_assoc (map line (filter (λ (row : Row). row.request.trace == begun) rows)) rest (final_line size ∷ [])))
+    ∙ ap (λ n. flat_map (lines_of_trace rows) (range_with_len begun n) ++ final_line size ∷ []) (sym count)
+    ∙ ap (λ (l : List Row). map line l ++ (flat_map (lines_of_trace rows) (range_with_len begun (traces - begun)) ++ final_line size ∷ [])) (sym first)
+
+left-begin : (begun : ℕ) (rows : List Row) (traces size : ℕ) → begun < traces → All (λ (row : Row). begun ≤ row.request.trace) rows → line_text (trace_line begun) ++ left_text (begun + 1) rows traces size ≡ left_text begun rows traces size
+left-begin begun rows traces size more later = ap (flat_map line_text) (lines-begin begun rows traces size more later)
 
 -- more traces are begun
 begin_more : (n begun : ℕ) (rows : List Row) (traces size : ℕ) → begun + n ≤ traces → All (λ (row : Row). begun + n ≤ row.request.trace + 1) rows
@@ -122,20 +128,26 @@ skip_row (suc n) begun row rows before =
     ∙ ap (λ l. lines_of_trace rows begun ++ l) (skip_row n (begun + 1) row rows (omega arith))
 
 -- a row of the trace that was begun last is printed
-pub left-row : (row : Row) (rows : List Row) (traces size : ℕ) → line_text (answer_line row.answer) ++ left_text (row.request.trace + 1) rows traces size ≡ left_text (row.request.trace + 1) (row ∷ rows) traces size
-left-row row rows traces size =
+pub lines-row : (row : Row) (rows : List Row) (traces size : ℕ) → ◌≡◌ {A = List Line} (answer_line row.answer ∷ left_lines (row.request.trace + 1) rows traces size) (left_lines (row.request.trace + 1) (row ∷ rows) traces size)
+lines-row row rows traces size =
     let begun = row.request.trace + 1 in
     let here = eq-eqb begun begun refl in
     let kept = filter (λ (r : Row). (r.request.trace + 1) == begun) rows in
     let line = λ (r : Row). answer_line r.answer in
-    sym (ap (λ b. flat_map line_text (map line (cond b (row ∷ kept) kept) ++ (flat_map (lines_of_trace (row ∷ rows)) (range_with_len begun (traces - begun)) ++ final_line size ∷ []))) here
-    ∙ ap (λ l. flat_map line_text (map line (row ∷ kept) ++ (l ++ final_line size ∷ []))) (skip_row (traces - begun) begun row rows (omega arith)))
+    sym (ap (λ b. map line (cond b (row ∷ kept) kept) ++ (flat_map (lines_of_trace (row ∷ rows)) (range_with_len begun (traces - begun)) ++ final_line size ∷ [])) here
+    ∙ ap (λ l. map line (row ∷ kept) ++ (l ++ final_line size ∷ [])) (skip_row (traces - begun) begun row rows (omega arith)))
+
+pub left-row : (row : Row) (rows : List Row) (traces size : ℕ) → line_text (answer_line row.answer) ++ left_text (row.request.trace + 1) rows traces size ≡ left_text (row.request.trace + 1) (row ∷ rows) traces size
+left-row row rows traces size = ap (flat_map line_text) (lines-row row rows traces size)
 
 -- at the end the last line is left
-pub left-end : (traces size : ℕ) → left_text traces [] traces size ≡ line_text (final_line size)
-left-end traces size =
+pub lines-end : (traces size : ℕ) → left_lines traces [] traces size ≡ final_line size ∷ []
+lines-end traces size =
     let none : traces - traces ≡ 0 = omega arith in
-    ap (λ n. flat_map line_text (flat_map (lines_of_trace []) (range_with_len traces n) ++ final_line size ∷ [])) none ∙ append-nil (line_text (final_line size))
+    ap (λ n. flat_map (lines_of_trace []) (range_with_len traces n) ++ final_line size ∷ []) none
+
+pub left-end : (traces size : ℕ) → left_text traces [] traces size ≡ line_text (final_line size)
+left-end traces size = ap (flat_map line_text) (lines-end traces size) ∙ append-nil (line_text (final_line size))
 
 -- what is left of the report before the request with this number
 abbrev pub left_at : ℕ → ℕ → List Request → List (Option Entry) → List (Option ℕ) → ℕ → ℕ → List ℕ

@@ -12,6 +12,6 @@ mod report;
 mod sink;
 
 pub use memory::MemorySink;
-pub use order::ranks;
+pub use order::{ranks, turns_in_order};
 pub use report::write_report;
 pub use sink::{Failed, Sink, write_all};

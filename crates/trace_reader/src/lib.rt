@@ -18,6 +18,7 @@ mod requests;
 mod source;
 mod traces;
 
+pub use field::{content, first_field, number};
 pub use generator::{Gen, generate};
 pub use limits::{MAX_BYTES, MAX_KEY, MAX_REQUESTS, MAX_TRACES};
 pub use memory::{MemorySource, SureSource};

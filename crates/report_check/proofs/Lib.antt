@@ -1,0 +1,10 @@
+pub mod Cuts
+pub mod Forms
+pub mod Legals
+pub mod Numerals
+pub mod Orders
+pub mod Replays
+pub mod Rows
+pub mod Sayings
+pub mod Seen
+pub mod Splits
