@@ -28,8 +28,8 @@ cell_there keys key i low few =
     let rest = third key (1 + i) (omega (arith, few)) in
     (omega (arith, low, few), and_false _ _ (eq_false (cell_of key i % 3) 0 (λ e. omega (arith, rest, e))), omega (arith, rest))
 
-pub is_keyed : (keys : ℕ) → keys ≤ 4096 → IsKeyed (direct_cells keys)
-is_keyed keys few = record {
+pub is_keyed : (base keys : ℕ) → base + 3 * keys ≤ 12288 → IsKeyed (direct_cells base keys)
+is_keyed base keys few = record {
   few_cells = omega (arith, few);
   few = omega arith;
   lock = lock_there keys;
@@ -41,11 +41,11 @@ is_keyed keys few = record {
   stored = λ has old small. held_stored has (old 0) (old 1) small;
 }
 
-pub direct_laws : (keys : ℕ) → keys ≤ 4096 → Laws (direct keys)
-direct_laws keys few = keyed_laws (direct_cells keys) (is_keyed keys few)
+pub direct_laws : (base keys : ℕ) → base + 3 * keys ≤ 12288 → Laws (direct base keys)
+direct_laws base keys few = keyed_laws (direct_cells base keys) (is_keyed base keys few)
 
-pub direct_plans : (keys : ℕ) → keys ≤ 4096 → PlannerLaws (direct keys) 0
-direct_plans keys few = keyed_plans (direct_cells keys) (is_keyed keys few)
+pub direct_plans : (base keys : ℕ) → base + 3 * keys ≤ 12288 → PlannerLaws (direct base keys) 0
+direct_plans base keys few = keyed_plans (direct_cells base keys) (is_keyed base keys few)
 
-pub direct_retires : (keys : ℕ) → keys ≤ 4096 → (t : Thunk) → count_by is_retire ((direct keys).body t) ≤ 2
-direct_retires keys few = keyed_retires (direct_cells keys) (is_keyed keys few)
+pub direct_retires : (base keys : ℕ) → base + 3 * keys ≤ 12288 → (t : Thunk) → count_by is_retire ((direct base keys).body t) ≤ 2
+direct_retires base keys few = keyed_retires (direct_cells base keys) (is_keyed base keys few)

@@ -6,16 +6,17 @@ use Rattle.structure_laws.specs.Meaning.{Meaning}
 use Rattle.key_cells.specs.shared_laws.specs.Flagged.{held, flag_for, value_for}
 use Rattle.key_cells.specs.Keyed.{Keyed, keyed}
 
--- the lock of a key, and its cells: the flag is its cell 0, and the value its cell 1
+-- from its first place on, the lock of a key, and its cells: the flag is its cell 0, and the value its cell 1
 abbrev pub lock_of : ℕ → ℕ
 lock_of key = 3 * key
 
 abbrev pub cell_of : ℕ → ℕ → ℕ
 cell_of key i = 3 * key + (1 + i)
 
-abbrev pub direct_cells : ℕ → Keyed
-direct_cells bound = record {
+abbrev pub direct_cells : ℕ → ℕ → Keyed
+direct_cells first bound = record {
   keys = bound;
+  base = first;
   fixed = 3 * bound;
   lock_of = lock_of;
   count = 2;
@@ -26,10 +27,9 @@ direct_cells bound = record {
   value = λ has i. cond (i == 0) (flag_for has) (value_for has);
 }
 
-module _ (keys : ℕ) where
-  abbrev pub direct : Meaning
-  direct = keyed (direct_cells keys)
+abbrev pub direct : ℕ → ℕ → Meaning
+direct base keys = keyed (direct_cells base keys)
 
-  -- the operation's key is below the bound
-  abbrev pub serves : Op → Bool
-  serves op = nat_lt (key_of op) keys
+-- the operation's key is below the bound
+abbrev pub serves : ℕ → Op → Bool
+serves keys op = nat_lt (key_of op) keys

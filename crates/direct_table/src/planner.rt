@@ -21,14 +21,14 @@ use structure_laws::Structure;
 use table_words::Layout;
 
 impl Structure for DirectTable {
-    ghost meaning = { λ s. direct s.keys };
+    ghost meaning = { λ s. direct s.base s.keys };
 
     ghost MAP = { true };
 
     const MAP: bool = true;
 
     fn fixed_cells(&self) -> u32 {
-        3 * self.keys
+        self.base + 3 * self.keys
     }
 
     fn fixed_slots(&self) -> u32 {
@@ -40,7 +40,8 @@ impl Structure for DirectTable {
     }
 
     fn is_lock(&self, place: Place) -> bool {
-        place < 3 * self.keys && place % 3 == 0
+        place >= self.base
+            && (place - self.base < 3 * self.keys && (place - self.base) % 3 == 0)
     }
 
     fn body(&self, thunk: &Thunk) -> Body {
@@ -63,35 +64,39 @@ impl Structure for DirectTable {
 
     ghost serves = { λ s. refl };
 
-    ghost laws = { λ s. direct_laws s.keys s.few };
+    ghost laws = { λ s. direct_laws s.base s.keys s.few };
 }
 
 impl Planner for DirectTable {
     type Walk = FixedWalk<DirectTable>;
 
-    ghost planning = { λ s. fixed_planning (key_course (direct_cells s.keys)) };
+    ghost planning = { λ s. fixed_planning (key_course (direct_cells s.base s.keys)) };
 
     fn serves(&self, op: Op) -> bool {
         op.key() < self.keys
     }
 
     fn walk(&self, layout: Layout, op: Op) -> FixedWalk<DirectTable> {
-        key_walk(DirectTable { keys: self.keys }, layout, op)
+        let table = DirectTable {
+            base: self.base,
+            keys: self.keys,
+        };
+        key_walk(table, layout, op)
     }
 
     fn contents(&self, alloc: Global, words: &Words<Self>) -> Result<Vec<(u32, u32)>, AllocError>
         requires structure { self.now ≡ words.now.structure }
-        requires stand { (pairs : Pairs) × StandFor (direct self.now.keys) words.now pairs }
-        requires closed { NamesNone (direct self.now.keys) words.now }
-        ensures contents { IfOk result (λ items. (pairs : Pairs) → StandFor (direct self.now.keys) words.now pairs
-            → items.items ≡ entries pairs) }
+        requires stand { (pairs : Pairs) × StandFor (direct self.now.base self.now.keys) words.now pairs }
+        requires closed { NamesNone (direct self.now.base self.now.keys) words.now }
+        ensures contents { IfOk result (λ items. (pairs : Pairs)
+            → StandFor (direct self.now.base self.now.keys) words.now pairs → items.items ≡ entries pairs) }
     {
         key_pairs(alloc, self, words)
     }
 
-    ghost plans_lawfully = { λ s. direct_plans s.keys s.few };
+    ghost plans_lawfully = { λ s. direct_plans s.base s.keys s.few };
 
-    ghost walks_steadily = { λ s. fixed_steady (direct s.keys) (key_course (direct_cells s.keys)) };
+    ghost walks_steadily = { λ s. fixed_steady (direct s.base s.keys) (key_course (direct_cells s.base s.keys)) };
 
-    ghost retires_few = { λ s. direct_retires s.keys s.few };
+    ghost retires_few = { λ s. direct_retires s.base s.keys s.few };
 }

@@ -13,8 +13,6 @@ use threaded_runs::serving::Served;
 #[test]
 fn requests_of_each_kind_are_answered_in_turn(rt: HostRuntime) -> Result<(), AllocError> {
     let text = "flock 1/trace/get 5/del 5/ins 5 70/ins 5 80/get 5/ins 0 7/del 5/get 5/ins 7 90/";
-    let row = run_text(&rt, rt.alloc(), text, &[None], &mut FreeGates::new())?;
-    let replies = row.replies(rt.alloc())?;
     let told = [
         Some(Reply::Absent),
         Some(Reply::Absent),
@@ -26,9 +24,13 @@ fn requests_of_each_kind_are_answered_in_turn(rt: HostRuntime) -> Result<(), All
         Some(Reply::Absent),
         Some(Reply::New),
     ];
-    assert!(&rt; replies.as_slice() == told.as_slice());
-    assert!(&rt; row.answers.as_slice() == [Served::All].as_slice());
-    assert!(&rt; row.pairs.as_slice() == [(0, 7), (7, 90)].as_slice());
+    for base in [0, 7, 12264] {
+        let row = run_text(&rt, rt.alloc(), base, text, &[None], &mut FreeGates::new())?;
+        let replies = row.replies(rt.alloc())?;
+        assert!(&rt; replies.as_slice() == told.as_slice());
+        assert!(&rt; row.answers.as_slice() == [Served::All].as_slice());
+        assert!(&rt; row.pairs.as_slice() == [(0, 7), (7, 90)].as_slice());
+    }
     Ok(())
 }
 
@@ -44,7 +46,7 @@ fn stop_at<R: Threads + Wait + Sync>(rt: &R, alloc: Global, ask: u64) -> Result<
     })?;
     let mut gates = StoppingGates::new(alloc, pauses)?;
     let text = "flock 1/trace/ins 5 70/trace/get 5/ins 3 30/";
-    run_text(rt, alloc, text, &[Some(ask), None], &mut gates)
+    run_text(rt, alloc, 0, text, &[Some(ask), None], &mut gates)
 }
 
 /// Whether the first request came before the second one, which was told its value.
@@ -76,7 +78,7 @@ fn a_section_that_stops_anywhere_is_finished_by_a_helper(
 fn two_threads_contend_and_one_of_them_adds_the_key(rt: HostRuntime) -> Result<(), AllocError> {
     let text = "flock 1/trace/ins 5 70/get 5/trace/ins 5 80/get 5/";
     for _ in 0..100 {
-        let row = run_text(&rt, rt.alloc(), text, &[None, None], &mut FreeGates::new())?;
+        let row = run_text(&rt, rt.alloc(), 0, text, &[None, None], &mut FreeGates::new())?;
         let replies = row.replies(rt.alloc())?;
         let first = [
             Some(Reply::New),

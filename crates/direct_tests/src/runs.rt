@@ -1,5 +1,5 @@
 //! A run of requests on a new direct table.
-ghost use Rattle.std.specs.Prelude.{◌≡◌, ◌<◌, ◌≤◌, IfOk, All, length, true, false};
+ghost use Rattle.std.specs.Prelude.{◌≡◌, ◌+◌, ◌*◌, ◌<◌, ◌≤◌, IfOk, All, length, true, false};
 ghost use Rattle.std.specs.FinMap.{entries};
 ghost use Rattle.map_history.specs.Replay.{Pairs};
 ghost use Rattle.map_history.specs.Requests.{AreInOrder};
@@ -42,29 +42,33 @@ impl Ended {
 
 /// The pairs of a closed table whose locks are free, in order of key.
 fn pairs_of(alloc: Global, words: &Words<DirectTable>) -> Result<Vec<(u32, u32)>, AllocError>
-    requires free { HoldsNoLock (direct words.now.structure.keys) words.now }
-    ensures { IfOk result (λ items. (pairs : Pairs) → StandFor (direct words.now.structure.keys) words.now pairs
+    requires free { HoldsNoLock (direct words.now.structure.base words.now.structure.keys) words.now }
+    ensures { IfOk result (λ items. (pairs : Pairs)
+        → StandFor (direct words.now.structure.base words.now.structure.keys) words.now pairs
         → items.items ≡ entries pairs) }
 {
     closed_words_have_a_history(words);
     words.structure().contents(alloc, words)
 }
 
-/// Runs these requests on a new table of eight keys, with a worker for each entry of `halts`, on a thread of its own
-/// where one can be made. A worker that lacks slots doesn't try again. The Err is want of memory.
+/// Runs these requests on a new table of eight keys, whose cells begin at this place, with a worker for each entry of
+/// `halts`, on a thread of its own where one can be made. A worker that lacks slots doesn't try again. The Err is want
+/// of memory.
 pub fn run_direct<R: Threads + Wait + Sync, G: Gates>(
     rt: &R,
     alloc: Global,
+    base: u32,
     requests: &[Request],
     halts: &[Option<u64>],
     gates: &mut G,
 ) -> Result<Ended, AllocError>
+    requires base { base + 3 * 8 ≤ 12288 }
     requires ordered { AreInOrder requests.now 64 }
     requires served { All (λ (request : Request). serves 8 request.op ≡ true) requests.now }
     requires workers { (1 ≤ length halts.now) × (length halts.now ≤ 16) }
     ensures requests { IfOk result (λ end. end.words.requests ≡ requests.now) }
-    ensures served { IfOk result (λ end. AreServed (direct 8) end.words false end.answers.items) }
-    ensures contents { IfOk result (λ end. (pairs : Pairs) → StandFor (direct 8) end.words pairs
+    ensures served { IfOk result (λ end. AreServed (direct base 8) end.words false end.answers.items) }
+    ensures contents { IfOk result (λ end. (pairs : Pairs) → StandFor (direct base 8) end.words pairs
         → end.pairs.items ≡ entries pairs) }
 {
     let layout = Layout {
@@ -73,7 +77,7 @@ pub fn run_direct<R: Threads + Wait + Sync, G: Gates>(
         sections: 2,
         version_max: 4294967295,
     };
-    let table = DirectTable::new(8);
+    let table = DirectTable::new(base, 8);
     let (words, answers) = run_table(rt, alloc, table, layout, requests, halts, false, gates)?;
     let pairs = pairs_of(alloc, &words)?;
     Ok(Ended {

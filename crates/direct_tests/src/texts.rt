@@ -1,5 +1,5 @@
 //! A run of the requests of a text.
-ghost use Rattle.std.specs.Prelude.{◌≡◌, ◌≤◌, All, length, nat_lt, true};
+ghost use Rattle.std.specs.Prelude.{◌≡◌, ◌+◌, ◌*◌, ◌≤◌, All, length, nat_lt, true};
 ghost use Rattle.std.specs.List.{list_all};
 ghost use Rattle.map_history.specs.declared.op.Request.{Request as Asked};
 ghost use Rattle.map_history.specs.Keys.{key_of};
@@ -76,15 +76,17 @@ fn entries_of(
     Ok(entries)
 }
 
-/// Runs the requests of a trace text, whose lines end in '/', on a new table of eight keys. The Err is want of memory,
-/// a text that is refused, or a key that the table doesn't have.
+/// Runs the requests of a trace text, whose lines end in '/', on a new table of eight keys, whose cells begin at this
+/// place. The Err is want of memory, a text that is refused, or a key that the table doesn't have.
 pub fn run_text<R: Threads + Wait + Sync, G: Gates>(
     rt: &R,
     alloc: Global,
+    base: u32,
     text: &str,
     halts: &[Option<u64>],
     gates: &mut G,
 ) -> Result<Row, AllocError>
+    requires base { base + 3 * 8 ≤ 12288 }
     requires workers { (1 ≤ length halts.now) × (length halts.now ≤ 16) }
 {
     let mut source = SureSource::new(bytes_of(alloc, text)?, Vec::new(alloc));
@@ -95,7 +97,7 @@ pub fn run_text<R: Threads + Wait + Sync, G: Gates>(
     if !are_served(requests) {
         return Err(AllocError);
     }
-    let end = run_direct(rt, alloc, requests, halts, gates)?;
+    let end = run_direct(rt, alloc, base, requests, halts, gates)?;
     let entries = entries_of(alloc, &end, requests)?;
     let Ended {
         answers,

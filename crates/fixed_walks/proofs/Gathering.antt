@@ -8,23 +8,24 @@ use Rattle.table_words.specs.declared.spot.Spot.TheVariants.{Cell}
 use Rattle.key_cells.specs.shared_laws.specs.Listing.{listed}
 use Rattle.key_cells.specs.shared_laws.proofs.Listing.{are_entries}
 use Rattle.key_cells.specs.shared_laws.proofs.Numbers.{lt_of, lt_true}
-use Rattle.key_cells.specs.Keyed.{Keyed, IsKeyed}
+use Rattle.key_cells.specs.Keyed.{Keyed, IsKeyed, cell_place}
+use Rattle.key_cells.proofs.Places.{cell_there}
 use Rattle.lock_walks.specs.version_words.specs.TableState.{WordsState, HasWord, word_of}
 use Rattle.lock_walks.specs.try_lock.specs.Contents.{StandFor}
 use Rattle.fixed_walks.specs.Keys.{Means, word_at, held_by}
 
 module _ {T : Type 0} (c : Keyed) (is : IsKeyed c) (m : Meaning) (means : Means c m) (words : WordsState T) where
   -- the table has the words of a key's cells
-  pub has_word : (key i : ℕ) → key < c.keys → i < c.count → HasWord m words (Cell (c.cell key i))
-  has_word key i low few = let cell = (is.cell key i low few).0 in let fixed = means.fixed in omega (arith, cell, fixed)
+  pub has_word : (key i : ℕ) → key < c.keys → i < c.count → HasWord m words (Cell (cell_place c key i))
+  has_word key i low few = let cell = (cell_there c is key i low few).0 in let fixed = means.fixed in omega (arith, cell, fixed)
 
   module _ (pairs : Pairs) (stand : StandFor m words pairs) where
     -- a key's cells hold what the words say
-    same : (key i : ℕ) → key < c.keys → i < c.count → stand.cells (c.cell key i) ≡ slice_index (word_at c m words key 0 ∷ word_at c m words key 1 ∷ word_at c m words key 2 ∷ []) i
-    same key i low few = stand.same (c.cell key i) (has_word key i low few) ∙ (by i few ∙ at i (let three = is.few in omega (arith, three, few)))
+    same : (key i : ℕ) → key < c.keys → i < c.count → stand.cells (cell_place c key i) ≡ slice_index (word_at c m words key 0 ∷ word_at c m words key 1 ∷ word_at c m words key 2 ∷ []) i
+    same key i low few = stand.same (cell_place c key i) (has_word key i low few) ∙ (by i few ∙ at i (let three = is.few in omega (arith, three, few)))
       where
-        by : (i : ℕ) → i < c.count → word_of m words (Cell (c.cell key i)) ≡ word_at c m words key i
-        by i few = sym (ap (λ b. cond b (word_of m words (Cell (c.cell key i))) 0) (lt_true i c.count few))
+        by : (i : ℕ) → i < c.count → word_of m words (Cell (cell_place c key i)) ≡ word_at c m words key i
+        by i few = sym (ap (λ b. cond b (word_of m words (Cell (cell_place c key i))) 0) (lt_true i c.count few))
 
         at : (i : ℕ) → i < 3 → word_at c m words key i ≡ slice_index (word_at c m words key 0 ∷ word_at c m words key 1 ∷ word_at c m words key 2 ∷ []) i
         at zero low = refl
@@ -36,8 +37,8 @@ module _ {T : Type 0} (c : Keyed) (is : IsKeyed c) (m : Meaning) (means : Means 
     looked : (q : ℕ) → get pairs q ≡ cond (nat_lt q c.keys) (held_by c m words q) None
     looked q = means.stands words.layout stand.cells pairs stand.stands q ∙ by (nat_lt q c.keys) refl
       where
-        by : (b : Bool) → nat_lt q c.keys ≡ b → cond b (c.held (λ i. stand.cells (c.cell q i))) None ≡ cond b (held_by c m words q) None
-        by true e = is.looks (λ i. stand.cells (c.cell q i)) _ (λ i few. same q i (lt_of q c.keys e) few)
+        by : (b : Bool) → nat_lt q c.keys ≡ b → cond b (c.held (λ i. stand.cells (cell_place c q i))) None ≡ cond b (held_by c m words q) None
+        by true e = is.looks (λ i. stand.cells (cell_place c q i)) _ (λ i few. same q i (lt_of q c.keys e) few)
         by false e = refl
 
     pub the_maps : (items : List (ℕ × ℕ)) → items ≡ listed (held_by c m words) 0 c.keys → items ≡ entries pairs

@@ -12,8 +12,9 @@ use Rattle.structure_laws.specs.Meaning.{Meaning}
 use Rattle.runner_parts.specs.Tests.{has_pair}
 use Rattle.key_cells.specs.shared_laws.specs.AtKey.{left_at}
 use Rattle.key_cells.specs.shared_laws.proofs.Numbers.{lt_of, eq_true, read_at}
-use Rattle.key_cells.specs.Keyed.{Keyed, IsKeyed, wanted, new_of, is_for, key_fits, keyed}
+use Rattle.key_cells.specs.Keyed.{Keyed, IsKeyed, lock_place, cell_place, wanted, new_of, is_for, key_fits, keyed}
 use Rattle.key_cells.proofs.Fitting.{each_all}
+use Rattle.key_cells.proofs.Places.{lock_there, cell_there}
 use Rattle.fixed_walks.specs.Fixed.{AreCells, thunk_for, Suits}
 use Rattle.fixed_walks.specs.Keys.{cells_of, had_by, key_course}
 
@@ -52,7 +53,7 @@ module _ (c : Keyed) (is : IsKeyed c) (layout : Layout) (op : Op) where
 
   -- the thunk by these words
   abbrev made : List ℕ → ℕ → ℕ → Thunk
-  made words word number = thunk_for (key_course c) op words (c.lock_of key) word number
+  made words word number = thunk_for (key_course c) op words (lock_place c key) word number
 
   read_same : (words : List ℕ) (word number i : ℕ) → i < 3 → wanted (made words word number) i ≡ slice_index words i
   read_same words word number zero low = refl
@@ -78,21 +79,21 @@ module _ (c : Keyed) (is : IsKeyed c) (layout : Layout) (op : Op) where
       (λ i low. eq_true _ _ (new_same words word number i (below i low))) k))
 
   thunk_fits : nat_lt key c.keys ≡ true → (readings : Readings) (word number : ℕ)
-      → map (λ reading. reading.0) readings ≡ cells_of c.count (c.cell key) ++ c.lock_of key ∷ []
-      → has_pair readings (c.lock_of key) word ≡ true → key_fits c op readings (made (map (λ reading. reading.1) readings) word number) ≡ true
+      → map (λ reading. reading.0) readings ≡ cells_of c.count (cell_place c key) ++ lock_place c key ∷ []
+      → has_pair readings (lock_place c key) word ≡ true → key_fits c op readings (made (map (λ reading. reading.1) readings) word number) ≡ true
   thunk_fits served readings word number places lock =
       let words = map (λ reading. reading.1) readings in
       let t = made words word number in
-      (λ k. served k && ((self (c.lock_of key) k && (self key k && (each_all c.count (λ i. has_pair readings (c.cell key i) (wanted t i))
-      (λ i low. subst (λ w. has_pair readings (c.cell key i) w ≡ true) (sym (read_same words word number i (below i low)))
-      (read_at readings _ i (c.cell key i) places (there c.count is.few (c.cell key) (c.lock_of key) i low))) k && lock k)))
+      (λ k. served k && ((self (lock_place c key) k && (self key k && (each_all c.count (λ i. has_pair readings (cell_place c key i) (wanted t i))
+      (λ i low. subst (λ w. has_pair readings (cell_place c key i) w ≡ true) (sym (read_same words word number i (below i low)))
+      (read_at readings _ i (cell_place c key i) places (there c.count is.few (cell_place c key) (lock_place c key) i low))) k && lock k)))
       && for_it words word number k))
 
   pub key_suits : nat_lt key c.keys ≡ true → Suits (keyed c) (key_course c) layout op
   key_suits served = let low = lt_of key c.keys served in record {
-    few = few_cells c.count is.few (c.cell key);
-    cells = are_cells (keyed c) c.count is.few (c.cell key) (λ i few. let cell = is.cell key i low few in (cell.0, cell.1));
-    lock = is.lock key low;
+    few = few_cells c.count is.few (cell_place c key);
+    cells = are_cells (keyed c) c.count is.few (cell_place c key) (λ i few. let cell = cell_there c is key i low few in (cell.0, cell.1));
+    lock = lock_there c is key low;
     operands = λ words. refl;
     fits = thunk_fits served;
   }

@@ -1,5 +1,5 @@
 -- The walk of a key, and what a key has in the words of a closed table, for a structure of keys' cells.
-use Rattle.std.specs.Prelude.{◌≡◌, ℕ, List, [], ◌∷◌, ◌++◌, nat_lt, cond, Option, slice_index}
+use Rattle.std.specs.Prelude.{◌≡◌, ℕ, ◌+◌, List, [], ◌∷◌, ◌++◌, nat_lt, cond, Option, slice_index}
 use Rattle.std.specs.FinMap.{get}
 use Rattle.map_history.specs.declared.op.Op.{Op}
 use Rattle.map_history.specs.Keys.{key_of}
@@ -10,7 +10,7 @@ use Rattle.table_words.specs.declared.spot.Spot.TheVariants.{Cell}
 use Rattle.structure_laws.specs.Meaning.{Meaning}
 use Rattle.structure_laws.specs.Scene.{Cells}
 use Rattle.key_cells.specs.shared_laws.specs.AtKey.{reply_at, left_at, changes_at}
-use Rattle.key_cells.specs.Keyed.{Keyed, held_in}
+use Rattle.key_cells.specs.Keyed.{Keyed, lock_place, cell_place, held_in}
 use Rattle.key_cells.specs.Steps.{part}
 use Rattle.lock_walks.specs.version_words.specs.TableState.{WordsState, word_of}
 use Rattle.fixed_walks.specs.Fixed.{Course}
@@ -33,21 +33,21 @@ module _ (c : Keyed) where
   abbrev pub key_course : Course
   key_course = record {
     serves = λ op. nat_lt (key_of op) c.keys;
-    cells = λ op. cells_of c.count (c.cell (key_of op));
-    lock = λ op. c.lock_of (key_of op);
+    cells = λ op. cells_of c.count (cell_place c (key_of op));
+    lock = λ op. lock_place c (key_of op);
     form = λ op words. cond (changes_at (had_by words) op) 2 1;
     operands = key_operands;
   }
 
   -- what the contents need of a structure's meaning: the cells, and for which map they stand
   pub record Means (m : Meaning) : Type 0 where
-    pub fixed : m.fixed_cells ≡ c.fixed
+    pub fixed : m.fixed_cells ≡ c.base + c.fixed
     pub stands : (layout : Layout) (cells : Cells) (pairs : Pairs) → m.stands layout cells pairs
         → (key : ℕ) → get pairs key ≡ held_in c cells key
 
   -- what a key has in these words
   abbrev pub word_at : {T : Type 0} → Meaning → WordsState T → ℕ → ℕ → ℕ
-  word_at m words key i = cond (nat_lt i c.count) (word_of m words (Cell (c.cell key i))) 0
+  word_at m words key i = cond (nat_lt i c.count) (word_of m words (Cell (cell_place c key i))) 0
 
   abbrev pub held_by : {T : Type 0} → Meaning → WordsState T → ℕ → Option ℕ
   held_by m words key =

@@ -3,7 +3,7 @@ ghost use Rattle.std.specs.Prelude.{◌≡◌, ◌+◌, ◌<◌, ◌≤◌, ◌+
 ghost use Rattle.std.specs.FinMap.{entries};
 ghost use Rattle.map_history.specs.Keys.{key_of};
 ghost use Rattle.map_history.specs.Replay.{Pairs};
-ghost use Rattle.key_cells.specs.Keyed.{keyed};
+ghost use Rattle.key_cells.specs.Keyed.{cell_place, keyed};
 ghost use Rattle.key_cells.specs.Steps.{part};
 ghost use Rattle.lock_walks.specs.Way.{Leads};
 ghost use Rattle.lock_walks.specs.try_lock.specs.Contents.{StandFor};
@@ -69,7 +69,7 @@ fn push_cell<C: KeyCells>(cells: &C, key: u32, number: u32, places: &mut ArrayVe
     requires key { key < (C.keyed cells.now).keys }
     requires room { length places.old.items ≤ 14 }
     ensures items { places.new.items ≡ places.old.items
-        ++ part (C.keyed cells.now).count number ((C.keyed cells.now).cell key number ∷ []) }
+        ++ part (C.keyed cells.now).count number (cell_place (C.keyed cells.now) key number ∷ []) }
     ensures length { length places.new.items ≤ length places.old.items + 1 }
 {
     if number < cells.count() {

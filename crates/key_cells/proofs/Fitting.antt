@@ -11,7 +11,7 @@ use Rattle.structure_laws.proofs.Changes.{equal_of, both_true}
 use Rattle.runner_parts.specs.Tests.{has_pair}
 use Rattle.shared_laws.specs.AtKey.{reply_at, left_at, changes_at}
 use Rattle.shared_laws.proofs.Numbers.{lt_of, lt_true}
-use Rattle.key_cells.specs.Keyed.{Keyed, each_of, wanted, new_of, key_in, body_by, key_body, was_read, is_for, key_fits}
+use Rattle.key_cells.specs.Keyed.{Keyed, lock_place, cell_place, each_of, wanted, new_of, key_in, body_by, key_body, was_read, is_for, key_fits}
 
 -- the test of each of the numbers, and the other way
 pub each_at : (n : ℕ) (test : ℕ → Bool) → n ≤ 3 → each_of n test ≡ true → (i : ℕ) → i < n → test i ≡ true
@@ -33,9 +33,9 @@ each_all n test is = (λ k. one 0 k && (one 1 k && one 2 k))
 module _ (c : Keyed) where
   pub record Fit (op : Op) (readings : Readings) (t : Thunk) : Type 0 where
     pub low : key_of op < c.keys
-    pub lock : t.lock ≡ c.lock_of (key_of op)
+    pub lock : t.lock ≡ lock_place c (key_of op)
     pub key : operand t 7 ≡ key_of op
-    pub read : (i : ℕ) → i < c.count → has_pair readings (c.cell (key_of op) i) (wanted t i) ≡ true
+    pub read : (i : ℕ) → i < c.count → has_pair readings (cell_place c (key_of op) i) (wanted t i) ≡ true
     pub form : t.form ≡ cond (changes_at (c.held (wanted t)) op) 2 1
     pub reply : operand t 6 ≡ word_of (reply_at (c.held (wanted t)) op)
     pub new : (i : ℕ) → i < c.count → new_of t i ≡ c.value (left_at (c.held (wanted t)) op) i
@@ -51,9 +51,9 @@ module _ (c : Keyed) where
       let reply = both_true _ _ form.1 in
       record {
         low = lt_of (key_of op) c.keys served.0;
-        lock = equal_of t.lock (c.lock_of (key_of op)) lock.0;
+        lock = equal_of t.lock (lock_place c (key_of op)) lock.0;
         key = equal_of (operand t 7) (key_of op) key.0;
-        read = each_at c.count (λ i. has_pair readings (c.cell (key_of op) i) (wanted t i)) few read.0;
+        read = each_at c.count (λ i. has_pair readings (cell_place c (key_of op) i) (wanted t i)) few read.0;
         form = equal_of t.form _ form.0;
         reply = equal_of (operand t 6) _ reply.0;
         new = λ i low. equal_of (new_of t i) _ (each_at c.count (λ i. new_of t i == c.value (left_at (c.held (wanted t)) op) i) few reply.1 i low);

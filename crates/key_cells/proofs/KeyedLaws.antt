@@ -24,10 +24,11 @@ use Rattle.shared_laws.specs.Nodeless.{IsNodeless, HoldsItsLock, IsPlainBody}
 use Rattle.shared_laws.proofs.AtKey.{reply_some, key_is}
 use Rattle.shared_laws.proofs.Nodeless.{nodeless_begins, nodeless_keeps, nodeless_gives, nodeless_shaped, nodeless_adds, nodeless_sized}
 use Rattle.shared_laws.proofs.Numbers.{pair_read}
-use Rattle.key_cells.specs.Keyed.{Keyed, IsKeyed, wanted, new_of, key_in, body_by, held_in, keyed}
+use Rattle.key_cells.specs.Keyed.{Keyed, IsKeyed, lock_place, cell_place, is_lock_place, guard_place, wanted, new_of, key_in, body_by, held_in, keyed}
 use Rattle.key_cells.proofs.CellSteps.{plain_in, load_in, want_in, store_in, answer_in}
 use Rattle.key_cells.proofs.Fitting.{Fit, fit_of, body_own}
 use Rattle.key_cells.proofs.KeyFitting.{keyed_fitting}
+use Rattle.key_cells.proofs.Places.{lock_there, cell_there, places_apart}
 use Rattle.key_cells.proofs.SectionTurn.{shape_own, keyed_in_turn}
 
 module _ (c : Keyed) (is : IsKeyed c) where
@@ -40,7 +41,7 @@ module _ (c : Keyed) (is : IsKeyed c) where
     kept = λ layout s kept. kept;
     keeps = λ layout s none. none;
     walked = λ layout op readings. tt;
-    plain = λ thunk j step h. plain_in (c.cell (key_in c thunk)) (wanted thunk) (new_of thunk) (operand thunk 6) (thunk.form == 2) c.count is.few j step h;
+    plain = λ thunk j step h. plain_in (cell_place c (key_in c thunk)) (wanted thunk) (new_of thunk) (operand thunk 6) (thunk.form == 2) c.count is.few j step h;
   }
 
   module _ (op : Op) (readings : Readings) (t : Thunk) (fit : Fit c op readings t) where
@@ -51,26 +52,26 @@ module _ (c : Keyed) (is : IsKeyed c) where
     own j step h = sym (ap (λ (body : List Step). slice_get body j) (body_own c op readings t fit)) ∙ h
 
     -- a Load is of a cell of the key, into the register of its number, and at the step of that number
-    load_at : (j p r : ℕ) → HasStep (keyed c) t j (Load p r) → (r < c.count) × (p ≡ c.cell (key_of op) r) × (j ≡ cond writes 3 2 * r)
-    load_at j p r h = load_in (c.cell (key_of op)) (wanted t) (new_of t) (operand t 6) writes c.count is.few j p r (own j (Load p r) h)
+    load_at : (j p r : ℕ) → HasStep (keyed c) t j (Load p r) → (r < c.count) × (p ≡ cell_place c (key_of op) r) × (j ≡ cond writes 3 2 * r)
+    load_at j p r h = load_in (cell_place c (key_of op)) (wanted t) (new_of t) (operand t 6) writes c.count is.few j p r (own j (Load p r) h)
 
     store_at : (j r : ℕ) (v : Value) → HasStep (keyed c) t j (Store r v) → (writes ≡ true) × (v ≡ Const (value_of (new_of t r))) × (j ≡ 3 * c.count + 1 + r)
-    store_at j r v h = store_in (c.cell (key_of op)) (wanted t) (new_of t) (operand t 6) writes c.count is.few j r v (own j (Store r v) h)
+    store_at j r v h = store_in (cell_place c (key_of op)) (wanted t) (new_of t) (operand t 6) writes c.count is.few j r v (own j (Store r v) h)
 
     plain_body : IsPlainBody (keyed c) t
     plain_body = record {
       shape = shape_own c is op readings t fit;
-      lock = ap c.is_lock fit.lock ∙ (is.lock (key_of op) fit.low).1;
-      lock_fixed = subst (λ p. p < c.fixed) (sym fit.lock) (is.lock (key_of op) fit.low).0;
-      load_fixed = λ j p r h. let at = load_at j p r h in subst (λ p. p < c.fixed) (sym at.1) (is.cell (key_of op) r fit.low at.0).0;
-      load_unlocked = λ j p r h. let at = load_at j p r h in ap c.is_lock at.1 ∙ (is.cell (key_of op) r fit.low at.0).1;
+      lock = ap (is_lock_place c) fit.lock ∙ (lock_there c is (key_of op) fit.low).1;
+      lock_fixed = subst (λ p. p < c.base + c.fixed) (sym fit.lock) (lock_there c is (key_of op) fit.low).0;
+      load_fixed = λ j p r h. let at = load_at j p r h in subst (λ p. p < c.base + c.fixed) (sym at.1) (cell_there c is (key_of op) r fit.low at.0).0;
+      load_unlocked = λ j p r h. let at = load_at j p r h in ap (is_lock_place c) at.1 ∙ (cell_there c is (key_of op) r fit.low at.0).1;
       load_once = λ i j p q r h h'.
           let a = load_at i p q h in let b = load_at j p r h' in
-          a.2 ∙ (ap (λ k. cond writes 3 2 * k) (is.apart (key_of op) (key_of op) q r fit.low fit.low a.0 b.0 (sym a.1 ∙ b.1)).1 ∙ sym b.2);
+          a.2 ∙ (ap (λ k. cond writes 3 2 * k) (places_apart c is (key_of op) (key_of op) q r fit.low fit.low a.0 b.0 (sym a.1 ∙ b.1)).1 ∙ sym b.2);
       store_once = λ i j r v u h h'. (store_at i r v h).2 ∙ sym (store_at j r u h').2;
       store_small = λ j r v h. subst IsSmall (sym (store_at j r v h).1) (value_small (new_of t r));
       answers = λ j n h. subst (λ n. 0 < n)
-          (sym (answer_in (c.cell (key_of op)) (wanted t) (new_of t) (operand t 6) writes c.count is.few j n (own j (Answer n) h) ∙ fit.reply))
+          (sym (answer_in (cell_place c (key_of op)) (wanted t) (new_of t) (operand t 6) writes c.count is.few j n (own j (Answer n) h) ∙ fit.reply))
           (reply_some (reply_at (c.held (wanted t)) op));
     }
 
@@ -78,7 +79,7 @@ module _ (c : Keyed) (is : IsKeyed c) where
     want_read : (i j p r w : ℕ) → HasStep (keyed c) t i (Load p r) → HasStep (keyed c) t j (Want r w) → (k : ℕ) × (slice_get readings k ≡ Some (p, w))
     want_read i j p r w load want =
         let at = load_at i p r load in
-        let word = want_in (c.cell (key_of op)) (wanted t) (new_of t) (operand t 6) writes c.count is.few j r w (own j (Want r w) want) in
+        let word = want_in (cell_place c (key_of op)) (wanted t) (new_of t) (operand t 6) writes c.count is.few j r w (own j (Want r w) want) in
         let k = pair_read readings _ _ (fit.read r at.0) in
         (k.0, k.1 ∙ ap Some (λ z. (sym at.1 z, sym word z)))
 
@@ -87,10 +88,10 @@ module _ (c : Keyed) (is : IsKeyed c) where
     loads = λ op readings thunk cells j p r fits h.
         let fit = fit_of c op readings thunk is.few fits in
         let at = load_at op readings thunk fit j p r h in
-        let cell = is.cell (key_of op) r fit.low at.0 in
-        (subst (λ p. p < c.fixed) (sym at.1) cell.0, ap c.guard at.1 ∙ (cell.2 ∙ sym fit.lock));
+        let cell = cell_there c is (key_of op) r fit.low at.0 in
+        (subst (λ p. p < c.base + c.fixed) (sym at.1) cell.0, ap (guard_place c) at.1 ∙ (cell.2 ∙ sym fit.lock));
     keyed = λ a b readings others first second key fits fits' on on'.
-        (fit_of c a readings first is.few fits).lock ∙ (ap c.lock_of (key_is a key on ∙ sym (key_is b key on')) ∙ sym (fit_of c b others second is.few fits').lock);
+        (fit_of c a readings first is.few fits).lock ∙ (ap (lock_place c) (key_is a key on ∙ sym (key_is b key on')) ∙ sym (fit_of c b others second is.few fits').lock);
   }
 
   -- in the first scene no key has a value
@@ -101,8 +102,8 @@ module _ (c : Keyed) (is : IsKeyed c) where
       zero_first true = refl
       zero_first false = refl
 
-      none : (b : Bool) → cond b (c.held (λ i. s.cells (c.cell q i))) None ≡ None
-      none true = is.absent (λ i. s.cells (c.cell q i)) (λ i. ap value_of (first.cells (c.cell q i)) ∙ zero_first _)
+      none : (b : Bool) → cond b (c.held (λ i. s.cells (cell_place c q i))) None ≡ None
+      none true = is.absent (λ i. s.cells (cell_place c q i)) (λ i. ap value_of (first.cells (cell_place c q i)) ∙ zero_first _)
       none false = refl
 
   pub keyed_laws : Laws (keyed c)

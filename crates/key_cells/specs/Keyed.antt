@@ -1,5 +1,5 @@
 -- Structures that give each key below a bound some cells of its own, at most three, under one lock.
-use Rattle.std.specs.Prelude.{◌≡◌, ℕ, ◌+◌, ◌<◌, ◌≤◌, ◌^◌, ◌==◌, ◌&&◌, ◌||◌, Bool, true, false, cond, nat_lt, List, Option, None, Some}
+use Rattle.std.specs.Prelude.{◌≡◌, ℕ, ◌+◌, ◌-◌, ◌<◌, ◌≤◌, ◌^◌, ◌==◌, ◌&&◌, ◌||◌, Bool, true, false, not, cond, nat_lt, List, Option, None, Some}
 use Rattle.std.specs.FinMap.{get}
 use Rattle.map_history.specs.declared.op.Op.{Op}
 use Rattle.map_history.specs.Keys.{key_of}
@@ -19,7 +19,9 @@ use Rattle.key_cells.specs.Steps.{cell_steps}
 pub record Keyed : Type 0 where
   -- it serves the keys below this number
   pub keys : ℕ
-  -- how many fixed cells it has, locks and all
+  -- the first of its places: those below are no cells of a key and no locks, and all places here count from it
+  pub base : ℕ
+  -- how many fixed cells it has from there on, locks and all
   pub fixed : ℕ
   -- the lock of a key; how many cells a key has, and the place of each by its number
   pub lock_of : ℕ → ℕ
@@ -34,7 +36,7 @@ pub record Keyed : Type 0 where
 
 -- and what is to be shown of it
 pub record IsKeyed (c : Keyed) : Type 0 where
-  pub few_cells : c.fixed ≤ 12288
+  pub few_cells : c.base + c.fixed ≤ 12288
   pub few : c.count ≤ 3
   -- a key's lock is one; its cells are none, and are guarded by it
   pub lock : (key : ℕ) → key < c.keys → (c.lock_of key < c.fixed) × (c.is_lock (c.lock_of key) ≡ true)
@@ -66,13 +68,26 @@ abbrev pub new_of : Thunk → ℕ → ℕ
 new_of t i = operand t (3 + i)
 
 module _ (c : Keyed) where
+  -- in the memory: the lock of a key, its cells, whether a place is a lock, and the lock that guards a place
+  abbrev pub lock_place : ℕ → ℕ
+  lock_place key = c.base + c.lock_of key
+
+  abbrev pub cell_place : ℕ → ℕ → ℕ
+  cell_place key i = c.base + c.cell key i
+
+  abbrev pub is_lock_place : ℕ → Bool
+  is_lock_place place = not (nat_lt place c.base) && c.is_lock (place - c.base)
+
+  abbrev pub guard_place : ℕ → ℕ
+  guard_place place = c.base + c.guard (place - c.base)
+
   -- the thunk's key, where it is one
   abbrev pub key_in : Thunk → ℕ
   key_in t = cond (nat_lt (operand t 7) c.keys) (operand t 7) 0
 
   -- form 1, nothing changes: the cells are loaded and wanted; form 2, they are stored too
   abbrev pub body_by : Bool → ℕ → Thunk → List Step
-  body_by w key t = cell_steps (c.cell key) (wanted t) (new_of t) (operand t 6) w c.count
+  body_by w key t = cell_steps (cell_place key) (wanted t) (new_of t) (operand t 6) w c.count
 
   abbrev pub key_body : Thunk → List Step
   key_body t = body_by (t.form == 2) (key_in t) t
@@ -86,9 +101,9 @@ module _ (c : Keyed) where
   -- its lock and key are this key's, and the words that it wants, and its lock's, were read in its places
   abbrev pub was_read : ℕ → Readings → Thunk → Bool
   was_read key readings t =
-      (t.lock == c.lock_of key) && ((operand t 7 == key) &&
-      (each_of c.count (λ i. has_pair readings (c.cell key i) (wanted t i)) &&
-      has_pair readings (c.lock_of key) t.word))
+      (t.lock == lock_place key) && ((operand t 7 == key) &&
+      (each_of c.count (λ i. has_pair readings (cell_place key i) (wanted t i)) &&
+      has_pair readings (lock_place key) t.word))
 
   abbrev pub key_fits : Op → Readings → Thunk → Bool
   key_fits op readings t =
@@ -96,21 +111,21 @@ module _ (c : Keyed) where
 
   -- what a key has in these cells
   abbrev pub held_in : Cells → ℕ → Option ℕ
-  held_in cells key = cond (nat_lt key c.keys) (c.held (λ i. cells (c.cell key i))) None
+  held_in cells key = cond (nat_lt key c.keys) (c.held (λ i. cells (cell_place key i))) None
 
   -- what such a structure means
   abbrev pub keyed : Meaning
   keyed = record {
     is_map = true;
-    fixed_cells = c.fixed;
+    fixed_cells = c.base + c.fixed;
     fixed_slots = 0;
     first_value = λ place. 0;
-    is_lock = c.is_lock;
+    is_lock = is_lock_place;
     body = key_body;
     reaches = λ readings slot. false;
     fits = λ layout op readings thunk. key_fits op readings thunk;
     is_link = λ cells place. false;
-    guard = λ cells place. c.guard place;
+    guard = λ cells place. guard_place place;
     stands = λ layout cells pairs. (key : ℕ) → get pairs key ≡ held_in cells key;
     walked = λ layout op readings. Unit {0};
     kept = λ layout s. NoneLive s;

@@ -1,7 +1,7 @@
 //! The bodies over a key's cells.
 ghost use Rattle.std.specs.Prelude.{◌≡◌, ◌+◌, ◌<◌, ◌≤◌, ◌++◌, [], ◌==◌, length};
 ghost use Rattle.key_cells.specs.Steps.{part, read_of, store_of};
-ghost use Rattle.key_cells.specs.Keyed.{wanted, new_of, key_in, key_body};
+ghost use Rattle.key_cells.specs.Keyed.{cell_place, wanted, new_of, key_in, key_body};
 
 use crate::cells::KeyCells;
 use body_terms::{Body, Step, Thunk};
@@ -50,7 +50,7 @@ fn push_read<C: KeyCells>(cells: &C, key: u32, thunk: &Thunk, number: u8, body: 
     requires number { number < 3 }
     requires room { length body.old ≤ 37 }
     ensures steps { body.new ≡ body.old ++ part (C.keyed cells.now).count number (read_of
-        ((C.keyed cells.now).cell key) (wanted thunk.now) (new_of thunk.now) (thunk.now.form == 2) number) }
+        (cell_place (C.keyed cells.now) key) (wanted thunk.now) (new_of thunk.now) (thunk.now.form == 2) number) }
     ensures length { length body.new ≤ length body.old + 3 }
 {
     if u32::from(number) < cells.count() {
@@ -77,7 +77,7 @@ fn push_store<C: KeyCells>(cells: &C, thunk: &Thunk, number: u8, body: &mut Body
     requires number { number < 3 }
     requires room { length body.old ≤ 39 }
     ensures steps { body.new ≡ body.old ++ part (C.keyed cells.now).count number (store_of
-        ((C.keyed cells.now).cell 0) (wanted thunk.now) (new_of thunk.now) (thunk.now.form == 2) number) }
+        (cell_place (C.keyed cells.now) 0) (wanted thunk.now) (new_of thunk.now) (thunk.now.form == 2) number) }
     ensures length { length body.new ≤ length body.old + 1 }
 {
     if u32::from(number) < cells.count() && thunk.form == 2 {

@@ -1,6 +1,6 @@
 //! What an author gives.
 ghost use Rattle.std.specs.Prelude.{◌≡◌, ◌<◌, slice_index};
-ghost use Rattle.key_cells.specs.Keyed.{Keyed, IsKeyed};
+ghost use Rattle.key_cells.specs.Keyed.{Keyed, IsKeyed, lock_place, cell_place};
 
 use body_terms::Place;
 
@@ -20,13 +20,13 @@ pub trait KeyCells: Drop {
     /// The lock of a key.
     fn lock_of(&self, key: u32) -> Place
         requires { key < (keyed self.now).keys }
-        ensures { result ≡ (keyed self.now).lock_of key };
+        ensures { result ≡ lock_place (keyed self.now) key };
 
     /// The place of a key's cell with this number.
     fn cell(&self, key: u32, number: u32) -> Place
         requires key { key < (keyed self.now).keys }
         requires number { number < (keyed self.now).count }
-        ensures { result ≡ (keyed self.now).cell key number };
+        ensures { result ≡ cell_place (keyed self.now) key number };
 
     /// What a key has, by the words of its cells, as bits.
     fn held(&self, words: &[u64]) -> Option<u32>

@@ -2,7 +2,7 @@
 ghost use Rattle.std.specs.Prelude.{◌≡◌, ◌+◌, ◌<◌, ◌==◌, ◌||◌, nat_lt};
 ghost use Rattle.runner_parts.specs.Tests.{has_pair};
 ghost use Rattle.shared_laws.specs.AtKey.{left_at};
-ghost use Rattle.key_cells.specs.Keyed.{each_of, wanted, new_of, was_read, is_for, key_fits};
+ghost use Rattle.key_cells.specs.Keyed.{cell_place, each_of, wanted, new_of, was_read, is_for, key_fits};
 
 use crate::cells::KeyCells;
 use crate::readings::has_pair;
@@ -38,7 +38,7 @@ fn was_read<C: KeyCells>(cells: &C, key: u32, readings: &[(Place, Word)], thunk:
 fn were_read<C: KeyCells>(cells: &C, key: u32, readings: &[(Place, Word)], thunk: &Thunk) -> bool
     requires { key < (C.keyed cells.now).keys }
     ensures { result ≡ each_of (C.keyed cells.now).count
-        (λ i. has_pair readings.now ((C.keyed cells.now).cell key i) (wanted thunk.now i)) }
+        (λ i. has_pair readings.now (cell_place (C.keyed cells.now) key i) (wanted thunk.now i)) }
 {
     is_read(cells, key, readings, thunk, 0)
         && (is_read(cells, key, readings, thunk, 1) && is_read(cells, key, readings, thunk, 2))
@@ -55,7 +55,7 @@ fn is_read<C: KeyCells>(
     requires key { key < (C.keyed cells.now).keys }
     requires number { number < 3 }
     ensures { result ≡ (nat_lt (C.keyed cells.now).count (number + 1)
-        || has_pair readings.now ((C.keyed cells.now).cell key number) (wanted thunk.now number)) }
+        || has_pair readings.now (cell_place (C.keyed cells.now) key number) (wanted thunk.now number)) }
 {
     cells.count() < number + 1
         || has_pair(

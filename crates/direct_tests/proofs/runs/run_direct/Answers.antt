@@ -6,9 +6,11 @@ use Rattle.direct_table.specs.try_lock.specs.Contents.{StandFor}
 use Rattle.direct_tests.proofs.runs.run_direct.Goals as goal
 
 pub returns-clause-served : goal.returns-clause-served
-returns-clause-served g c = subst (λ k. AreServed (direct k) c.in_ok-words.words false c.in_ok-words.answers.items) c.new-table.ensures c.in_ok-words.ensures.served.0
+returns-clause-served g c = subst (λ m. AreServed m c.in_ok-words.words false c.in_ok-words.answers.items)
+    (λ i. direct (c.new-table.ensures.base i) (c.new-table.ensures.keys i)) c.in_ok-words.ensures.served.0
 
 pub returns-clause-contents : goal.returns-clause-contents
 returns-clause-contents g c = λ pairs stand.
-    let keys : c.in_ok-words.words.structure.keys ≡ 8 = ap (λ (t : DirectTable). t.keys) c.in_ok-words.ensures.words.structure ∙ c.new-table.ensures in
-    c.in_ok-pairs.ensures pairs (subst (λ k. StandFor (direct k) c.in_ok-words.words pairs) (sym keys) stand)
+    let base : c.in_ok-words.words.structure.base ≡ c.args.base = ap (λ (t : DirectTable). t.base) c.in_ok-words.ensures.words.structure ∙ c.new-table.ensures.base in
+    let keys : c.in_ok-words.words.structure.keys ≡ 8 = ap (λ (t : DirectTable). t.keys) c.in_ok-words.ensures.words.structure ∙ c.new-table.ensures.keys in
+    c.in_ok-pairs.ensures pairs (subst (λ m. StandFor m c.in_ok-words.words pairs) (λ i. direct (sym base i) (sym keys i)) stand)
