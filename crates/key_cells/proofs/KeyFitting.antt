@@ -18,7 +18,7 @@ use Rattle.runner_parts.specs.Tests.{has_pair}
 use Rattle.shared_laws.specs.AtKey.{changes_at}
 use Rattle.shared_laws.proofs.Numbers.{bool_cases}
 use Rattle.shared_laws.proofs.Still.{reply_leaves, any_on}
-use Rattle.key_cells.specs.Keyed.{Keyed, IsKeyed, each_of, wanted, new_of, body_by, was_read, is_for, key_fits, keyed}
+use Rattle.key_cells.specs.Keyed.{Keyed, IsKeyed, lock_place, cell_place, each_of, wanted, new_of, body_by, was_read, is_for, key_fits, keyed}
 use Rattle.key_cells.proofs.CellSteps.{answer_in, stores}
 use Rattle.key_cells.proofs.Fitting.{each_all, Fit, fit_of, body_own}
 
@@ -61,9 +61,9 @@ module _ (c : Keyed) (is : IsKeyed c) where
         let lock = both_true _ _ rest.0 in
         let key = both_true _ _ lock.1 in
         let read = both_true _ _ key.1 in
-        let cells : each_of c.count (λ i. has_pair (readings ++ more) (c.cell (key_of op) i) (wanted thunk i)) ≡ true =
-        each_all c.count (λ i. has_pair (readings ++ more) (c.cell (key_of op) i) (wanted thunk i)) (λ i low. any_on _ readings more (fit.read i low)) in
-        let free : has_pair (readings ++ more) (c.lock_of (key_of op)) thunk.word ≡ true = any_on _ readings more read.1 in
+        let cells : each_of c.count (λ i. has_pair (readings ++ more) (cell_place c (key_of op) i) (wanted thunk i)) ≡ true =
+        each_all c.count (λ i. has_pair (readings ++ more) (cell_place c (key_of op) i) (wanted thunk i)) (λ i low. any_on _ readings more (fit.read i low)) in
+        let free : has_pair (readings ++ more) (lock_place c (key_of op)) thunk.word ≡ true = any_on _ readings more read.1 in
         (λ i. served.0 i && ((lock.0 i && (key.0 i && (cells i && free i))) && rest.1 i))
 
     own : (j : ℕ) (step : Step) → HasStep (keyed c) thunk j step → slice_get (body_by c (changes_at had op) (key_of op) thunk) j ≡ Some step
@@ -72,13 +72,13 @@ module _ (c : Keyed) (is : IsKeyed c) where
     -- a body that changes its key stores to the first cell
     writes : changes_at had op ≡ true → HasStep (keyed c) thunk (3 * c.count + 1 + 0) (Store 0 (Const (value_of (new_of thunk 0))))
     writes changes = ap (λ (body : List Step). slice_get body (3 * c.count + 1 + 0)) (body_own c op readings thunk fit ∙ ap (λ w. body_by c w (key_of op) thunk) changes)
-        ∙ stores (c.cell (key_of op)) (wanted thunk) (new_of thunk) (operand thunk 6) c.count is.few 0 has_cell
+        ∙ stores (cell_place c (key_of op)) (wanted thunk) (new_of thunk) (operand thunk 6) c.count is.few 0 has_cell
 
     still : StoresNothing (keyed c) thunk → (j reply : ℕ) → HasStep (keyed c) thunk j (Answer reply) → Leaves op reply
     still none j reply h = bool_cases (changes_at had op)
         (λ changes. absurd (none (3 * c.count + 1 + 0) 0 (Const (value_of (new_of thunk 0))) (writes changes)))
         (λ same. subst (Leaves op)
-        (sym (answer_in (c.cell (key_of op)) (wanted thunk) (new_of thunk) (operand thunk 6) (changes_at had op) c.count is.few j reply (own j (Answer reply) h) ∙ fit.reply))
+        (sym (answer_in (cell_place c (key_of op)) (wanted thunk) (new_of thunk) (operand thunk 6) (changes_at had op) c.count is.few j reply (own j (Answer reply) h) ∙ fit.reply))
         (reply_leaves had op same))
 
   pub keyed_fitting : (layout : Layout) → Fitting (keyed c) layout
