@@ -10,7 +10,7 @@ use Rattle.table_words.specs.declared.layout.Layout.{Layout}
 use Rattle.structure_laws.specs.Scene.{Readings}
 use Rattle.structure_laws.specs.Meaning.{Meaning}
 use Rattle.runner_parts.specs.Tests.{has_pair}
-use Rattle.key_cells.specs.shared_laws.specs.AtKey.{left_at}
+use Rattle.map_history.specs.AtKey.{left_at}
 use Rattle.key_cells.specs.shared_laws.proofs.Numbers.{lt_of, eq_true, read_at}
 use Rattle.key_cells.specs.Keyed.{Keyed, IsKeyed, wanted, new_of, is_for, key_fits, keyed}
 use Rattle.key_cells.proofs.Fitting.{each_all}

@@ -9,8 +9,8 @@ use Rattle.map_history.specs.declared.op.Op.{Op}
 use Rattle.map_history.specs.declared.op.Op.TheVariants.{Get, Ins, Del, Put, Mov}
 use Rattle.map_history.specs.declared.reply.Reply.{Reply}
 use Rattle.map_history.specs.declared.reply.Reply.TheVariants.{New, Dup, Gone, Absent}
-use Rattle.map_history.specs.AtKey.{reply_at, left_at}
-use Rattle.map_history.specs.Keys.{key_of, other_key_of, DependsOn, IsOneKeyed}
+use Rattle.map_history.specs.AtKey.{Change, Keeps, Gets, Loses, is_change, reply_at, change_at, changes_at, left_by, left_at}
+use Rattle.map_history.specs.Keys.{key_of, other_key_of, value_given, DependsOn, IsOneKeyed, is_format_1}
 use Rattle.map_history.specs.Replay.{Pairs, found, replaced, moved, after_move, reply_of, map_after}
 
 -- two maps with the same cells are one
@@ -109,6 +109,14 @@ key_is op key one on = ⊎_elim (λ same. same) (λ second. absurd (none_some (s
 two_keyed : (to : ℕ) → Some to ≡ None → ⊥
 two_keyed to e = cc
 
+-- the operations of format 1 have one key
+pub format_1_one_keyed : (op : Op) → is_format_1 op ≡ true → IsOneKeyed op
+format_1_one_keyed (Get key) is = refl
+format_1_one_keyed (Ins key value) is = refl
+format_1_one_keyed (Del key) is = refl
+format_1_one_keyed (Put key value) is = refl
+format_1_one_keyed (Mov from to) is = absurd (cc)
+
 -- its reply, by what its key had
 pub reply_of-at : (pairs : Pairs) (op : Op) → IsOneKeyed op → reply_of pairs op ≡ reply_at (get pairs (key_of op)) op
 reply_of-at pairs (Get key) one = refl
@@ -134,4 +142,30 @@ get-left pairs (Del key) q one = get-remove_key pairs key q ∙ ap (λ c. cond (
 get-left pairs (Put key value) q one = get-insert_key pairs key value q
 get-left pairs (Mov from to) q one = absurd (two_keyed to one)
 
-pub ruleset by_own_key = (reply_of-at, get-left)
+-- what an operation with one key leaves its key, by itself
+pub left_own : (pairs : Pairs) (op : Op) (had : Option ℕ) → IsOneKeyed op → get pairs (key_of op) ≡ had → left_at had op ≡ get (map_after pairs op) (key_of op)
+left_own pairs op had one is = sym (get-left pairs op (key_of op) one ∙ (here (key_of op) _ _ ∙ ap (λ o. left_at o op) is))
+  where
+    here : {C : Type 0} (q : ℕ) (x y : C) → cond (q == q) x y ≡ x
+    here q x y = grind arith
+
+-- what a key gets is the value that the operation gives
+pub gets_given : (had : Option ℕ) (op : Op) (value : ℕ) → change_at had op ≡ Gets value → value_given op ≡ Some value
+gets_given had (Get key) value e = absurd (cc)
+gets_given None (Ins key given) value e = cc
+gets_given (Some old) (Ins key given) value e = absurd (cc)
+gets_given None (Del key) value e = absurd (cc)
+gets_given (Some old) (Del key) value e = absurd (cc)
+gets_given had (Put key given) value e = cc
+gets_given had (Mov from to) value e = absurd (cc)
+
+-- an operation that changes nothing leaves what the key had
+pub unchanged : (had : Option ℕ) (op : Op) → changes_at had op ≡ false → left_at had op ≡ had
+unchanged had op none = by (change_at had op) none
+  where
+    by : (change : Change) → is_change change ≡ false → left_by had change ≡ had
+    by Keeps none = refl
+    by (Gets value) none = absurd (cc)
+    by Loses none = absurd (cc)
+
+pub ruleset by_own_key = (reply_of-at, get-left, format_1_one_keyed)

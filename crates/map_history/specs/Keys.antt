@@ -1,5 +1,5 @@
 -- The keys on which an operation depends, the value that it gives, and the first format of texts that has it.
-use Rattle.std.specs.Prelude.{◌≡◌, ◌<◌, ◌^◌, ℕ, ◌⊎◌, Bool, true, false, Option, None, Some}
+use Rattle.std.specs.Prelude.{◌≡◌, ◌<◌, ◌^◌, ℕ, ◌⊎◌, ◌==◌, Bool, true, false, Option, None, Some}
 use Rattle.map_history.specs.declared.op.Op.{Op}
 use Rattle.map_history.specs.declared.op.Op.TheVariants.{Get, Ins, Del, Put, Mov}
 
@@ -45,6 +45,10 @@ least_format (Ins key value) = 1
 least_format (Del key) = 1
 least_format (Put key value) = 2
 least_format (Mov from to) = 3
+
+-- whether it can be asked in a text of format 1: it is get, ins or del
+abbrev pub is_format_1 : Op → Bool
+is_format_1 op = least_format op == 1
 
 -- whether the operation may add a pair, or put a new one in the place of another
 abbrev pub may_add : Op → Bool

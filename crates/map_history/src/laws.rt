@@ -4,7 +4,7 @@ ghost use Rattle.std.specs.FinMap.{get};
 ghost use Rattle.map_history.specs.declared.op.Op.{Op};
 ghost use Rattle.map_history.specs.declared.reply.Reply.{Reply};
 ghost use Rattle.map_history.specs.AtKey.{reply_at, left_at};
-ghost use Rattle.map_history.specs.Keys.{key_of, GivesSmall, IsOneKeyed, HaveNoCommonKey, may_add};
+ghost use Rattle.map_history.specs.Keys.{key_of, GivesSmall, IsOneKeyed, HaveNoCommonKey, is_format_1, may_add};
 ghost use Rattle.map_history.specs.Replay.{Pairs, HasSmallValues, reply_of, map_after};
 ghost use Rattle.map_history.specs.History.{Answered, AreOneKeyed, IsLegalFrom, on_key};
 ghost use Rattle.map_history.specs.Words.{word_of, IsReply, adds_by};
@@ -18,9 +18,10 @@ pub fn requests_commute()
         → reply_of (map_after pairs b) a ≡ reply_of pairs a }
 {}
 
-/// An operation with one key sees and changes only what that key has.
+/// An operation with one key sees and changes only what that key has; each of format 1 is such a one.
 #[tactic(auto, using(crate::proofs::Cells::by_own_key))]
 pub fn decided_by_the_key()
+    ensures one_key { (op : Op) → is_format_1 op ≡ true → IsOneKeyed op }
     ensures reply { (pairs : Pairs) (op : Op) → IsOneKeyed op
         → reply_of pairs op ≡ reply_at (get pairs (key_of op)) op }
     ensures map { (pairs : Pairs) (op : Op) (key : ℕ) → IsOneKeyed op → get (map_after pairs op) key
