@@ -79,7 +79,7 @@ no_lock_low i r n low high = let rest : (3 * i + r) % 3 ≢ 0 = (λ e. omega ari
 no_lock_high : (p n : ℕ) → n ≤ p → (nat_lt p n && (p % 3 == 0)) ≡ false
 no_lock_high p n high = grind arith
 
-form_cases : (op : Op) (found : Bool) → is_format_1 op ≡ true → (form_for op found ≡ 1) ⊎ (form_for op found ≡ 2) ⊎ (form_for op found ≡ 3)
+pub form_cases : (op : Op) (found : Bool) → is_format_1 op ≡ true → (form_for op found ≡ 1) ⊎ (form_for op found ≡ 2) ⊎ (form_for op found ≡ 3)
 form_cases (Get key) found served = inl refl
 form_cases (Ins key value) true served = inl refl
 form_cases (Ins key value) false served = inr (inl refl)

@@ -102,4 +102,31 @@ adds_for pairs (Del key) fits e = by (is_some (get pairs key)) e
 adds_for pairs (Put key value) fits e = refl
 adds_for pairs (Mov from to) fits e = refl
 
+-- the words that say that a pair was added
+pub new_adds : adds_by (word_of New) ≡ true
+new_adds = refl
+
+pub was_adds : (value : ℕ) → value < 2 ^ 32 → adds_by (word_of (Was value)) ≡ true
+was_adds value low = middle (word_of (Was value) == word_of New) (word_of (Was value) / 2 ^ 32 == 6) (word_of (Was value) == word_of Moved)
+    (tested (word_of (Was value) / 2 ^ 32) 6 (code_six value low))
+  where
+    code_six : (value : ℕ) → value < 2 ^ 32 → (6 * 2 ^ 32 + value) / 2 ^ 32 ≡ 6
+    code_six value low = omega arith
+
+    tested : (a b : ℕ) → a ≡ b → (a == b) ≡ true
+    tested a b e = grind arith
+
+    middle : (a b c : Bool) → b ≡ true → (a || (b || c)) ≡ true
+    middle a b c e = grind arith
+
+pub moved_adds : adds_by (word_of Moved) ≡ true
+moved_adds = refl
+
+-- none of them is 0
+pub adds_some : (word : ℕ) → adds_by word ≡ true → word ≢ 0
+adds_some word adds none = absurd (false_true (ap adds_by (sym none) ∙ adds))
+  where
+    false_true : false ≡ true → ⊥
+    false_true e = cc
+
 pub ruleset words_tell = (same_reply, adds_for)
