@@ -10,7 +10,7 @@ use Rattle.table_words.specs.declared.spot.Spot.TheVariants.{Cell}
 use Rattle.structure_laws.specs.Meaning.{Meaning}
 use Rattle.structure_laws.specs.Scene.{Cells}
 use Rattle.map_history.specs.AtKey.{reply_at, left_at, changes_at}
-use Rattle.key_cells.specs.Keyed.{Keyed, held_in}
+use Rattle.key_cells.specs.Keyed.{Keyed, serves_key, held_in}
 use Rattle.key_cells.specs.Steps.{part}
 use Rattle.lock_walks.specs.version_words.specs.TableState.{WordsState, word_of}
 use Rattle.fixed_walks.specs.Fixed.{Course}

@@ -41,7 +41,8 @@ pub fn words_tell_replies()
 /// afterwards has such values.
 #[tactic(auto, using(crate::proofs::Values::values_small))]
 pub fn values_stay_small()
-    ensures map { (pairs : Pairs) (op : Op) → GivesSmall op → HasSmallValues pairs → HasSmallValues (map_after pairs op) }
+    ensures map { (pairs : Pairs) (op : Op) → GivesSmall op → HasSmallValues pairs
+        → HasSmallValues (map_after pairs op) }
     ensures reply { (pairs : Pairs) (op : Op) → HasSmallValues pairs → IsReply (reply_of pairs op) }
 {}
 

@@ -6,6 +6,7 @@ use Rattle.std.proofs.lemmas.Option.{slice_get_within, get_or_from_slice_get}
 use Rattle.std.proofs.lemmas.Bool.{and_parts}
 use Rattle.small_lemmas.proofs.Numbers.{zero_or_some as zero_or}
 use Rattle.map_history.specs.declared.op.Request.{Request}
+use Rattle.map_history.specs.Keys.{GivesSmall}
 use Rattle.map_history.specs.Words.{word_of}
 use Rattle.body_terms.specs.declared.micro.Micro.{Micro}
 use Rattle.body_terms.specs.declared.micro.Micro.TheVariants.{StampExchange}

@@ -115,7 +115,7 @@ module _ (m : Meaning) (l : Layout) (rs : List Request) (s : Sight) (stands : Ha
       → (n ≡ 0) ⊎ ((adds_by (s.word (spots.Reply q)) ≡ true) × (n ≤ 2))
   settled q zero y done = inl refl
   settled q (suc n) y done = inr (
-    ap (λ i. s.word (spots.Reply i)) (sym (ap (λ (t : Thunk). t.request) same ∙ y.request)) ∙ reply,
+    ap (λ i. adds_by (s.word (spots.Reply i))) (sym (ap (λ (t : Thunk). t.request) same ∙ y.request)) ∙ reply,
     (let few = few_makes log no_registers (m.body (thunk_in s.word d)) in let two = shaped in omega (arith, most, few, two)),
   )
     where

@@ -1,8 +1,7 @@
 -- Sums over the first requests.
-use Rattle.std.specs.Prelude.{◌==◌, ◌⊎◌, cond}
+use Rattle.std.specs.Prelude.{◌⊎◌, Bool, true, false, cond}
 use Rattle.std.proofs.Common.{◌≡◌, ℕ, zero, suc, ◌+◌, ◌*◌, ◌<◌, ◌≤◌, refl, sym, subst, ⊎_elim, arith}
 use Rattle.std.proofs.lemmas.Bool.{cases_eq}
-use Rattle.std.proofs.lemmas.Bool.Decides.{nat_tests}
 use Rattle.map_history.specs.Words.{adds_by}
 use Rattle.table_words.specs.declared.spot.Spot.{Spot}
 use Rattle.table_words.specs.declared.spot.Spot.TheVariants.{Reply}

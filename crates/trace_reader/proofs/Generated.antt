@@ -53,7 +53,7 @@ op_key output key = by_tests (nat_lt (output % 4) 2) (output % 4 == 2) refl refl
     by_tests false true is also = ap (λ a. key_of (cond a (Ins key (10 * key)) (cond (output % 4 == 2) (Del key) (Get key)))) is ∙ ap (λ b. key_of (cond b (Del key) (Get key))) also
     by_tests false false is also = ap (λ a. key_of (cond a (Ins key (10 * key)) (cond (output % 4 == 2) (Del key) (Get key)))) is ∙ ap (λ b. key_of (cond b (Del key) (Get key))) also
 
-op_format : (output key : ℕ) → is_format_1 (op_by output key) ≡ true
+pub op_format : (output key : ℕ) → is_format_1 (op_by output key) ≡ true
 op_format output key = by_tests (nat_lt (output % 4) 2) (output % 4 == 2)
   where
     by_tests : (a b : Bool) → is_format_1 (cond a (Ins key (10 * key)) (cond b (Del key) (Get key))) ≡ true

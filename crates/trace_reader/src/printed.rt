@@ -8,5 +8,6 @@ ghost use Rattle.trace_reader.specs.Printed.{HaveSmallValues, printed};
 /// A trace text that is printed for requests of format 1 is in the grammar, and its requests are these.
 pub fn printed_text_is_read()
     ensures { (requests : List Request) (traces : ℕ) → AreInOrder requests traces → HaveSmallValues requests
-        → AreOfFormat1 requests → AreTracesOf (record { count = traces; requests = requests }) (printed requests traces) }
+        → AreOfFormat1 requests
+        → AreTracesOf (record { count = traces; requests = requests }) (printed requests traces) }
 {}
