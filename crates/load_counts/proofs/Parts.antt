@@ -97,7 +97,6 @@ one_step pairs (Del key) one = by (contains_key pairs key) refl
         → len (remove pairs key) + one_if (is_of kinds.Gone (cond b replies.Gone replies.Absent)) ≡ len pairs + one_if (is_of kinds.New (cond b replies.Gone replies.Absent))
     by true is = omega (arith, some_pair pairs key is, len-remove nat_cmp_total pairs key ∙ ap (λ b. cond b (len pairs - 1) (len pairs)) is)
     by false is = omega (arith, len-remove nat_cmp_total pairs key ∙ ap (λ b. cond b (len pairs - 1) (len pairs)) is)
-
 one_step pairs (Put key value) one = by (get pairs key) refl
   where
     by : (had : Option ℕ) → get pairs key ≡ had

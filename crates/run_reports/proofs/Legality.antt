@@ -1,5 +1,5 @@
 -- Entries that the words of requests show make a legal report.
-use Rattle.std.proofs.Common.{◌≡◌, ◌≢◌, ℕ, zero, suc, ◌+◌, ◌*◌, ◌^◌, ◌<◌, ◌≤◌, ◌==◌, Bool, true, true≢false, List, Option, None, Some, IsSome, IsTrue, length, map, get_or, refl, sym, ap, ◌∙◌, subst, arith, rules}
+use Rattle.std.proofs.Common.{◌≡◌, ◌≢◌, ℕ, ◌<◌, ◌≤◌, ◌==◌, Bool, true, true≢false, List, Option, None, Some, IsSome, IsTrue, length, map, get_or, sym, ap, ◌∙◌, subst, arith, rules}
 use Rattle.std.specs.Prelude.{AllPairs, Contains, IsPermutation, reverse, slice_get}
 use Rattle.std.specs.List.{IsDistinct, zip}
 use Rattle.std.specs.FinMap.{empty, len}

@@ -8,6 +8,7 @@ use Rattle.small_lemmas.proofs.Bools.{from_false as false_true}
 use Rattle.small_lemmas.proofs.Lists.{same_number as some_eq}
 use Rattle.small_lemmas.proofs.Numbers.{self_tested as same_test}
 use Rattle.map_history.specs.declared.op.Op.{Op}
+use Rattle.map_history.specs.Keys.{is_format_1}
 use Rattle.map_history.specs.declared.op.Op.TheVariants.{Get, Ins, Del, Put, Mov}
 use Rattle.section_body.specs.Bucket.{is_small}
 use Rattle.body_terms.specs.Memory.{cell_of}
