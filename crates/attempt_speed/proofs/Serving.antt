@@ -1,8 +1,8 @@
 -- A worker that has done nothing may serve the first requests of a table.
-use Rattle.std.specs.Prelude.{slice_get, true}
-use Rattle.std.proofs.Common.{◌≡◌, ℕ, ◌<◌, ◌%◌, List, take, sym, ap, ◌∙◌, arith, Some, inr}
+use Rattle.std.specs.Prelude.{All, slice_get, true}
+use Rattle.std.proofs.lemmas.Option.{slice_get_within, get_or_from_slice_get}
+use Rattle.std.proofs.Common.{◌≡◌, ℕ, ◌<◌, ◌%◌, List, take, sym, subst, ap, ◌∙◌, arith, Some, inr}
 use Rattle.std.proofs.Math.Nat.{mod-one}
-use Rattle.map_history.specs.declared.op.Op.{Op}
 use Rattle.map_history.specs.declared.op.Request.{Request}
 use Rattle.table_words.specs.declared.layout.Layout.{Layout}
 use Rattle.runner_parts.specs.Tests.{is_answered}
@@ -17,7 +17,7 @@ use Rattle.attempt_speed.proofs.Asked.{numbered}
 use Rattle.attempt_speed.proofs.Fronts.{stands, in_front, is_early}
 
 module _ {T : Type 0} (planning : Planning) (t : TableState T) (r : RunnerState T) (own : IsOf t r) (fresh : IsFresh r) (one : t.layout.runners ≡ 1)
-    (kind : Kind) (count : ℕ) (asked : t.requests ≡ requests_of kind count) (serves : (op : Op) → planning.serves op ≡ true) (served : ℕ) where
+    (kind : Kind) (count : ℕ) (asked : t.requests ≡ requests_of kind count) (serves : All (λ (q : Request). planning.serves q.op ≡ true) (requests_of kind count)) (served : ℕ) where
   abbrev list : List Request
   list = requests_of kind count
 
@@ -49,11 +49,14 @@ module _ {T : Type 0} (planning : Planning) (t : TableState T) (r : RunnerState 
         in_front list served q'.number q' (omega (arith, low, number, early)) (ap (λ (rs : List Request). slice_get rs q'.number) (sym requests) ∙ at),
       )
 
+  its_served : (i : ℕ) (q : Request) → slice_get list i ≡ Some q → planning.serves q.op ≡ true
+  its_served i q e = subst (λ (x : Request). planning.serves x.op ≡ true) (get_or_from_slice_get list i q q e) (serves i q (slice_get_within list i q e))
+
   pub may_serve : MayServe planning front r
   may_serve = record {
     tidy = fresh.tidy;
     own = λ i q e. record { there = there i q e; own = its q };
-    served = λ i q e. serves q.op;
+    served = λ i q e. its_served i q (stands list served i q e);
     once = λ i j q q' e e' same. sym (number_of i q e) ∙ (same ∙ number_of j q' e');
     unanswered = λ i q e. ap (λ known. is_answered known q.number) fresh.knows;
     earlier = λ i q q' e other trace low. inr (earlier i q q' e other.there low);

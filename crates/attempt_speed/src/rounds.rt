@@ -1,8 +1,8 @@
 //! The serving of a table's first requests, and what was answered.
-ghost use Rattle.std.specs.Prelude.{◌≡◌, ◌≤◌, IfOk, length, take, true};
-ghost use Rattle.map_history.specs.declared.op.Op.{Op as Operation};
+ghost use Rattle.std.specs.Prelude.{◌≡◌, ◌≤◌, All, IfOk, length, take, true};
 ghost use Rattle.hash_table.specs.version_words.specs.TableState.{IsOf};
 ghost use Rattle.serving.specs.Serving.{MayServe};
+ghost use Rattle.attempt_speed.specs.Asked.{requests_of};
 ghost use Rattle.attempt_speed.specs.Rounds.{IsRound};
 
 use crate::kinds::Kind;
@@ -93,7 +93,8 @@ fn serve_on<R: Threads + Wait + Sync, S: Planner>(
     round: Round,
 ) -> Result<Tally, AllocError>
     requires within { IsRound round }
-    requires serves { (op : Operation) → (S.planning structure).serves op ≡ true }
+    requires serves { All (λ (request : Request). (S.planning structure).serves request.op ≡ true)
+        (requests_of round.kind round.count) }
     ensures { IfOk result (λ tally. tally.answered ≤ round.count) }
 {
     let requests = requests_of(alloc, round.kind, round.count)?;
@@ -105,6 +106,7 @@ fn serve_on<R: Threads + Wait + Sync, S: Planner>(
 }
 
 /// The same on a table of the structure that the round names.
+#[tactic(auto, using(crate::proofs::Asked::requests_format))]
 pub fn serve_round<R: Threads + Wait + Sync>(
     rt: &R,
     alloc: Global,

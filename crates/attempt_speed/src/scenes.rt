@@ -8,18 +8,18 @@ ghost use Rattle.attempt_speed.specs.Scenes.{IsFresh};
 
 use hash_table::lock_walks::Planner;
 use hash_table::version_words::{FlockTable, Runner, Words};
-use map_history::{Op, Request};
+use map_history::Request;
 use std::alloc::{AllocError, Global};
 use table_words::Layout;
 
-/// How many of the requests insert.
+/// How many of the requests may add a pair.
 fn insertions(requests: &[Request]) -> u32
     requires few { length requests.now ≤ 131072 }
     ensures few { result ≤ 131072 }
 {
     requests
         .iter()
-        .filter(|request| matches!(request.op, Op::Ins(_, _)))
+        .filter(|request| request.op.may_add())
         .count() as u32
 }
 

@@ -1,6 +1,5 @@
 -- A table with two workers, and their requests.
 use Rattle.std.specs.Prelude.{◌≡◌, ℕ, true, List, [], ◌∷◌}
-use Rattle.map_history.specs.declared.op.Op.{Op}
 use Rattle.map_history.specs.declared.op.Op.TheVariants.{Get, Ins, Del}
 use Rattle.map_history.specs.declared.op.Request.{Request}
 use Rattle.hash_table.specs.version_words.specs.RunnerState.{RunnerState}
@@ -21,12 +20,17 @@ asks = record { trace = 1; number = 2; op = Get 5 }
 abbrev pub their_requests : List Request
 their_requests = adds ∷ takes ∷ asks ∷ []
 
+-- the structure serves these requests
+abbrev pub ServesThem : Planning → Type 0
+ServesThem planning =
+    (planning.serves adds.op ≡ true) × (planning.serves takes.op ≡ true) × (planning.serves asks.op ≡ true)
+
 module _ {T : Type 0} where
-  -- the table has two workers and these requests, and its structure serves each operation
+  -- the table has two workers and these requests, which its structure serves
   pub record IsScene (planning : Planning) (t : TableState T) : Type 0 where
     pub runners : t.layout.runners ≡ 2
     pub requests : t.requests ≡ their_requests
-    pub serves : (op : Op) → planning.serves op ≡ true
+    pub serves : ServesThem planning
 
   -- a worker with this number that has done nothing
   pub record IsFresh (n : ℕ) (r : RunnerState T) : Type 0 where

@@ -1,8 +1,7 @@
 //! Tests.
-ghost use Rattle.std.specs.Prelude.{◌≡◌, true};
-ghost use Rattle.map_history.specs.declared.op.Op.{Op as Operation};
+ghost use Rattle.std.specs.Prelude.{◌≡◌};
 ghost use Rattle.hash_table.specs.version_words.specs.TableState.{IsOf};
-ghost use Rattle.attempt_tests.specs.Scene.{IsScene, IsFresh};
+ghost use Rattle.attempt_tests.specs.Scene.{IsScene, IsFresh, ServesThem};
 
 use crate::scene::{add_once, ask_twice, new_table, split, take_once};
 use attempts::Attempt;
@@ -73,7 +72,7 @@ fn one_finishes_both<R: Threads + Sync, S: Planner>(
 ) -> Result<bool, AllocError>
 where
     S::Walk: Send + Sync,
-    requires { (op : Operation) → (S.planning structure).serves op ≡ true }
+    requires { ServesThem (S.planning structure) }
 {
     let (table, keeper) = new_table(alloc, structure)?;
     let (keeper, first) = split(&table, alloc, keeper, 0)?;
@@ -120,7 +119,7 @@ fn told_behind<S: Planner>(
     stopped: Stopped,
     ask: u64,
 ) -> Result<Option<Reply>, AllocError>
-    requires { (op : Operation) → (S.planning structure).serves op ≡ true }
+    requires { ServesThem (S.planning structure) }
 {
     let (table, keeper) = new_table(alloc, structure)?;
     let (keeper, first) = split(&table, alloc, keeper, 0)?;

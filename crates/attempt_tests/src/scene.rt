@@ -1,10 +1,9 @@
 //! Two workers, and their requests.
-ghost use Rattle.std.specs.Prelude.{◌≡◌, ◌+◌, ◌<◌, true, IfOk};
-ghost use Rattle.map_history.specs.declared.op.Op.{Op as Operation};
+ghost use Rattle.std.specs.Prelude.{◌≡◌, ◌+◌, ◌<◌, IfOk};
 ghost use Rattle.map_history.specs.declared.op.Op.TheVariants.{Get, Ins, Del};
 ghost use Rattle.hash_table.specs.version_words.specs.TableState.{IsOf};
 ghost use Rattle.hash_table.specs.version_words.specs.Stages.{IsKeeper};
-ghost use Rattle.attempt_tests.specs.Scene.{IsScene, IsFresh};
+ghost use Rattle.attempt_tests.specs.Scene.{IsScene, IsFresh, ServesThem};
 
 use attempts::{Attempt, attempt};
 use body_terms::{Gate, Steps};
@@ -48,12 +47,12 @@ pub fn asked() -> Request
     }
 }
 
-/// A table of this structure, which serves each operation, with two workers and their requests.
+/// A table of this structure, which serves the requests, with two workers and their requests.
 pub fn new_table<S: Planner>(
     alloc: Global,
     structure: S,
 ) -> Result<(FlockTable<S>, Runner<S>), AllocError>
-    requires { (op : Operation) → (S.planning structure).serves op ≡ true }
+    requires { ServesThem (S.planning structure) }
     ensures own { IfOk result (λ x. IsOf x.0 x.1) }
     ensures keeper { IfOk result (λ x. IsKeeper x.1 0) }
     ensures scene { IfOk result (λ x. IsScene (S.planning x.0.structure) x.0) }

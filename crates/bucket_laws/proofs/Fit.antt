@@ -4,8 +4,8 @@ use Rattle.std.specs.Prelude.{◌==◌, ◌&&◌, List, [], ◌∷◌, slice_ind
 use Rattle.small_lemmas.proofs.Bools.{both_of as both_true}
 use Rattle.small_lemmas.proofs.Numbers.{tested_equal as equal_of}
 use Rattle.map_history.specs.declared.op.Op.{Op}
-use Rattle.map_history.specs.declared.op.Op.TheVariants.{Get, Ins, Del}
-use Rattle.map_history.specs.Keys.{key_of}
+use Rattle.map_history.specs.declared.op.Op.TheVariants.{Get, Ins, Del, Put, Mov}
+use Rattle.map_history.specs.Keys.{key_of, is_format_1}
 use Rattle.section_body.specs.Bucket.{bucket_lock, operand, is_small, fits_insert, fits_remove}
 use Rattle.body_terms.specs.declared.thunk.Thunk.{Thunk}
 use Rattle.bucket_laws.specs.Walk.{Stage, AtEdition, AtLink, AtKey, AtValue, AtNext, AtLock, AtEnd, Refused, Walk, is_del, is_end, same_numbers, form_for, operands_for, fits_walk}
@@ -66,6 +66,8 @@ first_operand (Ins key value) w true = refl
 first_operand (Ins key value) w false = refl
 first_operand (Del key) w true = refl
 first_operand (Del key) w false = refl
+first_operand (Put key value) w there = refl
+first_operand (Mov from to) w there = refl
 
 pub insert_operands : (op : Op) (w : Walk) (found : Bool) → form_for op found ≡ 2 → (found ≡ false) × InsertFit op w (operands_for op w found)
 insert_operands (Get key) w found h = absurd (omega arith)
@@ -73,6 +75,8 @@ insert_operands (Ins key value) w true h = absurd (omega arith)
 insert_operands (Ins key value) w false h = (refl, (key, value, refl, refl, refl, refl))
 insert_operands (Del key) w true h = absurd (omega arith)
 insert_operands (Del key) w false h = absurd (omega arith)
+insert_operands (Put key value) w there h = absurd (omega arith)
+insert_operands (Mov from to) w there h = absurd (omega arith)
 
 pub remove_operands : (op : Op) (w : Walk) (found : Bool) → form_for op found ≡ 3 → (found ≡ true) × RemoveFit op w (operands_for op w found)
 remove_operands (Get key) w found h = absurd (omega arith)
@@ -80,10 +84,13 @@ remove_operands (Ins key value) w true h = absurd (omega arith)
 remove_operands (Ins key value) w false h = absurd (omega arith)
 remove_operands (Del key) w true h = (refl, (refl, refl, refl, refl))
 remove_operands (Del key) w false h = absurd (omega arith)
+remove_operands (Put key value) w there h = absurd (omega arith)
+remove_operands (Mov from to) w there h = absurd (omega arith)
 
 module _ (buckets : ℕ) (bucket : ℕ → ℕ) where
   -- a thunk that fits a walk
   pub record IsFit (op : Op) (w : Walk) (t : Thunk) : Type 0 where
+    pub served : is_format_1 op ≡ true
     pub stage : w.stage ≡ AtEnd
     pub form : t.form ≡ form_for op w.found
     pub lock : t.lock ≡ bucket_lock (bucket (key_of op))
@@ -94,13 +101,15 @@ module _ (buckets : ℕ) (bucket : ℕ → ℕ) where
 
   pub fit_of : (op : Op) (w : Walk) (t : Thunk) → fits_walk buckets bucket op w t ≡ true → IsFit op w t
   fit_of op w t h =
-      let a = both_true _ _ h in
+      let z = both_true _ _ h in
+      let a = both_true _ _ z.1 in
       let b = both_true _ _ a.1 in
       let c = both_true _ _ b.1 in
       let d = both_true _ _ c.1 in
       let form : t.form ≡ form_for op w.found = equal_of _ _ b.0 in
       let operands : t.operands ≡ operands_for op w w.found = same_list _ _ d.1 in
       record {
+        served = z.0;
         stage = at_end w.stage a.0;
         form = form;
         lock = equal_of _ _ c.0;

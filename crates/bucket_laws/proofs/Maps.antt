@@ -7,7 +7,7 @@ use Rattle.std.specs.FinMap.{get, contains_key, insert, remove, get-insert, get-
 use mathlib.Core.Logic.{dite}
 use native.Mathlib.Decide.{ℕ_discrete}
 use Rattle.map_history.specs.declared.op.Op.{Op}
-use Rattle.map_history.specs.declared.op.Op.TheVariants.{Get, Ins, Del}
+use Rattle.map_history.specs.declared.op.Op.TheVariants.{Get, Ins, Del, Put, Mov}
 use Rattle.map_history.specs.declared.reply.Reply.TheVariants.{New, Dup, Gone, Absent}
 use Rattle.map_history.specs.Keys.{key_of}
 use Rattle.map_history.specs.Replay.{Pairs, found, reply_of, map_after}
@@ -43,6 +43,8 @@ read_reply pairs (Ins key value) w true form some none = ap (λ b. word_of (if b
 read_reply pairs (Ins key value) w false form some none = absurd (omega arith)
 read_reply pairs (Del key) w true form some none = absurd (omega arith)
 read_reply pairs (Del key) w false form some none = ap (λ b. word_of (if b then Gone else Absent)) (sym (is_missing pairs key (none refl)))
+read_reply pairs (Put key value) w there form some none = absurd (omega arith)
+read_reply pairs (Mov from to) w there form some none = absurd (omega arith)
 
 -- and of one that puts a key in, or takes it out
 pub insert_reply : (pairs : Pairs) (op : Op) (there : Bool) → form_for op there ≡ 2 → get pairs (key_of op) ≡ None → 1 * 2 ^ 32 ≡ word_of (reply_of pairs op)
@@ -51,11 +53,15 @@ insert_reply pairs (Ins key value) true form none = absurd (omega arith)
 insert_reply pairs (Ins key value) false form none = ap (λ b. word_of (if b then Dup else New)) (sym (is_missing pairs key none))
 insert_reply pairs (Del key) true form none = absurd (omega arith)
 insert_reply pairs (Del key) false form none = absurd (omega arith)
+insert_reply pairs (Put key value) there form none = absurd (omega arith)
+insert_reply pairs (Mov from to) there form none = absurd (omega arith)
 
 pub remove_reply : (pairs : Pairs) (op : Op) (value : ℕ) → is_del op ≡ true → get pairs (key_of op) ≡ Some value → 4 * 2 ^ 32 ≡ word_of (reply_of pairs op)
 remove_reply pairs (Get key) value del some = absurd (cc)
 remove_reply pairs (Ins key v) value del some = absurd (cc)
 remove_reply pairs (Del key) value del some = ap (λ b. word_of (if b then Gone else Absent)) (sym (is_there pairs key value some))
+remove_reply pairs (Put key v) value del some = absurd (cc)
+remove_reply pairs (Mov from to) value del some = absurd (cc)
 
 -- what is looked up after an operation
 pub read_map : (pairs : Pairs) (op : Op) (value : ℕ) (there : Bool) → form_for op there ≡ 1 → (there ≡ true → get pairs (key_of op) ≡ Some value) → (there ≡ false → get pairs (key_of op) ≡ None)
@@ -65,6 +71,8 @@ read_map pairs (Ins key v) value true form some none q = ap (λ b. get (if b the
 read_map pairs (Ins key v) value false form some none q = absurd (omega arith)
 read_map pairs (Del key) value true form some none q = absurd (omega arith)
 read_map pairs (Del key) value false form some none q = sym (get_removed pairs key q ∙ absent_same (get pairs) key q (none refl))
+read_map pairs (Put key v) value there form some none q = absurd (omega arith)
+read_map pairs (Mov from to) value there form some none q = absurd (omega arith)
 
 pub insert_map : (pairs : Pairs) (op : Op) (key value : ℕ) → op ≡ Ins key value → get pairs key ≡ None → (q : ℕ) → upd (get pairs) key (Some value) q ≡ get (map_after pairs op) q
 insert_map pairs op key value e none q = sym (ap (λ op. get (map_after pairs op) q) e ∙ ap (λ b. get (if b then pairs else insert pairs key value) q) (is_missing pairs key none) ∙ get_inserted pairs key value q)
@@ -73,3 +81,5 @@ pub remove_map : (pairs : Pairs) (op : Op) → is_del op ≡ true → (q : ℕ) 
 remove_map pairs (Get key) del q = absurd (cc)
 remove_map pairs (Ins key value) del q = absurd (cc)
 remove_map pairs (Del key) del q = sym (get_removed pairs key q)
+remove_map pairs (Put key value) del q = absurd (cc)
+remove_map pairs (Mov from to) del q = absurd (cc)

@@ -7,6 +7,7 @@ use Rattle.small_lemmas.proofs.Bools.{both_of as both_true}
 use Rattle.small_lemmas.proofs.Numbers.{suc_equal as suc_eq, tested_equal as equal_of}
 use Rattle.map_history.specs.declared.op.Op.{Op}
 use Rattle.map_history.specs.Keys.{key_of, DependsOn}
+use Rattle.map_history.proofs.Cells.{format_1_one_keyed, key_is}
 use Rattle.body_terms.specs.Word.{value_of, next_word}
 use Rattle.section_body.specs.Bucket.{bucket_lock, bucket_head, operand}
 use Rattle.body_terms.specs.declared.value.Value.{Value}
@@ -213,11 +214,11 @@ module _ (buckets : ℕ) (bucket : ℕ → ℕ) (small : (key : ℕ) → bucket 
         true_false (used_leads p t used links) (ap kept.on step.2 ∙ taken.out);
     store_used = store_used;
     one_key = λ map d e x y here there ne settled settled' unstored unstored' key depends depends'.
-        ne (one_bucket buckets bucket layout s sound kept d e x y here there (ap bucket (key_is x.op key depends ∙ sym (key_is y.op key depends'))));
+        ne (one_bucket buckets bucket layout s sound kept d e x y here there (ap bucket (own_key d x key here depends ∙ sym (own_key e y key there depends'))));
   }
     where
       used : (t : ℕ) → IsSafe s t → s.status t ≢ Free
       used t safe = ⊎_elim (λ live. live_free (s.status t) live) (λ retired. retired_free (s.status t) retired.0 retired.1) safe
 
-      key_is : (op : Op) (key : ℕ) → DependsOn op key → key_of op ≡ key
-      key_is op key depends = ⊎_elim (λ e. e) (λ none. absurd (none-some key none)) depends
+      own_key : (d : ℕ) (x : Section) (key : ℕ) → Here s d x → DependsOn x.op key → key_of x.op ≡ key
+      own_key d x key here depends = key_is x.op key (format_1_one_keyed x.op (fit buckets bucket layout s sound kept d x here).served) depends

@@ -5,8 +5,8 @@ use Rattle.std.specs.FinMap.{get, empty, get-empty}
 use Rattle.std.specs.Ordering.{nat_cmp}
 use Rattle.small_lemmas.proofs.Numbers.{equal_tested as eq_true}
 use Rattle.map_history.specs.declared.op.Op.{Op}
-use Rattle.map_history.specs.declared.op.Op.TheVariants.{Get, Ins, Del}
-use Rattle.map_history.specs.Keys.{key_of, value_given}
+use Rattle.map_history.specs.declared.op.Op.TheVariants.{Get, Ins, Del, Put, Mov}
+use Rattle.map_history.specs.Keys.{key_of, value_given, is_format_1}
 use Rattle.map_history.specs.Replay.{Pairs}
 use Rattle.body_terms.specs.Update.{upd}
 use Rattle.body_terms.specs.Word.{value_of}
@@ -81,12 +81,14 @@ no_lock_low i r n low high = let rest : (3 * i + r) % 3 ≢ 0 = (λ e. omega ari
 no_lock_high : (p n : ℕ) → n ≤ p → (nat_lt p n && (p % 3 == 0)) ≡ false
 no_lock_high p n high = grind arith
 
-form_cases : (op : Op) (found : Bool) → (form_for op found ≡ 1) ⊎ (form_for op found ≡ 2) ⊎ (form_for op found ≡ 3)
-form_cases (Get key) found = inl refl
-form_cases (Ins key value) true = inl refl
-form_cases (Ins key value) false = inr (inl refl)
-form_cases (Del key) true = inr (inr refl)
-form_cases (Del key) false = inl refl
+pub form_cases : (op : Op) (found : Bool) → is_format_1 op ≡ true → (form_for op found ≡ 1) ⊎ (form_for op found ≡ 2) ⊎ (form_for op found ≡ 3)
+form_cases (Get key) found served = inl refl
+form_cases (Ins key value) true served = inl refl
+form_cases (Ins key value) false served = inr (inl refl)
+form_cases (Del key) true served = inr (inr refl)
+form_cases (Del key) false served = inl refl
+form_cases (Put key value) found served = absurd (cc)
+form_cases (Mov from to) found served = absurd (cc)
 
 -- the reply word of a thunk that changes nothing isn't 0
 reply_some : (op : Op) (w : Walk) (found : Bool) → form_for op found ≡ 1 → 0 < slice_index (operands_for op w found) 1
@@ -99,6 +101,8 @@ reply_some (Ins key value) w true form = omega arith
 reply_some (Ins key value) w false form = absurd (omega arith)
 reply_some (Del key) w true form = absurd (omega arith)
 reply_some (Del key) w false form = omega arith
+reply_some (Put key value) w there form = absurd (omega arith)
+reply_some (Mov from to) w there form = absurd (omega arith)
 
 module _ (buckets : ℕ) (bucket : ℕ → ℕ) (small : (key : ℕ) → bucket key < buckets) (few : 3 * buckets ≤ 12288) (layout : Layout) (limits : IsWithinLimits layout) (s : Scene) (sound : Sound (table buckets bucket) layout s)
     (r : ℕ) (readings : Readings) (op : Op) (thunk : Thunk) (reader : s.reader r ≡ Some readings) (allowed : IsAllowed op) (fits : (table buckets bucket).fits layout op readings thunk ≡ true) where
@@ -173,7 +177,7 @@ module _ (buckets : ℕ) (bucket : ℕ → ℕ) (small : (key : ℕ) → bucket 
   shaped = subst IsShaped (sym (steps_of thunk)) (⊎_elim
       (λ form. subst (λ f. IsShaped (body_of f thunk)) (sym (read_form form)) (read_shaped thunk))
       (⊎_elim (λ form. subst (λ f. IsShaped (body_of f thunk)) (sym (insert_form form)) (insert_shaped thunk))
-      (λ form. subst (λ f. IsShaped (body_of f thunk)) (sym (remove_form form)) (remove_shaped thunk (apart (remove_form form))))) (form_cases op own_walk.found))
+      (λ form. subst (λ f. IsShaped (body_of f thunk)) (sym (remove_form form)) (remove_shaped thunk (apart (remove_form form))))) (form_cases op own_walk.found fit.served))
     where
       apart : form_of thunk ≡ Remove → operand thunk 1 ≢ thunk.lock + 1
       apart form e = let at = lock_is in let low = small (key_of op) in ⊎_elim (λ head. omega arith) (λ node. let place = node.2 in omega arith) (remove_link form)
@@ -229,7 +233,7 @@ module _ (buckets : ℕ) (bucket : ℕ → ℕ) (small : (key : ℕ) → bucket 
   }
     where
       read_back : form_of thunk ≡ Read → form_for op own_walk.found ≡ 1
-      read_back form = ⊎_elim (λ one. one) (⊎_elim (λ two. absurd (read_insert (sym form ∙ insert_form two))) (λ three. absurd (read_remove (sym form ∙ remove_form three)))) (form_cases op own_walk.found)
+      read_back form = ⊎_elim (λ one. one) (⊎_elim (λ two. absurd (read_insert (sym form ∙ insert_form two))) (λ three. absurd (read_remove (sym form ∙ remove_form three)))) (form_cases op own_walk.found fit.served)
         where
           read_insert : Read ≡ Insert → ⊥
           read_insert e = cc

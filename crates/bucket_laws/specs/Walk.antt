@@ -1,8 +1,8 @@
 -- The walk of a key through its bucket, read off a list of readings, and the thunk that is the one for it.
 use Rattle.std.specs.Prelude.{ℕ, suc, ◌+◌, ◌*◌, ◌-◌, ◌^◌, Bool, true, false, cond, not, ◌&&◌, ◌==◌, nat_le, List, [], ◌∷◌, Option, None, Some}
 use Rattle.map_history.specs.declared.op.Op.{Op}
-use Rattle.map_history.specs.declared.op.Op.TheVariants.{Get, Ins, Del}
-use Rattle.map_history.specs.Keys.{key_of}
+use Rattle.map_history.specs.declared.op.Op.TheVariants.{Get, Ins, Del, Put, Mov}
+use Rattle.map_history.specs.Keys.{key_of, is_format_1}
 use Rattle.body_terms.specs.Memory.{cell_of}
 use Rattle.body_terms.specs.Word.{value_of, is_free, is_spent}
 use Rattle.section_body.specs.Bucket.{bucket_lock, bucket_edition, bucket_head}
@@ -52,6 +52,8 @@ abbrev pub is_del : Op → Bool
 is_del (Get key) = false
 is_del (Ins key value) = false
 is_del (Del key) = true
+is_del (Put key value) = false
+is_del (Mov from to) = false
 
 abbrev pub is_end : Stage → Bool
 is_end AtEnd = true
@@ -80,13 +82,15 @@ pub record Bounds : Type 0 where
   pub links : ℕ
   pub version_max : ℕ
 
--- the form of the thunk for a whole walk
+-- the form of the thunk for a whole walk; 0 where the table doesn't serve the operation
 abbrev pub form_for : Op → Bool → ℕ
 form_for (Get key) found = 1
 form_for (Ins key value) true = 1
 form_for (Ins key value) false = 2
 form_for (Del key) true = 3
 form_for (Del key) false = 1
+form_for (Put key value) found = 0
+form_for (Mov from to) found = 0
 
 -- its operands
 abbrev pub operands_for : Op → Walk → Bool → List ℕ
@@ -96,6 +100,8 @@ operands_for (Ins key value) w true = w.edition ∷ 2 * 2 ^ 32 ∷ 0 ∷ 0 ∷ 0
 operands_for (Ins key value) w false = w.edition ∷ key ∷ value ∷ w.head ∷ 0 ∷ 0 ∷ 0 ∷ 0 ∷ []
 operands_for (Del key) w true = w.edition ∷ w.place ∷ w.slot ∷ w.next ∷ 0 ∷ 0 ∷ 0 ∷ 0 ∷ []
 operands_for (Del key) w false = w.edition ∷ 5 * 2 ^ 32 ∷ 0 ∷ 0 ∷ 0 ∷ 0 ∷ 0 ∷ 0 ∷ []
+operands_for (Put key value) w found = w.edition ∷ 0 ∷ 0 ∷ 0 ∷ 0 ∷ 0 ∷ 0 ∷ 0 ∷ []
+operands_for (Mov from to) w found = w.edition ∷ 0 ∷ 0 ∷ 0 ∷ 0 ∷ 0 ∷ 0 ∷ 0 ∷ []
 
 module _ (buckets : ℕ) (bucket : ℕ → ℕ) where
   abbrev pub cell_at : ℕ → ℕ → ℕ
@@ -143,9 +149,9 @@ module _ (buckets : ℕ) (bucket : ℕ → ℕ) where
   walk b op w (reading ∷ readings) = cond (is_wanted (wanted_at (bucket (key_of op)) w w.stage) reading.0)
       (walk b op (fed b op w w.stage reading.1) readings) w
 
-  -- the walk is whole and met no refusal, and the thunk is the one for it
+  -- the operation is served, the walk is whole and met no refusal, and the thunk is the one for it
   abbrev pub fits_walk : Op → Walk → Thunk → Bool
-  fits_walk op w thunk = is_end w.stage &&
+  fits_walk op w thunk = is_format_1 op && (is_end w.stage &&
       ((thunk.form == form_for op w.found) &&
       ((thunk.lock == bucket_lock (bucket (key_of op))) &&
-      ((thunk.word == w.word) && same_numbers thunk.operands (operands_for op w w.found))))
+      ((thunk.word == w.word) && same_numbers thunk.operands (operands_for op w w.found)))))

@@ -1,7 +1,7 @@
 -- The direct table: a map of keys below a bound, where each key has a lock, a flag and a value of its own.
 use Rattle.std.specs.Prelude.{ℕ, ◌+◌, ◌*◌, ◌-◌, ◌%◌, ◌==◌, ◌&&◌, Bool, cond, nat_lt}
 use Rattle.map_history.specs.declared.op.Op.{Op}
-use Rattle.map_history.specs.Keys.{key_of}
+use Rattle.map_history.specs.Keys.{key_of, is_format_1}
 use Rattle.structure_laws.specs.Meaning.{Meaning}
 use Rattle.key_cells.specs.shared_laws.specs.Flagged.{held, flag_for, value_for}
 use Rattle.key_cells.specs.Keyed.{Keyed, keyed}
@@ -30,6 +30,6 @@ direct_cells first bound = record {
 abbrev pub direct : ℕ → ℕ → Meaning
 direct base keys = keyed (direct_cells base keys)
 
--- the operation's key is below the bound
+-- the operation is get, ins or del, of a key below the bound
 abbrev pub serves : ℕ → Op → Bool
-serves keys op = nat_lt (key_of op) keys
+serves keys op = is_format_1 op && nat_lt (key_of op) keys

@@ -3,16 +3,17 @@ use Rattle.std.proofs.Common.{◌≡◌, ℕ, zero, suc, ◌<◌, ◌≤◌, Lis
 use Rattle.std.specs.Prelude.{◌==◌, ◌&&◌, nat_lt, slice_get, slice_index}
 use Rattle.small_lemmas.proofs.Numbers.{self_tested as self}
 use Rattle.map_history.specs.declared.op.Op.{Op}
-use Rattle.map_history.specs.Keys.{key_of}
+use Rattle.map_history.specs.Keys.{key_of, is_format_1}
 use Rattle.section_body.specs.Bucket.{operand}
 use Rattle.body_terms.specs.declared.thunk.Thunk.{Thunk}
 use Rattle.table_words.specs.declared.layout.Layout.{Layout}
 use Rattle.structure_laws.specs.Scene.{Readings}
 use Rattle.structure_laws.specs.Meaning.{Meaning}
+use Rattle.structure_laws.proofs.Changes.{both_true}
 use Rattle.runner_parts.specs.Tests.{has_pair}
-use Rattle.key_cells.specs.shared_laws.specs.AtKey.{left_at}
+use Rattle.map_history.specs.AtKey.{left_at}
 use Rattle.key_cells.specs.shared_laws.proofs.Numbers.{lt_of, eq_true, read_at}
-use Rattle.key_cells.specs.Keyed.{Keyed, IsKeyed, lock_place, cell_place, wanted, new_of, is_for, key_fits, keyed}
+use Rattle.key_cells.specs.Keyed.{Keyed, IsKeyed, lock_place, cell_place, wanted, new_of, is_for, serves_key, key_fits, keyed}
 use Rattle.key_cells.proofs.Fitting.{each_all}
 use Rattle.key_cells.proofs.Places.{lock_there, cell_there}
 use Rattle.fixed_walks.specs.Fixed.{AreCells, thunk_for, Suits}
@@ -78,7 +79,7 @@ module _ (c : Keyed) (is : IsKeyed c) (layout : Layout) (op : Op) where
       (λ k. self t.form k && (self (operand t 6) k && each_all c.count (λ i. new_of t i == c.value (left_at (had_by c words) op) i)
       (λ i low. eq_true _ _ (new_same words word number i (below i low))) k))
 
-  thunk_fits : nat_lt key c.keys ≡ true → (readings : Readings) (word number : ℕ)
+  thunk_fits : serves_key c op ≡ true → (readings : Readings) (word number : ℕ)
       → map (λ reading. reading.0) readings ≡ cells_of c.count (cell_place c key) ++ lock_place c key ∷ []
       → has_pair readings (lock_place c key) word ≡ true → key_fits c op readings (made (map (λ reading. reading.1) readings) word number) ≡ true
   thunk_fits served readings word number places lock =
@@ -89,8 +90,8 @@ module _ (c : Keyed) (is : IsKeyed c) (layout : Layout) (op : Op) where
       (read_at readings _ i (cell_place c key i) places (there c.count is.few (cell_place c key) (lock_place c key) i low))) k && lock k)))
       && for_it words word number k))
 
-  pub key_suits : nat_lt key c.keys ≡ true → Suits (keyed c) (key_course c) layout op
-  key_suits served = let low = lt_of key c.keys served in record {
+  pub key_suits : serves_key c op ≡ true → Suits (keyed c) (key_course c) layout op
+  key_suits served = let low = lt_of key c.keys (both_true (is_format_1 op) (nat_lt key c.keys) served).1 in record {
     few = few_cells c.count is.few (cell_place c key);
     cells = are_cells (keyed c) c.count is.few (cell_place c key) (λ i few. let cell = cell_there c is key i low few in (cell.0, cell.1));
     lock = lock_there c is key low;

@@ -9,8 +9,8 @@ use Rattle.table_words.specs.declared.layout.Layout.{Layout}
 use Rattle.table_words.specs.declared.spot.Spot.TheVariants.{Cell}
 use Rattle.structure_laws.specs.Meaning.{Meaning}
 use Rattle.structure_laws.specs.Scene.{Cells}
-use Rattle.key_cells.specs.shared_laws.specs.AtKey.{reply_at, left_at, changes_at}
-use Rattle.key_cells.specs.Keyed.{Keyed, lock_place, cell_place, held_in}
+use Rattle.map_history.specs.AtKey.{reply_at, left_at, changes_at}
+use Rattle.key_cells.specs.Keyed.{Keyed, lock_place, cell_place, serves_key, held_in}
 use Rattle.key_cells.specs.Steps.{part}
 use Rattle.lock_walks.specs.version_words.specs.TableState.{WordsState, word_of}
 use Rattle.fixed_walks.specs.Fixed.{Course}
@@ -32,7 +32,7 @@ module _ (c : Keyed) where
 
   abbrev pub key_course : Course
   key_course = record {
-    serves = λ op. nat_lt (key_of op) c.keys;
+    serves = serves_key c;
     cells = λ op. cells_of c.count (cell_place c (key_of op));
     lock = λ op. lock_place c (key_of op);
     form = λ op words. cond (changes_at (had_by words) op) 2 1;

@@ -52,6 +52,8 @@ fn is_printed(reply: Reply, text: &str) -> bool {
         Reply::Val(value) => text.strip_prefix("val ") == Some(Buffer::new().format(value)),
         Reply::Gone => text == "gone",
         Reply::Absent => text == "none",
+        Reply::Was(value) => text.strip_prefix("was ") == Some(Buffer::new().format(value)),
+        Reply::Moved => text == "moved",
     }
 }
 

@@ -1,7 +1,7 @@
 -- What the options of a command and a text, or the generator, ask for.
 use Rattle.std.specs.Prelude.{◌≡◌, ℕ, ◌*◌, ◌<◌, ◌≤◌, ◌⊎◌, List, Option, Result, Err, IsOk, IfSome}
 use Rattle.map_history.specs.declared.op.Request.{Request}
-use Rattle.map_history.specs.Requests.{AreInOrder}
+use Rattle.map_history.specs.Requests.{AreInOrder, AreOfFormat1}
 use Rattle.table_words.specs.declared.layout.Layout.{Layout}
 use Rattle.threaded_runs.specs.resource_bounds.specs.Makes.{inserts}
 use Rattle.command_line.specs.trace_reader.specs.Answer.{AreTracesOf, IsRefusal}
@@ -38,6 +38,7 @@ pub record IsPlanned (options : RunOptions) (left : Option (List ℕ)) (plan : P
   pub ranges : AreInRange plan.options
   pub text : IfSome left (AreTracesOf plan.traces)
   pub ordered : AreInOrder plan.traces.requests plan.traces.count
+  pub format : AreOfFormat1 plan.traces.requests
   pub layout : plan.layout ≡ layout_by plan.options plan.traces.count plan.traces.requests
 
 -- the runners would have more node slots together than the limit
@@ -80,6 +81,7 @@ pub record IsLoadPlanned (load : LoadOptions) (plan : Plan) : Type 0 where
   pub count : plan.traces.count ≡ load.plan.traces
   pub requests : plan.traces.requests ≡ generated load.plan
   pub ordered : AreInOrder plan.traces.requests plan.traces.count
+  pub format : AreOfFormat1 plan.traces.requests
   pub layout : plan.layout ≡ layout_by plan.options plan.traces.count plan.traces.requests
 
 -- they ask for so many node slots, which are more than the limit

@@ -2,7 +2,7 @@
 ghost use Rattle.std.specs.Prelude.{◌≡◌, ◌≤◌, ◌<◌, ◌^◌, length, Err, IfOk, IfErr, IfSome};
 ghost use Rattle.fault_count.specs.Rose.{Rose};
 ghost use Rattle.table_words.specs.Limits.{IsWithinLimits};
-ghost use Rattle.threaded_runs.specs.resource_bounds.specs.Makes.{inserts, is_insert};
+ghost use Rattle.threaded_runs.specs.resource_bounds.specs.Makes.{inserts};
 ghost use Rattle.command_line.specs.trace_reader.specs.Answer.{StopsBefore};
 ghost use Rattle.command_line.specs.trace_reader.specs.declared.traces.TraceError.TheVariants.{ReadFault, TooManyRequests};
 ghost use Rattle.command_line.specs.Generated.{AreLoadRanges};
@@ -22,7 +22,7 @@ ghost use Rattle.flock_tool.specs.Plans.{
 use crate::status::Stop;
 use command_line::trace_reader::{MAX_REQUESTS, Source, TraceError, Traces, generate, read_traces};
 use command_line::{LoadOptions, RunOptions};
-use map_history::{Op, Request};
+use map_history::Request;
 use std::alloc::Global;
 use table_words::Layout;
 
@@ -112,22 +112,13 @@ fn has_32_bits(number: u32)
     let _ = number;
 }
 
-/// How many of the requests insert.
+/// How many of the requests may add a pair.
 pub(crate) fn insertions(requests: &[Request]) -> u32
     requires { length requests.now ≤ 131072 }
     ensures { result ≡ inserts requests.now }
 {
     requests
         .iter()
-        .filter(|request| is_insertion(request.op))
+        .filter(|request| request.op.may_add())
         .count() as u32
-}
-
-fn is_insertion(op: Op) -> bool
-    ensures { result ≡ is_insert op }
-{
-    match op {
-        Op::Ins(_, _) => true,
-        _ => false,
-    }
 }

@@ -1,9 +1,9 @@
 // The run itself, and its report.
-ghost use Rattle.std.specs.Prelude.{◌≡◌, ◌≤◌, IfOk, IfErr, OnErr, OnOk, [], not, true};
+ghost use Rattle.std.specs.Prelude.{◌≡◌, ◌≤◌, All, IfOk, IfErr, OnErr, OnOk, [], not, true};
 ghost use Rattle.std.specs.FinMap.{len};
-ghost use Rattle.map_history.specs.declared.op.Op.{Op};
+ghost use Rattle.map_history.specs.declared.op.Request.{Request};
 ghost use Rattle.map_history.specs.Replay.{Pairs};
-ghost use Rattle.map_history.specs.Requests.{AreInOrder};
+ghost use Rattle.map_history.specs.Requests.{AreInOrder, AreOfFormat1};
 ghost use Rattle.table_words.specs.Limits.{IsWithinLimits};
 ghost use Rattle.load_counts.specs.machine_invariant.specs.After.{AreAllowed};
 ghost use Rattle.load_counts.specs.closed_words.specs.Histories.{HoldsNoLock};
@@ -41,6 +41,7 @@ pub fn run_plan<T: Threads + Wait + Sync, G: Gates>(
     requires ranges { AreInRange plan.now.options }
     requires limits { IsWithinLimits plan.now.layout }
     requires ordered { AreInOrder plan.now.traces.requests plan.now.traces.count }
+    requires format { AreOfFormat1 plan.now.traces.requests }
     ensures ran { IfOk result (λ ran. HasRunPlan plan.now ran
         (gating (G.halts gates.old) (G.halts gates.new) (G.asks gates.old) (G.asks gates.new)
         (G.plans gates.old) (G.plans gates.new) (G.planned gates.old) (G.planned gates.new)
@@ -61,7 +62,7 @@ pub fn run_plan<T: Threads + Wait + Sync, G: Gates>(
     }
 }
 
-// Runs the requests of a plan on one table of this structure, which serves every request.
+// Runs the requests of a plan on one table of this structure, which serves each of them.
 fn run_on<T: Threads + Wait + Sync, S: Planner, G: Gates>(
     rt: &T,
     alloc: Global,
@@ -74,7 +75,8 @@ where
     requires ranges { AreInRange plan.now.options }
     requires limits { IsWithinLimits plan.now.layout }
     requires ordered { AreInOrder plan.now.traces.requests plan.now.traces.count }
-    requires served { (op : Op) → (S.planning structure).serves op ≡ true }
+    requires served { All (λ (request : Request). (S.planning structure).serves request.op ≡ true)
+        plan.now.traces.requests }
     ensures ran { IfOk result (λ ran. HasRunOn S.meaning (S.planning structure).per_pair structure plan.now
         ran.0 ran.1.items
         (gating (G.halts gates.old) (G.halts gates.new) (G.asks gates.old) (G.asks gates.new)

@@ -6,8 +6,8 @@ use Rattle.std.proofs.lemmas.Option.{none-some}
 use Rattle.small_lemmas.proofs.Lists.{same_number as some_eq}
 use Rattle.small_lemmas.proofs.Numbers.{self_tested as self}
 use Rattle.map_history.specs.declared.op.Op.{Op}
-use Rattle.map_history.specs.declared.op.Op.TheVariants.{Get, Ins, Del}
-use Rattle.map_history.specs.Keys.{key_of}
+use Rattle.map_history.specs.declared.op.Op.TheVariants.{Get, Ins, Del, Put, Mov}
+use Rattle.map_history.specs.Keys.{key_of, is_format_1}
 use Rattle.body_terms.specs.Word.{value_of, is_free, is_spent}
 use Rattle.section_body.specs.Bucket.{bucket_index, bucket_lock, bucket_edition}
 use Rattle.table_words.specs.declared.layout.Layout.{Layout}
@@ -204,8 +204,8 @@ module _ (bits : ℕ) (few : bits ≤ 12) (layout : Layout) (op : Op) where
   ends_at w AtEnd wants goes = refl
   ends_at w Refused wants goes = absurd (cc)
 
-  fits_so : (w : Walk) (number : ℕ) → w.stage ≡ AtEnd → fits_walk (2 ^ bits) hash op w (thunk_by (record first { walk = w }) number) ≡ true
-  fits_so w number at = (λ i. is_end (at i) && (self (form_for op w.found) i && (self (bucket_lock (hash (key_of op))) i && (self w.word i && same_self (operands_for op w w.found) i))))
+  fits_so : is_format_1 op ≡ true → (w : Walk) (number : ℕ) → w.stage ≡ AtEnd → fits_walk (2 ^ bits) hash op w (thunk_by (record first { walk = w }) number) ≡ true
+  fits_so served w number at = (λ i. served i && (is_end (at i) && (self (form_for op w.found) i && (self (bucket_lock (hash (key_of op))) i && (self w.word i && same_self (operands_for op w w.found) i)))))
 
   eight : (o : Op) (w : Walk) (found : Bool) → length (operands_for o w found) ≡ 8
   eight (Get key) w true = refl
@@ -214,16 +214,18 @@ module _ (bits : ℕ) (few : bits ≤ 12) (layout : Layout) (op : Op) where
   eight (Ins key value) w false = refl
   eight (Del key) w true = refl
   eight (Del key) w false = refl
+  eight (Put key value) w found = refl
+  eight (Mov from to) w found = refl
 
-  thunk_for : (number : ℕ) (readings : Readings) → wanted_at (2 ^ bits) hash (hash (key_of op)) (walk_in bits layout op readings) (walk_in bits layout op readings).stage ≡ None
+  thunk_for : is_format_1 op ≡ true → (number : ℕ) (readings : Readings) → wanted_at (2 ^ bits) hash (hash (key_of op)) (walk_in bits layout op readings) (walk_in bits layout op readings).stage ≡ None
       → is_refused_at (walk_in bits layout op readings).stage ≡ false
       → IsThunkFor bucket_way (buckets_meaning bits) layout first number readings (thunk_by (record first { walk = walk_in bits layout op readings }) number)
-  thunk_for number readings wants goes =
+  thunk_for served number readings wants goes =
       let w = walk_in bits layout op readings in
       let at = ends_at w w.stage wants goes in
       let known = subst (Knows (2 ^ bits) hash small limits op readings w) at (knows (2 ^ bits) hash small limits op readings) in
       record {
-        fits = fits_so w number at;
+        fits = fits_so served w number at;
         request = refl;
         operands = eight op w w.found;
         free = known.0;
@@ -231,8 +233,8 @@ module _ (bits : ℕ) (few : bits ≤ 12) (layout : Layout) (op : Op) where
         read = known.2;
       }
 
-  pub leads : Leads bucket_way (buckets_meaning bits) layout first
-  leads = record {
+  pub leads : is_format_1 op ≡ true → Leads bucket_way (buckets_meaning bits) layout first
+  leads served = record {
     begins = (bucket_edition (hash (key_of op)), refl);
     shorter = walk_nearer;
     steady = λ readings. steady first readings;
@@ -250,7 +252,7 @@ module _ (bits : ℕ) (few : bits ≤ 12) (layout : Layout) (op : Op) where
         else (if (is_refused_at w.stage && nat_le limits.links w.links) then Some (answers.Far (slot_count layout 0 + 8)) else None))) (sym next));
     goes_on = λ readings place led wants. ap is_refused_of (here readings led) ∙ goes_at (walk_in bits layout op readings) (walk_in bits layout op readings).stage place (sym (ap wanted_by (here readings led)) ∙ wants);
     fits = λ number readings led wants goes. subst (λ w. IsThunkFor bucket_way (buckets_meaning bits) layout first number readings (thunk_by w number)) (sym (here readings led))
-        (thunk_for number readings (sym (ap wanted_by (here readings led)) ∙ wants) (sym (ap is_refused_of (here readings led)) ∙ goes));
+        (thunk_for served number readings (sym (ap wanted_by (here readings led)) ∙ wants) (sym (ap is_refused_of (here readings led)) ∙ goes));
     few = omega arith;
   }
     where

@@ -25,8 +25,7 @@ impl Planner for HashTable {
     ghost planning = { λ s. bucket_planning s.bits };
 
     fn serves(&self, op: Op) -> bool {
-        let _ = op;
-        true
+        op.least_format() == 1
     }
 
     fn walk(&self, layout: Layout, op: Op) -> BucketWalk {

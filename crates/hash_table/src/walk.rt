@@ -212,7 +212,7 @@ impl BucketWalk {
         ensures { stage_of result ≡ cond (is_del self.now.op) AtNext AtLock }
     {
         match self.op {
-            Op::Get(_) | Op::Ins(_, _) => Stage::Lock,
+            Op::Get(_) | Op::Ins(_, _) | Op::Put(_, _) | Op::Mov(_, _) => Stage::Lock,
             Op::Del(_) => Stage::Next,
         }
     }
@@ -245,12 +245,13 @@ impl BucketWalk {
         self.stage == Stage::Refused
     }
 
-    /// Whether the walk is whole and this is the thunk for it.
+    /// Whether the operation is served, the walk is whole, and this is the thunk for it.
     pub fn fits(&self, thunk: &Thunk) -> bool
         ensures { result ≡ fits_walk (2 ^ self.now.bits) (λ key. bucket_index key self.now.bits)
             self.now.op self.now.walk thunk.now }
     {
-        self.stage == Stage::End
+        self.op.least_format() == 1
+            && self.stage == Stage::End
             && thunk.form == self.form()
             && thunk.lock == self.lock()
             && thunk.word == self.word
@@ -270,13 +271,15 @@ impl BucketWalk {
         }
     }
 
-    /// The form of the section's body: one that reads alone, that puts a node in, or that takes one out.
+    /// The form of the section's body: one that reads alone, that puts a node in, or that takes one out. An operation
+    /// that isn't served has none.
     fn form(&self) -> u64
         ensures { result ≡ form_for self.now.op self.now.walk.found }
     {
         match (self.op, self.found) {
             (Op::Ins(_, _), false) => 2,
             (Op::Del(_), true) => 3,
+            (Op::Put(_, _) | Op::Mov(_, _), _) => 0,
             _ => 1,
         }
     }
@@ -310,6 +313,7 @@ impl BucketWalk {
                 0,
             ],
             (Op::Get(_) | Op::Del(_), false) => read(edition, Reply::Absent),
+            (Op::Put(_, _) | Op::Mov(_, _), _) => [edition, 0, 0, 0, 0, 0, 0, 0],
         }
     }
 }

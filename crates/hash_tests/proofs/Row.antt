@@ -3,7 +3,8 @@ use Rattle.std.proofs.Common.{◌≡◌, ◌≢◌, ℕ, zero, suc, ◌<◌, ◌
 use Rattle.std.specs.Prelude.{◌==◌, ◌&&◌, ◌%◌, slice_get, slice_index_or}
 use Rattle.map_history.specs.declared.op.Request.{Request}
 use Rattle.map_history.specs.declared.op.Op.{Op}
-use Rattle.map_history.specs.Keys.{key_of}
+use Rattle.map_history.specs.Keys.{key_of, DependsOn, is_format_1}
+use Rattle.map_history.proofs.Cells.{format_1_one_keyed, key_is}
 use Rattle.map_history.specs.Requests.{AreInOrder}
 use Rattle.table_words.specs.declared.layout.Layout.{Layout}
 use Rattle.runner_parts.specs.Tests.{is_next}
@@ -13,8 +14,8 @@ use Rattle.lock_tests.specs.Asked.{IsDue}
 use Rattle.hash_tests.specs.Scene.{two_requests, asked}
 
 -- one request in each of two traces, with keys that the map has
-pub two_in_order : (a b : Op) → key_of a ≤ 4294967293 → key_of b ≤ 4294967293 → AreInOrder (two_requests a b) 64
-two_in_order a b one two = record {
+pub two_in_order : (a b : Op) → key_of a ≤ 4294967293 → key_of b ≤ 4294967293 → is_format_1 a ≡ true → is_format_1 b ≡ true → AreInOrder (two_requests a b) 64
+two_in_order a b one two first second = record {
   few_traces = omega arith;
   few = omega arith;
   numbered = refl;
@@ -36,9 +37,12 @@ two_in_order a b one two = record {
     rising (suc (suc i)) (suc zero) d le low = absurd (omega (arith, le))
     rising i (suc (suc j)) d le low = absurd (omega (arith, low))
 
-    keys : (k : ℕ) (d : Request) → k < 2 → key_of (slice_index_or (two_requests a b) k d).op ≤ 4294967293
-    keys zero d low = one
-    keys (suc zero) d low = two
+    own : (op : Op) → is_format_1 op ≡ true → key_of op ≤ 4294967293 → (key : ℕ) → DependsOn op key → key ≤ 4294967293
+    own op format small key on = subst (λ n. n ≤ 4294967293) (key_is op key (format_1_one_keyed op format) on) small
+
+    keys : (k : ℕ) (d : Request) → k < 2 → (key : ℕ) → DependsOn (slice_index_or (two_requests a b) k d).op key → key ≤ 4294967293
+    keys zero d low = own a first one
+    keys (suc zero) d low = own b second two
     keys (suc (suc k)) d low = absurd (omega (arith, low))
 
 pub asked_first : (a b : Op) (n : ℕ) → n ≡ 0 → record { trace = 0; number = 0; op = a } ≡ asked a b n
@@ -72,3 +76,8 @@ is_due_of_two a b r two same few ready request is = record {
     next l zero two low = (λ i. 0 % two i == 0 && true)
     next l (suc zero) two low = (λ i. 1 % two i == 1 && true)
     next l (suc (suc k)) two low = absurd (omega (arith, low))
+
+-- where both are of format 1, so is each worker's
+pub asked_format : (a b : Op) (n : ℕ) → is_format_1 a ≡ true → is_format_1 b ≡ true → is_format_1 (asked a b n).op ≡ true
+asked_format a b zero first second = first
+asked_format a b (suc n) first second = second

@@ -1,6 +1,6 @@
 //! Tests.
-ghost use Rattle.std.specs.Prelude.{◌≡◌, ◌≤◌, IfOk};
-ghost use Rattle.map_history.specs.Keys.{key_of};
+ghost use Rattle.std.specs.Prelude.{◌≡◌, ◌≤◌, true, IfOk};
+ghost use Rattle.map_history.specs.Keys.{key_of, is_format_1};
 
 use crate::scene::{new_table, pairs_of, plan_and_publish};
 use body_terms::{Outcome, StepKind};
@@ -28,6 +28,7 @@ fn helped<R: Threads + Sync>(
     lines: &[(u32, StepKind, u32, StepKind)],
 ) -> Result<Row, AllocError>
     requires keys { key_of op ≤ 4294967293 }
+    requires format { is_format_1 op ≡ true }
 {
     let ops = (op, Op::Get(1));
     let (table, keeper) = new_table(alloc, ops)?;

@@ -8,7 +8,8 @@ use Rattle.map_history.specs.declared.reply.Reply.{Reply}
 use Rattle.map_history.specs.declared.reply.Reply.TheVariants.{New, Gone}
 use Rattle.map_history.specs.Replay.{Pairs, reply_of, map_after}
 use Rattle.map_history.specs.Words.{word_of}
-use Rattle.map_history.proofs.Cells.{cell_after, cell_reply, reply_of-cell, get-map_after}
+use Rattle.map_history.specs.AtKey.{reply_at, left_at}
+use Rattle.map_history.proofs.Cells.{reply_of-at, get-left}
 use Rattle.history_orders.specs.Stamped.{Stamped}
 use Rattle.history_core.specs.Made.{IsMade}
 
@@ -26,13 +27,13 @@ none : (key : ℕ) → get nothing key ≡ None
 none key = get-empty nat_cmp key
 
 added : (key : ℕ) → reply_of empty (Ins key 1) ≡ New
-added key = reply_of-cell empty (Ins key 1) ∙ ap (cell_reply (Ins key 1)) (none key)
+added key = reply_of-at empty (Ins key 1) refl ∙ ap (λ o. reply_at o (Ins key 1)) (none key)
 
 taken : reply_of one_pair (Del 9) ≡ Gone
-taken = reply_of-cell one_pair (Del 9) ∙ ap (cell_reply (Del 9)) (get-map_after empty (Ins 9 1) 9 ∙ ap (cell_after (Ins 9 1)) (none 9))
+taken = reply_of-at one_pair (Del 9) refl ∙ ap (λ o. reply_at o (Del 9)) (get-left empty (Ins 9 1) 9 refl ∙ ap (λ o. left_at o (Ins 9 1)) (none 9))
 
 added_last : reply_of no_pair (Ins 7 1) ≡ New
-added_last = reply_of-cell no_pair (Ins 7 1) ∙ ap (cell_reply (Ins 7 1)) (get-map_after one_pair (Del 9) 7 ∙ get-map_after empty (Ins 9 1) 7 ∙ none 7)
+added_last = reply_of-at no_pair (Ins 7 1) refl ∙ ap (λ o. reply_at o (Ins 7 1)) (get-left one_pair (Del 9) 7 refl ∙ get-left empty (Ins 9 1) 7 refl ∙ none 7)
 
 -- the history, with these replies
 abbrev with_replies : Reply → Reply → Reply → List Stamped

@@ -1,12 +1,13 @@
 -- Requests that are in order, by tests that compute.
-use Rattle.std.proofs.Common.{◌≡◌, ℕ, zero, suc, ◌<◌, ◌≤◌, Bool, true, List, [], ◌∷◌, length, arith}
+use Rattle.std.proofs.Common.{◌≡◌, ℕ, zero, suc, ◌<◌, ◌≤◌, Bool, true, List, [], ◌∷◌, length, subst, arith}
 use Rattle.std.specs.Prelude.{◌&&◌, nat_lt, nat_le, slice_index_or, map}
 use Rattle.std.specs.List.{list_all, range_with_len}
 use Rattle.std.proofs.lemmas.Bool.Decides.{nat_tests}
 use Rattle.std.proofs.lemmas.Bool.{and_parts}
 use Rattle.small_lemmas.proofs.Numbers.{tested_less as below, tested_most as most}
 use Rattle.map_history.specs.declared.op.Request.{Request}
-use Rattle.map_history.specs.Keys.{key_of}
+use Rattle.map_history.specs.Keys.{key_of, is_format_1}
+use Rattle.map_history.proofs.Cells.{format_1_one_keyed, key_is}
 use Rattle.map_history.specs.Requests.{AreInOrder}
 
 -- a test passes at each place
@@ -28,12 +29,14 @@ rising_of (x ∷ xs) e (suc i) zero d le low = absurd (omega arith)
 rising_of (x ∷ xs) e (suc i) (suc j) d le low = rising_of xs (and_parts _ (never_fall xs) e).1 i j d (omega arith) (omega arith)
 
 pub in_order : (xs : List Request) → length xs ≤ 131072 → map (λ (q : Request). q.number) xs ≡ range_with_len 0 (length xs) → list_all (λ q. nat_lt q.trace 64) xs ≡ true
-    → never_fall xs ≡ true → list_all (λ q. nat_le (key_of q.op) 4294967293) xs ≡ true → AreInOrder xs 64
-in_order xs few numbered traces rising keys = record {
+    → never_fall xs ≡ true → list_all (λ q. nat_le (key_of q.op) 4294967293) xs ≡ true → list_all (λ q. is_format_1 q.op) xs ≡ true → AreInOrder xs 64
+in_order xs few numbered traces rising keys formats = record {
   few_traces = omega arith;
   few = few;
   numbered = numbered;
   within = λ k d low. below (slice_index_or xs k d).trace 64 (all_of (λ q. nat_lt q.trace 64) xs traces k d low);
   rising = rising_of xs rising;
-  keys = λ k d low. most (key_of (slice_index_or xs k d).op) 4294967293 (all_of (λ q. nat_le (key_of q.op) 4294967293) xs keys k d low);
+  keys = λ k d low key on.
+      subst (λ n. n ≤ 4294967293) (key_is (slice_index_or xs k d).op key (format_1_one_keyed (slice_index_or xs k d).op (all_of (λ q. is_format_1 q.op) xs formats k d low)) on)
+      (most (key_of (slice_index_or xs k d).op) 4294967293 (all_of (λ q. nat_le (key_of q.op) 4294967293) xs keys k d low));
 }

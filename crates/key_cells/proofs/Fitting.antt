@@ -2,14 +2,15 @@
 use Rattle.std.proofs.Common.{◌≡◌, ℕ, zero, suc, ◌+◌, ◌<◌, ◌≤◌, Bool, true, false, cond, refl, ap, ◌∙◌, arith}
 use Rattle.std.specs.Prelude.{◌==◌, ◌&&◌, ◌||◌, nat_lt}
 use Rattle.map_history.specs.declared.op.Op.{Op}
-use Rattle.map_history.specs.Keys.{key_of}
+use Rattle.map_history.specs.Keys.{key_of, IsOneKeyed, is_format_1}
+use Rattle.map_history.proofs.Cells.{format_1_one_keyed}
 use Rattle.map_history.specs.Words.{word_of}
 use Rattle.section_body.specs.Bucket.{operand}
 use Rattle.body_terms.specs.declared.thunk.Thunk.{Thunk}
 use Rattle.structure_laws.specs.Scene.{Readings}
 use Rattle.structure_laws.proofs.Changes.{equal_of, both_true}
 use Rattle.runner_parts.specs.Tests.{has_pair}
-use Rattle.shared_laws.specs.AtKey.{reply_at, left_at, changes_at}
+use Rattle.map_history.specs.AtKey.{reply_at, left_at, changes_at}
 use Rattle.shared_laws.proofs.Numbers.{lt_of, lt_true}
 use Rattle.key_cells.specs.Keyed.{Keyed, lock_place, cell_place, each_of, wanted, new_of, key_in, body_by, key_body, was_read, is_for, key_fits}
 
@@ -32,6 +33,7 @@ each_all n test is = (λ k. one 0 k && (one 1 k && one 2 k))
 
 module _ (c : Keyed) where
   pub record Fit (op : Op) (readings : Readings) (t : Thunk) : Type 0 where
+    pub one : IsOneKeyed op
     pub low : key_of op < c.keys
     pub lock : t.lock ≡ lock_place c (key_of op)
     pub key : operand t 7 ≡ key_of op
@@ -43,6 +45,7 @@ module _ (c : Keyed) where
   pub fit_of : (op : Op) (readings : Readings) (t : Thunk) → c.count ≤ 3 → key_fits c op readings t ≡ true → Fit op readings t
   fit_of op readings t few fits =
       let served = both_true _ _ fits in
+      let is = both_true (is_format_1 op) (nat_lt (key_of op) c.keys) served.0 in
       let rest = both_true (was_read c (key_of op) readings t) (is_for c op (c.held (wanted t)) t) served.1 in
       let lock = both_true _ _ rest.0 in
       let key = both_true _ _ lock.1 in
@@ -50,7 +53,8 @@ module _ (c : Keyed) where
       let form = both_true _ _ rest.1 in
       let reply = both_true _ _ form.1 in
       record {
-        low = lt_of (key_of op) c.keys served.0;
+        one = format_1_one_keyed op is.0;
+        low = lt_of (key_of op) c.keys is.1;
         lock = equal_of t.lock (lock_place c (key_of op)) lock.0;
         key = equal_of (operand t 7) (key_of op) key.0;
         read = each_at c.count (λ i. has_pair readings (cell_place c (key_of op) i) (wanted t i)) few read.0;

@@ -19,9 +19,10 @@ use Rattle.structure_laws.specs.Shape.{HasStep}
 use Rattle.structure_laws.specs.Laws.{IsFirst, Laws}
 use Rattle.structure_laws.specs.Planner.{PlannerLaws}
 use Rattle.structure_laws.proofs.Changes.{value_small}
-use Rattle.shared_laws.specs.AtKey.{reply_at, changes_at}
+use Rattle.map_history.specs.AtKey.{reply_at, changes_at}
 use Rattle.shared_laws.specs.Nodeless.{IsNodeless, HoldsItsLock, IsPlainBody}
-use Rattle.shared_laws.proofs.AtKey.{reply_some, key_is}
+use Rattle.map_history.proofs.Cells.{key_is}
+use Rattle.map_history.proofs.Words.{reply_some}
 use Rattle.shared_laws.proofs.Nodeless.{nodeless_begins, nodeless_keeps, nodeless_gives, nodeless_shaped, nodeless_adds, nodeless_sized}
 use Rattle.shared_laws.proofs.Numbers.{pair_read}
 use Rattle.key_cells.specs.Keyed.{Keyed, IsKeyed, lock_place, cell_place, is_lock_place, guard_place, wanted, new_of, key_in, body_by, held_in, keyed}
@@ -91,7 +92,7 @@ module _ (c : Keyed) (is : IsKeyed c) where
         let cell = cell_there c is (key_of op) r fit.low at.0 in
         (subst (λ p. p < c.base + c.fixed) (sym at.1) cell.0, ap (guard_place c) at.1 ∙ (cell.2 ∙ sym fit.lock));
     keyed = λ a b readings others first second key fits fits' on on'.
-        (fit_of c a readings first is.few fits).lock ∙ (ap (lock_place c) (key_is a key on ∙ sym (key_is b key on')) ∙ sym (fit_of c b others second is.few fits').lock);
+        (fit_of c a readings first is.few fits).lock ∙ (ap (lock_place c) (key_is a key (fit_of c a readings first is.few fits).one on ∙ sym (key_is b key (fit_of c b others second is.few fits').one on')) ∙ sym (fit_of c b others second is.few fits').lock);
   }
 
   -- in the first scene no key has a value

@@ -21,8 +21,9 @@ use Rattle.structure_laws.specs.Sections.{IsStep}
 use Rattle.structure_laws.specs.InTurn.{StandsFor, AtStamp, AfterStores, InTurn}
 use Rattle.structure_laws.proofs.Changes.{upd_other}
 use Rattle.map_history.specs.declared.op.Op.{Op}
-use Rattle.shared_laws.specs.AtKey.{reply_at, left_at, changes_at}
-use Rattle.shared_laws.proofs.AtKey.{replies, stand_after, unchanged, left_small}
+use Rattle.map_history.specs.AtKey.{reply_at, left_at, changes_at}
+use Rattle.map_history.proofs.Cells.{reply_of-at, unchanged}
+use Rattle.shared_laws.proofs.AtKey.{stand_after, left_small}
 use Rattle.shared_laws.proofs.AtStamp.{wanted_now}
 use Rattle.shared_laws.proofs.Numbers.{bool_cases, lt_of, lt_true, eq_false}
 use Rattle.key_cells.specs.Keyed.{Keyed, IsKeyed, cell_place, is_lock_place, wanted, new_of, body_by, key_body, held_in, keyed}
@@ -84,7 +85,7 @@ module _ (c : Keyed) (is : IsKeyed c) where
     answers : (j n : ℕ) → IsStep (keyed c) x j (Answer n) → n ≡ word_of (reply_of pairs x.op)
     answers j n h =
         answer_in (cell_place c key) (wanted x.thunk) (new_of x.thunk) (operand x.thunk 6) writes c.count is.few j n (own_step j (Answer n) h)
-        ∙ (fit.reply ∙ sym (ap word_of (replies pairs x.op ∙ ap (λ o. reply_at o x.op) (before.stands key ∙ has_now))))
+        ∙ (fit.reply ∙ sym (ap word_of (reply_of-at pairs x.op fit.one ∙ ap (λ o. reply_at o x.op) (before.stands key ∙ has_now))))
 
     module _ (after : Cells) (left : AfterStores (keyed c) x s.cells after) where
       -- the places of other keys keep their words
@@ -116,7 +117,7 @@ module _ (c : Keyed) (is : IsKeyed c) where
               ∙ (is.looks (λ i. s.cells (cell_place c key i)) (wanted x.thunk) now ∙ sym (unchanged has x.op e))
 
       stands_after : (q : ℕ) → get (map_after pairs x.op) q ≡ held_in c after q
-      stands_after = stand_after pairs x.op (held_in c s.cells) (held_in c after) has before.stands has_now own_key other_key
+      stands_after = stand_after pairs x.op (held_in c s.cells) (held_in c after) has fit.one before.stands has_now own_key other_key
 
   -- a change of a place that is no cell of a key leaves what each key has
   elsewhere : (s : Scene) (p w q : ℕ) → (q < c.keys → (i : ℕ) → i < c.count → cell_place c q i ≢ p) → held_in c s.cells q ≡ held_in c (upd s.cells p w) q

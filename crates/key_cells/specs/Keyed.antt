@@ -2,7 +2,7 @@
 use Rattle.std.specs.Prelude.{◌≡◌, ℕ, ◌+◌, ◌-◌, ◌<◌, ◌≤◌, ◌^◌, ◌==◌, ◌&&◌, ◌||◌, Bool, true, false, not, cond, nat_lt, List, Option, None, Some}
 use Rattle.std.specs.FinMap.{get}
 use Rattle.map_history.specs.declared.op.Op.{Op}
-use Rattle.map_history.specs.Keys.{key_of}
+use Rattle.map_history.specs.Keys.{key_of, is_format_1}
 use Rattle.map_history.specs.Words.{word_of}
 use Rattle.body_terms.specs.Word.{value_of, next_word}
 use Rattle.section_body.specs.Bucket.{operand}
@@ -11,7 +11,7 @@ use Rattle.body_terms.specs.declared.thunk.Thunk.{Thunk}
 use Rattle.structure_laws.specs.Scene.{Cells, Readings}
 use Rattle.structure_laws.specs.Meaning.{Meaning}
 use Rattle.runner_parts.specs.Tests.{has_pair}
-use Rattle.shared_laws.specs.AtKey.{reply_at, left_at, changes_at}
+use Rattle.map_history.specs.AtKey.{reply_at, left_at, changes_at}
 use Rattle.shared_laws.specs.Nodeless.{NoneLive}
 use Rattle.key_cells.specs.Steps.{cell_steps}
 
@@ -105,9 +105,13 @@ module _ (c : Keyed) where
       (each_of c.count (λ i. has_pair readings (cell_place key i) (wanted t i)) &&
       has_pair readings (lock_place key) t.word))
 
+  -- the operation is get, ins or del, of a key below the bound
+  abbrev pub serves_key : Op → Bool
+  serves_key op = is_format_1 op && nat_lt (key_of op) c.keys
+
   abbrev pub key_fits : Op → Readings → Thunk → Bool
   key_fits op readings t =
-      nat_lt (key_of op) c.keys && (was_read (key_of op) readings t && is_for op (c.held (wanted t)) t)
+      serves_key op && (was_read (key_of op) readings t && is_for op (c.held (wanted t)) t)
 
   -- what a key has in these cells
   abbrev pub held_in : Cells → ℕ → Option ℕ

@@ -1,7 +1,7 @@
 //! Whether a thunk is the one for its readings.
 ghost use Rattle.std.specs.Prelude.{◌≡◌, ◌+◌, ◌<◌, ◌==◌, ◌||◌, nat_lt};
 ghost use Rattle.runner_parts.specs.Tests.{has_pair};
-ghost use Rattle.shared_laws.specs.AtKey.{left_at};
+ghost use Rattle.map_history.specs.AtKey.{left_at};
 ghost use Rattle.key_cells.specs.Keyed.{cell_place, each_of, wanted, new_of, was_read, is_for, key_fits};
 
 use crate::cells::KeyCells;
@@ -14,7 +14,7 @@ use shared_laws::{changes_at, left_at, reply_at};
 pub fn key_fits<C: KeyCells>(cells: &C, op: Op, readings: &[(Place, Word)], thunk: &Thunk) -> bool
     ensures { result ≡ key_fits (C.keyed cells.now) op readings.now thunk.now }
 {
-    if op.key() >= cells.keys() {
+    if op.least_format() != 1 || op.key() >= cells.keys() {
         return false;
     }
     was_read(cells, op.key(), readings, thunk)

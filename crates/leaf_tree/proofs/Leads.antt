@@ -5,6 +5,7 @@ use Rattle.std.proofs.lemmas.Bool.Decides.{nat_tests}
 use Rattle.std.proofs.lemmas.Bool.{true≢false}
 use Rattle.small_lemmas.proofs.Bools.{false_not_true as false_true}
 use Rattle.map_history.specs.declared.op.Op.{Op}
+use Rattle.map_history.specs.Keys.{is_format_1}
 use Rattle.body_terms.specs.Word.{value_of, version_of, pack, is_free, is_spent}
 use Rattle.structure_laws.proofs.Changes.{equal_of}
 use Rattle.table_words.specs.declared.layout.Layout.{Layout}
@@ -55,7 +56,7 @@ by_reading false false one free spent true true busy used stale too_far by_lock 
 by_reading false false one free spent true false busy used stale too_far by_lock by_mark is_far = absurd (false_true (is_far refl refl refl))
 by_reading false false one free spent false far busy used stale too_far by_lock by_mark is_far = refl
 
-module _ (layout : Layout) (op : Op) (far : FarLaw layout op) where
+module _ (layout : Layout) (op : Op) (served : is_format_1 op ≡ true) (far : FarLaw layout op) where
   abbrev first : LeafWalk
   first = record { walk = first_walk layout op }
 
@@ -63,7 +64,7 @@ module _ (layout : Layout) (op : Op) (far : FarLaw layout op) where
   walked readings = walk_of layout op readings
 
   its : WalkLeads layout op
-  its = walk_leads layout op
+  its = walk_leads layout op served
 
   here : (readings : Readings) → IsLedBy tree_way first readings → fed_all tree_way first readings ≡ walked_by first readings
   here readings led = followed_led tree_way first readings led ∙ in_readings first readings

@@ -26,8 +26,7 @@ impl Planner for LeafTree {
     ghost planning = { λ s. tree_planning };
 
     fn serves(&self, op: Op) -> bool {
-        let _ = op;
-        true
+        op.least_format() == 1
     }
 
     fn walk(&self, layout: Layout, op: Op) -> LeafWalk {

@@ -5,15 +5,15 @@ use Rattle.std.specs.FinMap.{empty, len, len-empty}
 use Rattle.std.specs.List.{enumerate_from, filter_map, range_with_len, sum_by, zip}
 use Rattle.std.specs.Ordering.{nat_cmp}
 use Rattle.std.proofs.lemmas.Bool.Decides.{nat_tests}
-use Rattle.std.proofs.lemmas.List.Elements.{All-contains, All-cons, All-get_or, All-nil, All-weaker}
+use Rattle.std.proofs.lemmas.List.Elements.{All-contains, All-cons, All-get_or, All-map, All-nil, All-weaker, Contains-get_or}
 use Rattle.std.proofs.lemmas.List.{get_or-map, length-map}
 use Rattle.std.proofs.lemmas.List.Kept.{AllPairs-cons, AllPairs-filter}
 use Rattle.std.proofs.lemmas.List.Sorted.{Contains-permutation, IsPermutation-sym, sum_by-IsPermutation}
 use Rattle.std.proofs.lemmas.List.Sums.{sum_by-cons}
 use Rattle.map_history.specs.declared.op.Entry.{Entry}
 use Rattle.map_history.specs.declared.op.Request.{Request}
-use Rattle.map_history.specs.History.{Answered, IsLegalFrom}
-use Rattle.map_history.specs.Keys.{key_of}
+use Rattle.map_history.specs.History.{Answered, AreOneKeyed, IsLegalFrom}
+use Rattle.map_history.specs.Keys.{key_of, IsOneKeyed}
 use Rattle.map_history.specs.Replay.{map_after_all, replies_of}
 use Rattle.history_orders.specs.Turns.{comes_before}
 use Rattle.history_orders.proofs.Entries.{contains_behind, contains_front}
@@ -166,12 +166,26 @@ module _ (requests : List Request) (traces : ℕ) (entries : List (Option Entry)
   abbrev alone : ℕ → List Answered
   alone t = map answered_by (at trace_of t legal.history)
 
+  -- each request is apart
+  own : (x : Entered) → Contains legal.history x → IsOneKeyed x.request.op × (x.request.trace ≡ key_of x.request.op % traces)
+  own x there = each (λ q. IsOneKeyed q.op × (q.trace ≡ key_of q.op % traces)) apart x (Contains-permutation legal.history xs x (IsPermutation-sym xs legal.history legal.all) there)
+
+  one_keyed : (ys : List Entered) → ((x : Entered) → Contains ys x → Contains legal.history x) → AreOneKeyed (map answered_by ys)
+  one_keyed ys among = All-map (λ (a : Answered). IsOneKeyed a.op) answered_by ys (λ k d inside. (own (get_or ys k d) (among (get_or ys k d) (Contains-get_or ys k d inside))).0)
+
+  history_one_keyed : AreOneKeyed (map answered_by legal.history)
+  history_one_keyed = one_keyed legal.history (λ x there. there)
+
+  alone_one_keyed : (t : ℕ) → AreOneKeyed (alone t)
+  alone_one_keyed t = one_keyed (at trace_of t legal.history) (λ x there. (part_contains (λ x. trace_of x == t) x legal.history there).0)
+
   alone_legal : (t : ℕ) → IsLegalFrom empty (alone t)
   alone_legal t =
-      subst (IsLegalFrom empty)
-      (sym (on_trace traces t legal.history
-      (λ x there. each (λ q. q.trace ≡ key_of q.op % traces) apart x (Contains-permutation legal.history xs x (IsPermutation-sym xs legal.history legal.all) there))))
-      (part_legal (λ key. key % traces) t (map answered_by legal.history) legal.replies)
+      subst (IsLegalFrom empty) (sym same)
+      (part_legal (λ key. key % traces) t (map answered_by legal.history) history_one_keyed (subst AreOneKeyed same (alone_one_keyed t)) legal.replies)
+    where
+      same : alone t ≡ on_part (λ key. key % traces) t (map answered_by legal.history)
+      same = on_trace traces t legal.history (λ x there. (own x there).1)
 
   alone_ops : (t : ℕ) → map (λ (a : Answered). a.op) (alone t) ≡ ops_of_trace requests t
   alone_ops t =
@@ -212,14 +226,14 @@ module _ (requests : List Request) (traces : ℕ) (entries : List (Option Entry)
 
   balance : (t : ℕ) → left t + count_by (replied kinds.Gone) (at trace_of t xs) ≡ count_by (replied kinds.New) (at trace_of t xs)
   balance t =
-      let pairs = legal_pairs empty (alone t) (alone_legal t) in
+      let pairs = legal_pairs empty (alone t) (alone_one_keyed t) (alone_legal t) in
       let none = len-empty nat_cmp ℕ in
       let ops = ap (λ ops. len (map_after_all empty ops)) (alone_ops t) in
       omega (arith, pairs, none, ops, alone_count kinds.Gone t, alone_count kinds.New t)
 
   whole : size + count_by (replied kinds.Gone) xs ≡ count_by (replied kinds.New) xs
   whole =
-      let pairs = legal_pairs empty (map answered_by legal.history) legal.replies in
+      let pairs = legal_pairs empty (map answered_by legal.history) history_one_keyed legal.replies in
       let none = len-empty nat_cmp ℕ in
       let ops = ap (λ ops. len (map_after_all empty ops)) (mapped_twice answered_by (λ (a : Answered). a.op) legal.history) in
       let gone = count_map (λ (a : Answered). is_of kinds.Gone a.reply) answered_by legal.history ∙ sum_by-IsPermutation (λ x. cond (replied kinds.Gone x) 1 0) xs legal.history legal.all in

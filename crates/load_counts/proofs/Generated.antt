@@ -8,7 +8,9 @@ use Rattle.std.proofs.lemmas.Nat.{mod-mul-add}
 use Rattle.std.proofs.Math.Nat.{div-lt_iff_lt-mul}
 use Rattle.map_history.specs.declared.op.Op.TheVariants.{Get, Ins, Del}
 use Rattle.map_history.specs.declared.op.Request.{Request}
-use Rattle.map_history.specs.Keys.{key_of}
+use Rattle.map_history.specs.Keys.{key_of, IsOneKeyed}
+use Rattle.map_history.proofs.Cells.{format_1_one_keyed}
+use Rattle.trace_reader.proofs.Generated.{op_format}
 use Rattle.trace_reader.specs.Generator.{generated, generated_at, key_by, op_by, output_at}
 use Rattle.trace_reader.specs.declared.generator.Gen.{Gen}
 use Rattle.load_counts.specs.Apart.{AreApart}
@@ -40,10 +42,11 @@ module _ (plan : Gen) (own : plan.apart ≡ true) where
       ∙ sym (ap (λ key. key % plan.traces) (key_of_op (output_at plan.seed (2 * number)) (key_by plan (number / plan.length) (output_at plan.seed (2 * number + 1)))))
 
   pub generated_apart : AreApart (generated plan) plan.traces
-  generated_apart = All-map (λ (q : Request). q.trace ≡ key_of q.op % plan.traces) (generated_at plan) (range_with_len 0 (plan.traces * plan.length)) each
+  generated_apart = All-map (λ (q : Request). IsOneKeyed q.op × (q.trace ≡ key_of q.op % plan.traces)) (generated_at plan) (range_with_len 0 (plan.traces * plan.length)) each
     where
-      each : All (λ (n : ℕ). (generated_at plan n).trace ≡ key_of (generated_at plan n).op % plan.traces) (range_with_len 0 (plan.traces * plan.length))
+      each : All (λ (n : ℕ). IsOneKeyed (generated_at plan n).op × ((generated_at plan n).trace ≡ key_of (generated_at plan n).op % plan.traces)) (range_with_len 0 (plan.traces * plan.length))
       each k d inside =
           let few : k < plan.traces * plan.length = omega (arith, inside, length-range_with_len 0 (plan.traces * plan.length)) in
           let there : get_or (range_with_len 0 (plan.traces * plan.length)) k d ≡ k = get_or-range_with_len 0 (plan.traces * plan.length) k d few ∙ zero-add k in
-          subst (λ (n : ℕ). (generated_at plan n).trace ≡ key_of (generated_at plan n).op % plan.traces) (sym there) (tells k few)
+          subst (λ (n : ℕ). IsOneKeyed (generated_at plan n).op × ((generated_at plan n).trace ≡ key_of (generated_at plan n).op % plan.traces)) (sym there)
+          (format_1_one_keyed (generated_at plan k).op (op_format (output_at plan.seed (2 * k)) (key_by plan (k / plan.length) (output_at plan.seed (2 * k + 1)))), tells k few)

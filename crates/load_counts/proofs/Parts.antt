@@ -7,11 +7,11 @@ use Rattle.std.proofs.lemmas.Bool.Decides.{nat_tests}
 use Rattle.std.proofs.lemmas.Cmp.{nat_cmp_total}
 use Rattle.std.proofs.lemmas.List.Sums.{sum_by-cons}
 use Rattle.map_history.specs.declared.op.Op.{Op}
-use Rattle.map_history.specs.declared.op.Op.TheVariants.{Get, Ins, Del}
+use Rattle.map_history.specs.declared.op.Op.TheVariants.{Get, Ins, Del, Put, Mov}
 use Rattle.map_history.specs.declared.reply.Reply.TheVariants as replies
-use Rattle.map_history.specs.History.{Answered, IsLegalFrom, on_key}
-use Rattle.map_history.specs.Keys.{key_of}
-use Rattle.map_history.specs.Replay.{Pairs, found, map_after, map_after_all, replies_of, reply_of}
+use Rattle.map_history.specs.History.{Answered, AreOneKeyed, IsLegalFrom, on_key}
+use Rattle.map_history.specs.Keys.{key_of, IsOneKeyed}
+use Rattle.map_history.specs.Replay.{Pairs, found, replaced, map_after, map_after_all, replies_of, reply_of}
 use Rattle.map_history.proofs.ByKey.{by_key}
 use Rattle.load_counts.specs.Counts.{is_of}
 use Rattle.load_counts.specs.declared.counts.Kind.TheVariants as kinds
@@ -40,15 +40,15 @@ on_one part t key (x ∷ xs) mine is = by (on_one part t key xs) (part (key_of x
     by again false first false second mine is = again mine is
 
 -- so the part is legal
-pub part_legal : (part : ℕ → ℕ) (t : ℕ) (history : List Answered) → IsLegalFrom empty history → IsLegalFrom empty (on_part part t history)
-part_legal part t history legal = (by_key empty (on_part part t history)).1 (λ key. each key (part key == t) refl)
+pub part_legal : (part : ℕ → ℕ) (t : ℕ) (history : List Answered) → AreOneKeyed history → AreOneKeyed (on_part part t history) → IsLegalFrom empty history → IsLegalFrom empty (on_part part t history)
+part_legal part t history one own legal = (by_key empty (on_part part t history) own).1 (λ key. each key (part key == t) refl)
   where
     nothing : (key : ℕ) (mine : Bool) → IsLegalFrom empty (on_key key history) → IsLegalFrom empty (cond mine (on_key key history) [])
     nothing key true there = there
     nothing key false there = tt
 
     each : (key : ℕ) (mine : Bool) → (part key == t) ≡ mine → IsLegalFrom empty (on_key key (on_part part t history))
-    each key mine is = subst (IsLegalFrom empty) (sym (on_one part t key history mine is)) (nothing key mine ((by_key empty history).0 legal key))
+    each key mine is = subst (IsLegalFrom empty) (sym (on_one part t key history mine is)) (nothing key mine ((by_key empty history one).0 legal key))
 
 -- a legal history has the map's replies
 pub legal_replies : (pairs : Pairs) (history : List Answered) → IsLegalFrom pairs history
@@ -83,28 +83,35 @@ some_pair pairs key is = by (len pairs) refl
         absurd (true≢false (sym is ∙ nothing))
     by (suc count) some = omega arith
 
-one_step : (pairs : Pairs) (op : Op) → len (map_after pairs op) + one_if (is_of kinds.Gone (reply_of pairs op)) ≡ len pairs + one_if (is_of kinds.New (reply_of pairs op))
-one_step pairs (Get key) = let none = looked (get pairs key) in omega (arith, none.0, none.1)
-one_step pairs (Ins key value) = by (contains_key pairs key) refl
+one_step : (pairs : Pairs) (op : Op) → IsOneKeyed op → len (map_after pairs op) + one_if (is_of kinds.Gone (reply_of pairs op)) ≡ len pairs + one_if (is_of kinds.New (reply_of pairs op))
+one_step pairs (Get key) one = let none = looked (get pairs key) in omega (arith, none.0, none.1)
+one_step pairs (Ins key value) one = by (contains_key pairs key) refl
   where
     by : (b : Bool) → contains_key pairs key ≡ b
         → len (cond b pairs (insert pairs key value)) + one_if (is_of kinds.Gone (cond b replies.Dup replies.New)) ≡ len pairs + one_if (is_of kinds.New (cond b replies.Dup replies.New))
     by true is = omega arith
     by false is = omega (arith, len-insert nat_cmp_total pairs key value ∙ ap (λ b. cond b (len pairs) (len pairs + 1)) is)
-one_step pairs (Del key) = by (contains_key pairs key) refl
+one_step pairs (Del key) one = by (contains_key pairs key) refl
   where
     by : (b : Bool) → contains_key pairs key ≡ b
         → len (remove pairs key) + one_if (is_of kinds.Gone (cond b replies.Gone replies.Absent)) ≡ len pairs + one_if (is_of kinds.New (cond b replies.Gone replies.Absent))
     by true is = omega (arith, some_pair pairs key is, len-remove nat_cmp_total pairs key ∙ ap (λ b. cond b (len pairs - 1) (len pairs)) is)
     by false is = omega (arith, len-remove nat_cmp_total pairs key ∙ ap (λ b. cond b (len pairs - 1) (len pairs)) is)
+one_step pairs (Put key value) one = by (get pairs key) refl
+  where
+    by : (had : Option ℕ) → get pairs key ≡ had
+        → len (insert pairs key value) + one_if (is_of kinds.Gone (replaced had)) ≡ len pairs + one_if (is_of kinds.New (replaced had))
+    by None is = omega (arith, len-insert nat_cmp_total pairs key value ∙ ap (λ (o : Option ℕ). cond (is_some o) (len pairs) (len pairs + 1)) is)
+    by (Some old) is = omega (arith, len-insert nat_cmp_total pairs key value ∙ ap (λ (o : Option ℕ). cond (is_some o) (len pairs) (len pairs + 1)) is)
+one_step pairs (Mov from to) one = absurd (let z = one in cc)
 
 -- the pairs that a legal history leaves
-pub legal_pairs : (pairs : Pairs) (history : List Answered) → IsLegalFrom pairs history
+pub legal_pairs : (pairs : Pairs) (history : List Answered) → AreOneKeyed history → IsLegalFrom pairs history
     → len (map_after_all pairs (map (λ (x : Answered). x.op) history)) + taken history ≡ len pairs + added history
-legal_pairs pairs [] legal = refl
-legal_pairs pairs (x ∷ xs) legal =
-    let rest = legal_pairs (map_after pairs x.op) xs legal.1 in
-    let step = one_step pairs x.op in
+legal_pairs pairs [] one legal = refl
+legal_pairs pairs (x ∷ xs) one legal =
+    let rest = legal_pairs (map_after pairs x.op) xs (λ k d low. one (suc k) d (omega (arith, low))) legal.1 in
+    let step = one_step pairs x.op (one 0 x (omega arith)) in
     let gone = ap (λ r. one_if (is_of kinds.Gone r)) legal.0 in
     let new = ap (λ r. one_if (is_of kinds.New r)) legal.0 in
     omega (

@@ -6,7 +6,7 @@ use Rattle.map_history.specs.declared.op.Entry.{Entry}
 use Rattle.map_history.specs.declared.op.Op.{Op}
 use Rattle.map_history.specs.declared.op.Request.{Request}
 use Rattle.map_history.specs.declared.reply.Reply.{Reply}
-use Rattle.map_history.specs.Keys.{key_of}
+use Rattle.map_history.specs.Keys.{key_of, IsOneKeyed}
 use Rattle.map_history.specs.Replay.{map_after_all, replies_of}
 use Rattle.trace_reader.specs.Generator.{generated}
 use Rattle.trace_reader.specs.declared.generator.Gen.{Gen}
@@ -27,9 +27,10 @@ abbrev pub pairs_alone : List Request → ℕ → ℕ
 pairs_alone requests traces =
     sum_by (λ trace. len (map_after_all empty (ops_of_trace requests trace))) (range_with_len 0 traces)
 
--- a request's key tells its trace
+-- each request has one key, which tells its trace
 abbrev pub AreApart : List Request → ℕ → Type 0
-AreApart requests traces = All (λ (request : Request). request.trace ≡ key_of request.op % traces) requests
+AreApart requests traces =
+    All (λ (request : Request). IsOneKeyed request.op × (request.trace ≡ key_of request.op % traces)) requests
 
 -- how many requests have no entry
 abbrev pub unserved_in : List (Option Entry) → ℕ

@@ -1,6 +1,6 @@
 //! A worker's requests from plan to answer.
-ghost use Rattle.std.specs.Prelude.{◌≡◌, ◌+◌, ◌<◌, length, true, Some, IfOk, IfSome, slice_get};
-ghost use Rattle.map_history.specs.declared.op.Op.{Op as Operation};
+ghost use Rattle.std.specs.Prelude.{◌≡◌, ◌+◌, ◌<◌, length, true, All, Some, IfOk, IfSome, slice_get};
+ghost use Rattle.map_history.specs.declared.op.Request.{Request};
 ghost use Rattle.runner_parts.specs.Tests.{is_answered};
 ghost use Rattle.closed_words.specs.version_words.specs.TableState.{IsOf};
 ghost use Rattle.attempts.specs.epoch_slots.specs.Collects.{IsTidy};
@@ -175,7 +175,8 @@ pub fn serve_in_turn<S: Planner>(
     requires alone { IsOnlyWorker runner }
     requires all { requests.now ≡ table.now.requests }
     requires before { HasServed 0 runner }
-    requires served { (op : Operation) → (S.planning table.now.structure).serves op ≡ true }
+    requires served { All (λ (request : Request). (S.planning table.now.structure).serves request.op ≡ true)
+        requests.now }
     ensures own { IfOk result (λ x. IsOf table.now x.0) }
     ensures number { IfOk result (λ x. x.0.number ≡ runner.number) }
 {

@@ -1,12 +1,13 @@
 -- The map that a list of entries makes: what it has at a key, how many pairs it has, and what one changed key makes of it.
-use Rattle.std.proofs.Common.{◌≡◌, ℕ, Bool, true, false, cond, List, [], ◌∷◌, Option, None, Some, is_some, length, refl, sym, ap, ◌∙◌, arith, ◌+◌, ◌-◌, if◌then◌else◌}
+use Rattle.std.proofs.Common.{◌≡◌, ℕ, Bool, true, false, cond, List, [], ◌∷◌, Option, None, Some, is_some, length, refl, sym, ap, ◌∙◌, arith, ◌+◌, ◌-◌, ◌==◌, if◌then◌else◌}
 use Rattle.std.specs.Ordering.{nat_cmp}
 use Rattle.std.specs.Cmp.{nat_cmp_total, eq_by_cmp_equiv}
 use Rattle.std.specs.Map.{lookup}
 use Rattle.std.specs.BTreeMap.{is_at}
 use Rattle.std.specs.FinMap.{find, get, insert, remove, contains_key, from_entries, get-from_entries, get-insert, get-remove, len, len-empty, len-insert, len-remove}
-use Rattle.map_history.specs.Replay.{Pairs}
-use Rattle.map_history.proofs.Cells.{same_pairs}
+use Rattle.map_history.specs.declared.reply.Reply.TheVariants.{New, Dup, Val}
+use Rattle.map_history.specs.Replay.{Pairs, found, after_move}
+use Rattle.map_history.proofs.Cells.{same_pairs, get-insert_key, get-remove_key}
 
 -- the map of these entries
 abbrev pub pairs_of : List (ℕ × ℕ) → Pairs
@@ -58,10 +59,46 @@ pub len-added : (pairs : Pairs) (key value count : ℕ) → contains_key pairs k
 len-added pairs key value count absent counted =
     len-insert nat_cmp_total pairs key value ∙ ap (λ b. cond b (len pairs) (len pairs + 1)) absent ∙ ap (λ n. n + 1) counted
 
+-- the count after a key got a value, by what it had
+pub len-set : (pairs : Pairs) (key value count : ℕ) (had : Option ℕ) → get pairs key ≡ had → len pairs ≡ count
+    → len (insert pairs key value) ≡ count + cond (is_some had) 0 1
+len-set pairs key value count had has counted =
+    len-insert nat_cmp_total pairs key value ∙ (ap (λ (o : Option ℕ). cond (is_some o) (len pairs) (len pairs + 1)) has ∙ by (is_some had))
+  where
+    by : (b : Bool) → cond b (len pairs) (len pairs + 1) ≡ count + cond b 0 1
+    by true = omega (arith, counted)
+    by false = omega (arith, counted)
+
 -- and after one was taken out, where there was one
 pub len-removed : (pairs : Pairs) (key count after : ℕ) (there : Bool) → contains_key pairs key ≡ there → len pairs ≡ count → after + cond there 1 0 ≡ count → len (remove pairs key) ≡ after
 len-removed pairs key count after true here counted e = len-remove nat_cmp_total pairs key ∙ ap (λ b. cond b (len pairs - 1) (len pairs)) here ∙ omega arith
 len-removed pairs key count after false here counted e = len-remove nat_cmp_total pairs key ∙ ap (λ b. cond b (len pairs - 1) (len pairs)) here ∙ omega arith
+
+-- a pair that is added, and another that is taken out, make a move
+pub moved_pairs : (pairs after : Pairs) (from to value : ℕ) → found (get pairs from) ≡ Val value
+    → New ≡ (if contains_key pairs to then Dup else New) → after ≡ (if contains_key pairs to then pairs else insert pairs to value)
+    → remove after from ≡ after_move pairs from to (get pairs from) (get pairs to)
+moved_pairs pairs after from to value = by (get pairs from) (get pairs to) refl refl
+  where
+    by : (had there : Option ℕ) → get pairs from ≡ had → get pairs to ≡ there → found had ≡ Val value → New ≡ cond (is_some there) Dup New
+        → after ≡ cond (is_some there) pairs (insert pairs to value) → remove after from ≡ after_move pairs from to had there
+    by None there has hasnt reply new is = absurd (cc)
+    by (Some v) (Some u) has hasnt reply new is = absurd (cc)
+    by (Some v) None has hasnt reply new is = ap (λ (m : Pairs). remove m from) is ∙ same_pairs _ _ (λ q.
+        get-remove_key (insert pairs to value) from q ∙ ap (cond (q == from) None) (get-insert_key pairs to value q)
+        ∙ (turned q (get pairs) has hasnt
+        ∙ sym (get-insert_key (remove pairs from) to v q ∙ ap (cond (q == to) (Some v)) (get-remove_key pairs from q))))
+      where
+        same_value : value ≡ v
+        same_value = cc
+
+        turned : (q : ℕ) (f : ℕ → Option ℕ) → f from ≡ Some v → f to ≡ None
+            → cond (q == from) None (cond (q == to) (Some value) (f q)) ≡ cond (q == to) (Some v) (cond (q == from) None (f q))
+        turned q f has hasnt = ap (λ n. cond (q == from) None (cond (q == to) (Some n) (f q))) same_value ∙ either q f has hasnt
+          where
+            either : (q : ℕ) (f : ℕ → Option ℕ) → f from ≡ Some v → f to ≡ None
+                → cond (q == from) None (cond (q == to) (Some v) (f q)) ≡ cond (q == to) (Some v) (cond (q == from) None (f q))
+            either q f has hasnt = grind arith
 
 -- either choice, by a test that is known
 pub chosen : {A : Type 0} {b there : Bool} (x y : A) → b ≡ there → (if b then x else y) ≡ (if there then x else y)

@@ -3,3 +3,5 @@ pub mod Cells
 pub mod Commuting
 pub mod Entries
 pub mod Sizes
+pub mod Values
+pub mod Words

@@ -1,3 +1,4 @@
+pub mod AtKey
 pub mod History
 pub mod Keys
 pub mod Replay

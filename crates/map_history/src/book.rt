@@ -1,8 +1,8 @@
 // The map that answers one request after another.
 ghost use Rattle.std.specs.Prelude.{◌≡◌, ◌↔◌, ◌+◌, ◌≤◌, false, IsTrue, IfOk, OnOk, OnErr, if◌then◌else◌};
 ghost use Rattle.std.specs.FinMap as map;
-ghost use Rattle.map_history.specs.Replay.{found, reply_of, map_after, Grows};
-ghost use Rattle.map_history.specs.declared.reply.Reply.TheVariants.{New, Dup, Gone, Absent};
+ghost use Rattle.map_history.specs.Replay.{found, replaced, moved, after_move, reply_of, map_after, Grows};
+ghost use Rattle.map_history.specs.declared.reply.Reply.TheVariants.{New, Dup, Gone, Absent, Moved};
 
 use crate::{Op, Reply};
 use std::alloc::{AllocError, Global};
@@ -55,6 +55,8 @@ impl Book {
             Op::Get(key) => Ok(self.get(key)),
             Op::Ins(key, value) => self.insert(key, value),
             Op::Del(key) => Ok(self.remove(key)),
+            Op::Put(key, value) => self.set(key, value),
+            Op::Mov(from, to) => self.shift(from, to),
         }
     }
 
@@ -79,6 +81,38 @@ impl Book {
         }
         self.pairs.insert(key, value)?;
         Ok(Reply::New)
+    }
+
+    fn set(&mut self, key: u32, value: u32) -> Result<Reply, AllocError>
+        ensures reply { IfOk result (λ reply. reply ≡ replaced (map.get self.old key)) }
+        ensures ok { OnOk result (self.new ≡ map.insert self.old key value) }
+        ensures err { OnErr result (self.new ≡ self.old) }
+        ensures cause { OnErr result (map.contains_key self.old key ≡ false) }
+    {
+        match self.pairs.insert(key, value)? {
+            Some(old) => Ok(Reply::Was(old)),
+            None => Ok(Reply::New),
+        }
+    }
+
+    // The pair is added before the other is taken out, so that want of memory changes nothing.
+    fn shift(&mut self, from: u32, to: u32) -> Result<Reply, AllocError>
+        ensures reply { IfOk result (λ reply. reply ≡ moved (map.get self.old from) (map.get self.old to)) }
+        ensures ok { OnOk result (self.new
+            ≡ after_move self.old from to (map.get self.old from) (map.get self.old to)) }
+        ensures err { OnErr result (self.new ≡ self.old) }
+        ensures cause { OnErr result (moved (map.get self.old from) (map.get self.old to) ≡ Moved) }
+    {
+        let Reply::Val(value) = self.get(from) else {
+            return Ok(Reply::Absent);
+        };
+        match self.insert(to, value)? {
+            Reply::New => {
+                self.remove(from);
+                Ok(Reply::Moved)
+            }
+            _ => Ok(Reply::Dup),
+        }
     }
 
     fn remove(&mut self, key: u32) -> Reply

@@ -18,10 +18,14 @@ pub enum Reply {
     Gone,
     /// The key isn't there.
     Absent,
+    /// The key has the new value; before it had this one.
+    Was(u32),
+    /// The value stands at the second key now.
+    Moved,
 }
 
 impl Reply {
-    /// The reply as one word: a code from 1 to 5 in the high half, and the value in the low half.
+    /// The reply as one word: a code from 1 to 7 in the high half, and the value in the low half.
     pub fn word(self) -> u64
         ensures { result ≡ word_of self }
     {
@@ -31,6 +35,8 @@ impl Reply {
             Reply::Val(value) => 3 * CODE + u64::from(value),
             Reply::Gone => 4 * CODE,
             Reply::Absent => 5 * CODE,
+            Reply::Was(value) => 6 * CODE + u64::from(value),
+            Reply::Moved => 7 * CODE,
         }
     }
 
@@ -46,6 +52,8 @@ impl Reply {
             (3, _) => Some(Reply::Val(value)),
             (4, 0) => Some(Reply::Gone),
             (5, 0) => Some(Reply::Absent),
+            (6, _) => Some(Reply::Was(value)),
+            (7, 0) => Some(Reply::Moved),
             _ => None,
         }
     }

@@ -9,8 +9,8 @@ use Rattle.std.proofs.lemmas.Option.{none-some}
 use Rattle.small_lemmas.proofs.Lists.{none_if_never as none_is}
 use Rattle.small_lemmas.proofs.Numbers.{equal_tested as equal_number, other_tested as other_number}
 use Rattle.map_history.specs.declared.op.Op.{Op}
-use Rattle.map_history.specs.declared.op.Op.TheVariants.{Get, Ins, Del}
-use Rattle.map_history.specs.Keys.{key_of}
+use Rattle.map_history.specs.declared.op.Op.TheVariants.{Ins}
+use Rattle.map_history.specs.Keys.{key_of, value_given}
 use Rattle.map_history.specs.Replay.{Pairs, map_after}
 use Rattle.body_terms.specs.Update.{upd}
 use Rattle.body_terms.specs.Word.{value_of, next_word}
@@ -31,6 +31,7 @@ use Rattle.tree_laws.specs.bucket_laws.proofs.Fit.{IsFit, fit_of, insert_operand
 use Rattle.tree_laws.specs.bucket_laws.proofs.Maps.{read_reply, insert_reply, remove_reply, read_map, insert_map, remove_map}
 use Rattle.tree_laws.specs.bucket_laws.proofs.NodeChanges.{head_changed, next_changed, none_changed}
 use Rattle.tree_laws.specs.bucket_laws.proofs.TableKeeps.{chains_agree}
+use Rattle.tree_laws.specs.bucket_laws.proofs.TableLaws.{form_cases}
 use Rattle.tree_laws.specs.bucket_laws.proofs.TableTurn.{upd_within, upd_on}
 use Rattle.tree_laws.specs.bucket_laws.proofs.Walks.{wanted_eq, head_is, reached_on, knows_fed, is_first, edition_kept}
 use Rattle.plain_laws.specs.Runs.{cells_of, HasSmallNumbers, AreRead, bucket, HasContents, IsWalked, IsUnspent, IsOut, DoesTheOperation, RunsDoTheOperations}
@@ -97,14 +98,6 @@ remove_body t form fits =
 
     apart_2 : (n : ℕ) → n ≡ 3 → n ≡ 2 → ⊥
     apart_2 n e f = omega arith
-
--- the form of an operation's thunk
-form_cases : (op : Op) (found : Bool) → (form_for op found ≡ 1) ⊎ (form_for op found ≡ 2) ⊎ (form_for op found ≡ 3)
-form_cases (Get key) found = inl refl
-form_cases (Ins key value) true = inl refl
-form_cases (Ins key value) false = inr (inl refl)
-form_cases (Del key) true = inr (inr refl)
-form_cases (Del key) false = inl refl
 
 -- the bucket of a key is one of the buckets
 bucket_within : (bits key : ℕ) → bits ≤ 12 → bucket_index key bits < 2 ^ bits
@@ -263,7 +256,7 @@ module _ (bits slots request : ℕ) (memory : PlainMemory) (pairs : Pairs) (op :
     none = looks_missing (insert_operands op x x.found form).0
 
     small_numbers : (named.0 < 2 ^ 32) × (named.1 < 2 ^ 32)
-    small_numbers = subst HasSmallNumbers named.2 numbers
+    small_numbers = (numbers.keys named.0 (inl (ap key_of named.2)), numbers.value named.1 (ap value_given named.2))
 
     key_small : operand thunk 1 < 2 ^ 32
     key_small = subst (λ n. n < 2 ^ 32) (sym named.3) small_numbers.0
@@ -524,4 +517,4 @@ runs_do_the_operations bits slots request memory pairs op thunk contents numbers
     (λ more. ⊎_elim
     (λ two. insert_case bits slots request memory pairs op thunk contents numbers walked unspent two (free (form ∙ two)))
     (λ three. remove_case bits slots request memory pairs op thunk contents numbers walked unspent three) more)
-    (form_cases op walked_found)
+    (form_cases op walked_found (fit bits slots request memory pairs op thunk contents numbers walked unspent).served)

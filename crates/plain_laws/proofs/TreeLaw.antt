@@ -7,8 +7,8 @@ use Rattle.std.proofs.lemmas.Bool.{cases_eq, and_from, both_ways}
 use Rattle.small_lemmas.proofs.Bools.{from_false as false_true}
 use Rattle.small_lemmas.proofs.Numbers.{equal_tested as eq_true, other_tested as eq_false}
 use Rattle.map_history.specs.declared.op.Op.{Op}
-use Rattle.map_history.specs.declared.op.Op.TheVariants.{Get, Ins, Del}
-use Rattle.map_history.specs.Keys.{key_of}
+use Rattle.map_history.specs.declared.op.Op.TheVariants.{Get, Ins, Del, Put, Mov}
+use Rattle.map_history.specs.Keys.{key_of, value_given}
 use Rattle.map_history.specs.Replay.{Pairs, map_after, reply_of}
 use Rattle.map_history.specs.Words.{word_of}
 use Rattle.map_history.specs.declared.reply.Reply.TheVariants.{New, Dup, Gone, Absent}
@@ -84,6 +84,8 @@ unchanged pairs (Del key) false form some none q = sym (get_removed pairs key q 
   where
     absent : (q key : ℕ) → get pairs key ≡ None → upd (get pairs) key None q ≡ get pairs q
     absent q key h = ⊎_elim (λ e. upd_same (get pairs) key q None e ∙ (sym h ∙ ap (get pairs) (sym e))) (λ ne. upd_other (get pairs) key q None ne) (cases_eq q key)
+unchanged pairs (Put key value) there form some none q = absurd (omega (arith, form))
+unchanged pairs (Mov from to) there form some none q = absurd (omega (arith, form))
 
 module _ (slots request : ℕ) (memory : PlainMemory) (pairs : Pairs) (op : Op) (thunk : Thunk) (contents : HasContents slots memory pairs) (allowed : IsAllowed op) (walked : IsWalked memory op thunk)
     (unspent : IsUnspent memory thunk) where
@@ -258,12 +260,7 @@ module _ (slots request : ℕ) (memory : PlainMemory) (pairs : Pairs) (op : Op) 
     key_is = sym (ap key_of is.2)
 
     value_small_is : is.1 < 2 ^ 32
-    value_small_is = allowed.value is.1 (ap given is.2)
-      where
-        given : Op → Option ℕ
-        given (Get wanted) = None
-        given (Ins wanted value) = Some value
-        given (Del wanted) = None
+    value_small_is = allowed.value is.1 (ap value_given is.2)
 
     abbrev f : ℕ
     f = slice_index memory.free 0
@@ -496,6 +493,8 @@ module _ (slots request : ℕ) (memory : PlainMemory) (pairs : Pairs) (op : Op) 
     new_reply (Get new_one) k v e none = absurd (let z = e in cc)
     new_reply (Ins new_one value) k v e none = ap (λ b. word_of (if b then Dup else New)) (sym (gone pairs new_one none))
     new_reply (Del new_one) k v e none = absurd (let z = e in cc)
+    new_reply (Put key value) k v e none = absurd (let z = e in cc)
+    new_reply (Mov from to) k v e none = absurd (let z = e in cc)
 
     insert_case : Does (tree_steps thunk)
     insert_case =
@@ -669,6 +668,8 @@ module _ (slots request : ℕ) (memory : PlainMemory) (pairs : Pairs) (op : Op) 
     gone_reply (Get gone_key) k e found = absurd (let z = e in cc)
     gone_reply (Ins gone_key value) k e found = absurd (let z = e in cc)
     gone_reply (Del gone_key) k e found = ap (λ b. word_of (if b then Gone else Absent)) (sym (there pairs gone_key (n.child false l) found))
+    gone_reply (Put key value) k e found = absurd (let z = e in cc)
+    gone_reply (Mov from to) k e found = absurd (let z = e in cc)
 
     lock_word : operand thunk 3 ≡ w.lock
     lock_word = number_at 3 gone_numbers
@@ -725,7 +726,7 @@ pub runs_do_the_operations : RunsDoTheOperations
 runs_do_the_operations slots request memory pairs op thunk contents allowed walked unspent free =
     let hit = (walk walked.bounds op start walked.readings).found in
     let its_form = (fit slots request memory pairs op thunk contents allowed walked unspent).form in
-    by (cases op hit) its_form
+    by (cases op hit (fit slots request memory pairs op thunk contents allowed walked unspent).served) its_form
   where
     hits : Bool
     hits = (walk walked.bounds op start walked.readings).found

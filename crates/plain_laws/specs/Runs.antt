@@ -1,7 +1,7 @@
 -- The plain run of the hash table's body for an operation.
 use Rattle.std.specs.Prelude.{◌≡◌, ◌≢◌, ℕ, suc, ◌+◌, ◌*◌, ◌^◌, ◌<◌, ◌≤◌, [], length, slice_get, slice_index, true, false, Some}
 use Rattle.map_history.specs.declared.op.Op.{Op}
-use Rattle.map_history.specs.declared.op.Op.TheVariants.{Get, Ins, Del}
+use Rattle.map_history.specs.Keys.{DependsOn, GivesSmall}
 use Rattle.map_history.specs.Replay.{Pairs, reply_of, map_after}
 use Rattle.map_history.specs.Words.{word_of}
 use Rattle.body_terms.specs.Word.{version_of}
@@ -20,10 +20,9 @@ abbrev pub cells_of : PlainMemory → ℕ → ℕ
 cells_of memory = slice_index memory.cells
 
 -- keys and values have 32 bits
-abbrev pub HasSmallNumbers : Op → Type 0
-HasSmallNumbers (Get key) = key < 2 ^ 32
-HasSmallNumbers (Ins key value) = (key < 2 ^ 32) × (value < 2 ^ 32)
-HasSmallNumbers (Del key) = key < 2 ^ 32
+pub record HasSmallNumbers (op : Op) : Type 0 where
+  pub keys : (key : ℕ) → DependsOn op key → key < 2 ^ 32
+  pub value : GivesSmall op
 
 -- each word that was read stands at its place
 abbrev pub AreRead : (ℕ → ℕ) → Readings → Type 0

@@ -37,6 +37,14 @@ fn push_op(text: &mut Vec<u8>, op: Op) -> Result<(), AllocError>
             push_word(text, b"ins ", key)?;
             push_word(text, b" ", value)
         }
+        Op::Put(key, value) => {
+            push_word(text, b"put ", key)?;
+            push_word(text, b" ", value)
+        }
+        Op::Mov(from, to) => {
+            push_word(text, b"mov ", from)?;
+            push_word(text, b" ", to)
+        }
     }
 }
 

@@ -1,6 +1,6 @@
 // A whole trace text.
 ghost use Rattle.std.specs.Prelude.{◌≡◌, IfOk};
-ghost use Rattle.map_history.specs.Requests.{AreInOrder};
+ghost use Rattle.map_history.specs.Requests.{AreInOrder, AreOfFormat1};
 ghost use Rattle.trace_reader.specs.Answer.{AreTracesOf};
 ghost use Rattle.trace_reader.specs.Printed.{HasSmallValue, HaveSmallValues, printed};
 
@@ -11,11 +11,13 @@ use trace_reader::printed_text_is_read;
 
 /// The text of a header and of so many traces with these requests, which stand in the order of their traces.
 ///
-/// `read_traces` reads these requests from it again, and the same number of traces. The Err is want of memory.
+/// Where each request is of format 1, `read_traces` reads these requests from it again, and the same number of traces.
+/// The Err is want of memory.
 pub fn trace_text(alloc: Global, requests: &[Request], traces: u32) -> Result<Vec<u8>, AllocError>
     requires { AreInOrder requests.now traces }
     ensures text { IfOk result (λ text. text.items ≡ printed requests.now traces) }
-    ensures read { IfOk result (λ text. AreTracesOf (record { count = traces; requests = requests.now }) text.items) }
+    ensures read { IfOk result (λ text. AreOfFormat1 requests.now
+        → AreTracesOf (record { count = traces; requests = requests.now }) text.items) }
 {
     values_fit(requests);
     printed_text_is_read();
@@ -45,6 +47,8 @@ fn value_fits(op: Op)
         Op::Get(_) => {}
         Op::Ins(_, _) => {}
         Op::Del(_) => {}
+        Op::Put(_, _) => {}
+        Op::Mov(_, _) => {}
     }
 }
 

@@ -4,7 +4,7 @@ use Rattle.std.specs.List.{flat_map, range_with_len}
 use Rattle.map_history.specs.declared.op.Entry.{Entry}
 use Rattle.map_history.specs.declared.op.Request.{Request}
 use Rattle.map_history.specs.declared.reply.Reply.{Reply}
-use Rattle.map_history.specs.declared.reply.Reply.TheVariants.{New, Dup, Val, Gone, Absent}
+use Rattle.map_history.specs.declared.reply.Reply.TheVariants.{New, Dup, Val, Gone, Absent, Was, Moved}
 
 -- what a served request was answered, and its rank among all that were served
 pub record Answer : Type 0 where
@@ -38,6 +38,8 @@ reply_text Dup = codes "dup"
 reply_text (Val value) = codes "val " ++ decimal value
 reply_text Gone = codes "gone"
 reply_text Absent = codes "none"
+reply_text (Was value) = codes "was " ++ decimal value
+reply_text Moved = codes "moved"
 
 -- the bytes of a line, with the line feed that ends it
 abbrev pub line_text : Line → List ℕ

@@ -64,5 +64,10 @@ fn push_reply(line: &mut Line, reply: Reply)
         }
         Reply::Gone => line.push_str("gone"),
         Reply::Absent => line.push_str("none"),
+        Reply::Was(value) => {
+            line.push_str("was ");
+            line.push_str(Buffer::new().format(value));
+        }
+        Reply::Moved => line.push_str("moved"),
     }
 }

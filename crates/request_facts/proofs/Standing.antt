@@ -6,6 +6,7 @@ use Rattle.std.proofs.lemmas.Option.{slice_get_within, get_or_from_slice_get}
 use Rattle.std.proofs.lemmas.Bool.{and_parts}
 use Rattle.small_lemmas.proofs.Numbers.{zero_or_some as zero_or}
 use Rattle.map_history.specs.declared.op.Request.{Request}
+use Rattle.map_history.specs.Keys.{GivesSmall}
 use Rattle.map_history.specs.Words.{word_of}
 use Rattle.body_terms.specs.declared.micro.Micro.{Micro}
 use Rattle.body_terms.specs.declared.micro.Micro.TheVariants.{StampExchange}
@@ -40,7 +41,7 @@ use Rattle.reached_histories.proofs.Histories.{reached_have}
 use Rattle.reached_histories.proofs.RealTime.{reached_linearizable}
 use Rattle.request_facts.specs.Placed.{IsUnserved}
 use Rattle.request_facts.specs.Laws.{HasEntry, IsKnown, IsStamping, CallersStand, ReachedCallersStand, IsToAsk, AnsweredComeFirst}
-use Rattle.history_orders.proofs.Replies.{IsSmall, replies_small}
+use Rattle.history_orders.proofs.Replies.{replies_small}
 
 each : (xs : List Request) (i : ℕ) (x : Request) → slice_get xs i ≡ Some x → All (λ (y : Request). IsAllowed y.op) xs → IsAllowed x.op
 each xs i x at all = subst (λ (y : Request). IsAllowed y.op) (get_or_from_slice_get xs i x x at)
@@ -75,11 +76,11 @@ module _ (m : Meaning) (l : Layout) (rs : List Request) (allowed : AreAllowed rs
   sound = stands.joined.sound
 
   -- the operations give small values
-  small : (i : ℕ) (e : Stamped) → slice_get h.history i ≡ Some e → IsSmall e.op
-  small i e is = subst IsSmall (sym (stands.legal.entries.ops e (i, slice_get_within h.history i e is, get_or_from_slice_get h.history i e e is)))
+  small : (i : ℕ) (e : Stamped) → slice_get h.history i ≡ Some e → GivesSmall e.op
+  small i e is = subst GivesSmall (sym (stands.legal.entries.ops e (i, slice_get_within h.history i e is, get_or_from_slice_get h.history i e e is)))
       (by (slice_get rs e.number) refl)
     where
-      by : (o : Option Request) → slice_get rs e.number ≡ o → IsSmall (or_none o).op
+      by : (o : Option Request) → slice_get rs e.number ≡ o → GivesSmall (or_none o).op
       by None none v given = absurd (let z = given in cc)
       by (Some q) there v given = (each rs e.number q there allowed.each).value v given
 

@@ -1,62 +1,43 @@
--- A request that added a pair is an insert.
-use Rattle.std.specs.Prelude.{◌==◌, cond, Bool, true, false, if◌then◌else◌}
+-- A request whose reply says that a pair was added is one that may add.
+use Rattle.std.specs.Prelude.{cond, All, Bool, true, false, slice_get}
 use Rattle.std.proofs.Common.{◌≡◌, ◌≢◌, ℕ, zero, suc, ◌+◌, ◌<◌, ◌≤◌, List, [], ◌∷◌, length, get_or, refl, sym, ap, ◌∙◌, subst, arith, Option, Some, None}
-use Rattle.std.proofs.lemmas.Bool.Decides.{nat_tests}
 use Rattle.std.proofs.lemmas.List.Sums.{sum_by-cons}
-use Rattle.std.specs.FinMap.{get, contains_key}
-use Rattle.map_history.specs.declared.op.Op.{Op}
-use Rattle.map_history.specs.declared.op.Op.TheVariants.{Get, Ins, Del}
+use Rattle.std.proofs.lemmas.Option.{slice_get_within, slice_get_read, get_or_from_slice_get}
 use Rattle.map_history.specs.declared.op.Request.{Request}
-use Rattle.map_history.specs.declared.reply.Reply.{Reply}
-use Rattle.map_history.specs.declared.reply.Reply.TheVariants.{New, Dup, Val, Gone, Absent}
-use Rattle.map_history.specs.Replay.{Pairs, found, reply_of}
-use Rattle.map_history.specs.Words.{word_of}
+use Rattle.map_history.specs.Keys.{GivesSmall, may_add}
+use Rattle.map_history.specs.Replay.{Pairs, reply_of}
+use Rattle.map_history.specs.Words.{word_of, IsReply, adds_by}
+use Rattle.map_history.proofs.Words.{adds_some, adds_for}
 use Rattle.history_orders.specs.Stamped.{Stamped, map_of, IsReplayed}
+use Rattle.history_orders.proofs.Replies.{AreSmall, replies_small}
 use Rattle.table_words.specs.declared.layout.Layout.{Layout}
 use Rattle.table_words.specs.declared.spot.Spot.{Spot}
 use Rattle.table_words.specs.declared.spot.Spot.TheVariants as spots
 use Rattle.table_words.specs.Limits.{IsWithinLimits}
 use Rattle.structure_laws.specs.Meaning.{Meaning}
 use Rattle.structure_laws.specs.Laws.{Laws}
+use Rattle.structure_laws.specs.Sections.{IsAllowed}
 use Rattle.machine_states.specs.World.{World}
 use Rattle.machine_states.specs.Reached.{Reached}
 use Rattle.machine_states.specs.Sight.{Sight, sight}
 use Rattle.next_steps.specs.machine_invariant.specs.After.{AreAllowed}
-use Rattle.reached_histories.specs.Requests.{request_at}
+use Rattle.reached_histories.specs.Requests.{or_none, request_at}
 use Rattle.reached_histories.specs.Laws.{HasHistory}
 use Rattle.reached_histories.proofs.Histories.{reached_have}
-use Rattle.resource_bounds.specs.Makes.{added, is_insert, inserts, FewAreAdded}
-use Rattle.resource_bounds.proofs.Sections.{new_some}
+use Rattle.resource_bounds.specs.Makes.{added, inserts, FewAreAdded}
 
--- the word of no other reply is that of this one
-new_word : (r : Reply) → word_of r ≡ word_of New → r ≡ New
-new_word New e = refl
-new_word Dup e = absurd (omega (arith, e))
-new_word (Val v) e = absurd (omega (arith, e))
-new_word Gone e = absurd (omega (arith, e))
-new_word Absent e = absurd (omega (arith, e))
-
--- a map answers so to an insert alone
-new_inserts : (pairs : Pairs) (op : Op) → reply_of pairs op ≡ New → is_insert op ≡ true
-new_inserts pairs (Ins key value) e = refl
-new_inserts pairs (Get key) e = by (get pairs key) e
+-- each entry of a replayed history has the reply of some map, and it is one with a word
+replayed_reply : (history : List Stamped) → IsReplayed history → AreSmall history → (i : ℕ) (e : Stamped) → slice_get history i ≡ Some e
+    → (pairs : Pairs) × (e.reply ≡ reply_of pairs e.op) × IsReply e.reply
+replayed_reply history replayed small i e at = (of.0, of.1, replies_small history replayed small i e at)
   where
-    by : (o : Option ℕ) → found o ≡ New → is_insert (Get key) ≡ true
-    by None z = absurd (cc)
-    by (Some v) z = absurd (cc)
-new_inserts pairs (Del key) e = by (contains_key pairs key) e
-  where
-    by : (b : Bool) → (if b then Gone else Absent) ≡ New → is_insert (Del key) ≡ true
-    by true z = absurd (cc)
-    by false z = absurd (cc)
+    some_map : (history : List Stamped) → IsReplayed history → (i : ℕ) → slice_get history i ≡ Some e → (pairs : Pairs) × (e.reply ≡ reply_of pairs e.op)
+    some_map [] replayed i at = absurd (let z = at in cc)
+    some_map (x ∷ history) replayed zero at = (map_of history, subst (λ (y : Stamped). y.reply ≡ reply_of (map_of history) y.op) (let z : x ≡ e = cc in z) replayed.0)
+    some_map (x ∷ history) replayed (suc i) at = some_map history replayed.1 i at
 
--- each entry of a replayed history has the reply of some map
-replayed_reply : (history : List Stamped) → IsReplayed history → (i : ℕ) (e : Stamped) → i < length history → get_or history i e ≡ e
-    → (pairs : Pairs) × (e.reply ≡ reply_of pairs e.op)
-replayed_reply [] replayed i e low at = absurd (omega (arith, low))
-replayed_reply (x ∷ history) replayed zero e low at =
-    (map_of history, subst (λ (y : Stamped). y.reply ≡ reply_of (map_of history) y.op) at replayed.0)
-replayed_reply (x ∷ history) replayed (suc i) e low at = replayed_reply history replayed.1 i e (omega (arith, low)) at
+    of : (pairs : Pairs) × (e.reply ≡ reply_of pairs e.op)
+    of = some_map history replayed i at
 
 -- the sum over the numbers below this one
 abbrev sum_to : (ℕ → ℕ) → ℕ → ℕ
@@ -69,7 +50,7 @@ first_apart f zero = omega arith
 first_apart f (suc n) = let rest = first_apart f n in omega (arith, rest)
 
 abbrev flag_of : List Request → ℕ → ℕ
-flag_of rs i = cond (is_insert (request_at rs i).op) 1 0
+flag_of rs i = cond (may_add (request_at rs i).op) 1 0
 
 -- counted by place, and along the list
 by_place : (rs : List Request) → sum_to (flag_of rs) (length rs) ≡ inserts rs
@@ -77,22 +58,19 @@ by_place [] = refl
 by_place (x ∷ rs) =
     let apart = first_apart (flag_of (x ∷ rs)) (length rs) in
     let rest = by_place rs in
-    let sum = sum_by-cons (λ (q : Request). cond (is_insert q.op) 1 0) x rs in omega (arith, apart, rest, sum)
+    let sum = sum_by-cons (λ (q : Request). cond (may_add q.op) 1 0) x rs in omega (arith, apart, rest, sum)
 
-few_by_place : (word : Spot → ℕ) (rs : List Request) → ((i : ℕ) → word (spots.Reply i) ≡ word_of New → is_insert (request_at rs i).op ≡ true)
+few_by_place : (word : Spot → ℕ) (rs : List Request) → ((i : ℕ) → adds_by (word (spots.Reply i)) ≡ true → may_add (request_at rs i).op ≡ true)
     → (n : ℕ) → added word n ≤ sum_to (flag_of rs) n
 few_by_place word rs h zero = omega arith
-few_by_place word rs h (suc n) = let rest = few_by_place word rs h n in let one = by (word (spots.Reply n) == word_of New) refl in omega (arith, rest, one)
+few_by_place word rs h (suc n) = let rest = few_by_place word rs h n in let one = by (adds_by (word (spots.Reply n))) refl in omega (arith, rest, one)
   where
-    same : (a b : ℕ) → (a == b) ≡ true → a ≡ b
-    same a b e = grind (arith, nat_tests)
-
     counts : (b : Bool) → b ≡ true → 1 ≤ cond b 1 0
     counts true e = omega arith
     counts false e = absurd (let z = e in cc)
 
-    by : (b : Bool) → (word (spots.Reply n) == word_of New) ≡ b → cond b 1 0 ≤ flag_of rs n
-    by true e = counts (is_insert (request_at rs n).op) (h n (same (word (spots.Reply n)) (word_of New) e))
+    by : (b : Bool) → adds_by (word (spots.Reply n)) ≡ b → cond b 1 0 ≤ flag_of rs n
+    by true e = counts (may_add (request_at rs n).op) (h n e)
     by false e = omega arith
 
 pub few_added : (m : Meaning) → Laws m → (l : Layout) → IsWithinLimits l → (rs : List Request) → AreAllowed rs → (w : World) → Reached m l rs w
@@ -105,13 +83,24 @@ few_added m laws l limits rs allowed w reached map = let most = few_by_place s.w
     stands : HasHistory m l rs s
     stands = reached_have m laws l rs limits allowed w reached
 
-    insert_at : (i : ℕ) → s.word (spots.Reply i) ≡ word_of New → is_insert (request_at rs i).op ≡ true
+    each : (xs : List Request) (i : ℕ) (x : Request) → slice_get xs i ≡ Some x → All (λ (y : Request). IsAllowed y.op) xs → IsAllowed x.op
+    each xs i x at all = subst (λ (y : Request). IsAllowed y.op) (get_or_from_slice_get xs i x x at) (all i x (slice_get_within xs i x at))
+
+    small : AreSmall stands.state.history
+    small i e is = subst GivesSmall (sym (stands.legal.entries.ops e (i, slice_get_within stands.state.history i e is, get_or_from_slice_get stands.state.history i e e is)))
+        (by (slice_get rs e.number) refl)
+      where
+        by : (o : Option Request) → slice_get rs e.number ≡ o → GivesSmall (or_none o).op
+        by None none v given = absurd (let z = given in cc)
+        by (Some q) there v given = (each rs e.number q there allowed.each).value v given
+
+    insert_at : (i : ℕ) → adds_by (s.word (spots.Reply i)) ≡ true → may_add (request_at rs i).op ≡ true
     insert_at i e =
-        let some : s.word (spots.Reply i) ≢ 0 = λ z. new_some (sym e ∙ z) in
+        let some : s.word (spots.Reply i) ≢ 0 = adds_some (s.word (spots.Reply i)) e in
         let entry = stands.legal.entries.all i (stands.legal.stamped i some) in
         let there : s.word (spots.Reply entry.0.number) ≢ 0 = λ z. some (ap (λ n. s.word (spots.Reply n)) (sym entry.2) ∙ z) in
-        let reply : entry.0.reply ≡ New = new_word entry.0.reply
-        (sym (stands.legal.replies map entry.0 entry.1 there) ∙ (ap (λ n. s.word (spots.Reply n)) entry.2 ∙ e)) in
-        let from = replayed_reply stands.state.history (stands.joined.sound.history.replayed map) entry.1.0 entry.0 entry.1.1 entry.1.2 in
+        let word : word_of entry.0.reply ≡ s.word (spots.Reply i) =
+        sym (stands.legal.replies map entry.0 entry.1 there) ∙ ap (λ n. s.word (spots.Reply n)) entry.2 in
+        let from = replayed_reply stands.state.history (stands.joined.sound.history.replayed map) small entry.1.0 entry.0 (slice_get_read stands.state.history (length stands.state.history) entry.1.0 entry.0 refl entry.1.1 (sym entry.1.2)) in
         let op : entry.0.op ≡ (request_at rs i).op = stands.legal.entries.ops entry.0 entry.1 ∙ ap (λ n. (request_at rs n).op) entry.2 in
-        ap is_insert (sym op) ∙ new_inserts from.0 entry.0.op (sym from.1 ∙ reply)
+        ap may_add (sym op) ∙ adds_for from.0 entry.0.op (subst IsReply from.1 from.2) (ap (λ r. adds_by (word_of r)) (sym from.1) ∙ (ap adds_by word ∙ e))

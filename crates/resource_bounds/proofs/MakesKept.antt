@@ -5,8 +5,8 @@ use Rattle.std.proofs.lemmas.Bool.{cases_eq, and_parts}
 use Rattle.std.proofs.lemmas.Bool.Decides.{nat_tests}
 use Rattle.small_lemmas.proofs.Numbers.{chosen_here as one_here}
 use Rattle.map_history.specs.declared.op.Request.{Request}
-use Rattle.map_history.specs.declared.reply.Reply.TheVariants.{New}
-use Rattle.map_history.specs.Words.{word_of}
+use Rattle.map_history.specs.Words.{adds_by}
+use Rattle.map_history.proofs.Words.{adds_some}
 use Rattle.body_terms.specs.Line.{line, micro_at, is_commit, no_registers}
 use Rattle.body_terms.specs.Shape.{is_make}
 use Rattle.body_terms.specs.declared.thunk.Thunk.{Thunk}
@@ -62,7 +62,7 @@ use Rattle.epoch_core.specs.History.{is_out}
 use Rattle.resource_bounds.proofs.Lines.{makes_in, few_makes, some_make, makes_stay, makes_more}
 use Rattle.resource_bounds.proofs.MakesSums.{total, total_more}
 use Rattle.resource_bounds.proofs.Entries.{Stays, WinsMake, Leaves, inside_leaves, MayGo, outside_leaves}
-use Rattle.resource_bounds.proofs.Sections.{new_some, reply_new, publisher, unreplied, answers_new}
+use Rattle.resource_bounds.proofs.Sections.{reply_new, publisher, unreplied, answers_new}
 
 order : (a b : ℕ) → (a < b) ⊎ (b ≤ a)
 order a b = search arith
@@ -82,11 +82,11 @@ module _ (m : Meaning) (l : Layout) (rs : List Request) where
     pub of_thunk : section.thunk ≡ thunk
     pub request : thunk.request ≡ q
     pub many : n ≤ makes_in (λ k. s.word (spots.LogWord descriptor k)) (line (m.body thunk))
-    pub adds : (j reply : ℕ) → HasStep m thunk j (Answer reply) → reply ≡ word_of New
+    pub adds : (j reply : ℕ) → HasStep m thunk j (Answer reply) → adds_by reply ≡ true
 
   -- so many Makes were won for this request at most
   abbrev pub IsMost : Sight → ℕ → ℕ → Type 0
-  IsMost s q n = (n ≡ 0) ⊎ (((s.word (spots.Reply q) ≡ word_of New) × (n ≤ 2)) ⊎ Makes s q n)
+  IsMost s q n = (n ≡ 0) ⊎ (((adds_by (s.word (spots.Reply q)) ≡ true) × (n ≤ 2)) ⊎ Makes s q n)
 
   -- by request, how many Makes were won for it
   pub record Counted (s : Sight) : Type 0 where
@@ -112,10 +112,10 @@ module _ (m : Meaning) (l : Layout) (rs : List Request) (s : Sight) (stands : Ha
 
   -- once the published section is done, its request has its reply
   pub settled : (q n : ℕ) (y : Makes m l rs s q n) → s.word (spots.DoneWord y.section.descriptor) ≢ 0
-      → (n ≡ 0) ⊎ ((s.word (spots.Reply q) ≡ word_of New) × (n ≤ 2))
+      → (n ≡ 0) ⊎ ((adds_by (s.word (spots.Reply q)) ≡ true) × (n ≤ 2))
   settled q zero y done = inl refl
   settled q (suc n) y done = inr (
-    ap (λ i. s.word (spots.Reply i)) (sym (ap (λ (t : Thunk). t.request) same ∙ y.request)) ∙ reply,
+    ap (λ i. adds_by (s.word (spots.Reply i))) (sym (ap (λ (t : Thunk). t.request) same ∙ y.request)) ∙ reply,
     (let few = few_makes log no_registers (m.body (thunk_in s.word d)) in let two = shaped in omega (arith, most, few, two)),
   )
     where
@@ -138,7 +138,7 @@ module _ (m : Meaning) (l : Layout) (rs : List Request) (s : Sight) (stands : Ha
       some : (i k : ℕ) × (micro_at (line (m.body (thunk_in s.word d))) i ≡ micros.MakeCommit k) × (log k ≢ 0)
       some = some_make log (line (m.body (thunk_in s.word d))) (omega (arith, most))
 
-      reply : s.word (spots.Reply (thunk_in s.word d).request) ≡ word_of New
+      reply : adds_by (s.word (spots.Reply (thunk_in s.word d).request)) ≡ true
       reply = reply_new m l rs s stands d used some.0 some.1 some.2 some.3 done map
           (λ j n is. y.adds j n (subst (λ t. HasStep m t j (Answer n)) same is))
 
@@ -213,9 +213,9 @@ module _ (m : Meaning) (laws : Laws m) (l : Layout) (limits : IsWithinLimits l) 
       (λ i p' records gone h. h) own_leaves.published (λ i ne y is. inl (y, is, refl, refl))
 
   module _ (old : Counted m l rs s) where
-    same_most : (q n : ℕ) → (n ≡ 0) ⊎ ((s.word (spots.Reply q) ≡ word_of New) × (n ≤ 2)) → IsMost m l rs s' q n
+    same_most : (q n : ℕ) → (n ≡ 0) ⊎ ((adds_by (s.word (spots.Reply q)) ≡ true) × (n ≤ 2)) → IsMost m l rs s' q n
     same_most q n h = ⊎_elim (λ z. inl z)
-        (λ y. inr (inl (words.reply q (λ z. new_some (sym y.0 ∙ z)) ∙ y.0, y.1))) h
+        (λ y. inr (inl (ap adds_by (words.reply q (adds_some (s.word (spots.Reply q)) y.0)) ∙ y.0, y.1))) h
 
     used_before : (i : ℕ) (y : Published) → (s.part i).published ≡ Some y → facts.before.agreement.used y.descriptor ≡ true
     used_before i y is = facts.there.sound.sections.in_published.used i y is
@@ -338,7 +338,7 @@ module _ (m : Meaning) (laws : Laws m) (l : Layout) (limits : IsWithinLimits l) 
         -- the Makes that its section had won
         had : IsMost m l rs s n (old.won n) → old.won n ≤ makes_in (λ i. s.word (spots.LogWord d i)) (line (m.body t))
         had h = ⊎_elim (λ z. omega (arith, z))
-            (λ more. ⊎_elim (λ y. absurd (new_some (sym y.0 ∙ unreplied m l rs s stands d used q0.at k at edge)))
+            (λ more. ⊎_elim (λ y. absurd (adds_some _ y.0 (unreplied m l rs s stands d used q0.at k at edge)))
             (λ y. let same : y.section ≡ own.0 = some_same y.section own.0 (sym y.published ∙ own.1) in
             let descriptor : y.descriptor ≡ d = sym y.at ∙ (ap (λ (z : Published). z.descriptor) same ∙ own.2) in
             let thunk : y.thunk ≡ t = sym y.of_thunk ∙ (ap (λ (z : Published). z.thunk) same ∙ thunk_is) in

@@ -3,8 +3,7 @@ use Rattle.std.specs.Prelude.{◌==◌, ◌*◌, ◌⊎◌, nat_lt, cond, true, 
 use Rattle.std.proofs.Common.{◌≡◌, ℕ, zero, suc, ◌+◌, ◌<◌, ◌≤◌, List, [], length, refl, sym, ap, ◌∙◌, ⊎_elim, inl, inr, le_of_eq, arith, Some}
 use Rattle.std.proofs.lemmas.Bool.Decides.{nat_tests}
 use Rattle.map_history.specs.declared.op.Request.{Request}
-use Rattle.map_history.specs.declared.reply.Reply.TheVariants.{New}
-use Rattle.map_history.specs.Words.{word_of}
+use Rattle.map_history.specs.Words.{adds_by}
 use Rattle.table_words.specs.declared.layout.Layout.{Layout}
 use Rattle.table_words.specs.declared.spot.Spot.TheVariants as spots
 use Rattle.table_words.specs.Limits.{IsWithinLimits}
@@ -86,7 +85,7 @@ module _ (m : Meaning) (laws : Laws m) (l : Layout) (limits : IsWithinLimits l) 
       stands : HasHistory m l rs s
       stands = reached_have m laws l rs limits allowed w reached
 
-      settles : (q : ℕ) → (at.won q ≡ 0) ⊎ ((s.word (spots.Reply q) ≡ word_of New) × (at.won q ≤ 2))
+      settles : (q : ℕ) → (at.won q ≡ 0) ⊎ ((adds_by (s.word (spots.Reply q)) ≡ true) × (at.won q ≤ 2))
       settles q =
           let facts = facts_after m laws l rs reached.events w limits allowed reached.after in
           ⊎_elim (λ z. inl z) (λ more. ⊎_elim (λ y. inr y)

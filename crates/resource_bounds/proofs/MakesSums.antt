@@ -1,10 +1,8 @@
 -- Sums over the first requests.
-use Rattle.std.specs.Prelude.{◌==◌, ◌⊎◌, cond}
+use Rattle.std.specs.Prelude.{◌⊎◌, Bool, true, false, cond}
 use Rattle.std.proofs.Common.{◌≡◌, ℕ, zero, suc, ◌+◌, ◌*◌, ◌<◌, ◌≤◌, refl, sym, subst, ⊎_elim, arith}
 use Rattle.std.proofs.lemmas.Bool.{cases_eq}
-use Rattle.std.proofs.lemmas.Bool.Decides.{nat_tests}
-use Rattle.map_history.specs.declared.reply.Reply.TheVariants.{New}
-use Rattle.map_history.specs.Words.{word_of}
+use Rattle.map_history.specs.Words.{adds_by}
 use Rattle.table_words.specs.declared.spot.Spot.{Spot}
 use Rattle.table_words.specs.declared.spot.Spot.TheVariants.{Reply}
 use Rattle.table_words.specs.Seen.{upd}
@@ -34,16 +32,17 @@ total_more c k (suc n) low = ⊎_elim
     (cases_eq n k)
 
 -- two at most for each reply that a pair was added
-pub total_added : (word : Spot → ℕ) (c : ℕ → ℕ) (n : ℕ) → ((q : ℕ) → (c q ≡ 0) ⊎ ((word (Reply q) ≡ word_of New) × (c q ≤ 2)))
+pub total_added : (word : Spot → ℕ) (c : ℕ → ℕ) (n : ℕ) → ((q : ℕ) → (c q ≡ 0) ⊎ ((adds_by (word (Reply q)) ≡ true) × (c q ≤ 2)))
     → total c n ≤ 2 * added word n
 total_added word c zero h = omega arith
 total_added word c (suc n) h =
     let rest = total_added word c n h in
     ⊎_elim
     (λ z. omega (arith, rest, z))
-    (λ y. let one = counts (word (Reply n)) (word_of New) y.0 in
+    (λ y. let one = counts (adds_by (word (Reply n))) y.0 in
     let few = y.1 in omega (arith, rest, one, few))
     (h n)
   where
-    counts : (a b : ℕ) → a ≡ b → 1 ≤ cond (a == b) 1 0
-    counts a b e = grind (arith, nat_tests)
+    counts : (b : Bool) → b ≡ true → 1 ≤ cond b 1 0
+    counts true e = omega arith
+    counts false e = absurd (let z = e in cc)

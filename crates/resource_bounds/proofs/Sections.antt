@@ -4,10 +4,10 @@ use Rattle.std.proofs.Common.{◌≡◌, ◌≢◌, ℕ, zero, suc, ◌<◌, ◌
 use Rattle.std.proofs.lemmas.Bool.Decides.{nat_tests}
 use Rattle.small_lemmas.proofs.Bools.{from_both as true_not_false}
 use Rattle.map_history.specs.declared.op.Op.{Op}
-use Rattle.map_history.specs.declared.op.Op.TheVariants.{Get, Ins, Del}
+use Rattle.map_history.specs.declared.op.Op.TheVariants.{Get, Ins, Del, Put, Mov}
 use Rattle.map_history.specs.declared.op.Request.{Request}
-use Rattle.map_history.specs.declared.reply.Reply.TheVariants.{New}
-use Rattle.map_history.specs.Words.{word_of}
+use Rattle.map_history.specs.Words.{adds_by}
+use Rattle.map_history.proofs.Words.{new_adds, was_adds, moved_adds}
 use Rattle.history_orders.specs.Stamped.{Stamped}
 use Rattle.body_terms.specs.Line.{line, micro_at}
 use Rattle.body_terms.specs.declared.thunk.Thunk.{Thunk}
@@ -37,10 +37,6 @@ use Rattle.reached_histories.specs.Requests.{requests_of}
 use Rattle.reached_histories.specs.Kept.{link_of}
 use Rattle.reached_histories.specs.Laws.{HasHistory}
 
--- the reply that a pair was added isn't no reply
-pub new_some : word_of New ≢ 0
-new_some e = absurd (omega (arith, e))
-
 -- between a Make and its Stamp no section stops
 goes_on : (c : CellRules) (d : ℕ) (log : ℕ → ℕ) (x : Micro) → 2 ≤ phase x → phase x ≤ 3 → is_stop c d log x ≡ false
 goes_on c d log (micros.PrivateLoad cell k) low high = refl
@@ -51,10 +47,12 @@ goes_on c d log micros.StampExchange low high = refl
 goes_on c d log micros.ClockRaise low high = refl
 goes_on c d log _ low high = absurd (omega (arith, low, high))
 
-adds_new : (op : Op) (reply : ℕ) → Adds op reply → reply ≡ word_of New
-adds_new (Get key) reply e = absurd e
-adds_new (Ins key value) reply e = e
-adds_new (Del key) reply e = absurd e
+adds_said : (op : Op) (reply : ℕ) → Adds op reply → adds_by reply ≡ true
+adds_said (Get key) reply e = absurd e
+adds_said (Ins key value) reply e = ap adds_by e ∙ new_adds
+adds_said (Del key) reply e = absurd e
+adds_said (Put key value) reply e = ⊎_elim (λ new. ap adds_by new ∙ new_adds) (λ was. ap adds_by was.2 ∙ was_adds was.0 was.1) e
+adds_said (Mov from to) reply e = ap adds_by e ∙ moved_adds
 
 module _ (m : Meaning) (l : Layout) (rs : List Request) (s : Sight) (stands : HasHistory m l rs s) (d : ℕ)
     (used : stands.beside.agreement.used d ≡ true) where
@@ -175,13 +173,13 @@ module _ (m : Meaning) (l : Layout) (rs : List Request) (s : Sight) (stands : Ha
           let same : micros.ReplyExchange in_line.stamped.reply ≡ micros.ReplyExchange o.0 = o.1.same in
           subst (λ n. HasStep m t o.1.from.n (Answer n)) (let e : o.0 ≡ in_line.stamped.reply = cc in e) o.1.from.here
 
-      pub reply_new : ((j reply : ℕ) → HasStep m t j (Answer reply) → reply ≡ word_of New) → s.word (spots.Reply t.request) ≡ word_of New
+      pub reply_new : ((j reply : ℕ) → HasStep m t j (Answer reply) → adds_by reply ≡ true) → adds_by (s.word (spots.Reply t.request)) ≡ true
       reply_new adds =
-          sym (tied.reply t.request ∙ whole.sections.words.reply t.request)
+          ap adds_by (sym (tied.reply t.request ∙ whole.sections.words.reply t.request)
           ∙ (ap h.reply (sym request_is)
           ∙ (reply_there
-          ∙ (section_tied.answer in_line.stamped.answer in_line.stamped.reply in_line.stamped.answers
-          ∙ adds _ _ answer_step)))
+          ∙ section_tied.answer in_line.stamped.answer in_line.stamped.reply in_line.stamped.answers)))
+          ∙ adds _ _ answer_step
 
     -- a section that is about to commit a Make
     module _ (edge : x.edge ≡ i) where
@@ -232,13 +230,13 @@ module _ (m : Meaning) (l : Layout) (rs : List Request) (s : Sight) (stands : Ha
         abbrev shown : scenes.Section
         shown = section_with m stands.beside.publications d x.log x.edge
 
-        pub answers_new : (j reply : ℕ) → HasStep m t j (Answer reply) → reply ≡ word_of New
+        pub answers_new : (j reply : ℕ) → HasStep m t j (Answer reply) → adds_by reply ≡ true
         answers_new j reply is =
             let here = shown_open m stands.beside.publications d (a.used d) x used undone in
             let fits = whole.kept.lawful.sound.fits d shown here in
             let allowed = whole.kept.lawful.sound.allowed d shown here in
             let o = of_make (m.body t) i (micros.MakeCommit k) at refl in
             let same = whole.tied.thunk d used in
-            adds_new shown.op reply (over.make_adds shown.readings shown.op shown.thunk allowed fits o.2.from.n j o.1 reply o.0
+            adds_said shown.op reply (over.make_adds shown.readings shown.op shown.thunk allowed fits o.2.from.n j o.1 reply o.0
             (subst (λ y. HasStep m y o.2.from.n (Make o.0 o.1)) (sym same) o.2.from.here)
             (subst (λ y. HasStep m y j (Answer reply)) (sym same) is))

@@ -1,10 +1,8 @@
 -- How many node slots a worker still has, and how many requests added a pair.
-use Rattle.std.specs.Prelude.{◌≡◌, ℕ, zero, suc, ◌+◌, ◌*◌, ◌<◌, ◌≤◌, ◌==◌, cond, Bool, true, false, List, length, count_by}
-use Rattle.map_history.specs.declared.op.Op.{Op}
-use Rattle.map_history.specs.declared.op.Op.TheVariants.{Get, Ins, Del}
+use Rattle.std.specs.Prelude.{◌≡◌, ℕ, zero, suc, ◌+◌, ◌*◌, ◌<◌, ◌≤◌, cond, true, List, length, count_by}
 use Rattle.map_history.specs.declared.op.Request.{Request}
-use Rattle.map_history.specs.declared.reply.Reply.TheVariants.{New}
-use Rattle.map_history.specs.Words.{word_of}
+use Rattle.map_history.specs.Keys.{may_add}
+use Rattle.map_history.specs.Words.{adds_by}
 use Rattle.body_terms.specs.Word.{value_of}
 use Rattle.table_words.specs.declared.layout.Layout.{Layout}
 use Rattle.table_words.specs.declared.spot.Spot.{Spot}
@@ -13,31 +11,25 @@ use Rattle.structure_laws.specs.Meaning.{Meaning}
 use Rattle.machine_states.specs.Sight.{Sight}
 use Rattle.runner_parts.specs.Lists.{entry_count}
 
--- how many of the first requests have the reply that a pair was added
+-- how many of the first requests have a reply that says that a pair was added, or put in the place of another
 abbrev pub added : (Spot → ℕ) → ℕ → ℕ
 added word zero = 0
-added word (suc n) = added word n + cond (word (Reply n) == word_of New) 1 0
+added word (suc n) = added word n + cond (adds_by (word (Reply n))) 1 0
 
 -- no lock word names a descriptor
 abbrev pub HoldsNoLock : Meaning → (Spot → ℕ) → Type 0
 HoldsNoLock m word = (p : ℕ) → m.is_lock p ≡ true → value_of (word (Cell p)) ≡ 0
 
 -- where no lock is held: a worker's own slots are all there but for those that Makes used up, which are at
--- most two for each request that added a pair
+-- most two for each request that added a pair, or put a new one in the place of another
 abbrev pub MakesAreCounted : Meaning → Layout → List Request → Sight → Type 0
 MakesAreCounted m l requests s = HoldsNoLock m s.word → (r : ℕ) → r < l.runners
     → l.nodes ≤ entry_count (s.part r).nodes + 2 * added s.word (length requests)
 
--- an operation that may add a pair
-abbrev pub is_insert : Op → Bool
-is_insert (Ins key value) = true
-is_insert (Get key) = false
-is_insert (Del key) = false
-
--- how many requests are inserts
+-- how many requests may add a pair
 abbrev pub inserts : List Request → ℕ
-inserts requests = count_by (λ (q : Request). is_insert q.op) requests
+inserts requests = count_by (λ (q : Request). may_add q.op) requests
 
--- where the structure serves a map, no more requests added a pair than are inserts
+-- where the structure serves a map, no more requests added a pair than may
 abbrev pub FewAreAdded : Meaning → List Request → Sight → Type 0
 FewAreAdded m requests s = m.is_map ≡ true → added s.word (length requests) ≤ inserts requests

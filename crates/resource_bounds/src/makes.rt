@@ -13,9 +13,10 @@ ghost use Rattle.resource_bounds.specs.Makes.{MakesAreCounted, FewAreAdded};
 use structure_laws::Structure;
 
 /// In every state that the machine reaches, over a structure that gives what planners need: where no lock is held, each
-/// worker's free, looked at, waiting and worn node slots, with two for each request that added a pair, are at least as
-/// many as the layout gives it. For each Make that won used up one slot, sections that left won none, and of each
-/// request one section at most has won any: one that is done and answered that it added a pair.
+/// worker's free, looked at, waiting and worn node slots, with two for each request that added a pair or replaced one,
+/// are at least as many as the layout gives it. For each Make that won used up one slot, sections that left won none,
+/// and of each request one section at most has won any: one that is done and answered that it added a pair or replaced
+/// one.
 pub fn makes_are_counted<S: Structure>(structure: &S)
     ensures { (per_pair : ℕ) (layout : Layout) (requests : List Request) (w : World)
         → PlannerLaws (S.meaning structure.now) per_pair
@@ -26,8 +27,8 @@ pub fn makes_are_counted<S: Structure>(structure: &S)
     let _ = structure;
 }
 
-/// In every state that the machine reaches, over a structure that serves a map, no more requests have the reply that a
-/// pair was added than are inserts.
+/// In every state that the machine reaches, over a structure that serves a map, no more requests have a reply that says
+/// that a pair was added, or put in the place of another, than may add one.
 pub fn few_pairs_are_added<S: Structure>(structure: &S)
     ensures { (layout : Layout) (requests : List Request) (w : World) → IsWithinLimits layout → AreAllowed requests
         → Reached (S.meaning structure.now) layout requests w

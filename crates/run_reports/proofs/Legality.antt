@@ -1,5 +1,5 @@
 -- Entries that the words of requests show make a legal report.
-use Rattle.std.proofs.Common.{◌≡◌, ◌≢◌, ℕ, zero, suc, ◌+◌, ◌*◌, ◌^◌, ◌<◌, ◌≤◌, ◌==◌, Bool, true, true≢false, List, Option, None, Some, IsSome, IsTrue, length, map, get_or, refl, sym, ap, ◌∙◌, subst, arith, rules}
+use Rattle.std.proofs.Common.{◌≡◌, ◌≢◌, ℕ, ◌<◌, ◌≤◌, ◌==◌, Bool, true, true≢false, List, Option, None, Some, IsSome, IsTrue, length, map, get_or, sym, ap, ◌∙◌, subst, arith, rules}
 use Rattle.std.specs.Prelude.{AllPairs, Contains, IsPermutation, reverse, slice_get}
 use Rattle.std.specs.List.{IsDistinct, zip}
 use Rattle.std.specs.FinMap.{empty, len}
@@ -13,11 +13,10 @@ use Rattle.std.proofs.lemmas.Slice.Zip.{get_or-zip, length-zip}
 use Rattle.map_history.specs.declared.op.Op.{Op}
 use Rattle.map_history.specs.declared.op.Entry.{Entry}
 use Rattle.map_history.specs.declared.op.Request.{Request}
-use Rattle.map_history.specs.declared.reply.Reply.{Reply}
-use Rattle.map_history.specs.declared.reply.Reply.TheVariants.{New, Dup, Val, Gone, Absent}
 use Rattle.map_history.specs.History.{Answered, IsLegalFrom}
 use Rattle.map_history.specs.Replay.{map_after_all}
 use Rattle.map_history.specs.Words.{word_of, IsReply}
+use Rattle.map_history.proofs.Words.{same_reply}
 use Rattle.history_orders.specs.Turns.{comes_before}
 use Rattle.history_orders.specs.Stamped.{Stamped, turn_of, is_earlier, answered_of, oldest_first, ops_of, IsHistoryOf}
 use Rattle.history_orders.proofs.Turns.{before_itself}
@@ -25,52 +24,6 @@ use Rattle.report_text.specs.Entries.{Entered, entered_in, turn_of_entered, answ
 use Rattle.run_reports.specs.Shown.{IsShown, AreShown}
 use Rattle.run_reports.proofs.Elements.{map_map, same_elements, contains_map, contains_mapped, map_agree, pairs_turned, pairs_mapped}
 use Rattle.run_reports.proofs.Served.{IsEntered, entered_are, entered_has, numbers_rise}
-
--- a reply's word tells the reply
-abbrev code_of : Reply → ℕ
-code_of New = 1
-code_of Dup = 2
-code_of (Val value) = 3
-code_of Gone = 4
-code_of Absent = 5
-
-abbrev value_in : Reply → ℕ
-value_in New = 0
-value_in Dup = 0
-value_in (Val value) = value
-value_in Gone = 0
-value_in Absent = 0
-
-abbrev reply_with : ℕ → ℕ → Reply
-reply_with zero value = Absent
-reply_with (suc zero) value = New
-reply_with (suc (suc zero)) value = Dup
-reply_with (suc (suc (suc zero))) value = Val value
-reply_with (suc (suc (suc (suc zero)))) value = Gone
-reply_with (suc (suc (suc (suc (suc code))))) value = Absent
-
-same_parts : (r : Reply) → reply_with (code_of r) (value_in r) ≡ r
-same_parts New = refl
-same_parts Dup = refl
-same_parts (Val value) = refl
-same_parts Gone = refl
-same_parts Absent = refl
-
-word_parts : (r : Reply) → IsReply r → (word_of r ≡ code_of r * 2 ^ 32 + value_in r) × (value_in r < 2 ^ 32)
-word_parts New fits = (omega arith, omega arith)
-word_parts Dup fits = (omega arith, omega arith)
-word_parts (Val value) fits = (refl, fits)
-word_parts Gone fits = (omega arith, omega arith)
-word_parts Absent fits = (omega arith, omega arith)
-
-pub same_reply : (a b : Reply) → IsReply a → IsReply b → word_of a ≡ word_of b → a ≡ b
-same_reply a b fits fits' same =
-    let of_a = word_parts a fits in
-    let of_b = word_parts b fits' in
-    let sums : code_of a * 2 ^ 32 + value_in a ≡ code_of b * 2 ^ 32 + value_in b = sym of_a.0 ∙ same ∙ of_b.0 in
-    let codes : code_of a ≡ code_of b = omega (arith, sums, of_a.1, of_b.1) in
-    let values : value_in a ≡ value_in b = omega (arith, sums, of_a.1, of_b.1) in
-    sym (same_parts a) ∙ (λ i. reply_with (codes i) (values i)) ∙ same_parts b
 
 -- the requests, their words, and their history, each reply word as at its place
 pub record AreHistory (request : ℕ → Request) (stamp reply : ℕ → ℕ) (requests : List Request) (history : List Stamped) : Type 0 where

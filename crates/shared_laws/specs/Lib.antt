@@ -1,4 +1,3 @@
 pub mod Nodeless
-pub mod AtKey
 pub mod Listing
 pub mod Flagged

@@ -1,10 +1,10 @@
 -- What a structure gives to those who plan sections on it, besides the laws: what its thunks expect was
 -- read, what its Makes are for, and how many slots stay in use.
-use Rattle.std.specs.Prelude.{ℕ, ◌*◌, ◌≤◌, ◌≡◌, true, List, None, Some, slice_get, length}
+use Rattle.std.specs.Prelude.{ℕ, ◌*◌, ◌^◌, ◌<◌, ◌≤◌, ◌≡◌, ◌⊎◌, true, List, None, Some, slice_get, length}
 use Rattle.std.specs.FinMap.{len}
 use Rattle.map_history.specs.declared.op.Op.{Op}
-use Rattle.map_history.specs.declared.op.Op.TheVariants.{Get, Ins, Del}
-use Rattle.map_history.specs.declared.reply.Reply.TheVariants.{New}
+use Rattle.map_history.specs.declared.op.Op.TheVariants.{Get, Ins, Del, Put, Mov}
+use Rattle.map_history.specs.declared.reply.Reply.TheVariants.{New, Was, Moved}
 use Rattle.map_history.specs.Replay.{Pairs}
 use Rattle.map_history.specs.Words.{word_of}
 use Rattle.body_terms.specs.declared.value.Init.{Init}
@@ -18,11 +18,14 @@ use Rattle.structure_laws.specs.Sections.{IsAllowed}
 use Rattle.structure_laws.specs.Shape.{HasStep}
 use Rattle.structure_laws.specs.InTurn.{StandsFor}
 
--- the reply word says that the operation added a pair
+-- the reply word says that the operation added a pair, or put a new one in the place of another
 abbrev pub Adds : Op → ℕ → Type 0
 Adds (Get key) reply = ⊥
 Adds (Ins key value) reply = reply ≡ word_of New
 Adds (Del key) reply = ⊥
+Adds (Put key value) reply =
+    (reply ≡ word_of New) ⊎ ((before : ℕ) × (before < 2 ^ 32) × (reply ≡ word_of (Was before)))
+Adds (Mov from to) reply = reply ≡ word_of Moved
 
 module _ (m : Meaning) where
   -- no section is open, so what the memory stands for is what every section left
@@ -41,7 +44,8 @@ module _ (m : Meaning) where
     pub want_read : (readings : Readings) (op : Op) (thunk : Thunk) → IsAllowed op
         → m.fits layout op readings thunk ≡ true → (i j p r w : ℕ)
         → HasStep m thunk i (Load p r) → HasStep m thunk j (Want r w) → (k : ℕ) × (slice_get readings k ≡ Some (p, w))
-    -- a fitting thunk whose body makes a node is for an operation that adds a pair, and answers so
+    -- a fitting thunk whose body makes a node is for an operation that adds a pair, or one that puts a new one in
+    -- the place of another, and answers so
     pub make_adds : (readings : Readings) (op : Op) (thunk : Thunk) → IsAllowed op
         → m.fits layout op readings thunk ≡ true → (i j r reply : ℕ) (init : Init)
         → HasStep m thunk i (Make init r) → HasStep m thunk j (Answer reply) → Adds op reply

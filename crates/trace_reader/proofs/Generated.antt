@@ -1,13 +1,14 @@
 -- Generated requests are in order.
-use Rattle.std.proofs.Common.{◌≡◌, ℕ, zero, suc, ◌+◌, ◌*◌, ◌/◌, ◌%◌, ◌<◌, ◌≤◌, Bool, true, false, cond, List, [], ◌∷◌, length, map, refl, sym, ap, ◌∙◌, arith, get_or}
+use Rattle.std.proofs.Common.{◌≡◌, ℕ, zero, suc, ◌+◌, ◌*◌, ◌/◌, ◌%◌, ◌<◌, ◌≤◌, Bool, true, false, cond, List, [], ◌∷◌, length, map, refl, sym, ap, ◌∙◌, subst, arith, get_or}
 use Rattle.std.specs.Prelude.{◌==◌, nat_lt}
 use Rattle.std.specs.List.{range_with_len}
 use Rattle.std.proofs.lemmas.List.FromFn.{get_or-map-range_with_len, length-map-range_with_len}
 use Rattle.std.proofs.lemmas.Nat.{div_below, div-add-mod', le-div, mod_below, mul-le}
 use Rattle.map_history.specs.declared.op.Request.{Request}
 use Rattle.map_history.specs.declared.op.Op.TheVariants.{Get, Ins, Del}
-use Rattle.map_history.specs.Keys.{key_of}
-use Rattle.map_history.specs.Requests.{AreInOrder}
+use Rattle.map_history.specs.Keys.{key_of, is_format_1}
+use Rattle.map_history.specs.Requests.{AreInOrder, AreOfFormat1}
+use Rattle.trace_reader.proofs.Formats.{keys_low}
 use Rattle.trace_reader.specs.declared.generator.Gen.{Gen}
 use Rattle.trace_reader.specs.Generator.{IsPlan, generated, generated_at, key_by, next_state, op_by, output_at, state_after}
 
@@ -52,6 +53,23 @@ op_key output key = by_tests (nat_lt (output % 4) 2) (output % 4 == 2) refl refl
     by_tests false true is also = ap (λ a. key_of (cond a (Ins key (10 * key)) (cond (output % 4 == 2) (Del key) (Get key)))) is ∙ ap (λ b. key_of (cond b (Del key) (Get key))) also
     by_tests false false is also = ap (λ a. key_of (cond a (Ins key (10 * key)) (cond (output % 4 == 2) (Del key) (Get key)))) is ∙ ap (λ b. key_of (cond b (Del key) (Get key))) also
 
+pub op_format : (output key : ℕ) → is_format_1 (op_by output key) ≡ true
+op_format output key = by_tests (nat_lt (output % 4) 2) (output % 4 == 2)
+  where
+    by_tests : (a b : Bool) → is_format_1 (cond a (Ins key (10 * key)) (cond b (Del key) (Get key))) ≡ true
+    by_tests true b = refl
+    by_tests false true = refl
+    by_tests false false = refl
+
+-- what is generated can be asked in a text of format 1
+pub generated_format : (plan : Gen) → AreOfFormat1 (generated plan)
+generated_format plan =
+    let count = plan.traces * plan.length in
+    let size : length (generated plan) ≡ count = length-map-range_with_len (generated_at plan) 0 count in
+    λ k d early. subst (λ (r : Request). is_format_1 r.op ≡ true)
+    (sym (get_or-map-range_with_len (generated_at plan) 0 count k k d (omega (arith, size, early)) (omega arith)))
+    (op_format (output_at plan.seed (2 * k)) (key_by plan (k / plan.length) (output_at plan.seed (2 * k + 1))))
+
 -- what is generated is in order
 pub generated_in_order : (plan : Gen) → IsPlan plan → AreInOrder (generated plan) plan.traces
 generated_in_order plan is =
@@ -67,5 +85,5 @@ generated_in_order plan is =
       keys = λ k d early. rw (at k d (omega (arith, size))) (
           let output = output_at plan.seed (2 * k + 1) in
           let key : key_of (generated_at plan k).op ≡ key_by plan (k / plan.length) output = op_key (output_at plan.seed (2 * k)) (key_by plan (k / plan.length) output) in
-          omega (arith, key, key_small plan (k / plan.length) output is (trace_within plan k (omega (arith, size)))));
+          keys_low (generated_at plan k).op (op_format (output_at plan.seed (2 * k)) (key_by plan (k / plan.length) output)) (omega (arith, key, key_small plan (k / plan.length) output is (trace_within plan k (omega (arith, size))))));
     }

@@ -1,6 +1,7 @@
 pub mod Asked
 pub mod Digits
 pub mod Exact
+pub mod Formats
 pub mod Generated
 pub mod Lines
 pub mod Moved

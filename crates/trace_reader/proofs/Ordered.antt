@@ -10,7 +10,7 @@ use Rattle.std.proofs.Math.ListN.{get_or-append}
 use Rattle.std.proofs.Math.Seq.{get_or-append_seam}
 use Rattle.map_history.specs.declared.op.Op.{Op}
 use Rattle.map_history.specs.declared.op.Request.{Request}
-use Rattle.map_history.specs.Keys.{key_of}
+use Rattle.map_history.specs.Keys.{DependsOn}
 use Rattle.map_history.specs.Requests.{AreInOrder}
 
 pub AreInOrder-none : AreInOrder [] 0
@@ -34,7 +34,7 @@ AreInOrder-trace requests before after more few are = record {
   keys = are.keys;
 }
 
-All-one : {X : Type 0} (P : X → Type 0) (x : X) → P x → All P (x ∷ [])
+pub All-one : {X : Type 0} (P : X → Type 0) (x : X) → P x → All P (x ∷ [])
 All-one P x holds k d early = let e : k ≡ 0 = omega arith in subst (λ (n : ℕ). P (get_or (x ∷ []) n d)) (sym e) holds
 
 -- a list that doesn't fall, with an element that no earlier one is above
@@ -66,8 +66,12 @@ numbered-push requests last numbered next =
     ∙ ap (λ k. range_with_len 0 (length requests) ++ k ∷ []) (next ∙ sym (zero-add (length requests)))
     ∙ sym (ap (range_with_len 0) longer ∙ range-push 0 (length requests))
 
+-- a request's keys are within the limit
+abbrev AreLow : Request → Type 0
+AreLow request = (key : ℕ) → DependsOn request.op key → key ≤ 4294967293
+
 -- one more request of the last trace
-pub AreInOrder-ask : (before after : List Request) (traces : ℕ) (op : Op) → 0 < traces → key_of op ≤ 4294967293 → after ≡ before ++ record { trace = traces - 1; number = length before; op = op } ∷ [] → length after ≤ 131072 → AreInOrder before traces → AreInOrder after traces
+pub AreInOrder-ask : (before after : List Request) (traces : ℕ) (op : Op) → 0 < traces → ((key : ℕ) → DependsOn op key → key ≤ 4294967293) → after ≡ before ++ record { trace = traces - 1; number = length before; op = op } ∷ [] → length after ≤ 131072 → AreInOrder before traces → AreInOrder after traces
 AreInOrder-ask before after traces op begun small added few are =
     let last : Request = record { trace = traces - 1; number = length before; op = op } in
     record {
@@ -76,5 +80,5 @@ AreInOrder-ask before after traces op begun small added few are =
       numbered = rw added (numbered-push before last are.numbered refl);
       within = rw added (All-append (λ request. request.trace < traces) before (last ∷ []) are.within (All-one (λ (request : Request). request.trace < traces) last (omega arith)));
       rising = rw added (rising-push (λ request. request.trace) before last are.rising (λ k d early. omega (arith, are.within k d early)));
-      keys = rw added (All-append (λ request. key_of request.op ≤ 4294967293) before (last ∷ []) are.keys (All-one (λ (request : Request). key_of request.op ≤ 4294967293) last small));
+      keys = rw added (All-append AreLow before (last ∷ []) are.keys (All-one AreLow last small));
     }

@@ -1,5 +1,5 @@
 -- What a printed text is read as.
-use Rattle.std.proofs.Common.{◌≡◌, ℕ, zero, suc, ◌+◌, ◌-◌, ◌*◌, ◌<◌, ◌≤◌, Bool, true, false, List, [], ◌∷◌, ◌++◌, codes, length, length-append, append_assoc, refl, sym, ap, ◌∙◌, subst, arith}
+use Rattle.std.proofs.Common.{◌≡◌, ℕ, zero, suc, ◌+◌, ◌-◌, ◌*◌, ◌<◌, ◌≤◌, Bool, true, false, List, [], ◌∷◌, ◌++◌, codes, length, length-append, append_assoc, refl, sym, ap, ◌∙◌, subst, arith, get_or, inl}
 use Rattle.std.specs.Prelude.{◌==◌, All, decimal, flat_map, map, nat_lt}
 use Rattle.std.specs.List.{AllByRecursion, range_with_len}
 use Rattle.std.specs.List.Sorted.{IsNonDecreasingBy}
@@ -8,10 +8,10 @@ use Rattle.std.proofs.lemmas.List.{append-nil}
 use Rattle.std.proofs.lemmas.List.Elements.{All-from_recursion}
 use Rattle.std.proofs.lemmas.List.Splits.{slice_split_none}
 use Rattle.map_history.specs.declared.op.Op.{Op}
-use Rattle.map_history.specs.declared.op.Op.TheVariants.{Get, Ins, Del}
+use Rattle.map_history.specs.declared.op.Op.TheVariants.{Get, Ins, Del, Put, Mov}
 use Rattle.map_history.specs.declared.op.Request.{Request}
-use Rattle.map_history.specs.Keys.{key_of}
-use Rattle.map_history.specs.Requests.{AreInOrder}
+use Rattle.map_history.specs.Keys.{key_of, is_format_1}
+use Rattle.map_history.specs.Requests.{AreInOrder, AreOfFormat1}
 use Rattle.trace_reader.specs.declared.line.Line.TheVariants.{Header, Trace, Ask}
 use Rattle.trace_reader.specs.declared.traces.Traces.{Traces}
 use Rattle.trace_reader.specs.Answer.{AreTracesOf}
@@ -28,22 +28,26 @@ use Rattle.trace_reader.proofs.Steps.{line_more}
 use Rattle.trace_reader.proofs.Written.{del_one_line, del_said, get_one_line, get_said, ins_one_line, ins_said, printed_one_line}
 
 -- the line of a request is one line
-line_one : (op : Op) → key_of op ≤ 4294967293 → HasSmallValue op → IsOneLine (line_of op)
-line_one (Get key) small fits = get_one_line key (decimal key) (printed_digits key (omega (arith, small)))
-line_one (Del key) small fits = del_one_line key (decimal key) (printed_digits key (omega (arith, small)))
-line_one (Ins key value) small fits = ins_one_line key value (decimal key) (decimal value) (printed_digits key (omega (arith, small))) (printed_digits value (omega (arith, fits)))
+line_one : (op : Op) → key_of op ≤ 4294967293 → HasSmallValue op → is_format_1 op ≡ true → IsOneLine (line_of op)
+line_one (Get key) small fits first = get_one_line key (decimal key) (printed_digits key (omega (arith, small)))
+line_one (Del key) small fits first = del_one_line key (decimal key) (printed_digits key (omega (arith, small)))
+line_one (Ins key value) small fits first = ins_one_line key value (decimal key) (decimal value) (printed_digits key (omega (arith, small))) (printed_digits value (omega (arith, fits)))
+line_one (Put key value) small fits first = absurd (cc)
+line_one (Mov from to) small fits first = absurd (cc)
 
-pub line_said : (op : Op) → key_of op ≤ 4294967293 → HasSmallValue op → Says (Ask op) true true (line_of op)
-line_said (Get key) small fits = get_said key (decimal key) (printed_digits key (omega (arith, small))) small
-line_said (Del key) small fits = del_said key (decimal key) (printed_digits key (omega (arith, small))) small
-line_said (Ins key value) small fits =
+pub line_said : (op : Op) → key_of op ≤ 4294967293 → HasSmallValue op → is_format_1 op ≡ true → Says (Ask op) true true (line_of op)
+line_said (Get key) small fits first = get_said key (decimal key) (printed_digits key (omega (arith, small))) small
+line_said (Del key) small fits first = del_said key (decimal key) (printed_digits key (omega (arith, small))) small
+line_said (Ins key value) small fits first =
     ins_said key value (decimal key) (decimal value) (printed_digits key (omega (arith, small))) (printed_digits value (omega (arith, fits))) small fits
+line_said (Put key value) small fits first = absurd (cc)
+line_said (Mov from to) small fits first = absurd (cc)
 
 -- requests that go on where so many traces have begun and so many requests were made
 abbrev Continues : ℕ → ℕ → List Request → ℕ → Type 0
 Continues begun number [] traces = begun ≤ traces
 Continues begun number (request ∷ requests) traces =
-    (begun ≤ request.trace + 1) × (request.trace < traces) × (request.number ≡ number) × (number < 131072) × (key_of request.op ≤ 4294967293) × HasSmallValue request.op
+    (begun ≤ request.trace + 1) × (request.trace < traces) × (request.number ≡ number) × (number < 131072) × (key_of request.op ≤ 4294967293) × (HasSmallValue request.op × (is_format_1 request.op ≡ true))
     × Continues (request.trace + 1) (number + 1) requests traces
 
 -- requests in order, from some place on
@@ -56,6 +60,7 @@ record AreLeft (begun number : ℕ) (requests : List Request) (traces : ℕ) : T
   rising : IsNonDecreasingBy (λ (request : Request). request.trace) requests
   keys : All (λ (request : Request). key_of request.op ≤ 4294967293) requests
   values : HaveSmallValues requests
+  formats : AreOfFormat1 requests
 
 same_heads : (a b : ℕ) (xs ys : List ℕ) → ◌≡◌ {A = List ℕ} (a ∷ xs) (b ∷ ys) → (a ≡ b) × (xs ≡ ys)
 same_heads a b xs ys e = (cc, cc)
@@ -69,7 +74,7 @@ continues begun number (request ∷ requests) traces left =
       heads.0,
       omega (arith, left.few),
       left.keys 0 request (omega arith),
-      left.values 0 request (omega arith),
+      (left.values 0 request (omega arith), left.formats 0 request (omega arith)),
       continues (request.trace + 1) (number + 1) requests traces (record {
         reached = omega (arith, left.within 0 request (omega arith));
         later = λ k d early. omega (arith, left.rising 0 (suc k) d (omega arith) (omega (arith, early)));
@@ -79,19 +84,21 @@ continues begun number (request ∷ requests) traces left =
         rising = λ i j d le early. left.rising (suc i) (suc j) d (omega (arith, le)) (omega (arith, early));
         keys = λ k d early. left.keys (suc k) d (omega (arith, early));
         values = λ k d early. left.values (suc k) d (omega (arith, early));
+        formats = λ k d early. left.formats (suc k) d (omega (arith, early));
       }),
     )
 
-all_continue : (requests : List Request) (traces : ℕ) → AreInOrder requests traces → HaveSmallValues requests → Continues 0 0 requests traces
-all_continue requests traces are small = continues 0 0 requests traces (record {
+all_continue : (requests : List Request) (traces : ℕ) → AreInOrder requests traces → HaveSmallValues requests → AreOfFormat1 requests → Continues 0 0 requests traces
+all_continue requests traces are small first = continues 0 0 requests traces (record {
   reached = omega arith;
   later = λ k d early. omega arith;
   few = omega (arith, are.few);
   numbered = are.numbered;
   within = are.within;
   rising = are.rising;
-  keys = are.keys;
+  keys = λ k d early. are.keys k d early (key_of (get_or requests k d).op) (inl refl);
   values = small;
+  formats = first;
 })
 
 -- these lines were read, behind a header
@@ -116,15 +123,15 @@ traces_more (suc count) begun done lines few are =
     (subst (λ (l : List (List ℕ)). ReadSo (record { count = begun + 1 + count; requests = done }) l) (append_assoc lines (codes "trace" ∷ []) (beginnings count)) more)
 
 -- one more request
-request_more : (request : Request) (done : List Request) (lines : List (List ℕ)) → request.number ≡ length done → length done < 131072 → key_of request.op ≤ 4294967293 → HasSmallValue request.op
+request_more : (request : Request) (done : List Request) (lines : List (List ℕ)) → request.number ≡ length done → length done < 131072 → key_of request.op ≤ 4294967293 → HasSmallValue request.op → is_format_1 request.op ≡ true
     → ReadSo (record { count = request.trace + 1; requests = done }) lines → ReadSo (record { count = request.trace + 1; requests = done ++ request ∷ [] }) (lines ++ line_of request.op ∷ [])
-request_more request done lines number few small fits are =
+request_more request done lines number few small fits first are =
     let begun : nat_lt 0 (request.trace + 1) ≡ true = lt-ltb 0 (request.trace + 1) (omega arith) in
     let same : request ≡ record { trace = request.trace + 1 - 1; number = length done; op = request.op } =
     ap (λ n. record { trace = request.trace; number = n; op = request.op }) number
     ∙ ap (λ n. record { trace = n; number = length done; op = request.op }) (omega arith) in
     line_more (length lines) true (record { count = request.trace + 1; requests = done }) (length (lines ++ line_of request.op ∷ [])) true (record { count = request.trace + 1; requests = done ++ request ∷ [] }) lines (line_of request.op) (Ask request.op) are
-    (subst (λ (b : Bool). Says (Ask request.op) true b (line_of request.op)) (sym begun) (line_said request.op small fits))
+    (subst (λ (b : Bool). Says (Ask request.op) true b (line_of request.op)) (sym begun) (line_said request.op small fits first))
     (refl, ap (λ r. done ++ r ∷ []) same, omega (arith, length-append done (request ∷ []))) refl (length-append lines (line_of request.op ∷ []))
 
 -- the lines of requests that go on
@@ -139,7 +146,7 @@ read_behind begun done (request ∷ requests) traces lines few are (later, withi
     let count = request.trace + 1 - begun in
     let all : begun + count ≡ request.trace + 1 = omega (arith, later) in
     let begins = subst (λ (n : ℕ). ReadSo (record { count = n; requests = done }) (lines ++ beginnings count)) all (traces_more count begun done lines (omega (arith, all, few, within)) are) in
-    let asked = request_more request done (lines ++ beginnings count) number room small fits begins in
+    let asked = request_more request done (lines ++ beginnings count) number room small fits.0 fits.1 begins in
     let size : length done + 1 ≡ length (done ++ request ∷ []) = sym (length-append done (request ∷ [])) in
     let rest = read_behind (request.trace + 1) (done ++ request ∷ []) requests traces ((lines ++ beginnings count) ++ line_of request.op ∷ []) few asked (subst (λ (n : ℕ). Continues (request.trace + 1) n requests traces) size left) in
     subst (λ (l : List (List ℕ)). ReadSo (record { count = traces; requests = done ++ request ∷ requests }) l)
@@ -183,7 +190,7 @@ behind_plain : (begun number : ℕ) (requests : List Request) (traces : ℕ) →
 behind_plain begun number [] traces left = beginnings_plain (traces - begun)
 behind_plain begun number (request ∷ requests) traces (later, within, is, room, small, fits, left) =
     AllByRec IsOneLine (beginnings (request.trace + 1 - begun)) (line_of request.op ∷ lines_behind (request.trace + 1) requests traces) (beginnings_plain (request.trace + 1 - begun))
-    (line_one request.op small fits, behind_plain (request.trace + 1) (number + 1) requests traces left)
+    (line_one request.op small fits.0 fits.1, behind_plain (request.trace + 1) (number + 1) requests traces left)
 
 -- how many bytes they have
 abbrev size_of : List (List ℕ) → ℕ
@@ -200,10 +207,12 @@ size-beginnings : (count : ℕ) → size_of (beginnings count) ≡ 6 * count
 size-beginnings zero = refl
 size-beginnings (suc count) = size-cons (codes "trace") (beginnings count) ∙ omega (arith, size-beginnings count)
 
-line_length : (op : Op) → key_of op ≤ 4294967293 → HasSmallValue op → length (line_of op) ≤ 25
-line_length (Get key) small fits = omega (arith, digits_length key (omega (arith, small)))
-line_length (Del key) small fits = omega (arith, digits_length key (omega (arith, small)))
-line_length (Ins key value) small fits = omega (arith, length-append (decimal key) (32 ∷ decimal value), digits_length key (omega (arith, small)), digits_length value (omega (arith, fits)))
+line_length : (op : Op) → key_of op ≤ 4294967293 → HasSmallValue op → is_format_1 op ≡ true → length (line_of op) ≤ 25
+line_length (Get key) small fits first = omega (arith, digits_length key (omega (arith, small)))
+line_length (Del key) small fits first = omega (arith, digits_length key (omega (arith, small)))
+line_length (Ins key value) small fits first = omega (arith, length-append (decimal key) (32 ∷ decimal value), digits_length key (omega (arith, small)), digits_length value (omega (arith, fits)))
+line_length (Put key value) small fits first = absurd (cc)
+line_length (Mov from to) small fits first = absurd (cc)
 
 behind_size : (begun number : ℕ) (requests : List Request) (traces : ℕ) → Continues begun number requests traces → size_of (lines_behind begun requests traces) + 6 * begun ≤ 6 * traces + 26 * length requests
 behind_size begun number [] traces left = omega (arith, size-beginnings (traces - begun), left)
@@ -215,16 +224,16 @@ behind_size begun number (request ∷ requests) traces (later, within, is, room,
       size-append (beginnings count) (line_of request.op ∷ rest),
       size-beginnings count,
       size-cons (line_of request.op) rest,
-      line_length request.op small fits,
+      line_length request.op small fits.0 fits.1,
       behind_size (request.trace + 1) (number + 1) requests traces left,
       later,
       within,
     )
 
 -- a printed text is in the grammar, and its requests are these
-pub printed_read : (requests : List Request) (traces : ℕ) → AreInOrder requests traces → HaveSmallValues requests → AreTracesOf (record { count = traces; requests = requests }) (printed requests traces)
-printed_read requests traces are small =
-    let left = all_continue requests traces are small in
+pub printed_read : (requests : List Request) (traces : ℕ) → AreInOrder requests traces → HaveSmallValues requests → AreOfFormat1 requests → AreTracesOf (record { count = traces; requests = requests }) (printed requests traces)
+printed_read requests traces are small first =
+    let left = all_continue requests traces are small first in
     let lines = printed_lines requests traces in
     let text = printed requests traces in
     let plain = All-from_recursion IsOneLine lines (printed_one_line (codes "flock 1") refl, behind_plain 0 0 requests traces left) in

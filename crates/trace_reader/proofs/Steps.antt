@@ -14,6 +14,7 @@ use Rattle.trace_reader.specs.Said.{Says, IsPlaced, is_begin, is_counted, operat
 use Rattle.trace_reader.specs.Answer.{AreTracesIn}
 use Rattle.trace_reader.specs.Reader.{AreRead, StandsBehind, IsRefusedFor, TracesAfter, ExcessOf}
 use Rattle.trace_reader.proofs.Asked.{AreTracesIn-none, AreTracesIn-trace, AreTracesIn-ask, length-requests_in, list_any-push}
+use Rattle.trace_reader.proofs.Formats.{asked_format, keys_low}
 use Rattle.trace_reader.proofs.Ordered.{AreInOrder-trace, AreInOrder-ask}
 use Rattle.trace_reader.proofs.Refusals.{NoneRefused-push}
 use Rattle.map_history.specs.Requests.{AreInOrder}
@@ -76,12 +77,12 @@ traces_behind (Ask op) before after lines line begins asks (same, more, few) are
 same_order : (before after : Traces) → after.count ≡ before.count → after.requests ≡ before.requests → AreInOrder before.requests before.count → AreInOrder after.requests after.count
 same_order before after same still are = rw (same, still) are
 
-ordered_behind : (said : Line) (header : Bool) (before after : Traces) → IsPlaced said header (ltb 0 before.count) → TracesAfter said before after → AreInOrder before.requests before.count → AreInOrder after.requests after.count
-ordered_behind Skipped header before after placed (same, still) are = same_order before after same still are
-ordered_behind Header header before after placed (same, still) are = same_order before after same still are
-ordered_behind Trace header before after placed (more, few, still) are = rw still (AreInOrder-trace before.requests before.count after.count more few are)
-ordered_behind (Ask op) header before after (headed, begun, small) (same, more, few) are =
-    rw same (AreInOrder-ask before.requests after.requests before.count op (ltb-true _ _ begun) small more few are)
+ordered_behind : (said : Line) (header : Bool) (before after : Traces) (line : List ℕ) → asked line ≡ operation_in said → IsPlaced said header (ltb 0 before.count) → TracesAfter said before after → AreInOrder before.requests before.count → AreInOrder after.requests after.count
+ordered_behind Skipped header before after line asks placed (same, still) are = same_order before after same still are
+ordered_behind Header header before after line asks placed (same, still) are = same_order before after same still are
+ordered_behind Trace header before after line asks placed (more, few, still) are = rw still (AreInOrder-trace before.requests before.count after.count more few are)
+ordered_behind (Ask op) header before after line asks (headed, begun, small) (same, more, few) are =
+    rw same (AreInOrder-ask before.requests after.requests before.count op (ltb-true _ _ begun) (keys_low op (asked_format line op asks) small) more few are)
 
 -- a line that is taken in
 pub line_more : (finished : ℕ) (header : Bool) (before : Traces) (finished_after : ℕ) (counted : Bool) (read : Traces) (lines : List (List ℕ)) (line : List ℕ) (said : Line) → AreRead finished header before lines → Says said header (ltb 0 before.count) line → TracesAfter said before read → counted ≡ (header || is_counted said) → finished_after ≡ finished + 1 → AreRead finished_after counted read (lines ++ line ∷ [])
@@ -90,7 +91,7 @@ line_more finished header before finished_after counted read lines line said beh
   header = list_any-push lines line _ _ _ headed behind.header says.counted;
   none_refused = NoneRefused-push lines line behind.none_refused (excess_known finished header before lines line said behind says ∙ no_excess said before read taken);
   traces = traces_behind said before read lines line says.trace says.operation taken behind.traces;
-  ordered = ordered_behind said header before read says.placed taken behind.ordered;
+  ordered = ordered_behind said header before read line says.operation says.placed taken behind.ordered;
 }
 
 pub fine_line : (before : Reader) (finished : ℕ) (counted : Bool) (read : Traces) (lines : List (List ℕ)) (line : List ℕ) (said : Line) → StandsBehind before lines → Says said before.has_header (ltb 0 before.traces.count) line → TracesAfter said before.traces read → counted ≡ (before.has_header || is_counted said) → finished ≡ before.lines + 1 → AreRead finished counted read (lines ++ line ∷ [])

@@ -1,7 +1,7 @@
 -- A trace text as it is printed.
 use Rattle.std.specs.Prelude.{◌≤◌, ℕ, ◌+◌, ◌-◌, List, [], ◌∷◌, ◌++◌, All, codes, decimal, flat_map, replicate}
 use Rattle.map_history.specs.declared.op.Op.{Op}
-use Rattle.map_history.specs.declared.op.Op.TheVariants.{Get, Ins, Del}
+use Rattle.map_history.specs.declared.op.Op.TheVariants.{Get, Ins, Del, Put, Mov}
 use Rattle.map_history.specs.declared.op.Request.{Request}
 
 -- the line of a request
@@ -9,6 +9,8 @@ abbrev pub line_of : Op → List ℕ
 line_of (Get key) = codes "get " ++ decimal key
 line_of (Ins key value) = codes "ins " ++ decimal key ++ (codes " " ++ decimal value)
 line_of (Del key) = codes "del " ++ decimal key
+line_of (Put key value) = codes "put " ++ decimal key ++ (codes " " ++ decimal value)
+line_of (Mov from to) = codes "mov " ++ decimal from ++ (codes " " ++ decimal to)
 
 -- lines that begin so many traces
 abbrev pub beginnings : ℕ → List (List ℕ)
@@ -31,11 +33,13 @@ with_feed line = line ++ codes "\n"
 abbrev pub printed : List Request → ℕ → List ℕ
 printed requests traces = flat_map with_feed (printed_lines requests traces)
 
--- the value of an insertion fits 32 bits
+-- the value that is given fits 32 bits
 abbrev pub HasSmallValue : Op → Type 0
 HasSmallValue (Get key) = Unit {0}
 HasSmallValue (Ins key value) = value ≤ 4294967295
 HasSmallValue (Del key) = Unit {0}
+HasSmallValue (Put key value) = value ≤ 4294967295
+HasSmallValue (Mov from to) = Unit {0}
 
 abbrev pub HaveSmallValues : List Request → Type 0
 HaveSmallValues requests = All (λ (request : Request). HasSmallValue request.op) requests

@@ -1,6 +1,6 @@
 //! Requests that are made from numbers.
 ghost use Rattle.std.specs.Prelude.{◌≡◌, ◌<◌, ◌^◌, ◌+◌, ◌*◌, IfOk};
-ghost use Rattle.map_history.specs.Requests.{AreInOrder};
+ghost use Rattle.map_history.specs.Requests.{AreInOrder, AreOfFormat1};
 ghost use Rattle.trace_reader.specs.Generator.{IsPlan, generated, generated_at, key_by, next_state, op_by, state_after};
 
 use crate::requests::Requests;
@@ -34,6 +34,7 @@ pub fn generate(alloc: Global, plan: &Gen) -> Result<Traces, AllocError>
     ensures count { IfOk result (λ traces. traces.count ≡ plan.now.traces) }
     ensures requests { IfOk result (λ traces. traces.requests ≡ generated plan.now) }
     ensures ordered { IfOk result (λ traces. AreInOrder traces.requests traces.count) }
+    ensures format { IfOk result (λ traces. AreOfFormat1 traces.requests) }
 {
     let mut requests = Requests::new(alloc);
     let mut state = plan.seed;

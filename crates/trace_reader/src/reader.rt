@@ -44,7 +44,7 @@ pub struct Reader {
 }
 
 impl Reader {
-    ghost use Rattle.map_history.specs.Requests.{AreInOrder};
+    ghost use Rattle.map_history.specs.Requests.{AreInOrder, AreOfFormat1};
     ghost use Rattle.trace_reader.specs.Answer.{Answers, IsAnswered};
     ghost use Rattle.trace_reader.specs.Lines.{IsOneLine};
     ghost use Rattle.trace_reader.specs.Plain.{IsRequestAt};
@@ -239,6 +239,8 @@ impl Reader {
         ensures answer { (text : List ℕ) → StandsAt self text → IsAnswered result text }
         ensures ordered { (text : List ℕ) → StandsAt self text
             → IfOk result (λ traces. AreInOrder traces.requests traces.count) }
+        ensures format { (text : List ℕ) → StandsAt self text
+            → IfOk result (λ traces. AreOfFormat1 traces.requests) }
     {
         self.end_last_line()?;
         if !self.has_header {

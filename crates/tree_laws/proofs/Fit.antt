@@ -3,7 +3,8 @@ use Rattle.std.proofs.Common.{◌≡◌, ℕ, ◌+◌, ◌*◌, ◌<◌, Bool, t
 use Rattle.std.specs.Prelude.{◌==◌, ◌&&◌, ◌^◌, ◌⊎◌}
 use Rattle.small_lemmas.proofs.Bools.{false_not_true as false_true}
 use Rattle.map_history.specs.declared.op.Op.{Op}
-use Rattle.map_history.specs.declared.op.Op.TheVariants.{Get, Ins, Del}
+use Rattle.map_history.specs.declared.op.Op.TheVariants.{Get, Ins, Del, Put, Mov}
+use Rattle.map_history.specs.Keys.{is_format_1}
 use Rattle.body_terms.specs.declared.thunk.Thunk.{Thunk}
 use Rattle.structure_laws.proofs.Changes.{equal_of, both_true}
 use Rattle.bucket_laws.specs.Walk.{is_del}
@@ -26,6 +27,7 @@ at_end Refused h = absurd (cc)
 
 -- a thunk that fits a walk
 pub record IsFit (op : Op) (w : Walk) (t : Thunk) : Type 0 where
+  pub served : is_format_1 op ≡ true
   pub stage : w.stage ≡ AtEnd
   pub form : t.form ≡ form_for op w.found
   pub lock : t.lock ≡ lock_for op w w.found
@@ -34,20 +36,23 @@ pub record IsFit (op : Op) (w : Walk) (t : Thunk) : Type 0 where
 
 pub fit_of : (op : Op) (w : Walk) (t : Thunk) → fits_walk op w t ≡ true → IsFit op w t
 fit_of op w t h =
-    let a = both_true _ _ h in
+    let z = both_true _ _ h in
+    let a = both_true _ _ z.1 in
     let b = both_true _ _ a.1 in
     let c = both_true _ _ b.1 in
     let d = both_true _ _ c.1 in
-    record { stage = at_end w.stage a.0; form = equal_of _ _ b.0; lock = equal_of _ _ c.0; word = equal_of _ _ d.0; operands = same_list _ _ d.1 }
+    record { served = z.0; stage = at_end w.stage a.0; form = equal_of _ _ b.0; lock = equal_of _ _ c.0; word = equal_of _ _ d.0; operands = same_list _ _ d.1 }
 
 -- an operation changes nothing, puts a leaf in, or takes one out; by this goes the form
-pub cases : (op : Op) (found : Bool) → ((form_for op found ≡ 11) × ((is_del op && found) ≡ false))
+pub cases : (op : Op) (found : Bool) → is_format_1 op ≡ true → ((form_for op found ≡ 11) × ((is_del op && found) ≡ false))
     ⊎ ((key value : ℕ) × (op ≡ Ins key value) × (found ≡ false)) ⊎ ((key : ℕ) × (op ≡ Del key) × (found ≡ true))
-cases (Get key) found = inl (refl, refl)
-cases (Ins key value) true = inl (refl, refl)
-cases (Ins key value) false = inr (inl (key, value, refl, refl))
-cases (Del key) true = inr (inr (key, refl, refl))
-cases (Del key) false = inl (refl, refl)
+cases (Get key) found served = inl (refl, refl)
+cases (Ins key value) true served = inl (refl, refl)
+cases (Ins key value) false served = inr (inl (key, value, refl, refl))
+cases (Del key) true served = inr (inr (key, refl, refl))
+cases (Del key) false served = inl (refl, refl)
+cases (Put key value) found served = absurd (cc)
+cases (Mov from to) found served = absurd (cc)
 
 -- the operands of a thunk that changes nothing, and its reply word, which isn't 0
 pub look_numbers : (op : Op) (w : Walk) (found : Bool) → form_for op found ≡ 11 → operands_for op w found ≡ look_operands w (reply_for op w found)
@@ -56,6 +61,8 @@ look_numbers (Ins key value) w true h = refl
 look_numbers (Ins key value) w false h = absurd (omega arith)
 look_numbers (Del key) w true h = absurd (omega arith)
 look_numbers (Del key) w false h = refl
+look_numbers (Put key value) w there h = absurd (omega arith)
+look_numbers (Mov from to) w there h = absurd (omega arith)
 
 pub reply_some : (op : Op) (w : Walk) (found : Bool) → 0 < reply_for op w found
 reply_some (Get key) w true = positive w.value
@@ -65,6 +72,8 @@ reply_some (Get key) w true = positive w.value
 reply_some (Get key) w false = omega arith
 reply_some (Ins key value) w found = omega arith
 reply_some (Del key) w found = omega arith
+reply_some (Put key value) w found = omega arith
+reply_some (Mov from to) w found = omega arith
 
 -- the form of a thunk by its number
 pub is_look : (t : Thunk) → t.form ≡ 11 → fits_look t ≡ true → form_of t ≡ Look
@@ -135,6 +144,8 @@ inserts (Ins key value) true h = absurd (omega arith)
 inserts (Ins key value) false h = (key, value, refl, refl)
 inserts (Del key) true h = absurd (omega arith)
 inserts (Del key) false h = absurd (omega arith)
+inserts (Put key value) there h = absurd (omega arith)
+inserts (Mov from to) there h = absurd (omega arith)
 
 pub deletes : (op : Op) (found : Bool) → form_for op found ≡ 13 → (key : ℕ) × (op ≡ Del key) × (found ≡ true)
 deletes (Get key) found h = absurd (omega arith)
@@ -142,6 +153,8 @@ deletes (Ins key value) true h = absurd (omega arith)
 deletes (Ins key value) false h = absurd (omega arith)
 deletes (Del key) true h = (key, refl, refl)
 deletes (Del key) false h = absurd (omega arith)
+deletes (Put key value) there h = absurd (omega arith)
+deletes (Mov from to) there h = absurd (omega arith)
 
 pub look_outer : (op : Op) (found : Bool) → form_for op found ≡ 11 → (is_del op && found) ≡ false
 look_outer (Get key) found h = refl
@@ -149,3 +162,5 @@ look_outer (Ins key value) true h = refl
 look_outer (Ins key value) false h = absurd (omega arith)
 look_outer (Del key) true h = absurd (omega arith)
 look_outer (Del key) false h = refl
+look_outer (Put key value) there h = absurd (omega arith)
+look_outer (Mov from to) there h = absurd (omega arith)

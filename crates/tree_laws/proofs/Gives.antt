@@ -5,6 +5,7 @@ use Rattle.std.proofs.lemmas.Bool.{cases_eq, both_ways}
 use Rattle.small_lemmas.proofs.Numbers.{suc_equal as suc_eq}
 use Rattle.map_history.specs.declared.op.Op.{Op}
 use Rattle.map_history.specs.Keys.{key_of, DependsOn, HaveNoCommonKey}
+use Rattle.map_history.proofs.Cells.{format_1_one_keyed, key_is}
 use Rattle.body_terms.specs.Word.{value_of, next_word}
 use Rattle.body_terms.specs.Update.{upd}
 use Rattle.section_body.specs.Bucket.{operand}
@@ -27,6 +28,7 @@ use Rattle.tree_laws.specs.Search.{Nodes, IsInner, IsLeaf}
 use Rattle.tree_laws.specs.Walk.{Walk, node_of}
 use Rattle.tree_laws.specs.Leaves.{is_left_place, is_right_place, is_link_in, shows_inner, shows_link, nodes, bounds, walk_of, TreeWalked, IsAsRead, IsTaken, HasInner, HasTaken, IsBetween, NewLeaf, NewInner, OldParent, OldLeaf, TreeKept, tree}
 use Rattle.tree_laws.specs.Landing.{HasLanded}
+use Rattle.tree_laws.proofs.Fit.{fit_of}
 use Rattle.tree_laws.proofs.Forms.{look_load, insert_load, delete_load, look_store, insert_store, delete_store}
 use Rattle.tree_laws.proofs.Found.{walk_keyed}
 use Rattle.tree_laws.proofs.Shown.{some_of, below_of, shown_now}
@@ -483,15 +485,14 @@ module _ (layout : Layout) (limits : IsWithinLimits layout) (s : Scene) (sound :
       b : IsStanding e y there
       b = standing e y there settled' unstored'
 
-      key_is : (op : Op) → DependsOn op key → key_of op ≡ key
-      key_is op (inl is) = is
-      key_is op (inr none) = absurd (let z = none in cc)
+      own_key : (c : ℕ) (z : Section) → Here s c z → DependsOn z.op key → key_of z.op ≡ key
+      own_key c z at on = key_is z.op key (format_1_one_keyed z.op (fit_of z.op (w z) z.thunk (sound.fits c z at)).served) on
 
       mine : key_of x.op ≡ key
-      mine = key_is x.op depends
+      mine = own_key d x here depends
 
       theirs : key_of y.op ≡ key
-      theirs = key_is y.op depends'
+      theirs = own_key e y there depends'
 
   -- where a link in use leads: to a linked node, to a new leaf, or to a leaf that was taken out with its parent
   data Leads (t : ℕ) : Type 0 where

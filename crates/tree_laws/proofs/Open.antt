@@ -385,7 +385,7 @@ module _ (layout : Layout) (s : Scene) (sound : Sound tree layout s) (kept : Tre
     kind = ⊎_elim (λ look. Looks (looks look.0))
         (⊎_elim (λ insert. Inserts (inserts_it (ap (λ op. form_for op w.found) insert.2 ∙ ap (form_for (Ins insert.0 insert.1)) insert.3)))
         (λ delete. Deletes (deletes_it (ap (λ op. form_for op w.found) delete.1 ∙ ap (form_for (Del delete.0)) delete.2))))
-        (cases x.op w.found)
+        (cases x.op w.found fits.served)
 
   -- the parent's other link, by sides
   pub sibling_place : IsRemoving → sibling_of x.thunk ≡ child_of (not w.last.side) w.last.from

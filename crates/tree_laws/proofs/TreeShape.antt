@@ -486,4 +486,4 @@ module _ (layout : Layout) (limits : IsWithinLimits layout) (s : Scene) (sound :
     }
 
   pub tree_shaped : Shaped tree layout readings thunk
-  tree_shaped = ⊎_elim (λ look. look_is_shaped look.0 look.1) (⊎_elim (λ insert. insert_is_shaped insert.0 insert.1 insert.2 insert.3) (λ delete. delete_is_shaped delete.0 delete.1 delete.2)) (cases op w.found)
+  tree_shaped = ⊎_elim (λ look. look_is_shaped look.0 look.1) (⊎_elim (λ insert. insert_is_shaped insert.0 insert.1 insert.2 insert.3) (λ delete. delete_is_shaped delete.0 delete.1 delete.2)) (cases op w.found fit.served)

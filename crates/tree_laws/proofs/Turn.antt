@@ -5,7 +5,7 @@ use Rattle.std.proofs.lemmas.Bool.{cases_eq, both_ways}
 use Rattle.std.specs.FinMap.{get, contains_key}
 use Rattle.small_lemmas.proofs.Numbers.{equal_tested as eq_true}
 use Rattle.map_history.specs.declared.op.Op.{Op}
-use Rattle.map_history.specs.declared.op.Op.TheVariants.{Get, Ins, Del}
+use Rattle.map_history.specs.declared.op.Op.TheVariants.{Get, Ins, Del, Put, Mov}
 use Rattle.map_history.specs.declared.reply.Reply.TheVariants.{New, Dup, Gone, Absent}
 use Rattle.map_history.specs.Keys.{key_of}
 use Rattle.map_history.specs.Replay.{Pairs, found, reply_of}
@@ -62,6 +62,8 @@ module _ (pairs : Pairs) where
   reply_is (Ins key value) w false form some none = absurd (omega (arith, form))
   reply_is (Del key) w true form some none = absurd (omega (arith, form))
   reply_is (Del key) w false form some none = ap (λ b. word_of (if b then Gone else Absent)) (sym (gone key (none refl)))
+  reply_is (Put key value) w there form some none = absurd (omega (arith, form))
+  reply_is (Mov from to) w there form some none = absurd (omega (arith, form))
 
 module _ (layout : Layout) (limits : IsWithinLimits layout) (s : Scene) (pairs : Pairs) (d : ℕ) (x : Section)
     (before : StandsFor tree layout s pairs) (stamp : AtStamp tree s d x) where
@@ -154,6 +156,8 @@ module _ (layout : Layout) (limits : IsWithinLimits layout) (s : Scene) (pairs :
           gone_reply (Get key) del some = absurd (let z = del in cc)
           gone_reply (Ins key value) del some = absurd (let z = del in cc)
           gone_reply (Del key) del some = ap (λ b. word_of (if b then Gone else Absent)) (sym (there pairs key (now.child false (node_of w)) some))
+          gone_reply (Put key value) del some = absurd (let z = del in cc)
+          gone_reply (Mov from to) del some = absurd (let z = del in cc)
 
   pub turn_answers : (j n : ℕ) → IsStep tree x j (Answer n) → n ≡ word_of (reply_of pairs x.op)
   turn_answers j n h = answers j n h

@@ -5,7 +5,7 @@ use Rattle.std.proofs.Math.Path.{fun_ext}
 use Rattle.std.proofs.lemmas.Bool.{cases_eq, both_ways}
 use Rattle.std.specs.FinMap.{get, insert}
 use Rattle.map_history.specs.declared.op.Op.{Op}
-use Rattle.map_history.specs.declared.op.Op.TheVariants.{Get, Ins, Del}
+use Rattle.map_history.specs.declared.op.Op.TheVariants.{Get, Ins, Del, Put, Mov}
 use Rattle.map_history.specs.Keys.{key_of}
 use Rattle.map_history.specs.Replay.{Pairs, map_after}
 use Rattle.body_terms.specs.Word.{value_of}
@@ -146,6 +146,8 @@ module _ (layout : Layout) (limits : IsWithinLimits layout) (s : Scene) (pairs :
           absent : (q key : ℕ) → get pairs key ≡ None → upd (get pairs) key None q ≡ get pairs q
           absent q key h = ⊎_elim (λ e. upd_same (get pairs) key q None e ∙ (sym h ∙ ap (get pairs) (sym e)))
               (λ ne. upd_other (get pairs) key q None ne) (cases_eq q key)
+      unchanged (Put key value) there form some none q = absurd (omega (arith, form))
+      unchanged (Mov from to) there form some none q = absurd (omega (arith, form))
 
   -- an insertion
   module _ (form : form_of x.thunk ≡ Insert) where

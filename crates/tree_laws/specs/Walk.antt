@@ -1,8 +1,8 @@
 -- The walk of a key from the root to a leaf, read off a list of readings, and the thunk that is the one for it.
 use Rattle.std.specs.Prelude.{ℕ, suc, ◌+◌, ◌*◌, ◌^◌, Bool, true, false, cond, not, ◌&&◌, ◌==◌, nat_lt, nat_le, List, [], ◌∷◌, Option, None, Some}
 use Rattle.map_history.specs.declared.op.Op.{Op}
-use Rattle.map_history.specs.declared.op.Op.TheVariants.{Get, Ins, Del}
-use Rattle.map_history.specs.Keys.{key_of}
+use Rattle.map_history.specs.declared.op.Op.TheVariants.{Get, Ins, Del, Put, Mov}
+use Rattle.map_history.specs.Keys.{key_of, is_format_1}
 use Rattle.body_terms.specs.Word.{value_of, is_free, is_spent}
 use Rattle.body_terms.specs.declared.thunk.Thunk.{Thunk}
 use Rattle.structure_laws.specs.Scene.{Readings}
@@ -164,13 +164,15 @@ walk b op w [] = w
 walk b op w (reading ∷ readings) =
     cond (is_wanted (wanted_at w w.stage) reading.0) (walk b op (fed b op w w.stage reading.1) readings) w
 
--- the form of the thunk for a whole walk
+-- the form of the thunk for a whole walk; 0 where the tree doesn't serve the operation
 abbrev pub form_for : Op → Bool → ℕ
 form_for (Get key) found = 11
 form_for (Ins key value) true = 11
 form_for (Ins key value) false = 12
 form_for (Del key) true = 13
 form_for (Del key) false = 11
+form_for (Put key value) found = 0
+form_for (Mov from to) found = 0
 
 -- the reply word of an operation that changes nothing
 abbrev pub reply_for : Op → Walk → Bool → ℕ
@@ -178,6 +180,8 @@ reply_for (Get key) w true = 3 * 2 ^ 32 + w.value
 reply_for (Get key) w false = 5 * 2 ^ 32
 reply_for (Ins key value) w found = 2 * 2 ^ 32
 reply_for (Del key) w found = 5 * 2 ^ 32
+reply_for (Put key value) w found = 5 * 2 ^ 32
+reply_for (Mov from to) w found = 5 * 2 ^ 32
 
 -- the operands of the three forms
 abbrev pub look_operands : Walk → ℕ → List ℕ
@@ -196,6 +200,8 @@ operands_for (Ins key value) w true = look_operands w (reply_for (Ins key value)
 operands_for (Ins key value) w false = insert_operands w key value
 operands_for (Del key) w true = delete_operands w
 operands_for (Del key) w false = look_operands w (reply_for (Del key) w false)
+operands_for (Put key value) w found = look_operands w (reply_for (Put key value) w found)
+operands_for (Mov from to) w found = look_operands w (reply_for (Mov from to) w found)
 
 -- the outer lock: of the parent of the last node, and for a removal of the parent's parent
 abbrev pub lock_for : Op → Walk → Bool → ℕ
@@ -204,8 +210,8 @@ lock_for op w found = cond (is_del op && found) (lock_of w.grand.from) (lock_of 
 abbrev pub word_for : Op → Walk → Bool → ℕ
 word_for op w found = cond (is_del op && found) w.grand_lock w.lock
 
--- the walk is whole and met no refusal, and the thunk is the one for it
+-- the operation is served, the walk is whole and met no refusal, and the thunk is the one for it
 abbrev pub fits_walk : Op → Walk → Thunk → Bool
-fits_walk op w thunk = is_end w.stage && ((thunk.form == form_for op w.found)
+fits_walk op w thunk = is_format_1 op && (is_end w.stage && ((thunk.form == form_for op w.found)
     && ((thunk.lock == lock_for op w w.found) && ((thunk.word == word_for op w w.found)
-    && same_numbers thunk.operands (operands_for op w w.found))))
+    && same_numbers thunk.operands (operands_for op w w.found)))))

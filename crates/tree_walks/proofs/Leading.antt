@@ -8,7 +8,8 @@ use Rattle.small_lemmas.proofs.Bools.{from_false as false_true}
 use Rattle.small_lemmas.proofs.Lists.{same_number as some_eq}
 use Rattle.small_lemmas.proofs.Numbers.{self_tested as same_test}
 use Rattle.map_history.specs.declared.op.Op.{Op}
-use Rattle.map_history.specs.declared.op.Op.TheVariants.{Get, Ins, Del}
+use Rattle.map_history.specs.Keys.{is_format_1}
+use Rattle.map_history.specs.declared.op.Op.TheVariants.{Get, Ins, Del, Put, Mov}
 use Rattle.section_body.specs.Bucket.{is_small}
 use Rattle.body_terms.specs.Memory.{cell_of}
 use Rattle.body_terms.specs.Word.{value_of, is_free, is_spent}
@@ -180,6 +181,8 @@ eight (Ins key value) w true = refl
 eight (Ins key value) w false = refl
 eight (Del key) w true = refl
 eight (Del key) w false = refl
+eight (Put key value) w found = refl
+eight (Mov from to) w found = refl
 
 free_of : (free spent : Bool) → (free && not spent) ≡ true → (free ≡ true) × (spent ≡ false)
 free_of true true h = absurd (cc)
@@ -208,26 +211,26 @@ module _ (layout : Layout) (op : Op) where
   abbrev walked : Readings → Walk
   walked readings = walk_of layout op readings
 
-  thunk_of : (number : ℕ) (readings : Readings) → (walked readings).stage ≡ AtEnd → is_small (lock_by op (walked readings)) ≡ true
+  thunk_of : is_format_1 op ≡ true → (number : ℕ) (readings : Readings) → (walked readings).stage ≡ AtEnd → is_small (lock_by op (walked readings)) ≡ true
       → IsThunkOf layout op readings (thunk_by (record (first_walk layout op) { walk = walked readings }) number)
-  thunk_of number readings at small =
+  thunk_of served number readings at small =
       let w = walked readings in
       let lock : cond (is_small (lock_by op w)) (lock_by op w) 0 ≡ lock_by op w = ap (λ c. cond c (lock_by op w) 0) small in
       let known : Knows (bounds layout) op readings w AtEnd = subst (Knows (bounds layout) op readings w) at (knows (bounds layout) op readings) in
       let out = outer (bounds layout) op readings w (walk_reads readings (bounds layout) op) at known.1 in
       let ready = free_of (is_free (word_for op w w.found)) (is_spent layout.version_max (word_for op w w.found)) out.1 in
       record {
-        fits = (λ i. is_end (at i) && (same_test (form_for op w.found) i
-            && ((lock i == lock_by op w) && (same_test (word_for op w w.found) i && same_self (operands_for op w w.found) i))))
-            ∙ ap (λ c. true && (true && (c && (true && true)))) (same_test (lock_by op w));
+        fits = (λ i. served i && (is_end (at i) && (same_test (form_for op w.found) i
+            && ((lock i == lock_by op w) && (same_test (word_for op w w.found) i && same_self (operands_for op w w.found) i)))))
+            ∙ ap (λ c. true && (true && (true && (c && (true && true))))) (same_test (lock_by op w));
         operands = eight op w w.found;
         free = ready.0;
         unspent = ready.1;
         read = ap (λ p. has_pair readings p (word_for op w w.found)) lock ∙ read_pair readings (lock_by op w) (word_for op w w.found) out.0;
       }
 
-  pub walk_leads : WalkLeads layout op
-  walk_leads = record {
+  pub walk_leads : is_format_1 op ≡ true → WalkLeads layout op
+  walk_leads served = record {
     shorter = walk_nearer;
     few = omega arith;
     readable = λ readings place wants known. low_at layout readings known (bounds layout) op (walked readings) (walk_reads readings (bounds layout) op) (walked readings).stage refl place wants;
@@ -236,5 +239,5 @@ module _ (layout : Layout) (op : Op) where
     by_mark = λ readings place word wants mark one. mark_at (bounds layout) op (walked readings) (walked readings).stage place word wants mark one;
     whole = λ number readings wants goes.
         let ends = ends_at (bounds layout) op (walked readings) (walked readings).stage (is_small (lock_by op (walked readings))) wants goes in
-        thunk_of number readings ends.0 ends.1;
+        thunk_of served number readings ends.0 ends.1;
   }

@@ -17,7 +17,7 @@ impl TreeWalk {
     {
         match self.op {
             Op::Del(_) => self.found,
-            Op::Get(_) | Op::Ins(_, _) => false,
+            Op::Get(_) | Op::Ins(_, _) | Op::Put(_, _) | Op::Mov(_, _) => false,
         }
     }
 
@@ -43,11 +43,12 @@ impl TreeWalk {
         }
     }
 
-    /// Whether the walk is whole and this is the thunk for it.
+    /// Whether the operation is served, the walk is whole, and this is the thunk for it.
     pub fn fits(&self, thunk: &Thunk) -> bool
         ensures { result ≡ fits_walk self.now.op self.now.walk thunk.now }
     {
-        self.stage == Stage::End
+        self.op.least_format() == 1
+            && self.stage == Stage::End
             && thunk.form == self.form()
             && u64::from(thunk.lock) == self.outer_lock()
             && thunk.word == self.outer_word()
@@ -67,13 +68,15 @@ impl TreeWalk {
         }
     }
 
-    /// The form of the section's body: one that reads alone, that puts a leaf in, or that takes one out.
+    /// The form of the section's body: one that reads alone, that puts a leaf in, or that takes one out. An operation
+    /// that isn't served has none.
     fn form(&self) -> u64
         ensures { result ≡ form_for self.now.op self.now.walk.found }
     {
         match (self.op, self.found) {
             (Op::Ins(_, _), false) => 12,
             (Op::Del(_), true) => 13,
+            (Op::Put(_, _) | Op::Mov(_, _), _) => 0,
             _ => 11,
         }
     }
@@ -88,6 +91,7 @@ impl TreeWalk {
             (Op::Ins(key, value), false) => self.insert(key, value),
             (Op::Del(_), true) => self.remove(),
             (Op::Get(_) | Op::Del(_), false) => self.look(Reply::Absent),
+            (Op::Put(_, _) | Op::Mov(_, _), _) => self.look(Reply::Absent),
         }
     }
 

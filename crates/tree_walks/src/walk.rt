@@ -224,7 +224,7 @@ impl TreeWalk {
     {
         match (self.op, self.found) {
             (_, false) => Stage::Lock,
-            (Op::Get(_) | Op::Ins(_, _), true) => Stage::Value,
+            (Op::Get(_) | Op::Ins(_, _) | Op::Put(_, _) | Op::Mov(_, _), true) => Stage::Value,
             (Op::Del(_), true) if self.deep => Stage::GrandLock,
             (Op::Del(_), true) => Stage::Refused,
         }

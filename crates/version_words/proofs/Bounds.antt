@@ -1,10 +1,11 @@
 -- In every state that the machine reaches, a runner's lists of node slots have no more entries than there are node slots, and each slot stands
 -- at most once in its free lists.
 use Rattle.std.proofs.Common.{◌≡◌, ℕ, zero, suc, ◌+◌, ◌<◌, ◌≤◌, List, [], ◌∷◌, length, get_or, Bool, true, false, refl, sym, ap, subst, ⊎_elim, arith, Some, slice_get}
-use Rattle.std.specs.Prelude.{◌||◌, ◌==◌, cond}
+use Rattle.std.specs.Prelude.{◌||◌, ◌==◌, All, cond}
 use Rattle.std.proofs.lemmas.Bool.{cases_lt}
 use Rattle.small_lemmas.proofs.Numbers.{one_at_most}
 use Rattle.map_history.specs.declared.op.Request.{Request}
+use Rattle.map_history.specs.Requests.{AreInOrder}
 use Rattle.table_words.specs.declared.layout.Layout.{Layout}
 use Rattle.table_words.specs.Limits.{IsWithinLimits}
 use Rattle.table_words.specs.declared.spot.Spot.{Spot}
@@ -54,6 +55,13 @@ in_limbo t [] e = absurd (let no : ⊥ = cc in no)
 in_limbo t (x ∷ xs) e = counted_by (x.slot == t) (has (slots_of xs) t) (times_limbo t xs) (in_limbo t xs) e
 
 -- the part of a runner in a state that the machine reaches
+-- requests in order, whose values have 32 bits, are allowed
+pub allowed_in : (requests : List Request) → AreInOrder requests 64 → All (λ (request : Request). HasSmallValue request.op) requests → AreAllowed requests
+allowed_in requests order values = record {
+  in_order = order;
+  each = λ k d low. record { keys = order.keys k d low; value = values k d low };
+}
+
 few_reached : (m : Meaning) → Laws m → (l : Layout) (rs : List Request) (w : World) → IsWithinLimits l → AreAllowed rs → Reached m l rs w → (r : ℕ) (p : PartState)
     → slice_get w.parts (seat_of l r) ≡ Some p → AreFew (slot_count l m.fixed_slots) p.nodes
 few_reached m laws l rs w limits requests reached r p there =

@@ -100,7 +100,7 @@ fn worker_lists<S: Structure>(
 fn value_fits(op: Op)
     ensures { HasSmallValue op }
 {
-    if let Op::Ins(_, value) = op {
+    if let Op::Ins(_, value) | Op::Put(_, value) = op {
         let _ = u64::from(value);
     }
 }

@@ -1,5 +1,7 @@
 use Rattle.std.proofs.Common.{◌≡◌, ◌∙◌, ap, sym, subst, take, true, List}
+use Rattle.std.specs.Prelude.{All}
 use Rattle.map_history.specs.declared.op.Request.{Request}
+use Rattle.attempt_speed.specs.Asked.{requests_of}
 use Rattle.serving.specs.Serving.{MayServe}
 use Rattle.attempt_speed.proofs.Serving.{may_serve}
 use Rattle.attempt_speed.proofs.rounds.serve_on.Goals as goal
@@ -13,5 +15,5 @@ serve_all-worker-requires-clause-next g c κs within =
     subst (λ (rs : List Request). MayServe planning rs c.in_ok-keeper.worker) (sym front)
     (may_serve planning c.in_ok-table.table c.in_ok-keeper.worker c.in_ok-keeper.ensures.own.1 c.in_ok-keeper.ensures.worker table.runners
     c.args.round.kind c.args.round.count asked
-    (λ op. subst (λ s. (g.S.Planner.planning s).serves op ≡ true) (sym table.structure) (c.requires.serves op))
+    (subst (λ s. All (λ (q : Request). (g.S.Planner.planning s).serves q.op ≡ true) (requests_of c.args.round.kind c.args.round.count)) (sym table.structure) c.requires.serves)
     c.args.round.served)

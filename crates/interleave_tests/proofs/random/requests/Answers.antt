@@ -14,4 +14,4 @@ all_asked = asked 0 0 ∷ asked 0 1 ∷ asked 0 2 ∷ asked 0 3 ∷ asked 0 4 �
 pub returns : goal.returns
 returns c = subst (λ (xs : List Request). AreInOrder xs 64)
     (λ i. sym c.request.ensures i ∷ sym c.request-2.ensures i ∷ sym c.request-3.ensures i ∷ sym c.request-4.ensures i ∷ sym c.request-5.ensures i ∷ sym c.request-6.ensures i ∷ sym c.request-7.ensures i ∷ sym c.request-8.ensures i ∷ sym c.request-9.ensures i ∷ sym c.request-10.ensures i ∷ sym c.request-11.ensures i ∷ sym c.request-12.ensures i ∷ sym c.request-13.ensures i ∷ sym c.request-14.ensures i ∷ sym c.request-15.ensures i ∷ sym c.request-16.ensures i ∷ [])
-    (in_order all_asked (omega arith) refl refl refl refl)
+    (in_order all_asked (omega arith) refl refl refl refl refl)

@@ -1,9 +1,9 @@
 use Rattle.std.proofs.Common.{◌+◌, ◌++◌, ◌∷◌, [], ◌∙◌, ap, arith, map, subst, sym}
 use Rattle.std.specs.List.{range_with_len}
 use Rattle.std.proofs.lemmas.List.FromFn.{map-range_with_len_more}
-use Rattle.map_history.specs.Requests.{AreInOrder}
+use Rattle.map_history.specs.Requests.{AreInOrder, AreOfFormat1}
 use Rattle.lock_tests.specs.Asked.{request_at}
-use Rattle.lock_tests.proofs.Numbered.{trace_in_order}
+use Rattle.lock_tests.proofs.Numbered.{trace_in_order, trace_format}
 use Rattle.lock_tests.proofs.traces.one_trace.Goals as goal
 
 pub loop-number-preserved : goal.loop-number-preserved
@@ -19,4 +19,10 @@ pub returns-clause-ordered : goal.returns-clause-ordered
 returns-clause-ordered c =
     subst (λ requests. AreInOrder requests 64)
     (sym (c.loop-number.invariant ∙ ap (λ count. map (request_at c.args.ops.now) (range_with_len 0 count)) (let high = c.loop-number-test.false in let low = c.loop-number.auto.number-end in omega (arith, high, low))))
-    (trace_in_order c.args.ops.now c.args.count c.requires.some c.requires.few c.requires.keys)
+    (trace_in_order c.args.ops.now c.args.count c.requires.some c.requires.few c.requires.keys c.requires.format)
+
+pub returns-clause-format : goal.returns-clause-format
+returns-clause-format c =
+    subst AreOfFormat1
+    (sym (c.loop-number.invariant ∙ ap (λ count. map (request_at c.args.ops.now) (range_with_len 0 count)) (let high = c.loop-number-test.false in let low = c.loop-number.auto.number-end in omega (arith, high, low))))
+    (trace_format c.args.ops.now c.args.count c.requires.some c.requires.format)

@@ -1,4 +1,5 @@
-use Rattle.std.proofs.Common.{◌∙◌, List, ℕ, refl, subst}
+use Rattle.std.proofs.Common.{◌∙◌, List, ℕ, refl, sym, subst}
+use Rattle.map_history.specs.Requests.{AreOfFormat1}
 use Rattle.std.proofs.lemmas.Result.{err_from_is_err_and}
 use Rattle.report_text.specs.Sink.{Extends, ExtendsInPart}
 use Rattle.printed_traces.proofs.Printed.{is_gen_text, is_read}
@@ -19,4 +20,4 @@ pub returns-clause-read : goal.returns-clause-read
 returns-clause-read g c =
     let requests = c.as_slice.ensures ∙ c.in_ok-traces.ensures.requests in
     let is = is_gen_text c.args.plan.now c.in_ok-traces.traces.count c.as_slice.result.now c.in_ok-text.text.items c.in_ok-text.text.items c.in_ok-traces.ensures.count requests refl c.in_ok-text.ensures.text in
-    is_read c.args.plan.now c.in_ok-traces.traces.count c.as_slice.result.now c.in_ok-text.text.items c.in_ok-traces.ensures.count requests is c.in_ok-text.ensures.read
+    is_read c.args.plan.now c.in_ok-traces.traces.count c.as_slice.result.now c.in_ok-text.text.items c.in_ok-traces.ensures.count requests is (c.in_ok-text.ensures.read (subst AreOfFormat1 (sym c.as_slice.ensures) c.in_ok-traces.ensures.format))

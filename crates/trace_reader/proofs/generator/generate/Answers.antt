@@ -1,9 +1,9 @@
 use Rattle.std.proofs.Common.{◌+◌, ◌*◌, ◌++◌, ◌∷◌, [], ◌∙◌, ap, arith, map, subst, sym}
 use Rattle.std.specs.List.{range_with_len}
 use Rattle.std.proofs.lemmas.List.FromFn.{map-range_with_len_more}
-use Rattle.map_history.specs.Requests.{AreInOrder}
+use Rattle.map_history.specs.Requests.{AreInOrder, AreOfFormat1}
 use Rattle.trace_reader.specs.Generator.{generated_at, next_state}
-use Rattle.trace_reader.proofs.Generated.{generated_in_order, state_more}
+use Rattle.trace_reader.proofs.Generated.{generated_format, generated_in_order, state_more}
 use Rattle.trace_reader.proofs.generator.generate.Goals as goal
 
 pub request_of-requires-clause-first : goal.request_of-requires-clause-first
@@ -36,3 +36,8 @@ pub returns-clause-ordered : goal.returns-clause-ordered
 returns-clause-ordered c =
     let whole = c.loop-number.invariant.requests ∙ ap (λ count. map (generated_at c.args.plan.now) (range_with_len 0 count)) (omega (arith, c.loop-number-test.false)) in
     subst (λ requests. AreInOrder requests c.args.plan.now.traces) (sym whole) (generated_in_order c.args.plan.now c.requires)
+
+pub returns-clause-format : goal.returns-clause-format
+returns-clause-format c =
+    let whole = c.loop-number.invariant.requests ∙ ap (λ count. map (generated_at c.args.plan.now) (range_with_len 0 count)) (omega (arith, c.loop-number-test.false)) in
+    subst AreOfFormat1 (sym whole) (generated_format c.args.plan.now)

@@ -18,6 +18,11 @@ returns-then-count-eq0-clause-ordered g c =
     let (text, (at, moved)) = c.loop-reader.invariant.read in
     c.finish.ensures.ordered text at
 
+pub returns-then-count-eq0-clause-format : goal.returns-then-count-eq0-clause-format
+returns-then-count-eq0-clause-format g c =
+    let (text, (at, moved)) = c.loop-reader.invariant.read in
+    c.finish.ensures.format text at
+
 pub returns-then-count-eq0-clause-fault : goal.returns-then-count-eq0-clause-fault
 returns-then-count-eq0-clause-fault g c = λ is.
     let (text, (at, moved)) = c.loop-reader.invariant.read in

@@ -7,4 +7,4 @@ use Rattle.hash_table.proofs.plan.HashTablePlanner.walk.Goals as goal
 
 pub returns-clause-leads : goal.returns-clause-leads
 returns-clause-leads c = subst (λ walk. Leads bucket_way (buckets_meaning c.args.self.now.bits) c.args.layout walk) (sym c.begin.ensures)
-    (leads c.args.self.now.bits c.args.self.now.few c.args.layout c.args.op)
+    (leads c.args.self.now.bits c.args.self.now.few c.args.layout c.args.op c.requires.served)

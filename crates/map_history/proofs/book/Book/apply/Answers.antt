@@ -1,7 +1,8 @@
 use Rattle.std.proofs.Common.{◌+◌, ◌≤◌, sym, subst, Result, Ok, Err, OnOk}
 use Rattle.std.specs.FinMap as map
-use Rattle.map_history.specs.declared.op.Op.TheVariants.{Ins, Del}
-use Rattle.map_history.specs.Replay.{Pairs}
+use Rattle.map_history.specs.declared.op.Op.{Op}
+use Rattle.map_history.specs.declared.op.Op.TheVariants.{Ins, Del, Put, Mov}
+use Rattle.map_history.specs.Replay.{Pairs, map_after}
 use Rattle.map_history.proofs.Sizes.{len-map_after}
 use Rattle.map_history.proofs.book.Book.apply.Goals as goal
 
@@ -17,3 +18,13 @@ returns-in-Ins-clause-few c =
 pub returns-in-Del-clause-few : goal.returns-in-Del-clause-few
 returns-in-Del-clause-few c =
     subst (λ (after : Pairs). map.len after ≤ map.len c.args.self.now + 1) (sym c.remove.ensures.after) (len-map_after c.args.self.now (Del c.in-Del.key))
+
+pub returns-in-Put-clause-few : goal.returns-in-Put-clause-few
+returns-in-Put-clause-few c =
+    from_ok _ _ c.set.result c.set.ensures.ok
+    (λ is. subst (λ (after : Pairs). map.len after ≤ map.len c.args.self.now + 1) (sym is) (len-map_after c.args.self.now (Put c.in-Put.key c.in-Put.value)))
+
+pub returns-in-Mov-clause-few : goal.returns-in-Mov-clause-few
+returns-in-Mov-clause-few c =
+    from_ok _ _ c.shift.result c.shift.ensures.ok
+    (λ is. subst (λ (after : Pairs). map.len after ≤ map.len c.args.self.now + 1) (sym is) (len-map_after c.args.self.now (Mov c.in-Mov.from c.in-Mov.to)))

@@ -1,3 +1,6 @@
+use Rattle.std.proofs.Common.{sym, subst}
+use Rattle.map_history.specs.Requests.{AreOfFormat1}
+use Rattle.trace_reader.proofs.Formats.{requests_format}
 use Rattle.std.proofs.lemmas.Result.{err_from_is_err_and}
 use Rattle.trace_reader.proofs.Texts.{no_header, accepted, answered}
 use Rattle.trace_reader.proofs.reader.Reader.finish.Goals as goal
@@ -15,3 +18,8 @@ returns-clause-answer c = λ text at. accepted c.end_last_line.new.self text (c.
 
 pub returns-clause-ordered : goal.returns-clause-ordered
 returns-clause-ordered c = λ text at. (c.in_ok-end_last_line.ensures.ok text at).behind.ordered
+
+pub returns-clause-format : goal.returns-clause-format
+returns-clause-format c = λ text at.
+    let end = c.in_ok-end_last_line.ensures.ok text at in
+    subst AreOfFormat1 (sym end.behind.traces.requests) (requests_format end.lines)
