@@ -2,7 +2,7 @@
 use Rattle.std.proofs.Common.{◌≡◌, ℕ, Bool, true, false, cond, refl, sym, ap, ◌∙◌, subst, ⊎_elim, arith}
 use Rattle.std.specs.Prelude.{[], ◌∷◌, ◌++◌, slice_get, slice_index, Some}
 use Rattle.map_history.specs.declared.op.Op.{Op}
-use Rattle.map_history.specs.declared.op.Op.TheVariants.{Get, Ins, Del}
+use Rattle.map_history.specs.declared.op.Op.TheVariants.{Get, Ins, Del, Put, Mov}
 use Rattle.map_history.specs.Keys.{key_of}
 use Rattle.section_body.specs.Bucket.{operand}
 use Rattle.body_terms.specs.declared.value.Value.TheVariants.{Const, Made}
@@ -23,6 +23,8 @@ read_leaves (Ins key value) w true form = refl
 read_leaves (Ins key value) w false form = absurd (omega arith)
 read_leaves (Del key) w true form = absurd (omega arith)
 read_leaves (Del key) w false form = refl
+read_leaves (Put key value) w found form = absurd (omega arith)
+read_leaves (Mov from to) w found form = absurd (omega arith)
 
 -- of two walks, of which one goes on and the other stops
 either : (one more stopped : Walk) (c : Bool) → (one.stage ≡ AtEnd → more ≡ one)

@@ -15,7 +15,7 @@ use Rattle.structure_laws.specs.Shape.{HasStep}
 use Rattle.structure_laws.specs.Fitting.{Leaves, StoresNothing, Fitting}
 use Rattle.structure_laws.proofs.Changes.{both_true, equal_of}
 use Rattle.runner_parts.specs.Tests.{has_pair}
-use Rattle.shared_laws.specs.AtKey.{changes_at}
+use Rattle.map_history.specs.AtKey.{changes_at}
 use Rattle.shared_laws.proofs.Numbers.{bool_cases}
 use Rattle.shared_laws.proofs.Still.{reply_leaves, any_on}
 use Rattle.key_cells.specs.Keyed.{Keyed, IsKeyed, lock_place, cell_place, each_of, wanted, new_of, body_by, was_read, is_for, key_fits, keyed}

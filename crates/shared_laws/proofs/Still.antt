@@ -3,10 +3,10 @@ use Rattle.std.proofs.Common.{◌≡◌, Bool, true, false, refl, List, [], ◌�
 use Rattle.std.specs.Prelude.{◌||◌, ◌++◌, ℕ, Option, Some, None}
 use Rattle.std.specs.List.{list_any}
 use Rattle.map_history.specs.declared.op.Op.{Op}
-use Rattle.map_history.specs.declared.op.Op.TheVariants.{Get, Ins, Del}
+use Rattle.map_history.specs.declared.op.Op.TheVariants.{Get, Ins, Del, Put, Mov}
 use Rattle.map_history.specs.Words.{word_of}
 use Rattle.structure_laws.specs.Fitting.{Leaves}
-use Rattle.shared_laws.specs.AtKey.{reply_at, changes_at}
+use Rattle.map_history.specs.AtKey.{reply_at, changes_at}
 
 -- where an operation leaves its key what it had, its reply says so
 pub reply_leaves : (had : Option ℕ) (op : Op) → changes_at had op ≡ false → Leaves op (word_of (reply_at had op))
@@ -15,6 +15,9 @@ reply_leaves (Some v) (Ins key value) h = refl
 reply_leaves None (Ins key value) h = absurd (cc)
 reply_leaves (Some v) (Del key) h = absurd (cc)
 reply_leaves None (Del key) h = refl
+reply_leaves had (Put key value) h = absurd (cc)
+reply_leaves (Some v) (Mov from to) h = inl refl
+reply_leaves None (Mov from to) h = inr refl
 
 -- what holds of one item of a list holds of one of a longer list
 pub any_on : {A : Type 0} (test : A → Bool) (xs more : List A) → list_any test xs ≡ true → list_any test (xs ++ more) ≡ true

@@ -1,7 +1,7 @@
 -- The fifth law: a thunk that fits goes on to fit, and where its body stores nothing, it answers so.
-use Rattle.std.specs.Prelude.{ℕ, ◌++◌, ◌≡◌, true}
+use Rattle.std.specs.Prelude.{ℕ, ◌++◌, ◌≡◌, ◌⊎◌, true}
 use Rattle.map_history.specs.declared.op.Op.{Op}
-use Rattle.map_history.specs.declared.op.Op.TheVariants.{Get, Ins, Del}
+use Rattle.map_history.specs.declared.op.Op.TheVariants.{Get, Ins, Del, Put, Mov}
 use Rattle.map_history.specs.declared.reply.Reply.TheVariants.{Dup, Absent}
 use Rattle.map_history.specs.Words.{word_of}
 use Rattle.body_terms.specs.declared.value.Value.{Value}
@@ -13,11 +13,13 @@ use Rattle.structure_laws.specs.Meaning.{Meaning}
 use Rattle.structure_laws.specs.Sections.{IsAllowed}
 use Rattle.structure_laws.specs.Shape.{HasStep}
 
--- the reply word says that the operation leaves the map as it was; a `get` always does
+-- the reply word says that the operation leaves the map as it was; a `get` always does, and a `put` never says so
 abbrev pub Leaves : Op → ℕ → Type 0
 Leaves (Get key) reply = Unit {0}
 Leaves (Ins key value) reply = reply ≡ word_of Dup
 Leaves (Del key) reply = reply ≡ word_of Absent
+Leaves (Put key value) reply = ⊥
+Leaves (Mov from to) reply = (reply ≡ word_of Dup) ⊎ (reply ≡ word_of Absent)
 
 module _ (m : Meaning) where
   -- no step of the thunk's body is a Store

@@ -1,8 +1,8 @@
 -- A thunk that fits a walk of the tree goes on to fit, and a body without a Store answers what leaves the map as it was.
-use Rattle.std.proofs.Common.{◌≡◌, ℕ, Bool, true, false, cond, refl, sym, ap, ◌∙◌, subst}
+use Rattle.std.proofs.Common.{◌≡◌, ℕ, Bool, true, false, cond, refl, sym, ap, ◌∙◌, subst, arith}
 use Rattle.std.specs.Prelude.{[], ◌∷◌, ◌++◌, slice_get, slice_index, Some}
 use Rattle.map_history.specs.declared.op.Op.{Op}
-use Rattle.map_history.specs.declared.op.Op.TheVariants.{Get, Ins, Del}
+use Rattle.map_history.specs.declared.op.Op.TheVariants.{Get, Ins, Del, Put, Mov}
 use Rattle.body_terms.specs.declared.value.Value.{Value}
 use Rattle.body_terms.specs.declared.value.Value.TheVariants.{Const, Made}
 use Rattle.body_terms.specs.declared.step.Step.TheVariants.{Store, Answer}
@@ -22,6 +22,8 @@ look_leaves : (op : Op) (w : Walk) (found : Bool) → form_for op found ≡ 11 �
 look_leaves (Get key) w found form = tt
 look_leaves (Ins key value) w found form = refl
 look_leaves (Del key) w found form = refl
+look_leaves (Put key value) w found form = absurd (omega (arith, form))
+look_leaves (Mov from to) w found form = absurd (omega (arith, form))
 
 -- of two walks, of which one goes on and the other stops
 either : (one more stopped : Walk) (c : Bool) → (one.stage ≡ AtEnd → more ≡ one)
