@@ -1,5 +1,5 @@
 -- Replies of operations that leave their key what it had, and tests that go on to hold of longer lists.
-use Rattle.std.proofs.Common.{◌≡◌, Bool, true, false, refl, List, [], ◌∷◌}
+use Rattle.std.proofs.Common.{◌≡◌, Bool, true, false, refl, List, [], ◌∷◌, inl, inr}
 use Rattle.std.specs.Prelude.{◌||◌, ◌++◌, ℕ, Option, Some, None}
 use Rattle.std.specs.List.{list_any}
 use Rattle.map_history.specs.declared.op.Op.{Op}
