@@ -14,6 +14,7 @@ use Rattle.runner_parts.specs.declared.entries.Known.{Known}
 use Rattle.runner_parts.specs.Tests.{is_answered, are_answered}
 use Rattle.machine_states.proofs.Steps.{some_same, none_some}
 use Rattle.attempt_bounds.specs.machine_invariant.specs.After.{AreAllowed}
+use Rattle.attempt_bounds.specs.commit_log.proofs.Asked.{counted_more}
 use Rattle.attempt_bounds.specs.version_words.specs.RunnerState.{RunnerState}
 use Rattle.attempt_bounds.specs.version_words.specs.TableState.{TableState, IsOf}
 use Rattle.attempt_bounds.specs.epoch_slots.specs.Collects.{IsTidy}
@@ -24,14 +25,14 @@ use Rattle.attempt_bounds.specs.request_facts.specs.Laws.{HasEntry}
 use Rattle.body_terms.specs.Counted.{counted_on}
 use Rattle.attempt_bounds.specs.attempts.specs.Knowing.{KnowsMore, IsOwn}
 use Rattle.attempt_bounds.specs.attempts.specs.Course.{MayAttempt}
-use Rattle.attempt_bounds.specs.attempts.specs.Attempts.{IsServed, IsShort, IsTurnedAway, IsHalted, Answers}
+use Rattle.attempt_bounds.specs.attempts.specs.Attempts.{asks_more, asks_before, IsServed, IsShort, IsTurnedAway, IsHalted, Answers}
 use Rattle.attempt_bounds.specs.attempts.specs.declared.answers.Attempt.{Attempt}
 use Rattle.attempt_bounds.specs.attempts.specs.declared.answers.Attempt.TheVariants as attempts
 use Rattle.attempt_bounds.specs.attempts.proofs.Knowing.{knows_same, knows_on, own_on}
 use Rattle.attempt_bounds.specs.Spared.{IsSpared, AttemptsSpareSlots}
 use Rattle.serving.specs.declared.answers.Served.{Served}
 use Rattle.serving.specs.declared.answers.Served.TheVariants as answers
-use Rattle.serving.specs.Serving.{is_tried_again, stop_of, IsBefore, TriedRuns, ServedRuns, Try, is_served, GoesOn, served_in, steps_in, asks_in, least_asks, WasCrossed, TriesBriefly, ServesBriefly, MayServe, AreServed, AreTried, Persists, Serves}
+use Rattle.serving.specs.Serving.{is_tried_again, stop_of, IsBefore, TriedRuns, ServedRuns, Try, is_served, GoesOn, served_in, steps_in, asks_in, least_asks, asks_let, all_asks_let, WasCrossed, TriesBriefly, ServesBriefly, MayServe, AreServed, AreTried, Persists, Serves}
 use Rattle.serving.proofs.Lists.{and_true, all_pass, where_held, numbered, entry_known}
 use Rattle.serving.proofs.Standing.{entry_on, answered_more, stamp_of, one_stamp}
 use Rattle.serving.proofs.Tries.{or_left, count_more, served_append, steps_append, asks_append, crossed_back, crossed_then, crossed_now, crossed_more, done_asks, tried_behind}
@@ -162,7 +163,8 @@ least_behind xs ps all count sums some least = omega (arith, sums, some, least)
 module _ {T : Type 0} (m : Meaning) (laws : Laws m) (planning : Planning) (requests : List Request) (retry_short : Bool) (old r new : RunnerState T)
     (t : TableState T) (limits : IsWithinLimits t.layout) (allowed : AreAllowed t.requests) (of_old : IsOf t old) (of_r : IsOf t r) (of_new : IsOf t new)
     (may : MayServe planning requests old) (i : ℕ) (q : Request) (at : slice_get requests i ≡ Some q) (along : IsAlong requests i old r)
-    (answer : Attempt) (asks asks1 asks2 steps steps1 steps2 : ℕ) (persists : Persists m planning retry_short q answer r new asks1 asks2 steps1 steps2)
+    (answer : Attempt) (Seen : ℕ → ℕ → Type 0) (halts halts1 : ℕ) (went : halts1 ≡ halts) (asks asks1 asks2 steps steps1 steps2 : ℕ)
+    (persists : Persists m planning retry_short q answer r new Seen halts1 asks1 asks2 steps1 steps2)
     (so_far : IsSoFar m planning requests retry_short i old r asks asks1 steps steps1) (spare : AttemptsSpareSlots T m planning) where
   limits_new : IsWithinLimits new.layout
   limits_new = subst IsWithinLimits (sym of_new.layout) limits
@@ -183,12 +185,20 @@ module _ {T : Type 0} (m : Meaning) (laws : Laws m) (planning : Planning) (reque
   here : slice_get requests (served_in so_far.tries) ≡ Some q
   here = ap (slice_get requests) (sym so_far.count_is) ∙ at
 
-  tried_all : AreTried m planning retry_short requests all old new
-  tried_all = tried_behind m planning retry_short requests q so_far.tries so_far.follows here old r so_far.tried ps new (
+  none_again : served_in (persists.again ++ so_far.tries) ≡ i
+  none_again = let sums = served_append persists.again so_far.tries in
+      let none = persists.unserved in let before = so_far.count_is in omega (arith, sums, none, before)
+
+  goes_again : (ts : List Try) → GoesOn retry_short ts → GoesOn retry_short (ts ++ so_far.tries)
+  goes_again [] on = so_far.follows
+  goes_again (t ∷ ts) on = on
+
+  abbrev tried_all : AreTried m planning retry_short requests all old new
+  tried_all = (
     persists.before,
-    persists.tried,
-    persists.follows,
-    ap (slice_get (q ∷ [])) persists.unserved ∙ ap (λ (x : Request). Some x) (sym persists.of_request),
+    tried_behind m planning retry_short requests q so_far.tries so_far.follows here old r so_far.tried persists.again persists.before persists.tried,
+    goes_again persists.again persists.follows,
+    ap (slice_get requests) none_again ∙ (at ∙ ap (λ (x : Request). Some x) (sym persists.of_request)),
     persists.ends,
   )
 
@@ -208,6 +218,22 @@ module _ {T : Type 0} (m : Meaning) (laws : Laws m) (planning : Planning) (reque
 
   asked_all : asks2 ≡ counted_on asks (asks_in all + i)
   asked_all = asks_now (asks_in so_far.tries) (asks_in ps) (asks_in all) i asks asks1 asks2 (asks_append ps so_far.tries) so_far.asked persists.asked
+
+  -- how often the gate had let the runner go on before the last part
+  abbrev let_last : ℕ
+  let_last = asks_let m planning persists.last persists.before new persists.ends
+
+  abbrev let_all : ℕ
+  let_all = all_asks_let m planning retry_short requests all old new tried_all
+
+  let_sum : counted_on asks1 (asks_in persists.again + let_last) ≡ counted_on asks let_all
+  let_sum = ap (λ (c : ℕ). counted_on c (asks_in persists.again + let_last)) so_far.asked
+      ∙ (counted_more asks (asks_in so_far.tries + i) (asks_in persists.again + let_last)
+      ∙ ap (counted_on asks) (let sums = asks_append persists.again so_far.tries in let served = none_again in
+      let e : (asks_in so_far.tries + i) + (asks_in persists.again + let_last) ≡ let_all = omega (arith, sums, served) in e))
+
+  let_go_all : answer ≡ attempts.Halted → Seen halts (counted_on asks let_all)
+  let_go_all e = subst (λ (h : ℕ). Seen h (counted_on asks let_all)) went (subst (Seen halts1) let_sum (persists.let_go e))
 
   least_all : i * least_asks ≤ asks_in all + i
   least_all = least_now (asks_in so_far.tries) (asks_in ps) (asks_in all) i (asks_append ps so_far.tries) so_far.least
@@ -329,7 +355,7 @@ module _ {T : Type 0} (m : Meaning) (laws : Laws m) (planning : Planning) (reque
   Briefly stopped = WasCrossed m planning all old ⊎ ServesBriefly m stopped i old new asks asks2
 
   abbrev ServesSo : Served → Type 0
-  ServesSo stopped = Serves m planning retry_short requests stopped old new asks asks2 steps steps2
+  ServesSo stopped = Serves m planning retry_short requests stopped old new Seen halts asks asks2 steps steps2
 
   stopped_brief : (a : Attempt) (stopped : Served)
       → ((start before behind : ℕ) → before ≡ start + i → TriedRuns a before behind → ServedRuns stopped i start behind)
@@ -368,6 +394,7 @@ module _ {T : Type 0} (m : Meaning) (laws : Laws m) (planning : Planning) (reque
     counted = counted_all;
     asked = asked_all;
     least = least_all;
+    let_go = λ e. absurd (let z = e in cc);
     brief = brief;
   }
 
@@ -396,11 +423,12 @@ module _ {T : Type 0} (m : Meaning) (laws : Laws m) (planning : Planning) (reque
     counted = counted_all;
     asked = asked_all;
     least = least_all;
+    let_go = λ e. absurd (let z = e in cc);
     brief = brief;
   }
 
-  serves_halted : is_served answer ≡ false → Briefly answers.Halted → IsHalted m planning q persists.before new → ServesSo answers.Halted
-  serves_halted unserved brief is = record {
+  serves_halted : answer ≡ attempts.Halted → Briefly answers.Halted → IsHalted m planning q persists.before new → ServesSo answers.Halted
+  serves_halted same brief is = record {
     count = i;
     served = stays is.reached;
     tries = all;
@@ -411,10 +439,11 @@ module _ {T : Type 0} (m : Meaning) (laws : Laws m) (planning : Planning) (reque
     };
     knows = knows_all;
     others = others_all;
-    count_is = count_here unserved;
+    count_is = count_here (ap is_served same);
     counted = counted_all;
     asked = asked_all;
     least = least_all;
+    let_go = λ _. let_go_all same;
     brief = brief;
   }
 
@@ -429,13 +458,13 @@ module _ {T : Type 0} (m : Meaning) (laws : Laws m) (planning : Planning) (reque
       (serves_spent place word (ap is_served same) (stopped_brief (attempts.Spent place word) (answers.Spent place word) one_behind tried) is)
   serves_stopped attempts.Halted stopped same e last tried is =
       subst ServesSo (some_same answers.Halted stopped e)
-      (serves_halted (ap is_served same) (stopped_brief attempts.Halted answers.Halted one_behind tried) is)
+      (serves_halted same (stopped_brief attempts.Halted answers.Halted one_behind tried) is)
   serves_stopped (attempts.Done reply stamp) stopped same e last tried is = absurd (none_some stopped (sym e))
   serves_stopped (attempts.Busy place word) stopped same e last tried is = absurd (let z = last in cc)
   serves_stopped (attempts.Stale place expected read) stopped same e last tried is = absurd (let z = last in cc)
   serves_stopped (attempts.Far loads) stopped same e last tried is = absurd (let z = last in cc)
 
-  pub stopped_serves : (stopped : Served) → stop_of answer ≡ Some stopped → Serves m planning retry_short requests stopped old new asks asks2 steps steps2
+  pub stopped_serves : (stopped : Served) → stop_of answer ≡ Some stopped → Serves m planning retry_short requests stopped old new Seen halts asks asks2 steps steps2
   stopped_serves stopped e = serves_stopped answer stopped refl e persists.over persists.brief persists.answers
 
   going_on : (a : Attempt) → stop_of a ≡ None → Answers m planning q a persists.before new → IsAlong requests (i + 1) old new
@@ -469,6 +498,13 @@ module _ {T : Type 0} (m : Meaning) (laws : Laws m) (planning : Planning) (reque
   pub goes_along : stop_of answer ≡ None → IsAlong requests (i + 1) old new
   goes_along e = going_on answer e persists.answers
 
+  -- the attempts of a served request asked so often
+  done_many : is_served answer ≡ true → 15 ≤ asks_in ps
+  done_many done =
+      let most = done_asks m planning persists.last.request persists.last.answer persists.last.made persists.last.published persists.before new persists.ends.is
+      (ap is_served persists.answered ∙ done) in
+      omega (arith, most)
+
   -- behind the ask that follows a served request
   pub so_far_along : stop_of answer ≡ None → (asks3 : ℕ) → asks3 ≡ counted_on asks2 1
       → IsSoFar m planning requests retry_short (i + 1) old new asks asks3 steps steps2
@@ -483,36 +519,55 @@ module _ {T : Type 0} (m : Meaning) (laws : Laws m) (planning : Planning) (reque
         counted = counted_all;
         asked = asks_behind (asks_in all) i asks asks2 asks3 asked_all asked;
         least = least_behind (asks_in so_far.tries) (asks_in ps) (asks_in all) i (asks_append ps so_far.tries)
-            (let most = done_asks m planning persists.last.request persists.last.answer persists.last.made persists.last.published persists.before new persists.ends.is last in omega (arith, most))
-            so_far.least;
+            (done_many done) so_far.least;
         brief = served_on m planning old r new (same_layout t old r of_old of_r) (same_requests t old r of_old of_r) asks asks1 asks2 ps so_far.tries i so_far.brief
             answer e persists.brief asks3 asked;
         spared = spared_by answer e persists.answers;
       }
 
+  -- or that ask halted the runner: the gate was seen before it
+  pub halted_behind : stop_of answer ≡ None → (asks3 : ℕ) → asks3 ≡ counted_on asks2 1 → Seen halts asks2
+      → Serves m planning retry_short requests answers.Halted old new Seen halts asks asks3 steps steps2
+  halted_behind e asks3 asked seen = record {
+    count = i + 1;
+    served = now.served;
+    tries = all;
+    tried = tried_all;
+    ends = record {
+      published = λ x there. absurd (none_some x (sym there ∙ now.tidy.at.published));
+      unanswered = λ none x there. now.unanswered x there;
+    };
+    knows = knows_all;
+    others = others_all;
+    count_is = let sums = served_all true done in omega (arith, sums);
+    counted = counted_all;
+    asked = asks_behind (asks_in all) i asks asks2 asks3 asked_all asked;
+    least = least_behind (asks_in so_far.tries) (asks_in ps) (asks_in all) i (asks_append ps so_far.tries) (done_many done) so_far.least;
+    let_go = λ _. subst (Seen halts) (asked_all ∙ ap (counted_on asks) before_ask) seen;
+    brief = ended_brief m planning all (i + 1) old new asks asks3 answers.Halted
+        (λ start behind runs. let low : behind ≤ start + ((i + 1) + 1) = omega (arith, runs) in low)
+        (served_on m planning old r new (same_layout t old r of_old of_r) (same_requests t old r of_old of_r) asks asks1 asks2 ps so_far.tries i so_far.brief
+        answer e persists.brief asks3 asked);
+  }
+    where
+      now : IsAlong requests (i + 1) old new
+      now = goes_along e
+
+      done : is_served answer ≡ true
+      done = is_done answer e
+
+      before_ask : asks_in all + i ≡ let_all
+      before_ask =
+          let last : let_last ≡ persists.last.made + asks_more persists.last.answer persists.last.published
+          = ap (λ (b : Bool). if b then persists.last.made + asks_more persists.last.answer persists.last.published
+          else asks_before m planning persists.last.request persists.last.answer persists.before new persists.ends.is.answers) (ap is_served persists.answered ∙ done) in
+          let served = none_again in
+          omega (arith, last, served)
+
 -- how the serving ends behind requests that are served
 module _ {T : Type 0} (m : Meaning) (planning : Planning) (requests : List Request) (retry_short : Bool) (old new : RunnerState T) (i : ℕ)
-    (along : IsAlong requests i old new) (asks asks' steps steps' : ℕ) (so_far : IsSoFar m planning requests retry_short i old new asks asks' steps steps') where
-  pub halted_behind : Serves m planning retry_short requests answers.Halted old new asks asks' steps steps'
-  halted_behind = record {
-    count = i;
-    served = along.served;
-    tries = so_far.tries;
-    tried = so_far.tried;
-    ends = record {
-      published = λ x e. absurd (none_some x (sym e ∙ along.tidy.at.published));
-      unanswered = λ none x there. along.unanswered x there;
-    };
-    knows = along.knows;
-    others = along.others;
-    count_is = so_far.count_is;
-    counted = so_far.counted;
-    asked = so_far.asked;
-    least = so_far.least;
-    brief = ended_brief m planning so_far.tries i old new asks asks' answers.Halted (λ start behind runs. let low : behind ≤ start + (i + 1) = omega (arith, runs) in low) so_far.brief;
-  }
-
-  pub all_served : i ≡ length requests → Serves m planning retry_short requests answers.All old new asks asks' steps steps'
+    (along : IsAlong requests i old new) (Seen : ℕ → ℕ → Type 0) (halts asks asks' steps steps' : ℕ) (so_far : IsSoFar m planning requests retry_short i old new asks asks' steps steps') where
+  pub all_served : i ≡ length requests → Serves m planning retry_short requests answers.All old new Seen halts asks asks' steps steps'
   all_served e = record {
     count = i;
     served = along.served;
@@ -525,6 +580,7 @@ module _ {T : Type 0} (m : Meaning) (planning : Planning) (requests : List Reque
     counted = so_far.counted;
     asked = so_far.asked;
     least = so_far.least;
+    let_go = λ e. absurd (let z = e in cc);
     brief = ended_brief m planning so_far.tries i old new asks asks' answers.All (λ start behind runs. runs) so_far.brief;
   }
 

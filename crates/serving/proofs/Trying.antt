@@ -1,17 +1,18 @@
 -- A request that is attempted again.
 use Rattle.std.specs.Prelude.{◌==◌, ◌&&◌, ◌||◌, ◌⊎◌, not, nat_lt, ◌%◌, Bool, true, false, slice_get, if◌then◌else◌}
-use Rattle.std.proofs.Common.{◌≡◌, ℕ, ◌+◌, List, [], ◌∷◌, refl, sym, ap, ◌∙◌, inl, inr, Some}
+use Rattle.std.proofs.Common.{◌≡◌, ℕ, ◌+◌, List, [], ◌∷◌, refl, sym, ap, ◌∙◌, subst, inl, inr, Some}
 use Rattle.map_history.specs.declared.op.Request.{Request}
 use Rattle.body_terms.specs.Counted.{counted_on}
 use Rattle.structure_laws.specs.Meaning.{Meaning}
 use Rattle.runner_parts.specs.Tests.{is_answered, are_answered}
+use Rattle.attempt_bounds.specs.commit_log.proofs.Asked.{counted_more}
 use Rattle.attempt_bounds.specs.version_words.specs.RunnerState.{RunnerState}
 use Rattle.attempt_bounds.specs.version_words.specs.TableState.{TableState, IsOf}
 use Rattle.attempt_bounds.specs.epoch_slots.specs.Collects.{IsTidy}
 use Rattle.attempt_bounds.specs.try_lock.specs.Planning.{Planning}
 use Rattle.attempt_bounds.specs.attempts.specs.Knowing.{IsFront, KnowsMore, LearnsNoOther}
 use Rattle.attempt_bounds.specs.attempts.specs.Course.{MayAttempt}
-use Rattle.attempt_bounds.specs.attempts.specs.Attempts.{is_halted, asks_more, has_met_held, Answers, Attempts}
+use Rattle.attempt_bounds.specs.attempts.specs.Attempts.{is_halted, asks_more, asks_before, has_met_held, Answers, Attempts}
 use Rattle.attempt_bounds.specs.attempts.specs.declared.answers.Attempt.{Attempt}
 use Rattle.attempt_bounds.specs.attempts.specs.declared.answers.Attempt.TheVariants as attempts
 use Rattle.attempt_bounds.specs.attempts.proofs.Knowing.{knows_on, knows_same, no_other_on}
@@ -195,8 +196,21 @@ module _ {T : Type 0} (m : Meaning) (planning : Planning) (request : Request) (r
       once_on (inl was) = inl (crossed_more m planning x trying.tries old was)
       once_on (inr so_far) = once_by retry_short refl
 
+  -- before the part of it in which a gate halted the runner the gate was seen
+  abbrev before_part : ℕ
+  before_part = asks_before m planning request answer r new attempted.is.answers
+
+  let_go_now : answer ≡ attempts.Halted
+      → Seen halts (counted_on asks (asks_in trying.tries + (if is_served answer then attempted.made + asks_more answer attempted.published else before_part)))
+  let_go_now e = subst
+      (λ (b : Bool). Seen halts (counted_on asks (asks_in trying.tries + (if b then attempted.made + asks_more answer attempted.published else before_part))))
+      (sym (ap is_served e))
+      (subst (λ (h : ℕ). Seen h (counted_on asks (asks_in trying.tries + before_part))) trying.went
+      (subst (Seen halts') (ap (λ (c : ℕ). counted_on c before_part) trying.asked ∙ counted_more asks (asks_in trying.tries) before_part)
+      (attempted.let_go (ap is_halted e))))
+
   -- or this was the last attempt
-  pub trying_ends : is_tried_again retry_short answer ≡ false → Persists m planning retry_short request answer old new asks asks'' steps steps''
+  pub trying_ends : is_tried_again retry_short answer ≡ false → Persists m planning retry_short request answer old new Seen halts asks asks'' steps steps''
   trying_ends last = record {
     before = r;
     again = trying.tries;
@@ -204,7 +218,7 @@ module _ {T : Type 0} (m : Meaning) (planning : Planning) (request : Request) (r
     tried = trying.tried;
     follows = trying.follows;
     unserved = trying.unserved;
-    ends = here;
+    ends = record { may = trying.may; is = attempted.is; crossed = refl };
     of_request = refl;
     answered = refl;
     over = last;
@@ -214,6 +228,7 @@ module _ {T : Type 0} (m : Meaning) (planning : Planning) (request : Request) (r
     no_other = no_other_all;
     counted = counted_all;
     asked = asked_all;
+    let_go = let_go_now;
     brief = tried_on m planning old r new (same_layout t old r of_old of_r) (same_requests t old r of_old of_r) asks asks' asks'' x trying.tries answer trying.quiet
         (last_brief m planning request answer r new Seen halts' halts'' asks' asks'' steps' steps'' attempted trying.may trying.tries);
     once = trying.once;

@@ -14,7 +14,7 @@ use Rattle.attempt_bounds.specs.try_lock.specs.Planning.{Planning}
 use Rattle.attempt_bounds.specs.request_facts.specs.Laws.{HasEntry}
 use Rattle.attempt_bounds.specs.attempts.specs.Knowing.{KnowsMore, IsOwn, LearnsNoOther}
 use Rattle.attempt_bounds.specs.attempts.specs.Course.{MayAttempt, IsRefused}
-use Rattle.attempt_bounds.specs.attempts.specs.Attempts.{most_of_attempt, asks_more, has_met_held, IsShort, IsTurnedAway, Answers, IsAttempt}
+use Rattle.attempt_bounds.specs.attempts.specs.Attempts.{most_of_attempt, asks_more, asks_before, has_met_held, IsShort, IsTurnedAway, Answers, IsAttempt}
 use Rattle.attempt_bounds.specs.attempts.specs.declared.answers.Attempt.{Attempt}
 use Rattle.attempt_bounds.specs.attempts.specs.declared.answers.Attempt.TheVariants as attempts
 use Rattle.attempt_bounds.specs.Spared.{IsSpared}
@@ -179,6 +179,13 @@ module _ {T : Type 0} where
       pub is : IsAttempt m planning x.request x.answer x.made x.published old new
       pub crossed : x.crossed ≡ (is_crossed x.answer || has_met_held m planning x.request x.answer old new is.answers)
 
+    -- how often a gate had let the runner go on in this attempt as the part began in which it halted it: the ask behind
+    -- the attempt, where that served its request, and else a part of the attempt
+    abbrev pub asks_let : (x : Try) (old new : RunnerState T) → IsTry x old new → ℕ
+    asks_let x old new is =
+        if is_served x.answer then x.made + asks_more x.answer x.published
+        else asks_before m planning x.request x.answer old new is.is.answers
+
     module _ (retry_short : Bool) (requests : List Request) where
       -- the runner made these attempts and no others, one behind the other; the last one stands first. Each is of the
       -- request behind those that were served before, and each but the last one is followed by another
@@ -187,11 +194,17 @@ module _ {T : Type 0} where
       AreTried (x ∷ xs) old new = (mid : RunnerState T) × AreTried xs old mid × GoesOn retry_short xs
           × (slice_get requests (served_in xs) ≡ Some x.request) × IsTry x mid new
 
+      -- and in all these attempts: in those before the last one, once more behind each request that they served, and in
+      -- the last one
+      abbrev pub all_asks_let : (tries : List Try) (old new : RunnerState T) → AreTried tries old new → ℕ
+      all_asks_let [] old new is = 0
+      all_asks_let (x ∷ xs) old new is = (asks_in xs + served_in xs) + asks_let x is.0 new is.4
+
   module _ (m : Meaning) (planning : Planning) (retry_short : Bool) where
     -- the request was attempted until this answer, after which it isn't attempted again. Before the last attempt the
     -- runner was as `before` says
-    pub record Persists (request : Request) (answer : Attempt) (old new : RunnerState T)
-        (asks asks' steps steps' : ℕ) : Type 0 where
+    pub record Persists (request : Request) (answer : Attempt) (old new : RunnerState T) (Seen : ℕ → ℕ → Type 0)
+        (halts asks asks' steps steps' : ℕ) : Type 0 where
       pub before : RunnerState T
       -- the attempts before the last one, and that one
       pub again : List Try
@@ -210,6 +223,9 @@ module _ {T : Type 0} where
       -- so many steps are counted, and the gate was asked so often
       pub counted : steps' ≡ counted_on steps (steps_in (last ∷ again))
       pub asked : asks' ≡ counted_on asks (asks_in (last ∷ again))
+      -- a gate that halted the runner was seen before the part of the last attempt in which it did
+      pub let_go : answer ≡ attempts.Halted
+          → Seen halts (counted_on asks (asks_in again + asks_let m planning last before new ends))
       pub brief : WasCrossed m planning (last ∷ again) old ⊎ TriesBriefly m answer old new asks asks'
       -- where no attempt was refused since another one came between, and no want is waited out, there was one attempt
       pub once : WasCrossed m planning again old ⊎ (retry_short ≡ false → again ≡ [])
@@ -246,9 +262,10 @@ module _ {T : Type 0} where
     Ends requests answer count tries old new = (q : Request) × (slice_get requests count ≡ Some q)
         × HasStopped answer q tries old new
 
-    -- what the serving of these requests does
-    pub record Serves (requests : List Request) (answer : Served) (old new : RunnerState T)
-        (asks asks' steps steps' : ℕ) : Type 0 where
+    -- what the serving of these requests does. Where a gate halted the runner, it was seen before the last part of the
+    -- serving, in which it did: with as many halts as at first, and with so many more asks
+    pub record Serves (requests : List Request) (answer : Served) (old new : RunnerState T) (Seen : ℕ → ℕ → Type 0)
+        (halts asks asks' steps steps' : ℕ) : Type 0 where
       pub count : ℕ
       pub served : AreServed requests count new
       -- its attempts, the last one first
@@ -266,6 +283,9 @@ module _ {T : Type 0} where
       pub counted : steps' ≡ counted_on steps (steps_in tries)
       pub asked : asks' ≡ counted_on asks (asks_in tries + count)
       pub least : count * least_asks ≤ asks_in tries + count
+      -- so the serving ends with the first halt, whether in an attempt or at the ask behind a served request
+      pub let_go : answer ≡ answers.Halted
+          → Seen halts (counted_on asks (all_asks_let m planning retry_short requests tries old new tried))
       -- where no attempt was refused since another one came between, so many runs came to their end, and the gate
       -- was asked at most so often
       pub brief : WasCrossed m planning tries old ⊎ ServesBriefly m answer count old new asks asks'

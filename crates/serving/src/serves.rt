@@ -2,6 +2,7 @@
 ghost use Rattle.std.specs.Prelude.{◌≡◌, ◌≢◌};
 ghost use Rattle.fault_count.specs.Rose.{Rose};
 ghost use Rattle.attempt_bounds.specs.version_words.specs.TableState.{IsOf};
+ghost use Rattle.attempt_bounds.specs.attempts.specs.Counted.{IsSeen};
 ghost use Rattle.serving.specs.declared.answers.Served.TheVariants as answers;
 ghost use Rattle.serving.specs.Serving.{stop_of, MayServe, Serves};
 
@@ -37,8 +38,8 @@ fn stop(answer: Attempt) -> Option<Served>
 /// `All` comes exactly where each request was answered and no ask halted. The serving tries a request again after
 /// `Busy`, `Stale` and `Far`, and after `Short` where `retry_short` holds and slots of that kind are in limbo, for
 /// which it lets other threads go first. After any other `Short` and after `Spent` it stops with that answer, and
-/// `Halted` comes only where the gate's count of halts rose in this call. The requests behind the one at which it
-/// stopped are unserved, and so is that one at `Short` and `Spent`.
+/// `Halted` comes only where the gate's count of halts rose in this call, and with the first halt. The requests behind
+/// the one at which it stopped are unserved, and so is that one at `Short` and `Spent`.
 ///
 /// It may wait for other runners, so what is promised holds if it returns. It takes no memory (Ben-David, Blelloch,
 /// Wei, *Lock-free locks revisited*, 2022).
@@ -55,7 +56,8 @@ pub fn serve<R: Threads + Wait + Sync, S: Planner, G: Gate, L>(
     requires next { MayServe (S.planning table.now.structure) requests.now runner }
     ensures own { IsOf table.now result.0 }
     ensures serves { Serves (S.meaning table.now.structure) (S.planning table.now.structure) retry_short requests.now
-        result.1 runner result.0 (G.asks gate.old) (G.asks gate.new) steps.old.count steps.new.count }
+        result.1 runner result.0 (IsSeen G.halts G.asks) (G.halts gate.old) (G.asks gate.old) (G.asks gate.new)
+        steps.old.count steps.new.count }
     ensures halted { result.1 ≡ answers.Halted → Rose (G.halts gate.old) (G.halts gate.new) }
     ensures went { result.1 ≢ answers.Halted → G.halts gate.new ≡ G.halts gate.old }
 {

@@ -1,5 +1,5 @@
 -- What the words of a closed table hold of a worker's requests, by how the worker served them.
-use Rattle.std.specs.Prelude.{◌%◌, ◌*◌, ◌==◌, ◌||◌, ◌⊎◌, Bool, true, false, slice_get}
+use Rattle.std.specs.Prelude.{◌%◌, ◌*◌, ◌==◌, ◌||◌, ◌⊎◌, not, Bool, true, false, count_by, slice_get}
 use Rattle.std.proofs.Common.{◌≡◌, ◌≢◌, ℕ, zero, suc, ◌+◌, ◌<◌, ◌≤◌, List, [], ◌∷◌, length, refl, sym, ap, ◌∙◌, subst, arith, Option, Some, None, inl, inr, eq-eqb, ne_eqb, if◌then◌else◌}
 use mathlib.Core.Logic.{dite}
 use native.Mathlib.Decide.{ℕ_discrete}
@@ -45,6 +45,8 @@ use Rattle.serving.specs.declared.answers.Served.{Served}
 use Rattle.serving.specs.declared.answers.Served.TheVariants as answers
 use Rattle.serving.specs.resource_bounds.specs.Makes.{added}
 use Rattle.threaded_runs.specs.Runs.{stamp_of, AreEntered, AreWornOut, IsShortOf, IsCause, IsShown, HasServed}
+use Rattle.threaded_runs.specs.Counts.{halted}
+use Rattle.threaded_runs.proofs.Picked.{front_only}
 use Rattle.threaded_runs.proofs.Stopping.{IsKeptSpent, kept_spent}
 use mathlib.Core.Path.{fun_ext}
 use Rattle.body_terms.specs.Memory.{cell_of}
@@ -88,7 +90,8 @@ module _ {T : Type 0} (m : Meaning) (t : TableState T) (keeper : RunnerState T) 
 
   module _ (is_map : m.is_map ≡ true) (history : HasHistory m t.layout t.requests end) (callers : CallersStand m t.layout t.requests end)
       (worker : ℕ) (own : List Request) (retry_short : Bool) (planning : Planning) (answer : Served) (old new : RunnerState T)
-      (part : end.part worker ≡ leaves new.part) (asks asks' steps steps' : ℕ) (serves : Serves m planning retry_short own answer old new asks asks' steps steps')
+      (part : end.part worker ≡ leaves new.part) (Seen : ℕ → ℕ → Type 0) (halts asks asks' steps steps' : ℕ)
+      (serves : Serves m planning retry_short own answer old new Seen halts asks asks' steps steps')
       (there : (i : ℕ) (q : Request) → slice_get own i ≡ Some q → slice_get t.requests q.number ≡ Some q)
       (trace : (i : ℕ) (q : Request) → slice_get own i ≡ Some q → q.trace % t.layout.runners ≡ worker)
       (once : (i j : ℕ) (q q' : Request) → slice_get own i ≡ Some q → slice_get own j ≡ Some q' → q.number ≡ q'.number → i ≡ j) where
@@ -321,37 +324,70 @@ module _ {T : Type 0} (m : Meaning) (t : TableState T) (keeper : RunnerState T) 
         descriptors = short_descriptors short stops.cause.few stops.cause.counts tidy.at.published;
       }
 
-      halted_at : WasHalted own count new → (o : Option Published) → new.part.published ≡ o → HasServed m w retry_short own answers.Halted
-      halted_at was None nothing = record { count = count; entered = entered_stopped nothing (λ q e. was.unanswered nothing q e); cause = tt; shown = tt }
+      -- what is left of it, and how many of its requests have an entry: one more at most than were served, where it
+      -- was halted
+      abbrev pub LeavesServed : Served → Type 0
+      LeavesServed a = (served : HasServed m w retry_short own a) × (served.count ≤ count + halted a)
+
+      no_more : (n : ℕ) → n ≤ n + 0
+      no_more n = omega arith
+
+      halted_at : WasHalted own count new → (o : Option Published) → new.part.published ≡ o → LeavesServed answers.Halted
+      halted_at was None nothing = (
+        record { count = count; entered = entered_stopped nothing (λ q e. was.unanswered nothing q e); cause = tt; shown = tt },
+        (let few : count ≤ count + 1 = omega arith in few),
+      )
       halted_at was (Some x) is = let o = was.published x is in dite (ℕ_discrete (stamp_of m w o.0) 0)
-          (λ z. record {
-            count = count;
-            entered = entered_so was.published (λ q e. subst (λ (y : Request). stamp_of m w y ≡ 0) (some_same o.0 q (sym o.1 ∙ e)) z);
-            cause = tt;
-            shown = tt;
-          })
-          (λ some. record { count = count + 1; entered = entered_more was.published x is o.0 o.1 o.2 some; cause = tt; shown = tt })
+          (λ z. (
+            record {
+              count = count;
+              entered = entered_so was.published (λ q e. subst (λ (y : Request). stamp_of m w y ≡ 0) (some_same o.0 q (sym o.1 ∙ e)) z);
+              cause = tt;
+              shown = tt;
+            },
+            (let few : count ≤ count + 1 = omega arith in few),
+          ))
+          (λ some. (
+            record { count = count + 1; entered = entered_more was.published x is o.0 o.1 o.2 some; cause = tt; shown = tt },
+            (let few : count + 1 ≤ count + 1 = omega arith in few),
+          ))
+
+      leaves_served : (a : Served) → Ends m planning retry_short own a count serves.tries old new → LeavesServed a
+      leaves_served answers.All ends = (
+        record {
+          count = count;
+          entered = entered_stopped ends.1.at.published (λ q e. let few = slice_get_within own count q e in let all = ends.0 in absurd (omega (arith, few, all)));
+          cause = ends.0;
+          shown = tt;
+        },
+        no_more count,
+      )
+      leaves_served (answers.Short short) ends = let stopped = ends.2 in (
+        record {
+          count = count;
+          entered = entered_stopped stopped.tidy.at.published (λ q e. same_request ends.0 q ends.1 e stopped.unanswered);
+          cause = (slice_get_within own count ends.0 ends.1, is_short short ends.0 stopped.before stopped.stops stopped.tidy);
+          shown = worn_slots short short.kind stopped.stops.cause.counts;
+        },
+        no_more count,
+      )
+      leaves_served (answers.Spent place word) ends = let stopped = ends.2 in (
+        record {
+          count = count;
+          entered = entered_stopped stopped.tidy.at.published (λ q e. same_request ends.0 q ends.1 e stopped.unanswered);
+          cause = slice_get_within own count ends.0 ends.1;
+          shown = spent_at place word (kept_spent m planning ends.0 place word stopped.before new stopped.stops);
+        },
+        no_more count,
+      )
+      leaves_served answers.Halted ends = halted_at ends new.part.published refl
 
       pub has_served : HasServed m w retry_short own answer
-      has_served = by answer serves.ends
-        where
-          by : (a : Served) → Ends m planning retry_short own a count serves.tries old new → HasServed m w retry_short own a
-          by answers.All ends = record {
-            count = count;
-            entered = entered_stopped ends.1.at.published (λ q e. let few = slice_get_within own count q e in let all = ends.0 in absurd (omega (arith, few, all)));
-            cause = ends.0;
-            shown = tt;
-          }
-          by (answers.Short short) ends = let stopped = ends.2 in record {
-            count = count;
-            entered = entered_stopped stopped.tidy.at.published (λ q e. same_request ends.0 q ends.1 e stopped.unanswered);
-            cause = (slice_get_within own count ends.0 ends.1, is_short short ends.0 stopped.before stopped.stops stopped.tidy);
-            shown = worn_slots short short.kind stopped.stops.cause.counts;
-          }
-          by (answers.Spent place word) ends = let stopped = ends.2 in record {
-            count = count;
-            entered = entered_stopped stopped.tidy.at.published (λ q e. same_request ends.0 q ends.1 e stopped.unanswered);
-            cause = slice_get_within own count ends.0 ends.1;
-            shown = spent_at place word (kept_spent m planning ends.0 place word stopped.before new stopped.stops);
-          }
-          by answers.Halted ends = halted_at ends new.part.published refl
+      has_served = (leaves_served answer serves.ends).0
+
+      pub few_entered : count_by (λ (q : Request). not (stamp_of m w q == 0)) own ≤ count + halted answer
+      few_entered =
+          let left = leaves_served answer serves.ends in
+          let few = front_only (λ (q : Request). not (stamp_of m w q == 0)) own left.0.count
+          (λ i q past e. ap not (eq-eqb (stamp_of m w q) 0 (left.0.entered.none i q past e))) in
+          omega (arith, few, left.1)

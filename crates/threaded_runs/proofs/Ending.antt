@@ -1,27 +1,22 @@
 -- The end of a run: what the words of the closed table hold, by what the workers and the keeper did.
-use Rattle.std.specs.Prelude.{◌%◌, ◌*◌, slice_get, slice_index_or, Bool}
+use Rattle.std.specs.Prelude.{◌%◌, ◌*◌, ◌-◌, ◌^◌, ◌==◌, min, not, count_by, slice_get, slice_index_or, Bool}
 use Rattle.std.proofs.Common.{◌≡◌, ◌≢◌, ℕ, suc, ◌+◌, ◌<◌, ◌≤◌, List, length, refl, sym, ap, ◌∙◌, subst, arith, true, Some, get_or, eq-eqb, if◌then◌else◌}
 use Rattle.std.proofs.lemmas.Option.{slice_get_within, get_or_from_slice_get}
+use Rattle.std.proofs.Math.Nat.{mod-lt}
 use Rattle.map_history.specs.declared.op.Request.{Request}
 use Rattle.map_history.specs.Requests.{AreInOrder}
 use Rattle.body_terms.specs.Word.{value_of}
-use Rattle.table_words.specs.Limits.{IsWithinLimits}
 use Rattle.table_words.specs.declared.layout.Layout.{Layout}
 use Rattle.table_words.specs.declared.spot.Spot.TheVariants.{Cell, Stamp, Reply, DoneWord}
 use Rattle.structure_laws.specs.Meaning.{Meaning}
+use Rattle.structure_laws.specs.Planner.{PlannerLaws}
 use Rattle.machine_states.specs.World.{World, seat_of}
 use Rattle.machine_states.specs.Reached.{Reached}
+use Rattle.runner_parts.specs.Lists.{entry_count}
+use Rattle.runner_steps.specs.After.{leaves}
 use Rattle.machine_states.specs.Sight.{sight}
-use Rattle.closed_words.specs.machine_invariant.specs.After.{AreAllowed}
-use Rattle.closed_words.specs.machine_invariant.specs.Lengths.{ListsAreShort}
-use Rattle.settling.specs.runner_facts.specs.Own.{OwnStand}
-use Rattle.settling.specs.runner_facts.specs.Facts.{LimboIsDone, DescriptorsAreKept, WornAreWorn}
-use Rattle.serving.specs.lock_words.specs.Spent.{SpentStand}
-use Rattle.settling.specs.runner_facts.specs.Worn.{HasNoRepeats}
 use Rattle.serving.specs.resource_bounds.specs.Makes as makes
-use Rattle.serving.specs.resource_bounds.specs.Makes.{MakesAreCounted, FewAreAdded}
-use Rattle.closed_words.specs.reached_histories.specs.Laws.{ReachedHaveHistories, HasHistory}
-use Rattle.serving.specs.request_facts.specs.Laws.{ReachedCallersStand, CallersStand}
+use Rattle.reached_facts.specs.Facts.{HasFacts, KeepsFacts}
 use Rattle.closed_words.specs.version_words.specs.RunnerState.{RunnerState}
 use Rattle.closed_words.specs.version_words.specs.Shown.{left_part}
 use Rattle.closed_words.specs.version_words.specs.TableState.{TableState, WordsState, IsOf, IsClosing, word_of}
@@ -30,36 +25,32 @@ use Rattle.settling.specs.try_lock.specs.Planning.{Planning}
 use Rattle.settling.specs.Settled.{Settles, IsSettled}
 use Rattle.settling.specs.epoch_slots.specs.declared.reserves.Kind.TheVariants as slots
 use Rattle.settling.specs.epoch_slots.specs.declared.reserves.Short.{Short}
+use Rattle.serving.specs.Serving.{asks_in}
 use Rattle.serving.specs.declared.answers.Served.{Served}
 use Rattle.serving.specs.declared.answers.Served.TheVariants as stops
 use Rattle.threaded_runs.specs.declared.job.Job.{Job}
 use Rattle.threaded_runs.specs.declared.job.Finished.{Finished}
 use Rattle.threaded_runs.specs.Own.{own_requests}
-use Rattle.threaded_runs.specs.Jobs.{AllSeated, AllRun, AllKept, HasRun, IsSeated, IsKept}
-use Rattle.threaded_runs.specs.Runs.{HasServed, AreServed}
+use Rattle.threaded_runs.specs.Asks.{halted_in, AsksOften}
+use Rattle.threaded_runs.specs.Counts.{halted}
+use Rattle.threaded_runs.specs.Jobs.{AllSeated, AllUnasked, AllRun, AllKept, HasRun, IsSeated, IsKept, asks_counted}
+use Rattle.threaded_runs.specs.Runs.{HasServed, AreServed, served_in, stamp_of}
 use Rattle.threaded_runs.proofs.Seats.{some_of}
 use Rattle.threaded_runs.proofs.Owning.{own_there, own_trace, own_once}
-use Rattle.threaded_runs.proofs.Closing.{end, word_is, added_is, part_is, descriptors_done, has_served}
+use Rattle.threaded_runs.proofs.Closing.{end, word_is, added_is, part_is, descriptors_done, has_served, few_entered}
+use Rattle.threaded_runs.proofs.Asked.{all_placed, counted_least, often_asked, same_at, sum_below}
 
--- what is known of each state that the machine reaches over a table
-pub record IsLawful {T : Type 0} (m : Meaning) (t : TableState T) : Type 0 where
-  pub limits : IsWithinLimits t.layout
-  pub allowed : AreAllowed t.requests
-  pub is_map : m.is_map ≡ true
-  pub histories : ReachedHaveHistories m t.layout t.requests
-  pub callers : ReachedCallersStand m t.layout t.requests
-  pub descriptors : (w : World) → Reached m t.layout t.requests w → DescriptorsAreKept t.layout (sight m t.layout t.requests w)
-  pub spent : (w : World) → Reached m t.layout t.requests w → SpentStand m t.layout (sight m t.layout t.requests w)
-  pub worn : (w : World) → Reached m t.layout t.requests w → WornAreWorn m t.layout (sight m t.layout t.requests w)
-  pub worn_once : (w : World) → Reached m t.layout t.requests w → HasNoRepeats (sight m t.layout t.requests w)
-  pub own : (w : World) → Reached m t.layout t.requests w → OwnStand t.layout (sight m t.layout t.requests w)
-  pub limbo : (w : World) → Reached m t.layout t.requests w → LimboIsDone (sight m t.layout t.requests w)
-  pub lists : (w : World) → Reached m t.layout t.requests w → ListsAreShort m t.layout (sight m t.layout t.requests w)
-  pub makes : (w : World) → Reached m t.layout t.requests w → MakesAreCounted m t.layout t.requests (sight m t.layout t.requests w)
-  pub few : (w : World) → Reached m t.layout t.requests w → FewAreAdded m t.requests (sight m t.layout t.requests w)
+-- what is known of a table that a planner runs on: each state that the machine reaches over it has its facts
+pub record IsLawful {T : Type 0} (m : Meaning) (planning : Planning) (t : TableState T) : Type 0 where
+  pub facts : KeepsFacts m t.layout t.requests
+  pub planner : PlannerLaws m planning.per_pair
 
-module _ {T : Type 0} (m : Meaning) (planning : Planning) (retry_short : Bool) (t : TableState T) (lawful : IsLawful m t) (gathered keeper : RunnerState T) (w : WordsState T)
+module _ {T : Type 0} (m : Meaning) (planning : Planning) (retry_short : Bool) (t : TableState T) (lawful : IsLawful m planning t) (gathered keeper : RunnerState T) (w : WordsState T)
     (own : IsOf t keeper) (number : keeper.number ≡ t.layout.runners) (settles : Settles m gathered keeper) (closing : IsClosing m t keeper w) where
+  -- those of the state in which it was closed
+  pub facts : HasFacts m t.layout t.requests (end m t keeper w closing)
+  facts = lawful.facts.reached closing.world closing.reached
+
   seat_is : seat_of keeper.layout keeper.number ≡ 0
   seat_is = ap (λ (b : Bool). if b then 0 else suc keeper.number) (eq-eqb keeper.number keeper.layout.runners (number ∙ sym (ap (λ (l : Layout). l.runners) own.layout)))
 
@@ -76,55 +67,114 @@ module _ {T : Type 0} (m : Meaning) (planning : Planning) (retry_short : Bool) (
 
   module _ {H : Type 0} (halts asks : H → ℕ) (jobs : List (Job T H)) (finished : List (Finished T H)) (answers : List Served) (each : length answers ≡ t.layout.runners) (as_many : length jobs ≡ t.layout.runners)
       (back : length finished ≡ length jobs) (seated : AllSeated planning t jobs) (run : AllRun m planning retry_short halts asks t jobs finished) (kept : AllKept gathered answers finished) (history : HaveHistory m w) where
+    -- one worker
+    module _ (worker : ℕ) (low : worker < t.layout.runners) where
+      answers_too : worker < length answers
+      answers_too = subst (λ (n : ℕ). worker < n) (sym each) low
+
+      seat : worker < length jobs
+      seat = subst (λ (n : ℕ). worker < n) (sym as_many) low
+
+      comes : worker < length finished
+      comes = subst (λ (n : ℕ). worker < n) (sym back) seat
+
+      abbrev j : Job T H
+      j = get_or jobs worker (some_of jobs worker seat)
+
+      abbrev f : Finished T H
+      f = get_or finished worker (some_of finished worker comes)
+
+      is_seated : IsSeated planning t worker j
+      is_seated = seated worker (some_of jobs worker seat) seat
+
+      has_run : HasRun m planning retry_short halts asks t j f
+      has_run = run worker (some_of jobs worker seat) (some_of finished worker comes) seat
+
+      is_kept : (a : Served) → IsKept gathered worker (get_or answers worker a) f
+      is_kept a = kept worker a (some_of finished worker comes) answers_too
+
+      part : (end m t keeper w closing).part worker ≡ leaves f.runner.part
+      part = part_is m t keeper w closing worker f.runner.part low (ap (λ js. left_part js worker) settles.joined ∙ (is_kept stops.All).part)
+
+      order : AreInOrder t.requests 64
+      order = lawful.facts.allowed.in_order
+
+      own_of : (i : ℕ) (q : Request) → slice_get j.requests.items i ≡ Some q → slice_get (own_requests t.layout.runners worker t.requests) i ≡ Some q
+      own_of i q e = subst (λ (rs : List Request). slice_get rs i ≡ Some q) is_seated.requests e
+
+      there : (i : ℕ) (q : Request) → slice_get j.requests.items i ≡ Some q → slice_get t.requests q.number ≡ Some q
+      there i q e = own_there t.layout.runners worker t.requests order i q (own_of i q e)
+
+      trace : (i : ℕ) (q : Request) → slice_get j.requests.items i ≡ Some q → q.trace % t.layout.runners ≡ worker
+      trace i q e = own_trace t.layout.runners worker t.requests order i q (own_of i q e)
+
+      once : (i k : ℕ) (q q' : Request) → slice_get j.requests.items i ≡ Some q → slice_get j.requests.items k ≡ Some q' → q.number ≡ q'.number → i ≡ k
+      once i k q q' e e' = own_once t.layout.runners worker t.requests order i k q q' (own_of i q e) (own_of k q' e')
+
+      made : t.layout.nodes ≤ entry_count ((end m t keeper w closing).part worker).nodes + 2 * makes.added (end m t keeper w closing).word (length t.requests)
+      made = facts.makes planning.per_pair lawful.planner settled.free worker low
+
+      served_so : HasServed m w retry_short (own_requests t.layout.runners worker t.requests) f.answer
+      served_so = subst (λ (rs : List Request). HasServed m w retry_short rs f.answer) is_seated.requests
+          (has_served m t keeper w closing lawful.planner.serves facts.history facts.callers
+          worker j.requests.items retry_short planning f.answer j.runner f.runner part _ _ _ _ _ _ has_run.serves there trace once
+          low has_run.own facts.descriptors facts.spent facts.worn (facts.worn_once worker) made facts.lists)
+
+      -- so many of its requests have an entry, and one more at most where it was halted
+      few_own : count_by (λ (q : Request). not (stamp_of m w q == 0)) (own_requests t.layout.runners worker t.requests) ≤ has_run.serves.count + halted f.answer
+      few_own = subst (λ (rs : List Request). count_by (λ (q : Request). not (stamp_of m w q == 0)) rs ≤ has_run.serves.count + halted f.answer) is_seated.requests
+          (few_entered m t keeper w closing lawful.planner.serves facts.history facts.callers
+          worker j.requests.items retry_short planning f.answer j.runner f.runner part _ _ _ _ _ _ has_run.serves there trace once
+          low has_run.own facts.descriptors facts.spent facts.worn (facts.worn_once worker) made facts.lists)
+
+      -- and its gate was asked for each that it served
+      asked_own : AllUnasked asks jobs → min (16 * has_run.serves.count) (2 ^ 64 - 1) ≤ asks f.gate
+      asked_own unasked = subst (λ (n : ℕ). min (16 * has_run.serves.count) (2 ^ 64 - 1) ≤ n) (sym has_run.serves.asked)
+          (counted_least (asks j.gate) (asks_in has_run.serves.tries + has_run.serves.count) (16 * has_run.serves.count)
+          (let least = has_run.serves.least in omega (arith, least)))
+
+      done_so : (short : Short) → f.answer ≡ stops.Short short → short.kind ≡ slots.Descriptor
+          → (d : ℕ) → w.layout.sections * worker ≤ d → d < w.layout.sections * worker + w.layout.sections → word_of m w (DoneWord d) ≡ 1
+      done_so short is kind = descriptors_done m t keeper w closing lawful.planner.serves facts.history facts.callers
+          worker j.requests.items retry_short planning f.answer j.runner f.runner part _ _ _ _ _ _ has_run.serves there trace once
+          low has_run.own facts.descriptors facts.spent facts.worn (facts.worn_once worker) made facts.lists
+          facts.own facts.limbo short is kind
+
+    -- the worker with this answer is one
+    is_one : (worker : ℕ) (answer : Served) → slice_get answers worker ≡ Some answer → worker < t.layout.runners
+    is_one worker answer at = subst (λ (n : ℕ). worker < n) each (slice_get_within answers worker answer at)
+
+    answered : (worker : ℕ) (answer : Served) (at : slice_get answers worker ≡ Some answer) → answer ≡ (f worker (is_one worker answer at)).answer
+    answered worker answer at = sym (get_or_from_slice_get answers worker answer answer at) ∙ (is_kept worker (is_one worker answer at) answer).same
+
     pub worker_served : (worker : ℕ) (answer : Served) → slice_get answers worker ≡ Some answer → HasServed m w retry_short (own_requests t.layout.runners worker t.requests) answer
-    worker_served worker answer at =
-        let few : worker < length answers = slice_get_within answers worker answer at in
-        let low : worker < t.layout.runners = subst (λ (n : ℕ). worker < n) each few in
-        let seat : worker < length jobs = subst (λ (n : ℕ). worker < n) (sym as_many) low in
-        let j = some_of jobs worker seat in
-        let f = some_of finished worker (subst (λ (n : ℕ). worker < n) (sym back) seat) in
-        let is_seated = seated worker j seat in
-        let has_run = run worker j f seat in
-        let is_kept = kept worker answer f few in
-        let same : answer ≡ (get_or finished worker f).answer = sym (get_or_from_slice_get answers worker answer answer at) ∙ is_kept.same in
-        let requests = (get_or jobs worker j).requests.items in
-        let order = lawful.allowed.in_order in
-        let part = part_is m t keeper w closing worker (get_or finished worker f).runner.part low (ap (λ js. left_part js worker) settles.joined ∙ is_kept.part) in
-        subst (λ (a : Served). HasServed m w retry_short (own_requests t.layout.runners worker t.requests) a) (sym same)
-        (subst (λ (rs : List Request). HasServed m w retry_short rs (get_or finished worker f).answer) is_seated.requests
-        (has_served m t keeper w closing lawful.is_map (lawful.histories lawful.limits lawful.allowed closing.world closing.reached) (lawful.callers lawful.limits lawful.allowed closing.world closing.reached)
-        worker requests retry_short planning (get_or finished worker f).answer (get_or jobs worker j).runner (get_or finished worker f).runner part _ _ _ _ has_run.serves
-        (λ i q e. own_there t.layout.runners worker t.requests order i q (subst (λ (rs : List Request). slice_get rs i ≡ Some q) is_seated.requests e))
-        (λ i q e. own_trace t.layout.runners worker t.requests order i q (subst (λ (rs : List Request). slice_get rs i ≡ Some q) is_seated.requests e))
-        (λ i k q q' e e'. own_once t.layout.runners worker t.requests order i k q q' (subst (λ (rs : List Request). slice_get rs i ≡ Some q) is_seated.requests e) (subst (λ (rs : List Request). slice_get rs k ≡ Some q') is_seated.requests e'))
-        low has_run.own (lawful.descriptors closing.world closing.reached) (lawful.spent closing.world closing.reached) (lawful.worn closing.world closing.reached)
-        (λ i k slot e e'. lawful.worn_once closing.world closing.reached worker i k slot e e')
-        (lawful.makes closing.world closing.reached settled.free worker low) (lawful.lists closing.world closing.reached)))
+    worker_served worker answer at = subst (HasServed m w retry_short (own_requests t.layout.runners worker t.requests)) (sym (answered worker answer at))
+        (served_so worker (is_one worker answer at))
 
     worker_done : (worker : ℕ) (short : Short) → slice_get answers worker ≡ Some (stops.Short short) → short.kind ≡ slots.Descriptor
         → (d : ℕ) → w.layout.sections * worker ≤ d → d < w.layout.sections * worker + w.layout.sections → word_of m w (DoneWord d) ≡ 1
-    worker_done worker short at kind =
-        let few : worker < length answers = slice_get_within answers worker (stops.Short short) at in
-        let low : worker < t.layout.runners = subst (λ (n : ℕ). worker < n) each few in
-        let seat : worker < length jobs = subst (λ (n : ℕ). worker < n) (sym as_many) low in
-        let j = some_of jobs worker seat in
-        let f = some_of finished worker (subst (λ (n : ℕ). worker < n) (sym back) seat) in
-        let is_seated = seated worker j seat in
-        let has_run = run worker j f seat in
-        let is_kept = kept worker (stops.Short short) f few in
-        let same : stops.Short short ≡ (get_or finished worker f).answer = sym (get_or_from_slice_get answers worker (stops.Short short) (stops.Short short) at) ∙ is_kept.same in
-        let requests = (get_or jobs worker j).requests.items in
-        let order = lawful.allowed.in_order in
-        let part = part_is m t keeper w closing worker (get_or finished worker f).runner.part low (ap (λ js. left_part js worker) settles.joined ∙ is_kept.part) in
-        descriptors_done m t keeper w closing lawful.is_map (lawful.histories lawful.limits lawful.allowed closing.world closing.reached) (lawful.callers lawful.limits lawful.allowed closing.world closing.reached)
-        worker requests retry_short planning (get_or finished worker f).answer (get_or jobs worker j).runner (get_or finished worker f).runner part _ _ _ _ has_run.serves
-        (λ i q e. own_there t.layout.runners worker t.requests order i q (subst (λ (rs : List Request). slice_get rs i ≡ Some q) is_seated.requests e))
-        (λ i q e. own_trace t.layout.runners worker t.requests order i q (subst (λ (rs : List Request). slice_get rs i ≡ Some q) is_seated.requests e))
-        (λ i k q q' e e'. own_once t.layout.runners worker t.requests order i k q q' (subst (λ (rs : List Request). slice_get rs i ≡ Some q) is_seated.requests e) (subst (λ (rs : List Request). slice_get rs k ≡ Some q') is_seated.requests e'))
-        low has_run.own (lawful.descriptors closing.world closing.reached) (lawful.spent closing.world closing.reached) (lawful.worn closing.world closing.reached)
-        (λ i k slot e e'. lawful.worn_once closing.world closing.reached worker i k slot e e')
-        (lawful.makes closing.world closing.reached settled.free worker low) (lawful.lists closing.world closing.reached)
-        (lawful.own closing.world closing.reached) (lawful.limbo closing.world closing.reached) short (sym same) kind
+    worker_done worker short at kind = done_so worker (is_one worker (stops.Short short) at) short (sym (answered worker (stops.Short short) at)) kind
+
+    -- so all gates were asked often
+    pub asked_often : (before behind : ℕ) → AllUnasked asks jobs → behind ≡ asks_counted asks before finished → 0 < t.layout.runners → AsksOften m w answers before behind
+    asked_often before behind unasked counted some =
+        subst (λ (n : ℕ). min (before + 16 * (served_in m w - halted_in answers)) (2 ^ 64 - 1) ≤ n) (sym counted)
+        (often_asked asks before finished answers (λ worker. count_by (λ (q : Request). not (stamp_of m w q == 0)) (own_requests t.layout.runners worker t.requests))
+        (each ∙ (sym as_many ∙ sym back))
+        (λ worker seat d a. let low : worker < t.layout.runners = subst (λ (n : ℕ). worker < n) (back ∙ as_many) seat in (
+          (has_run worker low).serves.count,
+          subst (λ (n : ℕ). min (16 * (has_run worker low).serves.count) (2 ^ 64 - 1) ≤ n) (ap (λ (x : Finished T H). asks x.gate) (same_at finished worker _ d seat)) (asked_own worker low unasked),
+          subst (λ (x : Served). count_by (λ (q : Request). not (stamp_of m w q == 0)) (own_requests t.layout.runners worker t.requests) ≤ (has_run worker low).serves.count + halted x)
+              (sym (is_kept worker low a).same) (few_own worker low),
+        ))
+        (served_in m w)
+        (subst (λ (rs : List Request). count_by (λ (q : Request). not (stamp_of m w q == 0)) rs
+        ≤ sum_below (λ worker. count_by (λ (q : Request). not (stamp_of m w q == 0)) (own_requests t.layout.runners worker t.requests)) (length finished))
+        (sym closing.requests)
+        (subst (λ (n : ℕ). count_by (λ (q : Request). not (stamp_of m w q == 0)) t.requests
+        ≤ sum_below (λ worker. count_by (λ (q : Request). not (stamp_of m w q == 0)) (own_requests t.layout.runners worker t.requests)) n)
+        (sym (back ∙ as_many))
+        (all_placed (λ (q : Request). not (stamp_of m w q == 0)) (λ (q : Request). q.trace % t.layout.runners) t.layout.runners (λ q. mod-lt q.trace some) t.requests))))
 
     pub all_served : AreServed m w retry_short answers
     all_served = record {
@@ -136,5 +186,5 @@ module _ {T : Type 0} (m : Meaning) (planning : Planning) (retry_short : Bool) (
       done = worker_done;
       few_added = subst (λ (n : ℕ). n ≤ makes.inserts w.requests) (sym (added_is m t keeper w closing))
           (subst (λ (rs : List Request). makes.added (end m t keeper w closing).word (length t.requests) ≤ makes.inserts rs) (sym closing.requests)
-          (lawful.few closing.world closing.reached lawful.is_map));
+          (facts.added lawful.planner.serves));
     }

@@ -4,6 +4,7 @@ mod Counting
 mod Seats
 mod Owning
 mod Stopping
+mod Asked
 mod Closing
 mod Ending
 mod Alone

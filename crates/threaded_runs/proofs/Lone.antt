@@ -21,6 +21,7 @@ use Rattle.machine_states.specs.Sight.{sight}
 use Rattle.closed_words.specs.machine_invariant.specs.After.{AreAllowed}
 use Rattle.runner_parts.specs.Lists.{entry_count}
 use Rattle.closed_words.specs.reached_histories.specs.Laws.{HasHistory}
+use Rattle.reached_facts.specs.Facts.{HasFacts}
 use Rattle.closed_words.specs.version_words.specs.RunnerState.{RunnerState}
 use Rattle.closed_words.specs.version_words.specs.Shown.{left_part}
 use Rattle.closed_words.specs.version_words.specs.TableState.{TableState, WordsState, IsOf, IsClosing, word_of}
@@ -33,34 +34,25 @@ use Rattle.serving.specs.Serving.{is_crossed, most_asks, Ends, ServedRuns, Try, 
 use Rattle.serving.specs.attempts.specs.declared.answers.Attempt.{Attempt}
 use Rattle.serving.specs.attempts.specs.declared.answers.Attempt.TheVariants as attempts
 use Rattle.serving.specs.attempt_bounds.specs.Lone.{LoneAttemptsAreServed, NobodyCameBetween}
-use Rattle.serving.specs.one_worker.specs.Uncrossed.{OneWorkerIsUncrossed}
 use Rattle.serving.specs.attempt_bounds.specs.Spared.{AttemptsSpareSlots}
 use Rattle.serving.specs.declared.answers.Served.{Served}
 use Rattle.serving.specs.declared.answers.Served.TheVariants as stops
 use Rattle.closed_words.specs.Histories.{HaveHistory}
-use Rattle.serving.specs.resource_bounds.specs.Versions.{VersionsAreCounted}
-use Rattle.serving.specs.resource_bounds.specs.InUse.{FewAreInUse}
-use Rattle.settling.specs.keeper_facts.specs.Freed.{IsFreed, LocksTell}
+use Rattle.settling.specs.keeper_facts.specs.Freed.{IsFreed}
 use Rattle.settling.specs.Settled.{Settles}
 use Rattle.threaded_runs.specs.declared.job.Job.{Job}
 use Rattle.threaded_runs.specs.declared.job.Finished.{Finished}
 use Rattle.threaded_runs.specs.Own.{own_requests}
 use Rattle.threaded_runs.specs.Jobs.{AllSeated, AllUnasked, AllRun, AllKept, HasRun, IsSeated, asks_counted}
-use Rattle.threaded_runs.specs.Lone.{AreServedAlone, AsksAlone, ServesAlone}
+use Rattle.threaded_runs.specs.Asks.{AsksAlone}
+use Rattle.threaded_runs.specs.Lone.{AreServedAlone, ServesAlone}
 use Rattle.threaded_runs.specs.Runs.{AreEntered, HasServed, served_in, stamp_of}
 use Rattle.threaded_runs.proofs.Seats.{some_of}
 use Rattle.threaded_runs.proofs.Closing.{end, known_entry, part_is}
 use Rattle.threaded_runs.proofs.Counting.{asks_of_one, rises_within}
 use Rattle.threaded_runs.proofs.Picked.{front_passes}
-use Rattle.threaded_runs.proofs.Ending.{IsLawful, settled, worker_served}
+use Rattle.threaded_runs.proofs.Ending.{IsLawful, facts, settled, worker_served}
 use Rattle.threaded_runs.proofs.Alone.{second_is, all_own, none_freed, few_versions, few_slots}
-
--- what is known beside it where there is one worker
-pub record IsLawfulAlone {T : Type 0} (m : Meaning) (per_pair : ℕ) (t : TableState T) : Type 0 where
-  pub versions : (w : World) → Reached m t.layout t.requests w → VersionsAreCounted t.layout (sight m t.layout t.requests w)
-  pub in_use : (w : World) → Reached m t.layout t.requests w → FewAreInUse per_pair m t.layout t.requests (sight m t.layout t.requests w)
-  pub tells : (w : World) → Reached m t.layout t.requests w → LocksTell m t.layout (sight m t.layout t.requests w)
-  pub uncrossed : (w : World) → Reached m t.layout t.requests w → OneWorkerIsUncrossed t.layout (sight m t.layout t.requests w)
 
 -- the keeper once it has joined the workers and before it settles the table: it has run nothing
 pub record IsFresh {T : Type 0} (m : Meaning) (t : TableState T) (keeper : RunnerState T) : Type 0 where
@@ -90,12 +82,16 @@ asks_within before behind count served most asked none few =
     let more : (count + 1) * most ≤ (served + 1) * most = mul-le (count + 1) most (served + 1) most (omega (arith, few)) (omega arith) in
     omega (arith, asked, none, more)
 
-module _ {T H : Type 0} (m : Meaning) (planning : Planning) (retry_short : Bool) (t : TableState T) (lawful : IsLawful m t) (gathered keeper : RunnerState T) (w : WordsState T)
+module _ {T H : Type 0} (m : Meaning) (planning : Planning) (retry_short : Bool) (t : TableState T) (lawful : IsLawful m planning t) (gathered keeper : RunnerState T) (w : WordsState T)
     (own : IsOf t keeper) (number : keeper.number ≡ t.layout.runners) (settles : Settles m gathered keeper) (closing : IsClosing m t keeper w)
     (halts asks : H → ℕ) (jobs : List (Job T H)) (finished : List (Finished T H)) (answers : List Served) (each : length answers ≡ t.layout.runners) (as_many : length jobs ≡ t.layout.runners)
     (back : length finished ≡ length jobs) (seated : AllSeated planning t jobs) (run : AllRun m planning retry_short halts asks t jobs finished) (kept : AllKept gathered answers finished) (history : HaveHistory m w)
-    (per_pair : ℕ) (alone : IsLawfulAlone m per_pair t) (fresh : IsFresh m t gathered) (one : t.layout.runners ≡ 1)
+    (fresh : IsFresh m t gathered) (one : t.layout.runners ≡ 1)
     (attempts_go : LoneAttemptsAreServed T m planning) (spare : AttemptsSpareSlots T m planning) where
+  -- what holds of the state in which the table was closed
+  reached : HasFacts m t.layout t.requests (end m t keeper w closing)
+  reached = facts m planning retry_short t lawful gathered keeper w own number settles closing
+
   low : 0 < t.layout.runners
   low = omega (arith, one)
 
@@ -135,8 +131,8 @@ module _ {T H : Type 0} (m : Meaning) (planning : Planning) (retry_short : Bool)
   -- no attempt was refused since another one came between
   uncrossed : (tries : List Try) → WasCrossed m planning tries j.runner → ⊥
   uncrossed tries is = not_crossed is.answer is.crossed (attempts_go.refused is.request is.answer is.before is.cut (record {
-    limits = subst IsWithinLimits (sym layout_is) lawful.limits;
-    allowed = subst AreAllowed (sym (is.requests ∙ is_seated.may.own.requests)) lawful.allowed;
+    limits = subst IsWithinLimits (sym layout_is) lawful.facts.limits;
+    allowed = subst AreAllowed (sym (is.requests ∙ is_seated.may.own.requests)) lawful.facts.allowed;
     one = ap (λ (l : Layout). l.runners) layout_is ∙ one;
   }) is.refused)
     where
@@ -160,7 +156,7 @@ module _ {T H : Type 0} (m : Meaning) (planning : Planning) (retry_short : Bool)
   all_entered = subst (λ (rs : List Request). has_run.serves.count ≤ count_by (λ (q : Request). not (stamp_of m w q == 0)) rs)
       (is_seated.requests ∙ (ap (λ n. own_requests n 0 t.requests) one ∙ (all_own t.requests ∙ sym closing.requests)))
       (front_passes (λ (q : Request). not (stamp_of m w q == 0)) j.requests.items has_run.serves.count has_run.serves.served.few
-      (λ i q low e. ap not (ne_eqb (stamp_of m w q) 0 (known_entry m t keeper w closing (lawful.histories lawful.limits lawful.allowed closing.world closing.reached) 0 q.number
+      (λ i q low e. ap not (ne_eqb (stamp_of m w q) 0 (known_entry m t keeper w closing reached.history 0 q.number
       (ap (λ (x : PartState). is_answered x.records.known q.number) p_is ∙ has_run.serves.served.answered i q low e)))))
 
   few_asks : asks j.gate ≡ 0 → asks f.gate ≤ (served_in m w + 1) * most_asks (cells.slots m w.layout)
@@ -187,22 +183,22 @@ module _ {T H : Type 0} (m : Meaning) (planning : Planning) (retry_short : Bool)
         by stops.Halted not ends = absurd (not refl)
 
     none : (d : ℕ) → IsFreed m keeper.part.records.left d → ⊥
-    none = none_freed m t keeper w closing one p p_is tidy.at.published (alone.tells closing.world closing.reached)
+    none = none_freed m t keeper w closing one p p_is tidy.at.published reached.locks
         (λ worker few. ap (λ xs. has xs worker) settles.told ∙ fresh.told worker few)
 
     versions : (place : ℕ) → version_of (word_of m w (Cell place)) ≤ 4 * length w.requests + 5
-    versions = few_versions m t keeper w closing one p p_is tidy.at.published (alone.versions closing.world closing.reached) tidy.at.resting
+    versions = few_versions m t keeper w closing one p p_is tidy.at.published reached.versions tidy.at.resting
         settles.tidy.at.resting settles.tidy.at.published ((settles.quiet none).1 ∙ fresh.finished) few_runs
 
     slots_at : (short : Short) → slice_get answers 0 ≡ Some (stops.Short short) → short.kind ≡ slots.Node
-        → w.layout.nodes ≤ short.free + (short.limbo + short.worn) + per_pair * peak w.requests
+        → w.layout.nodes ≤ short.free + (short.limbo + short.worn) + planning.per_pair * peak w.requests
     slots_at short is kind =
         let free : short.free ≡ length p.nodes.free = ap (λ (x : Short). x.free) counts in
         let limbo : short.limbo ≡ length p.nodes.limbo = ap (λ (x : Short). x.limbo) counts in
         let worn_out : short.worn ≡ length p.nodes.worn = ap (λ (x : Short). x.worn) counts in
         let hand : length p.nodes.hand ≡ 0 = ap length tidy.hand in
         let nodes : w.layout.nodes ≡ t.layout.nodes = ap (λ (l : Layout). l.nodes) closing.layout in
-        let largest : per_pair * peak w.requests ≡ per_pair * peak t.requests = ap (λ (rs : List Request). per_pair * peak rs) closing.requests in
+        let largest : planning.per_pair * peak w.requests ≡ planning.per_pair * peak t.requests = ap (λ (rs : List Request). planning.per_pair * peak rs) closing.requests in
         omega (arith, few, free, limbo, worn_out, hand, nodes, largest)
       where
         is_short : f.answer ≡ stops.Short short
@@ -220,16 +216,16 @@ module _ {T H : Type 0} (m : Meaning) (planning : Planning) (retry_short : Bool)
         entered : AreEntered m w t.requests served.count
         entered = subst (λ (rs : List Request). AreEntered m w rs served.count) (ap (λ n. own_requests n 0 t.requests) one ∙ all_own t.requests) served.entered
 
-        few : t.layout.nodes ≤ entry_count p.nodes + per_pair * peak t.requests
-        few = few_slots m t keeper w closing one p p_is tidy.at.published per_pair (alone.in_use closing.world closing.reached)
+        few : t.layout.nodes ≤ entry_count p.nodes + planning.per_pair * peak t.requests
+        few = few_slots m t keeper w closing one p p_is tidy.at.published planning.per_pair (reached.in_use planning.per_pair lawful.planner)
             (settled m planning retry_short t lawful gathered keeper w own number settles closing).free
-            (lawful.histories lawful.limits lawful.allowed closing.world closing.reached) lawful.is_map lawful.allowed.in_order
+            reached.history lawful.planner.serves lawful.facts.allowed.in_order
             ((settles.quiet none).0 ∙ fresh.nodes) served.count entered
 
     -- nobody crossed its steps
     alone_here : p.records.crossed ≡ false
     alone_here = ap (λ (x : PartState). x.records.crossed) (sym p_is)
-        ∙ (alone.uncrossed closing.world closing.reached one).behind (ap (λ (x : PartState). x.gone) p_is)
+        ∙ (reached.uncrossed one).behind (ap (λ (x : PartState). x.gone) p_is)
         (ap (λ (x : PartState). x.records.crosses) (second_is m t keeper w closing one p p_is tidy.at.published) ∙ (settles.crosses ∙ fresh.apart))
 
     limbo_at : (short : Short) → 8 * length w.requests + 8 ≤ w.layout.version_max → slice_get answers 0 ≡ Some (stops.Short short) → short.limbo ≡ 0
@@ -244,7 +240,7 @@ module _ {T H : Type 0} (m : Meaning) (planning : Planning) (retry_short : Bool)
         low : length p.records.finished < 2 ^ 59
         low = below (length p.records.finished) (length t.requests) t.layout.version_max few_runs
             (subst (λ (rs : List Request). 8 * length rs + 8 ≤ t.layout.version_max) closing.requests
-            (subst (λ (l : Layout). 8 * length w.requests + 8 ≤ l.version_max) closing.layout versions_enough)) lawful.limits.few_versions
+            (subst (λ (l : Layout). 8 * length w.requests + 8 ≤ l.version_max) closing.layout versions_enough)) lawful.facts.limits.few_versions
           where
             below : (n k v : ℕ) → n ≤ k + 1 → 8 * k + 8 ≤ v → v < 2 ^ 32 → n < 2 ^ 59
             below n k v few room low = omega (arith, few, room, low)
@@ -255,7 +251,7 @@ module _ {T H : Type 0} (m : Meaning) (planning : Planning) (retry_short : Bool)
             (λ spared. spare.short short ends.0.number ends.2.before f.runner spared ends.2.stops.cause alone_here low)
             (ends.2.spared is_so (spare.first j.runner is_seated.unmet))
 
-  pub served_alone : slice_get answers 0 ≢ Some stops.Halted → AreServedAlone m per_pair w answers
+  pub served_alone : slice_get answers 0 ≢ Some stops.Halted → AreServedAlone m planning.per_pair w answers
   served_alone unhalted =
       let went : answer ≢ stops.Halted = λ e. unhalted (at ∙ ap Some e) in
       record { versions = versions went; slots = slots_at went; limbo = limbo_at went }

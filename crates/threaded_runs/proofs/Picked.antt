@@ -5,6 +5,7 @@ use Rattle.std.proofs.Common.{◌≡◌, ℕ, zero, suc, ◌+◌, ◌<◌, ◌�
 use Rattle.std.proofs.lemmas.List.Elements.{filter-append}
 use Rattle.std.proofs.lemmas.List.Sums.{sum_by-cons}
 use Rattle.std.proofs.lemmas.List.{take_more}
+use Rattle.small_lemmas.proofs.Numbers.{one_at_most}
 use Rattle.machine_states.proofs.Steps.{some_same}
 use Rattle.machine_states.proofs.Sights.{some_none}
 
@@ -85,3 +86,17 @@ module _ {A : Type 0} (test : A → Bool) where
       let passes : ◌≡◌ {A = ℕ} (cond (test x) 1 0) 1 = ap (λ (b : Bool). cond b 1 0) (all 0 x (omega arith) refl) in
       let rest : n ≤ count_by test xs = front_passes xs n (omega (arith, few)) (λ i y low at. all (suc i) y (omega (arith, low)) at) in
       omega (arith, first, passes, rest)
+
+  -- and where only these do, so many do at most
+  pub front_only : (xs : List A) (n : ℕ) → ((i : ℕ) (x : A) → n ≤ i → slice_get xs i ≡ Some x → test x ≡ false) → count_by test xs ≤ n
+  front_only [] n none = omega arith
+  front_only (x ∷ xs) zero none =
+      let first : count_by test (x ∷ xs) ≡ cond (test x) 1 0 + count_by test xs = sum_by-cons (λ (y : A). cond (test y) 1 0) x xs in
+      let fails : ◌≡◌ {A = ℕ} (cond (test x) 1 0) 0 = ap (λ (b : Bool). cond b 1 0) (none 0 x (omega arith) refl) in
+      let rest : count_by test xs ≤ 0 = front_only xs zero (λ i y past at. none (suc i) y (omega arith) at) in
+      omega (arith, first, fails, rest)
+  front_only (x ∷ xs) (suc n) none =
+      let first : count_by test (x ∷ xs) ≡ cond (test x) 1 0 + count_by test xs = sum_by-cons (λ (y : A). cond (test y) 1 0) x xs in
+      let one = one_at_most (test x) in
+      let rest : count_by test xs ≤ n = front_only xs n (λ i y past at. none (suc i) y (omega (arith, past)) at) in
+      omega (arith, first, one, rest)

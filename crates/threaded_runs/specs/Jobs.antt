@@ -7,6 +7,7 @@ use Rattle.closed_words.specs.version_words.specs.RunnerState.{RunnerState}
 use Rattle.closed_words.specs.version_words.specs.Shown.{left_part}
 use Rattle.closed_words.specs.version_words.specs.TableState.{TableState, IsOf}
 use Rattle.settling.specs.try_lock.specs.Planning.{Planning}
+use Rattle.serving.specs.attempts.specs.Counted.{IsSeen}
 use Rattle.serving.specs.Serving.{MayServe, Serves}
 use Rattle.serving.specs.declared.answers.Served.{Served}
 use Rattle.serving.specs.declared.answers.Served.TheVariants as answers
@@ -46,8 +47,8 @@ module _ {T H : Type 0} where
       pub own : IsOf t f.runner
       -- so many steps were counted
       pub steps : ℕ
-      pub serves : Serves m planning retry_short j.requests.items f.answer j.runner f.runner (asks j.gate) (asks f.gate)
-          0 steps
+      pub serves : Serves m planning retry_short j.requests.items f.answer j.runner f.runner (IsSeen halts asks)
+          (halts j.gate) (asks j.gate) (asks f.gate) 0 steps
       pub halted : halts j.gate ≡ 0 → f.answer ≡ answers.Halted → 0 < halts f.gate
       pub went : halts j.gate ≡ 0 → f.answer ≢ answers.Halted → halts f.gate ≡ 0
 

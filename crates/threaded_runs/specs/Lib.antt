@@ -3,6 +3,7 @@ pub mod Keeper
 pub mod Counts
 pub mod Jobs
 pub mod Runs
+pub mod Asks
 pub mod Lone
 -- Passed on to the layers above, so that they needn't name these libraries themselves.
 pub use Rattle.map_sizes

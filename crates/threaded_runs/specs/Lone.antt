@@ -3,15 +3,12 @@ use Rattle.std.specs.Prelude.{◌≡◌, ◌≢◌, ℕ, ◌+◌, ◌*◌, ◌�
 use Rattle.map_sizes.specs.Sizes.{peak}
 use Rattle.body_terms.specs.Word.{version_of}
 use Rattle.table_words.specs.declared.spot.Spot.TheVariants.{Cell}
-use Rattle.structure_laws.specs.Cells as cells
 use Rattle.structure_laws.specs.Meaning.{Meaning}
 use Rattle.closed_words.specs.version_words.specs.TableState.{WordsState, word_of}
 use Rattle.settling.specs.epoch_slots.specs.declared.reserves.Kind.TheVariants as kinds
 use Rattle.settling.specs.epoch_slots.specs.declared.reserves.Short.{Short}
-use Rattle.serving.specs.Serving.{most_asks}
 use Rattle.serving.specs.declared.answers.Served.{Served}
 use Rattle.serving.specs.declared.answers.Served.TheVariants as answers
-use Rattle.threaded_runs.specs.Runs.{served_in}
 
 module _ {T : Type 0} (m : Meaning) (per_pair : ℕ) (w : WordsState T) where
   -- what the one worker leaves with this answer
@@ -31,10 +28,3 @@ module _ {T : Type 0} (m : Meaning) (per_pair : ℕ) (w : WordsState T) where
   -- so it is with one worker that wasn't halted
   abbrev pub ServesAlone : List Served → Type 0
   ServesAlone given = w.layout.runners ≡ 1 → slice_get given 0 ≢ Some answers.Halted → AreServedAlone given
-
-module _ {T : Type 0} (m : Meaning) (w : WordsState T) where
-  -- what the gate of the one worker adds to a count of asks, whatever the worker answered: at most so many
-  -- asks for each served request, and once more so many
-  abbrev pub AsksAlone : (before behind : ℕ) → Type 0
-  AsksAlone before behind = w.layout.runners ≡ 1
-      → behind ≤ before + (served_in m w + 1) * most_asks (cells.slots m w.layout)

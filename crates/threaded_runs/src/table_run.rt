@@ -3,30 +3,19 @@ ghost use Rattle.std.specs.Prelude.{◌≡◌, IfOk, OnErr, All, [], true, lengt
 ghost use Rattle.map_history.specs.Requests.{AreInOrder};
 ghost use Rattle.table_words.specs.Limits.{IsWithinLimits};
 ghost use Rattle.threaded_runs.specs.Counts.{halts_counted, plans_given, plans_from, returns_counted, GivesFront};
-ghost use Rattle.threaded_runs.specs.Lone.{ServesAlone, AsksAlone};
+ghost use Rattle.threaded_runs.specs.Asks.{AreAsked};
+ghost use Rattle.threaded_runs.specs.Lone.{ServesAlone};
 ghost use Rattle.threaded_runs.specs.Runs.{IsMadeWith, AreServed};
 
 use crate::running::run_jobs;
 use crate::seating::{gather, make_jobs};
 use closed_words::closed_words_have_a_history;
-use closed_words::machine_invariant::lists_are_short;
-use closed_words::reached_histories::reached_states_have_histories;
-use closed_words::version_words::{FlockTable, Words, table_is_allowed};
+use closed_words::version_words::{FlockTable, Words};
 use map_history::Request;
+use reached_facts::table_keeps_its_facts;
 use serving::Served;
 use serving::attempt_bounds::{attempts_spare_slots, lone_attempts_are_served};
 use serving::lock_walks::Planner;
-use serving::lock_words::spent_words_stand;
-use serving::one_worker::one_worker_is_uncrossed;
-use serving::request_facts::reached_callers_stand;
-use serving::resource_bounds::{
-    few_pairs_are_added, few_slots_are_in_use, makes_are_counted, versions_are_counted,
-};
-use settling::keeper_facts::what_the_keeper_saw_tells;
-use settling::runner_facts::{
-    descriptors_are_kept, limbo_is_done, own_descriptors_stand, worn_lists_have_no_repeats,
-    worn_slots_are_worn,
-};
 use settling::runner_gate::Gates;
 use settling::settle;
 use std::alloc::{AllocError, Global};
@@ -67,7 +56,7 @@ where
     ensures words { IfOk result (λ x. IsMadeWith structure layout requests.now x.0) }
     ensures served { IfOk result (λ x. AreServed (S.meaning structure) x.0 retry_short x.1.items
         × ServesAlone (S.meaning structure) (S.planning structure).per_pair x.0 x.1.items
-        × AsksAlone (S.meaning structure) x.0 (G.asks gates.old) (G.asks gates.new)) }
+        × AreAsked (S.meaning structure) x.0 x.1.items (G.asks gates.old) (G.asks gates.new)) }
     ensures halts { IfOk result (λ x. G.halts gates.new ≡ halts_counted (G.halts gates.old) x.1.items) }
     ensures plans { IfOk result (λ _. G.plans gates.new ≡ plans_given (G.plans gates.old) halts.now) }
     // For each worker a gate was given with its entry of the halts, in order of number, and each came back.
@@ -77,24 +66,9 @@ where
     ensures front { OnErr result (GivesFront (G.plans gates.old) (G.plans gates.new) halts.now) }
 {
     let (table, keeper) = FlockTable::new(alloc, structure, layout, requests)?;
-    table_is_allowed(&table);
-    reached_states_have_histories(table.structure());
-    reached_callers_stand(table.structure());
-    descriptors_are_kept(table.structure());
-    spent_words_stand(table.structure());
-    worn_slots_are_worn(table.structure());
-    worn_lists_have_no_repeats(table.structure());
-    makes_are_counted(table.structure());
-    few_pairs_are_added(table.structure());
-    own_descriptors_stand(table.structure());
-    limbo_is_done(table.structure());
-    versions_are_counted(table.structure());
-    few_slots_are_in_use(table.structure());
-    what_the_keeper_saw_tells(table.structure());
+    table_keeps_its_facts(&table);
     lone_attempts_are_served(table.structure());
-    one_worker_is_uncrossed(table.structure());
     attempts_spare_slots(table.structure());
-    lists_are_short(table.structure());
     let (keeper, jobs) = make_jobs(&table, alloc, keeper, requests, halts, gates)?;
     let finished = run_jobs(rt, &table, retry_short, jobs)?;
     let (keeper, answers) = gather(&table, alloc, keeper, finished, gates)?;

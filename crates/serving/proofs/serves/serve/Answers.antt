@@ -27,7 +27,7 @@ returns-in-Some-clause-serves g c =
     c.args.requests.now c.args.retry_short c.args.runner c.loop-request.runner c.persist-next.result.0
     c.args.table.now c.table_is_allowed.ensures.limits c.table_is_allowed.ensures.requests c.requires.own inv.own c.persist-next.ensures.own
     c.requires.next c.loop-request.request-index _ (slice_get-get_or c.args.requests.now c.loop-request.request-index _ c.loop-request-test.true) inv.along
-    c.persist-next.result.1 _ _ _ _ _ _ c.persist-next.ensures.persists inv.so_far
+    c.persist-next.result.1 _ _ _ inv.went _ _ _ _ _ _ c.persist-next.ensures.persists inv.so_far
     (subst (λ s. AttemptsSpareSlots g.row.S.Denot (g.S.Structure.meaning s) (g.S.Planner.planning s)) c.structure.ensures c.attempts_spare_slots.ensures)
     c.in-Some.stopped (sym c.in-Some.ensures)
 
@@ -39,22 +39,14 @@ pub returns-then-not-goes_on-clause-serves : goal.returns-then-not-goes_on-claus
 returns-then-not-goes_on-clause-serves g c =
     let met = g.met.S.Structure g.world.𝓛 g.world.𝓜 g.world.𝓡 ((λ s allowed. allowed), (λ patient. patient), (λ alone. alone), (λ cuts. cuts)) in
     let inv = c.loop-request.invariant in
-    halted_behind (g.S.Structure.meaning c.args.table.now.structure) (g.S.Planner.planning c.args.table.now.structure) c.args.requests.now c.args.retry_short
-    c.args.runner c.persist-next.result.0 _
-    (goes_along (g.S.Structure.meaning c.args.table.now.structure) (met.laws c.args.table.now.structure) (g.S.Planner.planning c.args.table.now.structure)
+    halted_behind (g.S.Structure.meaning c.args.table.now.structure) (met.laws c.args.table.now.structure) (g.S.Planner.planning c.args.table.now.structure)
     c.args.requests.now c.args.retry_short c.args.runner c.loop-request.runner c.persist-next.result.0
     c.args.table.now c.table_is_allowed.ensures.limits c.table_is_allowed.ensures.requests c.requires.own inv.own c.persist-next.ensures.own
     c.requires.next c.loop-request.request-index _ (slice_get-get_or c.args.requests.now c.loop-request.request-index _ c.loop-request-test.true) inv.along
-    c.persist-next.result.1 _ _ _ _ _ _ c.persist-next.ensures.persists inv.so_far
+    c.persist-next.result.1 _ _ _ inv.went _ _ _ _ _ _ c.persist-next.ensures.persists inv.so_far
     (subst (λ s. AttemptsSpareSlots g.row.S.Denot (g.S.Structure.meaning s) (g.S.Planner.planning s)) c.structure.ensures c.attempts_spare_slots.ensures)
-    (sym c.in_default.ensures))
-    _ _ _ _ (so_far_along (g.S.Structure.meaning c.args.table.now.structure) (met.laws c.args.table.now.structure) (g.S.Planner.planning c.args.table.now.structure)
-    c.args.requests.now c.args.retry_short c.args.runner c.loop-request.runner c.persist-next.result.0
-    c.args.table.now c.table_is_allowed.ensures.limits c.table_is_allowed.ensures.requests c.requires.own inv.own c.persist-next.ensures.own
-    c.requires.next c.loop-request.request-index _ (slice_get-get_or c.args.requests.now c.loop-request.request-index _ c.loop-request-test.true) inv.along
-    c.persist-next.result.1 _ _ _ _ _ _ c.persist-next.ensures.persists inv.so_far
-    (subst (λ s. AttemptsSpareSlots g.row.S.Denot (g.S.Structure.meaning s) (g.S.Planner.planning s)) c.structure.ensures c.attempts_spare_slots.ensures)
-    (sym c.in_default.ensures) _ (c.if-not-goes_on.ensures 0).asked)
+    (sym c.in_default.ensures) _ (c.if-not-goes_on.ensures 0).asked
+    (c.persist-next.new.gate, c.persist-next.ensures.went (going_of c.persist-next.result.1 (sym c.in_default.ensures)) ∙ inv.went, refl)
 
 pub returns-then-not-goes_on-clause-halted : goal.returns-then-not-goes_on-clause-halted
 returns-then-not-goes_on-clause-halted g c = λ _.
@@ -71,14 +63,14 @@ loop-request-preserved g c =
           c.args.requests.now c.args.retry_short c.args.runner c.loop-request.runner c.persist-next.result.0
           c.args.table.now c.table_is_allowed.ensures.limits c.table_is_allowed.ensures.requests c.requires.own inv.own c.persist-next.ensures.own
           c.requires.next c.loop-request.request-index _ (slice_get-get_or c.args.requests.now c.loop-request.request-index _ c.loop-request-test.true) inv.along
-          c.persist-next.result.1 _ _ _ _ _ _ c.persist-next.ensures.persists inv.so_far
+          c.persist-next.result.1 _ _ _ inv.went _ _ _ _ _ _ c.persist-next.ensures.persists inv.so_far
           (subst (λ s. AttemptsSpareSlots g.row.S.Denot (g.S.Structure.meaning s) (g.S.Planner.planning s)) c.structure.ensures c.attempts_spare_slots.ensures)
           (sym c.in_default.ensures);
       so_far = so_far_along (g.S.Structure.meaning c.args.table.now.structure) (met.laws c.args.table.now.structure) (g.S.Planner.planning c.args.table.now.structure)
           c.args.requests.now c.args.retry_short c.args.runner c.loop-request.runner c.persist-next.result.0
           c.args.table.now c.table_is_allowed.ensures.limits c.table_is_allowed.ensures.requests c.requires.own inv.own c.persist-next.ensures.own
           c.requires.next c.loop-request.request-index _ (slice_get-get_or c.args.requests.now c.loop-request.request-index _ c.loop-request-test.true) inv.along
-          c.persist-next.result.1 _ _ _ _ _ _ c.persist-next.ensures.persists inv.so_far
+          c.persist-next.result.1 _ _ _ inv.went _ _ _ _ _ _ c.persist-next.ensures.persists inv.so_far
           (subst (λ s. AttemptsSpareSlots g.row.S.Denot (g.S.Structure.meaning s) (g.S.Planner.planning s)) c.structure.ensures c.attempts_spare_slots.ensures)
           (sym c.in_default.ensures) _ (c.if-not-goes_on.ensures 0).asked;
       went = (c.if-not-goes_on.ensures 0).went refl
@@ -90,4 +82,4 @@ returns-clause-serves g c =
     let inv = c.loop-request.invariant in
     let all : c.loop-request.request-index ≡ length c.args.requests.now = (let a = c.loop-request-test.false in let b = c.loop-request.auto.request-index-end in omega (arith, a, b)) in
     all_served (g.S.Structure.meaning c.args.table.now.structure) (g.S.Planner.planning c.args.table.now.structure) c.args.requests.now c.args.retry_short
-    c.args.runner c.loop-request.runner c.loop-request.request-index inv.along _ _ _ _ inv.so_far all
+    c.args.runner c.loop-request.runner c.loop-request.request-index inv.along _ _ _ _ _ _ inv.so_far all
