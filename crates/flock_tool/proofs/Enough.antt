@@ -100,7 +100,7 @@ ends_otherwise m w waits number not_five not_six = record { slots = λ _ _. not_
 
 -- fewer than two versions are left behind a word that is told spent, and its place isn't at an earlier one
 pub is_late : (m : Meaning) (l : Layout) (place word : ℕ) → IsSpentAt m l place word → IsLate l word
-is_late m l place word spent = ⊎_elim (λ free. free.1) (λ limit. omega (arith, limit.1)) spent
+is_late m l place word spent = ⊎_elim (λ free. free.2) (λ limit. omega (arith, limit.1)) spent
 
 pub is_past : (words : Spot → ℕ) (place word : ℕ) → IsPast words place word → version_of word ≤ version_of (words (Cell place))
 is_past words place word past = ⊎_elim (λ same. let now = ap version_of same in omega (arith, now)) (λ below. omega (arith, below)) past

@@ -12,12 +12,13 @@ use Rattle.section_lines.specs.Line.{IsLine}
 use Rattle.agreement_core.specs.State.{AgreementState, Section}
 use Rattle.agreement_core.specs.Sound.{UsedIsSound}
 use Rattle.agreement_core.specs.Runs.{TrailIsSound}
+use Rattle.agreement_core.proofs.Lines.{outcome_lock}
 use Rattle.machine_states.specs.Sight.{Sight}
 use Rattle.machine_scenes.specs.Shown.{rules_of}
 use Rattle.runner_facts.specs.machine_agreement.specs.Joined.{IsRunOf, IsJoinedToAgreement}
 use Rattle.runner_facts.specs.machine_agreement.proofs.RunPlaces.{run_here, used_here, code_here}
 use Rattle.lock_words.specs.Spent.{IsPast, IsSpentAt}
-use Rattle.lock_words.proofs.Leaving.{IsCheckOf, LeavesAt}
+use Rattle.lock_words.proofs.Leaving.{IsTakeCheck, IsCheckOf, LeavesAt}
 
 module _ (m : Meaning) (l : Layout) (a : AgreementState) (s : Sight) (joined : IsJoinedToAgreement m l a s) where
   -- a word that was read at a place
@@ -93,8 +94,19 @@ module _ (m : Meaning) (l : Layout) (a : AgreementState) (s : Sight) (joined : I
         let before = line.ordered.commit_before loaded.0 place log loaded.2 in
         line.placed.load_unlocked before.0 place log before.2
 
+    -- a Take's place is a lock
+    taken_lock : (place log : ℕ) → IsTakeCheck (x.code q.at) place log → m.is_lock place ≡ true
+    taken_lock place log check = ⊎_elim
+        (λ free. let before = line.ordered.free_before q.at place log free.0 free.1 in
+        let load = line.ordered.nested_before before.0 place log before.2 in
+        line.placed.take_lock load.0 place log load.2)
+        (λ held. let before = line.ordered.held_before q.at place log held.0 held.1 in
+        outcome_lock (rules_of m l) x.lock x.code x.slot line (suc (suc before.0)) place log before.3)
+        check
+
     pub left_late : (place spent : ℕ) → LeavesAt l q.trail (micro_at (line_of m q) q.at) place spent → IsSpentAt m l place spent
-    left_late place spent leaves = ⊎_elim (λ free. inl free)
+    left_late place spent leaves = ⊎_elim
+        (λ free. inl (taken_lock place leaves.log (subst (λ micro. IsTakeCheck micro place leaves.log) (sym (code q.at)) free.0), free.1, free.2))
         (λ limit. inr (fresh_cell place leaves.log (code q.at ∙ limit.1), limit.0)) leaves.late
 
     -- so the place is past it

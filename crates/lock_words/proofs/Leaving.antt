@@ -15,14 +15,19 @@ use Rattle.runner_steps.specs.Sections.{setting_of, outcome_or}
 use Rattle.machine_states.proofs.Steps.{some_same, none_some}
 use Rattle.lock_words.specs.Spent.{IsLate}
 
--- the check at which it leaves: its place in the log has the word
+-- a check of a Take: its place in the log has the word
+abbrev pub IsTakeCheck : Micro → ℕ → ℕ → Type 0
+IsTakeCheck micro place log = ((w : ℕ) × (micro ≡ CheckFree place log w)) ⊎ ((w : ℕ) × (micro ≡ CheckHeld place log w))
+
+-- the check at which it leaves
 abbrev pub IsCheckOf : Micro → ℕ → ℕ → Type 0
-IsCheckOf micro place log = (micro ≡ CheckFresh place log) ⊎ (((w : ℕ) × (micro ≡ CheckFree place log w)) ⊎ ((w : ℕ) × (micro ≡ CheckHeld place log w)))
+IsCheckOf micro place log = (micro ≡ CheckFresh place log) ⊎ IsTakeCheck micro place log
 
 pub record LeavesAt (l : Layout) (trail : List ℕ) (micro : Micro) (place spent : ℕ) : Type 0 where
   pub log : ℕ
   pub word : slice_index trail log ≡ spent
-  pub late : ((is_free spent ≡ true) × IsLate l spent) ⊎ ((version_of spent ≡ l.version_max) × (micro ≡ CheckFresh place log))
+  pub late : (IsTakeCheck micro place log × (is_free spent ≡ true) × IsLate l spent)
+      ⊎ ((version_of spent ≡ l.version_max) × (micro ≡ CheckFresh place log))
   pub check : IsCheckOf micro place log
 
 spent_same : (p q a b : ℕ) → Spent p a ≡ Spent q b → (p ≡ q) × (a ≡ b)
@@ -80,7 +85,7 @@ module _ (l : Layout) (d : ℕ) (trail : List ℕ) (place spent : ℕ) where
       by false e = let same = refused p w (slice_index trail log) (some_same _ _ e) in record {
         log = log;
         word = same.1;
-        late = inl (same.2, same.3);
+        late = inl (inl (w, ap (λ q. CheckFree q log w) same.0), same.2, same.3);
         check = inr (inl (w, ap (λ q. CheckFree q log w) same.0));
       }
 
@@ -93,7 +98,7 @@ module _ (l : Layout) (d : ℕ) (trail : List ℕ) (place spent : ℕ) where
       by false e = let same = refused p w (slice_index trail log) (some_same _ _ e) in record {
         log = log;
         word = same.1;
-        late = inl (same.2, same.3);
+        late = inl (inr (w, ap (λ q. CheckHeld q log w) same.0), same.2, same.3);
         check = inr (inr (w, ap (λ q. CheckHeld q log w) same.0));
       }
 

@@ -18,11 +18,11 @@ IsPast word place old = (word (Cell place) ≡ old) ⊎ (version_of old < versio
 abbrev pub IsLate : Layout → ℕ → Type 0
 IsLate l word = l.version_max < version_of word + 2
 
--- too few versions are left behind the word: it is free, and the hold and the release of a lock need two; or it is one
--- of a cell, and has the greatest version
+-- too few versions are left behind the word: it is a lock's and free, and the hold and the release of a lock need two;
+-- or it is one of a cell, and has the greatest version
 abbrev pub IsSpentAt : Meaning → Layout → ℕ → ℕ → Type 0
-IsSpentAt m l place word =
-    ((is_free word ≡ true) × IsLate l word) ⊎ ((m.is_lock place ≡ false) × (version_of word ≡ l.version_max))
+IsSpentAt m l place word = ((m.is_lock place ≡ true) × (is_free word ≡ true) × IsLate l word)
+    ⊎ ((m.is_lock place ≡ false) × (version_of word ≡ l.version_max))
 
 -- a word by which a section left, since too few versions were behind it
 pub record WasSpent (m : Meaning) (l : Layout) (word : Spot → ℕ) (place spent : ℕ) : Type 0 where

@@ -12,9 +12,9 @@ ghost use Rattle.lock_words.specs.Spent.{SpentStand};
 use structure_laws::Structure;
 
 /// In every state that the machine reaches: where a runner keeps of a section that it left by a word behind which too
-/// few versions were left, so it is: the word is free and fewer than two are left behind it, or it is a cell's and has
-/// the greatest version. That word stands at its place or one of a later version does, for good. So does each word that
-/// a runner has read since it entered.
+/// few versions were left, so it is: it is a lock's, free, and fewer than two are left behind it, or it is a cell's and
+/// has the greatest version. That word stands at its place or one of a later version does, for good. So does each word
+/// that a runner has read since it entered.
 pub fn spent_words_stand<S: Structure>(structure: &S)
     ensures { (layout : Layout) (requests : List Request) (w : World) → IsWithinLimits layout → AreAllowed requests
         → Reached (S.meaning structure.now) layout requests w

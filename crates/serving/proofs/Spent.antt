@@ -68,16 +68,16 @@ word_same a b e = cc
 -- which reading refuses a plan as spent
 module _ (m : Meaning) (planning : Planning) (l : Layout) (op : Op) (before : Readings) (p w place word : ℕ) where
   abbrev IsThis : Type 0
-  IsThis = (p ≡ place) × (w ≡ word) × (is_free w ≡ true) × IsLate l w
+  IsThis = (p ≡ place) × (w ≡ word) × (is_free w ≡ true) × IsLate l w × (m.is_lock p ≡ true)
 
-  this : Some (plans.Spent p w) ≡ Some (plans.Spent place word) → is_spent l.version_max w ≡ true → IsThis
-  this e late = let same = plan_same p place w word (some_same _ _ e) in (same.0, same.1, free_of l w late, late_of l w late)
+  this : Some (plans.Spent p w) ≡ Some (plans.Spent place word) → is_spent l.version_max w ≡ true → m.is_lock p ≡ true → IsThis
+  this e late lock = let same = plan_same p place w word (some_same _ _ e) in (same.0, same.1, free_of l w late, late_of l w late, lock)
 
-  by_lock : (free spent : Bool) → is_spent l.version_max w ≡ spent
+  by_lock : (free spent : Bool) → is_spent l.version_max w ≡ spent → m.is_lock p ≡ true
       → (if free then (if spent then Some (plans.Spent p w) else None) else Some (plans.Busy p w)) ≡ Some (plans.Spent place word) → IsThis
-  by_lock true true late e = this e late
-  by_lock true false late e = absurd (none_some _ (sym e))
-  by_lock false spent late e = absurd (let z = some_same _ _ e in cc)
+  by_lock true true late lock e = this e late lock
+  by_lock true false late lock e = absurd (none_some _ (sym e))
+  by_lock false spent late lock e = absurd (let z = some_same _ _ e in cc)
 
   by_link : (mark far : Bool) (expected loads : ℕ)
       → (if mark then Some (plans.Stale p expected w) else (if far then Some (plans.Far loads) else None)) ≡ Some (plans.Spent place word) → IsThis
@@ -86,13 +86,13 @@ module _ (m : Meaning) (planning : Planning) (l : Layout) (op : Op) (before : Re
   by_link false false expected loads e = absurd (none_some _ (sym e))
 
   refused_spent : refused_at m planning l op before p w ≡ Some (plans.Spent place word) → IsThis
-  refused_spent = by (m.is_lock p)
+  refused_spent = by (m.is_lock p) refl
     where
-      by : (b : Bool) → (if b then refused_by_lock l.version_max p w
+      by : (b : Bool) → m.is_lock p ≡ b → (if b then refused_by_lock l.version_max p w
           else (if planning.is_mark p && (value_of w == 1) then Some (plans.Stale p (pack 0 (version_of w - 1)) w)
           else (if planning.is_far l op (before ++ (p, w) ∷ []) then Some (plans.Far (slots m l + 8)) else None))) ≡ Some (plans.Spent place word) → IsThis
-      by true e = by_lock (is_free w) (is_spent l.version_max w) refl e
-      by false e = by_link (planning.is_mark p && (value_of w == 1)) (planning.is_far l op (before ++ (p, w) ∷ [])) _ _ e
+      by true lock e = by_lock (is_free w) (is_spent l.version_max w) refl lock e
+      by false lock e = by_link (planning.is_mark p && (value_of w == 1)) (planning.is_far l op (before ++ (p, w) ∷ [])) _ _ e
 
 -- which word refuses a publication as spent
 refused_found : (l : Layout) (expected found word : ℕ) → refusals.Spent word ≡ refused_by l.version_max expected found → (found ≡ word) × (is_free found ≡ true) × IsLate l found
@@ -106,9 +106,9 @@ refused_found l expected found word = by (is_free found) (is_spent l.version_max
 
 module _ {T : Type 0} (m : Meaning) (planning : Planning) (request : Request) (place word : ℕ) (old new : RunnerState T)
     (layout : new.layout ≡ old.layout) (away : IsTurnedAway m planning request (attempts.Spent place word) old new) where
-  -- it is a free word that the runner has read since it entered, behind which too few versions are left
+  -- it is a lock's free word that the runner has read since it entered, behind which too few versions are left
   abbrev WasRead : Type 0
-  WasRead = (is_free word ≡ true) × IsLate new.layout word × (has_pair new.part.reads.cells place word ≡ true)
+  WasRead = (m.is_lock place ≡ true) × (is_free word ≡ true) × IsLate new.layout word × (has_pair new.part.reads.cells place word ≡ true)
 
   -- or by which a section left that it has run to its end
   abbrev HasEnded : Type 0
@@ -124,9 +124,10 @@ module _ {T : Type 0} (m : Meaning) (planning : Planning) (request : Request) (p
   reads_kept : cut.part.run ≡ None → new.part.reads ≡ cut.part.reads
   reads_kept resting = reads_made m kinds.Idle exits.announce.found cut new exits.announce.event resting
 
-  of_read : (l : Layout) (p w : ℕ) → l ≡ old.layout → p ≡ place → w ≡ word → is_free w ≡ true → IsLate l w → cut.part.run ≡ None
+  of_read : (l : Layout) (p w : ℕ) → l ≡ old.layout → p ≡ place → w ≡ word → m.is_lock p ≡ true → is_free w ≡ true → IsLate l w → cut.part.run ≡ None
       → has_pair cut.part.reads.cells p w ≡ true → WasRead
-  of_read l p w same is_place is_word free late resting has = (
+  of_read l p w same is_place is_word lock free late resting has = (
+    subst (λ k. m.is_lock k ≡ true) is_place lock,
     subst (λ k. is_free k ≡ true) is_word free,
     subst (λ k. IsLate k word) (same ∙ sym layout) (subst (IsLate l) is_word late),
     (λ i. has_pair (reads_kept resting i).cells (sym is_place i) (sym is_word i)) ∙ has,
@@ -138,7 +139,7 @@ module _ {T : Type 0} (m : Meaning) (planning : Planning) (request : Request) (p
       let why = planned.answers in
       let is = refused_spent m planning old.layout request.op why.before why.place why.word p w why.cause in
       let ends = spent_same place p word w same in
-      of_read old.layout why.place why.word refl (is.0 ∙ sym ends.0) (is.1 ∙ sym ends.1) is.2 is.3
+      of_read old.layout why.place why.word refl (is.0 ∙ sym ends.0) (is.1 ∙ sym ends.1) is.4 is.2 is.3
       (planned.walked.at planned.enters.enters.epoch None planned.enters.enters.at).resting
       (ap (λ (r : ReadsState). has_pair r.cells why.place why.word) planned.walked.reads
       ∙ has_more planned.entered.part.reads.cells readings why.place why.word
@@ -150,18 +151,18 @@ module _ {T : Type 0} (m : Meaning) (planning : Planning) (request : Request) (p
   by_plan readings plans.Halted planned same = absurd (let z = same in cc)
 
   by_lock_word : (thunk : Thunk) (refusal : Refused) → HasTried m planning request thunk (Err refusal) old cut
-      → attempts.Spent place word ≡ of_refusal thunk.lock refusal → WasRead
-  by_lock_word thunk (refusals.Spent w) tried same =
+      → m.is_lock thunk.lock ≡ true → attempts.Spent place word ≡ of_refusal thunk.lock refusal → WasRead
+  by_lock_word thunk (refusals.Spent w) tried lock same =
       let publishes = tried.publishes in
       let refused = publishes.refused in
       let is = refused_found tried.planned.layout thunk.word publishes.found w refused.why in
       let ends = spent_same place thunk.lock word w same in
-      of_read tried.planned.layout thunk.lock publishes.found tried.plans.still.layout (sym ends.0) (is.0 ∙ sym ends.1) is.1 is.2
+      of_read tried.planned.layout thunk.lock publishes.found tried.plans.still.layout (sym ends.0) (is.0 ∙ sym ends.1) lock is.1 is.2
       (refused.at tried.plans.enters.enters.epoch (tried.plans.walked.at tried.plans.enters.enters.epoch None tried.plans.enters.enters.at)).resting
       (ap (λ xs. has_pair xs thunk.lock publishes.found) publishes.read
       ∙ has_more tried.planned.part.reads.cells ((thunk.lock, publishes.found) ∷ []) thunk.lock publishes.found (has_here thunk.lock publishes.found))
-  by_lock_word thunk (refusals.Busy w) tried same = absurd (let z = same in cc)
-  by_lock_word thunk (refusals.Stale expected read) tried same = absurd (let z = same in cc)
+  by_lock_word thunk (refusals.Busy w) tried lock same = absurd (let z = same in cc)
+  by_lock_word thunk (refusals.Stale expected read) tried lock same = absurd (let z = same in cc)
 
   by_section : (thunk : Thunk) (outcome : Outcome) → HasLeft m planning request thunk outcome old cut
       → attempts.Spent place word ≡ of_outcome outcome → HasEnded
@@ -184,7 +185,7 @@ module _ {T : Type 0} (m : Meaning) (planning : Planning) (request : Request) (p
   spent_is_kept = ⊎_elim
       (λ plan. inl (by_plan plan.readings plan.refusal plan.plans plan.same))
       (λ rest. ⊎_elim
-      (λ lock. inl (by_lock_word lock.thunk lock.refusal lock.tries lock.same))
+      (λ lock. inl (by_lock_word lock.thunk lock.refusal lock.tries lock.lock lock.same))
       (λ section. inr (by_section section.thunk section.outcome section.left section.same))
       rest)
       away.cause

@@ -231,10 +231,10 @@ module _ {T : Type 0} (m : Meaning) (t : TableState T) (keeper : RunnerState T) 
       past_of : (place word : ℕ) → IsPast end.word place word → IsPast (word_of m w) place word
       past_of place word past = subst (λ (n : ℕ). (n ≡ word) ⊎ (version_of word < version_of n)) (sym (word_is (Cell place))) past
 
-      spent_at : (place word : ℕ) → IsKeptSpent new place word → IsSpentAt m w.layout place word × IsPast (word_of m w) place word
+      spent_at : (place word : ℕ) → IsKeptSpent m new place word → IsSpentAt m w.layout place word × IsPast (word_of m w) place word
       spent_at place word (inl read) = (
-        inl (read.0, subst (λ (l : Layout). IsLate l word) (own_new.layout ∙ sym closing.layout) read.1),
-        past_of place word (spent.read worker place word (ap (λ (p : PartState). has_pair p.reads.cells place word) part ∙ read.2)),
+        inl (read.0, read.1, subst (λ (l : Layout). IsLate l word) (own_new.layout ∙ sym closing.layout) read.2),
+        past_of place word (spent.read worker place word (ap (λ (p : PartState). has_pair p.reads.cells place word) part ∙ read.3)),
       )
       spent_at place word (inr kept_run) =
           let was = spent.finished worker kept_run.0 place word kept_run.1 (ap (λ (p : PartState). slice_get p.records.finished kept_run.0) part ∙ kept_run.2) kept_run.3 in (

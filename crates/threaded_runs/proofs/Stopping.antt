@@ -16,9 +16,9 @@ use Rattle.serving.specs.lock_words.specs.Spent.{IsLate}
 use Rattle.serving.proofs.Spent.{spent_is_kept}
 
 module _ {T : Type 0} where
-  -- the runner has read the word since it entered, it is free, and fewer than two versions are left behind it; or a section that it has run to its end left by it
-  abbrev pub IsKeptSpent : RunnerState T → ℕ → ℕ → Type 0
-  IsKeptSpent r place word = ((is_free word ≡ true) × IsLate r.layout word × (has_pair r.part.reads.cells place word ≡ true))
+  -- the runner has read the word since it entered, it is a lock's and free, and fewer than two versions are left behind it; or a section that it has run to its end left by it
+  abbrev pub IsKeptSpent : Meaning → RunnerState T → ℕ → ℕ → Type 0
+  IsKeptSpent m r place word = ((m.is_lock place ≡ true) × (is_free word ≡ true) × IsLate r.layout word × (has_pair r.part.reads.cells place word ≡ true))
       ⊎ ((i : ℕ) × (f : FinishedState) × (slice_get r.part.records.finished i ≡ Some f) × (f.outcome ≡ outcomes.Spent place word))
 
   module _ (m : Meaning) (planning : Planning) (request : Request) (place word : ℕ) (old new : RunnerState T)
@@ -32,5 +32,5 @@ module _ {T : Type 0} where
     same_layout : new.layout ≡ old.layout
     same_layout = ap (λ (y : RunnerState T). y.layout) away.leaves.announce.event.made ∙ of_cut away.cause
 
-    pub kept_spent : IsKeptSpent new place word
+    pub kept_spent : IsKeptSpent m new place word
     kept_spent = spent_is_kept m planning request place word old new same_layout away

@@ -68,8 +68,8 @@ module _ {T : Type 0} (m : Meaning) (w : WordsState T) where
   IsCause retry_short requests answers.Halted count = Unit {0}
 
   -- what the closed words show of the answer: the slots that are told worn are worn; behind the word
-  -- that is told spent too few versions are left: it is free, and fewer than two are, or it is a cell's
-  -- and has the greatest one. It stands at its place, or a word of a later version does
+  -- that is told spent too few versions are left: it is a lock's and free, and fewer than two are, or it is
+  -- a cell's and has the greatest one. It stands at its place, or a word of a later version does
   abbrev pub IsShown : Served → Type 0
   IsShown (answers.Short short) = AreWornOut short.worn
   IsShown (answers.Spent place word) = IsSpentAt m w.layout place word × IsPast (word_of m w) place word
