@@ -13,7 +13,12 @@ fn text_of(alloc: Global, text: &str) -> Result<Vec<u8>, AllocError> {
 }
 
 // Whether the report on this text gets this verdict.
-fn is_judged(alloc: Global, text: &str, report: &str, expected: Verdict) -> Result<bool, AllocError> {
+fn is_judged(
+    alloc: Global,
+    text: &str,
+    report: &str,
+    expected: Verdict,
+) -> Result<bool, AllocError> {
     let mut source = SureSource::new(text_of(alloc, text)?, Vec::new(alloc));
     let Ok(traces) = read_traces(alloc, &mut source) else {
         return Ok(false);
@@ -31,21 +36,63 @@ fn each_test_finds_its_first_failing_line(rt: HostRuntime) -> Result<(), Fail> {
     let alloc = rt.alloc();
     let rows = [
         ("trace 0\n0 new\n1 dup\n2 val 70\nfinal 1\n", Verdict::Legal),
-        ("trace 0\n0 new\n1 dup\n2 val 80\nfinal 1\n", fails(4, BadReport::Reply)),
-        ("trace 0\n0 new\n2 dup\n1 val 70\nfinal 1\n", fails(4, BadReport::Rank)),
-        ("trace 0\n0 new\n- unserved\n1 val 70\nfinal 1\n", fails(4, BadReport::Rank)),
-        ("trace 0\n0 new\n- unserved\n- unserved\nfinal 1\n", Verdict::Legal),
-        ("trace 0\n0 new\n1 dup\n2 val 70\nfinal 2\n", fails(5, BadReport::Final)),
-        ("trace 0\n0 new\n1 dup\n2 val 70\n", fails(5, BadReport::Form)),
+        (
+            "trace 0\n0 new\n1 dup\n2 val 80\nfinal 1\n",
+            fails(4, BadReport::Reply),
+        ),
+        (
+            "trace 0\n0 new\n2 dup\n1 val 70\nfinal 1\n",
+            fails(4, BadReport::Rank),
+        ),
+        (
+            "trace 0\n0 new\n- unserved\n1 val 70\nfinal 1\n",
+            fails(4, BadReport::Rank),
+        ),
+        (
+            "trace 0\n0 new\n- unserved\n- unserved\nfinal 1\n",
+            Verdict::Legal,
+        ),
+        (
+            "trace 0\n0 new\n1 dup\n2 val 70\nfinal 2\n",
+            fails(5, BadReport::Final),
+        ),
+        (
+            "trace 0\n0 new\n1 dup\n2 val 70\n",
+            fails(5, BadReport::Form),
+        ),
         ("", fails(1, BadReport::Form)),
-        ("trace 00\n0 new\n1 dup\n2 val 70\nfinal 1\n", fails(1, BadReport::Form)),
-        ("trace 0\n00 new\n1 dup\n2 val 70\nfinal 1\n", fails(2, BadReport::Form)),
-        ("trace 0\n0 new\n1 dup\n2 val 4294967296\nfinal 1\n", fails(4, BadReport::Form)),
-        ("trace 0\n0 new\n1 dup\n2 val 70\nfinal 1", fails(5, BadReport::Form)),
-        ("trace 0\n0 new\n1 dup\n2 val 70\nfinal 1\n\n", fails(6, BadReport::Form)),
-        ("trace 0\n0 new\n3 dup\n2 val 70\nfinal 1\n", fails(3, BadReport::Rank)),
-        ("trace 0\n0 new\n0 dup\n2 val 70\nfinal 1\n", fails(3, BadReport::Rank)),
-        ("trace 0\n123456789012345678901234567890 new\n1 dup\n2 val 70\nfinal 1\n", fails(2, BadReport::Rank)),
+        (
+            "trace 00\n0 new\n1 dup\n2 val 70\nfinal 1\n",
+            fails(1, BadReport::Form),
+        ),
+        (
+            "trace 0\n00 new\n1 dup\n2 val 70\nfinal 1\n",
+            fails(2, BadReport::Form),
+        ),
+        (
+            "trace 0\n0 new\n1 dup\n2 val 4294967296\nfinal 1\n",
+            fails(4, BadReport::Form),
+        ),
+        (
+            "trace 0\n0 new\n1 dup\n2 val 70\nfinal 1",
+            fails(5, BadReport::Form),
+        ),
+        (
+            "trace 0\n0 new\n1 dup\n2 val 70\nfinal 1\n\n",
+            fails(6, BadReport::Form),
+        ),
+        (
+            "trace 0\n0 new\n3 dup\n2 val 70\nfinal 1\n",
+            fails(3, BadReport::Rank),
+        ),
+        (
+            "trace 0\n0 new\n0 dup\n2 val 70\nfinal 1\n",
+            fails(3, BadReport::Rank),
+        ),
+        (
+            "trace 0\n123456789012345678901234567890 new\n1 dup\n2 val 70\nfinal 1\n",
+            fails(2, BadReport::Rank),
+        ),
     ];
     for (report, expected) in rows {
         assert!(rt; is_judged(alloc, TEXT, report, expected)?);
@@ -75,11 +122,23 @@ fn the_first_report_line_parts(rt: HostRuntime) -> Result<(), Fail> {
 fn an_input_is_read_whole(rt: HostRuntime) -> Result<(), Fail> {
     let alloc = rt.alloc();
     let mut source = SureSource::new(text_of(alloc, TEXT)?, vec![in alloc; 1usize, 7usize]?);
-    assert!(rt; read_all(alloc, &mut source).ok().ok_or("not read")?.as_slice() == TEXT.as_bytes());
-    let mut failing = MemorySource::new(text_of(alloc, TEXT)?, vec![in alloc; 3usize]?, vec![in alloc; 2u64]?);
+    assert!(rt;
+        read_all(alloc, &mut source)
+            .ok()
+            .ok_or("not read")?
+            .as_slice()
+            == TEXT.as_bytes()
+    );
+    let mut failing = MemorySource::new(
+        text_of(alloc, TEXT)?,
+        vec![in alloc; 3usize]?,
+        vec![in alloc; 2u64]?,
+    );
     assert!(rt; read_all(alloc, &mut failing).err() == Some(InputError::ReadFault));
     let large = SureSource::new(vec![in alloc; b'#'; 8_388_609]?, Vec::new(alloc));
     let mut large = large;
-    assert!(rt; read_all(alloc, &mut large).err() == Some(InputError::TooLarge { bytes: 8_388_609 }));
+    assert!(rt;
+        read_all(alloc, &mut large).err() == Some(InputError::TooLarge { bytes: 8_388_609 })
+    );
     Ok(())
 }
