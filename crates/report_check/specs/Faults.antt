@@ -23,7 +23,8 @@ HasRank (Some earlier) rank = earlier.rank ≡ rank
 -- a row clashes with a later one that has this answer
 abbrev pub Clashes : Row → Row → Answer → Type 0
 Clashes earlier later answer =
-    HasRank earlier.answer answer.rank ⊎ ((earlier.request.trace ≡ later.request.trace) × EndsTurn earlier.answer answer)
+    HasRank earlier.answer answer.rank
+    ⊎ ((earlier.request.trace ≡ later.request.trace) × EndsTurn earlier.answer answer)
 
 -- the rank of the row in this place is too high, or an earlier row clashes with it
 pub record IsRankFault (rows : List Row) (place : ℕ) (row : Row) : Type 0 where

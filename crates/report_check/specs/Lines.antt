@@ -5,7 +5,7 @@ use Rattle.report_text.specs.Report.{Answer, Line, reply_text}
 use Rattle.report_text.specs.Report.Line.{trace_line, answer_line, final_line}
 use Rattle.trace_reader.specs.Fields.{is_number, value_of}
 
--- digits with no leading zero. A number above 2^32 counts as 2^32: as a rank and as a final number it is wrong either way
+-- digits with no leading zero. A number above 2^32 counts as 2^32: as a rank and as a final number wrong either way
 pub record IsNumeral (digits : List ℕ) (value : ℕ) : Type 0 where
   pub number : is_number digits ≡ true
   pub shortest : slice_index digits 0 ≡ 48 → length digits ≡ 1
@@ -42,7 +42,7 @@ CanStandFor (trace_line trace) text = Says (trace_line trace) text
 CanStandFor (answer_line answer) text = (any : Option Answer) × Says (answer_line any) text
 CanStandFor (final_line size) text = (any : ℕ) × Says (final_line any) text
 
--- no line stands at the front that can stand in this place: it is another one, or no line feed ends it, or none is there
+-- no line stands at the front that can stand in this place: it is another, or no line feed ends it, or none is there
 abbrev pub NoneStands : Line → List ℕ → Type 0
 NoneStands line bytes = (text more : List ℕ) → CanStandFor line text → bytes ≡ text ++ 10 ∷ more → ⊥
 

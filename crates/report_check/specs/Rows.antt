@@ -17,7 +17,7 @@ pub record SaysRows (traces : ℕ) (requests : List Request) (rows : List Row) (
   pub are : map (λ (row : Row). row.request) rows ≡ requests
   pub lines : SayAll (report_lines traces rows size) bytes
 
--- the number of a row's line, from 1: before it stand the rows before it, and the lines of its trace and of earlier ones
+-- the number of a row's line, from 1: before it stand earlier rows, and the lines of its trace and of earlier ones
 abbrev pub line_number : ℕ → Row → ℕ
 line_number place row = place + row.request.trace + 2
 

@@ -65,7 +65,8 @@ fn take_traces(begun: u32, end: u32, bytes: &[u8]) -> Result<&[u8], u32>
     ensures said { IfOk result (λ more. (lines : List Line) → SayAll lines more.now
         → SayAll (map trace_line (range_with_len begun (end - begun)) ++ lines) bytes.now) }
     ensures later { IfOk result (λ more. (lines : List Line) (number : ℕ) → IsFirstBad lines more.now number
-        → IsFirstBad (map trace_line (range_with_len begun (end - begun)) ++ lines) bytes.now (number + (end - begun))) }
+        → IsFirstBad (map trace_line (range_with_len begun (end - begun)) ++ lines) bytes.now
+        (number + (end - begun))) }
     ensures bad { IfErr result (λ trace. (lines : List Line)
         → IsFirstBad (map trace_line (range_with_len begun (end - begun)) ++ lines) bytes.now (trace + 1 - begun)) }
     ensures among { IfErr result (λ trace. (begun ≤ trace) × (trace < end)) }
