@@ -8,7 +8,8 @@ use Rattle.structure_laws.specs.Meaning.{Meaning}
 use Rattle.machine_states.proofs.Steps.{some_same}
 use Rattle.threaded_runs.specs.runner_gate.specs.declared.counts.GatePlan.{GatePlan}
 use Rattle.threaded_runs.specs.Counts.{halts_counted, plans_from, plans_given, returns_counted, GivesFront}
-use Rattle.threaded_runs.specs.Lone.{AsksAlone, ServesAlone}
+use Rattle.threaded_runs.specs.Asks.{AreAsked}
+use Rattle.threaded_runs.specs.Lone.{ServesAlone}
 use Rattle.threaded_runs.specs.Runs.{AreServed, IsMadeWith}
 use Rattle.load_counts.specs.version_words.specs.TableState.{WordsState}
 use Rattle.threaded_runs.specs.serving.specs.declared.answers.Served.{Served}
@@ -111,7 +112,7 @@ pub has_run_on : {T : Type 0} (meaning : T → Meaning) (per_pair : ℕ) (struct
     → named ≡ names_below plan.options.halts plan.layout.runners → length items ≡ plan.layout.runners
     → ((runner : ℕ) → runner < plan.layout.runners → slice_get items runner ≡ Some (ask_of plan.options.halts runner))
     → IsMadeWith structure plan.layout requests words → AreServed (meaning structure) words (not named) answers × ServesAlone (meaning structure) per_pair words answers
-    × AsksAlone (meaning structure) words gates.asks_before gates.asks_after
+    × AreAsked (meaning structure) words answers gates.asks_before gates.asks_after
     → gates.halts_after ≡ halts_counted gates.halts_before answers → gates.plans_after ≡ plans_given gates.plans_before asks
     → (gates.planned_before ≡ [] → gates.planned_after ≡ plans_from 0 asks) → gates.returned_after ≡ returns_counted gates.returned_before plan.layout.runners → HasRunOn meaning per_pair structure plan words answers gates
 has_run_on meaning per_pair structure plan words answers gates requests items asks named requests_are asks_are named_is each are made served halted plans planned returned = record {
@@ -119,7 +120,7 @@ has_run_on meaning per_pair structure plan words answers gates requests items as
   served = subst (λ s. AreServed (meaning s) words (not (names_below plan.options.halts plan.layout.runners)) answers) (sym made.structure)
       (subst (λ b. AreServed (meaning structure) words (not b) answers) named_is served.0);
   lone = subst (λ s. ServesAlone (meaning s) per_pair words answers) (sym made.structure) served.1;
-  asked = subst (λ s. AsksAlone (meaning s) words gates.asks_before gates.asks_after) (sym made.structure) served.2;
+  asked = subst (λ s. AreAsked (meaning s) words answers gates.asks_before gates.asks_after) (sym made.structure) served.2;
   given = given_out plan.options.halts plan.layout.runners answers items gates each are halted (plans ∙ ap (plans_given gates.plans_before) asks_are)
       (λ none. planned none ∙ ap (plans_from 0) asks_are) returned;
 }

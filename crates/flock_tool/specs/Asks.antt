@@ -1,8 +1,9 @@
--- How often the gate of one runner is asked.
-use Rattle.std.specs.Prelude.{◌≡◌, ◌≤◌, ◌+◌, ◌*◌, ℕ, Option, IfSome}
+-- How often the gates of a run are asked.
+use Rattle.std.specs.Prelude.{◌≡◌, ◌≤◌, ◌+◌, ◌-◌, ◌*◌, ◌^◌, ℕ, min, Option, IfSome}
 use Rattle.structure_laws.specs.Cells.{slots}
+use Rattle.threaded_runs.specs.Asks.{halted_in}
 use Rattle.threaded_runs.specs.Runs.{served_in}
-use Rattle.flock_tool.specs.Runs.{words_in, meaning_of}
+use Rattle.flock_tool.specs.Runs.{words_in, answers_in, meaning_of}
 use Rattle.flock_tool.specs.Streams.{Gating}
 use Rattle.flock_tool.specs.declared.ran.Ran.{Ran}
 
@@ -19,3 +20,14 @@ nodes_of ran = slots (meaning_of ran) (words_in ran).layout
 abbrev pub AsksFew : ℕ × Option Ran → Gating → Type 0
 AsksFew result gates = IfSome result.1 (λ ran. (words_in ran).layout.runners ≡ 1
     → gates.asks_after ≤ gates.asks_before + (served_of ran + 1) * (6 * nodes_of ran + 256))
+
+-- so many of the runners were halted
+abbrev pub halted_of : Ran → ℕ
+halted_of ran = halted_in (answers_in ran)
+
+-- where a run came back, at whatever status and however many its runners, the asks of the gates rose by at least so
+-- many for each served request, but for one at most of each runner that was halted. The count stands still at the last
+-- number of 64 bits
+abbrev pub AsksOften : ℕ × Option Ran → Gating → Type 0
+AsksOften result gates = IfSome result.1 (λ ran.
+    min (gates.asks_before + 16 * (served_of ran - halted_of ran)) (2 ^ 64 - 1) ≤ gates.asks_after)

@@ -9,7 +9,7 @@ use Rattle.command_line.specs.trace_reader.specs.Generator.{generated}
 use Rattle.command_line.specs.trace_reader.specs.declared.generator.Gen.{Gen}
 use Rattle.printed_traces.specs.report_text.specs.Sink.{Extends, ExtendsInPart}
 use Rattle.load_counts.specs.version_words.specs.TableState.{WordsState}
-use Rattle.threaded_runs.specs.Lone.{AsksAlone}
+use Rattle.threaded_runs.specs.Asks.{AreAsked}
 use Rattle.load_counts.specs.run_reports.specs.Reports.{HaveContents, HaveEntries, unserved_in}
 use Rattle.load_counts.specs.Apart.{load_text}
 use Rattle.load_counts.specs.Tallies.{IsAlone, IsTally}
@@ -65,5 +65,5 @@ HasLoaded ran waits result sink faults = EndsLoad ran waits result sink faults â
 pub record HasLoadRun (load : LoadOptions) (ran : Ran) (gates : Gating) : Type 0 where
   pub requests : (words_in ran).requests â‰¡ generated load.plan
   pub run : IsRunOf load.run load.plan.traces ran
-  pub asked : AsksAlone (meaning_of ran) (words_in ran) gates.asks_before gates.asks_after
+  pub asked : AreAsked (meaning_of ran) (words_in ran) (answers_in ran) gates.asks_before gates.asks_after
   pub given : AreGiven load.run.halts (words_in ran).layout.runners (answers_in ran) gates

@@ -14,7 +14,8 @@ use Rattle.load_counts.specs.run_reports.specs.Reports.{IsReport, PrintsInPart}
 use Rattle.threaded_runs.specs.serving.specs.declared.answers.Served.{Served}
 use Rattle.threaded_runs.specs.runner_gate.specs.declared.counts.GatePlan.{GatePlan}
 use Rattle.threaded_runs.specs.Counts.{halts_counted, returns_counted}
-use Rattle.threaded_runs.specs.Lone.{AsksAlone, ServesAlone}
+use Rattle.threaded_runs.specs.Asks.{AreAsked}
+use Rattle.threaded_runs.specs.Lone.{ServesAlone}
 use Rattle.threaded_runs.specs.Runs.{AreServed, IsMadeWith}
 use Rattle.command_line.specs.Halts.{ask_of, names_below}
 use Rattle.command_line.specs.declared.halts.Halt.{Halt}
@@ -99,7 +100,7 @@ module _ {T : Type 0} (meaning : T → Meaning) (per_pair : ℕ) where
     pub served :
         AreServed (meaning words.structure) words (waits_out plan.options.halts plan.layout.runners) answers
     pub lone : ServesAlone (meaning words.structure) per_pair words answers
-    pub asked : AsksAlone (meaning words.structure) words gates.asks_before gates.asks_after
+    pub asked : AreAsked (meaning words.structure) words answers gates.asks_before gates.asks_after
     pub given : AreGiven plan.options.halts plan.layout.runners answers gates
 
 -- the run was of this plan; its gates were given out and came back
@@ -110,7 +111,7 @@ pub record HasRunPlan (plan : Plan) (ran : Ran) (gates : Gating) : Type 0 where
   pub served : AreServed (meaning_of ran) (words_in ran)
       (waits_out plan.options.halts plan.layout.runners) (answers_in ran)
   pub lone : ServesAlone (meaning_of ran) (per_pair_in ran) (words_in ran) (answers_in ran)
-  pub asked : AsksAlone (meaning_of ran) (words_in ran) gates.asks_before gates.asks_after
+  pub asked : AreAsked (meaning_of ran) (words_in ran) (answers_in ran) gates.asks_before gates.asks_after
   pub given : AreGiven plan.options.halts plan.layout.runners (answers_in ran) gates
 
 -- a run that these options and the text ask for; its gates were given out and came back
@@ -118,7 +119,7 @@ pub record HasRun (options : RunOptions) (left : Option (List ℕ)) (traces : �
     : Type 0 where
   pub text : IfSome left (AreTracesOf (record { count = traces; requests = (words_in ran).requests }))
   pub run : IsRunOf options traces ran
-  pub asked : AsksAlone (meaning_of ran) (words_in ran) gates.asks_before gates.asks_after
+  pub asked : AreAsked (meaning_of ran) (words_in ran) (answers_in ran) gates.asks_before gates.asks_after
   pub given : AreGiven options.halts (words_in ran).layout.runners (answers_in ran) gates
 
 -- the statuses behind a run whose printing was begun

@@ -3,7 +3,7 @@ ghost use Rattle.std.specs.Prelude.{◌≡◌, ◌≢◌, ◌⊎◌, ◌≤◌, 
 ghost use Rattle.command_line.specs.Commands.{AreAccepted, HasRanges, IsCommand, texts};
 ghost use Rattle.command_line.specs.declared.command.Command.{Command};
 ghost use Rattle.flock_tool.specs.Alone.{IsValidAlone, KeepsVersions, NothingStops};
-ghost use Rattle.flock_tool.specs.Asks.{AsksFew};
+ghost use Rattle.flock_tool.specs.Asks.{AsksFew, AsksOften};
 ghost use Rattle.flock_tool.specs.Commands.{Ends, IsNoCommand, RefusedEnds};
 ghost use Rattle.flock_tool.specs.Runs.{IsRunStatus};
 ghost use Rattle.flock_tool.specs.Streams.{gating, stream};
@@ -77,6 +77,11 @@ pub fn flock<'a, T: Threads + Wait + Sync, R: Source, K: Sink, F: Sink, G: Gates
     ensures versions { KeepsVersions result }
     // And its gate is asked few times, also where it halts.
     ensures asks { AsksFew result
+        (gating (G.halts gates.old) (G.halts gates.new) (G.asks gates.old) (G.asks gates.new)
+        (G.plans gates.old) (G.plans gates.new) (G.planned gates.old) (G.planned gates.new)
+        (G.returned gates.old) (G.returned gates.new)) }
+    // However many runners there are, their gates are asked for each request that is served.
+    ensures often { AsksOften result
         (gating (G.halts gates.old) (G.halts gates.new) (G.asks gates.old) (G.asks gates.new)
         (G.plans gates.old) (G.plans gates.new) (G.planned gates.old) (G.planned gates.new)
         (G.returned gates.old) (G.returned gates.new)) }

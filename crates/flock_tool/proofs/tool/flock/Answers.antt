@@ -1,7 +1,7 @@
 use Rattle.std.proofs.Common.{refl, sym, ◌∙◌, inl, inr, ⊎_elim, subst, arith, None}
 use Rattle.command_line.specs.Commands.{IsCommand, texts}
 use Rattle.command_line.specs.declared.command.Command.TheVariants as commands
-use Rattle.flock_tool.proofs.Asking.{load_asks, run_asks}
+use Rattle.flock_tool.proofs.Asking.{load_asks, load_asks_often, run_asks, run_asks_often}
 use Rattle.flock_tool.proofs.Commanding.{back_none, gen_few, load_few, none_accepted, none_status, of_none, of_one, refused_ends}
 use Rattle.flock_tool.proofs.Completing.{load_keeps, none_keeps, run_keeps, whole, whole_alone}
 use Rattle.flock_tool.proofs.Running.{if_none}
@@ -23,6 +23,9 @@ returns-in-Err-clause-versions g c = none_keeps c.refuse.result c.refuse.ensures
 
 pub returns-in-Err-clause-asks : goal.returns-in-Err-clause-asks
 returns-in-Err-clause-asks g c = if_none _ c.refuse.result.1 c.refuse.ensures.none
+
+pub returns-in-Err-clause-often : goal.returns-in-Err-clause-often
+returns-in-Err-clause-often g c = if_none _ c.refuse.result.1 c.refuse.ensures.none
 
 pub returns-in-Err-clause-accepted : goal.returns-in-Err-clause-accepted
 returns-in-Err-clause-accepted g c = λ accepted two. none_accepted (texts c.args.words.now) c.in-Err.stop c.in-Err.ensures.refused accepted (sym c.refuse.ensures.status ∙ two)
@@ -57,6 +60,9 @@ returns-in-Run-clause-versions g c = run_keeps c.in-Run.options c.run_command.re
 pub returns-in-Run-clause-asks : goal.returns-in-Run-clause-asks
 returns-in-Run-clause-asks g c = run_asks c.in-Run.options c.run_command.result _ _ _ _ c.run_command.ensures.ends
 
+pub returns-in-Run-clause-often : goal.returns-in-Run-clause-often
+returns-in-Run-clause-often g c = run_asks_often c.in-Run.options c.run_command.result _ _ _ _ c.run_command.ensures.ends
+
 pub returns-in-Run-clause-words : goal.returns-in-Run-clause-words
 returns-in-Run-clause-words g c = λ not. absurd (not (c.in-Ok.command, c.in-Ok.ensures.read))
 
@@ -80,6 +86,9 @@ returns-in-Gen-clause-versions g c = none_keeps (c.gen_command.result, None) ref
 
 pub returns-in-Gen-clause-asks : goal.returns-in-Gen-clause-asks
 returns-in-Gen-clause-asks g c = tt
+
+pub returns-in-Gen-clause-often : goal.returns-in-Gen-clause-often
+returns-in-Gen-clause-often g c = tt
 
 pub returns-in-Gen-clause-accepted : goal.returns-in-Gen-clause-accepted
 returns-in-Gen-clause-accepted g c = λ accepted. (gen_few c.in-Gen.plan c.gen_command.result _ _ c.gen_command.ensures).0
@@ -116,6 +125,9 @@ returns-in-Load-clause-versions g c = load_keeps c.in-Load.load c.load_command.r
 
 pub returns-in-Load-clause-asks : goal.returns-in-Load-clause-asks
 returns-in-Load-clause-asks g c = load_asks c.in-Load.load c.load_command.result _ _ _ c.load_command.ensures
+
+pub returns-in-Load-clause-often : goal.returns-in-Load-clause-often
+returns-in-Load-clause-often g c = load_asks_often c.in-Load.load c.load_command.result _ _ _ c.load_command.ensures
 
 pub returns-in-Load-clause-accepted : goal.returns-in-Load-clause-accepted
 returns-in-Load-clause-accepted g c = λ accepted. (load_few c.in-Load.load c.load_command.result _ _ _ c.load_command.ensures).0
