@@ -12,8 +12,8 @@ invariant_of-runner g c =
     let mean = g.S.Structure.meaning in let t = c.args.self.now in let seat = c.runner.inside.seat in let new = c.load-found.new.seat in
     let request = c.args.request in let reply = c.args.reply in let found = c.load-found.result in
     let spot : c.if-reply.spot ≡ entry_spot reply request = elim c.if-reply.branch [
-      then-reply w ↦ w.spot-is ∙ (λ i. entry_spot (sym w.if-reply.true i) request)
-    | else-reply w ↦ w.spot-is ∙ (λ i. entry_spot (sym w.if-reply.false i) request)
+      | then-reply w ↦ w.spot-is ∙ (λ i. entry_spot (sym w.if-reply.true i) request)
+      | else-reply w ↦ w.spot-is ∙ (λ i. entry_spot (sym w.if-reply.false i) request)
     ] in
     let own = subst (λ r. IsOf t r) (sym c.runner.view_is) c.requires.own in
     idle_kept mean t.structure (LoadEntry request reply) found c.runner.inside.number c.runner.inside.kept.value seat.table_id new.table_id seat.me new.me own.structure
@@ -25,8 +25,8 @@ returns-clause-event g c =
     let m = g.S.Structure.meaning c.args.self.now.structure in let t = c.args.self.now in let seat = c.runner.inside.seat in let new = c.load-found.new.seat in
     let request = c.args.request in let reply = c.args.reply in let found = c.load-found.result in
     let spot : c.if-reply.spot ≡ entry_spot reply request = elim c.if-reply.branch [
-      then-reply w ↦ w.spot-is ∙ (λ i. entry_spot (sym w.if-reply.true i) request)
-    | else-reply w ↦ w.spot-is ∙ (λ i. entry_spot (sym w.if-reply.false i) request)
+      | then-reply w ↦ w.spot-is ∙ (λ i. entry_spot (sym w.if-reply.true i) request)
+      | else-reply w ↦ w.spot-is ∙ (λ i. entry_spot (sym w.if-reply.false i) request)
     ] in
     let own = subst (λ r. IsOf t r) (sym c.runner.view_is) c.requires.own in
     subst (λ r. Makes m (LoadEntry request reply) found r (seen_seat new.table_id new.me)) c.runner.view_is
