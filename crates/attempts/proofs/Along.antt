@@ -294,6 +294,8 @@ module _ {T : Type 0} where
         structure = ap (λ (y : RunnerState T). y.structure) (sym made) ∙ there.structure;
         layout = ap (λ (y : RunnerState T). y.layout) (sym made) ∙ there.layout;
         requests = ap (λ (y : RunnerState T). y.requests) (sym made) ∙ there.requests;
+        limits = there.limits;
+        allowed = there.allowed;
       }
 
   -- and forgets no cell that it read

@@ -19,7 +19,7 @@ use body_terms::{Gate, StepKind, Steps};
 use lock_walks::Planner;
 use lock_walks::epoch_slots::enter;
 use lock_walks::try_lock::Planned;
-use lock_walks::version_words::{FlockTable, Runner, table_is_allowed};
+use lock_walks::version_words::{FlockTable, Runner};
 use map_history::Request;
 
 /// Plans the request, behind the entry, and tries the section that was planned; or leaves where the plan was refused.
@@ -41,7 +41,6 @@ pub fn plan_and_try<S: Planner, G: Gate, L>(
         (IsSeen G.halts G.asks)
         (G.halts gate.old) (G.halts gate.new) (G.asks gate.old) (G.asks gate.new) steps.old.count steps.new.count }
 {
-    table_is_allowed(table);
     let (runner, planned) = table.structure().plan(table, runner, request, gate, steps);
     match planned {
         Planned::Thunk(thunk) => try_section(table, runner, request, &thunk, gate, steps),
@@ -90,7 +89,6 @@ pub fn attempt<S: Planner, G: Gate, L>(
         request.now result.1 runner result.0 (IsSeen G.halts G.asks)
         (G.halts gate.old) (G.halts gate.new) (G.asks gate.old) (G.asks gate.new) steps.old.count steps.new.count }
 {
-    table_is_allowed(table);
     let runner = reclaim(table, runner);
     match reserve_slots(runner) {
         Ok(runner) => {

@@ -8,7 +8,7 @@ ghost use Rattle.attempts.specs.Rests.{MayLearn, HasLearnt};
 use crate::answers::Attempt;
 use lock_walks::Planner;
 use lock_walks::epoch_slots::exit;
-use lock_walks::version_words::{FlockTable, Runner, table_is_allowed};
+use lock_walks::version_words::{FlockTable, Runner};
 use map_history::{Reply, Request};
 
 /// Leaves, and loads the stamp word and the reply word of a request that the runner knows: the answer is `Done`
@@ -27,7 +27,6 @@ pub fn learn<S: Planner>(
     ensures learnt { (reply : Reply) × (stamp : ℕ) × (result.1 ≡ answers.Done reply stamp) × HasLearnt
         (S.meaning table.now.structure) request.now reply stamp runner result.0 }
 {
-    table_is_allowed(table);
     let runner = exit(table, runner);
     let (runner, stamp) = table.load_entry(runner, request.number, false);
     let (runner, word) = table.load_entry(runner, request.number, true);

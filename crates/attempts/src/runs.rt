@@ -17,7 +17,7 @@ use crate::turns::turn_away;
 use body_terms::{Gate, Outcome, StepKind, Steps};
 use lock_walks::Planner;
 use lock_walks::try_lock::{RunEnd, Section, retire_section, run_section};
-use lock_walks::version_words::{FlockTable, Runner, table_is_allowed};
+use lock_walks::version_words::{FlockTable, Runner};
 use map_history::Request;
 
 /// Retires the own section, which was run to its end with this outcome, and leaves: where it answered, with the words
@@ -44,7 +44,6 @@ pub fn conclude<S: Planner, G: Gate, L>(
         (IsSeen G.halts G.asks)
         (G.halts gate.old) (G.halts gate.new) (G.asks gate.old) (G.asks gate.new) steps.old.count steps.new.count }
 {
-    table_is_allowed(table);
     let runner = retire_section(table, runner, section);
     if let Outcome::Answered(_) = outcome {
         learn(table, runner, request)
@@ -75,7 +74,6 @@ pub fn run_own<S: Planner, G: Gate, L>(
         request.now false (length tried.readings) most_of_run result.1 old runner result.0 (IsSeen G.halts G.asks)
         (G.halts gate.old) (G.halts gate.new) (G.asks gate.old) (G.asks gate.new) steps.old.count steps.new.count }
 {
-    table_is_allowed(table);
     if !goes_on(gate, StepKind::Hold) {
         return (runner, Attempt::Halted);
     }

@@ -16,7 +16,7 @@ use crate::turns::turn_away;
 use body_terms::{Gate, Steps, Thunk};
 use lock_walks::Planner;
 use lock_walks::try_lock::publish;
-use lock_walks::version_words::{FlockTable, Runner, table_is_allowed};
+use lock_walks::version_words::{FlockTable, Runner};
 use map_history::Request;
 
 /// Publishes the section of this thunk, which was just planned for the request, and runs it; or leaves where the lock
@@ -41,7 +41,6 @@ pub fn try_section<S: Planner, G: Gate, L>(
         request.now false (length readings) most_of_run result.1 old runner result.0 (IsSeen G.halts G.asks)
         (G.halts gate.old) (G.halts gate.new) (G.asks gate.old) (G.asks gate.new) steps.old.count steps.new.count }
 {
-    table_is_allowed(table);
     let (runner, published) = publish(table, runner, thunk);
     match published {
         Ok(section) => run_own(table, runner, request, section, gate, steps),

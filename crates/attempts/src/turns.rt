@@ -8,7 +8,7 @@ use crate::answers::Attempt;
 use body_terms::{Gate, Steps};
 use lock_walks::epoch_slots::exit;
 use lock_walks::try_lock::{RunEnd, help};
-use lock_walks::version_words::{FlockTable, Runner, table_is_allowed};
+use lock_walks::version_words::{FlockTable, Runner};
 use lock_words::runner_facts::names_stand;
 use lock_words::taken_names_stand;
 use structure_laws::Structure;
@@ -33,7 +33,6 @@ pub fn turn_away<S: Structure, G: Gate, L>(
     ensures turned { HasTurned (S.meaning table.now.structure) answer result.1 runner result.0
         (G.halts gate.old) (G.halts gate.new) (G.asks gate.old) (G.asks gate.new) steps.old.count steps.new.count }
 {
-    table_is_allowed(table);
     names_stand(table.structure());
     taken_names_stand(table.structure());
     if let Attempt::Busy { place: _, word } = answer {

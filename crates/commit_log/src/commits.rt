@@ -5,7 +5,7 @@ ghost use Rattle.commit_log.specs.Runs.{IsRunning};
 ghost use Rattle.commit_log.specs.Committed.{MayCommit, HasCommitted};
 
 use structure_laws::Structure;
-use version_words::{FlockTable, Runner, table_is_allowed};
+use version_words::{FlockTable, Runner};
 
 /// Agrees on a word of the run's log: one exchange puts the proposal there, where no run of the section has put another
 /// one yet. Answers the word that stands there then, by which every run of the section goes, and whether this exchange
@@ -24,6 +24,5 @@ pub fn commit<S: Structure>(
     ensures commits { (q : RunState) → IsRunning (S.meaning table.now.structure) runner q
         → HasCommitted (S.meaning table.now.structure) result.1 result.2 runner result.0 q }
 {
-    table_is_allowed(table);
     table.commit_word(runner, proposal)
 }

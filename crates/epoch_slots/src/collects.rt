@@ -10,7 +10,7 @@ ghost use Rattle.epoch_slots.specs.Collects.{IsTidy, Collects, HasScanned, EndsS
 use crate::hand::look_back;
 use epoch_core::LAST_EPOCH;
 use structure_laws::Structure;
-use version_words::{FlockTable, Runner, table_is_allowed};
+use version_words::{FlockTable, Runner};
 
 /// Whether each announcement so far was idle or the epoch.
 fn is_still_clear(epoch: u64, clear: bool, found: u64) -> bool
@@ -81,7 +81,6 @@ pub fn collect<S: Structure>(table: &FlockTable<S>, runner: Runner<S>) -> Runner
     ensures own { IsOf table.now result }
     ensures collects { Collects (S.meaning table.now.structure) runner result }
 {
-    table_is_allowed(table);
     let (runner, epoch, clear) = scan(table, runner);
     let runner = finish(table, runner, epoch, clear);
     look_back(table, runner)

@@ -10,7 +10,7 @@ ghost use Rattle.idem_alloc.specs.Numbers.{number_of, numbers_of};
 ghost use Rattle.idem_alloc.specs.Made.{MayFill, HasFilled, MayMake, IsFilling, HasMade};
 
 use body_terms::{Gate, Init, StepKind, Steps, Value, Word};
-use commit_log::version_words::{FlockTable, Runner, table_is_allowed};
+use commit_log::version_words::{FlockTable, Runner};
 use commit_log::{Unasked, passes};
 use structure_laws::Structure;
 
@@ -35,7 +35,6 @@ fn fill_gated<S: Structure, G: Gate, L>(
     ensures halted { result.1 ≡ false → IsHalted (S.meaning table.now.structure) 2 runner result.0
         (G.halts gate.old) (G.halts gate.new) (G.asks gate.old) (G.asks gate.new) steps.old.count steps.new.count }
 {
-    table_is_allowed(table);
     let (runner, found) = table.private_load(runner, slot, cell);
     if !passes(gate, steps, StepKind::Private) {
         return (runner, false);
@@ -148,7 +147,6 @@ pub fn make_gated<S: Structure, G: Gate, L>(
     ensures halted { IfNone result.1 (IsHalted (S.meaning table.now.structure) 11 runner result.0
         (G.halts gate.old) (G.halts gate.new) (G.asks gate.old) (G.asks gate.new) steps.old.count steps.new.count) }
 {
-    table_is_allowed(table);
     let free = runner.free_nodes();
     let slot = free[free.len() - 1];
     let (runner, filled) = fill_all(table, runner, slot, values, gate, steps);

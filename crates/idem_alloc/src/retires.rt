@@ -8,7 +8,7 @@ ghost use Rattle.commit_log.specs.Halted.{IsHalted};
 ghost use Rattle.idem_alloc.specs.Retired.{MayRetire, HasRetired};
 
 use body_terms::{Gate, StepKind, Steps};
-use commit_log::version_words::{FlockTable, Runner, table_is_allowed};
+use commit_log::version_words::{FlockTable, Runner};
 use commit_log::{Unasked, passes};
 use structure_laws::Structure;
 
@@ -50,7 +50,6 @@ pub fn retire_gated<S: Structure, G: Gate, L>(
     ensures halted { result.1 ≡ false → IsHalted (S.meaning table.now.structure) 2 runner result.0
         (G.halts gate.old) (G.halts gate.new) (G.asks gate.old) (G.asks gate.new) steps.old.count steps.new.count }
 {
-    table_is_allowed(table);
     let (runner, _) = table.epoch_for_retire(runner);
     if !passes(gate, steps, StepKind::EpochForRetire) {
         return (runner, false);

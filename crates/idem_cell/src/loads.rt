@@ -8,7 +8,7 @@ ghost use Rattle.commit_log.specs.Halted.{IsHalted};
 ghost use Rattle.idem_cell.specs.Loaded.{MayLoad, HasLoaded};
 
 use body_terms::{Gate, Place, StepKind, Steps, Word};
-use commit_log::version_words::{FlockTable, Runner, table_is_allowed};
+use commit_log::version_words::{FlockTable, Runner};
 use commit_log::{Unasked, commit, passes};
 use structure_laws::Structure;
 
@@ -54,7 +54,6 @@ pub fn load_gated<S: Structure, G: Gate, L>(
     ensures halted { IfNone result.1 (IsHalted (S.meaning table.now.structure) 2 runner result.0
         (G.halts gate.old) (G.halts gate.new) (G.asks gate.old) (G.asks gate.new) steps.old.count steps.new.count) }
 {
-    table_is_allowed(table);
     let (runner, word) = table.load_cell(runner, place);
     if !passes(gate, steps, StepKind::LoadCell) {
         return (runner, None);

@@ -5,7 +5,7 @@ ghost use Rattle.commit_log.specs.Runs.{IsRunning};
 ghost use Rattle.idem_cell.specs.Stored.{MayStore, HasStored};
 
 use body_terms::{Place, Word};
-use commit_log::version_words::{FlockTable, Runner, table_is_allowed};
+use commit_log::version_words::{FlockTable, Runner};
 use structure_laws::Structure;
 
 /// Stores the value in the cell: one exchange from the agreed word to the word with this value and the next version.
@@ -27,6 +27,5 @@ pub fn store<S: Structure>(
     ensures stored { (q : RunState) → IsRunning (S.meaning table.now.structure) runner q
         → HasStored (S.meaning table.now.structure) place old value runner result q }
 {
-    table_is_allowed(table);
     table.exchange_cell(runner, place, old, old.next(value)).0
 }

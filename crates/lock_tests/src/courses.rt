@@ -18,7 +18,7 @@ use attempts::reserve_slots;
 use attempts::section_runs::RunEnd;
 use attempts::try_lock::{Planned, publish};
 use body_terms::Steps;
-use closed_words::version_words::{FlockTable, Runner, table_is_allowed};
+use closed_words::version_words::{FlockTable, Runner};
 use map_history::Request;
 use runner_gate::Free;
 use std::alloc::{AllocError, Global};
@@ -180,7 +180,6 @@ pub fn serve_in_turn<S: Planner>(
     ensures own { IfOk result (λ x. IsOf table.now x.0) }
     ensures number { IfOk result (λ x. x.0.number ≡ runner.number) }
 {
-    table_is_allowed(table);
     let mut runner = runner;
     let mut courses = Vec::new(alloc);
     for request in requests {

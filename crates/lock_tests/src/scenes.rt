@@ -13,7 +13,7 @@ use crate::turns::Offer;
 use attempts::epoch_slots::{enter, exit};
 use attempts::try_lock::publish;
 use body_terms::{Thunk, Word};
-use closed_words::version_words::{FlockTable, Runner, table_is_allowed};
+use closed_words::version_words::{FlockTable, Runner};
 use interleave_core::Tray;
 use map_history::{Op, Request};
 use std::alloc::{AllocError, Global};
@@ -81,7 +81,6 @@ pub fn offer(
     ensures number { result.0.number ≡ runner.number }
     ensures published { (section : Section) → result.1 ≡ Published section → MayRun tray section result.0 }
 {
-    table_is_allowed(table);
     if word.value() != 0 || word.version() > table.layout().version_max - 2 {
         return (runner, Offer::None);
     }

@@ -12,7 +12,7 @@ use attempts::epoch_slots::{enter, exit};
 use attempts::section_runs::RunEnd;
 use attempts::try_lock::{Section, help, retire_section, run_section};
 use body_terms::{Gate, Outcome, Place, Refused, Steps, Word};
-use closed_words::version_words::{FlockTable, Runner, table_is_allowed};
+use closed_words::version_words::{FlockTable, Runner};
 use std::thread;
 use std::thread::Threads;
 use structure_laws::Structure;

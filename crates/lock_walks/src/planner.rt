@@ -21,7 +21,7 @@ use std::alloc::{AllocError, Global};
 use structure_laws::Structure;
 use table_words::Layout;
 use try_lock::Planned;
-use try_lock::version_words::{FlockTable, Runner, Words, table_is_allowed};
+use try_lock::version_words::{FlockTable, Runner, Words};
 
 /// A map over cells and node slots, on which requests are planned.
 ///
@@ -75,7 +75,6 @@ pub trait Planner: Structure + Sized + Send + Sync {
             (G.halts gate.old) (G.halts gate.new) (G.asks gate.old) (G.asks gate.new) steps.old.count
             steps.new.count }
     {
-        table_is_allowed(table);
         let walk = self.walk(table.layout(), request.op);
         plan_by(table, runner, request, walk, gate, steps)
     }

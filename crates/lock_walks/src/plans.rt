@@ -18,7 +18,7 @@ use structure_laws::Structure;
 use table_words::Layout;
 use try_lock::Planned;
 use try_lock::commit_log::{Unasked, passes, tell};
-use try_lock::version_words::{FlockTable, Runner, table_is_allowed};
+use try_lock::version_words::{FlockTable, Runner};
 
 /// Makes the load that the walker wants, if it wants one, and goes on by the word; the gate is asked behind it. Gives
 /// the last place with its word, and whether the gate let the runner go on.
@@ -42,7 +42,6 @@ fn load_next<S: Structure, W: Walker, G: Gate, L>(
         (G.halts gate.old) (G.halts gate.new) (G.asks gate.old) (G.asks gate.new) steps.old.count steps.new.count }
     ensures nearer { is_some (W.way.wants walker.old) ≡ true → W.way.left walker.new < W.way.left walker.old }
 {
-    table_is_allowed(table);
     walks_stand(table.structure());
     let Some(wanted) = walker.wanted() else {
         return (runner, place, word, true);
@@ -146,7 +145,6 @@ fn end_walk<S: Structure, W: Walker, G: Gate, L>(
         walker.old walker.new place word result.1 result.2 result.3 runner result.0
         (G.halts gate.old) (G.halts gate.new) (G.asks gate.old) (G.asks gate.new) steps.old.count steps.new.count }
 {
-    table_is_allowed(table);
     walks_stand(table.structure());
     let mut runner = runner;
     let mut place = place;
@@ -185,7 +183,6 @@ fn walk_on<S: Structure, W: Walker, G: Gate, L>(
         walker.old walker.new result.1 result.2 result.3 runner result.0
         (G.halts gate.old) (G.halts gate.new) (G.asks gate.old) (G.asks gate.new) steps.old.count steps.new.count }
 {
-    table_is_allowed(table);
     walks_stand(table.structure());
     let (runner, place, word, going) = load_next(
         table,
@@ -302,7 +299,6 @@ pub fn plan_by<S: Structure, W: Walker, G: Gate, L>(
         result.1 runner result.0
         (G.halts gate.old) (G.halts gate.new) (G.asks gate.old) (G.asks gate.new) steps.old.count steps.new.count }
 {
-    table_is_allowed(table);
     let mut walker = walker;
     let (runner, place, word, going) = lead(table, runner, &mut walker, gate, steps);
     if !going {

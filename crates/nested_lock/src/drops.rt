@@ -5,7 +5,7 @@ ghost use Rattle.commit_log.specs.Runs.{IsRunning};
 ghost use Rattle.nested_lock.specs.Dropped.{MayDrop, HasDropped};
 
 use body_terms::{Place, Word};
-use commit_log::version_words::{FlockTable, Runner, table_is_allowed};
+use commit_log::version_words::{FlockTable, Runner};
 use structure_laws::Structure;
 
 /// Releases a lock that the run's section holds with this word: one exchange to the free word with the next version.
@@ -26,6 +26,5 @@ pub fn drop_lock<S: Structure>(
     ensures dropped { (q : RunState) → IsRunning (S.meaning table.now.structure) runner q
         → HasDropped (S.meaning table.now.structure) place held runner result q }
 {
-    table_is_allowed(table);
     table.release(runner, place, Word::pack(0, held.version() - 1))
 }

@@ -9,7 +9,7 @@ ghost use Rattle.nested_lock.specs.Taken.{MayTake, MayHold, HasTaken, HasHeld, T
 
 use crate::answers::{first_answer, second_answer};
 use body_terms::{Gate, Place, Refused, StepKind, Steps, Word};
-use commit_log::version_words::{FlockTable, Runner, table_is_allowed};
+use commit_log::version_words::{FlockTable, Runner};
 use commit_log::{Unasked, commit, passes};
 use structure_laws::Structure;
 
@@ -79,7 +79,6 @@ pub fn take_gated<S: Structure, G: Gate, L>(
     ensures halted { IfNone result.1 (IsHalted (S.meaning table.now.structure) 5 runner result.0
         (G.halts gate.old) (G.halts gate.new) (G.asks gate.old) (G.asks gate.new) steps.old.count steps.new.count) }
 {
-    table_is_allowed(table);
     let (runner, word) = table.nested_load(runner, place);
     if !passes(gate, steps, StepKind::NestedLoad) {
         return (runner, None);
@@ -130,7 +129,6 @@ fn hold_gated<S: Structure, G: Gate, L>(
     ensures halted { IfNone result.1 (IsHalted (S.meaning table.now.structure) 3 runner result.0
         (G.halts gate.old) (G.halts gate.new) (G.asks gate.old) (G.asks gate.new) steps.old.count steps.new.count) }
 {
-    table_is_allowed(table);
     let runner = table.nested_hold(runner, place, expected);
     if !passes(gate, steps, StepKind::NestedHold) {
         return (runner, None);

@@ -139,6 +139,8 @@ module _ {T : Type 0} (m : Meaning) (laws : Laws m) (t : TableState T) (limits :
       structure = ap (λ (y : RunnerState T). y.structure) made ∙ own.structure;
       layout = ap (λ (y : RunnerState T). y.layout) made ∙ own.layout;
       requests = ap (λ (y : RunnerState T). y.requests) made ∙ own.requests;
+      limits = own.limits;
+      allowed = own.allowed;
     }
 
     -- the part after the step, as its line says, and then as it is noted

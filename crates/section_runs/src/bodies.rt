@@ -15,7 +15,7 @@ use crate::registers::Places;
 use crate::steps::step_gated;
 use crate::sums::add_up;
 use body_terms::{Gate, Outcome, Step, Steps, Trail};
-use idem_alloc::version_words::{FlockTable, Runner, table_is_allowed};
+use idem_alloc::version_words::{FlockTable, Runner};
 use structure_laws::Structure;
 
 /// The reply of a body's Answer, which is its last step.
@@ -76,7 +76,6 @@ pub fn walk<S: Structure, G: Gate, L>(
         → IsHalted (S.meaning table.now.structure) (sum_by step_cost body.now) runner result.0
         (G.halts gate.old) (G.halts gate.new) (G.asks gate.old) (G.asks gate.new) steps.old.count steps.new.count }
 {
-    table_is_allowed(table);
     let mut runner = runner;
     let mut kept = Places::new();
     let mut made = Steps::<L>::new();

@@ -12,7 +12,7 @@ ghost use Rattle.section_runs.specs.Ends.{IsEnding, EndsOn, HasReleased, EndsAsk
 
 use body_terms::{Gate, Place, Step, StepKind, Steps, Word};
 use idem_alloc::commit_log::passes;
-use idem_alloc::version_words::{FlockTable, Runner, table_is_allowed};
+use idem_alloc::version_words::{FlockTable, Runner};
 use structure_laws::Structure;
 
 /// Sets the done word.
@@ -34,7 +34,6 @@ fn finish<S: Structure, G: Gate, L>(
         (G.halts gate.old) (G.halts gate.new) (G.asks gate.old) (G.asks gate.new) steps.old.count steps.new.count }
 {
     let _ = taken;
-    table_is_allowed(table);
     let runner = table.set_done(runner);
     let going = passes(gate, steps, StepKind::SetDone);
     (runner, going)
@@ -66,7 +65,6 @@ fn release_step<S: Structure, G: Gate, L>(
 {
     let _ = taken;
     let _ = n;
-    table_is_allowed(table);
     match *step {
         Step::Take { place, word } => {
             let runner = table.release(runner, place, word);
@@ -131,7 +129,6 @@ fn release_last<S: Structure, G: Gate, L>(
         (G.halts gate.old) (G.halts gate.new) (G.asks gate.old) (G.asks gate.new) steps.old.count steps.new.count }
 {
     let _ = taken;
-    table_is_allowed(table);
     let runner = table.release(runner, lock, word);
     let going = passes(gate, steps, StepKind::Release);
     (runner, going)
@@ -164,7 +161,6 @@ pub fn end<S: Structure, G: Gate, L>(
         → IsHalted (S.meaning table.now.structure) (2 + count_by is_take body.now) runner result.0
         (G.halts gate.old) (G.halts gate.new) (G.asks gate.old) (G.asks gate.new) steps.old.count steps.new.count }
 {
-    table_is_allowed(table);
     let (runner, going) = finish(table, runner, taken, gate, steps);
     if !going {
         return (runner, false);

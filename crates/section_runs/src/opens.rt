@@ -9,7 +9,7 @@ ghost use Rattle.section_runs.specs.Opened.{IsOpening, HasOpened, HasHalted};
 use crate::sums::add_up;
 use body_terms::{Gate, StepKind, Steps, Thunk, Word};
 use idem_alloc::commit_log::passes;
-use idem_alloc::version_words::{FlockTable, Runner, table_is_allowed};
+use idem_alloc::version_words::{FlockTable, Runner};
 use structure_laws::Structure;
 
 /// The thunk that these words hold.
@@ -57,7 +57,6 @@ fn load_words<S: Structure, G: Gate, L>(
     ensures halted { result.1 ≡ false → HasHalted (S.meaning table.now.structure) 12 descriptor runner result.0
         (G.halts gate.old) (G.halts gate.new) (G.asks gate.old) (G.asks gate.new) steps.old.count steps.new.count }
 {
-    table_is_allowed(table);
     let start = table.descriptor_start(descriptor);
     let mut runner = runner;
     let mut made = Steps::<L>::new();
@@ -97,7 +96,6 @@ pub fn open<S: Structure, G: Gate, L>(
     ensures halted { IfNone result.1 (HasHalted (S.meaning table.now.structure) 13 descriptor runner result.0
         (G.halts gate.old) (G.halts gate.new) (G.asks gate.old) (G.asks gate.new) steps.old.count steps.new.count) }
 {
-    table_is_allowed(table);
     let mut words = [0; 13];
     let (runner, going) = load_words(table, runner, descriptor, &mut words, gate, steps);
     if !going {

@@ -16,7 +16,7 @@ use crate::opens::open;
 use crate::passed::Walked;
 use body_terms::{Gate, Outcome, Step, Steps, Thunk, Trail};
 use idem_alloc::commit_log::{Unasked, tell};
-use idem_alloc::version_words::{FlockTable, RunRoom, Runner, table_is_allowed};
+use idem_alloc::version_words::{FlockTable, RunRoom, Runner};
 use structure_laws::Structure;
 
 /// How a run of a section ended.
@@ -77,7 +77,6 @@ fn run_steps<S: Structure, G: Gate, L>(
     ensures halted { HaltsOpened (S.meaning table.now.structure) thunk.now result.1 runner result.0
         (G.halts gate.old) (G.halts gate.new) (G.asks gate.old) (G.asks gate.new) steps.old.count steps.new.count }
 {
-    table_is_allowed(table);
     let (runner, walked) = walk(table, runner, descriptor, line, trail, gate, steps);
     match walked {
         Walked::Over(taken, outcome) => {
@@ -223,7 +222,6 @@ fn run_asked<S: Structure, G: Gate, L>(
         × IsCutShort (S.meaning table.now.structure) descriptor made runner result.0 × IsAsked made false
         (G.halts gate.old) (G.halts gate.new) (G.asks gate.old) (G.asks gate.new) steps.old.count steps.new.count }
 {
-    table_is_allowed(table);
     let (runner, opened) = open(table, runner, descriptor, gate, steps);
     match opened {
         Some((thunk, late)) => run_loaded(table, runner, descriptor, thunk, late, gate, steps),

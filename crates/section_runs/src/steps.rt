@@ -17,7 +17,7 @@ use crate::registers::Places;
 use crate::values::{agree_on, taken, tested, value_in, wanted};
 use body_terms::{Gate, Init, Place, Step, StepKind, Steps, Trail, Value, Word};
 use idem_alloc::commit_log::passes;
-use idem_alloc::version_words::{FlockTable, Runner, table_is_allowed};
+use idem_alloc::version_words::{FlockTable, Runner};
 use idem_alloc::{make_gated, retire_gated};
 use idem_cell::{load_gated, store};
 use nested_lock::take_gated;
@@ -45,7 +45,6 @@ fn load_step<S: Structure, G: Gate, L>(
     ensures halted { result.1 ≡ false → IsHalted (S.meaning table.now.structure) 2 runner result.0
         (G.halts gate.old) (G.halts gate.new) (G.asks gate.old) (G.asks gate.new) steps.old.count steps.new.count }
 {
-    table_is_allowed(table);
     let (runner, word) = load_gated(table, runner, place, gate, steps);
     match word {
         Some(word) => {
@@ -80,7 +79,6 @@ fn make_step<S: Structure, G: Gate, L>(
     ensures halted { result.1 ≡ false → IsHalted (S.meaning table.now.structure) 11 runner result.0
         (G.halts gate.old) (G.halts gate.new) (G.asks gate.old) (G.asks gate.new) steps.old.count steps.new.count }
 {
-    table_is_allowed(table);
     let values = [
         value_in(kept, trail, init.cells[0]),
         value_in(kept, trail, init.cells[1]),
@@ -121,7 +119,6 @@ fn store_step<S: Structure, G: Gate, L>(
     ensures halted { result.1 ≡ false → IsHalted (S.meaning table.now.structure) 1 runner result.0
         (G.halts gate.old) (G.halts gate.new) (G.asks gate.old) (G.asks gate.new) steps.old.count steps.new.count }
 {
-    table_is_allowed(table);
     let place = kept.places[reg as usize];
     let old = trail.word(kept.logs[reg as usize] as u32);
     let number = value_in(kept, trail, value);
@@ -151,7 +148,6 @@ fn retire_step<S: Structure, G: Gate, L>(
     ensures halted { result.1 ≡ false → IsHalted (S.meaning table.now.structure) 2 runner result.0
         (G.halts gate.old) (G.halts gate.new) (G.asks gate.old) (G.asks gate.new) steps.old.count steps.new.count }
 {
-    table_is_allowed(table);
     let (runner, going) = retire_gated(table, runner, slot, gate, steps);
     trail.agree(slot as u64 + 1);
     (runner, going)
@@ -183,7 +179,6 @@ fn take_step<S: Structure, G: Gate, L>(
     ensures halted { result.1 ≡ Halted → IsHalted (S.meaning table.now.structure) 5 runner result.0
         (G.halts gate.old) (G.halts gate.new) (G.asks gate.old) (G.asks gate.new) steps.old.count steps.new.count }
 {
-    table_is_allowed(table);
     let (runner, end) = take_gated(table, runner, descriptor, place, word, gate, steps);
     match end {
         Some(end) => {
@@ -211,7 +206,6 @@ fn stamp_step<S: Structure, G: Gate, L>(
     ensures halted { result.1 ≡ false → IsHalted (S.meaning table.now.structure) 3 runner result.0
         (G.halts gate.old) (G.halts gate.new) (G.asks gate.old) (G.asks gate.new) steps.old.count steps.new.count }
 {
-    table_is_allowed(table);
     let (runner, clock) = table.clock_load(runner);
     if !passes(gate, steps, StepKind::ClockLoad) {
         return (runner, false);
@@ -243,7 +237,6 @@ fn answer_step<S: Structure, G: Gate, L>(
     ensures halted { result.1 ≡ false → IsHalted (S.meaning table.now.structure) 1 runner result.0
         (G.halts gate.old) (G.halts gate.new) (G.asks gate.old) (G.asks gate.new) steps.old.count steps.new.count }
 {
-    table_is_allowed(table);
     let (runner, _) = table.reply_exchange(runner, reply);
     let going = passes(gate, steps, StepKind::ReplyExchange);
     (runner, going)
@@ -291,7 +284,6 @@ pub fn step_gated<S: Structure, G: Gate, L>(
         → AreKept kept.new (registers_after g step.now) }
 {
     let _ = n;
-    table_is_allowed(table);
     match *step {
         Step::Load { place, into: _ } => {
             let count = count_of(trail);

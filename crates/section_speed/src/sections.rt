@@ -9,7 +9,7 @@ use interleave_core::Tray;
 use runner_gate::Free;
 use try_lock::epoch_slots::{Kind, enter, exit, reserve};
 use try_lock::section_runs::RunEnd;
-use try_lock::version_words::{FlockTable, Runner, table_is_allowed};
+use try_lock::version_words::{FlockTable, Runner};
 use try_lock::{Section, publish, retire_section, run_section};
 
 /// The worker, where two node slots and a descriptor are free; else the worker too.
@@ -64,7 +64,6 @@ fn offer(
     ensures number { result.0.number ≡ 0 }
     ensures published { IfSome result.1 (λ section. MayRun request section result.0) }
 {
-    table_is_allowed(table);
     if word.value() != 0 || word.version() > table.layout().version_max - 2 {
         return (worker, None);
     }

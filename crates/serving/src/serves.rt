@@ -11,7 +11,7 @@ use crate::persists::persist;
 use attempt_bounds::attempts::{Attempt, goes_on};
 use attempt_bounds::attempts_spare_slots;
 use attempt_bounds::lock_walks::Planner;
-use attempt_bounds::version_words::{FlockTable, Runner, table_is_allowed};
+use attempt_bounds::version_words::{FlockTable, Runner};
 use body_terms::{Gate, StepKind, Steps};
 use map_history::Request;
 use std::sync::Wait;
@@ -61,7 +61,6 @@ pub fn serve<R: Threads + Wait + Sync, S: Planner, G: Gate, L>(
     ensures halted { result.1 ≡ answers.Halted → Rose (G.halts gate.old) (G.halts gate.new) }
     ensures went { result.1 ≢ answers.Halted → G.halts gate.new ≡ G.halts gate.old }
 {
-    table_is_allowed(table);
     attempts_spare_slots(table.structure());
     for request in requests {
         let (next, answer) = persist(rt, table, runner, request, retry_short, gate, steps);

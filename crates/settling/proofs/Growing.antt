@@ -70,6 +70,8 @@ own_grows t old new grows own = record {
   structure = grows.structure ∙ own.structure;
   layout = grows.layout ∙ own.layout;
   requests = grows.requests ∙ own.requests;
+  limits = own.limits;
+  allowed = own.allowed;
 }
 
 -- no join

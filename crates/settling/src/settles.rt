@@ -13,7 +13,7 @@ use runner_gate::Free;
 use structure_laws::Structure;
 use try_lock::epoch_slots::{enter, exit};
 use try_lock::help;
-use try_lock::version_words::{FlockTable, Runner, table_is_allowed};
+use try_lock::version_words::{FlockTable, Runner};
 
 /// How many cells the table has.
 fn cells<S: Structure>(table: &FlockTable<S>) -> u32
@@ -48,7 +48,6 @@ fn clear_lock<S: Structure>(table: &FlockTable<S>, keeper: Runner<S>, place: Pla
         → IsClearing (S.meaning table.now.structure) begun (place + 1) result }
     ensures keeps { KeepsJoins keeper result }
 {
-    table_is_allowed(table);
     what_the_keeper_saw_tells(table.structure());
     let (keeper, word) = table.load_cell(keeper, place);
     if word.value() == 0 {
@@ -67,7 +66,6 @@ fn clear_locks<S: Structure>(table: &FlockTable<S>, keeper: Runner<S>) -> Runner
         (cell_count (S.meaning table.now.structure) table.now.layout) result }
     ensures keeps { KeepsJoins keeper result }
 {
-    table_is_allowed(table);
     let mut keeper = keeper;
     for place in 0..cells(table) {
         if table.structure().is_lock(place) {
@@ -94,7 +92,6 @@ pub fn settle<S: Structure>(table: &FlockTable<S>, keeper: Runner<S>) -> Runner<
     ensures own { IsOf table.now result }
     ensures settles { Settles (S.meaning table.now.structure) keeper result }
 {
-    table_is_allowed(table);
     what_the_keeper_saw_tells(table.structure());
     let keeper = enter(table, keeper);
     let keeper = clear_locks(table, keeper);

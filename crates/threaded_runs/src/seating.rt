@@ -9,7 +9,7 @@ ghost use Rattle.threaded_runs.specs.Jobs.{IsSeated, AllSeated, AllUnasked, AreB
 use crate::job::{Finished, Job};
 use crate::owned::requests_of;
 use body_terms::Gate;
-use closed_words::version_words::{FlockTable, Runner, table_is_allowed};
+use closed_words::version_words::{FlockTable, Runner};
 use map_history::Request;
 use serving::Served;
 use serving::lock_walks::Planner;
@@ -38,7 +38,6 @@ fn seat_worker<S: Planner, G: Gate + Drop>(
     ensures job { IfOk result (λ x. IsSeated (S.planning table.now.structure) table.now worker x.1) }
     ensures gate { IfOk result (λ x. x.1.gate ≡ gate) }
 {
-    table_is_allowed(table);
     let own = requests_of(alloc, requests, worker, table.layout().runners)?;
     match table.runner(alloc, keeper) {
         Ok((keeper, runner)) => Ok((

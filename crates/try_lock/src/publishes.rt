@@ -8,7 +8,7 @@ ghost use Rattle.try_lock.specs.Publishes.{MayPublish, Publishes};
 
 use crate::section::Section;
 use body_terms::{Refused, Thunk};
-use epoch_slots::version_words::{FlockTable, Runner, held_word, table_is_allowed};
+use epoch_slots::version_words::{FlockTable, Runner, held_word};
 use runner_parts::thunk_words;
 use section_runs::nested_lock::refused;
 use structure_laws::Structure;
@@ -137,7 +137,6 @@ pub fn publish<S: Structure>(
     ensures own { IsOf table.now result.0 }
     ensures publishes { Publishes (S.meaning table.now.structure) thunk.now result.1 runner result.0 }
 {
-    table_is_allowed(table);
     has_eight_operands(thunk);
     let free = runner.free_descriptors();
     let descriptor = free[free.len() - 1];

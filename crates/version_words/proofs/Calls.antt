@@ -90,7 +90,7 @@ module _ {T : Type 0} (mean : T → Meaning) (table : TableId) (key built : Setu
     seen_is = λ i. seen_seat (same i) (told_here.view i)
 
     pub own_after : IsOf (seen_table table built) (seen_seat own_table' me')
-    own_after = subst (λ (r : RunnerState T). IsOf (seen_table table built) r) (sym seen_is) (record { table = own.table; structure = own.structure; layout = own.layout; requests = own.requests })
+    own_after = subst (λ (r : RunnerState T). IsOf (seen_table table built) r) (sym seen_is) (record { table = own.table; structure = own.structure; layout = own.layout; requests = own.requests; limits = own.limits; allowed = own.allowed })
 
     pub makes : Makes (mean built.structure) kind found (seen_seat own_table me) (seen_seat own_table' me')
     makes = record { met = x; asked = named.asked; made = seen_is; shown = told_here.shown }

@@ -20,3 +20,4 @@ pub mod Holds
 pub mod OwnLoads
 pub mod MakeSteps
 pub mod RetireSteps
+pub mod Entries

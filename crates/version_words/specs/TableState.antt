@@ -27,12 +27,14 @@ pub record TableState (T : Type 0) : Type 0 where
   pub layout : Layout
   pub requests : List Request
 
--- the runner is of this table
+-- the runner is of this table; its layout is within the limits, and its requests are allowed
 pub record IsOf {T : Type 0} (t : TableState T) (r : RunnerState T) : Type 0 where
   pub table : r.table ≡ t.table
   pub structure : r.structure ≡ Some t.structure
   pub layout : r.layout ≡ t.layout
   pub requests : r.requests ≡ t.requests
+  pub limits : (l : Layout) → l ≡ t.layout → IsWithinLimits l
+  pub allowed : (rs : List Request) → rs ≡ t.requests → AreAllowed rs
 
 -- the table was made with these
 pub record IsNew {T : Type 0} (given : T) (l : Layout) (rs : List Request) (t : TableState T) : Type 0 where

@@ -1,4 +1,4 @@
-use Rattle.std.proofs.Common.{◌<◌, length, true, false, sym, subst, ap, ◌∙◌, None}
+use Rattle.std.proofs.Common.{◌<◌, length, true, false, sym, subst, ap, ◌∙◌, None, refl}
 use Rattle.std.proofs.lemmas.Option.{slice_get_within}
 use Rattle.table_words.specs.Limits.{IsWithinLimits}
 use Rattle.machine_states.proofs.Steps.{some_same, none_some}
@@ -31,8 +31,8 @@ unreachable-requires g c =
     let zero = c.exit-runner.ensures.own in
     let one = c.load_entry-runner.ensures.own in
     let two = c.load_entry-runner-2.ensures.own in
-    let limits = subst IsWithinLimits (sym two.layout) c.table_is_allowed.ensures.limits in
-    let allowed = subst AreAllowed (sym two.requests) c.table_is_allowed.ensures.requests in
+    let limits = subst IsWithinLimits (sym two.layout) (c.requires.own.limits _ refl) in
+    let allowed = subst AreAllowed (sym two.requests) (c.requires.own.allowed _ refl) in
     let known = is_known m (met.laws c.args.table.now.structure) (plans.plans_lawfully c.args.table.now.structure).serves c.args.request.now c.args.runner c.exit-runner.result c.load_entry-runner.result.0 c.load_entry-runner-2.result.0
     c.requires.next c.exit-runner.ensures.exits c.load_entry-runner.result.1 c.load_entry-runner-2.result.1 c.load_entry-runner.ensures.event c.load_entry-runner-2.ensures.event
     limits allowed (one.layout ∙ sym two.layout) (one.requests ∙ sym two.requests) (zero.layout ∙ sym old.layout) (zero.requests ∙ sym old.requests) (one.layout ∙ sym zero.layout) (one.requests ∙ sym zero.requests) in
@@ -50,8 +50,8 @@ returns-clause-learnt g c =
     let zero = c.exit-runner.ensures.own in
     let one = c.load_entry-runner.ensures.own in
     let two = c.load_entry-runner-2.ensures.own in
-    let limits = subst IsWithinLimits (sym two.layout) c.table_is_allowed.ensures.limits in
-    let allowed = subst AreAllowed (sym two.requests) c.table_is_allowed.ensures.requests in
+    let limits = subst IsWithinLimits (sym two.layout) (c.requires.own.limits _ refl) in
+    let allowed = subst AreAllowed (sym two.requests) (c.requires.own.allowed _ refl) in
     let known = is_known m (met.laws c.args.table.now.structure) (plans.plans_lawfully c.args.table.now.structure).serves c.args.request.now c.args.runner c.exit-runner.result c.load_entry-runner.result.0 c.load_entry-runner-2.result.0
     c.requires.next c.exit-runner.ensures.exits c.load_entry-runner.result.1 c.load_entry-runner-2.result.1 c.load_entry-runner.ensures.event c.load_entry-runner-2.ensures.event
     limits allowed (one.layout ∙ sym two.layout) (one.requests ∙ sym two.requests) (zero.layout ∙ sym old.layout) (zero.requests ∙ sym old.requests) (one.layout ∙ sym zero.layout) (one.requests ∙ sym zero.requests) in

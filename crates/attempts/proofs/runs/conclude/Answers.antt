@@ -16,7 +16,7 @@ pub learn-requires-clause-next : goal.learn-requires-clause-next
 learn-requires-clause-next g c κs within =
     let met = g.met.S.Structure g.world.𝓛 g.world.𝓜 g.world.𝓡 ((λ s allowed. allowed), (λ patient. patient), (λ alone. alone), (λ cuts. cuts)) in
     let e = c.requires.ended in
-    may_learn (g.S.Structure.meaning c.args.table.now.structure) (met.laws c.args.table.now.structure) c.args.table.now c.table_is_allowed.ensures.limits c.table_is_allowed.ensures.requests (g.S.Planner.planning c.args.table.now.structure) c.args.request.now c.args.section e.1 c.args.outcome e.2 e.0 c.args.runner c.requires.own e.3 c.retire_section-runner.result c.retire_section-runner.ensures.own c.retire_section-runner.ensures.retired c.in-Answered.field-0 c.in-Answered.is
+    may_learn (g.S.Structure.meaning c.args.table.now.structure) (met.laws c.args.table.now.structure) c.args.table.now (c.requires.own.limits _ refl) (c.requires.own.allowed _ refl) (g.S.Planner.planning c.args.table.now.structure) c.args.request.now c.args.section e.1 c.args.outcome e.2 e.0 c.args.runner c.requires.own e.3 c.retire_section-runner.result c.retire_section-runner.ensures.own c.retire_section-runner.ensures.retired c.in-Answered.field-0 c.in-Answered.is
 
 pub turn_away-requires-clause-refusal : goal.turn_away-requires-clause-refusal
 turn_away-requires-clause-refusal g c κs within =
@@ -27,14 +27,14 @@ turn_away-requires-clause-next g c κs within =
     let met = g.met.S.Structure g.world.𝓛 g.world.𝓜 g.world.𝓡 ((λ s allowed. allowed), (λ patient. patient), (λ alone. alone), (λ cuts. cuts)) in
     let e = c.requires.ended in
     subst (λ a. MayLeave (g.S.Structure.meaning c.args.table.now.structure) a c.retire_section-runner.result) (sym c.section_left.ensures)
-    (left_may_leave (g.S.Structure.meaning c.args.table.now.structure) (met.laws c.args.table.now.structure) c.args.table.now c.table_is_allowed.ensures.limits c.table_is_allowed.ensures.requests (g.S.Planner.planning c.args.table.now.structure) c.args.request.now c.args.section e.1 c.args.outcome e.2 e.0 c.args.runner c.requires.own e.3 c.retire_section-runner.result c.retire_section-runner.ensures.own c.retire_section-runner.ensures.retired c.in_default.not-Answered)
+    (left_may_leave (g.S.Structure.meaning c.args.table.now.structure) (met.laws c.args.table.now.structure) c.args.table.now (c.requires.own.limits _ refl) (c.requires.own.allowed _ refl) (g.S.Planner.planning c.args.table.now.structure) c.args.request.now c.args.section e.1 c.args.outcome e.2 e.0 c.args.runner c.requires.own e.3 c.retire_section-runner.result c.retire_section-runner.ensures.own c.retire_section-runner.ensures.retired c.in_default.not-Answered)
 
 pub returns-in-Answered-clause-rests : goal.returns-in-Answered-clause-rests
 returns-in-Answered-clause-rests g c =
     let met = g.met.S.Structure g.world.𝓛 g.world.𝓜 g.world.𝓡 ((λ s allowed. allowed), (λ patient. patient), (λ alone. alone), (λ cuts. cuts)) in
     let l = c.learn.ensures.learnt in λ old thunk trail is.
     subst (λ a. Rests (g.S.Structure.meaning c.args.table.now.structure) (g.S.Planner.planning c.args.table.now.structure) c.args.request.now true (length is.tries.readings + is.made) 0 a old c.args.runner c.learn.result.0 (IsSeen g.G.Gate.halts g.G.Gate.asks) (g.G.Gate.halts c.args.gate.now) (g.G.Gate.halts c.args.gate.now) (g.G.Gate.asks c.args.gate.now) (g.G.Gate.asks c.args.gate.now) c.args.steps.now.count c.args.steps.now.count) (sym l.2)
-    (concluded (g.S.Structure.meaning c.args.table.now.structure) (met.laws c.args.table.now.structure) c.args.table.now c.table_is_allowed.ensures.limits c.table_is_allowed.ensures.requests (g.S.Planner.planning c.args.table.now.structure) c.args.request.now c.args.section thunk c.args.outcome trail old c.args.runner c.requires.own is c.retire_section-runner.result c.retire_section-runner.ensures.own c.retire_section-runner.ensures.retired c.in-Answered.field-0 c.in-Answered.is l.0 l.1 c.learn.result.0 c.learn.ensures.own l.3 (IsSeen g.G.Gate.halts g.G.Gate.asks) _ _ _)
+    (concluded (g.S.Structure.meaning c.args.table.now.structure) (met.laws c.args.table.now.structure) c.args.table.now (c.requires.own.limits _ refl) (c.requires.own.allowed _ refl) (g.S.Planner.planning c.args.table.now.structure) c.args.request.now c.args.section thunk c.args.outcome trail old c.args.runner c.requires.own is c.retire_section-runner.result c.retire_section-runner.ensures.own c.retire_section-runner.ensures.retired c.in-Answered.field-0 c.in-Answered.is l.0 l.1 c.learn.result.0 c.learn.ensures.own l.3 (IsSeen g.G.Gate.halts g.G.Gate.asks) _ _ _)
 
 pub returns-in_default : goal.returns-in_default
 returns-in_default g c =
@@ -42,7 +42,7 @@ returns-in_default g c =
     let plans = g.met.S.Planner g.world.𝓛 g.world.𝓜 g.world.𝓡 ((λ s allowed. allowed), (λ patient. patient), (λ alone. alone), (λ cuts. cuts)) in
     record {
       own = c.turn_away.ensures.own;
-      rests = λ old thunk trail is. left_concluded (g.S.Structure.meaning c.args.table.now.structure) (met.laws c.args.table.now.structure) c.args.table.now c.table_is_allowed.ensures.limits c.table_is_allowed.ensures.requests (g.S.Planner.planning c.args.table.now.structure) c.args.request.now c.args.section thunk c.args.outcome trail old c.args.runner c.requires.own is c.retire_section-runner.result c.retire_section-runner.ensures.own c.retire_section-runner.ensures.retired c.in_default.not-Answered _ (plans.plans_lawfully c.args.table.now.structure) c.turn_away.result.1 c.turn_away.result.0 c.turn_away.ensures.own (IsSeen g.G.Gate.halts g.G.Gate.asks) _ _ _ _ _ _ (c.args.gate.now, refl, refl)
+      rests = λ old thunk trail is. left_concluded (g.S.Structure.meaning c.args.table.now.structure) (met.laws c.args.table.now.structure) c.args.table.now (c.requires.own.limits _ refl) (c.requires.own.allowed _ refl) (g.S.Planner.planning c.args.table.now.structure) c.args.request.now c.args.section thunk c.args.outcome trail old c.args.runner c.requires.own is c.retire_section-runner.result c.retire_section-runner.ensures.own c.retire_section-runner.ensures.retired c.in_default.not-Answered _ (plans.plans_lawfully c.args.table.now.structure) c.turn_away.result.1 c.turn_away.result.0 c.turn_away.ensures.own (IsSeen g.G.Gate.halts g.G.Gate.asks) _ _ _ _ _ _ (c.args.gate.now, refl, refl)
           (subst (λ a. HasTurned (g.S.Structure.meaning c.args.table.now.structure) a c.turn_away.result.1 c.retire_section-runner.result c.turn_away.result.0 (g.G.Gate.halts c.args.gate.now) (g.G.Gate.halts c.turn_away.new.gate) (g.G.Gate.asks c.args.gate.now) (g.G.Gate.asks c.turn_away.new.gate) c.args.steps.now.count c.turn_away.new.steps.count) c.section_left.ensures
           c.turn_away.ensures.turned);
     }

@@ -33,7 +33,7 @@ turn_away-requires-clause-next g c κs within =
     (tried_of (g.S.Structure.meaning c.args.table.now.structure) (g.S.Planner.planning c.args.table.now.structure) c.args.request.now e.0 e.1 c.args.thunk.now c.args.runner e.2 (Err c.in-Err.refused) c.publish-runner.result.0
     (subst (λ a. Publishes (g.S.Structure.meaning c.args.table.now.structure) c.args.thunk.now a c.args.runner c.publish-runner.result.0) c.in-Err.is c.publish-runner.ensures.publishes) (c.publish-runner.ensures.own.layout ∙ sym c.requires.own.layout) (c.publish-runner.ensures.own.requests ∙ sym c.requires.own.requests))
     (planned_shaped (g.S.Structure.meaning c.args.table.now.structure) (met.laws c.args.table.now.structure) (g.S.Planner.planning c.args.table.now.structure) c.args.request.now e.1 c.args.thunk.now e.0 c.args.runner
-    (subst IsWithinLimits (sym c.requires.own.layout) c.table_is_allowed.ensures.limits) (subst AreAllowed (sym c.requires.own.requests) c.table_is_allowed.ensures.requests) e.2).outer_lock)
+    (subst IsWithinLimits (sym c.requires.own.layout) (c.requires.own.limits _ refl)) (subst AreAllowed (sym c.requires.own.requests) (c.requires.own.allowed _ refl)) e.2).outer_lock)
 
 pub returns-in-Ok-clause-rests : goal.returns-in-Ok-clause-rests
 returns-in-Ok-clause-rests g c =
@@ -47,6 +47,6 @@ returns-in-Err-clause-rests g c =
     let met = g.met.S.Structure g.world.𝓛 g.world.𝓜 g.world.𝓡 ((λ s allowed. allowed), (λ patient. patient), (λ alone. alone), (λ cuts. cuts)) in
     λ old readings planned.
     let publishes = subst (λ a. Publishes (g.S.Structure.meaning c.args.table.now.structure) c.args.thunk.now a c.args.runner c.publish-runner.result.0) c.in-Err.is c.publish-runner.ensures.publishes in
-    lost_rests (g.S.Structure.meaning c.args.table.now.structure) (met.laws c.args.table.now.structure) c.args.table.now c.table_is_allowed.ensures.limits c.table_is_allowed.ensures.requests (g.S.Planner.planning c.args.table.now.structure) c.args.request.now c.args.thunk.now c.in-Err.refused old c.args.runner c.publish-runner.result.0 c.publish-runner.ensures.own readings planned publishes (c.publish-runner.ensures.own.layout ∙ sym c.requires.own.layout) (c.publish-runner.ensures.own.requests ∙ sym c.requires.own.requests)
+    lost_rests (g.S.Structure.meaning c.args.table.now.structure) (met.laws c.args.table.now.structure) c.args.table.now (c.requires.own.limits _ refl) (c.requires.own.allowed _ refl) (g.S.Planner.planning c.args.table.now.structure) c.args.request.now c.args.thunk.now c.in-Err.refused old c.args.runner c.publish-runner.result.0 c.publish-runner.ensures.own readings planned publishes (c.publish-runner.ensures.own.layout ∙ sym c.requires.own.layout) (c.publish-runner.ensures.own.requests ∙ sym c.requires.own.requests)
     c.turn_away.result.1 c.turn_away.result.0 c.turn_away.ensures.own (IsSeen g.G.Gate.halts g.G.Gate.asks) _ _ _ _ _ _ (c.args.gate.now, refl, refl)
     (subst (λ a. HasTurned (g.S.Structure.meaning c.args.table.now.structure) a c.turn_away.result.1 c.publish-runner.result.0 c.turn_away.result.0 (g.G.Gate.halts c.args.gate.now) (g.G.Gate.halts c.turn_away.new.gate) (g.G.Gate.asks c.args.gate.now) (g.G.Gate.asks c.turn_away.new.gate) c.args.steps.now.count c.turn_away.new.steps.count) c.lock_refused.ensures c.turn_away.ensures.turned)

@@ -1,4 +1,4 @@
-use Rattle.std.proofs.Common.{subst}
+use Rattle.std.proofs.Common.{subst, refl}
 use Rattle.machine_states.specs.World.{World}
 use Rattle.machine_states.specs.Reached.{Reached}
 use Rattle.machine_states.specs.Sight.{sight}
@@ -14,12 +14,12 @@ returns-in-Done-clause-turned g c =
     let met = g.met.S.Structure g.world.𝓛 g.world.𝓜 g.world.𝓡 ((λ s allowed. allowed), (λ patient. patient), (λ alone. alone), (λ cuts. cuts)) in
     let t = c.args.table.now in
     let names = subst (λ s. (w : World) → Reached (g.S.Structure.meaning s) t.layout t.requests w → NamesStand (g.S.Structure.meaning s) (sight (g.S.Structure.meaning s) t.layout t.requests w)) c.structure.ensures
-    (λ w reached. c.names_stand.ensures t.layout t.requests w c.table_is_allowed.ensures.limits c.table_is_allowed.ensures.requests reached) in
+    (λ w reached. c.names_stand.ensures t.layout t.requests w (c.requires.own.limits _ refl) (c.requires.own.allowed _ refl) reached) in
     let taken = subst (λ s. (w : World) → Reached (g.S.Structure.meaning s) t.layout t.requests w → TakenStand (g.S.Structure.meaning s) t.layout (sight (g.S.Structure.meaning s) t.layout t.requests w)) c.structure-2.ensures
-    (λ w reached. c.taken_names_stand.ensures t.layout t.requests w c.table_is_allowed.ensures.limits c.table_is_allowed.ensures.requests reached) in
+    (λ w reached. c.taken_names_stand.ensures t.layout t.requests w (c.requires.own.limits _ refl) (c.requires.own.allowed _ refl) reached) in
     let ends = c.help-runner.ensures.done c.in-Done.field-0 c.in-Done.field-1 c.in-Done.is in
     subst (λ a. HasTurned (g.S.Structure.meaning c.args.table.now.structure) c.args.answer a c.args.runner c.exit.result (g.G.Gate.halts c.args.gate.now) (g.G.Gate.halts c.help-runner.new.gate) (g.G.Gate.asks c.args.gate.now) (g.G.Gate.asks c.help-runner.new.gate) c.args.steps.now.count c.help-runner.new.steps.count) c.in-Busy.is
-    (help_turned (g.S.Structure.meaning c.args.table.now.structure) (met.laws c.args.table.now.structure) c.args.table.now c.table_is_allowed.ensures.limits c.table_is_allowed.ensures.requests c.args.answer c.in-Busy.place c.in-Busy.word c.in-Busy.is c.args.runner c.requires.own c.requires.next ends.0 c.in-Done.field-0 c.in-Done.field-1 ends.1 c.help-runner.result.0 c.help-runner.ensures.own ends.2
+    (help_turned (g.S.Structure.meaning c.args.table.now.structure) (met.laws c.args.table.now.structure) c.args.table.now (c.requires.own.limits _ refl) (c.requires.own.allowed _ refl) c.args.answer c.in-Busy.place c.in-Busy.word c.in-Busy.is c.args.runner c.requires.own c.requires.next ends.0 c.in-Done.field-0 c.in-Done.field-1 ends.1 c.help-runner.result.0 c.help-runner.ensures.own ends.2
     c.exit.result c.exit.ensures.exits
     (λ w reached. (names w reached, taken w reached))
     _ _ _ _ _ _ ends.3)
@@ -28,7 +28,7 @@ pub returns-in-Halted-clause-turned : goal.returns-in-Halted-clause-turned
 returns-in-Halted-clause-turned g c =
     let met = g.met.S.Structure g.world.𝓛 g.world.𝓜 g.world.𝓡 ((λ s allowed. allowed), (λ patient. patient), (λ alone. alone), (λ cuts. cuts)) in
     let cut = c.help-runner.ensures.halted c.in-Halted.is in
-    halt_turned (g.S.Structure.meaning c.args.table.now.structure) (met.laws c.args.table.now.structure) c.args.table.now c.table_is_allowed.ensures.limits c.table_is_allowed.ensures.requests c.args.answer c.in-Busy.place c.in-Busy.word c.in-Busy.is c.args.runner c.requires.own c.requires.next cut.0 c.help-runner.result.0 c.help-runner.ensures.own cut.1 _ _ _ _ _ _ cut.2
+    halt_turned (g.S.Structure.meaning c.args.table.now.structure) (met.laws c.args.table.now.structure) c.args.table.now (c.requires.own.limits _ refl) (c.requires.own.allowed _ refl) c.args.answer c.in-Busy.place c.in-Busy.word c.in-Busy.is c.args.runner c.requires.own c.requires.next cut.0 c.help-runner.result.0 c.help-runner.ensures.own cut.1 _ _ _ _ _ _ cut.2
 
 pub returns-in_default : goal.returns-in_default
 returns-in_default g c =

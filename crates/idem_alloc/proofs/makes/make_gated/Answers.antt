@@ -1,4 +1,4 @@
-use Rattle.std.proofs.Common.{ℕ, ◌-◌, List, length, arith, ap, sym, subst, ◌∙◌, Some}
+use Rattle.std.proofs.Common.{ℕ, ◌-◌, List, length, arith, ap, sym, subst, ◌∙◌, Some, refl}
 use Rattle.std.specs.Prelude.{slice_index}
 use Rattle.runner_parts.specs.State.{RunState}
 use Rattle.commit_log.proofs.Asked.{asked_more}
@@ -16,7 +16,7 @@ make_commit-runner-requires-clause-next g c κs within =
     let may = c.requires.next.1 in
     let filled = c.fill_all-runner.ensures.filled c.if-not-filled.false c.requires.next.0 may.running in
     let free = last_is c.args.runner.part.nodes.free may.reserve ∙ ap (λ (xs : List ℕ). Some (slice_index xs (length xs - 1))) (sym c.free_nodes-free.ensures.list) in
-    may_commit m laws c.args.table.now c.table_is_allowed.ensures.limits c.table_is_allowed.ensures.requests _ _ _ may _ free _ c.fill_all-runner.ensures.own filled
+    may_commit m laws c.args.table.now (c.requires.own.limits _ refl) (c.requires.own.allowed _ refl) _ _ _ may _ free _ c.fill_all-runner.ensures.own filled
 
 pub returns-then-not-passes-clause-halted : goal.returns-then-not-passes-clause-halted
 returns-then-not-passes-clause-halted g c =
@@ -26,7 +26,7 @@ returns-then-not-passes-clause-halted g c =
     let may = c.requires.next.1 in
     let filled = c.fill_all-runner.ensures.filled c.if-not-filled.false c.requires.next.0 may.running in
     let free = last_is c.args.runner.part.nodes.free may.reserve ∙ ap (λ (xs : List ℕ). Some (slice_index xs (length xs - 1))) (sym c.free_nodes-free.ensures.list) in
-    let commit = commits m laws c.args.table.now c.table_is_allowed.ensures.limits c.table_is_allowed.ensures.requests _ _ _ may _ free _ c.fill_all-runner.ensures.own filled _ _ _ c.make_commit-runner.ensures.event in
+    let commit = commits m laws c.args.table.now (c.requires.own.limits _ refl) (c.requires.own.allowed _ refl) _ _ _ may _ free _ c.fill_all-runner.ensures.own filled _ _ _ c.make_commit-runner.ensures.event in
     halted_more _ _ 10 1 _ _ _ _ _ _ _ _ _ _ _ _ filled.ran (c.fill_all-runner.ensures.asked c.if-not-filled.false)
     (halted_first _ _ _ _ _ _ _ _ _ _ _ _ _ commit c.if-not-passes.ensures (omega arith)) (omega arith)
 
@@ -38,9 +38,9 @@ returns-clause-made g c = λ q is.
     let may = c.requires.next.1 in
     let filled = c.fill_all-runner.ensures.filled c.if-not-filled.false c.requires.next.0 may.running in
     let free = last_is c.args.runner.part.nodes.free may.reserve ∙ ap (λ (xs : List ℕ). Some (slice_index xs (length xs - 1))) (sym c.free_nodes-free.ensures.list) in
-    let commit = commits m laws c.args.table.now c.table_is_allowed.ensures.limits c.table_is_allowed.ensures.requests _ _ _ may _ free _ c.fill_all-runner.ensures.own filled _ _ _ c.make_commit-runner.ensures.event in
+    let commit = commits m laws c.args.table.now (c.requires.own.limits _ refl) (c.requires.own.allowed _ refl) _ _ _ may _ free _ c.fill_all-runner.ensures.own filled _ _ _ c.make_commit-runner.ensures.event in
     subst (λ (p : RunState). HasMade m c.make_commit-runner.result.1 c.args.runner c.make_commit-runner.result.0 p) (one_run m _ _ _ may.running is)
-    (has_made m laws c.args.table.now c.table_is_allowed.ensures.limits c.table_is_allowed.ensures.requests _ _ _ may _ free _ c.fill_all-runner.ensures.own filled _ _ _ c.make_commit-runner.ensures.proposal commit)
+    (has_made m laws c.args.table.now (c.requires.own.limits _ refl) (c.requires.own.allowed _ refl) _ _ _ may _ free _ c.fill_all-runner.ensures.own filled _ _ _ c.make_commit-runner.ensures.proposal commit)
 
 pub returns-clause-asked : goal.returns-clause-asked
 returns-clause-asked g c = asked_more 10 1 _ _ _ _ _ _ _ _ _ _ (c.fill_all-runner.ensures.asked c.if-not-filled.false) c.if-not-passes.ensures

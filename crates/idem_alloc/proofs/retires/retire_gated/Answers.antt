@@ -1,4 +1,4 @@
-use Rattle.std.proofs.Common.{arith, subst}
+use Rattle.std.proofs.Common.{arith, subst, refl}
 use Rattle.runner_parts.specs.State.{RunState}
 use Rattle.commit_log.proofs.Halting.{halted_first, halted_more}
 use Rattle.commit_log.proofs.Running.{one_run, ran_one}
@@ -12,7 +12,7 @@ epoch_for_retire-runner-requires-clause-next g c κs within =
     let m = g.S.Structure.meaning c.args.table.now.structure in
     let laws = met.laws c.args.table.now.structure in
     let may = c.requires.next.1 in
-    may_load m laws c.args.table.now c.table_is_allowed.ensures.limits c.table_is_allowed.ensures.requests _ c.requires.own _ _ may
+    may_load m laws c.args.table.now (c.requires.own.limits _ refl) (c.requires.own.allowed _ refl) _ c.requires.own _ _ may
 
 pub returns-then-not-passes-clause-halted : goal.returns-then-not-passes-clause-halted
 returns-then-not-passes-clause-halted g c = λ _.
@@ -20,7 +20,7 @@ returns-then-not-passes-clause-halted g c = λ _.
     let m = g.S.Structure.meaning c.args.table.now.structure in
     let laws = met.laws c.args.table.now.structure in
     let may = c.requires.next.1 in
-    let load = loads m laws c.args.table.now c.table_is_allowed.ensures.limits c.table_is_allowed.ensures.requests _ c.requires.own _ _ may _ _ c.epoch_for_retire-runner.ensures.event in
+    let load = loads m laws c.args.table.now (c.requires.own.limits _ refl) (c.requires.own.allowed _ refl) _ c.requires.own _ _ may _ _ c.epoch_for_retire-runner.ensures.event in
     halted_first _ _ _ _ _ _ _ _ _ _ _ _ _ load c.if-not-passes.ensures (omega arith)
 
 pub retire_commit-runner-requires-clause-next : goal.retire_commit-runner-requires-clause-next
@@ -29,8 +29,8 @@ retire_commit-runner-requires-clause-next g c κs within =
     let m = g.S.Structure.meaning c.args.table.now.structure in
     let laws = met.laws c.args.table.now.structure in
     let may = c.requires.next.1 in
-    let load = loads m laws c.args.table.now c.table_is_allowed.ensures.limits c.table_is_allowed.ensures.requests _ c.requires.own _ _ may _ _ c.epoch_for_retire-runner.ensures.event in
-    may_commit m laws c.args.table.now c.table_is_allowed.ensures.limits c.table_is_allowed.ensures.requests _ c.requires.own _ _ may _ _ c.epoch_for_retire-runner.ensures.own load
+    let load = loads m laws c.args.table.now (c.requires.own.limits _ refl) (c.requires.own.allowed _ refl) _ c.requires.own _ _ may _ _ c.epoch_for_retire-runner.ensures.event in
+    may_commit m laws c.args.table.now (c.requires.own.limits _ refl) (c.requires.own.allowed _ refl) _ c.requires.own _ _ may _ _ c.epoch_for_retire-runner.ensures.own load
 
 pub returns-then-not-passes-2-clause-halted : goal.returns-then-not-passes-2-clause-halted
 returns-then-not-passes-2-clause-halted g c = λ _.
@@ -38,8 +38,8 @@ returns-then-not-passes-2-clause-halted g c = λ _.
     let m = g.S.Structure.meaning c.args.table.now.structure in
     let laws = met.laws c.args.table.now.structure in
     let may = c.requires.next.1 in
-    let load = loads m laws c.args.table.now c.table_is_allowed.ensures.limits c.table_is_allowed.ensures.requests _ c.requires.own _ _ may _ _ c.epoch_for_retire-runner.ensures.event in
-    let commit = commits m laws c.args.table.now c.table_is_allowed.ensures.limits c.table_is_allowed.ensures.requests _ c.requires.own _ _ may _ _
+    let load = loads m laws c.args.table.now (c.requires.own.limits _ refl) (c.requires.own.allowed _ refl) _ c.requires.own _ _ may _ _ c.epoch_for_retire-runner.ensures.event in
+    let commit = commits m laws c.args.table.now (c.requires.own.limits _ refl) (c.requires.own.allowed _ refl) _ c.requires.own _ _ may _ _
     c.epoch_for_retire-runner.ensures.own load _ _ c.retire_commit-runner.ensures.event in
     halted_more _ _ 1 1 _ _ _ _ _ _ _ _ _ _ _ _ (ran_one _ _ _ _ _ _ load) c.if-not-passes.ensures
     (halted_first _ _ _ _ _ _ _ _ _ _ _ _ _ commit c.if-not-passes-2.ensures (omega arith)) (omega arith)
@@ -50,9 +50,9 @@ returns-clause-retired g c = λ _ q is.
     let m = g.S.Structure.meaning c.args.table.now.structure in
     let laws = met.laws c.args.table.now.structure in
     let may = c.requires.next.1 in
-    let load = loads m laws c.args.table.now c.table_is_allowed.ensures.limits c.table_is_allowed.ensures.requests _ c.requires.own _ _ may _ _ c.epoch_for_retire-runner.ensures.event in
-    let commit = commits m laws c.args.table.now c.table_is_allowed.ensures.limits c.table_is_allowed.ensures.requests _ c.requires.own _ _ may _ _
+    let load = loads m laws c.args.table.now (c.requires.own.limits _ refl) (c.requires.own.allowed _ refl) _ c.requires.own _ _ may _ _ c.epoch_for_retire-runner.ensures.event in
+    let commit = commits m laws c.args.table.now (c.requires.own.limits _ refl) (c.requires.own.allowed _ refl) _ c.requires.own _ _ may _ _
     c.epoch_for_retire-runner.ensures.own load _ _ c.retire_commit-runner.ensures.event in
     subst (λ (p : RunState). HasRetired m c.args.slot c.args.runner c.retire_commit-runner.result.0 p) (one_run m _ _ _ may.running is)
-    (then_retired m laws c.args.table.now c.table_is_allowed.ensures.limits c.table_is_allowed.ensures.requests _ c.requires.own _ _ may _ _
+    (then_retired m laws c.args.table.now (c.requires.own.limits _ refl) (c.requires.own.allowed _ refl) _ c.requires.own _ _ may _ _
     c.epoch_for_retire-runner.ensures.own load _ _ commit)

@@ -1,4 +1,4 @@
-use Rattle.std.proofs.Common.{◌+◌, ap, sym, subst, ◌∙◌}
+use Rattle.std.proofs.Common.{◌+◌, ap, sym, subst, ◌∙◌, refl}
 use Rattle.std.specs.Prelude.{slice_get}
 use Rattle.std.proofs.lemmas.Option.{slice_get-get_or}
 use Rattle.map_history.specs.Requests.{AreInOrder}
@@ -10,20 +10,20 @@ use Rattle.lock_tests.proofs.courses.serve_in_turn.Goals as goal
 pub serve_next-next-requires-clause-request : goal.serve_next-next-requires-clause-request
 serve_next-next-requires-clause-request g c κs within =
     let at = slice_get-get_or c.args.requests.now c.loop-request.request-index _ c.loop-request-test.true in
-    let number = numbered c.args.requests.now (subst (λ rs. AreInOrder rs 64) (sym c.requires.all) c.table_is_allowed.ensures.requests.in_order) c.loop-request.request-index _ at in
+    let number = numbered c.args.requests.now (subst (λ rs. AreInOrder rs 64) (sym c.requires.all) (c.requires.own.allowed _ refl).in_order) c.loop-request.request-index _ at in
     (λ i. slice_get (sym c.requires.all i) (number i)) ∙ at
 
 pub serve_next-next-requires-clause-before : goal.serve_next-next-requires-clause-before
 serve_next-next-requires-clause-before g c κs within =
     let at = slice_get-get_or c.args.requests.now c.loop-request.request-index _ c.loop-request-test.true in
-    let number = numbered c.args.requests.now (subst (λ rs. AreInOrder rs 64) (sym c.requires.all) c.table_is_allowed.ensures.requests.in_order) c.loop-request.request-index _ at in
+    let number = numbered c.args.requests.now (subst (λ rs. AreInOrder rs 64) (sym c.requires.all) (c.requires.own.allowed _ refl).in_order) c.loop-request.request-index _ at in
     subst (λ n. HasServed n c.loop-request.runner) (sym number) c.loop-request.invariant.served
 
 pub loop-request-preserved : goal.loop-request-preserved
 loop-request-preserved g c =
     let inv = c.loop-request.invariant in
     let at = slice_get-get_or c.args.requests.now c.loop-request.request-index _ c.loop-request-test.true in
-    let number = numbered c.args.requests.now (subst (λ rs. AreInOrder rs 64) (sym c.requires.all) c.table_is_allowed.ensures.requests.in_order) c.loop-request.request-index _ at in
+    let number = numbered c.args.requests.now (subst (λ rs. AreInOrder rs 64) (sym c.requires.all) (c.requires.own.allowed _ refl).in_order) c.loop-request.request-index _ at in
     record {
       own = c.serve_next-next.ensures.own;
       alone = record {

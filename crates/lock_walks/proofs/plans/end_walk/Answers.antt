@@ -5,7 +5,7 @@ use Rattle.lock_walks.proofs.Onward.{whole_way, none_left, goes_then, gone_on}
 use Rattle.lock_walks.proofs.plans.end_walk.Goals as goal
 
 pub returns-in_default-clause-led : goal.returns-in_default-clause-led
-returns-in_default-clause-led g c = λ start so. whole_way (g.S.Structure.meaning c.args.table.now.structure) g.W.Walker.way (subst (λ s. WalksStandIn (g.S.Structure.meaning s)) c.structure.ensures c.walks_stand.ensures) c.args.table.now c.table_is_allowed.ensures.limits c.table_is_allowed.ensures.requests
+returns-in_default-clause-led g c = λ start so. whole_way (g.S.Structure.meaning c.args.table.now.structure) g.W.Walker.way (subst (λ s. WalksStandIn (g.S.Structure.meaning s)) c.structure.ensures c.walks_stand.ensures) c.args.table.now (c.requires.own.limits _ refl) (c.requires.own.allowed _ refl)
     _ _ _ _ c.loop-made.invariant.own _ _ _ start (c.loop-made.invariant.goes.on start so refl) (sym c.wanted.ensures ∙ c.in_default.is)
 
 pub load_next-loaded-requires-clause-on_way : goal.load_next-loaded-requires-clause-on_way
@@ -22,8 +22,8 @@ loop-made-preserved g c = record {
 }
 
 pub returns-clause-led : goal.returns-clause-led
-returns-clause-led g c = λ start so. whole_way (g.S.Structure.meaning c.args.table.now.structure) g.W.Walker.way (subst (λ s. WalksStandIn (g.S.Structure.meaning s)) c.structure.ensures c.walks_stand.ensures) c.args.table.now c.table_is_allowed.ensures.limits c.table_is_allowed.ensures.requests
+returns-clause-led g c = λ start so. whole_way (g.S.Structure.meaning c.args.table.now.structure) g.W.Walker.way (subst (λ s. WalksStandIn (g.S.Structure.meaning s)) c.structure.ensures c.walks_stand.ensures) c.args.table.now (c.requires.own.limits _ refl) (c.requires.own.allowed _ refl)
     _ _ _ _ c.loop-made.invariant.own _ _ _ start (c.loop-made.invariant.goes.on start so refl)
-    (none_left (g.S.Structure.meaning c.args.table.now.structure) g.W.Walker.way (subst (λ s. WalksStandIn (g.S.Structure.meaning s)) c.structure.ensures c.walks_stand.ensures) c.args.table.now c.table_is_allowed.ensures.limits c.table_is_allowed.ensures.requests
+    (none_left (g.S.Structure.meaning c.args.table.now.structure) g.W.Walker.way (subst (λ s. WalksStandIn (g.S.Structure.meaning s)) c.structure.ensures c.walks_stand.ensures) c.args.table.now (c.requires.own.limits _ refl) (c.requires.own.allowed _ refl)
     _ _ _ _ c.loop-made.invariant.own _ _ _ start (c.loop-made.invariant.goes.on start so refl)
     (let few = c.loop-made.invariant.few in let end = c.loop-made-test.false in let past = c.loop-made.auto._made-end in omega (arith, few, end, past)))

@@ -1,4 +1,4 @@
-use Rattle.std.proofs.Common.{◌-◌, ap, subst, ◌∙◌}
+use Rattle.std.proofs.Common.{◌-◌, ap, subst, ◌∙◌, refl}
 use Rattle.body_terms.specs.Word.{pack}
 use Rattle.runner_parts.specs.State.{RunState}
 use Rattle.commit_log.proofs.Running.{one_run}
@@ -12,7 +12,7 @@ release-requires-clause-next g c κs within =
     let m = g.S.Structure.meaning c.args.table.now.structure in
     let laws = met.laws c.args.table.now.structure in
     let may = c.requires.next.1 in
-    may_drop m laws c.args.table.now c.table_is_allowed.ensures.limits c.table_is_allowed.ensures.requests _ c.requires.own _ _ _ may _ (c.pack.ensures.number ∙ ap (λ n. pack 0 (n - 1)) c.version.ensures)
+    may_drop m laws c.args.table.now (c.requires.own.limits _ refl) (c.requires.own.allowed _ refl) _ c.requires.own _ _ _ may _ (c.pack.ensures.number ∙ ap (λ n. pack 0 (n - 1)) c.version.ensures)
 
 pub returns-clause-dropped : goal.returns-clause-dropped
 returns-clause-dropped g c = λ q is.
@@ -21,4 +21,4 @@ returns-clause-dropped g c = λ q is.
     let laws = met.laws c.args.table.now.structure in
     let may = c.requires.next.1 in
     subst (λ (p : RunState). HasDropped m c.args.place c.args.held c.args.runner c.release.result p) (one_run m _ _ _ may.running is)
-    (then_dropped m laws c.args.table.now c.table_is_allowed.ensures.limits c.table_is_allowed.ensures.requests _ c.requires.own _ _ _ may _ c.release.ensures.event)
+    (then_dropped m laws c.args.table.now (c.requires.own.limits _ refl) (c.requires.own.allowed _ refl) _ c.requires.own _ _ _ may _ c.release.ensures.event)

@@ -1,6 +1,7 @@
-use Rattle.std.proofs.Common.{◌<◌, ◌-◌, ◌^◌, arith, refl, sym, ap, subst, ◌∙◌}
+use Rattle.std.proofs.Common.{◌<◌, ◌-◌, ◌^◌, arith, true, refl, sym, ap, subst, ◌∙◌}
 use Rattle.table_words.specs.declared.layout.Layout.{Layout}
 use Rattle.runner_parts.specs.State.{RunState}
+use Rattle.commit_log.proofs.Asked.{asked_more}
 use Rattle.commit_log.proofs.Halting.{halted_first, halted_more}
 use Rattle.commit_log.proofs.Running.{one_run, ran_one}
 use Rattle.nested_lock.specs.Answers.{second_outcome}
@@ -14,7 +15,7 @@ nested_hold-runner-requires-clause-next g c κs within =
     let m = g.S.Structure.meaning c.args.table.now.structure in
     let laws = met.laws c.args.table.now.structure in
     let may = c.requires.next.1 in
-    may_hold m laws c.args.table.now c.table_is_allowed.ensures.limits c.table_is_allowed.ensures.requests _ c.requires.own _ _ _ may
+    may_hold m laws c.args.table.now (c.requires.own.limits _ refl) (c.requires.own.allowed _ refl) _ c.requires.own _ _ _ may
 
 pub returns-then-not-passes-clause-halted : goal.returns-then-not-passes-clause-halted
 returns-then-not-passes-clause-halted g c =
@@ -22,7 +23,7 @@ returns-then-not-passes-clause-halted g c =
     let m = g.S.Structure.meaning c.args.table.now.structure in
     let laws = met.laws c.args.table.now.structure in
     let may = c.requires.next.1 in
-    let hold = holds m laws c.args.table.now c.table_is_allowed.ensures.limits c.table_is_allowed.ensures.requests _ c.requires.own _ _ _ may _ _ c.nested_hold-runner.ensures.event.event in
+    let hold = holds m laws c.args.table.now (c.requires.own.limits _ refl) (c.requires.own.allowed _ refl) _ c.requires.own _ _ _ may _ _ c.nested_hold-runner.ensures.event.event in
     halted_first _ _ _ _ _ _ _ _ _ _ _ _ _ hold c.if-not-passes.ensures (omega arith)
 
 pub outcome_load-runner-requires-clause-next : goal.outcome_load-runner-requires-clause-next
@@ -31,8 +32,8 @@ outcome_load-runner-requires-clause-next g c κs within =
     let m = g.S.Structure.meaning c.args.table.now.structure in
     let laws = met.laws c.args.table.now.structure in
     let may = c.requires.next.1 in
-    let hold = holds m laws c.args.table.now c.table_is_allowed.ensures.limits c.table_is_allowed.ensures.requests _ c.requires.own _ _ _ may _ _ c.nested_hold-runner.ensures.event.event in
-    may_look m laws c.args.table.now c.table_is_allowed.ensures.limits c.table_is_allowed.ensures.requests _ c.requires.own _ _ _ may _ _ c.nested_hold-runner.ensures.own hold
+    let hold = holds m laws c.args.table.now (c.requires.own.limits _ refl) (c.requires.own.allowed _ refl) _ c.requires.own _ _ _ may _ _ c.nested_hold-runner.ensures.event.event in
+    may_look m laws c.args.table.now (c.requires.own.limits _ refl) (c.requires.own.allowed _ refl) _ c.requires.own _ _ _ may _ _ c.nested_hold-runner.ensures.own hold
 
 pub returns-then-not-passes-2-clause-halted : goal.returns-then-not-passes-2-clause-halted
 returns-then-not-passes-2-clause-halted g c =
@@ -40,8 +41,8 @@ returns-then-not-passes-2-clause-halted g c =
     let m = g.S.Structure.meaning c.args.table.now.structure in
     let laws = met.laws c.args.table.now.structure in
     let may = c.requires.next.1 in
-    let hold = holds m laws c.args.table.now c.table_is_allowed.ensures.limits c.table_is_allowed.ensures.requests _ c.requires.own _ _ _ may _ _ c.nested_hold-runner.ensures.event.event in
-    let look = looks m laws c.args.table.now c.table_is_allowed.ensures.limits c.table_is_allowed.ensures.requests _ c.requires.own _ _ _ may _ _ c.nested_hold-runner.ensures.own hold _ _ c.outcome_load-runner.ensures.event in
+    let hold = holds m laws c.args.table.now (c.requires.own.limits _ refl) (c.requires.own.allowed _ refl) _ c.requires.own _ _ _ may _ _ c.nested_hold-runner.ensures.event.event in
+    let look = looks m laws c.args.table.now (c.requires.own.limits _ refl) (c.requires.own.allowed _ refl) _ c.requires.own _ _ _ may _ _ c.nested_hold-runner.ensures.own hold _ _ c.outcome_load-runner.ensures.event in
     halted_more _ _ 1 1 _ _ _ _ _ _ _ _ _ _ _ _ (ran_one _ _ _ _ _ _ hold) c.if-not-passes.ensures
     (halted_first _ _ _ _ _ _ _ _ _ _ _ _ _ look c.if-not-passes-2.ensures (omega arith)) (omega arith)
 
@@ -51,9 +52,9 @@ outcome_commit-runner-requires-clause-next g c κs within =
     let m = g.S.Structure.meaning c.args.table.now.structure in
     let laws = met.laws c.args.table.now.structure in
     let may = c.requires.next.1 in
-    let hold = holds m laws c.args.table.now c.table_is_allowed.ensures.limits c.table_is_allowed.ensures.requests _ c.requires.own _ _ _ may _ _ c.nested_hold-runner.ensures.event.event in
-    let look = looks m laws c.args.table.now c.table_is_allowed.ensures.limits c.table_is_allowed.ensures.requests _ c.requires.own _ _ _ may _ _ c.nested_hold-runner.ensures.own hold _ _ c.outcome_load-runner.ensures.event in
-    may_agree m laws c.args.table.now c.table_is_allowed.ensures.limits c.table_is_allowed.ensures.requests _ c.requires.own _ _ _ may _ _ c.nested_hold-runner.ensures.own hold _ _ c.outcome_load-runner.ensures.own look
+    let hold = holds m laws c.args.table.now (c.requires.own.limits _ refl) (c.requires.own.allowed _ refl) _ c.requires.own _ _ _ may _ _ c.nested_hold-runner.ensures.event.event in
+    let look = looks m laws c.args.table.now (c.requires.own.limits _ refl) (c.requires.own.allowed _ refl) _ c.requires.own _ _ _ may _ _ c.nested_hold-runner.ensures.own hold _ _ c.outcome_load-runner.ensures.event in
+    may_agree m laws c.args.table.now (c.requires.own.limits _ refl) (c.requires.own.allowed _ refl) _ c.requires.own _ _ _ may _ _ c.nested_hold-runner.ensures.own hold _ _ c.outcome_load-runner.ensures.own look
 
 pub returns-then-not-passes-3-clause-halted : goal.returns-then-not-passes-3-clause-halted
 returns-then-not-passes-3-clause-halted g c =
@@ -61,9 +62,9 @@ returns-then-not-passes-3-clause-halted g c =
     let m = g.S.Structure.meaning c.args.table.now.structure in
     let laws = met.laws c.args.table.now.structure in
     let may = c.requires.next.1 in
-    let hold = holds m laws c.args.table.now c.table_is_allowed.ensures.limits c.table_is_allowed.ensures.requests _ c.requires.own _ _ _ may _ _ c.nested_hold-runner.ensures.event.event in
-    let look = looks m laws c.args.table.now c.table_is_allowed.ensures.limits c.table_is_allowed.ensures.requests _ c.requires.own _ _ _ may _ _ c.nested_hold-runner.ensures.own hold _ _ c.outcome_load-runner.ensures.event in
-    let commit = commits m laws c.args.table.now c.table_is_allowed.ensures.limits c.table_is_allowed.ensures.requests _ c.requires.own _ _ _ may _ _ c.nested_hold-runner.ensures.own hold _ _ c.outcome_load-runner.ensures.own look _ _
+    let hold = holds m laws c.args.table.now (c.requires.own.limits _ refl) (c.requires.own.allowed _ refl) _ c.requires.own _ _ _ may _ _ c.nested_hold-runner.ensures.event.event in
+    let look = looks m laws c.args.table.now (c.requires.own.limits _ refl) (c.requires.own.allowed _ refl) _ c.requires.own _ _ _ may _ _ c.nested_hold-runner.ensures.own hold _ _ c.outcome_load-runner.ensures.event in
+    let commit = commits m laws c.args.table.now (c.requires.own.limits _ refl) (c.requires.own.allowed _ refl) _ c.requires.own _ _ _ may _ _ c.nested_hold-runner.ensures.own hold _ _ c.outcome_load-runner.ensures.own look _ _
     c.outcome_commit-runner.ensures.event.event in
     halted_more _ _ 1 2 _ _ _ _ _ _ _ _ _ _ _ _ (ran_one _ _ _ _ _ _ hold) c.if-not-passes.ensures
     (halted_more _ _ 1 1 _ _ _ _ _ _ _ _ _ _ _ _ (ran_one _ _ _ _ _ _ look) c.if-not-passes-2.ensures
@@ -75,7 +76,7 @@ second_answer-answer-requires-clause-descriptor g c =
     let m = g.S.Structure.meaning c.args.table.now.structure in
     let laws = met.laws c.args.table.now.structure in
     let may = c.requires.next.1 in
-    subst (λ n. n < 2 ^ 32 - 1) (sym (c.requires.section _ may.running)) (few_held m laws c.args.table.now c.table_is_allowed.ensures.limits c.table_is_allowed.ensures.requests _ c.requires.own _ _ _ may)
+    subst (λ n. n < 2 ^ 32 - 1) (sym (c.requires.section _ may.running)) (few_held m laws c.args.table.now (c.requires.own.limits _ refl) (c.requires.own.allowed _ refl) _ c.requires.own _ _ _ may)
 
 pub second_answer-answer-requires-clause-version : goal.second_answer-answer-requires-clause-version
 second_answer-answer-requires-clause-version g c =
@@ -83,7 +84,7 @@ second_answer-answer-requires-clause-version g c =
     let m = g.S.Structure.meaning c.args.table.now.structure in
     let laws = met.laws c.args.table.now.structure in
     let may = c.requires.next.1 in
-    few_versions m laws c.args.table.now c.table_is_allowed.ensures.limits c.table_is_allowed.ensures.requests _ c.requires.own _ _ _ may
+    few_versions m laws c.args.table.now (c.requires.own.limits _ refl) (c.requires.own.allowed _ refl) _ c.requires.own _ _ _ may
 
 pub returns-clause-held : goal.returns-clause-held
 returns-clause-held g c = λ q is.
@@ -91,15 +92,18 @@ returns-clause-held g c = λ q is.
     let m = g.S.Structure.meaning c.args.table.now.structure in
     let laws = met.laws c.args.table.now.structure in
     let may = c.requires.next.1 in
-    let hold = holds m laws c.args.table.now c.table_is_allowed.ensures.limits c.table_is_allowed.ensures.requests _ c.requires.own _ _ _ may _ _ c.nested_hold-runner.ensures.event.event in
-    let look = looks m laws c.args.table.now c.table_is_allowed.ensures.limits c.table_is_allowed.ensures.requests _ c.requires.own _ _ _ may _ _ c.nested_hold-runner.ensures.own hold _ _ c.outcome_load-runner.ensures.event in
-    let commit = commits m laws c.args.table.now c.table_is_allowed.ensures.limits c.table_is_allowed.ensures.requests _ c.requires.own _ _ _ may _ _ c.nested_hold-runner.ensures.own hold _ _ c.outcome_load-runner.ensures.own look _ _
+    let hold = holds m laws c.args.table.now (c.requires.own.limits _ refl) (c.requires.own.allowed _ refl) _ c.requires.own _ _ _ may _ _ c.nested_hold-runner.ensures.event.event in
+    let look = looks m laws c.args.table.now (c.requires.own.limits _ refl) (c.requires.own.allowed _ refl) _ c.requires.own _ _ _ may _ _ c.nested_hold-runner.ensures.own hold _ _ c.outcome_load-runner.ensures.event in
+    let commit = commits m laws c.args.table.now (c.requires.own.limits _ refl) (c.requires.own.allowed _ refl) _ c.requires.own _ _ _ may _ _ c.nested_hold-runner.ensures.own hold _ _ c.outcome_load-runner.ensures.own look _ _
     c.outcome_commit-runner.ensures.event.event in (
       c.outcome_commit-runner.result.1,
       refl,
       subst (λ (p : RunState). HasHeld m c.args.place c.args.expected c.outcome_commit-runner.result.1 c.second_answer-answer.result c.args.runner c.outcome_commit-runner.result.0 p) (one_run m _ _ _ may.running is)
-          (then_held m laws c.args.table.now c.table_is_allowed.ensures.limits c.table_is_allowed.ensures.requests _ c.requires.own _ _ _ may _ _ c.nested_hold-runner.ensures.own hold _ _ c.outcome_load-runner.ensures.own look _ _
+          (then_held m laws c.args.table.now (c.requires.own.limits _ refl) (c.requires.own.allowed _ refl) _ c.requires.own _ _ _ may _ _ c.nested_hold-runner.ensures.own hold _ _ c.outcome_load-runner.ensures.own look _ _
           c.outcome_commit-runner.ensures.event _ commit
           ((λ i. second_outcome ((ap (λ (l : Layout). l.version_max) (c.requires.own.layout ∙ sym c.layout.ensures)) i) (sym (c.requires.section _ may.running) i) c.args.place c.args.expected c.outcome_commit-runner.result.1)
           ∙ c.second_answer-answer.ensures c.args.place)),
     )
+
+pub returns-clause-asked : goal.returns-clause-asked
+returns-clause-asked g c = asked_more 2 1 true _ _ _ _ _ _ _ _ _ (asked_more 1 1 true _ _ _ _ _ _ _ _ _ c.if-not-passes.ensures c.if-not-passes-2.ensures) c.if-not-passes-3.ensures

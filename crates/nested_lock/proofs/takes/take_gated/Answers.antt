@@ -19,7 +19,7 @@ nested_load-runner-requires-clause-next g c κs within =
     let m = g.S.Structure.meaning c.args.table.now.structure in
     let laws = met.laws c.args.table.now.structure in
     let may = c.requires.next.1 in
-    may_load m laws c.args.table.now c.table_is_allowed.ensures.limits c.table_is_allowed.ensures.requests _ c.requires.own _ _ _ may
+    may_load m laws c.args.table.now (c.requires.own.limits _ refl) (c.requires.own.allowed _ refl) _ c.requires.own _ _ _ may
 
 pub returns-then-not-passes-clause-halted : goal.returns-then-not-passes-clause-halted
 returns-then-not-passes-clause-halted g c =
@@ -27,7 +27,7 @@ returns-then-not-passes-clause-halted g c =
     let m = g.S.Structure.meaning c.args.table.now.structure in
     let laws = met.laws c.args.table.now.structure in
     let may = c.requires.next.1 in
-    let load = loads m laws c.args.table.now c.table_is_allowed.ensures.limits c.table_is_allowed.ensures.requests _ c.requires.own _ _ _ may _ _ c.nested_load-runner.ensures.event in
+    let load = loads m laws c.args.table.now (c.requires.own.limits _ refl) (c.requires.own.allowed _ refl) _ c.requires.own _ _ _ may _ _ c.nested_load-runner.ensures.event in
     halted_first _ _ _ _ _ _ _ _ _ _ _ _ _ load c.if-not-passes.ensures (omega arith)
 
 pub commit-runner-requires-clause-next : goal.commit-runner-requires-clause-next
@@ -36,10 +36,10 @@ commit-runner-requires-clause-next g c κs within =
     let m = g.S.Structure.meaning c.args.table.now.structure in
     let laws = met.laws c.args.table.now.structure in
     let may = c.requires.next.1 in
-    let load = loads m laws c.args.table.now c.table_is_allowed.ensures.limits c.table_is_allowed.ensures.requests _ c.requires.own _ _ _ may _ _ c.nested_load-runner.ensures.event in (
+    let load = loads m laws c.args.table.now (c.requires.own.limits _ refl) (c.requires.own.allowed _ refl) _ c.requires.own _ _ _ may _ _ c.nested_load-runner.ensures.event in (
       goes_on m c.args.runner.layout c.requires.next.0 c.nested_load-runner.result.1,
       subst (λ n. MayCommit m c.nested_load-runner.result.0 n (goes_on m c.args.runner.layout c.requires.next.0 c.nested_load-runner.result.1)) (sym c.bits.ensures.number)
-          (commit_next m laws c.args.table.now c.table_is_allowed.ensures.limits c.table_is_allowed.ensures.requests _ c.requires.own _ _ _ may _ _ c.nested_load-runner.ensures.own load),
+          (commit_next m laws c.args.table.now (c.requires.own.limits _ refl) (c.requires.own.allowed _ refl) _ c.requires.own _ _ _ may _ _ c.nested_load-runner.ensures.own load),
     )
 
 pub returns-then-not-passes-2-clause-halted : goal.returns-then-not-passes-2-clause-halted
@@ -48,8 +48,8 @@ returns-then-not-passes-2-clause-halted g c =
     let m = g.S.Structure.meaning c.args.table.now.structure in
     let laws = met.laws c.args.table.now.structure in
     let may = c.requires.next.1 in
-    let load = loads m laws c.args.table.now c.table_is_allowed.ensures.limits c.table_is_allowed.ensures.requests _ c.requires.own _ _ _ may _ _ c.nested_load-runner.ensures.event in
-    let next = commit_next m laws c.args.table.now c.table_is_allowed.ensures.limits c.table_is_allowed.ensures.requests _ c.requires.own _ _ _ may _ _ c.nested_load-runner.ensures.own load in
+    let load = loads m laws c.args.table.now (c.requires.own.limits _ refl) (c.requires.own.allowed _ refl) _ c.requires.own _ _ _ may _ _ c.nested_load-runner.ensures.event in
+    let next = commit_next m laws c.args.table.now (c.requires.own.limits _ refl) (c.requires.own.allowed _ refl) _ c.requires.own _ _ _ may _ _ c.nested_load-runner.ensures.own load in
     let commit = c.commit-runner.ensures.commits _ next.running in
     halted_more _ _ 1 1 _ _ _ _ _ _ _ _ _ _ _ _ (ran_one _ _ _ _ _ _ load) c.if-not-passes.ensures
     (halted_first _ _ _ _ _ _ _ _ _ _ _ _ _ commit.step c.if-not-passes-2.ensures (omega arith)) (omega arith)
@@ -60,10 +60,10 @@ returns-then-is_err-clause-taken g c = λ q is.
     let m = g.S.Structure.meaning c.args.table.now.structure in
     let laws = met.laws c.args.table.now.structure in
     let may = c.requires.next.1 in
-    let load = loads m laws c.args.table.now c.table_is_allowed.ensures.limits c.table_is_allowed.ensures.requests _ c.requires.own _ _ _ may _ _ c.nested_load-runner.ensures.event in
-    let next = commit_next m laws c.args.table.now c.table_is_allowed.ensures.limits c.table_is_allowed.ensures.requests _ c.requires.own _ _ _ may _ _ c.nested_load-runner.ensures.own load in
+    let load = loads m laws c.args.table.now (c.requires.own.limits _ refl) (c.requires.own.allowed _ refl) _ c.requires.own _ _ _ may _ _ c.nested_load-runner.ensures.event in
+    let next = commit_next m laws c.args.table.now (c.requires.own.limits _ refl) (c.requires.own.allowed _ refl) _ c.requires.own _ _ _ may _ _ c.nested_load-runner.ensures.own load in
     let commit = c.commit-runner.ensures.commits _ next.running in
-    let reads = has_read m laws c.args.table.now c.table_is_allowed.ensures.limits c.table_is_allowed.ensures.requests _ c.requires.own _ _ _ may _ _ c.nested_load-runner.ensures.own load _ _ _ commit in
+    let reads = has_read m laws c.args.table.now (c.requires.own.limits _ refl) (c.requires.own.allowed _ refl) _ c.requires.own _ _ _ may _ _ c.nested_load-runner.ensures.own load _ _ _ commit in
     let first = (λ i. first_outcome ((ap (λ (l : Layout). l.version_max) (c.requires.own.layout ∙ sym c.layout.ensures)) i) c.args.place c.args.expected (sym c.from_bits-read.ensures i))
     ∙ c.first_answer-first.ensures c.args.place in
     subst (λ (p : RunState). HasTaken m c.args.place c.args.expected (record { answer = c.first_answer-first.result; first = c.from_bits-read.result; second = None }) c.args.runner c.commit-runner.result.0 p) (one_run m _ _ _ may.running is)
@@ -81,10 +81,10 @@ returns-then-is_err-clause-asked g c =
     let m = g.S.Structure.meaning c.args.table.now.structure in
     let laws = met.laws c.args.table.now.structure in
     let may = c.requires.next.1 in
-    let load = loads m laws c.args.table.now c.table_is_allowed.ensures.limits c.table_is_allowed.ensures.requests _ c.requires.own _ _ _ may _ _ c.nested_load-runner.ensures.event in
-    let next = commit_next m laws c.args.table.now c.table_is_allowed.ensures.limits c.table_is_allowed.ensures.requests _ c.requires.own _ _ _ may _ _ c.nested_load-runner.ensures.own load in
+    let load = loads m laws c.args.table.now (c.requires.own.limits _ refl) (c.requires.own.allowed _ refl) _ c.requires.own _ _ _ may _ _ c.nested_load-runner.ensures.event in
+    let next = commit_next m laws c.args.table.now (c.requires.own.limits _ refl) (c.requires.own.allowed _ refl) _ c.requires.own _ _ _ may _ _ c.nested_load-runner.ensures.own load in
     let commit = c.commit-runner.ensures.commits _ next.running in
-    let reads = has_read m laws c.args.table.now c.table_is_allowed.ensures.limits c.table_is_allowed.ensures.requests _ c.requires.own _ _ _ may _ _ c.nested_load-runner.ensures.own load _ _ _ commit in
+    let reads = has_read m laws c.args.table.now (c.requires.own.limits _ refl) (c.requires.own.allowed _ refl) _ c.requires.own _ _ _ may _ _ c.nested_load-runner.ensures.own load _ _ _ commit in
     record {
       made = 2;
       few = omega arith;
@@ -98,14 +98,14 @@ hold_gated-requires-clause-next g c κs within =
     let m = g.S.Structure.meaning c.args.table.now.structure in
     let laws = met.laws c.args.table.now.structure in
     let may = c.requires.next.1 in
-    let load = loads m laws c.args.table.now c.table_is_allowed.ensures.limits c.table_is_allowed.ensures.requests _ c.requires.own _ _ _ may _ _ c.nested_load-runner.ensures.event in
-    let next = commit_next m laws c.args.table.now c.table_is_allowed.ensures.limits c.table_is_allowed.ensures.requests _ c.requires.own _ _ _ may _ _ c.nested_load-runner.ensures.own load in
+    let load = loads m laws c.args.table.now (c.requires.own.limits _ refl) (c.requires.own.allowed _ refl) _ c.requires.own _ _ _ may _ _ c.nested_load-runner.ensures.event in
+    let next = commit_next m laws c.args.table.now (c.requires.own.limits _ refl) (c.requires.own.allowed _ refl) _ c.requires.own _ _ _ may _ _ c.nested_load-runner.ensures.own load in
     let commit = c.commit-runner.ensures.commits _ next.running in
     let first = (λ i. first_outcome ((ap (λ (l : Layout). l.version_max) (c.requires.own.layout ∙ sym c.layout.ensures)) i) c.args.place c.args.expected (sym c.from_bits-read.ensures i))
     ∙ c.first_answer-first.ensures c.args.place in
     let none = first ∙ ok_none c.args.place c.first_answer-first.result (sym c.is_err.ensures.value ∙ c.if-is_err.false) in (
       (agrees m c.args.runner.layout (goes_on m c.args.runner.layout c.requires.next.0 c.nested_load-runner.result.1) c.commit-runner.result.1),
-      hold_next m laws c.args.table.now c.table_is_allowed.ensures.limits c.table_is_allowed.ensures.requests _ c.requires.own _ _ _ may _ _ c.nested_load-runner.ensures.own load _ _ _ commit none,
+      hold_next m laws c.args.table.now (c.requires.own.limits _ refl) (c.requires.own.allowed _ refl) _ c.requires.own _ _ _ may _ _ c.nested_load-runner.ensures.own load _ _ _ commit none,
     )
 
 pub hold_gated-requires-clause-section : goal.hold_gated-requires-clause-section
@@ -114,10 +114,10 @@ hold_gated-requires-clause-section g c κs within = λ p is.
     let m = g.S.Structure.meaning c.args.table.now.structure in
     let laws = met.laws c.args.table.now.structure in
     let may = c.requires.next.1 in
-    let load = loads m laws c.args.table.now c.table_is_allowed.ensures.limits c.table_is_allowed.ensures.requests _ c.requires.own _ _ _ may _ _ c.nested_load-runner.ensures.event in
-    let next = commit_next m laws c.args.table.now c.table_is_allowed.ensures.limits c.table_is_allowed.ensures.requests _ c.requires.own _ _ _ may _ _ c.nested_load-runner.ensures.own load in
+    let load = loads m laws c.args.table.now (c.requires.own.limits _ refl) (c.requires.own.allowed _ refl) _ c.requires.own _ _ _ may _ _ c.nested_load-runner.ensures.event in
+    let next = commit_next m laws c.args.table.now (c.requires.own.limits _ refl) (c.requires.own.allowed _ refl) _ c.requires.own _ _ _ may _ _ c.nested_load-runner.ensures.own load in
     let commit = c.commit-runner.ensures.commits _ next.running in
-    let reads = has_read m laws c.args.table.now c.table_is_allowed.ensures.limits c.table_is_allowed.ensures.requests _ c.requires.own _ _ _ may _ _ c.nested_load-runner.ensures.own load _ _ _ commit in
+    let reads = has_read m laws c.args.table.now (c.requires.own.limits _ refl) (c.requires.own.allowed _ refl) _ c.requires.own _ _ _ may _ _ c.nested_load-runner.ensures.own load _ _ _ commit in
     c.requires.section _ may.running ∙ ap (λ (x : RunState). x.descriptor) (one_run m c.commit-runner.result.0 _ p reads.goes_on is)
 
 pub returns-clause-taken : goal.returns-clause-taken
@@ -126,10 +126,10 @@ returns-clause-taken g c =
     let m = g.S.Structure.meaning c.args.table.now.structure in
     let laws = met.laws c.args.table.now.structure in
     let may = c.requires.next.1 in
-    let load = loads m laws c.args.table.now c.table_is_allowed.ensures.limits c.table_is_allowed.ensures.requests _ c.requires.own _ _ _ may _ _ c.nested_load-runner.ensures.event in
-    let next = commit_next m laws c.args.table.now c.table_is_allowed.ensures.limits c.table_is_allowed.ensures.requests _ c.requires.own _ _ _ may _ _ c.nested_load-runner.ensures.own load in
+    let load = loads m laws c.args.table.now (c.requires.own.limits _ refl) (c.requires.own.allowed _ refl) _ c.requires.own _ _ _ may _ _ c.nested_load-runner.ensures.event in
+    let next = commit_next m laws c.args.table.now (c.requires.own.limits _ refl) (c.requires.own.allowed _ refl) _ c.requires.own _ _ _ may _ _ c.nested_load-runner.ensures.own load in
     let commit = c.commit-runner.ensures.commits _ next.running in
-    let reads = has_read m laws c.args.table.now c.table_is_allowed.ensures.limits c.table_is_allowed.ensures.requests _ c.requires.own _ _ _ may _ _ c.nested_load-runner.ensures.own load _ _ _ commit in
+    let reads = has_read m laws c.args.table.now (c.requires.own.limits _ refl) (c.requires.own.allowed _ refl) _ c.requires.own _ _ _ may _ _ c.nested_load-runner.ensures.own load _ _ _ commit in
     let first = (λ i. first_outcome ((ap (λ (l : Layout). l.version_max) (c.requires.own.layout ∙ sym c.layout.ensures)) i) c.args.place c.args.expected (sym c.from_bits-read.ensures i))
     ∙ c.first_answer-first.ensures c.args.place in
     let none = first ∙ ok_none c.args.place c.first_answer-first.result (sym c.is_err.ensures.value ∙ c.if-is_err.false) in
@@ -155,10 +155,10 @@ returns-clause-asked g c =
     let m = g.S.Structure.meaning c.args.table.now.structure in
     let laws = met.laws c.args.table.now.structure in
     let may = c.requires.next.1 in
-    let load = loads m laws c.args.table.now c.table_is_allowed.ensures.limits c.table_is_allowed.ensures.requests _ c.requires.own _ _ _ may _ _ c.nested_load-runner.ensures.event in
-    let next = commit_next m laws c.args.table.now c.table_is_allowed.ensures.limits c.table_is_allowed.ensures.requests _ c.requires.own _ _ _ may _ _ c.nested_load-runner.ensures.own load in
+    let load = loads m laws c.args.table.now (c.requires.own.limits _ refl) (c.requires.own.allowed _ refl) _ c.requires.own _ _ _ may _ _ c.nested_load-runner.ensures.event in
+    let next = commit_next m laws c.args.table.now (c.requires.own.limits _ refl) (c.requires.own.allowed _ refl) _ c.requires.own _ _ _ may _ _ c.nested_load-runner.ensures.own load in
     let commit = c.commit-runner.ensures.commits _ next.running in
-    let reads = has_read m laws c.args.table.now c.table_is_allowed.ensures.limits c.table_is_allowed.ensures.requests _ c.requires.own _ _ _ may _ _ c.nested_load-runner.ensures.own load _ _ _ commit in
+    let reads = has_read m laws c.args.table.now (c.requires.own.limits _ refl) (c.requires.own.allowed _ refl) _ c.requires.own _ _ _ may _ _ c.nested_load-runner.ensures.own load _ _ _ commit in
     of_some _ _ _ c.hold_gated.result.1 c.hold_gated.ensures.held c.hold_gated.ensures.asked (λ (end : TakeEnd) held asked.
     let second = held (agrees m c.args.runner.layout (goes_on m c.args.runner.layout c.requires.next.0 c.nested_load-runner.result.1) c.commit-runner.result.1) reads.goes_on in record {
       made = 5;
@@ -174,10 +174,10 @@ returns-clause-halted g c =
     let m = g.S.Structure.meaning c.args.table.now.structure in
     let laws = met.laws c.args.table.now.structure in
     let may = c.requires.next.1 in
-    let load = loads m laws c.args.table.now c.table_is_allowed.ensures.limits c.table_is_allowed.ensures.requests _ c.requires.own _ _ _ may _ _ c.nested_load-runner.ensures.event in
-    let next = commit_next m laws c.args.table.now c.table_is_allowed.ensures.limits c.table_is_allowed.ensures.requests _ c.requires.own _ _ _ may _ _ c.nested_load-runner.ensures.own load in
+    let load = loads m laws c.args.table.now (c.requires.own.limits _ refl) (c.requires.own.allowed _ refl) _ c.requires.own _ _ _ may _ _ c.nested_load-runner.ensures.event in
+    let next = commit_next m laws c.args.table.now (c.requires.own.limits _ refl) (c.requires.own.allowed _ refl) _ c.requires.own _ _ _ may _ _ c.nested_load-runner.ensures.own load in
     let commit = c.commit-runner.ensures.commits _ next.running in
-    let reads = has_read m laws c.args.table.now c.table_is_allowed.ensures.limits c.table_is_allowed.ensures.requests _ c.requires.own _ _ _ may _ _ c.nested_load-runner.ensures.own load _ _ _ commit in
+    let reads = has_read m laws c.args.table.now (c.requires.own.limits _ refl) (c.requires.own.allowed _ refl) _ c.requires.own _ _ _ may _ _ c.nested_load-runner.ensures.own load _ _ _ commit in
     of_none _ _ c.hold_gated.result.1 c.hold_gated.ensures.halted (λ halted.
     halted_more _ _ 2 3 _ _ _ _ _ _ _ _ _ _ _ _ (read_ran m c.args.place c.args.runner c.commit-runner.result.0 c.requires.next.0 _ _ reads)
     (asked_more 1 1 _ _ _ _ _ _ _ _ _ _ c.if-not-passes.ensures c.if-not-passes-2.ensures) halted (omega arith))

@@ -1,4 +1,4 @@
-use Rattle.std.proofs.Common.{arith}
+use Rattle.std.proofs.Common.{arith, refl}
 use Rattle.idem_alloc.specs.commit_log.proofs.Running.{ran_one}
 use Rattle.section_runs.proofs.Through.{through_by, halted_by, asked_if}
 use Rattle.section_runs.proofs.Ending.{may_finish, finishes, finished}
@@ -10,8 +10,8 @@ set_done-runner-requires-clause-next g c κs within =
     let m = g.S.Structure.meaning c.args.table.now.structure in
     let laws = met.laws c.args.table.now.structure in
     let t = c.args.table.now in
-    let limits = c.table_is_allowed.ensures.limits in
-    let allowed = c.table_is_allowed.ensures.requests in
+    let limits = c.requires.own.limits _ refl in
+    let allowed = c.requires.own.allowed _ refl in
     let r = c.args.runner in
     may_finish m laws t limits allowed r c.requires.own c.args.taken c.requires.over.0 c.requires.over.1
 
@@ -21,8 +21,8 @@ returns-clause-ending g c =
     let m = g.S.Structure.meaning c.args.table.now.structure in
     let laws = met.laws c.args.table.now.structure in
     let t = c.args.table.now in
-    let limits = c.table_is_allowed.ensures.limits in
-    let allowed = c.table_is_allowed.ensures.requests in
+    let limits = c.requires.own.limits _ refl in
+    let allowed = c.requires.own.allowed _ refl in
     let r = c.args.runner in
     λ _. (finished m laws t limits allowed r c.requires.own c.args.taken c.requires.over.0 c.requires.over.1 _ _ (finishes m laws t limits allowed r c.requires.own c.args.taken c.requires.over.0 c.requires.over.1 _ _ c.set_done-runner.ensures.event.event)).0
 
@@ -32,8 +32,8 @@ returns-clause-same g c =
     let m = g.S.Structure.meaning c.args.table.now.structure in
     let laws = met.laws c.args.table.now.structure in
     let t = c.args.table.now in
-    let limits = c.table_is_allowed.ensures.limits in
-    let allowed = c.table_is_allowed.ensures.requests in
+    let limits = c.requires.own.limits _ refl in
+    let allowed = c.requires.own.allowed _ refl in
     let r = c.args.runner in
     λ _. (finished m laws t limits allowed r c.requires.own c.args.taken c.requires.over.0 c.requires.over.1 _ _ (finishes m laws t limits allowed r c.requires.own c.args.taken c.requires.over.0 c.requires.over.1 _ _ c.set_done-runner.ensures.event.event)).1
 
@@ -43,8 +43,8 @@ returns-clause-through g c =
     let m = g.S.Structure.meaning c.args.table.now.structure in
     let laws = met.laws c.args.table.now.structure in
     let t = c.args.table.now in
-    let limits = c.table_is_allowed.ensures.limits in
-    let allowed = c.table_is_allowed.ensures.requests in
+    let limits = c.requires.own.limits _ refl in
+    let allowed = c.requires.own.allowed _ refl in
     let r = c.args.runner in
     λ going. through_by m 1 1 _ _ _ _ _ _ _ _ (omega arith) (ran_one m _ _ _ _ _ (finishes m laws t limits allowed r c.requires.own c.args.taken c.requires.over.0 c.requires.over.1 _ _ c.set_done-runner.ensures.event.event)) (asked_if going c.passes-going.ensures)
 
@@ -54,7 +54,7 @@ returns-clause-halted g c =
     let m = g.S.Structure.meaning c.args.table.now.structure in
     let laws = met.laws c.args.table.now.structure in
     let t = c.args.table.now in
-    let limits = c.table_is_allowed.ensures.limits in
-    let allowed = c.table_is_allowed.ensures.requests in
+    let limits = c.requires.own.limits _ refl in
+    let allowed = c.requires.own.allowed _ refl in
     let r = c.args.runner in
     λ halted. halted_by m 1 1 _ _ _ _ _ _ _ _ (omega arith) (omega arith) (ran_one m _ _ _ _ _ (finishes m laws t limits allowed r c.requires.own c.args.taken c.requires.over.0 c.requires.over.1 _ _ c.set_done-runner.ensures.event.event)) (asked_if halted c.passes-going.ensures)

@@ -1,3 +1,4 @@
+use Rattle.std.proofs.Common.{refl}
 use Rattle.section_runs.proofs.Ending.{may_release, has_released}
 use Rattle.section_runs.proofs.ends.release_last.Goals as goal
 
@@ -7,8 +8,8 @@ release-runner-requires-clause-next g c κs within =
     let m = g.S.Structure.meaning c.args.table.now.structure in
     let laws = met.laws c.args.table.now.structure in
     let t = c.args.table.now in
-    let limits = c.table_is_allowed.ensures.limits in
-    let allowed = c.table_is_allowed.ensures.requests in
+    let limits = c.requires.own.limits _ refl in
+    let allowed = c.requires.own.allowed _ refl in
     let r = c.args.runner in
     may_release m laws t limits allowed r c.requires.own c.args.taken c.requires.next c.args.lock c.args.word c.requires.lock c.requires.word
 
@@ -18,7 +19,7 @@ returns-clause-released g c =
     let m = g.S.Structure.meaning c.args.table.now.structure in
     let laws = met.laws c.args.table.now.structure in
     let t = c.args.table.now in
-    let limits = c.table_is_allowed.ensures.limits in
-    let allowed = c.table_is_allowed.ensures.requests in
+    let limits = c.requires.own.limits _ refl in
+    let allowed = c.requires.own.allowed _ refl in
     let r = c.args.runner in
     has_released m laws t limits allowed r c.requires.own c.args.taken c.requires.next _ _ c.release-runner.ensures.event.event

@@ -1,4 +1,4 @@
-use Rattle.std.proofs.Common.{◌≡◌, ℕ, arith, ap, ◌∙◌, Some}
+use Rattle.std.proofs.Common.{◌≡◌, ℕ, arith, ap, ◌∙◌, Some, refl}
 use Rattle.std.specs.Prelude.{cond}
 use Rattle.body_terms.specs.Shape.{IsStep, is_take}
 use Rattle.body_terms.specs.declared.step.Step.{Step}
@@ -15,8 +15,8 @@ release-runner-requires-clause-next g c κs within =
     let m = g.S.Structure.meaning c.args.table.now.structure in
     let laws = met.laws c.args.table.now.structure in
     let t = c.args.table.now in
-    let limits = c.table_is_allowed.ensures.limits in
-    let allowed = c.table_is_allowed.ensures.requests in
+    let limits = c.requires.own.limits _ refl in
+    let allowed = c.requires.own.allowed _ refl in
     let r = c.args.runner in
     let here : IsStep (body_of m r) c.args.n _ = c.requires.here ∙ ap (λ (x : Step). Some x) c.in-Take.is in
     may_release_take m laws t limits allowed r c.requires.own c.args.taken c.args.n _ _ c.requires.next c.requires.below here
@@ -27,8 +27,8 @@ returns-in-Take-clause-ending g c =
     let m = g.S.Structure.meaning c.args.table.now.structure in
     let laws = met.laws c.args.table.now.structure in
     let t = c.args.table.now in
-    let limits = c.table_is_allowed.ensures.limits in
-    let allowed = c.table_is_allowed.ensures.requests in
+    let limits = c.requires.own.limits _ refl in
+    let allowed = c.requires.own.allowed _ refl in
     let r = c.args.runner in
     let here : IsStep (body_of m r) c.args.n _ = c.requires.here ∙ ap (λ (x : Step). Some x) c.in-Take.is in
     λ _. (released_take m laws t limits allowed r c.requires.own c.args.taken c.args.n _ _ c.requires.next c.requires.below here _ _ (releases_take m laws t limits allowed r c.requires.own c.args.taken c.args.n _ _ c.requires.next c.requires.below here _ _ c.release-runner.ensures.event.event)).0
@@ -39,8 +39,8 @@ returns-in-Take-clause-same g c =
     let m = g.S.Structure.meaning c.args.table.now.structure in
     let laws = met.laws c.args.table.now.structure in
     let t = c.args.table.now in
-    let limits = c.table_is_allowed.ensures.limits in
-    let allowed = c.table_is_allowed.ensures.requests in
+    let limits = c.requires.own.limits _ refl in
+    let allowed = c.requires.own.allowed _ refl in
     let r = c.args.runner in
     let here : IsStep (body_of m r) c.args.n _ = c.requires.here ∙ ap (λ (x : Step). Some x) c.in-Take.is in
     λ _. (released_take m laws t limits allowed r c.requires.own c.args.taken c.args.n _ _ c.requires.next c.requires.below here _ _ (releases_take m laws t limits allowed r c.requires.own c.args.taken c.args.n _ _ c.requires.next c.requires.below here _ _ c.release-runner.ensures.event.event)).1
@@ -51,8 +51,8 @@ returns-in-Take-clause-through g c =
     let m = g.S.Structure.meaning c.args.table.now.structure in
     let laws = met.laws c.args.table.now.structure in
     let t = c.args.table.now in
-    let limits = c.table_is_allowed.ensures.limits in
-    let allowed = c.table_is_allowed.ensures.requests in
+    let limits = c.requires.own.limits _ refl in
+    let allowed = c.requires.own.allowed _ refl in
     let r = c.args.runner in
     let here : IsStep (body_of m r) c.args.n _ = c.requires.here ∙ ap (λ (x : Step). Some x) c.in-Take.is in
     let one : cond {A = ℕ} (is_take c.args.step.now) 1 0 ≡ 1 = ap (λ (x : Step). cond {A = ℕ} (is_take x) 1 0) c.in-Take.is in
@@ -64,8 +64,8 @@ returns-in_default g c =
     let m = g.S.Structure.meaning c.args.table.now.structure in
     let laws = met.laws c.args.table.now.structure in
     let t = c.args.table.now in
-    let limits = c.table_is_allowed.ensures.limits in
-    let allowed = c.table_is_allowed.ensures.requests in
+    let limits = c.requires.own.limits _ refl in
+    let allowed = c.requires.own.allowed _ refl in
     let r = c.args.runner in
     let other = not_take c.args.step.now c.in_default.not-Take in
     record {
@@ -82,8 +82,8 @@ returns-in-Take-clause-halted g c =
     let m = g.S.Structure.meaning c.args.table.now.structure in
     let laws = met.laws c.args.table.now.structure in
     let t = c.args.table.now in
-    let limits = c.table_is_allowed.ensures.limits in
-    let allowed = c.table_is_allowed.ensures.requests in
+    let limits = c.requires.own.limits _ refl in
+    let allowed = c.requires.own.allowed _ refl in
     let r = c.args.runner in
     let here : IsStep (body_of m r) c.args.n _ = c.requires.here ∙ ap (λ (x : Step). Some x) c.in-Take.is in
     let one : cond {A = ℕ} (is_take c.args.step.now) 1 0 ≡ 1 = ap (λ (x : Step). cond {A = ℕ} (is_take x) 1 0) c.in-Take.is in

@@ -1,4 +1,4 @@
-use Rattle.std.proofs.Common.{◌≡◌, ℕ, suc, ◌+◌, List, [], ◌∷◌, ◌++◌, take, true, false, arith, subst, sym}
+use Rattle.std.proofs.Common.{◌≡◌, ℕ, suc, ◌+◌, List, [], ◌∷◌, ◌++◌, take, true, false, arith, subst, sym, refl}
 use Rattle.std.proofs.lemmas.List.{take_more_set}
 use Rattle.idem_alloc.specs.commit_log.proofs.Asked.{asked_more, asked_as}
 use Rattle.section_runs.specs.Opened.{IsOpening}
@@ -9,20 +9,20 @@ use Rattle.section_runs.proofs.opens.load_words.Goals as goal
 pub load_thunk-opened-requires-clause-next : goal.load_thunk-opened-requires-clause-next
 load_thunk-opened-requires-clause-next g c κs within =
     let met = g.met.S.Structure g.world.𝓛 g.world.𝓜 g.world.𝓡 ((λ s allowed. allowed), (λ patient. patient), (λ alone. alone), (λ cuts. cuts)) in
-    may_load (g.S.Structure.meaning c.args.table.now.structure) (met.laws c.args.table.now.structure) c.args.table.now c.table_is_allowed.ensures.limits
-    c.table_is_allowed.ensures.requests c.args.runner c.args.descriptor c.requires.next c.loop-index.index _ c.loop-index.runner c.loop-index.invariant.own c.loop-index.invariant.opening c.loop-index-test.true
+    may_load (g.S.Structure.meaning c.args.table.now.structure) (met.laws c.args.table.now.structure) c.args.table.now (c.requires.own.limits _ refl)
+    (c.requires.own.allowed _ refl) c.args.runner c.args.descriptor c.requires.next c.loop-index.index _ c.loop-index.runner c.loop-index.invariant.own c.loop-index.invariant.opening c.loop-index-test.true
 
 pub load_thunk-opened-requires-clause-index : goal.load_thunk-opened-requires-clause-index
 load_thunk-opened-requires-clause-index g c κs within =
     let met = g.met.S.Structure g.world.𝓛 g.world.𝓜 g.world.𝓡 ((λ s allowed. allowed), (λ patient. patient), (λ alone. alone), (λ cuts. cuts)) in
-    opened_so_far (g.S.Structure.meaning c.args.table.now.structure) (met.laws c.args.table.now.structure) c.args.table.now c.table_is_allowed.ensures.limits
-    c.table_is_allowed.ensures.requests c.args.runner c.args.descriptor c.requires.next c.loop-index.index _ c.loop-index.runner c.loop-index.invariant.own c.loop-index.invariant.opening
+    opened_so_far (g.S.Structure.meaning c.args.table.now.structure) (met.laws c.args.table.now.structure) c.args.table.now (c.requires.own.limits _ refl)
+    (c.requires.own.allowed _ refl) c.args.runner c.args.descriptor c.requires.next c.loop-index.index _ c.loop-index.runner c.loop-index.invariant.own c.loop-index.invariant.opening
 
 pub returns-then-not-passes-clause-halted : goal.returns-then-not-passes-clause-halted
 returns-then-not-passes-clause-halted g c = λ _.
     let met = g.met.S.Structure g.world.𝓛 g.world.𝓜 g.world.𝓡 ((λ s allowed. allowed), (λ patient. patient), (λ alone. alone), (λ cuts. cuts)) in
-    let more = opens_more (g.S.Structure.meaning c.args.table.now.structure) (met.laws c.args.table.now.structure) c.args.table.now c.table_is_allowed.ensures.limits
-    c.table_is_allowed.ensures.requests c.args.runner c.args.descriptor c.requires.next c.loop-index.index _ c.loop-index.runner c.loop-index.invariant.own c.loop-index.invariant.opening c.loop-index-test.true
+    let more = opens_more (g.S.Structure.meaning c.args.table.now.structure) (met.laws c.args.table.now.structure) c.args.table.now (c.requires.own.limits _ refl)
+    (c.requires.own.allowed _ refl) c.args.runner c.args.descriptor c.requires.next c.loop-index.index _ c.loop-index.runner c.loop-index.invariant.own c.loop-index.invariant.opening c.loop-index-test.true
     _ _ c.load_thunk-opened.ensures.event in
     record {
       made = suc c.loop-index.index;
@@ -38,8 +38,8 @@ pub loop-index-preserved : goal.loop-index-preserved
 loop-index-preserved g c =
     let met = g.met.S.Structure g.world.𝓛 g.world.𝓜 g.world.𝓡 ((λ s allowed. allowed), (λ patient. patient), (λ alone. alone), (λ cuts. cuts)) in
     let m = g.S.Structure.meaning c.args.table.now.structure in
-    let more = opens_more m (met.laws c.args.table.now.structure) c.args.table.now c.table_is_allowed.ensures.limits
-    c.table_is_allowed.ensures.requests c.args.runner c.args.descriptor c.requires.next c.loop-index.index _ c.loop-index.runner c.loop-index.invariant.own c.loop-index.invariant.opening c.loop-index-test.true
+    let more = opens_more m (met.laws c.args.table.now.structure) c.args.table.now (c.requires.own.limits _ refl)
+    (c.requires.own.allowed _ refl) c.args.runner c.args.descriptor c.requires.next c.loop-index.index _ c.loop-index.runner c.loop-index.invariant.own c.loop-index.invariant.opening c.loop-index-test.true
     _ _ c.load_thunk-opened.ensures.event in
     let next : suc c.loop-index.index ≡ c.loop-index.index + 1 = omega arith in
     record {

@@ -10,14 +10,14 @@ use Rattle.section_runs.proofs.opens.open.Goals as goal
 pub load_done-runner-requires-clause-next : goal.load_done-runner-requires-clause-next
 load_done-runner-requires-clause-next g c κs within =
     let met = g.met.S.Structure g.world.𝓛 g.world.𝓜 g.world.𝓡 ((λ s allowed. allowed), (λ patient. patient), (λ alone. alone), (λ cuts. cuts)) in
-    may_end (g.S.Structure.meaning c.args.table.now.structure) (met.laws c.args.table.now.structure) c.args.table.now c.table_is_allowed.ensures.limits
-    c.table_is_allowed.ensures.requests c.args.runner c.args.descriptor c.requires.next 12 _ c.load_words-runner.result.0 c.load_words-runner.ensures.own (c.load_words-runner.ensures.opening c.if-not-going.false) refl
+    may_end (g.S.Structure.meaning c.args.table.now.structure) (met.laws c.args.table.now.structure) c.args.table.now (c.requires.own.limits _ refl)
+    (c.requires.own.allowed _ refl) c.args.runner c.args.descriptor c.requires.next 12 _ c.load_words-runner.result.0 c.load_words-runner.ensures.own (c.load_words-runner.ensures.opening c.if-not-going.false) refl
 
 pub returns-then-not-passes-clause-halted : goal.returns-then-not-passes-clause-halted
 returns-then-not-passes-clause-halted g c =
     let met = g.met.S.Structure g.world.𝓛 g.world.𝓜 g.world.𝓡 ((λ s allowed. allowed), (λ patient. patient), (λ alone. alone), (λ cuts. cuts)) in
-    let more = opens_last (g.S.Structure.meaning c.args.table.now.structure) (met.laws c.args.table.now.structure) c.args.table.now c.table_is_allowed.ensures.limits
-    c.table_is_allowed.ensures.requests c.args.runner c.args.descriptor c.requires.next 12 _ c.load_words-runner.result.0 c.load_words-runner.ensures.own (c.load_words-runner.ensures.opening c.if-not-going.false) refl
+    let more = opens_last (g.S.Structure.meaning c.args.table.now.structure) (met.laws c.args.table.now.structure) c.args.table.now (c.requires.own.limits _ refl)
+    (c.requires.own.allowed _ refl) c.args.runner c.args.descriptor c.requires.next 12 _ c.load_words-runner.result.0 c.load_words-runner.ensures.own (c.load_words-runner.ensures.opening c.if-not-going.false) refl
     _ _ c.load_done-runner.ensures.event in
     record {
       made = 13;
@@ -44,8 +44,8 @@ pub returns-clause-opened : goal.returns-clause-opened
 returns-clause-opened g c =
     let met = g.met.S.Structure g.world.𝓛 g.world.𝓜 g.world.𝓡 ((λ s allowed. allowed), (λ patient. patient), (λ alone. alone), (λ cuts. cuts)) in
     let opening = c.load_words-runner.ensures.opening c.if-not-going.false in
-    then_opened (g.S.Structure.meaning c.args.table.now.structure) (met.laws c.args.table.now.structure) c.args.table.now c.table_is_allowed.ensures.limits
-    c.table_is_allowed.ensures.requests c.args.runner c.args.descriptor c.requires.next 12 _ c.load_words-runner.result.0 c.load_words-runner.ensures.own opening refl
+    then_opened (g.S.Structure.meaning c.args.table.now.structure) (met.laws c.args.table.now.structure) c.args.table.now (c.requires.own.limits _ refl)
+    (c.requires.own.allowed _ refl) c.args.runner c.args.descriptor c.requires.next 12 _ c.load_words-runner.result.0 c.load_words-runner.ensures.own opening refl
     _ _ c.load_done-runner.ensures.event _ _
     (c.thunk_from-thunk.ensures ∙ ap thunk_of (all_of c.load_words-runner.new.words c.done_word.result c.load_words-runner.ensures.room ∙ ap (λ n. take 12 c.load_words-runner.new.words ++ n ∷ []) c.done_word.ensures))
     (sym (ap (λ n. not (n == 0)) (index_last _ _ 12 (sym opening.count)) ∙ not_zero c.load_done-runner.result.1))

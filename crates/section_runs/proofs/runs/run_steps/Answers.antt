@@ -1,4 +1,4 @@
-use Rattle.std.proofs.Common.{◌≡◌, ◌+◌, ◌≤◌, length, arith, ap, sym, subst, ◌∙◌, true}
+use Rattle.std.proofs.Common.{◌≡◌, ◌+◌, ◌≤◌, length, arith, ap, sym, subst, ◌∙◌, true, refl}
 use Rattle.std.specs.Prelude.{count_by, sum_by}
 use Rattle.body_terms.specs.Cost.{cost_of, step_cost}
 use Rattle.body_terms.specs.Shape.{IsShaped, is_take}
@@ -32,8 +32,8 @@ walk-runner-requires-clause-shaped g c κs within =
     let m = g.S.Structure.meaning c.args.table.now.structure in
     let laws = met.laws c.args.table.now.structure in
     let t = c.args.table.now in
-    let limits = c.table_is_allowed.ensures.limits in
-    let allowed = c.table_is_allowed.ensures.requests in
+    let limits = c.requires.own.limits _ refl in
+    let allowed = c.requires.own.allowed _ refl in
     let r = c.args.runner in
     let body = m.body c.args.thunk.now in
     let same : body_of m r ≡ body = opened_body m c.args.descriptor c.args.thunk.now c.args.trail.now.late r c.requires.opened in
@@ -47,8 +47,8 @@ walk-runner-requires-clause-before g c κs within =
     let m = g.S.Structure.meaning c.args.table.now.structure in
     let laws = met.laws c.args.table.now.structure in
     let t = c.args.table.now in
-    let limits = c.table_is_allowed.ensures.limits in
-    let allowed = c.table_is_allowed.ensures.requests in
+    let limits = c.requires.own.limits _ refl in
+    let allowed = c.requires.own.allowed _ refl in
     let r = c.args.runner in
     let whole : IsShaped (body_of m r) = shaped m laws t limits allowed r c.requires.own (run_of r) c.requires.opened.inside in
     opened_before m c.args.descriptor c.args.thunk.now c.args.trail.now.late r c.requires.opened whole
@@ -71,8 +71,8 @@ walk-runner-requires-clause-reserve g c κs within =
     let m = g.S.Structure.meaning c.args.table.now.structure in
     let laws = met.laws c.args.table.now.structure in
     let t = c.args.table.now in
-    let limits = c.table_is_allowed.ensures.limits in
-    let allowed = c.table_is_allowed.ensures.requests in
+    let limits = c.requires.own.limits _ refl in
+    let allowed = c.requires.own.allowed _ refl in
     let r = c.args.runner in
     let body = m.body c.args.thunk.now in
     let same : body_of m r ≡ body = opened_body m c.args.descriptor c.args.thunk.now c.args.trail.now.late r c.requires.opened in
@@ -126,8 +126,8 @@ returns-in-Over-clause-done g c =
     let m = g.S.Structure.meaning c.args.table.now.structure in
     let laws = met.laws c.args.table.now.structure in
     let t = c.args.table.now in
-    let limits = c.table_is_allowed.ensures.limits in
-    let allowed = c.table_is_allowed.ensures.requests in
+    let limits = c.requires.own.limits _ refl in
+    let allowed = c.requires.own.allowed _ refl in
     let r = c.args.runner in
     let body = m.body c.args.thunk.now in
     let is_body : c.args.line.now ≡ body = c.requires.line in

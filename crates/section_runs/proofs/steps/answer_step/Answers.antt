@@ -1,4 +1,4 @@
-use Rattle.std.proofs.Common.{arith}
+use Rattle.std.proofs.Common.{arith, refl}
 use Rattle.section_runs.proofs.Through.{through_by, halted_by}
 use Rattle.idem_alloc.specs.commit_log.proofs.Running.{ran_one}
 use Rattle.section_runs.proofs.Through.{asked_if}
@@ -11,8 +11,8 @@ reply_exchange-runner-requires-clause-next g c κs within =
     let m = g.S.Structure.meaning c.args.table.now.structure in
     let laws = met.laws c.args.table.now.structure in
     let t = c.args.table.now in
-    let limits = c.table_is_allowed.ensures.limits in
-    let allowed = c.table_is_allowed.ensures.requests in
+    let limits = c.requires.own.limits _ refl in
+    let allowed = c.requires.own.allowed _ refl in
     let r = c.args.runner in
     may_answer m laws t limits allowed r c.requires.own c.args.reply c.requires.next
 
@@ -22,8 +22,8 @@ returns-clause-goes g c =
     let m = g.S.Structure.meaning c.args.table.now.structure in
     let laws = met.laws c.args.table.now.structure in
     let t = c.args.table.now in
-    let limits = c.table_is_allowed.ensures.limits in
-    let allowed = c.table_is_allowed.ensures.requests in
+    let limits = c.requires.own.limits _ refl in
+    let allowed = c.requires.own.allowed _ refl in
     let r = c.args.runner in
     λ going. answer_goes m laws t limits allowed r c.requires.own c.args.reply c.requires.next _ _
     (answers m laws t limits allowed r c.requires.own c.args.reply c.requires.next _ _ c.reply_exchange-runner.ensures.event.event)
@@ -34,8 +34,8 @@ returns-clause-trail g c =
     let m = g.S.Structure.meaning c.args.table.now.structure in
     let laws = met.laws c.args.table.now.structure in
     let t = c.args.table.now in
-    let limits = c.table_is_allowed.ensures.limits in
-    let allowed = c.table_is_allowed.ensures.requests in
+    let limits = c.requires.own.limits _ refl in
+    let allowed = c.requires.own.allowed _ refl in
     let r = c.args.runner in
     λ going. answer_trail m laws t limits allowed r c.requires.own c.args.reply c.requires.next _ _
     (answers m laws t limits allowed r c.requires.own c.args.reply c.requires.next _ _ c.reply_exchange-runner.ensures.event.event)
@@ -46,8 +46,8 @@ returns-clause-through g c =
     let m = g.S.Structure.meaning c.args.table.now.structure in
     let laws = met.laws c.args.table.now.structure in
     let t = c.args.table.now in
-    let limits = c.table_is_allowed.ensures.limits in
-    let allowed = c.table_is_allowed.ensures.requests in
+    let limits = c.requires.own.limits _ refl in
+    let allowed = c.requires.own.allowed _ refl in
     let r = c.args.runner in
     λ going. through_by m 1 1 _ _ _ _ _ _ _ _ (omega arith)
     (ran_one m _ _ _ _ _ (answers m laws t limits allowed r c.requires.own c.args.reply c.requires.next _ _ c.reply_exchange-runner.ensures.event.event))
@@ -59,8 +59,8 @@ returns-clause-halted g c =
     let m = g.S.Structure.meaning c.args.table.now.structure in
     let laws = met.laws c.args.table.now.structure in
     let t = c.args.table.now in
-    let limits = c.table_is_allowed.ensures.limits in
-    let allowed = c.table_is_allowed.ensures.requests in
+    let limits = c.requires.own.limits _ refl in
+    let allowed = c.requires.own.allowed _ refl in
     let r = c.args.runner in
     λ halted. halted_by m 1 1 _ _ _ _ _ _ _ _ (omega arith) (omega arith)
     (ran_one m _ _ _ _ _ (answers m laws t limits allowed r c.requires.own c.args.reply c.requires.next _ _ c.reply_exchange-runner.ensures.event.event))

@@ -1,4 +1,4 @@
-use Rattle.std.proofs.Common.{length, arith, ap}
+use Rattle.std.proofs.Common.{length, arith, ap, refl}
 use Rattle.body_terms.specs.declared.step.Step.TheVariants as kinds
 use Rattle.section_runs.specs.Reached.{run_of}
 use Rattle.section_runs.proofs.Going.{log_room}
@@ -18,8 +18,8 @@ agree-requires g c =
     let m = g.S.Structure.meaning c.args.table.now.structure in
     let laws = met.laws c.args.table.now.structure in
     let t = c.args.table.now in
-    let limits = c.table_is_allowed.ensures.limits in
-    let allowed = c.table_is_allowed.ensures.requests in
+    let limits = c.requires.own.limits _ refl in
+    let allowed = c.requires.own.allowed _ refl in
     let r = c.args.runner in
     let room = log_room m laws t limits allowed r c.requires.own (kinds.Load c.args.place c.requires.next.0) c.requires.next.1 in
     let e = ap length c.requires.trail in omega (arith, room, e)

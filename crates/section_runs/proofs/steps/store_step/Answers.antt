@@ -1,4 +1,4 @@
-use Rattle.std.proofs.Common.{length, arith, ap, sym, subst, ◌∙◌}
+use Rattle.std.proofs.Common.{length, arith, ap, sym, subst, ◌∙◌, refl}
 use Rattle.body_terms.specs.declared.step.Step.TheVariants as kinds
 use Rattle.section_runs.specs.Reached.{run_of}
 use Rattle.std.specs.Prelude.{slice_index}
@@ -17,8 +17,8 @@ bounds-kept-reg g c =
     let m = g.S.Structure.meaning c.args.table.now.structure in
     let laws = met.laws c.args.table.now.structure in
     let t = c.args.table.now in
-    let limits = c.table_is_allowed.ensures.limits in
-    let allowed = c.table_is_allowed.ensures.requests in
+    let limits = c.requires.own.limits _ refl in
+    let allowed = c.requires.own.allowed _ refl in
     let r = c.args.runner in
     let body = body_of m r in
     let used = used_at body (shaped m laws t limits allowed r c.requires.own (run_of r) c.requires.next.may.before.running) c.requires.next.may.n (kinds.Store c.args.reg c.args.value) 0 c.requires.next.may.here in
@@ -30,8 +30,8 @@ bounds-kept-reg-2 g c =
     let m = g.S.Structure.meaning c.args.table.now.structure in
     let laws = met.laws c.args.table.now.structure in
     let t = c.args.table.now in
-    let limits = c.table_is_allowed.ensures.limits in
-    let allowed = c.table_is_allowed.ensures.requests in
+    let limits = c.requires.own.limits _ refl in
+    let allowed = c.requires.own.allowed _ refl in
     let r = c.args.runner in
     let body = body_of m r in
     let used = used_at body (shaped m laws t limits allowed r c.requires.own (run_of r) c.requires.next.may.before.running) c.requires.next.may.n (kinds.Store c.args.reg c.args.value) 0 c.requires.next.may.here in
@@ -43,8 +43,8 @@ word-old-requires g c =
     let m = g.S.Structure.meaning c.args.table.now.structure in
     let laws = met.laws c.args.table.now.structure in
     let t = c.args.table.now in
-    let limits = c.table_is_allowed.ensures.limits in
-    let allowed = c.table_is_allowed.ensures.requests in
+    let limits = c.requires.own.limits _ refl in
+    let allowed = c.requires.own.allowed _ refl in
     let r = c.args.runner in
     let body = body_of m r in
     let used = used_at body (shaped m laws t limits allowed r c.requires.own (run_of r) c.requires.next.may.before.running) c.requires.next.may.n (kinds.Store c.args.reg c.args.value) 0 c.requires.next.may.here in
@@ -58,8 +58,8 @@ value_in-number-requires g c =
     let m = g.S.Structure.meaning c.args.table.now.structure in
     let laws = met.laws c.args.table.now.structure in
     let t = c.args.table.now in
-    let limits = c.table_is_allowed.ensures.limits in
-    let allowed = c.table_is_allowed.ensures.requests in
+    let limits = c.requires.own.limits _ refl in
+    let allowed = c.requires.own.allowed _ refl in
     let r = c.args.runner in
     let body = body_of m r in
     let used = used_at body (shaped m laws t limits allowed r c.requires.own (run_of r) c.requires.next.may.before.running) c.requires.next.may.n (kinds.Store c.args.reg c.args.value) 1 c.requires.next.may.here in
@@ -71,8 +71,8 @@ store-runner-requires-clause-next g c κs within =
     let m = g.S.Structure.meaning c.args.table.now.structure in
     let laws = met.laws c.args.table.now.structure in
     let t = c.args.table.now in
-    let limits = c.table_is_allowed.ensures.limits in
-    let allowed = c.table_is_allowed.ensures.requests in
+    let limits = c.requires.own.limits _ refl in
+    let allowed = c.requires.own.allowed _ refl in
     let r = c.args.runner in
     let body = body_of m r in
     let used = used_at body (shaped m laws t limits allowed r c.requires.own (run_of r) c.requires.next.may.before.running) c.requires.next.may.n (kinds.Store c.args.reg c.args.value) 0 c.requires.next.may.here in

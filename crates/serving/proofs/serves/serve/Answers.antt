@@ -15,7 +15,7 @@ loop-request-init g c = record {
 
 pub persist-next-requires-clause-next : goal.persist-next-requires-clause-next
 persist-next-requires-clause-next g c κs within = let inv = c.loop-request.invariant in
-    may_next (g.S.Planner.planning c.args.table.now.structure) c.args.requests.now c.args.runner c.loop-request.runner c.args.table.now c.table_is_allowed.ensures.requests
+    may_next (g.S.Planner.planning c.args.table.now.structure) c.args.requests.now c.args.runner c.loop-request.runner c.args.table.now (c.requires.own.allowed _ refl)
     c.requires.own inv.own c.requires.next c.loop-request.request-index _
     (slice_get-get_or c.args.requests.now c.loop-request.request-index _ c.loop-request-test.true) inv.along
 
@@ -25,7 +25,7 @@ returns-in-Some-clause-serves g c =
     let inv = c.loop-request.invariant in
     stopped_serves (g.S.Structure.meaning c.args.table.now.structure) (met.laws c.args.table.now.structure) (g.S.Planner.planning c.args.table.now.structure)
     c.args.requests.now c.args.retry_short c.args.runner c.loop-request.runner c.persist-next.result.0
-    c.args.table.now c.table_is_allowed.ensures.limits c.table_is_allowed.ensures.requests c.requires.own inv.own c.persist-next.ensures.own
+    c.args.table.now (c.requires.own.limits _ refl) (c.requires.own.allowed _ refl) c.requires.own inv.own c.persist-next.ensures.own
     c.requires.next c.loop-request.request-index _ (slice_get-get_or c.args.requests.now c.loop-request.request-index _ c.loop-request-test.true) inv.along
     c.persist-next.result.1 _ _ _ inv.went _ _ _ _ _ _ c.persist-next.ensures.persists inv.so_far
     (subst (λ s. AttemptsSpareSlots g.row.S.Denot (g.S.Structure.meaning s) (g.S.Planner.planning s)) c.structure.ensures c.attempts_spare_slots.ensures)
@@ -41,7 +41,7 @@ returns-then-not-goes_on-clause-serves g c =
     let inv = c.loop-request.invariant in
     halted_behind (g.S.Structure.meaning c.args.table.now.structure) (met.laws c.args.table.now.structure) (g.S.Planner.planning c.args.table.now.structure)
     c.args.requests.now c.args.retry_short c.args.runner c.loop-request.runner c.persist-next.result.0
-    c.args.table.now c.table_is_allowed.ensures.limits c.table_is_allowed.ensures.requests c.requires.own inv.own c.persist-next.ensures.own
+    c.args.table.now (c.requires.own.limits _ refl) (c.requires.own.allowed _ refl) c.requires.own inv.own c.persist-next.ensures.own
     c.requires.next c.loop-request.request-index _ (slice_get-get_or c.args.requests.now c.loop-request.request-index _ c.loop-request-test.true) inv.along
     c.persist-next.result.1 _ _ _ inv.went _ _ _ _ _ _ c.persist-next.ensures.persists inv.so_far
     (subst (λ s. AttemptsSpareSlots g.row.S.Denot (g.S.Structure.meaning s) (g.S.Planner.planning s)) c.structure.ensures c.attempts_spare_slots.ensures)
@@ -61,14 +61,14 @@ loop-request-preserved g c =
       own = c.persist-next.ensures.own;
       along = goes_along (g.S.Structure.meaning c.args.table.now.structure) (met.laws c.args.table.now.structure) (g.S.Planner.planning c.args.table.now.structure)
           c.args.requests.now c.args.retry_short c.args.runner c.loop-request.runner c.persist-next.result.0
-          c.args.table.now c.table_is_allowed.ensures.limits c.table_is_allowed.ensures.requests c.requires.own inv.own c.persist-next.ensures.own
+          c.args.table.now (c.requires.own.limits _ refl) (c.requires.own.allowed _ refl) c.requires.own inv.own c.persist-next.ensures.own
           c.requires.next c.loop-request.request-index _ (slice_get-get_or c.args.requests.now c.loop-request.request-index _ c.loop-request-test.true) inv.along
           c.persist-next.result.1 _ _ _ inv.went _ _ _ _ _ _ c.persist-next.ensures.persists inv.so_far
           (subst (λ s. AttemptsSpareSlots g.row.S.Denot (g.S.Structure.meaning s) (g.S.Planner.planning s)) c.structure.ensures c.attempts_spare_slots.ensures)
           (sym c.in_default.ensures);
       so_far = so_far_along (g.S.Structure.meaning c.args.table.now.structure) (met.laws c.args.table.now.structure) (g.S.Planner.planning c.args.table.now.structure)
           c.args.requests.now c.args.retry_short c.args.runner c.loop-request.runner c.persist-next.result.0
-          c.args.table.now c.table_is_allowed.ensures.limits c.table_is_allowed.ensures.requests c.requires.own inv.own c.persist-next.ensures.own
+          c.args.table.now (c.requires.own.limits _ refl) (c.requires.own.allowed _ refl) c.requires.own inv.own c.persist-next.ensures.own
           c.requires.next c.loop-request.request-index _ (slice_get-get_or c.args.requests.now c.loop-request.request-index _ c.loop-request-test.true) inv.along
           c.persist-next.result.1 _ _ _ inv.went _ _ _ _ _ _ c.persist-next.ensures.persists inv.so_far
           (subst (λ s. AttemptsSpareSlots g.row.S.Denot (g.S.Structure.meaning s) (g.S.Planner.planning s)) c.structure.ensures c.attempts_spare_slots.ensures)

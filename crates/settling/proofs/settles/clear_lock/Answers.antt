@@ -1,4 +1,4 @@
-use Rattle.std.proofs.Common.{◌<◌, sym, ◌∙◌, subst}
+use Rattle.std.proofs.Common.{◌<◌, sym, ◌∙◌, subst, refl}
 use Rattle.settling.specs.Clearing.{cell_count}
 use Rattle.settling.proofs.Clears.{RecordTells, keeps_on, load_keeps, clears_free, may_help, run_keeps, clears_named}
 use Rattle.settling.proofs.settles.clear_lock.Goals as goal
@@ -7,7 +7,7 @@ pub run_named-requires-clause-next : goal.run_named-requires-clause-next
 run_named-requires-clause-next g c κs within =
     let met = g.met.S.Structure g.world.𝓛 g.world.𝓜 g.world.𝓡 ((λ s allowed. allowed), (λ patient. patient), (λ alone. alone), (λ cuts. cuts)) in
     let m = g.S.Structure.meaning c.args.table.now.structure in
-    may_help m (met.laws c.args.table.now.structure) c.args.table.now c.table_is_allowed.ensures.limits c.table_is_allowed.ensures.requests
+    may_help m (met.laws c.args.table.now.structure) c.args.table.now (c.requires.own.limits _ refl) (c.requires.own.allowed _ refl)
     (subst (λ s. RecordTells (g.S.Structure.meaning s)) c.structure.ensures c.what_the_keeper_saw_tells.ensures)
     c.requires.next.0 c.args.place c.requires.lock c.args.keeper c.requires.own c.requires.next.1 (subst (λ l. c.args.place < cell_count m l) (sym c.requires.own.layout) c.requires.within)
     c.load_cell-keeper.result.1 c.load_cell-keeper.result.0 c.load_cell-keeper.ensures.own c.load_cell-keeper.ensures.event (λ e. c.if-value-eq0.false (c.value.ensures ∙ e))
@@ -16,7 +16,7 @@ pub returns-then-value-eq0-clause-cleared : goal.returns-then-value-eq0-clause-c
 returns-then-value-eq0-clause-cleared g c =
     let met = g.met.S.Structure g.world.𝓛 g.world.𝓜 g.world.𝓡 ((λ s allowed. allowed), (λ patient. patient), (λ alone. alone), (λ cuts. cuts)) in
     let m = g.S.Structure.meaning c.args.table.now.structure in
-    λ begun clearing. clears_free m (met.laws c.args.table.now.structure) c.args.table.now c.table_is_allowed.ensures.limits c.table_is_allowed.ensures.requests
+    λ begun clearing. clears_free m (met.laws c.args.table.now.structure) c.args.table.now (c.requires.own.limits _ refl) (c.requires.own.allowed _ refl)
     (subst (λ s. RecordTells (g.S.Structure.meaning s)) c.structure.ensures c.what_the_keeper_saw_tells.ensures)
     begun c.args.place c.requires.lock c.args.keeper c.requires.own clearing (subst (λ l. c.args.place < cell_count m l) (sym c.requires.own.layout) c.requires.within)
     c.load_cell-keeper.result.1 c.load_cell-keeper.result.0 c.load_cell-keeper.ensures.own c.load_cell-keeper.ensures.event (sym c.value.ensures ∙ c.if-value-eq0.true)
@@ -25,7 +25,7 @@ pub returns-then-value-eq0-clause-keeps : goal.returns-then-value-eq0-clause-kee
 returns-then-value-eq0-clause-keeps g c =
     let met = g.met.S.Structure g.world.𝓛 g.world.𝓜 g.world.𝓡 ((λ s allowed. allowed), (λ patient. patient), (λ alone. alone), (λ cuts. cuts)) in
     let m = g.S.Structure.meaning c.args.table.now.structure in
-    load_keeps m (met.laws c.args.table.now.structure) c.args.table.now c.table_is_allowed.ensures.limits c.table_is_allowed.ensures.requests
+    load_keeps m (met.laws c.args.table.now.structure) c.args.table.now (c.requires.own.limits _ refl) (c.requires.own.allowed _ refl)
     (subst (λ s. RecordTells (g.S.Structure.meaning s)) c.structure.ensures c.what_the_keeper_saw_tells.ensures)
     c.requires.next.0 c.args.place c.requires.lock c.args.keeper c.requires.own c.requires.next.1 (subst (λ l. c.args.place < cell_count m l) (sym c.requires.own.layout) c.requires.within)
     c.load_cell-keeper.result.1 c.load_cell-keeper.result.0 c.load_cell-keeper.ensures.own c.load_cell-keeper.ensures.event
@@ -34,7 +34,7 @@ pub returns-else-value-eq0-clause-cleared : goal.returns-else-value-eq0-clause-c
 returns-else-value-eq0-clause-cleared g c =
     let met = g.met.S.Structure g.world.𝓛 g.world.𝓜 g.world.𝓡 ((λ s allowed. allowed), (λ patient. patient), (λ alone. alone), (λ cuts. cuts)) in
     let m = g.S.Structure.meaning c.args.table.now.structure in
-    λ begun clearing. clears_named m (met.laws c.args.table.now.structure) c.args.table.now c.table_is_allowed.ensures.limits c.table_is_allowed.ensures.requests
+    λ begun clearing. clears_named m (met.laws c.args.table.now.structure) c.args.table.now (c.requires.own.limits _ refl) (c.requires.own.allowed _ refl)
     (subst (λ s. RecordTells (g.S.Structure.meaning s)) c.structure.ensures c.what_the_keeper_saw_tells.ensures)
     begun c.args.place c.requires.lock c.args.keeper c.requires.own clearing (subst (λ l. c.args.place < cell_count m l) (sym c.requires.own.layout) c.requires.within)
     c.load_cell-keeper.result.1 c.load_cell-keeper.result.0 c.load_cell-keeper.ensures.own c.load_cell-keeper.ensures.event (λ e. c.if-value-eq0.false (c.value.ensures ∙ e))
@@ -45,11 +45,11 @@ returns-else-value-eq0-clause-keeps g c =
     let met = g.met.S.Structure g.world.𝓛 g.world.𝓜 g.world.𝓡 ((λ s allowed. allowed), (λ patient. patient), (λ alone. alone), (λ cuts. cuts)) in
     let m = g.S.Structure.meaning c.args.table.now.structure in
     keeps_on c.args.keeper c.load_cell-keeper.result.0 c.run_named.result
-    (load_keeps m (met.laws c.args.table.now.structure) c.args.table.now c.table_is_allowed.ensures.limits c.table_is_allowed.ensures.requests
+    (load_keeps m (met.laws c.args.table.now.structure) c.args.table.now (c.requires.own.limits _ refl) (c.requires.own.allowed _ refl)
     (subst (λ s. RecordTells (g.S.Structure.meaning s)) c.structure.ensures c.what_the_keeper_saw_tells.ensures)
     c.requires.next.0 c.args.place c.requires.lock c.args.keeper c.requires.own c.requires.next.1 (subst (λ l. c.args.place < cell_count m l) (sym c.requires.own.layout) c.requires.within)
     c.load_cell-keeper.result.1 c.load_cell-keeper.result.0 c.load_cell-keeper.ensures.own c.load_cell-keeper.ensures.event)
-    (run_keeps m (met.laws c.args.table.now.structure) c.args.table.now c.table_is_allowed.ensures.limits c.table_is_allowed.ensures.requests
+    (run_keeps m (met.laws c.args.table.now.structure) c.args.table.now (c.requires.own.limits _ refl) (c.requires.own.allowed _ refl)
     (subst (λ s. RecordTells (g.S.Structure.meaning s)) c.structure.ensures c.what_the_keeper_saw_tells.ensures)
     c.requires.next.0 c.args.place c.requires.lock c.args.keeper c.requires.own c.requires.next.1 (subst (λ l. c.args.place < cell_count m l) (sym c.requires.own.layout) c.requires.within)
     c.load_cell-keeper.result.1 c.load_cell-keeper.result.0 c.load_cell-keeper.ensures.own c.load_cell-keeper.ensures.event (λ e. c.if-value-eq0.false (c.value.ensures ∙ e))

@@ -1,5 +1,5 @@
 use Rattle.std.specs.Prelude.{All}
-use Rattle.std.proofs.Common.{◌≡◌, ◌<◌, ◌∙◌, ap, sym, subst, arith, true, List}
+use Rattle.std.proofs.Common.{◌≡◌, ◌<◌, ◌∙◌, ap, sym, subst, arith, true, List, refl}
 use Rattle.map_history.specs.declared.op.Request.{Request}
 use Rattle.table_words.specs.declared.layout.Layout.{Layout}
 use Rattle.closed_words.specs.version_words.proofs.Stages.{may_split}
@@ -24,7 +24,7 @@ returns-in-Ok-clause-job g c =
         own = c.in-Ok.ensures.own.1;
         next = subst (λ (rs : List Request). MayServe planning rs c.in-Ok.runner) (sym own)
             (worker_may_serve (g.S.Structure.meaning c.args.table.now.structure) planning c.args.table.now c.args.keeper c.in-Ok.runner c.args.worker c.in-Ok.ensures.worker c.in-Ok.ensures.own.1 c.requires.keeper.keeper few
-            c.table_is_allowed.ensures.requests.in_order served c.layout.result.runners as_many);
+            (c.requires.own.allowed _ refl).in_order served c.layout.result.runners as_many);
       };
       number = ap (λ y. y.number) c.in-Ok.ensures.worker ∙ c.requires.keeper.keeper.as_many;
       requests = own ∙ ap (λ n. own_requests n c.args.worker c.args.table.now.requests) as_many;

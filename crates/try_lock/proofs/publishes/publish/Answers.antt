@@ -1,4 +1,4 @@
-use Rattle.std.proofs.Common.{◌≡◌, ◌-◌, length, true, false, sym, ap, subst, ◌∙◌, arith}
+use Rattle.std.proofs.Common.{◌≡◌, ◌-◌, length, true, false, sym, ap, subst, ◌∙◌, arith, refl}
 use Rattle.std.specs.Prelude.{◌==◌, slice_index}
 use Rattle.std.proofs.lemmas.Bool.Decides.{nat_tests}
 use Rattle.table_words.specs.declared.layout.Layout.{Layout}
@@ -14,7 +14,7 @@ prepare-runner-requires-clause-free g c κs within =
     let met = g.met.S.Structure g.world.𝓛 g.world.𝓜 g.world.𝓡 ((λ s allowed. allowed), (λ patient. patient), (λ alone. alone), (λ cuts. cuts)) in
     let r = c.args.runner in let may = c.requires.publishable in let xs = c.free_descriptors-free.result.now in
     may_prepare (g.S.Structure.meaning c.args.table.now.structure) (met.laws c.args.table.now.structure) r c.args.thunk.now
-    (subst IsWithinLimits (sym c.requires.own.layout) c.table_is_allowed.ensures.limits) (subst AreAllowed (sym c.requires.own.requests) c.table_is_allowed.ensures.requests) may
+    (subst IsWithinLimits (sym c.requires.own.layout) (c.requires.own.limits _ refl)) (subst AreAllowed (sym c.requires.own.requests) (c.requires.own.allowed _ refl)) may
     (slice_index xs (length xs - 1)) (last_is_free r.part.descriptors.free xs c.free_descriptors-free.ensures.list may.reserve)
 
 pub hold-runner-requires-clause-next : goal.hold-runner-requires-clause-next
@@ -22,21 +22,21 @@ hold-runner-requires-clause-next g c κs within =
     let met = g.met.S.Structure g.world.𝓛 g.world.𝓜 g.world.𝓡 ((λ s allowed. allowed), (λ patient. patient), (λ alone. alone), (λ cuts. cuts)) in
     let r = c.args.runner in let may = c.requires.publishable in let xs = c.free_descriptors-free.result.now in
     may_hold (g.S.Structure.meaning c.args.table.now.structure) r c.prepare-runner.result c.args.thunk.now (slice_index xs (length xs - 1)) may c.prepare-runner.ensures.ready (met.laws c.args.table.now.structure)
-    (subst IsWithinLimits (sym c.requires.own.layout) c.table_is_allowed.ensures.limits) (subst AreAllowed (sym c.requires.own.requests) c.table_is_allowed.ensures.requests)
+    (subst IsWithinLimits (sym c.requires.own.layout) (c.requires.own.limits _ refl)) (subst AreAllowed (sym c.requires.own.requests) (c.requires.own.allowed _ refl))
     (last_is_free r.part.descriptors.free xs c.free_descriptors-free.ensures.list may.reserve) c.has_eight_operands.ensures
 
 pub held_word-held-requires-clause-descriptor : goal.held_word-held-requires-clause-descriptor
 held_word-held-requires-clause-descriptor g c =
     let m = g.S.Structure.meaning c.args.table.now.structure in let xs = c.free_descriptors-free.result.now in
     let event = c.hold-runner.ensures.event in
-    (can_publish m c.prepare-runner.result c.args.thunk.now (slice_index xs (length xs - 1)) (subst IsWithinLimits (sym c.prepare-runner.ensures.own.layout) c.table_is_allowed.ensures.limits)
+    (can_publish m c.prepare-runner.result c.args.thunk.now (slice_index xs (length xs - 1)) (subst IsWithinLimits (sym c.prepare-runner.ensures.own.layout) (c.requires.own.limits _ refl))
     (record { met = event.met; asked = event.asked })).few
 
 pub held_word-held-requires-clause-version : goal.held_word-held-requires-clause-version
 held_word-held-requires-clause-version g c =
     let m = g.S.Structure.meaning c.args.table.now.structure in let xs = c.free_descriptors-free.result.now in
     let event = c.hold-runner.ensures.event in
-    (can_publish m c.prepare-runner.result c.args.thunk.now (slice_index xs (length xs - 1)) (subst IsWithinLimits (sym c.prepare-runner.ensures.own.layout) c.table_is_allowed.ensures.limits)
+    (can_publish m c.prepare-runner.result c.args.thunk.now (slice_index xs (length xs - 1)) (subst IsWithinLimits (sym c.prepare-runner.ensures.own.layout) (c.requires.own.limits _ refl))
     (record { met = event.met; asked = event.asked })).low
 
 pub returns-then-won-clause-publishes : goal.returns-then-won-clause-publishes
@@ -45,7 +45,7 @@ returns-then-won-clause-publishes g c =
     let r = c.args.runner in let may = c.requires.publishable in let xs = c.free_descriptors-free.result.now in let t = c.args.thunk.now in let found = c.hold-runner.result.1 in
     let test : found == t.word ≡ true = sym c.hold-runner.ensures.published ∙ c.if-won.true in
     publishes_won (g.S.Structure.meaning c.args.table.now.structure) (met.laws c.args.table.now.structure) r c.prepare-runner.result c.hold-runner.result.0 t (slice_index xs (length xs - 1)) found
-    (subst IsWithinLimits (sym c.requires.own.layout) c.table_is_allowed.ensures.limits) (subst AreAllowed (sym c.requires.own.requests) c.table_is_allowed.ensures.requests) may
+    (subst IsWithinLimits (sym c.requires.own.layout) (c.requires.own.limits _ refl)) (subst AreAllowed (sym c.requires.own.requests) (c.requires.own.allowed _ refl)) may
     (last_is_free r.part.descriptors.free xs c.free_descriptors-free.ensures.list may.reserve) c.prepare-runner.ensures.ready c.hold-runner.ensures.event
     (grind (arith, nat_tests, test)) _ (ap (λ h. record { descriptor = slice_index xs (length xs - 1); place = t.lock; held = h }) c.held_word-held.ensures)
 
@@ -55,6 +55,6 @@ returns-else-won-clause-publishes g c =
     let r = c.args.runner in let may = c.requires.publishable in let xs = c.free_descriptors-free.result.now in let t = c.args.thunk.now in let found = c.hold-runner.result.1 in
     let test : found == t.word ≡ false = sym c.hold-runner.ensures.published ∙ c.if-won.false in
     publishes_lost (g.S.Structure.meaning c.args.table.now.structure) (met.laws c.args.table.now.structure) r c.prepare-runner.result c.hold-runner.result.0 t (slice_index xs (length xs - 1)) found
-    (subst IsWithinLimits (sym c.requires.own.layout) c.table_is_allowed.ensures.limits) (subst AreAllowed (sym c.requires.own.requests) c.table_is_allowed.ensures.requests) may
+    (subst IsWithinLimits (sym c.requires.own.layout) (c.requires.own.limits _ refl)) (subst AreAllowed (sym c.requires.own.requests) (c.requires.own.allowed _ refl)) may
     (last_is_free r.part.descriptors.free xs c.free_descriptors-free.ensures.list may.reserve) c.prepare-runner.ensures.ready c.hold-runner.ensures.event
     test _ (c.refused-refusal.ensures.why ∙ ap (λ (l : Layout). refused_by l.version_max t.word found) (c.layout.ensures ∙ sym c.requires.own.layout))
