@@ -13,7 +13,7 @@ use Rattle.std.proofs.lemmas.List.Sums.{AllPass-from_list_all}
 use Rattle.small_lemmas.proofs.Bools.{both_of, from_both, negated}
 use Rattle.small_lemmas.proofs.Lists.{none_not_some, same_number}
 use Rattle.map_history.specs.declared.reply.Reply.{Reply}
-use Rattle.map_history.specs.declared.reply.Reply.TheVariants.{New, Dup, Val, Gone, Absent}
+use Rattle.map_history.specs.declared.reply.Reply.TheVariants.{New, Dup, Val, Gone, Absent, Was, Moved}
 use Rattle.map_history.specs.Words.{IsReply}
 use Rattle.report_text.specs.Report.{Answer, Line, reply_text}
 use Rattle.report_text.specs.Report.Line.{trace_line, answer_line, final_line}
@@ -62,6 +62,8 @@ reply_other Dup is = refl
 reply_other (Val value) is = numeral_other (decimal value) value (numeral_decimal value is)
 reply_other Gone is = refl
 reply_other Absent is = refl
+reply_other (Was value) is = numeral_other (decimal value) value (numeral_decimal value is)
+reply_other Moved is = refl
 
 -- what can stand in a place is one line
 answer_other : (any : Option Answer) (text : List ℕ) → Says (answer_line any) text → AreOther text

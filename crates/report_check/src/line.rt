@@ -104,16 +104,29 @@ fn read_reply(text: &[u8]) -> Option<Reply>
         b"dup" => Some(Reply::Dup),
         b"gone" => Some(Reply::Gone),
         b"none" => Some(Reply::Absent),
-        _ => Some(Reply::Val(read_value(text)?)),
+        b"moved" => Some(Reply::Moved),
+        _ => read_valued(text),
     }
 }
 
-// The value of a look-up that found one.
-fn read_value(text: &[u8]) -> Option<u32>
-    ensures some { IfSome result (λ value. text.now ≡ codes "val " ++ decimal value) }
-    ensures none { IfNone result ((value : ℕ) → value < 2 ^ 32 → text.now ≡ codes "val " ++ decimal value → ⊥) }
+// The reply with a value that is printed so: of a look-up that found one, or of a `put` that replaced one.
+fn read_valued(text: &[u8]) -> Option<Reply>
+    ensures some { IfSome result (λ reply. (text.now ≡ reply_text reply) × IsReply reply) }
+    ensures none { IfNone result ((value : ℕ) → value < 2 ^ 32 → (text.now ≡ codes "val " ++ decimal value → ⊥)
+        × (text.now ≡ codes "was " ++ decimal value → ⊥)) }
 {
-    let value = numeral_behind(b"val ", text)?;
+    match read_value(b"val ", text) {
+        Some(value) => Some(Reply::Val(value)),
+        None => Some(Reply::Was(read_value(b"was ", text)?)),
+    }
+}
+
+// The value of 32 bits behind this word.
+fn read_value(word: &[u8], text: &[u8]) -> Option<u32>
+    ensures some { IfSome result (λ value. text.now ≡ word.now ++ decimal value) }
+    ensures none { IfNone result ((value : ℕ) → value < 2 ^ 32 → text.now ≡ word.now ++ decimal value → ⊥) }
+{
+    let value = numeral_behind(word, text)?;
     if value < 1 << 32 {
         Some(value as u32)
     } else {
