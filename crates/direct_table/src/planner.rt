@@ -40,8 +40,7 @@ impl Structure for DirectTable {
     }
 
     fn is_lock(&self, place: Place) -> bool {
-        place >= self.base
-            && (place - self.base < 3 * self.keys && (place - self.base) % 3 == 0)
+        place >= self.base && (place - self.base < 3 * self.keys && (place - self.base) % 3 == 0)
     }
 
     fn body(&self, thunk: &Thunk) -> Body {

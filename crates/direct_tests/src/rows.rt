@@ -1,4 +1,5 @@
 //! Tests.
+ghost use Rattle.std.specs.Prelude.{◌+◌, ◌*◌, ◌≤◌};
 
 use crate::gates::StoppingGates;
 use crate::texts::{Row, run_text};
@@ -10,9 +11,17 @@ use std::thread::Threads;
 use threaded_runs::runner_gate::{FreeGates, Pause};
 use threaded_runs::serving::Served;
 
-#[test]
-fn requests_of_each_kind_are_answered_in_turn(rt: HostRuntime) -> Result<(), AllocError> {
+/// Whether one worker's requests, of each kind, are answered in turn on a table whose cells begin at this place.
+fn are_answered_from<R: Threads + Wait + Sync>(
+    rt: &R,
+    alloc: Global,
+    base: u32,
+) -> Result<bool, AllocError>
+    requires { base + 3 * 8 ≤ 12288 }
+{
     let text = "flock 1/trace/get 5/del 5/ins 5 70/ins 5 80/get 5/ins 0 7/del 5/get 5/ins 7 90/";
+    let row = run_text(rt, alloc, base, text, &[None], &mut FreeGates::new())?;
+    let replies = row.replies(alloc)?;
     let told = [
         Some(Reply::Absent),
         Some(Reply::Absent),
@@ -24,13 +33,18 @@ fn requests_of_each_kind_are_answered_in_turn(rt: HostRuntime) -> Result<(), All
         Some(Reply::Absent),
         Some(Reply::New),
     ];
-    for base in [0, 7, 12264] {
-        let row = run_text(&rt, rt.alloc(), base, text, &[None], &mut FreeGates::new())?;
-        let replies = row.replies(rt.alloc())?;
-        assert!(&rt; replies.as_slice() == told.as_slice());
-        assert!(&rt; row.answers.as_slice() == [Served::All].as_slice());
-        assert!(&rt; row.pairs.as_slice() == [(0, 7), (7, 90)].as_slice());
-    }
+    Ok(
+        replies.as_slice() == told.as_slice()
+            && row.answers.as_slice() == [Served::All].as_slice()
+            && row.pairs.as_slice() == [(0, 7), (7, 90)].as_slice(),
+    )
+}
+
+#[test]
+fn requests_of_each_kind_are_answered_in_turn(rt: HostRuntime) -> Result<(), AllocError> {
+    assert!(&rt; are_answered_from(&rt, rt.alloc(), 0)?);
+    assert!(&rt; are_answered_from(&rt, rt.alloc(), 7)?);
+    assert!(&rt; are_answered_from(&rt, rt.alloc(), 12264)?);
     Ok(())
 }
 
@@ -78,7 +92,14 @@ fn a_section_that_stops_anywhere_is_finished_by_a_helper(
 fn two_threads_contend_and_one_of_them_adds_the_key(rt: HostRuntime) -> Result<(), AllocError> {
     let text = "flock 1/trace/ins 5 70/get 5/trace/ins 5 80/get 5/";
     for _ in 0..100 {
-        let row = run_text(&rt, rt.alloc(), 0, text, &[None, None], &mut FreeGates::new())?;
+        let row = run_text(
+            &rt,
+            rt.alloc(),
+            0,
+            text,
+            &[None, None],
+            &mut FreeGates::new(),
+        )?;
         let replies = row.replies(rt.alloc())?;
         let first = [
             Some(Reply::New),

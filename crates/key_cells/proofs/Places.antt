@@ -1,6 +1,6 @@
 -- What is to be shown of places that count from the base holds of those in the memory.
-use Rattle.std.proofs.Common.{◌≡◌, ℕ, ◌+◌, ◌<◌, true, false, refl, ap, ◌∙◌, arith}
-use Rattle.std.specs.Prelude.{◌-◌, ◌&&◌, not, nat_lt}
+use Rattle.std.proofs.Common.{◌≡◌, ℕ, ◌+◌, ◌<◌, true, false, ap, ◌∙◌, arith}
+use Rattle.std.specs.Prelude.{◌-◌, ◌&&◌, not}
 use Rattle.shared_laws.proofs.Numbers.{lt_false}
 use Rattle.key_cells.specs.Keyed.{Keyed, IsKeyed, lock_place, cell_place, is_lock_place, guard_place}
 
