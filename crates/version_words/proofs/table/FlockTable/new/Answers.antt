@@ -1,4 +1,4 @@
-use Rattle.std.proofs.Common.{List, sym, ap, subst, ◌∙◌, rules}
+use Rattle.std.proofs.Common.{◌≡◌, List, sym, ap, subst, ◌∙◌, rules}
 use Rattle.map_history.specs.declared.op.Request.{Request}
 use Rattle.table_words.specs.declared.sizes.Sizes.{Sizes}
 use Rattle.runner_steps.specs.Asks.{sizes_for}
@@ -18,3 +18,10 @@ of_words-requires g c =
 pub invariant_of-result : goal.invariant_of-result
 invariant_of-result g c =
     search (rules, subst AreAllowed (sym c.in_ok-requests.ensures.items) (allowed_in c.args.requests.now c.requires.ordered c.values_fit.ensures))
+
+pub returns-clause-own : goal.returns-clause-own
+returns-clause-own g c =
+    let allowed : AreAllowed c.in_ok-requests.requests.items =
+        subst AreAllowed (sym c.in_ok-requests.ensures.items) (allowed_in c.args.requests.now c.requires.ordered c.values_fit.ensures) in
+    let all_allowed : (rs : List Request) → rs ≡ c.in_ok-requests.requests.items → AreAllowed rs = λ rs same. subst AreAllowed (sym same) allowed in
+    search (rules, all_allowed)
