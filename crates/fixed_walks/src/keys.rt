@@ -1,9 +1,8 @@
 //! The walk of a key, and the pairs of a closed table, for a structure of keys' cells.
-ghost use Rattle.std.specs.Prelude.{◌≡◌, ◌+◌, ◌<◌, ◌≤◌, ◌++◌, ◌∷◌, [], nat_lt, cond, true, length, IfOk};
+ghost use Rattle.std.specs.Prelude.{◌≡◌, ◌+◌, ◌<◌, ◌≤◌, ◌++◌, ◌∷◌, [], cond, true, length, IfOk};
 ghost use Rattle.std.specs.FinMap.{entries};
-ghost use Rattle.map_history.specs.Keys.{key_of};
 ghost use Rattle.map_history.specs.Replay.{Pairs};
-ghost use Rattle.key_cells.specs.Keyed.{cell_place, keyed};
+ghost use Rattle.key_cells.specs.Keyed.{cell_place, keyed, serves_key};
 ghost use Rattle.key_cells.specs.Steps.{part};
 ghost use Rattle.lock_walks.specs.Way.{Leads};
 ghost use Rattle.lock_walks.specs.try_lock.specs.Contents.{StandFor};
@@ -79,7 +78,7 @@ fn push_cell<C: KeyCells>(cells: &C, key: u32, number: u32, places: &mut ArrayVe
 
 /// The walk of an operation that is served. It leads a plan as a structure of these cells plans.
 pub fn key_walk<C: KeyCells>(cells: C, layout: Layout, op: Op) -> FixedWalk<C>
-    requires served { nat_lt (key_of op) (C.keyed cells).keys ≡ true }
+    requires served { serves_key (C.keyed cells) op ≡ true }
     ensures op { result.op ≡ op }
     ensures course { result.course ≡ cells }
     ensures leads { Leads (fixed_way (λ (c : C). key_course (C.keyed c))) (keyed (C.keyed cells)) layout
