@@ -40,7 +40,7 @@ module _ {T : Type 0} (planning : Planning) (t : TableState T) (scene : IsScene 
     tidy = tidy;
     there = ap (λ rs. slice_get rs 1) requests;
     next = (λ i. 0 % runners i == first i && (not (unknown i) && are_answered r.part.records.known 0 1 (requests i))) ∙ (λ i. known i && true);
-    served = scene.serves.1.0;
+    served = scene.serves.1;
   }
 
   pub may_ask : r.number ≡ 1 → is_answered r.part.records.known 2 ≡ false → MayAttempt planning asks r
@@ -48,7 +48,7 @@ module _ {T : Type 0} (planning : Planning) (t : TableState T) (scene : IsScene 
     tidy = tidy;
     there = ap (λ rs. slice_get rs 2) requests;
     next = (λ i. 1 % runners i == one i && (not (unknown i) && are_answered r.part.records.known 1 2 (requests i)));
-    served = scene.serves.1.1;
+    served = scene.serves.2;
   }
 
 -- a word that stands in the list is known
