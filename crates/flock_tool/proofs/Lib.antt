@@ -15,3 +15,4 @@ pub mod Reporting
 pub mod Running
 pub mod Sizes
 pub mod Whole
+mod Traced

@@ -1,7 +1,13 @@
 use Rattle.std.specs.Prelude.{slice_get}
-use Rattle.std.proofs.Common.{length, refl, ap, ◌∙◌}
+use Rattle.std.proofs.Common.{length, refl, sym, subst, ap, ◌∙◌}
+use Rattle.map_history.specs.Requests.{AreInOrder}
 use Rattle.flock_tool.proofs.Giving.{has_run_on, if_ok, on_err, on_err_then, unplanned_front}
+use Rattle.flock_tool.proofs.Traced.{in_any_order}
 use Rattle.flock_tool.proofs.run.run_on.Goals as goal
+
+pub run_table-requires-clause-ordered : goal.run_table-requires-clause-ordered
+run_table-requires-clause-ordered g c κs within =
+    subst (λ rs. AreInOrder rs 64) (sym c.as_slice-requests.ensures) (in_any_order c.args.plan.now.traces.requests c.args.plan.now.traces.count c.requires.ordered)
 
 pub returns-clause-ran : goal.returns-clause-ran
 returns-clause-ran g c =
