@@ -1,6 +1,6 @@
 -- What a thunk that fits a walk has for operands.
 use Rattle.std.proofs.Common.{◌≡◌, ℕ, ◌+◌, Bool, true, false, cond, refl, sym, ap, ◌∙◌, subst, arith}
-use Rattle.std.specs.Prelude.{◌==◌, ◌&&◌, List, [], ◌∷◌, slice_index}
+use Rattle.std.specs.Prelude.{◌==◌, List, [], ◌∷◌, slice_index}
 use Rattle.small_lemmas.proofs.Bools.{both_of as both_true}
 use Rattle.small_lemmas.proofs.Numbers.{tested_equal as equal_of}
 use Rattle.map_history.specs.declared.op.Op.{Op}

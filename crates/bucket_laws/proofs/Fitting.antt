@@ -60,7 +60,7 @@ module _ (buckets : ℕ) (bucket : ℕ → ℕ) where
     still : StoresNothing (table buckets bucket) thunk → (j reply : ℕ) → slice_get ((table buckets bucket).body thunk) j ≡ Some (Answer reply) → Leaves op reply
     still none j reply h = ⊎_elim
         (λ read. subst (Leaves op) (sym (read.1 ∙ ap (λ numbers. slice_index numbers 1) fit.operands))
-            (read_leaves op (walk_of buckets bucket layout op readings) (walk_of buckets bucket layout op readings).found (sym fit.form ∙ read_number thunk read.0)))
+        (read_leaves op (walk_of buckets bucket layout op readings) (walk_of buckets bucket layout op readings).found (sym fit.form ∙ read_number thunk read.0)))
         (⊎_elim (λ insert. absurd (none 7 1 (Made 2) (step_in thunk Insert 7 insert.0)))
         (λ remove. absurd (none 6 1 (Const (operand thunk 3)) (step_in thunk Remove 6 remove.0))))
         (answer_step thunk j reply h)

@@ -2,7 +2,6 @@
 use Rattle.std.specs.Prelude.{◌&&◌, ◌^◌, nat_le, Bool, true, false}
 use Rattle.std.proofs.Common.{◌≡◌, ℕ, ◌+◌, ◌<◌, ◌≤◌, refl, arith}
 use Rattle.std.proofs.lemmas.Bool.Decides.{nat_tests}
-use Rattle.small_lemmas.proofs.Bools.{from_false as no_mark}
 use Rattle.map_history.specs.declared.op.Op.{Op}
 use Rattle.map_history.specs.Replay.{Pairs}
 use Rattle.section_body.specs.Bucket.{bucket_index}

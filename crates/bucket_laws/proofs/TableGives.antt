@@ -2,10 +2,8 @@
 use Rattle.std.proofs.Common.{◌≡◌, ◌≢◌, ℕ, suc, ◌+◌, ◌*◌, ◌<◌, ◌≤◌, Bool, true, false, cond, refl, sym, ap, ◌∙◌, subst, inl, inr, ⊎_elim, arith}
 use Rattle.std.specs.Prelude.{◌==◌, ◌&&◌, ◌||◌, ◌⊎◌, ◌-◌, ◌/◌, ◌%◌, nat_lt, Some, [], ◌∷◌, slice_get}
 use Rattle.std.specs.List.{list_any}
-use Rattle.std.proofs.lemmas.Option.{none-some}
 use Rattle.small_lemmas.proofs.Bools.{both_of as both_true}
 use Rattle.small_lemmas.proofs.Numbers.{suc_equal as suc_eq, tested_equal as equal_of}
-use Rattle.map_history.specs.declared.op.Op.{Op}
 use Rattle.map_history.specs.Keys.{key_of, DependsOn}
 use Rattle.map_history.proofs.Cells.{format_1_one_keyed, key_is}
 use Rattle.body_terms.specs.Word.{value_of, next_word}

@@ -1,5 +1,5 @@
 -- Steps that are counted apart, and told in the end.
-use Rattle.std.proofs.Common.{◌≡◌, ℕ, zero, suc, ◌+◌, ◌-◌, ◌^◌, ◌≤◌, min, Bool, true, false, refl, sym, ap, ◌∙◌, arith}
+use Rattle.std.proofs.Common.{◌≡◌, ℕ, zero, suc, ◌+◌, ◌-◌, ◌^◌, ◌≤◌, min, Bool, refl, sym, ap, ◌∙◌, arith}
 use Rattle.body_terms.specs.Counted.{counted_on}
 use Rattle.body_terms.proofs.CountedLemmas.{counts}
 use Rattle.commit_log.specs.Asked.{IsAsked}

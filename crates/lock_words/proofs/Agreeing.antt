@@ -1,6 +1,6 @@
 -- What a section's log has agreed on for a Take was agreed before, or a run had loaded it.
 use Rattle.std.specs.Prelude.{◌==◌, ◌⊎◌, cond, Bool, true, false, if◌then◌else◌}
-use Rattle.std.proofs.Common.{◌≡◌, ◌≢◌, ℕ, zero, suc, List, length, refl, sym, ap, ◌∙◌, subst, ⊎_elim, inl, inr, arith, Option, Some, None}
+use Rattle.std.proofs.Common.{◌≡◌, ◌≢◌, ℕ, List, length, refl, sym, ap, ◌∙◌, subst, ⊎_elim, inl, inr, arith, Option, Some, None}
 use Rattle.std.proofs.lemmas.Bool.Decides.{nat_tests}
 use Rattle.small_lemmas.proofs.Numbers.{zero_or_some as by_zero}
 use Rattle.map_history.specs.declared.op.Request.{Request}

@@ -1,11 +1,11 @@
 -- A history is legal exactly where, for each key, the part on that key is.
-use Rattle.std.proofs.Common.{◌≡◌, ◌≢◌, ℕ, suc, cond, List, [], ◌∷◌, refl, sym, ap, ◌∙◌, subst, ◌==◌, ⊎_elim, arith}
+use Rattle.std.proofs.Common.{◌≡◌, ◌≢◌, ℕ, suc, List, [], ◌∷◌, refl, sym, ◌∙◌, subst, ⊎_elim, arith}
 use Rattle.std.specs.Prelude.{◌↔◌}
 use Rattle.std.proofs.lemmas.Bool.{cases_eq}
 use Rattle.std.specs.FinMap.{get}
 use Rattle.map_history.specs.declared.op.Op.{Op}
 use Rattle.map_history.specs.Keys.{key_of, IsOneKeyed, DependsOn}
-use Rattle.map_history.specs.Replay.{Pairs, reply_of, map_after}
+use Rattle.map_history.specs.Replay.{Pairs, map_after}
 use Rattle.map_history.specs.History.{Answered, AreOneKeyed, IsLegalFrom, on_key}
 use Rattle.map_history.proofs.Cells.{key_is, same_replies, elsewhere, alike_after}
 

@@ -7,7 +7,6 @@ use Rattle.std.specs.Cmp.{unsigned_tied}
 use Rattle.std.specs.FinMap.{get, insert, remove, get-insert, get-remove, same_map, nat_cmp-IsAntisymmetric}
 use Rattle.map_history.specs.declared.op.Op.{Op}
 use Rattle.map_history.specs.declared.op.Op.TheVariants.{Get, Ins, Del, Put, Mov}
-use Rattle.map_history.specs.declared.reply.Reply.{Reply}
 use Rattle.map_history.specs.declared.reply.Reply.TheVariants.{New, Dup, Gone, Absent}
 use Rattle.map_history.specs.AtKey.{Change, Keeps, Gets, Loses, is_change, reply_at, change_at, changes_at, left_by, left_at}
 use Rattle.map_history.specs.Keys.{key_of, other_key_of, value_given, DependsOn, IsOneKeyed, is_format_1}

@@ -1,12 +1,12 @@
 -- Where one section alone is open a step changes a cell by that section, or in the slot of a Make.
-use Rattle.std.specs.Prelude.{◌==◌, ◌^◌, ◌⊎◌, cond, nat_le, Bool, true, false, slice_index, slice_index_or, if◌then◌else◌}
-use Rattle.std.proofs.Common.{◌≡◌, ◌≢◌, ℕ, zero, suc, ◌+◌, ◌<◌, ◌≤◌, List, length, refl, sym, ap, ◌∙◌, subst, ⊎_elim, inl, inr, arith, Option, Some, None}
+use Rattle.std.specs.Prelude.{◌^◌, ◌⊎◌, nat_le, Bool, true, false, slice_index, slice_index_or, if◌then◌else◌}
+use Rattle.std.proofs.Common.{◌≡◌, ◌≢◌, ℕ, zero, suc, ◌<◌, ◌≤◌, List, length, refl, sym, ap, ◌∙◌, subst, ⊎_elim, inl, inr, arith, Option, Some, None}
 use Rattle.std.proofs.lemmas.Bool.{cases_eq}
 use Rattle.std.proofs.lemmas.Bool.Decides.{nat_tests}
 use Rattle.map_history.specs.declared.op.Request.{Request}
 use Rattle.body_terms.specs.Line.{micro_at, is_event, ending}
 use Rattle.body_terms.specs.Memory.{cell_of}
-use Rattle.body_terms.specs.Word.{value_of, version_of, next_word, held_word}
+use Rattle.body_terms.specs.Word.{value_of, version_of, held_word}
 use Rattle.body_terms.specs.declared.micro.Source.{Source}
 use Rattle.body_terms.specs.declared.micro.Micro.{Micro}
 use Rattle.body_terms.specs.declared.micro.Micro.TheVariants as micros
@@ -16,7 +16,6 @@ use Rattle.table_words.specs.declared.layout.Layout.{Layout}
 use Rattle.table_words.specs.declared.spot.Spot.{Spot}
 use Rattle.table_words.specs.declared.spot.Spot.TheVariants as spots
 use Rattle.table_words.specs.declared.access.Access.{Access}
-use Rattle.table_words.specs.declared.access.Access.TheVariants.{Exchanges}
 use Rattle.table_words.specs.Access.{written, exchanged}
 use Rattle.table_words.specs.Seen.{put}
 use Rattle.structure_laws.specs.Meaning.{Meaning}
@@ -33,7 +32,6 @@ use Rattle.agreement_core.specs.Sound.{UsedIsSound}
 use Rattle.agreement_core.proofs.Lines.{event_goes, store_logged}
 use Rattle.epoch_core.specs.declared.location.Location.TheVariants.{Hand}
 use Rattle.machine_states.specs.Sight.{Sight}
-use Rattle.machine_states.proofs.Updates.{upd_here, upd_else}
 use Rattle.machine_epochs.specs.Entries.{counts_of}
 use Rattle.machine_epochs.proofs.OutsideAsked.{HoldAsked, hold_asked}
 use Rattle.machine_epochs.proofs.RunPlaces.{next_in_line, open_run}

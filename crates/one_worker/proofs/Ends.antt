@@ -1,7 +1,6 @@
 -- How a run of the section that is under way ends.
 use Rattle.std.specs.Prelude.{◌==◌, ◌&&◌, not, cond, Bool, true, false, slice_index}
 use Rattle.std.proofs.Common.{◌≡◌, ◌≢◌, ℕ, ◌<◌, ◌≤◌, List, length, refl, sym, ap, ◌∙◌, subst, arith, Option, Some, None}
-use Rattle.std.proofs.lemmas.Bool.Decides.{nat_tests}
 use Rattle.small_lemmas.proofs.Numbers.{equal_tested as same_test}
 use Rattle.map_history.specs.declared.op.Request.{Request}
 use Rattle.body_terms.specs.Line.{line, micro_at}

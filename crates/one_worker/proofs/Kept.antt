@@ -1,7 +1,6 @@
 -- What the worker has read stands over each step, as long as it has published nothing in its entry.
 use Rattle.std.specs.Prelude.{◌==◌, ◌⊎◌, Bool, true, false, slice_get, if◌then◌else◌}
-use Rattle.std.proofs.Common.{◌≡◌, ℕ, ◌<◌, ◌≤◌, List, [], refl, sym, ap, ◌∙◌, subst, ⊎_elim, inl, inr, arith, Option, Some, None}
-use Rattle.std.proofs.lemmas.Bool.Decides.{nat_tests}
+use Rattle.std.proofs.Common.{◌≡◌, ℕ, ◌<◌, ◌≤◌, List, [], refl, sym, ap, ◌∙◌, subst, ⊎_elim, inl, inr, Option, Some, None}
 use Rattle.std.proofs.lemmas.Bool.{both_ways}
 use Rattle.small_lemmas.proofs.Numbers.{equal_tested as same_test}
 use Rattle.map_history.specs.declared.op.Request.{Request}

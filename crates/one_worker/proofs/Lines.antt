@@ -1,6 +1,5 @@
 -- Where the steps of a line stand to one another.
 use Rattle.std.proofs.Common.{◌≡◌, ℕ, suc, List, refl, arith}
-use Rattle.std.proofs.lemmas.Bool.Decides.{nat_tests}
 use Rattle.body_terms.specs.declared.micro.Micro.TheVariants.{CheckFree, NestedHold}
 use Rattle.body_terms.specs.declared.step.Step.{Step}
 use Rattle.body_terms.specs.Line.{line, micro_at}

@@ -1,6 +1,6 @@
 -- A section that the worker has just published, as the first in its entry.
 use Rattle.std.specs.Prelude.{true, false, slice_get}
-use Rattle.std.proofs.Common.{◌≡◌, ◌≢◌, ℕ, List, refl, sym, ap, ◌∙◌, subst, inl, arith, Some}
+use Rattle.std.proofs.Common.{◌≡◌, ◌≢◌, ℕ, List, refl, sym, ap, ◌∙◌, subst, inl, Some}
 use Rattle.map_history.specs.declared.op.Request.{Request}
 use Rattle.body_terms.specs.Line.{line, micro_at}
 use Rattle.body_terms.specs.declared.step.Step.TheVariants.{Load, Want}

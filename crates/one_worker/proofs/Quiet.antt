@@ -15,9 +15,6 @@ use Rattle.table_words.specs.declared.layout.Layout.{Layout}
 use Rattle.table_words.specs.declared.spot.Spot.{Spot}
 use Rattle.table_words.specs.declared.spot.Spot.TheVariants as spots
 use Rattle.table_words.specs.declared.access.Access.{Access}
-use Rattle.table_words.specs.declared.access.Access.TheVariants.{Exchanges}
-use Rattle.table_words.specs.Access.{written, exchanged}
-use Rattle.table_words.specs.Seen.{put}
 use Rattle.structure_laws.specs.Meaning.{Meaning}
 use Rattle.runner_parts.specs.declared.event.EventKind.{EventKind}
 use Rattle.runner_parts.specs.declared.event.EventKind.TheVariants as kinds
@@ -32,7 +29,6 @@ use Rattle.agreement_core.specs.Sound.{UsedIsSound}
 use Rattle.agreement_core.proofs.Lines.{event_goes, store_logged}
 use Rattle.epoch_core.specs.declared.location.Location.TheVariants.{Hand}
 use Rattle.machine_states.specs.Sight.{Sight}
-use Rattle.machine_states.proofs.Updates.{upd_here, upd_else}
 use Rattle.machine_epochs.specs.Entries.{counts_of}
 use Rattle.machine_epochs.proofs.OutsideAsked.{HoldAsked, hold_asked}
 use Rattle.machine_epochs.proofs.RunPlaces.{next_in_line, open_run}

@@ -2,7 +2,6 @@
 use Rattle.std.specs.Prelude.{◌^◌, ◌⊎◌, Bool, true, false}
 use Rattle.std.proofs.Common.{◌≡◌, ◌≢◌, ℕ, zero, suc, ◌+◌, ◌*◌, ◌<◌, ◌≤◌, List, refl, sym, ap, ◌∙◌, subst, ⊎_elim, inl, inr, arith}
 use Rattle.std.proofs.lemmas.Bool.{cases_lt}
-use Rattle.std.proofs.lemmas.Bool.Decides.{nat_tests}
 use Rattle.map_history.specs.declared.op.Request.{Request}
 use Rattle.body_terms.specs.Line.{line, micro_at, is_event, is_commit}
 use Rattle.body_terms.specs.Memory.{cell_of}
@@ -16,7 +15,6 @@ use Rattle.table_words.specs.declared.spot.Spot.TheVariants as spots
 use Rattle.structure_laws.specs.Meaning.{Meaning}
 use Rattle.structure_laws.specs.Scene.{Scene, Status, Free, Live, Retired}
 use Rattle.structure_laws.specs.Cells.{IsSafe, IsOutside}
-use Rattle.runner_parts.specs.Tests.{has}
 use Rattle.agreement_core.specs.State.{AgreementState, Section}
 use Rattle.agreement_core.specs.Checks.{is_stop}
 use Rattle.agreement_core.specs.Sound.{UsedIsSound}

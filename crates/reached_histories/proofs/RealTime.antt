@@ -8,7 +8,6 @@ use Rattle.structure_laws.specs.Meaning.{Meaning}
 use Rattle.structure_laws.specs.Laws.{Laws}
 use Rattle.runner_parts.specs.declared.event.Event.{Event}
 use Rattle.machine_history.specs.history_core.specs.State.{Requests, HistoryState}
-use Rattle.machine_history.specs.history_core.specs.RealTime as history
 use Rattle.machine_history.specs.history_core.proofs.RealTime.{Passes, passes_nowhere, passes_more, passes_in_order}
 use Rattle.machine_states.specs.World.{World, happens, then_run, run}
 use Rattle.machine_states.specs.Reached.{Reached}

@@ -1,5 +1,5 @@
 -- Where no lock is held, few slots are in use, in every reached state.
-use Rattle.std.specs.Prelude.{◌==◌, ◌*◌, ◌&&◌, nat_lt, cond, true}
+use Rattle.std.specs.Prelude.{◌==◌, ◌*◌, ◌&&◌, cond}
 use Rattle.std.specs.FinMap.{len}
 use Rattle.std.proofs.Common.{◌≡◌, ℕ, suc, ◌+◌, ◌<◌, ◌≤◌, List, [], ◌++◌, length-append, refl, ap, ◌∙◌, ⊎_elim, arith}
 use Rattle.std.proofs.lemmas.Bool.{cases_lt}

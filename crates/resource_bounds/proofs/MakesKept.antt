@@ -1,8 +1,7 @@
 -- What Makes used up is kept along the machine's steps.
-use Rattle.std.specs.Prelude.{◌==◌, ◌⊎◌, cond, count_by, true, false, if◌then◌else◌}
+use Rattle.std.specs.Prelude.{◌⊎◌, count_by, true, false, if◌then◌else◌}
 use Rattle.std.proofs.Common.{◌≡◌, ◌≢◌, ℕ, zero, suc, ◌+◌, ◌<◌, ◌≤◌, List, length, refl, sym, ap, ◌∙◌, subst, ⊎_elim, inl, inr, arith, Option, Some, None}
 use Rattle.std.proofs.lemmas.Bool.{cases_eq, and_parts}
-use Rattle.std.proofs.lemmas.Bool.Decides.{nat_tests}
 use Rattle.small_lemmas.proofs.Numbers.{chosen_here as one_here}
 use Rattle.map_history.specs.declared.op.Request.{Request}
 use Rattle.map_history.specs.Words.{adds_by}

@@ -1,6 +1,6 @@
 -- The map's reply and the map afterwards, by what the key of an operation with one key had.
 use Rattle.std.proofs.Common.{◌≡◌, ◌≢◌, ℕ, ◌<◌, refl, sym, ap, ◌∙◌, subst}
-use Rattle.std.specs.Prelude.{◌^◌, Option, Some, None}
+use Rattle.std.specs.Prelude.{◌^◌, Option, Some}
 use Rattle.std.specs.FinMap.{get}
 use mathlib.Core.Logic.{dite}
 use native.Mathlib.Decide.{ℕ_discrete}

@@ -10,7 +10,7 @@ use Rattle.map_history.specs.Keys.{key_of, DependsOn, is_format_1}
 use Rattle.map_history.specs.Requests.{AreOfFormat1}
 use Rattle.map_history.proofs.Cells.{format_1_one_keyed, key_is}
 use Rattle.trace_reader.specs.Fields.{value_of, fields_of}
-use Rattle.trace_reader.specs.Line.{field, asked_by, asked_by_words, asked}
+use Rattle.trace_reader.specs.Line.{field, asked_by_words, asked}
 use Rattle.trace_reader.specs.Text.{request_by, requests_behind, requests_in}
 use Rattle.trace_reader.proofs.Ordered.{All-one}
 

@@ -3,7 +3,6 @@ use Rattle.std.specs.Prelude.{◌==◌, ◌&&◌, ◌||◌, not, ◌⊎◌, ◌-
 use Rattle.std.proofs.Common.{◌≡◌, ◌≢◌, ℕ, suc, ◌+◌, ◌*◌, ◌<◌, ◌≤◌, refl, sym, ap, ◌∙◌, subst, inl, inr, ⊎_elim, arith}
 use Rattle.std.proofs.lemmas.Bool.{cases_eq, both_ways}
 use Rattle.small_lemmas.proofs.Numbers.{suc_equal as suc_eq}
-use Rattle.map_history.specs.declared.op.Op.{Op}
 use Rattle.map_history.specs.Keys.{key_of, DependsOn, HaveNoCommonKey}
 use Rattle.map_history.proofs.Cells.{format_1_one_keyed, key_is}
 use Rattle.body_terms.specs.Word.{value_of, next_word}

@@ -1,5 +1,5 @@
 -- A section on the tree passes a step that changes no cell, while slots change where they are.
-use Rattle.std.specs.Prelude.{◌⊎◌, ◌+◌, ◌*◌, ◌||◌, ◌&&◌, ◌-◌, ◌%◌, nat_lt, Bool, true, false, Some}
+use Rattle.std.specs.Prelude.{◌⊎◌, ◌+◌, ◌*◌, ◌&&◌, ◌-◌, ◌%◌, nat_lt, Bool, true, false, Some}
 use Rattle.std.proofs.Common.{◌≡◌, ◌≢◌, ℕ, suc, ◌<◌, ◌≤◌, refl, sym, ap, ◌∙◌, subst, inl, inr, ⊎_elim, arith}
 use Rattle.small_lemmas.proofs.Bools.{or_first as or_left, or_second as or_right}
 use Rattle.body_terms.specs.Update.{upd}

@@ -1,5 +1,5 @@
 -- What holds of an open section on the tree: its numbers, and the nodes that its walk has found.
-use Rattle.std.specs.Prelude.{◌==◌, ◌||◌, not, ◌^◌, nat_lt, cond, Bool, true, false, Some, List, slice_get, slice_index}
+use Rattle.std.specs.Prelude.{◌||◌, not, ◌^◌, nat_lt, cond, Bool, true, false, Some, List, slice_get, slice_index}
 use Rattle.std.proofs.Common.{◌≡◌, ◌≢◌, ℕ, suc, ◌+◌, ◌*◌, ◌<◌, ◌≤◌, refl, sym, ap, ◌∙◌, subst, inl, ⊎_elim, arith}
 use Rattle.small_lemmas.proofs.Numbers.{other_tested as eq_false, equal_tested as eq_true}
 use Rattle.map_history.specs.declared.op.Op.TheVariants.{Ins, Del}

@@ -1,6 +1,6 @@
 -- A Store of a section of the tree keeps what the tree keeps, where the changed nodes have what this needs.
 use Rattle.std.specs.Prelude.{◌⊎◌, Bool, true, false, cond, Some}
-use Rattle.std.proofs.Common.{◌≡◌, ◌≢◌, ℕ, suc, ◌<◌, ◌≤◌, refl, sym, ap, ◌∙◌, subst, inl, inr, ⊎_elim, arith}
+use Rattle.std.proofs.Common.{◌≡◌, ◌≢◌, ℕ, suc, ◌<◌, ◌≤◌, refl, sym, ap, ◌∙◌, subst, inl, inr, ⊎_elim}
 use Rattle.std.proofs.lemmas.Bool.{cases_eq, both_ways}
 use Rattle.small_lemmas.proofs.Numbers.{suc_equal as suc_eq}
 use Rattle.map_history.specs.Keys.{key_of}

@@ -36,7 +36,7 @@ use Rattle.version_words.specs.Naming.{open_of}
 use Rattle.runner_block.specs.Kept.{KeptState}
 use Rattle.version_words.specs.RunnerState.{RunnerState, told_part}
 use Rattle.runner_block.specs.Places.{begun_place, opened_place}
-use Rattle.version_words.specs.Place.{IsPlaced, HasPlace, HasEpoch, opened_of}
+use Rattle.version_words.specs.Place.{IsPlaced, HasEpoch, opened_of}
 use Rattle.version_words.specs.Kept.{IsKept}
 use Rattle.version_words.specs.Events.{met_by, Makes, seen_seat}
 use Rattle.version_words.proofs.Asked.{unless_gone, tested}

@@ -1,5 +1,5 @@
 -- What a runner's code keeps of a run in progress.
-use Rattle.std.specs.Prelude.{◌≡◌, ℕ, Bool, true, false, ◌<◌, ◌≤◌, ◌%◌, ◌^◌, length, slice_index, Option, Some, None}
+use Rattle.std.specs.Prelude.{◌≡◌, ℕ, Bool, true, false, ◌<◌, ◌%◌, ◌^◌, length, slice_index, Option, Some, None}
 use Rattle.std.specs.Option.{is_some}
 use Rattle.body_terms.specs.declared.micro.Micro.{Micro}
 use Rattle.body_terms.specs.declared.micro.Micro.TheVariants as micros

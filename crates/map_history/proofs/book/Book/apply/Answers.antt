@@ -1,8 +1,7 @@
 use Rattle.std.proofs.Common.{◌+◌, ◌≤◌, sym, subst, Result, Ok, Err, OnOk}
 use Rattle.std.specs.FinMap as map
-use Rattle.map_history.specs.declared.op.Op.{Op}
 use Rattle.map_history.specs.declared.op.Op.TheVariants.{Ins, Del, Put, Mov}
-use Rattle.map_history.specs.Replay.{Pairs, map_after}
+use Rattle.map_history.specs.Replay.{Pairs}
 use Rattle.map_history.proofs.Sizes.{len-map_after}
 use Rattle.map_history.proofs.book.Book.apply.Goals as goal
 

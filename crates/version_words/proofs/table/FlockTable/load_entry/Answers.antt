@@ -1,4 +1,4 @@
-use Rattle.std.proofs.Common.{◌≡◌, refl, sym, subst, ap, ◌∙◌}
+use Rattle.std.proofs.Common.{◌≡◌, refl, sym, subst, ◌∙◌}
 use Rattle.runner_parts.specs.declared.event.EventKind.TheVariants.{LoadEntry}
 use Rattle.version_words.specs.TableState.{IsOf}
 use Rattle.version_words.specs.Events.{Makes, seen_seat}

@@ -22,6 +22,6 @@ invariant_of-result g c =
 pub returns-clause-own : goal.returns-clause-own
 returns-clause-own g c =
     let allowed : AreAllowed c.in_ok-requests.requests.items =
-        subst AreAllowed (sym c.in_ok-requests.ensures.items) (allowed_in c.args.requests.now c.requires.ordered c.values_fit.ensures) in
+    subst AreAllowed (sym c.in_ok-requests.ensures.items) (allowed_in c.args.requests.now c.requires.ordered c.values_fit.ensures) in
     let all_allowed : (rs : List Request) → rs ≡ c.in_ok-requests.requests.items → AreAllowed rs = λ rs same. subst AreAllowed (sym same) allowed in
     search (rules, all_allowed)
