@@ -1,5 +1,5 @@
 -- A run goes on from one step of its body to the next one.
-use Rattle.std.proofs.Common.{◌≡◌, ℕ, suc, ◌+◌, ◌<◌, ◌≤◌, List, [], ◌∷◌, ◌++◌, length, length-append, true, false, refl, sym, ap, ◌∙◌, subst, arith, None}
+use Rattle.std.proofs.Common.{◌≡◌, ℕ, suc, ◌+◌, ◌<◌, ◌≤◌, List, [], ◌++◌, length, length-append, true, false, refl, sym, ap, ◌∙◌, subst, arith, None}
 use Rattle.small_lemmas.proofs.Lists.{append_none}
 use Rattle.body_terms.specs.declared.micro.Micro.{Micro}
 use Rattle.body_terms.specs.declared.step.Step.{Step}

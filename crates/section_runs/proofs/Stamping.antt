@@ -1,7 +1,5 @@
 -- The Stamp and the Answer of a body.
-use Rattle.std.proofs.Common.{◌≡◌, ℕ, ◌+◌, ◌*◌, ◌/◌, ◌<◌, ◌^◌, [], true, refl, sym, ap, ◌∙◌, arith, Option, Some}
-use Rattle.std.specs.Prelude.{nat_lt}
-use Rattle.std.proofs.lemmas.Bool.Decides.{nat_tests}
+use Rattle.std.proofs.Common.{◌≡◌, ℕ, ◌+◌, ◌*◌, ◌/◌, ◌<◌, ◌^◌, [], refl, sym, ap, ◌∙◌, arith, Option, Some}
 use Rattle.small_lemmas.proofs.Numbers.{tested_less as low}
 use Rattle.body_terms.specs.declared.micro.Micro.TheVariants as micros
 use Rattle.body_terms.specs.declared.step.Step.TheVariants.{Stamp, Answer}

@@ -1,5 +1,5 @@
 -- What a run that answered has told its runner: both words of its section's request.
-use Rattle.std.specs.Prelude.{◌&&◌, ◌||◌, ◌==◌, ◌⊎◌, cond, is_none, not, slice_index, Bool, true, false}
+use Rattle.std.specs.Prelude.{◌&&◌, ◌==◌, ◌⊎◌, cond, is_none, not, slice_index, Bool, true, false}
 use Rattle.std.proofs.Common.{◌≡◌, ◌≢◌, ℕ, ◌+◌, ◌-◌, ◌<◌, ◌≤◌, List, ◌++◌, length, refl, sym, ap, ◌∙◌, subst, ⊎_elim, arith, Option, Some, None}
 use Rattle.std.proofs.lemmas.Bool.{and_parts}
 use Rattle.std.proofs.lemmas.List.Folds.{list_any-append}
