@@ -106,7 +106,6 @@ fn serve_on<R: Threads + Wait + Sync, S: Planner>(
 }
 
 /// The same on a table of the structure that the round names.
-#[tactic(auto, using(crate::proofs::Asked::requests_format))]
 pub fn serve_round<R: Threads + Wait + Sync>(
     rt: &R,
     alloc: Global,
