@@ -78,8 +78,11 @@ module _ (m : Meaning) (planning : Planning) (l : Layout) (op : Op) (place expec
       let h = marked_at is.before is.place is.word is.cause in
       record {
         mark = ap planning.is_mark (sym h.1) ∙ h.0;
-        seen = (length is.before, ap (λ xs. slice_get xs (length is.before)) is.last
-            ∙ (get_last is.before (is.place, is.word) ∙ (λ i. Some (h.1 i, h.2 i))));
+        seen = (
+          length is.before,
+          ap (λ xs. slice_get xs (length is.before)) is.last
+              ∙ (get_last is.before (is.place, is.word) ∙ (λ i. Some (h.1 i, h.2 i))),
+        );
         marked = ap value_of (sym h.2) ∙ h.3;
         unmarked = sym h.4 ∙ ap (λ n. pack 0 (version_of n - 1)) h.2;
       }

@@ -50,7 +50,9 @@ pub fn run_plan<T: Threads + Wait + Sync, G: Gates>(
 {
     match plan.options.table {
         TableKind::Hash => {
-            let bits = plan.options.bits_for(insertions(plan.traces.requests.as_slice()));
+            let bits = plan
+                .options
+                .bits_for(insertions(plan.traces.requests.as_slice()));
             let table = HashTable::new(bits);
             let (words, answers) = run_on(rt, alloc, table, plan, gates)?;
             Ok(Ran::Hash(words, answers))
