@@ -10,7 +10,7 @@ one_head byte bytes one = one 0 0 (omega arith)
 one_tail : (byte : ℕ) (bytes : List ℕ) → IsOneLine (byte ∷ bytes) → IsOneLine bytes
 one_tail byte bytes one k d early = one (suc k) d (omega (arith, early))
 
-same_heads : (a b : ℕ) (xs ys : List ℕ) → ◌≡◌ {A = List ℕ} (a ∷ xs) (b ∷ ys) → (a ≡ b) × (xs ≡ ys)
+pub same_heads : (a b : ℕ) (xs ys : List ℕ) → ◌≡◌ {A = List ℕ} (a ∷ xs) (b ∷ ys) → (a ≡ b) × (xs ≡ ys)
 same_heads a b xs ys e = (cc, cc)
 
 no_feed_here : {A : Type 0} (byte : ℕ) (bytes : List ℕ) → IsOneLine (byte ∷ bytes) → byte ≡ 10 → A

@@ -69,7 +69,7 @@ lines_left begun (row ∷ rows) traces size (low, within, on) =
 pub report_lines_are : (rows : List Row) (traces size : ℕ) → Continues 0 rows traces → report_lines traces rows size ≡ lines_behind 0 rows traces size
 report_lines_are rows traces size on = sym (lines-start rows traces size) ∙ lines_left 0 rows traces size on
 
-abbrev request_of : Row → Request
+abbrev pub request_of : Row → Request
 request_of row = row.request
 
 continue_from : (begun : ℕ) (rows : List Row) (traces : ℕ) → begun ≤ traces → All (λ (r : Request). begun ≤ r.trace + 1) (map request_of rows)

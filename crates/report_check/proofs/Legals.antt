@@ -39,7 +39,7 @@ IsSmallLine (final_line size) = size < 2 ^ 32
 answer_text : (rank reply : List ℕ) → (rank ++ 32 ∷ reply) ++ 10 ∷ [] ≡ rank ++ codes " " ++ reply ++ codes "\n"
 answer_text rank reply = ap (λ l. l ++ 10 ∷ []) (sym (append_assoc rank (32 ∷ []) reply))
 
-text_is : (line : Line) (text : List ℕ) → IsSmallLine line → Says line text → text ++ 10 ∷ [] ≡ line_text line
+pub text_is : (line : Line) (text : List ℕ) → IsSmallLine line → Says line text → text ++ 10 ∷ [] ≡ line_text line
 text_is (trace_line trace) text small says = ap (λ l. l ++ 10 ∷ []) says ∙ append_assoc (codes "trace ") (decimal trace) (10 ∷ [])
 text_is (answer_line None) text small says = ap (λ l. l ++ 10 ∷ []) says
 text_is (answer_line (Some answer)) text small says =
@@ -54,7 +54,7 @@ texts_are [] bytes small all = all
 texts_are (line ∷ lines) bytes small (text, more, says, cut, rest) =
     cut ∙ sym (append_assoc text (10 ∷ []) more) ∙ (λ i. text_is line text small.0 says i ++ texts_are lines more small.1 rest i)
 
-all_append : (P : Line → Type 0) (xs ys : List Line) → AllByRecursion P xs → AllByRecursion P ys → AllByRecursion P (xs ++ ys)
+pub all_append : (P : Line → Type 0) (xs ys : List Line) → AllByRecursion P xs → AllByRecursion P ys → AllByRecursion P (xs ++ ys)
 all_append P [] ys one other = other
 all_append P (x ∷ xs) ys one other = (one.0, all_append P xs ys one.1 other)
 
@@ -84,7 +84,7 @@ replies_small begun (row ∷ rows) traces size bytes all =
     (has_reply row.answer text says, replies_small (row.request.trace + 1) rows traces size more on)
 
 -- a fact of each element, by its place
-all_at : {X : Type 0} (P : X → Type 0) (xs : List X) → ((i : ℕ) (x : X) → slice_get xs i ≡ Some x → P x) → AllByRecursion P xs
+pub all_at : {X : Type 0} (P : X → Type 0) (xs : List X) → ((i : ℕ) (x : X) → slice_get xs i ≡ Some x → P x) → AllByRecursion P xs
 all_at P [] each = tt
 all_at P (x ∷ xs) each = (each 0 x refl, all_at P xs (λ i y at. each (suc i) y at))
 

@@ -1,8 +1,11 @@
 pub mod Cuts
+pub mod Exact
 pub mod Forms
 pub mod Legals
 pub mod Numerals
+pub mod Once
 pub mod Orders
+pub mod Printed
 pub mod Replays
 pub mod Rows
 pub mod Sayings

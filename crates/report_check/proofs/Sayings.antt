@@ -40,7 +40,7 @@ is_other byte = not (byte == 10)
 abbrev AreOther : List ℕ → Type 0
 AreOther bytes = list_all is_other bytes ≡ true
 
-others_one : (bytes : List ℕ) → AreOther bytes → IsOneLine bytes
+pub others_one : (bytes : List ℕ) → AreOther bytes → IsOneLine bytes
 others_one bytes are = λ k d within. negated (get_or bytes k d == 10) (AllPass-from_list_all is_other bytes are k d within)
 
 others_append : (front back : List ℕ) → AreOther front → AreOther back → AreOther (front ++ back)
@@ -66,16 +66,16 @@ reply_other (Was value) is = numeral_other (decimal value) value (numeral_decima
 reply_other Moved is = refl
 
 -- what can stand in a place is one line
-answer_other : (any : Option Answer) (text : List ℕ) → Says (answer_line any) text → AreOther text
+pub answer_other : (any : Option Answer) (text : List ℕ) → Says (answer_line any) text → AreOther text
 answer_other None text says = subst AreOther (sym says) refl
 answer_other (Some answer) text says =
     subst AreOther (sym says.is)
     (others_append says.digits (32 ∷ reply_text answer.reply) (numeral_other says.digits answer.rank says.rank) (reply_other answer.reply says.reply))
 
-size_other : (size : ℕ) (text : List ℕ) → SaysSize size text → AreOther text
+pub size_other : (size : ℕ) (text : List ℕ) → SaysSize size text → AreOther text
 size_other size text says = subst AreOther (sym says.is) (numeral_other says.digits size says.numeral)
 
-trace_other : (trace : ℕ) (text : List ℕ) → trace < 2 ^ 32 → Says (trace_line trace) text → AreOther text
+pub trace_other : (trace : ℕ) (text : List ℕ) → trace < 2 ^ 32 → Says (trace_line trace) text → AreOther text
 trace_other trace text small says = subst AreOther (sym says) (numeral_other (decimal trace) trace (numeral_decimal trace small))
 
 -- no line is cut off, or one is that can't stand in this place

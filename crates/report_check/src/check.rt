@@ -2,7 +2,7 @@
 ghost use Rattle.std.specs.Prelude.{◌≡◌, ◌<◌, ◌≤◌, ◌^◌, ◌-◌, All, IfOk, length, min};
 ghost use Rattle.std.specs.List.Sorted.{IsNonDecreasingBy};
 ghost use Rattle.report_check.specs.Said.{IsFormOf};
-ghost use Rattle.report_check.specs.Verdicts.{Judges};
+ghost use Rattle.report_check.specs.Verdicts.{IsLegalReport, Judges};
 
 use crate::form::{Form, read_form};
 use crate::ranks::{order_of_ranks, wrong_rank};
@@ -19,6 +19,10 @@ pub fn check_report(alloc: Global, traces: &Traces, report: &[u8]) -> Result<Ver
     requires rising { IsNonDecreasingBy (λ request. request.trace) traces.now.requests }
     requires below { All (λ request. request.trace < traces.now.count) traces.now.requests }
     ensures judged { IfOk result (λ verdict. Judges verdict traces.now.count traces.now.requests report.now) }
+
+    // Each legal report is judged legal.
+    ensures legal { IfOk result (λ verdict. IsLegalReport traces.now.count traces.now.requests report.now
+        → verdict ≡ Verdict.Legal) }
 {
     check_lines(alloc, traces.count, traces.requests.as_slice(), report)
 }
@@ -33,6 +37,8 @@ fn check_lines(
     requires rising { IsNonDecreasingBy (λ request. request.trace) requests.now }
     requires below { All (λ request. request.trace < traces) requests.now }
     ensures judged { IfOk result (λ verdict. Judges verdict traces requests.now report.now) }
+    ensures legal { IfOk result (λ verdict. IsLegalReport traces requests.now report.now
+        → verdict ≡ Verdict.Legal) }
 {
     match read_form(alloc, traces, requests, report)? {
         Ok(form) => check_form(alloc, traces, requests, report, &form),
