@@ -51,14 +51,14 @@ pub fn plan_and_try<S: Planner, G: Gate, L>(
 
 /// Attempts a request once.
 ///
-/// The runner collects where it has to, makes sure of two node slots and one descriptor, enters, plans the request's section, publishes
-/// it in its lock, runs it, retires it and leaves. The request is one of the table's, of a trace that this runner
-/// serves; the runner knows the answers of the trace's earlier requests and not yet this one's; it is idle, with an
-/// empty hand.
+/// The runner collects where it has to, makes sure of two node slots and one descriptor, enters, plans the request's
+/// section, publishes it in its lock, runs it, retires it and leaves. The request is one of the table's, of a trace that
+/// this runner serves; the runner knows the answers of the trace's earlier requests and not yet this one's; it is idle,
+/// with an empty hand.
 ///
-/// - `Done`: the own section answered. The request stands once in the one history, with this stamp, which is above those
-///   of all requests that were answered as the attempt began, by whomever, and with this reply; its stamp word and its
-///   reply word hold them.
+/// - `Done`: the own section answered. The request stands once in the one history, with this stamp, which is above
+///   those of all requests that were answered as the attempt began, by whomever, and with this reply; its stamp word
+///   and its reply word hold them.
 /// - `Busy`: a lock was held, as the plan read it, as the publication met it, or as the own section found it by its
 ///   outcome. The section that the word names is done at return; the runner ran it to its end.
 /// - `Stale`: a word was read, and then another one at the same place; or a node that was reached has been taken out.

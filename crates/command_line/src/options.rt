@@ -52,8 +52,8 @@ impl RunOptions {
         }
     }
 
-    /// How many buckets the hash table has for so many insertions, by the exponent: as many as are given, else the least
-    /// power of two that is at least 64 and at least an eighth of the insertions, but no more than 4,096.
+    /// How many buckets the hash table has for so many insertions, by the exponent: as many as are given, else the
+    /// least power of two that is at least 64 and at least an eighth of the insertions, but no more than 4,096.
     pub fn bits_for(&self, inserts: u32) -> u32
         ensures { result ≡ bits_by self.now.bucket_bits inserts }
     {

@@ -14,8 +14,8 @@ use Rattle.flock_tool.specs.Streams.{Fails, Gating, Halts, Stream}
 use Rattle.flock_tool.specs.declared.ran.Ran.{Ran}
 
 -- there is one runner. It has two node slots for each pair of the largest map that the requests leave on their way, and
--- sixteen more, and no more than the limit; one descriptor at least; and its words have eight versions for each request,
--- and eight more
+-- sixteen more, and no more than the limit; one descriptor at least; and its words have eight versions for each
+-- request, and eight more
 pub record HasLoneRoom (options : RunOptions) (traces : Traces) : Type 0 where
   pub one : (layout_by options traces.count traces.requests).runners ≡ 1
   pub few : all_nodes (layout_by options traces.count traces.requests) ≤ 262144
