@@ -1,9 +1,13 @@
 -- Each event keeps the invariant: replies, done words, and what is known.
-use Rattle.std.proofs.Common.{◌≡◌, ◌≢◌, ℕ, ◌≤◌, true, arith}
+use Rattle.std.proofs.Common.{◌≡◌, ◌≢◌, ℕ, ◌≤◌, true, sym, ◌∙◌, subst, arith}
 use Rattle.std.specs.Prelude.{◌⊎◌}
+use mathlib.Core.Logic.{dite}
+use native.Mathlib.Decide.{ℕ_discrete}
+use Rattle.body_terms.specs.Run.{written_once}
 use Rattle.history_core.specs.State.{Requests, HistoryState}
 use Rattle.history_core.specs.Events.{WriteReply, SetDone, Learn, after}
 use Rattle.history_core.specs.Sound.{SectionsAreSound, StampsAreSound, ClockIsSound, OrderIsSound}
+use Rattle.history_core.proofs.Changes.{upd_other}
 
 module _ (c : Requests) (w : HistoryState) where
   pub write_sections : (d : ℕ) → w.used d ≡ true → 3 ≤ w.stage d → SectionsAreSound c w → StampsAreSound c w → ClockIsSound c w → OrderIsSound c w → SectionsAreSound c (after c w (WriteReply d))
@@ -22,7 +26,9 @@ module _ (c : Requests) (w : HistoryState) where
     stamped = grind arith;
     by_section = grind arith;
     told = grind arith;
-    replied = grind arith;
+    replied = λ n some not. dite (ℕ_discrete n (w.request d))
+        (λ own. subst (λ k. w.stamp k ≢ 0) (sym own) (stamps.stamped d used (omega arith)).0)
+        (λ other. stamps.replied n (λ none. some (upd_other w.reply (w.request d) n (written_once (w.reply (w.request d)) (w.answer d)) other ∙ none)) not);
     answered = grind arith;
     closed = grind arith;
     known = grind arith;
@@ -44,8 +50,8 @@ module _ (c : Requests) (w : HistoryState) where
   write_order d used far sections stamps clock order = record {
     prior = grind arith;
     knew = grind arith;
-    saw = grind arith;
-    traces = grind arith;
+    saw = order.saw;
+    traces = order.traces;
   }
 
   pub set_done_sections : (d : ℕ) → w.used d ≡ true → (w.stage d ≡ 0) ⊎ (w.stage d ≡ 4) → SectionsAreSound c w → StampsAreSound c w → ClockIsSound c w → OrderIsSound c w → SectionsAreSound c (after c w (SetDone d))
@@ -64,7 +70,7 @@ module _ (c : Requests) (w : HistoryState) where
     stamped = grind arith;
     by_section = grind arith;
     told = grind arith;
-    replied = grind arith;
+    replied = stamps.replied;
     answered = grind arith;
     closed = grind arith;
     known = grind arith;
@@ -86,8 +92,8 @@ module _ (c : Requests) (w : HistoryState) where
   set_done_order d used at sections stamps clock order = record {
     prior = grind arith;
     knew = grind arith;
-    saw = grind arith;
-    traces = grind arith;
+    saw = order.saw;
+    traces = order.traces;
   }
 
   pub learn_sections : (r n : ℕ) → w.stamp n ≢ 0 → w.reply n ≢ 0 → SectionsAreSound c w → StampsAreSound c w → ClockIsSound c w → OrderIsSound c w → SectionsAreSound c (after c w (Learn r n))
@@ -106,7 +112,7 @@ module _ (c : Requests) (w : HistoryState) where
     stamped = grind arith;
     by_section = grind arith;
     told = grind arith;
-    replied = grind arith;
+    replied = stamps.replied;
     answered = grind arith;
     closed = grind arith;
     known = λ r' k know. let old = stamps.known r' k in grind arith;
@@ -128,6 +134,6 @@ module _ (c : Requests) (w : HistoryState) where
   learn_order r n stamped replied sections stamps clock order = record {
     prior = grind arith;
     knew = grind arith;
-    saw = grind arith;
-    traces = grind arith;
+    saw = order.saw;
+    traces = order.traces;
   }

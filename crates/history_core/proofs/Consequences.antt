@@ -1,12 +1,13 @@
 -- What the invariant says.
-use Rattle.std.proofs.Common.{◌≡◌, ◌≢◌, ℕ, zero, suc, ◌<◌, Bool, true, false, refl, sym, ap, ◌∙◌, subst, inl, inr, ⊎_elim, arith}
-use Rattle.std.specs.Prelude.{◌/◌, ◌⊎◌, Some}
+use Rattle.std.proofs.Common.{◌≡◌, ◌≢◌, ℕ, zero, suc, ◌<◌, ◌≤◌, Bool, true, false, refl, sym, ap, ◌∙◌, subst, inl, inr, ⊎_elim, arith}
+use Rattle.std.specs.Prelude.{◌/◌, ◌%◌, ◌⊎◌, Some}
 use Rattle.std.proofs.lemmas.Option.{slice_get-get_or}
 use Rattle.history_orders.proofs.Replays.{map-oldest_first, legal-oldest_first}
 use Rattle.history_orders.proofs.Unique.{unique, once}
-use Rattle.history_core.specs.State.{Requests, HistoryState}
+use Rattle.history_orders.proofs.Still.{equal_turns}
+use Rattle.history_core.specs.State.{Requests, HistoryState, has_replied}
 use Rattle.history_core.specs.Sound.{IsSound}
-use Rattle.history_core.specs.Legal.{HistoryIsLegal, ClockStands, IsPlaced, KnowledgeStands, IsClosed, AreAllDone}
+use Rattle.history_core.specs.Legal.{HistoryIsLegal, ClockStands, IsPlaced, KnowledgeStands, ReadsStand, IsClosed, AreAllDone}
 
 -- of a stamp that is lower by half
 lower : (a b : ℕ) → a / 2 < b / 2 → a < b
@@ -20,10 +21,15 @@ module _ (c : Requests) (w : HistoryState) (s : IsSound c w) where
     map = λ map. s.history.pairs map ∙ sym (map-oldest_first w.history);
     answers = s.history.answers;
     replies = s.history.replies;
-    stamped = s.stamps.replied;
+    stamped = λ n some. by_reply n some (has_replied (w.look (c.worker n)) n) refl;
     rising = s.order.traces;
     only = λ map history of replayed. unique c.op w.stamp history w.history of s.history.history replayed (s.history.replayed map);
   }
+    where
+      by_reply : (n : ℕ) → w.reply n ≢ 0 → (b : Bool) → has_replied (w.look (c.worker n)) n ≡ b
+          → (w.stamp n ≢ 0) ⊎ (has_replied (w.look (c.worker n)) n ≡ true)
+      by_reply n some true is = inr is
+      by_reply n some false is = inl (s.stamps.replied n some is)
 
   pub clock_stands : ClockStands c w
   clock_stands = record {
@@ -57,7 +63,7 @@ module _ (c : Requests) (w : HistoryState) (s : IsSound c w) where
     knew = λ d n used far know.
         let before = s.order.knew d n used know in let low = before.1 in let above = s.clock.above d used far in
         (before.0, lower (w.stamp n) (w.stamp (w.request d)) (omega arith));
-    saw = λ n k some saw. let before = s.order.saw n k some saw in (before.0, lower (w.stamp k) (w.stamp n) before.1);
+    saw = s.order.saw;
     told = λ n some. by_known n some (w.known (c.worker n) n) refl;
   }
     where
@@ -69,6 +75,23 @@ module _ (c : Requests) (w : HistoryState) (s : IsSound c w) where
           → (w.known (c.worker n) n ≡ true) ⊎ ((d : ℕ) × (w.published (c.worker n) ≡ suc d) × (w.request d ≡ n))
       by_known n some true is = inl is
       by_known n some false is = let told = s.stamps.told n some is in inr (by_link n (w.by n) refl told.0 told.1)
+
+  pub reads_stand : ReadsStand c w
+  reads_stand = record {
+    even = λ d used far. s.reads.even (w.request d) d (s.stamps.stamped d used far).1;
+    clock = λ n odd. by_link n odd (w.by n) refl;
+    still = s.reads.still;
+    alike = λ map a b at odd same. equal_turns a b w.history s.history.history.order same
+        (λ x there e. s.reads.still map x there (ap (λ k. k % 2) e ∙ odd));
+    between = λ r is.
+        let l = s.reads.looks r is.seen is.looked in
+        let t = l.between is.replied in
+        (l.own, t.idle, t.unknown, t.unstamped, λ none. let positive = l.positive in let word = t.replied in omega arith);
+  }
+    where
+      by_link : (n : ℕ) → w.stamp n % 2 ≡ 1 → (link : ℕ) → w.by n ≡ link → w.stamp n / 2 ≤ w.clock
+      by_link n odd zero is = s.clock.replied n (s.stamps.closed n (λ none. omega arith) is)
+      by_link n odd (suc d) is = absurd (let even = s.reads.even n d is in omega arith)
 
   pub closed : AreAllDone c w → IsClosed c w
   closed done = record { replied = replied; replies = λ map e at. s.history.replies map e at (replied e.number (λ none. s.history.history.stamped e at (s.history.history.stamps e at ∙ none))) }

@@ -3,9 +3,16 @@ pub mod Changes
 pub mod Consequences
 pub mod Histories
 pub mod Keeping
+pub mod Looking
+pub mod Looks
 pub mod Making
+pub mod MakingReads
 pub mod Publishing
+pub mod Reading
+pub mod ReadReplies
+pub mod ReadStamps
 pub mod RealTime
 pub mod Running
 pub mod Stamping
 pub mod Standing
+pub mod WithoutReads

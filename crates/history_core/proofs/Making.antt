@@ -44,11 +44,11 @@ with_replies a b c =
 pub made : IsMade
 made = record {
   enabled = (
-    record { unused = refl; idle = refl; own = refl; unknown = refl; earlier = λ k lt same. absurd (omega arith); positive = lit< tt },
+    record { unused = refl; idle = refl; own = refl; unknown = refl; earlier = λ k lt same. absurd (omega arith); positive = lit< tt; settled = refl },
     (
       record { used = refl; going = λ at. refl; alone = λ map low e ne used far near key a b. grind arith },
       (
-        record { unused = refl; idle = refl; own = refl; unknown = refl; earlier = λ k lt same. absurd (grind arith); positive = lit< tt },
+        record { unused = refl; idle = refl; own = refl; unknown = refl; earlier = λ k lt same. absurd (grind arith); positive = lit< tt; settled = refl },
         (
           record { used = refl; going = λ at. refl; alone = λ map low e ne used far near key a b. grind arith },
           (
@@ -64,7 +64,7 @@ made = record {
                     (
                       record { section = 1; own = refl; done = refl; knows = λ far. refl },
                       (
-                        record { unused = refl; idle = refl; own = refl; unknown = refl; earlier = λ k lt same. grind arith; positive = lit< tt },
+                        record { unused = refl; idle = refl; own = refl; unknown = refl; earlier = λ k lt same. grind arith; positive = lit< tt; settled = refl },
                         (
                           record { used = refl; going = λ at. refl; alone = λ map low e ne used far near key a b. grind arith },
                           (

@@ -1,5 +1,5 @@
 -- Each event keeps the invariant: publications, the ends of runs, and descriptors that are free again.
-use Rattle.std.proofs.Common.{◌≡◌, ◌≢◌, ℕ, suc, false, cond, sym, ap, ◌∙◌, arith}
+use Rattle.std.proofs.Common.{◌≡◌, ◌≢◌, ℕ, suc, true, false, cond, sym, ap, ◌∙◌, arith}
 use Rattle.std.specs.Prelude.{◌==◌}
 use mathlib.Core.Logic.{dite}
 use native.Mathlib.Decide.{ℕ_discrete}
@@ -26,7 +26,7 @@ module _ (c : Requests) (w : HistoryState) where
     stamped = grind arith;
     by_section = grind arith;
     told = grind arith;
-    replied = grind arith;
+    replied = stamps.replied;
     answered = grind arith;
     closed = grind arith;
     known = grind arith;
@@ -48,8 +48,8 @@ module _ (c : Requests) (w : HistoryState) where
   publish_order r d n answer may sections stamps clock order = record {
     prior = grind arith;
     knew = λ d' k used know. let old = order.knew d' k in let read = stamps.known r k in let low = clock.replied k in grind arith;
-    saw = grind arith;
-    traces = grind arith;
+    saw = order.saw;
+    traces = order.traces;
   }
 
   pub over_sections : (r : ℕ) → IsOver c w r → SectionsAreSound c w → StampsAreSound c w → ClockIsSound c w → OrderIsSound c w → SectionsAreSound c (after c w (Over r))
@@ -68,7 +68,7 @@ module _ (c : Requests) (w : HistoryState) where
     stamped = grind arith;
     by_section = grind arith;
     told = grind arith;
-    replied = grind arith;
+    replied = stamps.replied;
     answered = grind arith;
     closed = grind arith;
     known = grind arith;
@@ -90,8 +90,8 @@ module _ (c : Requests) (w : HistoryState) where
   over_order r may sections stamps clock order = record {
     prior = grind arith;
     knew = grind arith;
-    saw = grind arith;
-    traces = grind arith;
+    saw = order.saw;
+    traces = order.traces;
   }
 
   pub free_sections : (d : ℕ) → MayFree c w d → SectionsAreSound c w → StampsAreSound c w → ClockIsSound c w → OrderIsSound c w → SectionsAreSound c (after c w (Free d))
@@ -104,8 +104,11 @@ module _ (c : Requests) (w : HistoryState) where
     running = grind arith;
   }
 
+  used_before : (d e : ℕ) → upd w.used d false e ≡ true → w.used e ≡ true
+  used_before d e used = grind arith
+
   -- a link that stands at a request is that of another section than the one whose descriptor is free again
-  by_still : (d : ℕ) → StampsAreSound c w → (k e : ℕ) → upd w.by (w.request d) (cond (w.by (w.request d) == suc d) 0 (w.by (w.request d))) k ≡ suc e → (w.by k ≡ suc e) × (e ≢ d)
+  pub by_still : (d : ℕ) → StampsAreSound c w → (k e : ℕ) → upd w.by (w.request d) (cond (w.by (w.request d) == suc d) 0 (w.by (w.request d))) k ≡ suc e → (w.by k ≡ suc e) × (e ≢ d)
   by_still d stamps k e is = dite (ℕ_discrete k (w.request d)) (λ same. here (sym (upd_same w.by (w.request d) k _ same) ∙ is) same)
       (λ other. let before = sym (upd_other w.by (w.request d) k _ other) ∙ is in
       (before, λ same. other (sym (stamps.by_section k d (before ∙ ap suc same)).1)))
@@ -116,13 +119,27 @@ module _ (c : Requests) (w : HistoryState) where
       here : cond (w.by (w.request d) == suc d) 0 (w.by (w.request d)) ≡ suc e → k ≡ w.request d → (w.by k ≡ suc e) × (e ≢ d)
       here is same = let found = chosen (w.by (w.request d)) d e is in (ap w.by same ∙ found.0, found.1)
 
+  other_used : (d e : ℕ) → upd w.used d false e ≡ true → e ≢ d
+  other_used d e used = grind arith
+
+  -- and that of another section stands
+  by_stands : (d e : ℕ) → e ≢ d → w.by (w.request e) ≡ suc e
+      → upd w.by (w.request d) (cond (w.by (w.request d) == suc d) 0 (w.by (w.request d))) (w.request e) ≡ suc e
+  by_stands d e other is = dite (ℕ_discrete (w.request e) (w.request d))
+      (λ same. upd_same w.by (w.request d) (w.request e) _ same ∙ kept (w.by (w.request d)) (ap w.by (sym same) ∙ is))
+      (λ apart. upd_other w.by (w.request d) (w.request e) _ apart ∙ is)
+    where
+      kept : (link : ℕ) → link ≡ suc e → cond (link == suc d) 0 link ≡ suc e
+      kept link is = grind arith
+
   pub free_stamps : (d : ℕ) → MayFree c w d → SectionsAreSound c w → StampsAreSound c w → ClockIsSound c w → OrderIsSound c w → StampsAreSound c (after c w (Free d))
   free_stamps d may sections stamps clock order = record {
-    fresh = grind arith;
-    stamped = grind arith;
+    fresh = λ e used going low. stamps.fresh e (used_before d e used) going low;
+    stamped = λ e used far. let old = stamps.stamped e (used_before d e used) far in
+        (old.0, by_stands d e (other_used d e used) old.1);
     by_section = λ k e is. let still = by_still d stamps k e is in let by = stamps.by_section k e still.0 in (upd_other w.used d e false still.1 ∙ by.0, by.1, by.2);
     told = grind arith;
-    replied = grind arith;
+    replied = stamps.replied;
     answered = grind arith;
     closed = grind arith;
     known = grind arith;
@@ -144,6 +161,6 @@ module _ (c : Requests) (w : HistoryState) where
   free_order d may sections stamps clock order = record {
     prior = grind arith;
     knew = grind arith;
-    saw = grind arith;
-    traces = grind arith;
+    saw = order.saw;
+    traces = order.traces;
   }

@@ -26,24 +26,31 @@ module _ (c : Requests) (w : HistoryState) where
     stamped = grind arith;
     by_section = grind arith;
     told = grind arith;
-    replied = grind arith;
+    replied = stamps.replied;
     answered = grind arith;
     closed = grind arith;
     known = grind arith;
   }
 
-  -- a stamped request with a key in common with a section that may be the first to load the clock: the clock was raised for it
-  passed_clock : (d : ℕ) → MayLoad c w d → StampsAreSound c w → ClockIsSound c w → c.is_map ≡ true → w.stage d ≤ 1 → (k key : ℕ) → w.stamp k ≢ 0
-      → DependsOn (c.op k) key → DependsOn (c.op (w.request d)) key → w.stamp k / 2 ≤ w.clock
-  passed_clock d may stamps clock map low k key stamped a b = by_link (w.by k) refl
+  -- a stamped request with a key that no section has between its stamp and its raise: the clock was raised for it
+  pub raised_for : (key : ℕ) → ((e : ℕ) → w.used e ≡ true → w.stage e ≡ 2 → DependsOn (c.op (w.request e)) key → ⊥)
+      → StampsAreSound c w → ClockIsSound c w → (k : ℕ) → w.stamp k ≢ 0 → DependsOn (c.op k) key → w.stamp k / 2 ≤ w.clock
+  raised_for key alone stamps clock k stamped a = by_link (w.by k) refl
     where
       by_link : (link : ℕ) → w.by k ≡ link → w.stamp k / 2 ≤ w.clock
       by_link zero none = clock.replied k (stamps.closed k stamped none)
       by_link (suc e) is =
           let by = stamps.by_section k e is in
           dite (ℕ_discrete (w.stage e) 2)
-          (λ two. absurd (may.alone map low e (λ same. let at = ap w.stage same in omega arith) by.0 (omega arith) (omega arith) key b (subst (λ n. DependsOn (c.op n) key) (sym by.1) a)))
+          (λ two. absurd (alone e by.0 two (subst (λ n. DependsOn (c.op n) key) (sym by.1) a)))
           (λ other. subst (λ n. w.stamp n / 2 ≤ w.clock) by.1 (clock.raised e by.0 (let far = by.2 in omega arith)))
+
+  -- so it was for each one with a key in common with a section that may be the first to load the clock
+  passed_clock : (d : ℕ) → MayLoad c w d → StampsAreSound c w → ClockIsSound c w → c.is_map ≡ true → w.stage d ≤ 1 → (k key : ℕ) → w.stamp k ≢ 0
+      → DependsOn (c.op k) key → DependsOn (c.op (w.request d)) key → w.stamp k / 2 ≤ w.clock
+  passed_clock d may stamps clock map low k key stamped a b = raised_for key
+      (λ e used two on. may.alone map low e (λ same. let at = ap w.stage same in omega arith) used (omega arith) (omega arith) key b on)
+      stamps clock k stamped a
 
   load_keys : (r d : ℕ) → MayLoad c w d → SectionsAreSound c w → StampsAreSound c w → ClockIsSound c w → c.is_map ≡ true → (r' k key : ℕ) → upd w.loaded r true r' ≡ true
       → upd w.stage d (max (w.stage d) 1) (upd w.run r d r') ≡ 1 → w.stamp k ≢ 0 → DependsOn (c.op k) key → DependsOn (c.op (w.request (upd w.run r d r'))) key → w.stamp k / 2 ≤ upd w.hand r w.clock r'
@@ -77,8 +84,8 @@ module _ (c : Requests) (w : HistoryState) where
   load_order r d may sections stamps clock order = record {
     prior = grind arith;
     knew = grind arith;
-    saw = grind arith;
-    traces = grind arith;
+    saw = order.saw;
+    traces = order.traces;
   }
 
   pub raise_sections : (d : ℕ) → w.used d ≡ true → 2 ≤ w.stage d → SectionsAreSound c w → StampsAreSound c w → ClockIsSound c w → OrderIsSound c w → SectionsAreSound c (after c w (RaiseClock d))
@@ -97,7 +104,7 @@ module _ (c : Requests) (w : HistoryState) where
     stamped = grind arith;
     by_section = grind arith;
     told = grind arith;
-    replied = grind arith;
+    replied = stamps.replied;
     answered = grind arith;
     closed = grind arith;
     known = grind arith;
@@ -119,6 +126,6 @@ module _ (c : Requests) (w : HistoryState) where
   raise_order d used far sections stamps clock order = record {
     prior = grind arith;
     knew = grind arith;
-    saw = grind arith;
-    traces = grind arith;
+    saw = order.saw;
+    traces = order.traces;
   }

@@ -11,24 +11,26 @@ use Rattle.body_terms.specs.Update.{upd}
 use Rattle.history_orders.specs.Stamped.{Stamped, turn_of, is_earlier, put_in, IsLastOnItsKeys, IsHistoryOf}
 use Rattle.history_core.specs.State.{Requests, HistoryState}
 use Rattle.history_core.specs.Events.{stamp_by, entry_by, stamped, MayStamp}
-use Rattle.history_core.specs.Sound.{SectionsAreSound, StampsAreSound, ClockIsSound, OrderIsSound, HistoryIsSound}
+use Rattle.history_core.specs.Sound.{SectionsAreSound, StampsAreSound, ClockIsSound, OrderIsSound, HistoryIsSound, ReadsAreSound}
+use Rattle.history_orders.specs.Turns.{Follows}
 use Rattle.history_orders.proofs.Turns.{before_by_stamp}
 use Rattle.history_orders.proofs.Entries.{map-put_in, replayed-put_in, order-put_in, in-put_in, put_in-contains, length-put_in, all_of}
 use Rattle.history_core.proofs.Changes.{upd_same, upd_other}
+use Rattle.history_core.proofs.Looks.{settled, unreplied}
 
 module _ (c : Requests) (w : HistoryState) where
   -- the run is the first of its section to come to the stamp
   pub record IsLead (r : ℕ) : Type 0 where
-    loaded : w.loaded r ≡ true
-    used : w.used (w.run r) ≡ true
-    undone : w.done (w.run r) ≡ false
-    stage : w.stage (w.run r) ≡ 1
-    unstamped : w.stamp (w.request (w.run r)) ≡ 0
-    published : w.published (c.worker (w.request (w.run r))) ≡ suc (w.run r)
-    unanswered : w.reply (w.request (w.run r)) ≡ 0
+    pub loaded : w.loaded r ≡ true
+    pub used : w.used (w.run r) ≡ true
+    pub undone : w.done (w.run r) ≡ false
+    pub stage : w.stage (w.run r) ≡ 1
+    pub unstamped : w.stamp (w.request (w.run r)) ≡ 0
+    pub published : w.published (c.worker (w.request (w.run r))) ≡ suc (w.run r)
+    pub unanswered : w.reply (w.request (w.run r)) ≡ 0
 
-  pub lead : (r : ℕ) → MayStamp c w r → SectionsAreSound c w → StampsAreSound c w → w.stamp (w.request (w.run r)) ≡ 0 → IsLead r
-  lead r may sections stamps none =
+  pub lead : (r : ℕ) → MayStamp c w r → SectionsAreSound c w → StampsAreSound c w → ReadsAreSound c w → w.stamp (w.request (w.run r)) ≡ 0 → IsLead r
+  lead r may sections stamps reads none =
       let run = sections.running r may.loaded in
       let low : w.stage (w.run r) ≡ 1 = one (w.stage (w.run r)) run.1 (λ far. (stamps.stamped (w.run r) run.0 far).0 none) in
       let undone = still (w.done (w.run r)) (λ done. ended (sections.ended (w.run r) run.0 done) low) in
@@ -39,7 +41,9 @@ module _ (c : Requests) (w : HistoryState) where
         stage = low;
         unstamped = none;
         published = sections.published (w.run r) run.0 undone;
-        unanswered = dite (ℕ_discrete (w.reply (w.request (w.run r))) 0) (λ none. none) (λ some. absurd (stamps.replied (w.request (w.run r)) some none));
+        unanswered = dite (ℕ_discrete (w.reply (w.request (w.run r))) 0) (λ none. none) (λ some. absurd (stamps.replied (w.request (w.run r)) some
+            (unreplied (w.look (c.worker (w.request (w.run r)))) (w.request (w.run r))
+            (settled c w reads (c.worker (w.request (w.run r))) (w.run r) (sections.published (w.run r) run.0 undone))) none));
       }
     where
       one : (stage : ℕ) → 1 ≤ stage → (2 ≤ stage → ⊥) → stage ≡ 1
@@ -68,14 +72,16 @@ module _ (c : Requests) (w : HistoryState) where
     stamped = grind arith;
     by_section = grind arith;
     told = grind arith;
-    replied = grind arith;
+    replied = λ n some not. dite (ℕ_discrete n (w.request (w.run r)))
+        (λ own none. let now = upd_same w.stamp (w.request (w.run r)) n (stamp_by (w.hand r)) own in omega arith)
+        (λ other none. stamps.replied n some not (sym (upd_other w.stamp (w.request (w.run r)) n (stamp_by (w.hand r)) other) ∙ none));
     answered = grind arith;
     closed = grind arith;
     known = grind arith;
   }
 
   -- the entry of the run's request
-  abbrev entry : ℕ → Stamped
+  abbrev pub entry : ℕ → Stamped
   entry r = entry_by c w (w.request (w.run r)) (stamp_by (w.hand r))
 
   keys_stamped : (r : ℕ) → IsLead r → MayStamp c w r → SectionsAreSound c w → ClockIsSound c w → c.is_map ≡ true → (r' k key : ℕ) → upd w.loaded r false r' ≡ true
@@ -113,64 +119,86 @@ module _ (c : Requests) (w : HistoryState) where
     half = λ k. let more = length-put_in (entry r) w.history in let low = half_stamped r lead clock k in omega arith;
   }
 
-  saw_stamped : (r : ℕ) → IsLead r → ClockIsSound c w → OrderIsSound c w → (n k : ℕ) → upd w.stamp (w.request (w.run r)) (stamp_by (w.hand r)) n ≢ 0
-      → upd w.saw (w.request (w.run r)) (w.knew (w.run r)) n k ≡ true
-      → (upd w.stamp (w.request (w.run r)) (stamp_by (w.hand r)) k ≢ 0) × (upd w.stamp (w.request (w.run r)) (stamp_by (w.hand r)) k / 2 < upd w.stamp (w.request (w.run r)) (stamp_by (w.hand r)) n / 2)
-  saw_stamped r lead clock order n k some saw = dite (ℕ_discrete n (w.request (w.run r)))
-      (λ same.
-      let knew = ap (λ saw. saw k) (sym (upd_same w.saw (w.request (w.run r)) n (w.knew (w.run r)) same)) ∙ saw in
-      let before = order.knew (w.run r) k lead.used knew in
+  -- what was stamped by the section's publication comes before its stamp
+  follows_now : (r : ℕ) → IsLead r → ClockIsSound c w → (n k : ℕ) → n ≡ w.request (w.run r) → (w.stamp k ≢ 0) × (w.stamp k / 2 ≤ w.floor (w.run r))
+      → (upd w.stamp (w.request (w.run r)) (stamp_by (w.hand r)) k ≢ 0)
+      × Follows (upd w.stamp (w.request (w.run r)) (stamp_by (w.hand r)) k) (upd w.stamp (w.request (w.run r)) (stamp_by (w.hand r)) n)
+  follows_now r lead clock n k own before =
       let still = upd_other w.stamp (w.request (w.run r)) k (stamp_by (w.hand r)) (λ e. before.0 (ap w.stamp e ∙ lead.unstamped)) in
-      let now = upd_same w.stamp (w.request (w.run r)) n (stamp_by (w.hand r)) same in
+      let now = upd_same w.stamp (w.request (w.run r)) n (stamp_by (w.hand r)) own in
       let low = before.1 in
       let hand = (clock.hand r lead.loaded).0 in
-      (λ none. before.0 (sym still ∙ none), omega arith))
-      (λ other.
-      let known = ap (λ saw. saw k) (sym (upd_other w.saw (w.request (w.run r)) n (w.knew (w.run r)) other)) ∙ saw in
-      let own = upd_other w.stamp (w.request (w.run r)) n (stamp_by (w.hand r)) other in
-      let before = order.saw n k (λ none. some (own ∙ none)) known in
+      (λ none. before.0 (sym still ∙ none), inl (omega arith))
+
+  -- and other stamps stay where they are
+  follows_still : (r : ℕ) → IsLead r → (n k : ℕ) → n ≢ w.request (w.run r) → (w.stamp k ≢ 0) × Follows (w.stamp k) (w.stamp n)
+      → (upd w.stamp (w.request (w.run r)) (stamp_by (w.hand r)) k ≢ 0)
+      × Follows (upd w.stamp (w.request (w.run r)) (stamp_by (w.hand r)) k) (upd w.stamp (w.request (w.run r)) (stamp_by (w.hand r)) n)
+  follows_still r lead n k other before =
       let still = upd_other w.stamp (w.request (w.run r)) k (stamp_by (w.hand r)) (λ e. before.0 (ap w.stamp e ∙ lead.unstamped)) in
-      let low = before.1 in
-      (λ none. before.0 (sym still ∙ none), omega arith))
+      let own = upd_other w.stamp (w.request (w.run r)) n (stamp_by (w.hand r)) other in
+      (λ none. before.0 (sym still ∙ none), subst (λ s. Follows s (upd w.stamp (w.request (w.run r)) (stamp_by (w.hand r)) n)) (sym still) (subst (λ t. Follows (w.stamp k) t) (sym own) before.1))
+
+  saw_stamped : (r : ℕ) → IsLead r → ClockIsSound c w → OrderIsSound c w → (n k : ℕ) → upd w.stamp (w.request (w.run r)) (stamp_by (w.hand r)) n ≢ 0
+      → upd w.saw (w.request (w.run r)) (w.knew (w.run r)) n k ≡ true
+      → (upd w.stamp (w.request (w.run r)) (stamp_by (w.hand r)) k ≢ 0)
+      × Follows (upd w.stamp (w.request (w.run r)) (stamp_by (w.hand r)) k) (upd w.stamp (w.request (w.run r)) (stamp_by (w.hand r)) n)
+  saw_stamped r lead clock order n k some saw = dite (ℕ_discrete n (w.request (w.run r)))
+      (λ same. follows_now r lead clock n k same
+      (order.knew (w.run r) k lead.used (ap (λ saw. saw k) (sym (upd_same w.saw (w.request (w.run r)) n (w.knew (w.run r)) same)) ∙ saw)))
+      (λ other. follows_still r lead n k other
+      (order.saw n k (λ none. some (upd_other w.stamp (w.request (w.run r)) n (stamp_by (w.hand r)) other ∙ none))
+      (ap (λ saw. saw k) (sym (upd_other w.saw (w.request (w.run r)) n (w.knew (w.run r)) other)) ∙ saw)))
+
+  traces_stamped : (r : ℕ) → IsLead r → ClockIsSound c w → OrderIsSound c w → (k n : ℕ) → k < n → c.trace k ≡ c.trace n
+      → upd w.stamp (w.request (w.run r)) (stamp_by (w.hand r)) n ≢ 0
+      → (upd w.stamp (w.request (w.run r)) (stamp_by (w.hand r)) k ≢ 0)
+      × Follows (upd w.stamp (w.request (w.run r)) (stamp_by (w.hand r)) k) (upd w.stamp (w.request (w.run r)) (stamp_by (w.hand r)) n)
+  traces_stamped r lead clock order k n lt same some = dite (ℕ_discrete n (w.request (w.run r)))
+      (λ own. follows_now r lead clock n k own (order.prior (w.run r) k lead.used (subst (λ i. k < i) own lt) (same ∙ ap c.trace own)))
+      (λ other. follows_still r lead n k other
+      (order.traces k n lt same (λ none. some (upd_other w.stamp (w.request (w.run r)) n (stamp_by (w.hand r)) other ∙ none))))
 
   pub stamped_order : (r : ℕ) → IsLead r → StampsAreSound c w → ClockIsSound c w → OrderIsSound c w → OrderIsSound c (stamped c w r)
   stamped_order r lead stamps clock order = record {
     prior = grind arith;
     knew = grind arith;
     saw = λ n k some saw. saw_stamped r lead clock order n k some saw;
-    traces = grind arith;
+    traces = λ k n lt same some. traces_stamped r lead clock order k n lt same some;
   }
 
   -- no later entry has a key in common with the new one
-  last : (r : ℕ) → IsLead r → ClockIsSound c w → HistoryIsSound c w → c.is_map ≡ true → IsLastOnItsKeys (entry r) w.history
+  pub last : (r : ℕ) → IsLead r → ClockIsSound c w → HistoryIsSound c w → c.is_map ≡ true → IsLastOnItsKeys (entry r) w.history
   last r lead clock h map = all_of (λ x. is_earlier x (entry r) ≡ false → HaveNoCommonKey x.op (c.op (w.request (w.run r)))) w.history (λ x at later key a b.
       let stamp = h.history.stamps x at in
       let low = clock.keys map r x.number key lead.loaded lead.stage (λ none. h.history.stamped x at (stamp ∙ none)) (subst (λ op. DependsOn op key) (h.history.ops x at) a) b in
       true≢false (sym (before_by_stamp (turn_of x) (turn_of (entry r)) (let same = stamp in omega arith)) ∙ later))
 
-  -- its request has no entry yet
-  apart : (r : ℕ) → IsLead r → HistoryIsSound c w → (x : Stamped) → Contains w.history x → x.number ≢ w.request (w.run r)
-  apart r lead h x at same = h.history.stamped x at (h.history.stamps x at ∙ ap w.stamp same ∙ lead.unstamped)
+  -- a request without a stamp has no entry yet
+  pub apart : (n : ℕ) → w.stamp n ≡ 0 → HistoryIsSound c w → (x : Stamped) → Contains w.history x → x.number ≢ n
+  apart n none h x at same = h.history.stamped x at (h.history.stamps x at ∙ ap w.stamp same ∙ none)
 
-  stamped_list : (r : ℕ) → IsLead r → HistoryIsSound c w → IsHistoryOf c.op (upd w.stamp (w.request (w.run r)) (stamp_by (w.hand r))) (put_in (entry r) w.history)
-  stamped_list r lead h = record {
-    order = order-put_in (entry r) w.history (all_of (λ x. x.number ≢ w.request (w.run r)) w.history (apart r lead h)) h.history.order;
-    stamped = λ x at. ⊎_elim (λ new none. let is = sym (ap (λ x. x.stamp) new) ∙ none in omega arith) (h.history.stamped x) (in-put_in (entry r) x w.history at);
+  -- the entry of such a request goes in
+  pub put_list : (e : Stamped) → e.stamp ≢ 0 → e.op ≡ c.op e.number → w.stamp e.number ≡ 0 → HistoryIsSound c w
+      → IsHistoryOf c.op (upd w.stamp e.number e.stamp) (put_in e w.history)
+  put_list e some op none h = record {
+    order = order-put_in e w.history (all_of (λ x. x.number ≢ e.number) w.history (apart e.number none h)) h.history.order;
+    stamped = λ x at. ⊎_elim (λ new no. some (sym (ap (λ x. x.stamp) new) ∙ no)) (h.history.stamped x) (in-put_in e x w.history at);
     stamps = λ x at. ⊎_elim
-        (λ new. ap (λ x. x.stamp) new ∙ sym (upd_same w.stamp (w.request (w.run r)) x.number (stamp_by (w.hand r)) (ap (λ x. x.number) new)))
-        (λ old. h.history.stamps x old ∙ sym (upd_other w.stamp (w.request (w.run r)) x.number (stamp_by (w.hand r)) (apart r lead h x old)))
-        (in-put_in (entry r) x w.history at);
-    ops = λ x at. ⊎_elim (λ new. ap (λ x. x.op) new ∙ ap c.op (sym (ap (λ x. x.number) new))) (h.history.ops x) (in-put_in (entry r) x w.history at);
-    all = λ k some. dite (ℕ_discrete k (w.request (w.run r)))
-        (λ same. (entry r, put_in-contains (entry r) (entry r) w.history (inl refl), sym same))
+        (λ new. ap (λ x. x.stamp) new ∙ sym (upd_same w.stamp e.number x.number e.stamp (ap (λ x. x.number) new)))
+        (λ old. h.history.stamps x old ∙ sym (upd_other w.stamp e.number x.number e.stamp (apart e.number none h x old)))
+        (in-put_in e x w.history at);
+    ops = λ x at. ⊎_elim (λ new. ap (λ x. x.op) new ∙ (op ∙ ap c.op (sym (ap (λ x. x.number) new)))) (h.history.ops x) (in-put_in e x w.history at);
+    all = λ k there. dite (ℕ_discrete k e.number)
+        (λ same. (e, put_in-contains e e w.history (inl refl), sym same))
         (λ other.
-        let there = h.history.all k (λ none. some (upd_other w.stamp (w.request (w.run r)) k (stamp_by (w.hand r)) other ∙ none)) in
-        (there.0, put_in-contains (entry r) there.0 w.history (inr there.1), there.2));
+        let old = h.history.all k (λ no. there (upd_other w.stamp e.number k e.stamp other ∙ no)) in
+        (old.0, put_in-contains e old.0 w.history (inr old.1), old.2));
   }
 
   pub stamped_history : (r : ℕ) → IsLead r → MayStamp c w r → StampsAreSound c w → ClockIsSound c w → HistoryIsSound c w → HistoryIsSound c (stamped c w r)
   stamped_history r lead may stamps clock h = record {
-    history = stamped_list r lead h;
+    history = put_list (entry r) (λ none. omega arith) refl lead.unstamped h;
     replayed = λ map. replayed-put_in (entry r) w.history (last r lead clock h map) (ap (λ pairs. reply_of pairs (c.op (w.request (w.run r)))) (h.pairs map)) (h.replayed map);
     pairs = λ map. ap (λ pairs. map_after pairs (c.op (w.request (w.run r)))) (h.pairs map) ∙ sym (map-put_in (entry r) w.history (last r lead clock h map));
     answers = λ map d x used far at same. ⊎_elim
@@ -180,7 +208,7 @@ module _ (c : Requests) (w : HistoryState) where
         let before : 2 ≤ w.stage d = subst (λ stage. 2 ≤ stage) (upd_other w.stage (w.run r) d (max (w.stage (w.run r)) 2) other) far in
         absurd ((stamps.stamped d used before).0 (ap w.stamp (sym same ∙ ap (λ x. x.number) new) ∙ lead.unstamped))))
         (λ old. dite (ℕ_discrete d (w.run r))
-        (λ own. absurd (apart r lead h x old (same ∙ ap w.request own)))
+        (λ own. absurd (apart (w.request (w.run r)) lead.unstamped h x old (same ∙ ap w.request own)))
         (λ other.
         let before : 2 ≤ w.stage d = subst (λ stage. 2 ≤ stage) (upd_other w.stage (w.run r) d (max (w.stage (w.run r)) 2) other) far in
         h.answers map d x used before old same))

@@ -1,12 +1,12 @@
 -- The events of the history, when each may come, and the state after it.
-use Rattle.std.specs.Prelude.{ℕ, suc, ◌+◌, ◌*◌, ◌/◌, ◌<◌, ◌≤◌, ◌≡◌, ◌≢◌, ◌⊎◌, ◌==◌, max, cond, true, false}
+use Rattle.std.specs.Prelude.{ℕ, suc, ◌+◌, ◌*◌, ◌/◌, ◌<◌, ◌≤◌, ◌≡◌, ◌≢◌, ◌⊎◌, ◌==◌, max, cond, true, false, Option, Some, None}
 use Rattle.map_history.specs.Keys.{HaveNoCommonKey}
 use Rattle.map_history.specs.Replay.{reply_of, map_after}
 use Rattle.map_history.specs.Words.{word_of}
 use Rattle.body_terms.specs.Update.{upd}
 use Rattle.body_terms.specs.Run.{written_once}
 use Rattle.history_orders.specs.Stamped.{Stamped, put_in}
-use Rattle.history_core.specs.State.{Requests, HistoryState}
+use Rattle.history_core.specs.State.{Requests, Seen, HistoryState, is_replied}
 
 -- what may happen; `r` is the runner, `d` a descriptor, `n` a request
 pub data Event : Type 0 where
@@ -25,10 +25,20 @@ pub data Event : Type 0 where
   Learn : (r n : ℕ) → Event
   -- a descriptor is free again
   Free : (d : ℕ) → Event
+  -- reads without a lock: a worker looks for a request, whose body gives this answer, in the moment in which it loads
+  -- the clock; it gives up what it has seen; it writes the reply, and then the stamp
+  Look : (r n answer : ℕ) → Event
+  Forget : (r : ℕ) → Event
+  ReadReply : (r : ℕ) → Event
+  ReadStamp : (r : ℕ) → Event
 
 -- the stamp that a run gives by the clock that it has loaded
 abbrev pub stamp_by : ℕ → ℕ
 stamp_by clock = 2 * (clock + 1)
+
+-- the stamp that a read gives by the clock that it has loaded
+abbrev pub read_stamp_by : ℕ → ℕ
+read_stamp_by clock = 2 * clock + 1
 
 module _ (c : Requests) where
   -- the section has come at least so far
@@ -50,6 +60,44 @@ module _ (c : Requests) where
     stage = comes w (w.run r) 2;
     loaded = upd w.loaded r false;
   }
+
+  -- what a worker sees that looks for this request
+  abbrev pub seen_by : HistoryState → ℕ → ℕ → ℕ → Seen
+  seen_by w r n answer = record {
+    number = n;
+    clock = w.clock;
+    reply = reply_of w.pairs (c.op n);
+    answer = answer;
+    known = w.known r;
+    replied = false;
+  }
+
+  -- the request with the stamp of its read
+  abbrev pub entry_seen : Seen → Stamped
+  entry_seen seen =
+      record { stamp = read_stamp_by seen.clock; number = seen.number; op = c.op seen.number; reply = seen.reply }
+
+  -- the state after a read has written its reply
+  abbrev pub replied_by : HistoryState → ℕ → Option Seen → HistoryState
+  replied_by w r None = w
+  replied_by w r (Some seen) = record w {
+    reply = upd w.reply seen.number (written_once (w.reply seen.number) seen.answer);
+    look = upd w.look r (Some (record seen { replied = true }));
+  }
+
+  -- the state after a read has written its stamp, which it then knows
+  abbrev pub read : HistoryState → ℕ → Seen → HistoryState
+  read w r seen = record w {
+    stamp = upd w.stamp seen.number (read_stamp_by seen.clock);
+    history = put_in (entry_seen seen) w.history;
+    saw = upd w.saw seen.number seen.known;
+    known = upd w.known r (upd (w.known r) seen.number true);
+    look = upd w.look r None;
+  }
+
+  abbrev pub read_by : HistoryState → ℕ → Option Seen → HistoryState
+  read_by w r None = w
+  read_by w r (Some seen) = cond (w.stamp seen.number == 0) (read w r seen) w
 
   -- the state after an event
   abbrev pub after : HistoryState → Event → HistoryState
@@ -82,6 +130,10 @@ module _ (c : Requests) where
         used = upd w.used d false;
         by = upd w.by (w.request d) (cond (w.by (w.request d) == suc d) 0 (w.by (w.request d)));
       }
+  after w (Look r n answer) = record w { look = upd w.look r (Some (seen_by w r n answer)) }
+  after w (Forget r) = record w { look = upd w.look r None }
+  after w (ReadReply r) = replied_by w r (w.look r)
+  after w (ReadStamp r) = read_by w r (w.look r)
 
   -- no other section that has loaded the clock and hasn't raised it has a key in common with this one
   abbrev pub IsAlone : HistoryState → ℕ → Type 0
@@ -89,7 +141,7 @@ module _ (c : Requests) where
       → HaveNoCommonKey (c.op (w.request d)) (c.op (w.request e))
 
   -- a worker may publish its next request: it knows both words of the earlier ones of the trace,
-  -- and not of this one
+  -- and not of this one, and has written no read's reply without its stamp
   pub record MayPublish (w : HistoryState) (r d n answer : ℕ) : Type 0 where
     pub unused : w.used d ≡ false
     pub idle : w.published r ≡ 0
@@ -97,6 +149,7 @@ module _ (c : Requests) where
     pub unknown : w.known r n ≡ false
     pub earlier : (k : ℕ) → k < n → c.trace k ≡ c.trace n → w.known r k ≡ true
     pub positive : 0 < answer
+    pub settled : is_replied (w.look r) ≡ false
 
   -- a run may load the clock: its section hasn't left, and where it is the first to come so far, it
   -- is alone on its keys
@@ -130,6 +183,35 @@ module _ (c : Requests) where
     pub over : w.published (c.worker (w.request d)) ≢ suc d
     pub quiet : (r : ℕ) → w.loaded r ≡ true → w.run r ≢ d
 
+  -- a worker may look for its next request: it knows both words of the earlier ones of the trace, and not of this
+  -- one. No section that has loaded the clock and hasn't raised it has a key in common; the body's answer is the
+  -- map's, and the map stays as it is
+  pub record MayLook (w : HistoryState) (r n answer : ℕ) : Type 0 where
+    pub own : c.worker n ≡ r
+    pub unknown : w.known r n ≡ false
+    pub earlier : (k : ℕ) → k < n → c.trace k ≡ c.trace n → w.known r k ≡ true
+    pub positive : 0 < answer
+    pub settled : is_replied (w.look r) ≡ false
+    pub alone : c.is_map ≡ true → (d : ℕ) → w.used d ≡ true → 1 ≤ w.stage d → w.stage d ≤ 2
+        → HaveNoCommonKey (c.op n) (c.op (w.request d))
+    pub answers : c.is_map ≡ true → answer ≡ word_of (reply_of w.pairs (c.op n))
+    pub still : c.is_map ≡ true → map_after w.pairs (c.op n) ≡ w.pairs
+
+  -- it may write the reply of what it has seen: it has no section that it hasn't run to its end, and doesn't know both
+  -- words of the request
+  pub record MayReply (w : HistoryState) (r : ℕ) : Type 0 where
+    pub seen : Seen
+    pub looked : w.look r ≡ Some seen
+    pub unreplied : seen.replied ≡ false
+    pub idle : w.published r ≡ 0
+    pub unknown : w.known r seen.number ≡ false
+
+  -- it has written that reply, and its stamp is to come
+  pub record IsBetween (w : HistoryState) (r : ℕ) : Type 0 where
+    pub seen : Seen
+    pub looked : w.look r ≡ Some seen
+    pub replied : seen.replied ≡ true
+
   -- when an event may come; what it asks for beyond the order of the steps is what the machine supplies
   abbrev pub Enabled : HistoryState → Event → Type 0
   Enabled w (Publish r d n answer) = MayPublish w r d n answer
@@ -141,3 +223,7 @@ module _ (c : Requests) where
   Enabled w (SetDone d) = (w.used d ≡ true) × ((w.stage d ≡ 0) ⊎ (w.stage d ≡ 4))
   Enabled w (Learn r n) = (w.stamp n ≢ 0) × (w.reply n ≢ 0)
   Enabled w (Free d) = MayFree w d
+  Enabled w (Look r n answer) = MayLook w r n answer
+  Enabled w (Forget r) = is_replied (w.look r) ≡ false
+  Enabled w (ReadReply r) = MayReply w r
+  Enabled w (ReadStamp r) = IsBetween w r

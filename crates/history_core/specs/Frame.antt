@@ -23,3 +23,4 @@ pub record IsSame (w w' : HistoryState) : Type 0 where
   pub hand : (r : ℕ) → w'.hand r ≡ w.hand r
   pub published : (r : ℕ) → w'.published r ≡ w.published r
   pub known : (r n : ℕ) → w'.known r n ≡ w.known r n
+  pub look : (r : ℕ) → w'.look r ≡ w.look r

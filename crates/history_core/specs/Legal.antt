@@ -1,11 +1,13 @@
 -- What the invariant says of the history, of the clock, and to whoever knows a request's words.
-use Rattle.std.specs.Prelude.{ℕ, suc, ◌/◌, ◌<◌, ◌≤◌, ◌≡◌, ◌≢◌, ◌⊎◌, true, List, Some, length, slice_get, Contains}
+use Rattle.std.specs.Prelude.{ℕ, suc, ◌/◌, ◌%◌, ◌<◌, ◌≤◌, ◌≡◌, ◌≢◌, ◌⊎◌, Bool, true, false, List, Some, None, length, slice_get, Contains}
 use Rattle.std.specs.FinMap.{empty}
 use Rattle.map_history.specs.History.{IsLegalFrom}
 use Rattle.map_history.specs.Replay.{map_after_all}
 use Rattle.map_history.specs.Words.{word_of}
-use Rattle.history_orders.specs.Stamped.{Stamped, oldest_first, ops_of, IsReplayed, IsHistoryOf}
-use Rattle.history_core.specs.State.{Requests, HistoryState}
+use Rattle.history_orders.specs.Turns.{Follows}
+use Rattle.history_orders.specs.Stamped.{Stamped, oldest_first, ops_of, map_before, IsReplayed, IsStill, IsHistoryOf}
+use Rattle.history_core.specs.State.{Requests, HistoryState, has_replied}
+use Rattle.history_core.specs.Events.{Event, Look, IsBetween}
 
 module _ (c : Requests) (w : HistoryState) where
   -- the history of the stamped requests is legal
@@ -22,10 +24,12 @@ module _ (c : Requests) (w : HistoryState) where
         → Contains w.history e → e.number ≡ w.request d → w.answer d ≡ word_of e.reply
     pub replies : c.is_map ≡ true → (e : Stamped) → Contains w.history e → w.reply e.number ≢ 0
         → w.reply e.number ≡ word_of e.reply
-    pub stamped : (n : ℕ) → w.reply n ≢ 0 → w.stamp n ≢ 0
-    -- stamps rise along a trace, and no request is stamped before the earlier ones of its trace
+    -- a request with a reply has a stamp, or its worker has written the reply by a read and not yet the stamp
+    pub stamped : (n : ℕ) → w.reply n ≢ 0 → (w.stamp n ≢ 0) ⊎ (has_replied (w.look (c.worker n)) n ≡ true)
+    -- stamps never fall along a trace, and two equal ones are odd; no request is stamped before the earlier ones of its
+    -- trace
     pub rising : (k n : ℕ) → k < n → c.trace k ≡ c.trace n → w.stamp n ≢ 0
-        → (w.stamp k ≢ 0) × (w.stamp k < w.stamp n)
+        → (w.stamp k ≢ 0) × Follows (w.stamp k) (w.stamp n)
     -- it is the only history of these words
     pub only : c.is_map ≡ true → (history : List Stamped) → IsHistoryOf c.op w.stamp history
         → IsReplayed history → history ≡ w.history
@@ -58,15 +62,38 @@ module _ (c : Requests) (w : HistoryState) where
   pub record KnowledgeStands : Type 0 where
     -- who knows both words of a request knows its place, and the reply there
     pub known : (r n : ℕ) → w.known r n ≡ true → (w.stamp n ≢ 0) × (w.reply n ≢ 0) × IsPlaced n
-    -- a section's stamp is above those of all that its publisher knew when it published it; this
-    -- stands when the descriptor is free again
+    -- a section's stamp is above those of all that its publisher knew when it published it
     pub knew : (d n : ℕ) → w.used d ≡ true → 2 ≤ w.stage d → w.knew d n ≡ true
         → (w.stamp n ≢ 0) × (w.stamp n < w.stamp (w.request d))
-    pub saw : (n k : ℕ) → w.stamp n ≢ 0 → w.saw n k ≡ true → (w.stamp k ≢ 0) × (w.stamp k < w.stamp n)
+    -- this stands when the descriptor is free again. And a read's stamp follows those of all that its worker knew at
+    -- its look: it is greater, or equal where both are odd
+    pub saw : (n k : ℕ) → w.stamp n ≢ 0 → w.saw n k ≡ true → (w.stamp k ≢ 0) × Follows (w.stamp k) (w.stamp n)
     -- each stamped request is known to its worker, or is that of the section which the worker has
     -- published and not yet run to its end
     pub told : (n : ℕ) → w.stamp n ≢ 0
         → (w.known (c.worker n) n ≡ true) ⊎ ((d : ℕ) × (w.published (c.worker n) ≡ suc d) × (w.request d ≡ n))
+
+  -- reads without a lock
+  pub record ReadsStand : Type 0 where
+    -- a section's stamp is even
+    pub even : (d : ℕ) → w.used d ≡ true → 2 ≤ w.stage d → w.stamp (w.request d) % 2 ≡ 0
+    -- the clock is at least half of an odd stamp
+    pub clock : (n : ℕ) → w.stamp n % 2 ≡ 1 → w.stamp n / 2 ≤ w.clock
+    -- an entry with an odd stamp changes nothing at its turn; so two with one stamp have the same map there, and their
+    -- order plays no part
+    pub still : c.is_map ≡ true → (e : Stamped) → Contains w.history e → e.stamp % 2 ≡ 1 → IsStill e w.history
+    pub alike : c.is_map ≡ true → (a b : Stamped) → Contains w.history a → a.stamp % 2 ≡ 1 → a.stamp ≡ b.stamp
+        → map_before a w.history ≡ map_before b w.history
+    -- a worker that has written a reply by a read, and not yet the stamp, has no section that it hasn't run to its end.
+    -- The request is its own, has no stamp, and isn't known to it
+    pub between : (r : ℕ) (is : IsBetween c w r) → (c.worker is.seen.number ≡ r) × (w.published r ≡ 0)
+        × (w.known r is.seen.number ≡ false) × (w.stamp is.seen.number ≡ 0) × (w.reply is.seen.number ≢ 0)
+
+  -- stamps rise strictly along a trace, and each reply is that of a stamped request
+  pub record StampsRise : Type 0 where
+    pub stamped : (n : ℕ) → w.reply n ≢ 0 → w.stamp n ≢ 0
+    pub rising : (k n : ℕ) → k < n → c.trace k ≡ c.trace n → w.stamp n ≢ 0
+        → (w.stamp k ≢ 0) × (w.stamp k < w.stamp n)
 
   -- where every section is done, each stamped request has its reply word, which is the reply at its
   -- place
@@ -77,6 +104,16 @@ module _ (c : Requests) (w : HistoryState) where
 
   abbrev pub AreAllDone : Type 0
   AreAllDone = (d : ℕ) → w.used d ≡ true → w.done d ≡ true
+
+-- no read without a lock is made: nobody has looked, and each stamp is even
+pub record HasNoReads (w : HistoryState) : Type 0 where
+  pub looks : (r : ℕ) → w.look r ≡ None
+  pub even : (n : ℕ) → w.stamp n % 2 ≡ 0
+
+-- by which alone it can come to one
+abbrev pub is_look : Event → Bool
+is_look (Look r n answer) = true
+is_look _ = false
 
 -- what an event leaves for good: stamps, replies, what is known, and each entry of the history; and
 -- the clock never falls

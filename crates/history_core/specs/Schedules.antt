@@ -1,5 +1,5 @@
 -- The first state, and lists of enabled events.
-use Rattle.std.specs.Prelude.{false, List, [], ◌∷◌}
+use Rattle.std.specs.Prelude.{false, None, List, [], ◌∷◌}
 use Rattle.std.specs.FinMap.{empty}
 use Rattle.history_core.specs.State.{Requests, HistoryState}
 use Rattle.history_core.specs.Events.{Event, Enabled, after}
@@ -26,6 +26,7 @@ first_state = record {
   hand = λ r. 0;
   published = λ r. 0;
   known = λ r n. false;
+  look = λ r. None;
 }
 
 module _ (c : Requests) where

@@ -1,7 +1,8 @@
 -- The state of the history: the clock, the stamps and the replies, the sections and their runs as
 -- far as these go, and what is known.
-use Rattle.std.specs.Prelude.{ℕ, Bool, List}
+use Rattle.std.specs.Prelude.{ℕ, ◌==◌, ◌&&◌, Bool, false, List, Option, Some, None}
 use Rattle.map_history.specs.declared.op.Op.{Op}
+use Rattle.map_history.specs.declared.reply.Reply.{Reply}
 use Rattle.map_history.specs.Replay.{Pairs}
 use Rattle.history_orders.specs.Stamped.{Stamped}
 
@@ -12,6 +13,27 @@ pub record Requests : Type 0 where
   pub op : ℕ → Op
   pub trace : ℕ → ℕ
   pub worker : ℕ → ℕ
+
+-- what a worker has seen that reads for a request without a lock: the request, the clock that it loaded, the reply of
+-- the map then, the word that its body answers, the requests both of whose words it knew then, and whether it has
+-- written the reply since
+pub record Seen : Type 0 where
+  pub number : ℕ
+  pub clock : ℕ
+  pub reply : Reply
+  pub answer : ℕ
+  pub known : ℕ → Bool
+  pub replied : Bool
+
+-- its reply is written
+abbrev pub is_replied : Option Seen → Bool
+is_replied None = false
+is_replied (Some seen) = seen.replied
+
+-- the reply of this request is written by it
+abbrev pub has_replied : Option Seen → ℕ → Bool
+has_replied None n = false
+has_replied (Some seen) n = seen.replied && seen.number == n
 
 pub record HistoryState : Type 0 where
   -- the clock word; by request, its stamp word and its reply word
@@ -48,3 +70,5 @@ pub record HistoryState : Type 0 where
   pub published : ℕ → ℕ
   -- by runner and request, whether it knows both words
   pub known : ℕ → ℕ → Bool
+  -- by worker, what it has seen last without a lock
+  pub look : ℕ → Option Seen

@@ -1,13 +1,13 @@
 //! The laws of the history, each on a contract.
-ghost use Rattle.std.specs.Prelude.{List};
+ghost use Rattle.std.specs.Prelude.{◌≡◌, false, List};
 ghost use Rattle.history_core.specs.State.{Requests, HistoryState};
 ghost use Rattle.history_core.specs.Events.{Event, Enabled, after};
 ghost use Rattle.history_core.specs.Sound.{IsSound};
 ghost use Rattle.history_core.specs.Schedules.{first_state, AllEnabled, after_all};
-ghost use Rattle.history_core.specs.Legal.{HistoryIsLegal, ClockStands, KnowledgeStands, IsClosed, AreAllDone, WordsStand};
+ghost use Rattle.history_core.specs.Legal.{HistoryIsLegal, ClockStands, KnowledgeStands, ReadsStand, StampsRise, IsClosed, AreAllDone, HasNoReads, is_look, WordsStand};
 ghost use Rattle.history_core.specs.RealTime.{EventsKeepRealTime, PublicationsAsk};
 ghost use Rattle.history_core.specs.Frame.{IsSame};
-ghost use Rattle.history_core.specs.Made.{IsMade};
+ghost use Rattle.history_core.specs.Made.{IsMade, IsMadeWithReads};
 
 /// Every enabled event leads from a state that meets the invariant to one that meets it.
 pub fn events_keep_the_invariant()
@@ -20,8 +20,8 @@ pub fn schedules_meet_the_invariant()
 {}
 
 /// After every list of enabled events the stamped requests, by stamp and then by number, are a legal
-/// history: a plain map that serves them in this order gives the replies, and stamps rise along each trace.
-/// It is the only history of these stamp words.
+/// history: a plain map that serves them in this order gives the replies. Stamps never fall along a trace, and two
+/// equal ones are odd, those of reads without a lock. It is the only history of these stamp words.
 pub fn histories_are_legal()
     ensures { (c : Requests) (es : List Event) → AllEnabled c first_state es
         → HistoryIsLegal c (after_all c first_state es) }
@@ -33,12 +33,29 @@ pub fn the_clock_bounds_the_stamps()
     ensures { (c : Requests) (w : HistoryState) → IsSound c w → ClockStands c w }
 {}
 
-/// The history is linearizable (Herlihy and Wing, Linearizability, 1990): a request with a reply has a smaller
-/// stamp than each request that isn't asked yet in that state, whatever events come next. A request for
-/// which a section may be published isn't asked yet.
+/// The history is linearizable (Herlihy and Wing, Linearizability, 1990): a request with a reply comes before each
+/// request that isn't asked yet in that state, once both have their stamps, whatever events come next. Its stamp is
+/// smaller, but for two reads with one stamp, whose order plays no part (`reads_stand`). A request for which a section
+/// may be published, and for which its worker hasn't looked, isn't asked yet.
 pub fn the_history_is_linearizable()
     ensures order { (c : Requests) → EventsKeepRealTime c }
     ensures asked { (c : Requests) → PublicationsAsk c }
+{}
+
+/// Reads without a lock. A section's stamp is even. An entry with an odd one changes nothing at its place, and two
+/// with one odd stamp have the same map there. The clock is at least half of each odd stamp. A worker that has written
+/// a read's reply and not yet its stamp has no section on the way, and that request of its own has no stamp.
+pub fn reads_stand()
+    ensures { (c : Requests) (w : HistoryState) → IsSound c w → ReadsStand c w }
+{}
+
+/// Where no worker has looked without a lock and each stamp is even, as at first, every event but a look keeps that.
+/// There stamps rise strictly along a trace, and each reply is that of a stamped request.
+pub fn stamps_rise_without_reads()
+    ensures first { HasNoReads first_state }
+    ensures events { (c : Requests) (w : HistoryState) (e : Event) → is_look e ≡ false → HasNoReads w
+        → HasNoReads (after c w e) }
+    ensures rise { (c : Requests) (w : HistoryState) → IsSound c w → HasNoReads w → StampsRise c w }
 {}
 
 /// Who knows both words of a request knows that it stands once in the history, with that stamp and the
@@ -69,4 +86,10 @@ pub fn changes_elsewhere_keep_the_invariant()
 /// requests, and the first one's stamp, which is written last, stands first in the history.
 pub fn a_history_is_made()
     ensures { IsMade }
+{}
+
+/// An example with reads: a worker looks up a key without a lock, adds a pair there, and looks it up twice. The two
+/// last reads have one stamp.
+pub fn reads_are_made()
+    ensures { IsMadeWithReads }
 {}

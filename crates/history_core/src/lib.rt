@@ -8,6 +8,7 @@ mod laws;
 
 pub use laws::{
     a_history_is_made, changes_elsewhere_keep_the_invariant, closed_histories_are_answered,
-    events_keep_the_invariant, histories_are_legal, schedules_meet_the_invariant,
-    the_clock_bounds_the_stamps, the_history_is_linearizable, what_is_known_stands, words_stand,
+    events_keep_the_invariant, histories_are_legal, reads_are_made, reads_stand,
+    schedules_meet_the_invariant, stamps_rise_without_reads, the_clock_bounds_the_stamps,
+    the_history_is_linearizable, what_is_known_stands, words_stand,
 };

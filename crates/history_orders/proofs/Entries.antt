@@ -10,13 +10,13 @@ use Rattle.history_orders.specs.Stamped.{Stamped, turn_of, is_earlier, IsInOrder
 use Rattle.history_orders.proofs.Turns.{before_joins, before_either}
 
 -- what is said of each entry of a history, beside one that goes in
-abbrev IsApartAfter : Stamped → Stamped → Type 0
+abbrev pub IsApartAfter : Stamped → Stamped → Type 0
 IsApartAfter e x = is_earlier x e ≡ false → HaveNoCommonKey x.op e.op
 
-abbrev IsBefore : Stamped → Stamped → Type 0
+abbrev pub IsBefore : Stamped → Stamped → Type 0
 IsBefore e x = is_earlier x e ≡ true
 
-bool_cases : (b : Bool) → (b ≡ true) ⊎ (b ≡ false)
+pub bool_cases : (b : Bool) → (b ≡ true) ⊎ (b ≡ false)
 bool_cases true = inl refl
 bool_cases false = inr refl
 
@@ -43,10 +43,10 @@ order_tail x xs order i j d before within = order (suc i) (suc j) d (omega arith
 order_cons : (x : Stamped) (xs : List Stamped) → All (λ y. is_earlier y x ≡ true) xs → IsInOrder xs → IsInOrder (x ∷ xs)
 order_cons x xs head tail = AllPairs-cons (λ later earlier. IsTrue (is_earlier earlier later)) x xs head tail
 
-put_first : (e x : Stamped) (xs : List Stamped) → is_earlier x e ≡ true → put_in e (x ∷ xs) ≡ e ∷ x ∷ xs
+pub put_first : (e x : Stamped) (xs : List Stamped) → is_earlier x e ≡ true → put_in e (x ∷ xs) ≡ e ∷ x ∷ xs
 put_first e x xs h = ap (λ b. cond b (e ∷ x ∷ xs) (x ∷ put_in e xs)) h
 
-put_behind : (e x : Stamped) (xs : List Stamped) → is_earlier x e ≡ false → put_in e (x ∷ xs) ≡ x ∷ put_in e xs
+pub put_behind : (e x : Stamped) (xs : List Stamped) → is_earlier x e ≡ false → put_in e (x ∷ xs) ≡ x ∷ put_in e xs
 put_behind e x xs h = ap (λ b. cond b (e ∷ x ∷ xs) (x ∷ put_in e xs)) h
 
 pub map-put_in : (e : Stamped) (xs : List Stamped) → IsLastOnItsKeys e xs → map_of (put_in e xs) ≡ map_after (map_of xs) e.op

@@ -1,5 +1,5 @@
 -- Histories of stamped requests, newest first.
-use Rattle.std.specs.Prelude.{◌≡◌, ◌≢◌, ℕ, Bool, false, IsTrue, cond, List, [], ◌∷◌, map, reverse, All, AllPairs, Contains}
+use Rattle.std.specs.Prelude.{◌≡◌, ◌≢◌, ◌⊎◌, ℕ, Bool, false, IsTrue, cond, List, [], ◌∷◌, map, reverse, All, AllPairs, Contains}
 use Rattle.std.specs.FinMap.{empty}
 use Rattle.map_history.specs.declared.op.Op.{Op}
 use Rattle.map_history.specs.declared.reply.Reply.{Reply}
@@ -47,6 +47,19 @@ abbrev pub IsReplayed : List Stamped → Type 0
 IsReplayed [] = Unit {0}
 IsReplayed (e ∷ history) = (e.reply ≡ reply_of (map_of history) e.op) × IsReplayed history
 
+-- the map at the entry's turn: that of the entries which come before it
+abbrev pub map_before : Stamped → List Stamped → Pairs
+map_before e [] = empty
+map_before e (x ∷ history) = cond (is_earlier x e) (map_of (x ∷ history)) (map_before e history)
+
+-- its reply is that of the map at its turn
+abbrev pub HasReply : Stamped → List Stamped → Type 0
+HasReply e history = e.reply ≡ reply_of (map_before e history) e.op
+
+-- its operation leaves the map at its turn as it is
+abbrev pub IsStill : Stamped → List Stamped → Type 0
+IsStill e history = map_after (map_before e history) e.op ≡ map_before e history
+
 -- an entry put in behind those that come after it
 abbrev pub put_in : Stamped → List Stamped → List Stamped
 put_in e [] = e ∷ []
@@ -55,6 +68,11 @@ put_in e (x ∷ history) = cond (is_earlier x e) (e ∷ x ∷ history) (x ∷ pu
 -- no entry that comes after this one has a key in common with it
 abbrev pub IsLastOnItsKeys : Stamped → List Stamped → Type 0
 IsLastOnItsKeys e history = All (λ x. is_earlier x e ≡ false → HaveNoCommonKey x.op e.op) history
+
+-- each entry that comes after this one has no key in common with it, or changes nothing at its own turn
+abbrev pub AreApartOrStill : Stamped → List Stamped → Type 0
+AreApartOrStill e history = (x : Stamped) → Contains history x → is_earlier x e ≡ false
+    → HaveNoCommonKey x.op e.op ⊎ IsStill x history
 
 -- the entries are the requests whose stamp word isn't 0, in order, each with its operation
 pub record IsHistoryOf (op : ℕ → Op) (stamp : ℕ → ℕ) (history : List Stamped) : Type 0 where

@@ -6,4 +6,7 @@
 
 mod laws;
 
-pub use laws::{a_history_is_one, entries_are_put_in, replays_are_legal};
+pub use laws::{
+    a_history_is_one, entries_are_put_in, replays_are_legal, still_entries_are_put_in,
+    turns_are_found, turns_follow, turns_stand,
+};

@@ -20,13 +20,14 @@ use Rattle.agreement_core.specs.Events.{Event, IsBefore, step_of}
 use Rattle.agreement_core.specs.Events.{Publish, RetireDescriptor, Free, StoreLog, StoreDone, Read, Open, Pass, SetDone, Release, Finish, LoadCell, Commit, NestedLoad, NestedCommit, NestedHold, OutcomeLoad, OutcomeCommit, PrivateLoad, PrivateStore, MakeCommit, ClockLoad, StampExchange, ClockRaise, ExchangeCell, EpochForRetire, RetireCommit, ReplyExchange}
 use Rattle.agreement_core.proofs.LineSteps.{pass_checks}
 use Rattle.epoch_core.specs.State.{Counts}
-use Rattle.history_core.specs.State.{Requests, HistoryState}
+use Rattle.history_core.specs.State.{Requests, HistoryState, is_replied}
 use Rattle.history_core.specs.Events as history
 use Rattle.history_core.specs.Schedules.{AllEnabled, after_all}
 use Rattle.history_core.specs.Legal.{AreAllDone}
 use Rattle.history_core.proofs.Consequences.{legal, clock_stands, knowledge_stands}
 use Rattle.history_core.proofs.Consequences.{closed as all_closed}
 use Rattle.history_core.proofs.Keeping.{event_keeps, schedule_keeps, first_sound}
+use Rattle.history_core.proofs.WithoutReads.{MakeNoReads, first_reads, none_after, none_after_all, rises}
 use Rattle.machine_scenes.specs.Shown.{States, rules_of}
 use Rattle.machine_scenes.specs.Steps as scenes
 use Rattle.machine_scenes.proofs.Kept.{step_kept}
@@ -51,6 +52,16 @@ check_rank x check = grind arith
 
 stop_rank : (c : CellRules) (d : ℕ) (log : ℕ → ℕ) (x : Micro) → is_stop c d log x ≡ true → rank x ≡ 0
 stop_rank c d log x stop = grind arith
+
+-- no joint step makes a read without a lock
+make_no_reads : (j : States) (step : scenes.Step) → MakeNoReads (events_of j step)
+make_no_reads j (scenes.Agreement (ClockLoad r)) = (refl, tt)
+make_no_reads j (scenes.Agreement (StampExchange r)) = (refl, tt)
+make_no_reads j (scenes.Agreement (ClockRaise r)) = (refl, tt)
+make_no_reads j (scenes.Agreement (ReplyExchange r reply)) = (refl, tt)
+make_no_reads j (scenes.Agreement (SetDone r)) = (refl, tt)
+make_no_reads j (scenes.Agreement (Free d)) = (refl, tt)
+make_no_reads j step = tt
 
 module _ (m : Meaning) (laws : Laws m) (layout : Layout) (limits : IsWithinLimits layout) (c : Counts) (nodes : c.nodes ≡ slots m layout) (requests : Requests)
     (same_map : requests.is_map ≡ m.is_map) (h : HistoryStates) (joined : IsJoined m layout c requests h) where
@@ -135,6 +146,7 @@ module _ (m : Meaning) (laws : Laws m) (layout : Layout) (limits : IsWithinLimit
         unknown = ok.unknown;
         earlier = ok.earlier;
         positive = some answer (λ none. line.stamped.replies (one line.stamped.reply answer (sym line.stamped.answers ∙ (ap code (sym place) ∙ ok.answers.1)) ∙ none));
+        settled = ap is_replied (joined.reads.looks r);
       }
     where
       one : (n k : ℕ) → micros.ReplyExchange n ≡ micros.ReplyExchange k → n ≡ k
@@ -258,6 +270,7 @@ module _ (m : Meaning) (laws : Laws m) (layout : Layout) (limits : IsWithinLimit
         sound = schedule_keeps requests w (events_of j step) f.events joined.sound;
         tied = f.tied;
         memory = subst (MemoryStands m layout c (scenes.after m layout c j step)) f.pairs (step_memory m laws layout limits c j joined.kept w.pairs joined.memory step ok.1);
+        reads = none_after_all requests w joined.reads (events_of j step) (make_no_reads j step);
       }
   step_joined (steps.Publish r d lock word request code slot op thunk answer) ok = record {
     kept = step_kept m laws layout limits c nodes j (scenes.Publish r d lock word request code slot op thunk) ok.enabled joined.kept;
@@ -266,18 +279,21 @@ module _ (m : Meaning) (laws : Laws m) (layout : Layout) (limits : IsWithinLimit
     memory =
         let memory = step_memory m laws layout limits c j joined.kept w.pairs joined.memory (scenes.Publish r d lock word request code slot op thunk) ok.enabled in
         record { cells = memory.cells; completed = memory.completed; stands = memory.stands };
+    reads = none_after requests w joined.reads (history.Publish r d request answer) refl;
   }
   step_joined (Over r) ok = record {
     kept = joined.kept;
     sound = event_keeps requests w (history.Over r) ok joined.sound;
     tied = words_elsewhere (history.after requests w (history.Over r)) refl refl refl refl refl refl refl refl refl refl refl;
     memory = record { cells = joined.memory.cells; completed = joined.memory.completed; stands = joined.memory.stands };
+    reads = none_after requests w joined.reads (history.Over r) refl;
   }
   step_joined (Learn r n) ok = record {
     kept = joined.kept;
     sound = event_keeps requests w (history.Learn r n) ok joined.sound;
     tied = words_elsewhere (history.after requests w (history.Learn r n)) refl refl refl refl refl refl refl refl refl refl refl;
     memory = record { cells = joined.memory.cells; completed = joined.memory.completed; stands = joined.memory.stands };
+    reads = none_after requests w joined.reads (history.Learn r n) refl;
   }
 
 module _ (m : Meaning) (laws : Laws m) (layout : Layout) (limits : IsWithinLimits layout) where
@@ -300,6 +316,7 @@ module _ (m : Meaning) (laws : Laws m) (layout : Layout) (limits : IsWithinLimit
     memory =
         let memory = first_stands m laws layout limits c nodes location first p in
         record { cells = memory.cells; completed = memory.completed; stands = memory.stands };
+    reads = first_reads;
   }
 
   schedule_from : (c : Counts) (nodes : c.nodes ≡ slots m layout) (requests : Requests) → requests.is_map ≡ m.is_map → (h : HistoryStates) (steps : List Step)
@@ -314,6 +331,7 @@ module _ (m : Meaning) (laws : Laws m) (layout : Layout) (limits : IsWithinLimit
   pub joined_stands : JoinedStands m layout
   joined_stands c nodes requests h joined = record {
     legal = legal requests h.history joined.sound;
+    rises = rises requests h.history joined.reads joined.sound;
     clock = clock_stands requests h.history joined.sound;
     known = knowledge_stands requests h.history joined.sound;
     memory = joined.memory;

@@ -147,7 +147,7 @@ module _ (c : Requests) (w : HistoryState) (sound : IsSound c w) (r : ℕ) (load
       by false e = refl
       by true e = ⊎_elim
           (λ left. absurd (let far = (sound.sections.running r loaded).1 in omega arith))
-          (λ four. absurd (sound.stamps.replied (w.request d) (sound.stamps.answered d (sound.sections.running r loaded).0 (omega arith)) none))
+          (λ four. absurd ((sound.stamps.stamped d (sound.sections.running r loaded).0 (omega arith)).0 none))
           (sound.sections.ended d (sound.sections.running r loaded).0 e)
 
   -- a stamp is written

@@ -1,6 +1,6 @@
 -- What is answered in a state comes before what isn't asked there.
 use Rattle.std.specs.Prelude.{take}
-use Rattle.std.proofs.Common.{◌≡◌, ℕ, le_of_eq, zero, suc, List, [], ◌∷◌, Option, None, sym, ◌∙◌, subst, Some, arith}
+use Rattle.std.proofs.Common.{◌≡◌, ◌≢◌, ℕ, le_of_eq, zero, suc, List, [], ◌∷◌, Option, None, sym, ◌∙◌, subst, Some, arith}
 use Rattle.map_history.specs.declared.op.Request.{Request}
 use Rattle.table_words.specs.declared.layout.Layout.{Layout}
 use Rattle.table_words.specs.Limits.{IsWithinLimits}
@@ -9,6 +9,8 @@ use Rattle.structure_laws.specs.Laws.{Laws}
 use Rattle.runner_parts.specs.declared.event.Event.{Event}
 use Rattle.machine_history.specs.history_core.specs.State.{Requests, HistoryState}
 use Rattle.machine_history.specs.history_core.proofs.RealTime.{Passes, passes_nowhere, passes_more, passes_in_order}
+use Rattle.machine_history.specs.history_core.proofs.Looks.{none_seen}
+use Rattle.machine_history.specs.history_core.proofs.WithoutReads.{strictly, rises}
 use Rattle.machine_states.specs.World.{World, happens, then_run, run}
 use Rattle.machine_states.specs.Reached.{Reached}
 use Rattle.machine_states.specs.Sight.{sight}
@@ -78,17 +80,20 @@ module _ (m : Meaning) (laws : Laws m) (l : Layout) (limits : IsWithinLimits l) 
       let s' = sight m l rs v in
       let at = reached_stands m laws l limits rs allowed w reached in
       let to = behind w v reached es runs in
-      let h = passes_in_order requests at.history to.stands.history at.joined.sound to.passes k n
-      (λ none. replied (sym (reply_is m laws l limits rs allowed s at k) ∙ none))
+      let answered : at.history.reply k ≢ 0 = λ none. replied (sym (reply_is m laws l limits rs allowed s at k) ∙ none) in
+      let h = passes_in_order requests at.history to.stands.history at.joined.sound to.passes k n answered
+      ((rises requests at.history at.joined.reads at.joined.sound).stamped k answered)
       (record {
         unstamped = stamp_is m laws l limits rs allowed s at n ∙ unasked.unstamped;
         unpublished = λ d used going own. unasked.unpublished (open_of m laws l limits rs allowed s at (requests.worker n) n d
             (subst (λ q. at.history.published (requests.worker q) ≡ suc d) own (at.joined.sound.sections.published d used going)) own);
+        unseen = λ r seen looked. absurd (none_seen seen (sym (at.joined.reads.looks r) ∙ looked));
       })
       (λ none. some (sym (stamp_is m laws l limits rs allowed s' to.stands n) ∙ none)) in
       let own = stamp_is m laws l limits rs allowed s at k in
       let his = stamp_is m laws l limits rs allowed s' to.stands k in
       let its = stamp_is m laws l limits rs allowed s' to.stands n in
+      let below = strictly (to.stands.history.stamp k) (to.stands.history.stamp n) (to.stands.joined.reads.even k) h.1 in
       (sym his ∙ (h.0 ∙ own), omega arith)
 
 pub reached_linearizable : (m : Meaning) → Laws m → (l : Layout) (rs : List Request) → ReachedAreLinearizable m l rs

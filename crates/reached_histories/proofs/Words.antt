@@ -126,8 +126,8 @@ module _ (m : Meaning) (laws : Laws m) (l : Layout) (limits : IsWithinLimits l) 
         (far_by d has.place 2 micros.StampExchange has.used (code_at d has.used has.place ∙ has.stamps) refl (omega arith) has.passed)
         there (number ∙ sym (request_at d has.used));
     replies = λ map e there some. sym (reply_is e.number) ∙ stands.legal.replies map e there (some_reply e.number some);
-    stamped = λ n some. word_stamp n (stands.legal.stamped n (some_reply n some));
-    rising = λ k n lt same some. let h = stands.legal.rising k n lt same (some_stamp n some) in (word_stamp k h.0, below k n h.1);
+    stamped = λ n some. word_stamp n (stands.rises.stamped n (some_reply n some));
+    rising = λ k n lt same some. let h = stands.rises.rising k n lt same (some_stamp n some) in (word_stamp k h.0, below k n h.1);
     only = λ map other is replayed. stands.legal.only map other
         (subst (λ (f : ℕ → ℕ). IsHistoryOf requests.op f other) (sym stamps_are) is) replayed;
   }

@@ -27,6 +27,7 @@ use Rattle.agreement_core.specs.State.{CellRules, Section, AgreementState}
 use Rattle.agreement_core.specs.Checks.{is_stop}
 use Rattle.reached_histories.specs.history_core.specs.State.{Requests, HistoryState}
 use Rattle.reached_histories.specs.history_core.specs.Sound.{IsSound}
+use Rattle.reached_histories.specs.history_core.proofs.WithoutReads.{rises}
 use Rattle.machine_states.specs.Sight.{Sight}
 use Rattle.machine_epochs.specs.Slots.{thunk_in}
 use Rattle.machine_scenes.specs.Shown.{rules_of, section_with, IsOfThunk}
@@ -156,7 +157,7 @@ module _ (m : Meaning) (l : Layout) (rs : List Request) (s : Sight) (stands : Ha
       replied = sound.stamps.answered d used_there (let e = four in omega (arith, e))
 
       entry : (e : Stamped) × Contains h.history e × (e.number ≡ h.request d)
-      entry = sound.history.history.all (h.request d) (sound.stamps.replied (h.request d) replied)
+      entry = sound.history.history.all (h.request d) (sound.stamps.stamped d used_there stamped).0
 
       -- the reply word is what it answers
       reply_there : h.reply (h.request d) ≡ h.answer d
@@ -223,7 +224,7 @@ module _ (m : Meaning) (l : Layout) (rs : List Request) (s : Sight) (stands : Ha
 
           none : (n : ℕ) → h.reply t.request ≡ n → n ≡ 0
           none zero e = refl
-          none (suc n) e = absurd (sound.stamps.replied t.request (λ z. let b = e in omega (arith, b, z)) unstamped)
+          none (suc n) e = absurd ((rises c h stands.joined.reads sound).stamped t.request (λ z. let b = e in omega (arith, b, z)) unstamped)
 
       -- it is for an operation that adds a pair, and answers so
       module _ (per_pair : ℕ) (over : PlannerLawsOver m l per_pair) where
