@@ -11,7 +11,7 @@ use Rattle.body_terms.specs.declared.micro.Micro.{Micro}
 use Rattle.agreement_core.specs.State.{CellRules, Section, Run, AgreementState, section_of, IsOpen}
 use Rattle.agreement_core.specs.Checks.{is_stop, came, is_stamp_exchange, is_reply_exchange}
 use Rattle.agreement_core.specs.Events.{Event, Enabled, step_of, after}
-use Rattle.agreement_core.specs.Events.{Publish, Free, StoreLog, StoreDone, Pass, SetDone, LoadCell, Commit, NestedLoad, NestedCommit, NestedHold, OutcomeLoad, OutcomeCommit, PrivateLoad, PrivateStore, MakeCommit, ClockLoad, StampExchange, ClockRaise, ExchangeCell, EpochForRetire, RetireCommit, ReplyExchange}
+use Rattle.agreement_core.specs.Events.{Publish, Free, StoreLog, StoreDone, Pass, SetDone, LoadCell, Commit, NestedLoad, NestedCommit, NestedHold, OutcomeLoad, OutcomeCommit, PrivateLoad, PrivateStore, MakeCommit, ClockLoad, StampExchange, ClockRaise, ExchangeCell, EpochForRetire, RetireCommit, ReplyExchange, ReadReply, ReadStamp}
 use Rattle.section_lines.specs.Line.{IsCounted}
 use Rattle.agreement_core.specs.Sound.{IsOf, IsSound}
 use Rattle.agreement_core.specs.Late.{IsLate}
@@ -41,15 +41,32 @@ was_used : (used : ℕ → Bool) (d d' : ℕ) → upd used d false d' ≡ true �
 was_used used d d' h = grind arith
 
 module _ (c : CellRules) (w : AgreementState) (h : History) (e : Event) (ok : Enabled c w e) where
+  -- nothing is published, and to what sections changed nothing is added
+  record AddsNothing : Type 0 where
+    used : (d : ℕ) → (after w e).used d ≡ true → w.used d ≡ true
+    section : (d : ℕ) → (noted w h e).section d ≡ h.section d
+    moved : (n i : ℕ) → (noted w h e).moved n i ≡ h.moved n i
+    stamped : (n : ℕ) → (noted w h e).stamped n ≡ h.stamped n
+    replied : (n : ℕ) → (noted w h e).replied n ≡ h.replied n
+
+  nothing_closed : AddsNothing → ClosedStay w (after w e) h (noted w h e)
+  nothing_closed adds = record {
+    moved = λ n i closed. adds.moved n i;
+    stamped = λ n closed. adds.stamped n;
+    replied = λ n closed. adds.replied n;
+    closed = λ n le closed d is_open. stays_closed w (after w e) h (noted w h e) n d closed (goes_on_all c w e ok)
+        (adds.used d is_open.used) (adds.section d) is_open.undone;
+  }
+
   -- an event by which nothing is published, stored, stamped or replied
   quiet_closed : ((d : ℕ) → (after w e).used d ≡ true → w.used d ≡ true) → noted w h e ≡ h → ClosedStay w (after w e) h (noted w h e)
-  quiet_closed used same = record {
-    moved = λ n i closed. ap (λ (x : History). x.moved n i) same;
-    stamped = λ n closed. ap (λ (x : History). x.stamped n) same;
-    replied = λ n closed. ap (λ (x : History). x.replied n) same;
-    closed = λ n le closed d is_open. stays_closed w (after w e) h (noted w h e) n d closed (goes_on_all c w e ok) (used d is_open.used)
-        (ap (λ (x : History). x.section d) same) is_open.undone;
-  }
+  quiet_closed used same = nothing_closed (record {
+    used = used;
+    section = λ d. ap (λ (x : History). x.section d) same;
+    moved = λ n i. ap (λ (x : History). x.moved n i) same;
+    stamped = λ n. ap (λ (x : History). x.stamped n) same;
+    replied = λ n. ap (λ (x : History). x.replied n) same;
+  })
 
 module _ (c : CellRules) (w : AgreementState) (old : IsSound c w) (h : History) (exact : IsExact w h) (r : ℕ) where
   abbrev q : Run
@@ -264,6 +281,20 @@ closed_stay c w h (Free d) ok old exact = quiet_closed c w h (Free d) ok (was_us
 closed_stay c w h (ExchangeCell r place log v) ok old exact = exchange_closed c w old h exact r place log v ok
 closed_stay c w h (StampExchange r) ok old exact = stamp_closed c w old h exact r ok
 closed_stay c w h (ReplyExchange r reply) ok old exact = reply_closed c w old h exact r reply ok
+closed_stay c w h (ReadReply request reply) ok old exact = nothing_closed c w h (ReadReply request reply) ok (record {
+  used = λ d used. used;
+  section = λ d. refl;
+  moved = λ n i. refl;
+  stamped = λ n. refl;
+  replied = λ n. refl;
+})
+closed_stay c w h (ReadStamp request stamp) ok old exact = nothing_closed c w h (ReadStamp request stamp) ok (record {
+  used = λ d used. used;
+  section = λ d. refl;
+  moved = λ n i. refl;
+  stamped = λ n. refl;
+  replied = λ n. refl;
+})
 closed_stay c w h e ok old exact = quiet_closed c w h e ok (λ d used. used) refl
 
 pub numbers_stay : (c : CellRules) (w : AgreementState) (h : History) (e : Event) → Enabled c w e → NumbersStay w (after w e) h (noted w h e)

@@ -6,7 +6,7 @@ use Rattle.agreement_core.specs.State.{CellRules, Section, Finished, AgreementSt
 use Rattle.agreement_core.specs.Update.{upd2}
 use Rattle.agreement_core.specs.Checks.{came}
 use Rattle.agreement_core.specs.Events.{Event, Enabled, after}
-use Rattle.agreement_core.specs.Events.{Publish, RetireDescriptor, Free, StoreLog, StoreDone, Read, Open, Pass, SetDone, Release, Finish, LoadCell, Commit, NestedLoad, NestedCommit, NestedHold, OutcomeLoad, OutcomeCommit, PrivateLoad, PrivateStore, MakeCommit, ClockLoad, StampExchange, ClockRaise, ExchangeCell, EpochForRetire, RetireCommit, ReplyExchange}
+use Rattle.agreement_core.specs.Events.{Publish, RetireDescriptor, Free, StoreLog, StoreDone, Read, Open, Pass, SetDone, Release, Finish, LoadCell, Commit, NestedLoad, NestedCommit, NestedHold, OutcomeLoad, OutcomeCommit, PrivateLoad, PrivateStore, MakeCommit, ClockLoad, StampExchange, ClockRaise, ExchangeCell, EpochForRetire, RetireCommit, ReplyExchange, ReadReply, ReadStamp}
 use Rattle.agreement_core.specs.Continuing.{GoesOn, SectionsGoOn, RecordsStand, EntriesStand}
 use Rattle.agreement_core.proofs.Frame.{not_both}
 use Rattle.agreement_core.proofs.Committing.{upd_else}
@@ -110,6 +110,8 @@ module _ (c : CellRules) where
   goes_on_all w (EpochForRetire r slot log epoch) ok = came_goes w r
   goes_on_all w (RetireCommit r slot log) ok = agrees_goes w r log _
   goes_on_all w (ReplyExchange r reply) ok = came_goes w r
+  goes_on_all w (ReadReply request reply) ok = λ d' u. same_section (w.section d')
+  goes_on_all w (ReadStamp request stamp) ok = λ d' u. same_section (w.section d')
 
 -- no record is kept anew
 none_kept : (w w' : AgreementState) → w'.finishes ≡ w.finishes → w'.finished ≡ w.finished → RecordsStand w w'
@@ -137,5 +139,13 @@ entries_stand w (StampExchange r) = record {
 entries_stand w (ReplyExchange r reply) = record {
   stamp = λ q some. refl;
   reply = λ q some. stays w.shared.reply ((section_of w r).request) _ q some;
+}
+entries_stand w (ReadReply request reply) = record {
+  stamp = λ q some. refl;
+  reply = λ q some. stays w.shared.reply request reply q some;
+}
+entries_stand w (ReadStamp request stamp) = record {
+  stamp = λ q some. stays w.shared.stamp request stamp q some;
+  reply = λ q some. refl;
 }
 entries_stand w e = record { stamp = λ q some. refl; reply = λ q some. refl }

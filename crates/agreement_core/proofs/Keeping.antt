@@ -2,11 +2,11 @@
 use Rattle.std.proofs.Common.{◌≡◌, ℕ, suc, List, [], ◌∷◌, refl, sym, ◌∙◌, arith}
 use Rattle.agreement_core.specs.State.{CellRules, AgreementState}
 use Rattle.agreement_core.specs.Events.{Event, Enabled, after}
-use Rattle.agreement_core.specs.Events.{Publish, RetireDescriptor, Free, StoreLog, StoreDone, Read, Open, Pass, SetDone, Release, Finish, LoadCell, Commit, NestedLoad, NestedCommit, NestedHold, OutcomeLoad, OutcomeCommit, PrivateLoad, PrivateStore, MakeCommit, ClockLoad, StampExchange, ClockRaise, ExchangeCell, EpochForRetire, RetireCommit, ReplyExchange}
+use Rattle.agreement_core.specs.Events.{Publish, RetireDescriptor, Free, StoreLog, StoreDone, Read, Open, Pass, SetDone, Release, Finish, LoadCell, Commit, NestedLoad, NestedCommit, NestedHold, OutcomeLoad, OutcomeCommit, PrivateLoad, PrivateStore, MakeCommit, ClockLoad, StampExchange, ClockRaise, ExchangeCell, EpochForRetire, RetireCommit, ReplyExchange, ReadReply, ReadStamp}
 use Rattle.agreement_core.specs.Sound.{IsSound}
 use Rattle.agreement_core.specs.Schedules.{IsFirst, first_state, AllEnabled, after_all}
 use Rattle.agreement_core.proofs.Frame.{not_both}
-use Rattle.agreement_core.proofs.Reading.{reads_sound}
+use Rattle.agreement_core.proofs.Reading.{reads_sound, stamps_sound, replies_sound}
 use Rattle.agreement_core.proofs.LineEvents.{load_cell, commit, nested_load, nested_commit, nested_hold, outcome_load, outcome_commit, private_load, private_store, make_commit, clock_load, stamp_exchange, clock_raise, exchange_cell, epoch_for_retire, retire_commit, reply_exchange}
 use Rattle.agreement_core.proofs.EndEvents.{pass, open_run, done_sound}
 use Rattle.agreement_core.proofs.Releasing.{release_sound}
@@ -43,6 +43,8 @@ module _ (c : CellRules) where
   keeps w (EpochForRetire r slot log epoch) ok old = epoch_for_retire c w old r slot log epoch ok
   keeps w (RetireCommit r slot log) ok old = retire_commit c w old r slot log ok
   keeps w (ReplyExchange r reply) ok old = reply_exchange c w old r reply ok
+  keeps w (ReadReply request reply) ok old = replies_sound c w request reply old
+  keeps w (ReadStamp request stamp) ok old = stamps_sound c w request stamp old
 
   pub keeps_all : (w : AgreementState) (es : List Event) → AllEnabled c w es → IsSound c w → IsSound c (after_all c w es)
   keeps_all w [] ok old = old

@@ -11,7 +11,7 @@ use Rattle.section_lines.specs.Line.{phase}
 use Rattle.agreement_core.specs.State.{CellRules, Section, AgreementState, section_of}
 use Rattle.agreement_core.specs.Checks.{is_stop, is_stamp_exchange, is_reply_exchange}
 use Rattle.agreement_core.specs.Events.{Event, Enabled}
-use Rattle.agreement_core.specs.Events.{Publish, StampExchange, ExchangeCell, ReplyExchange}
+use Rattle.agreement_core.specs.Events.{Publish, StampExchange, ExchangeCell, ReplyExchange, ReadReply, ReadStamp}
 use Rattle.agreement_core.specs.Sound.{UsedIsSound, IsSound}
 use Rattle.agreement_core.specs.History.{History, with_won, noted, change_of, written, IsExact, Lasts, HasAnswered, HasLeft, HappenedOnce, NothingHappened}
 use Rattle.agreement_core.proofs.Moving.{upd_split}
@@ -88,6 +88,20 @@ pub lasts : (c : CellRules) (w : AgreementState) (h : History) (e : Event) → E
 lasts c w h (ExchangeCell r place log value) ok old exact = exchange_lasts c w old h exact r place log value ok
 lasts c w h (StampExchange r) ok old exact = stamp_lasts c w old h exact r ok
 lasts c w h (ReplyExchange r reply) ok old exact = reply_lasts c w old h exact r reply ok
+lasts c w h (ReadReply request reply) ok old exact = record {
+  moved = λ n i le. refl;
+  stamps = λ q le. refl;
+  replies = added h.replies request (w.shared.reply request) reply (λ e. exact.replies request ∙ written_none _ e);
+  stamped = λ n le. refl;
+  replied = λ n le. refl;
+}
+lasts c w h (ReadStamp request stamp) ok old exact = record {
+  moved = λ n i le. refl;
+  stamps = added h.stamps request (w.shared.stamp request) stamp (λ e. exact.stamps request ∙ written_none _ e);
+  replies = λ q le. refl;
+  stamped = λ n le. refl;
+  replied = λ n le. refl;
+}
 lasts c w h (Publish d lock word request code slot) ok old exact =
     record { moved = λ n i le. refl; stamps = λ q le. refl; replies = λ q le. refl; stamped = λ n le. refl; replied = λ n le. refl }
 lasts c w h e ok old exact = lasts_refl h

@@ -13,7 +13,7 @@ use Rattle.section_lines.specs.Line.{is_clock_raise}
 use Rattle.agreement_core.specs.State.{CellRules, Section, Run, AgreementState, section_of}
 use Rattle.agreement_core.specs.Checks.{came, exchanged, is_stamp_exchange, is_reply_exchange}
 use Rattle.agreement_core.specs.Events.{Event, Enabled, after, agrees}
-use Rattle.agreement_core.specs.Events.{Publish, RetireDescriptor, Free, StoreLog, StoreDone, Read, Open, Pass, SetDone, Release, Finish, LoadCell, Commit, NestedLoad, NestedCommit, NestedHold, OutcomeLoad, OutcomeCommit, PrivateLoad, PrivateStore, MakeCommit, ClockLoad, StampExchange, ClockRaise, ExchangeCell, EpochForRetire, RetireCommit, ReplyExchange}
+use Rattle.agreement_core.specs.Events.{Publish, RetireDescriptor, Free, StoreLog, StoreDone, Read, Open, Pass, SetDone, Release, Finish, LoadCell, Commit, NestedLoad, NestedCommit, NestedHold, OutcomeLoad, OutcomeCommit, PrivateLoad, PrivateStore, MakeCommit, ClockLoad, StampExchange, ClockRaise, ExchangeCell, EpochForRetire, RetireCommit, ReplyExchange, ReadReply, ReadStamp}
 use Rattle.agreement_core.specs.Sound.{UsedIsSound, IsSound}
 use Rattle.agreement_core.specs.Late.{IsReleaseOf, LocksLeave, stepper, IsLate, IsUnchanged, LocksStay}
 use Rattle.agreement_core.proofs.Frame.{not_both}
@@ -199,6 +199,8 @@ module _ (c : CellRules) where
   by_stepper w (Release r0 place word) ok old r e late = absurd (none_some r e)
   by_stepper w (Finish r0) ok old r e late = absurd (none_some r e)
   by_stepper w (PrivateStore r0 cell log value place word) ok old r e late = absurd (none_some r e)
+  by_stepper w (ReadReply request reply) ok old r e late = absurd (none_some r e)
+  by_stepper w (ReadStamp request stamp) ok old r e late = absurd (none_some r e)
 
   -- the lock of an exchange from a free word isn't one that a section holds
   lock_else : (w : AgreementState) (place free d p new : ℕ) → value_of free ≡ 0 → w.shared.cells place ≡ free

@@ -8,7 +8,7 @@ use Rattle.body_terms.specs.declared.micro.Micro.{Micro}
 use Rattle.agreement_core.specs.State.{CellRules, Shared, Section, Run, AgreementState, section_of}
 use Rattle.agreement_core.specs.Checks.{came}
 use Rattle.agreement_core.specs.Events.{Event, Enabled, after}
-use Rattle.agreement_core.specs.Events.{Publish, RetireDescriptor, Free, StoreLog, StoreDone, Read, Open, Pass, SetDone, Release, Finish, LoadCell, Commit, NestedLoad, NestedCommit, NestedHold, OutcomeLoad, OutcomeCommit, PrivateLoad, PrivateStore, MakeCommit, ClockLoad, StampExchange, ClockRaise, ExchangeCell, EpochForRetire, RetireCommit, ReplyExchange}
+use Rattle.agreement_core.specs.Events.{Publish, RetireDescriptor, Free, StoreLog, StoreDone, Read, Open, Pass, SetDone, Release, Finish, LoadCell, Commit, NestedLoad, NestedCommit, NestedHold, OutcomeLoad, OutcomeCommit, PrivateLoad, PrivateStore, MakeCommit, ClockLoad, StampExchange, ClockRaise, ExchangeCell, EpochForRetire, RetireCommit, ReplyExchange, ReadReply, ReadStamp}
 use Rattle.agreement_core.specs.Sound.{UsedIsSound, IsSound}
 use Rattle.agreement_core.specs.Schedules.{first_state, AllEnabled, after_all}
 use Rattle.agreement_core.specs.History.{History, no_history, noted, noted_all, IsExact}
@@ -20,7 +20,7 @@ use Rattle.agreement_core.proofs.LineEvents.{reply_is}
 use Rattle.agreement_core.proofs.Keeping.{keeps}
 use Rattle.agreement_core.proofs.Noting.{is_exchange, SectionLasts, lasts_same, lasts_came, lasts_then, lasts_logs, exact_same, one_lasts}
 use Rattle.agreement_core.proofs.Exactly.{publish_exact, exchange_exact}
-use Rattle.agreement_core.proofs.Writing.{stamp_exact, reply_exact}
+use Rattle.agreement_core.proofs.Writing.{stamp_exact, reply_exact, read_stamp_exact, read_reply_exact}
 
 check_quiet : (m : Micro) → is_check m ≡ true → is_exchange m ≡ false
 check_quiet m h = grind arith
@@ -160,6 +160,8 @@ module _ (c : CellRules) where
       (ap is_commit ok.next)
   keeps_exact w h (ReplyExchange r reply) ok old exact = reply_exact c w old h exact r ok.running reply
       (reply_is c w old r reply ok) ok.next
+  keeps_exact w h (ReadReply request reply) ok old exact = read_reply_exact w h exact request reply ok
+  keeps_exact w h (ReadStamp request stamp) ok old exact = read_stamp_exact w h exact request stamp ok
 
   pub keeps_exact_all : (w : AgreementState) (h : History) (es : List Event) → AllEnabled c w es → IsSound c w → IsExact w h
       → IsExact (after_all c w es) (noted_all w h es)

@@ -7,7 +7,7 @@ use Rattle.body_terms.specs.Word.{version_of, held_word}
 use Rattle.agreement_core.specs.State.{CellRules, AgreementState, section_of}
 use Rattle.agreement_core.specs.Checks.{exchanged}
 use Rattle.agreement_core.specs.Events.{Event, Enabled, after}
-use Rattle.agreement_core.specs.Events.{Publish, RetireDescriptor, Free, StoreLog, StoreDone, Read, Open, Pass, SetDone, Release, Finish, LoadCell, Commit, NestedLoad, NestedCommit, NestedHold, OutcomeLoad, OutcomeCommit, PrivateLoad, PrivateStore, MakeCommit, ClockLoad, StampExchange, ClockRaise, ExchangeCell, EpochForRetire, RetireCommit, ReplyExchange}
+use Rattle.agreement_core.specs.Events.{Publish, RetireDescriptor, Free, StoreLog, StoreDone, Read, Open, Pass, SetDone, Release, Finish, LoadCell, Commit, NestedLoad, NestedCommit, NestedHold, OutcomeLoad, OutcomeCommit, PrivateLoad, PrivateStore, MakeCommit, ClockLoad, StampExchange, ClockRaise, ExchangeCell, EpochForRetire, RetireCommit, ReplyExchange, ReadReply, ReadStamp}
 use Rattle.agreement_core.specs.Sound.{IsSound}
 use Rattle.agreement_core.specs.Rising.{RiseByOne}
 use Rattle.agreement_core.proofs.Committing.{upd_here, upd_else}
@@ -70,3 +70,5 @@ module _ (c : CellRules) where
   rises w (EpochForRetire r slot log epoch) ok old = λ p. inl refl
   rises w (RetireCommit r slot log) ok old = λ p. inl refl
   rises w (ReplyExchange r reply) ok old = λ p. inl refl
+  rises w (ReadReply request reply) ok old = λ p. inl refl
+  rises w (ReadStamp request stamp) ok old = λ p. inl refl

@@ -9,12 +9,13 @@ use Rattle.body_terms.specs.declared.micro.Micro.TheVariants as micros
 use Rattle.agreement_core.specs.State.{CellRules, Section, Run, AgreementState}
 use Rattle.agreement_core.specs.Checks.{came, is_stamp_exchange, is_reply_exchange}
 use Rattle.agreement_core.specs.Events.{after}
-use Rattle.agreement_core.specs.Events.{StampExchange, ReplyExchange}
+use Rattle.agreement_core.specs.Events.{StampExchange, ReplyExchange, ReadReply, ReadStamp}
 use Rattle.agreement_core.specs.Sound.{IsSound}
 use Rattle.agreement_core.specs.History.{History, with_won, noted, written, IsExact}
 use Rattle.agreement_core.proofs.Frame.{not_both}
 use Rattle.agreement_core.proofs.Committing.{upd_here, upd_else}
 use Rattle.agreement_core.proofs.Moving.{upd_split}
+use Rattle.agreement_core.proofs.LineEvents.{positive}
 use Rattle.agreement_core.proofs.Noting.{is_exchange, SectionLasts, lasts_came, one_lasts}
 use Rattle.agreement_core.proofs.Exactly.{written_won, once_won}
 
@@ -173,3 +174,47 @@ module _ (c : CellRules) (w : AgreementState) (old : IsSound c w) (h : History) 
             (λ d'. NoneBelow is_reply_exchange (sections d')) (passed is_reply_exchange (ap is_reply_exchange next))
             (none_before is_reply_exchange) exact.replied_late;
       }
+
+-- a word of a request is written outside of sections, by a read
+module _ (w : AgreementState) (h : History) (exact : IsExact w h) where
+  pub read_reply_exact : (request reply : ℕ) → reply ≢ 0
+      → IsExact (after w (ReadReply request reply)) (noted w h (ReadReply request reply))
+  read_reply_exact request reply some = record {
+    numbered = exact.numbered;
+    named = exact.named;
+    apart = exact.apart;
+    unborn_moved = exact.unborn_moved;
+    unborn_stamped = exact.unborn_stamped;
+    unborn_replied = exact.unborn_replied;
+    moved = exact.moved;
+    moved_once = exact.moved_once;
+    stamps = exact.stamps;
+    replies = all_written w.shared.reply h.replies h.replied request 0 reply (positive reply some) exact.replies;
+    stamped_once = exact.stamped_once;
+    replied_once = exact.replied_once;
+    unstamped = exact.unstamped;
+    unreplied = λ d used none. exact.unreplied d used (zero_before w.shared.reply request reply ((w.section d).request) none);
+    stamped_late = exact.stamped_late;
+    replied_late = exact.replied_late;
+  }
+
+  pub read_stamp_exact : (request stamp : ℕ) → stamp ≢ 0
+      → IsExact (after w (ReadStamp request stamp)) (noted w h (ReadStamp request stamp))
+  read_stamp_exact request stamp some = record {
+    numbered = exact.numbered;
+    named = exact.named;
+    apart = exact.apart;
+    unborn_moved = exact.unborn_moved;
+    unborn_stamped = exact.unborn_stamped;
+    unborn_replied = exact.unborn_replied;
+    moved = exact.moved;
+    moved_once = exact.moved_once;
+    stamps = all_written w.shared.stamp h.stamps h.stamped request 0 stamp (positive stamp some) exact.stamps;
+    replies = exact.replies;
+    stamped_once = exact.stamped_once;
+    replied_once = exact.replied_once;
+    unstamped = λ d used none. exact.unstamped d used (zero_before w.shared.stamp request stamp ((w.section d).request) none);
+    unreplied = exact.unreplied;
+    stamped_late = exact.stamped_late;
+    replied_late = exact.replied_late;
+  }

@@ -47,6 +47,9 @@ pub data Event : Type 0 where
   EpochForRetire : (r slot log epoch : ℕ) → Event
   RetireCommit : (r slot log : ℕ) → Event
   ReplyExchange : (r reply : ℕ) → Event
+  -- outside a run and without a lock: the reply of a read is written to its request's word, and then its stamp
+  ReadReply : (request reply : ℕ) → Event
+  ReadStamp : (request stamp : ℕ) → Event
 
 -- a run at the start of its line
 abbrev pub begun : ℕ → Run
@@ -145,6 +148,12 @@ after w (ReplyExchange r reply) = let request = (section_of w r).request in
     record (goes_on w r ((w.run r).word)) {
       shared = record (w.shared) { reply = upd w.shared.reply request (written_once (w.shared.reply request) reply) };
     }
+after w (ReadReply request reply) = record w {
+  shared = record (w.shared) { reply = upd w.shared.reply request (written_once (w.shared.reply request) reply) };
+}
+after w (ReadStamp request stamp) = record w {
+  shared = record (w.shared) { stamp = upd w.shared.stamp request (written_once (w.shared.stamp request) stamp) };
+}
 
 -- a run of the section has come to a commit of a word of this cell
 abbrev pub HasCome : Section → ℕ → Type 0
@@ -226,3 +235,5 @@ module _ (c : CellRules) where
   Enabled w (EpochForRetire r slot log epoch) = IsBefore w r (micros.EpochForRetire slot log)
   Enabled w (RetireCommit r slot log) = IsBefore w r (micros.RetireCommit slot log)
   Enabled w (ReplyExchange r reply) = IsBefore w r (micros.ReplyExchange reply)
+  Enabled w (ReadReply request reply) = reply ≢ 0
+  Enabled w (ReadStamp request stamp) = stamp ≢ 0

@@ -8,7 +8,7 @@ use Rattle.body_terms.specs.declared.micro.Micro.TheVariants as micros
 use Rattle.agreement_core.specs.Update.{upd2}
 use Rattle.agreement_core.specs.State.{Section, AgreementState, section_of}
 use Rattle.agreement_core.specs.Checks.{stored_word, is_stamp_exchange, is_reply_exchange}
-use Rattle.agreement_core.specs.Events.{Event, Publish, ExchangeCell, StampExchange, ReplyExchange, after}
+use Rattle.agreement_core.specs.Events.{Event, Publish, ExchangeCell, StampExchange, ReplyExchange, ReadReply, ReadStamp, after}
 
 -- a cell was changed from one word to another
 pub record Change : Type 0 where
@@ -67,6 +67,10 @@ noted w h (ReplyExchange r reply) = let n = number_of w h r in let request = (se
   replies = upd h.replies request (with_won (w.shared.reply request) 0 reply (h.replies request));
   replied = upd h.replied n (with_won (w.shared.reply request) 0 reply (h.replied n));
 }
+noted w h (ReadReply request reply) =
+    record h { replies = upd h.replies request (with_won (w.shared.reply request) 0 reply (h.replies request)) }
+noted w h (ReadStamp request stamp) =
+    record h { stamps = upd h.stamps request (with_won (w.shared.stamp request) 0 stamp (h.stamps request)) }
 noted w h _ = h
 
 -- the history after a list of events

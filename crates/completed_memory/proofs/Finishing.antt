@@ -23,7 +23,7 @@ use Rattle.completed_memory.specs.Pending.{HasCome, StillStores}
 use Rattle.completed_memory.proofs.Stores.{no_later_store, no_early_step, one_word, passed_some, passed_none, next_store, no_store_left, other_stores}
 
 -- the same change made twice
-upd_twice : {A : Type 0} (f : ℕ → A) (k : ℕ) (v w : A) → upd (upd f k v) k w ≡ upd f k w
+pub upd_twice : {A : Type 0} (f : ℕ → A) (k : ℕ) (v w : A) → upd (upd f k v) k w ≡ upd f k w
 upd_twice f k v w = fun_ext (λ i. grind arith)
 
 -- no change

@@ -25,7 +25,7 @@ use Rattle.section_lines.specs.Line.{IsLine}
 use Rattle.agreement_core.specs.State.{Section, AgreementState}
 use Rattle.agreement_core.specs.Events as agreement
 use Rattle.agreement_core.specs.Events.{Event, Enabled, IsBefore, step_of}
-use Rattle.agreement_core.specs.Events.{Publish, RetireDescriptor, Free, StoreLog, StoreDone, Read, Open, Pass, SetDone, Release, Finish, LoadCell, Commit, NestedLoad, NestedCommit, NestedHold, OutcomeLoad, OutcomeCommit, PrivateLoad, PrivateStore, MakeCommit, ClockLoad, StampExchange, ClockRaise, ExchangeCell, EpochForRetire, RetireCommit, ReplyExchange}
+use Rattle.agreement_core.specs.Events.{Publish, RetireDescriptor, Free, StoreLog, StoreDone, Read, Open, Pass, SetDone, Release, Finish, LoadCell, Commit, NestedLoad, NestedCommit, NestedHold, OutcomeLoad, OutcomeCommit, PrivateLoad, PrivateStore, MakeCommit, ClockLoad, StampExchange, ClockRaise, ExchangeCell, EpochForRetire, RetireCommit, ReplyExchange, ReadReply, ReadStamp}
 use Rattle.agreement_core.proofs.LineSteps.{pass_checks}
 use Rattle.agreement_core.proofs.Words.{version_held, version_next}
 use Rattle.agreement_core.proofs.Lines.{hold_lock}
@@ -260,3 +260,5 @@ module _ (m : Meaning) (laws : Laws m) (layout : Layout) (limits : IsWithinLimit
     where
       other_reply : micros.ReplyExchange reply ≡ micros.StampExchange → ⊥
       other_reply e = cc
+  plain_memory (ReadReply request reply) plain ok = still m laws layout limits c j kept pairs memory (next (ReadReply request reply)) (λ e. refl) (λ e x here. refl) (λ n. refl)
+  plain_memory (ReadStamp request stamp) plain ok = still m laws layout limits c j kept pairs memory (next (ReadStamp request stamp)) (λ e. refl) (λ e x here. refl) (λ n. refl)

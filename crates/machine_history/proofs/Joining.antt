@@ -17,7 +17,7 @@ use Rattle.agreement_core.specs.State.{CellRules, Section, AgreementState, secti
 use Rattle.agreement_core.specs.Checks.{is_stamp_exchange, is_stop}
 use Rattle.agreement_core.specs.Events as agreement
 use Rattle.agreement_core.specs.Events.{Event, IsBefore, step_of}
-use Rattle.agreement_core.specs.Events.{Publish, RetireDescriptor, Free, StoreLog, StoreDone, Read, Open, Pass, SetDone, Release, Finish, LoadCell, Commit, NestedLoad, NestedCommit, NestedHold, OutcomeLoad, OutcomeCommit, PrivateLoad, PrivateStore, MakeCommit, ClockLoad, StampExchange, ClockRaise, ExchangeCell, EpochForRetire, RetireCommit, ReplyExchange}
+use Rattle.agreement_core.specs.Events.{Publish, RetireDescriptor, Free, StoreLog, StoreDone, Read, Open, Pass, SetDone, Release, Finish, LoadCell, Commit, NestedLoad, NestedCommit, NestedHold, OutcomeLoad, OutcomeCommit, PrivateLoad, PrivateStore, MakeCommit, ClockLoad, StampExchange, ClockRaise, ExchangeCell, EpochForRetire, RetireCommit, ReplyExchange, ReadReply, ReadStamp}
 use Rattle.agreement_core.proofs.LineSteps.{pass_checks}
 use Rattle.epoch_core.specs.State.{Counts}
 use Rattle.history_core.specs.State.{Requests, HistoryState, is_replied}
@@ -36,7 +36,7 @@ use Rattle.machine_scenes.proofs.Events.{stops_of}
 use Rattle.machine_history.specs.Memory.{pairs_after, MemoryStands}
 use Rattle.machine_history.proofs.Steps.{step_memory, first_stands, closed_stands}
 use Rattle.machine_history.specs.Tied.{rank, AreTied}
-use Rattle.machine_history.specs.Steps.{HistoryStates, Step, Joint, Over, Learn, events_of, is_publication, MayFree, MayPublish, Enabled, after}
+use Rattle.machine_history.specs.Steps.{HistoryStates, Step, Joint, Over, Learn, events_of, is_apart, MayFree, MayPublish, Enabled, after}
 use Rattle.machine_history.specs.Steps as steps
 use Rattle.machine_history.specs.Laws.{AreAllClosed, IsJoined, FirstIsJoined, StepsKeepJoined, SchedulesKeepJoined, JoinedStands}
 use Rattle.machine_history.specs.Laws as laws_of
@@ -168,21 +168,21 @@ module _ (m : Meaning) (laws : Laws m) (layout : Layout) (limits : IsWithinLimit
       runs : (running ended loading : Bool) → (running && (not ended && loading)) ≡ true → running ≡ true
       runs running ended loading is = grind arith
 
-  agreement_follows : (v : Event) → scenes.Enabled m layout c j (scenes.Agreement v) → MayFree m layout c requests h (scenes.Agreement v) → Follows (scenes.Agreement v)
-  agreement_follows (Publish d lock word request code slot) ok free = absurd (true_false ok.0 refl)
-  agreement_follows (RetireDescriptor d) ok free = record { events = tt; tied = same_tied m laws layout limits c nodes requests j joined.kept w joined.sound joined.tied (next (RetireDescriptor d)) refl (λ e. refl) (λ e. refl) (λ i. refl) joined.tied.clock joined.tied.stamp joined.tied.reply; pairs = refl }
-  agreement_follows (Free d) ok free =
+  agreement_follows : (v : Event) → is_apart (scenes.Agreement v) ≡ false → scenes.Enabled m layout c j (scenes.Agreement v) → MayFree m layout c requests h (scenes.Agreement v) → Follows (scenes.Agreement v)
+  agreement_follows (Publish d lock word request code slot) single ok free = absurd (true_false ok.0 refl)
+  agreement_follows (RetireDescriptor d) single ok free = record { events = tt; tied = same_tied m laws layout limits c nodes requests j joined.kept w joined.sound joined.tied (next (RetireDescriptor d)) refl (λ e. refl) (λ e. refl) (λ i. refl) joined.tied.clock joined.tied.stamp joined.tied.reply; pairs = refl }
+  agreement_follows (Free d) single ok free =
       let used = sym (joined.tied.used d) ∙ free.0 in
       record {
         events = (record { used = free.0; done = free_done d used ok.1.0; over = free.1; quiet = free_quiet d ok.1.1 }, tt);
         tied = free_tied m laws layout limits c nodes requests j joined.kept w joined.sound joined.tied d;
         pairs = refl;
       }
-  agreement_follows (StoreLog d log word) ok free = record { events = tt; tied = unused_tied m laws layout limits c nodes requests j joined.kept w joined.sound joined.tied d (record (a.section d) { log = upd ((a.section d).log) log word }) refl ok.1 (next (StoreLog d log word)) refl (λ e. refl) (λ e. refl) (λ i. refl) joined.tied.clock joined.tied.stamp joined.tied.reply; pairs = refl }
-  agreement_follows (StoreDone d word) ok free = record { events = tt; tied = unused_tied m laws layout limits c nodes requests j joined.kept w joined.sound joined.tied d (record (a.section d) { done = word }) refl ok.1 (next (StoreDone d word)) refl (λ e. refl) (λ e. refl) (λ i. refl) joined.tied.clock joined.tied.stamp joined.tied.reply; pairs = refl }
-  agreement_follows (Read place) ok free = record { events = tt; tied = same_tied m laws layout limits c nodes requests j joined.kept w joined.sound joined.tied (next (Read place)) refl (λ e. refl) (λ e. refl) (λ i. refl) joined.tied.clock joined.tied.stamp joined.tied.reply; pairs = refl }
-  agreement_follows (Open r d) ok free = record { events = tt; tied = open_tied m laws layout limits c nodes requests j joined.kept w joined.sound joined.tied r d ok.1.0 ok.1.1; pairs = refl }
-  agreement_follows (Pass r) ok free =
+  agreement_follows (StoreLog d log word) single ok free = record { events = tt; tied = unused_tied m laws layout limits c nodes requests j joined.kept w joined.sound joined.tied d (record (a.section d) { log = upd ((a.section d).log) log word }) refl ok.1 (next (StoreLog d log word)) refl (λ e. refl) (λ e. refl) (λ i. refl) joined.tied.clock joined.tied.stamp joined.tied.reply; pairs = refl }
+  agreement_follows (StoreDone d word) single ok free = record { events = tt; tied = unused_tied m laws layout limits c nodes requests j joined.kept w joined.sound joined.tied d (record (a.section d) { done = word }) refl ok.1 (next (StoreDone d word)) refl (λ e. refl) (λ e. refl) (λ i. refl) joined.tied.clock joined.tied.stamp joined.tied.reply; pairs = refl }
+  agreement_follows (Read place) single ok free = record { events = tt; tied = same_tied m laws layout limits c nodes requests j joined.kept w joined.sound joined.tied (next (Read place)) refl (λ e. refl) (λ e. refl) (λ i. refl) joined.tied.clock joined.tied.stamp joined.tied.reply; pairs = refl }
+  agreement_follows (Open r d) single ok free = record { events = tt; tied = open_tied m laws layout limits c nodes requests j joined.kept w joined.sound joined.tied r d ok.1.0 ok.1.1; pairs = refl }
+  agreement_follows (Pass r) single ok free =
       let check = pass_checks (rules_of m layout) ((a.run r).descriptor) ((a.run r).trail) (step_of a r) ok.1.2 in
       record {
         events = tt;
@@ -190,7 +190,7 @@ module _ (m : Meaning) (laws : Laws m) (layout : Layout) (limits : IsWithinLimit
             joined.tied.clock joined.tied.stamp joined.tied.reply;
         pairs = refl;
       }
-  agreement_follows (SetDone r) ok free =
+  agreement_follows (SetDone r) single ok free =
       let used = joined.kept.agreement.running_used r ok.1.0 in
       let stop = stops_of (rules_of m layout) a joined.kept.agreement r ok.1 in
       record {
@@ -199,44 +199,46 @@ module _ (m : Meaning) (laws : Laws m) (layout : Layout) (limits : IsWithinLimit
             (λ two. let none = stop_rank (rules_of m layout) ((a.run r).descriptor) ((a.run r).trail) (step_of a r) ok.1.2 in omega arith));
         pairs = refl;
       }
-  agreement_follows (Release r place word) ok free = record { events = tt; tied = release_tied m laws layout limits c nodes requests j joined.kept w joined.sound joined.tied r place word; pairs = refl }
-  agreement_follows (Finish r) ok free = record { events = tt; tied = finish_tied m laws layout limits c nodes requests j joined.kept w joined.sound joined.tied r ok.1.1; pairs = refl }
-  agreement_follows (LoadCell r place log) ok free = record { events = tt; tied = by_word r (a.shared.cells place) (micros.LoadCell place log) ok.1.0 refl (next (LoadCell r place log)) refl (λ e. refl) (λ e. refl) (λ i. refl) joined.tied.clock joined.tied.stamp joined.tied.reply; pairs = refl }
-  agreement_follows (Commit r place log) ok free = record { events = tt; tied = by_commit r log ((a.run r).word) (micros.Commit place log) ok.1 refl (next (Commit r place log)) refl (λ e. refl) (λ e. refl) (λ i. refl) joined.tied.clock joined.tied.stamp joined.tied.reply; pairs = refl }
-  agreement_follows (NestedLoad r place log) ok free = record { events = tt; tied = by_word r (a.shared.cells place) (micros.NestedLoad place log) ok.1 refl (next (NestedLoad r place log)) refl (λ e. refl) (λ e. refl) (λ i. refl) joined.tied.clock joined.tied.stamp joined.tied.reply; pairs = refl }
-  agreement_follows (NestedCommit r place log) ok free = record { events = tt; tied = by_commit r log ((a.run r).word) (micros.NestedCommit place log) ok.1 refl (next (NestedCommit r place log)) refl (λ e. refl) (λ e. refl) (λ i. refl) joined.tied.clock joined.tied.stamp joined.tied.reply; pairs = refl }
-  agreement_follows (NestedHold r place word) ok free = record { events = tt; tied = by_word r ((a.run r).word) (micros.NestedHold place word) ok.1 refl (next (NestedHold r place word)) refl (λ e. refl) (λ e. refl) (λ i. refl) joined.tied.clock joined.tied.stamp joined.tied.reply; pairs = refl }
-  agreement_follows (OutcomeLoad r place log) ok free = record { events = tt; tied = by_word r (a.shared.cells place) (micros.OutcomeLoad place log) ok.1 refl (next (OutcomeLoad r place log)) refl (λ e. refl) (λ e. refl) (λ i. refl) joined.tied.clock joined.tied.stamp joined.tied.reply; pairs = refl }
-  agreement_follows (OutcomeCommit r place log) ok free = record { events = tt; tied = by_commit r log ((a.run r).word) (micros.OutcomeCommit place log) ok.1 refl (next (OutcomeCommit r place log)) refl (λ e. refl) (λ e. refl) (λ i. refl) joined.tied.clock joined.tied.stamp joined.tied.reply; pairs = refl }
-  agreement_follows (PrivateLoad r cell log place) ok free = record { events = tt; tied = by_word r (a.shared.cells place) (micros.PrivateLoad cell log) ok.1 refl (next (PrivateLoad r cell log place)) refl (λ e. refl) (λ e. refl) (λ i. refl) joined.tied.clock joined.tied.stamp joined.tied.reply; pairs = refl }
-  agreement_follows (PrivateStore r cell log value place word) ok free = absurd (true_false ok.0 refl)
-  agreement_follows (MakeCommit r log proposal) ok free = absurd (true_false ok.0 refl)
-  agreement_follows (ClockLoad r) ok free = record {
+  agreement_follows (Release r place word) single ok free = record { events = tt; tied = release_tied m laws layout limits c nodes requests j joined.kept w joined.sound joined.tied r place word; pairs = refl }
+  agreement_follows (Finish r) single ok free = record { events = tt; tied = finish_tied m laws layout limits c nodes requests j joined.kept w joined.sound joined.tied r ok.1.1; pairs = refl }
+  agreement_follows (LoadCell r place log) single ok free = record { events = tt; tied = by_word r (a.shared.cells place) (micros.LoadCell place log) ok.1.0 refl (next (LoadCell r place log)) refl (λ e. refl) (λ e. refl) (λ i. refl) joined.tied.clock joined.tied.stamp joined.tied.reply; pairs = refl }
+  agreement_follows (Commit r place log) single ok free = record { events = tt; tied = by_commit r log ((a.run r).word) (micros.Commit place log) ok.1 refl (next (Commit r place log)) refl (λ e. refl) (λ e. refl) (λ i. refl) joined.tied.clock joined.tied.stamp joined.tied.reply; pairs = refl }
+  agreement_follows (NestedLoad r place log) single ok free = record { events = tt; tied = by_word r (a.shared.cells place) (micros.NestedLoad place log) ok.1 refl (next (NestedLoad r place log)) refl (λ e. refl) (λ e. refl) (λ i. refl) joined.tied.clock joined.tied.stamp joined.tied.reply; pairs = refl }
+  agreement_follows (NestedCommit r place log) single ok free = record { events = tt; tied = by_commit r log ((a.run r).word) (micros.NestedCommit place log) ok.1 refl (next (NestedCommit r place log)) refl (λ e. refl) (λ e. refl) (λ i. refl) joined.tied.clock joined.tied.stamp joined.tied.reply; pairs = refl }
+  agreement_follows (NestedHold r place word) single ok free = record { events = tt; tied = by_word r ((a.run r).word) (micros.NestedHold place word) ok.1 refl (next (NestedHold r place word)) refl (λ e. refl) (λ e. refl) (λ i. refl) joined.tied.clock joined.tied.stamp joined.tied.reply; pairs = refl }
+  agreement_follows (OutcomeLoad r place log) single ok free = record { events = tt; tied = by_word r (a.shared.cells place) (micros.OutcomeLoad place log) ok.1 refl (next (OutcomeLoad r place log)) refl (λ e. refl) (λ e. refl) (λ i. refl) joined.tied.clock joined.tied.stamp joined.tied.reply; pairs = refl }
+  agreement_follows (OutcomeCommit r place log) single ok free = record { events = tt; tied = by_commit r log ((a.run r).word) (micros.OutcomeCommit place log) ok.1 refl (next (OutcomeCommit r place log)) refl (λ e. refl) (λ e. refl) (λ i. refl) joined.tied.clock joined.tied.stamp joined.tied.reply; pairs = refl }
+  agreement_follows (PrivateLoad r cell log place) single ok free = record { events = tt; tied = by_word r (a.shared.cells place) (micros.PrivateLoad cell log) ok.1 refl (next (PrivateLoad r cell log place)) refl (λ e. refl) (λ e. refl) (λ i. refl) joined.tied.clock joined.tied.stamp joined.tied.reply; pairs = refl }
+  agreement_follows (PrivateStore r cell log value place word) single ok free = absurd (true_false ok.0 refl)
+  agreement_follows (MakeCommit r log proposal) single ok free = absurd (true_false ok.0 refl)
+  agreement_follows (ClockLoad r) single ok free = record {
     events = (may_load m laws layout limits c nodes requests same_map j joined.kept w joined.sound joined.tied r ok.1.running ok.1.going ok.1.next, tt);
     tied = load_tied m laws layout limits c nodes requests same_map j joined.kept w joined.sound joined.tied r ok.1.running ok.1.going ok.1.next;
     pairs = refl;
   }
-  agreement_follows (StampExchange r) ok free = record {
+  agreement_follows (StampExchange r) single ok free = record {
     events = (may_stamp m laws layout limits c nodes requests same_map j joined.kept w joined.sound joined.tied r ok.1.running ok.1.going joined.memory ok.1.next, tt);
     tied = stamp_tied m laws layout limits c nodes requests same_map j joined.kept w joined.sound joined.tied r ok.1.running ok.1.going ok.1.next;
     pairs = stamp_pairs m laws layout limits c nodes requests same_map j joined.kept w joined.sound joined.tied r ok.1.running ok.1.going ok.1.next;
   }
-  agreement_follows (ClockRaise r) ok free = record {
+  agreement_follows (ClockRaise r) single ok free = record {
     events = (may_raise m laws layout limits c nodes requests same_map j joined.kept w joined.sound joined.tied r ok.1.running ok.1.going ok.1.next, tt);
     tied = raise_tied m laws layout limits c nodes requests same_map j joined.kept w joined.sound joined.tied r ok.1.running ok.1.going ok.1.next;
     pairs = refl;
   }
-  agreement_follows (ExchangeCell r place log value) ok free = record { events = tt; tied = by_word r ((a.run r).word) (micros.ExchangeCell place log value) ok.1 refl (next (ExchangeCell r place log value)) refl (λ e. refl) (λ e. refl) (λ i. refl) joined.tied.clock joined.tied.stamp joined.tied.reply; pairs = refl }
-  agreement_follows (EpochForRetire r slot log epoch) ok free = record { events = tt; tied = by_word r (epoch) (micros.EpochForRetire slot log) ok.1 refl (next (EpochForRetire r slot log epoch)) refl (λ e. refl) (λ e. refl) (λ i. refl) joined.tied.clock joined.tied.stamp joined.tied.reply; pairs = refl }
-  agreement_follows (RetireCommit r slot log) ok free = absurd (true_false ok.0 refl)
-  agreement_follows (ReplyExchange r reply) ok free = record {
+  agreement_follows (ExchangeCell r place log value) single ok free = record { events = tt; tied = by_word r ((a.run r).word) (micros.ExchangeCell place log value) ok.1 refl (next (ExchangeCell r place log value)) refl (λ e. refl) (λ e. refl) (λ i. refl) joined.tied.clock joined.tied.stamp joined.tied.reply; pairs = refl }
+  agreement_follows (EpochForRetire r slot log epoch) single ok free = record { events = tt; tied = by_word r (epoch) (micros.EpochForRetire slot log) ok.1 refl (next (EpochForRetire r slot log epoch)) refl (λ e. refl) (λ e. refl) (λ i. refl) joined.tied.clock joined.tied.stamp joined.tied.reply; pairs = refl }
+  agreement_follows (RetireCommit r slot log) single ok free = absurd (true_false ok.0 refl)
+  agreement_follows (ReplyExchange r reply) single ok free = record {
     events = (may_write m laws layout limits c nodes requests same_map j joined.kept w joined.sound joined.tied r ok.1.running ok.1.going reply ok.1.next, tt);
     tied = reply_tied m laws layout limits c nodes requests same_map j joined.kept w joined.sound joined.tied r ok.1.running ok.1.going reply ok.1.next;
     pairs = refl;
   }
+  agreement_follows (ReadReply request reply) single ok free = absurd (true_false refl single)
+  agreement_follows (ReadStamp request stamp) single ok free = absurd (true_false refl single)
 
-  step_follows : (step : scenes.Step) → is_publication step ≡ false → scenes.Enabled m layout c j step → MayFree m layout c requests h step → Follows step
-  step_follows (scenes.Agreement v) single ok free = agreement_follows v ok free
+  step_follows : (step : scenes.Step) → is_apart step ≡ false → scenes.Enabled m layout c j step → MayFree m layout c requests h step → Follows step
+  step_follows (scenes.Agreement v) single ok free = agreement_follows v single ok free
   step_follows (scenes.Epochs v) single ok free = record { events = tt; tied = unchanged (scenes.after m layout c j (scenes.Epochs v)) refl refl; pairs = refl }
   step_follows (scenes.Enter r) single ok free = record { events = tt; tied = unchanged (scenes.after m layout c j (scenes.Enter r)) refl refl; pairs = refl }
   step_follows (scenes.Read r place) single ok free = record { events = tt; tied = unchanged (scenes.after m layout c j (scenes.Read r place)) refl refl; pairs = refl }

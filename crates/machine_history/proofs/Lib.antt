@@ -5,9 +5,11 @@ pub mod Ranked
 pub mod Ranks
 pub mod Supplying
 pub mod Tying
+pub mod AtStamp
 pub mod Changing
 pub mod Events
 pub mod Leaving
+pub mod Looks
 pub mod Marks
 pub mod Runs
 pub mod Stamps

@@ -1,6 +1,6 @@
 -- Each joint step keeps the completed memory, or leads its map on.
-use Rattle.std.proofs.Common.{◌≡◌, ◌≢◌, ℕ, suc, ◌≤◌, Bool, true, false, refl, sym, ap, ◌∙◌, subst, inl, inr, ⊎_elim, arith}
-use Rattle.std.specs.Prelude.{◌⊎◌, Option, Some, None}
+use Rattle.std.proofs.Common.{◌≡◌, ◌≢◌, ℕ, suc, Bool, false, refl, sym, ap, ◌∙◌, subst, arith}
+use Rattle.std.specs.Prelude.{Option, Some, None}
 use Rattle.std.specs.FinMap.{empty}
 use mathlib.Core.Path.{fun_ext}
 use mathlib.Core.Logic.{dite}
@@ -12,8 +12,8 @@ use Rattle.body_terms.specs.Update.{upd}
 use Rattle.body_terms.specs.Run.{written_once}
 use Rattle.body_terms.specs.Word.{version_of, held_word}
 use Rattle.body_terms.specs.Line.{is_event, is_commit}
-use Rattle.body_terms.specs.Shape.{phase, IsStep}
-use Rattle.body_terms.specs.declared.step.Step.TheVariants.{Stamp, Store, Answer}
+use Rattle.body_terms.specs.Shape.{IsStep}
+use Rattle.body_terms.specs.declared.step.Step.TheVariants.{Answer}
 use Rattle.body_terms.specs.declared.thunk.Thunk.{Thunk}
 use Rattle.body_terms.specs.declared.micro.Source.{Source}
 use Rattle.body_terms.specs.declared.micro.Micro.{Micro}
@@ -21,42 +21,33 @@ use Rattle.body_terms.specs.declared.micro.Micro.TheVariants as micros
 use Rattle.table_words.specs.declared.layout.Layout.{Layout}
 use Rattle.table_words.specs.Limits.{IsWithinLimits}
 use Rattle.structure_laws.specs.Scene.{Status, Readings, with_cell, opened}
-use Rattle.structure_laws.specs.Scene as scenes
 use Rattle.structure_laws.specs.Meaning.{Meaning}
-use Rattle.structure_laws.specs.Sections.{Here, Settled, Unstored}
 use Rattle.structure_laws.specs.Cells.{cell_of}
 use Rattle.structure_laws.specs.Laws.{Laws}
 use Rattle.structure_laws.proofs.Changes.{upd_same, upd_other}
-use Rattle.section_lines.specs.Progress.{passed_steps}
 use Rattle.section_lines.proofs.Sources.{of_answer}
-use Rattle.agreement_core.specs.State.{Section, AgreementState, IsOpen}
+use Rattle.agreement_core.specs.State.{Section, AgreementState}
 use Rattle.agreement_core.proofs.Words.{version_held}
 use Rattle.epoch_core.specs.State.{Counts}
 use Rattle.completed_memory.specs.Moves.{StandsCompleted}
-use Rattle.completed_memory.proofs.Stores.{compare_places, come_settled}
 use Rattle.machine_scenes.specs.Shown.{Publications, States, scene_of, status_of, reader_of, section_with}
 use Rattle.machine_scenes.specs.Steps.{Step as JointStep, Agreement, Epochs, Enter, Read, Leave, Publish, Fill, Make, LoadEpoch, Retire, Enabled, after, MayPublish, MayMake, MayRetire}
 use Rattle.machine_scenes.specs.Kept.{IsKept}
 use Rattle.machine_scenes.specs.Schedules.{first_states}
-use Rattle.machine_scenes.proofs.Shown.{shown_open, shown_unused, shown_some}
+use Rattle.machine_scenes.proofs.Shown.{shown_unused, shown_some}
 use Rattle.machine_scenes.proofs.Running.{own, event_open, within_shown, late_agreed}
 use Rattle.machine_scenes.proofs.JointSteps.{hand_status}
 use Rattle.machine_scenes.proofs.Publishing.{sections_publish}
 use Rattle.machine_scenes.proofs.First.{status_first}
 use Rattle.machine_scenes.proofs.Links.{true_false}
-use Rattle.machine_history.specs.Memory.{passed_stamp, marks_of, pairs_after, is_of_stamp, MemoryStands, FirstMemoryStands, StepsKeepMemory, StampsAnswer, StampsApart, ClosedMemoryStands}
+use Rattle.machine_history.specs.Memory.{passed_stamp, marks_of, pairs_after, MemoryStands, FirstMemoryStands, StepsKeepMemory, StampsAnswer, StampsApart, ClosedMemoryStands}
 use Rattle.machine_history.proofs.Leaving.{some_none, Keep, completed_on}
 use Rattle.machine_history.proofs.Standing.{whole}
 use Rattle.machine_history.proofs.Runs.{marks_same, run_memory, retire_leads}
 use Rattle.machine_history.proofs.Changing.{by_moves, by_memory, from_scene, still}
-use Rattle.machine_history.proofs.Stamps.{stamp_here, at_stamp}
+use Rattle.machine_history.proofs.Stamps.{at_stamp}
+use Rattle.machine_history.proofs.AtStamp.{shown_at, open_here, stamp_settled, stamp_unstored}
 use Rattle.machine_history.proofs.Events.{plain_memory, early_commit}
-
-stamp_kind : (x : Micro) → is_of_stamp x ≡ true → (x ≡ micros.ClockLoad) ⊎ ((x ≡ micros.StampExchange) ⊎ (x ≡ micros.ClockRaise))
-stamp_kind micros.ClockLoad is = inl refl
-stamp_kind micros.StampExchange is = inr (inl refl)
-stamp_kind micros.ClockRaise is = inr (inr refl)
-stamp_kind x is = absurd (cc)
 
 module _ (m : Meaning) (laws : Laws m) (layout : Layout) (limits : IsWithinLimits layout) where
   module _ (c : Counts) (j : States) (kept : IsKept m layout c j) (pairs : Pairs) (memory : MemoryStands m layout c j pairs) where
@@ -190,35 +181,10 @@ module _ (m : Meaning) (laws : Laws m) (layout : Layout) (limits : IsWithinLimit
 
   pub stamps_apart : StampsApart m layout
   stamps_apart c nodes j d e kept map ne of_d of_e at_d at_e =
-      ((laws.over layout limits).gives (scene_of m c j) kept.lawful.sound kept.lawful.kept).one_key map d e (shown d) (shown e) (here d of_d) (here e of_e) ne
-      (settled d of_d at_d) (settled e of_e at_e) (unstored d of_d at_d) (unstored e of_e at_e)
-    where
-      shown : ℕ → scenes.Section
-      shown d = section_with m j.publications d ((j.agreement.section d).log) ((j.agreement.section d).edge)
-
-      here : (d : ℕ) → IsOpen j.agreement d → Here (scene_of m c j) d (section_with m j.publications d ((j.agreement.section d).log) ((j.agreement.section d).edge))
-      here d is = shown_open m j.publications d (j.agreement.used d) (j.agreement.section d) is.used is.undone
-
-      stamp : (d : ℕ) → IsOpen j.agreement d → is_of_stamp ((j.agreement.section d).code ((j.agreement.section d).edge)) ≡ true
-          → IsStep (m.body (j.publications.thunk d)) (passed_steps (m.body (j.publications.thunk d)) ((j.agreement.section d).edge)) Stamp
-      stamp d is at = stamp_here (m.body (j.publications.thunk d)) ((j.agreement.section d).edge) ((j.agreement.section d).code ((j.agreement.section d).edge))
-          (sym ((kept.thunks d is.used).code ((j.agreement.section d).edge))) (stamp_kind ((j.agreement.section d).code ((j.agreement.section d).edge)) at)
-
-      settled : (d : ℕ) → IsOpen j.agreement d → is_of_stamp ((j.agreement.section d).code ((j.agreement.section d).edge)) ≡ true
-          → Settled m (section_with m j.publications d ((j.agreement.section d).log) ((j.agreement.section d).edge))
-      settled d is at = come_settled m layout (section_with m j.publications d ((j.agreement.section d).log) ((j.agreement.section d).edge))
-          (kept.lawful.shaped d (section_with m j.publications d ((j.agreement.section d).log) ((j.agreement.section d).edge)) (here d is))
-          (passed_steps (m.body (j.publications.thunk d)) ((j.agreement.section d).edge), omega arith, stamp d is at)
-
-      unstored : (d : ℕ) → IsOpen j.agreement d → is_of_stamp ((j.agreement.section d).code ((j.agreement.section d).edge)) ≡ true
-          → Unstored m (section_with m j.publications d ((j.agreement.section d).log) ((j.agreement.section d).edge))
-      unstored d is at k r v store = ⊎_elim
-          (λ lt.
-          let shaped = kept.lawful.shaped d (section_with m j.publications d ((j.agreement.section d).log) ((j.agreement.section d).edge)) (here d is) in
-          let phases : phase (Store r v) ≤ phase Stamp = shaped.shape.phases k (passed_steps (m.body (j.publications.thunk d)) ((j.agreement.section d).edge)) (Store r v) Stamp lt store (stamp d is at) in
-          absurd (omega arith))
-          (λ le. omega arith)
-          (compare_places k (passed_steps (m.body (j.publications.thunk d)) ((j.agreement.section d).edge)))
+      ((laws.over layout limits).gives (scene_of m c j) kept.lawful.sound kept.lawful.kept).one_key map d e (shown_at m j d) (shown_at m j e)
+      (open_here m c j d of_d) (open_here m c j e of_e) ne
+      (stamp_settled m layout c j kept d of_d at_d) (stamp_settled m layout c j kept e of_e at_e)
+      (stamp_unstored m layout c j kept d of_d at_d) (stamp_unstored m layout c j kept e of_e at_e)
 
   pub closed_stands : ClosedMemoryStands m layout
   closed_stands c nodes j pairs memory closed = subst (λ cells. m.stands layout cells pairs)

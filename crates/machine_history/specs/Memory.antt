@@ -1,21 +1,26 @@
 -- The completed memory in the joint states, and the map for which it stands.
-use Rattle.std.specs.Prelude.{ℕ, zero, suc, ◌≡◌, ◌≢◌, ◌==◌, ◌||◌, Bool, true, false, cond}
+use Rattle.std.specs.Prelude.{ℕ, zero, suc, ◌++◌, ◌≡◌, ◌≢◌, ◌==◌, ◌||◌, Bool, true, false, cond}
 use Rattle.std.specs.FinMap.{empty}
+use Rattle.map_history.specs.declared.op.Op.{Op}
 use Rattle.map_history.specs.Keys.{HaveNoCommonKey}
 use Rattle.map_history.specs.Replay.{Pairs, reply_of, map_after}
 use Rattle.map_history.specs.Words.{word_of}
 use Rattle.body_terms.specs.declared.micro.Micro.{Micro}
 use Rattle.body_terms.specs.declared.micro.Micro.TheVariants as micros
+use Rattle.body_terms.specs.declared.step.Step.TheVariants.{Answer}
+use Rattle.body_terms.specs.declared.thunk.Thunk.{Thunk}
 use Rattle.table_words.specs.declared.layout.Layout.{Layout}
-use Rattle.structure_laws.specs.Scene.{Cells}
+use Rattle.structure_laws.specs.Scene.{Cells, Readings}
 use Rattle.structure_laws.specs.Meaning.{Meaning}
 use Rattle.structure_laws.specs.Cells.{slots}
+use Rattle.structure_laws.specs.Shape.{HasStep}
 use Rattle.agreement_core.specs.State.{AgreementState, section_of, IsOpen}
 use Rattle.agreement_core.specs.Checks.{is_stamp_exchange}
 use Rattle.agreement_core.specs.Events as agreement
 use Rattle.epoch_core.specs.declared.location.Location.{Location}
-use Rattle.epoch_core.specs.State.{Counts}
+use Rattle.epoch_core.specs.State.{Counts, is_entered}
 use Rattle.completed_memory.specs.Pending.{Marks, IsCompleted}
+use Rattle.read_answers.specs.Looks.{ReadsStand, IsLook}
 use Rattle.machine_scenes.specs.Shown.{Publications, States, scene_of}
 use Rattle.machine_scenes.specs.Steps.{Step, Agreement, descriptor_of, Enabled, after}
 use Rattle.machine_scenes.specs.Kept.{IsKept}
@@ -56,6 +61,17 @@ module _ (m : Meaning) (layout : Layout) (c : Counts) where
     pub stands : m.stands layout cells pairs
 
 module _ (m : Meaning) (layout : Layout) where
+  -- an entered runner has made this look outside a run, its lock has the word that was read first, and what the runner
+  -- has read stands
+  pub record HasLooked (j : States) (r : ℕ) (op : Op) (thunk : Thunk) : Type 0 where
+    pub planned : Readings
+    pub found : Readings
+    pub entered : is_entered (j.epochs.stage r) ≡ true
+    pub walk : j.walk r ≡ planned ++ found
+    pub look : IsLook m layout planned found op thunk
+    pub here : j.agreement.shared.cells thunk.lock ≡ thunk.word
+    pub stand : ReadsStand m j.agreement.shared.cells (j.walk r)
+
   -- at first it stands for the empty map
   abbrev pub FirstMemoryStands : Type 0
   FirstMemoryStands = (c : Counts) → c.nodes ≡ slots m layout → (location : ℕ → Location)
@@ -86,6 +102,28 @@ module _ (m : Meaning) (layout : Layout) where
       → is_of_stamp ((j.agreement.section d).code ((j.agreement.section d).edge)) ≡ true
       → is_of_stamp ((j.agreement.section e).code ((j.agreement.section e).edge)) ≡ true
       → HaveNoCommonKey (j.publications.op d) (j.publications.op e)
+
+  -- a look answers what that map does, and its operation leaves the map
+  abbrev pub LooksAnswer : Type 0
+  LooksAnswer = (c : Counts) → c.nodes ≡ slots m layout → (j : States) (r : ℕ) (pairs : Pairs) (op : Op) (thunk : Thunk)
+      → IsKept m layout c j → MemoryStands m layout c j pairs
+      → m.is_map ≡ true → HasLooked j r op thunk
+      → (i n : ℕ) → HasStep m thunk i (Answer n)
+      → n ≡ word_of (reply_of pairs op)
+
+  abbrev pub LooksLeave : Type 0
+  LooksLeave = (c : Counts) → c.nodes ≡ slots m layout → (j : States) (r : ℕ) (pairs : Pairs) (op : Op) (thunk : Thunk)
+      → IsKept m layout c j → MemoryStands m layout c j pairs
+      → m.is_map ≡ true → HasLooked j r op thunk
+      → map_after pairs op ≡ pairs
+
+  -- an open section that stands at its Stamp has no key in common with a look
+  abbrev pub LooksApart : Type 0
+  LooksApart = (c : Counts) → c.nodes ≡ slots m layout → (j : States) (r d : ℕ) (op : Op) (thunk : Thunk)
+      → IsKept m layout c j
+      → m.is_map ≡ true → HasLooked j r op thunk → IsOpen j.agreement d
+      → is_of_stamp ((j.agreement.section d).code ((j.agreement.section d).edge)) ≡ true
+      → HaveNoCommonKey op (j.publications.op d)
 
   -- where no section is open, the cells themselves stand for the map
   abbrev pub ClosedMemoryStands : Type 0

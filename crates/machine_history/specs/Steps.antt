@@ -38,10 +38,12 @@ events_of j (scenes.Agreement (agreement.SetDone r)) = history.SetDone (scenes.d
 events_of j (scenes.Agreement (agreement.Free d)) = history.Free d ∷ []
 events_of j _ = []
 
--- a publication by itself is no joint step here
-abbrev pub is_publication : scenes.Step → Bool
-is_publication (scenes.Publish r d lock word request code slot op thunk) = true
-is_publication _ = false
+-- a publication by itself is no joint step here, nor is a word that a read without a lock writes
+abbrev pub is_apart : scenes.Step → Bool
+is_apart (scenes.Publish r d lock word request code slot op thunk) = true
+is_apart (scenes.Agreement (agreement.ReadReply request reply)) = true
+is_apart (scenes.Agreement (agreement.ReadStamp request stamp)) = true
+is_apart _ = false
 
 module _ (m : Meaning) (layout : Layout) (c : Counts) (requests : Requests) where
   -- the states after a step
@@ -79,7 +81,7 @@ module _ (m : Meaning) (layout : Layout) (c : Counts) (requests : Requests) wher
 
   -- when a step may come
   abbrev pub Enabled : HistoryStates → Step → Type 0
-  Enabled h (Joint step) = (is_publication step ≡ false) × scenes.Enabled m layout c h.joint step × MayFree h step
+  Enabled h (Joint step) = (is_apart step ≡ false) × scenes.Enabled m layout c h.joint step × MayFree h step
   Enabled h (Publish r d lock word request code slot op thunk answer) =
       MayPublish h r d lock word request code slot op thunk answer
   Enabled h (Over r) = history.Enabled requests h.history (history.Over r)

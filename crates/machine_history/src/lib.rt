@@ -9,4 +9,4 @@ mod laws;
 mod memory;
 
 pub use laws::{joined_histories_stand, steps_keep_the_history};
-pub use memory::{stamps_answer_the_map, steps_keep_the_memory};
+pub use memory::{looks_answer_the_map, stamps_answer_the_map, steps_keep_the_memory};

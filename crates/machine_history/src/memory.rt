@@ -2,6 +2,7 @@
 ghost use Rattle.table_words.specs.declared.layout.Layout.{Layout};
 ghost use Rattle.table_words.specs.Limits.{IsWithinLimits};
 ghost use Rattle.machine_history.specs.Memory.{FirstMemoryStands, StepsKeepMemory, StampsAnswer, StampsApart, ClosedMemoryStands};
+ghost use Rattle.machine_history.specs.Memory.{LooksAnswer, LooksLeave, LooksApart};
 
 use structure_laws::Structure;
 
@@ -22,6 +23,17 @@ pub fn steps_keep_the_memory<S: Structure>(structure: &S)
 pub fn stamps_answer_the_map<S: Structure>(structure: &S)
     ensures answers { (layout : Layout) → IsWithinLimits layout → StampsAnswer (S.meaning structure.now) layout }
     ensures apart { (layout : Layout) → IsWithinLimits layout → StampsApart (S.meaning structure.now) layout }
+{
+    let _ = structure;
+}
+
+/// Over every structure that serves a map: where a runner's look stands, its thunk answers what the map answers for
+/// which the completed memory stands, and its operation leaves that map. No open section that stands at its
+/// Stamp has a key in common with it.
+pub fn looks_answer_the_map<S: Structure>(structure: &S)
+    ensures answers { (layout : Layout) → IsWithinLimits layout → LooksAnswer (S.meaning structure.now) layout }
+    ensures leaves { (layout : Layout) → IsWithinLimits layout → LooksLeave (S.meaning structure.now) layout }
+    ensures apart { (layout : Layout) → IsWithinLimits layout → LooksApart (S.meaning structure.now) layout }
 {
     let _ = structure;
 }

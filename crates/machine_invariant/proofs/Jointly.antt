@@ -20,10 +20,12 @@ use Rattle.machine_scenes.specs.Schedules.{AllEnabled, after_all}
 use Rattle.machine_agreement.specs.Chunks.{publication}
 use Rattle.machine_invariant.specs.Whole.{Beside, states_of, IsWhole}
 
--- a step that publishes no section; where it frees a descriptor, the section there wasn't live
--- before the list
+-- a step that publishes no section, and writes no word of a read; where it frees a descriptor, the section there
+-- wasn't live before the list
 abbrev pub IsQuietStep : States → Step → Type 0
 IsQuietStep from (steps.Agreement (agreement.Free d)) = from.agreement.live d ≡ false
+IsQuietStep from (steps.Agreement (agreement.ReadReply request reply)) = ⊥
+IsQuietStep from (steps.Agreement (agreement.ReadStamp request stamp)) = ⊥
 IsQuietStep from (steps.Publish r d lock word request code slot op thunk) = ⊥
 IsQuietStep from _ = Unit {0}
 
@@ -32,8 +34,8 @@ AreQuietSteps from [] = Unit {0}
 AreQuietSteps from (step ∷ more) = IsQuietStep from step × AreQuietSteps from more
 
 module _ (m : Meaning) (l : Layout) where
-  -- steps of the joint states, of which none publishes a section, lead from the one states to the
-  -- other
+  -- steps of the joint states, of which none publishes a section or writes a word of a read, lead from the one
+  -- states to the other
   pub record JointSteps (from to : States) : Type 0 where
     pub steps : List Step
     pub enabled : AllEnabled m l (counts_of m l) from steps
@@ -87,6 +89,8 @@ module _ (m : Meaning) (l : Layout) where
         where
           same : (x : Step) → IsQuietStep (record j { epochs = epochs.after (counts_of m l) j.epochs v }) x → IsQuietStep j x
           same (steps.Agreement (agreement.Free d)) is = is
+          same (steps.Agreement (agreement.ReadReply request reply)) is = is
+          same (steps.Agreement (agreement.ReadStamp request stamp)) is = is
           same (steps.Publish r d lock word request code slot op thunk) is = is
           same _ is = tt
 

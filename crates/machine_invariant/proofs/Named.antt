@@ -16,7 +16,7 @@ use Rattle.agreement_core.specs.Events.{Event, IsBefore, begun, reads, step_of, 
 use Rattle.agreement_core.specs.Events.{Publish, RetireDescriptor, Free, StoreLog, StoreDone, Read, Open, Pass, SetDone, Release, Finish}
 use Rattle.agreement_core.specs.Events.{LoadCell, Commit, NestedLoad, NestedCommit, NestedHold, OutcomeLoad, OutcomeCommit, PrivateLoad}
 use Rattle.agreement_core.specs.Events.{PrivateStore, MakeCommit, ClockLoad, StampExchange, ClockRaise, ExchangeCell, EpochForRetire}
-use Rattle.agreement_core.specs.Events.{RetireCommit, ReplyExchange}
+use Rattle.agreement_core.specs.Events.{RetireCommit, ReplyExchange, ReadReply, ReadStamp}
 use Rattle.agreement_core.proofs.Lines.{load_of_nested, load_of_outcome, start_nested, start_outcome, nested_logged, outcome_logged}
 use Rattle.agreement_core.proofs.Committing.{upd_here, upd_else}
 use Rattle.agreement_core.proofs.Moving.{upd_split}
@@ -357,6 +357,8 @@ module _ (c : CellRules) where
       ((line_of w sound r ok.running).retire_log _ slot log ok.next)
   named_after w sound held old (ReplyExchange r reply) ok known = same_named held (goes_on w r _) _ refl refl refl
       (went w sound held old r _ ok refl refl _)
+  named_after w sound held old (ReadReply request reply) ok known = same_named held w _ refl refl refl old
+  named_after w sound held old (ReadStamp request stamp) ok known = same_named held w _ refl refl refl old
 
   -- the same after a list of events none of which loads a lock's word
   pub named_all : (w : AgreementState) → IsSound c w → (held : ℕ → ℕ → Type 0) → AreNamed held w → (es : List Event) → AllEnabled c w es

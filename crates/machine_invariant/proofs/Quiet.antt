@@ -34,7 +34,8 @@ use Rattle.machine_invariant.proofs.Jointly.{no_steps, IsWholeAfter}
 use Rattle.machine_invariant.proofs.Ties.{IsOnward, alone_onward, named_onward, tied_onward}
 use Rattle.body_terms.specs.declared.thunk.Thunk.{Thunk}
 
--- an event of agreement that publishes, retires and frees nothing, and has nothing to do with a Make's slot or a Retire
+-- an event of agreement that publishes, retires and frees nothing, and has nothing to do with a Make's slot, a Retire or
+-- a read without a lock
 abbrev pub is_still : agreement.Event → Bool
 is_still (agreement.Publish d lock word request code slot) = false
 is_still (agreement.RetireDescriptor d) = false
@@ -43,6 +44,8 @@ is_still (agreement.PrivateLoad r cell log place) = false
 is_still (agreement.PrivateStore r cell log value place word) = false
 is_still (agreement.MakeCommit r log proposal) = false
 is_still (agreement.RetireCommit r slot log) = false
+is_still (agreement.ReadReply request reply) = false
+is_still (agreement.ReadStamp request stamp) = false
 is_still _ = true
 
 still_calm : (v : agreement.Event) → is_still v ≡ true → is_calm v ≡ true
@@ -53,6 +56,8 @@ still_calm (agreement.PrivateLoad r cell log place) still = absurd (cc)
 still_calm (agreement.PrivateStore r cell log value place word) still = absurd (cc)
 still_calm (agreement.MakeCommit r log proposal) still = absurd (cc)
 still_calm (agreement.RetireCommit r slot log) still = absurd (cc)
+still_calm (agreement.ReadReply request reply) still = absurd (cc)
+still_calm (agreement.ReadStamp request stamp) still = absurd (cc)
 still_calm _ still = refl
 
 all_calm : (es : List agreement.Event) → AllAre is_still es → AllAre is_calm es

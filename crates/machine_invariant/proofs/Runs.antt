@@ -22,7 +22,7 @@ use Rattle.machine_slots.proofs.Locks.{locks_held_after}
 use Rattle.machine_slots.proofs.Filled.{filled_after}
 use Rattle.machine_invariant.proofs.Jointly.{IsQuietStep, JointSteps, no_steps, one_more}
 
--- an event of agreement that stands alone, is no private load and frees no descriptor
+-- an event of agreement that stands alone, is no private load, frees no descriptor and writes no word of a read
 abbrev pub is_calm : agreement.Event → Bool
 is_calm (agreement.Publish d lock word request code slot) = false
 is_calm (agreement.PrivateLoad r cell log place) = false
@@ -30,6 +30,8 @@ is_calm (agreement.PrivateStore r cell log value place word) = false
 is_calm (agreement.MakeCommit r log proposal) = false
 is_calm (agreement.RetireCommit r slot log) = false
 is_calm (agreement.Free d) = false
+is_calm (agreement.ReadReply request reply) = false
+is_calm (agreement.ReadStamp request stamp) = false
 is_calm _ = true
 
 calm_plain : (v : agreement.Event) → is_calm v ≡ true → is_plain v ≡ true
@@ -43,6 +45,8 @@ calm_plain _ calm = refl
 
 calm_quiet : (from : States) (v : agreement.Event) → is_calm v ≡ true → IsQuietStep from (Agreement v)
 calm_quiet from (agreement.Free d) calm = absurd (cc)
+calm_quiet from (agreement.ReadReply request reply) calm = absurd (cc)
+calm_quiet from (agreement.ReadStamp request stamp) calm = absurd (cc)
 calm_quiet from _ calm = tt
 
 -- each event of the list passes the test

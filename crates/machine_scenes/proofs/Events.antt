@@ -18,7 +18,7 @@ use Rattle.section_lines.proofs.Moves.{is_within}
 use Rattle.agreement_core.specs.State.{CellRules, Section, AgreementState}
 use Rattle.agreement_core.specs.Checks.{is_stop, came}
 use Rattle.agreement_core.specs.Events.{Event, Enabled, after, IsBefore, step_of}
-use Rattle.agreement_core.specs.Events.{Publish, RetireDescriptor, Free, StoreLog, StoreDone, Read, Open, Pass, SetDone, Release, Finish, LoadCell, Commit, NestedLoad, NestedCommit, NestedHold, OutcomeLoad, OutcomeCommit, PrivateLoad, PrivateStore, MakeCommit, ClockLoad, StampExchange, ClockRaise, ExchangeCell, EpochForRetire, RetireCommit, ReplyExchange}
+use Rattle.agreement_core.specs.Events.{Publish, RetireDescriptor, Free, StoreLog, StoreDone, Read, Open, Pass, SetDone, Release, Finish, LoadCell, Commit, NestedLoad, NestedCommit, NestedHold, OutcomeLoad, OutcomeCommit, PrivateLoad, PrivateStore, MakeCommit, ClockLoad, StampExchange, ClockRaise, ExchangeCell, EpochForRetire, RetireCommit, ReplyExchange, ReadReply, ReadStamp}
 use Rattle.agreement_core.specs.Sound.{IsSound}
 use Rattle.agreement_core.proofs.LineSteps.{pass_checks}
 use Rattle.agreement_core.proofs.Keeping.{keeps}
@@ -127,3 +127,5 @@ module _ (m : Meaning) (laws : Laws m) (layout : Layout) (limits : IsWithinLimit
     plain_lawful (RetireCommit r slot log) plain ok = absurd (cc)
     plain_lawful (ReplyExchange r reply) plain ok = answer_lawful m laws layout limits p epoch status reader w old of_thunks lawful r
         ok.running ok.going reply ok.next
+    plain_lawful (ReadReply request reply) plain ok = lawful
+    plain_lawful (ReadStamp request stamp) plain ok = lawful

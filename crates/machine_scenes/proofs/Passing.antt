@@ -1,6 +1,6 @@
 -- Which places of a section's line an event of agreement passes: none but that of the run's step.
 use Rattle.std.proofs.Common.{◌≡◌, ◌≢◌, ℕ, suc, ◌<◌, Bool, true, false, cond, refl, sym, ap, ◌∙◌, subst, ⊎_elim, arith}
-use Rattle.std.specs.Prelude.{◌⊎◌, nat_lt}
+use Rattle.std.specs.Prelude.{nat_lt}
 use Rattle.std.proofs.lemmas.Bool.{cases_eq, cases_lt}
 use Rattle.small_lemmas.proofs.Numbers.{later_edge as late_edge, last_or_before as last}
 use Rattle.body_terms.specs.Update.{upd}
@@ -11,7 +11,7 @@ use Rattle.structure_laws.proofs.Changes.{upd_same, upd_other}
 use Rattle.agreement_core.specs.State.{CellRules, Section, AgreementState}
 use Rattle.agreement_core.specs.Checks.{came}
 use Rattle.agreement_core.specs.Events.{Event, Enabled, after, IsBefore}
-use Rattle.agreement_core.specs.Events.{Publish, RetireDescriptor, Free, StoreLog, StoreDone, Read, Open, Pass, SetDone, Release, Finish, LoadCell, Commit, NestedLoad, NestedCommit, NestedHold, OutcomeLoad, OutcomeCommit, PrivateLoad, PrivateStore, MakeCommit, ClockLoad, StampExchange, ClockRaise, ExchangeCell, EpochForRetire, RetireCommit, ReplyExchange}
+use Rattle.agreement_core.specs.Events.{Publish, RetireDescriptor, Free, StoreLog, StoreDone, Read, Open, Pass, SetDone, Release, Finish, LoadCell, Commit, NestedLoad, NestedCommit, NestedHold, OutcomeLoad, OutcomeCommit, PrivateLoad, PrivateStore, MakeCommit, ClockLoad, StampExchange, ClockRaise, ExchangeCell, EpochForRetire, RetireCommit, ReplyExchange, ReadReply, ReadStamp}
 use Rattle.agreement_core.specs.Sound.{IsSound}
 use Rattle.machine_scenes.specs.Kinds.{is_publication, is_retire_commit}
 use Rattle.machine_scenes.specs.Kept.{RetiresNodes}
@@ -149,6 +149,8 @@ module _ (c : CellRules) (w : AgreementState) (old : IsSound c w) (nodes : ℕ) 
   event_retires (EpochForRetire r slot log epoch) a b ok = before r (micros.EpochForRetire slot log) ok refl (log_of r)
   event_retires (RetireCommit r slot log) a b ok = absurd (cc)
   event_retires (ReplyExchange r reply) a b ok = before r (micros.ReplyExchange reply) ok refl (log_of r)
+  event_retires (ReadReply request reply) a b ok = retired
+  event_retires (ReadStamp request stamp) a b ok = retired
 
   -- the commit of a Retire of a node slot
   pub commit_retires : (r t log : ℕ) → t < nodes → Enabled c w (RetireCommit r t log) → RetiresNodes nodes (after w (RetireCommit r t log))

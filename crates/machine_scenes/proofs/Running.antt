@@ -1,6 +1,6 @@
 -- How a step of a run shows in the scene: not at all behind the edge, and at the edge as its section's next place.
-use Rattle.std.proofs.Common.{◌≡◌, ℕ, suc, ◌<◌, List, true, false, cond, refl, sym, ap, ◌∙◌, subst, ⊎_elim, arith}
-use Rattle.std.specs.Prelude.{nat_lt, Option, Some}
+use Rattle.std.proofs.Common.{◌≡◌, ℕ, suc, ◌<◌, List, true, false, refl, sym, ap, ◌∙◌, subst, ⊎_elim, arith}
+use Rattle.std.specs.Prelude.{Option, Some}
 use Rattle.std.proofs.lemmas.Bool.{cases_lt}
 use Rattle.small_lemmas.proofs.Numbers.{later_edge as late_edge}
 use Rattle.body_terms.specs.Update.{upd}

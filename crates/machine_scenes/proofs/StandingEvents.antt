@@ -8,7 +8,7 @@ use Rattle.structure_laws.proofs.Changes.{upd_other}
 use Rattle.agreement_core.specs.State.{CellRules, AgreementState}
 use Rattle.agreement_core.specs.Checks.{is_stop, came}
 use Rattle.agreement_core.specs.Events.{Event, Enabled, after, IsBefore}
-use Rattle.agreement_core.specs.Events.{Publish, RetireDescriptor, Free, StoreLog, StoreDone, Read, Open, Pass, SetDone, Release, Finish, LoadCell, Commit, NestedLoad, NestedCommit, NestedHold, OutcomeLoad, OutcomeCommit, PrivateLoad, PrivateStore, MakeCommit, ClockLoad, StampExchange, ClockRaise, ExchangeCell, EpochForRetire, RetireCommit, ReplyExchange}
+use Rattle.agreement_core.specs.Events.{Publish, RetireDescriptor, Free, StoreLog, StoreDone, Read, Open, Pass, SetDone, Release, Finish, LoadCell, Commit, NestedLoad, NestedCommit, NestedHold, OutcomeLoad, OutcomeCommit, PrivateLoad, PrivateStore, MakeCommit, ClockLoad, StampExchange, ClockRaise, ExchangeCell, EpochForRetire, RetireCommit, ReplyExchange, ReadReply, ReadStamp}
 use Rattle.agreement_core.specs.Sound.{IsSound}
 use Rattle.epoch_core.specs.State.{Retiring}
 use Rattle.machine_scenes.specs.Kinds.{is_publication, is_retire_commit}
@@ -96,6 +96,10 @@ module _ (c : CellRules) (w : AgreementState) (old : IsSound c w) (x : Retiring)
   event_stands (RetireCommit r slot log) a b ok = absurd (cc)
   event_stands (ReplyExchange r reply) a b ok = before_step r (micros.ReplyExchange reply) ok refl (log_of r)
       (ReplyExchange r reply) refl refl
+  event_stands (ReadReply request reply) a b ok = stands_with c w old x stands (after w (ReadReply request reply))
+      stands.open_section.used (w.section (x.descriptor)) refl stands.open_section.undone stands.next
+  event_stands (ReadStamp request stamp) a b ok = stands_with c w old x stands (after w (ReadStamp request stamp))
+      stands.open_section.used (w.section (x.descriptor)) refl stands.open_section.undone stands.next
 
   -- the commit of another Retire
   pub retire_stands : (r t log : ℕ) → Enabled c w (RetireCommit r t log) → ((w.run r).descriptor ≡ x.descriptor → log ≡ x.index → ⊥)

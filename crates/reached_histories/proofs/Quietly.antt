@@ -25,7 +25,7 @@ use Rattle.machine_scenes.specs.Shown.{States}
 use Rattle.machine_scenes.specs.Steps as scenes
 use Rattle.machine_scenes.specs.Schedules as scene_lists
 use Rattle.machine_history.specs.Tied.{is_loading}
-use Rattle.machine_history.specs.Steps.{HistoryStates, Joint, events_of, is_publication, MayFree}
+use Rattle.machine_history.specs.Steps.{HistoryStates, Joint, events_of, is_apart, MayFree}
 use Rattle.machine_history.specs.Laws.{IsJoined}
 use Rattle.machine_history.proofs.Joining.{steps_keep}
 use Rattle.machine_facts.specs.machine_invariant.proofs.Jointly.{IsQuietStep, AreQuietSteps, JointSteps}
@@ -247,7 +247,7 @@ module _ (m : Meaning) (laws : Laws m) (l : Layout) (limits : IsWithinLimits l) 
         → step ≡ scenes.Agreement (agreement.StampExchange r) → agreement.IsBefore j.agreement r micros.StampExchange
     stamp_enabled j step ok r is = (subst (scenes.Enabled m l c j) is ok).1
 
-    plain_step : (j : States) (step : scenes.Step) → is_publication step ≡ false → scenes.Enabled m l c j step → (old : JoinedAlike w j)
+    plain_step : (j : States) (step : scenes.Step) → is_apart step ≡ false → scenes.Enabled m l c j step → (old : JoinedAlike w j)
         → MayFree m l c asked (with_history j old.history) step → JoinedAlike w (scenes.after m l c j step)
     plain_step j step quiet ok old free = record {
       history = schedules.after_all asked old.history (events_of j step);
@@ -271,6 +271,8 @@ module _ (m : Meaning) (laws : Laws m) (l : Layout) (limits : IsWithinLimits l) 
         → JoinedAlike w (scenes.after m l c j step)
     quiet_step j (scenes.Agreement (agreement.Free d)) ok quiet old = free_step j d ok quiet old (j.agreement.used d) refl
     quiet_step j (scenes.Publish r d lock word request code slot op thunk) ok quiet old = absurd quiet
+    quiet_step j (scenes.Agreement (agreement.ReadReply request reply)) ok quiet old = absurd quiet
+    quiet_step j (scenes.Agreement (agreement.ReadStamp request stamp)) ok quiet old = absurd quiet
     quiet_step j step ok quiet old = plain_step j step refl ok old tt
 
     quiet_steps : (steps : List scenes.Step) (j : States) → scene_lists.AllEnabled m l c j steps → AreQuietSteps from steps
