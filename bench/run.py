@@ -9,6 +9,8 @@ Reading, serving and printing are told apart, in nanoseconds a request, and read
 sizes of one text, so that what a process needs to begin and to end isn't counted. The program only reads a text whose last line is bad; it
 reads and serves where the first page of the report can't be written. The plain program is told by a word how far to go.
 
+Then comes the check of a report on 131,072 requests, which both find legal, with the program's peak memory.
+
 Last come a generated text of 131,072 requests, which both print alike, and what a process needs to begin and to end, in milliseconds: at refused
 words, and at the empty text, beside a plain program that ends at once.
 """
@@ -95,6 +97,26 @@ def bytes_read(program: str, plain: str, text: pathlib.Path) -> None:
         print(f"{name}: {per_unit(ours, sizes):.2f} ns a byte, plain {per_unit(theirs, sizes):.2f} ns")
 
 
+def checked(program: str, plain: str, text: pathlib.Path) -> None:
+    """How long the check of the program's own report takes: on one trace, over few keys and many, and on 64 traces."""
+    texts = [("one trace, 1,000 keys", requests(131_072, 1_000))]
+    texts.append(("one trace, 65,536 keys", requests(131_072, 65_536)))
+    words = [program, "gen", "--seed=1", "--traces=64", "--length=2048", "--keys=32768"]
+    texts.append(("64 traces, 32,768 keys", subprocess.run(words, capture_output=True, check=True).stdout))
+    for name, content in texts:
+        words = [program, "run", "--runners", "4"]
+        report = subprocess.run(words, input=content, capture_output=True, check=True).stdout
+        text.write_bytes(content + b"report\n" + report)
+        for each in (program, plain):
+            with text.open("rb") as source:
+                if subprocess.run([each, "check"], stdin=source, capture_output=True).stdout != b"legal\n":
+                    sys.exit(f"{each}: the report isn't found legal")
+        ours, peak = measure([program, "check"], text)
+        theirs, _ = measure([plain, "check"], text)
+        ratio = f"{1000 * ours:.1f} ms, plain {1000 * theirs:.1f} ms, ratio {ours / theirs:.2f}"
+        print(f"check of {name}: {ratio}, peak {peak} KiB")
+
+
 def generated(program: str, plain: str, text: pathlib.Path) -> None:
     """How long a generated text takes to be printed, by one trace and by 64."""
     text.write_bytes(b"")
@@ -130,6 +152,7 @@ def main() -> None:
             print(f"{name}: {1000 * ours:.1f} ms, plain {1000 * theirs:.1f} ms, ratio {ours / theirs:.2f}, peak {peak} KiB")
         stages(program, str(plain), text)
         bytes_read(program, str(plain), text)
+        checked(program, str(plain), text)
         generated(program, str(plain), text)
         beginnings(program, str(plain), text)
 

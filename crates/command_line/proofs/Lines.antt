@@ -17,8 +17,8 @@ use Rattle.command_line.specs.Commands.{HasRanges, IsCommand}
 use Rattle.command_line.specs.Generated.{MeanLoad, MeanPlan, gen_names, load_names}
 use Rattle.command_line.specs.Options.{Mean, run_names}
 use Rattle.command_line.specs.Parser.{IsMeant, Means, flock_app, is_dashes, said_in}
-use Rattle.command_line.specs.Written.{Text, given}
-use Rattle.command_line.proofs.Meanings.{gen_load, run_gen, run_load}
+use Rattle.command_line.specs.Written.{AreOptionsOf, Text, Written, all_words_of, given}
+use Rattle.command_line.proofs.Meanings.{gen_check, gen_load, load_check, run_check, run_gen, run_load}
 use Rattle.command_line.proofs.Passes.{IsWritten, found, level, level_passes, level_read}
 use Rattle.command_line.proofs.Plains.{gen_plain, load_plain, run_plain, values_plain}
 use Rattle.command_line.proofs.Ranges.{command_in_range}
@@ -104,11 +104,19 @@ nothing_fault : fault_of flock_app [] ≡ kind.MissingSubcommand ∷ []
 unfolding walk_fault defaults_fault
 nothing_fault = refl
 
-unnamed : (word : Text) → bytes_eq (codes "run") word ≡ false → bytes_eq (codes "gen") word ≡ false → bytes_eq (codes "load") word ≡ false → subcommand_met tops idle word ≡ None
-unnamed word run gen load =
-    ap (λ b. option_map (λ (s : Text × List Text). s.0) (cond (b || false) (Some (codes "run", [])) (cond (bytes_eq (codes "gen") word || false) (Some (codes "gen", [])) (cond (bytes_eq (codes "load") word || false) (Some (codes "load", [])) None)))) run
-    ∙ ap (λ b. option_map (λ (s : Text × List Text). s.0) (cond (b || false) (Some (codes "gen", [])) (cond (bytes_eq (codes "load") word || false) (Some (codes "load", [])) None))) gen
-    ∙ ap (λ b. option_map (λ (s : Text × List Text). s.0) (cond (b || false) (Some (codes "load", [])) None)) load
+-- a word is this name, or goes on to the other names
+abbrev met_or : Bool → Text → Option (Text × List Text) → Option (Text × List Text)
+met_or same name rest = cond (same || false) (Some (name, [])) rest
+
+abbrev name_met : Option (Text × List Text) → Option Text
+name_met met = option_map (λ (s : Text × List Text). s.0) met
+
+unnamed : (word : Text) → bytes_eq (codes "run") word ≡ false → bytes_eq (codes "gen") word ≡ false → bytes_eq (codes "load") word ≡ false → bytes_eq (codes "check") word ≡ false → subcommand_met tops idle word ≡ None
+unnamed word run gen load check =
+    ap (λ b. name_met (met_or b (codes "run") (met_or (bytes_eq (codes "gen") word) (codes "gen") (met_or (bytes_eq (codes "load") word) (codes "load") (met_or (bytes_eq (codes "check") word) (codes "check") None))))) run
+    ∙ ap (λ b. name_met (met_or b (codes "gen") (met_or (bytes_eq (codes "load") word) (codes "load") (met_or (bytes_eq (codes "check") word) (codes "check") None)))) gen
+    ∙ ap (λ b. name_met (met_or b (codes "load") (met_or (bytes_eq (codes "check") word) (codes "check") None))) load
+    ∙ ap (λ b. name_met (met_or b (codes "check") None)) check
 
 first_turn : (word : Text) (line : List Text) → fault_of flock_app (word ∷ line) ≡ [] → turn_fault whole.top tops (walk_from nothing_held) word ≡ []
 unfolding walk_fault
@@ -137,44 +145,63 @@ run_said line written (commands.Run options) is =
     (refl, record { options = written.options; words = written.words; options_of = written.options_of; mean = subst (λ (said : Text → Option Text). Mean said options) (says run_names line written) is.1 })
 run_said line written (commands.Gen plan) is = absurd (run_gen is.0)
 run_said line written (commands.Load options) is = absurd (run_load is.0)
+run_said line written commands.Check is = absurd (run_check is)
 
 gen_said : (line : List Text) → IsWritten gen_names line → (command : Command) → IsMeant (Some (codes "gen", found gen_names line)) command → IsCommand (codes "gen" ∷ line) command
 gen_said line written (commands.Run options) is = absurd (run_gen (sym is.0))
 gen_said line written (commands.Gen plan) is =
     (refl, record { options = written.options; words = written.words; options_of = written.options_of; mean = subst (λ (said : Text → Option Text). MeanPlan said false plan) (says gen_names line written) is.1 })
 gen_said line written (commands.Load options) is = absurd (gen_load is.0)
+gen_said line written commands.Check is = absurd (gen_check is)
 
 load_said : (line : List Text) → IsWritten load_names line → (command : Command) → IsMeant (Some (codes "load", found load_names line)) command → IsCommand (codes "load" ∷ line) command
 load_said line written (commands.Run options) is = absurd (run_load (sym is.0))
 load_said line written (commands.Gen plan) is = absurd (gen_load (sym is.0))
+load_said line written commands.Check is = absurd (load_check is)
 load_said line written (commands.Load options) is =
     (refl, record { options = written.options; words = written.words; options_of = written.options_of; mean = subst (λ (said : Text → Option Text). MeanLoad said options) (says load_names line written) is.1 })
+
+-- options with no name to choose from are none
+no_options : (options : List Written) → AreOptionsOf [] options → options ≡ []
+no_options [] of = refl
+no_options (written ∷ options) of = let no = of.known in absurd (cc)
+
+check_said : (line : List Text) → IsWritten [] line → (command : Command) → IsMeant (Some (codes "check", found [] line)) command → IsCommand (codes "check" ∷ line) command
+check_said line written (commands.Run options) is = absurd (run_check (sym is.0))
+check_said line written (commands.Gen plan) is = absurd (gen_check (sym is.0))
+check_said line written (commands.Load options) is = absurd (load_check (sym is.0))
+check_said line written commands.Check is = (refl, written.words ∙ ap all_words_of (no_options written.options written.options_of))
 
 -- what clap takes and what has a meaning is a command
 pub said : (words : List Text) → list_any is_dashes words ≡ false → fault_of flock_app words ≡ [] → (command : Command) → IsMeant (subcommand_of flock_app words) command → IsCommand words command
 said [] dashes none command is = let no : kind.MissingSubcommand ∷ [] ≡ [] = sym nothing_fault ∙ none in cc
-said (word ∷ line) dashes none command is = by_name (bytes_eq (codes "run") word) (bytes_eq (codes "gen") word) (bytes_eq (codes "load") word) refl refl refl
+said (word ∷ line) dashes none command is = by_name (bytes_eq (codes "run") word) (bytes_eq (codes "gen") word) (bytes_eq (codes "load") word) (bytes_eq (codes "check") word) refl refl refl refl
   where
     rest : list_any is_dashes line ≡ false
     rest = (neither (is_dashes word) _ dashes).1
 
-    by_name : (run gen load : Bool) → bytes_eq (codes "run") word ≡ run → bytes_eq (codes "gen") word ≡ gen → bytes_eq (codes "load") word ≡ load → IsCommand (word ∷ line) command
-    by_name true gen load run_is gen_is load_is =
+    by_name : (run gen load check : Bool) → bytes_eq (codes "run") word ≡ run → bytes_eq (codes "gen") word ≡ gen → bytes_eq (codes "load") word ≡ load → bytes_eq (codes "check") word ≡ check → IsCommand (word ∷ line) command
+    by_name true gen load check run_is gen_is load_is check_is =
         let same : codes "run" ≡ word = (bytes_eq-Decides (codes "run") word).0 run_is in
         let written = read_named (codes "run") run_names refl refl line rest (ap (λ w. fault_of flock_app (w ∷ line)) same ∙ none) in
         let meant = subst (λ sub. IsMeant sub command) (ap (λ w. subcommand_of flock_app (w ∷ line)) (sym same) ∙ sub_named (codes "run") run_names refl refl line) is in
         subst (λ w. IsCommand (w ∷ line) command) same (run_said line written command meant)
-    by_name false true load run_is gen_is load_is =
+    by_name false true load check run_is gen_is load_is check_is =
         let same : codes "gen" ≡ word = (bytes_eq-Decides (codes "gen") word).0 gen_is in
         let written = read_named (codes "gen") gen_names refl refl line rest (ap (λ w. fault_of flock_app (w ∷ line)) same ∙ none) in
         let meant = subst (λ sub. IsMeant sub command) (ap (λ w. subcommand_of flock_app (w ∷ line)) (sym same) ∙ sub_named (codes "gen") gen_names refl refl line) is in
         subst (λ w. IsCommand (w ∷ line) command) same (gen_said line written command meant)
-    by_name false false true run_is gen_is load_is =
+    by_name false false true check run_is gen_is load_is check_is =
         let same : codes "load" ≡ word = (bytes_eq-Decides (codes "load") word).0 load_is in
         let written = read_named (codes "load") load_names refl refl line rest (ap (λ w. fault_of flock_app (w ∷ line)) same ∙ none) in
         let meant = subst (λ sub. IsMeant sub command) (ap (λ w. subcommand_of flock_app (w ∷ line)) (sym same) ∙ sub_named (codes "load") load_names refl refl line) is in
         subst (λ w. IsCommand (w ∷ line) command) same (load_said line written command meant)
-    by_name false false false run_is gen_is load_is = absurd (other_refused word line (unnamed word run_is gen_is load_is) (neither (is_dashes word) _ dashes).0 none)
+    by_name false false false true run_is gen_is load_is check_is =
+        let same : codes "check" ≡ word = (bytes_eq-Decides (codes "check") word).0 check_is in
+        let written = read_named (codes "check") [] refl refl line rest (ap (λ w. fault_of flock_app (w ∷ line)) same ∙ none) in
+        let meant = subst (λ sub. IsMeant sub command) (ap (λ w. subcommand_of flock_app (w ∷ line)) (sym same) ∙ sub_named (codes "check") [] refl refl line) is in
+        subst (λ w. IsCommand (w ∷ line) command) same (check_said line written command meant)
+    by_name false false false false run_is gen_is load_is check_is = absurd (other_refused word line (unnamed word run_is gen_is load_is check_is) (neither (is_dashes word) _ dashes).0 none)
 
 -- and a command is taken, and has that meaning
 pub record IsTaken (words : List Text) (command : Command) : Type 0 where
@@ -210,6 +237,9 @@ taken (word ∷ line) (commands.Load options) is =
     let same : said_in (found load_names line) ≡ given load.options = λ i name. passes.2 name i in
     let meant = subst (λ (said : Text → Option Text). MeanLoad said options) (sym same) load.mean in
     subst (λ w. IsTaken (w ∷ line) (commands.Load options)) (sym is.0) (taken_named (codes "load") load_names refl refl line (commands.Load options) refl passes.0 passes.1 (refl, meant))
+taken (word ∷ line) commands.Check is =
+    let passes = level_passes (codes "check") [] line [] refl is.1 (record { known = refl; once = refl }) refl in
+    subst (λ w. IsTaken (w ∷ line) commands.Check) (sym is.0) (taken_named (codes "check") [] refl refl line commands.Check refl passes.0 passes.1 refl)
 
 -- ---- the answer of the code, by what clap found
 

@@ -1,5 +1,5 @@
 -- What clap found means one command at most.
-use Rattle.std.proofs.Common.{◌≡◌, Bool, false, true, List, Option, None, Some, codes, ℕ, get_or, sym, ap, ◌∙◌, subst, arith}
+use Rattle.std.proofs.Common.{◌≡◌, Bool, false, true, List, Option, None, Some, codes, ℕ, get_or, refl, sym, ap, ◌∙◌, subst, arith}
 use Rattle.std.specs.Prelude.{IfNone}
 use Rattle.small_lemmas.proofs.Lists.{some_the_same as some_same}
 use Rattle.clap.specs.Walk.{Row}
@@ -16,6 +16,15 @@ use Rattle.command_line.specs.Written.{Text}
 -- the names of the commands differ
 abbrev first_of : Text → ℕ
 first_of word = get_or word 0 0
+
+pub run_check : codes "run" ≡ codes "check" → ⊥
+run_check e = let first : 114 ≡ 99 = ap first_of e in absurd (omega (arith, first))
+
+pub gen_check : codes "gen" ≡ codes "check" → ⊥
+gen_check e = let first : 103 ≡ 99 = ap first_of e in absurd (omega (arith, first))
+
+pub load_check : codes "load" ≡ codes "check" → ⊥
+load_check e = let first : 108 ≡ 99 = ap first_of e in absurd (omega (arith, first))
 
 pub run_gen : codes "run" ≡ codes "gen" → ⊥
 run_gen e = let first : 114 ≡ 103 = ap first_of e in absurd (omega (arith, first))
@@ -63,6 +72,13 @@ meant_once (Some sub) (commands.Gen a) (commands.Load b) one other = absurd (gen
 meant_once (Some sub) (commands.Load a) (commands.Run b) one other = absurd (run_load (sym other.0 ∙ one.0))
 meant_once (Some sub) (commands.Load a) (commands.Gen b) one other = absurd (gen_load (sym other.0 ∙ one.0))
 meant_once (Some sub) (commands.Load a) (commands.Load b) one other = ap commands.Load (one_load (said_in sub.1) a b one.1 other.1)
+meant_once (Some sub) (commands.Run a) commands.Check one other = absurd (run_check (sym one.0 ∙ other))
+meant_once (Some sub) (commands.Gen a) commands.Check one other = absurd (gen_check (sym one.0 ∙ other))
+meant_once (Some sub) (commands.Load a) commands.Check one other = absurd (load_check (sym one.0 ∙ other))
+meant_once (Some sub) commands.Check (commands.Run b) one other = absurd (run_check (sym other.0 ∙ one))
+meant_once (Some sub) commands.Check (commands.Gen b) one other = absurd (gen_check (sym other.0 ∙ one))
+meant_once (Some sub) commands.Check (commands.Load b) one other = absurd (load_check (sym other.0 ∙ one))
+meant_once (Some sub) commands.Check commands.Check one other = refl
 
 of_none : {X : Type 0} (found : Option X) (P : Type 0) → found ≡ None → IfNone found P → P
 of_none {X = X} found P e h = subst (λ (found : Option X). IfNone found P) e h
@@ -73,15 +89,18 @@ pub no_run : (rows : List Row) (found : Option RunOptions) → found ≡ None �
 no_run rows found none refused (commands.Run options) is = of_none found ((options : RunOptions) → Mean (said_in rows) options → ⊥) none refused options is.1
 no_run rows found none refused (commands.Gen plan) is = run_gen is.0
 no_run rows found none refused (commands.Load options) is = run_load is.0
+no_run rows found none refused commands.Check is = run_check is
 
 pub no_gen : (rows : List Row) (found : Option Gen) → found ≡ None → IfNone found ((plan : Gen) → MeanPlan (said_in rows) false plan → ⊥)
     → (command : Command) → IsMeant (Some (codes "gen", rows)) command → ⊥
 no_gen rows found none refused (commands.Run options) is = run_gen (sym is.0)
 no_gen rows found none refused (commands.Gen plan) is = of_none found ((plan : Gen) → MeanPlan (said_in rows) false plan → ⊥) none refused plan is.1
 no_gen rows found none refused (commands.Load options) is = gen_load is.0
+no_gen rows found none refused commands.Check is = gen_check is
 
 pub no_load : (rows : List Row) (found : Option LoadOptions) → found ≡ None → IfNone found ((options : LoadOptions) → MeanLoad (said_in rows) options → ⊥)
     → (command : Command) → IsMeant (Some (codes "load", rows)) command → ⊥
 no_load rows found none refused (commands.Run options) is = run_load (sym is.0)
 no_load rows found none refused (commands.Gen plan) is = gen_load (sym is.0)
+no_load rows found none refused commands.Check is = load_check is
 no_load rows found none refused (commands.Load options) is = of_none found ((options : LoadOptions) → MeanLoad (said_in rows) options → ⊥) none refused options is.1

@@ -190,3 +190,4 @@ command_in_range [] command is = absurd is
 command_in_range (word ∷ words) (commands.Run options) is = in_range (given is.1.options) options is.1.mean
 command_in_range (word ∷ words) (commands.Gen plan) is = plan_in_range (given is.1.options) false plan is.1.mean
 command_in_range (word ∷ words) (commands.Load options) is = load_in_range is.1.options options is.1.options_of is.1.mean
+command_in_range (word ∷ words) commands.Check is = tt

@@ -30,7 +30,7 @@ rules = map plain_rule
 abbrev pub built_with : Text → List Text → Shape
 built_with name options = record (new_shape name) { rules = rules options; no_binary_name = true; disable_help_flag = true; disable_help_subcommand = true; is_built = true }
 
-pub flock_built : (built flock_app).subs ≡ built_with (codes "run") run_names ∷ built_with (codes "gen") gen_names ∷ built_with (codes "load") load_names ∷ []
+pub flock_built : (built flock_app).subs ≡ built_with (codes "run") run_names ∷ built_with (codes "gen") gen_names ∷ built_with (codes "load") load_names ∷ built_with (codes "check") [] ∷ []
 flock_built = refl
 
 -- where the walk stands

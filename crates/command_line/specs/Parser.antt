@@ -21,7 +21,7 @@ option_rule name = record (new_rule name) { long = Some name; action = Some Set 
 abbrev pub shape_with : Text → List Text → Shape
 shape_with name options = record (new_shape name) { rules = map option_rule options }
 
--- one of three subcommands is wanted; there is no help and no version
+-- one of four subcommands is wanted; there is no help and no version
 abbrev pub flock_app : App
 flock_app = record {
   top = record (new_shape (codes "flock")) {
@@ -32,7 +32,7 @@ flock_app = record {
     subcommand_required = true;
   };
   subs = shape_with (codes "run") run_names ∷ shape_with (codes "gen") gen_names ∷ shape_with (codes "load") load_names
-      ∷ [];
+      ∷ shape_with (codes "check") [] ∷ [];
 }
 
 -- an argument of the command is one of its subcommands' too
@@ -56,6 +56,7 @@ IsMeant None command = ⊥
 IsMeant (Some sub) (commands.Run options) = (sub.0 ≡ codes "run") × Mean (said_in sub.1) options
 IsMeant (Some sub) (commands.Gen plan) = (sub.0 ≡ codes "gen") × MeanPlan (said_in sub.1) false plan
 IsMeant (Some sub) (commands.Load options) = (sub.0 ≡ codes "load") × MeanLoad (said_in sub.1) options
+IsMeant (Some sub) commands.Check = sub.0 ≡ codes "check"
 
 -- what they mean, where they mean a command
 abbrev pub Means : Option (Text × List Row) → Option Command → Type 0

@@ -24,6 +24,8 @@ pub enum Command {
     Gen(Gen),
     /// Run generated requests, and print how often each reply came.
     Load(LoadOptions),
+    /// Hold a report against its text.
+    Check,
 }
 
 /// Reads the words behind the program's name.
@@ -65,6 +67,7 @@ fn command_in(alloc: Global, matches: &ArgMatches<'_>) -> Result<Option<Command>
         "run" => run_command(alloc, options),
         "gen" => Ok(gen_command(options)),
         "load" => load_command(alloc, options),
+        "check" => Ok(Some(Command::Check)),
         _ => Ok(None),
     }
 }

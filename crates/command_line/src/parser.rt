@@ -38,6 +38,9 @@ static LOAD_NAMES: [&str; 10] = [
     "version-max",
 ];
 
+// `check` has none.
+static CHECK_NAMES: [&str; 0] = [];
+
 /// What clap makes of the words. None where it refuses them, also where it would answer with help. The Err is want of
 /// memory.
 pub fn parse<'a>(alloc: Global, words: &'a [&'a str]) -> Result<Option<ArgMatches<'a>>, AllocError>
@@ -55,13 +58,14 @@ pub fn parse<'a>(alloc: Global, words: &'a [&'a str]) -> Result<Option<ArgMatche
     }
 }
 
-// The three commands. What clap says of them is never shown, so there is no help.
+// The four commands. What clap says of them is never shown, so there is no help.
 fn flock<'a>(alloc: Global) -> Result<Command<'a>, AllocError>
     ensures { IfOk result (λ command. app_of command ≡ flock_app) }
 {
     let run = with_options(alloc, "run", &RUN_NAMES)?;
     let generate = with_options(alloc, "gen", &GEN_NAMES)?;
     let load = with_options(alloc, "load", &LOAD_NAMES)?;
+    let check = with_options(alloc, "check", &CHECK_NAMES)?;
     Command::new(alloc, "flock")
         .no_binary_name(true)
         .disable_help_flag(true)
@@ -69,7 +73,8 @@ fn flock<'a>(alloc: Global) -> Result<Command<'a>, AllocError>
         .subcommand_required(true)
         .subcommand(run)?
         .subcommand(generate)?
-        .subcommand(load)
+        .subcommand(load)?
+        .subcommand(check)
 }
 
 // A command with these options, each of which takes one text.

@@ -58,8 +58,10 @@ pub fn run<'a, T: Threads + Wait + Sync, R: Source, K: Sink, F: Sink, G: Gates>(
         (G.returned gates.old) (G.returned gates.new)) }
     ensures reads { exit_status result ≢ 8 → R.faults source.new ≡ R.faults source.old }
     ensures writes { exit_status result ≢ 9 → K.faults sink.new ≡ K.faults sink.old }
-    ensures silent { (IsRunStatus (exit_status result) → ⊥) → K.held sink.new ≡ K.held sink.old }
-    ensures statuses { exit_status result ≤ 9 }
+    ensures silent { (IsRunStatus (exit_status result) → ⊥) → exit_status result ≢ 10
+        → K.held sink.new ≡ K.held sink.old }
+    ensures statuses { exit_status result ≤ 10 }
+    ensures checks { exit_status result ≡ 10 → IsCommand (texts words.now) Command.Check }
 {
     let (status, ran) = flock(rt, alloc, words, source, sink, faults, gates);
     drop(ran);

@@ -1,6 +1,7 @@
 //! Rows of several runners: scripts by which they run beside one another, and reports that are
 //! legal whoever came first.
 
+use crate::checks::is_found_legal;
 use crate::legal::is_legal;
 use crate::program::{Ended, TABLES, bytes_of, run, run_gated};
 use body_terms::StepKind;
@@ -21,7 +22,8 @@ const fn pause(runner: u32, at: StepKind, until_runner: u32, until: StepKind) ->
     }
 }
 
-// Whether a text under this script ends with status 0 and this report, on this table.
+// Whether a text under this script ends with status 0 and this report, on this table, and the
+// program finds that report legal.
 fn script_gives<T: Threads + Wait + Sync>(
     rt: &T,
     alloc: Global,
@@ -31,8 +33,9 @@ fn script_gives<T: Threads + Wait + Sync>(
     report: &str,
 ) -> Result<bool, AllocError> {
     let mut gates = ScriptedGates::new(alloc, pauses.to_vec(alloc)?)?;
-    let ended = run_gated(rt, alloc, line, bytes_of(alloc, text)?, &mut gates)?;
-    Ok(ended.is(0, &bytes_of(alloc, report)?, b""))
+    let (text, report) = (bytes_of(alloc, text)?, bytes_of(alloc, report)?);
+    let ended = run_gated(rt, alloc, line, text.clone()?, &mut gates)?;
+    Ok(ended.is(0, &report, b"") && is_found_legal(rt, alloc, &text, &report)?)
 }
 
 // Runner 0 publishes and waits until runner 1 is through, and runner 1 enters only when it has: so
@@ -111,6 +114,10 @@ fn crowds_have_legal_reports(rt: HostRuntime) -> Result<(), Fail> {
             assert!(rt; ended.status == 0, "{line}");
             assert!(rt; !ended.report().contains("unserved"), "{line}");
             assert!(rt; is_legal(alloc, text, ended.report())?, "{line}");
+            assert!(rt;
+                is_found_legal(&rt, alloc, text, ended.sink.bytes())?,
+                "{line}"
+            );
         }
     }
     Ok(())

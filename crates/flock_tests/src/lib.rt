@@ -3,10 +3,12 @@
 //!
 //! `program` runs the program on a text, and `legal` is a check of reports of its own. `reports`
 //! has the rows whose text one runner determines, `stops` those in which a runner is stopped at an
-//! ask, `crowds` those of several runners, and `streams` those of texts that are cut off, and of
-//! reads and writes that fail.
+//! ask, `crowds` those of several runners, `checks` those of the program's own check of a report, and
+//! `streams` those of texts that are cut off, and of reads and writes that fail.
 #![tactic(auto)]
 
+#[cfg(test)]
+mod checks;
 #[cfg(test)]
 mod crowds;
 #[cfg(test)]

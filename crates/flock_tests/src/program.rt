@@ -44,8 +44,8 @@ pub fn bytes_of(alloc: Global, row: &str) -> Result<Vec<u8>, AllocError> {
     Ok(bytes)
 }
 
-/// Runs the words of a command line on a text, by these gates. Where the status isn't that of a run
-/// nothing is printed, and but at 9 no write failed.
+/// Runs the words of a command line on a text, by these gates. Where the status is neither that of a
+/// run nor 10 nothing is printed, and but at 9 no write failed.
 pub fn run_gated<T: Threads + Wait + Sync, G: Gates>(
     rt: &T,
     alloc: Global,
@@ -53,8 +53,9 @@ pub fn run_gated<T: Threads + Wait + Sync, G: Gates>(
     text: Vec<u8>,
     gates: &mut G,
 ) -> Result<Ended, AllocError>
-    ensures statuses { IfOk result (λ ended. ended.status ≤ 9) }
-    ensures silent { IfOk result (λ ended. (IsRunStatus ended.status → ⊥) → ended.sink.bytes ≡ []) }
+    ensures statuses { IfOk result (λ ended. ended.status ≤ 10) }
+    ensures silent { IfOk result (λ ended. (IsRunStatus ended.status → ⊥) → ended.status ≢ 10
+        → ended.sink.bytes ≡ []) }
     ensures written { IfOk result (λ ended. ended.status ≢ 9 → ended.sink.faults ≡ 0) }
 {
     let words: Vec<&str> = line.split_whitespace().collect(alloc)?;
@@ -83,8 +84,9 @@ pub fn run<T: Threads + Wait + Sync>(
     line: &str,
     text: Vec<u8>,
 ) -> Result<Ended, AllocError>
-    ensures statuses { IfOk result (λ ended. ended.status ≤ 9) }
-    ensures silent { IfOk result (λ ended. (IsRunStatus ended.status → ⊥) → ended.sink.bytes ≡ []) }
+    ensures statuses { IfOk result (λ ended. ended.status ≤ 10) }
+    ensures silent { IfOk result (λ ended. (IsRunStatus ended.status → ⊥) → ended.status ≢ 10
+        → ended.sink.bytes ≡ []) }
     ensures written { IfOk result (λ ended. ended.status ≢ 9 → ended.sink.faults ≡ 0) }
 {
     run_gated(rt, alloc, line, text, &mut PlannedGates::new())

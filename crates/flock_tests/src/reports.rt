@@ -1,5 +1,6 @@
 //! Rows whose whole text one runner determines. In the tables `/` stands for a line feed.
 
+use crate::checks::is_found_legal;
 use crate::legal::is_legal;
 use crate::program::{Ended, TABLES, bytes_of, run};
 use itoa::Buffer;
@@ -35,7 +36,8 @@ fn cut(row: &str) -> (&str, &str) {
     row.split_once('|').unwrap_or((row, ""))
 }
 
-// Whether a row comes out as it says, with these words behind its own.
+// Whether a row comes out as it says, with these words behind its own, and the program finds the
+// report legal, where one was printed.
 fn comes_out<T: Threads + Wait + Sync>(
     rt: &T,
     alloc: Global,
@@ -47,12 +49,14 @@ fn comes_out<T: Threads + Wait + Sync>(
     let (report, told) = cut(row);
     let (status, words) = command.split_once(' ').unwrap_or((command, ""));
     let line = format!(in alloc; "{words} {more}")?;
-    let ended = run(rt, alloc, &line, bytes_of(alloc, text)?)?;
+    let text = bytes_of(alloc, text)?;
+    let ended = run(rt, alloc, &line, text.clone()?)?;
     let (report, told) = (bytes_of(alloc, report)?, bytes_of(alloc, told)?);
     Ok(
         Buffer::new().format(ended.status) == status
             && ended.sink.bytes() == report.as_slice()
-            && ended.faults.bytes() == told.as_slice(),
+            && ended.faults.bytes() == told.as_slice()
+            && (report.is_empty() || is_found_legal(rt, alloc, &text, &report)?),
     )
 }
 
@@ -92,8 +96,10 @@ fn node_slots_are_used_again(rt: HostRuntime) -> Result<(), Fail> {
     report.extend_from_slice(b"final 0\n")?;
     for table in TABLES {
         let line = format!(in alloc; "run --nodes 18 --table {table}")?;
-        let ended = run(&rt, alloc, &line, in_and_out(alloc, 100, false)?)?;
+        let text = in_and_out(alloc, 100, false)?;
+        let ended = run(&rt, alloc, &line, text.clone()?)?;
         assert!(rt; ended.is(0, &report, b""), "{table}");
+        assert!(rt; is_found_legal(&rt, alloc, &text, &report)?, "{table}");
     }
     Ok(())
 }
@@ -111,5 +117,6 @@ fn a_worn_slot_ends_the_run(rt: HostRuntime) -> Result<(), Fail> {
         ended.faults.bytes() == b"flock: versions: runner 0 node free 1 limbo 0 worn 1\n".as_slice()
     );
     assert!(rt; is_legal(alloc, &text, ended.report())?);
+    assert!(rt; is_found_legal(&rt, alloc, &text, ended.sink.bytes())?);
     Ok(())
 }

@@ -2,6 +2,7 @@
 //! the keeper settles the table: it runs the section to its end that stands in a lock word, so the
 //! report has the reply of each request that was published before the stop.
 
+use crate::checks::is_found_legal;
 use crate::legal::is_legal;
 use crate::program::{Ended, TABLES, bytes_of, run};
 use std::alloc::{AllocError, Global};
@@ -72,6 +73,7 @@ fn one_runner_stops_at_each_ask(rt: HostRuntime) -> Result<(), Fail> {
             assert!(rt; ended.sink.bytes() == report.as_slice(), "{row} at {ask}");
             assert!(rt; tells_unserved(alloc, &ended)?, "{row} at {ask}");
         }
+        assert!(rt; is_found_legal(&rt, alloc, &text, &report)?, "{row}");
     }
     Ok(())
 }
@@ -106,6 +108,10 @@ fn whoever_does_not_stop_is_served(rt: HostRuntime) -> Result<(), Fail> {
                 );
                 assert!(rt;
                     is_legal(alloc, &text, ended.report())?,
+                    "{row} on {table} at {ask}"
+                );
+                assert!(rt;
+                    is_found_legal(&rt, alloc, &text, ended.sink.bytes())?,
                     "{row} on {table} at {ask}"
                 );
                 assert!(rt; tells_unserved(alloc, &ended)?, "{row} on {table} at {ask}");

@@ -28,10 +28,11 @@ const PREFIXES: &str = "\
 21 23 0|trace 0/0 new/final 1/|
 ";
 
-// Runs a text that comes in pieces of these sizes, of which these reads fail.
+// Runs a command on a text that comes in pieces of these sizes, of which these reads fail.
 fn run_pieces<T: Threads + Wait + Sync>(
     rt: &T,
     alloc: Global,
+    command: &str,
     text: Vec<u8>,
     pieces: Vec<usize>,
     fails: Vec<u64>,
@@ -41,7 +42,7 @@ fn run_pieces<T: Threads + Wait + Sync>(
     let status = status_of(
         rt,
         alloc,
-        &["run"],
+        &[command],
         &mut source,
         &mut sink,
         &mut faults,
@@ -70,8 +71,10 @@ fn prefix_gives<T: Threads + Wait + Sync>(
 ) -> Result<bool, AllocError> {
     let mut text = bytes_of(alloc, TEXT)?;
     text.truncate(length);
-    let whole = run_pieces(rt, alloc, text.clone()?, Vec::new(alloc), Vec::new(alloc));
-    let pieces = run_pieces(rt, alloc, text, bytewise(alloc, length)?, Vec::new(alloc));
+    let (one, none) = (Vec::new(alloc), Vec::new(alloc));
+    let whole = run_pieces(rt, alloc, "run", text.clone()?, one, none);
+    let bytes = bytewise(alloc, length)?;
+    let pieces = run_pieces(rt, alloc, "run", text, bytes, Vec::new(alloc));
     let (report, told) = (bytes_of(alloc, report)?, bytes_of(alloc, told)?);
     Ok(
         Buffer::new().format(whole.status) == status
@@ -107,6 +110,7 @@ fn each_read_fails_in_turn(rt: HostRuntime) -> Result<(), Fail> {
         let ended = run_pieces(
             &rt,
             alloc,
+            "run",
             bytes_of(alloc, TEXT)?,
             bytewise(alloc, 23)?,
             fails,
@@ -131,11 +135,42 @@ fn a_bad_line_before_a_failed_read_is_told(rt: HostRuntime) -> Result<(), Fail> 
     let ended = run_pieces(
         &rt,
         alloc,
+        "run",
         bytes_of(alloc, "flock 1/foo/")?,
         Vec::new(alloc),
         fails,
     );
     assert!(rt; ended.is(3, b"", b"flock: line 2: unknown word\n"));
+    Ok(())
+}
+
+// What is checked is read whole first, so a read that fails comes before a bad line.
+#[test]
+fn each_read_of_a_check_fails_in_turn(rt: HostRuntime) -> Result<(), Fail> {
+    let alloc = rt.alloc();
+    for (text, status, printed, told) in [
+        ("flock 1/report/final 0/", 0, "legal/", ""),
+        (
+            "foo/report/final 0/xxxx/",
+            3,
+            "",
+            "flock: line 1: no header/",
+        ),
+    ] {
+        let text = bytes_of(alloc, text)?;
+        let reads = (text.len() as u64).saturating_add(1);
+        for failing in 1..=reads.saturating_add(1) {
+            let fails = vec![in alloc; failing; 1]?;
+            let pieces = bytewise(alloc, text.len())?;
+            let ended = run_pieces(&rt, alloc, "check", text.clone()?, pieces, fails);
+            if failing <= reads {
+                assert!(rt; ended.is(8, b"", b"flock: read fault\n"), "at {failing}");
+            } else {
+                let (printed, told) = (bytes_of(alloc, printed)?, bytes_of(alloc, told)?);
+                assert!(rt; ended.is(status, &printed, &told), "at {failing}");
+            }
+        }
+    }
     Ok(())
 }
 
@@ -159,20 +194,30 @@ impl Sink for Narrow {
     }
 }
 
-const SERVED: &str = "flock 1/trace/ins 5 70/get 5/del 5/get 5/";
+// Commands, what they read, and what they print.
+const PRINTED: [(&str, &str, &[u8]); 3] = [
+    (
+        "run",
+        "flock 1/trace/ins 5 70/get 5/del 5/get 5/",
+        b"trace 0\n0 new\n1 val 70\n2 gone\n3 none\nfinal 0\n",
+    ),
+    ("check", "flock 1/report/final 0/", b"legal\n"),
+    ("check", "flock 1/report/final 1/", b"line 1: final\n"),
+];
 
-const REPORT: &[u8] = b"trace 0\n0 new\n1 val 70\n2 gone\n3 none\nfinal 0\n";
-
-// Whether a run whose write with this number fails, or takes nothing, ends with status 9 and leaves
-// what the writes before it took.
+// Whether a command whose write with this number fails, or takes nothing, ends with status 9 and
+// leaves what the writes before it took of what it prints.
 fn write_fails<T: Threads + Wait + Sync>(
     rt: &T,
     alloc: Global,
+    command: &str,
+    text: &str,
+    printed: &[u8],
     failing: u64,
     fails: Vec<u64>,
     empty: Vec<u64>,
 ) -> Result<bool, AllocError> {
-    let mut source = SureSource::new(bytes_of(alloc, SERVED)?, Vec::new(alloc));
+    let mut source = SureSource::new(bytes_of(alloc, text)?, Vec::new(alloc));
     let mut faults = quiet_sink(alloc);
     let mut sink = Narrow {
         behind: MemorySink::new(alloc, fails, empty),
@@ -181,13 +226,13 @@ fn write_fails<T: Threads + Wait + Sync>(
     let status = status_of(
         rt,
         alloc,
-        &["run"],
+        &[command],
         &mut source,
         &mut sink,
         &mut faults,
         gates,
     );
-    let taken = REPORT.iter().take(failing.saturating_sub(1) as usize);
+    let taken = printed.iter().take(failing.saturating_sub(1) as usize);
     Ok(
         status == 9
             && sink.behind.bytes().iter().eq(taken)
@@ -195,20 +240,24 @@ fn write_fails<T: Threads + Wait + Sync>(
     )
 }
 
-// The report takes as many writes as it has bytes.
+// What is printed takes as many writes as it has bytes.
 #[test]
 fn each_write_fails_or_takes_nothing_in_turn(rt: HostRuntime) -> Result<(), Fail> {
     let alloc = rt.alloc();
-    for failing in 1..=REPORT.len() as u64 {
-        let call = vec![in alloc; failing; 1]?;
-        assert!(rt;
-            write_fails(&rt, alloc, failing, call.clone()?, Vec::new(alloc))?,
-            "at {failing}"
-        );
-        assert!(rt;
-            write_fails(&rt, alloc, failing, Vec::new(alloc), call)?,
-            "empty at {failing}"
-        );
+    for (command, text, printed) in PRINTED {
+        for failing in 1..=printed.len() as u64 {
+            let call = vec![in alloc; failing; 1]?;
+            let (fails, none) = (call.clone()?, Vec::new(alloc));
+            assert!(rt;
+                write_fails(&rt, alloc, command, text, printed, failing, fails, none)?,
+                "{command} at {failing}"
+            );
+            let none = Vec::new(alloc);
+            assert!(rt;
+                write_fails(&rt, alloc, command, text, printed, failing, none, call)?,
+                "{command}, empty at {failing}"
+            );
+        }
     }
     Ok(())
 }

@@ -14,6 +14,7 @@ use Rattle.flock_tool.specs.Streams.{Gating, IsIdle, IsUntouched, Stream, Told}
 use Rattle.flock_tool.specs.declared.ran.Ran.{Ran}
 use Rattle.flock_tool.specs.declared.status.Stop.{Stop}
 use Rattle.flock_tool.specs.declared.status.Stop.TheVariants.{Words, Text, Nodes, WriteFault}
+use Rattle.flock_tool.proofs.CheckPrinting.{check_lacks}
 use Rattle.flock_tool.proofs.Ends.{stop_at_2, stop_at_7}
 use Rattle.flock_tool.proofs.Loading.{load_refused}
 use Rattle.flock_tool.proofs.Reported.{some_back}
@@ -50,6 +51,11 @@ module _ (result : ℕ × Option Ran) (source sink faults : Stream) (gates : Gat
   lacks (commands.Load load) seven none told unread untouched idle = record {
     unread = unread;
     runs = load_refused load result sink faults gates (Text Memory) tt seven none told untouched (λ _. idle) (λ _. idle.plans);
+  }
+  lacks commands.Check seven none told unread untouched idle = record {
+    none = none;
+    idle = idle;
+    prints = check_lacks result.0 source sink faults seven told unread untouched;
   }
 
   -- no command was read

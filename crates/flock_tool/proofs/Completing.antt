@@ -15,6 +15,7 @@ use Rattle.command_line.specs.trace_reader.specs.Answer.{AreTracesOf}
 use Rattle.command_line.specs.trace_reader.specs.Generator.{generated}
 use Rattle.command_line.specs.trace_reader.specs.declared.generator.Gen.{Gen}
 use Rattle.command_line.specs.trace_reader.specs.declared.traces.Traces.{Traces}
+use Rattle.report_check.specs.Inputs.{HasLegalReport}
 use Rattle.load_counts.specs.run_reports.specs.Reports.{HaveEntries, unserved_in}
 use Rattle.command_line.specs.Halts.{names_below}
 use Rattle.command_line.specs.declared.command.Command.{Command}
@@ -24,7 +25,8 @@ use Rattle.command_line.specs.declared.options.RunOptions.{RunOptions}
 use Rattle.threaded_runs.specs.Lone.{ServesAlone}
 use Rattle.threaded_runs.specs.Runs.{AreServed}
 use Rattle.flock_tool.specs.Alone.{HasLoneRoom, IsValidAlone, KeepsVersions, NothingStops}
-use Rattle.flock_tool.specs.Commands.{Ends, GenEnds, LoadEnds, LoadRuns, RunEnds}
+use Rattle.flock_tool.specs.Checks.{IsDue}
+use Rattle.flock_tool.specs.Commands.{CheckEnds, Ends, GenEnds, LoadEnds, LoadRuns, RunEnds}
 use Rattle.flock_tool.specs.Complete.{Completes, HasEnoughSlots, HasEnoughVersions, IsAnswered}
 use Rattle.flock_tool.specs.Finish.{finish_by, finish_status}
 use Rattle.flock_tool.specs.Loads.{HasCounted, HasLoadRun}
@@ -171,6 +173,17 @@ module _ (result : ℕ × Option Ran) (source sink faults : Stream) (gates : Gat
       by (inr (inr (inl seven))) = inr seven
       by (inr (inr (inr nine))) = absurd (fine.written (ends.prints.write nine).0)
 
+  check_whole : CheckEnds result source sink faults gates → ((input : List ℕ) × (source.before ≡ Some input) × HasLegalReport input) → NothingFails result.1 source sink gates → IsWhole result ⊎ (result.0 ≡ 7)
+  check_whole ends (input, tells, has) fine = by (due.legal has)
+    where
+      due : IsDue result.0 input
+      due = subst (λ left. IfSome left (IsDue result.0)) tells (ends.prints.due fine.read)
+
+      by : (result.0 ≡ 0) ⊎ (result.0 ≡ 9) ⊎ (result.0 ≡ 7) → IsWhole result ⊎ (result.0 ≡ 7)
+      by (inl is_0) = inl (record { status = is_0; answered = subst (λ back. IfSome back (λ ran. IsAnswered (meaning_of ran) (words_in ran))) (sym ends.none) tt })
+      by (inr (inl nine)) = let said = ends.prints.judged (inr (inr nine)) in absurd (fine.written (said.1.1.in_part nine).1)
+      by (inr (inr seven)) = inr seven
+
   -- a run of a text in the grammar, with no more node slots than the limit, is whole where nothing stops it and its status is neither 5
   -- nor 6
   run_done : (options : RunOptions) → RunEnds options result source sink faults gates → NothingStops source sink gates
@@ -264,6 +277,7 @@ module _ (result : ℕ × Option Ran) (source sink faults : Stream) (gates : Gat
         not_five load.run (traces_by load) load.plan.traces refl ran requests run room result.0 enough,
         enough.versions (of_back (λ r. HasEnoughVersions (meaning_of r) (words_in r)) result.1 ran back fine.versions),
       ))
+  whole commands.Check ends valid fine = check_whole ends valid fine
 
   -- and with one runner
   pub whole_alone : (command : Command) → Ends command result source sink faults gates → IsValidAlone command source.before
@@ -271,6 +285,7 @@ module _ (result : ℕ × Option Ran) (source sink faults : Stream) (gates : Gat
   whole_alone (commands.Run options) ends (text, traces, tells, are, room) fine = run_done options ends fine text traces tells are room.few
       (λ ran count counted requests run ended back. avoids options traces count counted ran requests run room result.0 ended.unserved ended.status)
   whole_alone (commands.Gen plan) ends valid fine = absurd valid
+  whole_alone commands.Check ends valid fine = absurd valid
   whole_alone (commands.Load load) ends (few, room) fine = load_done load ends fine few room.few
       (λ ran requests run counted back. avoids load.run (traces_by load) load.plan.traces refl ran requests run room result.0
       (unserved_in counted.entries) counted.status)

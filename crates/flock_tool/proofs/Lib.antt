@@ -1,4 +1,5 @@
 pub mod Asking
+pub mod CheckPrinting
 pub mod Commanding
 pub mod Completing
 pub mod Counting

@@ -31,6 +31,7 @@ IsValidAlone (commands.Gen plan) left = ⊥
 IsValidAlone (commands.Load load) left =
     (all_requests load.plan ≤ 131072)
     × HasLoneRoom load.run (record { count = load.plan.traces; requests = generated load.plan })
+IsValidAlone commands.Check left = ⊥
 
 -- no fault was counted, and no gate counted a halt
 pub record NothingStops (source sink : Stream) (gates : Gating) : Type 0 where

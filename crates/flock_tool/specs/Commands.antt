@@ -21,6 +21,7 @@ use Rattle.flock_tool.specs.declared.ran.Ran.{Ran}
 use Rattle.flock_tool.specs.declared.status.Stop.{Stop}
 use Rattle.flock_tool.specs.declared.status.Stop.TheVariants as stops
 use Rattle.flock_tool.specs.declared.status.Stop.TheVariants.{Words, Nodes, WriteFault}
+use Rattle.flock_tool.specs.Checks.{CheckPrints}
 use Rattle.flock_tool.specs.End.{IsLimit, error_line, error_status, nodes_line}
 use Rattle.flock_tool.specs.Loads.{HasCounted, HasLoadRun}
 use Rattle.flock_tool.specs.Plans.{AsksTooMuch, LoadAsksTooMuch, all_requests}
@@ -115,6 +116,12 @@ pub record LoadRuns (load : LoadOptions) (result : ℕ × Option Ran) (sink faul
   pub silent : (IsRunStatus result.0 → ⊥) → sink.after ≡ sink.before
   pub steady : result.0 ≢ 9 → sink.faults_after ≡ sink.faults_before
 
+-- what `check` leaves: it reads and prints, and nothing is run
+pub record CheckEnds (result : ℕ × Option Ran) (source sink faults : Stream) (gates : Gating) : Type 0 where
+  pub none : result.1 ≡ None
+  pub idle : IsIdle gates
+  pub prints : CheckPrints result.0 source sink faults
+
 -- and nothing is read
 pub record LoadEnds (load : LoadOptions) (result : ℕ × Option Ran) (source sink faults : Stream) (gates : Gating)
     : Type 0 where
@@ -125,6 +132,7 @@ abbrev pub Ends : Command → ℕ × Option Ran → (source sink faults : Stream
 Ends (commands.Run options) = RunEnds options
 Ends (commands.Gen plan) = GenEnds plan
 Ends (commands.Load load) = LoadEnds load
+Ends commands.Check = CheckEnds
 
 -- the program ended as this command does, with this status, whatever a run left
 abbrev pub Exits : Command → ℕ → (source sink faults : Stream) → Gating → Type 0

@@ -3,6 +3,7 @@ use Rattle.std.specs.Prelude.{◌≡◌, ◌≤◌, ◌+◌, ◌*◌, ℕ, List,
 use Rattle.command_line.specs.trace_reader.specs.Answer.{AreTracesOf}
 use Rattle.command_line.specs.trace_reader.specs.Generator.{generated}
 use Rattle.command_line.specs.trace_reader.specs.declared.traces.Traces.{Traces}
+use Rattle.report_check.specs.Inputs.{HasLegalReport}
 use Rattle.threaded_runs.specs.resource_bounds.specs.Makes.{inserts}
 use Rattle.command_line.specs.Halts.{names_below}
 use Rattle.command_line.specs.Options.{runners_by}
@@ -23,7 +24,7 @@ pub record HasRoom (options : RunOptions) (traces : Traces) : Type 0 where
   pub enough : 2 * inserts traces.requests + 2 ≤ (layout_by options traces.count traces.requests).nodes
 
 -- what is asked for is within the limits: the text of `run` is in the grammar, `gen` and `load` generate no more
--- requests than the limit, and what is run has room
+-- requests than the limit, and what is run has room; the input of `check` has a legal report
 abbrev pub IsValid : Command → Option (List ℕ) → Type 0
 IsValid (commands.Run options) left =
     (text : List ℕ) × (traces : Traces) × (left ≡ Some text) × AreTracesOf traces text × HasRoom options traces
@@ -31,6 +32,7 @@ IsValid (commands.Gen plan) left = all_requests plan ≤ 131072
 IsValid (commands.Load load) left =
     (all_requests load.plan ≤ 131072)
     × HasRoom load.run (record { count = load.plan.traces; requests = generated load.plan })
+IsValid commands.Check left = (input : List ℕ) × (left ≡ Some input) × HasLegalReport input
 
 -- no fault was counted, no gate counted a halt, and two versions at least are left of each closed cell
 pub record NothingFails (back : Option Ran) (source sink : Stream) (gates : Gating) : Type 0 where

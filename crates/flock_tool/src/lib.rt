@@ -2,11 +2,13 @@
 //! the report.
 //!
 //! `tool` has the top call, whose contract carries the theorem, `report` the command `run`, `generation` the command
-//! `gen` and `load` the command `load`. `plan` reads the text or generates the requests, `run` runs and prints, `ran`
-//! is what a run leaves, `status` has the ways in which the program can end without a report and `finish` those in
-//! which a run can, each with its number and its line, and `standard` adapts std's readers and writers.
+//! `gen`, `load` the command `load` and `checking` the command `check`. `plan` reads the text or generates the
+//! requests, `run` runs and prints, `ran` is what a run leaves, `status` has the ways in which the program can end
+//! without a report and `finish` those in which a run can, each with its number and its line, and `standard` adapts
+//! std's readers and writers.
 #![tactic(auto)]
 
+mod checking;
 mod finish;
 mod generation;
 mod load;

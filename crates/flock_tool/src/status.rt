@@ -70,7 +70,7 @@ pub fn stop_of_print(stop: PrintStop) -> Stop
 }
 
 /// A line with its line feed; the longest is `flock: line 4294967295: request before trace`.
-type Line = ArrayString<64>;
+pub type Line = ArrayString<64>;
 
 /// The number of the status.
 pub fn status_of(stop: Stop) -> u8
@@ -111,7 +111,8 @@ fn line_of(stop: Stop) -> Line
     }
 }
 
-fn line_of_error(error: TraceError) -> Line
+/// The line that says why a text was not read.
+pub fn line_of_error(error: TraceError) -> Line
     ensures { result.bytes ≡ error_line error }
 {
     match error {

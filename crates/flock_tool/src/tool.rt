@@ -9,6 +9,7 @@ ghost use Rattle.flock_tool.specs.Runs.{IsRunStatus};
 ghost use Rattle.flock_tool.specs.Streams.{gating, stream};
 ghost use Rattle.flock_tool.specs.Valid.{IsValid, IsWhole, NothingFails};
 
+use crate::checking::check_command;
 use crate::generation::gen_command;
 use crate::load::load_command;
 use crate::ran::Ran;
@@ -25,17 +26,19 @@ use threaded_runs::runner_gate::Gates;
 /// The whole program. With the command `run` it reads a trace text from the source, serves its
 /// requests on one table with a thread for each runner where one can be made, and appends the report
 /// to the sink. With `gen` it appends a trace text with generated requests, and with `load` it serves
-/// generated requests and appends how often each reply came. What goes wrong is told in one line to
-/// `faults`, whose own failures change no status. Where a run came to its end the closed words of its
-/// table come back, with what each runner answered.
+/// generated requests and appends how often each reply came. With `check` it reads a text, a line
+/// `report` and a report, and appends whether the report is legal. What goes wrong is told in one
+/// line to `faults`, whose own failures change no status. Where a run came to its end the closed
+/// words of its table come back, with what each runner answered.
 ///
-/// The status is 0 where all went well and every request was answered, 1 where a gate halted its
-/// runner and a request is unserved, 2 where the words are refused, 3 where the text isn't in the
-/// grammar, 4 where it or what is to be generated is past a limit or the runners would have too many
-/// node slots, 5 where a runner lacked slots, 6 where one lacked versions, 7 for want of memory, 8
-/// where the source failed, and 9 where the sink did. The report of `run` is printed whole at 0, 1, 5
-/// and 6, the other texts at 0 alone; at 9 the sink holds a part, and otherwise nothing is added to
-/// it.
+/// The status is 0 where all went well and every request was answered or the report is legal, 1 where
+/// a gate halted its runner and a request is unserved, 2 where the words are refused, 3 where the text
+/// isn't in the grammar or has no report to be checked, 4 where an input or what is to be generated is
+/// past a limit or the runners would have too many node slots, 5 where a runner lacked slots, 6 where
+/// one lacked versions, 7 for want of memory, 8 where the source failed, 9 where the sink did, and 10
+/// where a report that is checked isn't legal. The report of `run` is printed whole at 0, 1, 5 and 6,
+/// the verdict of `check` at 0 and 10, the other texts at 0 alone; at 9 the sink holds a part, and
+/// otherwise nothing is added to it.
 ///
 /// It may wait for threads, so its promises hold if it returns (Ben-David, Blelloch, Wei, *Lock-free
 /// locks revisited*, 2022).
@@ -99,8 +102,10 @@ pub fn flock<'a, T: Threads + Wait + Sync, R: Source, K: Sink, F: Sink, G: Gates
     // No failed read ends but at 8, and no failed write but at 9.
     ensures reads { result.0 ≢ 8 → R.faults source.new ≡ R.faults source.old }
     ensures writes { result.0 ≢ 9 → K.faults sink.new ≡ K.faults sink.old }
-    ensures silent { (IsRunStatus result.0 → ⊥) → K.held sink.new ≡ K.held sink.old }
-    ensures statuses { result.0 ≤ 9 }
+    ensures silent { (IsRunStatus result.0 → ⊥) → result.0 ≢ 10 → K.held sink.new ≡ K.held sink.old }
+    ensures statuses { result.0 ≤ 10 }
+    // A report that isn't legal is the one cause of 10, and it is `check` that finds it.
+    ensures checks { result.0 ≡ 10 → IsCommand (texts words.now) Command.Check }
 {
     words_mean_one_command();
     let command = match command_of(alloc, words) {
@@ -111,6 +116,7 @@ pub fn flock<'a, T: Threads + Wait + Sync, R: Source, K: Sink, F: Sink, G: Gates
         Command::Run(options) => run_command(rt, alloc, options, source, sink, faults, gates),
         Command::Gen(plan) => (gen_command(alloc, &plan, sink, faults), None),
         Command::Load(load) => load_command(rt, alloc, load, sink, faults, gates),
+        Command::Check => (check_command(alloc, source, sink, faults), None),
     }
 }
 

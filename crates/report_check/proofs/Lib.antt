@@ -1,3 +1,4 @@
+pub mod Causes
 pub mod Cuts
 pub mod Exact
 pub mod Forms
@@ -11,3 +12,4 @@ pub mod Rows
 pub mod Sayings
 pub mod Seen
 pub mod Splits
+pub mod Wholes

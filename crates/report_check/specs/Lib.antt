@@ -1,6 +1,7 @@
 pub mod Faults
 pub mod Histories
 pub mod Input
+pub mod Inputs
 pub mod Lines
 pub mod Parts
 pub mod Rows

@@ -1,5 +1,5 @@
 // Where a text ends and the report on it begins.
-ghost use Rattle.std.specs.Prelude.{◌≡◌, ◌==◌, ◌<◌, ◌∷◌, [], false, IfNone, IfSome, IsTrue, codes, length, position};
+ghost use Rattle.std.specs.Prelude.{◌≡◌, ◌==◌, ◌<◌, ◌≤◌, ◌∷◌, [], false, IfNone, IfSome, IsTrue, codes, length, position};
 ghost use Rattle.report_check.specs.Parts.{AreParted, IsLineAtFront, IsReportLine, NonePart};
 ghost use Rattle.trace_reader.specs.Fields.{fields_in};
 ghost use Rattle.trace_reader.specs.Lines.{lines_of};
@@ -11,6 +11,7 @@ use trace_reader::{content, first_field};
 /// no line is such a one.
 pub fn split_report(bytes: &[u8]) -> Option<(usize, usize)>
     ensures parted { IfSome result (λ found. AreParted bytes.now found.0 found.1) }
+    ensures order { IfSome result (λ found. (found.0 ≤ found.1) × (found.1 ≤ length bytes.now)) }
     ensures none { IfNone result (NonePart (lines_of bytes.now)) }
 {
     let mut at = 0;
@@ -23,6 +24,21 @@ pub fn split_report(bytes: &[u8]) -> Option<(usize, usize)>
         at += next;
     }
     None
+}
+
+/// How many lines the bytes have; the last may have no line feed.
+pub fn count_lines(bytes: &[u8]) -> usize
+    ensures count { result ≡ length (lines_of bytes.now) }
+    ensures few { result ≤ length bytes.now }
+{
+    let mut count = 0;
+    let mut at = 0;
+    while at < bytes.len() {
+        let (_, next) = first_line(&bytes[at..]);
+        at += next;
+        count += 1;
+    }
+    count
 }
 
 // Where the first line ends, and where what stands behind it begins.

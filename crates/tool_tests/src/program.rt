@@ -19,9 +19,9 @@ pub fn quiet_sink(alloc: Global) -> MemorySink
     MemorySink::new(alloc, Vec::new(alloc), Vec::new(alloc))
 }
 
-/// The status of the words of a command line over these streams, by these gates, from 0 to 9; what the
+/// The status of the words of a command line over these streams, by these gates, from 0 to 10; what the
 /// run answered is let go. The words are refused with 2 where they are no command. But at 8 no read
-/// failed and but at 9 no write did, and where the status isn't that of a run nothing is printed.
+/// failed and but at 9 no write did, and where the status is neither that of a run nor 10 nothing is printed.
 pub fn status_of<'a, T: Threads + Wait + Sync, R: Source, K: Sink, F: Sink, G: Gates>(
     rt: &T,
     alloc: Global,
@@ -35,8 +35,8 @@ pub fn status_of<'a, T: Threads + Wait + Sync, R: Source, K: Sink, F: Sink, G: G
     ensures words { (AreAccepted (texts words.now) → ⊥) → (result ≡ 2) ⊎ (result ≡ 7) }
     ensures reads { result ≢ 8 → R.faults source.new ≡ R.faults source.old }
     ensures writes { result ≢ 9 → K.faults sink.new ≡ K.faults sink.old }
-    ensures silent { (IsRunStatus result → ⊥) → K.held sink.new ≡ K.held sink.old }
-    ensures statuses { result ≤ 9 }
+    ensures silent { (IsRunStatus result → ⊥) → result ≢ 10 → K.held sink.new ≡ K.held sink.old }
+    ensures statuses { result ≤ 10 }
 {
     let (status, ran) = flock(rt, alloc, words, source, sink, faults, gates);
     drop(ran);

@@ -41,6 +41,23 @@ const RUNS: &str = "\
 4 load --seed=1 --traces 2 --length 1 --keys 1 --nodes 131073|||flock: limit: nodes 262146/
 5 load --seed=1 --traces 1 --length 3 --keys 100 --nodes=0|||flock: slots: runner 0 node free 0 limbo 0 worn 0/
 6 load --seed=1 --traces 1 --length 3 --keys 1 --buckets 1 --version-max 3|||flock: versions: place 0 value 0 version 3/
+0 check|flock 1/trace/ins 5 70/ins 5 80/get 5/report/trace 0/0 new/1 dup/2 val 70/final 1/|legal/|
+10 check|flock 1/trace/ins 5 70/ins 5 80/get 5/report/trace 0/0 new/1 dup/2 val 80/final 1/|line 4: reply/|
+10 check|flock 1/trace/ins 5 70/ins 5 80/get 5/report/trace 0/0 new/2 dup/1 val 70/final 1/|line 4: rank/|
+10 check|flock 1/trace/ins 5 70/ins 5 80/get 5/report/trace 0/0 new/- unserved/1 val 70/final 1/|line 4: rank/|
+0 check|flock 1/trace/ins 5 70/ins 5 80/get 5/report/trace 0/0 new/- unserved/- unserved/final 1/|legal/|
+10 check|flock 1/trace/ins 5 70/ins 5 80/get 5/report/trace 0/0 new/1 dup/2 val 70/final 2/|line 5: final/|
+10 check|flock 1/trace/ins 5 70/ins 5 80/get 5/report/trace 0/0 new/1 dup/2 val 70/|line 5: form/|
+0 check|flock 1/trace/ins 5 70/get 5/del 5/get 5/report/trace 0/0 new/1 val 70/- unserved/- unserved/final 1/|legal/|
+10 check|flock 1/trace/ins 5 70/report/|line 1: form/|
+10 check|flock 1/report/final 0/report/|line 2: form/|
+0 check|flock 1/\t report ^/final 0/|legal/|
+3 check|flock 1/||flock: line 2: no report/
+3 check|flock 1/trace||flock: line 3: no report/
+3 check|||flock: line 1: no header/
+3 check|report/final 0/||flock: line 1: no header/
+3 check|flock 1/get 1/report/final 0/||flock: line 2: request before trace/
+2 check --table hash|flock 1/report/final 0/||flock: words refused/
 ";
 
 const FAULTS: &str = "\
@@ -325,6 +342,35 @@ fn bytes_have_a_limit_behind_the_faults_before_it(rt: HostRuntime) -> Result<(),
             "flock: line 1: no header/"
         )?
     );
+    Ok(())
+}
+
+// A comment of so many bytes stands in the text, and so many more bytes behind its report.
+fn check_padded<T: Threads + Wait + Sync>(
+    rt: &T,
+    alloc: Global,
+    comment: usize,
+    behind: usize,
+) -> Result<Ran, AllocError> {
+    let mut input = bytes_of(alloc, "flock 1/#")?;
+    input.extend_from_slice(&vec![in alloc; b'x'; comment]?)?;
+    input.extend_from_slice(b"\nreport\nfinal 0\n")?;
+    input.extend_from_slice(&vec![in alloc; b'x'; behind]?)?;
+    Ok(run_words(rt, alloc, &["check"], input, Vec::new(alloc)))
+}
+
+// The text has its own limit, with its line feed, and the whole input another one.
+#[test]
+fn a_checked_input_has_two_limits(rt: HostRuntime) -> Result<(), Fail> {
+    let alloc = rt.alloc();
+    let ran = check_padded(&rt, alloc, 4_194_294, 0)?;
+    assert!(rt; ran.status == 0 && ran.said() == b"legal\n".as_slice());
+    let ran = check_padded(&rt, alloc, 4_194_295, 0)?;
+    assert!(rt; ran.status == 4 && ran.said() == b"flock: limit: bytes 4194305\n".as_slice());
+    let ran = check_padded(&rt, alloc, 4_194_294, 4_194_289)?;
+    assert!(rt; ran.status == 10 && ran.sink.bytes() == b"line 2: form\n".as_slice());
+    let ran = check_padded(&rt, alloc, 4_194_294, 4_194_290)?;
+    assert!(rt; ran.status == 4 && ran.said() == b"flock: limit: bytes 8388609\n".as_slice());
     Ok(())
 }
 

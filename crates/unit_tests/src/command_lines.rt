@@ -69,6 +69,11 @@ load --seed 7 --traces 1 --length 3
 load --seed 7 --traces 1 --length 3 --keys 1 --halt 0:1
 load --seed 7 --traces 1 --length 3 --keys 1 --runners 17
 load --seed 7 --traces 1 --length 3 --keys 1 --
+check --
+check check
+check report
+check --table hash
+check --help
 ";
 
 const ACCEPTED: &str = "\
@@ -83,6 +88,7 @@ gen --keys 32768 --length 131072 --traces 64 --seed 2147483647
 gen --seed=0 --traces=0 --length=0 --keys=1
 load --seed=1 --traces 8 --length 4000 --keys 1000 --runners 4
 load --version-max=3 --seed=1 --sections=1 --traces=8 --nodes=0 --length=4 --buckets=1 --keys=1 --table=hash
+check
 ";
 
 // Lines, and behind a bar what they mean, as `Debug` shows it.
@@ -91,6 +97,7 @@ run|Run(RunOptions { table: Hash, runners: None, bucket_bits: None, nodes: None,
 run --halt=2:10,0:7 --nodes 18 --runners=3 --buckets 256 --sections=5 --version-max 9 --table=tree|Run(RunOptions { table: Tree, runners: Some(3), bucket_bits: Some(8), nodes: Some(18), sections: 5, version_max: 9, halts: Halts { items: [Halt { runner: 2, ask: 10 }, Halt { runner: 0, ask: 7 }] } })
 gen --keys 100 --seed=1 --length 3 --traces 2|Gen(Gen { seed: 1, traces: 2, length: 3, keys: 100, apart: false })
 load --traces 2 --keys=100 --nodes=7 --seed=1 --length 3|Load(LoadOptions { plan: Gen { seed: 1, traces: 2, length: 3, keys: 100, apart: true }, run: RunOptions { table: Hash, runners: None, bucket_bits: None, nodes: Some(7), sections: 64, version_max: 4294967295, halts: Halts { items: [] } } })
+check|Check
 ";
 
 fn read(alloc: Global, line: &str) -> Result<Option<Command>, AllocError> {

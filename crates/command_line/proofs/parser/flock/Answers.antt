@@ -1,4 +1,4 @@
-use Rattle.std.proofs.Common.{◌≡◌, ◌∙◌, true, codes, ap, ap₂}
+use Rattle.std.proofs.Common.{◌≡◌, ◌∙◌, [], true, codes, ap, ap₂}
 use Rattle.std.proofs.lemmas.Result.{IfOk-weaker}
 use Rattle.clap.specs.Simple.{App, Shape, app_of, app_of_fields, new_app, on_top, shape_of, with_subcommand}
 use Rattle.command_line.specs.Generated.{gen_names, load_names}
@@ -28,4 +28,6 @@ returns c =
     let load_is : shape_of c.in_ok-load.load ≡ shape_with (codes "load") load_names = ap top_of c.in_ok-load.ensures.app in
     let first = c.in_ok-subcommand.ensures.shape c.in_ok-run.ensures.local ∙ ap₂ with_subcommand settings run_is in
     let second = c.in_ok-subcommand-2.ensures.shape c.in_ok-generate.ensures.local ∙ ap₂ with_subcommand first gen_is in
-    IfOk-weaker c.subcommand-3.result _ _ (λ command adds. adds.shape c.in_ok-load.ensures.local ∙ ap₂ with_subcommand second load_is) c.subcommand-3.ensures
+    let check_is : shape_of c.in_ok-check.check ≡ shape_with (codes "check") [] = ap top_of c.in_ok-check.ensures.app in
+    let third = c.in_ok-subcommand-3.ensures.shape c.in_ok-load.ensures.local ∙ ap₂ with_subcommand second load_is in
+    IfOk-weaker c.subcommand-4.result _ _ (λ command adds. adds.shape c.in_ok-check.ensures.local ∙ ap₂ with_subcommand third check_is) c.subcommand-4.ensures

@@ -1,6 +1,7 @@
-use Rattle.std.proofs.Common.{◌≡◌, ℕ, Option, sym, ◌∙◌, ⊎_elim, inl, inr, subst, refl}
+use Rattle.std.proofs.Common.{◌≡◌, ℕ, Option, sym, ◌∙◌, ⊎_elim, inl, inr, subst, refl, arith}
 use Rattle.flock_tool.specs.command_line.specs.declared.command.Command.{Command}
 use Rattle.flock_tool.specs.Commands.{Ends, Exits}
+use Rattle.flock_tool.specs.Runs.{IsRunStatus}
 use Rattle.flock_tool.specs.Streams.{Gating, Stream}
 use Rattle.flock_tool.specs.declared.ran.Ran.{Ran}
 use Rattle.flock.proofs.start.run.Goals as goal
@@ -27,3 +28,13 @@ returns-clause-words g c = λ not. let ends = c.flock-status.ensures.words not i
   words = λ two. ends.words (sym c.from.ensures ∙ two);
   memory = λ seven. ends.memory (sym c.from.ensures ∙ seven);
 }
+
+pub returns-clause-silent : goal.returns-clause-silent
+returns-clause-silent g c = λ not ten.
+    c.flock-status.ensures.silent (λ run. not (subst IsRunStatus (sym c.from.ensures) run)) (λ is. ten (c.from.ensures ∙ is))
+
+pub returns-clause-statuses : goal.returns-clause-statuses
+returns-clause-statuses g c = omega (arith, c.from.ensures, c.flock-status.ensures.statuses)
+
+pub returns-clause-checks : goal.returns-clause-checks
+returns-clause-checks g c = λ ten. c.flock-status.ensures.checks (sym c.from.ensures ∙ ten)

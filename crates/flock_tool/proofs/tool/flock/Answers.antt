@@ -2,6 +2,7 @@ use Rattle.std.proofs.Common.{refl, sym, ◌∙◌, inl, inr, ⊎_elim, subst, a
 use Rattle.command_line.specs.Commands.{IsCommand, texts}
 use Rattle.command_line.specs.declared.command.Command.TheVariants as commands
 use Rattle.flock_tool.proofs.Asking.{load_asks, load_asks_often, run_asks, run_asks_often}
+use Rattle.flock_tool.proofs.CheckPrinting.{check_few, check_silent, check_writes}
 use Rattle.flock_tool.proofs.Commanding.{back_none, gen_few, load_few, none_accepted, none_status, of_none, of_one, refused_ends}
 use Rattle.flock_tool.proofs.Completing.{load_keeps, none_keeps, run_keeps, whole, whole_alone}
 use Rattle.flock_tool.proofs.Running.{if_none}
@@ -103,10 +104,10 @@ pub returns-in-Gen-clause-writes : goal.returns-in-Gen-clause-writes
 returns-in-Gen-clause-writes g c = c.gen_command.ensures.steady
 
 pub returns-in-Gen-clause-silent : goal.returns-in-Gen-clause-silent
-returns-in-Gen-clause-silent g c = λ not. c.gen_command.ensures.silent (λ zero. not (inl zero)) (λ nine. not (inr (inr (inr (inr nine)))))
+returns-in-Gen-clause-silent g c = λ not ten. c.gen_command.ensures.silent (λ zero. not (inl zero)) (λ nine. not (inr (inr (inr (inr nine)))))
 
 pub returns-in-Gen-clause-statuses : goal.returns-in-Gen-clause-statuses
-returns-in-Gen-clause-statuses g c = (gen_few c.in-Gen.plan c.gen_command.result _ _ c.gen_command.ensures).1
+returns-in-Gen-clause-statuses g c = omega (arith, (gen_few c.in-Gen.plan c.gen_command.result _ _ c.gen_command.ensures).1)
 
 pub returns-in-Load-clause-commands : goal.returns-in-Load-clause-commands
 returns-in-Load-clause-commands g c =
@@ -142,7 +143,67 @@ pub returns-in-Load-clause-writes : goal.returns-in-Load-clause-writes
 returns-in-Load-clause-writes g c = c.load_command.ensures.steady
 
 pub returns-in-Load-clause-silent : goal.returns-in-Load-clause-silent
-returns-in-Load-clause-silent g c = c.load_command.ensures.silent
+returns-in-Load-clause-silent g c = λ not ten. c.load_command.ensures.silent not
 
 pub returns-in-Load-clause-statuses : goal.returns-in-Load-clause-statuses
-returns-in-Load-clause-statuses g c = (load_few c.in-Load.load c.load_command.result _ _ _ c.load_command.ensures).1
+returns-in-Load-clause-statuses g c = omega (arith, (load_few c.in-Load.load c.load_command.result _ _ _ c.load_command.ensures).1)
+
+pub returns-in-Check-clause-commands : goal.returns-in-Check-clause-commands
+returns-in-Check-clause-commands g c =
+    of_one _ _ _ _ _ (texts c.args.words.now) commands.Check (c.words_mean_one_command.ensures (texts c.args.words.now))
+    (subst (IsCommand (texts c.args.words.now)) c.in-Check.is c.in-Ok.ensures.read)
+    (record { none = refl; idle = record { returned = refl; halts = refl; asks = refl; plans = refl; planned = refl }; prints = c.check_command.ensures })
+
+pub returns-in-Check-clause-complete : goal.returns-in-Check-clause-complete
+returns-in-Check-clause-complete g c = λ command is. whole _ _ _ _ _ command (returns-in-Check-clause-commands g c command is)
+
+pub returns-in-Check-clause-alone : goal.returns-in-Check-clause-alone
+returns-in-Check-clause-alone g c = λ command is. whole_alone _ _ _ _ _ command (returns-in-Check-clause-commands g c command is)
+
+pub returns-in-Check-clause-versions : goal.returns-in-Check-clause-versions
+returns-in-Check-clause-versions g c = none_keeps (c.check_command.result, None) refl
+
+pub returns-in-Check-clause-asks : goal.returns-in-Check-clause-asks
+returns-in-Check-clause-asks g c = tt
+
+pub returns-in-Check-clause-often : goal.returns-in-Check-clause-often
+returns-in-Check-clause-often g c = tt
+
+pub returns-in-Check-clause-accepted : goal.returns-in-Check-clause-accepted
+returns-in-Check-clause-accepted g c = λ accepted. (check_few c.check_command.result _ _ _ c.check_command.ensures).0
+
+pub returns-in-Check-clause-words : goal.returns-in-Check-clause-words
+returns-in-Check-clause-words g c = λ not. absurd (not (c.in-Ok.command, c.in-Ok.ensures.read))
+
+pub returns-in-Check-clause-none : goal.returns-in-Check-clause-none
+returns-in-Check-clause-none g c = λ _. refl
+
+pub returns-in-Check-clause-reads : goal.returns-in-Check-clause-reads
+returns-in-Check-clause-reads g c = c.check_command.ensures.reads
+
+pub returns-in-Check-clause-writes : goal.returns-in-Check-clause-writes
+returns-in-Check-clause-writes g c = check_writes c.check_command.result _ _ _ c.check_command.ensures
+
+pub returns-in-Check-clause-silent : goal.returns-in-Check-clause-silent
+returns-in-Check-clause-silent g c = λ not ten. check_silent c.check_command.result _ _ _ c.check_command.ensures (λ zero. not (inl zero)) ten (λ nine. not (inr (inr (inr (inr nine)))))
+
+pub returns-in-Check-clause-statuses : goal.returns-in-Check-clause-statuses
+returns-in-Check-clause-statuses g c = (check_few c.check_command.result _ _ _ c.check_command.ensures).1
+
+pub returns-in-Check-clause-checks : goal.returns-in-Check-clause-checks
+returns-in-Check-clause-checks g c = λ _. subst (IsCommand (texts c.args.words.now)) c.in-Check.is c.in-Ok.ensures.read
+
+-- no other command ends with 10
+pub returns-in-Err-clause-checks : goal.returns-in-Err-clause-checks
+returns-in-Err-clause-checks g c = λ ten.
+    absurd (⊎_elim (λ two. omega (arith, ten, two, c.refuse.ensures.status)) (λ seven. omega (arith, ten, seven, c.refuse.ensures.status))
+    (none_status (texts c.args.words.now) c.in-Err.stop c.in-Err.ensures.refused))
+
+pub returns-in-Run-clause-checks : goal.returns-in-Run-clause-checks
+returns-in-Run-clause-checks g c = λ ten. absurd (omega (arith, ten, c.run_command.ensures.statuses))
+
+pub returns-in-Gen-clause-checks : goal.returns-in-Gen-clause-checks
+returns-in-Gen-clause-checks g c = λ ten. absurd (omega (arith, ten, (gen_few c.in-Gen.plan c.gen_command.result _ _ c.gen_command.ensures).1))
+
+pub returns-in-Load-clause-checks : goal.returns-in-Load-clause-checks
+returns-in-Load-clause-checks g c = λ ten. absurd (omega (arith, ten, (load_few c.in-Load.load c.load_command.result _ _ _ c.load_command.ensures).1))
