@@ -1,0 +1,17 @@
+use Rattle.std.proofs.Common.{sym, ap, ◌∙◌, subst}
+use Rattle.account_laws.specs.Accounts.{lock_of, accounts_of}
+use Rattle.lock_walks.specs.Way.{Leads}
+use Rattle.accounts.specs.Walk.{transfer_way}
+use Rattle.accounts.specs.declared.walk.Found.TheVariants.{Nothing}
+use Rattle.accounts.specs.declared.walk.TransferWalk.{TransferWalk}
+use Rattle.accounts.proofs.Leading.{leads}
+use Rattle.accounts.proofs.Sums.{in_order, below}
+use Rattle.accounts.proofs.table.Accounts.walk.Goals as goal
+
+pub returns-clause-leads : goal.returns-clause-leads
+returns-clause-leads c =
+    let t = c.args.transfer in
+    let s = c.args.self.now in
+    subst (λ place. Leads {W = TransferWalk} transfer_way (accounts_of s.accounts s.opening) c.args.layout (record { transfer = t; lock = place; version_max = c.args.layout.version_max; op = c.args.op; found = Nothing }))
+    (sym (c.lock_of.ensures ∙ ap lock_of c.lower-lower.ensures))
+    (leads s.accounts s.opening c.args.layout c.args.op t (in_order t c.requires.apart) (below s.accounts t c.requires.from c.requires.to))

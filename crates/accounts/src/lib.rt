@@ -1,0 +1,22 @@
+//! Accounts on the locks: a structure that serves no map, whose sections move money from one account to another.
+//!
+//! `table` has the accounts, `body` the section, `fit` which thunk fits what was read, `transfer` what is to be moved,
+//! `walk` how a transfer is planned, and `closing` what a closed table holds.
+#![tactic(auto)]
+
+mod body;
+mod closing;
+mod fit;
+mod table;
+mod transfer;
+mod walk;
+
+pub use closing::balances;
+pub use table::Accounts;
+pub use transfer::Transfer;
+pub use walk::{Found, TransferWalk};
+
+// Passed on to the layers above, so that they needn't name these libraries themselves.
+pub use account_laws;
+pub use closed_words;
+pub use lock_walks;
