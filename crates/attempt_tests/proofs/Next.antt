@@ -5,6 +5,7 @@ use Rattle.std.proofs.lemmas.Bool.Decides.{nat_tests}
 use Rattle.map_history.specs.declared.op.Request.{Request}
 use Rattle.map_history.specs.declared.reply.Reply.{Reply}
 use Rattle.map_history.specs.Words.{word_of}
+use Rattle.runner_gate.specs.Asks.{Asks}
 use Rattle.table_words.specs.declared.layout.Layout.{Layout}
 use Rattle.structure_laws.specs.Meaning.{Meaning}
 use Rattle.runner_parts.specs.declared.entries.Known.{Known}
@@ -67,7 +68,7 @@ knows_entry (x ∷ known) (suc i) number found reply at = either (x.request == n
     either false q e = e
 
 module _ {T : Type 0} (m : Meaning) (planning : Planning) (t : TableState T) (scene : IsScene planning t) (old new : RunnerState T) (own_old : IsOf t old) (own : IsOf t new)
-    (q : Request) (answer : Attempt) (Seen : ℕ → ℕ → Type 0) (halts halts' asked asked' steps steps' : ℕ)
+    (q : Request) (answer : Attempt) (Seen : ℕ → Asks → Type 0) (halts halts' : ℕ) (asked asked' : Asks) (steps steps' : ℕ)
     (attempts : Attempts m planning q answer old new Seen halts halts' asked asked' steps steps') where
   -- where a lock was held, the second worker may attempt its request again
   pub may_ask_again : old.number ≡ 1 → q ≡ asks → (place word : ℕ) → answer ≡ answers.Busy place word → MayAttempt planning q new

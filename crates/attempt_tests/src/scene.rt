@@ -6,11 +6,11 @@ ghost use Rattle.hash_table.specs.version_words.specs.Stages.{IsKeeper};
 ghost use Rattle.attempt_tests.specs.Scene.{IsScene, IsFresh, ServesThem};
 
 use attempts::{Attempt, attempt};
-use body_terms::{Gate, Steps};
+use body_terms::Steps;
 use hash_table::lock_walks::Planner;
 use hash_table::version_words::{FlockTable, Runner};
 use map_history::{Op, Request};
-use runner_gate::Free;
+use runner_gate::{Free, Gate};
 use std::alloc::{AllocError, Global};
 use table_words::Layout;
 

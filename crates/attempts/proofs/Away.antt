@@ -8,6 +8,7 @@ use Rattle.body_terms.specs.declared.outcome.Outcome.{Outcome}
 use Rattle.body_terms.specs.declared.thunk.Thunk.{Thunk}
 use Rattle.table_words.specs.declared.layout.Layout.{Layout}
 use Rattle.table_words.specs.Limits.{IsWithinLimits}
+use Rattle.runner_gate.specs.Asks.{Asks}
 use Rattle.structure_laws.specs.Meaning.{Meaning}
 use Rattle.structure_laws.specs.Laws.{Laws}
 use Rattle.machine_states.specs.World.{World}
@@ -50,7 +51,7 @@ module _ {T : Type 0} (m : Meaning) (laws : Laws m) (t : TableState T) (limits :
 
     pub help_turned : (new : RunnerState T) → Exits m helped new
         → ((w : World) → Reached m t.layout t.requests w → AreNamed m t.layout (sight m t.layout t.requests w))
-        → (halts halts' asks asks' steps steps' : ℕ) → IsAsked made true halts halts' asks asks' steps steps'
+        → (halts halts' : ℕ) (asks asks' : Asks) (steps steps' : ℕ) → IsAsked made true halts halts' asks asks' steps steps'
         → HasTurned m answer answer old new halts halts' asks asks' steps steps'
     help_turned new exits names halts halts' asks asks' steps steps' asked =
         subst (λ (a : Attempt). HasTurned m a a old new halts halts' asks asks' steps steps') (sym held)
@@ -65,7 +66,7 @@ module _ {T : Type 0} (m : Meaning) (laws : Laws m) (t : TableState T) (limits :
             (subst (λ (rs : List Request). (w : World) → Reached m t.layout rs w → AreNamed m t.layout (sight m t.layout rs w)) (sym own.requests) all)
 
   module _ (made : ℕ) (new : RunnerState T) (own_new : IsOf t new) (short : IsCutShort m (value_of word - 1) made old new) where
-    pub halt_turned : (halts halts' asks asks' steps steps' : ℕ) → IsAsked made false halts halts' asks asks' steps steps'
+    pub halt_turned : (halts halts' : ℕ) (asks asks' : Asks) (steps steps' : ℕ) → IsAsked made false halts halts' asks asks' steps steps'
         → HasTurned m answer answers.Halted old new halts halts' asks asks' steps steps'
     halt_turned halts halts' asks asks' steps steps' asked =
         turned_by_halt m laws answer place word held (value_of word - 1) old new limits_old allowed_old may

@@ -12,6 +12,7 @@ use Rattle.body_terms.specs.declared.outcome.Outcome.TheVariants as outcomes
 use Rattle.body_terms.specs.declared.thunk.Thunk.{Thunk}
 use Rattle.table_words.specs.declared.layout.Layout.{Layout}
 use Rattle.table_words.specs.Limits.{IsWithinLimits}
+use Rattle.runner_gate.specs.Asks.{Asks}
 use Rattle.structure_laws.specs.Meaning.{Meaning}
 use Rattle.structure_laws.specs.Laws.{Laws}
 use Rattle.structure_laws.specs.Shape.{Shaped}
@@ -148,7 +149,7 @@ module _ {T : Type 0} (m : Meaning) (laws : Laws m) (t : TableState T) (limits :
         no_steps : (n : ℕ) → n + 0 ≡ n
         no_steps n = omega arith
 
-        pub concluded : (Seen : ℕ → ℕ → Type 0) (halts asks steps : ℕ)
+        pub concluded : (Seen : ℕ → Asks → Type 0) (halts : ℕ) (asks : Asks) (steps : ℕ)
             → Rests m planning request true counted 0 (answers.Done reply stamp) old ran new Seen halts halts asks asks steps steps
         concluded Seen halts asks steps = record {
           answers = served;
@@ -274,7 +275,7 @@ module _ {T : Type 0} (m : Meaning) (laws : Laws m) (t : TableState T) (limits :
           finished = retires.finished;
         }
 
-        pub left_concluded : (got : Attempt) (new : RunnerState T) → IsOf t new → (Seen : ℕ → ℕ → Type 0) (halts halts' asks asks' steps steps' : ℕ)
+        pub left_concluded : (got : Attempt) (new : RunnerState T) → IsOf t new → (Seen : ℕ → Asks → Type 0) (halts halts' : ℕ) (asks asks' : Asks) (steps steps' : ℕ)
             → Seen halts asks → HasTurned m (of_outcome outcome) got retired new halts halts' asks asks' steps steps'
             → Rests m planning request true counted 0 got old ran new Seen halts halts' asks asks' steps steps'
         left_concluded got new own_new Seen halts halts' asks asks' steps steps' seen turned =

@@ -7,6 +7,7 @@ use Rattle.body_terms.specs.Trail.{Agreed}
 use Rattle.body_terms.specs.declared.outcome.Outcome.{Outcome}
 use Rattle.body_terms.specs.declared.thunk.Thunk.{Thunk}
 use Rattle.table_words.specs.Limits.{IsWithinLimits}
+use Rattle.runner_gate.specs.Asks.{Asks}
 use Rattle.structure_laws.specs.Meaning.{Meaning}
 use Rattle.structure_laws.specs.Laws.{Laws}
 use Rattle.runner_parts.specs.declared.entries.Known.{Known}
@@ -110,7 +111,7 @@ module _ {T : Type 0} (m : Meaning) (laws : Laws m) (t : TableState T) (limits :
     one_ask : (readings : ℕ) → 1 + readings + 1 ≡ 2 + readings
     one_ask readings = omega arith
 
-    pub cut_rests : (Seen : ℕ → ℕ → Type 0) (halts halts1 halts' asks asks1 asks' steps steps' : ℕ) → Seen halts1 asks1
+    pub cut_rests : (Seen : ℕ → Asks → Type 0) (halts halts1 halts' : ℕ) (asks asks1 asks' : Asks) (steps steps' : ℕ) → Seen halts1 asks1
         → IsCounted 0 1 true halts halts1 asks asks1 steps steps → IsAsked n false halts1 halts' asks1 asks' steps steps'
         → Rests m planning request false (length tried.readings) most_of_run answers.Halted old here new Seen halts halts' asks asks' steps steps'
     cut_rests Seen halts halts1 halts' asks asks1 asks' steps steps' seen ask asked = record {
@@ -166,8 +167,8 @@ module _ {T : Type 0} (m : Meaning) (laws : Laws m) (t : TableState T) (limits :
     asks_on : (readings more : ℕ) → 1 + readings + (1 + (n + more)) ≡ 2 + (readings + n) + more
     asks_on readings more = omega arith
 
-    pub ended_rests : (got : Attempt) (new : RunnerState T) → IsOf t new → (Seen : ℕ → ℕ → Type 0)
-        (halts halts1 halts2 halts' asks asks1 asks2 asks' steps steps2 steps' : ℕ)
+    pub ended_rests : (got : Attempt) (new : RunnerState T) → IsOf t new → (Seen : ℕ → Asks → Type 0)
+        (halts halts1 halts2 halts' : ℕ) (asks asks1 asks2 asks' : Asks) (steps steps2 steps' : ℕ)
         → IsCounted 0 1 true halts halts1 asks asks1 steps steps → IsAsked n true halts1 halts2 asks1 asks2 steps steps2
         → Rests m planning request true (length tried.readings + n) 0 got old ran new Seen halts2 halts' asks2 asks' steps2 steps'
         → Rests m planning request false (length tried.readings) most_of_run got old here new Seen halts halts' asks asks' steps steps'

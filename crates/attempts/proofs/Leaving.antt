@@ -8,6 +8,7 @@ use Rattle.body_terms.specs.declared.outcome.Outcome.{Outcome}
 use Rattle.body_terms.specs.declared.thunk.Thunk.{Thunk}
 use Rattle.table_words.specs.declared.layout.Layout.{Layout}
 use Rattle.table_words.specs.Limits.{IsWithinLimits}
+use Rattle.runner_gate.specs.Asks.{Asks}
 use Rattle.structure_laws.specs.Meaning.{Meaning}
 use Rattle.structure_laws.specs.Laws.{Laws}
 use Rattle.runner_parts.specs.declared.entries.Published.{Published}
@@ -95,7 +96,7 @@ module _ {T : Type 0} (m : Meaning) where
 
   -- it leaves at once
   pub turned_by_exit : (answer : Attempt) → is_refusal answer ≡ true → ((place word : ℕ) → answer ≢ answers.Busy place word)
-      → (old new : RunnerState T) → MayLeave m answer old → Exits m old new → (halts asks steps : ℕ)
+      → (old new : RunnerState T) → MayLeave m answer old → Exits m old new → (halts : ℕ) (asks : Asks) (steps : ℕ)
       → HasTurned m answer answer old new halts halts asks asks steps steps
   turned_by_exit answer refusal other old new may exits halts asks steps =
       let going = refused_going answer refusal in
@@ -212,7 +213,7 @@ module _ {T : Type 0} (m : Meaning) (laws : Laws m) (place word : ℕ) (old help
     one_more : length new.part.records.finished ≡ length old.part.records.finished + 1
     one_more = ap length exits.keeps.finished ∙ length_on old.part.records.finished (ends.finished ∷ []) helped.part.records.finished ends.kept
 
-    pub turned_by_help : (halts halts' asks asks' steps steps' : ℕ) → IsAsked made true halts halts' asks asks' steps steps'
+    pub turned_by_help : (halts halts' : ℕ) (asks asks' : Asks) (steps steps' : ℕ) → IsAsked made true halts halts' asks asks' steps steps'
         → HasTurned m (answers.Busy place word) (answers.Busy place word) old new halts halts' asks asks' steps steps'
     turned_by_help halts halts' asks asks' steps steps' asked = record {
       made = made;
@@ -238,7 +239,7 @@ module _ {T : Type 0} (m : Meaning) (laws : Laws m) (answer : Attempt) (place wo
   still_none (inl same) = same ∙ may.leave.at.published
   still_none (inr over) = over ∙ ap (λ o. over_if o d) may.leave.at.published
 
-  pub turned_by_halt : (made : ℕ) → IsCutShort m (value_of word - 1) made old new → (halts halts' asks asks' steps steps' : ℕ)
+  pub turned_by_halt : (made : ℕ) → IsCutShort m (value_of word - 1) made old new → (halts halts' : ℕ) (asks asks' : Asks) (steps steps' : ℕ)
       → IsAsked made false halts halts' asks asks' steps steps'
       → HasTurned m answer answers.Halted old new halts halts' asks asks' steps steps'
   turned_by_halt made short halts halts' asks asks' steps steps' asked = record {

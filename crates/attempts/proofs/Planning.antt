@@ -1,6 +1,7 @@
 -- The plan of an attempt.
 use Rattle.std.proofs.Common.{◌≡◌, ℕ, ◌≤◌, length, sym, ap, ◌∙◌, subst}
 use Rattle.map_history.specs.declared.op.Request.{Request}
+use Rattle.runner_gate.specs.Asks.{Asks}
 use Rattle.structure_laws.specs.Meaning.{Meaning}
 use Rattle.runner_parts.specs.State.{NodesState, DescriptorsState}
 use Rattle.lock_walks.specs.version_words.specs.RunnerState.{RunnerState}
@@ -11,7 +12,7 @@ use Rattle.attempts.specs.Course.{HasEntered, HasPlanned}
 
 -- what the plan says, as a part of the course
 pub planned_of : {T : Type 0} (m : Meaning) (planning : Planning) (request : Request) (old r : RunnerState T) → HasEntered m planning request old r
-    → (answer : Planned) (new : RunnerState T) (halts halts' asks asks' steps steps' : ℕ)
+    → (answer : Planned) (new : RunnerState T) (halts halts' : ℕ) (asks asks' : Asks) (steps steps' : ℕ)
     → (is : plan.HasPlanned m planning request answer r new halts halts' asks asks' steps steps') → new.layout ≡ r.layout → new.requests ≡ r.requests
     → HasPlanned m planning request is.readings answer old new
 planned_of m planning request old r enters answer new halts halts' asks asks' steps steps' is layout requests = record {

@@ -6,6 +6,7 @@ use Rattle.map_history.specs.declared.op.Request.{Request}
 use Rattle.body_terms.specs.declared.outcome.Refused.{Refused}
 use Rattle.body_terms.specs.declared.outcome.Refused.TheVariants as refusals
 use Rattle.body_terms.specs.declared.thunk.Thunk.{Thunk}
+use Rattle.runner_gate.specs.Asks.{Asks}
 use Rattle.structure_laws.specs.Scene.{Readings}
 use Rattle.structure_laws.specs.Meaning.{Meaning}
 use Rattle.runner_parts.specs.declared.entries.Published.{Published}
@@ -69,7 +70,7 @@ module _ {T : Type 0} (m : Meaning) (planning : Planning) (request : Request) (a
   }
 
 pub rests_from_still : {T : Type 0} (m : Meaning) (planning : Planning) (request : Request) (held : Bool) (before most : ℕ) (answer : Attempt) (old here mid new : RunnerState T)
-    (Seen : ℕ → ℕ → Type 0) (halts halts' asks asks' steps steps' : ℕ) → IsStill here mid
+    (Seen : ℕ → Asks → Type 0) (halts halts' : ℕ) (asks asks' : Asks) (steps steps' : ℕ) → IsStill here mid
     → Rests m planning request held before most answer old mid new Seen halts halts' asks asks' steps steps'
     → Rests m planning request held before most answer old here new Seen halts halts' asks asks' steps steps'
 rests_from_still m planning request held before most answer old here mid new Seen halts halts' asks asks' steps steps' still rests = record {
@@ -126,7 +127,7 @@ module _ {T : Type 0} (m : Meaning) (planning : Planning) (request : Request) (o
   none_more : (n : ℕ) → n + 0 ≡ n
   none_more n = omega arith
 
-  pub halted_published : (Seen : ℕ → ℕ → Type 0) (halts halts' asks asks' steps : ℕ) → Seen halts asks
+  pub halted_published : (Seen : ℕ → Asks → Type 0) (halts halts' : ℕ) (asks asks' : Asks) (steps : ℕ) → Seen halts asks
       → IsCounted 0 1 false halts halts' asks asks' steps steps
       → (most : ℕ) → Rests m planning request false (length tried.readings) most answers.Halted old here here Seen halts halts' asks asks' steps steps
   halted_published Seen halts halts' asks asks' steps seen asked most = record {

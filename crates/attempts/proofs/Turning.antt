@@ -4,9 +4,9 @@ use Rattle.std.proofs.Common.{◌≡◌, ℕ, ◌+◌, ◌-◌, ◌%◌, ◌≤�
 use Rattle.std.proofs.lemmas.Bool.{true≢false}
 use Rattle.small_lemmas.proofs.Numbers.{tested_equal as same_of}
 use Rattle.map_history.specs.declared.op.Request.{Request}
-use Rattle.body_terms.specs.Counted.{counted_on}
 use Rattle.body_terms.specs.Word.{value_of}
 use Rattle.table_words.specs.Limits.{IsWithinLimits}
+use Rattle.runner_gate.specs.Asks.{Asks, asked_on}
 use Rattle.structure_laws.specs.Meaning.{Meaning}
 use Rattle.structure_laws.specs.Laws.{Laws}
 use Rattle.runner_parts.specs.declared.entries.Published.{Published}
@@ -85,7 +85,7 @@ module _ {T : Type 0} (m : Meaning) (laws : Laws m) (planning : Planning) (reque
     (before_is : before ≡ refused_steps m planning request answer old here cause) (held_is : held ≡ is_refused_late m planning request answer old here cause)
     (own : IsOwn here request) (unknown : is_answered here.part.records.known request.number ≡ false)
     (limits : IsWithinLimits new.layout) (allowed : AreAllowed new.requests) (layout : new.layout ≡ here.layout) (requests : new.requests ≡ here.requests)
-    (Seen : ℕ → ℕ → Type 0) (halts halts' asks asks' steps steps' : ℕ) (seen : Seen halts asks)
+    (Seen : ℕ → Asks → Type 0) (halts halts' : ℕ) (asks asks' : Asks) (steps steps' : ℕ) (seen : Seen halts asks)
     (turned : HasTurned m answer got here new halts halts' asks asks' steps steps') where
   unknown_still : is_answered new.part.records.known request.number ≡ false
   unknown_still = turned.no_own request own ∙ unknown
@@ -96,7 +96,7 @@ module _ {T : Type 0} (m : Meaning) (laws : Laws m) (planning : Planning) (reque
     pub made_is : before + turned.made ≡ steps_of m planning request a old new answers
     pub published_is : held ≡ has_published m planning request a old new answers
     pub let_go : is_halted a ≡ true → (more : ℕ)
-        × ((if held then 2 else 1) + before + more ≡ asks_before m planning request a old new answers) × Seen halts (counted_on asks more)
+        × ((if held then 2 else 1) + before + more ≡ asks_before m planning request a old new answers) × Seen halts (asked_on asks more)
     pub brief : has_met_held m planning request a old new answers ≡ false → IsBrief most (if held then 0 else 1) turned.made here new
 
   -- it left with its refusal

@@ -4,12 +4,12 @@ use Rattle.std.proofs.Common.{◌≡◌, ◌≢◌, ℕ, ◌+◌, ◌*◌, ◌-�
 use Rattle.std.proofs.lemmas.Bool.{true≢false}
 use Rattle.small_lemmas.proofs.Numbers.{from_zero as from_none}
 use Rattle.map_history.specs.declared.op.Request.{Request}
-use Rattle.body_terms.specs.Counted.{counted_on}
 use Rattle.body_terms.specs.Word.{value_of}
 use Rattle.body_terms.specs.declared.outcome.Refused.{Refused}
 use Rattle.body_terms.specs.declared.thunk.Thunk.{Thunk}
 use Rattle.table_words.specs.declared.layout.Layout.{Layout}
 use Rattle.table_words.specs.Limits.{IsWithinLimits}
+use Rattle.runner_gate.specs.Asks.{Asks, asked_on}
 use Rattle.structure_laws.specs.Scene.{Readings}
 use Rattle.structure_laws.specs.Meaning.{Meaning}
 use Rattle.structure_laws.specs.Cells.{slots}
@@ -75,7 +75,7 @@ no_steps n = omega arith
 
 -- the rest, behind counted steps of a runner that learned nothing by them
 pub rests_after : {T : Type 0} (m : Meaning) (planning : Planning) (request : Request) (before n most : ℕ) (answer : Attempt) (old here mid new : RunnerState T)
-    (Seen : ℕ → ℕ → Type 0) (halts halts1 halts' asks asks1 asks' steps steps1 steps' : ℕ) → IsStill here mid → IsAsked n true halts halts1 asks asks1 steps steps1
+    (Seen : ℕ → Asks → Type 0) (halts halts1 halts' : ℕ) (asks asks1 asks' : Asks) (steps steps1 steps' : ℕ) → IsStill here mid → IsAsked n true halts halts1 asks asks1 steps steps1
     → (since : ℕ) → before + n ≡ since → Rests m planning request false since most answer old mid new Seen halts1 halts' asks1 asks' steps1 steps'
     → Rests m planning request false before (n + most) answer old here new Seen halts halts' asks asks' steps steps'
 rests_after m planning request before n most answer old here mid new Seen halts halts1 halts' asks asks1 asks' steps steps1 steps' still asked since sums rests = record {
@@ -101,7 +101,7 @@ rests_after m planning request before n most answer old here mid new Seen halts 
 
 -- a larger bound
 pub rests_within : {T : Type 0} (m : Meaning) (planning : Planning) (request : Request) (held : Bool) (before most more : ℕ) (answer : Attempt) (old here new : RunnerState T)
-    (Seen : ℕ → ℕ → Type 0) (halts halts' asks asks' steps steps' : ℕ) → most ≤ more
+    (Seen : ℕ → Asks → Type 0) (halts halts' : ℕ) (asks asks' : Asks) (steps steps' : ℕ) → most ≤ more
     → Rests m planning request held before most answer old here new Seen halts halts' asks asks' steps steps'
     → Rests m planning request held before more answer old here new Seen halts halts' asks asks' steps steps'
 rests_within m planning request held before most more answer old here new Seen halts halts' asks asks' steps steps' low rests = record {
@@ -147,7 +147,7 @@ module _ {T : Type 0} (m : Meaning) (laws : Laws m) (t : TableState T) (limits :
   abbrev lost_cause : LockIsRefused m planning request (of_refusal thunk.lock refused) old mid
   lost_cause = record { thunk = thunk; refusal = refused; tries = lost; same = refl; lock = outer_lock; stale = lost_stale }
 
-  pub lost_rests : (got : Attempt) (new : RunnerState T) → IsOf t new → (Seen : ℕ → ℕ → Type 0) (halts halts' asks asks' steps steps' : ℕ)
+  pub lost_rests : (got : Attempt) (new : RunnerState T) → IsOf t new → (Seen : ℕ → Asks → Type 0) (halts halts' : ℕ) (asks asks' : Asks) (steps steps' : ℕ)
       → Seen halts asks → HasTurned m (of_refusal thunk.lock refused) got mid new halts halts' asks asks' steps steps'
       → Rests m planning request false (length readings) most_of_run got old r new Seen halts halts' asks asks' steps steps'
   lost_rests got new own_new Seen halts halts' asks asks' steps steps' seen turned =
@@ -162,7 +162,7 @@ module _ {T : Type 0} (m : Meaning) (laws : Laws m) (t : TableState T) (limits :
 -- the section was published: the rest from the plan on
 pub tried_rests : {T : Type 0} (m : Meaning) (planning : Planning) (request : Request) (thunk : Thunk) (section : Section) (before : ℕ) (old r mid new : RunnerState T)
     (got : Attempt) (publishes : Publishes m thunk (Ok section) r mid) → mid.layout ≡ r.layout → mid.requests ≡ r.requests
-    → (Seen : ℕ → ℕ → Type 0) (halts halts' asks asks' steps steps' : ℕ)
+    → (Seen : ℕ → Asks → Type 0) (halts halts' : ℕ) (asks asks' : Asks) (steps steps' : ℕ)
     → Rests m planning request false before most_of_run got old mid new Seen halts halts' asks asks' steps steps'
     → Rests m planning request false before most_of_run got old r new Seen halts halts' asks asks' steps steps'
 tried_rests m planning request thunk section before old r mid new got publishes layout requests Seen halts halts' asks asks' steps steps' rests =
@@ -173,7 +173,7 @@ tried_rests m planning request thunk section before old r mid new got publishes 
 -- the plan
 module _ {T : Type 0} (m : Meaning) (laws : Laws m) (t : TableState T) (limits : IsWithinLimits t.layout) (allowed : AreAllowed t.requests)
     (planning : Planning) (request : Request) (answer : Planned) (old here r : RunnerState T) (own_here' : IsOf t here) (own_r : IsOf t r)
-    (enters : HasEntered m planning request old here) (halts halts1 asks asks1 steps steps1 : ℕ)
+    (enters : HasEntered m planning request old here) (halts halts1 : ℕ) (asks asks1 : Asks) (steps steps1 : ℕ)
     (planned : plan.HasPlanned m planning request answer here r halts halts1 asks asks1 steps steps1) where
   layout_still : r.layout ≡ here.layout
   layout_still = own_r.layout ∙ sym own_here'.layout
@@ -201,7 +201,7 @@ module _ {T : Type 0} (m : Meaning) (laws : Laws m) (t : TableState T) (limits :
   few_loads = subst (λ (l : Layout). length planned.readings ≤ 6 * slots m l + 44) own_here'.layout planned.few
 
   -- a gate halted it
-  pub plan_halted : answer ≡ plans.Halted → (Seen : ℕ → ℕ → Type 0) → Seen halts asks
+  pub plan_halted : answer ≡ plans.Halted → (Seen : ℕ → Asks → Type 0) → Seen halts asks
       → Rests m planning request false 0 (most_of_attempt (slots m t.layout)) answers.Halted old here r Seen halts halts1 asks asks1 steps steps1
   plan_halted is Seen seen = record {
     answers = record {
@@ -239,7 +239,7 @@ module _ {T : Type 0} (m : Meaning) (laws : Laws m) (t : TableState T) (limits :
       unknown = unknown_here planning request old enters.may r course.still
 
   -- the thunk was tried
-  pub thunk_rests : (got : Attempt) (new : RunnerState T) (Seen : ℕ → ℕ → Type 0) (halts' asks' steps' : ℕ) → plan.is_halted answer ≡ false
+  pub thunk_rests : (got : Attempt) (new : RunnerState T) (Seen : ℕ → Asks → Type 0) (halts' : ℕ) (asks' : Asks) (steps' : ℕ) → plan.is_halted answer ≡ false
       → Rests m planning request false (length planned.readings) most_of_run got old r new Seen halts1 halts' asks1 asks' steps1 steps'
       → Rests m planning request false 0 (most_of_attempt (slots m t.layout)) got old here new Seen halts halts' asks asks' steps steps'
   thunk_rests got new Seen halts' asks' steps' on rests =
@@ -292,7 +292,7 @@ module _ {T : Type 0} (m : Meaning) (laws : Laws m) (t : TableState T) (limits :
       stale = λ place expected read e. plan_stale m planning old.layout request.op place expected read request.number planned.readings answer course.answers e;
     }
 
-    pub refused_rests : (got : Attempt) (new : RunnerState T) → IsOf t new → (Seen : ℕ → ℕ → Type 0) (halts' asks' steps' : ℕ) → Seen halts1 asks1
+    pub refused_rests : (got : Attempt) (new : RunnerState T) → IsOf t new → (Seen : ℕ → Asks → Type 0) (halts' : ℕ) (asks' : Asks) (steps' : ℕ) → Seen halts1 asks1
         → HasTurned m (of_plan answer) got r new halts1 halts' asks1 asks' steps1 steps'
         → Rests m planning request false 0 (most_of_attempt (slots m t.layout)) got old here new Seen halts halts' asks asks' steps steps'
     refused_rests got new own_new Seen halts' asks' steps' seen turned =
@@ -330,7 +330,7 @@ module _ {T : Type 0} (m : Meaning) (laws : Laws m) (t : TableState T) (limits :
           (own_here planning request old may ready still_ready) (unknown_here planning request old may ready still_ready);
     }
 
-    pub short_attempts : (Seen : ℕ → ℕ → Type 0) (halts asks steps : ℕ)
+    pub short_attempts : (Seen : ℕ → Asks → Type 0) (halts : ℕ) (asks : Asks) (steps : ℕ)
         → Attempts m planning request (answers.Short short) old ready Seen halts halts asks asks steps steps
     short_attempts Seen halts asks steps = record {
       made = 0;
@@ -390,7 +390,7 @@ module _ {T : Type 0} (m : Meaning) (laws : Laws m) (t : TableState T) (limits :
     }
 
     -- a gate halts it there
-    pub entry_halted : (Seen : ℕ → ℕ → Type 0) (halts halts' asks asks' steps : ℕ) → Seen halts asks
+    pub entry_halted : (Seen : ℕ → Asks → Type 0) (halts halts' : ℕ) (asks asks' : Asks) (steps : ℕ) → Seen halts asks
         → IsCounted 0 1 false halts halts' asks asks' steps steps
         → Attempts m planning request answers.Halted old here Seen halts halts' asks asks' steps steps
     entry_halted Seen halts halts' asks asks' steps seen asked = record {
@@ -449,7 +449,7 @@ module _ {T : Type 0} (m : Meaning) (laws : Laws m) (t : TableState T) (limits :
     }
 
     -- it goes on
-    pub attempts_so : (got : Attempt) (new : RunnerState T) (Seen : ℕ → ℕ → Type 0) (halts halts1 halts' asks asks1 asks' steps steps' : ℕ)
+    pub attempts_so : (got : Attempt) (new : RunnerState T) (Seen : ℕ → Asks → Type 0) (halts halts1 halts' : ℕ) (asks asks1 asks' : Asks) (steps steps' : ℕ)
         → IsCounted 0 1 true halts halts1 asks asks1 steps steps
         → Rests m planning request false 0 (most_of_attempt (slots m t.layout)) got old here new Seen halts1 halts' asks1 asks' steps steps'
         → Attempts m planning request got old new Seen halts halts' asks asks' steps steps'
@@ -471,5 +471,5 @@ module _ {T : Type 0} (m : Meaning) (laws : Laws m) (t : TableState T) (limits :
       asked = subst (λ more. IsCounted rests.made more (not (is_halted got)) halts halts' asks asks' steps steps') (more_of got rests.published rests.entered)
           (asked_then 1 rests.made (if rests.published && not false then 1 else 0) (not (is_halted got)) halts halts1 halts' asks asks1 asks' steps steps' ask rests.asked);
       let_go = λ halted. let last = rests.let_go halted in
-          subst (λ k. Seen halts (counted_on asks k)) last.1 (seen_then Seen halts halts1 asks asks1 1 last.0 (ask.went refl) ask.asked last.2);
+          subst (λ k. Seen halts (asked_on asks k)) last.1 (seen_then Seen halts halts1 asks asks1 1 last.0 (ask.went refl) ask.asked last.2);
     }

@@ -3,11 +3,11 @@ use Rattle.std.specs.Prelude.{◌≡◌, ℕ, ◌+◌, ◌*◌, ◌-◌, ◌<◌
 use Rattle.map_history.specs.declared.op.Request.{Request}
 use Rattle.map_history.specs.declared.reply.Reply.{Reply}
 use Rattle.map_history.specs.Words.{word_of}
-use Rattle.body_terms.specs.Counted.{counted_on}
 use Rattle.body_terms.specs.Trail.{Agreed}
 use Rattle.body_terms.specs.Word.{value_of}
 use Rattle.body_terms.specs.declared.outcome.Outcome.TheVariants.{Answered}
 use Rattle.body_terms.specs.declared.thunk.Thunk.{Thunk}
+use Rattle.runner_gate.specs.Asks.{Asks, asked_on}
 use Rattle.structure_laws.specs.Scene.{Readings}
 use Rattle.structure_laws.specs.Meaning.{Meaning}
 use Rattle.structure_laws.specs.Cells.{slots}
@@ -271,11 +271,11 @@ module _ {T : Type 0} where
       -- what an attempt does. The gate is asked behind each counted step and behind the entry, and once more exactly
       -- where a section was published. Where it halted the runner, it was seen before the part of the attempt in which
       -- it did: with as many halts as at first, and with so many more asks
-      pub record Attempts (answer : Attempt) (old new : RunnerState T) (Seen : ℕ → ℕ → Type 0)
-          (halts halts' asks asks' steps steps' : ℕ) : Type 0 where
+      pub record Attempts (answer : Attempt) (old new : RunnerState T) (Seen : ℕ → Asks → Type 0)
+          (halts halts' : ℕ) (asks asks' : Asks) (steps steps' : ℕ) : Type 0 where
         pub made : ℕ
         pub published : Bool
         pub is : IsAttempt answer made published old new
         pub asked : IsCounted made (asks_more answer published) (not (is_halted answer))
             halts halts' asks asks' steps steps'
-        pub let_go : is_halted answer ≡ true → Seen halts (counted_on asks (asks_before answer old new is.answers))
+        pub let_go : is_halted answer ≡ true → Seen halts (asked_on asks (asks_before answer old new is.answers))

@@ -3,8 +3,8 @@ use Rattle.std.specs.Prelude.{◌≡◌, ◌&&◌, ℕ, ◌+◌, ◌-◌, ◌≤
 use Rattle.map_history.specs.declared.op.Request.{Request}
 use Rattle.map_history.specs.declared.reply.Reply.{Reply}
 use Rattle.map_history.specs.Words.{word_of}
-use Rattle.body_terms.specs.Counted.{counted_on}
 use Rattle.body_terms.specs.Word.{value_of}
+use Rattle.runner_gate.specs.Asks.{Asks, asked_on}
 use Rattle.structure_laws.specs.Meaning.{Meaning}
 use Rattle.runner_parts.specs.Tests.{is_answered, has_pair}
 use Rattle.machine_states.specs.Sight.{sight}
@@ -44,7 +44,7 @@ module _ {T : Type 0} (m : Meaning) where
 
   -- the runner left with this answer, or a gate halted it as it helped
   pub record HasTurned (answer got : Attempt) (old new : RunnerState T)
-      (halts halts' asks asks' steps steps' : ℕ) : Type 0 where
+      (halts halts' : ℕ) (asks asks' : Asks) (steps steps' : ℕ) : Type 0 where
     pub made : ℕ
     pub asked : IsAsked made (not (is_halted got)) halts halts' asks asks' steps steps'
     pub knows : KnowsMore old new
@@ -91,7 +91,7 @@ module _ {T : Type 0} (m : Meaning) where
     -- behind the exchange that published, and the own section run, before, and `before` how many steps were counted
     -- before. Where no lock was held at most so many steps are counted from here on
     pub record Rests (held : Bool) (before most : ℕ) (answer : Attempt) (old here new : RunnerState T)
-        (Seen : ℕ → ℕ → Type 0) (halts halts' asks asks' steps steps' : ℕ) : Type 0 where
+        (Seen : ℕ → Asks → Type 0) (halts halts' : ℕ) (asks asks' : Asks) (steps steps' : ℕ) : Type 0 where
       pub answers : Answers m planning request answer old new
       pub knows : KnowsMore here new
       pub no_other : LearnsNoOther request.number here new
@@ -106,7 +106,7 @@ module _ {T : Type 0} (m : Meaning) where
       -- did
       pub let_go : is_halted answer ≡ true → (more : ℕ)
           × ((if held then 2 else 1) + before + more ≡ asks_before m planning request answer old new answers)
-          × Seen halts (counted_on asks more)
+          × Seen halts (asked_on asks more)
       pub entered : is_short answer ≡ false
       pub runs : is_halted answer ≡ false
           → length new.part.records.finished

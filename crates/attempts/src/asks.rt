@@ -2,7 +2,8 @@
 ghost use Rattle.std.specs.Prelude.{ℕ};
 ghost use Rattle.attempts.specs.Counted.{IsCounted};
 
-use body_terms::{Gate, Pass, StepKind};
+use body_terms::StepKind;
+use runner_gate::{Gate, Pass};
 
 /// Asks the gate once more, where no step is counted: whether the runner goes on.
 pub fn goes_on<G: Gate>(gate: &mut G, kind: StepKind) -> bool

@@ -15,12 +15,13 @@ use crate::refusals::plan_refused;
 use crate::reserves::reserve_slots;
 use crate::tries::try_section;
 use crate::turns::turn_away;
-use body_terms::{Gate, StepKind, Steps};
+use body_terms::{StepKind, Steps};
 use lock_walks::Planner;
 use lock_walks::epoch_slots::enter;
 use lock_walks::try_lock::Planned;
 use lock_walks::version_words::{FlockTable, Runner};
 use map_history::Request;
+use runner_gate::Gate;
 
 /// Plans the request, behind the entry, and tries the section that was planned; or leaves where the plan was refused.
 pub fn plan_and_try<S: Planner, G: Gate, L>(

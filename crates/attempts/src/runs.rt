@@ -14,11 +14,12 @@ use crate::asks::goes_on;
 use crate::learns::learn;
 use crate::refusals::section_left;
 use crate::turns::turn_away;
-use body_terms::{Gate, Outcome, StepKind, Steps};
+use body_terms::{Outcome, StepKind, Steps};
 use lock_walks::Planner;
 use lock_walks::try_lock::{RunEnd, Section, retire_section, run_section};
 use lock_walks::version_words::{FlockTable, Runner};
 use map_history::Request;
+use runner_gate::Gate;
 
 /// Retires the own section, which was run to its end with this outcome, and leaves: where it answered, with the words
 /// of the request, else with the refusal by which it left.

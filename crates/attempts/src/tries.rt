@@ -13,11 +13,12 @@ use crate::answers::Attempt;
 use crate::refusals::lock_refused;
 use crate::runs::run_own;
 use crate::turns::turn_away;
-use body_terms::{Gate, Steps, Thunk};
+use body_terms::{Steps, Thunk};
 use lock_walks::Planner;
 use lock_walks::try_lock::publish;
 use lock_walks::version_words::{FlockTable, Runner};
 use map_history::Request;
+use runner_gate::Gate;
 
 /// Publishes the section of this thunk, which was just planned for the request, and runs it; or leaves where the lock
 /// refused it.

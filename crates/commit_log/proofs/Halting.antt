@@ -4,6 +4,7 @@ use Rattle.structure_laws.specs.Meaning.{Meaning}
 use Rattle.body_terms.specs.declared.micro.Micro.{Micro}
 use Rattle.runner_parts.specs.State.{RunState}
 use Rattle.version_words.specs.RunnerState.{RunnerState}
+use Rattle.runner_gate.specs.Asks.{Asks}
 use Rattle.commit_log.specs.Asked.{IsAsked}
 use Rattle.commit_log.specs.Runs.{Stepped, Ran}
 use Rattle.commit_log.specs.Halted.{IsHalted}
@@ -12,7 +13,7 @@ use Rattle.commit_log.proofs.Running.{ran_one, ran_more}
 
 module _ {T : Type 0} (m : Meaning) (most : ℕ) where
   -- behind the first one
-  pub halted_first : (q : RunState) (micro : Micro) (found : ℕ) (a b : RunnerState T) (halts halts' asks asks' steps steps' : ℕ)
+  pub halted_first : (q : RunState) (micro : Micro) (found : ℕ) (a b : RunnerState T) (halts halts' : ℕ) (asks asks' : Asks) (steps steps' : ℕ)
       → Stepped m q micro found a b → IsAsked 1 false halts halts' asks asks' steps steps' → 1 ≤ most → IsHalted m most a b halts halts' asks asks' steps steps'
   halted_first q micro found a b halts halts' asks asks' steps steps' step asked few = record {
     made = 1;
@@ -23,7 +24,7 @@ module _ {T : Type 0} (m : Meaning) (most : ℕ) where
   }
 
   -- behind one of those that follow the first ones
-  pub halted_more : (n rest : ℕ) (a b c : RunnerState T) (halts halts' halts'' asks asks' asks'' steps steps' steps'' : ℕ)
+  pub halted_more : (n rest : ℕ) (a b c : RunnerState T) (halts halts' halts'' : ℕ) (asks asks' asks'' : Asks) (steps steps' steps'' : ℕ)
       → Ran m n a b → IsAsked n true halts halts' asks asks' steps steps' → IsHalted m rest b c halts' halts'' asks' asks'' steps' steps''
       → n + rest ≤ most → IsHalted m most a c halts halts'' asks asks'' steps steps''
   halted_more n rest a b c halts halts' halts'' asks asks' asks'' steps steps' steps'' ran asked halted few = record {

@@ -1,9 +1,12 @@
 //! Gates that follow a script, and stop at a planned ask.
 ghost use Rattle.std.specs.Prelude.{◌≡◌, IfOk};
+ghost use Rattle.threaded_runs.specs.runner_gate.specs.Planned.{asks_of};
 
-use body_terms::{Gate, Pass, StepKind};
+use body_terms::StepKind;
 use std::alloc::{AllocError, Global};
-use threaded_runs::runner_gate::{Gates, HaltAt, Pause, PlannedGates, Scripted, ScriptedGates};
+use threaded_runs::runner_gate::{
+    Gate, Gates, HaltAt, Pass, Pause, PlannedGates, Scripted, ScriptedGates,
+};
 
 /// A gate that waits as its script says, and halts at its ask with the planned number and at each later one. Where it
 /// has waited in vain it goes on.
@@ -16,7 +19,7 @@ pub struct Stopping {
 impl Gate for Stopping {
     ghost halts = { λ gate. gate.stop.halts };
 
-    ghost asks = { λ gate. gate.stop.asks };
+    ghost asks = { λ gate. asks_of gate.stop };
 
     fn after(&mut self, kind: StepKind) -> Pass {
         let _waited = self.script.after(kind);

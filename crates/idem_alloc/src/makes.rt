@@ -9,9 +9,10 @@ ghost use Rattle.commit_log.specs.Halted.{IsHalted};
 ghost use Rattle.idem_alloc.specs.Numbers.{number_of, numbers_of};
 ghost use Rattle.idem_alloc.specs.Made.{MayFill, HasFilled, MayMake, IsFilling, HasMade};
 
-use body_terms::{Gate, Init, StepKind, Steps, Value, Word};
+use body_terms::{Init, StepKind, Steps, Value, Word};
 use commit_log::version_words::{FlockTable, Runner};
 use commit_log::{Unasked, passes};
+use runner_gate::Gate;
 use structure_laws::Structure;
 
 /// Fills one cell of the slot that the run's Make prepares, in two steps: loads it, and stores the value with the next

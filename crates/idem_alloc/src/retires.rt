@@ -7,9 +7,10 @@ ghost use Rattle.commit_log.specs.Asked.{IsAsked};
 ghost use Rattle.commit_log.specs.Halted.{IsHalted};
 ghost use Rattle.idem_alloc.specs.Retired.{MayRetire, HasRetired};
 
-use body_terms::{Gate, StepKind, Steps};
+use body_terms::{StepKind, Steps};
 use commit_log::version_words::{FlockTable, Runner};
 use commit_log::{Unasked, passes};
+use runner_gate::Gate;
 use structure_laws::Structure;
 
 /// Retires the node slot, in two steps: loads the epoch, and commits the slot. Where this commit is the first of the

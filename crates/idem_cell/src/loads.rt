@@ -7,9 +7,10 @@ ghost use Rattle.commit_log.specs.Asked.{IsAsked};
 ghost use Rattle.commit_log.specs.Halted.{IsHalted};
 ghost use Rattle.idem_cell.specs.Loaded.{MayLoad, HasLoaded};
 
-use body_terms::{Gate, Place, StepKind, Steps, Word};
+use body_terms::{Place, StepKind, Steps, Word};
 use commit_log::version_words::{FlockTable, Runner};
 use commit_log::{Unasked, commit, passes};
+use runner_gate::Gate;
 use structure_laws::Structure;
 
 /// Loads the cell and agrees on its word, in two steps. Answers the agreed word: the first one that a run of the

@@ -4,6 +4,7 @@ use Rattle.std.specs.Prelude.{◌&&◌, not, slice_get}
 use Rattle.map_history.specs.declared.op.Request.{Request}
 use Rattle.body_terms.specs.Word.{is_spent}
 use Rattle.body_terms.specs.declared.thunk.Thunk.{Thunk}
+use Rattle.runner_gate.specs.Asks.{Asks}
 use Rattle.structure_laws.specs.Meaning.{Meaning}
 use Rattle.runner_parts.specs.State.{DescriptorsState, NodesState, ReadsState}
 use Rattle.runner_parts.specs.Tests.{has_pair, is_next, serves}
@@ -22,7 +23,7 @@ module _ {T : Type 0} (m : Meaning) (idle entered : RunnerState T) (enters : Ent
   may_plan = record { epoch = enters.epoch; section = None; at = enters.at; fresh = ap (λ (s : ReadsState). s.walk) enters.reads }
 
   -- what a plan changes of the worker beside its readings: nothing
-  module _ (plans : Planning) (request : Request) (r : RunnerState T) (answer : Planned) (halts halts' asks asks' steps steps' : ℕ)
+  module _ (plans : Planning) (request : Request) (r : RunnerState T) (answer : Planned) (halts halts' : ℕ) (asks asks' : Asks) (steps steps' : ℕ)
       (so : HasPlanned m plans request answer entered r halts halts' asks asks' steps steps') where
     pub planned_number : r.number ≡ idle.number
     planned_number = so.walked.keeps.number ∙ enters.keeps.number
@@ -41,7 +42,7 @@ module _ {T : Type 0} (m : Meaning) (idle entered : RunnerState T) (enters : Ent
       }
 
   -- the thunk that was planned may be published
-  module _ (plans : Planning) (request : Request) (r : RunnerState T) (thunk : Thunk) (halts halts' asks asks' steps steps' : ℕ)
+  module _ (plans : Planning) (request : Request) (r : RunnerState T) (thunk : Thunk) (halts halts' : ℕ) (asks asks' : Asks) (steps steps' : ℕ)
       (so : HasPlanned m plans request (answers.Thunk thunk) entered r halts halts' asks asks' steps steps') (due : IsDue request idle) where
     pub may_publish : entered.layout ≡ idle.layout → entered.requests ≡ idle.requests → MayPublish m r thunk
     may_publish same_layout same_requests =
@@ -67,7 +68,7 @@ module _ {T : Type 0} (m : Meaning) (idle entered : RunnerState T) (enters : Ent
 
 -- what was planned, over the structure of the table and with the thunk that was answered
 pub told : {T X : Type 0} (meaning : X → Meaning) (planning : X → Planning) (s s' : X) → s ≡ s' → (request : Request) (answer : Planned) (thunk : Thunk) → answer ≡ answers.Thunk thunk → (old new : RunnerState T)
-    (halts halts' asks asks' steps steps' : ℕ) → HasPlanned (meaning s) (planning s) request answer old new halts halts' asks asks' steps steps'
+    (halts halts' : ℕ) (asks asks' : Asks) (steps steps' : ℕ) → HasPlanned (meaning s) (planning s) request answer old new halts halts' asks asks' steps steps'
     → HasPlanned (meaning s') (planning s') request (answers.Thunk thunk) old new halts halts' asks asks' steps steps'
 told {T} {X} meaning planning s s' same request answer thunk is old new halts halts' asks asks' steps steps' so =
     subst (λ (z : X). HasPlanned (meaning z) (planning z) request (answers.Thunk thunk) old new halts halts' asks asks' steps steps') same
@@ -75,7 +76,7 @@ told {T} {X} meaning planning s s' same request answer thunk is old new halts ha
 
 -- the same whatever was answered
 pub told_all : {T X : Type 0} (meaning : X → Meaning) (planning : X → Planning) (s s' : X) → s ≡ s' → (request : Request) (answer : Planned) (old new : RunnerState T)
-    (halts halts' asks asks' steps steps' : ℕ) → HasPlanned (meaning s) (planning s) request answer old new halts halts' asks asks' steps steps'
+    (halts halts' : ℕ) (asks asks' : Asks) (steps steps' : ℕ) → HasPlanned (meaning s) (planning s) request answer old new halts halts' asks asks' steps steps'
     → HasPlanned (meaning s') (planning s') request answer old new halts halts' asks asks' steps steps'
 told_all {T} {X} meaning planning s s' same request answer old new halts halts' asks asks' steps steps' so =
     subst (λ (z : X). HasPlanned (meaning z) (planning z) request answer old new halts halts' asks asks' steps steps') same so

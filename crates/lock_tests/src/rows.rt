@@ -15,10 +15,10 @@ use crate::workers::{crew, gather};
 use attempts::epoch_slots::{Kind, Short, collect, enter, exit, reserve};
 use attempts::section_runs::RunEnd;
 use attempts::try_lock::Section;
-use body_terms::{Gate, Outcome, Refused, StepKind, Word};
+use body_terms::{Outcome, Refused, StepKind, Word};
 use closed_words::version_words::{FlockTable, Runner, Words};
 use interleave_core::Tray;
-use runner_gate::{Free, HaltAt};
+use runner_gate::{Free, Gate, HaltAt};
 use std::alloc::{AllocError, Global};
 use std::thread::Threads;
 

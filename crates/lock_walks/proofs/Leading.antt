@@ -9,6 +9,7 @@ use Rattle.table_words.specs.declared.layout.Layout.{Layout}
 use Rattle.table_words.specs.declared.spot.Spot.TheVariants as spots
 use Rattle.table_words.specs.declared.access.Access.TheVariants.{Loads}
 use Rattle.table_words.specs.Limits.{IsWithinLimits}
+use Rattle.runner_gate.specs.Asks.{Asks}
 use Rattle.structure_laws.specs.Scene.{Readings}
 use Rattle.structure_laws.specs.Meaning.{Meaning}
 use Rattle.structure_laws.specs.Laws.{Laws}
@@ -118,8 +119,8 @@ module _ {W : Type 0} (m : Meaning) (way : Way W) where
 
 module _ {W T : Type 0} (m : Meaning) (way : Way W) where
   module _ (facts : WalksStandIn m) (t : TableState T) (limits : IsWithinLimits t.layout) (allowed : AreAllowed t.requests) (walk : W) (within : IsAllowed (way.op walk))
-      (leads : Leads way m t.layout walk) (old : RunnerState T) (may : MayPlan old) (halts asks steps : ℕ) where
-    abbrev Along : ℕ → W → ℕ → ℕ → RunnerState T → ℕ → ℕ → ℕ → Type 0
+      (leads : Leads way m t.layout walk) (old : RunnerState T) (may : MayPlan old) (halts : ℕ) (asks : Asks) (steps : ℕ) where
+    abbrev Along : ℕ → W → ℕ → ℕ → RunnerState T → ℕ → Asks → ℕ → Type 0
     Along made walk' place word r halts' asks' steps' = IsAlong m t.layout way made walk walk' place word old r halts halts' asks asks' steps steps'
 
     pub along_begins : (place word : ℕ) → Along 0 walk place word old halts asks steps
@@ -136,7 +137,7 @@ module _ {W T : Type 0} (m : Meaning) (way : Way W) where
       asked = asked_none halts asks steps;
     }
 
-    module _ (made : ℕ) (walk' : W) (place word : ℕ) (r : RunnerState T) (own : IsOf t r) (halts' asks' steps' : ℕ) (so : Along made walk' place word r halts' asks' steps')
+    module _ (made : ℕ) (walk' : W) (place word : ℕ) (r : RunnerState T) (own : IsOf t r) (halts' : ℕ) (asks' : Asks) (steps' : ℕ) (so : Along made walk' place word r halts' asks' steps')
         (next : ℕ) (wants : way.wants walk' ≡ Some next) where
       here : way.wants (fed_all way walk so.readings) ≡ Some next
       here = ap way.wants (sym so.behind) ∙ wants
@@ -177,7 +178,7 @@ module _ {W T : Type 0} (m : Meaning) (way : Way W) where
             (stands m facts r' (subst IsWithinLimits (sym same_layout) limits) (subst AreAllowed (sym same_requests) allowed)
             (record { world = made_it.shown.world; reached = made_it.shown.reached; own = made_it.shown.own }) may.epoch may.section (then_walked.at may.epoch may.section may.at) (way.op walk) within))
 
-        pub along_more : (halts'' asks'' steps'' : ℕ) → IsAsked 1 true halts' halts'' asks' asks'' steps' steps'' → way.left (way.fed walk' found) < way.left walk'
+        pub along_more : (halts'' : ℕ) (asks'' : Asks) (steps'' : ℕ) → IsAsked 1 true halts' halts'' asks' asks'' steps' steps'' → way.left (way.fed walk' found) < way.left walk'
             → Along (made + 1) (way.fed walk' found) next found r' halts'' asks'' steps''
         along_more halts'' asks'' steps'' asked shorter = record {
           readings = so.readings ++ (next, found) ∷ [];
@@ -193,7 +194,7 @@ module _ {W T : Type 0} (m : Meaning) (way : Way W) where
         }
 
         -- the gate halted behind this one
-        pub led_cut : (halts'' asks'' steps'' : ℕ) → IsAsked 1 false halts' halts'' asks' asks'' steps' steps'' → way.left (way.fed walk' found) < way.left walk'
+        pub led_cut : (halts'' : ℕ) (asks'' : Asks) (steps'' : ℕ) → IsAsked 1 false halts' halts'' asks' asks'' steps' steps'' → way.left (way.fed walk' found) < way.left walk'
             → HasLed m t.layout way walk (way.fed walk' found) next found false old r' halts halts'' asks asks'' steps steps''
         led_cut halts'' asks'' steps'' asked shorter = record {
           readings = so.readings ++ (next, found) ∷ [];
@@ -211,7 +212,7 @@ module _ {W T : Type 0} (m : Meaning) (way : Way W) where
         }
 
     -- the walker wants nothing more
-    pub led_whole : (made : ℕ) (walk' : W) (place word : ℕ) (r : RunnerState T) (halts' asks' steps' : ℕ) → Along made walk' place word r halts' asks' steps' → way.wants walk' ≡ None
+    pub led_whole : (made : ℕ) (walk' : W) (place word : ℕ) (r : RunnerState T) (halts' : ℕ) (asks' : Asks) (steps' : ℕ) → Along made walk' place word r halts' asks' steps' → way.wants walk' ≡ None
         → HasLed m t.layout way walk walk' place word true old r halts halts' asks asks' steps steps'
     led_whole made walk' place word r halts' asks' steps' so ends = record {
       readings = so.readings;

@@ -6,6 +6,7 @@ use Rattle.table_words.specs.declared.layout.Layout.{Layout}
 use Rattle.table_words.specs.declared.spot.Spot.TheVariants as spots
 use Rattle.table_words.specs.declared.access.Access.TheVariants.{Loads}
 use Rattle.table_words.specs.Limits.{IsWithinLimits}
+use Rattle.runner_gate.specs.Asks.{Asks}
 use Rattle.structure_laws.specs.Meaning.{Meaning}
 use Rattle.structure_laws.specs.Laws.{Laws}
 use Rattle.structure_laws.specs.Sections.{IsAllowed}
@@ -21,7 +22,7 @@ use Rattle.lock_walks.specs.Led.{HasLed, Start, IsOnWay, GoesOn}
 use Rattle.lock_walks.proofs.Leading.{WalksStandIn, few_places, few_loads, wants_none, along_begins, is_low, may_load_next, along_more, led_cut, led_whole}
 
 module _ {W T : Type 0} (m : Meaning) (way : Way W) (facts : WalksStandIn m) (t : TableState T) (limits : IsWithinLimits t.layout) (allowed : AreAllowed t.requests) where
-  pub way_begins : (walk : W) (place word : ℕ) (runner : RunnerState T) (halts asks steps : ℕ) → IsAllowed (way.op walk) → Leads way m t.layout walk → MayPlan runner
+  pub way_begins : (walk : W) (place word : ℕ) (runner : RunnerState T) (halts : ℕ) (asks : Asks) (steps : ℕ) → IsAllowed (way.op walk) → Leads way m t.layout walk → MayPlan runner
       → IsOnWay m t.layout way (record { walk = walk; runner = runner; halts = halts; asks = asks; steps = steps }) walk place word runner halts asks steps
   way_begins walk place word runner halts asks steps within leads may = record {
     allowed = within;
@@ -31,7 +32,7 @@ module _ {W T : Type 0} (m : Meaning) (way : Way W) (facts : WalksStandIn m) (t 
     along = along_begins m way facts t limits allowed walk within leads runner may halts asks steps place word;
   }
 
-  module _ (walk : W) (place word : ℕ) (runner : RunnerState T) (own : IsOf t runner) (halts asks steps : ℕ) where
+  module _ (walk : W) (place word : ℕ) (runner : RunnerState T) (own : IsOf t runner) (halts : ℕ) (asks : Asks) (steps : ℕ) where
     module _ (start : Start W T) (so : IsOnWay m t.layout way start walk place word runner halts asks steps) where
       pub few_left : Laws m → way.left walk < 2 ^ 64
       few_left laws = let few = few_loads m laws t.layout limits (way.left start.walk) so.leads.few in let left = so.along.left in omega (arith, few, left)
@@ -59,7 +60,7 @@ module _ {W T : Type 0} (m : Meaning) (way : Way W) (facts : WalksStandIn m) (t 
 
     -- a load, behind which the gate was asked
     pub goes_by : (next : ℕ) → way.wants walk ≡ Some next → (found : ℕ) (runner' : RunnerState T) → Makes m (load_of runner.part.run next) found runner runner'
-        → (going : Bool) (halts' asks' steps' : ℕ) → IsAsked 1 going halts halts' asks asks' steps steps'
+        → (going : Bool) (halts' : ℕ) (asks' : Asks) (steps' : ℕ) → IsAsked 1 going halts halts' asks asks' steps steps'
         → GoesOn m t.layout way walk (way.fed walk found) place word next found going runner runner' halts halts' asks asks' steps steps'
     goes_by next wants found runner' loaded true halts' asks' steps' asked = record {
       on = λ start so e. record {
@@ -79,7 +80,7 @@ module _ {W T : Type 0} (m : Meaning) (way : Way W) (facts : WalksStandIn m) (t 
     }
 
     pub went_by : (walk' : W) (next : ℕ) → way.wants walk ≡ Some next → (found : ℕ) → walk' ≡ way.fed walk found → (runner' : RunnerState T) → Makes m (load_of runner.part.run next) found runner runner'
-        → (going : Bool) (halts' asks' steps' : ℕ) → IsAsked 1 going halts halts' asks asks' steps steps'
+        → (going : Bool) (halts' : ℕ) (asks' : Asks) (steps' : ℕ) → IsAsked 1 going halts halts' asks asks' steps steps'
         → GoesOn m t.layout way walk walk' place word next found going runner runner' halts halts' asks asks' steps steps'
     went_by walk' next wants found fed runner' loaded going halts' asks' steps' asked =
         subst (λ w. GoesOn m t.layout way walk w place word next found going runner runner' halts halts' asks asks' steps steps') (sym fed)
@@ -94,12 +95,12 @@ none_of None e = refl
 none_of (Some x) e = absurd (cc)
 
 module _ {W T : Type 0} (m : Meaning) (layout : Layout) (way : Way W) where
-  pub stays : (walk : W) (place word : ℕ) (runner : RunnerState T) (halts asks steps : ℕ)
+  pub stays : (walk : W) (place word : ℕ) (runner : RunnerState T) (halts : ℕ) (asks : Asks) (steps : ℕ)
       → GoesOn m layout way walk walk place word place word true runner runner halts halts asks asks steps steps
   stays walk place word runner halts asks steps = record { on = λ start so e. so; cut = λ start so e. false_true (sym e) }
 
   pub goes_then : {walk walk' walk'' : W} {place word place' word' place'' word'' : ℕ} {going : Bool} {runner runner' runner'' : RunnerState T}
-      {halts halts' halts'' asks asks' asks'' steps steps' steps'' : ℕ}
+      {halts halts' halts'' : ℕ} {asks asks' asks'' : Asks} {steps steps' steps'' : ℕ}
       → GoesOn m layout way walk walk' place word place' word' true runner runner' halts halts' asks asks' steps steps'
       → GoesOn m layout way walk' walk'' place' word' place'' word'' going runner' runner'' halts' halts'' asks' asks'' steps' steps''
       → GoesOn m layout way walk walk'' place word place'' word'' going runner runner'' halts halts'' asks asks'' steps steps''
@@ -108,7 +109,7 @@ module _ {W T : Type 0} (m : Meaning) (layout : Layout) (way : Way W) where
     cut = λ start so e. second.cut start (first.on start so refl) e;
   }
 
-module _ {W T : Type 0} {m : Meaning} {layout : Layout} {way : Way W} {walk walk' : W} {place word place' word' : ℕ} {going : Bool} {runner runner' : RunnerState T} {halts halts' asks asks' steps steps' : ℕ}
+module _ {W T : Type 0} {m : Meaning} {layout : Layout} {way : Way W} {walk walk' : W} {place word place' word' : ℕ} {going : Bool} {runner runner' : RunnerState T} {halts halts' : ℕ} {asks asks' : Asks} {steps steps' : ℕ}
     (goes : GoesOn m layout way walk walk' place word place' word' going runner runner' halts halts' asks asks' steps steps') where
   pub cut_short : going ≡ false → GoesOn m layout way walk walk' place word place' word' false runner runner' halts halts' asks asks' steps steps'
   cut_short e = subst (λ b. GoesOn m layout way walk walk' place word place' word' b runner runner' halts halts' asks asks' steps steps') e goes
@@ -117,8 +118,8 @@ module _ {W T : Type 0} {m : Meaning} {layout : Layout} {way : Way W} {walk walk
   gone_on e = subst (λ b. GoesOn m layout way walk walk' place word place' word' b runner runner' halts halts' asks asks' steps steps') e goes
 
 -- a walk whose gate was told in the end
-pub told_of : {W T : Type 0} {m : Meaning} {layout : Layout} {way : Way W} {walk walk' : W} {place word : ℕ} {going : Bool} {old new : RunnerState T} {halts halts' asks asks' steps steps' : ℕ}
-    (halts2 halts2' asks2 asks2' steps2 steps2' : ℕ) → HasLed m layout way walk walk' place word going old new halts halts' asks asks' steps steps'
+pub told_of : {W T : Type 0} {m : Meaning} {layout : Layout} {way : Way W} {walk walk' : W} {place word : ℕ} {going : Bool} {old new : RunnerState T} {halts halts' : ℕ} {asks asks' : Asks} {steps steps' : ℕ}
+    (halts2 halts2' : ℕ) (asks2 asks2' : Asks) (steps2 steps2' : ℕ) → HasLed m layout way walk walk' place word going old new halts halts' asks asks' steps steps'
     → ((n : ℕ) → IsAsked n going halts halts' asks asks' steps steps' → IsAsked n going halts2 halts2' asks2 asks2' steps2 steps2')
     → HasLed m layout way walk walk' place word going old new halts2 halts2' asks2 asks2' steps2 steps2'
 told_of halts2 halts2' asks2 asks2' steps2 steps2' led told = record {

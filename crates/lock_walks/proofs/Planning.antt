@@ -6,6 +6,7 @@ use Rattle.map_history.specs.declared.op.Request.{Request}
 use Rattle.body_terms.specs.Word.{value_of, version_of, pack, is_free, is_spent}
 use Rattle.body_terms.specs.declared.thunk.Thunk.{Thunk}
 use Rattle.table_words.specs.declared.layout.Layout.{Layout}
+use Rattle.runner_gate.specs.Asks.{Asks}
 use Rattle.structure_laws.specs.Scene.{Readings}
 use Rattle.structure_laws.specs.Meaning.{Meaning}
 use Rattle.structure_laws.specs.Cells.{slots}
@@ -65,7 +66,7 @@ module _ (m : Meaning) (plans : planning.Planning) (layout : Layout) (op : Op) w
   answers_so number readings answers.Halted is so = absurd is
 
 module _ {W T : Type 0} (m : Meaning) (way : Way W) (t : TableState T) (walk : W) (leads : Leads way m t.layout walk) (old : RunnerState T) (own : IsOf t old) (request : Request)
-    (same_op : way.op walk ≡ request.op) (walk' : W) (place word : ℕ) (going : Bool) (new : RunnerState T) (halts halts' asks asks' steps steps' : ℕ)
+    (same_op : way.op walk ≡ request.op) (walk' : W) (place word : ℕ) (going : Bool) (new : RunnerState T) (halts halts' : ℕ) (asks asks' : Asks) (steps steps' : ℕ)
     (so : HasLed m t.layout way walk walk' place word going old new halts halts' asks asks' steps steps') where
   planned : (answer : Planned) → Answers m (way.planning walk) t.layout (way.op walk) request.number so.readings answer → going ≡ not (is_halted answer)
       → HasPlanned m (way.planning walk) request answer old new halts halts' asks asks' steps steps'

@@ -1,6 +1,7 @@
 -- How far a runner has come on a walk.
 use Rattle.std.specs.Prelude.{◌≡◌, ℕ, ◌+◌, ◌<◌, ◌≤◌, [], ◌∷◌, ◌++◌, Bool, true, false, length, Some, None}
 use Rattle.table_words.specs.declared.layout.Layout.{Layout}
+use Rattle.runner_gate.specs.Asks.{Asks}
 use Rattle.structure_laws.specs.Scene.{Readings}
 use Rattle.structure_laws.specs.Meaning.{Meaning}
 use Rattle.structure_laws.specs.Sections.{IsAllowed}
@@ -25,7 +26,7 @@ module _ {W T : Type 0} (m : Meaning) (layout : Layout) (way : Way W) where
   -- the walker led the runner by these readings, so many; the gate was asked after each, and let it go on. The walker
   -- is behind them, and this is the last one
   pub record IsAlong (made : ℕ) (walk walk' : W) (place word : ℕ) (old new : RunnerState T)
-      (halts halts' asks asks' steps steps' : ℕ) : Type 0 where
+      (halts halts' : ℕ) (asks asks' : Asks) (steps steps' : ℕ) : Type 0 where
     pub readings : Readings
     pub each : length readings ≡ made
     pub led : IsLedBy way walk readings
@@ -39,7 +40,7 @@ module _ {W T : Type 0} (m : Meaning) (layout : Layout) (way : Way W) where
 
   -- so it led the runner, to the end of its walk or to a reading behind which the gate halted
   pub record HasLed (walk walk' : W) (place word : ℕ) (going : Bool) (old new : RunnerState T)
-      (halts halts' asks asks' steps steps' : ℕ) : Type 0 where
+      (halts halts' : ℕ) (asks asks' : Asks) (steps steps' : ℕ) : Type 0 where
     pub readings : Readings
     pub led : IsLedBy way walk readings
     pub walks : IsWalk m (way.planning walk) layout (way.op walk) readings
@@ -56,13 +57,13 @@ pub record Start (W T : Type 0) : Type 0 where
   pub walk : W
   pub runner : RunnerState T
   pub halts : ℕ
-  pub asks : ℕ
+  pub asks : Asks
   pub steps : ℕ
 
 module _ {W T : Type 0} (m : Meaning) (layout : Layout) (way : Way W) where
   -- the walk that began there has come this far: a walk that leads a plan, from a runner that may plan
   pub record IsOnWay (start : Start W T) (walk : W) (place word : ℕ) (runner : RunnerState T)
-      (halts asks steps : ℕ) : Type 0 where
+      (halts : ℕ) (asks : Asks) (steps : ℕ) : Type 0 where
     pub allowed : IsAllowed (way.op start.walk)
     pub leads : Leads way m layout start.walk
     pub entered : MayPlan start.runner
@@ -71,14 +72,14 @@ module _ {W T : Type 0} (m : Meaning) (layout : Layout) (way : Way W) where
         start.halts halts start.asks asks start.steps steps
 
   -- it has come to its end, or to a reading behind which the gate halted
-  abbrev pub IsThrough : Start W T → W → ℕ → ℕ → Bool → RunnerState T → ℕ → ℕ → ℕ → Type 0
+  abbrev pub IsThrough : Start W T → W → ℕ → ℕ → Bool → RunnerState T → ℕ → Asks → ℕ → Type 0
   IsThrough start walk place word going runner halts asks steps =
       HasLed m layout way start.walk walk place word going start.runner runner
       start.halts halts start.asks asks start.steps steps
 
   -- wherever it began, it comes from here to there, or the gate halts there
   pub record GoesOn (walk walk' : W) (place word place' word' : ℕ) (going : Bool)
-      (runner runner' : RunnerState T) (halts halts' asks asks' steps steps' : ℕ) : Type 0 where
+      (runner runner' : RunnerState T) (halts halts' : ℕ) (asks asks' : Asks) (steps steps' : ℕ) : Type 0 where
     pub on : (start : Start W T) → IsOnWay start walk place word runner halts asks steps → going ≡ true
         → IsOnWay start walk' place' word' runner' halts' asks' steps'
     pub cut : (start : Start W T) → IsOnWay start walk place word runner halts asks steps → going ≡ false
@@ -86,7 +87,7 @@ module _ {W T : Type 0} (m : Meaning) (layout : Layout) (way : Way W) where
 
   -- wherever it began, it comes from here to its end, or the gate halts before
   abbrev pub GoesThrough : (walk walk' : W) (place word place' word' : ℕ) (going : Bool)
-      (runner runner' : RunnerState T) (halts halts' asks asks' steps steps' : ℕ) → Type 0
+      (runner runner' : RunnerState T) (halts halts' : ℕ) (asks asks' : Asks) (steps steps' : ℕ) → Type 0
   GoesThrough walk walk' place word place' word' going runner runner' halts halts' asks asks' steps steps' =
       (start : Start W T) → IsOnWay start walk place word runner halts asks steps
       → IsThrough start walk' place' word' going runner' halts' asks' steps'

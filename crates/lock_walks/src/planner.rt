@@ -15,8 +15,9 @@ ghost use Rattle.lock_walks.specs.Retires.{RetiresFew};
 
 use crate::plans::plan_by;
 use crate::walker::Walker;
-use body_terms::{Gate, Steps};
+use body_terms::Steps;
 use map_history::{Op, Request};
+use runner_gate::Gate;
 use std::alloc::{AllocError, Global};
 use structure_laws::Structure;
 use table_words::Layout;

@@ -11,9 +11,10 @@ ghost use Rattle.lock_walks.specs.Way.{Leads};
 ghost use Rattle.lock_walks.specs.Led.{HasLed, Start, IsOnWay, GoesOn, GoesThrough};
 
 use crate::walker::Walker;
-use body_terms::{Gate, Place, StepKind, Steps, Word};
+use body_terms::{Place, StepKind, Steps, Word};
 use map_history::Request;
 use runner_facts::walks_stand;
+use runner_gate::Gate;
 use structure_laws::Structure;
 use table_words::Layout;
 use try_lock::Planned;

@@ -8,9 +8,10 @@ ghost use Rattle.commit_log.specs.Halted.{IsHalted, IsThrough};
 ghost use Rattle.nested_lock.specs.Taken.{MayTake, MayHold, HasTaken, HasHeld, Takes};
 
 use crate::answers::{first_answer, second_answer};
-use body_terms::{Gate, Place, Refused, StepKind, Steps, Word};
+use body_terms::{Place, Refused, StepKind, Steps, Word};
 use commit_log::version_words::{FlockTable, Runner};
 use commit_log::{Unasked, commit, passes};
+use runner_gate::Gate;
 use structure_laws::Structure;
 
 /// How a Take ended, and the words of its lock that were agreed on.

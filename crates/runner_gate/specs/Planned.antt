@@ -1,16 +1,29 @@
 -- A gate that halts at an ask with a given number.
 use Rattle.std.specs.Prelude.{ℕ, Bool, false, Option, None, Some, cond, nat_le}
+use Rattle.runner_gate.specs.Asks.{Asks}
 use Rattle.runner_gate.specs.Counts.{plus}
+use Rattle.runner_gate.specs.declared.counts.GatePlan.{GatePlan}
 
--- the number of the ask from which on the gate halts, if any; how often it was asked, and how often it halted
+-- the number of the ask from which on the gate halts, if any; for which runner it was given out with which plan, if it
+-- was; how often it was asked, and how often it halted
 pub record Planned : Type 0 where
   pub at : Option ℕ
+  pub plan : Option GatePlan
   pub asks : ℕ
   pub halts : ℕ
 
--- the gate of a plan before its first ask
+-- its asks
+abbrev pub asks_of : Planned → Asks
+asks_of gate = record { plan = gate.plan; count = gate.asks }
+
+-- a gate that halts there before its first ask
 abbrev pub unasked : Option ℕ → Planned
-unasked at = record { at = at; asks = 0; halts = 0 }
+unasked at = record { at = at; plan = None; asks = 0; halts = 0 }
+
+-- the gate of a runner with its plan before its first ask
+abbrev pub given_out : ℕ → Option ℕ → Planned
+given_out runner halt =
+    record { at = halt; plan = Some (record { runner = runner; halt = halt }); asks = 0; halts = 0 }
 
 -- whether the ask with this number is one at which the gate halts
 abbrev pub has_come : Option ℕ → ℕ → Bool
@@ -25,6 +38,7 @@ halts_next gate = has_come gate.at (plus gate.asks 1)
 abbrev pub asked : Planned → Planned
 asked gate = record {
   at = gate.at;
+  plan = gate.plan;
   asks = plus gate.asks 1;
   halts = cond (halts_next gate) (plus gate.halts 1) gate.halts;
 }

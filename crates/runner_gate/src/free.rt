@@ -1,34 +1,40 @@
 //! Gates that never halt.
-ghost use Rattle.std.specs.Prelude.{◌≡◌, ℕ, List, Option, true};
+ghost use Rattle.std.specs.Prelude.{◌≡◌, ℕ, List, Option, None, true};
+ghost use Rattle.runner_gate.specs.Asks.{Asks, unasked_by};
 ghost use Rattle.runner_gate.specs.Counts.{none_counted};
 
-use crate::counts::Counts;
+use crate::counts::{Counts, GatePlan};
+use crate::gate::{Gate, Pass};
 use crate::gates::Gates;
-use body_terms::{Gate, Pass, StepKind};
+use body_terms::StepKind;
 use std::marker::Model;
 
 /// A gate that never halts. It counts its asks, and its count of halts is 0 for good.
 ///
-/// Contracts see how often it was asked.
+/// Contracts see for which runner it was given out, if it was, and how often it was asked.
 #[derive(Debug, Drop)]
 pub struct Free {
+    plan: Option<GatePlan>,
     asks: u64,
 }
 
 impl Model for Free {
-    ghost use Rattle.std.specs.Prelude.{ℕ};
+    ghost use Rattle.runner_gate.specs.Asks.{Asks};
 
-    ghost Value = { ℕ };
+    ghost Value = { Asks };
 
-    ghost view = { λ gate. gate.asks };
+    ghost view = { λ gate. record { plan = gate.plan; count = gate.asks } };
 }
 
 impl Free {
     /// A gate that wasn't asked yet.
     pub fn new() -> Free
-        ensures { result ≡ 0 }
+        ensures { result ≡ unasked_by None }
     {
-        Free { asks: 0 }
+        Free {
+            plan: None,
+            asks: 0,
+        }
     }
 }
 
@@ -98,7 +104,10 @@ impl Gates for FreeGates {
 
     fn gate(&mut self, runner: u32, halt: Option<u64>) -> Free {
         self.counts.give(runner, halt);
-        Free::new()
+        Free {
+            plan: Some(GatePlan { runner, halt }),
+            asks: 0,
+        }
     }
 
     fn back(&mut self, gate: Free) {

@@ -1,9 +1,10 @@
 //! Where the runners of a table get their gates.
 ghost use Rattle.std.specs.Prelude.{◌≡◌, ℕ, List};
+ghost use Rattle.runner_gate.specs.Asks.{unasked_of};
 ghost use Rattle.runner_gate.specs.Counts.{plus, halts_after, plans_after, planned_after};
 ghost use Rattle.runner_gate.specs.declared.counts.GatePlan.{GatePlan};
 
-use body_terms::Gate;
+use crate::gate::Gate;
 
 /// Gives each runner of a table its gate, and takes the gates back once the runners are done.
 ///
@@ -32,7 +33,7 @@ pub trait Gates {
     /// A gate that wasn't asked yet, for the runner with this number. Where `halt` has a number, the gate is planned
     /// to halt at its ask with this number, counted from 1, if the gates are of a kind that halts.
     fn gate(&mut self, runner: u32, halt: Option<u64>) -> Self::Gate
-        ensures unasked { (Self.Gate.halts result ≡ 0) × (Self.Gate.asks result ≡ 0) }
+        ensures unasked { (Self.Gate.halts result ≡ 0) × (Self.Gate.asks result ≡ unasked_of runner halt) }
         ensures returned { returned self.new ≡ returned self.old }
         ensures halts { halts self.new ≡ halts self.old }
         ensures asks { asks self.new ≡ asks self.old }
@@ -43,7 +44,7 @@ pub trait Gates {
     fn back(&mut self, gate: Self::Gate)
         ensures returned { returned self.new ≡ plus (returned self.old) 1 }
         ensures halts { halts self.new ≡ halts_after (halts self.old) (Self.Gate.halts gate) }
-        ensures asks { asks self.new ≡ plus (asks self.old) (Self.Gate.asks gate) }
+        ensures asks { asks self.new ≡ plus (asks self.old) (Self.Gate.asks gate).count }
         ensures plans { plans self.new ≡ plans self.old }
         ensures planned { planned self.new ≡ planned self.old };
 }

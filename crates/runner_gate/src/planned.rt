@@ -1,24 +1,28 @@
 //! Gates that halt at an ask with a given number.
-ghost use Rattle.std.specs.Prelude.{◌≡◌, ◌≤◌, ◌+◌, ℕ, List, Option, cond, min, true};
+ghost use Rattle.std.specs.Prelude.{◌≡◌, ◌≤◌, ◌+◌, ℕ, List, Option, cond, true};
 ghost use Rattle.std.specs.Option.{is_none};
 ghost use Rattle.fault_count.specs.Rose.{Rose};
 ghost use Rattle.body_terms.specs.Counted.{counted_on};
-ghost use Rattle.body_terms.specs.declared.gate.Pass.TheVariants.{Go, Halt};
+ghost use Rattle.runner_gate.specs.declared.gate.Pass.TheVariants.{Go, Halt};
+ghost use Rattle.runner_gate.specs.Asks.{unasked_of, asked_on};
 ghost use Rattle.runner_gate.specs.Counts.{plus, halts_after, plans_after, planned_after, none_counted};
-ghost use Rattle.runner_gate.specs.Planned.{unasked, halts_next, asked};
+ghost use Rattle.runner_gate.specs.Planned.{asks_of, unasked, given_out, halts_next, asked};
 
-use crate::counts::Counts;
+use crate::counts::{Counts, GatePlan};
+use crate::gate::{Gate, Pass};
 use crate::gates::Gates;
-use body_terms::{Gate, Pass, StepKind};
+use body_terms::StepKind;
 use std::marker::Model;
 
 /// A gate that halts at its ask with a given number, counted from 1, and at each later one; or never, where no
 /// number is given.
 ///
-/// Contracts see the number, how often it was asked, and how often it halted.
+/// Contracts see the number, for which runner it was given out, if it was, how often it was asked, and how often it
+/// halted.
 #[derive(Debug, Drop)]
 pub struct HaltAt {
     at: Option<u64>,
+    plan: Option<GatePlan>,
     asks: u64,
     halts: u64,
 }
@@ -28,7 +32,7 @@ impl Model for HaltAt {
 
     ghost Value = { Planned };
 
-    ghost view = { λ gate. record { at = gate.at; asks = gate.asks; halts = gate.halts } };
+    ghost view = { λ gate. record { at = gate.at; plan = gate.plan; asks = gate.asks; halts = gate.halts } };
 }
 
 impl HaltAt {
@@ -38,6 +42,7 @@ impl HaltAt {
     {
         HaltAt {
             at,
+            plan: None,
             asks: 0,
             halts: 0,
         }
@@ -47,7 +52,7 @@ impl HaltAt {
 impl Gate for HaltAt {
     ghost halts = { λ gate. gate.halts };
 
-    ghost asks = { λ gate. gate.asks };
+    ghost asks = { λ gate. asks_of gate };
 
     ghost free = { λ gate. is_none gate.at };
 
@@ -55,7 +60,7 @@ impl Gate for HaltAt {
         ensures never_falls { self.old.halts ≤ self.new.halts }
         ensures halted { result ≡ Halt → Rose self.old.halts self.new.halts }
         ensures went { result ≡ Go → self.new.halts ≡ self.old.halts }
-        ensures asked { self.new.asks ≡ min (self.old.asks + 1) u64.MAX }
+        ensures asked { asks_of self.new ≡ asked_on (asks_of self.old) 1 }
         ensures free { is_none self.old.at ≡ true → (result ≡ Go) × (is_none self.new.at ≡ true) }
 
         // It halts exactly where the number of its plan has come.
@@ -127,7 +132,7 @@ impl Gates for PlannedGates {
     ghost planned = { λ gates. gates.planned };
 
     fn gate(&mut self, runner: u32, halt: Option<u64>) -> HaltAt
-        ensures unasked { (result.halts ≡ 0) × (result.asks ≡ 0) }
+        ensures unasked { (result.halts ≡ 0) × (asks_of result ≡ unasked_of runner halt) }
         ensures returned { self.new.returned ≡ self.old.returned }
         ensures halts { self.new.halts ≡ self.old.halts }
         ensures asks { self.new.asks ≡ self.old.asks }
@@ -135,10 +140,15 @@ impl Gates for PlannedGates {
         ensures planned { self.new.planned ≡ planned_after self.old.planned runner halt }
 
         // It halts as `halt` says.
-        ensures gate { result ≡ unasked halt }
+        ensures gate { result ≡ given_out runner halt }
     {
         self.counts.give(runner, halt);
-        HaltAt::new(halt)
+        HaltAt {
+            at: halt,
+            plan: Some(GatePlan { runner, halt }),
+            asks: 0,
+            halts: 0,
+        }
     }
 
     fn back(&mut self, gate: HaltAt) {

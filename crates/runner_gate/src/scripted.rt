@@ -1,10 +1,12 @@
 //! Gates that follow a script, for tests: at an ask a gate waits until another gate was asked.
-ghost use Rattle.std.specs.Prelude.{◌≡◌, ◌<◌, ℕ, List, Option, IfOk};
+ghost use Rattle.std.specs.Prelude.{◌≡◌, ◌<◌, ℕ, List, Option, Some, IfOk};
+ghost use Rattle.runner_gate.specs.Asks.{Asks};
 ghost use Rattle.runner_gate.specs.Counts.{none_counted};
 
-use crate::counts::Counts;
+use crate::counts::{Counts, GatePlan};
+use crate::gate::{Gate, Pass};
 use crate::gates::Gates;
-use body_terms::{Gate, Pass, StepKind};
+use body_terms::StepKind;
 use std::alloc::{AllocError, Global};
 use std::marker::Model;
 use std::sync::Arc;
@@ -79,7 +81,7 @@ fn is_first(was_asked: &mut [bool; KINDS], kind: StepKind) -> bool {
 /// A gate of a script. It halts where it has waited for the limit of 1,000,000,000 loads.
 #[derive(Debug, Drop)]
 pub struct Scripted {
-    runner: u32,
+    plan: GatePlan,
     // None where no more gates can share the script. Such a gate halts at each ask.
     script: Option<Arc<Vec<Line>, Global>>,
     was_asked: [bool; KINDS],
@@ -94,16 +96,16 @@ impl Scripted {
             return false;
         };
         for line in script.as_slice() {
-            line.hear(self.runner, kind);
+            line.hear(self.plan.runner, kind);
         }
-        !is_first || script.iter().all(|line| line.wait(self.runner, kind))
+        !is_first || script.iter().all(|line| line.wait(self.plan.runner, kind))
     }
 }
 
 impl Gate for Scripted {
     ghost halts = { λ gate. gate.halts };
 
-    ghost asks = { λ gate. gate.asks };
+    ghost asks = { λ gate. record { plan = Some gate.plan; count = gate.asks } };
 
     fn after(&mut self, kind: StepKind) -> Pass {
         self.asks = self.asks.saturating_add(1);
@@ -166,7 +168,7 @@ impl Gates for ScriptedGates {
     fn gate(&mut self, runner: u32, halt: Option<u64>) -> Scripted {
         self.counts.give(runner, halt);
         Scripted {
-            runner,
+            plan: GatePlan { runner, halt },
             script: Arc::try_clone(&self.script).ok(),
             was_asked: [false; KINDS],
             asks: 0,

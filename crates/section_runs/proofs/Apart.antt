@@ -2,13 +2,14 @@
 use Rattle.std.proofs.Common.{◌≡◌, ℕ, ◌+◌, ◌-◌, ◌^◌, ◌≤◌, min, Bool, true, false, sym, ap, subst, ◌∙◌, arith}
 use Rattle.body_terms.specs.Counted.{counted_on}
 use Rattle.body_terms.proofs.CountedLemmas.{counts}
+use Rattle.runner_gate.specs.Asks.{Asks}
 use Rattle.structure_laws.specs.Meaning.{Meaning}
 use Rattle.idem_alloc.specs.version_words.specs.RunnerState.{RunnerState}
 use Rattle.idem_alloc.specs.commit_log.specs.Asked.{IsAsked}
 use Rattle.idem_alloc.specs.commit_log.specs.Halted.{IsThrough, IsHalted}
 use Rattle.section_runs.proofs.Testing.{stood}
 
-pub asked_apart : (n : ℕ) (going : Bool) (halts halts' asks asks' steps old made steps' : ℕ) → old ≡ steps → old ≤ 2 ^ 64 - 1 → IsAsked n going halts halts' asks asks' 0 made → steps' ≡ min (old + made) (2 ^ 64 - 1)
+pub asked_apart : (n : ℕ) (going : Bool) (halts halts' : ℕ) (asks asks' : Asks) (steps old made steps' : ℕ) → old ≡ steps → old ≤ 2 ^ 64 - 1 → IsAsked n going halts halts' asks asks' 0 made → steps' ≡ min (old + made) (2 ^ 64 - 1)
     → IsAsked n going halts halts' asks asks' steps steps'
 asked_apart n going halts halts' asks asks' steps old made steps' same low is sum =
     let some = is.counted ∙ counts 0 n (omega arith) in
@@ -22,11 +23,11 @@ asked_apart n going halts halts' asks asks' steps old made steps' same low is su
     }
 
 -- a count that began with none
-pub asked_from : (n : ℕ) (going : Bool) (halts halts' asks asks' old made : ℕ) → old ≡ 0 → IsAsked n going halts halts' asks asks' old made → IsAsked n going halts halts' asks asks' 0 made
+pub asked_from : (n : ℕ) (going : Bool) (halts halts' : ℕ) (asks asks' : Asks) (old made : ℕ) → old ≡ 0 → IsAsked n going halts halts' asks asks' old made → IsAsked n going halts halts' asks asks' 0 made
 asked_from n going halts halts' asks asks' old made none is = subst (λ k. IsAsked n going halts halts' asks asks' k made) none is
 
 -- so it is with what a part of a run tells of its steps
-module _ {T : Type 0} (m : Meaning) (most : ℕ) (a b : RunnerState T) (halts halts' asks asks' steps old made steps' : ℕ) (same : old ≡ steps) (low : old ≤ 2 ^ 64 - 1) where
+module _ {T : Type 0} (m : Meaning) (most : ℕ) (a b : RunnerState T) (halts halts' : ℕ) (asks asks' : Asks) (steps old made steps' : ℕ) (same : old ≡ steps) (low : old ≤ 2 ^ 64 - 1) where
   pub through_apart : IsThrough m most a b halts halts' asks asks' 0 made → steps' ≡ min (old + made) (2 ^ 64 - 1) → IsThrough m most a b halts halts' asks asks' steps steps'
   through_apart is sum = record { made = is.made; few = is.few; ran = is.ran; asked = asked_apart is.made true halts halts' asks asks' steps old made steps' same low is.asked sum }
 
@@ -34,5 +35,5 @@ module _ {T : Type 0} (m : Meaning) (most : ℕ) (a b : RunnerState T) (halts ha
   halted_apart is sum = record { made = is.made; some = is.some; few = is.few; ran = is.ran; asked = asked_apart is.made false halts halts' asks asks' steps old made steps' same low is.asked sum }
 
 -- no step was made and none counted
-pub stood_apart : {T : Type 0} (m : Meaning) (r : RunnerState T) (halts asks made : ℕ) → made ≡ 0 → IsThrough m 0 r r halts halts asks asks 0 made
+pub stood_apart : {T : Type 0} (m : Meaning) (r : RunnerState T) (halts : ℕ) (asks : Asks) (made : ℕ) → made ≡ 0 → IsThrough m 0 r r halts halts asks asks 0 made
 stood_apart m r halts asks made none = subst (λ k. IsThrough m 0 r r halts halts asks asks 0 k) (sym none) (stood m r 0 halts asks 0)

@@ -8,6 +8,7 @@ use Rattle.body_terms.specs.Line.{Registers, micros, micro_at, begins, log_words
 use Rattle.body_terms.specs.Run.{Setting, leaves}
 use Rattle.body_terms.specs.Shape.{IsStep}
 use Rattle.body_terms.proofs.LineLemmas.{micro_within, registers_before_next, count_after}
+use Rattle.runner_gate.specs.Asks.{Asks}
 use Rattle.section_lines.specs.Rests.{is_test}
 use Rattle.section_lines.proofs.Progress.{some_micros}
 use Rattle.section_lines.proofs.Resting.{run_rests}
@@ -73,5 +74,5 @@ module _ {T : Type 0} (m : Meaning) (r : RunnerState T) where
         }
 
   -- no step was made
-  pub stood : (most halts asks steps : ℕ) → IsThrough m most r r halts halts asks asks steps steps
+  pub stood : (most halts : ℕ) (asks : Asks) (steps : ℕ) → IsThrough m most r r halts halts asks asks steps steps
   stood most halts asks steps = record { made = 0; few = omega arith; ran = refl; asked = asked_none halts asks steps }

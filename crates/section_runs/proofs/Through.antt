@@ -1,6 +1,7 @@
 -- What a call gives where it has an answer, and how many steps it made.
 use Rattle.std.proofs.Common.{◌≡◌, ℕ, ◌+◌, ◌≤◌, Bool, true, false, subst, arith, Option, Some, None}
 use Rattle.std.specs.Prelude.{IfSome, IfNone}
+use Rattle.runner_gate.specs.Asks.{Asks}
 use Rattle.structure_laws.specs.Meaning.{Meaning}
 use Rattle.runner_parts.specs.State.{RunState}
 use Rattle.idem_alloc.specs.version_words.specs.RunnerState.{RunnerState}
@@ -33,7 +34,7 @@ module _ {T : Type 0} (m : Meaning) (a b : RunnerState T) (q : RunState) where
   pub retired_ran : (slot : ℕ) → HasRetired m slot a b q → Ran m 2 a b
   retired_ran slot has = ran_more m 1 1 a has.middle b (ran_one m _ _ _ _ _ has.load) (ran_one m _ _ _ _ _ has.commit)
 
-module _ {T : Type 0} (m : Meaning) (n most : ℕ) (a b : RunnerState T) (halts halts' asks asks' steps steps' : ℕ) where
+module _ {T : Type 0} (m : Meaning) (n most : ℕ) (a b : RunnerState T) (halts halts' : ℕ) (asks asks' : Asks) (steps steps' : ℕ) where
   pub through_by : n ≤ most → Ran m n a b → IsAsked n true halts halts' asks asks' steps steps' → IsThrough m most a b halts halts' asks asks' steps steps'
   through_by few ran asked = record { made = n; few = few; ran = ran; asked = asked }
 
@@ -41,7 +42,7 @@ module _ {T : Type 0} (m : Meaning) (n most : ℕ) (a b : RunnerState T) (halts 
   halted_by some few ran asked = record { made = n; some = some; few = few; ran = ran; asked = asked }
 
 -- one after the other
-module _ {T : Type 0} (m : Meaning) (n k most : ℕ) (a b c : RunnerState T) (halts halts' halts'' asks asks' asks'' steps steps' steps'' : ℕ) where
+module _ {T : Type 0} (m : Meaning) (n k most : ℕ) (a b c : RunnerState T) (halts halts' halts'' : ℕ) (asks asks' asks'' : Asks) (steps steps' steps'' : ℕ) where
   pub through_more : n + k ≤ most → IsThrough m n a b halts halts' asks asks' steps steps' → IsThrough m k b c halts' halts'' asks' asks'' steps' steps''
       → IsThrough m most a c halts halts'' asks asks'' steps steps''
   through_more few one two = record {
@@ -62,14 +63,14 @@ module _ {T : Type 0} (m : Meaning) (n k most : ℕ) (a b c : RunnerState T) (ha
   }
 
 -- the gate's answer, once it is known
-pub asked_if : {n : ℕ} {going known : Bool} {halts halts' asks asks' steps steps' : ℕ} → going ≡ known → IsAsked n going halts halts' asks asks' steps steps' → IsAsked n known halts halts' asks asks' steps steps'
+pub asked_if : {n : ℕ} {going known : Bool} {halts halts' : ℕ} {asks asks' : Asks} {steps steps' : ℕ} → going ≡ known → IsAsked n going halts halts' asks asks' steps steps' → IsAsked n known halts halts' asks asks' steps steps'
 asked_if {n} {going} {known} {halts} {halts'} {asks} {asks'} {steps} {steps'} e is = subst (λ (b : Bool). IsAsked n b halts halts' asks asks' steps steps') e is
 
 -- no more than more
-pub through_few : {T : Type 0} (m : Meaning) (n most : ℕ) (a b : RunnerState T) (halts halts' asks asks' steps steps' : ℕ) → n ≤ most
+pub through_few : {T : Type 0} (m : Meaning) (n most : ℕ) (a b : RunnerState T) (halts halts' : ℕ) (asks asks' : Asks) (steps steps' : ℕ) → n ≤ most
     → IsThrough m n a b halts halts' asks asks' steps steps' → IsThrough m most a b halts halts' asks asks' steps steps'
 through_few m n most a b halts halts' asks asks' steps steps' low one = record { made = one.made; few = let f = one.few in omega (arith, f, low); ran = one.ran; asked = one.asked }
 
-pub halted_few : {T : Type 0} (m : Meaning) (n most : ℕ) (a b : RunnerState T) (halts halts' asks asks' steps steps' : ℕ) → n ≤ most
+pub halted_few : {T : Type 0} (m : Meaning) (n most : ℕ) (a b : RunnerState T) (halts halts' : ℕ) (asks asks' : Asks) (steps steps' : ℕ) → n ≤ most
     → IsHalted m n a b halts halts' asks asks' steps steps' → IsHalted m most a b halts halts' asks asks' steps steps'
 halted_few m n most a b halts halts' asks asks' steps steps' low one = record { made = one.made; some = one.some; few = let f = one.few in omega (arith, f, low); ran = one.ran; asked = one.asked }

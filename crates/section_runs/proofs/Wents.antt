@@ -10,6 +10,7 @@ use Rattle.body_terms.specs.Trail.{Agreed}
 use Rattle.body_terms.specs.declared.outcome.Outcome.{Outcome}
 use Rattle.body_terms.specs.declared.outcome.Outcome.TheVariants.{Answered, Busy, Stale, Spent}
 use Rattle.body_terms.specs.declared.step.Step.{Step}
+use Rattle.runner_gate.specs.Asks.{Asks}
 use Rattle.structure_laws.specs.Meaning.{Meaning}
 use Rattle.section_lines.specs.Rests.{is_test}
 use Rattle.machine_states.proofs.Steps.{some_same}
@@ -52,7 +53,7 @@ pub as_step : {T : Type 0} (m : Meaning) (n : ℕ) (step s : Step) (kept : Place
 as_step m n step s kept r e may = subst (λ (x : Step). MayGoBy m x kept r) e (record { may = record { n = n; before = may.before; here = may.here }; registers = may.registers })
 
 module _ {T : Type 0} (m : Meaning) (n : ℕ) (step s : Step) (kept : Places) (e : step ≡ s) (old new : RunnerState T) (may : MayGoAt m n step kept old) (passed : Passed)
-    (trail trail' : Agreed) (halts halts' asks asks' steps steps' : ℕ) where
+    (trail trail' : Agreed) (halts halts' : ℕ) (asks asks' : Asks) (steps steps' : ℕ) where
   abbrev Was : Step → Type 0
   Was x = Went m n x passed old new trail trail' halts halts' asks asks' steps steps'
 
@@ -101,7 +102,7 @@ module _ {T : Type 0} (m : Meaning) (n : ℕ) (step s : Step) (kept : Places) (e
 -- a Want or a Fresh makes no step
 module _ {T : Type 0} (m : Meaning) (n : ℕ) (step s : Step) (kept : Places) (e : step ≡ s) (r : RunnerState T) (may : MayGoAt m n step kept r) (test : is_test s ≡ true) (free : step_cost s ≡ 0)
     (left : Option Outcome) (is : left ≡ leaves (setting_of r.layout (run_of r).descriptor) (run_of r).trail (micro_at (micros (registers_before (body_of m r) n) s) 0))
-    (passed : Passed) (trail : Agreed) (halts asks steps : ℕ) where
+    (passed : Passed) (trail : Agreed) (halts : ℕ) (asks : Asks) (steps : ℕ) where
   tested_here : IsStep (body_of m r) n s
   tested_here = may.here ∙ ap (λ (x : Step). Some x) e
 

@@ -12,6 +12,7 @@ use Rattle.body_terms.specs.declared.outcome.Outcome.TheVariants.{Answered, Busy
 use Rattle.body_terms.specs.declared.step.Step.{Step}
 use Rattle.body_terms.specs.declared.thunk.Thunk.{Thunk}
 use Rattle.table_words.specs.declared.spot.Spot.TheVariants.{Cell, DoneWord, LogWord}
+use Rattle.runner_gate.specs.Asks.{Asks}
 use Rattle.structure_laws.specs.Meaning.{Meaning}
 use Rattle.runner_parts.specs.declared.entries.Retired.{Retired}
 use Rattle.runner_parts.specs.State.{NodesState, FinishedState}
@@ -126,13 +127,14 @@ rest_of body = sum_by step_cost body + (2 + count_by is_take body)
 module _ {T : Type 0} (m : Meaning) where
   -- where it came to its end
   abbrev pub EndsOpened : ℕ → Thunk → Bool → RunEnd → RunnerState T → RunnerState T
-      → ℕ → ℕ → ℕ → ℕ → ℕ → ℕ → Type 0
+      → ℕ → ℕ → Asks → Asks → ℕ → ℕ → Type 0
   EndsOpened d t late end old new halts halts' asks asks' steps steps' =
       (before : RunnerState T) (o : Outcome) (trail : Agreed) → HasOpened m d t late before old → end ≡ Done o trail
       → (made : ℕ) × EndsSo m d t o trail (13 + made) before new
       × IsAsked made true halts halts' asks asks' steps steps'
 
   -- and where the gate halted it
-  abbrev pub HaltsOpened : Thunk → RunEnd → RunnerState T → RunnerState T → ℕ → ℕ → ℕ → ℕ → ℕ → ℕ → Type 0
+  abbrev pub HaltsOpened : Thunk → RunEnd → RunnerState T → RunnerState T
+      → ℕ → ℕ → Asks → Asks → ℕ → ℕ → Type 0
   HaltsOpened t end old new halts halts' asks asks' steps steps' =
       end ≡ Halted → IsHalted m (rest_of (m.body t)) old new halts halts' asks asks' steps steps'

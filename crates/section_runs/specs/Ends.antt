@@ -3,6 +3,7 @@ use Rattle.std.specs.Prelude.{◌≡◌, ℕ, ◌+◌, ◌≤◌, count_by, take
 use Rattle.body_terms.specs.declared.micro.Micro.TheVariants.{Release}
 use Rattle.body_terms.specs.Line.{micro_at, is_event, is_end, releases}
 use Rattle.body_terms.specs.Shape.{is_take}
+use Rattle.runner_gate.specs.Asks.{Asks}
 use Rattle.section_lines.specs.Rests.{taken_releases}
 use Rattle.structure_laws.specs.Meaning.{Meaning}
 use Rattle.runner_parts.specs.State.{RunState}
@@ -47,7 +48,8 @@ module _ {T : Type 0} (m : Meaning) where
     pub released : HasReleased last new
 
   -- so it is, and the gate let the runner go on behind each of these steps
-  pub record EndsAsked (takes : ℕ) (old new : RunnerState T) (halts halts' asks asks' steps steps' : ℕ) : Type 0 where
+  pub record EndsAsked (takes : ℕ) (old new : RunnerState T) (halts halts' : ℕ) (asks asks' : Asks)
+      (steps steps' : ℕ) : Type 0 where
     pub ended : HasEnded old new
     pub few : ended.count ≤ 1 + takes
     pub asked : IsAsked (ended.count + 1) true halts halts' asks asks' steps steps'

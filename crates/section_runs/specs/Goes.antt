@@ -8,6 +8,7 @@ use Rattle.body_terms.specs.Trail.{Agreed}
 use Rattle.body_terms.specs.declared.outcome.Outcome.{Outcome}
 use Rattle.body_terms.specs.declared.outcome.Outcome.TheVariants.{Busy}
 use Rattle.body_terms.specs.declared.step.Step.{Step}
+use Rattle.runner_gate.specs.Asks.{Asks}
 use Rattle.structure_laws.specs.Meaning.{Meaning}
 use Rattle.runner_parts.specs.Tests.{has}
 use Rattle.idem_alloc.specs.version_words.specs.RunnerState.{RunnerState}
@@ -33,7 +34,7 @@ pub record MayGoAt {T : Type 0} (m : Meaning) (n : ℕ) (step : Step) (kept : Pl
 -- the run came through step n so: it goes on to the next one, leaves, which only a step of the first phase lets it, or
 -- was halted; the trail has the agreed words then, and the atomic steps are counted
 pub record Went {T : Type 0} (m : Meaning) (n : ℕ) (step : Step) (passed : Passed) (old new : RunnerState T)
-    (trail trail' : Agreed) (halts halts' asks asks' steps steps' : ℕ) : Type 0 where
+    (trail trail' : Agreed) (halts halts' : ℕ) (asks asks' : Asks) (steps steps' : ℕ) : Type 0 where
   pub before : passed ≡ On → IsBefore m (suc n) new
   pub nodes : passed ≡ On → NodesStepped step old.part.nodes new.part.nodes
   pub over : (o : Outcome) → passed ≡ Left o → IsOver m n o new

@@ -1,6 +1,7 @@
 -- The opening of a run.
 use Rattle.std.specs.Prelude.{◌≡◌, ℕ, zero, suc, List, Bool, true, false, length, ◌++◌, ◌≤◌, slice_get, Option, Some, None}
 use Rattle.body_terms.specs.declared.thunk.Thunk.{Thunk}
+use Rattle.runner_gate.specs.Asks.{Asks}
 use Rattle.structure_laws.specs.Meaning.{Meaning}
 use Rattle.runner_parts.specs.declared.event.EventKind.{EventKind}
 use Rattle.runner_parts.specs.declared.event.EventKind.TheVariants as kinds
@@ -85,7 +86,7 @@ module _ {T : Type 0} (m : Meaning) where
 
 -- a gate halted the runner behind one of these loads: it made the loads up to that one, or all
 pub record HasHalted {T : Type 0} (m : Meaning) (most d : ℕ) (old new : RunnerState T)
-    (halts halts' asks asks' steps steps' : ℕ) : Type 0 where
+    (halts halts' : ℕ) (asks asks' : Asks) (steps steps' : ℕ) : Type 0 where
   pub made : ℕ
   pub some : 1 ≤ made
   pub few : made ≤ most

@@ -14,8 +14,9 @@ use crate::passed::{Passed, Walked};
 use crate::registers::Places;
 use crate::steps::step_gated;
 use crate::sums::add_up;
-use body_terms::{Gate, Outcome, Step, Steps, Trail};
+use body_terms::{Outcome, Step, Steps, Trail};
 use idem_alloc::version_words::{FlockTable, Runner};
+use runner_gate::Gate;
 use structure_laws::Structure;
 
 /// The reply of a body's Answer, which is its last step.

@@ -10,9 +10,10 @@ ghost use Rattle.section_runs.specs.Reached.{run_of};
 ghost use Rattle.section_runs.specs.Bodies.{body_of, IsOver};
 ghost use Rattle.section_runs.specs.Ends.{IsEnding, EndsOn, HasReleased, EndsAsked};
 
-use body_terms::{Gate, Place, Step, StepKind, Steps, Word};
+use body_terms::{Place, Step, StepKind, Steps, Word};
 use idem_alloc::commit_log::passes;
 use idem_alloc::version_words::{FlockTable, Runner};
+use runner_gate::Gate;
 use structure_laws::Structure;
 
 /// Sets the done word.

@@ -7,9 +7,10 @@ ghost use Rattle.section_runs.specs.Reached.{MayBegin};
 ghost use Rattle.section_runs.specs.Opened.{IsOpening, HasOpened, HasHalted};
 
 use crate::sums::add_up;
-use body_terms::{Gate, StepKind, Steps, Thunk, Word};
+use body_terms::{StepKind, Steps, Thunk, Word};
 use idem_alloc::commit_log::passes;
 use idem_alloc::version_words::{FlockTable, Runner};
+use runner_gate::Gate;
 use structure_laws::Structure;
 
 /// The thunk that these words hold.

@@ -14,9 +14,10 @@ use crate::bodies::walk;
 use crate::ends::end;
 use crate::opens::open;
 use crate::passed::Walked;
-use body_terms::{Gate, Outcome, Step, Steps, Thunk, Trail};
+use body_terms::{Outcome, Step, Steps, Thunk, Trail};
 use idem_alloc::commit_log::{Unasked, tell};
 use idem_alloc::version_words::{FlockTable, RunRoom, Runner};
+use runner_gate::Gate;
 use structure_laws::Structure;
 
 /// How a run of a section ended.

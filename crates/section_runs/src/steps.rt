@@ -15,12 +15,13 @@ ghost use Rattle.section_runs.specs.declared.passed.Passed.TheVariants.{On, Left
 use crate::passed::Passed;
 use crate::registers::Places;
 use crate::values::{agree_on, taken, tested, value_in, wanted};
-use body_terms::{Gate, Init, Place, Step, StepKind, Steps, Trail, Value, Word};
+use body_terms::{Init, Place, Step, StepKind, Steps, Trail, Value, Word};
 use idem_alloc::commit_log::passes;
 use idem_alloc::version_words::{FlockTable, Runner};
 use idem_alloc::{make_gated, retire_gated};
 use idem_cell::{load_gated, store};
 use nested_lock::take_gated;
+use runner_gate::Gate;
 use structure_laws::Structure;
 
 /// Loads a cell and agrees on its word.

@@ -14,7 +14,7 @@ use Rattle.runner_parts.specs.declared.entries.Known.{Known}
 use Rattle.runner_parts.specs.Tests.{is_answered, are_answered}
 use Rattle.machine_states.proofs.Steps.{some_same, none_some}
 use Rattle.attempt_bounds.specs.machine_invariant.specs.After.{AreAllowed}
-use Rattle.attempt_bounds.specs.commit_log.proofs.Asked.{counted_more}
+use Rattle.attempt_bounds.specs.commit_log.proofs.Asked.{asked_on_more}
 use Rattle.attempt_bounds.specs.version_words.specs.RunnerState.{RunnerState}
 use Rattle.attempt_bounds.specs.version_words.specs.TableState.{TableState, IsOf}
 use Rattle.attempt_bounds.specs.epoch_slots.specs.Collects.{IsTidy}
@@ -23,6 +23,7 @@ use Rattle.attempt_bounds.specs.try_lock.specs.Planning.{Planning}
 use Rattle.attempt_bounds.specs.try_lock.specs.Reached.{IsReached}
 use Rattle.attempt_bounds.specs.request_facts.specs.Laws.{HasEntry}
 use Rattle.body_terms.specs.Counted.{counted_on}
+use Rattle.runner_gate.specs.Asks.{Asks, asked_on}
 use Rattle.attempt_bounds.specs.attempts.specs.Knowing.{KnowsMore, IsOwn}
 use Rattle.attempt_bounds.specs.attempts.specs.Course.{MayAttempt}
 use Rattle.attempt_bounds.specs.attempts.specs.Attempts.{asks_more, asks_before, IsServed, IsShort, IsTurnedAway, IsHalted, Answers}
@@ -35,7 +36,7 @@ use Rattle.serving.specs.declared.answers.Served.TheVariants as answers
 use Rattle.serving.specs.Serving.{is_tried_again, stop_of, IsBefore, TriedRuns, ServedRuns, Try, is_served, GoesOn, served_in, steps_in, asks_in, least_asks, asks_let, all_asks_let, WasCrossed, TriesBriefly, ServesBriefly, MayServe, AreServed, AreTried, Persists, Serves}
 use Rattle.serving.proofs.Lists.{and_true, all_pass, where_held, numbered, entry_known}
 use Rattle.serving.proofs.Standing.{entry_on, answered_more, stamp_of, one_stamp}
-use Rattle.serving.proofs.Tries.{or_left, count_more, served_append, steps_append, asks_append, crossed_back, crossed_then, crossed_now, crossed_more, done_asks, tried_behind}
+use Rattle.serving.proofs.Tries.{or_left, count_more, asks_further, served_append, steps_append, asks_append, crossed_back, crossed_then, crossed_now, crossed_more, done_asks, tried_behind}
 use Rattle.serving.proofs.Briefly.{IsBriefSoFar, brief_begins, served_on, stopped_on, ended_brief}
 use Rattle.serving.proofs.Trying.{next_of_parts, same_layout, same_requests}
 
@@ -116,19 +117,19 @@ module _ {T : Type 0} where
 
 -- the attempts so far, by which so many requests were served: what is counted of them, and where no other one came between
 pub record IsSoFar {T : Type 0} (m : Meaning) (planning : Planning) (requests : List Request) (retry_short : Bool) (count : ℕ) (old r : RunnerState T)
-    (asks asks' steps steps' : ℕ) : Type 0 where
+    (asks asks' : Asks) (steps steps' : ℕ) : Type 0 where
   pub tries : List Try
   pub tried : AreTried m planning retry_short requests tries old r
   pub follows : GoesOn retry_short tries
   pub count_is : count ≡ served_in tries
   pub counted : steps' ≡ counted_on steps (steps_in tries)
-  pub asked : asks' ≡ counted_on asks (asks_in tries + count)
+  pub asked : asks' ≡ asked_on asks (asks_in tries + count)
   pub least : count * least_asks ≤ asks_in tries + count
   pub brief : WasCrossed m planning tries old ⊎ IsBriefSoFar m count old r asks asks'
   -- where few slots were retired lately when the serving began, so it is now, unless wants are waited out
   pub spared : retry_short ≡ false → IsSpared old → WasCrossed m planning tries old ⊎ IsSpared r
 
-pub so_far_begins : {T : Type 0} (m : Meaning) (planning : Planning) (requests : List Request) (retry_short : Bool) (r : RunnerState T) (asks steps : ℕ)
+pub so_far_begins : {T : Type 0} (m : Meaning) (planning : Planning) (requests : List Request) (retry_short : Bool) (r : RunnerState T) (asks : Asks) (steps : ℕ)
     → IsSoFar m planning requests retry_short 0 r r asks asks steps steps
 so_far_begins m planning requests retry_short r asks steps = record {
   tries = [];
@@ -143,15 +144,15 @@ so_far_begins m planning requests retry_short r asks steps = record {
 }
 
 -- counts of the attempts of one request, behind those of the earlier ones
-asks_now : (xs ps all count asks asks1 asks2 : ℕ) → all ≡ ps + xs → asks1 ≡ counted_on asks (xs + count) → asks2 ≡ counted_on asks1 ps
-    → asks2 ≡ counted_on asks (all + count)
-asks_now xs ps all count asks asks1 asks2 sums one two = count_more asks asks1 asks2 (xs + count) ps one two
-    ∙ ap (counted_on asks) (let e : ps + (xs + count) ≡ all + count = omega (arith, sums) in e)
+asks_now : (xs ps all count : ℕ) (asks asks1 asks2 : Asks) → all ≡ ps + xs → asks1 ≡ asked_on asks (xs + count) → asks2 ≡ asked_on asks1 ps
+    → asks2 ≡ asked_on asks (all + count)
+asks_now xs ps all count asks asks1 asks2 sums one two = asks_further asks asks1 asks2 (xs + count) ps one two
+    ∙ ap (asked_on asks) (let e : ps + (xs + count) ≡ all + count = omega (arith, sums) in e)
 
-asks_behind : (all count asks asks2 asks3 : ℕ) → asks2 ≡ counted_on asks (all + count) → asks3 ≡ counted_on asks2 1
-    → asks3 ≡ counted_on asks (all + (count + 1))
-asks_behind all count asks asks2 asks3 one two = count_more asks asks2 asks3 (all + count) 1 one two
-    ∙ ap (counted_on asks) (let e : 1 + (all + count) ≡ all + (count + 1) = omega arith in e)
+asks_behind : (all count : ℕ) (asks asks2 asks3 : Asks) → asks2 ≡ asked_on asks (all + count) → asks3 ≡ asked_on asks2 1
+    → asks3 ≡ asked_on asks (all + (count + 1))
+asks_behind all count asks asks2 asks3 one two = asks_further asks asks2 asks3 (all + count) 1 one two
+    ∙ ap (asked_on asks) (let e : 1 + (all + count) ≡ all + (count + 1) = omega arith in e)
 
 least_now : (xs ps all count : ℕ) → all ≡ ps + xs → count * least_asks ≤ xs + count → count * least_asks ≤ all + count
 least_now xs ps all count sums least = omega (arith, sums, least)
@@ -163,7 +164,7 @@ least_behind xs ps all count sums some least = omega (arith, sums, some, least)
 module _ {T : Type 0} (m : Meaning) (laws : Laws m) (planning : Planning) (requests : List Request) (retry_short : Bool) (old r new : RunnerState T)
     (t : TableState T) (limits : IsWithinLimits t.layout) (allowed : AreAllowed t.requests) (of_old : IsOf t old) (of_r : IsOf t r) (of_new : IsOf t new)
     (may : MayServe planning requests old) (i : ℕ) (q : Request) (at : slice_get requests i ≡ Some q) (along : IsAlong requests i old r)
-    (answer : Attempt) (Seen : ℕ → ℕ → Type 0) (halts halts1 : ℕ) (went : halts1 ≡ halts) (asks asks1 asks2 steps steps1 steps2 : ℕ)
+    (answer : Attempt) (Seen : ℕ → Asks → Type 0) (halts halts1 : ℕ) (went : halts1 ≡ halts) (asks asks1 asks2 : Asks) (steps steps1 steps2 : ℕ)
     (persists : Persists m planning retry_short q answer r new Seen halts1 asks1 asks2 steps1 steps2)
     (so_far : IsSoFar m planning requests retry_short i old r asks asks1 steps steps1) (spare : AttemptsSpareSlots T m planning) where
   limits_new : IsWithinLimits new.layout
@@ -216,7 +217,7 @@ module _ {T : Type 0} (m : Meaning) (laws : Laws m) (planning : Planning) (reque
   counted_all = count_more steps steps1 steps2 (steps_in so_far.tries) (steps_in ps) so_far.counted persists.counted
       ∙ ap (counted_on steps) (sym (steps_append ps so_far.tries))
 
-  asked_all : asks2 ≡ counted_on asks (asks_in all + i)
+  asked_all : asks2 ≡ asked_on asks (asks_in all + i)
   asked_all = asks_now (asks_in so_far.tries) (asks_in ps) (asks_in all) i asks asks1 asks2 (asks_append ps so_far.tries) so_far.asked persists.asked
 
   -- how often the gate had let the runner go on before the last part
@@ -226,14 +227,14 @@ module _ {T : Type 0} (m : Meaning) (laws : Laws m) (planning : Planning) (reque
   abbrev let_all : ℕ
   let_all = all_asks_let m planning retry_short requests all old new tried_all
 
-  let_sum : counted_on asks1 (asks_in persists.again + let_last) ≡ counted_on asks let_all
-  let_sum = ap (λ (c : ℕ). counted_on c (asks_in persists.again + let_last)) so_far.asked
-      ∙ (counted_more asks (asks_in so_far.tries + i) (asks_in persists.again + let_last)
-      ∙ ap (counted_on asks) (let sums = asks_append persists.again so_far.tries in let served = none_again in
+  let_sum : asked_on asks1 (asks_in persists.again + let_last) ≡ asked_on asks let_all
+  let_sum = ap (λ (a : Asks). asked_on a (asks_in persists.again + let_last)) so_far.asked
+      ∙ (asked_on_more asks (asks_in so_far.tries + i) (asks_in persists.again + let_last)
+      ∙ ap (asked_on asks) (let sums = asks_append persists.again so_far.tries in let served = none_again in
       let e : (asks_in so_far.tries + i) + (asks_in persists.again + let_last) ≡ let_all = omega (arith, sums, served) in e))
 
-  let_go_all : answer ≡ attempts.Halted → Seen halts (counted_on asks let_all)
-  let_go_all e = subst (λ (h : ℕ). Seen h (counted_on asks let_all)) went (subst (Seen halts1) let_sum (persists.let_go e))
+  let_go_all : answer ≡ attempts.Halted → Seen halts (asked_on asks let_all)
+  let_go_all e = subst (λ (h : ℕ). Seen h (asked_on asks let_all)) went (subst (Seen halts1) let_sum (persists.let_go e))
 
   least_all : i * least_asks ≤ asks_in all + i
   least_all = least_now (asks_in so_far.tries) (asks_in ps) (asks_in all) i (asks_append ps so_far.tries) so_far.least
@@ -506,7 +507,7 @@ module _ {T : Type 0} (m : Meaning) (laws : Laws m) (planning : Planning) (reque
       omega (arith, most)
 
   -- behind the ask that follows a served request
-  pub so_far_along : stop_of answer ≡ None → (asks3 : ℕ) → asks3 ≡ counted_on asks2 1
+  pub so_far_along : stop_of answer ≡ None → (asks3 : Asks) → asks3 ≡ asked_on asks2 1
       → IsSoFar m planning requests retry_short (i + 1) old new asks asks3 steps steps2
   so_far_along e asks3 asked =
       let done = is_done answer e in
@@ -526,7 +527,7 @@ module _ {T : Type 0} (m : Meaning) (laws : Laws m) (planning : Planning) (reque
       }
 
   -- or that ask halted the runner: the gate was seen before it
-  pub halted_behind : stop_of answer ≡ None → (asks3 : ℕ) → asks3 ≡ counted_on asks2 1 → Seen halts asks2
+  pub halted_behind : stop_of answer ≡ None → (asks3 : Asks) → asks3 ≡ asked_on asks2 1 → Seen halts asks2
       → Serves m planning retry_short requests answers.Halted old new Seen halts asks asks3 steps steps2
   halted_behind e asks3 asked seen = record {
     count = i + 1;
@@ -543,7 +544,7 @@ module _ {T : Type 0} (m : Meaning) (laws : Laws m) (planning : Planning) (reque
     counted = counted_all;
     asked = asks_behind (asks_in all) i asks asks2 asks3 asked_all asked;
     least = least_behind (asks_in so_far.tries) (asks_in ps) (asks_in all) i (asks_append ps so_far.tries) (done_many done) so_far.least;
-    let_go = λ _. subst (Seen halts) (asked_all ∙ ap (counted_on asks) before_ask) seen;
+    let_go = λ _. subst (Seen halts) (asked_all ∙ ap (asked_on asks) before_ask) seen;
     brief = ended_brief m planning all (i + 1) old new asks asks3 answers.Halted
         (λ start behind runs. let low : behind ≤ start + ((i + 1) + 1) = omega (arith, runs) in low)
         (served_on m planning old r new (same_layout t old r of_old of_r) (same_requests t old r of_old of_r) asks asks1 asks2 ps so_far.tries i so_far.brief
@@ -566,7 +567,7 @@ module _ {T : Type 0} (m : Meaning) (laws : Laws m) (planning : Planning) (reque
 
 -- how the serving ends behind requests that are served
 module _ {T : Type 0} (m : Meaning) (planning : Planning) (requests : List Request) (retry_short : Bool) (old new : RunnerState T) (i : ℕ)
-    (along : IsAlong requests i old new) (Seen : ℕ → ℕ → Type 0) (halts asks asks' steps steps' : ℕ) (so_far : IsSoFar m planning requests retry_short i old new asks asks' steps steps') where
+    (along : IsAlong requests i old new) (Seen : ℕ → Asks → Type 0) (halts : ℕ) (asks asks' : Asks) (steps steps' : ℕ) (so_far : IsSoFar m planning requests retry_short i old new asks asks' steps steps') where
   pub all_served : i ≡ length requests → Serves m planning retry_short requests answers.All old new Seen halts asks asks' steps steps'
   all_served e = record {
     count = i;

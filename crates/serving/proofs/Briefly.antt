@@ -11,6 +11,7 @@ use Rattle.machine_states.proofs.Steps.{none_some}
 use Rattle.attempt_bounds.specs.version_words.specs.RunnerState.{RunnerState}
 use Rattle.attempt_bounds.specs.try_lock.specs.Planning.{Planning}
 use Rattle.body_terms.specs.Counted.{counted_on}
+use Rattle.runner_gate.specs.Asks.{Asks, asked_on}
 use Rattle.attempt_bounds.specs.attempts.specs.Course.{MayAttempt}
 use Rattle.attempt_bounds.specs.attempts.specs.Attempts.{is_halted, asks_more, runs_of, most_of_attempt, has_met_held, IsAttempt, Attempts}
 use Rattle.attempt_bounds.specs.attempts.specs.declared.answers.Attempt.{Attempt}
@@ -63,21 +64,21 @@ few_more attempts.Halted true = omega arith
 few_more attempts.Halted false = omega arith
 
 -- it ran nothing, and its gate wasn't asked
-pub record IsQuiet {T : Type 0} (old r : RunnerState T) (asks asks' : ℕ) : Type 0 where
+pub record IsQuiet {T : Type 0} (old r : RunnerState T) (asks asks' : Asks) : Type 0 where
   pub runs : length r.part.records.finished ≡ length old.part.records.finished
   pub asked : asks' ≡ asks
 
 -- so many runs, and at most so many asks, for so many requests that are served
-pub record IsBriefSoFar {T : Type 0} (m : Meaning) (count : ℕ) (old r : RunnerState T) (asks asks' : ℕ) : Type 0 where
+pub record IsBriefSoFar {T : Type 0} (m : Meaning) (count : ℕ) (old r : RunnerState T) (asks asks' : Asks) : Type 0 where
   pub runs : length r.part.records.finished ≡ length old.part.records.finished + count
-  pub asked : asks' ≤ asks + count * most_asks (slots m old.layout)
+  pub asked : asks'.count ≤ asks.count + count * most_asks (slots m old.layout)
 
 module _ {T : Type 0} (m : Meaning) (planning : Planning) where
-  pub brief_begins : (r : RunnerState T) (asks : ℕ) → WasCrossed m planning [] r ⊎ IsBriefSoFar m 0 r r asks asks
-  brief_begins r asks = inr (record { runs = omega arith; asked = begun_within (most_asks (slots m r.layout)) asks })
+  pub brief_begins : (r : RunnerState T) (asks : Asks) → WasCrossed m planning [] r ⊎ IsBriefSoFar m 0 r r asks asks
+  brief_begins r asks = inr (record { runs = omega arith; asked = begun_within (most_asks (slots m r.layout)) asks.count })
 
   -- one attempt
-  module _ (request : Request) (answer : Attempt) (old new : RunnerState T) (Seen : ℕ → ℕ → Type 0) (halts halts' asks asks' steps steps' : ℕ)
+  module _ (request : Request) (answer : Attempt) (old new : RunnerState T) (Seen : ℕ → Asks → Type 0) (halts halts' : ℕ) (asks asks' : Asks) (steps steps' : ℕ)
       (is : Attempts m planning request answer old new Seen halts halts' asks asks' steps steps') (may : MayAttempt planning request old) where
     abbrev pub this_try : Try
     this_try = record {
@@ -91,12 +92,12 @@ module _ {T : Type 0} (m : Meaning) (planning : Planning) where
     pub is_try : IsTry m planning this_try old new
     is_try = record { may = may; is = is.is; crossed = refl }
 
-    few_asks : is.made ≤ most_of_attempt (slots m old.layout) → asks' + 1 ≤ asks + most_asks (slots m old.layout)
+    few_asks : is.made ≤ most_of_attempt (slots m old.layout) → asks'.count + 1 ≤ asks.count + most_asks (slots m old.layout)
     few_asks few =
-        let asked = is.asked.asked in
-        let rises = counted_few asks (is.made + asks_more answer is.published) in
+        let asked = ap (λ (a : Asks). a.count) is.asked.asked in
+        let rises = counted_few asks.count (is.made + asks_more answer is.published) in
         let more = few_more answer is.published in
-        asks_within is.made (asks_more answer is.published) (slots m old.layout) asks asks' few more asked rises
+        asks_within is.made (asks_more answer is.published) (slots m old.layout) asks.count asks'.count few more asked rises
 
     told : (a : Attempt) → answer ≡ a → is_halted a ≡ false
         → length new.part.records.finished ≡ length old.part.records.finished + runs_of a is.published
@@ -127,7 +128,7 @@ module _ {T : Type 0} (m : Meaning) (planning : Planning) where
     short_quiet : (a : Attempt) → answer ≡ a → (retry_short : Bool) → is_tried_again retry_short a ≡ true → is_crossed a ≡ false → IsQuiet old new asks asks'
     short_quiet (attempts.Short short) e retry again uncrossed = record {
       runs = let same = told (attempts.Short short) e refl in omega (arith, same);
-      asked = is.asked.asked ∙ ap (counted_on asks) (none answer e is.made is.published is.is);
+      asked = is.asked.asked ∙ ap (asked_on asks) (none answer e is.made is.published is.is);
     }
       where
         none : (a : Attempt) → a ≡ attempts.Short short → (made : ℕ) (published : Bool) → IsAttempt m planning request a made published old new
@@ -155,7 +156,7 @@ module _ {T : Type 0} (m : Meaning) (planning : Planning) where
         by false e = inr (short_quiet answer refl retry_short again (or_none _ _ e).0)
 
   -- behind attempts that ran nothing
-  module _ (old r new : RunnerState T) (layout : r.layout ≡ old.layout) (requests : r.requests ≡ old.requests) (asks asks1 asks2 : ℕ) where
+  module _ (old r new : RunnerState T) (layout : r.layout ≡ old.layout) (requests : r.requests ≡ old.requests) (asks asks1 asks2 : Asks) where
     module _ (x : Try) (xs : List Try) where
       pub quiet_on : WasCrossed m planning xs old ⊎ IsQuiet old r asks asks1 → WasCrossed m planning (x ∷ xs) r ⊎ IsQuiet r new asks1 asks2
           → WasCrossed m planning (x ∷ xs) old ⊎ IsQuiet old new asks asks2
@@ -169,19 +170,19 @@ module _ {T : Type 0} (m : Meaning) (planning : Planning) where
       tried_on answer (inr quiet) (inl was) = inl (crossed_back m planning (x ∷ xs) old r layout requests was)
       tried_on answer (inr quiet) (inr here) = inr (record {
         runs = subst (λ n. TriedRuns answer n (length new.part.records.finished)) quiet.runs here.runs;
-        asked = subst (λ n. asks2 + 1 ≤ n + most_asks (slots m old.layout)) quiet.asked
-            (subst (λ (l : Layout). asks2 + 1 ≤ asks1 + most_asks (slots m l)) layout here.asked);
+        asked = subst (λ (a : Asks). asks2.count + 1 ≤ a.count + most_asks (slots m old.layout)) quiet.asked
+            (subst (λ (l : Layout). asks2.count + 1 ≤ asks1.count + most_asks (slots m l)) layout here.asked);
       })
 
     -- behind so many requests that are served, by these attempts, this one was attempted
     module _ (ps xs : List Try) (count : ℕ) (so_far : WasCrossed m planning xs old ⊎ IsBriefSoFar m count old r asks asks1) where
       -- the asks of this one
-      few_here : {answer : Attempt} → TriesBriefly m answer r new asks1 asks2 → asks2 + 1 ≤ asks1 + most_asks (slots m old.layout)
-      few_here here = subst (λ (l : Layout). asks2 + 1 ≤ asks1 + most_asks (slots m l)) layout here.asked
+      few_here : {answer : Attempt} → TriesBriefly m answer r new asks1 asks2 → asks2.count + 1 ≤ asks1.count + most_asks (slots m old.layout)
+      few_here here = subst (λ (l : Layout). asks2.count + 1 ≤ asks1.count + most_asks (slots m l)) layout here.asked
 
       -- and it is served, and the gate asked once more
       pub served_on : (answer : Attempt) → stop_of answer ≡ None → WasCrossed m planning ps r ⊎ TriesBriefly m answer r new asks1 asks2
-          → (asks3 : ℕ) → asks3 ≡ counted_on asks2 1 → WasCrossed m planning (ps ++ xs) old ⊎ IsBriefSoFar m (count + 1) old new asks asks3
+          → (asks3 : Asks) → asks3 ≡ asked_on asks2 1 → WasCrossed m planning (ps ++ xs) old ⊎ IsBriefSoFar m (count + 1) old new asks asks3
       served_on answer done here asks3 asked = by so_far here
         where
           one_run : (a : Attempt) (before behind : ℕ) → stop_of a ≡ None → TriedRuns a before behind → behind ≡ before + 1
@@ -201,8 +202,8 @@ module _ {T : Type 0} (m : Meaning) (planning : Planning) where
             runs =
                 let before = brief.runs in
                 let one = one_run answer (length r.part.records.finished) (length new.part.records.finished) done tried.runs in omega (arith, before, one);
-            asked = one_more count (most_asks (slots m old.layout)) asks asks1 asks3 brief.asked
-                (goes_within (most_asks (slots m old.layout)) asks1 asks2 asks3 (few_here tried) asked);
+            asked = one_more count (most_asks (slots m old.layout)) asks.count asks1.count asks3.count brief.asked
+                (goes_within (most_asks (slots m old.layout)) asks1.count asks2.count asks3.count (few_here tried) (ap (λ (a : Asks). a.count) asked));
           })
 
       -- or the serving stops with it
@@ -218,17 +219,17 @@ module _ {T : Type 0} (m : Meaning) (planning : Planning) where
           by (inr brief) (inl was) = inl (crossed_now m planning ps xs old (crossed_back m planning ps old r layout requests was))
           by (inr brief) (inr tried) = inr (record {
             runs = runs (length old.part.records.finished) (length r.part.records.finished) (length new.part.records.finished) brief.runs tried.runs;
-            asked = one_more count (most_asks (slots m old.layout)) asks asks1 asks2 brief.asked
-                (stops_within (most_asks (slots m old.layout)) asks1 asks2 (few_here tried));
+            asked = one_more count (most_asks (slots m old.layout)) asks.count asks1.count asks2.count brief.asked
+                (stops_within (most_asks (slots m old.layout)) asks1.count asks2.count (few_here tried));
           })
 
   -- the serving ends behind so many served requests
-  module _ (xs : List Try) (count : ℕ) (old new : RunnerState T) (asks asks' : ℕ) where
+  module _ (xs : List Try) (count : ℕ) (old new : RunnerState T) (asks asks' : Asks) where
     pub ended_brief : (stopped : Served)
         → ((start behind : ℕ) → behind ≡ start + count → ServedRuns stopped count start behind)
         → WasCrossed m planning xs old ⊎ IsBriefSoFar m count old new asks asks' → WasCrossed m planning xs old ⊎ ServesBriefly m stopped count old new asks asks'
     ended_brief stopped runs (inl was) = inl was
     ended_brief stopped runs (inr brief) = inr (record {
       runs = runs (length old.part.records.finished) (length new.part.records.finished) brief.runs;
-      asked = one_more count (most_asks (slots m old.layout)) asks asks' asks' brief.asked (stays_within (most_asks (slots m old.layout)) asks');
+      asked = one_more count (most_asks (slots m old.layout)) asks.count asks'.count asks'.count brief.asked (stays_within (most_asks (slots m old.layout)) asks'.count);
     })

@@ -4,9 +4,10 @@ use Rattle.std.proofs.Common.{◌≡◌, ℕ, zero, suc, ◌+◌, ◌≤◌, Lis
 use Rattle.std.proofs.lemmas.Bool.{true≢false}
 use Rattle.map_history.specs.declared.op.Request.{Request}
 use Rattle.body_terms.specs.Counted.{counted_on}
+use Rattle.runner_gate.specs.Asks.{Asks, asked_on}
 use Rattle.structure_laws.specs.Meaning.{Meaning}
 use Rattle.machine_states.proofs.Steps.{some_same, none_some}
-use Rattle.attempt_bounds.specs.commit_log.proofs.Asked.{counted_more}
+use Rattle.attempt_bounds.specs.commit_log.proofs.Asked.{counted_more, asked_on_more}
 use Rattle.attempt_bounds.specs.version_words.specs.RunnerState.{RunnerState}
 use Rattle.attempt_bounds.specs.try_lock.specs.Planning.{Planning}
 use Rattle.attempt_bounds.specs.attempts.specs.Course.{IsRefused}
@@ -27,12 +28,15 @@ pub or_none : (a b : Bool) → (a || b) ≡ false → (a ≡ false) × (b ≡ fa
 or_none true b e = absurd (true≢false e)
 or_none false b e = (refl, e)
 
--- a count that goes on by what a further attempt adds
+swapped : (a b : ℕ) → a + b ≡ b + a
+swapped a b = omega arith
+
+-- a count that goes on by what a further attempt adds, and asks
 pub count_more : (start mid end s n : ℕ) → mid ≡ counted_on start s → end ≡ counted_on mid n → end ≡ counted_on start (n + s)
 count_more start mid end s n one two = two ∙ (ap (λ c. counted_on c n) one ∙ (counted_more start s n ∙ ap (counted_on start) (swapped s n)))
-  where
-    swapped : (a b : ℕ) → a + b ≡ b + a
-    swapped a b = omega arith
+
+pub asks_further : (start mid end : Asks) (s n : ℕ) → mid ≡ asked_on start s → end ≡ asked_on mid n → end ≡ asked_on start (n + s)
+asks_further start mid end s n one two = two ∙ (ap (λ (a : Asks). asked_on a n) one ∙ (asked_on_more start s n ∙ ap (asked_on start) (swapped s n)))
 
 -- further attempts behind the earlier ones
 pub served_append : (xs ys : List Try) → served_in (xs ++ ys) ≡ served_in xs + served_in ys

@@ -3,9 +3,10 @@ use Rattle.std.specs.Prelude.{◌==◌, ◌&&◌, ◌||◌, ◌⊎◌, not, nat_
 use Rattle.std.proofs.Common.{◌≡◌, ℕ, ◌+◌, List, [], ◌∷◌, refl, sym, ap, ◌∙◌, subst, inl, inr, Some}
 use Rattle.map_history.specs.declared.op.Request.{Request}
 use Rattle.body_terms.specs.Counted.{counted_on}
+use Rattle.runner_gate.specs.Asks.{Asks, asked_on}
 use Rattle.structure_laws.specs.Meaning.{Meaning}
 use Rattle.runner_parts.specs.Tests.{is_answered, are_answered}
-use Rattle.attempt_bounds.specs.commit_log.proofs.Asked.{counted_more}
+use Rattle.attempt_bounds.specs.commit_log.proofs.Asked.{asked_on_more}
 use Rattle.attempt_bounds.specs.version_words.specs.RunnerState.{RunnerState}
 use Rattle.attempt_bounds.specs.version_words.specs.TableState.{TableState, IsOf}
 use Rattle.attempt_bounds.specs.epoch_slots.specs.Collects.{IsTidy}
@@ -19,7 +20,7 @@ use Rattle.attempt_bounds.specs.attempts.proofs.Knowing.{knows_on, knows_same, n
 use Rattle.serving.specs.Serving.{is_tried_again, is_crossed, Try, is_served, GoesOn, served_in, steps_in, asks_in, WasCrossed, IsTry, AreTried, Persists}
 use Rattle.serving.proofs.Lists.{all_weaker, held_more}
 use Rattle.serving.proofs.Standing.{answered_more}
-use Rattle.serving.proofs.Tries.{or_left, or_right, count_more, crossed_back, crossed_more, try_crossed}
+use Rattle.serving.proofs.Tries.{or_left, or_right, count_more, asks_further, crossed_back, crossed_more, try_crossed}
 use Rattle.serving.proofs.Briefly.{IsQuiet, this_try, is_try, again_quiet, last_brief, quiet_on, tried_on}
 
 next_parts : (a b c : Bool) → (a && (not b && c)) ≡ true → (a ≡ true) × (b ≡ false) × (c ≡ true)
@@ -68,7 +69,7 @@ same_requests t old new one two = two.requests ∙ sym one.requests
 
 -- the attempts so far, after each of which the request was attempted again
 pub record IsTrying {T : Type 0} (m : Meaning) (planning : Planning) (request : Request) (retry_short : Bool) (old r : RunnerState T)
-    (halts halts' asks asks' steps steps' : ℕ) : Type 0 where
+    (halts halts' : ℕ) (asks asks' : Asks) (steps steps' : ℕ) : Type 0 where
   pub tries : List Try
   pub tried : AreTried m planning retry_short (request ∷ []) tries old r
   pub follows : GoesOn retry_short tries
@@ -78,12 +79,12 @@ pub record IsTrying {T : Type 0} (m : Meaning) (planning : Planning) (request : 
   pub no_other : LearnsNoOther request.number old r
   pub went : halts' ≡ halts
   pub counted : steps' ≡ counted_on steps (steps_in tries)
-  pub asked : asks' ≡ counted_on asks (asks_in tries)
+  pub asked : asks' ≡ asked_on asks (asks_in tries)
   pub quiet : WasCrossed m planning tries old ⊎ IsQuiet old r asks asks'
   -- where no want is waited out, these were crossed
   pub once : WasCrossed m planning tries old ⊎ (retry_short ≡ false → tries ≡ [])
 
-pub trying_begins : {T : Type 0} (m : Meaning) (planning : Planning) (request : Request) (retry_short : Bool) (r : RunnerState T) (halts asks steps : ℕ)
+pub trying_begins : {T : Type 0} (m : Meaning) (planning : Planning) (request : Request) (retry_short : Bool) (r : RunnerState T) (halts : ℕ) (asks : Asks) (steps : ℕ)
     → MayAttempt planning request r → IsTrying m planning request retry_short r r halts halts asks asks steps steps
 trying_begins m planning request retry_short r halts asks steps may = record {
   tries = [];
@@ -131,8 +132,8 @@ module _ {T : Type 0} (m : Meaning) (planning : Planning) (request : Request) (r
   again_unserved attempts.Halted e = refl
 
 module _ {T : Type 0} (m : Meaning) (planning : Planning) (request : Request) (retry_short : Bool) (t : TableState T)
-    (old r new : RunnerState T) (of_r : IsOf t r) (of_old : IsOf t old) (of_new : IsOf t new) (answer : Attempt) (Seen : ℕ → ℕ → Type 0)
-    (halts halts' halts'' asks asks' asks'' steps steps' steps'' : ℕ) (trying : IsTrying m planning request retry_short old r halts halts' asks asks' steps steps')
+    (old r new : RunnerState T) (of_r : IsOf t r) (of_old : IsOf t old) (of_new : IsOf t new) (answer : Attempt) (Seen : ℕ → Asks → Type 0)
+    (halts halts' halts'' : ℕ) (asks asks' asks'' : Asks) (steps steps' steps'' : ℕ) (trying : IsTrying m planning request retry_short old r halts halts' asks asks' steps steps')
     (attempted : Attempts m planning request answer r new Seen halts' halts'' asks' asks'' steps' steps'') where
   knows_all : KnowsMore old new
   knows_all = knows_on old r new trying.knows attempted.is.knows
@@ -154,8 +155,8 @@ module _ {T : Type 0} (m : Meaning) (planning : Planning) (request : Request) (r
   counted_all : steps'' ≡ counted_on steps (steps_in (x ∷ trying.tries))
   counted_all = count_more steps steps' steps'' (steps_in trying.tries) attempted.made trying.counted attempted.asked.counted
 
-  asked_all : asks'' ≡ counted_on asks (asks_in (x ∷ trying.tries))
-  asked_all = count_more asks asks' asks'' (asks_in trying.tries) (attempted.made + asks_more answer attempted.published) trying.asked attempted.asked.asked
+  asked_all : asks'' ≡ asked_on asks (asks_in (x ∷ trying.tries))
+  asked_all = asks_further asks asks' asks'' (asks_in trying.tries) (attempted.made + asks_more answer attempted.published) trying.asked attempted.asked.asked
 
   -- it is attempted once more
   pub trying_on : is_tried_again retry_short answer ≡ true → IsTrying m planning request retry_short old new halts halts'' asks asks'' steps steps''
@@ -201,12 +202,12 @@ module _ {T : Type 0} (m : Meaning) (planning : Planning) (request : Request) (r
   before_part = asks_before m planning request answer r new attempted.is.answers
 
   let_go_now : answer ≡ attempts.Halted
-      → Seen halts (counted_on asks (asks_in trying.tries + (if is_served answer then attempted.made + asks_more answer attempted.published else before_part)))
+      → Seen halts (asked_on asks (asks_in trying.tries + (if is_served answer then attempted.made + asks_more answer attempted.published else before_part)))
   let_go_now e = subst
-      (λ (b : Bool). Seen halts (counted_on asks (asks_in trying.tries + (if b then attempted.made + asks_more answer attempted.published else before_part))))
+      (λ (b : Bool). Seen halts (asked_on asks (asks_in trying.tries + (if b then attempted.made + asks_more answer attempted.published else before_part))))
       (sym (ap is_served e))
-      (subst (λ (h : ℕ). Seen h (counted_on asks (asks_in trying.tries + before_part))) trying.went
-      (subst (Seen halts') (ap (λ (c : ℕ). counted_on c before_part) trying.asked ∙ counted_more asks (asks_in trying.tries) before_part)
+      (subst (λ (h : ℕ). Seen h (asked_on asks (asks_in trying.tries + before_part))) trying.went
+      (subst (Seen halts') (ap (λ (a : Asks). asked_on a before_part) trying.asked ∙ asked_on_more asks (asks_in trying.tries) before_part)
       (attempted.let_go (ap is_halted e))))
 
   -- or this was the last attempt

@@ -2,6 +2,7 @@
 use Rattle.std.specs.Prelude.{◌≡◌, ◌≢◌, ℕ, ◌+◌, ◌*◌, ◌<◌, ◌≤◌, ◌⊎◌, List, [], ◌∷◌, length, Bool, true, false, not, ◌==◌, ◌&&◌, ◌||◌, if◌then◌else◌, Option, None, Some, slice_get}
 use Rattle.map_history.specs.declared.op.Request.{Request}
 use Rattle.body_terms.specs.Counted.{counted_on}
+use Rattle.runner_gate.specs.Asks.{Asks, asked_on}
 use Rattle.structure_laws.specs.Meaning.{Meaning}
 use Rattle.structure_laws.specs.Cells.{slots}
 use Rattle.runner_parts.specs.declared.entries.Known.{Known}
@@ -162,15 +163,15 @@ module _ {T : Type 0} where
 
   -- so many runs, and at most so many asks, of attempts of one request
   pub record TriesBriefly (m : Meaning) (answer : Attempt) (old new : RunnerState T)
-      (asks asks' : ℕ) : Type 0 where
+      (asks asks' : Asks) : Type 0 where
     pub runs : TriedRuns answer (length old.part.records.finished) (length new.part.records.finished)
-    pub asked : asks' + 1 ≤ asks + most_asks (slots m old.layout)
+    pub asked : asks'.count + 1 ≤ asks.count + most_asks (slots m old.layout)
 
   -- so many runs, and at most so many asks, of the serving of a list
   pub record ServesBriefly (m : Meaning) (answer : Served) (count : ℕ) (old new : RunnerState T)
-      (asks asks' : ℕ) : Type 0 where
+      (asks asks' : Asks) : Type 0 where
     pub runs : ServedRuns answer count (length old.part.records.finished) (length new.part.records.finished)
-    pub asked : asks' ≤ asks + (count + 1) * most_asks (slots m old.layout)
+    pub asked : asks'.count ≤ asks.count + (count + 1) * most_asks (slots m old.layout)
 
   module _ (m : Meaning) (planning : Planning) where
     -- the runner made this attempt
@@ -203,8 +204,8 @@ module _ {T : Type 0} where
   module _ (m : Meaning) (planning : Planning) (retry_short : Bool) where
     -- the request was attempted until this answer, after which it isn't attempted again. Before the last attempt the
     -- runner was as `before` says
-    pub record Persists (request : Request) (answer : Attempt) (old new : RunnerState T) (Seen : ℕ → ℕ → Type 0)
-        (halts asks asks' steps steps' : ℕ) : Type 0 where
+    pub record Persists (request : Request) (answer : Attempt) (old new : RunnerState T) (Seen : ℕ → Asks → Type 0)
+        (halts : ℕ) (asks asks' : Asks) (steps steps' : ℕ) : Type 0 where
       pub before : RunnerState T
       -- the attempts before the last one, and that one
       pub again : List Try
@@ -222,10 +223,10 @@ module _ {T : Type 0} where
       pub no_other : LearnsNoOther request.number old new
       -- so many steps are counted, and the gate was asked so often
       pub counted : steps' ≡ counted_on steps (steps_in (last ∷ again))
-      pub asked : asks' ≡ counted_on asks (asks_in (last ∷ again))
+      pub asked : asks' ≡ asked_on asks (asks_in (last ∷ again))
       -- a gate that halted the runner was seen before the part of the last attempt in which it did
       pub let_go : answer ≡ attempts.Halted
-          → Seen halts (counted_on asks (asks_in again + asks_let m planning last before new ends))
+          → Seen halts (asked_on asks (asks_in again + asks_let m planning last before new ends))
       pub brief : WasCrossed m planning (last ∷ again) old ⊎ TriesBriefly m answer old new asks asks'
       -- where no attempt was refused since another one came between, and no want is waited out, there was one attempt
       pub once : WasCrossed m planning again old ⊎ (retry_short ≡ false → again ≡ [])
@@ -264,8 +265,8 @@ module _ {T : Type 0} where
 
     -- what the serving of these requests does. Where a gate halted the runner, it was seen before the last part of the
     -- serving, in which it did: with as many halts as at first, and with so many more asks
-    pub record Serves (requests : List Request) (answer : Served) (old new : RunnerState T) (Seen : ℕ → ℕ → Type 0)
-        (halts asks asks' steps steps' : ℕ) : Type 0 where
+    pub record Serves (requests : List Request) (answer : Served) (old new : RunnerState T) (Seen : ℕ → Asks → Type 0)
+        (halts : ℕ) (asks asks' : Asks) (steps steps' : ℕ) : Type 0 where
       pub count : ℕ
       pub served : AreServed requests count new
       -- its attempts, the last one first
@@ -281,11 +282,11 @@ module _ {T : Type 0} where
       -- counted steps, before and after
       pub count_is : count ≡ served_in tries
       pub counted : steps' ≡ counted_on steps (steps_in tries)
-      pub asked : asks' ≡ counted_on asks (asks_in tries + count)
+      pub asked : asks' ≡ asked_on asks (asks_in tries + count)
       pub least : count * least_asks ≤ asks_in tries + count
       -- so the serving ends with the first halt, whether in an attempt or at the ask behind a served request
       pub let_go : answer ≡ answers.Halted
-          → Seen halts (counted_on asks (all_asks_let m planning retry_short requests tries old new tried))
+          → Seen halts (asked_on asks (all_asks_let m planning retry_short requests tries old new tried))
       -- where no attempt was refused since another one came between, so many runs came to their end, and the gate
       -- was asked at most so often
       pub brief : WasCrossed m planning tries old ⊎ ServesBriefly m answer count old new asks asks'

@@ -10,8 +10,9 @@ ghost use Rattle.serving.specs.Serving.{is_tried_again, Persists};
 use attempt_bounds::attempts::{Attempt, attempt};
 use attempt_bounds::lock_walks::Planner;
 use attempt_bounds::version_words::{FlockTable, Runner};
-use body_terms::{Gate, Steps};
+use body_terms::Steps;
 use map_history::Request;
+use runner_gate::Gate;
 use std::sync::Wait;
 use std::thread::yield_now;
 

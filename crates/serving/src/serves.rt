@@ -12,8 +12,9 @@ use attempt_bounds::attempts::{Attempt, goes_on};
 use attempt_bounds::attempts_spare_slots;
 use attempt_bounds::lock_walks::Planner;
 use attempt_bounds::version_words::{FlockTable, Runner};
-use body_terms::{Gate, StepKind, Steps};
+use body_terms::{StepKind, Steps};
 use map_history::Request;
+use runner_gate::Gate;
 use std::sync::Wait;
 use std::thread::Threads;
 

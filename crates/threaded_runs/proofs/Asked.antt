@@ -8,6 +8,7 @@ use Rattle.std.proofs.lemmas.List.Sums.{sum_by-cons}
 use Rattle.std.proofs.lemmas.Bool.{true≢false}
 use Rattle.small_lemmas.proofs.Numbers.{last_or_before, self_tested}
 use Rattle.body_terms.specs.Counted.{counted_on}
+use Rattle.settling.specs.runner_gate.specs.Asks.{Asks}
 use Rattle.settling.specs.runner_gate.specs.Counts.{plus}
 use Rattle.serving.specs.declared.answers.Served.{Served}
 use Rattle.serving.specs.declared.answers.Served.TheVariants as stops
@@ -105,9 +106,9 @@ same_at [] i d e low = absurd (omega (arith, low))
 same_at (x ∷ xs) zero d e low = refl
 same_at (x ∷ xs) (suc i) d e low = same_at xs i d e (omega (arith, low))
 
-module _ {T H : Type 0} (asks : H → ℕ) (before : ℕ) (finished : List (Finished T H)) (answers : List Served) (own : ℕ → ℕ) (each : length answers ≡ length finished)
+module _ {T H : Type 0} (asks : H → Asks) (before : ℕ) (finished : List (Finished T H)) (answers : List Served) (own : ℕ → ℕ) (each : length answers ≡ length finished)
     (gate : (i : ℕ) → i < length finished → (d : Finished T H) (a : Served)
-    → (n : ℕ) × (min (16 * n) (2 ^ 64 - 1) ≤ asks (get_or finished i d).gate) × (own i ≤ n + halted (get_or answers i a))) where
+    → (n : ℕ) × (min (16 * n) (2 ^ 64 - 1) ≤ (asks (get_or finished i d).gate).count) × (own i ≤ n + halted (get_or answers i a))) where
   first_gates : (k : ℕ) → k ≤ length finished
       → min (before + 16 * (sum_below own k - halted_in (take k answers))) (2 ^ 64 - 1) ≤ asks_counted asks before (take k finished)
   first_gates zero few = none_yet before
@@ -117,7 +118,7 @@ module _ {T H : Type 0} (asks : H → ℕ) (before : ℕ) (finished : List (Fini
       (sym (ap (λ (n : ℕ). halted_in (take n answers)) longer ∙ (ap halted_in (take_more answers k stops.All here) ∙ halted_more (take k answers) (get_or answers k stops.All))))
       (subst (λ (x : ℕ). min (before + 16 * (sum_below own (suc k) - (halted_in (take k answers) + halted (get_or answers k stops.All)))) (2 ^ 64 - 1) ≤ x)
       (sym (ap (λ (n : ℕ). asks_counted asks before (take n finished)) longer ∙ asks_next asks before finished k (get_or finished k d) low (λ e. same_at finished k e d low)))
-      (one_gate before (sum_below own k) (halted_in (take k answers)) (asks_counted asks before (take k finished)) this.0 (asks (get_or finished k d).gate) (own k)
+      (one_gate before (sum_below own k) (halted_in (take k answers)) (asks_counted asks before (take k finished)) this.0 (asks (get_or finished k d).gate).count (own k)
       (halted (get_or answers k stops.All)) (first_gates k (omega (arith, few))) this.1 this.2))
     where
       low : k < length finished
@@ -129,7 +130,7 @@ module _ {T H : Type 0} (asks : H → ℕ) (before : ℕ) (finished : List (Fini
       d : Finished T H
       d = some_of finished k low
 
-      this : (n : ℕ) × (min (16 * n) (2 ^ 64 - 1) ≤ asks (get_or finished k d).gate) × (own k ≤ n + halted (get_or answers k stops.All))
+      this : (n : ℕ) × (min (16 * n) (2 ^ 64 - 1) ≤ (asks (get_or finished k d).gate).count) × (own k ≤ n + halted (get_or answers k stops.All))
       this = gate k low d stops.All
 
   pub often_asked : (served : ℕ) → served ≤ sum_below own (length finished)

@@ -24,6 +24,7 @@ use Rattle.machine_states.proofs.Steps.{some_same, none_some}
 use Rattle.closed_words.specs.reached_histories.specs.Requests.{requests_of, request_at, or_none}
 use Rattle.runner_parts.specs.Lists.{entry_count}
 use Rattle.closed_words.specs.machine_invariant.specs.Lengths.{ListsAreShort}
+use Rattle.settling.specs.runner_gate.specs.Asks.{Asks}
 use Rattle.settling.specs.runner_facts.specs.Own.{HasOwn, OwnStand}
 use Rattle.settling.specs.runner_facts.specs.Facts.{LimboIsDone, DescriptorsAreKept, HasWornCell, WornAreWorn, descriptors_of, published_count}
 use Rattle.serving.specs.lock_words.specs.Spent.{IsLate, IsPast, IsSpentAt, SpentStand}
@@ -90,7 +91,7 @@ module _ {T : Type 0} (m : Meaning) (t : TableState T) (keeper : RunnerState T) 
 
   module _ (is_map : m.is_map ≡ true) (history : HasHistory m t.layout t.requests end) (callers : CallersStand m t.layout t.requests end)
       (worker : ℕ) (own : List Request) (retry_short : Bool) (planning : Planning) (answer : Served) (old new : RunnerState T)
-      (part : end.part worker ≡ leaves new.part) (Seen : ℕ → ℕ → Type 0) (halts asks asks' steps steps' : ℕ)
+      (part : end.part worker ≡ leaves new.part) (Seen : ℕ → Asks → Type 0) (halts : ℕ) (asks asks' : Asks) (steps steps' : ℕ)
       (serves : Serves m planning retry_short own answer old new Seen halts asks asks' steps steps')
       (there : (i : ℕ) (q : Request) → slice_get own i ≡ Some q → slice_get t.requests q.number ≡ Some q)
       (trace : (i : ℕ) (q : Request) → slice_get own i ≡ Some q → q.trace % t.layout.runners ≡ worker)

@@ -3,6 +3,7 @@ use Rattle.std.specs.Prelude.{◌^◌, ◌-◌, OnErr, Option, Result, Ok, Err}
 use Rattle.std.proofs.Common.{◌≡◌, ◌≢◌, ℕ, zero, suc, ◌+◌, ◌<◌, ◌≤◌, List, [], ◌∷◌, ◌++◌, length, take, get_or, refl, sym, ap, ◌∙◌, subst, arith, zero-add}
 use Rattle.std.proofs.Math.Nat.{min-le_left}
 use Rattle.std.proofs.lemmas.List.{take_more, take_all, length-take}
+use Rattle.settling.specs.runner_gate.specs.Asks.{Asks}
 use Rattle.settling.specs.runner_gate.specs.Counts.{plus, halts_after, plans_after}
 use Rattle.settling.specs.runner_gate.specs.declared.counts.GatePlan.{GatePlan}
 use Rattle.serving.specs.declared.answers.Served.{Served}
@@ -28,18 +29,18 @@ counted_so halts of_gate (answers.Short short) some none = ap (halts_after halts
 counted_so halts of_gate (answers.Spent place word) some none = ap (halts_after halts) (none (λ e. let x = e in cc))
 
 -- the gate of one more worker
-module _ {T H : Type 0} (asks : H → ℕ) where
-  asks_more : (count : ℕ) (finished : List (Finished T H)) (f : Finished T H) → asks_counted asks count (finished ++ f ∷ []) ≡ plus (asks_counted asks count finished) (asks f.gate)
+module _ {T H : Type 0} (asks : H → Asks) where
+  asks_more : (count : ℕ) (finished : List (Finished T H)) (f : Finished T H) → asks_counted asks count (finished ++ f ∷ []) ≡ plus (asks_counted asks count finished) (asks f.gate).count
   asks_more count [] f = refl
-  asks_more count (x ∷ finished) f = asks_more (plus count (asks x.gate)) finished f
+  asks_more count (x ∷ finished) f = asks_more (plus count (asks x.gate).count) finished f
 
   pub asks_next : (count : ℕ) (finished : List (Finished T H)) (n : ℕ) (f : Finished T H) → n < length finished → ((d : Finished T H) → get_or finished n d ≡ f)
-      → asks_counted asks count (take (n + 1) finished) ≡ plus (asks_counted asks count (take n finished)) (asks f.gate)
+      → asks_counted asks count (take (n + 1) finished) ≡ plus (asks_counted asks count (take n finished)) (asks f.gate).count
   asks_next count finished n f low here =
       ap (asks_counted asks count) (take_more finished n f low ∙ ap (λ (x : Finished T H). take n finished ++ x ∷ []) (here f)) ∙ asks_more count (take n finished) f
 
   -- the gate of the only one
-  pub asks_of_one : (count : ℕ) (finished : List (Finished T H)) (d : Finished T H) → length finished ≡ 1 → asks_counted asks count finished ≡ plus count (asks (get_or finished 0 d).gate)
+  pub asks_of_one : (count : ℕ) (finished : List (Finished T H)) (d : Finished T H) → length finished ≡ 1 → asks_counted asks count finished ≡ plus count (asks (get_or finished 0 d).gate).count
   asks_of_one count [] d one = absurd (omega (arith, one))
   asks_of_one count (f ∷ []) d one = refl
   asks_of_one count (f ∷ g ∷ finished) d one = absurd (omega (arith, one))

@@ -1,6 +1,6 @@
 -- The end of a run: what the words of the closed table hold, by what the workers and the keeper did.
 use Rattle.std.specs.Prelude.{◌%◌, ◌*◌, ◌-◌, ◌^◌, ◌==◌, min, not, count_by, slice_get, slice_index_or, Bool}
-use Rattle.std.proofs.Common.{◌≡◌, ◌≢◌, ℕ, suc, ◌+◌, ◌<◌, ◌≤◌, List, length, refl, sym, ap, ◌∙◌, subst, arith, true, Some, get_or, eq-eqb, if◌then◌else◌}
+use Rattle.std.proofs.Common.{◌≡◌, ◌≢◌, ℕ, suc, ◌+◌, ◌<◌, ◌≤◌, List, length, refl, sym, ap, ◌∙◌, subst, arith, true, Option, None, Some, get_or, eq-eqb, if◌then◌else◌}
 use Rattle.std.proofs.lemmas.Option.{slice_get_within, get_or_from_slice_get}
 use Rattle.std.proofs.Math.Nat.{mod-lt}
 use Rattle.map_history.specs.declared.op.Request.{Request}
@@ -15,6 +15,7 @@ use Rattle.machine_states.specs.Reached.{Reached}
 use Rattle.runner_parts.specs.Lists.{entry_count}
 use Rattle.runner_steps.specs.After.{leaves}
 use Rattle.machine_states.specs.Sight.{sight}
+use Rattle.settling.specs.runner_gate.specs.Asks.{Asks}
 use Rattle.serving.specs.resource_bounds.specs.Makes as makes
 use Rattle.reached_facts.specs.Facts.{HasFacts, KeepsFacts}
 use Rattle.closed_words.specs.version_words.specs.RunnerState.{RunnerState}
@@ -33,7 +34,9 @@ use Rattle.threaded_runs.specs.declared.job.Finished.{Finished}
 use Rattle.threaded_runs.specs.Own.{own_requests}
 use Rattle.threaded_runs.specs.Asks.{halted_in, AsksOften}
 use Rattle.threaded_runs.specs.Counts.{halted}
-use Rattle.threaded_runs.specs.Jobs.{AllSeated, AllUnasked, AllRun, AllKept, HasRun, IsSeated, IsKept, asks_counted}
+use Rattle.threaded_runs.specs.Jobs.{AllSeated, AllUnhalted, AllGiven, AllRun, AllKept, HasRun, IsSeated, IsKept, gates_of, asks_counted}
+use Rattle.threaded_runs.specs.Gates.{served_by, IsGateOf, GatesCameBack}
+use Rattle.threaded_runs.proofs.Gates.{length-gates_of, gate_at, often_so}
 use Rattle.threaded_runs.specs.Runs.{HasServed, AreServed, served_in, stamp_of}
 use Rattle.threaded_runs.proofs.Seats.{some_of}
 use Rattle.threaded_runs.proofs.Owning.{own_there, own_trace, own_once}
@@ -65,7 +68,7 @@ module _ {T : Type 0} (m : Meaning) (planning : Planning) (retry_short : Bool) (
   pub holds_none : HoldsNoLock m w
   holds_none p lock = ap value_of (word_is m t keeper w closing (Cell p)) ∙ settled.free p lock
 
-  module _ {H : Type 0} (halts asks : H → ℕ) (jobs : List (Job T H)) (finished : List (Finished T H)) (answers : List Served) (each : length answers ≡ t.layout.runners) (as_many : length jobs ≡ t.layout.runners)
+  module _ {H : Type 0} (halts : H → ℕ) (asks : H → Asks) (jobs : List (Job T H)) (finished : List (Finished T H)) (answers : List Served) (each : length answers ≡ t.layout.runners) (as_many : length jobs ≡ t.layout.runners)
       (back : length finished ≡ length jobs) (seated : AllSeated planning t jobs) (run : AllRun m planning retry_short halts asks t jobs finished) (kept : AllKept gathered answers finished) (history : HaveHistory m w) where
     -- one worker
     module _ (worker : ℕ) (low : worker < t.layout.runners) where
@@ -128,9 +131,9 @@ module _ {T : Type 0} (m : Meaning) (planning : Planning) (retry_short : Bool) (
           low has_run.own facts.descriptors facts.spent facts.worn (facts.worn_once worker) made facts.lists)
 
       -- and its gate was asked for each that it served
-      asked_own : AllUnasked asks jobs → min (16 * has_run.serves.count) (2 ^ 64 - 1) ≤ asks f.gate
-      asked_own unasked = subst (λ (n : ℕ). min (16 * has_run.serves.count) (2 ^ 64 - 1) ≤ n) (sym has_run.serves.asked)
-          (counted_least (asks j.gate) (asks_in has_run.serves.tries + has_run.serves.count) (16 * has_run.serves.count)
+      asked_own : min (16 * has_run.serves.count) (2 ^ 64 - 1) ≤ (asks f.gate).count
+      asked_own = subst (λ (a : Asks). min (16 * has_run.serves.count) (2 ^ 64 - 1) ≤ a.count) (sym has_run.serves.asked)
+          (counted_least (asks j.gate).count (asks_in has_run.serves.tries + has_run.serves.count) (16 * has_run.serves.count)
           (let least = has_run.serves.least in omega (arith, least)))
 
       done_so : (short : Short) → f.answer ≡ stops.Short short → short.kind ≡ slots.Descriptor
@@ -156,14 +159,14 @@ module _ {T : Type 0} (m : Meaning) (planning : Planning) (retry_short : Bool) (
     worker_done worker short at kind = done_so worker (is_one worker (stops.Short short) at) short (sym (answered worker (stops.Short short) at)) kind
 
     -- so all gates were asked often
-    pub asked_often : (before behind : ℕ) → AllUnasked asks jobs → behind ≡ asks_counted asks before finished → 0 < t.layout.runners → AsksOften m w answers before behind
-    asked_often before behind unasked counted some =
+    pub asked_often : (before behind : ℕ) → behind ≡ asks_counted asks before finished → 0 < t.layout.runners → AsksOften m w answers before behind
+    asked_often before behind counted some =
         subst (λ (n : ℕ). min (before + 16 * (served_in m w - halted_in answers)) (2 ^ 64 - 1) ≤ n) (sym counted)
         (often_asked asks before finished answers (λ worker. count_by (λ (q : Request). not (stamp_of m w q == 0)) (own_requests t.layout.runners worker t.requests))
         (each ∙ (sym as_many ∙ sym back))
         (λ worker seat d a. let low : worker < t.layout.runners = subst (λ (n : ℕ). worker < n) (back ∙ as_many) seat in (
           (has_run worker low).serves.count,
-          subst (λ (n : ℕ). min (16 * (has_run worker low).serves.count) (2 ^ 64 - 1) ≤ n) (ap (λ (x : Finished T H). asks x.gate) (same_at finished worker _ d seat)) (asked_own worker low unasked),
+          subst (λ (n : ℕ). min (16 * (has_run worker low).serves.count) (2 ^ 64 - 1) ≤ n) (ap (λ (x : Finished T H). (asks x.gate).count) (same_at finished worker _ d seat)) (asked_own worker low),
           subst (λ (x : Served). count_by (λ (q : Request). not (stamp_of m w q == 0)) (own_requests t.layout.runners worker t.requests) ≤ (has_run worker low).serves.count + halted x)
               (sym (is_kept worker low a).same) (few_own worker low),
         ))
@@ -175,6 +178,40 @@ module _ {T : Type 0} (m : Meaning) (planning : Planning) (retry_short : Bool) (
         ≤ sum_below (λ worker. count_by (λ (q : Request). not (stamp_of m w q == 0)) (own_requests t.layout.runners worker t.requests)) n)
         (sym (back ∙ as_many))
         (all_placed (λ (q : Request). not (stamp_of m w q == 0)) (λ (q : Request). q.trace % t.layout.runners) t.layout.runners (λ q. mod-lt q.trace some) t.requests))))
+
+    -- the gates came back from the workers to which they were given
+    module _ (entries : List (Option ℕ)) (unhalted : AllUnhalted halts jobs) (given : AllGiven asks entries jobs) where
+      gate_is : (worker : ℕ) (low : worker < t.layout.runners) (a : Served) → IsGateOf m w halts asks entries worker (get_or answers worker a) (f worker low).gate
+      gate_is worker low a = record {
+        given = ap (λ (x : Asks). x.plan) (has_run worker low).serves.asked ∙ ap (λ (x : Asks). x.plan) (given worker (some_of jobs worker (seat worker low)) (seat worker low));
+        stopped = λ e. (has_run worker low).halted still (sym same ∙ e);
+        went = λ other. (has_run worker low).went still (λ e. other (same ∙ e));
+        often = often_so (has_run worker low).serves.count (served_by m w worker) (halted (get_or answers worker a)) (asks (f worker low).gate).count few (asked_own worker low);
+      }
+        where
+          same : get_or answers worker a ≡ (f worker low).answer
+          same = (is_kept worker low a).same
+
+          still : halts (j worker low).gate ≡ 0
+          still = unhalted worker (some_of jobs worker (seat worker low)) (seat worker low)
+
+          few : served_by m w worker ≤ (has_run worker low).serves.count + halted (get_or answers worker a)
+          few = subst (λ (x : Served). served_by m w worker ≤ (has_run worker low).serves.count + halted x) (sym same)
+              (subst (λ (l : Layout). count_by (λ (q : Request). not (stamp_of m w q == 0)) (own_requests l.runners worker w.requests) ≤ (has_run worker low).serves.count + halted (f worker low).answer)
+              (sym closing.layout)
+              (subst (λ (rs : List Request). count_by (λ (q : Request). not (stamp_of m w q == 0)) (own_requests t.layout.runners worker rs) ≤ (has_run worker low).serves.count + halted (f worker low).answer)
+              (sym closing.requests) (few_own worker low)))
+
+      pub gates_came_back : (before behind : ℕ) → behind ≡ asks_counted asks before finished → GatesCameBack m w halts asks entries answers before behind
+      gates_came_back before behind counted = record {
+        gates = gates_of finished;
+        each = length-gates_of finished ∙ (back ∙ (as_many ∙ sym each));
+        of_worker = λ worker a d here.
+            let few : worker < length finished = subst (λ (n : ℕ). worker < n) (length-gates_of finished) here in
+            let low : worker < t.layout.runners = subst (λ (n : ℕ). worker < n) (back ∙ as_many) few in
+            subst (IsGateOf m w halts asks entries worker (get_or answers worker a)) (sym (gate_at finished worker d (some_of finished worker (comes worker low)) few)) (gate_is worker low a);
+        asked = counted;
+      }
 
     pub all_served : AreServed m w retry_short answers
     all_served = record {

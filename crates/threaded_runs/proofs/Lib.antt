@@ -5,6 +5,7 @@ mod Seats
 mod Owning
 mod Stopping
 mod Asked
+mod Gates
 mod Closing
 mod Ending
 mod Alone

@@ -1,6 +1,6 @@
 -- The end of a run with one worker.
 use Rattle.std.specs.Prelude.{◌*◌, Bool, slice_get, ◌==◌, not, count_by}
-use Rattle.std.proofs.Common.{◌≡◌, ◌≢◌, ℕ, ◌+◌, ◌^◌, ◌<◌, ◌≤◌, List, [], length, refl, sym, ap, ◌∙◌, subst, arith, ⊎_elim, true, false, None, Some, get_or, ne_eqb}
+use Rattle.std.proofs.Common.{◌≡◌, ◌≢◌, ℕ, ◌+◌, ◌^◌, ◌<◌, ◌≤◌, List, [], length, refl, sym, ap, ◌∙◌, subst, arith, ⊎_elim, true, false, Option, None, Some, get_or, ne_eqb}
 use Rattle.std.proofs.lemmas.Nat.{mul-le}
 use Rattle.std.proofs.lemmas.Option.{slice_get-get_or, get_or_from_slice_get}
 use Rattle.map_history.specs.declared.op.Request.{Request}
@@ -25,6 +25,7 @@ use Rattle.reached_facts.specs.Facts.{HasFacts}
 use Rattle.closed_words.specs.version_words.specs.RunnerState.{RunnerState}
 use Rattle.closed_words.specs.version_words.specs.Shown.{left_part}
 use Rattle.closed_words.specs.version_words.specs.TableState.{TableState, WordsState, IsOf, IsClosing, word_of}
+use Rattle.settling.specs.runner_gate.specs.Asks.{Asks}
 use Rattle.settling.specs.epoch_slots.specs.Collects.{IsTidy}
 use Rattle.settling.specs.epoch_slots.specs.Reserves.{counts_of}
 use Rattle.settling.specs.epoch_slots.specs.declared.reserves.Kind.TheVariants as slots
@@ -43,7 +44,7 @@ use Rattle.settling.specs.Settled.{Settles}
 use Rattle.threaded_runs.specs.declared.job.Job.{Job}
 use Rattle.threaded_runs.specs.declared.job.Finished.{Finished}
 use Rattle.threaded_runs.specs.Own.{own_requests}
-use Rattle.threaded_runs.specs.Jobs.{AllSeated, AllUnasked, AllRun, AllKept, HasRun, IsSeated, asks_counted}
+use Rattle.threaded_runs.specs.Jobs.{AllSeated, AllGiven, AllRun, AllKept, HasRun, IsSeated, asks_counted}
 use Rattle.threaded_runs.specs.Asks.{AsksAlone}
 use Rattle.threaded_runs.specs.Lone.{AreServedAlone, ServesAlone}
 use Rattle.threaded_runs.specs.Runs.{AreEntered, HasServed, served_in, stamp_of}
@@ -84,7 +85,7 @@ asks_within before behind count served most asked none few =
 
 module _ {T H : Type 0} (m : Meaning) (planning : Planning) (retry_short : Bool) (t : TableState T) (lawful : IsLawful m planning t) (gathered keeper : RunnerState T) (w : WordsState T)
     (own : IsOf t keeper) (number : keeper.number ≡ t.layout.runners) (settles : Settles m gathered keeper) (closing : IsClosing m t keeper w)
-    (halts asks : H → ℕ) (jobs : List (Job T H)) (finished : List (Finished T H)) (answers : List Served) (each : length answers ≡ t.layout.runners) (as_many : length jobs ≡ t.layout.runners)
+    (halts : H → ℕ) (asks : H → Asks) (jobs : List (Job T H)) (finished : List (Finished T H)) (answers : List Served) (each : length answers ≡ t.layout.runners) (as_many : length jobs ≡ t.layout.runners)
     (back : length finished ≡ length jobs) (seated : AllSeated planning t jobs) (run : AllRun m planning retry_short halts asks t jobs finished) (kept : AllKept gathered answers finished) (history : HaveHistory m w)
     (fresh : IsFresh m t gathered) (one : t.layout.runners ≡ 1)
     (attempts_go : LoneAttemptsAreServed T m planning) (spare : AttemptsSpareSlots T m planning) where
@@ -159,18 +160,18 @@ module _ {T H : Type 0} (m : Meaning) (planning : Planning) (retry_short : Bool)
       (λ i q low e. ap not (ne_eqb (stamp_of m w q) 0 (known_entry m t keeper w closing reached.history 0 q.number
       (ap (λ (x : PartState). is_answered x.records.known q.number) p_is ∙ has_run.serves.served.answered i q low e)))))
 
-  few_asks : asks j.gate ≡ 0 → asks f.gate ≤ (served_in m w + 1) * most_asks (cells.slots m w.layout)
+  few_asks : (asks j.gate).count ≡ 0 → (asks f.gate).count ≤ (served_in m w + 1) * most_asks (cells.slots m w.layout)
   few_asks none = ⊎_elim (λ crossed. absurd (uncrossed has_run.serves.tries crossed))
-      (λ brief. asks_within (asks j.gate) (asks f.gate) has_run.serves.count (served_in m w) (most_asks (cells.slots m w.layout))
-      (subst (λ (l : Layout). asks f.gate ≤ asks j.gate + (has_run.serves.count + 1) * most_asks (cells.slots m l)) (is_seated.may.own.layout ∙ sym closing.layout) brief.asked)
+      (λ brief. asks_within (asks j.gate).count (asks f.gate).count has_run.serves.count (served_in m w) (most_asks (cells.slots m w.layout))
+      (subst (λ (l : Layout). (asks f.gate).count ≤ (asks j.gate).count + (has_run.serves.count + 1) * most_asks (cells.slots m l)) (is_seated.may.own.layout ∙ sym closing.layout) brief.asked)
       none all_entered)
       has_run.serves.brief
 
-  pub asked_alone : (before behind : ℕ) → AllUnasked asks jobs → behind ≡ asks_counted asks before finished → AsksAlone m w before behind
-  asked_alone before behind unasked counted = λ _.
-      rises_within before behind (asks_counted asks before finished) (asks f.gate) ((served_in m w + 1) * most_asks (cells.slots m w.layout)) counted
+  pub asked_alone : (before behind : ℕ) (entries : List (Option ℕ)) → AllGiven asks entries jobs → behind ≡ asks_counted asks before finished → AsksAlone m w before behind
+  asked_alone before behind entries given counted = λ _.
+      rises_within before behind (asks_counted asks before finished) (asks f.gate).count ((served_in m w + 1) * most_asks (cells.slots m w.layout)) counted
       (asks_of_one asks before finished (some_of finished 0 (subst (λ (n : ℕ). 0 < n) (sym back) seat)) (back ∙ (as_many ∙ one)))
-      (few_asks (unasked 0 (some_of jobs 0 seat) seat))
+      (few_asks (ap (λ (a : Asks). a.count) (given 0 (some_of jobs 0 seat) seat)))
 
   module _ (went : answer ≢ stops.Halted) where
     tidy : IsTidy f.runner

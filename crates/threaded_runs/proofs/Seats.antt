@@ -1,6 +1,6 @@
 -- One more job, and one more result.
 use Rattle.std.specs.Prelude.{slice_index_or, Bool}
-use Rattle.std.proofs.Common.{◌≡◌, ◌≢◌, ℕ, suc, ◌+◌, ◌<◌, ◌≤◌, List, [], ◌∷◌, ◌++◌, length, get_or, subst, sym, ap, ◌∙◌, refl, arith, Some}
+use Rattle.std.proofs.Common.{◌≡◌, ◌≢◌, ℕ, suc, ◌+◌, ◌<◌, ◌≤◌, List, [], ◌∷◌, ◌++◌, length, get_or, subst, sym, ap, ◌∙◌, refl, arith, Option, None, Some}
 use Rattle.std.proofs.lemmas.List.{get_or_append_left, length-append}
 use Rattle.std.proofs.Math.Seq.{get_or-append_seam}
 use mathlib.Core.Logic.{dite}
@@ -12,10 +12,11 @@ use Rattle.closed_words.specs.version_words.specs.Shown.{left_part}
 use Rattle.closed_words.specs.version_words.specs.TableState.{TableState}
 use Rattle.closed_words.specs.version_words.specs.Events.{joined_by}
 use Rattle.settling.specs.try_lock.specs.Planning.{Planning}
+use Rattle.settling.specs.runner_gate.specs.Asks.{Asks, unasked_of}
 use Rattle.serving.specs.declared.answers.Served.{Served}
 use Rattle.threaded_runs.specs.declared.job.Job.{Job}
 use Rattle.threaded_runs.specs.declared.job.Finished.{Finished}
-use Rattle.threaded_runs.specs.Jobs.{IsSeated, AllSeated, AllUnasked, AreBack, IsBack, HasRun, AllRun, IsKept, AllKept, MayRun}
+use Rattle.threaded_runs.specs.Jobs.{IsSeated, AllSeated, AllUnhalted, AllGiven, AreBack, IsBack, HasRun, AllRun, IsKept, AllKept, MayRun}
 use Rattle.threaded_runs.proofs.Keeping.{keeps_part, keeps_parts}
 
 -- a fact of each place, and of one more
@@ -41,8 +42,13 @@ module _ {T H : Type 0} where
       → AllSeated planning t jobs → AllSeated planning t jobs'
   seated_more planning t jobs jobs' j worker is len one all = one_more (IsSeated planning t) jobs jobs' j is all (subst (λ (k : ℕ). IsSeated planning t k j) (sym len) one)
 
-  pub unasked_more : (halts : H → ℕ) (jobs jobs' : List (Job T H)) (j : Job T H) → jobs' ≡ jobs ++ j ∷ [] → halts j.gate ≡ 0 → AllUnasked halts jobs → AllUnasked halts jobs'
-  unasked_more halts jobs jobs' j is one all = one_more (λ k (u : Job T H). halts u.gate ≡ 0) jobs jobs' j is all one
+  pub unhalted_more : (halts : H → ℕ) (jobs jobs' : List (Job T H)) (j : Job T H) → jobs' ≡ jobs ++ j ∷ [] → halts j.gate ≡ 0 → AllUnhalted halts jobs → AllUnhalted halts jobs'
+  unhalted_more halts jobs jobs' j is one all = one_more (λ k (u : Job T H). halts u.gate ≡ 0) jobs jobs' j is all one
+
+  pub gates_more : (asks : H → Asks) (entries : List (Option ℕ)) (jobs jobs' : List (Job T H)) (j : Job T H) (worker : ℕ) → jobs' ≡ jobs ++ j ∷ [] → length jobs ≡ worker
+      → asks j.gate ≡ unasked_of worker (get_or entries worker None) → AllGiven asks entries jobs → AllGiven asks entries jobs'
+  gates_more asks entries jobs jobs' j worker is len one all = one_more (λ k (u : Job T H). asks u.gate ≡ unasked_of k (get_or entries k None)) jobs jobs' j is all
+      (subst (λ (k : ℕ). asks j.gate ≡ unasked_of k (get_or entries k None)) (sym len) one)
 
   -- one more worker was joined, which answered this
   pub kept_more : (m : Meaning) (keeper keeper' : RunnerState T) (answers answers' : List Served) (finished : List (Finished T H)) (f : Finished T H) → keeper' ≡ joined_by m f.runner keeper
@@ -62,9 +68,9 @@ pub some_of : {X : Type 0} (xs : List X) (i : ℕ) → i < length xs → X
 some_of [] i below = absurd (omega (arith, below))
 some_of (x ∷ xs) i below = x
 
-module _ {T H : Type 0} (m : Meaning) (planning : Planning) (retry_short : Bool) (halts asks : H → ℕ) (t : TableState T) where
+module _ {T H : Type 0} (m : Meaning) (planning : Planning) (retry_short : Bool) (halts : H → ℕ) (asks : H → Asks) (t : TableState T) where
   -- the workers come back as they were seated
-  pub are_back : (jobs : List (Job T H)) (finished : List (Finished T H)) → length finished ≡ length jobs → AllSeated planning t jobs → AllUnasked halts jobs
+  pub are_back : (jobs : List (Job T H)) (finished : List (Finished T H)) → length finished ≡ length jobs → AllSeated planning t jobs → AllUnhalted halts jobs
       → AllRun m planning retry_short halts asks t jobs finished → AreBack halts t finished
   are_back jobs finished len seated unasked run i d low =
       let few : i < length jobs = subst (λ (n : ℕ). i < n) len low in

@@ -1,7 +1,7 @@
 -- What a worker's thread is given, and what it gives back.
-use Rattle.std.specs.Prelude.{◌≡◌, ◌≢◌, ℕ, ◌<◌, Bool, List, [], ◌∷◌, length, Some, slice_get, slice_index_or}
+use Rattle.std.specs.Prelude.{◌≡◌, ◌≢◌, ℕ, ◌<◌, Bool, List, [], ◌∷◌, length, Option, None, Some, slice_get, slice_index_or}
 use Rattle.structure_laws.specs.Meaning.{Meaning}
-use Rattle.settling.specs.runner_gate.specs.Counts.{plus}
+use Rattle.settling.specs.runner_gate.specs.Asks.{Asks, unasked_of}
 use Rattle.runner_steps.specs.After.{leaves}
 use Rattle.closed_words.specs.version_words.specs.RunnerState.{RunnerState}
 use Rattle.closed_words.specs.version_words.specs.Shown.{left_part}
@@ -13,6 +13,7 @@ use Rattle.serving.specs.declared.answers.Served.{Served}
 use Rattle.serving.specs.declared.answers.Served.TheVariants as answers
 use Rattle.threaded_runs.specs.declared.job.Job.{Job}
 use Rattle.threaded_runs.specs.declared.job.Finished.{Finished}
+use Rattle.threaded_runs.specs.Gates.{asks_of_all}
 use Rattle.threaded_runs.specs.Own.{own_requests}
 
 module _ {T H : Type 0} where
@@ -36,13 +37,20 @@ module _ {T H : Type 0} where
   AllSeated planning t jobs = (worker : ℕ) (d : Job T H) → worker < length jobs
       → IsSeated planning t worker (slice_index_or jobs worker d)
 
-  -- the gates weren't asked yet: this count of theirs, that of halts or that of asks, is 0
-  abbrev pub AllUnasked : (H → ℕ) → List (Job T H) → Type 0
-  AllUnasked count jobs = (worker : ℕ) (d : Job T H) → worker < length jobs
-      → count (slice_index_or jobs worker d).gate ≡ 0
+  -- the gates haven't halted yet
+  abbrev pub AllUnhalted : (H → ℕ) → List (Job T H) → Type 0
+  AllUnhalted halts jobs = (worker : ℕ) (d : Job T H) → worker < length jobs
+      → halts (slice_index_or jobs worker d).gate ≡ 0
 
-  module _ (m : Meaning) (planning : Planning) (retry_short : Bool) (halts asks : H → ℕ) (t : TableState T) where
-    -- the worker has served its requests, as the answer says; its gate halted exactly where the answer is Halted
+  -- each worker has the gate that was given out for it with its entry of these, and that wasn't asked yet
+  abbrev pub AllGiven : (H → Asks) → List (Option ℕ) → List (Job T H) → Type 0
+  AllGiven asks entries jobs = (worker : ℕ) (d : Job T H) → worker < length jobs
+      → asks (slice_index_or jobs worker d).gate ≡ unasked_of worker (slice_index_or entries worker None)
+
+  module _ (m : Meaning) (planning : Planning) (retry_short : Bool) (halts : H → ℕ) (asks : H → Asks)
+      (t : TableState T) where
+    -- the worker has served its requests, as the answer says, and has its gate still, which halted exactly where the
+    -- answer is Halted
     pub record HasRun (j : Job T H) (f : Finished T H) : Type 0 where
       pub own : IsOf t f.runner
       -- so many steps were counted
@@ -67,10 +75,14 @@ module _ {T H : Type 0} where
   AreBack halts t finished = (i : ℕ) (d : Finished T H) → i < length finished
       → IsBack halts t i (slice_index_or finished i d)
 
-  -- the count of asks once the gates of these workers came back, one after the other
-  abbrev pub asks_counted : (H → ℕ) → ℕ → List (Finished T H) → ℕ
-  asks_counted asks count [] = count
-  asks_counted asks count (f ∷ finished) = asks_counted asks (plus count (asks f.gate)) finished
+  -- the gates of these workers
+  abbrev pub gates_of : List (Finished T H) → List H
+  gates_of [] = []
+  gates_of (f ∷ finished) = f.gate ∷ gates_of finished
+
+  -- the count of asks once they came back, one after the other
+  abbrev pub asks_counted : (H → Asks) → ℕ → List (Finished T H) → ℕ
+  asks_counted asks count finished = asks_of_all asks count (gates_of finished)
 
   -- the answer is the worker's, and the keeper keeps the worker's part as it was joined
   pub record IsKept (keeper : RunnerState T) (worker : ℕ) (answer : Served) (f : Finished T H) : Type 0 where

@@ -4,6 +4,7 @@ pub mod Counts
 pub mod Jobs
 pub mod Runs
 pub mod Asks
+pub mod Gates
 pub mod Lone
 -- Passed on to the layers above, so that they needn't name these libraries themselves.
 pub use Rattle.map_sizes

@@ -3,10 +3,11 @@ ghost use Rattle.std.specs.Prelude.{◌≡◌, IfOk, All, vec_len};
 ghost use Rattle.threaded_runs.specs.Jobs.{MayRun, HasRun, AllRun};
 
 use crate::job::{Finished, Job};
-use body_terms::{Gate, Steps};
+use body_terms::Steps;
 use closed_words::version_words::FlockTable;
 use serving::lock_walks::Planner;
 use serving::serve;
+use settling::runner_gate::Gate;
 use std::alloc::AllocError;
 use std::sync::Wait;
 use std::thread;

@@ -4,16 +4,15 @@ ghost use Rattle.map_history.specs.Requests.{AreInOrder};
 ghost use Rattle.closed_words.specs.version_words.specs.TableState.{IsOf};
 ghost use Rattle.threaded_runs.specs.Keeper.{IsIdleKeeper};
 ghost use Rattle.threaded_runs.specs.Counts.{halts_counted, plans_given, plans_from, returns_counted, GivesFront};
-ghost use Rattle.threaded_runs.specs.Jobs.{IsSeated, AllSeated, AllUnasked, AreBack, AllKept, asks_counted};
+ghost use Rattle.threaded_runs.specs.Jobs.{IsSeated, AllSeated, AllUnhalted, AllGiven, AreBack, AllKept, asks_counted};
 
 use crate::job::{Finished, Job};
 use crate::owned::requests_of;
-use body_terms::Gate;
 use closed_words::version_words::{FlockTable, Runner};
 use map_history::Request;
 use serving::Served;
 use serving::lock_walks::Planner;
-use settling::runner_gate::Gates;
+use settling::runner_gate::{Gate, Gates};
 use std::alloc::{AllocError, Global};
 
 /// The keeper, and the next worker with this gate and with its requests.
@@ -75,8 +74,8 @@ pub fn make_jobs<S: Planner, G: Gates>(
     ensures keeper { IfOk result (λ x. IsIdleKeeper (S.meaning table.now.structure) (length halts.now) 0 x.0) }
     ensures len { IfOk result (λ x. vec_len x.1 ≡ length halts.now) }
     ensures jobs { IfOk result (λ x. AllSeated (S.planning table.now.structure) table.now x.1.items) }
-    ensures unasked { IfOk result (λ x. AllUnasked G.Gate.halts x.1.items) }
-    ensures no_asks { IfOk result (λ x. AllUnasked G.Gate.asks x.1.items) }
+    ensures unhalted { IfOk result (λ x. AllUnhalted G.Gate.halts x.1.items) }
+    ensures given { IfOk result (λ x. AllGiven G.Gate.asks halts.now x.1.items) }
     ensures halts { IfOk result (λ _. G.halts gates.new ≡ G.halts gates.old) }
     ensures asks { IfOk result (λ _. G.asks gates.new ≡ G.asks gates.old) }
     ensures plans { IfOk result (λ _. G.plans gates.new ≡ plans_given (G.plans gates.old) halts.now) }

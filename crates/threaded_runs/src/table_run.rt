@@ -4,6 +4,7 @@ ghost use Rattle.map_history.specs.Requests.{AreInOrder};
 ghost use Rattle.table_words.specs.Limits.{IsWithinLimits};
 ghost use Rattle.threaded_runs.specs.Counts.{halts_counted, plans_given, plans_from, returns_counted, GivesFront};
 ghost use Rattle.threaded_runs.specs.Asks.{AreAsked};
+ghost use Rattle.threaded_runs.specs.Gates.{GatesCameBack};
 ghost use Rattle.threaded_runs.specs.Lone.{ServesAlone};
 ghost use Rattle.threaded_runs.specs.Runs.{IsMadeWith, AreServed};
 
@@ -59,9 +60,12 @@ where
         × AreAsked (S.meaning structure) x.0 x.1.items (G.asks gates.old) (G.asks gates.new)) }
     ensures halts { IfOk result (λ x. G.halts gates.new ≡ halts_counted (G.halts gates.old) x.1.items) }
     ensures plans { IfOk result (λ _. G.plans gates.new ≡ plans_given (G.plans gates.old) halts.now) }
-    // For each worker a gate was given with its entry of the halts, in order of number, and each came back.
+    // For each worker a gate was given with its entry of the halts, in order of number, and each came back: with what
+    // the worker did that it was given for.
     ensures planned { IfOk result (λ _. G.planned gates.old ≡ [] → G.planned gates.new ≡ plans_from 0 halts.now) }
     ensures returned { IfOk result (λ _. G.returned gates.new ≡ returns_counted (G.returned gates.old) layout.runners) }
+    ensures gates { IfOk result (λ x. GatesCameBack (S.meaning structure) x.0 G.Gate.halts G.Gate.asks
+        halts.now x.1.items (G.asks gates.old) (G.asks gates.new)) }
     // At an Err gates were given with the first entries alone.
     ensures front { OnErr result (GivesFront (G.plans gates.old) (G.plans gates.new) halts.now) }
 {

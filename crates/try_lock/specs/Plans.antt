@@ -6,6 +6,7 @@ use Rattle.map_history.specs.declared.op.Request.{Request}
 use Rattle.body_terms.specs.Word.{value_of, version_of, pack, is_free, is_spent}
 use Rattle.body_terms.specs.declared.thunk.Thunk.{Thunk}
 use Rattle.table_words.specs.declared.layout.Layout.{Layout}
+use Rattle.runner_gate.specs.Asks.{Asks}
 use Rattle.structure_laws.specs.Scene.{Readings}
 use Rattle.structure_laws.specs.Meaning.{Meaning}
 use Rattle.structure_laws.specs.Cells.{slots}
@@ -134,7 +135,7 @@ module _ {T : Type 0} where
     -- the plan walked, and answered by what it read. The gate was asked after each load, and the
     -- steps were counted; the numbers are the gate's halts, its asks, and the steps, before and after
     pub record HasPlanned (plans : Planning) (request : Request) (answer : Planned) (old new : RunnerState T)
-        (halts halts' asks asks' steps steps' : ℕ) : Type 0 where
+        (halts halts' : ℕ) (asks asks' : Asks) (steps steps' : ℕ) : Type 0 where
       pub readings : Readings
       pub walk : IsWalk m plans old.layout request.op readings
       pub walked : HasWalked readings old new

@@ -11,8 +11,9 @@ ghost use Rattle.try_lock.specs.Reached.{MayRunSection, MayHelp};
 ghost use Rattle.try_lock.specs.Ends.{EndsSo, IsCutShort};
 
 use crate::section::Section;
-use body_terms::{Gate, Steps, Word};
+use body_terms::{Steps, Word};
 use epoch_slots::version_words::{FlockTable, Runner};
+use runner_gate::Gate;
 use section_runs::{RunEnd, run};
 use structure_laws::Structure;
 

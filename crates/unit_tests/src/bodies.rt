@@ -1,9 +1,11 @@
 // Worked rows, and each call once.
-ghost use Rattle.std.specs.Prelude.{◌≡◌};
+ghost use Rattle.std.specs.Prelude.{◌≡◌, None};
+ghost use Rattle.runner_gate.specs.Asks.{Asks};
 
+use runner_gate::{Gate, Pass};
 use section_body::{
-    Body, Gate, Init, Micro, Misshape, Pass, Place, Source, Step, StepKind, Steps, Thunk, Trail,
-    Value, Word, bucket_body, bucket_body_in, bucket_of, cost, micro_at,
+    Body, Init, Micro, Misshape, Place, Source, Step, StepKind, Steps, Thunk, Trail, Value, Word,
+    bucket_body, bucket_body_in, bucket_of, cost, micro_at,
 };
 
 /// A thunk of the hash table's bucket 0, whose edition is as at first.
@@ -202,7 +204,7 @@ struct HaltAt {
 impl Gate for HaltAt {
     ghost halts = { λ gate. gate.halts };
 
-    ghost asks = { λ gate. gate.asks };
+    ghost asks = { λ gate. record { plan = None; count = gate.asks } };
 
     fn after(&mut self, _kind: StepKind) -> Pass {
         self.asks = self.asks.saturating_add(1);

@@ -1,7 +1,9 @@
 // Worked rows, and scripts on two real threads.
 
-use body_terms::{Gate, Pass, StepKind};
-use runner_gate::{Free, FreeGates, Gates, HaltAt, Pause, PlannedGates, Scripted, ScriptedGates};
+use body_terms::StepKind;
+use runner_gate::{
+    Free, FreeGates, Gate, Gates, HaltAt, Pass, Pause, PlannedGates, Scripted, ScriptedGates,
+};
 use std::alloc::{AllocError, Global};
 use std::sync::atomic::{AtomicBool, Ordering};
 use std::test::Fail;

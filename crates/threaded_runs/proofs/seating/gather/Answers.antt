@@ -50,7 +50,7 @@ loop-one-preserved g c =
           ∙ (sym (halts_more first given f.answer) ∙ sym (ap (halts_counted first) pushed)))),
       c.back.ensures.plans ∙ was.6,
       c.back.ensures.planned ∙ was.7,
-      c.back.ensures.asks ∙ (ap (λ (n : ℕ). plus n (asks f.gate)) was.8 ∙ (sym (asks_next asks asked (vec_items c.args.finished) past f low here)
+      c.back.ensures.asks ∙ (ap (λ (n : ℕ). plus n (asks f.gate).count) was.8 ∙ (sym (asks_next asks asked (vec_items c.args.finished) past f low here)
           ∙ ap (λ (n : ℕ). asks_counted asks asked (take n (vec_items c.args.finished))) longer)),
       c.back.ensures.returned ∙ (ap (λ (n : ℕ). plus n 1) was.9 ∙ (sym (one_returned (g.G.Gates.returned c.args.gates.now) past)
           ∙ ap (returns_counted (g.G.Gates.returned c.args.gates.now)) longer)),

@@ -1,7 +1,7 @@
 use Rattle.std.proofs.Common.{rules, ◌≡◌, ℕ, ◌+◌, ◌<◌, ◌++◌, ◌∷◌, [], length, get_or, ap, ◌∙◌, arith, vec_items}
 use Rattle.std.specs.Prelude.{None}
 use Rattle.settling.specs.runner_gate.specs.Counts.{planned_after, plans_after}
-use Rattle.threaded_runs.proofs.Seats.{seated_more, unasked_more}
+use Rattle.threaded_runs.proofs.Seats.{seated_more, unhalted_more, gates_more}
 use Rattle.threaded_runs.proofs.Counting.{all_plans, front_more, next_plan, on_err, plans_more}
 use Rattle.threaded_runs.proofs.seating.make_jobs.Goals as goal
 
@@ -17,11 +17,11 @@ loop-worker-preserved g c =
       search rules,
       search rules,
       seated_more (g.S.Planner.planning c.args.table.now.structure) c.args.table.now (vec_items c.loop-worker.jobs) (vec_items c.push.new.self) job n pushed (search rules) (search rules) was.3,
-      unasked_more halts (vec_items c.loop-worker.jobs) (vec_items c.push.new.self) job pushed (ap halts c.in_ok-kept.ensures.gate ∙ c.gate-gate.ensures.unasked.0) was.4,
+      unhalted_more halts (vec_items c.loop-worker.jobs) (vec_items c.push.new.self) job pushed (ap halts c.in_ok-kept.ensures.gate ∙ c.gate-gate.ensures.unasked.0) was.4,
       c.gate-gate.ensures.halts ∙ was.5,
       c.gate-gate.ensures.plans ∙ (ap (λ p. plans_after p (get_or c.args.halts.now n None)) was.6 ∙ plans_more (g.G.Gates.plans c.args.gates.now) c.args.halts.now n None low),
       (λ empty. c.gate-gate.ensures.planned ∙ (ap (λ xs. planned_after xs n (get_or c.args.halts.now n None)) (was.7 empty) ∙ next_plan c.args.halts.now n None low few)),
-      unasked_more asks (vec_items c.loop-worker.jobs) (vec_items c.push.new.self) job pushed (ap asks c.in_ok-kept.ensures.gate ∙ c.gate-gate.ensures.unasked.1) was.8,
+      gates_more asks c.args.halts.now (vec_items c.loop-worker.jobs) (vec_items c.push.new.self) job n pushed (search rules) (ap asks c.in_ok-kept.ensures.gate ∙ c.gate-gate.ensures.unasked.1) was.8,
       c.gate-gate.ensures.asks ∙ was.9,
       c.gate-gate.ensures.returned ∙ was.10,
     )

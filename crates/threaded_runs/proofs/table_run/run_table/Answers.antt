@@ -5,12 +5,13 @@ use Rattle.serving.specs.attempt_bounds.specs.Lone.{LoneAttemptsAreServed}
 use Rattle.threaded_runs.specs.Counts.{returns_counted}
 use Rattle.threaded_runs.specs.Jobs.{asks_counted}
 use Rattle.threaded_runs.specs.Asks.{AreAsked}
+use Rattle.threaded_runs.specs.Gates.{GatesCameBack}
 use Rattle.threaded_runs.specs.Lone.{ServesAlone}
 use Rattle.threaded_runs.specs.Runs.{AreServed}
 use Rattle.threaded_runs.proofs.Counting.{front_all, front_none, on_err}
 use Rattle.threaded_runs.proofs.Keeping.{has_all, may_settle, settled_all}
 use Rattle.threaded_runs.proofs.Seats.{are_back}
-use Rattle.threaded_runs.proofs.Ending.{IsLawful, all_served, asked_often}
+use Rattle.threaded_runs.proofs.Ending.{IsLawful, all_served, asked_often, gates_came_back}
 use Rattle.serving.specs.attempt_bounds.specs.Spared.{AttemptsSpareSlots}
 use Rattle.threaded_runs.proofs.Lone.{IsFresh, served_alone, asked_alone}
 use Rattle.threaded_runs.proofs.table_run.run_table.Goals as goal
@@ -19,7 +20,7 @@ pub gather-requires-clause-back : goal.gather-requires-clause-back
 gather-requires-clause-back g c κs within =
     let t = c.in_ok-table.table in
     are_back (g.S.Structure.meaning t.structure) (g.S.Planner.planning t.structure) c.args.retry_short g.G.Gate.Gate.halts g.G.Gate.Gate.asks t c.in_ok-keeper.jobs.items c.in_ok-finished.finished.items (search rules)
-    c.in_ok-keeper.ensures.jobs c.in_ok-keeper.ensures.unasked c.in_ok-finished.ensures.each
+    c.in_ok-keeper.ensures.jobs c.in_ok-keeper.ensures.unhalted c.in_ok-finished.ensures.each
 
 pub settle-keeper-requires-clause-next : goal.settle-keeper-requires-clause-next
 settle-keeper-requires-clause-next g c κs within =
@@ -69,12 +70,31 @@ returns-clause-served g c =
       record {
         often = asked_often m planning c.args.retry_short t lawful keeper settled c.close-words.result c.settle-keeper.ensures.own number c.settle-keeper.ensures.settles c.close-words.ensures g.G.Gate.Gate.halts g.G.Gate.Gate.asks
             c.in_ok-keeper.jobs.items c.in_ok-finished.finished.items c.in_ok-keeper-2.answers.items (search rules) (search rules) (search rules) c.in_ok-keeper.ensures.jobs c.in_ok-finished.ensures.each c.in_ok-keeper-2.ensures.kept history
-            _ _ c.in_ok-keeper.ensures.no_asks asks_all lawful.facts.limits.some_runners;
+            _ _ asks_all lawful.facts.limits.some_runners;
         alone = λ one. asked_alone m planning c.args.retry_short t lawful keeper settled c.close-words.result c.settle-keeper.ensures.own number c.settle-keeper.ensures.settles c.close-words.ensures g.G.Gate.Gate.halts g.G.Gate.Gate.asks
             c.in_ok-keeper.jobs.items c.in_ok-finished.finished.items c.in_ok-keeper-2.answers.items (search rules) (search rules) (search rules) c.in_ok-keeper.ensures.jobs c.in_ok-finished.ensures.each c.in_ok-keeper-2.ensures.kept history
-            fresh (ap (λ l. l.runners) (sym c.close-words.ensures.layout) ∙ one) attempts_go spare _ _ c.in_ok-keeper.ensures.no_asks asks_all one;
+            fresh (ap (λ l. l.runners) (sym c.close-words.ensures.layout) ∙ one) attempts_go spare _ _ c.args.halts.now c.in_ok-keeper.ensures.given asks_all one;
       },
     )
+
+pub returns-clause-gates : goal.returns-clause-gates
+returns-clause-gates g c =
+    let t = c.in_ok-table.table in
+    let m = g.S.Structure.meaning t.structure in
+    let planning = g.S.Planner.planning t.structure in
+    let plans = g.met.S.Planner g.world.𝓛 g.world.𝓜 g.world.𝓡 ((λ s allowed. allowed), (λ patient. patient), (λ alone. alone), (λ cuts. cuts)) in
+    let lawful : IsLawful m planning t = record { facts = c.table_keeps_its_facts.ensures; planner = plans.plans_lawfully t.structure } in
+    let keeper = c.in_ok-keeper-2.keeper in
+    let settled = c.settle-keeper.result in
+    let all = has_all m t keeper (vec_len c.in_ok-finished.finished) c.in_ok-keeper-2.ensures.own c.in_ok-keeper-2.ensures.keeper (search rules) in
+    let number = c.settle-keeper.ensures.settles.number ∙ all.number in
+    let history : HaveHistory m c.close-words.result = subst (λ s. HaveHistory (g.S.Structure.meaning s) c.close-words.result) c.close-words.ensures.structure c.closed_words_have_a_history.ensures in
+    subst (λ s. GatesCameBack (g.S.Structure.meaning s) c.close-words.result g.G.Gate.Gate.halts g.G.Gate.Gate.asks c.args.halts.now c.in_ok-keeper-2.answers.items
+    (g.G.Gates.asks c.args.gates.now) (g.G.Gates.asks c.gather.new.gates)) c.in_ok-table.ensures.table.structure
+    (gates_came_back m planning c.args.retry_short t lawful keeper settled c.close-words.result c.settle-keeper.ensures.own number c.settle-keeper.ensures.settles c.close-words.ensures g.G.Gate.Gate.halts g.G.Gate.Gate.asks
+    c.in_ok-keeper.jobs.items c.in_ok-finished.finished.items c.in_ok-keeper-2.answers.items (search rules) (search rules) (search rules) c.in_ok-keeper.ensures.jobs c.in_ok-finished.ensures.each c.in_ok-keeper-2.ensures.kept history
+    c.args.halts.now c.in_ok-keeper.ensures.unhalted c.in_ok-keeper.ensures.given _ _
+    (c.in_ok-keeper-2.ensures.asks ∙ ap (λ (n : ℕ). asks_counted g.G.Gate.Gate.asks n c.in_ok-finished.finished.items) c.in_ok-keeper.ensures.asks))
 
 pub returns-clause-returned : goal.returns-clause-returned
 returns-clause-returned g c =
