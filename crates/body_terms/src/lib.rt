@@ -2,15 +2,14 @@
 //!
 //! `word`, `value`, `step`, `body` and `thunk` are the data; `misshape`, `fault` and `check` say which lists of steps
 //! are bodies. `micro` and `line` give a body as its line of atomic steps, and `costs` counts them. `trail` and
-//! `outcome` are what a run agrees on and comes to. `gate`, `step_kind` and `steps` are what a runner is stopped and
-//! counted by. The definitions of one run in one go stand in specs.
+//! `outcome` are what a run agrees on and comes to. `step_kind` has the kinds of step by which a gate is asked, and
+//! `steps` counts steps. The definitions of one run in one go stand in specs.
 #![tactic(auto)]
 
 mod body;
 mod check;
 mod costs;
 mod fault;
-mod gate;
 mod line;
 mod micro;
 mod misshape;
@@ -25,7 +24,6 @@ mod word;
 
 pub use body::Body;
 pub use costs::cost;
-pub use gate::{Gate, Pass};
 pub use line::{Register, micro_at, register_at, source};
 pub use micro::{Micro, Source};
 pub use misshape::Misshape;
