@@ -10,8 +10,8 @@ mod memory;
 mod plain_run;
 
 pub use body_terms::{
-    Body, Gate, Init, Micro, Misshape, Outcome, Pass, Place, Refused, Source, Step, StepKind,
-    Steps, Thunk, Trail, Value, Word, cost, micro_at,
+    Body, Init, Micro, Misshape, Outcome, Place, Refused, Source, Step, StepKind, Steps, Thunk,
+    Trail, Value, Word, cost, micro_at,
 };
 pub use bucket::{bucket_body, bucket_body_in, bucket_of};
 pub use memory::Memory;
